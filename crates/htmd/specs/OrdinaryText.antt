@@ -1,0 +1,33 @@
+-- How the text of a text node is written.
+use Rattle.std.specs.Prelude.{ℕ, Bool, false, ◌&&◌, ◌||◌, if◌then◌else◌, List, [], ◌∷◌, drop, codes}
+use Rattle.std.specs.List.{list_any}
+use Rattle.std.specs.Str.{bytes_eq}
+use Rattle.htmd_text.specs.EscapeMarks.{escaped, pre_escaped}
+use Rattle.htmd_text.specs.WhiteSpace.{squeezed}
+use Rattle.htmd_tree.specs.Ancestors.{Ancestor}
+use Rattle.htmd.specs.Seams.{begins_with_space, ends_with_space}
+
+abbrev pub is_pre_or_code : Ancestor → Bool
+is_pre_or_code a = bytes_eq a.tag (codes "pre") || bytes_eq a.tag (codes "code")
+
+-- some ancestor is `pre` or `code`
+abbrev pub pre : List Ancestor → Bool
+pre above = list_any is_pre_or_code above
+
+-- the parent is `pre`
+abbrev pub parent_is_pre : List Ancestor → Bool
+parent_is_pre [] = false
+parent_is_pre (a ∷ above) = bytes_eq a.tag (codes "pre")
+
+-- preformatted text stays as it is, but opens no fence where its parent is `pre`
+abbrev pub preformatted : Bool → List ℕ → List ℕ
+preformatted in_pre s = if in_pre then pre_escaped s else s
+
+-- a text without the space at its start, where that is to go
+abbrev pub without_first_space : Bool → List ℕ → List ℕ
+without_first_space goes s = if goes && begins_with_space s then drop 1 s else s
+
+-- Ordinary text is squeezed, then loses the space at its start where the trim flag is set or where the
+-- text so far ends with one, then is escaped.
+abbrev pub ordinary : Bool → List ℕ → List ℕ → List ℕ
+ordinary trim out s = escaped (without_first_space (trim || ends_with_space out) (squeezed s))

@@ -1,0 +1,4 @@
+-- The definitions that the contracts cite, in reading order.
+pub mod Failures
+pub mod Conversion
+pub mod Runs

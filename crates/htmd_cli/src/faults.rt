@@ -1,0 +1,35 @@
+// What can go wrong in a run.
+ghost use Rattle.std.specs.Prelude.{◌≡◌};
+ghost use Rattle.htmd_cli.specs.declared.faults.RunError.TheVariants.{Memory};
+
+use std::alloc::AllocError;
+use thiserror::Error;
+
+/// A read or a write failed.
+#[derive(Debug, Clone, Copy, PartialEq, Eq)]
+pub struct Failed;
+
+/// Why a run did not succeed.
+#[derive(Debug, PartialEq, Eq, Drop, Error)]
+pub enum RunError {
+    /// The input is not UTF-8.
+    #[error("not UTF-8")]
+    NotUtf8,
+    /// A growth was refused for want of memory.
+    #[error("out of memory")]
+    Memory,
+    /// The source failed.
+    #[error("read failed")]
+    Read,
+    /// The sink failed.
+    #[error("write failed")]
+    Write,
+}
+
+impl From<AllocError> for RunError {
+    ghost from_gives = { λ _ error. error ≡ Memory };
+
+    fn from(_error: AllocError) -> RunError {
+        RunError::Memory
+    }
+}

@@ -1,0 +1,99 @@
+// One run: read all, convert, write.
+ghost use Rattle.std.specs.Prelude.{◌≡◌, ◌≢◌, ◌↔◌, ◌++◌, false, OnOk, OnErr, IfOk, IfErr, IfSome, IsErrOf, IsTrue, IsUtf8, string_bytes};
+ghost use Rattle.std.specs.Io.KnownBytes.{Appends, Consumes, IsAtEnd, Keeps};
+ghost use Rattle.htmd_cli.specs.Conversion.{line_feed, paragraph_markdown};
+ghost use Rattle.htmd_cli.specs.Failures.{FailsAtErr};
+ghost use Rattle.htmd_cli.specs.Runs.{Converts};
+
+use crate::faults::{Failed, RunError};
+use crate::paragraph::paragraph_to_markdown;
+use crate::sinks::{Sink, write_all};
+use crate::sources::Source;
+use std::alloc::Global;
+
+/// What a run takes its input for, and how it writes what Markdown cannot say.
+#[derive(Debug, Clone, Copy, PartialEq, Eq)]
+pub struct Mode {
+    /// The input is the text of one paragraph, and not HTML.
+    pub text: bool,
+    /// What has no Markdown is written as HTML.
+    pub faithful: bool,
+}
+
+/// Reads the whole source, converts it, and writes the Markdown and one line feed to the sink. The
+/// first fault is answered, and before the conversion has succeeded nothing is written.
+pub fn run<R: Source, W: Sink>(
+    alloc: Global,
+    source: &mut R,
+    sink: &mut W,
+    mode: Mode,
+) -> Result<(), RunError>
+    requires source { R.has_failed source.old ≡ false }
+    requires sink { W.has_failed sink.old ≡ false }
+    requires text { IsTrue mode.text }
+    requires pure { mode.faithful ≡ false }
+    ensures ok { OnOk result
+        (Converts (R.remaining source.old) (W.contents sink.old) (W.contents sink.new)) }
+    ensures end { OnOk result (IsAtEnd (R.remaining source.new)) }
+    ensures not_utf8 { IsErrOf result RunError.NotUtf8 →
+        IfSome (R.remaining source.old) (λ input. ¬ IsUtf8 input) }
+    ensures nothing_written { ¬ IsErrOf result RunError.Write → OnErr result
+        (Keeps (W.contents sink.old) (W.contents sink.new)) }
+    ensures read_failed { IsErrOf result RunError.Read ↔ IsTrue (R.has_failed source.new) }
+    ensures write_failed { IsErrOf result RunError.Write ↔ IsTrue (W.has_failed sink.new) }
+{
+    let input = read_all(alloc, source)?;
+    let markdown = converted(alloc, input.as_slice())?;
+    if write_line(sink, markdown.as_str()).is_err() {
+        return Err(RunError::Write);
+    }
+    Ok(())
+}
+
+const BUFFER_SIZE: usize = 8192;
+
+// All that the source gives.
+fn read_all<R: Source>(alloc: Global, source: &mut R) -> Result<Vec<u8>, RunError>
+    requires { R.has_failed source.old ≡ false }
+    ensures bytes { IfOk result (λ input.
+        Consumes (R.remaining source.old) (R.remaining source.new) input.items) }
+    ensures end { OnOk result (IsAtEnd (R.remaining source.new)) }
+    ensures read_failed { IsErrOf result RunError.Read ↔ IsTrue (R.has_failed source.new) }
+    ensures others { IfErr result (λ error. error ≢ RunError.Write × error ≢ RunError.NotUtf8) }
+{
+    let mut input = Vec::new(alloc);
+    let mut buffer = [0u8; BUFFER_SIZE];
+    loop {
+        let Ok(count) = source.read(&mut buffer) else {
+            return Err(RunError::Read);
+        };
+        if count == 0 {
+            return Ok(input);
+        }
+        input.extend_from_slice(&buffer[..count])?;
+    }
+}
+
+// The Markdown of an input that is UTF-8.
+fn converted(alloc: Global, input: &[u8]) -> Result<String, RunError>
+    ensures ok { IfOk result (λ markdown.
+        IsUtf8 input.now × (string_bytes markdown ≡ paragraph_markdown input.now)) }
+    ensures not_utf8 { IsErrOf result RunError.NotUtf8 → ¬ IsUtf8 input.now }
+    ensures others { IfErr result (λ error. error ≢ RunError.Read × error ≢ RunError.Write) }
+{
+    let Ok(text) = str::from_utf8(input) else {
+        return Err(RunError::NotUtf8);
+    };
+    Ok(paragraph_to_markdown(alloc, text)?)
+}
+
+// Writes the Markdown and a line feed, and flushes.
+fn write_line<W: Sink>(sink: &mut W, markdown: &str) -> Result<(), Failed>
+    ensures bytes { OnOk result
+        (Appends (W.contents sink.old) (W.contents sink.new) (markdown.now ++ line_feed)) }
+    ensures failure { FailsAtErr result (W.has_failed sink.old) (W.has_failed sink.new) }
+{
+    write_all(sink, markdown.as_bytes())?;
+    write_all(sink, b"\n")?;
+    sink.flush()
+}

@@ -1,0 +1,94 @@
+-- A text with backslashes, written piece by piece.
+use Rattle.std.proofs.Common.{◌≡◌, ℕ, suc, zero, ◌+◌, ◌<◌, ◌≤◌, Bool, true, false, cond, List, [], ◌∷◌, ◌++◌, length, get_or, drop, refl, sym, ap, ◌∙◌, arith, append_assoc, add-one}
+use Rattle.std.specs.List.{between}
+use Rattle.std.specs.Str.{IsCharBoundary, IsUtf8}
+use Rattle.std.proofs.lemmas.List.{append-nil, drop_more, drop_all}
+use Rattle.std.proofs.lemmas.List.Edits.{between_more, between_none}
+use Rattle.std.proofs.lemmas.Slice.{between_to_end}
+use Rattle.std.proofs.lemmas.Str.{IsCharBoundary-start, IsCharBoundary-before_ascii}
+use Rattle.htmd_text.specs.EscapeMarks.{with_backslashes}
+use Rattle.htmd_text.specs.Characters.{backslash}
+
+rest_marked : (marked : ℕ → Bool) (s : List ℕ) (i : ℕ) → i < length s → marked i ≡ true → with_backslashes marked i (drop i s) ≡ backslash ∷ get_or s i 0 ∷ with_backslashes marked (i + 1) (drop (i + 1) s)
+rest_marked marked s i lt here = rw (drop_more s i 0 lt, here, add-one) refl
+
+rest_plain : (marked : ℕ → Bool) (s : List ℕ) (i : ℕ) → i < length s → marked i ≡ false → with_backslashes marked i (drop i s) ≡ get_or s i 0 ∷ with_backslashes marked (i + 1) (drop (i + 1) s)
+rest_plain marked s i lt plain = rw (drop_more s i 0 lt, plain, add-one) refl
+
+longer : (m : Bool) (b n : ℕ) (rest : List ℕ) → n ≤ length rest → suc n ≤ length (cond m (backslash ∷ b ∷ rest) (b ∷ rest))
+longer true b n rest le = omega (arith, le)
+longer false b n rest le = omega (arith, le)
+
+stays_or_grows : (marked : ℕ → Bool) (k : ℕ) (s : List ℕ) → length s ≤ length (with_backslashes marked k s)
+stays_or_grows marked k [] = omega arith
+stays_or_grows marked k (b ∷ s) = longer (marked k) b (length s) (with_backslashes marked (suc k) s) (stays_or_grows marked (suc k) s)
+
+-- a text with a mark becomes longer
+pub grows : (marked : ℕ → Bool) (k : ℕ) (s : List ℕ) (i : ℕ) → i < length s → marked (k + i) ≡ true → length s < length (with_backslashes marked k s)
+grows marked k [] i lt here = absurd (omega arith)
+grows marked k (b ∷ s) zero lt here =
+    let first : marked k ≡ true = ap marked (omega arith) ∙ here in
+    rw first (omega (arith, stays_or_grows marked (suc k) s))
+grows marked k (b ∷ s) (suc i) lt here =
+    longer (marked k) b (suc (length s)) (with_backslashes marked (suc k) s) (grows marked (suc k) s i (omega arith) (ap marked (omega arith) ∙ here))
+
+-- What was written, the piece that waits, and what the rest becomes, are the whole.
+pub record Writing (marked : ℕ → Bool) (s out : List ℕ) (from i : ℕ) : Type 0 where
+  pub in_order : from ≤ i
+  pub cut : IsCharBoundary s from
+  pub whole : out ++ (between from i s ++ with_backslashes marked i (drop i s)) ≡ with_backslashes marked 0 s
+  pub not_begun : out ≡ [] → from ≡ 0
+  pub not_needed : with_backslashes marked 0 s ≡ s → out ≡ []
+
+pub writing_none : (marked : ℕ → Bool) (s out : List ℕ) → IsUtf8 s → out ≡ [] → Writing marked s out 0 0
+writing_none marked s out text none = record {
+  in_order = omega arith;
+  cut = IsCharBoundary-start s text;
+  whole = rw none refl;
+  not_begun = λ _. refl;
+  not_needed = λ _. none;
+}
+
+pub writing_plain : (marked : ℕ → Bool) (s out : List ℕ) (from i : ℕ) → i < length s → marked i ≡ false → Writing marked s out from i → Writing marked s out from (i + 1)
+writing_plain marked s out from i lt plain was = record {
+  in_order = omega (arith, was.in_order);
+  cut = was.cut;
+  whole =
+      let rest = with_backslashes marked (i + 1) (drop (i + 1) s) in
+      let piece = between_more s from i 0 was.in_order lt in
+      let grown : between from (i + 1) s ++ rest ≡ between from i s ++ get_or s i 0 ∷ rest =
+      ap (λ l. l ++ rest) piece ∙ append_assoc (between from i s) (get_or s i 0 ∷ []) rest in
+      ap (λ l. out ++ l) (grown ∙ ap (λ l. between from i s ++ l) (sym (rest_plain marked s i lt plain))) ∙ was.whole;
+  not_begun = was.not_begun;
+  not_needed = was.not_needed;
+}
+
+not_nil : (out : List ℕ) (b : ℕ) → out ++ b ∷ [] ≡ [] → ⊥
+not_nil [] b e = cc
+not_nil (x ∷ out) b e = cc
+
+pub writing_marked : (marked : ℕ → Bool) (s out : List ℕ) (from i : ℕ) → i < length s → marked i ≡ true → get_or s i 0 < 128 → Writing marked s out from i → Writing marked s ((out ++ between from i s) ++ backslash ∷ []) i (i + 1)
+writing_marked marked s out from i lt here ascii was = record {
+  in_order = omega arith;
+  cut = IsCharBoundary-before_ascii s i lt ascii;
+  whole =
+      let rest = with_backslashes marked (i + 1) (drop (i + 1) s) in
+      let piece : between i (i + 1) s ≡ get_or s i 0 ∷ [] =
+      between_more s i i 0 (omega arith) lt ∙ ap (λ l. l ++ get_or s i 0 ∷ []) (between_none s i) in
+      rw (piece, append_assoc, append_assoc) (ap (λ l. out ++ (between from i s ++ l)) (sym (rest_marked marked s i lt here)) ∙ was.whole);
+  not_begun = λ e. absurd (not_nil (out ++ between from i s) backslash e);
+  not_needed = λ same. absurd (omega (arith, grows marked 0 s i lt (ap marked (omega arith) ∙ here), ap length same));
+}
+
+pub writing_all : (marked : ℕ → Bool) (s out : List ℕ) (from i : ℕ) → length s ≤ i → Writing marked s out from i → out ++ between from (length s) s ≡ with_backslashes marked 0 s
+writing_all marked s out from i past was =
+    let piece : between from (length s) s ≡ between from i s = between_to_end s from (length s) (omega arith) ∙ sym (between_to_end s from i past) in
+    let ended : with_backslashes marked i (drop i s) ≡ [] = ap (λ l. with_backslashes marked i l) (drop_all i s past) in
+    rw piece (ap (λ l. out ++ l) (sym (append-nil (between from i s)) ∙ ap (λ l. between from i s ++ l) (sym ended)) ∙ was.whole)
+
+-- nothing was written
+pub writing_nothing : (marked : ℕ → Bool) (s out : List ℕ) (from i : ℕ) → length s ≤ i → out ≡ [] → Writing marked s out from i → s ≡ with_backslashes marked 0 s
+writing_nothing marked s out from i past none was =
+    let start = was.not_begun none in
+    let all : s ≡ between from (length s) s = rw start (sym (between_to_end s 0 (length s) (omega arith))) in
+    all ∙ (rw none at (writing_all marked s out from i past was))

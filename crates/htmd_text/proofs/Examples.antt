@@ -1,0 +1,52 @@
+-- Worked rows of the definitions. Each holds by computing.
+use Rattle.std.proofs.Common.{◌≡◌, refl, true, false, codes}
+use lib.Utf8.{encode}
+use Rattle.std.specs.Str.{chars}
+use Rattle.htmd_text.specs.ListMarkers.{is_atx_heading}
+use Rattle.htmd_text.specs.EscapeMarks.{escaped, html_escaped, pre_escaped}
+use Rattle.htmd_text.specs.WhiteSpace.{squeezed}
+use Rattle.htmd_text.specs.Blocks.{is_block}
+
+pub bullet : escaped (codes "- x") ≡ codes "\\- x"
+bullet = refl
+
+pub no_bullet : escaped (codes "--- a") ≡ codes "--- a"
+no_bullet = refl
+
+pub cdata : escaped (codes "<![CDATA[x]]>") ≡ codes "<!\\[CDATA\\[x\\]\\]>"
+cdata = refl
+
+pub tag : escaped (codes "\\<a>") ≡ codes "\\\\\\<a>"
+tag = refl
+
+pub escaped_cdata : escaped (codes "<!\\[CDATA\\[x") ≡ codes "\\<!\\\\\\[CDATA\\\\\\[x"
+escaped_cdata = refl
+
+pub html : html_escaped (codes "<!\\[CDATA\\[x<!--</a<?<a< b") ≡ codes "<!\\[CDATA\\[x\\<!--\\</a\\<?\\<a< b"
+html = refl
+
+pub fence : pre_escaped (codes "```") ≡ codes "\\```"
+fence = refl
+
+pub white_space : squeezed (codes "a  b\t\n c ") ≡ codes "a b c "
+white_space = refl
+
+pub heading : is_atx_heading (codes "####### a") ≡ true
+heading = refl
+
+pub no_heading : is_atx_heading (codes "#a") ≡ false
+no_heading = refl
+
+pub block : is_block (codes "table") ≡ true
+block = refl
+
+pub no_block : is_block (codes "tables") ≡ false
+no_block = refl
+
+pub item : escaped (codes "1. a") ≡ codes "1\\. a"
+unfolding chars encode
+item = refl
+
+pub two_dots : escaped (codes "1.. x") ≡ codes "1.\\. x"
+unfolding chars encode
+two_dots = refl

@@ -1,0 +1,12 @@
+pub mod Examples
+pub mod ListMarkersLemmas
+pub mod EscapeMarksLemmas
+pub mod MarksLemmas
+pub mod UnescapeLemmas
+pub mod PlainTextLemmas
+pub mod BeginningLemmas
+pub mod TrimsLemmas
+pub mod JoinsLemmas
+pub mod IndentsLemmas
+pub mod DigitsLemmas
+pub mod WhiteSpaceLemmas

@@ -1,0 +1,55 @@
+-- How far the numeric characters at the front of a text go, one character at a time.
+use Rattle.std.proofs.Common.{◌≡◌, ℕ, ◌+◌, ◌<◌, ◌≤◌, true, false, List, [], ◌∷◌, ◌++◌, length, get_or, take, drop, sym, ap, ◌∙◌, arith}
+use Rattle.std.specs.Prelude.{encode_utf8_all}
+use Rattle.std.specs.List.{prefix_len}
+use Rattle.std.specs.Char.{len_utf8}
+use Rattle.std.specs.Str.{chars, IsUtf8}
+use Rattle.std.proofs.lemmas.List.{take_more, take-append-drop, length-append, append-nil}
+use Rattle.std.proofs.lemmas.List.Sums.{prefix_len-drop_yes, prefix_len-drop_no, prefix_len-drop_all}
+use Rattle.std.proofs.lemmas.Str.{encodes-append, length-encode, encodes-chars}
+use Rattle.htmd_text.specs.ListMarkers.{is_numeric, numerals_len}
+
+-- what the first n characters take
+abbrev pub taken : List ℕ → ℕ → ℕ
+taken cs n = length (encode_utf8_all (take n cs))
+
+taken_more : (cs : List ℕ) (n c : ℕ) → (n < length cs) × (c ≡ get_or cs n c) → taken cs (n + 1) ≡ taken cs n + len_utf8 c
+taken_more cs n c here =
+    let step = take_more cs n c here.0 in
+    let same : take (n + 1) cs ≡ take n cs ++ c ∷ [] = step ∙ ap (λ x. take n cs ++ x ∷ []) (sym here.1) in
+    let one = length-encode c in
+    rw (same, encodes-append, length-append) (grind (arith, append-nil))
+
+taken_le : (cs : List ℕ) (n : ℕ) → taken cs n ≤ length (encode_utf8_all cs)
+taken_le cs n =
+    let whole = ap (λ l. length (encode_utf8_all l)) (take-append-drop n cs) in
+    let parts : length (encode_utf8_all (take n cs ++ drop n cs)) ≡ taken cs n + length (encode_utf8_all (drop n cs)) =
+    ap length (encodes-append (take n cs) (drop n cs)) ∙ length-append (encode_utf8_all (take n cs)) (encode_utf8_all (drop n cs)) in
+    omega arith
+
+pub taken_bound : (s : List ℕ) (n : ℕ) → IsUtf8 s → taken (chars s) n ≤ length s
+taken_bound s n text = omega (arith, taken_le (chars s) n, ap length (encodes-chars s text))
+
+-- the loop's state: so many characters were numeric
+pub record NumericTo (cs : List ℕ) (n len : ℕ) : Type 0 where
+  pub size : len ≡ taken cs n
+  pub numeric : n + prefix_len is_numeric (drop n cs) ≡ prefix_len is_numeric cs
+
+pub numeric_more : (cs : List ℕ) (n c len : ℕ) → (n < length cs) × (c ≡ get_or cs n c) → is_numeric c ≡ true → NumericTo cs n len → NumericTo cs (n + 1) (len + len_utf8 c)
+numeric_more cs n c len here passing was =
+    let passes = ap is_numeric (sym here.1) ∙ passing in
+    let step = prefix_len-drop_yes is_numeric cs n c here.0 passes in
+    record { size = omega (arith, taken_more cs n c here, was.size); numeric = omega (arith, was.numeric) }
+
+pub numeric_stop : (s : List ℕ) (n c len : ℕ) → (n < length (chars s)) × (c ≡ get_or (chars s) n c) → is_numeric c ≡ false → NumericTo (chars s) n len → len ≡ numerals_len s
+numeric_stop s n c len here failing was =
+    let fails = ap is_numeric (sym here.1) ∙ failing in
+    let step = prefix_len-drop_no is_numeric (chars s) n c here.0 fails in
+    let stops : n ≡ prefix_len is_numeric (chars s) = omega (arith, was.numeric) in
+    was.size ∙ ap (taken (chars s)) stops
+
+pub numeric_end : (s : List ℕ) (n len : ℕ) → length (chars s) ≤ n → NumericTo (chars s) n len → len ≡ numerals_len s
+numeric_end s n len past was =
+    let step = prefix_len-drop_all is_numeric (chars s) n past in
+    let stops : n ≡ prefix_len is_numeric (chars s) = omega (arith, was.numeric) in
+    was.size ∙ ap (taken (chars s)) stops

@@ -1,0 +1,121 @@
+-- A text whose white space is squeezed piece by piece.
+use Rattle.std.proofs.Common.{◌≡◌, ℕ, suc, zero, ◌+◌, ◌<◌, ◌≤◌, Bool, true, false, cond, List, [], ◌∷◌, ◌++◌, length, get_or, take, drop, refl, sym, ap, ◌∙◌, arith, append_assoc}
+use Rattle.std.specs.Prelude.{◌≢◌, slice_index}
+use Rattle.std.specs.List.{between}
+use Rattle.std.specs.Str.{IsCharBoundary, IsUtf8}
+use Rattle.std.proofs.lemmas.Bool.Decides.{nat_tests}
+use Rattle.std.proofs.lemmas.List.{append-nil, drop_more, drop_all, drop-drop, get_or-drop}
+use Rattle.std.proofs.lemmas.List.Edits.{between_more, between_none}
+use Rattle.std.proofs.lemmas.Slice.{between_to_end}
+use Rattle.std.proofs.lemmas.Str.{IsCharBoundary-start, IsCharBoundary-after_ascii}
+use Rattle.htmd_text.specs.Characters.{space}
+use Rattle.htmd_text.specs.WhiteSpace.{is_ascii_white_space, begins_with_white_space, squeezed}
+use Rattle.htmd_text.specs.Replacement.{IsReplaced}
+
+shorter : (w v : Bool) (b : ℕ) (s rest : List ℕ) → length rest ≤ length s → length (cond w (cond v rest (space ∷ rest)) (b ∷ rest)) ≤ suc (length s)
+shorter true true b s rest le = omega (arith, le)
+shorter true false b s rest le = omega (arith, le)
+shorter false v b s rest le = omega (arith, le)
+
+-- no text becomes longer
+pub squeezed_le : (s : List ℕ) → length (squeezed s) ≤ length s
+squeezed_le [] = omega arith
+squeezed_le (b ∷ s) = shorter (is_ascii_white_space b) (begins_with_white_space s) b s (squeezed s) (squeezed_le s)
+
+same_rest : (w v : Bool) (b : ℕ) (s rest : List ℕ) → length rest ≤ length s → cond w (cond v rest (space ∷ rest)) (b ∷ rest) ≡ b ∷ s → rest ≡ s
+same_rest true true b s rest le same = absurd (omega (arith, le, ap length same))
+same_rest true false b s rest le same = cc
+same_rest false v b s rest le same = cc
+
+-- a text that is squeezed already stays so without its first byte
+pub squeezed_tail : (b : ℕ) (s : List ℕ) → squeezed (b ∷ s) ≡ b ∷ s → squeezed s ≡ s
+squeezed_tail b s same = same_rest (is_ascii_white_space b) (begins_with_white_space s) b s (squeezed s) (squeezed_le s) same
+
+pub squeezed_drop : (i : ℕ) (s : List ℕ) → squeezed s ≡ s → squeezed (drop i s) ≡ drop i s
+squeezed_drop zero s same = same
+squeezed_drop (suc i) [] same = refl
+squeezed_drop (suc i) (b ∷ s) same = squeezed_drop i s (squeezed_tail b s same)
+
+-- white space before more of it goes
+pub inner_replaced : (b : ℕ) (s : List ℕ) → is_ascii_white_space b ≡ true → begins_with_white_space s ≡ true → IsReplaced (b ∷ s) []
+inner_replaced b s white more =
+    let whole : squeezed (b ∷ s) ≡ squeezed s = rw (white, more) refl in
+    record { white = white; whole = whole; needed = λ same. absurd (omega (arith, squeezed_le s, ap length (sym whole ∙ same))) }
+
+-- the last white space of a run becomes a space
+pub last_replaced : (b : ℕ) (s : List ℕ) → is_ascii_white_space b ≡ true → begins_with_white_space s ≡ false → b ≢ space → IsReplaced (b ∷ s) (space ∷ [])
+last_replaced b s white last other =
+    let whole : squeezed (b ∷ s) ≡ space ∷ squeezed s = rw (white, last) refl in
+    record { white = white; whole = whole; needed = λ same. let first : space ∷ squeezed s ≡ b ∷ s = sym whole ∙ same in other (cc) }
+
+pub space_stays : (s : List ℕ) → begins_with_white_space s ≡ false → squeezed (space ∷ s) ≡ space ∷ squeezed s
+space_stays s last = rw last refl
+
+pub other_stays : (b : ℕ) (s : List ℕ) → is_ascii_white_space b ≡ false → squeezed (b ∷ s) ≡ b ∷ squeezed s
+other_stays b s other = rw other refl
+
+-- What was written, the piece that waits, and what the rest becomes, are the whole.
+pub record Squeezing (s out : List ℕ) (from i : ℕ) : Type 0 where
+  pub in_order : from ≤ i
+  pub cut : IsCharBoundary s from
+  pub whole : out ++ (between from i s ++ squeezed (drop i s)) ≡ squeezed s
+  pub not_begun : from ≡ 0 → out ≡ []
+  pub not_needed : squeezed s ≡ s → from ≡ 0
+
+pub squeezing_none : (s out : List ℕ) → IsUtf8 s → out ≡ [] → Squeezing s out 0 0
+squeezing_none s out text none = record {
+  in_order = omega arith;
+  cut = IsCharBoundary-start s text;
+  whole = rw none refl;
+  not_begun = λ _. none;
+  not_needed = λ _. refl;
+}
+
+rest_of : (s : List ℕ) (i : ℕ) → drop 1 (drop i s) ≡ drop (i + 1) s
+rest_of s i = drop-drop 1 i s
+
+pub squeezing_stays : (s out : List ℕ) (from i : ℕ) → i < length s → squeezed (drop i s) ≡ take 1 (drop i s) ++ squeezed (drop 1 (drop i s)) → Squeezing s out from i → Squeezing s out from (i + 1)
+squeezing_stays s out from i lt stays was = record {
+  in_order = omega (arith, was.in_order);
+  cut = was.cut;
+  whole =
+      let rest = squeezed (drop (i + 1) s) in
+      let first : squeezed (drop i s) ≡ get_or s i 0 ∷ rest =
+      stays ∙ ap (λ l. take 1 l ++ squeezed (drop 1 l)) (drop_more s i 0 lt) in
+      let piece = between_more s from i 0 was.in_order lt in
+      let grown : between from (i + 1) s ++ rest ≡ between from i s ++ get_or s i 0 ∷ rest =
+      ap (λ l. l ++ rest) piece ∙ append_assoc (between from i s) (get_or s i 0 ∷ []) rest in
+      ap (λ l. out ++ l) (grown ∙ ap (λ l. between from i s ++ l) (sym first)) ∙ was.whole;
+  not_begun = was.not_begun;
+  not_needed = was.not_needed;
+}
+
+white_is_ascii : (b : ℕ) → is_ascii_white_space b ≡ true → b < 128
+white_is_ascii b white = grind (arith, nat_tests)
+
+pub squeezing_replaced : (s out instead : List ℕ) (from i : ℕ) → IsUtf8 s → i < length s → IsReplaced (drop i s) instead → Squeezing s out from i → Squeezing s ((out ++ between from i s) ++ instead) (i + 1) (i + 1)
+squeezing_replaced s out instead from i text lt here was = record {
+  in_order = omega arith;
+  cut =
+      let place : slice_index (drop i s) 0 ≡ get_or s i 0 = get_or-drop i s 0 0 ∙ ap (λ n. get_or s n 0) (omega arith) in
+      let ascii = white_is_ascii (slice_index (drop i s) 0) here.white in
+      IsCharBoundary-after_ascii s i text lt (omega arith);
+  whole =
+      let rest : squeezed (drop i s) ≡ instead ++ squeezed (drop (i + 1) s) = here.whole ∙ ap (λ l. instead ++ squeezed l) (rest_of s i) in
+      rw (between_none s (i + 1), append_assoc, append_assoc) (ap (λ l. out ++ (between from i s ++ l)) (sym rest) ∙ was.whole);
+  not_begun = λ e. absurd (omega arith);
+  not_needed = λ same. absurd (here.needed (squeezed_drop i s same));
+}
+
+pub squeezing_all : (s out : List ℕ) (from i : ℕ) → length s ≤ i → Squeezing s out from i → out ++ between from (length s) s ≡ squeezed s
+squeezing_all s out from i past was =
+    let piece : between from (length s) s ≡ between from i s = between_to_end s from (length s) (omega arith) ∙ sym (between_to_end s from i past) in
+    let ended : squeezed (drop i s) ≡ [] = ap squeezed (drop_all i s past) in
+    rw piece (ap (λ l. out ++ l) (sym (append-nil (between from i s)) ∙ ap (λ l. between from i s ++ l) (sym ended)) ∙ was.whole)
+
+-- nothing was written
+pub squeezing_nothing : (s out : List ℕ) (from i : ℕ) → length s ≤ i → from ≡ 0 → Squeezing s out from i → s ≡ squeezed s
+squeezing_nothing s out from i past start was =
+    let none = was.not_begun start in
+    let all : s ≡ between from (length s) s = rw start (sym (between_to_end s 0 (length s) (omega arith))) in
+    all ∙ (rw none at (squeezing_all s out from i past was))

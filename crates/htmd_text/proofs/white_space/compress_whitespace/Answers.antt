@@ -1,0 +1,43 @@
+use Rattle.std.proofs.Common.{◌≡◌, ℕ, List, ◌++◌, take, drop, length, arith, subst, ◌∙◌, ap}
+use Rattle.std.specs.String.{string_bytes}
+use Rattle.std.specs.List.{between}
+use Rattle.std.proofs.lemmas.Slice.{between_to_end}
+use Rattle.htmd_text.specs.WhiteSpace.{squeezed}
+use Rattle.htmd_text.specs.Replacement.{IsReplaced}
+use Rattle.htmd_text.proofs.WhiteSpaceLemmas.{squeezed_drop, squeezing_none, squeezing_stays, squeezing_replaced, squeezing_nothing}
+use Rattle.htmd_text.proofs.white_space.compress_whitespace.Goals as goal
+use Rattle.htmd_text.proofs.white_space.compress_whitespace.Goals.{in-Some+in_ok-reserve+in_ok-push_str+in_ok-push_str-2, in_default}
+
+pub loop-i-init : goal.loop-i-init
+loop-i-init c = squeezing_none c.args.text.now _ c.utf8.text c.new-squeezed.ensures.bytes
+
+pub returns-in_err-reserve-clause-borrowed : goal.returns-in_err-reserve-clause-borrowed
+returns-in_err-reserve-clause-borrowed c =
+    let s = c.args.text.now in
+    let bytes = c.as_bytes-bytes.result.now in
+    let rest : between c.loop-i.i (length bytes) bytes ≡ drop c.loop-i.i s = between_to_end bytes c.loop-i.i (length bytes) (omega arith) ∙ ap (drop c.loop-i.i) c.as_bytes-bytes.ensures.value in
+    let here = subst (λ (l : List ℕ). IsReplaced l c.in-Some.instead.now) rest c.in-Some.ensures in
+    λ same. absurd (here.needed (squeezed_drop c.loop-i.i s same))
+
+pub loop-i-preserved : goal.loop-i-preserved
+loop-i-preserved c =
+    let s = c.args.text.now in
+    let i = c.loop-i.i in
+    let bytes = c.as_bytes-bytes.result.now in
+    let rest : between i (length bytes) bytes ≡ drop i s = between_to_end bytes i (length bytes) (omega arith) ∙ ap (drop i) c.as_bytes-bytes.ensures.value in
+    elim c.match-replacement.branch [
+      | in-Some+in_ok-reserve+in_ok-push_str+in_ok-push_str-2 w ↦
+          let here = subst (λ (l : List ℕ). IsReplaced l w.in-Some.instead.now) rest w.in-Some.ensures in
+          let step = squeezing_replaced s (string_bytes c.loop-i.squeezed) w.in-Some.instead.now c.loop-i.from i c.utf8.text (omega arith) here c.loop-i.invariant in
+          let piece : string_bytes w.push_str.new.self ≡ string_bytes c.loop-i.squeezed ++ between c.loop-i.from i s = cc (w.in_ok-push_str.ensures.bytes, w.in_ok-reserve.ensures.bytes, w.range.ensures.value) in
+          let written : string_bytes c.match-replacement.squeezed ≡ (string_bytes c.loop-i.squeezed ++ between c.loop-i.from i s) ++ w.in-Some.instead.now =
+          ap string_bytes w.squeezed-is ∙ w.in_ok-push_str-2.ensures.bytes ∙ ap (λ l. l ++ w.in-Some.instead.now) piece in
+          rw (written, w.from-is) step
+      | in_default w ↦
+          let stays = subst (λ (l : List ℕ). squeezed l ≡ take 1 l ++ squeezed (drop 1 l)) rest w.in_default.ensures in
+          let step = squeezing_stays s (string_bytes c.loop-i.squeezed) c.loop-i.from i (omega arith) stays c.loop-i.invariant in
+          rw (w.squeezed-is, w.from-is) step
+    ]
+
+pub returns-then-from-eq0-clause-text : goal.returns-then-from-eq0-clause-text
+returns-then-from-eq0-clause-text c = squeezing_nothing c.args.text.now (string_bytes c.loop-i.squeezed) c.loop-i.from c.loop-i.i (omega arith) (omega arith) c.loop-i.invariant

@@ -1,0 +1,13 @@
+pub mod Characters
+pub mod WhiteSpace
+pub mod Blocks
+pub mod Trims
+pub mod Joins
+pub mod Indents
+pub mod Digits
+pub mod ListMarkers
+pub mod EscapeMarks
+pub mod Unescape
+pub mod PlainText
+pub mod Marks
+pub mod Replacement

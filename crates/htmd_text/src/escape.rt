@@ -1,0 +1,146 @@
+//! Backslashes, so that Markdown reads a text as it stands (CommonMark 0.31.2, 2.4).
+ghost use Rattle.std.specs.Prelude.{◌≡◌, ◌<◌, IfOk, IsOkAnd, IsTrue, false, length};
+ghost use Rattle.std.specs.Cow.{cow_str_bytes, IsBorrowedStr};
+ghost use Rattle.htmd_text.specs.EscapeMarks as spec;
+ghost use Rattle.htmd_text.specs.Unescape.{unescape};
+ghost use Rattle.htmd_text.specs.PlainText.{each_bare, begins_no_inline, begins_no_html, begins_item};
+ghost use Rattle.htmd_text.specs.Marks.{is_marked_by, AreAscii};
+
+use crate::list_markers::{index_of_markdown_ordered_item_dot, is_markdown_atx_heading};
+use std::alloc::{AllocError, Global};
+use std::borrow::CowStr;
+
+/// Which places of a text get a backslash.
+#[derive(Clone, Copy)]
+pub(crate) enum Marks {
+    /// each `<` that opens HTML, where brackets may have been escaped before
+    Html,
+    /// all that Markdown reads otherwise
+    Markdown {
+        begins_block: bool,
+        item_dot: Option<usize>,
+    },
+}
+
+/// The text with a backslash before each place that Markdown would read otherwise.
+pub fn escape_if_needed(alloc: Global, text: &str) -> Result<CowStr<'_>, AllocError>
+    ensures text { IfOk result (λ c. cow_str_bytes c ≡ spec.escaped text.now) }
+    ensures reads_back { IfOk result (λ c. unescape (cow_str_bytes c) ≡ text.now) }
+    ensures inline { IfOk result (λ c. IsTrue (each_bare begins_no_inline (cow_str_bytes c))) }
+    ensures html { IfOk result (λ c. IsTrue (each_bare begins_no_html (cow_str_bytes c))) }
+    ensures block { IfOk result (λ c. spec.begins_block (cow_str_bytes c) ≡ false) }
+    ensures item { IfOk result (λ c. begins_item (cow_str_bytes c) ≡ false) }
+    ensures borrowed { spec.escaped text.now ≡ text.now → IsOkAnd result (λ c. IsBorrowedStr c) }
+{
+    let marks = Marks::Markdown {
+        begins_block: begins_block(text),
+        item_dot: numbered_item_dot(text),
+    };
+    with_backslashes(alloc, text, marks)
+}
+
+/// The text with a backslash before each `<` that opens HTML.
+pub fn escape_html(alloc: Global, text: &str) -> Result<CowStr<'_>, AllocError>
+    ensures text { IfOk result (λ c. cow_str_bytes c ≡ spec.html_escaped text.now) }
+    ensures borrowed { spec.html_escaped text.now ≡ text.now
+        → IsOkAnd result (λ c. IsBorrowedStr c) }
+{
+    with_backslashes(alloc, text, Marks::Html)
+}
+
+/// The text with a backslash in front where it begins with a backquote or a tilde.
+pub fn escape_pre_text_if_needed(alloc: Global, text: &str) -> Result<CowStr<'_>, AllocError>
+    ensures text { IfOk result (λ c. cow_str_bytes c ≡ spec.pre_escaped text.now) }
+    ensures borrowed { spec.pre_escaped text.now ≡ text.now
+        → IsOkAnd result (λ c. IsBorrowedStr c) }
+{
+    if !matches!(text.as_bytes(), [b'`' | b'~', ..]) {
+        return Ok(CowStr::Borrowed(text));
+    }
+    let mut escaped = String::with_capacity(alloc, text.len() + 1)?;
+    escaped.push('\\')?;
+    escaped.push_str(text)?;
+    Ok(CowStr::Owned(escaped))
+}
+
+/// The text with a backslash before each marked place.
+fn with_backslashes(alloc: Global, text: &str, marks: Marks) -> Result<CowStr<'_>, AllocError>
+    requires { AreAscii marks text.now }
+    ensures text { IfOk result
+        (λ c. cow_str_bytes c ≡ spec.with_backslashes (is_marked_by marks text.now) 0 text.now) }
+    ensures borrowed { spec.with_backslashes (is_marked_by marks text.now) 0 text.now ≡ text.now
+        → IsOkAnd result (λ c. IsBorrowedStr c) }
+{
+    let bytes = text.as_bytes();
+    let mut escaped = String::new(alloc);
+    let mut from = 0;
+    for i in 0..bytes.len() {
+        if is_marked(bytes, i, marks) {
+            escaped.reserve(bytes.len() - from + 1)?;
+            escaped.push_str(&text[from..i])?;
+            escaped.push('\\')?;
+            from = i;
+        }
+    }
+    if escaped.is_empty() {
+        return Ok(CowStr::Borrowed(text));
+    }
+    escaped.push_str(&text[from..])?;
+    Ok(CowStr::Owned(escaped))
+}
+
+/// Whether the place gets a backslash.
+fn is_marked(bytes: &[u8], place: usize, marks: Marks) -> bool
+    requires { place < length bytes.now }
+    ensures { result ≡ is_marked_by marks bytes.now place }
+{
+    let byte = bytes[place];
+    let behind = &bytes[place + 1..];
+    match marks {
+        Marks::Html => byte == b'<' && opens_html(behind) && !behind.starts_with(b"!\\[CDATA\\["),
+        Marks::Markdown {
+            begins_block,
+            item_dot,
+        } => {
+            matches!(byte, b'\\' | b'*' | b'_' | b'`' | b'[' | b']')
+                || byte == b'<' && opens_html(behind)
+                || place == 0 && begins_block
+                || item_dot == Some(place)
+        }
+    }
+}
+
+/// Whether a `<` before these bytes opens a tag, a declaration, a comment or an instruction
+/// (CommonMark 0.31.2, 4.6 and 6.6).
+fn opens_html(behind: &[u8]) -> bool
+    ensures { result ≡ spec.opens_html behind.now }
+{
+    match behind {
+        [b'?', ..] => true,
+        [b'/', c, ..] => c.is_ascii_alphabetic(),
+        [b'!', rest @ ..] => !rest.starts_with(b"[CDATA["),
+        [c, ..] => c.is_ascii_alphabetic(),
+        [] => false,
+    }
+}
+
+/// Whether the first character begins a block or underlines a heading.
+fn begins_block(text: &str) -> bool
+    ensures { result ≡ spec.begins_block text.now }
+{
+    match text.as_bytes() {
+        [b'=' | b'~' | b'>', ..] => true,
+        [b'-' | b'+', b' ', ..] => true,
+        _ => is_markdown_atx_heading(text),
+    }
+}
+
+/// The dot of an ordered list item whose number begins with an ASCII digit.
+fn numbered_item_dot(text: &str) -> Option<usize>
+    ensures { result ≡ spec.numbered_item_dot text.now }
+{
+    match text.as_bytes() {
+        [b'0'..=b'9', ..] => index_of_markdown_ordered_item_dot(text),
+        _ => None,
+    }
+}

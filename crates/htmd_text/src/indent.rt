@@ -1,0 +1,69 @@
+//! The lines of a list item behind spaces.
+ghost use Rattle.std.specs.Prelude.{◌≡◌, ◌++◌, IfOk, OnOk, string_bytes, replicate};
+ghost use Rattle.htmd_text.specs.Characters.{space};
+ghost use Rattle.htmd_text.specs.Indents as spec;
+
+use crate::trim::without_document_end;
+use std::alloc::{AllocError, Global};
+
+/// The text's lines behind so many spaces, except the first and the empty ones, and where asked
+/// without document white space at their ends; without spaces the text itself.
+pub fn indent_text_except_first_line(
+    alloc: Global,
+    text: &str,
+    indent: usize,
+    trim_line_end: bool,
+) -> Result<String, AllocError>
+    ensures { IfOk result (λ t. string_bytes t ≡ spec.indented text.now indent trim_line_end) }
+{
+    if indent == 0 {
+        return String::from_str(alloc, text);
+    }
+    let mut indented = String::with_capacity(alloc, text.len())?;
+    let mut is_first = true;
+    for line in text.lines() {
+        let line = line_text(line, trim_line_end);
+        if is_first {
+            indented.push_str(line)?;
+        } else {
+            push_line(&mut indented, line, indent)?;
+        }
+        is_first = false;
+    }
+    Ok(indented)
+}
+
+/// The line, where asked without document white space at its end.
+fn line_text(line: &str, trim_line_end: bool) -> &str
+    ensures { result.now ≡ spec.line_text trim_line_end line.now }
+{
+    if trim_line_end {
+        without_document_end(line)
+    } else {
+        line
+    }
+}
+
+/// Puts a line feed and the line behind so many spaces, unless it is empty.
+fn push_line(text: &mut String, line: &str, indent: usize) -> Result<(), AllocError>
+    ensures { OnOk result
+        (string_bytes text.new ≡ string_bytes text.old ++ spec.next_line indent line.now) }
+{
+    text.push('\n')?;
+    if line.is_empty() {
+        return Ok(());
+    }
+    push_spaces(text, indent)?;
+    text.push_str(line)?;
+    Ok(())
+}
+
+/// Puts so many spaces.
+fn push_spaces(text: &mut String, count: usize) -> Result<(), AllocError>
+    ensures { OnOk result (string_bytes text.new ≡ string_bytes text.old ++ replicate count space) }
+{
+    for _ in 0..count {
+        text.push(' ')?;
+    }
+    Ok(())
+}

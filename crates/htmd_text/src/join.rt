@@ -1,0 +1,67 @@
+//! Texts one after another.
+ghost use Rattle.std.specs.Prelude.{◌≡◌, IfOk, OnOk, map, string_bytes};
+ghost use Rattle.std.specs.Iterator.{IsFinite};
+ghost use Rattle.std.specs.Iterator.Runs.{WholeRun};
+ghost use Rattle.htmd_text.specs.Joins as spec;
+
+use crate::runs::{leading_len, trailing_len};
+use std::alloc::{AllocError, Global};
+use std::convert::AsStr;
+
+/// The items of an iterator as one text.
+pub trait JoinOnStringIterator: Iterator {
+    /// The items that are left, with the separator between each two.
+    final fn join(&mut self, alloc: Global, separator: &str) -> Result<String, AllocError>
+    where
+        Self: Sized,
+        Self::Item: AsStr + Drop,
+        requires can { Self.can_next self.old }
+        requires finite { IsFinite (Self.remaining self.old) }
+        ensures { IfOk result (λ s.
+            WholeRun Self.next_gives self.old (λ p.
+            string_bytes s ≡ spec.joined separator.now (map Self.Item.text p.items))) }
+    {
+        let mut joined = String::new(alloc);
+        let Some(first) = self.next() else {
+            return Ok(joined);
+        };
+        joined.push_str(first.as_str())?;
+        while let Some(item) = self.next() {
+            joined.push_str(separator)?;
+            joined.push_str(item.as_str())?;
+        }
+        Ok(joined)
+    }
+}
+
+impl<I: Iterator> JoinOnStringIterator for I {}
+
+/// The blocks one after another, empty ones passed over: where a text ends with `a` line feeds and
+/// the next begins with `b`, the greater of the two stands between them, at most two.
+pub fn join_blocks(alloc: Global, blocks: &[String]) -> Result<String, AllocError>
+    ensures { IfOk result
+        (λ text. string_bytes text
+        ≡ spec.joined_blocks (map (λ block. string_bytes block) blocks.now)) }
+{
+    let mut joined = String::new(alloc);
+    for block in blocks {
+        join_block(&mut joined, block.as_str())?;
+    }
+    Ok(joined)
+}
+
+/// Puts one more block behind the others.
+fn join_block(joined: &mut String, block: &str) -> Result<(), AllocError>
+    ensures { OnOk result
+        (string_bytes joined.new ≡ spec.join_block (string_bytes joined.old) block.now) }
+{
+    if block.is_empty() {
+        return Ok(());
+    }
+    let before = trailing_len(joined.as_bytes(), b'\n');
+    let behind = leading_len(block.as_bytes(), b'\n');
+    joined.truncate(joined.len() - before);
+    joined.push_str(&"\n\n"[..before.max(behind).min(2)])?;
+    joined.push_str(&block[behind..])?;
+    Ok(())
+}

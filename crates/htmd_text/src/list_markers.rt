@@ -1,0 +1,64 @@
+//! The beginnings of a line that Markdown reads as a heading or as an ordered list item.
+ghost use Rattle.std.specs.Prelude.{◌≡◌, ◌==◌, ◌≤◌, length};
+ghost use Rattle.std.specs.List.{prefix_len};
+ghost use Rattle.htmd_text.specs.ListMarkers as spec;
+
+use crate::runs::leading_len;
+use unicode::properties::GeneralCategory;
+
+/// Whether the text begins with one or more `#` and then a space, as an ATX heading does
+/// (CommonMark 0.31.2, 4.2).
+pub fn is_markdown_atx_heading(text: &str) -> bool
+    ensures { result ≡ spec.is_atx_heading text.now }
+{
+    let bytes = text.as_bytes();
+    let level = leading_len(bytes, b'#');
+    level > 0 && level < bytes.len() && bytes[level] == b' '
+}
+
+/// Where the text begins with one or more numeric characters (general categories Nd, Nl and No),
+/// one or more dots and a space, the place of the last of these dots. An ordered list item begins
+/// so (CommonMark 0.31.2, 5.2).
+pub fn index_of_markdown_ordered_item_dot(text: &str) -> Option<usize>
+    ensures { result ≡ spec.ordered_item_dot text.now }
+{
+    let bytes = text.as_bytes();
+    let numerals = numerals_len(text);
+    let dots = leading_len(&bytes[numerals..], b'.');
+    let end = numerals + dots;
+    if numerals > 0 && dots > 0 && end < bytes.len() && bytes[end] == b' ' {
+        Some(end - 1)
+    } else {
+        None
+    }
+}
+
+/// How many bytes the numeric characters at the front take.
+fn numerals_len(text: &str) -> usize
+    ensures bound { result ≤ length text.now }
+    ensures value { result ≡ spec.numerals_len text.now }
+{
+    let mut len = 0;
+    for c in text.chars() {
+        if !is_numeric(c) {
+            return len;
+        }
+        len += c.len_utf8();
+    }
+    len
+}
+
+/// Whether the character is a number: a digit of any script, a letter number, a fraction.
+fn is_numeric(c: char) -> bool
+    ensures { result ≡ spec.is_numeric c }
+{
+    if c.is_ascii() {
+        return c.is_ascii_digit();
+    }
+    matches!(
+        GeneralCategory::for_char(c),
+        GeneralCategory::DecimalNumber
+            | GeneralCategory::LetterNumber
+            | GeneralCategory::OtherNumber
+    )
+}

@@ -1,0 +1,62 @@
+//! White space of a text.
+ghost use Rattle.std.specs.Prelude.{◌≡◌, ◌++◌, IfOk, IsOkAnd, MatchOption, take, drop};
+ghost use Rattle.std.specs.Cow.{cow_str_bytes, IsBorrowedStr};
+ghost use Rattle.htmd_text.specs.WhiteSpace as spec;
+ghost use Rattle.htmd_text.specs.Replacement.{IsReplaced};
+
+use std::alloc::{AllocError, Global};
+use std::borrow::CowStr;
+
+/// The text with each run of ASCII white space as one space.
+pub fn compress_whitespace(alloc: Global, text: &str) -> Result<CowStr<'_>, AllocError>
+    ensures text { IfOk result (λ c. cow_str_bytes c ≡ spec.squeezed text.now) }
+    ensures borrowed { spec.squeezed text.now ≡ text.now → IsOkAnd result (λ c. IsBorrowedStr c) }
+{
+    let bytes = text.as_bytes();
+    let mut squeezed = String::new(alloc);
+    let mut from = 0;
+    for i in 0..bytes.len() {
+        if let Some(instead) = replacement(&bytes[i..]) {
+            squeezed.reserve(bytes.len() - i)?;
+            squeezed.push_str(&text[from..i])?;
+            squeezed.push_str(instead)?;
+            from = i + 1;
+        }
+    }
+    if from == 0 {
+        return Ok(CowStr::Borrowed(text));
+    }
+    squeezed.push_str(&text[from..])?;
+    Ok(CowStr::Owned(squeezed))
+}
+
+/// What the squeezed text has in place of the first byte, where that is not the byte itself:
+/// nothing for white space before more of it, a space for other white space.
+fn replacement(bytes: &[u8]) -> Option<&'static str>
+    ensures { MatchOption result
+        (spec.squeezed bytes.now ≡ take 1 bytes.now ++ spec.squeezed (drop 1 bytes.now))
+        (λ instead. IsReplaced bytes.now instead.now) }
+{
+    match bytes {
+        [b, behind @ ..] if b.is_ascii_whitespace() => {
+            if begins_with_white_space(behind) {
+                Some("")
+            } else if *b == b' ' {
+                None
+            } else {
+                Some(" ")
+            }
+        }
+        _ => None,
+    }
+}
+
+/// Whether the text begins with ASCII white space.
+fn begins_with_white_space(bytes: &[u8]) -> bool
+    ensures { result ≡ spec.begins_with_white_space bytes.now }
+{
+    match bytes {
+        [b, ..] => b.is_ascii_whitespace(),
+        [] => false,
+    }
+}

@@ -1,0 +1,8 @@
+-- What an addition changes; how the value tree and the ancestors of a node are made of those of others; how a node is written.
+pub mod ItemsLemmas
+pub mod EntriesLemmas
+pub mod Denoted
+pub mod SerialisationLemmas
+pub mod RawBlocksLemmas
+mod Examples
+mod SerialisationExamples

@@ -1,0 +1,20 @@
+use Rattle.std.proofs.Common.{◌≡◌, ◌+◌, ◌-◌, ◌*◌, ◌++◌, length, drop, string_bytes}
+use Rattle.htmd_tree.specs.Items.{children_of}
+use Rattle.htmd_tree.specs.Numbered.{tree_of, forest_of}
+use Rattle.htmd_tree.specs.ValueTrees.{forget_all}
+use Rattle.htmd_tree.specs.Serialisation.{all_written}
+use Rattle.htmd_tree.proofs.serialiser.+serialiser.Given as goal
+
+-- children stand behind their parent
+abbrev pub decreases-push_children : goal.decreases-push_children
+decreases-push_children l = (length l.tree.now - (l.node + 1)) * 2 + 1
+
+abbrev pub decreases-push_node : goal.decreases-push_node
+decreases-push_node l = (length l.tree.now - l.node) * 2
+
+abbrev pub invariant-push_children-loop-child : goal.invariant-push_children-loop-child
+invariant-push_children-loop-child l = record {
+  items : l.child-items ≡ children_of l.tree l.fn.node;
+  rest : string_bytes l.out ++ all_written l.raw (forget_all (forest_of (tree_of l.tree) (drop l.child-index l.child-items)))
+      ≡ string_bytes l.fn.out ++ all_written l.raw (forget_all (forest_of (tree_of l.tree) l.child-items));
+}

@@ -1,0 +1,15 @@
+-- How a tree lies in memory: each entry keeps the numbers of its children.
+use Rattle.std.specs.Prelude.{◌≡◌, ℕ, ◌<◌, List, length, map, slice_index_or}
+use Rattle.htmd_tree.specs.declared.tree.Entry.{Entry}
+use Rattle.htmd_tree.specs.Items.{Item, children_of, IsTree}
+use Rattle.htmd_tree.specs.Stored.{content_of}
+
+abbrev pub item_of : Entry → Item
+item_of e = record { parent = e.parent; depth = e.depth; content = content_of e.data }
+
+abbrev pub items_of : List Entry → List Item
+items_of entries = map item_of entries
+
+pub record IsStored (entries : List Entry) : Type 0 where
+  pub tree : IsTree (items_of entries)
+  pub children : (k : ℕ) (d : Entry) → k < length entries → (slice_index_or entries k d).children.items ≡ children_of (items_of entries) k

@@ -1,0 +1,94 @@
+-- A tree as its callers see it: its nodes in the order in which they were added, numbered from 0.
+use Rattle.std.specs.Prelude.{◌≡◌, ℕ, suc, ◌+◌, ◌<◌, ◌≤◌, Bool, true, false, ◌==◌, if◌then◌else◌, List, [], ◌∷◌, length, Option, Some, None, IsSome, slice_index_or, Contains, codes}
+
+-- an attribute: its name and its value
+pub record AttributePair : Type 0 where
+  pub name : List ℕ
+  pub value : List ℕ
+
+-- what a node is, apart from where it stands
+pub data Content : Type 0 where
+  document_node : Content
+  doctype_node : Content
+  text_node : (text : List ℕ) → Content
+  comment_node : (text : List ℕ) → Content
+  element_node : (name : List ℕ) (attributes : List AttributePair) → Content
+
+-- a node: the number of its parent, its depth, and what it is
+pub record Item : Type 0 where
+  pub parent : Option ℕ
+  pub depth : ℕ
+  pub content : Content
+
+-- the Document, at depth 0 and without a parent
+abbrev pub document_item : Item
+document_item = record { parent = None; depth = 0; content = document_node }
+
+abbrev pub item_at : List Item → ℕ → Item
+item_at items id = slice_index_or items id document_item
+
+abbrev pub parent_at : List Item → ℕ → Option ℕ
+parent_at items id = (item_at items id).parent
+
+abbrev pub depth_at : List Item → ℕ → ℕ
+depth_at items id = (item_at items id).depth
+
+abbrev pub content_at : List Item → ℕ → Content
+content_at items id = (item_at items id).content
+
+-- this parent is p
+abbrev pub is_child : ℕ → Option ℕ → Bool
+is_child p None = false
+is_child p (Some q) = q == p
+
+-- the numbers of the children of p among items that are numbered from b on
+abbrev pub children_from : ℕ → List Item → ℕ → List ℕ
+children_from b [] p = []
+children_from b (item ∷ items) p = if is_child p item.parent then b ∷ children_from (suc b) items p else children_from (suc b) items p
+
+-- a node's children: the items that name it as their parent, in order of addition
+abbrev pub children_of : List Item → ℕ → List ℕ
+children_of items p = children_from 0 items p
+
+-- the Document and elements have children, and nothing else has
+abbrev pub holds_children : Content → Bool
+holds_children document_node = true
+holds_children doctype_node = false
+holds_children (text_node s) = false
+holds_children (comment_node s) = false
+holds_children (element_node name attributes) = true
+
+-- the tag of an element is its name, and that of the Document is html
+abbrev pub tag_of : Content → Option (List ℕ)
+tag_of document_node = Some (codes "html")
+tag_of doctype_node = None
+tag_of (text_node s) = None
+tag_of (comment_node s) = None
+tag_of (element_node name attributes) = Some name
+
+-- a new node under p
+abbrev pub new_item : List Item → ℕ → Content → Item
+new_item items p content = record { parent = Some p; depth = depth_at items p + 1; content = content }
+
+-- the greatest depth of a node
+abbrev pub greatest_depth : ℕ
+greatest_depth = 1024
+
+-- node k stands right under node p, which was there before it
+pub record IsUnder (items : List Item) (p k : ℕ) : Type 0 where
+  pub before : p < k
+  pub holds : holds_children (content_at items p) ≡ true
+  pub deeper : depth_at items k ≡ depth_at items p + 1
+
+-- what holds of every tree: the Document comes first, and every other node stands under one parent
+pub record IsTree (items : List Item) : Type 0 where
+  pub not_empty : 0 < length items
+  pub first : item_at items 0 ≡ document_item
+  pub has_parent : (k : ℕ) → 0 < k → k < length items → IsSome (parent_at items k)
+  pub under : (k p : ℕ) → k < length items → parent_at items k ≡ Some p → IsUnder items p k
+  pub within : (k : ℕ) → k < length items → depth_at items k ≤ greatest_depth
+
+-- d is a child of the node, or a child's child, and so on
+pub data IsBelow (items : List Item) (node : ℕ) : ℕ → Type 0 where
+  child : {d : ℕ} → Contains (children_of items node) d → IsBelow items node d
+  deeper : {p d : ℕ} → IsBelow items node p → Contains (children_of items p) d → IsBelow items node d

@@ -1,0 +1,13 @@
+//! Trees of HTML nodes. A tree is its nodes in order of addition; a node denotes a value tree and a
+//! list of ancestors, and nodes are only added, each as the last child of its parent. A node is
+//! written as HTML by the serialisation of its value tree.
+#![tactic(auto)]
+
+pub mod serialiser;
+pub mod tree;
+
+pub use serialiser::{raw_block, serialize};
+pub use tree::{Attribute, NodeData, NodeId, Tree, TreeError};
+
+#[cfg(test)]
+mod tests;

@@ -1,0 +1,253 @@
+//! What a tree is written as, and its block of raw HTML.
+ghost use Rattle.std.specs.Prelude.{◌≡◌, ◌<◌, ◌++◌, ◌∷◌, false, length, string_bytes, IfOk, OnOk};
+ghost use Rattle.std.specs.Str.{chars, encode_utf8_all};
+ghost use Rattle.htmd_tree.specs.Items.{children_of};
+ghost use Rattle.htmd_tree.specs.Numbered.{tree_of, forest_of};
+ghost use Rattle.htmd_tree.specs.Stored.{pair_of, pairs_of};
+ghost use Rattle.htmd_tree.specs.ValueTrees.{forget, forget_all};
+ghost use Rattle.htmd_tree.specs.Serialisation.{escaped_char, text_byte, value_byte, escaped, attribute_text, start_tag, end_tag, comment_of, is_void, is_raw_text, written, all_written, ser};
+ghost use Rattle.htmd_tree.specs.RawBlocks.{begins_line, rewritten, block_of, has_carriage_return, IsRawBlock};
+
+use crate::tree::{Attribute, NodeData, NodeId, Tree};
+use std::alloc::{AllocError, Global};
+
+fn push_text_char(out: &mut String, c: char) -> Result<(), AllocError>
+    ensures { OnOk result (string_bytes out.new
+        ≡ string_bytes out.old ++ escaped_char text_byte c) }
+{
+    match c {
+        '&' => out.push_str("&amp;"),
+        '<' => out.push_str("&lt;"),
+        '>' => out.push_str("&gt;"),
+        '\u{a0}' => out.push_str("&nbsp;"),
+        _ => out.push(c),
+    }
+}
+
+fn push_value_char(out: &mut String, c: char) -> Result<(), AllocError>
+    ensures { OnOk result (string_bytes out.new
+        ≡ string_bytes out.old ++ escaped_char value_byte c) }
+{
+    match c {
+        '&' => out.push_str("&amp;"),
+        '"' => out.push_str("&quot;"),
+        '\u{a0}' => out.push_str("&nbsp;"),
+        _ => out.push(c),
+    }
+}
+
+fn push_text(out: &mut String, text: &str) -> Result<(), AllocError>
+    ensures { OnOk result (string_bytes out.new
+        ≡ string_bytes out.old ++ escaped text_byte text.now) }
+{
+    for c in text.chars() {
+        push_text_char(out, c)?;
+    }
+    Ok(())
+}
+
+fn push_value(out: &mut String, value: &str) -> Result<(), AllocError>
+    ensures { OnOk result (string_bytes out.new
+        ≡ string_bytes out.old ++ escaped value_byte value.now) }
+{
+    for c in value.chars() {
+        push_value_char(out, c)?;
+    }
+    Ok(())
+}
+
+/// Whether an element has no end tag.
+#[tactic(auto, unfolding(crate::specs::Serialisation::is_void))]
+pub fn is_void(name: &str) -> bool
+    ensures { result ≡ is_void name.now }
+{
+    matches!(
+        name,
+        "area"
+            | "base"
+            | "basefont"
+            | "bgsound"
+            | "br"
+            | "col"
+            | "embed"
+            | "frame"
+            | "hr"
+            | "img"
+            | "input"
+            | "keygen"
+            | "link"
+            | "meta"
+            | "param"
+            | "source"
+            | "track"
+            | "wbr"
+    )
+}
+
+/// Whether the texts of an element are written as they are.
+#[tactic(auto, unfolding(crate::specs::Serialisation::is_raw_text))]
+fn is_raw_text(name: &str) -> bool
+    ensures { result ≡ is_raw_text name.now }
+{
+    matches!(
+        name,
+        "style" | "script" | "xmp" | "iframe" | "noembed" | "noframes" | "plaintext" | "noscript"
+    )
+}
+
+fn push_attribute(out: &mut String, attribute: &Attribute) -> Result<(), AllocError>
+    ensures { OnOk result (string_bytes out.new
+        ≡ string_bytes out.old ++ attribute_text (pair_of attribute.now)) }
+{
+    out.push_str(" ")?;
+    out.push_str(attribute.name.as_str())?;
+    out.push_str("=\"")?;
+    push_value(out, attribute.value.as_str())?;
+    out.push_str("\"")
+}
+
+/// Puts the start tag of an element behind a text.
+pub fn push_start_tag(out: &mut String, name: &str, attrs: &[Attribute]) -> Result<(), AllocError>
+    ensures { OnOk result (string_bytes out.new
+        ≡ string_bytes out.old ++ start_tag name.now (pairs_of attrs.now)) }
+{
+    out.push_str("<")?;
+    out.push_str(name)?;
+    for attribute in attrs {
+        push_attribute(out, attribute)?;
+    }
+    out.push_str(">")
+}
+
+/// Puts the end tag of an element behind a text.
+pub fn push_end_tag(out: &mut String, name: &str) -> Result<(), AllocError>
+    ensures { OnOk result (string_bytes out.new ≡ string_bytes out.old ++ end_tag name.now) }
+{
+    out.push_str("</")?;
+    out.push_str(name)?;
+    out.push_str(">")
+}
+
+fn push_comment(out: &mut String, text: &str) -> Result<(), AllocError>
+    ensures { OnOk result (string_bytes out.new ≡ string_bytes out.old ++ comment_of text.now) }
+{
+    out.push_str("<!--")?;
+    out.push_str(text)?;
+    out.push_str("-->")
+}
+
+#[cycle(serialiser)]
+fn push_node(out: &mut String, tree: &Tree, node: NodeId, raw: bool) -> Result<(), AllocError>
+    requires { node < length tree.now }
+    ensures { OnOk result (string_bytes out.new
+        ≡ string_bytes out.old ++ written raw (forget (tree_of tree.now node))) }
+{
+    match tree.data(node) {
+        NodeData::Document => push_children(out, tree, node, false),
+        NodeData::Doctype => out.push_str("<!DOCTYPE html>"),
+        NodeData::Text(text) => {
+            if raw {
+                return out.push_str(text.as_str());
+            }
+            push_text(out, text.as_str())
+        }
+        NodeData::Comment(text) => push_comment(out, text.as_str()),
+        NodeData::Element { name, attrs } => {
+            push_start_tag(out, name.as_str(), attrs.as_slice())?;
+            if is_void(name.as_str()) {
+                return Ok(());
+            }
+            push_children(out, tree, node, is_raw_text(name.as_str()))?;
+            push_end_tag(out, name.as_str())
+        }
+    }
+}
+
+#[cycle(serialiser)]
+fn push_children(out: &mut String, tree: &Tree, node: NodeId, raw: bool) -> Result<(), AllocError>
+    requires { node < length tree.now }
+    ensures { OnOk result (string_bytes out.new ≡ string_bytes out.old
+        ++ all_written raw (forget_all (forest_of (tree_of tree.now) (children_of tree.now node)))) }
+{
+    for child in tree.children(node) {
+        push_node(out, tree, *child, raw)?;
+    }
+    Ok(())
+}
+
+/// The serialisation of a node and what is below it.
+pub fn serialize(alloc: Global, tree: &Tree, node: NodeId) -> Result<String, AllocError>
+    requires { node < length tree.now }
+    ensures { IfOk result
+        (λ text. string_bytes text ≡ ser (forget (tree_of tree.now node))) }
+{
+    let mut out = String::new(alloc);
+    push_node(&mut out, tree, node, false)?;
+    Ok(out)
+}
+
+fn begins_line(text: &str) -> bool
+    ensures { result ≡ begins_line (chars text.now) }
+{
+    match text.chars().next() {
+        Some(c) => c == '\n',
+        None => false,
+    }
+}
+
+/// Puts a character of a block behind a text; the answer is whether nothing but white space came
+/// since a raw line end.
+fn push_block_char(out: &mut String, after: bool, c: char, rest: &str) -> Result<bool, AllocError>
+    ensures { IfOk result (λ next. string_bytes out.new
+        ++ encode_utf8_all (rewritten next (chars rest.now))
+        ≡ string_bytes out.old ++ encode_utf8_all (rewritten after (c ∷ chars rest.now))) }
+{
+    if c == '\n' {
+        if after {
+            out.push_str("&#10;")?;
+            return Ok(false);
+        }
+        out.push(c)?;
+        return Ok(true);
+    }
+    if c == '\r' {
+        if after && begins_line(rest) {
+            out.push_str("&#13;")?;
+            return Ok(true);
+        }
+        out.push(c)?;
+        return Ok(false);
+    }
+    out.push(c)?;
+    Ok(after && c.is_whitespace())
+}
+
+/// Puts a text behind another one, with references in place of the line ends that would make a
+/// blank line.
+fn push_block(out: &mut String, text: &str) -> Result<(), AllocError>
+    ensures { OnOk result (string_bytes out.new
+        ≡ string_bytes out.old ++ encode_utf8_all (rewritten false (chars text.now))) }
+{
+    let mut after = false;
+    let mut chars = text.chars();
+    while let Some(c) = chars.next() {
+        after = push_block_char(out, after, c, chars.as_str())?;
+    }
+    Ok(())
+}
+
+/// The serialisation of a node as a block of raw HTML, without a blank line in it.
+pub fn raw_block(alloc: Global, tree: &Tree, node: NodeId) -> Result<String, AllocError>
+    requires { node < length tree.now }
+    ensures text { IfOk result
+        (λ text. string_bytes text ≡ block_of (ser (forget (tree_of tree.now node)))) }
+    ensures raw { let s = ser (forget (tree_of tree.now node)) in IfOk result
+        (λ text. has_carriage_return s ≡ false → IsRawBlock s (string_bytes text)) }
+{
+    let text = serialize(alloc, tree, node)?;
+    let mut out = String::new(alloc);
+    out.push_str("\n\n")?;
+    push_block(&mut out, text.as_str())?;
+    out.push_str("\n\n")?;
+    Ok(out)
+}

@@ -1,0 +1,290 @@
+ghost use Rattle.std.specs.Prelude.{◌≡◌, ◌+◌, ◌<◌, ◌≤◌, ◌↔◌, [], ◌∷◌, ◌++◌, nat_lt, length, IsTrue, IfOk, OnOk, OnErr, IsErrOf, IsOkUnless, MatchResult};
+ghost use Rattle.std.specs.Option.{option_copied};
+ghost use Rattle.htmd_tree.specs.Items.{IsTree, content_at, parent_at, depth_at, children_of, holds_children, tag_of, new_item, document_item, doctype_node, text_node, comment_node, element_node, greatest_depth};
+ghost use Rattle.htmd_tree.specs.Stored.{content_of, pairs_of};
+ghost use Rattle.htmd_tree.specs.declared.tree.TreeError.TheVariants.{Memory};
+
+use std::alloc::{AllocError, AllocFailed, Global};
+use std::marker::Model;
+use thiserror::Error;
+
+/// The greatest depth of a node; the Document is at depth 0.
+pub const MAX_DEPTH: usize = 1024;
+
+/// A node of a tree, by its number in order of addition.
+#[derive(Debug, Clone, Copy, PartialEq, Eq)]
+pub struct NodeId {
+    index: usize,
+}
+
+impl Model for NodeId {
+    ghost use Rattle.std.specs.Prelude.{ℕ};
+
+    ghost Value = { ℕ };
+
+    ghost view = { λ id. id.index };
+
+    ghost inverse = { λ n. record { index = n } };
+}
+
+/// An attribute of an element.
+#[derive(Debug, PartialEq, Eq, Drop)]
+pub struct Attribute {
+    pub name: String,
+    pub value: String,
+}
+
+/// What a node is.
+#[derive(Drop)]
+pub enum NodeData {
+    Document,
+    Doctype,
+    Text(String),
+    Comment(String),
+    Element { name: String, attrs: Vec<Attribute> },
+}
+
+/// Why a node was not added. The tree is then as it was.
+#[derive(Debug, PartialEq, Eq, Drop, Error)]
+pub enum TreeError {
+    /// The request for memory was refused.
+    #[error("out of memory")]
+    Memory = 1,
+    /// The node would stand deeper than `MAX_DEPTH`.
+    #[error("too deep")]
+    TooDeep = 2,
+}
+
+impl From<AllocError> for TreeError {
+    ghost from_gives = { λ _ e. e ≡ Memory };
+
+    fn from(_e: AllocError) -> TreeError {
+        TreeError::Memory
+    }
+}
+
+impl<T: Drop> From<AllocFailed<T>> for TreeError {
+    ghost from_gives = { λ _ e. e ≡ Memory };
+
+    fn from(_e: AllocFailed<T>) -> TreeError {
+        TreeError::Memory
+    }
+}
+
+#[derive(Drop)]
+struct Entry {
+    data: NodeData,
+    parent: Option<NodeId>,
+    depth: usize,
+    children: Vec<NodeId>,
+}
+
+/// A Document and the nodes below it.
+#[derive(Drop)]
+pub struct Tree {
+    entries: Vec<Entry>,
+    alloc: Global,
+}
+
+impl Model for Tree {
+    ghost use Rattle.std.specs.Prelude.{List};
+    ghost use Rattle.htmd_tree.specs.Items.{Item};
+
+    ghost Value = { List Item };
+
+    ghost use Rattle.htmd_tree.specs.Entries.{items_of, IsStored};
+
+    ghost view = { λ t. items_of t.entries.items };
+
+    ghost invariant = { λ t. IsStored t.entries.items };
+}
+
+impl Tree {
+    /// A tree of the Document alone.
+    pub fn new(alloc: Global) -> Result<Tree, TreeError>
+        ensures ok { IfOk result (λ tree. tree ≡ document_item ∷ []) }
+        ensures memory { IsOkUnless result TreeError.Memory }
+    {
+        let mut entries = Vec::new(alloc);
+        entries.push(Entry {
+            data: NodeData::Document,
+            parent: None,
+            depth: 0,
+            children: Vec::new(alloc),
+        })?;
+        Ok(Tree { entries, alloc })
+    }
+
+    /// Whether a node of this number is there.
+    pub fn contains(&self, id: NodeId) -> bool
+        ensures value { result ≡ nat_lt id (length self.now) }
+        ensures tree { IsTree self.now }
+    {
+        id.index < self.entries.len()
+    }
+
+    /// The Document.
+    pub fn root(&self) -> NodeId
+        ensures value { result ≡ 0 }
+        ensures tree { IsTree self.now }
+    {
+        let _entries = &self.entries;
+        NodeId { index: 0 }
+    }
+
+    /// What a node is.
+    pub fn data(&self, id: NodeId) -> &NodeData
+        requires { id < length self.now }
+        ensures value { content_of result.now ≡ content_at self.now id }
+        ensures tree { IsTree self.now }
+    {
+        &self.entries[id.index].data
+    }
+
+    /// The node that a node stands right under; the Document has none.
+    pub fn parent(&self, id: NodeId) -> Option<NodeId>
+        requires { id < length self.now }
+        ensures value { result ≡ parent_at self.now id }
+        ensures tree { IsTree self.now }
+    {
+        self.entries[id.index].parent
+    }
+
+    /// The nodes right under a node, in order.
+    pub fn children(&self, id: NodeId) -> &[NodeId]
+        requires { id < length self.now }
+        ensures value { result.now ≡ children_of self.now id }
+        ensures tree { IsTree self.now }
+    {
+        self.entries[id.index].children.as_slice()
+    }
+
+    /// The name of an element, and `html` for the Document.
+    pub fn tag_name(&self, id: NodeId) -> Option<&str>
+        requires { id < length self.now }
+        ensures value { option_copied result ≡ tag_of (content_at self.now id) }
+        ensures tree { IsTree self.now }
+    {
+        match self.data(id) {
+            NodeData::Document => Some("html"),
+            NodeData::Element { name, .. } => Some(name.as_str()),
+            _ => None,
+        }
+    }
+
+    /// How many ancestors a node has.
+    pub fn depth(&self, id: NodeId) -> usize
+        requires { id < length self.now }
+        ensures value { result ≡ depth_at self.now id }
+        ensures tree { IsTree self.now }
+    {
+        self.entries[id.index].depth
+    }
+
+    /// Whether a node under this parent stands within the greatest depth.
+    fn ask_depth(&self, parent: NodeId) -> Result<(), TreeError>
+        requires { parent < length self.now }
+        ensures { MatchResult result (λ _. depth_at self.now parent < greatest_depth)
+            (λ e. (e ≡ TreeError.TooDeep) × (greatest_depth ≤ depth_at self.now parent)) }
+    {
+        if self.entries[parent.index].depth >= MAX_DEPTH {
+            return Err(TreeError::TooDeep);
+        }
+        Ok(())
+    }
+
+    /// A new last child. All that takes memory comes before the change.
+    fn add(&mut self, parent: NodeId, content: NodeData) -> Result<NodeId, TreeError>
+        requires within { parent < length self.old }
+        requires holds { IsTrue (holds_children (content_at self.old parent)) }
+        requires shallow { depth_at self.old parent < greatest_depth }
+        ensures id { IfOk result (λ id. id ≡ length self.old) }
+        ensures ok { OnOk result (self.new
+            ≡ self.old ++ new_item self.old parent (content_of content) ∷ []) }
+        ensures memory { IsOkUnless result TreeError.Memory }
+        ensures err { OnErr result (self.new ≡ self.old) }
+    {
+        let id = NodeId {
+            index: self.entries.len(),
+        };
+        let entry = Entry {
+            data: content,
+            parent: Some(parent),
+            depth: self.entries[parent.index].depth + 1,
+            children: Vec::new(self.alloc),
+        };
+        self.entries.reserve(1)?;
+        self.entries[parent.index].children.push(id)?;
+        self.entries.push(entry)?;
+        Ok(id)
+    }
+
+    /// A new last child of a node: an element with a name and attributes.
+    pub fn add_element(
+        &mut self,
+        parent: NodeId,
+        name: &str,
+        attrs: Vec<Attribute>,
+    ) -> Result<NodeId, TreeError>
+        requires within { parent < length self.old }
+        requires holds { IsTrue (holds_children (content_at self.old parent)) }
+        ensures id { IfOk result (λ id. id ≡ length self.old) }
+        ensures ok { OnOk result (self.new
+            ≡ self.old
+            ++ new_item self.old parent (element_node name.now (pairs_of attrs.items)) ∷ []) }
+        ensures too_deep { IsErrOf result TreeError.TooDeep
+            ↔ (greatest_depth ≤ depth_at self.old parent) }
+        ensures err { OnErr result (self.new ≡ self.old) }
+    {
+        self.ask_depth(parent)?;
+        let name = String::from_str(self.alloc, name)?;
+        self.add(parent, NodeData::Element { name, attrs })
+    }
+
+    /// A new last child of a node: a text.
+    pub fn add_text(&mut self, parent: NodeId, text: &str) -> Result<NodeId, TreeError>
+        requires within { parent < length self.old }
+        requires holds { IsTrue (holds_children (content_at self.old parent)) }
+        ensures id { IfOk result (λ id. id ≡ length self.old) }
+        ensures ok { OnOk result (self.new
+            ≡ self.old ++ new_item self.old parent (text_node text.now) ∷ []) }
+        ensures too_deep { IsErrOf result TreeError.TooDeep
+            ↔ (greatest_depth ≤ depth_at self.old parent) }
+        ensures err { OnErr result (self.new ≡ self.old) }
+    {
+        self.ask_depth(parent)?;
+        let text = String::from_str(self.alloc, text)?;
+        self.add(parent, NodeData::Text(text))
+    }
+
+    /// A new last child of a node: a comment.
+    pub fn add_comment(&mut self, parent: NodeId, text: &str) -> Result<NodeId, TreeError>
+        requires within { parent < length self.old }
+        requires holds { IsTrue (holds_children (content_at self.old parent)) }
+        ensures id { IfOk result (λ id. id ≡ length self.old) }
+        ensures ok { OnOk result (self.new
+            ≡ self.old ++ new_item self.old parent (comment_node text.now) ∷ []) }
+        ensures too_deep { IsErrOf result TreeError.TooDeep
+            ↔ (greatest_depth ≤ depth_at self.old parent) }
+        ensures err { OnErr result (self.new ≡ self.old) }
+    {
+        self.ask_depth(parent)?;
+        let text = String::from_str(self.alloc, text)?;
+        self.add(parent, NodeData::Comment(text))
+    }
+
+    /// A new last child of a node: a Doctype.
+    pub fn add_doctype(&mut self, parent: NodeId) -> Result<NodeId, TreeError>
+        requires within { parent < length self.old }
+        requires holds { IsTrue (holds_children (content_at self.old parent)) }
+        ensures id { IfOk result (λ id. id ≡ length self.old) }
+        ensures ok { OnOk result (self.new
+            ≡ self.old ++ new_item self.old parent doctype_node ∷ []) }
+        ensures too_deep { IsErrOf result TreeError.TooDeep
+            ↔ (greatest_depth ≤ depth_at self.old parent) }
+        ensures err { OnErr result (self.new ≡ self.old) }
+    {
+        self.ask_depth(parent)?;
+        self.add(parent, NodeData::Doctype)
+    }
+}
