@@ -6,3 +6,4 @@ pub mod Nodes
 pub mod Choices
 pub mod Renderings
 pub mod NothingAppended
+mod Examples

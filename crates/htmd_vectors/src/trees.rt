@@ -1,4 +1,5 @@
 // Trees that are built by calls, and their Markdown.
+use htmd::element_handler::ElementHandlers;
 use htmd::options::{HeadingStyle, Options};
 use htmd::{HtmlToMarkdown, NodeData, NodeId, Tree};
 use std::alloc::Global;
@@ -141,5 +142,26 @@ fn starts_anywhere(rt: HostRuntime) -> Result<(), Fail> {
     }
     let answer = converter.tree_to_markdown(&tree, above)?;
     assert_eq!(rt; answer.as_str(), text);
+    Ok(())
+}
+
+#[test]
+fn finds_handlers(rt: HostRuntime) -> Result<(), Fail> {
+    let table: [(&str, usize, Option<usize>); 6] = [
+        ("h1", 0, Some(0)),
+        ("h6", 0, Some(0)),
+        ("p", 0, Some(1)),
+        ("p", 1, None),
+        ("u", 0, None),
+        ("", 0, None),
+    ];
+    let handlers = ElementHandlers::new(rt.alloc(), Options::default())?;
+    for (tag, skipped, place) in table {
+        assert_eq!(rt;
+            handlers.find_handler(tag, skipped),
+            place,
+            "{tag} {skipped}"
+        );
+    }
     Ok(())
 }
