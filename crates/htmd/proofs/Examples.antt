@@ -1,6 +1,7 @@
 -- Worked examples of the definitions.
 use Rattle.std.proofs.Common.{◌≡◌, List, [], ◌∷◌, ◌++◌, true, false, codes, refl}
 use Rattle.std.specs.Str.{chars}
+use Rattle.htmd_text.specs.Blocks.{is_block}
 use Rattle.htmd_tree.specs.Items.{Item, document_item, new_item, element_node, text_node}
 use Rattle.htmd_tree.specs.Numbered.{tree_of, forest_from}
 use Rattle.htmd_tree.specs.Ancestors.{ancestors_of, ancestors_up}
@@ -33,7 +34,7 @@ two_paragraphs =
     c ++ new_item c 3 (text_node (codes "* c_d")) ∷ []
 
 two_paragraphs_converted : markdown (built_in default_options) two_paragraphs 0 ≡ codes "\\# b\n\n\\* c\\_d"
-unfolding markdown rendered_within tree_of forest_from ancestors_of ancestors_up two_paragraphs one
+unfolding markdown rendered_within tree_of forest_from ancestors_of ancestors_up is_block two_paragraphs one
 two_paragraphs_converted = refl
 
 underlined : heading_text Setex (codes "h1") (codes " Heading ") ≡ codes "\n\nHeading\n=======\n\n"
@@ -51,10 +52,10 @@ below_pre =
 
 -- a subtree looks up its ancestors
 preformatted_below_pre : markdown (built_in default_options) below_pre 2 ≡ codes "  *a*  \nb"
-unfolding markdown rendered_within tree_of forest_from ancestors_of ancestors_up below_pre one
+unfolding markdown rendered_within tree_of forest_from ancestors_of ancestors_up is_block below_pre one
 preformatted_below_pre = refl
 
 -- a text that is handed over by itself is ordinary
 ordinary_by_itself : markdown (built_in default_options) below_pre 3 ≡ codes "\\*a\\* b"
-unfolding markdown rendered_within tree_of forest_from ancestors_of ancestors_up below_pre one
+unfolding markdown rendered_within tree_of forest_from ancestors_of ancestors_up is_block below_pre one
 ordinary_by_itself = refl

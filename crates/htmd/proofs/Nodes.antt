@@ -2,6 +2,7 @@
 use Rattle.std.proofs.Common.{◌≡◌, ℕ, ◌<◌, List, [], ◌∷◌, length, get_or, Some, None, refl, sym, ap, ◌∙◌, arith, subst, Bool, ◌||◌, not, ◌&&◌, true, false, codes}
 use Rattle.std.specs.Str.{bytes_eq}
 use Rattle.htmd_text.specs.Blocks.{is_block}
+use Rattle.htmd_text.proofs.BlocksLemmas.{block-nil}
 use Rattle.htmd_tree.specs.Items.{Item, Content, document_node, doctype_node, text_node, comment_node, element_node, IsTree, content_at, parent_at, tag_of}
 use Rattle.htmd_tree.specs.Numbered.{NumberedTree, document, doctype, text, comment, element, NumberedForest, none, more, put_together, forest_of, tree_of}
 use Rattle.htmd_tree.specs.Ancestors.{ancestor_of, ancestors_of, chain_from}
@@ -99,9 +100,9 @@ tag_some (element_node name attributes) tag e = cc
 
 pub tag_none : (c : Content) → None ≡ tag_of c → is_block (ancestor_of c).tag ≡ false
 tag_none document_node e = cc
-tag_none doctype_node e = refl
-tag_none (text_node s) e = refl
-tag_none (comment_node s) e = refl
+tag_none doctype_node e = block-nil
+tag_none (text_node s) e = block-nil
+tag_none (comment_node s) e = block-nil
 tag_none (element_node name attributes) e = cc
 
 -- a stored node that is no element, or no text

@@ -1,5 +1,6 @@
 -- Worked examples of what the program writes.
 use Rattle.std.proofs.Common.{◌≡◌, codes, refl}
+use Rattle.htmd_text.specs.Blocks.{is_block}
 use Rattle.htmd_tree.specs.Numbered.{tree_of, forest_from}
 use Rattle.htmd_tree.specs.Ancestors.{ancestors_of, ancestors_up}
 use Rattle.htmd.specs.Rendering.{rendered_within}
@@ -7,13 +8,13 @@ use Rattle.htmd.specs.Run.{markdown}
 use Rattle.htmd_cli.specs.Conversion.{paragraph_markdown, paragraph_output}
 
 squeezed_and_escaped : paragraph_output (codes "a\n\n  b *c*\n") ≡ codes "a b \\*c\\*\n"
-unfolding paragraph_markdown markdown rendered_within tree_of forest_from ancestors_of ancestors_up
+unfolding paragraph_markdown markdown rendered_within tree_of forest_from ancestors_of ancestors_up is_block
 squeezed_and_escaped = refl
 
 nothing_for_nothing : paragraph_output (codes "") ≡ codes "\n"
-unfolding paragraph_markdown markdown rendered_within tree_of forest_from ancestors_of ancestors_up
+unfolding paragraph_markdown markdown rendered_within tree_of forest_from ancestors_of ancestors_up is_block
 nothing_for_nothing = refl
 
 no_break_escaped : paragraph_output (codes "--- a") ≡ codes "--- a\n"
-unfolding paragraph_markdown markdown rendered_within tree_of forest_from ancestors_of ancestors_up
+unfolding paragraph_markdown markdown rendered_within tree_of forest_from ancestors_of ancestors_up is_block
 no_break_escaped = refl

@@ -1,8 +1,8 @@
 -- How a text with backslashes begins.
-use Rattle.std.proofs.Common.{◌≡◌, ◌⊎◌, ℕ, zero, suc, ◌+◌, ◌-◌, ◌<◌, Bool, true, false, cond, List, [], ◌∷◌, ◌++◌, length, get_or, drop, codes, refl, sym, ap, ◌∙◌, arith, subst, inl, inr, ⊎_elim, Some, below_more}
+use Rattle.std.proofs.Common.{◌≡◌, ◌⊎◌, ℕ, zero, suc, ◌+◌, ◌-◌, ◌<◌, Bool, true, false, cond, List, [], ◌∷◌, ◌++◌, length, get_or, drop, codes, refl, sym, ap, ◌∙◌, arith, subst, inl, inr, ⊎_elim, Some, below_more, lit<}
 use Rattle.std.specs.Prelude.{◌==◌, ◌&&◌, ◌||◌, nat_lt, slice_index, encode_utf8_all, take_while}
 use Rattle.std.specs.List.{prefix_len}
-use Rattle.std.specs.Char.{is_ascii, is_ascii_digit}
+use Rattle.std.specs.Char.{is_ascii_digit}
 use Rattle.std.specs.Str.{chars}
 use Rattle.std.proofs.lemmas.Bool.{or_parts, or_from, or_right, and_from, cases_lt, and_parts, and_left, and_right, and_cases, cases_Bool, cond-true, cond-false, false_from_ne_true}
 use Rattle.std.proofs.lemmas.Bool.Decides.{nat_tests}
@@ -13,6 +13,7 @@ use Rattle.htmd_text.specs.Characters.{backslash, space, full_stop, number_sign,
 use Rattle.htmd_text.specs.ListMarkers.{is_numeric, number_signs, is_atx_heading, numerals_len, dots_len, ordered_item_dot}
 use Rattle.htmd_text.specs.EscapeMarks.{with_backslashes, is_always_marked, is_html_mark, begins_block, numbered_item_dot, is_place, is_marked, escaped}
 use Rattle.htmd_text.specs.PlainText.{begins_item}
+use Rattle.htmd_text.proofs.ListMarkersLemmas.{numeric-ascii}
 use Rattle.htmd_text.proofs.MarksLemmas.{dot_at, place_if}
 use Rattle.htmd_text.proofs.PlainTextLemmas.{letter_unmarked}
 
@@ -116,7 +117,7 @@ chars_ascii b [] small = let test : nat_lt b 128 ≡ true = grind (arith, nat_te
 chars_ascii b (c ∷ s) small = let test : nat_lt b 128 ≡ true = grind (arith, nat_tests) in rw test refl
 
 digit_is_numeric : (b : ℕ) → is_ascii_digit b ≡ true → is_numeric b ≡ true
-digit_is_numeric b e = let small : is_ascii b ≡ true = grind (arith, nat_tests) in rw small e
+digit_is_numeric b e = let small : b < 128 = grind (arith, nat_tests) in numeric-ascii b small ∙ e
 
 numerals_more : (b : ℕ) (s : List ℕ) → is_ascii_digit b ≡ true → numerals_len (b ∷ s) ≡ suc (numerals_len s)
 numerals_more b s e =
@@ -128,7 +129,7 @@ numerals_more b s e =
 
 numerals_none : (b : ℕ) (s : List ℕ) → b ≡ full_stop → numerals_len (b ∷ s) ≡ 0
 numerals_none b s e =
-    let none : is_numeric b ≡ false = ap is_numeric e in
+    let none : is_numeric b ≡ false = ap is_numeric e ∙ numeric-ascii full_stop (lit< tt) in
     ap (λ cs. length (encode_utf8_all (take_while is_numeric cs))) (chars_ascii b s (omega arith))
     ∙ ap (λ l. length (encode_utf8_all l)) (take_while-cons is_numeric b (chars s) ∙ cond-false (is_numeric b) _ _ none)
 

@@ -1,13 +1,18 @@
 -- A text with backslashes, written piece by piece.
-use Rattle.std.proofs.Common.{◌≡◌, ℕ, suc, zero, ◌+◌, ◌<◌, ◌≤◌, Bool, true, false, cond, List, [], ◌∷◌, ◌++◌, length, get_or, drop, refl, sym, ap, ◌∙◌, arith, append_assoc, add-one}
-use Rattle.std.specs.List.{between}
+use Rattle.std.proofs.Common.{◌≡◌, ℕ, suc, zero, ◌+◌, ◌<◌, ◌≤◌, Bool, true, false, cond, List, [], ◌∷◌, ◌++◌, length, get_or, drop, refl, sym, ap, ◌∙◌, arith, append_assoc, add-one, Option, Some, None}
+use Rattle.std.specs.Prelude.{◌==◌, ◌&&◌, not, is_none, slice_index}
+use Rattle.std.specs.List.{between, list_any}
+use Rattle.std.proofs.lemmas.Bool.{or_parts, or_from, and_parts, and_left, and_right}
 use Rattle.std.specs.Str.{IsCharBoundary, IsUtf8}
 use Rattle.std.proofs.lemmas.List.{append-nil, drop_more, drop_all}
 use Rattle.std.proofs.lemmas.List.Edits.{between_more, between_none}
 use Rattle.std.proofs.lemmas.Slice.{between_to_end}
 use Rattle.std.proofs.lemmas.Str.{IsCharBoundary-start, IsCharBoundary-before_ascii}
-use Rattle.htmd_text.specs.EscapeMarks.{with_backslashes}
-use Rattle.htmd_text.specs.Characters.{backslash}
+use Rattle.htmd_text.specs.EscapeMarks.{with_backslashes, is_always_marked, is_place}
+use Rattle.htmd_text.specs.Characters.{backslash, less_than_sign}
+use Rattle.htmd_text.specs.declared.escape.Marks.{Marks}
+use Rattle.htmd_text.specs.declared.escape.Marks.TheVariants.{Html, Markdown}
+use Rattle.htmd_text.specs.Marks.{is_marked_by, is_special, is_plain}
 
 rest_marked : (marked : ℕ → Bool) (s : List ℕ) (i : ℕ) → i < length s → marked i ≡ true → with_backslashes marked i (drop i s) ≡ backslash ∷ get_or s i 0 ∷ with_backslashes marked (i + 1) (drop (i + 1) s)
 rest_marked marked s i lt here = rw (drop_more s i 0 lt, here, add-one) refl
@@ -92,3 +97,35 @@ writing_nothing marked s out from i past none was =
     let start = was.not_begun none in
     let all : s ≡ between from (length s) s = rw start (sym (between_to_end s 0 (length s) (omega arith))) in
     all ∙ (rw none at (writing_all marked s out from i past was))
+
+-- ---- a text without special characters has no mark
+
+special_at : (s : List ℕ) (k : ℕ) → list_any is_special s ≡ false → is_special (slice_index s k) ≡ false
+special_at [] k none = refl
+special_at (b ∷ s) zero none = (or_parts (is_special b) (list_any is_special s) none).0
+special_at (b ∷ s) (suc k) none = special_at s k (or_parts (is_special b) (list_any is_special s) none).1
+
+false_from_not : (b : Bool) → not b ≡ true → b ≡ false
+false_from_not true e = sym e
+false_from_not false e = refl
+
+no_place : (o : Option ℕ) (k : ℕ) → is_none o ≡ true → is_place o k ≡ false
+no_place None k e = refl
+no_place (Some place) k e = cc
+
+plain_unmarked : (marks : Marks) (s : List ℕ) (k : ℕ) → is_plain marks s ≡ true → is_marked_by marks s k ≡ false
+plain_unmarked Html s k plain =
+    let other = or_parts (is_always_marked (slice_index s k)) (slice_index s k == less_than_sign) (special_at s k (false_from_not _ plain)) in
+    and_left _ _ (and_left _ _ other.1)
+plain_unmarked (Markdown begins_block item_dot) s k plain =
+    let parts = and_parts (not begins_block && is_none item_dot) (not (list_any is_special s)) plain in
+    let front = and_parts (not begins_block) (is_none item_dot) parts.0 in
+    let other = or_parts (is_always_marked (slice_index s k)) (slice_index s k == less_than_sign) (special_at s k (false_from_not _ parts.1)) in
+    or_from _ _ (or_from _ _ (or_from _ _ other.0 (and_left _ _ other.1)) (and_right (k == 0) begins_block (false_from_not _ front.0))) (no_place item_dot k front.1)
+
+unmarked_stays : (marked : ℕ → Bool) (k : ℕ) (s : List ℕ) → ((i : ℕ) → marked i ≡ false) → with_backslashes marked k s ≡ s
+unmarked_stays marked k [] none = refl
+unmarked_stays marked k (b ∷ s) none = rw (none k) (ap (λ l. b ∷ l) (unmarked_stays marked (suc k) s none))
+
+pub plain_stays : (marks : Marks) (s : List ℕ) → is_plain marks s ≡ true → with_backslashes (is_marked_by marks s) 0 s ≡ s
+plain_stays marks s plain = unmarked_stays (is_marked_by marks s) 0 s (λ k. plain_unmarked marks s k plain)

@@ -2,6 +2,7 @@
 use Rattle.std.proofs.Common.{◌≡◌, refl, true, false, codes}
 use lib.Utf8.{encode}
 use Rattle.std.specs.Str.{chars}
+use Rattle.unicode.proofs.CategoryComputing.{ucd_category}
 use Rattle.htmd_text.specs.ListMarkers.{is_atx_heading}
 use Rattle.htmd_text.specs.EscapeMarks.{escaped, html_escaped, pre_escaped}
 use Rattle.htmd_text.specs.WhiteSpace.{squeezed}
@@ -38,15 +39,17 @@ pub no_heading : is_atx_heading (codes "#a") ≡ false
 no_heading = refl
 
 pub block : is_block (codes "table") ≡ true
+unfolding is_block
 block = refl
 
 pub no_block : is_block (codes "tables") ≡ false
+unfolding is_block
 no_block = refl
 
 pub item : escaped (codes "1. a") ≡ codes "1\\. a"
-unfolding chars encode
+unfolding chars encode ucd_category
 item = refl
 
 pub two_dots : escaped (codes "1.. x") ≡ codes "1.\\. x"
-unfolding chars encode
+unfolding chars encode ucd_category
 two_dots = refl

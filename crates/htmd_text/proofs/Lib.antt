@@ -1,5 +1,6 @@
 pub mod Examples
 pub mod ListMarkersLemmas
+pub mod BlocksLemmas
 pub mod EscapeMarksLemmas
 pub mod MarksLemmas
 pub mod UnescapeLemmas

@@ -1,13 +1,24 @@
 -- How far the numeric characters at the front of a text go, one character at a time.
-use Rattle.std.proofs.Common.{◌≡◌, ℕ, ◌+◌, ◌<◌, ◌≤◌, true, false, List, [], ◌∷◌, ◌++◌, length, get_or, take, drop, sym, ap, ◌∙◌, arith}
+use Rattle.std.proofs.Common.{◌≡◌, ℕ, ◌+◌, ◌<◌, ◌≤◌, true, false, List, [], ◌∷◌, ◌++◌, length, get_or, take, drop, sym, ap, ◌∙◌, arith, refl}
 use Rattle.std.specs.Prelude.{encode_utf8_all}
 use Rattle.std.specs.List.{prefix_len}
-use Rattle.std.specs.Char.{len_utf8}
+use Rattle.std.specs.Char.{len_utf8, is_ascii_digit}
+use Rattle.std.specs.Bool.{beq}
 use Rattle.std.specs.Str.{chars, IsUtf8}
 use Rattle.std.proofs.lemmas.List.{take_more, take-append-drop, length-append, append-nil}
 use Rattle.std.proofs.lemmas.List.Sums.{prefix_len-drop_yes, prefix_len-drop_no, prefix_len-drop_all}
 use Rattle.std.proofs.lemmas.Str.{encodes-append, length-encode, encodes-chars}
-use Rattle.htmd_text.specs.ListMarkers.{is_numeric, numerals_len}
+use Rattle.unicode.specs.GeneralCategory.{general_category}
+use Rattle.unicode.proofs.CategoryComputing.{ucd_category}
+use Rattle.unicode.proofs.GeneralCategoryLemmas.{general_category_stepped}
+use Rattle.unicode.proofs.Facts.{Stepped-below, same_from_beq}
+use Rattle.htmd_text.specs.ListMarkers.{is_number, is_numeric, numerals_len}
+
+-- in ASCII the numeric characters are the digits
+pub numeric-ascii : (c : ℕ) → c < 128 → is_numeric c ≡ is_ascii_digit c
+unfolding ucd_category
+numeric-ascii c small =
+    same_from_beq _ _ (Stepped-below general_category general_category_stepped (λ x category. beq (is_number category) (is_ascii_digit x)) 128 refl c small)
 
 -- what the first n characters take
 abbrev pub taken : List ℕ → ℕ → ℕ

@@ -1,15 +1,16 @@
 -- A text whose white space is squeezed piece by piece.
-use Rattle.std.proofs.Common.{◌≡◌, ℕ, suc, zero, ◌+◌, ◌<◌, ◌≤◌, Bool, true, false, cond, List, [], ◌∷◌, ◌++◌, length, get_or, take, drop, refl, sym, ap, ◌∙◌, arith, append_assoc}
-use Rattle.std.specs.Prelude.{◌≢◌, slice_index}
+use Rattle.std.proofs.Common.{◌≡◌, ℕ, suc, zero, ◌+◌, ◌<◌, ◌≤◌, Bool, true, false, cond, List, [], ◌∷◌, ◌++◌, length, get_or, take, drop, refl, sym, ap, ◌∙◌, arith, append_assoc, ⊎_elim}
+use Rattle.std.specs.Prelude.{◌≢◌, ◌==◌, ◌&&◌, ◌||◌, not, slice_index}
 use Rattle.std.specs.List.{between}
 use Rattle.std.specs.Str.{IsCharBoundary, IsUtf8}
+use Rattle.std.proofs.lemmas.Bool.{and_parts, cases_Bool, false_from_ne_true, false≢true}
 use Rattle.std.proofs.lemmas.Bool.Decides.{nat_tests}
 use Rattle.std.proofs.lemmas.List.{append-nil, drop_more, drop_all, drop-drop, get_or-drop}
 use Rattle.std.proofs.lemmas.List.Edits.{between_more, between_none}
 use Rattle.std.proofs.lemmas.Slice.{between_to_end}
 use Rattle.std.proofs.lemmas.Str.{IsCharBoundary-start, IsCharBoundary-after_ascii}
 use Rattle.htmd_text.specs.Characters.{space}
-use Rattle.htmd_text.specs.WhiteSpace.{is_ascii_white_space, begins_with_white_space, squeezed}
+use Rattle.htmd_text.specs.WhiteSpace.{is_ascii_white_space, begins_with_white_space, squeezed, is_squeezed}
 use Rattle.htmd_text.specs.Replacement.{IsReplaced}
 
 shorter : (w v : Bool) (b : ℕ) (s rest : List ℕ) → length rest ≤ length s → length (cond w (cond v rest (space ∷ rest)) (b ∷ rest)) ≤ suc (length s)
@@ -119,3 +120,28 @@ squeezing_nothing s out from i past start was =
     let none = was.not_begun start in
     let all : s ≡ between from (length s) s = rw start (sym (between_to_end s 0 (length s) (omega arith))) in
     all ∙ (rw none at (squeezing_all s out from i past was))
+
+-- ---- a text whose white space is spaces alone
+
+no_white_behind : (s : List ℕ) → is_squeezed true s ≡ true → begins_with_white_space s ≡ false
+no_white_behind [] e = refl
+no_white_behind (b ∷ s) e = false_from_ne_true _ (λ white. let front = (and_parts _ (is_squeezed (is_ascii_white_space b) s) e).0 in absurd (false≢true (rw white at front)))
+
+space_here : (white after_white : Bool) (b : ℕ) → white ≡ true → (not white || (not after_white && (b == space))) ≡ true → b ≡ space
+space_here false after_white b e front = absurd (false≢true e)
+space_here true after_white b e front = let test = (and_parts (not after_white) (b == space) front).1 in grind (arith, nat_tests)
+
+pub squeezed_stays : (s : List ℕ) (after_white : Bool) → is_squeezed after_white s ≡ true → squeezed s ≡ s
+squeezed_stays [] after_white e = refl
+squeezed_stays (b ∷ s) after_white e =
+    let alone = not after_white && (b == space) in
+    let parts = and_parts (not (is_ascii_white_space b) || alone) (is_squeezed (is_ascii_white_space b) s) e in
+    let rest = squeezed_stays s (is_ascii_white_space b) parts.1 in
+    ⊎_elim
+    (λ white.
+    let front : (not (is_ascii_white_space b) || alone) ≡ true = parts.0 in
+    let same : b ≡ space = space_here (is_ascii_white_space b) after_white b white front in
+    let behind = no_white_behind s (ap (λ w. is_squeezed w s) (sym white) ∙ parts.1) in
+    rw same (space_stays s behind ∙ ap (λ l. space ∷ l) rest))
+    (λ other. other_stays b s other ∙ ap (λ l. b ∷ l) rest)
+    (cases_Bool (is_ascii_white_space b))

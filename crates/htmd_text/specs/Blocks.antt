@@ -20,5 +20,5 @@ block_names =
     codes "th" ∷ codes "thead" ∷ codes "title" ∷ codes "tr" ∷ codes "track" ∷ codes "ul" ∷ []
 
 -- the name of a block element, in lower case
-abbrev pub is_block : List ℕ → Bool
+unfoldable pub is_block : List ℕ → Bool
 is_block name = list_any (λ block_name. bytes_eq block_name name) block_names

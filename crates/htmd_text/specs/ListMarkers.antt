@@ -1,7 +1,6 @@
 -- The beginnings of a line that CommonMark reads as a heading or as an ordered list item.
 use Rattle.std.specs.Prelude.{ℕ, ◌+◌, ◌-◌, Bool, true, false, ◌&&◌, ◌==◌, nat_lt, if◌then◌else◌, List, length, drop, slice_index, encode_utf8_all, take_while, Option, Some, None}
 use Rattle.std.specs.List.{prefix_len}
-use Rattle.std.specs.Char.{is_ascii, is_ascii_digit}
 use Rattle.std.specs.Str.{chars}
 use Rattle.unicode.specs.declared.properties.GeneralCategory.{GeneralCategory}
 use Rattle.unicode.specs.declared.properties.GeneralCategory.TheVariants.{DecimalNumber, LetterNumber, OtherNumber}
@@ -24,9 +23,9 @@ is_number LetterNumber = true
 is_number OtherNumber = true
 is_number _ = false
 
--- a numeric character: in ASCII the digits are those of these categories
+-- a numeric character
 abbrev pub is_numeric : ℕ → Bool
-is_numeric c = if is_ascii c then is_ascii_digit c else is_number (general_category c)
+is_numeric c = is_number (general_category c)
 
 -- how many bytes the numeric characters take with which the text begins
 abbrev pub numerals_len : List ℕ → ℕ

@@ -1,10 +1,11 @@
 //! Backslashes, so that Markdown reads a text as it stands (CommonMark 0.31.2, 2.4).
 ghost use Rattle.std.specs.Prelude.{◌≡◌, ◌<◌, IfOk, IsOkAnd, IsTrue, false, length};
+ghost use Rattle.std.specs.List.{list_any};
 ghost use Rattle.std.specs.Cow.{cow_str_bytes, IsBorrowedStr};
 ghost use Rattle.htmd_text.specs.EscapeMarks as spec;
 ghost use Rattle.htmd_text.specs.Unescape.{unescape};
 ghost use Rattle.htmd_text.specs.PlainText.{each_bare, begins_no_inline, begins_no_html, begins_item};
-ghost use Rattle.htmd_text.specs.Marks.{is_marked_by, AreAscii};
+ghost use Rattle.htmd_text.specs.Marks.{is_marked_by, is_plain, is_special, AreAscii};
 
 use crate::list_markers::{index_of_markdown_ordered_item_dot, is_markdown_atx_heading};
 use std::alloc::{AllocError, Global};
@@ -72,11 +73,16 @@ fn with_backslashes(alloc: Global, text: &str, marks: Marks) -> Result<CowStr<'_
         → IsOkAnd result (λ c. IsBorrowedStr c) }
 {
     let bytes = text.as_bytes();
+    if is_plain(bytes, marks) {
+        return Ok(CowStr::Borrowed(text));
+    }
     let mut escaped = String::new(alloc);
     let mut from = 0;
     for i in 0..bytes.len() {
         if is_marked(bytes, i, marks) {
-            escaped.reserve(bytes.len() - from + 1)?;
+            if escaped.is_empty() {
+                escaped.reserve(bytes.len() + bytes.len() / 8 + 8)?;
+            }
             escaped.push_str(&text[from..i])?;
             escaped.push('\\')?;
             from = i;
@@ -87,6 +93,38 @@ fn with_backslashes(alloc: Global, text: &str, marks: Marks) -> Result<CowStr<'_
     }
     escaped.push_str(&text[from..])?;
     Ok(CowStr::Owned(escaped))
+}
+
+/// Whether no place gets a backslash, as its characters alone tell.
+fn is_plain(bytes: &[u8], marks: Marks) -> bool
+    ensures { result ≡ is_plain marks bytes.now }
+{
+    match marks {
+        Marks::Html => !has_special(bytes),
+        Marks::Markdown {
+            begins_block,
+            item_dot,
+        } => !begins_block && item_dot.is_none() && !has_special(bytes),
+    }
+}
+
+/// Whether a character may get a backslash wherever it stands. All bytes are looked at, so that a
+/// processor can compare many at once.
+fn has_special(bytes: &[u8]) -> bool
+    ensures { result ≡ list_any is_special bytes.now }
+{
+    let mut has = false;
+    for b in bytes {
+        has |= is_special(*b);
+    }
+    has
+}
+
+/// Whether the character may get a backslash wherever it stands.
+fn is_special(byte: u8) -> bool
+    ensures { result ≡ is_special byte }
+{
+    matches!(byte, b'\\' | b'*' | b'_' | b'`' | b'[' | b']' | b'<')
 }
 
 /// Whether the place gets a backslash.

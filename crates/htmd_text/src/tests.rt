@@ -1,4 +1,5 @@
 use super::*;
+use std::alloc::{AllocError, Global};
 use std::borrow::CowStr;
 use std::test::Fail;
 
@@ -31,6 +32,46 @@ fn escapes_markdown(rt: HostRuntime) -> Result<(), Fail> {
     for (text, want, borrowed) in cases {
         let escaped = escape_if_needed(rt.alloc(), text)?;
         assert_eq!(rt; parts(&escaped), (want, borrowed), "at {text}");
+    }
+    Ok(())
+}
+
+/// The text that Markdown means by one with backslashes: before ASCII punctuation they are dropped.
+fn read(alloc: Global, markdown: &str) -> Result<String, AllocError> {
+    let mut text = String::new(alloc);
+    let mut is_escaped = false;
+    for c in markdown.chars() {
+        if c == '\\' && !is_escaped {
+            is_escaped = true;
+            continue;
+        }
+        if is_escaped && !c.is_ascii_punctuation() {
+            text.push('\\')?;
+        }
+        text.push(c)?;
+        is_escaped = false;
+    }
+    if is_escaped {
+        text.push('\\')?;
+    }
+    Ok(text)
+}
+
+#[test]
+fn reads_back_each_short_text(rt: HostRuntime) -> Result<(), Fail> {
+    let characters = ['`', '\\', '<', '!', '[', ' ', 'a'];
+    for (len, count) in [(0, 1), (1, 7), (2, 49), (3, 343), (4, 2401)] {
+        for number in 0..count {
+            let mut text = String::new(rt.alloc());
+            let mut rest: usize = number;
+            for _ in 0..len {
+                text.push(characters[rest % 7])?;
+                rest /= 7;
+            }
+            let escaped = escape_if_needed(rt.alloc(), &text)?;
+            let again = read(rt.alloc(), escaped.as_str())?;
+            assert_eq!(rt; again.as_str(), text.as_str());
+        }
     }
     Ok(())
 }
@@ -124,6 +165,34 @@ fn trims_and_strips(rt: HostRuntime) -> Result<(), Fail> {
     trim_newlines(&mut lines);
     assert_eq!(rt; lines.as_str(), " ");
     Ok(())
+}
+
+#[test]
+fn tells_white_space_from_document_white_space(rt: HostRuntime) {
+    // a character without the property White_Space, and three with it that are not ASCII
+    let cases = [
+        ("\u{feff}a\u{feff}", None, None, "\u{feff}a\u{feff}"),
+        ("\u{a0}a\u{a0}", Some("\u{a0}"), Some("\u{a0}"), "a"),
+        ("\u{2003}a\u{3000}", Some("\u{2003}"), Some("\u{3000}"), "a"),
+        (
+            "\u{3000} a \u{2003}",
+            Some("\u{3000} "),
+            Some(" \u{2003}"),
+            "a",
+        ),
+    ];
+    for (text, start, end, middle) in cases {
+        let (rest, cut) = text.strip_leading_whitespace();
+        assert_eq!(rt;
+            (cut, rest.strip_trailing_whitespace()),
+            (start, (middle, end))
+        );
+        assert_eq!(rt; text.trim_document_whitespace(), text);
+        assert_eq!(rt; text.trim_start_document_whitespace(), text);
+        assert_eq!(rt; text.trim_end_document_whitespace(), text);
+        assert_eq!(rt; text.strip_leading_document_whitespace(), (text, None));
+        assert_eq!(rt; text.strip_trailing_document_whitespace(), (text, None));
+    }
 }
 
 #[test]

@@ -1,5 +1,5 @@
 //! White space of a text.
-ghost use Rattle.std.specs.Prelude.{◌≡◌, ◌++◌, IfOk, IsOkAnd, MatchOption, take, drop};
+ghost use Rattle.std.specs.Prelude.{◌≡◌, ◌++◌, false, IfOk, IsOkAnd, MatchOption, take, drop};
 ghost use Rattle.std.specs.Cow.{cow_str_bytes, IsBorrowedStr};
 ghost use Rattle.htmd_text.specs.WhiteSpace as spec;
 ghost use Rattle.htmd_text.specs.Replacement.{IsReplaced};
@@ -13,11 +13,16 @@ pub fn compress_whitespace(alloc: Global, text: &str) -> Result<CowStr<'_>, Allo
     ensures borrowed { spec.squeezed text.now ≡ text.now → IsOkAnd result (λ c. IsBorrowedStr c) }
 {
     let bytes = text.as_bytes();
+    if is_squeezed(bytes) {
+        return Ok(CowStr::Borrowed(text));
+    }
     let mut squeezed = String::new(alloc);
     let mut from = 0;
     for i in 0..bytes.len() {
         if let Some(instead) = replacement(&bytes[i..]) {
-            squeezed.reserve(bytes.len() - i)?;
+            if from == 0 {
+                squeezed.reserve(bytes.len())?;
+            }
             squeezed.push_str(&text[from..i])?;
             squeezed.push_str(instead)?;
             from = i + 1;
@@ -28,6 +33,21 @@ pub fn compress_whitespace(alloc: Global, text: &str) -> Result<CowStr<'_>, Allo
     }
     squeezed.push_str(&text[from..])?;
     Ok(CowStr::Owned(squeezed))
+}
+
+/// Whether each white space is a space alone. All bytes are looked at, so that a processor can
+/// compare many at once.
+fn is_squeezed(bytes: &[u8]) -> bool
+    ensures { result ≡ spec.is_squeezed false bytes.now }
+{
+    let mut is_squeezed = true;
+    let mut after_white = false;
+    for b in bytes {
+        let white = b.is_ascii_whitespace();
+        is_squeezed &= !white | (!after_white & (*b == b' '));
+        after_white = white;
+    }
+    is_squeezed
 }
 
 /// What the squeezed text has in place of the first byte, where that is not the byte itself:

@@ -3,6 +3,8 @@ use Rattle.std.proofs.Common.{◌≡◌, List, [], ◌∷◌, Some, refl}
 use Rattle.std.specs.Prelude.{codes}
 use Rattle.htmd_tree.specs.Items.{Item, document_item, text_node, element_node, children_of}
 use Rattle.htmd_tree.specs.Numbered.{document, text, element, none, more, forest_from, tree_of, height}
+use Rattle.htmd_tree.specs.ValueTrees as values
+use Rattle.htmd_tree.specs.Layout.{document_items}
 use Rattle.htmd_tree.specs.Ancestors.{ancestors_up, ancestors_of}
 
 abbrev items : List Item
@@ -30,3 +32,11 @@ height-document = refl
 ancestors_of-text : ancestors_of items 3 ≡ record { tag = codes "p"; attributes = [] } ∷ record { tag = codes "html"; attributes = [] } ∷ []
 unfolding ancestors_of ancestors_up
 ancestors_of-text = refl
+
+-- laid out in document order, the text stands before the `br`
+document_items-children : document_items (values.more (values.element (codes "p") [] (values.more (values.text (codes "Hi")) values.none)) (values.more (values.element (codes "br") [] values.none) values.none)) ≡ (document_item
+    ∷ record { parent = Some 0; depth = 1; content = element_node (codes "p") [] }
+    ∷ record { parent = Some 1; depth = 2; content = text_node (codes "Hi") }
+    ∷ record { parent = Some 0; depth = 1; content = element_node (codes "br") [] }
+    ∷ [])
+document_items-children = refl

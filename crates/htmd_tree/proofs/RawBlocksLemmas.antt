@@ -1,10 +1,17 @@
--- Blocks of texts without CR.
-use Rattle.std.proofs.Common.{◌≡◌, ℕ, Bool, true, false, ◌&&◌, ◌||◌, eqb, List, [], ◌∷◌, refl, ap, ◌∙◌}
+-- Blocks of raw HTML: texts without CR, and blank lines.
+use Rattle.std.proofs.Common.{◌≡◌, ◌≢◌, ℕ, Bool, true, false, ◌&&◌, ◌||◌, eqb, List, [], ◌∷◌, ◌++◌, refl, sym, ap, ◌∙◌, subst, arith, codes, drop, Result, Ok, Err, IfOk, String, string_bytes}
+use Rattle.std.proofs.Math.Bool.{and-true, and-false, or-true}
+use Rattle.std.proofs.lemmas.Bool.Decides.{nat_tests}
+use Rattle.std.proofs.lemmas.Bool.{false≢true, eqb-true}
+use Rattle.std.proofs.lemmas.Str.{encodes-append, encodes-chars, chars_past_char, IsUtf8-drop, IsCharBoundary-after_ascii}
 use Rattle.std.specs.Char.{is_whitespace}
-use Rattle.std.specs.List.{list_any}
-use Rattle.std.specs.Str.{chars}
-use Rattle.htmd_tree.specs.RawBlocks.{line_feed, carriage_return, rewritten, block, block_of, has_carriage_return, raw_from, has_blank_line_from, IsRawBlock}
+use Rattle.std.specs.List.{list_any, list_all}
+use Rattle.std.specs.Str.{IsUtf8, IsCharBoundary, chars, encode_utf8_all}
+use lib.Utf8.{encode}
+use Rattle.htmd_tree.specs.RawBlocks.{line_feed, carriage_return, line_feed_reference, begins_line, rewritten, block, block_of, HasBlankLine, has_blank_line_from, has_blank_line, has_carriage_return, raw_from, raw, RefersToLineFeeds, nothing, same, reference, IsRawBlock}
 use Rattle.htmd_tree.proofs.ItemsLemmas.{test}
+
+-- ---- texts without CR
 
 both_false : (x y : Bool) → (x || y) ≡ false → (x ≡ false) × (y ≡ false)
 both_false true y e = absurd (cc)
@@ -18,8 +25,10 @@ rewritten-raw after (c ∷ cs) h =
     let other : eqb c carriage_return ≡ false = parts.0 in
     let escaped : rewritten false cs ≡ raw_from false cs = rewritten-raw false cs parts.1 in
     let ended : rewritten true cs ≡ raw_from true cs = rewritten-raw true cs parts.1 in
-    let same : rewritten (after && is_whitespace c) cs ≡ raw_from (after && is_whitespace c) cs = rewritten-raw (after && is_whitespace c) cs parts.1 in
-    test (eqb c line_feed) (λ y. rw (y, escaped, ended) refl) (λ n. rw (n, other, same) refl)
+    let white : rewritten (after && is_whitespace c) cs ≡ raw_from (after && is_whitespace c) cs = rewritten-raw (after && is_whitespace c) cs parts.1 in
+    test (eqb c line_feed) (λ y. rw (y, escaped, ended) refl) (λ n. rw (n, other, white) refl)
+
+-- ---- blank lines
 
 -- a raw text has no blank line
 raw_from-no_blank_line : (after : Bool) (cs : List ℕ) → has_blank_line_from after (raw_from after cs) ≡ false
@@ -29,6 +38,132 @@ raw_from-no_blank_line after (c ∷ cs) =
     (λ y. test after (λ a. rw (y, a) (raw_from-no_blank_line false cs)) (λ a. rw (y, a, y) (raw_from-no_blank_line true cs)))
     (λ n. rw (n, n) (raw_from-no_blank_line (after && is_whitespace c) cs))
 
+both_true : (x y : Bool) → (x && y) ≡ true → (x ≡ true) × (y ≡ true)
+both_true true y e = (refl, e)
+both_true false y e = absurd (false≢true e)
+
+-- a line feed behind white space behind a line feed is found
+found_behind : (between behind : List ℕ) → list_all is_whitespace between ≡ true → has_blank_line_from true (between ++ line_feed ∷ behind) ≡ true
+found_behind [] behind w = refl
+found_behind (c ∷ between) behind w =
+    let parts = both_true (is_whitespace c) (list_all is_whitespace between) w in
+    let white : is_whitespace c ≡ true = parts.0 in
+    test (eqb c line_feed) (λ y. rw y refl) (λ n. rw (n, white) (found_behind between behind parts.1))
+
+found : (after : Bool) (before between behind : List ℕ) → list_all is_whitespace between ≡ true → has_blank_line_from after (before ++ line_feed ∷ between ++ line_feed ∷ behind) ≡ true
+found after [] between behind w = rw (found_behind between behind w) (or-true after)
+found after (c ∷ before) between behind w =
+    test (eqb c line_feed)
+    (λ y. rw (y, found true before between behind w) (or-true after))
+    (λ n. rw n (found (after && is_whitespace c) before between behind w))
+
+-- the test finds each blank line
+none_found : (cs : List ℕ) → has_blank_line cs ≡ false → HasBlankLine cs → ⊥
+none_found cs e b = false≢true (sym e ∙ (ap has_blank_line b.text ∙ found false b.before b.between b.behind b.white))
+
+module _ (total : Bool) (c : ℕ) (cs : List ℕ) where
+  -- a line feed behind a line feed
+  pub found_here : c ≡ line_feed → has_blank_line_from true (c ∷ cs) ≡ total → true ≡ total
+  found_here e h = let y : eqb c line_feed ≡ true = grind (arith, nat_tests) in rw y at h
+
+  -- the first of two line feeds
+  pub past_line_feed : c ≡ line_feed → has_blank_line_from false (c ∷ cs) ≡ total → has_blank_line_from true cs ≡ total
+  past_line_feed e h = let y : eqb c line_feed ≡ true = grind (arith, nat_tests) in rw y at h
+
+  pub past_other : (after : Bool) → c ≢ line_feed → has_blank_line_from after (c ∷ cs) ≡ total → has_blank_line_from (after && is_whitespace c) cs ≡ total
+  past_other after e h = let n : eqb c line_feed ≡ false = grind (arith, nat_tests) in rw n at h
+
+-- the test, one character on
+pub has_blank_line-turn : (s rest : List ℕ) (c : ℕ) (after total : Bool) → IsUtf8 s → s ≡ encode c ++ rest → has_blank_line_from after (chars s) ≡ total → has_blank_line_from after (c ∷ chars rest) ≡ total
+has_blank_line-turn s rest c after total u e h = ap (has_blank_line_from after) (sym (chars_past_char s rest c u e)) ∙ h
+
+-- what holds no blank line behind a line feed holds none anywhere
+none_afresh : (after : Bool) (cs : List ℕ) → has_blank_line_from after cs ≡ false → has_blank_line_from false cs ≡ false
+none_afresh after [] h = refl
+none_afresh after (c ∷ cs) h =
+    test (eqb c line_feed)
+    (λ y. rw y (both_false after (has_blank_line_from true cs) (rw y at h)).1)
+    (λ n. rw n (none_afresh (after && is_whitespace c) cs (rw n at h)))
+
+-- a line feed would make a blank line behind white space
+begins_none : (after : Bool) (cs : List ℕ) → has_blank_line_from after cs ≡ false → (after && begins_line cs) ≡ false
+begins_none after [] h = and-false after
+begins_none after (c ∷ cs) h =
+    test (eqb c line_feed)
+    (λ y. rw (both_false after (has_blank_line_from true cs) (rw y at h)).0 refl)
+    (λ n. rw n (and-false after))
+
+carriage_return-white : (after : Bool) (c : ℕ) → eqb c carriage_return ≡ true → (after && is_whitespace c) ≡ after
+carriage_return-white after c e = subst (λ x. (after && is_whitespace x) ≡ after) (sym (eqb-true c carriage_return e)) (and-true after)
+
+-- a text with no blank line is not rewritten
+rewritten-same : (after : Bool) (cs : List ℕ) → has_blank_line_from after cs ≡ false → rewritten after cs ≡ cs
+rewritten-same after [] h = refl
+rewritten-same after (c ∷ cs) h =
+    test (eqb c line_feed)
+    (λ y.
+    let parts = both_false after (has_blank_line_from true cs) (rw y at h) in
+    rw (y, parts.0) (ap (λ x. c ∷ x) (rewritten-same true cs parts.1)))
+    (λ n.
+    let none : has_blank_line_from (after && is_whitespace c) cs ≡ false = rw n at h in
+    test (eqb c carriage_return)
+    (λ y.
+    let behind : has_blank_line_from after cs ≡ false = subst (λ x. has_blank_line_from x cs ≡ false) (carriage_return-white after c y) none in
+    rw (n, y, begins_none after cs behind) (ap (λ x. c ∷ x) (rewritten-same false cs (none_afresh after cs behind))))
+    (λ o. rw (n, o) (ap (λ x. c ∷ x) (rewritten-same (after && is_whitespace c) cs none))))
+
+-- the block of a text with no blank line is that text
+block_of_same : (s : List ℕ) → IsUtf8 s → has_blank_line (chars s) ≡ false → block_of s ≡ codes "\n\n" ++ s ++ codes "\n\n"
+block_of_same s u h = ap (λ x. codes "\n\n" ++ x ++ codes "\n\n") (ap encode_utf8_all (rewritten-same false (chars s) h) ∙ encodes-chars s u)
+
+-- ---- references to line feeds
+
+same_all : (cs : List ℕ) {s t : List ℕ} → RefersToLineFeeds s t → RefersToLineFeeds (cs ++ s) (cs ++ t)
+same_all [] r = r
+same_all (c ∷ cs) r = same c (same_all cs r)
+
+encode-line_feed : encode line_feed ≡ line_feed ∷ []
+unfolding encode
+encode-line_feed = refl
+
+encodes-reference : encode_utf8_all line_feed_reference ≡ line_feed_reference
+unfolding encode
+encodes-reference = refl
+
+raw_from-refers : (after : Bool) (cs : List ℕ) → RefersToLineFeeds (encode_utf8_all cs) (encode_utf8_all (raw_from after cs))
+raw_from-refers after [] = nothing
+raw_from-refers after (c ∷ cs) =
+    test (eqb c line_feed)
+    (λ y. test after
+    (λ a. rw (y, a) (subst (λ x. RefersToLineFeeds (x ++ encode_utf8_all cs) (encode_utf8_all (line_feed_reference ++ raw_from false cs))) (sym (ap encode (eqb-true c line_feed y) ∙ encode-line_feed))
+    (subst (λ x. RefersToLineFeeds (line_feed ∷ encode_utf8_all cs) x) (sym (encodes-append line_feed_reference (raw_from false cs) ∙ ap (λ x. x ++ encode_utf8_all (raw_from false cs)) encodes-reference))
+    (reference (raw_from-refers false cs)))))
+    (λ a. rw (y, a) (same_all (encode c) (raw_from-refers true cs))))
+    (λ n. rw n (same_all (encode c) (raw_from-refers (after && is_whitespace c) cs)))
+
+-- a text behind two line feeds
+pub behind_line_feeds : (out s : List ℕ) → IsUtf8 out → out ≡ codes "\n\n" ++ s → IsCharBoundary out 2 × (drop 2 out ≡ s) × IsUtf8 s
+behind_line_feeds out s u e =
+    let text : IsUtf8 (codes "\n\n" ++ s) = subst IsUtf8 e u in
+    let here : IsCharBoundary (codes "\n\n" ++ s) 2 = IsCharBoundary-after_ascii (codes "\n\n" ++ s) 1 text (omega arith) (omega arith) in
+    (subst (λ x. IsCharBoundary x 2) (sym e) here, ap (drop 2) e, IsUtf8-drop (codes "\n\n" ++ s) 2 text here)
+
+-- where there is no blank line, the text behind two line feeds is its block but for the end
+pub block_kept : (out text s : List ℕ) → IsUtf8 out → out ≡ codes "\n\n" ++ s → text ≡ drop 2 out → has_blank_line (chars text) ≡ false → (block_of s ≡ codes "\n\n" ++ s ++ codes "\n\n") × IsUtf8 s
+block_kept out text s u e cut none =
+    let parts = behind_line_feeds out s u e in
+    let same : text ≡ s = cut ∙ parts.1 in
+    (block_of_same s parts.2 (subst (λ x. has_blank_line (chars x) ≡ false) same none), parts.2)
+
 -- the block of a text without CR
-pub block_of_raw : (s text : List ℕ) → text ≡ block_of s → has_carriage_return s ≡ false → IsRawBlock s text
-block_of_raw s text e h = record { written = e ∙ ap block (rewritten-raw false (chars s) h); no_blank_line = raw_from-no_blank_line false (chars s) }
+pub block_of_raw : (s text : List ℕ) → IsUtf8 s → text ≡ block_of s → has_carriage_return s ≡ false → IsRawBlock s text
+block_of_raw s text u e h = record {
+  written = e ∙ ap block (rewritten-raw false (chars s) h);
+  line_feeds_alone = subst (λ x. RefersToLineFeeds x (encode_utf8_all (raw (chars s)))) (encodes-chars s u) (raw_from-refers false (chars s));
+  no_blank_line = none_found (raw (chars s)) (raw_from-no_blank_line false (chars s));
+}
+
+-- a block that was made of a text, if it was made
+pub IfOk-raw : {T E : Type 0} (r : Result (String T) E) (s : List ℕ) → IsUtf8 s → IfOk r (λ text. string_bytes text ≡ block_of s) → IfOk r (λ text. has_carriage_return s ≡ false → IsRawBlock s (string_bytes text))
+IfOk-raw (Ok text) s u e = block_of_raw s (string_bytes text) u e
+IfOk-raw (Err e) s u h = tt

@@ -1,10 +1,10 @@
 -- Small serialisations.
-use Rattle.std.proofs.Common.{◌≡◌, ℕ, false, List, [], ◌∷◌, ◌++◌, refl}
+use Rattle.std.proofs.Common.{◌≡◌, ℕ, true, false, List, [], ◌∷◌, ◌++◌, refl}
 use Rattle.std.specs.Prelude.{codes}
 use Rattle.htmd_tree.specs.Items.{AttributePair}
 use Rattle.htmd_tree.specs.ValueTrees.{document, doctype, text, comment, element, none, more}
 use Rattle.htmd_tree.specs.Serialisation.{is_void, is_raw_text, ser}
-use Rattle.htmd_tree.specs.RawBlocks.{rewritten}
+use Rattle.htmd_tree.specs.RawBlocks.{rewritten, raw, has_blank_line}
 
 abbrev title : List ℕ → List AttributePair
 title s = record { name = codes "title"; value = s } ∷ []
@@ -32,3 +32,15 @@ rewritten-line_feeds = refl
 
 rewritten-carriage_returns : rewritten false (codes "\r\n \r\n\r\r\n") ≡ codes "\r\n &#13;&#10;\r\r\n"
 rewritten-carriage_returns = refl
+
+rewritten-lone_carriage_return : rewritten false (codes "a\n\rb") ≡ codes "a\n\rb"
+rewritten-lone_carriage_return = refl
+
+raw-line_feeds : raw (codes "a\n \n\n b") ≡ codes "a\n &#10;\n b"
+raw-line_feeds = refl
+
+has_blank_line-tab : has_blank_line (codes "a\n\t\nb") ≡ true
+has_blank_line-tab = refl
+
+has_blank_line-letter : has_blank_line (codes "a\nb\n") ≡ false
+has_blank_line-letter = refl

@@ -1,5 +1,6 @@
 -- The serialisation, character by character and child by child.
 use Rattle.std.proofs.Common.{◌≡◌, ◌≢◌, ℕ, ◌+◌, ◌/◌, ◌%◌, ◌<◌, ◌≤◌, Bool, true, false, cond, eqb, ltb, ◌&&◌, List, [], ◌∷◌, ◌++◌, length, get_or, drop, refl, sym, ap, ◌∙◌, subst, arith, inl, inr, Result, Ok, Err, OnOk, is_ok}
+use Rattle.std.proofs.Math.Bool.{and-false}
 use Rattle.std.proofs.lemmas.Bool.Decides.{nat_tests}
 use Rattle.std.proofs.lemmas.List.{append_assoc, append-nil, drop_more}
 use lib.Utf8.{encode}
@@ -28,10 +29,6 @@ OnOk-third (Err y) out one two new start inner end_ e f g = tt
 
 -- ---- characters
 
-and_false : (x : Bool) → (x && false) ≡ false
-and_false true = refl
-and_false false = refl
-
 encode-two : (c : ℕ) → ltb c 0x80 ≡ false → ltb c 0x800 ≡ true → encode c ≡ (192 + c / 64) ∷ (128 + c % 64) ∷ []
 unfolding encode
 encode-two c n y = rw (n, y) refl
@@ -57,7 +54,7 @@ module _ (byte : ℕ → List ℕ) where
   escaped-pair : (b c : ℕ) (s : List ℕ) → c ≢ 0xA0 → escaped byte (b ∷ c ∷ s) ≡ byte b ++ escaped byte (c ∷ s)
   escaped-pair b c s n =
       let e : eqb c 0xA0 ≡ false = grind (arith, nat_tests) in
-      let f : is_no_break_space b c ≡ false = ap (λ y. eqb b 0xC2 && y) e ∙ and_false (eqb b 0xC2) in
+      let f : is_no_break_space b c ≡ false = ap (λ y. eqb b 0xC2 && y) e ∙ and-false (eqb b 0xC2) in
       rw f refl
 
   module _ (high : (b : ℕ) → 0x80 ≤ b → byte b ≡ b ∷ []) where

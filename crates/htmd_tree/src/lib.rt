@@ -1,8 +1,10 @@
 //! Trees of HTML nodes. A tree is its nodes in order of addition; a node denotes a value tree and a
 //! list of ancestors, and nodes are only added, each as the last child of its parent. A node is
-//! written as HTML by the serialisation of its value tree.
+//! written as HTML by the serialisation of its value tree, and as a block of raw HTML, where
+//! references stand for the line ends that would make blank lines.
 #![tactic(auto)]
 
+pub mod laws;
 pub mod serialiser;
 pub mod tree;
 

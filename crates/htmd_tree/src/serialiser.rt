@@ -6,7 +6,7 @@ ghost use Rattle.htmd_tree.specs.Numbered.{tree_of, forest_of};
 ghost use Rattle.htmd_tree.specs.Stored.{pair_of, pairs_of};
 ghost use Rattle.htmd_tree.specs.ValueTrees.{forget, forget_all};
 ghost use Rattle.htmd_tree.specs.Serialisation.{escaped_char, text_byte, value_byte, escaped, attribute_text, start_tag, end_tag, comment_of, is_void, is_raw_text, written, all_written, ser};
-ghost use Rattle.htmd_tree.specs.RawBlocks.{begins_line, rewritten, block_of, has_carriage_return, IsRawBlock};
+ghost use Rattle.htmd_tree.specs.RawBlocks.{begins_line, rewritten, block_of, has_blank_line, has_carriage_return, IsRawBlock};
 
 use crate::tree::{Attribute, NodeData, NodeId, Tree};
 use std::alloc::{AllocError, Global};
@@ -236,7 +236,37 @@ fn push_block(out: &mut String, text: &str) -> Result<(), AllocError>
     Ok(())
 }
 
-/// The serialisation of a node as a block of raw HTML, without a blank line in it.
+/// A text as a block, with references in place of the line ends that would make a blank line.
+fn rewritten_block(alloc: Global, text: &str) -> Result<String, AllocError>
+    ensures { IfOk result (λ block. string_bytes block ≡ block_of text.now) }
+{
+    let mut out = String::new(alloc);
+    out.push_str("\n\n")?;
+    push_block(&mut out, text)?;
+    out.push_str("\n\n")?;
+    Ok(out)
+}
+
+/// Whether two line feeds have white space alone between them.
+fn has_blank_line(text: &str) -> bool
+    ensures { result ≡ has_blank_line (chars text.now) }
+{
+    let mut behind = false;
+    for c in text.chars() {
+        if c == '\n' {
+            if behind {
+                return true;
+            }
+            behind = true;
+        } else {
+            behind = behind && c.is_whitespace();
+        }
+    }
+    false
+}
+
+/// The serialisation of a node as a block of raw HTML, with references in place of the line ends
+/// that would make a blank line. Where there is none, nothing is written twice.
 pub fn raw_block(alloc: Global, tree: &Tree, node: NodeId) -> Result<String, AllocError>
     requires { node < length tree.now }
     ensures text { IfOk result
@@ -244,10 +274,13 @@ pub fn raw_block(alloc: Global, tree: &Tree, node: NodeId) -> Result<String, All
     ensures raw { let s = ser (forget (tree_of tree.now node)) in IfOk result
         (λ text. has_carriage_return s ≡ false → IsRawBlock s (string_bytes text)) }
 {
-    let text = serialize(alloc, tree, node)?;
-    let mut out = String::new(alloc);
-    out.push_str("\n\n")?;
-    push_block(&mut out, text.as_str())?;
-    out.push_str("\n\n")?;
-    Ok(out)
+    let mut block = String::new(alloc);
+    block.push_str("\n\n")?;
+    push_node(&mut block, tree, node, false)?;
+    let text = &block.as_str()[2..];
+    if has_blank_line(text) {
+        return rewritten_block(alloc, text);
+    }
+    block.push_str("\n\n")?;
+    Ok(block)
 }

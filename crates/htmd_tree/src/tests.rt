@@ -49,30 +49,64 @@ fn small_document(rt: HostRuntime) -> Result<(), Fail> {
 }
 
 #[test]
-fn serialisation(rt: HostRuntime) -> Result<(), Fail> {
+fn elements(rt: HostRuntime) -> Result<(), Fail> {
+    let alloc = rt.alloc();
+    for (name, value, text, want) in [
+        ("b", "", "y", "<b x=\"\">y</b>"),
+        ("b", "\"&<", "x", "<b x=\"&quot;&amp;<\">x</b>"),
+        (
+            "p",
+            "a\u{a0}>",
+            "1 < 2\u{a0}& \u{a9} > \"",
+            "<p x=\"a&nbsp;>\">1 &lt; 2&nbsp;&amp; \u{a9} &gt; \"</p>",
+        ),
+        (
+            "style",
+            "",
+            "a<b\u{a0}&",
+            "<style x=\"\">a<b\u{a0}&</style>",
+        ),
+        ("noscript", "", "<p>", "<noscript x=\"\"><p></noscript>"),
+        ("pre", "", "\nTest", "<pre x=\"\">\nTest</pre>"),
+        ("hr", "", "z", "<hr x=\"\">"),
+    ] {
+        let mut tree = Tree::new(alloc)?;
+        let document = tree.root();
+        let mut attrs = Vec::new(alloc);
+        attrs.push(Attribute {
+            name: String::from_str(alloc, "x")?,
+            value: String::from_str(alloc, value)?,
+        })?;
+        let element = tree.add_element(document, name, attrs)?;
+        tree.add_text(element, text)?;
+        assert_eq!(rt; serialize(alloc, &tree, element)?.as_str(), want);
+    }
+    Ok(())
+}
+
+#[test]
+fn starts(rt: HostRuntime) -> Result<(), Fail> {
     let alloc = rt.alloc();
     let mut tree = Tree::new(alloc)?;
     let document = tree.root();
-    tree.add_doctype(document)?;
-    let mut attrs = Vec::new(alloc);
-    attrs.push(Attribute {
-        name: String::from_str(alloc, "title")?,
-        value: String::from_str(alloc, "<&\">")?,
-    })?;
-    let paragraph = tree.add_element(document, "p", attrs)?;
-    tree.add_text(paragraph, "1 < 2\u{a0}& \u{a9}")?;
-    tree.add_element(paragraph, "br", Vec::new(alloc))?;
-    let script = tree.add_element(document, "script", Vec::new(alloc))?;
-    let text = tree.add_text(script, "a<b")?;
-    let comment = tree.add_comment(document, "<")?;
+    let doctype = tree.add_doctype(document)?;
+    let division = tree.add_element(document, "div", Vec::new(alloc))?;
+    let italic = tree.add_element(division, "i", Vec::new(alloc))?;
+    let style = tree.add_element(document, "style", Vec::new(alloc))?;
+    let text = tree.add_text(style, "a<b")?;
+    let comment = tree.add_comment(document, "<&")?;
+    tree.add_element(division, "br", Vec::new(alloc))?;
+    tree.add_text(italic, "a")?;
     for (node, want) in [
         (
             document,
-            "<!DOCTYPE html><p title=\"<&amp;&quot;>\">1 &lt; 2&nbsp;&amp; \u{a9}<br></p><script>a<b</script><!--<-->",
+            "<!DOCTYPE html><div><i>a</i><br></div><style>a<b</style><!--<&-->",
         ),
-        (script, "<script>a<b</script>"),
+        (doctype, "<!DOCTYPE html>"),
+        (division, "<div><i>a</i><br></div>"),
+        (style, "<style>a<b</style>"),
         (text, "a&lt;b"),
-        (comment, "<!--<-->"),
+        (comment, "<!--<&-->"),
     ] {
         assert!(rt; tree.contains(node));
         assert_eq!(rt; serialize(alloc, &tree, node)?.as_str(), want);
@@ -83,15 +117,32 @@ fn serialisation(rt: HostRuntime) -> Result<(), Fail> {
 #[test]
 fn raw_blocks(rt: HostRuntime) -> Result<(), Fail> {
     let alloc = rt.alloc();
-    for (text, want) in [
-        ("a\nb", "\n\na\nb\n\n"),
-        ("a\n\n\n \u{2003}\nb", "\n\na\n&#10;\n \u{2003}&#10;b\n\n"),
-        ("\r\n \r\n\r\r\n", "\n\n\r\n &#13;&#10;\r\r\n\n\n"),
+    for (name, text, want) in [
+        ("div", "a\nb", "\n\n<div>a\nb</div>\n\n"),
+        ("div", "a\n\n\nb", "\n\n<div>a\n&#10;\nb</div>\n\n"),
+        ("div", "a\r\n\r\nb", "\n\n<div>a\r\n&#13;&#10;b</div>\n\n"),
+        ("div", "a\n\rb", "\n\n<div>a\n\rb</div>\n\n"),
+        (
+            "div",
+            "\r\n \r\n\r\r\n",
+            "\n\n<div>\r\n &#13;&#10;\r\r\n</div>\n\n",
+        ),
+        (
+            "details",
+            "a\n \n\n b",
+            "\n\n<details>a\n &#10;\n b</details>\n\n",
+        ),
+        (
+            "p",
+            "\n\u{2003}\n\u{2003}\n",
+            "\n\n<p>\n\u{2003}&#10;\u{2003}\n</p>\n\n",
+        ),
     ] {
         let mut tree = Tree::new(alloc)?;
         let document = tree.root();
-        let node = tree.add_text(document, text)?;
-        assert_eq!(rt; raw_block(alloc, &tree, node)?.as_str(), want);
+        let element = tree.add_element(document, name, Vec::new(alloc))?;
+        tree.add_text(element, text)?;
+        assert_eq!(rt; raw_block(alloc, &tree, element)?.as_str(), want);
     }
     Ok(())
 }

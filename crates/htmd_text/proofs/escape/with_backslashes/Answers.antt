@@ -1,11 +1,11 @@
-use Rattle.std.proofs.Common.{◌≡◌, [], ◌∷◌, ◌++◌, true, false, length, arith, lit<, ◌∙◌, ap}
+use Rattle.std.proofs.Common.{◌≡◌, [], ◌∷◌, ◌++◌, true, false, length, arith, lit<, ◌∙◌, ap, sym}
 use Rattle.std.specs.String.{string_bytes}
 use Rattle.std.specs.List.{between}
 use Rattle.htmd_text.specs.Characters.{backslash}
-use Rattle.htmd_text.specs.Marks.{is_marked_by}
-use Rattle.htmd_text.proofs.EscapeMarksLemmas.{grows, writing_none, writing_plain, writing_marked}
+use Rattle.htmd_text.specs.Marks.{is_marked_by, is_plain}
+use Rattle.htmd_text.proofs.EscapeMarksLemmas.{grows, writing_none, writing_plain, writing_marked, plain_stays}
 use Rattle.htmd_text.proofs.escape.with_backslashes.Goals as goal
-use Rattle.htmd_text.proofs.escape.with_backslashes.Goals.{then-is_marked+in_ok-reserve+in_ok-push_str+in_ok-push, else-is_marked}
+use Rattle.htmd_text.proofs.escape.with_backslashes.Goals.{then-is_marked+in_ok-push_str+in_ok-push, then-is_empty+in_ok-reserve, else-is_empty, else-is_marked}
 
 pub loop-i-init : goal.loop-i-init
 loop-i-init c = writing_none (is_marked_by c.args.marks c.args.text.now) c.args.text.now _ c.utf8.text c.new-escaped.ensures.bytes
@@ -15,11 +15,16 @@ loop-i-preserved c =
     let s = c.args.text.now in
     let marked = is_marked_by c.args.marks s in
     elim c.if-is_marked.branch [
-      | then-is_marked+in_ok-reserve+in_ok-push_str+in_ok-push w ↦
+      | then-is_marked+in_ok-push_str+in_ok-push w ↦
           let here : marked c.loop-i.i ≡ true = cc in
           let step = writing_marked marked s (string_bytes c.loop-i.escaped) c.loop-i.from c.loop-i.i (omega arith) here (c.requires c.loop-i.i (omega arith) here) c.loop-i.invariant in
+          let kept : string_bytes w.if-is_empty.escaped ≡ string_bytes c.loop-i.escaped =
+          elim w.if-is_empty.branch [
+            | then-is_empty+in_ok-reserve v ↦ ap string_bytes v.escaped-is ∙ v.in_ok-reserve.ensures.bytes
+            | else-is_empty v ↦ ap string_bytes v.escaped-is
+          ] in
           let written : string_bytes c.if-is_marked.escaped ≡ (string_bytes c.loop-i.escaped ++ between c.loop-i.from c.loop-i.i s) ++ backslash ∷ [] =
-          let piece : string_bytes w.push_str.new.self ≡ string_bytes c.loop-i.escaped ++ between c.loop-i.from c.loop-i.i s = cc (w.in_ok-push_str.ensures.bytes, w.in_ok-reserve.ensures.bytes, w.range.ensures.value) in
+          let piece : string_bytes w.push_str.new.self ≡ string_bytes c.loop-i.escaped ++ between c.loop-i.from c.loop-i.i s = cc (kept, w.in_ok-push_str.ensures.bytes, w.range.ensures.value) in
           let mark : string_bytes w.push.new.self ≡ string_bytes w.push_str.new.self ++ backslash ∷ [] = w.in_ok-push.ensures.bytes ∙ ap (λ l. string_bytes w.push_str.new.self ++ l) (w.in_ok-push.ensures.ascii (lit< tt)) in
           ap string_bytes w.escaped-is ∙ mark ∙ ap (λ l. l ++ backslash ∷ []) piece in
           rw (written, w.from-is) step
@@ -34,3 +39,8 @@ returns-in_err-reserve-clause-borrowed c =
     let marked = is_marked_by c.args.marks c.args.text.now in
     let here : marked c.loop-i.i ≡ true = cc in
     λ same. absurd (omega (arith, grows marked 0 c.args.text.now c.loop-i.i (omega arith) (ap marked (omega arith) ∙ here), ap length same))
+
+pub returns-then-is_plain-clause-text : goal.returns-then-is_plain-clause-text
+returns-then-is_plain-clause-text c =
+    let plain = ap (is_plain c.args.marks) (sym c.as_bytes-bytes.ensures.value) ∙ sym c.is_plain.ensures ∙ c.if-is_plain.true in
+    sym (plain_stays c.args.marks c.args.text.now plain)

@@ -1,0 +1,6 @@
+use Rattle.std.proofs.Common.{◌≡◌, ◌&&◌, false, drop}
+use Rattle.htmd_text.specs.WhiteSpace.{is_squeezed}
+use Rattle.htmd_text.proofs.white_space.is_squeezed.Given as goal
+
+abbrev pub invariant-loop-b : goal.invariant-loop-b
+invariant-loop-b l = (l.is_squeezed && is_squeezed l.after_white (drop l.b-index l.bytes)) ≡ is_squeezed false l.bytes

@@ -1,0 +1,5 @@
+use Rattle.htmd_tree.proofs.LayoutLemmas.{document_items-denotes}
+use Rattle.htmd_tree.proofs.laws.layout_denotes.Goals as goal
+
+pub returns : goal.returns
+returns c = document_items-denotes

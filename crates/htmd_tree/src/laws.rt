@@ -1,0 +1,7 @@
+//! Laws of the definitions: each is the contract of a function that does nothing.
+ghost use Rattle.htmd_tree.specs.Layout.{LayoutDenotes};
+
+/// A document laid out in document order denotes that document.
+pub fn layout_denotes()
+    ensures { LayoutDenotes }
+{}
