@@ -1,5 +1,5 @@
 -- A text whose white space is squeezed piece by piece.
-use Rattle.std.proofs.Common.{◌≡◌, ℕ, suc, zero, ◌+◌, ◌<◌, ◌≤◌, Bool, true, false, cond, List, [], ◌∷◌, ◌++◌, length, get_or, take, drop, refl, sym, ap, ◌∙◌, arith, append_assoc, ⊎_elim}
+use Rattle.std.proofs.Common.{◌≡◌, ℕ, suc, ◌+◌, ◌<◌, ◌≤◌, Bool, true, false, cond, List, [], ◌∷◌, ◌++◌, length, get_or, take, drop, refl, sym, ap, ◌∙◌, arith, append_assoc, ⊎_elim, eq-eqb}
 use Rattle.std.specs.Prelude.{◌≢◌, ◌==◌, ◌&&◌, ◌||◌, not, slice_index}
 use Rattle.std.specs.List.{between}
 use Rattle.std.specs.Str.{IsCharBoundary, IsUtf8}
@@ -32,22 +32,17 @@ same_rest false v b s rest le same = cc
 pub squeezed_tail : (b : ℕ) (s : List ℕ) → squeezed (b ∷ s) ≡ b ∷ s → squeezed s ≡ s
 squeezed_tail b s same = same_rest (is_ascii_white_space b) (begins_with_white_space s) b s (squeezed s) (squeezed_le s) same
 
-pub squeezed_drop : (i : ℕ) (s : List ℕ) → squeezed s ≡ s → squeezed (drop i s) ≡ drop i s
-squeezed_drop zero s same = same
-squeezed_drop (suc i) [] same = refl
-squeezed_drop (suc i) (b ∷ s) same = squeezed_drop i s (squeezed_tail b s same)
-
 -- white space before more of it goes
 pub inner_replaced : (b : ℕ) (s : List ℕ) → is_ascii_white_space b ≡ true → begins_with_white_space s ≡ true → IsReplaced (b ∷ s) []
 inner_replaced b s white more =
     let whole : squeezed (b ∷ s) ≡ squeezed s = rw (white, more) refl in
-    record { white = white; whole = whole; needed = λ same. absurd (omega (arith, squeezed_le s, ap length (sym whole ∙ same))) }
+    record { white = white; whole = whole }
 
 -- the last white space of a run becomes a space
 pub last_replaced : (b : ℕ) (s : List ℕ) → is_ascii_white_space b ≡ true → begins_with_white_space s ≡ false → b ≢ space → IsReplaced (b ∷ s) (space ∷ [])
 last_replaced b s white last other =
     let whole : squeezed (b ∷ s) ≡ space ∷ squeezed s = rw (white, last) refl in
-    record { white = white; whole = whole; needed = λ same. let first : space ∷ squeezed s ≡ b ∷ s = sym whole ∙ same in other (cc) }
+    record { white = white; whole = whole }
 
 pub space_stays : (s : List ℕ) → begins_with_white_space s ≡ false → squeezed (space ∷ s) ≡ space ∷ squeezed s
 space_stays s last = rw last refl
@@ -60,16 +55,12 @@ pub record Squeezing (s out : List ℕ) (from i : ℕ) : Type 0 where
   pub in_order : from ≤ i
   pub cut : IsCharBoundary s from
   pub whole : out ++ (between from i s ++ squeezed (drop i s)) ≡ squeezed s
-  pub not_begun : from ≡ 0 → out ≡ []
-  pub not_needed : squeezed s ≡ s → from ≡ 0
 
 pub squeezing_none : (s out : List ℕ) → IsUtf8 s → out ≡ [] → Squeezing s out 0 0
 squeezing_none s out text none = record {
   in_order = omega arith;
   cut = IsCharBoundary-start s text;
   whole = rw none refl;
-  not_begun = λ _. none;
-  not_needed = λ _. refl;
 }
 
 rest_of : (s : List ℕ) (i : ℕ) → drop 1 (drop i s) ≡ drop (i + 1) s
@@ -87,8 +78,6 @@ squeezing_stays s out from i lt stays was = record {
       let grown : between from (i + 1) s ++ rest ≡ between from i s ++ get_or s i 0 ∷ rest =
       ap (λ l. l ++ rest) piece ∙ append_assoc (between from i s) (get_or s i 0 ∷ []) rest in
       ap (λ l. out ++ l) (grown ∙ ap (λ l. between from i s ++ l) (sym first)) ∙ was.whole;
-  not_begun = was.not_begun;
-  not_needed = was.not_needed;
 }
 
 white_is_ascii : (b : ℕ) → is_ascii_white_space b ≡ true → b < 128
@@ -104,8 +93,6 @@ squeezing_replaced s out instead from i text lt here was = record {
   whole =
       let rest : squeezed (drop i s) ≡ instead ++ squeezed (drop (i + 1) s) = here.whole ∙ ap (λ l. instead ++ squeezed l) (rest_of s i) in
       rw (between_none s (i + 1), append_assoc, append_assoc) (ap (λ l. out ++ (between from i s ++ l)) (sym rest) ∙ was.whole);
-  not_begun = λ e. absurd (omega arith);
-  not_needed = λ same. absurd (here.needed (squeezed_drop i s same));
 }
 
 pub squeezing_all : (s out : List ℕ) (from i : ℕ) → length s ≤ i → Squeezing s out from i → out ++ between from (length s) s ≡ squeezed s
@@ -113,13 +100,6 @@ squeezing_all s out from i past was =
     let piece : between from (length s) s ≡ between from i s = between_to_end s from (length s) (omega arith) ∙ sym (between_to_end s from i past) in
     let ended : squeezed (drop i s) ≡ [] = ap squeezed (drop_all i s past) in
     rw piece (ap (λ l. out ++ l) (sym (append-nil (between from i s)) ∙ ap (λ l. between from i s ++ l) (sym ended)) ∙ was.whole)
-
--- nothing was written
-pub squeezing_nothing : (s out : List ℕ) (from i : ℕ) → length s ≤ i → from ≡ 0 → Squeezing s out from i → s ≡ squeezed s
-squeezing_nothing s out from i past start was =
-    let none = was.not_begun start in
-    let all : s ≡ between from (length s) s = rw start (sym (between_to_end s 0 (length s) (omega arith))) in
-    all ∙ (rw none at (squeezing_all s out from i past was))
 
 -- ---- a text whose white space is spaces alone
 
@@ -145,3 +125,27 @@ squeezed_stays (b ∷ s) after_white e =
     rw same (space_stays s behind ∙ ap (λ l. space ∷ l) rest))
     (λ other. other_stays b s other ∙ ap (λ l. b ∷ l) rest)
     (cases_Bool (is_ascii_white_space b))
+
+-- a text without white space in front may stand behind some
+behind_white : (s : List ℕ) → begins_with_white_space s ≡ false → is_squeezed true s ≡ is_squeezed false s
+behind_white [] last = refl
+behind_white (b ∷ s) last = ap (λ w. (not w || (false && (b == space))) && is_squeezed (is_ascii_white_space b) s) last ∙ sym (ap (λ w. (not w || (true && (b == space))) && is_squeezed (is_ascii_white_space b) s) last)
+
+-- a text that squeezing leaves as it is has each white space alone
+stays_squeezed : (w v : Bool) (b : ℕ) (s rest : List ℕ) → is_ascii_white_space b ≡ w → begins_with_white_space s ≡ v → length rest ≤ length s → cond w (cond v rest (space ∷ rest)) (b ∷ rest) ≡ b ∷ s → is_squeezed false s ≡ true → is_squeezed false (b ∷ s) ≡ true
+stays_squeezed true true b s rest white more le same alone = absurd (omega (arith, le, ap length same))
+stays_squeezed true false b s rest white last le same alone =
+    let first : space ≡ b = cc in
+    ap (λ w. (not w || (true && (b == space))) && is_squeezed w s) white
+    ∙ ap (λ t. t && is_squeezed true s) (eq-eqb b space (sym first))
+    ∙ behind_white s last ∙ alone
+stays_squeezed false v b s rest other w le same alone = ap (λ w. (not w || (true && (b == space))) && is_squeezed w s) other ∙ alone
+
+same_is_squeezed : (s : List ℕ) → squeezed s ≡ s → is_squeezed false s ≡ true
+same_is_squeezed [] same = refl
+same_is_squeezed (b ∷ s) same =
+    stays_squeezed (is_ascii_white_space b) (begins_with_white_space s) b s (squeezed s) refl refl (squeezed_le s) same (same_is_squeezed s (squeezed_tail b s same))
+
+-- a text that is not squeezed yet changes
+pub changes : (s : List ℕ) → is_squeezed false s ≡ false → squeezed s ≡ s → ⊥
+changes s e same = false≢true (sym e ∙ same_is_squeezed s same)

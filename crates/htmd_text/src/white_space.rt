@@ -16,20 +16,14 @@ pub fn compress_whitespace(alloc: Global, text: &str) -> Result<CowStr<'_>, Allo
     if is_squeezed(bytes) {
         return Ok(CowStr::Borrowed(text));
     }
-    let mut squeezed = String::new(alloc);
+    let mut squeezed = String::with_capacity(alloc, bytes.len())?;
     let mut from = 0;
     for i in 0..bytes.len() {
         if let Some(instead) = replacement(&bytes[i..]) {
-            if from == 0 {
-                squeezed.reserve(bytes.len())?;
-            }
             squeezed.push_str(&text[from..i])?;
             squeezed.push_str(instead)?;
             from = i + 1;
         }
-    }
-    if from == 0 {
-        return Ok(CowStr::Borrowed(text));
     }
     squeezed.push_str(&text[from..])?;
     Ok(CowStr::Owned(squeezed))
