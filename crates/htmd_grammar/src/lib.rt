@@ -1,0 +1,3 @@
+//! The strict grammar of HTML: which texts it has, what tree each denotes, what the first fault of any
+//! other text is, and the laws of these definitions.
+#![tactic(auto)]
