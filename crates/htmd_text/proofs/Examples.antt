@@ -7,6 +7,7 @@ use Rattle.htmd_text.specs.ListMarkers.{is_atx_heading}
 use Rattle.htmd_text.specs.EscapeMarks.{escaped, html_escaped, pre_escaped}
 use Rattle.htmd_text.specs.WhiteSpace.{squeezed}
 use Rattle.htmd_text.specs.Blocks.{is_block}
+use Rattle.htmd_text.specs.BlankLines.{with_blank_lines}
 
 pub bullet : escaped (codes "- x") ≡ codes "\\- x"
 bullet = refl
@@ -53,3 +54,6 @@ item = refl
 pub two_dots : escaped (codes "1.. x") ≡ codes "1.\\. x"
 unfolding chars encode ucd_category
 two_dots = refl
+
+pub blank_lines : with_blank_lines (codes "a") ≡ codes "\n\na\n\n"
+blank_lines = refl

@@ -7,7 +7,7 @@ use Rattle.std.proofs.lemmas.Bool.Decides.{nat_tests}
 use Rattle.std.proofs.lemmas.List.{get_or-reverse, length-drop, drop_min}
 use Rattle.std.proofs.lemmas.List.Sums.{prefix_len_passes, prefix_len-le-length, suffix_len-le-length, suffix_len-take_no}
 use Rattle.std.proofs.lemmas.Str.{IsCharBoundary-start, IsCharBoundary-end, IsCharBoundary-before_ascii, IsCharBoundary-after_ascii, IsCharBoundary-from_drop, IsCharBoundary-from_take}
-use Rattle.htmd_text.specs.Trims.{is_line_feed}
+use Rattle.htmd_text.specs.Trims.{is_line_feed, is_space}
 use Rattle.htmd_text.specs.WhiteSpace.{is_document_white_space}
 
 -- what passes is ASCII
@@ -72,8 +72,21 @@ may_cut s n here = (here.0, λ _. here.1)
 pub line_feed_of_ascii : OfAscii is_line_feed
 line_feed_of_ascii b e = grind (arith, nat_tests)
 
-pub start_may_cut : (s : List ℕ) (n : ℕ) → IsUtf8 s → n ≡ prefix_len is_line_feed s → MayCut s n
-start_may_cut s n text e = may_cut s n (subst (λ (k : ℕ). IsCharBoundary s k) (sym e) (start_boundary is_line_feed s text line_feed_of_ascii))
+pub space_of_ascii : OfAscii is_space
+space_of_ascii b e = grind (arith, nat_tests)
 
-pub end_may_cut : (s : List ℕ) (n : ℕ) → n ≡ length s - suffix_len is_line_feed s → MayCut s n
-end_may_cut s n e = may_cut s n (subst (λ (k : ℕ). IsCharBoundary s k) (sym e) (end_boundary is_line_feed s line_feed_of_ascii))
+-- behind the line feeds at the start
+pub start_may_cut : (s : List ℕ) (n : ℕ) → IsUtf8 s → n ≡ prefix_len is_line_feed s → MayCut s n
+start_may_cut s n text e =
+    let here = start_boundary is_line_feed s text line_feed_of_ascii in
+    may_cut s n (subst (λ (k : ℕ). IsCharBoundary s k) (sym e) here)
+
+-- in front of what passes at the end
+pub end_may_cut : (passes : ℕ → Bool) (s : List ℕ) (n : ℕ) → OfAscii passes → n ≡ length s - suffix_len passes s → MayCut s n
+end_may_cut passes s n ascii e =
+    may_cut s n (subst (λ (k : ℕ). IsCharBoundary s k) (sym e) (end_boundary passes s ascii))
+
+-- the same, as the code counts what passes in the bytes of a `String`
+pub counted_may_cut : (passes : ℕ → Bool) (s bytes : List ℕ) (len count : ℕ) → OfAscii passes → bytes ≡ s → len ≡ length bytes → count ≡ suffix_len passes bytes → MayCut s (len - count)
+counted_may_cut passes s bytes len count ascii same size counted =
+    end_may_cut passes s (len - count) ascii (omega (arith, size ∙ ap length same, counted ∙ ap (suffix_len passes) same))

@@ -3,6 +3,7 @@ pub mod WhiteSpace
 pub mod Blocks
 pub mod Trims
 pub mod Joins
+pub mod BlankLines
 pub mod Indents
 pub mod Digits
 pub mod ListMarkers

@@ -2,7 +2,7 @@
 use Rattle.std.specs.Prelude.{ℕ, ◌-◌, Bool, ◌==◌, List, [], ◌∷◌, length, take, drop, Option, Some, None}
 use Rattle.std.specs.List.{prefix_len, suffix_len}
 use Rattle.std.specs.Str.{trim_start, trim_end}
-use Rattle.htmd_text.specs.Characters.{line_feed}
+use Rattle.htmd_text.specs.Characters.{line_feed, space}
 
 -- the text without the bytes at its start that pass
 abbrev pub trimmed_start : (ℕ → Bool) → List ℕ → List ℕ
@@ -38,3 +38,6 @@ some_text (b ∷ s) = Some (b ∷ s)
 
 abbrev pub is_line_feed : ℕ → Bool
 is_line_feed b = b == line_feed
+
+abbrev pub is_space : ℕ → Bool
+is_space b = b == space

@@ -1,8 +1,8 @@
 //! The lines of a list item behind spaces.
-ghost use Rattle.std.specs.Prelude.{◌≡◌, ◌++◌, IfOk, OnOk, string_bytes, replicate};
-ghost use Rattle.htmd_text.specs.Characters.{space};
+ghost use Rattle.std.specs.Prelude.{◌≡◌, ◌++◌, IfOk, OnOk, string_bytes};
 ghost use Rattle.htmd_text.specs.Indents as spec;
 
+use crate::repetition::push_repeated;
 use crate::trim::without_document_end;
 use std::alloc::{AllocError, Global};
 
@@ -53,17 +53,7 @@ fn push_line(text: &mut String, line: &str, indent: usize) -> Result<(), AllocEr
     if line.is_empty() {
         return Ok(());
     }
-    push_spaces(text, indent)?;
+    push_repeated(text, ' ', indent)?;
     text.push_str(line)?;
-    Ok(())
-}
-
-/// Puts so many spaces.
-fn push_spaces(text: &mut String, count: usize) -> Result<(), AllocError>
-    ensures { OnOk result (string_bytes text.new ≡ string_bytes text.old ++ replicate count space) }
-{
-    for _ in 0..count {
-        text.push(' ')?;
-    }
     Ok(())
 }

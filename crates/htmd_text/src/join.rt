@@ -1,5 +1,6 @@
 //! Texts one after another.
-ghost use Rattle.std.specs.Prelude.{◌≡◌, IfOk, OnOk, map, string_bytes};
+ghost use Rattle.std.specs.Prelude.{◌≡◌, IfOk, OnOk, length, map, min, string_bytes, sum_by};
+ghost use Rattle.std.specs.List.{flat_map};
 ghost use Rattle.std.specs.Iterator.{IsFinite};
 ghost use Rattle.std.specs.Iterator.Runs.{WholeRun};
 ghost use Rattle.htmd_text.specs.Joins as spec;
@@ -35,6 +36,28 @@ pub trait JoinOnStringIterator: Iterator {
 }
 
 impl<I: Iterator> JoinOnStringIterator for I {}
+
+/// The texts one after another, in a `String` that grows once.
+pub fn concat(alloc: Global, texts: &[&str]) -> Result<String, AllocError>
+    ensures { IfOk result (λ s. string_bytes s ≡ flat_map (λ text. text.now) texts.now) }
+{
+    let mut all = String::with_capacity(alloc, total_len(texts))?;
+    for text in texts {
+        all.push_str(text)?;
+    }
+    Ok(all)
+}
+
+/// How many bytes the texts take together, as far as a `usize` goes.
+fn total_len(texts: &[&str]) -> usize
+    ensures { result ≡ min (sum_by (λ text. length text.now) texts.now) usize.MAX }
+{
+    let mut total: usize = 0;
+    for text in texts {
+        total = total.saturating_add(text.len());
+    }
+    total
+}
 
 /// The blocks one after another, empty ones passed over: where a text ends with `a` line feeds and
 /// the next begins with `b`, the greater of the two stands between them, at most two.

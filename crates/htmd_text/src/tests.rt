@@ -217,3 +217,39 @@ fn joins_and_indents(rt: HostRuntime) -> Result<(), Fail> {
     }
     Ok(())
 }
+
+#[test]
+fn trims_ends_in_place(rt: HostRuntime) -> Result<(), Fail> {
+    for (text, line_feeds, spaces, document) in [
+        (" a \n\n", " a ", " a \n\n", " a"),
+        ("a\n  ", "a\n  ", "a\n", "a"),
+        ("\x0C\t\r", "\x0C\t\r", "\x0C\t\r", "\x0C"),
+        ("", "", "", ""),
+    ] {
+        let mut cut = String::from_str(rt.alloc(), text)?;
+        trim_end_line_feeds(&mut cut);
+        assert_eq!(rt; cut.as_str(), line_feeds, "at {text}");
+        let mut cut = String::from_str(rt.alloc(), text)?;
+        trim_end_spaces(&mut cut);
+        assert_eq!(rt; cut.as_str(), spaces, "at {text}");
+        let mut cut = String::from_str(rt.alloc(), text)?;
+        trim_end_document_white_space(&mut cut);
+        assert_eq!(rt; cut.as_str(), document, "at {text}");
+    }
+    Ok(())
+}
+
+#[test]
+fn puts_texts_together(rt: HostRuntime) -> Result<(), Fail> {
+    let alloc = rt.alloc();
+    assert_eq!(rt; concat(alloc, &["a", "", "é", "b"])?.as_str(), "aéb");
+    assert_eq!(rt; concat(alloc, &[])?.as_str(), "");
+    let mut text = String::from_str(alloc, "a")?;
+    push_repeated(&mut text, '#', 3)?;
+    push_repeated(&mut text, '-', 0)?;
+    assert_eq!(rt; text.as_str(), "a###");
+    assert_eq!(rt; with_blank_lines(alloc, "a\n")?.as_str(), "\n\na\n\n\n");
+    surround_with_blank_lines(&mut text)?;
+    assert_eq!(rt; text.as_str(), "\n\na###\n\n");
+    Ok(())
+}

@@ -3,7 +3,7 @@ ghost use Rattle.std.specs.Prelude.{◌≡◌, ◌-◌, ◌≤◌, length, strin
 ghost use Rattle.std.specs.Option.{option_copied};
 ghost use Rattle.std.specs.List.{prefix_len, suffix_len};
 ghost use Rattle.std.specs.Str.{trim_start, trim_end, IsCharBoundary};
-ghost use Rattle.htmd_text.specs.Trims.{trimmed, trimmed_start, trimmed_end, cut_start, cut_end, white_space_at_start, white_space_at_end, some_text, is_line_feed};
+ghost use Rattle.htmd_text.specs.Trims.{trimmed, trimmed_start, trimmed_end, cut_start, cut_end, white_space_at_start, white_space_at_end, some_text, is_line_feed, is_space};
 ghost use Rattle.htmd_text.specs.WhiteSpace as white;
 
 use crate::runs::{leading_len, trailing_len};
@@ -92,7 +92,29 @@ pub fn trim_newlines(text: &mut String)
     let start = leading_len(text.as_bytes(), b'\n');
     let removed = text.replace_range(..start, "");
     prove!(removed.is_ok());
+    trim_end_line_feeds(text);
+}
+
+/// Cuts the line feeds at the end.
+pub fn trim_end_line_feeds(text: &mut String)
+    ensures { string_bytes text.new ≡ trimmed_end is_line_feed (string_bytes text.old) }
+{
     text.truncate(text.len() - trailing_len(text.as_bytes(), b'\n'));
+}
+
+/// Cuts the spaces at the end.
+pub fn trim_end_spaces(text: &mut String)
+    ensures { string_bytes text.new ≡ trimmed_end is_space (string_bytes text.old) }
+{
+    text.truncate(text.len() - trailing_len(text.as_bytes(), b' '));
+}
+
+/// Cuts the document white space at the end.
+pub fn trim_end_document_white_space(text: &mut String)
+    ensures { string_bytes text.new
+        ≡ trimmed_end white.is_document_white_space (string_bytes text.old) }
+{
+    text.truncate(document_end(text.as_str()));
 }
 
 /// The text, or nothing where it is empty.

@@ -8,15 +8,13 @@ use Rattle.std.specs.String.{string_bytes}
 use Rattle.htmd_text.specs.Trims.{is_line_feed, trimmed_start, trimmed_end}
 use Rattle.htmd_text.specs.Joins.{seam}
 use Rattle.htmd_text.proofs.JoinsLemmas.{block_joined, seam_is}
-use Rattle.htmd_text.proofs.TrimsLemmas.{start_may_cut, end_may_cut}
+use Rattle.htmd_text.proofs.TrimsLemmas.{start_may_cut, counted_may_cut, line_feed_of_ascii}
 use Rattle.htmd_text.proofs.join.join_block.Goals as goal
 
 pub truncate-requires : goal.truncate-requires
 truncate-requires c =
     let s = string_bytes c.args.joined.now in
-    let size : length c.as_bytes.result.now ≡ length s = ap length c.as_bytes.ensures.value in
-    let run : c.trailing_len-before.result ≡ suffix_len is_line_feed s = c.trailing_len-before.ensures.value ∙ ap (suffix_len is_line_feed) c.as_bytes.ensures.value in
-    λ _. end_may_cut s (c.len.result - c.trailing_len-before.result) (omega (arith, size, run, c.as_bytes.ensures.len))
+    λ _. counted_may_cut is_line_feed s c.as_bytes.result.now c.len.result c.trailing_len-before.result line_feed_of_ascii c.as_bytes.ensures.value (c.len.ensures ∙ sym c.as_bytes.ensures.len) c.trailing_len-before.ensures.value
 
 pub range_from-requires : goal.range_from-requires
 range_from-requires c =

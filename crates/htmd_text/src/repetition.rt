@@ -1,0 +1,18 @@
+//! A character as often as is asked for.
+ghost use Rattle.std.specs.Prelude.{◌≡◌, ◌<◌, ◌++◌, OnErr, OnOk, replicate, string_bytes};
+
+use std::alloc::AllocError;
+
+/// Puts an ASCII character so often behind the text, with one growth at most.
+pub fn push_repeated(text: &mut String, character: char, count: usize) -> Result<(), AllocError>
+    requires { character < 128 }
+    ensures ok { OnOk result
+        (string_bytes text.new ≡ string_bytes text.old ++ replicate count character) }
+    ensures err { OnErr result (string_bytes text.new ≡ string_bytes text.old) }
+{
+    text.reserve(count)?;
+    for _ in 0..count {
+        text.push(character)?;
+    }
+    Ok(())
+}
