@@ -1,0 +1,18 @@
+-- The strict grammar, in reading order: value trees and what they are written as; the rules; characters, references,
+-- tags, comments, raw content, places, the relation, the document.
+pub mod ValueTrees
+pub mod Serialisation
+pub mod RawBlocks
+pub mod CharacterClasses
+pub mod Rules
+pub mod References
+pub mod Tags
+pub mod Comments
+pub mod RawContent
+pub mod Places
+pub mod Grammar
+pub mod Documents
+pub mod TagReading
+pub mod Steps
+pub mod Fronts
+pub mod Faults

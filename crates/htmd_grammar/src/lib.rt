@@ -1,3 +1,7 @@
 //! The strict grammar of HTML: which texts it has, what tree each denotes, what the first fault of any
 //! other text is, and the laws of these definitions.
 #![tactic(auto)]
+
+mod fault;
+
+pub use fault::FaultKind;

@@ -1,0 +1,182 @@
+-- Which place and kind of a refusal are right.
+use Rattle.std.specs.Prelude.{◌≡◌, ◌≢◌, ◌⊎◌, ℕ, ◌<◌, ◌≤◌, ◌+◌, Bool, true, false, ◌&&◌, ◌||◌, ◌==◌, if◌then◌else◌, List, [], ◌∷◌, ◌++◌, length, codes, None}
+use Rattle.std.specs.List.{list_any, list_all}
+use Rattle.std.specs.Char.{is_ascii_alphabetic}
+use Rattle.htmd_text.specs.Characters.{null, slash, less_than_sign}
+use Rattle.htmd_text.specs.WhiteSpace.{is_ascii_white_space}
+use Rattle.htmd_grammar.specs.ValueTrees.{AttributePair, ValueForest, none}
+use Rattle.htmd_grammar.specs.CharacterClasses.{begins_with, lacks, up_to, are_distinct}
+use Rattle.htmd_grammar.specs.Rules.{Rules}
+use Rattle.htmd_grammar.specs.References.{Names, Piece, stands, wrong, piece_at}
+use Rattle.htmd_grammar.specs.Tags.{attribute_names, IsTagForm, IsEndTag}
+use Rattle.htmd_grammar.specs.Comments.{IsComment}
+use Rattle.htmd_grammar.specs.RawContent.{holds_raw_text, ends_text, raw_text_of}
+use Rattle.htmd_grammar.specs.Places.{Context, is_outside, is_row, is_table, holds_parts, is_allowed}
+use Rattle.htmd_grammar.specs.Documents.{above_body, body_text}
+use Rattle.htmd_grammar.specs.Serialisation.{is_void}
+use Rattle.htmd_grammar.specs.Steps.{OpenElement, names_of, has_unknown_reference}
+use Rattle.htmd_grammar.specs.Fronts.{IsGoodFront}
+use Rattle.htmd_grammar.specs.declared.fault.FaultKind.{FaultKind}
+use Rattle.htmd_grammar.specs.declared.fault.FaultKind.TheVariants.{
+  Nul,
+  MalformedTag,
+  MalformedComment,
+  MalformedDeclaration,
+  UnknownReference,
+  BadNumber,
+  DuplicateAttribute,
+  SelfClosing,
+  TagOutside,
+  NotAllowedHere,
+  StrayEndTag,
+  StrayText,
+  Unclosed,
+  ScriptEscape,
+  TooDeep,
+}
+
+-- the number of a kind: of two kinds that fit a piece the lower is right
+abbrev pub number_of : FaultKind → ℕ
+number_of Nul = 1
+number_of MalformedTag = 2
+number_of MalformedComment = 3
+number_of MalformedDeclaration = 4
+number_of UnknownReference = 5
+number_of BadNumber = 6
+number_of DuplicateAttribute = 7
+number_of SelfClosing = 8
+number_of TagOutside = 9
+number_of NotAllowedHere = 10
+number_of StrayEndTag = 11
+number_of StrayText = 12
+number_of Unclosed = 13
+number_of ScriptEscape = 14
+number_of TooDeep = 15
+
+-- ---- what stands at the beginning of a text
+
+-- `<` and a letter, or `</`
+abbrev pub begins_tag : List ℕ → Bool
+begins_tag [] = false
+begins_tag (b ∷ []) = false
+begins_tag (b ∷ c ∷ s) = (b == less_than_sign) && (is_ascii_alphabetic c || (c == slash))
+
+-- the form of a start tag
+abbrev pub HasTagForm : List ℕ → List ℕ → List AttributePair → Bool → Type 0
+HasTagForm s n spelled present = (tag rest : List ℕ) × (s ≡ tag ++ rest) × IsTagForm tag n spelled present
+
+abbrev pub HasEndTag : List ℕ → List ℕ → Type 0
+HasEndTag s n = (tag rest : List ℕ) × (s ≡ tag ++ rest) × IsEndTag tag n
+
+abbrev pub HasComment : List ℕ → Type 0
+HasComment s = (this rest u : List ℕ) × (s ≡ this ++ rest) × IsComment this u
+
+-- a character or reference, of this kind
+abbrev pub HasPiece : Names → List ℕ → Piece → Type 0
+HasPiece names s piece = (b : ℕ) × (rest : List ℕ) × (s ≡ b ∷ rest) × (piece_at names b rest ≡ piece)
+
+-- somewhere in the value stands a reference by a number that isn't right
+abbrev pub HasBadNumber : Names → List ℕ → Type 0
+HasBadNumber names v = (before : List ℕ) × (b : ℕ) × (rest : List ℕ) × (v ≡ before ++ (b ∷ rest)) × (piece_at names b rest ≡ wrong BadNumber)
+
+abbrev pub SomeValue : (List ℕ → Type 0) → List AttributePair → Type 0
+SomeValue P [] = ⊥
+SomeValue P (a ∷ attributes) = P a.value ⊎ SomeValue P attributes
+
+-- what the innermost open element holds so far
+abbrev pub top_children : List OpenElement → ValueForest
+top_children [] = none
+top_children (f ∷ fs) = f.children
+
+-- ---- the rows
+
+module _ (rules : Rules) (fs : List OpenElement) (s : List ℕ) where
+  abbrev here : Context
+  here = names_of above_body fs
+
+  abbrev parent : List ℕ
+  parent = Rattle.htmd_grammar.specs.Places.parent_name here
+
+  -- markup stands there
+  abbrev pub IsMarkup : Type 0
+  IsMarkup = ends_text rules.scripting parent s ≡ true
+
+  -- text stands there
+  abbrev pub IsText : Type 0
+  IsText = (s ≢ []) × (ends_text rules.scripting parent s ≡ false)
+
+  -- text with references
+  abbrev pub IsTextWithReferences : Type 0
+  IsTextWithReferences = IsText × (holds_raw_text rules.scripting parent ≡ false)
+
+  -- the ancestors that a start tag gives its element; a row in a table implies a `tbody`
+  abbrev pub context_for : List ℕ → Context
+  context_for n = if is_row n && is_table parent then codes "tbody" ∷ here else here
+
+  -- what the kind says of the open elements and the text from the place on
+  abbrev pub Says : FaultKind → Type 0
+  Says Nul = ⊥
+  Says MalformedTag =
+      IsMarkup × (begins_tag s ≡ true)
+      × ((n : List ℕ) (spelled : List AttributePair) (present : Bool) → HasTagForm s n spelled present → ⊥)
+      × ((n : List ℕ) → HasEndTag s n → ⊥)
+  Says MalformedComment = IsMarkup × (begins_with (codes "<!--") s ≡ true) × (HasComment s → ⊥)
+  Says MalformedDeclaration =
+      IsMarkup × ((begins_with (codes "<?") s ≡ true) ⊎ ((begins_with (codes "<!") s ≡ true) × (begins_with (codes "<!--") s ≡ false)))
+  Says UnknownReference =
+      (IsTextWithReferences × HasPiece rules.names s (wrong UnknownReference))
+      ⊎ (IsMarkup × (n : List ℕ) × (spelled : List AttributePair) × (present : Bool) × HasTagForm s n spelled present
+      × (list_any (λ a. has_unknown_reference rules.names a.value) spelled ≡ true))
+  Says BadNumber =
+      (IsTextWithReferences × HasPiece rules.names s (wrong BadNumber))
+      ⊎ (IsMarkup × (n : List ℕ) × (spelled : List AttributePair) × (present : Bool) × HasTagForm s n spelled present
+      × SomeValue (HasBadNumber rules.names) spelled)
+  Says DuplicateAttribute =
+      IsMarkup × (n : List ℕ) × (spelled : List AttributePair) × (present : Bool) × HasTagForm s n spelled present
+      × (are_distinct (attribute_names spelled) ≡ false)
+  Says SelfClosing =
+      IsMarkup × (n : List ℕ) × (spelled : List AttributePair) × HasTagForm s n spelled true × (is_void n ≡ false)
+  Says TagOutside =
+      IsMarkup × (n : List ℕ) × (is_outside n ≡ true)
+      × (((spelled : List AttributePair) × (present : Bool) × HasTagForm s n spelled present) ⊎ HasEndTag s n)
+  Says NotAllowedHere =
+      IsMarkup × (n : List ℕ) × (spelled : List AttributePair) × (present : Bool) × HasTagForm s n spelled present
+      × (is_allowed rules.scripting (context_for n) n ≡ false)
+  Says StrayEndTag = IsMarkup × (n : List ℕ) × HasEndTag s n × ((parent ≢ n) ⊎ (length fs ≤ 1))
+  Says StrayText =
+      IsTextWithReferences × (holds_parts parent ≡ true) × (length_ : ℕ) × (v : List ℕ) × HasPiece rules.names s (stands length_ v)
+      × (list_all is_ascii_white_space v ≡ false)
+  Says Unclosed = (s ≡ []) × (1 < length fs)
+  Says ScriptEscape =
+      IsText × (top_children fs ≡ none) × (holds_raw_text rules.scripting parent ≡ true) × (raw_text_of parent (up_to (ends_text rules.scripting parent) s) ≡ None)
+  Says TooDeep =
+      ((rules.depth < length here) × (IsText ⊎ (IsMarkup × HasComment s)))
+      ⊎ (IsMarkup × (n : List ℕ) × (spelled : List AttributePair) × (present : Bool) × HasTagForm s n spelled present
+      × (rules.depth < length (context_for n)))
+
+-- ---- a refusal
+
+-- the first U+0000 stands at the place
+pub record IsFirstNul (text : List ℕ) (place : ℕ) : Type 0 where
+  pub before : List ℕ
+  pub behind : List ℕ
+  pub text_is : text ≡ before ++ (null ∷ behind)
+  pub place_is : length before ≡ place
+  pub first : lacks null before ≡ true
+
+-- What stands before the place is a good front, what stands there is of this kind and of no lower one.
+pub record IsPieceFault (rules : Rules) (text : List ℕ) (place : ℕ) (kind : FaultKind) : Type 0 where
+  pub innermost : OpenElement
+  pub opened : List OpenElement
+  pub before : List ℕ
+  pub behind : List ℕ
+  pub text_is : body_text text ≡ before ++ behind
+  pub place_is : place + length behind ≡ length text
+  pub front_is_good : IsGoodFront rules innermost opened before behind
+  pub says : Says rules (innermost ∷ opened) behind kind
+  pub no_lower : (lower : FaultKind) → number_of lower < number_of kind → Says rules (innermost ∷ opened) behind lower → ⊥
+
+-- The refusal is right.
+abbrev pub IsFault : Rules → List ℕ → ℕ → FaultKind → Type 0
+IsFault rules text place kind =
+    ((kind ≡ Nul) × IsFirstNul text place) ⊎ ((lacks null text ≡ true) × IsPieceFault rules text place kind)

@@ -1,0 +1,36 @@
+//! What is wrong at a place of a text.
+
+/// The kind of a refusal: what stands at its place. Where two fit the same piece, it is the earlier one here.
+#[derive(Clone, Copy, Debug, PartialEq, Eq)]
+pub enum FaultKind {
+    /// U+0000 stands in the text; the place is the first one.
+    Nul,
+    /// `<` and a letter, or `</`, that begins no tag.
+    MalformedTag,
+    /// `<!--` that begins no comment.
+    MalformedComment,
+    /// Any other `<!` that is no doctype in its place, or `<?`.
+    MalformedDeclaration,
+    /// A character reference by a name that isn't known; in a tag the place is the tag's `<`.
+    UnknownReference,
+    /// `&#` that begins no character reference; in a tag the place is the tag's `<`.
+    BadNumber,
+    /// A start tag with one attribute name twice.
+    DuplicateAttribute,
+    /// A start tag with `/`, of an element that isn't void.
+    SelfClosing,
+    /// A tag named `html`, `head`, `body`, `frameset`, `frame`, `template`, `plaintext`, `listing` or `image`.
+    TagOutside,
+    /// A start tag of an element that may not stand there.
+    NotAllowedHere,
+    /// An end tag that closes no element.
+    StrayEndTag,
+    /// Text other than white space between the parts of a table.
+    StrayText,
+    /// The text ends with an element open; the place is the text's length.
+    Unclosed,
+    /// The content of a `script` that holds `<!--` and later `<script`; the place is its start.
+    ScriptEscape,
+    /// A node too many levels below the Document.
+    TooDeep,
+}
