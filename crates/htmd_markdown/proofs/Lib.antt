@@ -1,0 +1,3 @@
+pub mod EmphasesLemmas
+pub mod QuotesLemmas
+pub mod Examples

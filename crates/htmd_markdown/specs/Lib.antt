@@ -1,0 +1,5 @@
+pub mod Emphases
+pub mod Headings
+pub mod ThematicBreaks
+pub mod LineBreaks
+pub mod Quotes

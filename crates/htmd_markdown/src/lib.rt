@@ -1,3 +1,17 @@
 //! The pieces of Markdown: each has a writer here, a definition in `specs/`, and, where one piece is
 //! read back, a definition of its reader that shares nothing with the writer.
 #![tactic(auto)]
+
+mod emphasis;
+mod heading;
+mod line_break;
+mod quote;
+#[cfg(test)]
+mod tests;
+mod thematic_break;
+
+pub use self::emphasis::{Emphasis, write_emphasis};
+pub use self::heading::{HeadingStyle, write_heading};
+pub use self::line_break::{BrStyle, write_line_break};
+pub use self::quote::write_quote;
+pub use self::thematic_break::{HrStyle, write_thematic_break};

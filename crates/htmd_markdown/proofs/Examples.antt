@@ -1,0 +1,27 @@
+-- Worked examples of the definitions. Each holds by computing.
+use Rattle.std.proofs.Common.{◌≡◌, refl, Some, None, codes}
+use lib.Utf8.{encode}
+use Rattle.std.specs.Str.{chars, trim_start, trim_end}
+use Rattle.htmd_markdown.specs.declared.emphasis.Emphasis.TheVariants.{Regular, Strong}
+use Rattle.htmd_markdown.specs.declared.heading.HeadingStyle.TheVariants.{Atx, Setex}
+use Rattle.htmd_markdown.specs.Emphases.{emphasised}
+use Rattle.htmd_markdown.specs.Headings.{heading}
+use Rattle.htmd_markdown.specs.Quotes.{quote}
+
+pub strong : emphasised Strong (codes "C ") ≡ Some (codes "**C** ")
+unfolding chars trim_start trim_end encode
+strong = refl
+
+pub white_space_alone : emphasised Regular (codes " \n ") ≡ None
+unfolding chars trim_start trim_end encode
+white_space_alone = refl
+
+pub atx_heading : heading Atx 1 (codes "Hello") ≡ codes "\n\n# Hello\n\n"
+atx_heading = refl
+
+pub setext_heading : heading Setex 1 (codes " Heading\n") ≡ codes "\n\nHeading\n=======\n\n"
+unfolding chars
+setext_heading = refl
+
+pub blank_line_of_a_quote : quote (codes "\n\na\n\nb\n\n") ≡ codes "\n\n> a\n> \n> b\n\n"
+blank_line_of_a_quote = refl

@@ -1,0 +1,44 @@
+//! Block quotes.
+ghost use Rattle.std.specs.Prelude.{◌≡◌, ◌≤◌, ◌++◌, IfOk, OnOk, length, string_bytes};
+ghost use Rattle.std.specs.Str.Lines.{lines};
+ghost use Rattle.htmd_markdown.specs.Quotes as spec;
+
+use htmd_text::TrimDocumentWhitespace;
+use htmd_text::runs::leading_len;
+use std::alloc::{AllocError, Global};
+
+/// The content's lines, each behind `> `, with blank lines around; line feeds at the content's start
+/// and document white space at its end are cut before.
+pub fn write_quote(alloc: Global, content: &str) -> Result<String, AllocError>
+    ensures { IfOk result (λ s. string_bytes s ≡ spec.quote content.now) }
+{
+    let rest = &content[leading_len(content.as_bytes(), b'\n')..];
+    let content = rest.trim_end_document_whitespace();
+    let room = content.len().saturating_add(2 * line_feed_count(content));
+    let mut text = String::with_capacity(alloc, room.saturating_add(6))?;
+    text.push_str("\n\n")?;
+    push_quoted_lines(&mut text, content)?;
+    text.push_str("\n\n")?;
+    Ok(text)
+}
+
+/// Puts the content's lines, each behind `> `.
+fn push_quoted_lines(text: &mut String, content: &str) -> Result<(), AllocError>
+    ensures { OnOk result
+        (string_bytes text.new ≡ string_bytes text.old ++ spec.quoted_lines (lines content.now)) }
+{
+    let mut is_first = true;
+    for line in content.lines() {
+        text.push_str(if is_first { "> " } else { "\n> " })?;
+        text.push_str(line)?;
+        is_first = false;
+    }
+    Ok(())
+}
+
+/// How many line feeds the text has.
+fn line_feed_count(text: &str) -> usize
+    ensures { result ≤ length text.now }
+{
+    text.as_bytes().iter().filter(|b| **b == b'\n').count()
+}

@@ -1,0 +1,3 @@
+//! Each writer on worked examples, whose answers are those of the design and not of these writers.
+
+mod blocks;
