@@ -3,3 +3,5 @@ pub mod Headings
 pub mod ThematicBreaks
 pub mod LineBreaks
 pub mod Quotes
+pub mod ListItems
+pub mod Lists

@@ -5,6 +5,7 @@
 mod emphasis;
 mod heading;
 mod line_break;
+mod list;
 mod quote;
 #[cfg(test)]
 mod tests;
@@ -13,5 +14,9 @@ mod thematic_break;
 pub use self::emphasis::{Emphasis, write_emphasis};
 pub use self::heading::{HeadingStyle, write_heading};
 pub use self::line_break::{BrStyle, write_line_break};
+pub use self::list::{
+    BulletListMarker, ListBlock, first_number, write_bullet_item, write_list_block,
+    write_ordered_list, write_unnumbered_item,
+};
 pub use self::quote::write_quote;
 pub use self::thematic_break::{HrStyle, write_thematic_break};

@@ -1,3 +1,4 @@
 //! Each writer on worked examples, whose answers are those of the design and not of these writers.
 
 mod blocks;
+mod lists;

@@ -1,0 +1,190 @@
+//! List items and lists (CommonMark 0.31.2, 5.2 and 5.3).
+ghost use Rattle.std.specs.Prelude.{◌≡◌, ◌-◌, ◌<◌, true, ◌++◌, IfOk, OnOk, length, map, string_bytes};
+ghost use Rattle.std.specs.Option.{option_copied, option_map};
+ghost use Rattle.htmd_text.specs.Indents.{indented};
+ghost use Rattle.htmd_text.specs.Trims.{trimmed_start, is_line_feed};
+ghost use Rattle.htmd_markdown.specs.ListItems as items;
+ghost use Rattle.htmd_markdown.specs.Lists as spec;
+
+use htmd_text::runs::leading_len;
+use htmd_text::{
+    TrimDocumentWhitespace, digits, indent_text_except_first_line, join_blocks, push_repeated,
+    trim_newlines,
+};
+use itoa::Buffer;
+use std::alloc::{AllocError, Global};
+
+/// What stands before the items of a bullet list.
+#[derive(Debug, Clone, Copy, PartialEq)]
+pub enum BulletListMarker {
+    Asterisk,
+    Dash,
+}
+
+/// What a child of an ordered list gives.
+#[derive(Drop)]
+pub enum ListBlock {
+    /// The content of an item, which gets a number.
+    Item(String),
+    /// The text of another child.
+    Other(String),
+}
+
+/// The number of the first item of an ordered list, by its attribute `start` read as Rust reads an
+/// `i32`: a sign is allowed, a number below 1 counts as 1, and so does what is no number.
+pub fn first_number(start: Option<&str>) -> u32
+    ensures { result ≡ spec.first_number (option_copied start.entry) }
+{
+    match start {
+        Some(text) => match text.parse::<i32>() {
+            Ok(number) if number > 0 => number.unsigned_abs(),
+            _ => 1,
+        },
+        None => 1,
+    }
+}
+
+/// An item of a bullet list, in a line of its own: the marker, so many spaces, and the content
+/// without document white space at its start. The content's further lines stand below its first
+/// character, without document white space at their ends.
+pub fn write_bullet_item(
+    alloc: Global,
+    marker: BulletListMarker,
+    spacing: u8,
+    content: &str,
+) -> Result<String, AllocError>
+    ensures { IfOk result (λ t. string_bytes t ≡ items.bullet_item marker spacing content.now) }
+{
+    let content = content.trim_start_document_whitespace();
+    let mut item = String::with_capacity(alloc, content.len() + spacing as usize + 2)?;
+    item.push('\n')?;
+    item.push(bullet(marker))?;
+    push_repeated(&mut item, ' ', spacing as usize)?;
+    push_content(alloc, &mut item, content)?;
+    Ok(item)
+}
+
+fn bullet(marker: BulletListMarker) -> char
+    ensures value { result ≡ items.bullet marker }
+    ensures ascii { result < 128 }
+{
+    match marker {
+        BulletListMarker::Asterisk => '*',
+        BulletListMarker::Dash => '-',
+    }
+}
+
+/// The content of an item of an ordered list, between line feeds and without document white space at
+/// its start: the list puts the number before it.
+pub fn write_unnumbered_item(alloc: Global, content: &str) -> Result<String, AllocError>
+    ensures { IfOk result (λ t. string_bytes t ≡ items.unnumbered_item content.now) }
+{
+    let content = content.trim_start_document_whitespace();
+    let mut item = String::with_capacity(alloc, content.len() + 2)?;
+    item.push('\n')?;
+    item.push_str(content)?;
+    item.push('\n')?;
+    Ok(item)
+}
+
+/// The blocks of an ordered list: each item behind its number, and the other texts as they are. The
+/// contents of all items begin in the same column, behind the highest number and so many spaces.
+pub fn write_ordered_list(
+    alloc: Global,
+    first: u32,
+    spacing: u8,
+    blocks: Vec<ListBlock>,
+) -> Result<String, AllocError>
+    ensures { IfOk result
+        (λ t. string_bytes t ≡ spec.ordered_list first spacing (map spec.block_of blocks.items)) }
+{
+    let mut number = first as usize;
+    let highest = (number + item_count(&blocks)).saturating_sub(1);
+    let mut texts = Vec::with_capacity(alloc, blocks.len())?;
+    for block in blocks {
+        match block {
+            ListBlock::Item(content) => {
+                texts.push(write_numbered_item(alloc, spacing, highest, number, &content)?)?;
+                number += 1;
+            }
+            ListBlock::Other(text) => texts.push(text)?,
+        }
+    }
+    join_blocks(alloc, &texts)
+}
+
+fn item_count(blocks: &[ListBlock]) -> usize
+    ensures { result ≡ spec.item_count (map spec.block_of blocks.now) }
+{
+    let mut count = 0;
+    for block in blocks {
+        match block {
+            ListBlock::Item(_) => count += 1,
+            ListBlock::Other(_) => {}
+        }
+    }
+    count
+}
+
+/// An item in a line of its own: the number, a dot, so many spaces and one more for each digit that
+/// the highest number has more, and the content without line feeds at its start.
+fn write_numbered_item(
+    alloc: Global,
+    spacing: u8,
+    highest: usize,
+    number: usize,
+    content: &str,
+) -> Result<String, AllocError>
+    ensures { IfOk result
+        (λ t. string_bytes t ≡ items.numbered_item spacing highest number content.now) }
+{
+    let content = without_line_feeds_before(content);
+    let spaces = spacing as usize + digits(highest).saturating_sub(digits(number));
+    let mut item = String::with_capacity(alloc, content.len() + spaces + 22)?;
+    item.push('\n')?;
+    item.push_str(Buffer::new().format(number))?;
+    item.push('.')?;
+    push_repeated(&mut item, ' ', spaces)?;
+    push_content(alloc, &mut item, content)?;
+    Ok(item)
+}
+
+/// Puts the content of an item behind its marker, which a line feed precedes: further lines stand
+/// behind as many spaces as the marker takes.
+fn push_content(alloc: Global, item: &mut String, content: &str) -> Result<(), AllocError>
+    requires { 0 < length (string_bytes item.old) }
+    ensures { OnOk result (string_bytes item.new
+        ≡ string_bytes item.old ++ indented content.now (length (string_bytes item.old) - 1) true) }
+{
+    let content = indent_text_except_first_line(alloc, content, item.len() - 1, true)?;
+    item.push_str(&content)
+}
+
+/// The text without line feeds at its start.
+fn without_line_feeds_before(text: &str) -> &str
+    ensures { result.now ≡ trimmed_start is_line_feed text.now }
+{
+    &text[leading_len(text.as_bytes(), b'\n')..]
+}
+
+/// A list among the blocks around it, without line feeds at its own ends: in an item it begins and
+/// ends a line, elsewhere blank lines stand around it. Nothing where the list is empty.
+pub fn write_list_block(
+    alloc: Global,
+    mut list: String,
+    is_in_item: bool,
+) -> Result<Option<String>, AllocError>
+    ensures { IfOk result (λ block. option_map string_bytes block
+        ≡ spec.list_block is_in_item (string_bytes list)) }
+{
+    trim_newlines(&mut list);
+    if list.is_empty() {
+        return Ok(None);
+    }
+    let line_feeds = if is_in_item { 1 } else { 2 };
+    let mut block = String::with_capacity(alloc, list.len() + 4)?;
+    push_repeated(&mut block, '\n', line_feeds)?;
+    block.push_str(&list)?;
+    push_repeated(&mut block, '\n', line_feeds)?;
+    Ok(Some(block))
+}
