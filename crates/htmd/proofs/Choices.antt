@@ -1,6 +1,6 @@
 -- What the rest of a list of handlers answers, one handler at a time.
 use Rattle.std.proofs.Common.{◌≡◌, ℕ, zero, suc, ◌+◌, List, [], ◌∷◌, drop, Option, Some, None, slice_get, refl, sym, ap, ◌∙◌, true, add-one}
-use Rattle.htmd_tree.specs.Numbered.{NumberedForest}
+use Rattle.htmd_tree.specs.NumberedTrees.{NumberedForest}
 use Rattle.htmd_tree.specs.Ancestors.{Ancestor}
 use Rattle.htmd.specs.declared.options.Options.{Options}
 use Rattle.htmd.specs.Handling.{View, Made, Planned, nothing, result_of, content_of_children, content_of_descendant, content_of_fallback, Answer, Meaning}

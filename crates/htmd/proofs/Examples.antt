@@ -3,7 +3,7 @@ use Rattle.std.proofs.Common.{◌≡◌, List, [], ◌∷◌, ◌++◌, true, fa
 use Rattle.std.specs.Str.{chars}
 use Rattle.htmd_text.specs.Blocks.{is_block}
 use Rattle.htmd_tree.specs.Items.{Item, document_item, new_item, element_node, text_node}
-use Rattle.htmd_tree.specs.Numbered.{tree_of, forest_from}
+use Rattle.htmd_tree.specs.NumberedTrees.{tree_of, forest_from}
 use Rattle.htmd_tree.specs.Ancestors.{ancestors_of, ancestors_up}
 use Rattle.htmd.specs.declared.options.HeadingStyle.TheVariants.{Setex}
 use Rattle.htmd.specs.Defaults.{default_options}

@@ -3,16 +3,17 @@ use Rattle.std.proofs.Common.{◌≡◌, ℕ, ◌<◌, List, [], ◌∷◌, leng
 use Rattle.std.specs.Str.{bytes_eq}
 use Rattle.htmd_text.specs.Blocks.{is_block}
 use Rattle.htmd_text.proofs.BlocksLemmas.{block-nil}
-use Rattle.htmd_tree.specs.Items.{Item, Content, document_node, doctype_node, text_node, comment_node, element_node, IsTree, content_at, parent_at, tag_of}
-use Rattle.htmd_tree.specs.Numbered.{NumberedTree, document, doctype, text, comment, element, NumberedForest, none, more, put_together, forest_of, tree_of}
+use Rattle.htmd_tree.specs.Items.{Item, Data as Content, document_node, doctype_node, text_node, comment_node, element_node, IsTree, data_at as content_at, parent_at, tag_of}
+use Rattle.htmd_tree.specs.NumberedTrees.{NumberedTree, document, doctype, text, comment, element, NumberedForest, none, more, with_children as put_together, forest_of, tree_of}
 use Rattle.htmd_tree.specs.Ancestors.{ancestor_of, ancestors_of, chain_from}
-use Rattle.htmd_tree.specs.Stored.{content_of}
+use Rattle.htmd_tree.specs.Views.{data_of as content_of}
 use Rattle.htmd_tree.specs.declared.tree.Attribute.{Attribute}
 use Rattle.htmd_tree.specs.declared.tree.NodeData.{NodeData}
 use Rattle.htmd_tree.specs.declared.tree.NodeData.TheVariants.{Document, Doctype, Text, Comment, Element}
 use Rattle.std.specs.Prelude.{String, Vec}
 use Rattle.std.specs.Global.{Global}
-use Rattle.htmd_tree.proofs.Denoted.{tree-open, ancestors-open}
+use Rattle.htmd_tree.proofs.NumberedTreesLemmas.{tree-open}
+use Rattle.htmd_tree.proofs.AncestorsLemmas.{ancestors-open}
 use Rattle.htmd.specs.OrdinaryText.{is_pre_or_code, pre, parent_is_pre}
 use Rattle.htmd.specs.Rendering.{only_text, children_at, is_block_tree, is_text, trims_first, inside_of}
 

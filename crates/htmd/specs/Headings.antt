@@ -3,7 +3,7 @@ use Rattle.std.specs.Prelude.{ℕ, true, ◌==◌, nat_le, if◌then◌else◌, 
 use Rattle.std.specs.Str.{bytes_eq, chars}
 use Rattle.htmd_text.specs.Characters.{line_feed, number_sign, space}
 use Rattle.htmd_text.specs.WhiteSpace.{is_document_white_space}
-use Rattle.htmd_tree.specs.Items.{content_at}
+use Rattle.htmd_tree.specs.Items.{data_at as content_at}
 use Rattle.htmd_tree.specs.Ancestors.{ancestor_of}
 use Rattle.htmd.specs.declared.options.HeadingStyle.{HeadingStyle}
 use Rattle.htmd.specs.declared.options.HeadingStyle.TheVariants.{Atx, Setex}

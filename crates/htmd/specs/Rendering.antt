@@ -7,8 +7,8 @@ use Rattle.std.specs.Prelude.{ℕ, zero, suc, Bool, true, false, not, ◌&&◌, 
 use Rattle.htmd_text.specs.Blocks.{is_block}
 use Rattle.htmd_text.specs.WhiteSpace.{is_document_white_space}
 use Rattle.htmd_text.specs.Trims.{trimmed_end}
-use Rattle.htmd_tree.specs.Items.{Item, Content, document_node, doctype_node, text_node, comment_node, element_node, content_at, children_of}
-use Rattle.htmd_tree.specs.Numbered.{NumberedTree, document, doctype, text, comment, element, NumberedForest, none, more, tree_of, forest_of}
+use Rattle.htmd_tree.specs.Items.{Item, Data as Content, document_node, doctype_node, text_node, comment_node, element_node, data_at as content_at, children_of}
+use Rattle.htmd_tree.specs.NumberedTrees.{NumberedTree, document, doctype, text, comment, element, NumberedForest, none, more, tree_of, forest_of}
 use Rattle.htmd_tree.specs.Ancestors.{Ancestor, ancestor_of, ancestors_of}
 use Rattle.htmd.specs.Handling.{View, Made, Planned, nothing, result_of, content_of_children, content_of_descendant, content_of_fallback, Answer, Meaning}
 use Rattle.htmd.specs.Choice.{Config, places, handlers_at}

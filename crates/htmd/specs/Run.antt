@@ -1,7 +1,7 @@
 -- What a whole run gives: the Markdown of a node.
 use Rattle.std.specs.Prelude.{ℕ, List, [], ◌∷◌, ◌++◌, Option, Some, None}
 use Rattle.htmd_tree.specs.Items.{Item}
-use Rattle.htmd_tree.specs.Numbered.{tree_of, height}
+use Rattle.htmd_tree.specs.NumberedTrees.{tree_of, height}
 use Rattle.htmd.specs.Handling.{Meaning}
 use Rattle.htmd.specs.Choice.{Config}
 use Rattle.htmd_text.specs.Trims.{trimmed, trimmed_end, is_line_feed}

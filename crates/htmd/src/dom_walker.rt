@@ -1,9 +1,9 @@
 //! The walk over a tree.
 
 ghost use Rattle.std.specs.Prelude.{◌≡◌, ◌+◌, ◌^◌, ◌<◌, ◌≤◌, ℕ, suc, false, IfOk, IfSome, OnOk, slice_get, nat_lt, if◌then◌else◌, length, string_bytes, []};
-ghost use Rattle.htmd_tree.specs.Items.{content_at, element_node};
-ghost use Rattle.htmd_tree.specs.Stored.{pairs_of};
-ghost use Rattle.htmd_tree.specs.Numbered.{tree_of, height};
+ghost use Rattle.htmd_tree.specs.Items.{data_at as content_at, element_node};
+ghost use Rattle.htmd_tree.specs.Views.{pairs_of};
+ghost use Rattle.htmd_tree.specs.NumberedTrees.{tree_of, height};
 ghost use Rattle.htmd_tree.specs.Ancestors.{ancestors_of};
 ghost use Rattle.htmd.specs.Handling.{IsProper};
 ghost use Rattle.htmd.specs.Choice.{Config, handler_at, places};

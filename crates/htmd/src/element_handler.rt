@@ -1,8 +1,8 @@
 //! Handlers of elements, and what they are shown and give.
 
 ghost use Rattle.std.specs.Prelude.{◌≡◌, ◌<◌, [], length};
-ghost use Rattle.htmd_tree.specs.Items.{content_at, element_node};
-ghost use Rattle.htmd_tree.specs.Stored.{pairs_of};
+ghost use Rattle.htmd_tree.specs.Items.{data_at as content_at, element_node};
+ghost use Rattle.htmd_tree.specs.Views.{pairs_of};
 
 use crate::options::Options;
 use htmd_tree::{Attribute, NodeId, Tree};

@@ -3,8 +3,8 @@
 ghost use Rattle.std.specs.Prelude.{◌≡◌, ◌<◌, ◌||◌, codes, length};
 ghost use Rattle.std.specs.Option.{option_copied};
 ghost use Rattle.std.specs.Str.{bytes_eq};
-ghost use Rattle.htmd_tree.specs.Items.{content_at, IsTree};
-ghost use Rattle.htmd_tree.specs.Numbered.{tree_of};
+ghost use Rattle.htmd_tree.specs.Items.{data_at as content_at, IsTree};
+ghost use Rattle.htmd_tree.specs.NumberedTrees.{tree_of};
 ghost use Rattle.htmd_tree.specs.Ancestors.{ancestor_of, ancestors_of};
 ghost use Rattle.htmd.specs.OrdinaryText.{is_pre_or_code, pre, parent_is_pre};
 ghost use Rattle.htmd.specs.Rendering.{only_text, children_at, is_block_tree, is_text, trims_first, inside_of};

@@ -1,7 +1,7 @@
 -- Worked examples of what the program writes.
 use Rattle.std.proofs.Common.{◌≡◌, codes, refl}
 use Rattle.htmd_text.specs.Blocks.{is_block}
-use Rattle.htmd_tree.specs.Numbered.{tree_of, forest_from}
+use Rattle.htmd_tree.specs.NumberedTrees.{tree_of, forest_from}
 use Rattle.htmd_tree.specs.Ancestors.{ancestors_of, ancestors_up}
 use Rattle.htmd.specs.Rendering.{rendered_within}
 use Rattle.htmd.specs.Run.{markdown}

@@ -1,5 +1,5 @@
 -- The strict grammar, in reading order: value trees and what they are written as; the rules; characters, references,
--- tags, comments, raw content, places, the relation, the document.
+-- tags, comments, raw content, places, the relation, the document; last what no public clause cites.
 pub mod ValueTrees
 pub mod Serialisation
 pub mod RawBlocks
@@ -16,3 +16,4 @@ pub mod TagReading
 pub mod Steps
 pub mod Fronts
 pub mod Faults
+pub mod SerialiserSteps

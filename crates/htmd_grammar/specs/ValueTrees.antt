@@ -1,4 +1,4 @@
--- Value trees: what a document says, without the numbers of its nodes.
+-- Value trees: what a document says.
 use Rattle.std.specs.Prelude.{ℕ, List}
 
 -- an attribute: its name and its value

@@ -1,4 +1,5 @@
 pub mod Examples
+pub mod Cases
 pub mod ListMarkersLemmas
 pub mod BlocksLemmas
 pub mod EscapeMarksLemmas

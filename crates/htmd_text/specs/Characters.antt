@@ -122,11 +122,17 @@ right_curly_bracket = 0x7D
 abbrev pub tilde : ℕ
 tilde = 0x7E
 
--- U+00A0, a character of two bytes
+-- U+00A0, and its two bytes
 abbrev pub no_break_space : ℕ
 no_break_space = 0xA0
 
--- U+FEFF, a character of three bytes
+abbrev pub no_break_space_first_byte : ℕ
+no_break_space_first_byte = 0xC2
+
+abbrev pub no_break_space_second_byte : ℕ
+no_break_space_second_byte = 0xA0
+
+-- U+FEFF
 abbrev pub byte_order_mark : ℕ
 byte_order_mark = 0xFEFF
 

@@ -5,8 +5,8 @@ use Rattle.std.proofs.lemmas.Bool.{cases_eq, cases_lt}
 use Rattle.std.proofs.lemmas.Bool.Decides.{nat_tests}
 use Rattle.std.proofs.lemmas.List.{get_or_default, get_or_append_left, get_or_push, length_push, length-map, get_or-map, map_push, append-nil}
 use Rattle.htmd_tree.specs.declared.tree.Entry.{Entry}
-use Rattle.htmd_tree.specs.Items.{Content, Item, document_item, is_child, children_of, holds_children, content_at, depth_at, new_item, greatest_depth, IsTree}
-use Rattle.htmd_tree.specs.Stored.{content_of}
+use Rattle.htmd_tree.specs.Items.{Data, Item, document_item, is_child, children_of, holds_children, data_at, depth_at, new_item, greatest_depth, IsTree}
+use Rattle.htmd_tree.specs.Views.{data_of}
 use Rattle.htmd_tree.specs.Entries.{item_of, items_of, IsStored}
 use Rattle.htmd_tree.proofs.ItemsLemmas.{children_from-push, children_from-none, is_child-before, IsTree-added}
 
@@ -39,10 +39,10 @@ items_of-added entries p old new last here same =
 
 -- the parent's entry gets a child more, and the child's entry comes last
 pub IsStored-added : (entries : List Entry) (p : ℕ) (old new last : Entry) → p < length entries → old ≡ get_or entries p old → item_of new ≡ item_of old → new.children.items ≡ old.children.items ++ length entries ∷ []
-    → item_of last ≡ new_item (items_of entries) p (content_of last.data) → last.children.items ≡ [] → holds_children (content_at (items_of entries) p) ≡ true → depth_at (items_of entries) p < greatest_depth
+    → item_of last ≡ new_item (items_of entries) p (data_of last.data) → last.children.items ≡ [] → holds_children (data_at (items_of entries) p) ≡ true → depth_at (items_of entries) p < greatest_depth
     → IsStored entries → IsStored (set entries p new ++ last ∷ [])
 IsStored-added entries p old new last l here same kids this no_kids holds shallow t = record {
-  tree = subst IsTree (sym (items ∙ ap (λ (x : Item). items_of entries ++ x ∷ []) this)) (IsTree-added (items_of entries) p (content_of last.data) (subst (λ n. p < n) (sym count) l) holds shallow t.tree);
+  tree = subst IsTree (sym (items ∙ ap (λ (x : Item). items_of entries ++ x ∷ []) this)) (IsTree-added (items_of entries) p (data_of last.data) (subst (λ n. p < n) (sym count) l) holds shallow t.tree);
   children = λ k d m. each k d m ∙ sym (all k);
 }
   where
@@ -93,9 +93,9 @@ IsStored-added entries p old new last l here same kids this no_kids holds shallo
     ]
 
 -- the item of the entry that is added, from a read of its parent's entry
-pub last_item : (entries : List Entry) (i p : ℕ) (read : Entry) (content : Content) → i < length entries → read ≡ get_or entries i read → i ≡ p → ◌≡◌ {A = Item} (record { parent = Some p; depth = read.depth + 1; content = content }) (new_item (items_of entries) i content)
-last_item entries i p read content l here same =
+pub last_item : (entries : List Entry) (i p : ℕ) (read : Entry) (node_data : Data) → i < length entries → read ≡ get_or entries i read → i ≡ p → ◌≡◌ {A = Item} (record { parent = Some p; depth = read.depth + 1; node_data = node_data }) (new_item (items_of entries) i node_data)
+last_item entries i p read node_data l here same =
     let depth : read.depth ≡ depth_at (items_of entries) i = ap (λ (x : Entry). x.depth) here ∙ ap (λ (x : Item). x.depth) (sym (get_or-map item_of entries i read document_item l)) in
-    let by_parent : ℕ → Item = λ q. record { parent = Some q; depth = read.depth + 1; content = content } in
-    let by_depth : ℕ → Item = λ n. record { parent = Some i; depth = n + 1; content = content } in
+    let by_parent : ℕ → Item = λ q. record { parent = Some q; depth = read.depth + 1; node_data = node_data } in
+    let by_depth : ℕ → Item = λ n. record { parent = Some i; depth = n + 1; node_data = node_data } in
     ap by_parent (sym same) ∙ ap by_depth depth

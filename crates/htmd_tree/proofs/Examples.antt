@@ -2,17 +2,17 @@
 use Rattle.std.proofs.Common.{◌≡◌, List, [], ◌∷◌, Some, refl}
 use Rattle.std.specs.Prelude.{codes}
 use Rattle.htmd_tree.specs.Items.{Item, document_item, text_node, element_node, children_of}
-use Rattle.htmd_tree.specs.Numbered.{document, text, element, none, more, forest_from, tree_of, height}
-use Rattle.htmd_tree.specs.ValueTrees as values
+use Rattle.htmd_tree.specs.NumberedTrees.{document, text, element, none, more, forest_from, tree_of, height}
+use Rattle.htmd_grammar.specs.ValueTrees as values
 use Rattle.htmd_tree.specs.Layout.{document_items}
 use Rattle.htmd_tree.specs.Ancestors.{ancestors_up, ancestors_of}
 
 abbrev items : List Item
 items =
     document_item
-    ∷ record { parent = Some 0; depth = 1; content = element_node (codes "p") [] }
-    ∷ record { parent = Some 0; depth = 1; content = element_node (codes "br") [] }
-    ∷ record { parent = Some 1; depth = 2; content = text_node (codes "Hi") }
+    ∷ record { parent = Some 0; depth = 1; node_data = element_node (codes "p") [] }
+    ∷ record { parent = Some 0; depth = 1; node_data = element_node (codes "br") [] }
+    ∷ record { parent = Some 1; depth = 2; node_data = text_node (codes "Hi") }
     ∷ []
 
 children_of-document : children_of items 0 ≡ 1 ∷ 2 ∷ []
@@ -35,8 +35,8 @@ ancestors_of-text = refl
 
 -- laid out in document order, the text stands before the `br`
 document_items-children : document_items (values.more (values.element (codes "p") [] (values.more (values.text (codes "Hi")) values.none)) (values.more (values.element (codes "br") [] values.none) values.none)) ≡ (document_item
-    ∷ record { parent = Some 0; depth = 1; content = element_node (codes "p") [] }
-    ∷ record { parent = Some 1; depth = 2; content = text_node (codes "Hi") }
-    ∷ record { parent = Some 0; depth = 1; content = element_node (codes "br") [] }
+    ∷ record { parent = Some 0; depth = 1; node_data = element_node (codes "p") [] }
+    ∷ record { parent = Some 1; depth = 2; node_data = text_node (codes "Hi") }
+    ∷ record { parent = Some 0; depth = 1; node_data = element_node (codes "br") [] }
     ∷ [])
 document_items-children = refl

@@ -1,9 +1,8 @@
 -- What an addition changes; how the value tree and the ancestors of a node are made of those of others; what a document that is laid out denotes; how a node is written.
 pub mod ItemsLemmas
 pub mod EntriesLemmas
-pub mod Denoted
+pub mod NumberedTreesLemmas
+pub mod AncestorsLemmas
 pub mod LayoutLemmas
-pub mod SerialisationLemmas
-pub mod RawBlocksLemmas
+pub mod SerialiserLemmas
 mod Examples
-mod SerialisationExamples

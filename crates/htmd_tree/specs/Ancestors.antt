@@ -1,6 +1,7 @@
 -- The ancestors of a node, innermost first.
 use Rattle.std.specs.Prelude.{ℕ, zero, suc, List, [], ◌∷◌, Option, Some, None, codes}
-use Rattle.htmd_tree.specs.Items.{AttributePair, Content, document_node, doctype_node, text_node, comment_node, element_node, Item, content_at, parent_at, depth_at}
+use Rattle.htmd_grammar.specs.ValueTrees.{AttributePair}
+use Rattle.htmd_tree.specs.Items.{Data, document_node, doctype_node, text_node, comment_node, element_node, Item, data_at, parent_at, depth_at}
 
 -- what is known of a node that others stand under
 pub record Ancestor : Type 0 where
@@ -8,7 +9,7 @@ pub record Ancestor : Type 0 where
   pub attributes : List AttributePair
 
 -- the tag of the Document is html
-abbrev pub ancestor_of : Content → Ancestor
+abbrev pub ancestor_of : Data → Ancestor
 ancestor_of document_node = record { tag = codes "html"; attributes = [] }
 ancestor_of doctype_node = record { tag = []; attributes = [] }
 ancestor_of (text_node s) = record { tag = []; attributes = [] }
@@ -18,7 +19,7 @@ ancestor_of (element_node name attributes) = record { tag = name; attributes = a
 -- the parent, and then what stands above it
 abbrev pub chain_from : (ℕ → List Ancestor) → List Item → Option ℕ → List Ancestor
 chain_from above items None = []
-chain_from above items (Some p) = ancestor_of (content_at items p) ∷ above p
+chain_from above items (Some p) = ancestor_of (data_at items p) ∷ above p
 
 -- so many steps up
 unfoldable pub ancestors_up : ℕ → List Item → ℕ → List Ancestor

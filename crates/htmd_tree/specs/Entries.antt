@@ -2,10 +2,10 @@
 use Rattle.std.specs.Prelude.{◌≡◌, ℕ, ◌<◌, List, length, map, slice_index_or}
 use Rattle.htmd_tree.specs.declared.tree.Entry.{Entry}
 use Rattle.htmd_tree.specs.Items.{Item, children_of, IsTree}
-use Rattle.htmd_tree.specs.Stored.{content_of}
+use Rattle.htmd_tree.specs.Views.{data_of}
 
 abbrev pub item_of : Entry → Item
-item_of e = record { parent = e.parent; depth = e.depth; content = content_of e.data }
+item_of e = record { parent = e.parent; depth = e.depth; node_data = data_of e.data }
 
 abbrev pub items_of : List Entry → List Item
 items_of entries = map item_of entries

@@ -1,28 +1,24 @@
 -- A tree as its callers see it: its nodes in the order in which they were added, numbered from 0.
 use Rattle.std.specs.Prelude.{◌≡◌, ℕ, suc, ◌+◌, ◌<◌, ◌≤◌, Bool, true, false, ◌==◌, if◌then◌else◌, List, [], ◌∷◌, length, Option, Some, None, IsSome, slice_index_or, Contains, codes}
-
--- an attribute: its name and its value
-pub record AttributePair : Type 0 where
-  pub name : List ℕ
-  pub value : List ℕ
+use Rattle.htmd_grammar.specs.ValueTrees.{AttributePair}
 
 -- what a node is, apart from where it stands
-pub data Content : Type 0 where
-  document_node : Content
-  doctype_node : Content
-  text_node : (text : List ℕ) → Content
-  comment_node : (text : List ℕ) → Content
-  element_node : (name : List ℕ) (attributes : List AttributePair) → Content
+pub data Data : Type 0 where
+  document_node : Data
+  doctype_node : Data
+  text_node : (text : List ℕ) → Data
+  comment_node : (text : List ℕ) → Data
+  element_node : (name : List ℕ) (attributes : List AttributePair) → Data
 
 -- a node: the number of its parent, its depth, and what it is
 pub record Item : Type 0 where
   pub parent : Option ℕ
   pub depth : ℕ
-  pub content : Content
+  pub node_data : Data
 
 -- the Document, at depth 0 and without a parent
 abbrev pub document_item : Item
-document_item = record { parent = None; depth = 0; content = document_node }
+document_item = record { parent = None; depth = 0; node_data = document_node }
 
 abbrev pub item_at : List Item → ℕ → Item
 item_at items id = slice_index_or items id document_item
@@ -33,8 +29,8 @@ parent_at items id = (item_at items id).parent
 abbrev pub depth_at : List Item → ℕ → ℕ
 depth_at items id = (item_at items id).depth
 
-abbrev pub content_at : List Item → ℕ → Content
-content_at items id = (item_at items id).content
+abbrev pub data_at : List Item → ℕ → Data
+data_at items id = (item_at items id).node_data
 
 -- this parent is p
 abbrev pub is_child : ℕ → Option ℕ → Bool
@@ -51,7 +47,7 @@ abbrev pub children_of : List Item → ℕ → List ℕ
 children_of items p = children_from 0 items p
 
 -- the Document and elements have children, and nothing else has
-abbrev pub holds_children : Content → Bool
+abbrev pub holds_children : Data → Bool
 holds_children document_node = true
 holds_children doctype_node = false
 holds_children (text_node s) = false
@@ -59,7 +55,7 @@ holds_children (comment_node s) = false
 holds_children (element_node name attributes) = true
 
 -- the tag of an element is its name, and that of the Document is html
-abbrev pub tag_of : Content → Option (List ℕ)
+abbrev pub tag_of : Data → Option (List ℕ)
 tag_of document_node = Some (codes "html")
 tag_of doctype_node = None
 tag_of (text_node s) = None
@@ -67,8 +63,8 @@ tag_of (comment_node s) = None
 tag_of (element_node name attributes) = Some name
 
 -- a new node under p
-abbrev pub new_item : List Item → ℕ → Content → Item
-new_item items p content = record { parent = Some p; depth = depth_at items p + 1; content = content }
+abbrev pub new_item : List Item → ℕ → Data → Item
+new_item items p node_data = record { parent = Some p; depth = depth_at items p + 1; node_data = node_data }
 
 -- the greatest depth of a node
 abbrev pub greatest_depth : ℕ
@@ -77,7 +73,7 @@ greatest_depth = 1024
 -- node k stands right under node p, which was there before it
 pub record IsUnder (items : List Item) (p k : ℕ) : Type 0 where
   pub before : p < k
-  pub holds : holds_children (content_at items p) ≡ true
+  pub holds : holds_children (data_at items p) ≡ true
   pub deeper : depth_at items k ≡ depth_at items p + 1
 
 -- what holds of every tree: the Document comes first, and every other node stands under one parent

@@ -1,10 +1,7 @@
--- What a tree is: its nodes in order of addition, the value tree of a node, its ancestors; then how a tree lies in memory, how a document is laid out as a tree, and what a value tree is written as.
+-- What a tree is: its nodes in order of addition, the value tree of a node, its ancestors; then how a tree lies in memory, and how a document is laid out as a tree.
 pub mod Items
-pub mod Numbered
+pub mod NumberedTrees
 pub mod Ancestors
-pub mod Stored
+pub mod Views
 pub mod Entries
-pub mod ValueTrees
 pub mod Layout
-pub mod Serialisation
-pub mod RawBlocks

@@ -2,18 +2,18 @@
 ghost use Rattle.std.specs.Prelude.{◌≡◌, ◌<◌, ◌++◌, ◌∷◌, false, length, string_bytes, IfOk, OnOk};
 ghost use Rattle.std.specs.Str.{chars, encode_utf8_all};
 ghost use Rattle.htmd_tree.specs.Items.{children_of};
-ghost use Rattle.htmd_tree.specs.Numbered.{tree_of, forest_of};
-ghost use Rattle.htmd_tree.specs.Stored.{pair_of, pairs_of};
-ghost use Rattle.htmd_tree.specs.ValueTrees.{forget, forget_all};
-ghost use Rattle.htmd_tree.specs.Serialisation.{escaped_char, text_byte, value_byte, escaped, attribute_text, start_tag, end_tag, comment_of, is_void, is_raw_text, written, all_written, ser};
-ghost use Rattle.htmd_tree.specs.RawBlocks.{begins_line, rewritten, block_of, has_blank_line, has_carriage_return, IsRawBlock};
+ghost use Rattle.htmd_tree.specs.NumberedTrees.{tree_of, forest_of, value_tree, value_forest};
+ghost use Rattle.htmd_tree.specs.Views.{pair_of, pairs_of};
+ghost use Rattle.htmd_grammar.specs.Serialisation as spec;
+ghost use Rattle.htmd_grammar.specs.RawBlocks as blocks;
+ghost use Rattle.htmd_grammar.specs.SerialiserSteps as steps;
 
 use crate::tree::{Attribute, NodeData, NodeId, Tree};
 use std::alloc::{AllocError, Global};
 
 fn push_text_char(out: &mut String, c: char) -> Result<(), AllocError>
     ensures { OnOk result (string_bytes out.new
-        ≡ string_bytes out.old ++ escaped_char text_byte c) }
+        ≡ string_bytes out.old ++ steps.escaped_html_char spec.text_byte c) }
 {
     match c {
         '&' => out.push_str("&amp;"),
@@ -26,7 +26,7 @@ fn push_text_char(out: &mut String, c: char) -> Result<(), AllocError>
 
 fn push_value_char(out: &mut String, c: char) -> Result<(), AllocError>
     ensures { OnOk result (string_bytes out.new
-        ≡ string_bytes out.old ++ escaped_char value_byte c) }
+        ≡ string_bytes out.old ++ steps.escaped_html_char spec.value_byte c) }
 {
     match c {
         '&' => out.push_str("&amp;"),
@@ -38,7 +38,7 @@ fn push_value_char(out: &mut String, c: char) -> Result<(), AllocError>
 
 fn push_text(out: &mut String, text: &str) -> Result<(), AllocError>
     ensures { OnOk result (string_bytes out.new
-        ≡ string_bytes out.old ++ escaped text_byte text.now) }
+        ≡ string_bytes out.old ++ spec.escaped_html spec.text_byte text.now) }
 {
     for c in text.chars() {
         push_text_char(out, c)?;
@@ -48,7 +48,7 @@ fn push_text(out: &mut String, text: &str) -> Result<(), AllocError>
 
 fn push_value(out: &mut String, value: &str) -> Result<(), AllocError>
     ensures { OnOk result (string_bytes out.new
-        ≡ string_bytes out.old ++ escaped value_byte value.now) }
+        ≡ string_bytes out.old ++ spec.escaped_html spec.value_byte value.now) }
 {
     for c in value.chars() {
         push_value_char(out, c)?;
@@ -57,9 +57,9 @@ fn push_value(out: &mut String, value: &str) -> Result<(), AllocError>
 }
 
 /// Whether an element has no end tag.
-#[tactic(auto, unfolding(crate::specs::Serialisation::is_void))]
+#[tactic(auto, unfolding(htmd_grammar::specs::Serialisation::is_void))]
 pub fn is_void(name: &str) -> bool
-    ensures { result ≡ is_void name.now }
+    ensures { result ≡ spec.is_void name.now }
 {
     matches!(
         name,
@@ -85,9 +85,9 @@ pub fn is_void(name: &str) -> bool
 }
 
 /// Whether the texts of an element are written as they are.
-#[tactic(auto, unfolding(crate::specs::Serialisation::is_raw_text))]
+#[tactic(auto, unfolding(htmd_grammar::specs::Serialisation::is_raw_text))]
 fn is_raw_text(name: &str) -> bool
-    ensures { result ≡ is_raw_text name.now }
+    ensures { result ≡ spec.is_raw_text name.now }
 {
     matches!(
         name,
@@ -97,7 +97,7 @@ fn is_raw_text(name: &str) -> bool
 
 fn push_attribute(out: &mut String, attribute: &Attribute) -> Result<(), AllocError>
     ensures { OnOk result (string_bytes out.new
-        ≡ string_bytes out.old ++ attribute_text (pair_of attribute.now)) }
+        ≡ string_bytes out.old ++ spec.attribute_text (pair_of attribute.now)) }
 {
     out.push_str(" ")?;
     out.push_str(attribute.name.as_str())?;
@@ -109,7 +109,7 @@ fn push_attribute(out: &mut String, attribute: &Attribute) -> Result<(), AllocEr
 /// Puts the start tag of an element behind a text.
 pub fn push_start_tag(out: &mut String, name: &str, attrs: &[Attribute]) -> Result<(), AllocError>
     ensures { OnOk result (string_bytes out.new
-        ≡ string_bytes out.old ++ start_tag name.now (pairs_of attrs.now)) }
+        ≡ string_bytes out.old ++ spec.start_tag name.now (pairs_of attrs.now)) }
 {
     out.push_str("<")?;
     out.push_str(name)?;
@@ -121,7 +121,7 @@ pub fn push_start_tag(out: &mut String, name: &str, attrs: &[Attribute]) -> Resu
 
 /// Puts the end tag of an element behind a text.
 pub fn push_end_tag(out: &mut String, name: &str) -> Result<(), AllocError>
-    ensures { OnOk result (string_bytes out.new ≡ string_bytes out.old ++ end_tag name.now) }
+    ensures { OnOk result (string_bytes out.new ≡ string_bytes out.old ++ spec.end_tag name.now) }
 {
     out.push_str("</")?;
     out.push_str(name)?;
@@ -129,7 +129,7 @@ pub fn push_end_tag(out: &mut String, name: &str) -> Result<(), AllocError>
 }
 
 fn push_comment(out: &mut String, text: &str) -> Result<(), AllocError>
-    ensures { OnOk result (string_bytes out.new ≡ string_bytes out.old ++ comment_of text.now) }
+    ensures { OnOk result (string_bytes out.new ≡ string_bytes out.old ++ spec.comment_of text.now) }
 {
     out.push_str("<!--")?;
     out.push_str(text)?;
@@ -140,7 +140,7 @@ fn push_comment(out: &mut String, text: &str) -> Result<(), AllocError>
 fn push_node(out: &mut String, tree: &Tree, node: NodeId, raw: bool) -> Result<(), AllocError>
     requires { node < length tree.now }
     ensures { OnOk result (string_bytes out.new
-        ≡ string_bytes out.old ++ written raw (forget (tree_of tree.now node))) }
+        ≡ string_bytes out.old ++ spec.markup_of raw (value_tree (tree_of tree.now node))) }
 {
     match tree.data(node) {
         NodeData::Document => push_children(out, tree, node, false),
@@ -167,7 +167,7 @@ fn push_node(out: &mut String, tree: &Tree, node: NodeId, raw: bool) -> Result<(
 fn push_children(out: &mut String, tree: &Tree, node: NodeId, raw: bool) -> Result<(), AllocError>
     requires { node < length tree.now }
     ensures { OnOk result (string_bytes out.new ≡ string_bytes out.old
-        ++ all_written raw (forget_all (forest_of (tree_of tree.now) (children_of tree.now node)))) }
+        ++ spec.all_markup_of raw (value_forest (forest_of (tree_of tree.now) (children_of tree.now node)))) }
 {
     for child in tree.children(node) {
         push_node(out, tree, *child, raw)?;
@@ -179,7 +179,7 @@ fn push_children(out: &mut String, tree: &Tree, node: NodeId, raw: bool) -> Resu
 pub fn serialize(alloc: Global, tree: &Tree, node: NodeId) -> Result<String, AllocError>
     requires { node < length tree.now }
     ensures { IfOk result
-        (λ text. string_bytes text ≡ ser (forget (tree_of tree.now node))) }
+        (λ text. string_bytes text ≡ spec.serialisation (value_tree (tree_of tree.now node))) }
 {
     let mut out = String::new(alloc);
     push_node(&mut out, tree, node, false)?;
@@ -187,7 +187,7 @@ pub fn serialize(alloc: Global, tree: &Tree, node: NodeId) -> Result<String, All
 }
 
 fn begins_line(text: &str) -> bool
-    ensures { result ≡ begins_line (chars text.now) }
+    ensures { result ≡ blocks.begins_line (chars text.now) }
 {
     match text.chars().next() {
         Some(c) => c == '\n',
@@ -199,8 +199,8 @@ fn begins_line(text: &str) -> bool
 /// since a raw line end.
 fn push_block_char(out: &mut String, after: bool, c: char, rest: &str) -> Result<bool, AllocError>
     ensures { IfOk result (λ next. string_bytes out.new
-        ++ encode_utf8_all (rewritten next (chars rest.now))
-        ≡ string_bytes out.old ++ encode_utf8_all (rewritten after (c ∷ chars rest.now))) }
+        ++ encode_utf8_all (blocks.without_blank_lines next (chars rest.now))
+        ≡ string_bytes out.old ++ encode_utf8_all (blocks.without_blank_lines after (c ∷ chars rest.now))) }
 {
     if c == '\n' {
         if after {
@@ -226,7 +226,7 @@ fn push_block_char(out: &mut String, after: bool, c: char, rest: &str) -> Result
 /// blank line.
 fn push_block(out: &mut String, text: &str) -> Result<(), AllocError>
     ensures { OnOk result (string_bytes out.new
-        ≡ string_bytes out.old ++ encode_utf8_all (rewritten false (chars text.now))) }
+        ≡ string_bytes out.old ++ encode_utf8_all (blocks.without_blank_lines false (chars text.now))) }
 {
     let mut after = false;
     let mut chars = text.chars();
@@ -238,7 +238,7 @@ fn push_block(out: &mut String, text: &str) -> Result<(), AllocError>
 
 /// A text as a block, with references in place of the line ends that would make a blank line.
 fn rewritten_block(alloc: Global, text: &str) -> Result<String, AllocError>
-    ensures { IfOk result (λ block. string_bytes block ≡ block_of text.now) }
+    ensures { IfOk result (λ block. string_bytes block ≡ blocks.raw_block text.now) }
 {
     let mut out = String::new(alloc);
     out.push_str("\n\n")?;
@@ -249,7 +249,7 @@ fn rewritten_block(alloc: Global, text: &str) -> Result<String, AllocError>
 
 /// Whether two line feeds have white space alone between them.
 fn has_blank_line(text: &str) -> bool
-    ensures { result ≡ has_blank_line (chars text.now) }
+    ensures { result ≡ steps.has_blank_line (chars text.now) }
 {
     let mut behind = false;
     for c in text.chars() {
@@ -270,9 +270,9 @@ fn has_blank_line(text: &str) -> bool
 pub fn raw_block(alloc: Global, tree: &Tree, node: NodeId) -> Result<String, AllocError>
     requires { node < length tree.now }
     ensures text { IfOk result
-        (λ text. string_bytes text ≡ block_of (ser (forget (tree_of tree.now node)))) }
-    ensures raw { let s = ser (forget (tree_of tree.now node)) in IfOk result
-        (λ text. has_carriage_return s ≡ false → IsRawBlock s (string_bytes text)) }
+        (λ text. string_bytes text ≡ blocks.raw_block (spec.serialisation (value_tree (tree_of tree.now node)))) }
+    ensures raw { let s = spec.serialisation (value_tree (tree_of tree.now node)) in IfOk result
+        (λ text. blocks.has_carriage_return s ≡ false → blocks.IsRawBlock s (string_bytes text)) }
 {
     let mut block = String::new(alloc);
     block.push_str("\n\n")?;

@@ -1,7 +1,7 @@
 ghost use Rattle.std.specs.Prelude.{◌≡◌, ◌+◌, ◌<◌, ◌≤◌, ◌↔◌, [], ◌∷◌, ◌++◌, nat_lt, length, IsTrue, IfOk, OnOk, OnErr, IsErrOf, IsOkUnless, MatchResult};
 ghost use Rattle.std.specs.Option.{option_copied};
-ghost use Rattle.htmd_tree.specs.Items.{IsTree, content_at, parent_at, depth_at, children_of, holds_children, tag_of, new_item, document_item, doctype_node, text_node, comment_node, element_node, greatest_depth};
-ghost use Rattle.htmd_tree.specs.Stored.{content_of, pairs_of};
+ghost use Rattle.htmd_tree.specs.Items.{IsTree, data_at, parent_at, depth_at, children_of, holds_children, tag_of, new_item, document_item, doctype_node, text_node, comment_node, element_node, greatest_depth};
+ghost use Rattle.htmd_tree.specs.Views.{data_of, pairs_of};
 ghost use Rattle.htmd_tree.specs.declared.tree.TreeError.TheVariants.{Memory};
 
 use std::alloc::{AllocError, AllocFailed, Global};
@@ -135,7 +135,7 @@ impl Tree {
     /// What a node is.
     pub fn data(&self, id: NodeId) -> &NodeData
         requires { id < length self.now }
-        ensures value { content_of result.now ≡ content_at self.now id }
+        ensures value { data_of result.now ≡ data_at self.now id }
         ensures tree { IsTree self.now }
     {
         &self.entries[id.index].data
@@ -162,7 +162,7 @@ impl Tree {
     /// The name of an element, and `html` for the Document.
     pub fn tag_name(&self, id: NodeId) -> Option<&str>
         requires { id < length self.now }
-        ensures value { option_copied result ≡ tag_of (content_at self.now id) }
+        ensures value { option_copied result ≡ tag_of (data_at self.now id) }
         ensures tree { IsTree self.now }
     {
         match self.data(id) {
@@ -194,13 +194,13 @@ impl Tree {
     }
 
     /// A new last child. All that takes memory comes before the change.
-    fn add(&mut self, parent: NodeId, content: NodeData) -> Result<NodeId, TreeError>
+    fn add(&mut self, parent: NodeId, node_data: NodeData) -> Result<NodeId, TreeError>
         requires within { parent < length self.old }
-        requires holds { IsTrue (holds_children (content_at self.old parent)) }
+        requires holds { IsTrue (holds_children (data_at self.old parent)) }
         requires shallow { depth_at self.old parent < greatest_depth }
         ensures id { IfOk result (λ id. id ≡ length self.old) }
         ensures ok { OnOk result (self.new
-            ≡ self.old ++ new_item self.old parent (content_of content) ∷ []) }
+            ≡ self.old ++ new_item self.old parent (data_of node_data) ∷ []) }
         ensures memory { IsOkUnless result TreeError.Memory }
         ensures err { OnErr result (self.new ≡ self.old) }
     {
@@ -208,7 +208,7 @@ impl Tree {
             index: self.entries.len(),
         };
         let entry = Entry {
-            data: content,
+            data: node_data,
             parent: Some(parent),
             depth: self.entries[parent.index].depth + 1,
             children: Vec::new(self.alloc),
@@ -227,7 +227,7 @@ impl Tree {
         attrs: Vec<Attribute>,
     ) -> Result<NodeId, TreeError>
         requires within { parent < length self.old }
-        requires holds { IsTrue (holds_children (content_at self.old parent)) }
+        requires holds { IsTrue (holds_children (data_at self.old parent)) }
         ensures id { IfOk result (λ id. id ≡ length self.old) }
         ensures ok { OnOk result (self.new
             ≡ self.old
@@ -244,7 +244,7 @@ impl Tree {
     /// A new last child of a node: a text.
     pub fn add_text(&mut self, parent: NodeId, text: &str) -> Result<NodeId, TreeError>
         requires within { parent < length self.old }
-        requires holds { IsTrue (holds_children (content_at self.old parent)) }
+        requires holds { IsTrue (holds_children (data_at self.old parent)) }
         ensures id { IfOk result (λ id. id ≡ length self.old) }
         ensures ok { OnOk result (self.new
             ≡ self.old ++ new_item self.old parent (text_node text.now) ∷ []) }
@@ -260,7 +260,7 @@ impl Tree {
     /// A new last child of a node: a comment.
     pub fn add_comment(&mut self, parent: NodeId, text: &str) -> Result<NodeId, TreeError>
         requires within { parent < length self.old }
-        requires holds { IsTrue (holds_children (content_at self.old parent)) }
+        requires holds { IsTrue (holds_children (data_at self.old parent)) }
         ensures id { IfOk result (λ id. id ≡ length self.old) }
         ensures ok { OnOk result (self.new
             ≡ self.old ++ new_item self.old parent (comment_node text.now) ∷ []) }
@@ -276,7 +276,7 @@ impl Tree {
     /// A new last child of a node: a Doctype.
     pub fn add_doctype(&mut self, parent: NodeId) -> Result<NodeId, TreeError>
         requires within { parent < length self.old }
-        requires holds { IsTrue (holds_children (content_at self.old parent)) }
+        requires holds { IsTrue (holds_children (data_at self.old parent)) }
         ensures id { IfOk result (λ id. id ≡ length self.old) }
         ensures ok { OnOk result (self.new
             ≡ self.old ++ new_item self.old parent doctype_node ∷ []) }

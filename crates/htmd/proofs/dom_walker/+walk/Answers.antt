@@ -2,8 +2,8 @@ use Rattle.std.proofs.Common.{List, rules, ◌≡◌, ℕ, suc, ◌+◌, ◌-◌
 use Rattle.std.proofs.lemmas.Result.{IfOk-weaker, on_ok_weaker}
 use Rattle.std.proofs.Math.Nat.{mul-le-mul_right}
 use Rattle.htmd_tree.specs.Items.{element_node}
-use Rattle.htmd_tree.specs.Stored.{content_of, pairs_of}
-use Rattle.htmd_tree.specs.Numbered.{tree_of, height}
+use Rattle.htmd_tree.specs.Views.{data_of as content_of, pairs_of}
+use Rattle.htmd_tree.specs.NumberedTrees.{tree_of, height}
 use Rattle.htmd_tree.specs.Ancestors.{ancestors_of}
 use Rattle.htmd.specs.Handling.{IsProper}
 use Rattle.htmd.specs.OrdinaryText.{pre, parent_is_pre, preformatted, ordinary}
@@ -12,7 +12,7 @@ use Rattle.htmd.specs.Rendering.{conversion, Rendered, begun, place_at, rendered
 use Rattle.htmd.specs.Sources.{answer, rendered, made_of, planned}
 use Rattle.htmd.proofs.Choices.{view_same, by_none, by_nothing, by_result, by_children, by_descendant, by_fallback_none, by_fallback_some}
 use Rattle.htmd.proofs.Renderings.{text_rendered, doctype_rendered, comment_rendered, document_rendered, element_rendered, unpreformatted, child_rendered, cut_made, pre-child, proper_lower}
-use Rattle.htmd_tree.proofs.Denoted.{child_read}
+use Rattle.htmd_tree.proofs.ItemsLemmas.{child_read}
 use Rattle.htmd.proofs.dom_walker.+walk.Goals as goal
 use Rattle.htmd.proofs.dom_walker.+walk.Goals.{alone-then-not-is_text, alone-else-not-is_text, render-then-out, render-else-out}
 

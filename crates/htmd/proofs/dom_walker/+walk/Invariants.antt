@@ -1,6 +1,6 @@
 use Rattle.std.proofs.Common.{◌≡◌, ℕ, suc, ◌+◌, ◌-◌, ◌*◌, ◌≤◌, length, drop}
 use Rattle.htmd_tree.specs.Items.{children_of}
-use Rattle.htmd_tree.specs.Numbered.{forest_of, tree_of, height}
+use Rattle.htmd_tree.specs.NumberedTrees.{forest_of, tree_of, height}
 use Rattle.htmd.specs.Choice.{Config}
 use Rattle.htmd.specs.Sources.{rendered}
 use Rattle.htmd.specs.Rendering.{conversion, rendered_within, children_rendered, children_at, inside_of, trims_first}

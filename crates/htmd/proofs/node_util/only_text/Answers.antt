@@ -1,7 +1,7 @@
 use Rattle.std.proofs.Common.{sym, ◌∙◌, ap, arith, Some}
-use Rattle.htmd_tree.specs.Stored.{content_of}
-use Rattle.htmd_tree.specs.Numbered.{forest_of, tree_of}
-use Rattle.htmd_tree.proofs.Denoted.{child_read}
+use Rattle.htmd_tree.specs.Views.{data_of as content_of}
+use Rattle.htmd_tree.specs.NumberedTrees.{forest_of, tree_of}
+use Rattle.htmd_tree.proofs.ItemsLemmas.{child_read}
 use Rattle.htmd.specs.Rendering.{only_text, is_text}
 use Rattle.htmd.proofs.Nodes.{only_text-one, only_text-other, only_text-none, not_text}
 use Rattle.htmd.proofs.node_util.only_text.Goals as goal

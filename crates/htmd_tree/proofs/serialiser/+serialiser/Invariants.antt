@@ -1,8 +1,7 @@
 use Rattle.std.proofs.Common.{◌≡◌, ◌+◌, ◌-◌, ◌*◌, ◌++◌, length, drop, string_bytes}
 use Rattle.htmd_tree.specs.Items.{children_of}
-use Rattle.htmd_tree.specs.Numbered.{tree_of, forest_of}
-use Rattle.htmd_tree.specs.ValueTrees.{forget_all}
-use Rattle.htmd_tree.specs.Serialisation.{all_written}
+use Rattle.htmd_tree.specs.NumberedTrees.{tree_of, forest_of, value_forest}
+use Rattle.htmd_grammar.specs.Serialisation.{all_markup_of}
 use Rattle.htmd_tree.proofs.serialiser.+serialiser.Given as goal
 
 -- children stand behind their parent
@@ -15,6 +14,6 @@ decreases-push_node l = (length l.tree.now - l.node) * 2
 abbrev pub invariant-push_children-loop-child : goal.invariant-push_children-loop-child
 invariant-push_children-loop-child l = record {
   items : l.child-items ≡ children_of l.tree l.fn.node;
-  rest : string_bytes l.out ++ all_written l.raw (forget_all (forest_of (tree_of l.tree) (drop l.child-index l.child-items)))
-      ≡ string_bytes l.fn.out ++ all_written l.raw (forget_all (forest_of (tree_of l.tree) l.child-items));
+  rest : string_bytes l.out ++ all_markup_of l.raw (value_forest (forest_of (tree_of l.tree) (drop l.child-index l.child-items)))
+      ≡ string_bytes l.fn.out ++ all_markup_of l.raw (value_forest (forest_of (tree_of l.tree) l.child-items));
 }

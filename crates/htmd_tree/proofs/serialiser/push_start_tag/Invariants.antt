@@ -1,7 +1,7 @@
 use Rattle.std.proofs.Common.{◌≡◌, ◌++◌, drop, string_bytes}
 use Rattle.std.specs.List.{flat_map}
-use Rattle.htmd_tree.specs.Stored.{pairs_of}
-use Rattle.htmd_tree.specs.Serialisation.{attribute_text}
+use Rattle.htmd_tree.specs.Views.{pairs_of}
+use Rattle.htmd_grammar.specs.Serialisation.{attribute_text}
 use Rattle.htmd_tree.proofs.serialiser.push_start_tag.Given as goal
 
 abbrev pub invariant-loop-attribute : goal.invariant-loop-attribute

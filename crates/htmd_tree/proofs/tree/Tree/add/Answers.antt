@@ -2,7 +2,7 @@ use Rattle.std.proofs.Common.{◌≡◌, ◌<◌, ◌∷◌, [], ◌++◌, List,
 use Rattle.std.proofs.lemmas.List.{length-map}
 use Rattle.htmd_tree.specs.declared.tree.Entry.{Entry}
 use Rattle.htmd_tree.specs.Items.{Item, new_item}
-use Rattle.htmd_tree.specs.Stored.{content_of}
+use Rattle.htmd_tree.specs.Views.{data_of}
 use Rattle.htmd_tree.specs.Entries.{item_of, items_of, IsStored}
 use Rattle.htmd_tree.proofs.EntriesLemmas.{items_of-set, items_of-added, IsStored-kept, IsStored-added, last_item}
 use Rattle.htmd_tree.proofs.tree.Tree.add.Goals as goal
@@ -42,9 +42,9 @@ invariant_of-self-2 c =
     let stored : IsStored entries = subst IsStored (sym c.reserve.ensures.items) c.self.invariant in
     let at : i ≡ c.args.parent = c.parent.view_is in
     let within : i < length entries = omega (arith, length-map entries item_of, ap length items, c.requires.within) in
-    let last : Entry = record { «data» = c.args.content; parent = Some c.args.parent; depth = c.index.result.now.depth + 1; children = c.new.result } in
+    let last : Entry = record { «data» = c.args.node_data; parent = Some c.args.parent; depth = c.index.result.now.depth + 1; children = c.new.result } in
     let read : c.index.result.now ≡ get_or entries i c.index.result.now = c.index.ensures ∙ ap (λ (x : List Entry). get_or x i c.index.result.now) (sym c.reserve.ensures.items) in
-    let this : item_of last ≡ new_item (items_of entries) i (content_of c.args.content) = last_item entries i c.args.parent c.index.result.now (content_of c.args.content) within read at in
+    let this : item_of last ≡ new_item (items_of entries) i (data_of c.args.node_data) = last_item entries i c.args.parent c.index.result.now (data_of c.args.node_data) within read at in
     let number : c.len.result ≡ length entries = c.len.ensures ∙ search rules in
     subst IsStored (sym c.in_ok-push-2.ensures.items)
     (IsStored-added entries i old new last within c.index_mut.ensures.value refl (c.in_ok-push.ensures.items ∙ ap (λ n. old.children.items ++ n ∷ []) number)
@@ -60,9 +60,9 @@ returns-clause-ok c =
     let stored : IsStored entries = subst IsStored (sym c.reserve.ensures.items) c.self.invariant in
     let at : i ≡ c.args.parent = c.parent.view_is in
     let within : i < length entries = omega (arith, length-map entries item_of, ap length items, c.requires.within) in
-    let last : Entry = record { «data» = c.args.content; parent = Some c.args.parent; depth = c.index.result.now.depth + 1; children = c.new.result } in
+    let last : Entry = record { «data» = c.args.node_data; parent = Some c.args.parent; depth = c.index.result.now.depth + 1; children = c.new.result } in
     let read : c.index.result.now ≡ get_or entries i c.index.result.now = c.index.ensures ∙ ap (λ (x : List Entry). get_or x i c.index.result.now) (sym c.reserve.ensures.items) in
-    let this : item_of last ≡ new_item (items_of entries) i (content_of c.args.content) = last_item entries i c.args.parent c.index.result.now (content_of c.args.content) within read at in
+    let this : item_of last ≡ new_item (items_of entries) i (data_of c.args.node_data) = last_item entries i c.args.parent c.index.result.now (data_of c.args.node_data) within read at in
     ap items_of c.in_ok-push-2.ensures.items
     ∙ (items_of-added entries i old new last c.index_mut.ensures.value refl
     ∙ (ap (λ (x : Item). items_of entries ++ x ∷ []) this ∙ rw (items, at) refl))

@@ -8,8 +8,11 @@ use Rattle.std.specs.Char.{is_whitespace}
 use Rattle.std.specs.List.{list_any, list_all}
 use Rattle.std.specs.Str.{IsUtf8, IsCharBoundary, chars, encode_utf8_all}
 use lib.Utf8.{encode}
-use Rattle.htmd_tree.specs.RawBlocks.{line_feed, carriage_return, line_feed_reference, begins_line, rewritten, block, block_of, HasBlankLine, has_blank_line_from, has_blank_line, has_carriage_return, raw_from, raw, RefersToLineFeeds, nothing, same, reference, IsRawBlock}
-use Rattle.htmd_tree.proofs.ItemsLemmas.{test}
+use Rattle.htmd_text.specs.Characters.{line_feed, carriage_return}
+use Rattle.htmd_text.specs.BlankLines.{with_blank_lines}
+use Rattle.htmd_grammar.specs.RawBlocks.{line_feed_reference, begins_line, without_blank_lines, raw_block, HasBlankLine, has_carriage_return, raw_html_from, raw_html, RefersToLineFeeds, nothing, same, reference, IsRawBlock}
+use Rattle.htmd_grammar.specs.SerialiserSteps.{has_blank_line_from, has_blank_line}
+use Rattle.htmd_text.proofs.Cases.{test}
 
 -- ---- texts without CR
 
@@ -18,25 +21,25 @@ both_false true y e = absurd (cc)
 both_false false y e = (refl, e)
 
 -- without CR, a text is rewritten to its raw text
-rewritten-raw : (after : Bool) (cs : List ℕ) → list_any (λ c. eqb c carriage_return) cs ≡ false → rewritten after cs ≡ raw_from after cs
-rewritten-raw after [] h = refl
-rewritten-raw after (c ∷ cs) h =
+without_blank_lines-raw_html : (after : Bool) (cs : List ℕ) → list_any (λ c. eqb c carriage_return) cs ≡ false → without_blank_lines after cs ≡ raw_html_from after cs
+without_blank_lines-raw_html after [] h = refl
+without_blank_lines-raw_html after (c ∷ cs) h =
     let parts = both_false (eqb c carriage_return) (list_any (λ c. eqb c carriage_return) cs) h in
     let other : eqb c carriage_return ≡ false = parts.0 in
-    let escaped : rewritten false cs ≡ raw_from false cs = rewritten-raw false cs parts.1 in
-    let ended : rewritten true cs ≡ raw_from true cs = rewritten-raw true cs parts.1 in
-    let white : rewritten (after && is_whitespace c) cs ≡ raw_from (after && is_whitespace c) cs = rewritten-raw (after && is_whitespace c) cs parts.1 in
+    let escaped : without_blank_lines false cs ≡ raw_html_from false cs = without_blank_lines-raw_html false cs parts.1 in
+    let ended : without_blank_lines true cs ≡ raw_html_from true cs = without_blank_lines-raw_html true cs parts.1 in
+    let white : without_blank_lines (after && is_whitespace c) cs ≡ raw_html_from (after && is_whitespace c) cs = without_blank_lines-raw_html (after && is_whitespace c) cs parts.1 in
     test (eqb c line_feed) (λ y. rw (y, escaped, ended) refl) (λ n. rw (n, other, white) refl)
 
 -- ---- blank lines
 
 -- a raw text has no blank line
-raw_from-no_blank_line : (after : Bool) (cs : List ℕ) → has_blank_line_from after (raw_from after cs) ≡ false
-raw_from-no_blank_line after [] = refl
-raw_from-no_blank_line after (c ∷ cs) =
+raw_html_from-no_blank_line : (after : Bool) (cs : List ℕ) → has_blank_line_from after (raw_html_from after cs) ≡ false
+raw_html_from-no_blank_line after [] = refl
+raw_html_from-no_blank_line after (c ∷ cs) =
     test (eqb c line_feed)
-    (λ y. test after (λ a. rw (y, a) (raw_from-no_blank_line false cs)) (λ a. rw (y, a, y) (raw_from-no_blank_line true cs)))
-    (λ n. rw (n, n) (raw_from-no_blank_line (after && is_whitespace c) cs))
+    (λ y. test after (λ a. rw (y, a) (raw_html_from-no_blank_line false cs)) (λ a. rw (y, a, y) (raw_html_from-no_blank_line true cs)))
+    (λ n. rw (n, n) (raw_html_from-no_blank_line (after && is_whitespace c) cs))
 
 both_true : (x y : Bool) → (x && y) ≡ true → (x ≡ true) × (y ≡ true)
 both_true true y e = (refl, e)
@@ -96,25 +99,25 @@ begins_none after (c ∷ cs) h =
 carriage_return-white : (after : Bool) (c : ℕ) → eqb c carriage_return ≡ true → (after && is_whitespace c) ≡ after
 carriage_return-white after c e = subst (λ x. (after && is_whitespace x) ≡ after) (sym (eqb-true c carriage_return e)) (and-true after)
 
--- a text with no blank line is not rewritten
-rewritten-same : (after : Bool) (cs : List ℕ) → has_blank_line_from after cs ≡ false → rewritten after cs ≡ cs
-rewritten-same after [] h = refl
-rewritten-same after (c ∷ cs) h =
+-- a text with no blank line is not without_blank_lines
+without_blank_lines-same : (after : Bool) (cs : List ℕ) → has_blank_line_from after cs ≡ false → without_blank_lines after cs ≡ cs
+without_blank_lines-same after [] h = refl
+without_blank_lines-same after (c ∷ cs) h =
     test (eqb c line_feed)
     (λ y.
     let parts = both_false after (has_blank_line_from true cs) (rw y at h) in
-    rw (y, parts.0) (ap (λ x. c ∷ x) (rewritten-same true cs parts.1)))
+    rw (y, parts.0) (ap (λ x. c ∷ x) (without_blank_lines-same true cs parts.1)))
     (λ n.
     let none : has_blank_line_from (after && is_whitespace c) cs ≡ false = rw n at h in
     test (eqb c carriage_return)
     (λ y.
     let behind : has_blank_line_from after cs ≡ false = subst (λ x. has_blank_line_from x cs ≡ false) (carriage_return-white after c y) none in
-    rw (n, y, begins_none after cs behind) (ap (λ x. c ∷ x) (rewritten-same false cs (none_afresh after cs behind))))
-    (λ o. rw (n, o) (ap (λ x. c ∷ x) (rewritten-same (after && is_whitespace c) cs none))))
+    rw (n, y, begins_none after cs behind) (ap (λ x. c ∷ x) (without_blank_lines-same false cs (none_afresh after cs behind))))
+    (λ o. rw (n, o) (ap (λ x. c ∷ x) (without_blank_lines-same (after && is_whitespace c) cs none))))
 
 -- the block of a text with no blank line is that text
-block_of_same : (s : List ℕ) → IsUtf8 s → has_blank_line (chars s) ≡ false → block_of s ≡ codes "\n\n" ++ s ++ codes "\n\n"
-block_of_same s u h = ap (λ x. codes "\n\n" ++ x ++ codes "\n\n") (ap encode_utf8_all (rewritten-same false (chars s) h) ∙ encodes-chars s u)
+raw_block-same : (s : List ℕ) → IsUtf8 s → has_blank_line (chars s) ≡ false → raw_block s ≡ codes "\n\n" ++ s ++ codes "\n\n"
+raw_block-same s u h = ap with_blank_lines (ap encode_utf8_all (without_blank_lines-same false (chars s) h) ∙ encodes-chars s u)
 
 -- ---- references to line feeds
 
@@ -130,16 +133,16 @@ encodes-reference : encode_utf8_all line_feed_reference ≡ line_feed_reference
 unfolding encode
 encodes-reference = refl
 
-raw_from-refers : (after : Bool) (cs : List ℕ) → RefersToLineFeeds (encode_utf8_all cs) (encode_utf8_all (raw_from after cs))
-raw_from-refers after [] = nothing
-raw_from-refers after (c ∷ cs) =
+raw_html_from-refers : (after : Bool) (cs : List ℕ) → RefersToLineFeeds (encode_utf8_all cs) (encode_utf8_all (raw_html_from after cs))
+raw_html_from-refers after [] = nothing
+raw_html_from-refers after (c ∷ cs) =
     test (eqb c line_feed)
     (λ y. test after
-    (λ a. rw (y, a) (subst (λ x. RefersToLineFeeds (x ++ encode_utf8_all cs) (encode_utf8_all (line_feed_reference ++ raw_from false cs))) (sym (ap encode (eqb-true c line_feed y) ∙ encode-line_feed))
-    (subst (λ x. RefersToLineFeeds (line_feed ∷ encode_utf8_all cs) x) (sym (encodes-append line_feed_reference (raw_from false cs) ∙ ap (λ x. x ++ encode_utf8_all (raw_from false cs)) encodes-reference))
-    (reference (raw_from-refers false cs)))))
-    (λ a. rw (y, a) (same_all (encode c) (raw_from-refers true cs))))
-    (λ n. rw n (same_all (encode c) (raw_from-refers (after && is_whitespace c) cs)))
+    (λ a. rw (y, a) (subst (λ x. RefersToLineFeeds (x ++ encode_utf8_all cs) (encode_utf8_all (line_feed_reference ++ raw_html_from false cs))) (sym (ap encode (eqb-true c line_feed y) ∙ encode-line_feed))
+    (subst (λ x. RefersToLineFeeds (line_feed ∷ encode_utf8_all cs) x) (sym (encodes-append line_feed_reference (raw_html_from false cs) ∙ ap (λ x. x ++ encode_utf8_all (raw_html_from false cs)) encodes-reference))
+    (reference (raw_html_from-refers false cs)))))
+    (λ a. rw (y, a) (same_all (encode c) (raw_html_from-refers true cs))))
+    (λ n. rw n (same_all (encode c) (raw_html_from-refers (after && is_whitespace c) cs)))
 
 -- a text behind two line feeds
 pub behind_line_feeds : (out s : List ℕ) → IsUtf8 out → out ≡ codes "\n\n" ++ s → IsCharBoundary out 2 × (drop 2 out ≡ s) × IsUtf8 s
@@ -149,21 +152,21 @@ behind_line_feeds out s u e =
     (subst (λ x. IsCharBoundary x 2) (sym e) here, ap (drop 2) e, IsUtf8-drop (codes "\n\n" ++ s) 2 text here)
 
 -- where there is no blank line, the text behind two line feeds is its block but for the end
-pub block_kept : (out text s : List ℕ) → IsUtf8 out → out ≡ codes "\n\n" ++ s → text ≡ drop 2 out → has_blank_line (chars text) ≡ false → (block_of s ≡ codes "\n\n" ++ s ++ codes "\n\n") × IsUtf8 s
+pub block_kept : (out text s : List ℕ) → IsUtf8 out → out ≡ codes "\n\n" ++ s → text ≡ drop 2 out → has_blank_line (chars text) ≡ false → (raw_block s ≡ codes "\n\n" ++ s ++ codes "\n\n") × IsUtf8 s
 block_kept out text s u e cut none =
     let parts = behind_line_feeds out s u e in
     let same : text ≡ s = cut ∙ parts.1 in
-    (block_of_same s parts.2 (subst (λ x. has_blank_line (chars x) ≡ false) same none), parts.2)
+    (raw_block-same s parts.2 (subst (λ x. has_blank_line (chars x) ≡ false) same none), parts.2)
 
 -- the block of a text without CR
-pub block_of_raw : (s text : List ℕ) → IsUtf8 s → text ≡ block_of s → has_carriage_return s ≡ false → IsRawBlock s text
-block_of_raw s text u e h = record {
-  written = e ∙ ap block (rewritten-raw false (chars s) h);
-  line_feeds_alone = subst (λ x. RefersToLineFeeds x (encode_utf8_all (raw (chars s)))) (encodes-chars s u) (raw_from-refers false (chars s));
-  no_blank_line = none_found (raw (chars s)) (raw_from-no_blank_line false (chars s));
+pub raw_block-raw_html : (s text : List ℕ) → IsUtf8 s → text ≡ raw_block s → has_carriage_return s ≡ false → IsRawBlock s text
+raw_block-raw_html s text u e h = record {
+  block = e ∙ ap (λ cs. with_blank_lines (encode_utf8_all cs)) (without_blank_lines-raw_html false (chars s) h);
+  line_feeds_alone = subst (λ x. RefersToLineFeeds x (encode_utf8_all (raw_html (chars s)))) (encodes-chars s u) (raw_html_from-refers false (chars s));
+  no_blank_line = none_found (raw_html (chars s)) (raw_html_from-no_blank_line false (chars s));
 }
 
 -- a block that was made of a text, if it was made
-pub IfOk-raw : {T E : Type 0} (r : Result (String T) E) (s : List ℕ) → IsUtf8 s → IfOk r (λ text. string_bytes text ≡ block_of s) → IfOk r (λ text. has_carriage_return s ≡ false → IsRawBlock s (string_bytes text))
-IfOk-raw (Ok text) s u e = block_of_raw s (string_bytes text) u e
-IfOk-raw (Err e) s u h = tt
+pub IfOk-raw_block : {T E : Type 0} (r : Result (String T) E) (s : List ℕ) → IsUtf8 s → IfOk r (λ text. string_bytes text ≡ raw_block s) → IfOk r (λ text. has_carriage_return s ≡ false → IsRawBlock s (string_bytes text))
+IfOk-raw_block (Ok text) s u e = raw_block-raw_html s (string_bytes text) u e
+IfOk-raw_block (Err e) s u h = tt
