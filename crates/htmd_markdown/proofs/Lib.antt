@@ -1,3 +1,8 @@
+pub mod Answered
+pub mod RunsLemmas
+pub mod CodeSpanReadingLemmas
+pub mod CodeSpansLemmas
+pub mod OneLineLemmas
 pub mod EmphasesLemmas
 pub mod QuotesLemmas
 pub mod Examples

@@ -1,3 +1,6 @@
+pub mod Runs
+pub mod CodeSpans
+pub mod CodeSpanReading
 pub mod Emphases
 pub mod Headings
 pub mod ThematicBreaks

@@ -2,15 +2,18 @@
 //! read back, a definition of its reader that shares nothing with the writer.
 #![tactic(auto)]
 
+mod code_span;
 mod emphasis;
 mod heading;
 mod line_break;
 mod list;
 mod quote;
+mod runs;
 #[cfg(test)]
 mod tests;
 mod thematic_break;
 
+pub use self::code_span::write_span;
 pub use self::emphasis::{Emphasis, write_emphasis};
 pub use self::heading::{HeadingStyle, write_heading};
 pub use self::line_break::{BrStyle, write_line_break};

@@ -1,0 +1,97 @@
+-- How long runs are.
+use Rattle.std.proofs.Common.{◌≡◌, ℕ, zero, suc, ◌<◌, ◌≤◌, Bool, true, false, List, [], ◌∷◌, length, drop, map, max, refl, ap, ◌∙◌, arith}
+use Rattle.std.specs.Prelude.{not, ◌==◌}
+use Rattle.std.specs.List.{fold, list_any, onto_first, prefix_len, reduce}
+use Rattle.std.specs.Option.{unwrap_or}
+use Rattle.std.proofs.lemmas.Bool.Decides.{nat_tests}
+use Rattle.std.proofs.lemmas.List.Splits.{slice_split-cons_yes, slice_split-cons_no}
+use Rattle.htmd_markdown.specs.Runs.{runs, longest_run, has_run}
+
+-- ---- the first run, and the others
+
+abbrev pub first_run : List (List ℕ) → List ℕ
+first_run [] = []
+first_run (run ∷ others) = run
+
+abbrev pub other_runs : List (List ℕ) → List (List ℕ)
+other_runs [] = []
+other_runs (run ∷ others) = others
+
+first_run-onto_first : (b : ℕ) (rs : List (List ℕ)) → first_run (onto_first b rs) ≡ b ∷ first_run rs
+first_run-onto_first b [] = refl
+first_run-onto_first b (run ∷ others) = refl
+
+other_runs-onto_first : (b : ℕ) (rs : List (List ℕ)) → other_runs (onto_first b rs) ≡ other_runs rs
+other_runs-onto_first b [] = refl
+other_runs-onto_first b (run ∷ others) = refl
+
+-- one more character in front
+pub runs-cons_yes : (c b : ℕ) (s : List ℕ) → (b == c) ≡ true → runs c (b ∷ s) ≡ onto_first b (runs c s)
+runs-cons_yes c b s same = slice_split-cons_no (λ b. not (b == c)) b s (ap not same)
+
+pub runs-cons_no : (c b : ℕ) (s : List ℕ) → (b == c) ≡ false → runs c (b ∷ s) ≡ [] ∷ runs c s
+runs-cons_no c b s other = slice_split-cons_yes (λ b. not (b == c)) b s (ap not other)
+
+pub other_runs-cons_yes : (c b : ℕ) (s : List ℕ) → (b == c) ≡ true → other_runs (runs c (b ∷ s)) ≡ other_runs (runs c s)
+other_runs-cons_yes c b s same = ap other_runs (runs-cons_yes c b s same) ∙ other_runs-onto_first b (runs c s)
+
+first_run_len : (c b : ℕ) (s : List ℕ) (t : Bool) → (b == c) ≡ t → length (first_run (runs c s)) ≡ prefix_len (λ b. b == c) s → length (first_run (runs c (b ∷ s))) ≡ prefix_len (λ b. b == c) (b ∷ s)
+first_run_len c b s true same rest = rw same (ap length (first_run-onto_first b (runs c s)) ∙ ap (λ n. suc n) rest ∙ omega arith)
+first_run_len c b s false other rest = rw other refl
+
+pub first_run-prefix_len : (c : ℕ) (s : List ℕ) → length (first_run (runs c s)) ≡ prefix_len (λ b. b == c) s
+first_run-prefix_len c [] = refl
+first_run-prefix_len c (b ∷ s) = first_run_len c b s (b == c) refl (first_run-prefix_len c s)
+
+-- ---- the longest run
+
+abbrev longest : List (List ℕ) → ℕ
+longest rs = fold max 0 (map (λ run. length run) rs)
+
+max_from : (a : ℕ) (ns : List ℕ) → fold max a ns ≡ max a (fold max 0 ns)
+max_from a [] = omega arith
+max_from a (n ∷ ns) = omega (arith, max_from (max a n) ns, max_from (max 0 n) ns)
+
+longest_parts : (rs : List (List ℕ)) → longest rs ≡ max (length (first_run rs)) (longest (other_runs rs))
+longest_parts [] = omega arith
+longest_parts (run ∷ others) = omega (arith, max_from (max 0 (length run)) (map (λ run. length run) others))
+
+longest-cons_yes : (c b : ℕ) (s : List ℕ) → (b == c) ≡ true → longest_run c (b ∷ s) ≡ max (suc (length (first_run (runs c s)))) (longest (other_runs (runs c s)))
+longest-cons_yes c b s same =
+    ap longest (runs-cons_yes c b s same) ∙ longest_parts (onto_first b (runs c s))
+    ∙ ap (λ run. max (length run) (longest (other_runs (onto_first b (runs c s))))) (first_run-onto_first b (runs c s))
+    ∙ ap (λ rs. max (suc (length (first_run (runs c s)))) (longest rs)) (other_runs-onto_first b (runs c s))
+
+longest-cons_no : (c b : ℕ) (s : List ℕ) → (b == c) ≡ false → longest_run c (b ∷ s) ≡ longest_run c s
+longest-cons_no c b s other = ap longest (runs-cons_no c b s other)
+
+longest_grows : (c b : ℕ) (s : List ℕ) (t : Bool) → (b == c) ≡ t → (longest_run c s ≤ longest_run c (b ∷ s)) × (longest_run c (b ∷ s) ≤ suc (longest_run c s))
+longest_grows c b s true same = (omega (arith, longest-cons_yes c b s same, longest_parts (runs c s)), omega (arith, longest-cons_yes c b s same, longest_parts (runs c s)))
+longest_grows c b s false other = (omega (arith, longest-cons_no c b s other), omega (arith, longest-cons_no c b s other))
+
+pub longest_run-le-length : (c : ℕ) (s : List ℕ) → longest_run c s ≤ length s
+longest_run-le-length c [] = omega arith
+longest_run-le-length c (b ∷ s) = let more = longest_grows c b s (b == c) refl in omega (arith, more.1, longest_run-le-length c s)
+
+-- no run that begins anywhere is longer
+pub run_at-le-longest : (c : ℕ) (s : List ℕ) (k : ℕ) → prefix_len (λ b. b == c) (drop k s) ≤ longest_run c s
+run_at-le-longest c [] zero = omega arith
+run_at-le-longest c [] (suc k) = omega arith
+run_at-le-longest c (b ∷ s) zero = omega (arith, longest_parts (runs c (b ∷ s)), first_run-prefix_len c (b ∷ s))
+run_at-le-longest c (b ∷ s) (suc k) = let more = longest_grows c b s (b == c) refl in omega (arith, more.0, run_at-le-longest c s k)
+
+-- what `max().unwrap_or(0)` gives
+pub greatest : (ns : List ℕ) → unwrap_or (reduce max ns) 0 ≡ fold max 0 ns
+greatest [] = refl
+greatest (n ∷ ns) = ap (λ m. fold max m ns) (omega arith)
+
+-- a length above the longest run's is no run's
+none_so_long : (rs : List (List ℕ)) (n : ℕ) → longest rs < n → list_any (λ run. length run == n) rs ≡ false
+none_so_long [] n lt = refl
+none_so_long (run ∷ others) n lt =
+    let parts = longest_parts (run ∷ others) in
+    let here : (length run == n) ≡ false = grind (arith, nat_tests) in
+    rw here (none_so_long others n (omega (arith, parts)))
+
+pub no_run_so_long : (c n : ℕ) (s : List ℕ) → longest_run c s < n → has_run c n s ≡ false
+no_run_so_long c n s lt = none_so_long (runs c s) n lt

@@ -1,0 +1,128 @@
+//! Code spans (CommonMark 0.31.2, 6.1).
+ghost use Rattle.std.specs.List.{list_all};
+ghost use Rattle.std.specs.Prelude.{◌≡◌, ◌≢◌, ◌==◌, ◌&&◌, ◌||◌, ◌++◌, [], false, map, Some, if◌then◌else◌, IfOk, OnOk, string_bytes};
+ghost use Rattle.htmd_text.specs.Characters.{space};
+ghost use Rattle.htmd_text.specs.Trims.{is_line_feed, trimmed};
+ghost use Rattle.htmd_text.specs.WhiteSpace.{is_document_white_space};
+ghost use Rattle.htmd_markdown.specs.CodeSpans as spec;
+ghost use Rattle.htmd_markdown.specs.CodeSpanReading.{read_span, line_ends_as_spaces};
+
+use crate::runs::{has_run, longest_run};
+use htmd_text::{TrimDocumentWhitespace, push_repeated};
+use std::alloc::{AllocError, Global};
+
+/// The code span of a content: between backquotes, one line with `preformatted_code`, else without
+/// document white space at its ends. An empty content gives delimiters alone, which are no span.
+///
+/// Want of memory is the only error.
+pub fn write_span(
+    alloc: Global,
+    content: &str,
+    preformatted_code: bool,
+) -> Result<String, AllocError>
+    ensures span { IfOk result (λ s. string_bytes s ≡ spec.code_span preformatted_code content.now) }
+    ensures reads_back { preformatted_code ≡ false
+        → trimmed is_document_white_space content.now ≢ []
+        → IfOk result (λ s. read_span (string_bytes s)
+        ≡ Some (line_ends_as_spaces (trimmed is_document_white_space content.now))) }
+{
+    if preformatted_code {
+        delimited(alloc, content, true)
+    } else {
+        delimited(alloc, content.trim_document_whitespace(), false)
+    }
+}
+
+/// The spaces that may stand beside the text: one inside each delimiter, one at each end of a line.
+const MOST_SPACES: usize = 4;
+
+/// The text between its delimiters, in one line with `preformatted_code`.
+fn delimited(alloc: Global, text: &str, preformatted_code: bool) -> Result<String, AllocError>
+    ensures { IfOk result (λ s. string_bytes s ≡ spec.delimited
+        (spec.meets_delimiter text.now || (preformatted_code && spec.is_between_spaces text.now))
+        (spec.delimiter_len text.now)
+        (if preformatted_code then spec.in_one_line text.now else text.now)) }
+{
+    let delimiter = delimiter_len(text);
+    let padded = meets_delimiter(text) || (preformatted_code && is_between_spaces(text));
+    let room = delimiter.saturating_mul(2).saturating_add(text.len());
+    let mut span = String::with_capacity(alloc, room.saturating_add(MOST_SPACES))?;
+    push_repeated(&mut span, '`', delimiter)?;
+    push_space_if(&mut span, padded)?;
+    if preformatted_code {
+        push_in_one_line(&mut span, text)?;
+    } else {
+        span.push_str(text)?;
+    }
+    push_space_if(&mut span, padded)?;
+    push_repeated(&mut span, '`', delimiter)?;
+    Ok(span)
+}
+
+/// How many backquotes stand before and after the text.
+fn delimiter_len(text: &str) -> usize
+    ensures { result ≡ spec.delimiter_len text.now }
+{
+    let longest = longest_run(text, b'`');
+    if meets_delimiter(text) {
+        return longest + 1;
+    }
+    for len in 1..longest + 1 {
+        if !has_run(text, b'`', len) {
+            return len;
+        }
+    }
+    longest + 1
+}
+
+/// Whether a backquote stands at the start or at the end.
+fn meets_delimiter(text: &str) -> bool
+    ensures { result ≡ spec.meets_delimiter text.now }
+{
+    text.starts_with('`') || text.ends_with('`')
+}
+
+/// Whether a space stands at both ends, and not all are spaces.
+fn is_between_spaces(text: &str) -> bool
+    ensures { result ≡ spec.is_between_spaces text.now }
+{
+    text.starts_with(' ') && text.ends_with(' ') && !is_all(text, b' ')
+}
+
+/// Whether the text has no other character.
+fn is_all(text: &str, character: u8) -> bool
+    ensures { result ≡ list_all (λ b. b == character) text.now }
+{
+    text.as_bytes().iter().all(|b| *b == character)
+}
+
+/// Puts a space, where it is due.
+fn push_space_if(text: &mut String, due: bool) -> Result<(), AllocError>
+    ensures { OnOk result (string_bytes text.new ≡ string_bytes text.old ++ spec.space_if due) }
+{
+    if due { text.push(' ') } else { Ok(()) }
+}
+
+/// Puts the text in one line.
+fn push_in_one_line(span: &mut String, text: &str) -> Result<(), AllocError>
+    ensures { OnOk result
+        (string_bytes span.new ≡ string_bytes span.old ++ spec.in_one_line text.now) }
+{
+    push_space_if(span, text.starts_with('\n') && !is_all(text, b'\n'))?;
+    push_with_spaces(span, text)?;
+    push_space_if(span, text.ends_with('\n'))
+}
+
+/// Puts the text with each line feed as a space.
+fn push_with_spaces(span: &mut String, text: &str) -> Result<(), AllocError>
+    ensures { OnOk result (string_bytes span.new
+        ≡ string_bytes span.old ++ map (λ b. if is_line_feed b then space else b) text.now) }
+{
+    let mut is_first = true;
+    for line in text.split('\n') {
+        push_space_if(span, !is_first)?;
+        span.push_str(line)?;
+        is_first = false;
+    }
+    Ok(())
+}

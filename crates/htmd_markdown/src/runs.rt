@@ -1,0 +1,21 @@
+//! Runs of one character in a text.
+ghost use Rattle.std.specs.Prelude.{◌≡◌, ◌≤◌, length};
+ghost use Rattle.htmd_markdown.specs.Runs as spec;
+
+/// The length of the longest run of the character, 0 where it doesn't stand in the text.
+pub(crate) fn longest_run(text: &str, character: u8) -> usize
+    ensures bound { result ≤ length text.now }
+    ensures value { result ≡ spec.longest_run character text.now }
+{
+    let bytes = text.as_bytes();
+    let runs = bytes.split(|b| *b != character);
+    runs.map(|run| run.len()).max().unwrap_or(0)
+}
+
+/// Whether some run of the character has exactly this length.
+pub(crate) fn has_run(text: &str, character: u8, len: usize) -> bool
+    ensures { result ≡ spec.has_run character len text.now }
+{
+    let bytes = text.as_bytes();
+    bytes.split(|b| *b != character).any(|run| run.len() == len)
+}
