@@ -8,7 +8,7 @@ use Rattle.htmd_tree.specs.Ancestors.{ancestor_of}
 use Rattle.htmd.specs.declared.options.HeadingStyle.{HeadingStyle}
 use Rattle.htmd.specs.declared.options.HeadingStyle.TheVariants.{Atx, Setex}
 use Rattle.htmd.specs.Handling.{View, Made, content_of_children, Meaning}
-use Rattle.htmd_text.specs.Trims.{trimmed}
+use Rattle.htmd_text.specs.Trims.{trimmed_text as trimmed}
 use Rattle.htmd.specs.Paragraphs.{apart}
 
 -- the level that a tag names

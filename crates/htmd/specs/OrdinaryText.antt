@@ -2,8 +2,8 @@
 use Rattle.std.specs.Prelude.{ℕ, Bool, false, ◌&&◌, ◌||◌, if◌then◌else◌, List, [], ◌∷◌, drop, codes}
 use Rattle.std.specs.List.{list_any}
 use Rattle.std.specs.Str.{bytes_eq}
-use Rattle.htmd_text.specs.EscapeMarks.{escaped, pre_escaped}
-use Rattle.htmd_text.specs.WhiteSpace.{squeezed}
+use Rattle.htmd_text.specs.EscapeMarks.{escaped_markdown as escaped, escaped_pre_text as pre_escaped}
+use Rattle.htmd_text.specs.WhiteSpace.{squeezed_text as squeezed}
 use Rattle.htmd_tree.specs.Ancestors.{Ancestor}
 use Rattle.htmd.specs.Seams.{begins_with_space, ends_with_space}
 

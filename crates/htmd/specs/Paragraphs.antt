@@ -1,7 +1,7 @@
 -- The handler of p.
 use Rattle.std.specs.Prelude.{ℕ, true, List, ◌++◌, Some, None, codes}
 use Rattle.htmd.specs.Handling.{content_of_children, Meaning}
-use Rattle.htmd_text.specs.Trims.{trimmed, is_line_feed}
+use Rattle.htmd_text.specs.Trims.{trimmed_text as trimmed, is_line_feed}
 
 -- a blank line before and after (CommonMark 0.31.2, 4.9)
 abbrev pub apart : List ℕ → List ℕ

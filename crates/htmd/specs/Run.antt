@@ -4,7 +4,7 @@ use Rattle.htmd_tree.specs.Items.{Item}
 use Rattle.htmd_tree.specs.NumberedTrees.{tree_of, height}
 use Rattle.htmd.specs.Handling.{Meaning}
 use Rattle.htmd.specs.Choice.{Config}
-use Rattle.htmd_text.specs.Trims.{trimmed, trimmed_end, is_line_feed}
+use Rattle.htmd_text.specs.Trims.{trimmed_text as trimmed, trimmed_end, is_line_feed}
 use Rattle.htmd.specs.Rendering.{conversion, Rendered, rendered_within, content_alone}
 
 -- the texts that handlers put after a run, in order of registration

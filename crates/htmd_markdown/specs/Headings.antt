@@ -2,7 +2,7 @@
 use Rattle.std.specs.Prelude.{ℕ, ◌==◌, nat_le, if◌then◌else◌, List, [], ◌∷◌, ◌++◌, length, replicate}
 use Rattle.std.specs.Str.{chars}
 use Rattle.htmd_text.specs.Characters.{line_feed, space, number_sign, hyphen, equals_sign}
-use Rattle.htmd_text.specs.Trims.{trimmed}
+use Rattle.htmd_text.specs.Trims.{trimmed_text as trimmed}
 use Rattle.htmd_text.specs.WhiteSpace.{is_document_white_space}
 use Rattle.htmd_text.specs.BlankLines.{with_blank_lines}
 use Rattle.htmd_markdown.specs.declared.heading.HeadingStyle.{HeadingStyle}

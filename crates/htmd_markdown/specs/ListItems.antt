@@ -4,7 +4,7 @@ use Rattle.std.specs.Fmt.{decimal}
 use Rattle.htmd_text.specs.Characters.{line_feed, space, asterisk, hyphen, full_stop}
 use Rattle.htmd_text.specs.WhiteSpace.{is_document_white_space}
 use Rattle.htmd_text.specs.Trims.{trimmed_start, is_line_feed}
-use Rattle.htmd_text.specs.Indents.{indented}
+use Rattle.htmd_text.specs.Indents.{indented_text as indented}
 use Rattle.htmd_text.specs.Digits.{digits}
 use Rattle.htmd_markdown.specs.declared.list.BulletListMarker.{BulletListMarker}
 use Rattle.htmd_markdown.specs.declared.list.BulletListMarker.TheVariants.{Asterisk, Dash}

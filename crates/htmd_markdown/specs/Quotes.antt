@@ -2,7 +2,7 @@
 use Rattle.std.specs.Prelude.{ℕ, List, [], ◌∷◌, ◌++◌, map, codes}
 use Rattle.std.specs.Str.Lines.{lines}
 use Rattle.htmd_text.specs.Characters.{line_feed}
-use Rattle.htmd_text.specs.Joins.{joined}
+use Rattle.htmd_text.specs.Joins.{joined_texts as joined}
 use Rattle.htmd_text.specs.Trims.{trimmed_start, trimmed_end, is_line_feed}
 use Rattle.htmd_text.specs.WhiteSpace.{is_document_white_space}
 use Rattle.htmd_text.specs.BlankLines.{with_blank_lines}

@@ -1,7 +1,7 @@
 //! List items and lists (CommonMark 0.31.2, 5.2 and 5.3).
 ghost use Rattle.std.specs.Prelude.{◌≡◌, ◌-◌, ◌<◌, true, ◌++◌, IfOk, OnOk, length, map, string_bytes};
 ghost use Rattle.std.specs.Option.{option_copied, option_map};
-ghost use Rattle.htmd_text.specs.Indents.{indented};
+ghost use Rattle.htmd_text.specs.Indents.{indented_text as indented};
 ghost use Rattle.htmd_text.specs.Trims.{trimmed_start, is_line_feed};
 ghost use Rattle.htmd_markdown.specs.ListItems as items;
 ghost use Rattle.htmd_markdown.specs.Lists as spec;

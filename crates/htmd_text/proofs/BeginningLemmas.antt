@@ -11,7 +11,7 @@ use Rattle.std.proofs.lemmas.List.Sums.{prefix_len_passes, prefix_len_is, take_w
 use Rattle.std.proofs.lemmas.Str.{encode_ascii}
 use Rattle.htmd_text.specs.Characters.{backslash, space, full_stop, number_sign, is_one_of}
 use Rattle.htmd_text.specs.ListMarkers.{is_numeric, number_signs, is_atx_heading, numerals_len, dots_len, ordered_item_dot}
-use Rattle.htmd_text.specs.EscapeMarks.{with_backslashes, is_always_marked, is_html_mark, begins_block, numbered_item_dot, is_place, is_marked, escaped}
+use Rattle.htmd_text.specs.EscapeMarks.{with_backslashes, is_always_marked, is_html_mark, begins_block, numbered_item_dot, is_place, is_marked, escaped_markdown}
 use Rattle.htmd_text.specs.PlainText.{begins_item}
 use Rattle.htmd_text.proofs.ListMarkersLemmas.{numeric-ascii}
 use Rattle.htmd_text.proofs.MarksLemmas.{dot_at, place_if}
@@ -70,15 +70,15 @@ sign_at : (w : List ℕ) → is_marked w 0 ≡ false → (i : ℕ) → (get_or w
 sign_at w start zero sign = start
 sign_at w start (suc i) sign = sign_unmarked w (suc i) (omega arith) sign
 
-no_heading : (w : List ℕ) → is_marked w 0 ≡ false → is_atx_heading w ≡ false → is_atx_heading (escaped w) ≡ false
+no_heading : (w : List ℕ) → is_marked w 0 ≡ false → is_atx_heading w ≡ false → is_atx_heading (escaped_markdown w) ≡ false
 no_heading w start closed =
     let p : ℕ → Bool = λ b. b == number_sign in
     let from_start : (i : ℕ) → is_marked w (0 + i) ≡ is_marked w i = λ i. ap (is_marked w) (omega arith) in
-    let len : number_signs (escaped w) ≡ number_signs w = front_len p (is_marked w) 0 w refl (λ i lt e. from_start i ∙ sign_at w start i e) in
+    let len : number_signs (escaped_markdown w) ≡ number_signs w = front_len p (is_marked w) 0 w refl (λ i lt e. from_start i ∙ sign_at w start i e) in
     let next = stays_or_backslash (is_marked w) 0 w (number_signs w) (λ i lt. from_start i ∙ sign_at w start i (prefix_len_passes p w i 0 lt)) in
     let at_next : (x : ℕ) → (x ≡ get_or w (number_signs w) 0) ⊎ (x ≡ backslash) → (nat_lt 0 (number_signs w) && (x == space)) ≡ false =
     λ x. ⊎_elim (λ e. ap (λ y. nat_lt 0 (number_signs w) && (y == space)) e ∙ closed) (λ e. and_right (nat_lt 0 (number_signs w)) (x == space) (ap (λ y. y == space) e)) in
-    subst (λ (n : ℕ). (nat_lt 0 n && (slice_index (escaped w) n == space)) ≡ false) (sym len) (at_next (get_or (escaped w) (number_signs w) 0) next)
+    subst (λ (n : ℕ). (nat_lt 0 n && (slice_index (escaped_markdown w) n == space)) ≡ false) (sym len) (at_next (get_or (escaped_markdown w) (number_signs w) 0) next)
 
 no_heading_of : (w : List ℕ) → begins_block w ≡ false → is_atx_heading w ≡ false
 no_heading_of [] plain = refl
@@ -100,13 +100,13 @@ no_block_of w (b ∷ s) whole =
     (λ here. rw here refl)
     (λ start.
     let plain = at_start w start in
-    let same : escaped w ≡ b ∷ with_backslashes (is_marked w) 1 s = ap (with_backslashes (is_marked w) 0) whole ∙ rw start refl in
+    let same : escaped_markdown w ≡ b ∷ with_backslashes (is_marked w) 1 s = ap (with_backslashes (is_marked w) 0) whole ∙ rw start refl in
     let heading : is_atx_heading w ≡ false = no_heading_of w plain in
     let closed = ap is_atx_heading (sym same) ∙ no_heading w start heading in
     rw start (no_block_first w b s closed (ap begins_block (sym whole) ∙ plain)))
     (cases_Bool (is_marked w 0))
 
-pub no_block : (w : List ℕ) → begins_block (escaped w) ≡ false
+pub no_block : (w : List ℕ) → begins_block (escaped_markdown w) ≡ false
 no_block w = no_block_of w w refl
 
 -- ---- it does not begin an ordered list item
@@ -183,17 +183,17 @@ item_marked w d e some within here next =
     let place : (d == numerals_len w + dots_len w - 1) ≡ true = grind (arith, nat_tests) in
     or_right _ _ (ap (λ o. is_place o d) marked ∙ place)
 
-pub no_item : (w : List ℕ) → begins_item (escaped w) ≡ false
-no_item w = false_from_ne_true (begins_item (escaped w)) (λ e.
+pub no_item : (w : List ℕ) → begins_item (escaped_markdown w) ≡ false
+no_item w = false_from_ne_true (begins_item (escaped_markdown w)) (λ e.
     let d = prefix_len is_ascii_digit w in
     let from_start : (i : ℕ) → is_marked w (0 + i) ≡ is_marked w i = λ i. ap (is_marked w) (omega arith) in
-    let len : prefix_len is_ascii_digit (escaped w) ≡ d = front_len is_ascii_digit (is_marked w) 0 w refl (λ i lt digit. from_start i ∙ digit_unmarked w i digit) in
-    let test = subst (λ (n : ℕ). (nat_lt 0 n && (slice_index (escaped w) n == full_stop) && (slice_index (escaped w) (n + 1) == space)) ≡ true) len e in
-    let two = and_parts (nat_lt 0 d && (slice_index (escaped w) d == full_stop)) _ test in
+    let len : prefix_len is_ascii_digit (escaped_markdown w) ≡ d = front_len is_ascii_digit (is_marked w) 0 w refl (λ i lt digit. from_start i ∙ digit_unmarked w i digit) in
+    let test = subst (λ (n : ℕ). (nat_lt 0 n && (slice_index (escaped_markdown w) n == full_stop) && (slice_index (escaped_markdown w) (n + 1) == space)) ≡ true) len e in
+    let two = and_parts (nat_lt 0 d && (slice_index (escaped_markdown w) d == full_stop)) _ test in
     let one = and_parts (nat_lt 0 d) _ two.0 in
     let some : 0 < d = grind (arith, nat_tests, one.0) in
-    let dot : get_or (escaped w) d 0 ≡ full_stop = grind (arith, nat_tests, one.1) in
-    let gap : get_or (escaped w) (d + 1) 0 ≡ space = grind (arith, nat_tests, two.1) in
+    let dot : get_or (escaped_markdown w) d 0 ≡ full_stop = grind (arith, nat_tests, one.1) in
+    let gap : get_or (escaped_markdown w) (d + 1) 0 ≡ space = grind (arith, nat_tests, two.1) in
     let digits : (i : ℕ) → i < d → is_marked w (0 + i) ≡ false = λ i lt. from_start i ∙ digit_unmarked w i (prefix_len_passes is_ascii_digit w i 0 lt) in
     let here : get_or w d 0 ≡ full_stop = ⊎_elim (λ same. sym same ∙ dot) (λ mark. absurd (omega arith)) (stays_or_backslash (is_marked w) 0 w d digits) in
     let within : d < length w = ⊎_elim (λ lt. lt) (λ past. absurd (omega (arith, get_or_past w d 0 past))) (cases_lt d (length w)) in

@@ -4,33 +4,33 @@ use lib.Utf8.{encode}
 use Rattle.std.specs.Str.{chars}
 use Rattle.unicode.proofs.CategoryComputing.{ucd_category}
 use Rattle.htmd_text.specs.ListMarkers.{is_atx_heading}
-use Rattle.htmd_text.specs.EscapeMarks.{escaped, html_escaped, pre_escaped}
-use Rattle.htmd_text.specs.WhiteSpace.{squeezed}
+use Rattle.htmd_text.specs.EscapeMarks.{escaped_markdown, escaped_angle_brackets, escaped_pre_text}
+use Rattle.htmd_text.specs.WhiteSpace.{squeezed_text}
 use Rattle.htmd_text.specs.Blocks.{is_block}
 use Rattle.htmd_text.specs.BlankLines.{with_blank_lines}
 
-pub bullet : escaped (codes "- x") ≡ codes "\\- x"
+pub bullet : escaped_markdown (codes "- x") ≡ codes "\\- x"
 bullet = refl
 
-pub no_bullet : escaped (codes "--- a") ≡ codes "--- a"
+pub no_bullet : escaped_markdown (codes "--- a") ≡ codes "--- a"
 no_bullet = refl
 
-pub cdata : escaped (codes "<![CDATA[x]]>") ≡ codes "<!\\[CDATA\\[x\\]\\]>"
+pub cdata : escaped_markdown (codes "<![CDATA[x]]>") ≡ codes "<!\\[CDATA\\[x\\]\\]>"
 cdata = refl
 
-pub tag : escaped (codes "\\<a>") ≡ codes "\\\\\\<a>"
+pub tag : escaped_markdown (codes "\\<a>") ≡ codes "\\\\\\<a>"
 tag = refl
 
-pub escaped_cdata : escaped (codes "<!\\[CDATA\\[x") ≡ codes "\\<!\\\\\\[CDATA\\\\\\[x"
+pub escaped_cdata : escaped_markdown (codes "<!\\[CDATA\\[x") ≡ codes "\\<!\\\\\\[CDATA\\\\\\[x"
 escaped_cdata = refl
 
-pub html : html_escaped (codes "<!\\[CDATA\\[x<!--</a<?<a< b") ≡ codes "<!\\[CDATA\\[x\\<!--\\</a\\<?\\<a< b"
+pub html : escaped_angle_brackets (codes "<!\\[CDATA\\[x<!--</a<?<a< b") ≡ codes "<!\\[CDATA\\[x\\<!--\\</a\\<?\\<a< b"
 html = refl
 
-pub fence : pre_escaped (codes "```") ≡ codes "\\```"
+pub fence : escaped_pre_text (codes "```") ≡ codes "\\```"
 fence = refl
 
-pub white_space : squeezed (codes "a  b\t\n c ") ≡ codes "a b c "
+pub white_space : squeezed_text (codes "a  b\t\n c ") ≡ codes "a b c "
 white_space = refl
 
 pub heading : is_atx_heading (codes "####### a") ≡ true
@@ -47,11 +47,11 @@ pub no_block : is_block (codes "tables") ≡ false
 unfolding is_block
 no_block = refl
 
-pub item : escaped (codes "1. a") ≡ codes "1\\. a"
+pub item : escaped_markdown (codes "1. a") ≡ codes "1\\. a"
 unfolding chars encode ucd_category
 item = refl
 
-pub two_dots : escaped (codes "1.. x") ≡ codes "1.\\. x"
+pub two_dots : escaped_markdown (codes "1.. x") ≡ codes "1.\\. x"
 unfolding chars encode ucd_category
 two_dots = refl
 

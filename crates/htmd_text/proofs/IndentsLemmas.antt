@@ -5,7 +5,7 @@ use Rattle.std.specs.Str.Lines.{lines}
 use Rattle.std.proofs.lemmas.List.{take_more, map_push, flat_map_more, length-map, length-take-le, length_push, append-nil}
 use Rattle.std.proofs.lemmas.Bool.{cond-false}
 use Rattle.std.proofs.lemmas.Bool.Decides.{nat_tests}
-use Rattle.htmd_text.specs.Indents.{next_line, line_text, indented_lines, indented}
+use Rattle.htmd_text.specs.Indents.{next_line, line_text, indented_lines, indented_text}
 
 indented_push : (indent : ℕ) (zs : List (List ℕ)) (x : List ℕ) → 0 < length zs → indented_lines indent (zs ++ x ∷ []) ≡ indented_lines indent zs ++ next_line indent x
 indented_push indent [] x some = absurd (omega arith)
@@ -28,7 +28,7 @@ later_line indent f ls n x out here some was =
 pub pushed_some : {X : Type 0} (xs : List X) (x : X) → false ≡ (length (xs ++ x ∷ []) == 0)
 pushed_some xs x = let size = length_push xs x in grind (arith, nat_tests)
 
-pub lines_indented : (s : List ℕ) (indent : ℕ) (trim_line_end : Bool) → ¬ (indent ≡ 0) → indented_lines indent (map (line_text trim_line_end) (lines s)) ≡ indented s indent trim_line_end
+pub lines_indented : (s : List ℕ) (indent : ℕ) (trim_line_end : Bool) → ¬ (indent ≡ 0) → indented_lines indent (map (line_text trim_line_end) (lines s)) ≡ indented_text s indent trim_line_end
 lines_indented s indent trim_line_end some =
     let test : (indent == 0) ≡ false = grind (arith, nat_tests) in
     sym (cond-false (indent == 0) s (indented_lines indent (map (line_text trim_line_end) (lines s))) test)

@@ -11,12 +11,12 @@ use Rattle.std.proofs.lemmas.List.{map_more, map_push, flat_map_more, length_pus
 use Rattle.std.proofs.lemmas.List.Sums.{fold_push}
 use Rattle.htmd_text.specs.Characters.{line_feed}
 use Rattle.htmd_text.specs.Trims.{trimmed_start, trimmed_end, is_line_feed}
-use Rattle.htmd_text.specs.Joins.{joined, seam, join_block, joined_blocks}
+use Rattle.htmd_text.specs.Joins.{joined_texts, block_separator, join_block, joined_blocks}
 
 pub joined_more : {X : Type 0} (bytes : X → List ℕ) (xs : List X) (i : ℕ) (d : X) → i < length xs → joined_blocks (map bytes (take (i + 1) xs)) ≡ join_block (joined_blocks (map bytes (take i xs))) (bytes (get_or xs i d))
 joined_more bytes xs i d lt = ap joined_blocks (map_more bytes xs i d lt) ∙ fold_push join_block [] (map bytes (take i xs)) (bytes (get_or xs i d))
 
-pub block_joined : (out block : List ℕ) → 0 < length block → join_block out block ≡ (trimmed_end is_line_feed out ++ seam out block) ++ trimmed_start is_line_feed block
+pub block_joined : (out block : List ℕ) → 0 < length block → join_block out block ≡ (trimmed_end is_line_feed out ++ block_separator out block) ++ trimmed_start is_line_feed block
 block_joined out [] some = absurd (omega arith)
 block_joined out (b ∷ block) some = refl
 
@@ -43,7 +43,7 @@ pub some_more : {A : Type 0} (xs : List A) (y : A) → 0 < length (xs ++ y ∷ [
 some_more xs y = omega (arith, length_push xs y)
 
 -- one more item
-pub item_joined : {A : Type 0} (text : A → List ℕ) (separator : List ℕ) (xs : List A) (y : A) → 0 < length xs → joined separator (map text (xs ++ y ∷ [])) ≡ joined separator (map text xs) ++ (separator ++ text y)
+pub item_joined : {A : Type 0} (text : A → List ℕ) (separator : List ℕ) (xs : List A) (y : A) → 0 < length xs → joined_texts separator (map text (xs ++ y ∷ [])) ≡ joined_texts separator (map text xs) ++ (separator ++ text y)
 item_joined text separator [] y some = absurd (omega arith)
 item_joined text separator (x ∷ xs) y some =
     ap (λ l. text x ++ flat_map (λ next. separator ++ next) l) (map_push text xs y) ∙ sym (flat_map_more (λ next. separator ++ next) (text x) (map text xs) (text y))

@@ -7,7 +7,7 @@ use Rattle.std.proofs.lemmas.Bool.{or_parts, or_from, or_left, or_right, not_fro
 use Rattle.std.proofs.lemmas.Bool.Decides.{Decides-eqb}
 use Rattle.std.proofs.lemmas.Slice.Eq.{starts_is}
 use Rattle.htmd_text.specs.Characters.{backslash, less_than_sign, question_mark, slash, exclamation_mark}
-use Rattle.htmd_text.specs.EscapeMarks.{with_backslashes, is_always_marked, is_html_mark, opens_html, begins_block, numbered_item_dot, is_place, is_marked, escaped}
+use Rattle.htmd_text.specs.EscapeMarks.{with_backslashes, is_always_marked, is_html_mark, opens_html, begins_block, numbered_item_dot, is_place, is_marked, escaped_markdown}
 use Rattle.htmd_text.specs.PlainText.{each_bare, begins_no_inline, begins_no_html, follows_no_html}
 use Rattle.htmd_text.proofs.MarksLemmas.{marked_is_punctuation, unmarked_is_no_backslash}
 
@@ -46,7 +46,7 @@ unmarked_parts w i e =
     let begins = (i == 0) && begins_block w in
     or_parts special html (or_parts (special || html) begins (or_parts (special || html || begins) (is_place (numbered_item_dot w) i) e).0).0
 
-pub no_inline : (w : List ℕ) → each_bare begins_no_inline (escaped w) ≡ true
+pub no_inline : (w : List ℕ) → each_bare begins_no_inline (escaped_markdown w) ≡ true
 no_inline w = each_bare-escaped begins_no_inline w 0 w refl
     (λ i b t part m. not_from_false (is_always_marked b) (ap is_always_marked (tail_part w i b t part).1 ∙ (unmarked_parts w i m).0))
 
@@ -117,5 +117,5 @@ bare_less w i b t part m =
     let mark : ((b == less_than_sign) && opens_html t) ≡ false = rw (parts.1, behind) (unmarked_parts w i m).1 in
     ⊎_elim (λ other. or_left _ _ (not_from_false (b == less_than_sign) other)) (λ closed. or_right _ _ (follows w (suc i) t parts.0 closed)) (and_cases (b == less_than_sign) (opens_html t) mark)
 
-pub no_html : (w : List ℕ) → each_bare begins_no_html (escaped w) ≡ true
+pub no_html : (w : List ℕ) → each_bare begins_no_html (escaped_markdown w) ≡ true
 no_html w = each_bare-escaped begins_no_html w 0 w refl (bare_less w)

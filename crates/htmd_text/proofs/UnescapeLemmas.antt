@@ -3,7 +3,7 @@ use Rattle.std.proofs.Common.{◌≡◌, ℕ, suc, ◌+◌, ◌<◌, Bool, true,
 use Rattle.std.specs.Prelude.{◌==◌}
 use Rattle.std.specs.Char.{is_ascii_punctuation}
 use Rattle.htmd_text.specs.Characters.{backslash}
-use Rattle.htmd_text.specs.EscapeMarks.{with_backslashes, is_marked, escaped}
+use Rattle.htmd_text.specs.EscapeMarks.{with_backslashes, is_marked, escaped_markdown}
 use Rattle.htmd_text.specs.Unescape.{unescape}
 use Rattle.htmd_text.proofs.MarksLemmas.{marked_is_punctuation, unmarked_is_no_backslash}
 
@@ -27,7 +27,7 @@ reads_back marked k (b ∷ s) punctuation plain =
     let rest = reads_back marked (suc k) s (λ i m. punctuation (suc i) (next i ∙ m)) (λ i lt m. plain (suc i) (omega arith) (next i ∙ m)) in
     one_more (marked k) b s (with_backslashes marked (suc k) s) (λ m. punctuation 0 (here ∙ m)) (λ m. plain 0 (omega arith) (here ∙ m)) rest
 
-pub unescape-escaped : (s : List ℕ) → unescape (escaped s) ≡ s
+pub unescape-escaped : (s : List ℕ) → unescape (escaped_markdown s) ≡ s
 unescape-escaped s =
     let from_start : (i : ℕ) → is_marked s i ≡ is_marked s (0 + i) = λ i. ap (is_marked s) (omega arith) in
     reads_back (is_marked s) 0 s (λ i m. marked_is_punctuation s i (from_start i ∙ m)) (λ i _ m. unmarked_is_no_backslash s i (from_start i ∙ m))

@@ -10,7 +10,7 @@ use Rattle.std.proofs.lemmas.List.Edits.{between_more, between_none}
 use Rattle.std.proofs.lemmas.Slice.{between_to_end}
 use Rattle.std.proofs.lemmas.Str.{IsCharBoundary-start, IsCharBoundary-after_ascii}
 use Rattle.htmd_text.specs.Characters.{space}
-use Rattle.htmd_text.specs.WhiteSpace.{is_ascii_white_space, begins_with_white_space, squeezed, is_squeezed}
+use Rattle.htmd_text.specs.WhiteSpace.{is_ascii_white_space, begins_with_white_space, squeezed_text, is_squeezed}
 use Rattle.htmd_text.specs.Replacement.{IsReplaced}
 
 shorter : (w v : Bool) (b : ℕ) (s rest : List ℕ) → length rest ≤ length s → length (cond w (cond v rest (space ∷ rest)) (b ∷ rest)) ≤ suc (length s)
@@ -19,9 +19,9 @@ shorter true false b s rest le = omega (arith, le)
 shorter false v b s rest le = omega (arith, le)
 
 -- no text becomes longer
-pub squeezed_le : (s : List ℕ) → length (squeezed s) ≤ length s
+pub squeezed_le : (s : List ℕ) → length (squeezed_text s) ≤ length s
 squeezed_le [] = omega arith
-squeezed_le (b ∷ s) = shorter (is_ascii_white_space b) (begins_with_white_space s) b s (squeezed s) (squeezed_le s)
+squeezed_le (b ∷ s) = shorter (is_ascii_white_space b) (begins_with_white_space s) b s (squeezed_text s) (squeezed_le s)
 
 same_rest : (w v : Bool) (b : ℕ) (s rest : List ℕ) → length rest ≤ length s → cond w (cond v rest (space ∷ rest)) (b ∷ rest) ≡ b ∷ s → rest ≡ s
 same_rest true true b s rest le same = absurd (omega (arith, le, ap length same))
@@ -29,32 +29,32 @@ same_rest true false b s rest le same = cc
 same_rest false v b s rest le same = cc
 
 -- a text that is squeezed already stays so without its first byte
-pub squeezed_tail : (b : ℕ) (s : List ℕ) → squeezed (b ∷ s) ≡ b ∷ s → squeezed s ≡ s
-squeezed_tail b s same = same_rest (is_ascii_white_space b) (begins_with_white_space s) b s (squeezed s) (squeezed_le s) same
+pub squeezed_tail : (b : ℕ) (s : List ℕ) → squeezed_text (b ∷ s) ≡ b ∷ s → squeezed_text s ≡ s
+squeezed_tail b s same = same_rest (is_ascii_white_space b) (begins_with_white_space s) b s (squeezed_text s) (squeezed_le s) same
 
 -- white space before more of it goes
 pub inner_replaced : (b : ℕ) (s : List ℕ) → is_ascii_white_space b ≡ true → begins_with_white_space s ≡ true → IsReplaced (b ∷ s) []
 inner_replaced b s white more =
-    let whole : squeezed (b ∷ s) ≡ squeezed s = rw (white, more) refl in
+    let whole : squeezed_text (b ∷ s) ≡ squeezed_text s = rw (white, more) refl in
     record { white = white; whole = whole }
 
 -- the last white space of a run becomes a space
 pub last_replaced : (b : ℕ) (s : List ℕ) → is_ascii_white_space b ≡ true → begins_with_white_space s ≡ false → b ≢ space → IsReplaced (b ∷ s) (space ∷ [])
 last_replaced b s white last other =
-    let whole : squeezed (b ∷ s) ≡ space ∷ squeezed s = rw (white, last) refl in
+    let whole : squeezed_text (b ∷ s) ≡ space ∷ squeezed_text s = rw (white, last) refl in
     record { white = white; whole = whole }
 
-pub space_stays : (s : List ℕ) → begins_with_white_space s ≡ false → squeezed (space ∷ s) ≡ space ∷ squeezed s
+pub space_stays : (s : List ℕ) → begins_with_white_space s ≡ false → squeezed_text (space ∷ s) ≡ space ∷ squeezed_text s
 space_stays s last = rw last refl
 
-pub other_stays : (b : ℕ) (s : List ℕ) → is_ascii_white_space b ≡ false → squeezed (b ∷ s) ≡ b ∷ squeezed s
+pub other_stays : (b : ℕ) (s : List ℕ) → is_ascii_white_space b ≡ false → squeezed_text (b ∷ s) ≡ b ∷ squeezed_text s
 other_stays b s other = rw other refl
 
 -- What was written, the piece that waits, and what the rest becomes, are the whole.
 pub record Squeezing (s out : List ℕ) (from i : ℕ) : Type 0 where
   pub in_order : from ≤ i
   pub cut : IsCharBoundary s from
-  pub whole : out ++ (between from i s ++ squeezed (drop i s)) ≡ squeezed s
+  pub whole : out ++ (between from i s ++ squeezed_text (drop i s)) ≡ squeezed_text s
 
 pub squeezing_none : (s out : List ℕ) → IsUtf8 s → out ≡ [] → Squeezing s out 0 0
 squeezing_none s out text none = record {
@@ -66,14 +66,14 @@ squeezing_none s out text none = record {
 rest_of : (s : List ℕ) (i : ℕ) → drop 1 (drop i s) ≡ drop (i + 1) s
 rest_of s i = drop-drop 1 i s
 
-pub squeezing_stays : (s out : List ℕ) (from i : ℕ) → i < length s → squeezed (drop i s) ≡ take 1 (drop i s) ++ squeezed (drop 1 (drop i s)) → Squeezing s out from i → Squeezing s out from (i + 1)
+pub squeezing_stays : (s out : List ℕ) (from i : ℕ) → i < length s → squeezed_text (drop i s) ≡ take 1 (drop i s) ++ squeezed_text (drop 1 (drop i s)) → Squeezing s out from i → Squeezing s out from (i + 1)
 squeezing_stays s out from i lt stays was = record {
   in_order = omega (arith, was.in_order);
   cut = was.cut;
   whole =
-      let rest = squeezed (drop (i + 1) s) in
-      let first : squeezed (drop i s) ≡ get_or s i 0 ∷ rest =
-      stays ∙ ap (λ l. take 1 l ++ squeezed (drop 1 l)) (drop_more s i 0 lt) in
+      let rest = squeezed_text (drop (i + 1) s) in
+      let first : squeezed_text (drop i s) ≡ get_or s i 0 ∷ rest =
+      stays ∙ ap (λ l. take 1 l ++ squeezed_text (drop 1 l)) (drop_more s i 0 lt) in
       let piece = between_more s from i 0 was.in_order lt in
       let grown : between from (i + 1) s ++ rest ≡ between from i s ++ get_or s i 0 ∷ rest =
       ap (λ l. l ++ rest) piece ∙ append_assoc (between from i s) (get_or s i 0 ∷ []) rest in
@@ -91,14 +91,14 @@ squeezing_replaced s out instead from i text lt here was = record {
       let ascii = white_is_ascii (slice_index (drop i s) 0) here.white in
       IsCharBoundary-after_ascii s i text lt (omega arith);
   whole =
-      let rest : squeezed (drop i s) ≡ instead ++ squeezed (drop (i + 1) s) = here.whole ∙ ap (λ l. instead ++ squeezed l) (rest_of s i) in
+      let rest : squeezed_text (drop i s) ≡ instead ++ squeezed_text (drop (i + 1) s) = here.whole ∙ ap (λ l. instead ++ squeezed_text l) (rest_of s i) in
       rw (between_none s (i + 1), append_assoc, append_assoc) (ap (λ l. out ++ (between from i s ++ l)) (sym rest) ∙ was.whole);
 }
 
-pub squeezing_all : (s out : List ℕ) (from i : ℕ) → length s ≤ i → Squeezing s out from i → out ++ between from (length s) s ≡ squeezed s
+pub squeezing_all : (s out : List ℕ) (from i : ℕ) → length s ≤ i → Squeezing s out from i → out ++ between from (length s) s ≡ squeezed_text s
 squeezing_all s out from i past was =
     let piece : between from (length s) s ≡ between from i s = between_to_end s from (length s) (omega arith) ∙ sym (between_to_end s from i past) in
-    let ended : squeezed (drop i s) ≡ [] = ap squeezed (drop_all i s past) in
+    let ended : squeezed_text (drop i s) ≡ [] = ap squeezed_text (drop_all i s past) in
     rw piece (ap (λ l. out ++ l) (sym (append-nil (between from i s)) ∙ ap (λ l. between from i s ++ l) (sym ended)) ∙ was.whole)
 
 -- ---- a text whose white space is spaces alone
@@ -111,7 +111,7 @@ space_here : (white after_white : Bool) (b : ℕ) → white ≡ true → (not wh
 space_here false after_white b e front = absurd (false≢true e)
 space_here true after_white b e front = let test = (and_parts (not after_white) (b == space) front).1 in grind (arith, nat_tests)
 
-pub squeezed_stays : (s : List ℕ) (after_white : Bool) → is_squeezed after_white s ≡ true → squeezed s ≡ s
+pub squeezed_stays : (s : List ℕ) (after_white : Bool) → is_squeezed after_white s ≡ true → squeezed_text s ≡ s
 squeezed_stays [] after_white e = refl
 squeezed_stays (b ∷ s) after_white e =
     let alone = not after_white && (b == space) in
@@ -141,11 +141,11 @@ stays_squeezed true false b s rest white last le same alone =
     ∙ behind_white s last ∙ alone
 stays_squeezed false v b s rest other w le same alone = ap (λ w. (not w || (true && (b == space))) && is_squeezed w s) other ∙ alone
 
-same_is_squeezed : (s : List ℕ) → squeezed s ≡ s → is_squeezed false s ≡ true
+same_is_squeezed : (s : List ℕ) → squeezed_text s ≡ s → is_squeezed false s ≡ true
 same_is_squeezed [] same = refl
 same_is_squeezed (b ∷ s) same =
-    stays_squeezed (is_ascii_white_space b) (begins_with_white_space s) b s (squeezed s) refl refl (squeezed_le s) same (same_is_squeezed s (squeezed_tail b s same))
+    stays_squeezed (is_ascii_white_space b) (begins_with_white_space s) b s (squeezed_text s) refl refl (squeezed_le s) same (same_is_squeezed s (squeezed_tail b s same))
 
 -- a text that is not squeezed yet changes
-pub changes : (s : List ℕ) → is_squeezed false s ≡ false → squeezed s ≡ s → ⊥
+pub changes : (s : List ℕ) → is_squeezed false s ≡ false → squeezed_text s ≡ s → ⊥
 changes s e same = false≢true (sym e ∙ same_is_squeezed s same)

@@ -67,13 +67,13 @@ is_marked s k =
     || is_place (numbered_item_dot s) k
 
 -- the text as Markdown that is read as the text
-abbrev pub escaped : List ℕ → List ℕ
-escaped s = with_backslashes (is_marked s) 0 s
+abbrev pub escaped_markdown : List ℕ → List ℕ
+escaped_markdown s = with_backslashes (is_marked s) 0 s
 
 -- the text in which no `<` opens HTML
-abbrev pub html_escaped : List ℕ → List ℕ
-html_escaped s = with_backslashes (is_html_mark_alone s) 0 s
+abbrev pub escaped_angle_brackets : List ℕ → List ℕ
+escaped_angle_brackets s = with_backslashes (is_html_mark_alone s) 0 s
 
 -- the text of a `pre` in which nothing opens a fence (CommonMark 0.31.2, 4.5)
-abbrev pub pre_escaped : List ℕ → List ℕ
-pre_escaped s = if is_one_of (codes "`~") (slice_index s 0) then backslash ∷ s else s
+abbrev pub escaped_pre_text : List ℕ → List ℕ
+escaped_pre_text s = if is_one_of (codes "`~") (slice_index s 0) then backslash ∷ s else s

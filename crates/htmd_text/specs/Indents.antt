@@ -26,6 +26,6 @@ indented_lines indent (first ∷ rest) = first ++ flat_map (next_line indent) re
 
 -- The text whose lines (those of Rust's `str::lines`) stand behind so many spaces, except the
 -- first; without spaces the text itself.
-abbrev pub indented : List ℕ → ℕ → Bool → List ℕ
-indented s indent trim_line_end =
+abbrev pub indented_text : List ℕ → ℕ → Bool → List ℕ
+indented_text s indent trim_line_end =
     if indent == 0 then s else indented_lines indent (map (line_text trim_line_end) (lines s))

@@ -13,8 +13,8 @@ abbrev pub trimmed_end : (ℕ → Bool) → List ℕ → List ℕ
 trimmed_end passes s = take (length s - suffix_len passes s) s
 
 -- the text without them at both ends
-abbrev pub trimmed : (ℕ → Bool) → List ℕ → List ℕ
-trimmed passes s = trimmed_end passes (trimmed_start passes s)
+abbrev pub trimmed_text : (ℕ → Bool) → List ℕ → List ℕ
+trimmed_text passes s = trimmed_end passes (trimmed_start passes s)
 
 -- the bytes at its start that pass
 abbrev pub cut_start : (ℕ → Bool) → List ℕ → List ℕ

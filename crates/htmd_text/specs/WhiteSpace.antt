@@ -18,12 +18,12 @@ begins_with_white_space (b ∷ s) = is_ascii_white_space b
 
 -- The text with each maximal run of ASCII white space as one space:
 -- the last of a run becomes a space, and the others go.
-abbrev pub squeezed : List ℕ → List ℕ
-squeezed [] = []
-squeezed (b ∷ s) =
+abbrev pub squeezed_text : List ℕ → List ℕ
+squeezed_text [] = []
+squeezed_text (b ∷ s) =
     if is_ascii_white_space b
-    then (if begins_with_white_space s then squeezed s else space ∷ squeezed s)
-    else b ∷ squeezed s
+    then (if begins_with_white_space s then squeezed_text s else space ∷ squeezed_text s)
+    else b ∷ squeezed_text s
 
 -- behind white space or not: each white space from here on is a space alone
 abbrev pub is_squeezed : Bool → List ℕ → Bool

@@ -25,13 +25,13 @@ pub(crate) enum Marks {
 
 /// The text with a backslash before each place that Markdown would read otherwise.
 pub fn escape_if_needed(alloc: Global, text: &str) -> Result<CowStr<'_>, AllocError>
-    ensures text { IfOk result (λ c. cow_str_bytes c ≡ spec.escaped text.now) }
+    ensures text { IfOk result (λ c. cow_str_bytes c ≡ spec.escaped_markdown text.now) }
     ensures reads_back { IfOk result (λ c. unescape (cow_str_bytes c) ≡ text.now) }
     ensures inline { IfOk result (λ c. IsTrue (each_bare begins_no_inline (cow_str_bytes c))) }
     ensures html { IfOk result (λ c. IsTrue (each_bare begins_no_html (cow_str_bytes c))) }
     ensures block { IfOk result (λ c. spec.begins_block (cow_str_bytes c) ≡ false) }
     ensures item { IfOk result (λ c. begins_item (cow_str_bytes c) ≡ false) }
-    ensures borrowed { spec.escaped text.now ≡ text.now → IsOkAnd result (λ c. IsBorrowedStr c) }
+    ensures borrowed { spec.escaped_markdown text.now ≡ text.now → IsOkAnd result (λ c. IsBorrowedStr c) }
 {
     let marks = Marks::Markdown {
         begins_block: begins_block(text),
@@ -42,8 +42,8 @@ pub fn escape_if_needed(alloc: Global, text: &str) -> Result<CowStr<'_>, AllocEr
 
 /// The text with a backslash before each `<` that opens HTML.
 pub fn escape_html(alloc: Global, text: &str) -> Result<CowStr<'_>, AllocError>
-    ensures text { IfOk result (λ c. cow_str_bytes c ≡ spec.html_escaped text.now) }
-    ensures borrowed { spec.html_escaped text.now ≡ text.now
+    ensures text { IfOk result (λ c. cow_str_bytes c ≡ spec.escaped_angle_brackets text.now) }
+    ensures borrowed { spec.escaped_angle_brackets text.now ≡ text.now
         → IsOkAnd result (λ c. IsBorrowedStr c) }
 {
     with_backslashes(alloc, text, Marks::Html)
@@ -51,8 +51,8 @@ pub fn escape_html(alloc: Global, text: &str) -> Result<CowStr<'_>, AllocError>
 
 /// The text with a backslash in front where it begins with a backquote or a tilde.
 pub fn escape_pre_text_if_needed(alloc: Global, text: &str) -> Result<CowStr<'_>, AllocError>
-    ensures text { IfOk result (λ c. cow_str_bytes c ≡ spec.pre_escaped text.now) }
-    ensures borrowed { spec.pre_escaped text.now ≡ text.now
+    ensures text { IfOk result (λ c. cow_str_bytes c ≡ spec.escaped_pre_text text.now) }
+    ensures borrowed { spec.escaped_pre_text text.now ≡ text.now
         → IsOkAnd result (λ c. IsBorrowedStr c) }
 {
     if !matches!(text.as_bytes(), [b'`' | b'~', ..]) {

@@ -14,7 +14,7 @@ pub fn indent_text_except_first_line(
     indent: usize,
     trim_line_end: bool,
 ) -> Result<String, AllocError>
-    ensures { IfOk result (λ t. string_bytes t ≡ spec.indented text.now indent trim_line_end) }
+    ensures { IfOk result (λ t. string_bytes t ≡ spec.indented_text text.now indent trim_line_end) }
 {
     if indent == 0 {
         return String::from_str(alloc, text);

@@ -20,7 +20,7 @@ pub trait JoinOnStringIterator: Iterator {
         requires finite { IsFinite (Self.remaining self.old) }
         ensures { IfOk result (λ s.
             WholeRun Self.next_gives self.old (λ p.
-            string_bytes s ≡ spec.joined separator.now (map Self.Item.text p.items))) }
+            string_bytes s ≡ spec.joined_texts separator.now (map Self.Item.text p.items))) }
     {
         let mut joined = String::new(alloc);
         let Some(first) = self.next() else {

@@ -3,7 +3,7 @@ ghost use Rattle.std.specs.Prelude.{◌≡◌, ◌-◌, ◌≤◌, length, strin
 ghost use Rattle.std.specs.Option.{option_copied};
 ghost use Rattle.std.specs.List.{prefix_len, suffix_len};
 ghost use Rattle.std.specs.Str.{trim_start, trim_end, IsCharBoundary};
-ghost use Rattle.htmd_text.specs.Trims.{trimmed, trimmed_start, trimmed_end, cut_start, cut_end, white_space_at_start, white_space_at_end, some_text, is_line_feed, is_space};
+ghost use Rattle.htmd_text.specs.Trims.{trimmed_text, trimmed_start, trimmed_end, cut_start, cut_end, white_space_at_start, white_space_at_end, some_text, is_line_feed, is_space};
 ghost use Rattle.htmd_text.specs.WhiteSpace as white;
 
 use crate::runs::{leading_len, trailing_len};
@@ -13,7 +13,7 @@ use std::convert::AsStr;
 pub trait TrimDocumentWhitespace: AsStr {
     /// The text without it at both ends.
     final fn trim_document_whitespace(&self) -> &str
-        ensures { result.now ≡ trimmed white.is_document_white_space (Self.text self.now) }
+        ensures { result.now ≡ trimmed_text white.is_document_white_space (Self.text self.now) }
     {
         without_document_end(without_document_start(self.as_str()))
     }
@@ -87,7 +87,7 @@ impl<S: AsStr> StripWhitespace for S {}
 
 /// Cuts the line feeds at both ends.
 pub fn trim_newlines(text: &mut String)
-    ensures { string_bytes text.new ≡ trimmed is_line_feed (string_bytes text.old) }
+    ensures { string_bytes text.new ≡ trimmed_text is_line_feed (string_bytes text.old) }
 {
     let start = leading_len(text.as_bytes(), b'\n');
     let removed = text.replace_range(..start, "");

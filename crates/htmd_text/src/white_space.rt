@@ -9,8 +9,8 @@ use std::borrow::CowStr;
 
 /// The text with each run of ASCII white space as one space.
 pub fn compress_whitespace(alloc: Global, text: &str) -> Result<CowStr<'_>, AllocError>
-    ensures text { IfOk result (λ c. cow_str_bytes c ≡ spec.squeezed text.now) }
-    ensures borrowed { spec.squeezed text.now ≡ text.now → IsOkAnd result (λ c. IsBorrowedStr c) }
+    ensures text { IfOk result (λ c. cow_str_bytes c ≡ spec.squeezed_text text.now) }
+    ensures borrowed { spec.squeezed_text text.now ≡ text.now → IsOkAnd result (λ c. IsBorrowedStr c) }
 {
     let bytes = text.as_bytes();
     if is_squeezed(bytes) {
@@ -48,7 +48,7 @@ fn is_squeezed(bytes: &[u8]) -> bool
 /// nothing for white space before more of it, a space for other white space.
 fn replacement(bytes: &[u8]) -> Option<&'static str>
     ensures { MatchOption result
-        (spec.squeezed bytes.now ≡ take 1 bytes.now ++ spec.squeezed (drop 1 bytes.now))
+        (spec.squeezed_text bytes.now ≡ take 1 bytes.now ++ spec.squeezed_text (drop 1 bytes.now))
         (λ instead. IsReplaced bytes.now instead.now) }
 {
     match bytes {

@@ -1,5 +1,5 @@
 use Rattle.std.proofs.Common.{◌++◌, ◌∙◌, ap, string_bytes, arith}
-use Rattle.htmd_text.specs.Trims.{trimmed, trimmed_end, is_line_feed}
+use Rattle.htmd_text.specs.Trims.{trimmed_text as trimmed, trimmed_end, is_line_feed}
 use Rattle.htmd_tree.specs.NumberedTrees.{tree_of, height}
 use Rattle.htmd.specs.Rendering.{conversion, rendered_within, content_alone}
 use Rattle.htmd.specs.Run.{run_ended, markdown}

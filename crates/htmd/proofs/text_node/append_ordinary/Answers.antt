@@ -1,7 +1,7 @@
 use Rattle.std.proofs.Common.{◌≡◌, ◌++◌, ◌∙◌, ◌||◌, ap, sym, string_bytes, ltb}
 use Rattle.std.specs.List.{suffix_len}
-use Rattle.htmd_text.specs.EscapeMarks.{escaped}
-use Rattle.htmd_text.specs.WhiteSpace.{squeezed}
+use Rattle.htmd_text.specs.EscapeMarks.{escaped_markdown as escaped}
+use Rattle.htmd_text.specs.WhiteSpace.{squeezed_text as squeezed}
 use Rattle.htmd.specs.Seams.{is_space, ends_with_space}
 use Rattle.htmd.specs.OrdinaryText.{without_first_space}
 use Rattle.htmd.proofs.text_node.append_ordinary.Goals as goal

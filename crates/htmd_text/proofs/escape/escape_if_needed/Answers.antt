@@ -6,7 +6,7 @@ use Rattle.htmd_text.proofs.PlainTextLemmas.{no_inline, no_html}
 use Rattle.htmd_text.proofs.BeginningLemmas.{no_block, no_item}
 use Rattle.std.proofs.lemmas.Result.{IfOk-weaker}
 use Rattle.std.specs.Cow.{cow_str_bytes, IsBorrowedStr}
-use Rattle.htmd_text.specs.EscapeMarks.{escaped, begins_block, numbered_item_dot, with_backslashes}
+use Rattle.htmd_text.specs.EscapeMarks.{escaped_markdown, begins_block, numbered_item_dot, with_backslashes}
 use Rattle.htmd_text.specs.Marks.{is_marked_by}
 use Rattle.htmd_text.specs.declared.escape.Marks.{Marks}
 use Rattle.htmd_text.specs.declared.escape.Marks.TheVariants.{Markdown}
@@ -31,8 +31,8 @@ returns-clause-borrowed c =
     subst (λ (m : Marks). with_backslashes (is_marked_by m s) 0 s ≡ s → IsOkAnd c.with_backslashes.result (λ t. IsBorrowedStr t)) same c.with_backslashes.ensures.borrowed
 
 -- what holds of the escaped text holds of the answer
-of_answer : (r : Result (CowStr Global) AllocError) (s : List ℕ) (P : List ℕ → Type 0) → P (escaped s) → IfOk r (λ t. cow_str_bytes t ≡ escaped s) → IfOk r (λ t. P (cow_str_bytes t))
-of_answer r s P here told = IfOk-weaker r (λ t. cow_str_bytes t ≡ escaped s) (λ t. P (cow_str_bytes t)) (λ t same. subst P (sym same) here) told
+of_answer : (r : Result (CowStr Global) AllocError) (s : List ℕ) (P : List ℕ → Type 0) → P (escaped_markdown s) → IfOk r (λ t. cow_str_bytes t ≡ escaped_markdown s) → IfOk r (λ t. P (cow_str_bytes t))
+of_answer r s P here told = IfOk-weaker r (λ t. cow_str_bytes t ≡ escaped_markdown s) (λ t. P (cow_str_bytes t)) (λ t same. subst P (sym same) here) told
 
 pub returns-clause-reads_back : goal.returns-clause-reads_back
 returns-clause-reads_back c = of_answer c.with_backslashes.result c.args.text.now (λ t. unescape t ≡ c.args.text.now) (unescape-escaped c.args.text.now) (returns-clause-text c)

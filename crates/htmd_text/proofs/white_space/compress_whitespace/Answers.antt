@@ -2,7 +2,7 @@ use Rattle.std.proofs.Common.{◌≡◌, ℕ, List, ◌++◌, take, drop, length
 use Rattle.std.specs.String.{string_bytes}
 use Rattle.std.specs.List.{between}
 use Rattle.std.proofs.lemmas.Slice.{between_to_end}
-use Rattle.htmd_text.specs.WhiteSpace.{squeezed, is_squeezed}
+use Rattle.htmd_text.specs.WhiteSpace.{squeezed_text, is_squeezed}
 use Rattle.htmd_text.specs.Replacement.{IsReplaced}
 use Rattle.htmd_text.proofs.WhiteSpaceLemmas.{squeezing_none, squeezing_stays, squeezing_replaced, squeezed_stays, changes}
 use Rattle.htmd_text.proofs.white_space.compress_whitespace.Goals as goal
@@ -26,7 +26,7 @@ loop-i-preserved c =
           ap string_bytes w.squeezed-is ∙ w.in_ok-push_str-2.ensures.bytes ∙ ap (λ l. l ++ w.in-Some.instead.now) piece in
           rw (written, w.from-is) step
       | in_default w ↦
-          let stays = subst (λ (l : List ℕ). squeezed l ≡ take 1 l ++ squeezed (drop 1 l)) rest w.in_default.ensures in
+          let stays = subst (λ (l : List ℕ). squeezed_text l ≡ take 1 l ++ squeezed_text (drop 1 l)) rest w.in_default.ensures in
           let step = squeezing_stays s (string_bytes c.loop-i.squeezed) c.loop-i.from i (omega arith) stays c.loop-i.invariant in
           rw (w.squeezed-is, w.from-is) step
     ]
