@@ -2,3 +2,10 @@
 pub mod SerialisationLemmas
 pub mod RawBlocksLemmas
 mod Examples
+mod BooleanLemmas
+mod PlacesLemmas
+mod ReferencedLineFeeds
+mod EscapeLemmas
+mod TagNamesLemmas
+mod TagsLemmas
+mod ReadBackLemmas

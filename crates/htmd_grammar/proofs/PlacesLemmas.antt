@@ -1,0 +1,85 @@
+-- Which names may stand where.
+use Rattle.std.proofs.Common.{Bool, List, [], codes, false, inl, inr, not, refl, sym, true, ℕ, ◌&&◌, ◌∙◌, ◌∷◌, ◌≡◌, ◌⊎◌}
+use Rattle.std.proofs.lemmas.Slice.Eq.{bytes_eq-Decides}
+use Rattle.std.specs.Str.{bytes_eq}
+use Rattle.htmd_grammar.specs.CharacterClasses.{is_among}
+use Rattle.htmd_grammar.specs.Places.{Context, fits_lists, fits_open_elements, fits_select, fits_table, is_allowed, is_outside, is_row, is_table, is_table_part, is_tbody, parent_name}
+use Rattle.htmd_grammar.specs.RawContent.{holds_text_alone}
+use Rattle.htmd_grammar.specs.Serialisation.{is_void}
+use Rattle.htmd_grammar.proofs.BooleanLemmas.{and_false, and_true, not_true, or_right, test}
+
+pub same_bytes : (n m : List ℕ) → bytes_eq n m ≡ true → n ≡ m
+same_bytes n m e = (bytes_eq-Decides n m).0 e
+
+pub bytes_same : (n : List ℕ) → bytes_eq n n ≡ true
+bytes_same n = (bytes_eq-Decides n n).1 refl
+
+pub one_name : (m n : List ℕ) → is_among (m ∷ []) n ≡ true → n ≡ m
+one_name m n e = same_bytes n m (sym (or_right (bytes_eq n m)) ∙ e)
+
+pub two_names : (a b n : List ℕ) → is_among (a ∷ b ∷ []) n ≡ true → (n ≡ a) ⊎ (n ≡ b)
+two_names a b n e = test (bytes_eq n a) (λ t. inl (same_bytes n a t)) (λ t. let w = rw t at e in inr (one_name b n w))
+
+pub tbody_not_table : (p : List ℕ) → is_tbody p ≡ true → is_table p ≡ true → ⊥
+tbody_not_table p t e = let q = one_name (codes "table") p e in let r = rw q at t in cc
+
+-- what the places ask, apart from what is open further out
+pub allowed_parts : (z : Bool) (c : Context) (n : List ℕ) → is_allowed z c n ≡ true
+    → (is_outside n ≡ false) × (holds_text_alone z (parent_name c) ≡ false) × (fits_table (parent_name c) n ≡ true)
+unfolding is_allowed
+allowed_parts z c n a =
+    let e = and_true (not (is_outside n) && not (holds_text_alone z (parent_name c)) && fits_table (parent_name c) n && fits_select (parent_name c) n && fits_open_elements c n) (fits_lists c n) a in
+    let f = and_true (not (is_outside n) && not (holds_text_alone z (parent_name c)) && fits_table (parent_name c) n && fits_select (parent_name c) n) (fits_open_elements c n) e.0 in
+    let g = and_true (not (is_outside n) && not (holds_text_alone z (parent_name c)) && fits_table (parent_name c) n) (fits_select (parent_name c) n) f.0 in
+    let h = and_true (not (is_outside n) && not (holds_text_alone z (parent_name c))) (fits_table (parent_name c) n) g.0 in
+    let i = and_true (not (is_outside n)) (not (holds_text_alone z (parent_name c))) h.0 in
+    (not_true (is_outside n) i.0, not_true (holds_text_alone z (parent_name c)) i.1, h.1)
+
+-- a row that stands in its place isn't right in a table
+pub row_place : (z : Bool) (p : List ℕ) (c : Context) (n : List ℕ) → is_allowed z (p ∷ c) n ≡ true → (is_row n && bytes_eq p (codes "table")) ≡ false
+row_place z p c n a = test (is_row n) (λ r. test (bytes_eq p (codes "table")) (λ t. absurd (no r t)) (λ t. rw t (and_false (is_row n)))) (λ r. rw r refl)
+  where
+    no : is_row n ≡ true → bytes_eq p (codes "table") ≡ true → ⊥
+    no r t =
+        let e = one_name (codes "tr") n r in
+        let q = same_bytes p (codes "table") t in
+        let h = (allowed_parts z (p ∷ c) n a).2 in
+        let b = rw (e, q) at h in cc
+
+-- a part of a table stands in a table only
+pub part_place : (z : Bool) (p : List ℕ) (c : Context) (n : List ℕ) (i : Bool) → (i ≡ true → is_tbody p ≡ true) → is_allowed z (p ∷ c) n ≡ true → (i && is_table_part n) ≡ false
+part_place z p c n i h a = test i (λ t. test (is_table_part n) (λ r. absurd (no (h t) r)) (λ r. rw r (and_false i))) (λ t. rw t refl)
+  where
+    no : is_tbody p ≡ true → is_table_part n ≡ true → ⊥
+    no t r = let g = (allowed_parts z (p ∷ c) n a).2 in let b = rw r at g in tbody_not_table p t b
+
+-- a `tbody` stands in a table
+pub tbody_place : (z : Bool) (p : List ℕ) (c : Context) (n : List ℕ) → is_tbody n ≡ true → is_allowed z (p ∷ c) n ≡ true → is_table p ≡ true
+tbody_place z p c n t a = let e = one_name (codes "tbody") n t in let g = (allowed_parts z (p ∷ c) n a).2 in rw e at g
+
+pub row_is_no_tbody : (n : List ℕ) → is_row n ≡ true → is_tbody n ≡ false
+row_is_no_tbody n r = let e = one_name (codes "tr") n r in rw e refl
+
+pub table_takes : (z : Bool) (p : List ℕ) (c : Context) → is_table p ≡ true → is_allowed z (p ∷ c) (codes "tbody") ≡ true
+unfolding is_allowed
+table_takes z p c q = let e = one_name (codes "table") p q in rw (e, and_false z) refl
+
+-- a row stands in an implied `tbody`
+pub row_fits : (z : Bool) (c : Context) → is_allowed z (codes "tbody" ∷ c) (codes "tr") ≡ true
+unfolding is_allowed
+row_fits z c = rw (and_false z) refl
+
+pub row_not_void : is_void (codes "tr") ≡ false
+unfolding is_void
+row_not_void = refl
+
+pub tbody_not_void : is_void (codes "tbody") ≡ false
+unfolding is_void
+tbody_not_void = refl
+
+-- nothing but text stands in an element that holds text alone
+pub no_text_alone : (z : Bool) (p : List ℕ) (c : Context) (n : List ℕ) → is_allowed z (p ∷ c) n ≡ true → holds_text_alone z p ≡ false
+no_text_alone z p c n a = (allowed_parts z (p ∷ c) n a).1
+
+pub tbody_no_text_alone : (z : Bool) (n : List ℕ) → is_tbody n ≡ true → holds_text_alone z n ≡ false
+tbody_no_text_alone z n t = rw (one_name (codes "tbody") n t, and_false z) refl

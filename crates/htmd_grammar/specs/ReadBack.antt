@@ -1,0 +1,89 @@
+-- What the serialiser writes of an element of a tree that was read, is read as that element, also with references in
+-- place of some line feeds.
+use Rattle.std.specs.Prelude.{◌≡◌, ◌⊎◌, ℕ, Bool, true, false, not, ◌&&◌, ◌||◌, List, [], ◌∷◌, Some, codes}
+use Rattle.std.specs.List.{list_all}
+use Rattle.std.specs.Str.{IsUtf8, chars, encode_utf8_all}
+use Rattle.htmd_text.specs.Characters.{carriage_return}
+use Rattle.htmd_grammar.specs.ValueTrees.{AttributePair, ValueTree, document, doctype, text, comment, element, ValueForest, none, more}
+use Rattle.htmd_grammar.specs.CharacterClasses.{lacks, is_among}
+use Rattle.htmd_grammar.specs.Rules.{Rules}
+use Rattle.htmd_grammar.specs.Places.{Context}
+use Rattle.htmd_grammar.specs.Grammar.{reads}
+use Rattle.htmd_grammar.specs.Documents.{ReadsDocument}
+use Rattle.htmd_grammar.specs.Serialisation.{ser, is_raw_text}
+use Rattle.htmd_grammar.specs.RawBlocks.{rewritten, RefersToLineFeeds}
+
+-- ---- which subtrees
+
+-- the element's texts are written as they are, or its first line feed is dropped
+unfoldable pub is_special : List ℕ → Bool
+is_special name = is_raw_text name || is_among (codes "pre" ∷ codes "textarea" ∷ []) name
+
+abbrev pub is_plain_attribute : AttributePair → Bool
+is_plain_attribute attribute = lacks carriage_return attribute.value
+
+abbrev mutual
+  -- no carriage return, comment, `pre`, `textarea` or raw text element
+  pub is_plain : ValueTree → Bool
+  is_plain (document children) = false
+  is_plain doctype = false
+  is_plain (text s) = lacks carriage_return s
+  is_plain (comment s) = false
+  is_plain (element name attributes children) =
+      not (is_special name) && list_all is_plain_attribute attributes && all_plain children
+
+  pub all_plain : ValueForest → Bool
+  all_plain none = true
+  all_plain (more tree trees) = is_plain tree && all_plain trees
+
+abbrev mutual
+  -- the tree t, whose ancestors have the names d, is the first tree, whose ancestors have the names c, or stands below it
+  pub IsIn : Context → ValueTree → Context → ValueTree → Type 0
+  IsIn c (document children) d t = ⊥
+  IsIn c doctype d t = ⊥
+  IsIn c (text v) d t = (d ≡ c) × (t ≡ text v)
+  IsIn c (comment v) d t = (d ≡ c) × (t ≡ comment v)
+  IsIn c (element n attributes children) d t = ((d ≡ c) × (t ≡ element n attributes children)) ⊎ AreIn (n ∷ c) children d t
+
+  -- the same for one of some trees
+  pub AreIn : Context → ValueForest → Context → ValueTree → Type 0
+  AreIn c none d t = ⊥
+  AreIn c (more u us) d t = IsIn c u d t ⊎ AreIn c us d t
+
+-- ---- what is read back
+
+-- in the context the text denotes these trees, and nothing else
+pub record DenotesAlone (rules : Rules) (c : Context) (x : List ℕ) (ts : ValueForest) : Type 0 where
+  pub denotes : reads rules c x ts
+  pub alone : (us : ValueForest) → reads rules c x us → us ≡ ts
+
+-- an element that stands below these trees, under some parent, and is plain
+pub record IsPlainElement (c : Context) (ts : ValueForest) (d : Context) (t : ValueTree) : Type 0 where
+  pub parent : List ℕ
+  pub above : Context
+  pub context : d ≡ parent ∷ above
+  pub name : List ℕ
+  pub attributes : List AttributePair
+  pub children : ValueForest
+  pub is_element : t ≡ element name attributes children
+  pub stands : AreIn c ts d t
+  pub plain : is_plain t ≡ true
+
+-- Of trees that were read in some context: the serialisation of a plain element, with references in place of some of its
+-- line feeds, denotes that element alone, in the context of its ancestors.
+abbrev pub ReadsBack : Rules → Type 0
+ReadsBack rules =
+    (c : Context) (s : List ℕ) (ts : ValueForest) → reads rules c s ts
+    → (d : Context) (t : ValueTree) → IsPlainElement c ts d t
+    → (x : List ℕ) → RefersToLineFeeds (ser t) x → DenotesAlone rules d x (more t none)
+
+-- what stands between the blank lines of a block of raw HTML
+abbrev pub raw_block_text : List ℕ → List ℕ
+raw_block_text s = encode_utf8_all (rewritten false (chars s))
+
+-- The same of the block of its raw HTML.
+abbrev pub RawBlockReadsBack : Rules → Type 0
+RawBlockReadsBack rules =
+    (c : Context) (s : List ℕ) (ts : ValueForest) → reads rules c s ts
+    → (d : Context) (t : ValueTree) → IsPlainElement c ts d t
+    → IsUtf8 (ser t) → DenotesAlone rules d (raw_block_text (ser t)) (more t none)
