@@ -9,3 +9,9 @@ mod EscapeLemmas
 mod TagNamesLemmas
 mod TagsLemmas
 mod ReadBackLemmas
+mod TagReadingLemmas
+mod TagSpellingLemmas
+mod TextLemmas
+mod CommentsLemmas
+mod ReferencesLemmas
+mod Completeness

@@ -1,6 +1,7 @@
 -- Which names may stand where.
-use Rattle.std.proofs.Common.{Bool, List, [], codes, false, inl, inr, not, refl, sym, true, ℕ, ◌&&◌, ◌∙◌, ◌∷◌, ◌≡◌, ◌⊎◌}
+use Rattle.std.proofs.Common.{Bool, List, [], ap, codes, false, inl, inr, not, refl, sym, true, ℕ, ◌&&◌, ◌∙◌, ◌∷◌, ◌≡◌, ◌⊎◌}
 use Rattle.std.proofs.lemmas.Slice.Eq.{bytes_eq-Decides}
+use Rattle.std.specs.List.{list_all}
 use Rattle.std.specs.Str.{bytes_eq}
 use Rattle.htmd_grammar.specs.CharacterClasses.{is_among}
 use Rattle.htmd_grammar.specs.Places.{Context, fits_lists, fits_open_elements, fits_select, fits_table, is_allowed, is_outside, is_row, is_table, is_table_part, is_tbody, parent_name}
@@ -19,6 +20,30 @@ one_name m n e = same_bytes n m (sym (or_right (bytes_eq n m)) ∙ e)
 
 pub two_names : (a b n : List ℕ) → is_among (a ∷ b ∷ []) n ≡ true → (n ≡ a) ⊎ (n ≡ b)
 two_names a b n e = test (bytes_eq n a) (λ t. inl (same_bytes n a t)) (λ t. let w = rw t at e in inr (one_name b n w))
+
+-- what each of some names passes
+pub among_passes : (P : List ℕ → Bool) (names : List (List ℕ)) (n : List ℕ) → is_among names n ≡ true → list_all P names ≡ true → P n ≡ true
+among_passes P [] n e l = absurd (cc)
+among_passes P (m ∷ names) n e l =
+    let k = and_true (P m) (list_all P names) l in
+    test (bytes_eq n m) (λ t. ap P (same_bytes n m t) ∙ k.0) (λ t. let w = rw t at e in among_passes P names n w k.1)
+
+-- the elements that hold text alone, whatever scripting is
+abbrev pub text_alone_names : List (List ℕ)
+text_alone_names =
+    codes "title" ∷ codes "textarea" ∷ codes "script" ∷ codes "style" ∷ codes "iframe" ∷ codes "noembed" ∷ codes "noframes" ∷ codes "xmp" ∷ codes "noscript" ∷ []
+
+pub text_alone_passes : (P : List ℕ → Bool) (z : Bool) (n : List ℕ) → holds_text_alone z n ≡ true → list_all P text_alone_names ≡ true → P n ≡ true
+text_alone_passes P z n e l = among_passes P text_alone_names n (named e) l
+  where
+    named : holds_text_alone z n ≡ true → is_among text_alone_names n ≡ true
+    named e =
+        test (bytes_eq n (codes "title")) (λ t. rw t refl) (λ a. test (bytes_eq n (codes "textarea")) (λ t. rw (a, t) refl)
+        (λ b. test (bytes_eq n (codes "script")) (λ t. rw (a, b, t) refl) (λ c. test (bytes_eq n (codes "style")) (λ t. rw (a, b, c, t) refl)
+        (λ d. test (bytes_eq n (codes "iframe")) (λ t. rw (a, b, c, d, t) refl) (λ f. test (bytes_eq n (codes "noembed")) (λ t. rw (a, b, c, d, f, t) refl)
+        (λ g. test (bytes_eq n (codes "noframes")) (λ t. rw (a, b, c, d, f, g, t) refl) (λ h. test (bytes_eq n (codes "xmp")) (λ t. rw (a, b, c, d, f, g, h, t) refl)
+        (λ i. test (bytes_eq n (codes "noscript")) (λ t. rw (a, b, c, d, f, g, h, i, t) refl)
+        (λ j. absurd (let w = rw (a, b, c, d, f, g, h, i, j, and_false z) at e in cc))))))))))
 
 pub tbody_not_table : (p : List ℕ) → is_tbody p ≡ true → is_table p ≡ true → ⊥
 tbody_not_table p t e = let q = one_name (codes "table") p e in let r = rw q at t in cc
