@@ -1,21 +1,19 @@
 -- What the grammar relates, the steps read.
-use Rattle.std.proofs.Common.{Bool, List, Ok, Option, Some, [], ap, append_assoc, arith, codes, drop, false, inl, inr, length, map, not, refl, rules, subst, suc, sym, true, zero, ℕ, ◌&&◌, ◌++◌, ◌∙◌, ◌∷◌, ◌≡◌, ◌≢◌, ◌≤◌, ◌⊎◌}
+use Rattle.std.proofs.Common.{Bool, List, Ok, Option, Some, [], ap, append_assoc, arith, codes, drop, false, inl, inr, length, map, not, refl, subst, suc, sym, true, zero, ℕ, ◌&&◌, ◌++◌, ◌∙◌, ◌∷◌, ◌≡◌, ◌≢◌, ◌≤◌, ◌⊎◌}
 use Rattle.std.proofs.iter.runs.Made.{run}
 use Rattle.std.proofs.lemmas.Bool.Decides.{nat_tests}
 use Rattle.std.proofs.lemmas.List.{append-nil}
-use Rattle.std.specs.Bool.{MatchBool}
 use Rattle.std.specs.Char.{is_ascii_alphabetic, to_ascii_lowercase}
 use Rattle.std.specs.List.{list_all, list_any}
 use Rattle.std.specs.Prelude.{if◌then◌else◌}
 use Rattle.std.specs.Str.{bytes_eq}
-use Rattle.htmd_text.specs.Characters.{slash}
 use Rattle.htmd_text.specs.WhiteSpace.{is_ascii_white_space}
 use Rattle.htmd_grammar.specs.CharacterClasses.{are_distinct, behind_run, is_among, is_empty, is_tag_name, is_tag_name_byte, leading_run, up_to}
 use Rattle.htmd_grammar.specs.Comments.{before_comment_end, is_comment_text, normalized}
 use Rattle.htmd_grammar.specs.Faults.{top_children}
-use Rattle.htmd_grammar.specs.Grammar.{Apart, ReadsForest, ReadsTree, begins_with_row, may_end_rows}
+use Rattle.htmd_grammar.specs.Grammar.{ReadsForest, ReadsTree, begins_with_row, may_end_rows}
 use Rattle.htmd_grammar.specs.Places.{Context, holds_parts, is_allowed, is_outside, is_table, is_table_part, is_tbody, parent_name}
-use Rattle.htmd_grammar.specs.RawContent.{begins_markup, content_of, drops_line_feed, ends_text, holds_raw_text, holds_text_alone, raw_text_of, text_of}
+use Rattle.htmd_grammar.specs.RawContent.{content_of, drops_line_feed, ends_text, holds_raw_text, holds_text_alone, raw_text_of, text_of}
 use Rattle.htmd_grammar.specs.References.{Names, Piece, after_line_feed, decode, less_line_feed, piece_at, stands, wrong}
 use Rattle.htmd_grammar.specs.Rules.{Rules}
 use Rattle.htmd_grammar.specs.Serialisation.{is_void}
@@ -25,11 +23,12 @@ use Rattle.htmd_grammar.specs.Tags.{IsEndTag, IsStartTag, IsTagRest, attribute_n
 use Rattle.htmd_grammar.specs.ValueTrees.{AttributePair, ValueForest, ValueTree, comment, doctype, document, element, more, none, text}
 use Rattle.htmd_grammar.proofs.BooleanLemmas.{and_false, and_true, or_right, or_true, test}
 use Rattle.htmd_grammar.proofs.CommentsLemmas.{before_close-append}
-use Rattle.htmd_grammar.proofs.PlacesLemmas.{allowed_parts, bytes_same, no_text_alone, one_name, part_place, row_is_no_tbody, row_place, tbody_no_text_alone, tbody_not_table, tbody_place}
+use Rattle.htmd_grammar.proofs.PlacesLemmas.{allowed_parts, bytes_same, no_text_alone, one_name, part_place, row_place, tbody_no_text_alone, tbody_not_table, tbody_place}
 use Rattle.htmd_grammar.proofs.ReferencesLemmas.{Fits, drop_over, known, piece_fits, piece_over, put_parts}
 use Rattle.htmd_grammar.proofs.TagReadingLemmas.{filled, form_read, halts_name, rest_halts, white_back}
 use Rattle.htmd_grammar.proofs.TagsLemmas.{values_parts}
-use Rattle.htmd_grammar.proofs.TextLemmas.{Stops, end_stops, front_stops, gap_no_name, letter_not, markup-append, name_cut, name_head, rows_go_on, rows_stop, run_head, run_not_stop, run_of-append, stop_head, stops-append, stops_not}
+use Rattle.htmd_grammar.proofs.TextLemmas.{Stops, end_stops, gap_no_name, letter_not, name_cut, rows_go_on, rows_stop, run_head, run_not_stop, run_of-append, stop_head, stops-append, stops_not}
+use Rattle.htmd_grammar.proofs.TreeTexts.{Inside, IsTextTree, row_start, rows_follow, stops_after}
 
 pub append_none : (ts : ValueForest) → ts +++ none ≡ ts
 append_none none = refl
@@ -46,13 +45,6 @@ at_piece fs s = record { stack = fs; run = []; rest = s }
 -- in the midst of a text
 abbrev pub in_text : List OpenElement → List ℕ → List ℕ → State
 in_text fs run s = record { stack = fs; run = run; rest = s }
-
-abbrev pub IsTextTree : ValueTree → Bool
-IsTextTree (document ks) = false
-IsTextTree doctype = false
-IsTextTree (text u) = true
-IsTextTree (comment u) = false
-IsTextTree (element n attributes ks) = false
 
 -- only a `tbody` is implied
 abbrev pub IsNamed : OpenElement → Type 0
@@ -324,30 +316,6 @@ module _ (rules : Rules) (outer : Context) where
   void_read n attributes f gs tag after st v a l h =
       along (f ∷ gs) _ (tag ++ after) _ (ap (λ (y : List ℕ). y ++ after) (append-nil tag)) (one_step (tag_opens f gs n tag after attributes st h a l ∙ rw v refl))
 
-  -- the text of an element, without what follows it
-  abbrev pub Inside : Context → Bool → List ℕ → List AttributePair → ValueForest → List ℕ → Type 0
-  Inside c last n attributes ks s =
-      ((tag inner end : List ℕ) × (s ≡ tag ++ (inner ++ end)) × IsStartTag rules.names tag n attributes
-      × MatchBool (is_void n) ((inner ≡ []) × (end ≡ []) × (ks ≡ none)) (ReadsForest rules (n ∷ c) true ks (content_of n inner) × IsEndTag end n))
-      ⊎ ((inner end : List ℕ) × (s ≡ inner ++ end) × (is_tbody n ≡ true) × (attributes ≡ []) × (begins_with_row ks ≡ true)
-      × ReadsForest rules (n ∷ c) true ks inner × (IsEndTag end n ⊎ ((end ≡ []) × (last ≡ true))))
-
-  -- the tag that the content of an implied `tbody` begins with
-  abbrev pub RowTag : List ℕ → Type 0
-  RowTag s = (tag x : List ℕ) × (attributes : List AttributePair) × (s ≡ tag ++ x) × IsStartTag rules.names tag (codes "tr") attributes
-
-  pub row_start : (ks : ValueForest) (c : Context) (last : Bool) (s : List ℕ) → ReadsForest rules c last ks s → begins_with_row ks ≡ true → RowTag s
-  row_start none c last s h b = absurd (cc)
-  row_start (more (document kk) us) c last s h b = absurd (cc)
-  row_start (more doctype us) c last s h b = absurd (cc)
-  row_start (more (text u) us) c last s h b = absurd (cc)
-  row_start (more (comment u) us) c last s h b = absurd (cc)
-  row_start (more (element n attributes kk) us) c last s h b = go (h.4).2
-    where
-      go : Inside c (may_end_rows last us h.1) n attributes kk h.0 → RowTag s
-      go (inl w) = (w.0, (w.1 ++ w.2) ++ h.1, attributes, h.2 ∙ (ap (λ (y : List ℕ). y ++ h.1) w.3 ∙ append_assoc w.0 (w.1 ++ w.2) h.1), subst (λ (m : List ℕ). IsStartTag rules.names w.0 m attributes) (one_name (codes "tr") n b) w.4)
-      go (inr w) = let q = row_is_no_tbody n b in absurd (cc)
-
   -- a row's tag in a table opens the `tbody` too
   row_opens : (f : OpenElement) (gs : List OpenElement) (tag x : List ℕ) (attributes : List AttributePair) → IsStartTag rules.names tag (codes "tr") attributes
       → f.name ≡ codes "table" → is_too_deep rules outer (f ∷ gs) ≡ false
@@ -395,7 +363,7 @@ module _ (rules : Rules) (outer : Context) where
       -- the row's tag opens the `tbody` too
       tag : step rules outer (at_piece (f ∷ gs) (inner ++ behind)) ≡ step rules outer (at_piece (g ∷ f ∷ gs) (inner ++ behind))
       tag =
-          let r = row_start ks (n ∷ names_of outer (f ∷ gs)) true inner k b in
+          let r = row_start rules ks (n ∷ names_of outer (f ∷ gs)) true inner k b in
           let e : inner ++ behind ≡ r.0 ++ (r.1 ++ behind) = ap (λ (y : List ℕ). y ++ behind) r.3 ∙ append_assoc r.0 r.1 behind in
           rw e (row_opens_in f gs n r.0 (r.1 ++ behind) r.2 (one_name (codes "tbody") n t) r.4 (one_name (codes "table") f.name table) (not_deep (f ∷ gs) l))
 
@@ -411,7 +379,7 @@ module _ (rules : Rules) (outer : Context) where
   element_read : (n : List ℕ) (attributes : List AttributePair) (ks : ValueForest) → NodesRead ks → NodeRead (element n attributes ks)
   element_read n attributes ks ih f gs last s after h nm st re = go h.2
     where
-      go : Inside (names_of outer (f ∷ gs)) last n attributes ks s → Leads f gs s after (more (element n attributes ks) none)
+      go : Inside rules (names_of outer (f ∷ gs)) last n attributes ks s → Leads f gs s after (more (element n attributes ks) none)
       go (inl w) = test (is_void n)
           (λ v. let m = rw v at w.5 in
           rw (w.3, m.0, m.1, m.2) (void_read n attributes f gs w.0 after w.4 v h.0 h.1 nm))
@@ -419,56 +387,11 @@ module _ (rules : Rules) (outer : Context) where
           rw w.3 (explicit_read n attributes ks ih f gs w.0 w.1 w.2 after w.4 m.1 v h.0 h.1 nm m.0))
       go (inr w) = rw (w.2, w.4) (implied_read n ks ih f gs last w.0 w.1 after w.3 w.5 h.0 h.1 nm w.6 w.7 re)
 
-  pub start_tag_begins : (tag n : List ℕ) (attributes : List AttributePair) → IsStartTag rules.names tag n attributes → begins_markup tag ≡ true
-  start_tag_begins tag n attributes t =
-      let k = name_head (t.2).0 (t.2).3 in
-      ap begins_markup ((t.2).2 ∙ ap (λ (y : List ℕ). 60 ∷ (y ++ (t.2).1)) k.2) ∙ rw k.3 refl
-
-  -- a node that is no text begins with markup
-  pub node_stops : (t : ValueTree) (c : Context) (last : Bool) (s : List ℕ) → IsTextTree t ≡ false → ReadsTree rules c last t s → begins_markup s ≡ true
-  node_stops (document ks) c last s e h = absurd h
-  node_stops doctype c last s e h = absurd h
-  node_stops (text u) c last s e h = absurd (cc)
-  node_stops (comment u) c last s e h = rw (h.0).2 refl
-  node_stops (element n attributes ks) c last s e h = go h.2
-    where
-      go : Inside c last n attributes ks s → begins_markup s ≡ true
-      go (inl w) = rw w.3 (markup-append w.0 (w.1 ++ w.2) (start_tag_begins w.0 n attributes w.4))
-      go (inr w) = let r = row_start ks (n ∷ c) true w.0 w.6 w.5 in rw w.2 (markup-append w.0 w.1 (rw r.3 (markup-append r.0 r.1 (start_tag_begins r.0 (codes "tr") r.2 r.4))))
-
-  -- and doesn't stand in a `title`
-  pub node_no_title : (p : List ℕ) (t : ValueTree) (c : Context) (last : Bool) (s : List ℕ) → IsTextTree t ≡ false → ReadsTree rules (p ∷ c) last t s → holds_text_alone rules.scripting p ≡ false
-  node_no_title p (document ks) c last s e h = absurd h
-  node_no_title p doctype c last s e h = absurd h
-  node_no_title p (text u) c last s e h = absurd (cc)
-  node_no_title p (comment u) c last s e h = h.1
-  node_no_title p (element n attributes ks) c last s e h = no_text_alone rules.scripting p c n h.0
-
-  pub stops_after : (p : List ℕ) (t : ValueTree) (ts : ValueForest) (c : Context) (last : Bool) (s after : List ℕ) → Apart t ts → ReadsForest rules (p ∷ c) last ts s → Stops rules.scripting p after → IsTextTree t ≡ true → Stops rules.scripting p (s ++ after)
-  stops_after p t none c last s after a h st e = rw h st
-  stops_after p (document ks) (more (text v) ts) c last s after a h st e = absurd (cc)
-  stops_after p doctype (more (text v) ts) c last s after a h st e = absurd (cc)
-  stops_after p t (more (document ks) ts) c last s after a h st e = absurd (h.4)
-  stops_after p t (more doctype ts) c last s after a h st e = absurd (h.4)
-  stops_after p (text u) (more (text v) ts) c last s after a h st e = absurd a
-  stops_after p (comment u) (more (text v) ts) c last s after a h st e = absurd (cc)
-  stops_after p (element n attributes ks) (more (text v) ts) c last s after a h st e = absurd (cc)
-  stops_after p t (more (comment v) ts) c last s after a h st e =
-      inr (rw (h.2, append_assoc h.0 h.1 after, node_no_title p (comment v) c (may_end_rows last ts h.1) h.0 refl h.4) (markup-append h.0 (h.1 ++ after) (node_stops (comment v) (p ∷ c) (may_end_rows last ts h.1) h.0 refl h.4)))
-  stops_after p t (more (element n attributes ks) ts) c last s after a h st e =
-      inr (rw (h.2, append_assoc h.0 h.1 after, node_no_title p (element n attributes ks) c (may_end_rows last ts h.1) h.0 refl h.4) (markup-append h.0 (h.1 ++ after) (node_stops (element n attributes ks) (p ∷ c) (may_end_rows last ts h.1) h.0 refl h.4)))
-
-  rows_follow : (p : List ℕ) (ts : ValueForest) (c : Context) (last : Bool) (s after : List ℕ) → ReadsForest rules (p ∷ c) last ts s → may_end_rows last ts s ≡ true → Stops rules.scripting p after → (last ≡ true → ends_rows after ≡ true) → ends_rows (s ++ after) ≡ true
-  rows_follow p none c last s after h m st re = rw h (re m)
-  rows_follow p (more t ts) c last [] after h m st re = absurd (cc)
-  rows_follow p (more t ts) c last (b ∷ []) after h m st re = absurd (cc)
-  rows_follow p (more t ts) c last (b ∷ d ∷ s) after h m st re = rw (front_stops rules.scripting p (d ∷ s) after st, m) refl
-
   next_read : (t : ValueTree) (ts : ValueForest) → NodeRead t → NodesRead ts → NodesRead (more t ts)
   next_read t ts one_t all_ts f gs last s after h nm st re =
       along (f ∷ gs) _ (h.0 ++ (h.1 ++ after)) _ (ap (λ (y : List ℕ). y ++ after) h.2 ∙ append_assoc h.0 h.1 after)
       (reaches_then
-      (one_t f gs (may_end_rows last ts h.1) h.0 (h.1 ++ after) h.4 nm (stops_after f.name t ts (names_of outer gs) last h.1 after h.3 h.5 st) (λ m q. rows_follow f.name ts (names_of outer gs) last h.1 after h.5 m st (λ l. re l q)))
+      (one_t f gs (may_end_rows last ts h.1) h.0 (h.1 ++ after) h.4 nm (stops_after rules f.name t ts (names_of outer gs) last h.1 after h.3 h.5 st) (λ m q. rows_follow rules f.name ts (names_of outer gs) last h.1 after h.5 m st (λ l. re l q)))
       (rw (← append_nodes_assoc f.children (more t none) ts) (all_ts (with_children f (more t none)) gs last h.1 after h.5 nm st re)))
 
   mutual

@@ -14,4 +14,9 @@ mod TagSpellingLemmas
 mod TextLemmas
 mod CommentsLemmas
 mod ReferencesLemmas
+mod TreeTexts
 mod Completeness
+mod Uniqueness
+mod RawReadBack
+mod LackLemmas
+mod Subtrees

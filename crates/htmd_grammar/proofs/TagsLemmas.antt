@@ -85,8 +85,19 @@ module _ (names : Names) where
           e1 ∙ (ap (λ (y : List ℕ). i0 ++ y) (e2 ∙ ap (λ (y : List ℕ). j0 ++ y) (e3 ∙ ap (λ (y : List ℕ). y ++ l1) c))
           ∙ (ap (λ (y : List ℕ). y ++ (j0 ++ (34 ∷ l1))) b ∙ around a.name j0 l1)) in (
             record { name = a.name; value = j0 } ∷ rest.0,
-            (32 ∷ [], a.name, 61 ∷ (34 ∷ (j0 ++ 34 ∷ [])), l1, spelled, (λ z. let w = z in cc), refl, k.0, k.1,
-            inr (inl (61 ∷ [], 34, refl, ([], [], refl, refl, refl), inl refl, n)), rest.1),
+            (
+              32 ∷ [],
+              a.name,
+              61 ∷ (34 ∷ (j0 ++ 34 ∷ [])),
+              l1,
+              spelled,
+              (λ z. let w = z in cc),
+              refl,
+              k.0,
+              k.1,
+              inr (inl (61 ∷ [], 34, refl, ([], [], refl, refl, refl), inl refl, n)),
+              rest.1,
+            ),
             rw (d, rest.2) refl,
           )
 
@@ -98,8 +109,7 @@ module _ (names : Names) where
       let s = decoded_names h.0 attributes h.3 in
       let i = refers_split (60 ∷ n) (flat_map attribute_text attributes ++ codes ">") x (subst (λ (y : List ℕ). RefersToLineFeeds y x) (append_assoc (60 ∷ n) (flat_map attribute_text attributes) (codes ">")) r) in
       let e : i.0 ≡ 60 ∷ n = refers_plain (60 ∷ n) i.0 (name_lacks n t.0) i.3 in
-      let a = attributes_back has attributes i.1 (subst AreTreeKeys s (tree_keys h.0 h.1 f.1 f.5)) p i.4 in
-      (
+      let a = attributes_back has attributes i.1 (subst AreTreeKeys s (tree_keys h.0 h.1 f.1 f.5)) p i.4 in (
         a.0,
         false,
         (n, i.1, i.2 ∙ ap (λ (y : List ℕ). y ++ i.1) e, t.0, t.1, a.1),

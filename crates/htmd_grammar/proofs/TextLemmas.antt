@@ -142,7 +142,7 @@ stops-append z n s x e = test (holds_text_alone z n)
     (λ t. let w = rw t at e in rw t (markup-append s x w))
 
 -- the end tag of the parent ends a text
-begins_name-lower : (name r : List ℕ) → goes_on_with_name (map to_ascii_lowercase name) (name ++ r) ≡ goes_on_with_name [] r
+pub begins_name-lower : (name r : List ℕ) → goes_on_with_name (map to_ascii_lowercase name) (name ++ r) ≡ goes_on_with_name [] r
 begins_name-lower [] r = refl
 begins_name-lower (b ∷ name) r = rw (self (to_ascii_lowercase b)) (begins_name-lower name r)
   where

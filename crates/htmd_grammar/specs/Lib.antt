@@ -12,6 +12,7 @@ pub mod RawContent
 pub mod Places
 pub mod Grammar
 pub mod Documents
+pub mod Laws
 pub mod ReadBack
 pub mod TagReading
 pub mod Steps

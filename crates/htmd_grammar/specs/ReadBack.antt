@@ -1,6 +1,6 @@
 -- What the serialiser writes of an element of a tree that was read, is read as that element, also with references in
 -- place of some line feeds.
-use Rattle.std.specs.Prelude.{◌≡◌, ◌⊎◌, ℕ, Bool, true, false, not, ◌&&◌, ◌||◌, List, [], ◌∷◌, Some, codes}
+use Rattle.std.specs.Prelude.{◌≡◌, ◌⊎◌, ℕ, Bool, true, false, not, ◌&&◌, ◌||◌, List, [], ◌∷◌, codes}
 use Rattle.std.specs.List.{list_all}
 use Rattle.std.specs.Str.{IsUtf8, chars, encode_utf8_all}
 use Rattle.htmd_text.specs.Characters.{carriage_return}
@@ -9,7 +9,6 @@ use Rattle.htmd_grammar.specs.CharacterClasses.{lacks, is_among}
 use Rattle.htmd_grammar.specs.Rules.{Rules}
 use Rattle.htmd_grammar.specs.Places.{Context}
 use Rattle.htmd_grammar.specs.Grammar.{reads}
-use Rattle.htmd_grammar.specs.Documents.{ReadsDocument}
 use Rattle.htmd_grammar.specs.Serialisation.{ser, is_raw_text}
 use Rattle.htmd_grammar.specs.RawBlocks.{rewritten, RefersToLineFeeds}
 

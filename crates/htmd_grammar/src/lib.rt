@@ -3,5 +3,6 @@
 #![tactic(auto)]
 
 mod fault;
+pub mod laws;
 
 pub use fault::FaultKind;
