@@ -1,4 +1,4 @@
--- An escaped text denotes the text, also with references in place of line feeds.
+-- An escaped_html text denotes the text, also with references in place of line feeds.
 use Rattle.std.proofs.Common.{List, Some, [], ap, codes, false, inl, inr, not, refl, subst, sym, true, ℕ, ◌++◌, ◌∙◌, ◌∷◌, ◌≡◌}
 use Rattle.std.proofs.lemmas.List.{append-nil}
 use Rattle.std.specs.Prelude.{◌==◌}
@@ -7,7 +7,7 @@ use Rattle.htmd_grammar.specs.CharacterClasses.{lacks}
 use Rattle.htmd_grammar.specs.RawBlocks.{RefersToLineFeeds, line_feed_reference}
 use Rattle.htmd_grammar.specs.References.{Names, decode, may_be_numbered}
 use Rattle.htmd_grammar.specs.Rules.{character_named}
-use Rattle.htmd_grammar.specs.Serialisation.{escaped, is_no_break_space, text_byte, value_byte}
+use Rattle.htmd_grammar.specs.Serialisation.{escaped_html, is_no_break_space, text_byte, value_byte}
 use Rattle.htmd_grammar.proofs.BooleanLemmas.{and_true, lacks-append, not_true, same_byte, test}
 use Rattle.htmd_grammar.proofs.ReferencedLineFeeds.{refers_first, refers_nothing, refers_plain, refers_split}
 
@@ -51,7 +51,7 @@ module _ (names : Names) (has : HasEscapes names) where
   byte_decodes : (b : ℕ) → (b == 38) ≡ false → (b == 13) ≡ false → Decodes (b ∷ []) (b ∷ [])
   byte_decodes b e f z u h = rw (e, f, h) refl
 
-  -- one byte that is written as it is
+  -- one byte that is markup_of as it is
   byte_back : (stop b : ℕ) (y : List ℕ) → (b == 38) ≡ false → (b == 13) ≡ false → (b == stop) ≡ false → lacks stop line_feed_reference ≡ true → RefersToLineFeeds (b ∷ []) y
       → Decodes y (b ∷ []) × (lacks stop y ≡ true)
   byte_back stop b y e f g k r = elim (refers_first b [] y r) [
@@ -63,7 +63,7 @@ module _ (names : Names) (has : HasEscapes names) where
         subst (λ (t : List ℕ). Decodes t (b ∷ []) × (lacks stop t ≡ true)) (sym q) (subst (λ (n : ℕ). Decodes line_feed_reference (n ∷ [])) (sym w.1) line_feed_decodes, k)
   ]
 
-  -- one byte that is written as a reference
+  -- one byte that is markup_of as a reference
   escape_back : (stop b c : ℕ) (s y : List ℕ) → lacks 10 s ≡ true → lacks stop s ≡ true → b ≡ c → Decodes s (c ∷ []) → RefersToLineFeeds s y → Decodes y (b ∷ []) × (lacks stop y ≡ true)
   escape_back stop b c s y l k e d r =
       subst (λ (t : List ℕ). Decodes t (b ∷ []) × (lacks stop t ≡ true)) (sym (refers_plain s y l r)) (subst (λ (n : ℕ). Decodes s (n ∷ [])) (sym e) d, k)
@@ -90,7 +90,7 @@ module _ (names : Names) (has : HasEscapes names) where
     joined : (x y z v s : List ℕ) → x ≡ y ++ z → Decodes y v → lacks stop y ≡ true → Back z s → Back x (v ++ s)
     joined x y z v s e d k h = rw e (d z s h.0, lacks-append stop y z k h.1)
 
-    escaped_back : (s x : List ℕ) → lacks 13 s ≡ true → RefersToLineFeeds (escaped byte s) x → Back x s
+    escaped_back : (s x : List ℕ) → lacks 13 s ≡ true → RefersToLineFeeds (escaped_html byte s) x → Back x s
     escaped_back [] x l r = rw (refers_nothing x r) (refl, refl)
     escaped_back (b ∷ []) x l r =
         let p = and_true (not (b == 13)) true l in
@@ -101,21 +101,21 @@ module _ (names : Names) (has : HasEscapes names) where
         let q = and_true (not (c == 13)) (lacks 13 s) p.1 in
         test (is_no_break_space b c)
         (λ t.
-        let i = refers_split (codes "&nbsp;") (escaped byte s) x (rw t at r) in
+        let i = refers_split (codes "&nbsp;") (escaped_html byte s) x (rw t at r) in
         let k : i.0 ≡ codes "&nbsp;" = refers_plain (codes "&nbsp;") i.0 refl i.3 in
         let m = and_true (b == 0xC2) (c == 0xA0) t in
         subst (λ (v : List ℕ). Back x (v ++ s)) (two b c (same_byte b 0xC2 m.0) (same_byte c 0xA0 m.1))
         (joined x (codes "&nbsp;") i.1 (0xC2 ∷ 0xA0 ∷ []) s (i.2 ∙ ap (λ (y : List ℕ). y ++ i.1) k) nbsp_decodes clean (escaped_back s i.1 q.1 i.4)))
         (λ t.
-        let i = refers_split (byte b) (escaped byte (c ∷ s)) x (rw t at r) in
+        let i = refers_split (byte b) (escaped_html byte (c ∷ s)) x (rw t at r) in
         let o = byte_ok b i.0 (not_true (b == 13) p.0) i.3 in
         joined x i.0 i.1 (b ∷ []) (c ∷ s) i.2 o.0 o.1 (escaped_back (c ∷ s) i.1 p.1 i.4))
       where
         two : (b c : ℕ) → b ≡ 0xC2 → c ≡ 0xA0 → ◌≡◌ {A = List ℕ} (0xC2 ∷ 0xA0 ∷ []) (b ∷ c ∷ [])
         two b c e f = rw (e, f) refl
 
-  pub text_back : (s x : List ℕ) → lacks 13 s ≡ true → RefersToLineFeeds (escaped text_byte s) x → (decode names 0 x ≡ Some s) × (lacks 60 x ≡ true)
+  pub text_back : (s x : List ℕ) → lacks 13 s ≡ true → RefersToLineFeeds (escaped_html text_byte s) x → (decode names 0 x ≡ Some s) × (lacks 60 x ≡ true)
   text_back = escaped_back 60 text_byte refl text_byte_back
 
-  pub value_back : (s x : List ℕ) → lacks 13 s ≡ true → RefersToLineFeeds (escaped value_byte s) x → (decode names 0 x ≡ Some s) × (lacks 34 x ≡ true)
+  pub value_back : (s x : List ℕ) → lacks 13 s ≡ true → RefersToLineFeeds (escaped_html value_byte s) x → (decode names 0 x ≡ Some s) × (lacks 34 x ≡ true)
   value_back = escaped_back 34 value_byte refl value_byte_back

@@ -13,7 +13,7 @@ use Rattle.htmd_grammar.specs.RawContent.{begins_markup, begins_own_end, content
 use Rattle.htmd_grammar.specs.ReadBack.{all_plain, is_plain, is_plain_attribute, is_special}
 use Rattle.htmd_grammar.specs.References.{Names}
 use Rattle.htmd_grammar.specs.Rules.{Rules}
-use Rattle.htmd_grammar.specs.Serialisation.{all_written, end_tag, is_raw_text, is_void, start_tag, written}
+use Rattle.htmd_grammar.specs.Serialisation.{all_markup_of, end_tag, is_raw_text, is_void, markup_of, start_tag}
 use Rattle.htmd_grammar.specs.Tags.{IsEndTag, IsStartTag}
 use Rattle.htmd_grammar.specs.ValueTrees.{AttributePair, ValueForest, ValueTree, comment, doctype, document, element, more, none, text}
 use Rattle.htmd_grammar.proofs.BooleanLemmas.{and_false, and_true, not_true, or_false, test}
@@ -79,21 +79,21 @@ tbody_tag names = ([], false, (codes "tbody", codes ">", refl, refl, refl, ([], 
 
 module _ (rules : Rules) (has : HasEscapes rules.names) where
   abbrev pub NodeBack : ValueTree → Type 0
-  NodeBack t = (c : Context) (l m : Bool) (s x : List ℕ) → (IsTextTree t ≡ true → holds_raw_text rules.scripting (parent_name c) ≡ false) → ReadsTree rules c l t s → is_plain t ≡ true → RefersToLineFeeds (written false t) x → ReadsTree rules c m t x
+  NodeBack t = (c : Context) (l m : Bool) (s x : List ℕ) → (IsTextTree t ≡ true → holds_raw_text rules.scripting (parent_name c) ≡ false) → ReadsTree rules c l t s → is_plain t ≡ true → RefersToLineFeeds (markup_of false t) x → ReadsTree rules c m t x
 
   abbrev pub NodesBack : ValueForest → Type 0
-  NodesBack ts = (c : Context) (l m : Bool) (s x : List ℕ) → holds_raw_text rules.scripting (parent_name c) ≡ false → ReadsForest rules c l ts s → all_plain ts ≡ true → RefersToLineFeeds (all_written false ts) x → ReadsForest rules c m ts x
+  NodesBack ts = (c : Context) (l m : Bool) (s x : List ℕ) → holds_raw_text rules.scripting (parent_name c) ≡ false → ReadsForest rules c l ts s → all_plain ts ≡ true → RefersToLineFeeds (all_markup_of false ts) x → ReadsForest rules c m ts x
 
   -- an element with its end tag
   explicit_back : (n : List ℕ) (attributes : List AttributePair) (ks : ValueForest) (c : Context) (x : List ℕ) → is_void n ≡ false → drops_line_feed n ≡ false → IsTreeName n
       → ((y : List ℕ) → RefersToLineFeeds (start_tag n attributes) y → IsStartTag rules.names y n attributes)
-      → ((y : List ℕ) → RefersToLineFeeds (all_written false ks) y → ReadsForest rules (n ∷ c) true ks y)
-      → RefersToLineFeeds (start_tag n attributes ++ (all_written false ks ++ end_tag n)) x
+      → ((y : List ℕ) → RefersToLineFeeds (all_markup_of false ks) y → ReadsForest rules (n ∷ c) true ks y)
+      → RefersToLineFeeds (start_tag n attributes ++ (all_markup_of false ks ++ end_tag n)) x
       → (tag inner end : List ℕ) × (x ≡ tag ++ (inner ++ end)) × IsStartTag rules.names tag n attributes
       × MatchBool (is_void n) ((inner ≡ []) × (end ≡ []) × (ks ≡ none)) (ReadsForest rules (n ∷ c) true ks (content_of n inner) × IsEndTag end n)
   explicit_back n attributes ks c x v dr t starts inside r =
-      let i = refers_split (start_tag n attributes) (all_written false ks ++ end_tag n) x r in
-      let j = refers_split (all_written false ks) (end_tag n) i.1 i.4 in
+      let i = refers_split (start_tag n attributes) (all_markup_of false ks ++ end_tag n) x r in
+      let j = refers_split (all_markup_of false ks) (end_tag n) i.1 i.4 in
       (i.0, j.0, j.1, i.2 ∙ ap (λ (y : List ℕ). i.0 ++ y) j.2, starts i.0 i.3, rw (v, dr) (inside j.0 j.3, end_tag_back n j.1 t j.4))
 
   -- either way it was read, it reads back by its tags
@@ -115,10 +115,10 @@ module _ (rules : Rules) (has : HasEscapes rules.names) where
       Out = (tag inner end : List ℕ) × (x ≡ tag ++ (inner ++ end)) × IsStartTag rules.names tag n attributes
           × MatchBool (is_void n) ((inner ≡ []) × (end ≡ []) × (ks ≡ none)) (ReadsForest rules (n ∷ c) true ks (content_of n inner) × IsEndTag end n)
 
-      paired : is_void n ≡ false → RefersToLineFeeds (start_tag n attributes ++ (all_written false ks ++ end_tag n)) x
+      paired : is_void n ≡ false → RefersToLineFeeds (start_tag n attributes ++ (all_markup_of false ks ++ end_tag n)) x
       paired v =
           let w = not_raw n q.0 in
-          let z = rw (v, w) at r in subst (λ (y : List ℕ). RefersToLineFeeds y x) (append_assoc (start_tag n attributes) (all_written false ks) (end_tag n)) z
+          let z = rw (v, w) at r in subst (λ (y : List ℕ). RefersToLineFeeds y x) (append_assoc (start_tag n attributes) (all_markup_of false ks) (end_tag n)) z
 
       written_tag : (tag inner end : List ℕ) → IsStartTag rules.names tag n attributes
           → MatchBool (is_void n) ((inner ≡ []) × (end ≡ []) × (ks ≡ none)) (ReadsForest rules (n ∷ c) true ks (content_of n inner) × IsEndTag end n) → Out
@@ -157,5 +157,5 @@ module _ (rules : Rules) (has : HasEscapes rules.names) where
     nodes_back none c l m s x w h p r = refers_nothing x r
     nodes_back (more t ts) c l m s x w h p r =
         let q = and_true (is_plain t) (all_plain ts) p in
-        let i = refers_split (written false t) (all_written false ts) x r in
+        let i = refers_split (markup_of false t) (all_markup_of false ts) x r in
         (i.0, i.1, i.2, h.3, node_back t c (may_end_rows l ts h.1) (may_end_rows m ts i.1) h.0 i.0 (λ _. w) h.4 q.0 i.3, nodes_back ts c l m h.1 i.1 w h.5 q.1 i.4)

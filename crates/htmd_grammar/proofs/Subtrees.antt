@@ -7,15 +7,15 @@ use Rattle.htmd_grammar.specs.Grammar.{ReadsForest, ReadsTree, begins_with_row, 
 use Rattle.htmd_grammar.specs.Places.{Context, is_tbody}
 use Rattle.htmd_grammar.specs.RawBlocks.{RefersToLineFeeds}
 use Rattle.htmd_grammar.specs.RawContent.{content_of}
-use Rattle.htmd_grammar.specs.ReadBack.{AreIn, DenotesAlone, IsIn, RawBlockReadsBack, ReadsBack, is_plain, raw_block_text}
+use Rattle.htmd_grammar.specs.ReadBack.{AreIn, DenotesAlone, IsIn, RawBlockReadsBack, ReadsBack, is_plain}
 use Rattle.htmd_grammar.specs.Rules.{Rules, project}
-use Rattle.htmd_grammar.specs.Serialisation.{is_void, ser}
+use Rattle.htmd_grammar.specs.Serialisation.{is_void, serialisation}
 use Rattle.htmd_grammar.specs.Tags.{IsEndTag, IsStartTag}
 use Rattle.htmd_grammar.specs.ValueTrees.{AttributePair, ValueForest, ValueTree, comment, doctype, document, element, more, none, text}
 use Rattle.htmd_grammar.proofs.BooleanLemmas.{test}
 use Rattle.htmd_grammar.proofs.EscapeLemmas.{HasEscapes}
 use Rattle.htmd_grammar.proofs.LackLemmas.{ser_no_carriage_return}
-use Rattle.htmd_grammar.proofs.RawReadBack.{raw_refers}
+use Rattle.htmd_grammar.proofs.RawReadBack.{block_refers}
 use Rattle.htmd_grammar.proofs.ReadBackLemmas.{node_back}
 use Rattle.htmd_grammar.proofs.Uniqueness.{unique_in}
 
@@ -62,36 +62,36 @@ module _ (rules : Rules) (d : Context) (k : List ℕ) (attributes : List Attribu
 
   -- law 1 and law 2 at once: the serialisation, with references in place of some line feeds, is read as the node
   pub referred_back : HasEscapes rules.names → (c : Context) (s x : List ℕ) (ts : ValueForest) → reads rules c s ts → AreIn c ts d Sought → is_plain Sought ≡ true
-      → RefersToLineFeeds (ser Sought) x → reads rules d x (more Sought none)
+      → RefersToLineFeeds (serialisation Sought) x → reads rules d x (more Sought none)
   referred_back has c s x ts h i p r =
       let w = nodes_in ts c true s h i in
       alone x (node_back rules has Sought d w.0 true w.1 x (λ q. absurd (cc)) w.2 p r)
 
   -- no carriage return in its serialisation
-  pub subtree_lacks : (c : Context) (s : List ℕ) (ts : ValueForest) → reads rules c s ts → AreIn c ts d Sought → is_plain Sought ≡ true → lacks 13 (ser Sought) ≡ true
+  pub subtree_lacks : (c : Context) (s : List ℕ) (ts : ValueForest) → reads rules c s ts → AreIn c ts d Sought → is_plain Sought ≡ true → lacks 13 (serialisation Sought) ≡ true
   subtree_lacks c s ts h i p = let w = nodes_in ts c true s h i in ser_no_carriage_return rules Sought d w.0 w.1 w.2 p
 
 -- the theorem, for any rules whose names are the serialiser's and more
 pub reads_back : (rules : Rules) → HasEscapes rules.names → ReadsBack rules
 reads_back rules has c s ts h d t p x r = go d t p.context p.is_element p.stands p.plain r
   where
-    go : (d : Context) (t : ValueTree) → d ≡ p.parent ∷ p.above → t ≡ element p.name p.attributes p.children → AreIn c ts d t → is_plain t ≡ true → RefersToLineFeeds (ser t) x → DenotesAlone rules d x (more t none)
+    go : (d : Context) (t : ValueTree) → d ≡ p.parent ∷ p.above → t ≡ element p.name p.attributes p.children → AreIn c ts d t → is_plain t ≡ true → RefersToLineFeeds (serialisation t) x → DenotesAlone rules d x (more t none)
     go d t e f i q r = rw (e, f) (back (rw (e, f) at i) (rw f at q) (rw f at r))
       where
-        back : AreIn c ts (p.parent ∷ p.above) (element p.name p.attributes p.children) → is_plain (element p.name p.attributes p.children) ≡ true → RefersToLineFeeds (ser (element p.name p.attributes p.children)) x
+        back : AreIn c ts (p.parent ∷ p.above) (element p.name p.attributes p.children) → is_plain (element p.name p.attributes p.children) ≡ true → RefersToLineFeeds (serialisation (element p.name p.attributes p.children)) x
             → DenotesAlone rules (p.parent ∷ p.above) x (more (element p.name p.attributes p.children) none)
         back i q r =
             let k = referred_back rules (p.parent ∷ p.above) p.name p.attributes p.children has c s x ts h i q r in
             record { denotes = k; alone = λ us l. unique_in rules p.parent p.above x us (more (element p.name p.attributes p.children) none) l k }
 
 pub raw_block_reads_back : (rules : Rules) → HasEscapes rules.names → RawBlockReadsBack rules
-raw_block_reads_back rules has c s ts h d t p u =
-    reads_back rules has c s ts h d t p (raw_block_text (ser t)) (raw_refers (ser t) u no_return)
+raw_block_reads_back rules has c s ts h d t p u x e =
+    reads_back rules has c s ts h d t p x (block_refers (serialisation t) x u no_return e)
   where
-    no_return : lacks 13 (ser t) ≡ true
+    no_return : lacks 13 (serialisation t) ≡ true
     no_return =
         let e : AreIn c ts d (element p.name p.attributes p.children) = subst (λ (y : ValueTree). AreIn c ts d y) p.is_element p.stands in
-        ap (λ (y : ValueTree). lacks 13 (ser y)) p.is_element ∙ subtree_lacks rules d p.name p.attributes p.children c s ts h e (ap is_plain (sym p.is_element) ∙ p.plain)
+        ap (λ (y : ValueTree). lacks 13 (serialisation y)) p.is_element ∙ subtree_lacks rules d p.name p.attributes p.children c s ts h e (ap is_plain (sym p.is_element) ∙ p.plain)
 
 pub project_has : (z : Bool) → HasEscapes (project z).names
 project_has z = record { amp = refl; lt = refl; gt = refl; quot = refl; nbsp = refl }

@@ -7,7 +7,7 @@ use Rattle.htmd_grammar.specs.CharacterClasses.{are_distinct, is_attribute_name,
 use Rattle.htmd_grammar.specs.RawBlocks.{RefersToLineFeeds}
 use Rattle.htmd_grammar.specs.ReadBack.{is_plain_attribute}
 use Rattle.htmd_grammar.specs.References.{Names, decode}
-use Rattle.htmd_grammar.specs.Serialisation.{attribute_text, end_tag, escaped, start_tag, value_byte}
+use Rattle.htmd_grammar.specs.Serialisation.{attribute_text, end_tag, escaped_html, start_tag, value_byte}
 use Rattle.htmd_grammar.specs.Tags.{IsEndTag, IsStartTag, IsTagForm, IsTagRest, attribute_names, decode_values, with_value}
 use Rattle.htmd_grammar.specs.ValueTrees.{AttributePair}
 use Rattle.htmd_grammar.proofs.BooleanLemmas.{and_true, lacks-append}
@@ -30,7 +30,7 @@ tree_name name n e d = subst IsTreeName d (is_name-lower name e, lower_name name
 around : (k v r : List ℕ) → (32 ∷ (k ++ (61 ∷ 34 ∷ []))) ++ (v ++ (34 ∷ r)) ≡ (32 ∷ []) ++ (k ++ ((61 ∷ (34 ∷ (v ++ 34 ∷ []))) ++ r))
 around k v r = simp append_assoc
 
--- however a tag was written
+-- however a tag was markup_of
 pub tree_keys : (spelled : List AttributePair) (present : Bool) (s : List ℕ) → IsTagRest spelled present s → AreTreeKeys (attribute_names spelled)
 tree_keys [] present s h = tt
 tree_keys (a ∷ spelled) present s h =
@@ -67,7 +67,7 @@ module _ (names : Names) where
   attributes_back has (a ∷ attributes) x k p r =
       let q = and_true (is_plain_attribute a) (list_all is_plain_attribute attributes) p in
       let before : List ℕ = 32 ∷ (a.name ++ (61 ∷ 34 ∷ [])) in
-      let value : List ℕ = escaped value_byte a.value in
+      let value : List ℕ = escaped_html value_byte a.value in
       let others : List ℕ = flat_map attribute_text attributes ++ codes ">" in
       let e : (attribute_text a ++ flat_map attribute_text attributes) ++ codes ">" ≡ before ++ (value ++ (34 ∷ others)) = simp append_assoc in
       let i = refers_split before (value ++ (34 ∷ others)) x (subst (λ (y : List ℕ). RefersToLineFeeds y x) e r) in

@@ -2,19 +2,20 @@
 -- place of some line feeds.
 use Rattle.std.specs.Prelude.{◌≡◌, ◌⊎◌, ℕ, Bool, true, false, not, ◌&&◌, ◌||◌, List, [], ◌∷◌, codes}
 use Rattle.std.specs.List.{list_all}
-use Rattle.std.specs.Str.{IsUtf8, chars, encode_utf8_all}
+use Rattle.std.specs.Str.{IsUtf8}
+use Rattle.htmd_text.specs.BlankLines.{with_blank_lines}
 use Rattle.htmd_text.specs.Characters.{carriage_return}
 use Rattle.htmd_grammar.specs.ValueTrees.{AttributePair, ValueTree, document, doctype, text, comment, element, ValueForest, none, more}
 use Rattle.htmd_grammar.specs.CharacterClasses.{lacks, is_among}
 use Rattle.htmd_grammar.specs.Rules.{Rules}
 use Rattle.htmd_grammar.specs.Places.{Context}
 use Rattle.htmd_grammar.specs.Grammar.{reads}
-use Rattle.htmd_grammar.specs.Serialisation.{ser, is_raw_text}
-use Rattle.htmd_grammar.specs.RawBlocks.{rewritten, RefersToLineFeeds}
+use Rattle.htmd_grammar.specs.Serialisation.{serialisation, is_raw_text}
+use Rattle.htmd_grammar.specs.RawBlocks.{raw_block, RefersToLineFeeds}
 
 -- ---- which subtrees
 
--- the element's texts are written as they are, or its first line feed is dropped
+-- the element's texts are markup_of as they are, or its first line feed is dropped
 unfoldable pub is_special : List ℕ → Bool
 is_special name = is_raw_text name || is_among (codes "pre" ∷ codes "textarea" ∷ []) name
 
@@ -74,15 +75,11 @@ abbrev pub ReadsBack : Rules → Type 0
 ReadsBack rules =
     (c : Context) (s : List ℕ) (ts : ValueForest) → reads rules c s ts
     → (d : Context) (t : ValueTree) → IsPlainElement c ts d t
-    → (x : List ℕ) → RefersToLineFeeds (ser t) x → DenotesAlone rules d x (more t none)
+    → (x : List ℕ) → RefersToLineFeeds (serialisation t) x → DenotesAlone rules d x (more t none)
 
--- what stands between the blank lines of a block of raw HTML
-abbrev pub raw_block_text : List ℕ → List ℕ
-raw_block_text s = encode_utf8_all (rewritten false (chars s))
-
--- The same of the block of its raw HTML.
+-- The same of what stands between the blank lines of a block of its raw HTML.
 abbrev pub RawBlockReadsBack : Rules → Type 0
 RawBlockReadsBack rules =
     (c : Context) (s : List ℕ) (ts : ValueForest) → reads rules c s ts
-    → (d : Context) (t : ValueTree) → IsPlainElement c ts d t
-    → IsUtf8 (ser t) → DenotesAlone rules d (raw_block_text (ser t)) (more t none)
+    → (d : Context) (t : ValueTree) → IsPlainElement c ts d t → IsUtf8 (serialisation t)
+    → (x : List ℕ) → raw_block (serialisation t) ≡ with_blank_lines x → DenotesAlone rules d x (more t none)
