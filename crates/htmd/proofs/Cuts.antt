@@ -5,7 +5,8 @@ use Rattle.std.specs.Str.{IsCharBoundary, IsUtf8}
 use Rattle.std.proofs.lemmas.Bool.Decides.{nat_tests}
 use Rattle.std.proofs.lemmas.List.Sums.{prefix_len_passes, prefix_len-le-length}
 use Rattle.std.proofs.lemmas.Str.{IsCharBoundary-start, IsCharBoundary-after_ascii}
-use Rattle.htmd_text.proofs.TrimsLemmas.{OfAscii, MayCut, end_boundary}
+use Rattle.std.specs.String.Boundary.{IsSplitPoint as MayCut}
+use Rattle.htmd_text.proofs.TrimsLemmas.{OfAscii, end_boundary}
 use Rattle.htmd.specs.Seams.{is_space}
 
 pub space_of_ascii : OfAscii is_space

@@ -1,4 +1,4 @@
-// The conversion of a text that is one paragraph.
+//! The conversion of a text that is one paragraph.
 ghost use Rattle.std.specs.Prelude.{◌≡◌, ◌≢◌, IfOk, IfErr, string_bytes};
 ghost use Rattle.htmd_cli.specs.Conversion.{paragraph, paragraph_markdown};
 

@@ -1,4 +1,4 @@
-// One run: read all, convert, write.
+//! One run: read all, convert, write.
 ghost use Rattle.std.specs.Prelude.{◌≡◌, ◌≢◌, ◌↔◌, ◌++◌, false, OnOk, OnErr, IfOk, IfErr, IfSome, IsErrOf, IsTrue, IsUtf8, string_bytes};
 ghost use Rattle.std.specs.Io.KnownBytes.{Appends, Consumes, IsAtEnd, Keeps};
 ghost use Rattle.htmd_cli.specs.Conversion.{line_feed, paragraph_markdown};

@@ -1,4 +1,4 @@
-// The program: its words, its statuses, and its lines on the sink for errors.
+//! The program: its words, its statuses, and its lines on the sink for errors.
 ghost use Rattle.std.specs.Prelude.{◌≡◌, ◌≢◌, ◌≤◌, false, IsTrue, IfSome};
 ghost use Rattle.std.specs.Io.KnownBytes.{Appends, IsAtEnd, Keeps};
 ghost use Rattle.htmd_cli.specs.Runs.{Converts};

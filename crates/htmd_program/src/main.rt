@@ -1,4 +1,4 @@
-// The program `htmd`: converts standard input into Markdown on standard output.
+//! The program `htmd`: converts standard input into Markdown on standard output.
 #![tactic(auto)]
 
 use htmd_cli::{Input, Output, RunError, command};

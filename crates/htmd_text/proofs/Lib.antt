@@ -1,3 +1,4 @@
+-- Worked rows, and the lemmas on each module of definitions.
 pub mod Examples
 pub mod Cases
 pub mod ListMarkersLemmas
@@ -6,7 +7,6 @@ pub mod EscapeMarksLemmas
 pub mod MarksLemmas
 pub mod UnescapeLemmas
 pub mod PlainTextLemmas
-pub mod BeginningLemmas
 pub mod TrimsLemmas
 pub mod JoinsLemmas
 pub mod IndentsLemmas

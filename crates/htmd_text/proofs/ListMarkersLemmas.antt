@@ -1,5 +1,6 @@
 -- How far the numeric characters at the front of a text go, one character at a time.
-use Rattle.std.proofs.Common.{◌≡◌, ℕ, ◌+◌, ◌<◌, ◌≤◌, true, false, List, [], ◌∷◌, ◌++◌, length, get_or, take, drop, sym, ap, ◌∙◌, arith, refl}
+use Rattle.std.proofs.Common.{◌≡◌, ℕ, ◌+◌, ◌<◌, ◌≤◌, true, false, List, [], ◌∷◌, ◌++◌, length, get_or, take, drop, sym}
+use Rattle.std.proofs.Common.{ap, ◌∙◌, arith, refl}
 use Rattle.std.specs.Prelude.{encode_utf8_all}
 use Rattle.std.specs.List.{prefix_len}
 use Rattle.std.specs.Char.{len_utf8, is_ascii_digit}
@@ -18,13 +19,15 @@ use Rattle.htmd_text.specs.ListMarkers.{is_number, is_numeric, numerals_len}
 pub numeric-ascii : (c : ℕ) → c < 128 → is_numeric c ≡ is_ascii_digit c
 unfolding ucd_category
 numeric-ascii c small =
-    same_from_beq _ _ (Stepped-below general_category general_category_stepped (λ x category. beq (is_number category) (is_ascii_digit x)) 128 refl c small)
+    same_from_beq _ _ (Stepped-below general_category general_category_stepped
+    (λ x category. beq (is_number category) (is_ascii_digit x)) 128 refl c small)
 
 -- what the first n characters take
 abbrev pub taken : List ℕ → ℕ → ℕ
 taken cs n = length (encode_utf8_all (take n cs))
 
-taken_more : (cs : List ℕ) (n c : ℕ) → (n < length cs) × (c ≡ get_or cs n c) → taken cs (n + 1) ≡ taken cs n + len_utf8 c
+taken_more : (cs : List ℕ) (n c : ℕ) → (n < length cs) × (c ≡ get_or cs n c)
+    → taken cs (n + 1) ≡ taken cs n + len_utf8 c
 taken_more cs n c here =
     let step = take_more cs n c here.0 in
     let same : take (n + 1) cs ≡ take n cs ++ c ∷ [] = step ∙ ap (λ x. take n cs ++ x ∷ []) (sym here.1) in
@@ -35,7 +38,8 @@ taken_le : (cs : List ℕ) (n : ℕ) → taken cs n ≤ length (encode_utf8_all 
 taken_le cs n =
     let whole = ap (λ l. length (encode_utf8_all l)) (take-append-drop n cs) in
     let parts : length (encode_utf8_all (take n cs ++ drop n cs)) ≡ taken cs n + length (encode_utf8_all (drop n cs)) =
-    ap length (encodes-append (take n cs) (drop n cs)) ∙ length-append (encode_utf8_all (take n cs)) (encode_utf8_all (drop n cs)) in
+    ap length (encodes-append (take n cs) (drop n cs)) ∙ length-append (encode_utf8_all (take n cs))
+    (encode_utf8_all (drop n cs)) in
     omega arith
 
 pub taken_bound : (s : List ℕ) (n : ℕ) → IsUtf8 s → taken (chars s) n ≤ length s
@@ -46,13 +50,15 @@ pub record NumericTo (cs : List ℕ) (n len : ℕ) : Type 0 where
   pub size : len ≡ taken cs n
   pub numeric : n + prefix_len is_numeric (drop n cs) ≡ prefix_len is_numeric cs
 
-pub numeric_more : (cs : List ℕ) (n c len : ℕ) → (n < length cs) × (c ≡ get_or cs n c) → is_numeric c ≡ true → NumericTo cs n len → NumericTo cs (n + 1) (len + len_utf8 c)
+pub numeric_more : (cs : List ℕ) (n c len : ℕ) → (n < length cs) × (c ≡ get_or cs n c) → is_numeric c ≡ true
+    → NumericTo cs n len → NumericTo cs (n + 1) (len + len_utf8 c)
 numeric_more cs n c len here passing was =
     let passes = ap is_numeric (sym here.1) ∙ passing in
     let step = prefix_len-drop_yes is_numeric cs n c here.0 passes in
     record { size = omega (arith, taken_more cs n c here, was.size); numeric = omega (arith, was.numeric) }
 
-pub numeric_stop : (s : List ℕ) (n c len : ℕ) → (n < length (chars s)) × (c ≡ get_or (chars s) n c) → is_numeric c ≡ false → NumericTo (chars s) n len → len ≡ numerals_len s
+pub numeric_stop : (s : List ℕ) (n c len : ℕ) → (n < length (chars s)) × (c ≡ get_or (chars s) n c)
+    → is_numeric c ≡ false → NumericTo (chars s) n len → len ≡ numerals_len s
 numeric_stop s n c len here failing was =
     let fails = ap is_numeric (sym here.1) ∙ failing in
     let step = prefix_len-drop_no is_numeric (chars s) n c here.0 fails in

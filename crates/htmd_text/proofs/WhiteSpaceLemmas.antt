@@ -1,5 +1,6 @@
 -- A text whose white space is squeezed piece by piece.
-use Rattle.std.proofs.Common.{◌≡◌, ℕ, suc, ◌+◌, ◌<◌, ◌≤◌, Bool, true, false, cond, List, [], ◌∷◌, ◌++◌, length, get_or, take, drop, refl, sym, ap, ◌∙◌, arith, append_assoc, ⊎_elim, eq-eqb}
+use Rattle.std.proofs.Common.{◌≡◌, ℕ, suc, ◌+◌, ◌<◌, ◌≤◌, Bool, true, false, cond, List, [], ◌∷◌, ◌++◌, length, get_or}
+use Rattle.std.proofs.Common.{take, drop, refl, sym, ap, ◌∙◌, arith, append_assoc, ⊎_elim, eq-eqb}
 use Rattle.std.specs.Prelude.{◌≢◌, ◌==◌, ◌&&◌, ◌||◌, not, slice_index}
 use Rattle.std.specs.List.{between}
 use Rattle.std.specs.Str.{IsCharBoundary, IsUtf8}
@@ -10,10 +11,11 @@ use Rattle.std.proofs.lemmas.List.Edits.{between_more, between_none}
 use Rattle.std.proofs.lemmas.Slice.{between_to_end}
 use Rattle.std.proofs.lemmas.Str.{IsCharBoundary-start, IsCharBoundary-after_ascii}
 use Rattle.htmd_text.specs.Characters.{space}
-use Rattle.htmd_text.specs.WhiteSpace.{is_ascii_white_space, begins_with_white_space, squeezed_text, is_squeezed}
-use Rattle.htmd_text.specs.Replacement.{IsReplaced}
+use Rattle.htmd_text.specs.WhiteSpace.{is_ascii_white_space, begins_with_white_space, squeezed_text}
+use Rattle.htmd_text.specs.Replacement.{IsReplaced, is_squeezed}
 
-shorter : (w v : Bool) (b : ℕ) (s rest : List ℕ) → length rest ≤ length s → length (cond w (cond v rest (space ∷ rest)) (b ∷ rest)) ≤ suc (length s)
+shorter : (w v : Bool) (b : ℕ) (s rest : List ℕ) → length rest ≤ length s
+    → length (cond w (cond v rest (space ∷ rest)) (b ∷ rest)) ≤ suc (length s)
 shorter true true b s rest le = omega (arith, le)
 shorter true false b s rest le = omega (arith, le)
 shorter false v b s rest le = omega (arith, le)
@@ -23,23 +25,27 @@ pub squeezed_le : (s : List ℕ) → length (squeezed_text s) ≤ length s
 squeezed_le [] = omega arith
 squeezed_le (b ∷ s) = shorter (is_ascii_white_space b) (begins_with_white_space s) b s (squeezed_text s) (squeezed_le s)
 
-same_rest : (w v : Bool) (b : ℕ) (s rest : List ℕ) → length rest ≤ length s → cond w (cond v rest (space ∷ rest)) (b ∷ rest) ≡ b ∷ s → rest ≡ s
+same_rest : (w v : Bool) (b : ℕ) (s rest : List ℕ) → length rest ≤ length s
+    → cond w (cond v rest (space ∷ rest)) (b ∷ rest) ≡ b ∷ s → rest ≡ s
 same_rest true true b s rest le same = absurd (omega (arith, le, ap length same))
 same_rest true false b s rest le same = cc
 same_rest false v b s rest le same = cc
 
 -- a text that is squeezed already stays so without its first byte
 pub squeezed_tail : (b : ℕ) (s : List ℕ) → squeezed_text (b ∷ s) ≡ b ∷ s → squeezed_text s ≡ s
-squeezed_tail b s same = same_rest (is_ascii_white_space b) (begins_with_white_space s) b s (squeezed_text s) (squeezed_le s) same
+squeezed_tail b s same = same_rest (is_ascii_white_space b) (begins_with_white_space s) b s (squeezed_text s)
+    (squeezed_le s) same
 
 -- white space before more of it goes
-pub inner_replaced : (b : ℕ) (s : List ℕ) → is_ascii_white_space b ≡ true → begins_with_white_space s ≡ true → IsReplaced (b ∷ s) []
+pub inner_replaced : (b : ℕ) (s : List ℕ) → is_ascii_white_space b ≡ true → begins_with_white_space s ≡ true
+    → IsReplaced (b ∷ s) []
 inner_replaced b s white more =
     let whole : squeezed_text (b ∷ s) ≡ squeezed_text s = rw (white, more) refl in
     record { white = white; whole = whole }
 
 -- the last white space of a run becomes a space
-pub last_replaced : (b : ℕ) (s : List ℕ) → is_ascii_white_space b ≡ true → begins_with_white_space s ≡ false → b ≢ space → IsReplaced (b ∷ s) (space ∷ [])
+pub last_replaced : (b : ℕ) (s : List ℕ) → is_ascii_white_space b ≡ true → begins_with_white_space s ≡ false → b ≢ space
+    → IsReplaced (b ∷ s) (space ∷ [])
 last_replaced b s white last other =
     let whole : squeezed_text (b ∷ s) ≡ space ∷ squeezed_text s = rw (white, last) refl in
     record { white = white; whole = whole }
@@ -66,7 +72,8 @@ squeezing_none s out text none = record {
 rest_of : (s : List ℕ) (i : ℕ) → drop 1 (drop i s) ≡ drop (i + 1) s
 rest_of s i = drop-drop 1 i s
 
-pub squeezing_stays : (s out : List ℕ) (from i : ℕ) → i < length s → squeezed_text (drop i s) ≡ take 1 (drop i s) ++ squeezed_text (drop 1 (drop i s)) → Squeezing s out from i → Squeezing s out from (i + 1)
+pub squeezing_stays : (s out : List ℕ) (from i : ℕ) → i < length s → squeezed_text (drop i s) ≡ take 1 (drop i s)
+    ++ squeezed_text (drop 1 (drop i s)) → Squeezing s out from i → Squeezing s out from (i + 1)
 squeezing_stays s out from i lt stays was = record {
   in_order = omega (arith, was.in_order);
   cut = was.cut;
@@ -83,33 +90,44 @@ squeezing_stays s out from i lt stays was = record {
 white_is_ascii : (b : ℕ) → is_ascii_white_space b ≡ true → b < 128
 white_is_ascii b white = grind (arith, nat_tests)
 
-pub squeezing_replaced : (s out instead : List ℕ) (from i : ℕ) → IsUtf8 s → i < length s → IsReplaced (drop i s) instead → Squeezing s out from i → Squeezing s ((out ++ between from i s) ++ instead) (i + 1) (i + 1)
+pub squeezing_replaced : (s out instead : List ℕ) (from i : ℕ) → IsUtf8 s → i < length s → IsReplaced (drop i s) instead
+    → Squeezing s out from i → Squeezing s ((out ++ between from i s) ++ instead) (i + 1) (i + 1)
 squeezing_replaced s out instead from i text lt here was = record {
   in_order = omega arith;
   cut =
-      let place : slice_index (drop i s) 0 ≡ get_or s i 0 = get_or-drop i s 0 0 ∙ ap (λ n. get_or s n 0) (omega arith) in
+      let place : slice_index (drop i s) 0 ≡ get_or s i 0 = get_or-drop i s 0 0
+      ∙ ap (λ n. get_or s n 0) (omega arith) in
       let ascii = white_is_ascii (slice_index (drop i s) 0) here.white in
       IsCharBoundary-after_ascii s i text lt (omega arith);
   whole =
-      let rest : squeezed_text (drop i s) ≡ instead ++ squeezed_text (drop (i + 1) s) = here.whole ∙ ap (λ l. instead ++ squeezed_text l) (rest_of s i) in
-      rw (between_none s (i + 1), append_assoc, append_assoc) (ap (λ l. out ++ (between from i s ++ l)) (sym rest) ∙ was.whole);
+      let rest : squeezed_text (drop i s) ≡ instead ++ squeezed_text (drop (i + 1) s) = here.whole
+      ∙ ap (λ l. instead ++ squeezed_text l) (rest_of s i) in
+      rw (between_none s (i + 1), append_assoc, append_assoc) (ap (λ l. out ++ (between from i s ++ l)) (sym rest)
+      ∙ was.whole);
 }
 
-pub squeezing_all : (s out : List ℕ) (from i : ℕ) → length s ≤ i → Squeezing s out from i → out ++ between from (length s) s ≡ squeezed_text s
+pub squeezing_all : (s out : List ℕ) (from i : ℕ) → length s ≤ i → Squeezing s out from i
+    → out ++ between from (length s) s ≡ squeezed_text s
 squeezing_all s out from i past was =
-    let piece : between from (length s) s ≡ between from i s = between_to_end s from (length s) (omega arith) ∙ sym (between_to_end s from i past) in
+    let piece : between from (length s) s ≡ between from i s = between_to_end s from (length s) (omega arith)
+    ∙ sym (between_to_end s from i past) in
     let ended : squeezed_text (drop i s) ≡ [] = ap squeezed_text (drop_all i s past) in
-    rw piece (ap (λ l. out ++ l) (sym (append-nil (between from i s)) ∙ ap (λ l. between from i s ++ l) (sym ended)) ∙ was.whole)
+    rw piece (ap (λ l. out ++ l) (sym (append-nil (between from i s)) ∙ ap (λ l. between from i s ++ l) (sym ended))
+    ∙ was.whole)
 
 -- ---- a text whose white space is spaces alone
 
 no_white_behind : (s : List ℕ) → is_squeezed true s ≡ true → begins_with_white_space s ≡ false
 no_white_behind [] e = refl
-no_white_behind (b ∷ s) e = false_from_ne_true _ (λ white. let front = (and_parts _ (is_squeezed (is_ascii_white_space b) s) e).0 in absurd (false≢true (rw white at front)))
+no_white_behind (b ∷ s) e =
+    false_from_ne_true _ (λ white. let front = (and_parts _ (is_squeezed (is_ascii_white_space b) s) e).0 in
+    absurd (false≢true (rw white at front)))
 
-space_here : (white after_white : Bool) (b : ℕ) → white ≡ true → (not white || (not after_white && (b == space))) ≡ true → b ≡ space
+space_here : (white after_white : Bool) (b : ℕ) → white ≡ true → (not white || (not after_white && (b == space))) ≡ true
+    → b ≡ space
 space_here false after_white b e front = absurd (false≢true e)
-space_here true after_white b e front = let test = (and_parts (not after_white) (b == space) front).1 in grind (arith, nat_tests)
+space_here true after_white b e front = let test = (and_parts (not after_white) (b == space) front).1 in
+    grind (arith, nat_tests)
 
 pub squeezed_stays : (s : List ℕ) (after_white : Bool) → is_squeezed after_white s ≡ true → squeezed_text s ≡ s
 squeezed_stays [] after_white e = refl
@@ -129,23 +147,30 @@ squeezed_stays (b ∷ s) after_white e =
 -- a text without white space in front may stand behind some
 behind_white : (s : List ℕ) → begins_with_white_space s ≡ false → is_squeezed true s ≡ is_squeezed false s
 behind_white [] last = refl
-behind_white (b ∷ s) last = ap (λ w. (not w || (false && (b == space))) && is_squeezed (is_ascii_white_space b) s) last ∙ sym (ap (λ w. (not w || (true && (b == space))) && is_squeezed (is_ascii_white_space b) s) last)
+behind_white (b ∷ s) last = ap (λ w. (not w || (false && (b == space))) && is_squeezed (is_ascii_white_space b) s) last
+    ∙ sym (ap (λ w. (not w || (true && (b == space))) && is_squeezed (is_ascii_white_space b) s) last)
 
 -- a text that squeezing leaves as it is has each white space alone
-stays_squeezed : (w v : Bool) (b : ℕ) (s rest : List ℕ) → is_ascii_white_space b ≡ w → begins_with_white_space s ≡ v → length rest ≤ length s → cond w (cond v rest (space ∷ rest)) (b ∷ rest) ≡ b ∷ s → is_squeezed false s ≡ true → is_squeezed false (b ∷ s) ≡ true
+stays_squeezed : (w v : Bool) (b : ℕ) (s rest : List ℕ) → is_ascii_white_space b ≡ w → begins_with_white_space s ≡ v
+    → length rest ≤ length s → cond w (cond v rest (space ∷ rest)) (b ∷ rest) ≡ b ∷ s → is_squeezed false s ≡ true
+    → is_squeezed false (b ∷ s) ≡ true
 stays_squeezed true true b s rest white more le same alone = absurd (omega (arith, le, ap length same))
 stays_squeezed true false b s rest white last le same alone =
     let first : space ≡ b = cc in
     ap (λ w. (not w || (true && (b == space))) && is_squeezed w s) white
     ∙ ap (λ t. t && is_squeezed true s) (eq-eqb b space (sym first))
     ∙ behind_white s last ∙ alone
-stays_squeezed false v b s rest other w le same alone = ap (λ w. (not w || (true && (b == space))) && is_squeezed w s) other ∙ alone
+stays_squeezed false v b s rest other w le same alone =
+    ap (λ w. (not w || (true && (b == space))) && is_squeezed w s) other ∙ alone
 
 same_is_squeezed : (s : List ℕ) → squeezed_text s ≡ s → is_squeezed false s ≡ true
 same_is_squeezed [] same = refl
 same_is_squeezed (b ∷ s) same =
-    stays_squeezed (is_ascii_white_space b) (begins_with_white_space s) b s (squeezed_text s) refl refl (squeezed_le s) same (same_is_squeezed s (squeezed_tail b s same))
+    stays_squeezed (is_ascii_white_space b) (begins_with_white_space s) b s (squeezed_text s) refl refl
+    (squeezed_le s) same (same_is_squeezed s (squeezed_tail b s same))
 
--- a text that is not squeezed yet changes
-pub changes : (s : List ℕ) → is_squeezed false s ≡ false → squeezed_text s ≡ s → ⊥
-changes s e same = false≢true (sym e ∙ same_is_squeezed s same)
+-- a text that the test finds not to be squeezed changes
+pub changes : (s bytes : List ℕ) (found : Bool) → bytes ≡ s → found ≡ is_squeezed false bytes → found ≡ false
+    → squeezed_text s ≡ s → ⊥
+changes s bytes found bytes_are is_found none same =
+    false≢true (sym none ∙ is_found ∙ ap (is_squeezed false) bytes_are ∙ same_is_squeezed s same)

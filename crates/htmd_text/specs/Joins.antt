@@ -11,12 +11,14 @@ joined_texts separator (text ∷ texts) = text ++ flat_map (λ next. separator +
 
 -- the line feeds between two blocks: as many as end the first or begin the second, at most two
 abbrev pub block_separator : List ℕ → List ℕ → List ℕ
-block_separator out block = replicate (min (max (suffix_len is_line_feed out) (prefix_len is_line_feed block)) 2) line_feed
+block_separator out block = replicate (min (max (suffix_len is_line_feed out) (prefix_len is_line_feed block)) 2)
+    line_feed
 
 -- a block behind the blocks so far; an empty one is passed over
 abbrev pub join_block : List ℕ → List ℕ → List ℕ
 join_block out [] = out
-join_block out (b ∷ block) = (trimmed_end is_line_feed out ++ block_separator out (b ∷ block)) ++ trimmed_start is_line_feed (b ∷ block)
+join_block out (b ∷ block) = (trimmed_end is_line_feed out ++ block_separator out (b ∷ block))
+    ++ trimmed_start is_line_feed (b ∷ block)
 
 -- the blocks one after another
 abbrev pub joined_blocks : List (List ℕ) → List ℕ

@@ -1,5 +1,6 @@
 -- The beginnings of a line that CommonMark reads as a heading or as an ordered list item.
-use Rattle.std.specs.Prelude.{ℕ, ◌+◌, ◌-◌, Bool, true, false, ◌&&◌, ◌==◌, nat_lt, if◌then◌else◌, List, length, drop, slice_index, encode_utf8_all, take_while, Option, Some, None}
+use Rattle.std.specs.Prelude.{ℕ, ◌+◌, ◌-◌, Bool, true, false, ◌&&◌, ◌==◌, nat_lt, if◌then◌else◌, List, length, drop}
+use Rattle.std.specs.Prelude.{slice_index, encode_utf8_all, take_while, Option, Some, None}
 use Rattle.std.specs.List.{prefix_len}
 use Rattle.std.specs.Str.{chars}
 use Rattle.unicode.specs.declared.properties.GeneralCategory.{GeneralCategory}

@@ -1,5 +1,6 @@
--- Which of the two escapes is asked for, as the code hands it on.
+-- Which of the two escapes is asked for, as the code hands it on. No public clause cites it.
 use Rattle.std.specs.Prelude.{◌≡◌, ℕ, ◌<◌, true, length, Bool, not, ◌&&◌, ◌||◌, ◌==◌, List, slice_index, is_none}
+use Rattle.std.specs.Char.{is_ascii}
 use Rattle.std.specs.List.{list_any}
 use Rattle.htmd_text.specs.Characters.{less_than_sign}
 use Rattle.htmd_text.specs.declared.escape.Marks.{Marks}
@@ -17,7 +18,7 @@ is_marked_by (Markdown begins_block item_dot) s k =
 
 -- what gets a backslash is an ASCII character
 abbrev pub AreAscii : Marks → List ℕ → Type 0
-AreAscii marks s = (k : ℕ) → k < length s → is_marked_by marks s k ≡ true → slice_index s k < 128
+AreAscii marks s = (k : ℕ) → k < length s → is_marked_by marks s k ≡ true → is_ascii (slice_index s k) ≡ true
 
 -- the character may get a backslash wherever it stands
 abbrev pub is_special : ℕ → Bool

@@ -1,5 +1,5 @@
 -- White space of a text, and the text with each run of it squeezed.
-use Rattle.std.specs.Prelude.{ℕ, Bool, true, false, not, ◌&&◌, ◌||◌, ◌==◌, if◌then◌else◌, List, [], ◌∷◌}
+use Rattle.std.specs.Prelude.{ℕ, Bool, false, ◌||◌, ◌==◌, if◌then◌else◌, List, [], ◌∷◌}
 use Rattle.std.specs.Char.{is_ascii_whitespace}
 use Rattle.htmd_text.specs.Characters.{space, tab, line_feed, carriage_return}
 
@@ -24,9 +24,3 @@ squeezed_text (b ∷ s) =
     if is_ascii_white_space b
     then (if begins_with_white_space s then squeezed_text s else space ∷ squeezed_text s)
     else b ∷ squeezed_text s
-
--- behind white space or not: each white space from here on is a space alone
-abbrev pub is_squeezed : Bool → List ℕ → Bool
-is_squeezed after_white [] = true
-is_squeezed after_white (b ∷ s) =
-    (not (is_ascii_white_space b) || (not after_white && (b == space))) && is_squeezed (is_ascii_white_space b) s

@@ -1,4 +1,4 @@
-//! Backslashes, so that Markdown reads a text as it stands (CommonMark 0.31.2, 2.4).
+//! Backslashes before characters that Markdown could read as its own (CommonMark 0.31.2, 2.4).
 ghost use Rattle.std.specs.Prelude.{◌≡◌, ◌<◌, IfOk, IsOkAnd, IsTrue, false, length};
 ghost use Rattle.std.specs.List.{list_any};
 ghost use Rattle.std.specs.Cow.{cow_str_bytes, IsBorrowedStr};
@@ -16,14 +16,17 @@ use std::borrow::CowStr;
 pub(crate) enum Marks {
     /// each `<` that opens HTML, where brackets may have been escaped before
     Html,
-    /// all that Markdown reads otherwise
+    /// each place that `escape_if_needed` names
     Markdown {
         begins_block: bool,
         item_dot: Option<usize>,
     },
 }
 
-/// The text with a backslash before each place that Markdown would read otherwise.
+/// The text with a backslash before each marked place: `\`, `*`, `_`, backquote, `[` and `]`; a `<` that opens HTML; at
+/// the front `=`, `~`, `>`, `-` or `+` before a space, the first `#` of an ATX heading; and the dot of an ordered list
+/// item whose number begins with an ASCII digit (CommonMark 0.31.2, 2.4). So `---`, `1) a`, `#` alone and `-` alone stay
+/// as they are. Where no place is marked the text is borrowed; an `Err` is want of memory for a text with marks.
 pub fn escape_if_needed(alloc: Global, text: &str) -> Result<CowStr<'_>, AllocError>
     ensures text { IfOk result (λ c. cow_str_bytes c ≡ spec.escaped_markdown text.now) }
     ensures reads_back { IfOk result (λ c. unescape (cow_str_bytes c) ≡ text.now) }
@@ -40,7 +43,9 @@ pub fn escape_if_needed(alloc: Global, text: &str) -> Result<CowStr<'_>, AllocEr
     with_backslashes(alloc, text, marks)
 }
 
-/// The text with a backslash before each `<` that opens HTML.
+/// The text with a backslash before each `<` that opens HTML: before an ASCII letter, `?`, `/` and a letter, or `!` that
+/// does not begin a CDATA section, escaped or not (CommonMark 0.31.2, 4.6 and 6.6). Where there is none the text is
+/// borrowed; an `Err` is want of memory for a text with marks.
 pub fn escape_html(alloc: Global, text: &str) -> Result<CowStr<'_>, AllocError>
     ensures text { IfOk result (λ c. cow_str_bytes c ≡ spec.escaped_angle_brackets text.now) }
     ensures borrowed { spec.escaped_angle_brackets text.now ≡ text.now
@@ -49,7 +54,8 @@ pub fn escape_html(alloc: Global, text: &str) -> Result<CowStr<'_>, AllocError>
     with_backslashes(alloc, text, Marks::Html)
 }
 
-/// The text with a backslash in front where it begins with a backquote or a tilde.
+/// The text of a `pre` with a backslash in front where it begins with a backquote or a tilde, so that no fence opens
+/// (CommonMark 0.31.2, 4.5). Any other text is borrowed; an `Err` is want of memory for the backslash.
 pub fn escape_pre_text_if_needed(alloc: Global, text: &str) -> Result<CowStr<'_>, AllocError>
     ensures text { IfOk result (λ c. cow_str_bytes c ≡ spec.escaped_pre_text text.now) }
     ensures borrowed { spec.escaped_pre_text text.now ≡ text.now

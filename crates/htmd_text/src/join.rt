@@ -11,7 +11,8 @@ use std::convert::AsStr;
 
 /// The items of an iterator as one text.
 pub trait JoinOnStringIterator: Iterator {
-    /// The items that are left, with the separator between each two.
+    /// The items that are left, with the separator between each two. The iterator has to end. An `Err` is want of memory;
+    /// the items that were taken are gone then.
     final fn join(&mut self, alloc: Global, separator: &str) -> Result<String, AllocError>
     where
         Self: Sized,
@@ -37,7 +38,7 @@ pub trait JoinOnStringIterator: Iterator {
 
 impl<I: Iterator> JoinOnStringIterator for I {}
 
-/// The texts one after another, in a `String` that grows once.
+/// The texts one after another, in a `String` that is reserved at once. An `Err` is want of memory.
 pub fn concat(alloc: Global, texts: &[&str]) -> Result<String, AllocError>
     ensures { IfOk result (λ s. string_bytes s ≡ flat_map (λ text. text.now) texts.now) }
 {
@@ -60,7 +61,7 @@ fn total_len(texts: &[&str]) -> usize
 }
 
 /// The blocks one after another, empty ones passed over: where a text ends with `a` line feeds and
-/// the next begins with `b`, the greater of the two stands between them, at most two.
+/// the next begins with `b`, the greater of the two stands between them, at most two. An `Err` is want of memory.
 pub fn join_blocks(alloc: Global, blocks: &[String]) -> Result<String, AllocError>
     ensures { IfOk result
         (λ text. string_bytes text

@@ -1,3 +1,4 @@
+//! What no clause says: that calls succeed where there is memory, and rows of the rules, written by hand.
 use super::*;
 use std::alloc::{AllocError, Global};
 use std::borrow::CowStr;

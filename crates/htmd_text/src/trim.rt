@@ -3,7 +3,8 @@ ghost use Rattle.std.specs.Prelude.{◌≡◌, ◌-◌, ◌≤◌, length, strin
 ghost use Rattle.std.specs.Option.{option_copied};
 ghost use Rattle.std.specs.List.{prefix_len, suffix_len};
 ghost use Rattle.std.specs.Str.{trim_start, trim_end, IsCharBoundary};
-ghost use Rattle.htmd_text.specs.Trims.{trimmed_text, trimmed_start, trimmed_end, cut_start, cut_end, white_space_at_start, white_space_at_end, some_text, is_line_feed, is_space};
+ghost use Rattle.htmd_text.specs.Trims.{trimmed_text, trimmed_start, trimmed_end, cut_start, cut_end, some_text};
+ghost use Rattle.htmd_text.specs.Trims.{white_space_at_start, white_space_at_end, is_line_feed, is_space};
 ghost use Rattle.htmd_text.specs.WhiteSpace as white;
 
 use crate::runs::{leading_len, trailing_len};
@@ -85,7 +86,7 @@ pub trait StripWhitespace: AsStr {
 
 impl<S: AsStr> StripWhitespace for S {}
 
-/// Cuts the line feeds at both ends.
+/// Cuts the line feeds at both ends, in place.
 pub fn trim_newlines(text: &mut String)
     ensures { string_bytes text.new ≡ trimmed_text is_line_feed (string_bytes text.old) }
 {
@@ -95,21 +96,21 @@ pub fn trim_newlines(text: &mut String)
     trim_end_line_feeds(text);
 }
 
-/// Cuts the line feeds at the end.
+/// Cuts the line feeds at the end, in place.
 pub fn trim_end_line_feeds(text: &mut String)
     ensures { string_bytes text.new ≡ trimmed_end is_line_feed (string_bytes text.old) }
 {
     text.truncate(text.len() - trailing_len(text.as_bytes(), b'\n'));
 }
 
-/// Cuts the spaces at the end.
+/// Cuts the spaces at the end, in place.
 pub fn trim_end_spaces(text: &mut String)
     ensures { string_bytes text.new ≡ trimmed_end is_space (string_bytes text.old) }
 {
     text.truncate(text.len() - trailing_len(text.as_bytes(), b' '));
 }
 
-/// Cuts the document white space at the end.
+/// Cuts the document white space at the end, in place.
 pub fn trim_end_document_white_space(text: &mut String)
     ensures { string_bytes text.new
         ≡ trimmed_end white.is_document_white_space (string_bytes text.old) }

@@ -2,12 +2,13 @@
 ghost use Rattle.std.specs.Prelude.{◌≡◌, ◌++◌, false, IfOk, IsOkAnd, MatchOption, take, drop};
 ghost use Rattle.std.specs.Cow.{cow_str_bytes, IsBorrowedStr};
 ghost use Rattle.htmd_text.specs.WhiteSpace as spec;
-ghost use Rattle.htmd_text.specs.Replacement.{IsReplaced};
+ghost use Rattle.htmd_text.specs.Replacement.{IsReplaced, is_squeezed};
 
 use std::alloc::{AllocError, Global};
 use std::borrow::CowStr;
 
-/// The text with each run of ASCII white space as one space.
+/// The text with each maximal run of ASCII white space (Infra standard, 4.5) as one space. A text that stays as it is is
+/// borrowed; an `Err` is want of memory for one that changes.
 pub fn compress_whitespace(alloc: Global, text: &str) -> Result<CowStr<'_>, AllocError>
     ensures text { IfOk result (λ c. cow_str_bytes c ≡ spec.squeezed_text text.now) }
     ensures borrowed { spec.squeezed_text text.now ≡ text.now → IsOkAnd result (λ c. IsBorrowedStr c) }
@@ -32,7 +33,7 @@ pub fn compress_whitespace(alloc: Global, text: &str) -> Result<CowStr<'_>, Allo
 /// Whether each white space is a space alone. All bytes are looked at, so that a processor can
 /// compare many at once.
 fn is_squeezed(bytes: &[u8]) -> bool
-    ensures { result ≡ spec.is_squeezed false bytes.now }
+    ensures { result ≡ is_squeezed false bytes.now }
 {
     let mut is_squeezed = true;
     let mut after_white = false;

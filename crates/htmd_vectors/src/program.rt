@@ -1,4 +1,4 @@
-// The program's words, from bytes to bytes.
+//! The program's words, from bytes to bytes.
 use htmd_cli::{Input, Output, command};
 use std::alloc::{AllocError, Global};
 use std::test::Fail;

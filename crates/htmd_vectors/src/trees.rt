@@ -1,4 +1,4 @@
-// Trees that are built by calls, and their Markdown.
+//! Trees that are built by calls, and their Markdown.
 use htmd::element_handler::ElementHandlers;
 use htmd::options::{HeadingStyle, Options};
 use htmd::{HtmlToMarkdown, NodeData, NodeId, Tree};

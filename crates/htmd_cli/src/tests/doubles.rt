@@ -1,4 +1,4 @@
-// Sources, sinks, readers and writers that fail where they are told to.
+//! Sources, sinks, readers and writers that fail where they are told to.
 ghost use Rattle.std.specs.Prelude.{◌≡◌, Some, None, true, false, if◌then◌else◌};
 
 use crate::{Failed, Sink, Source};

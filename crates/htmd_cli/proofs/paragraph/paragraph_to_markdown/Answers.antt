@@ -1,3 +1,4 @@
+-- What is left to prove of `paragraph_to_markdown`.
 use Rattle.std.proofs.Common.{◌≡◌, ◌∙◌, ap, ℕ, List, string_bytes}
 use Rattle.std.proofs.lemmas.Result.{IfOk-weaker}
 use Rattle.htmd_tree.specs.Items.{Item}

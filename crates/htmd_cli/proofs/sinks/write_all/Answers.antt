@@ -1,3 +1,4 @@
+-- What is left to prove of `write_all`.
 use Rattle.std.proofs.Common.{rules}
 use Rattle.htmd_cli.proofs.Written.{Written-more}
 use Rattle.htmd_cli.proofs.sinks.write_all.Goals as goal

@@ -1,3 +1,4 @@
+-- What is left to prove of `is_block_element`.
 use Rattle.std.proofs.Common.{◌≡◌, true, sym, ◌∙◌, length, arith}
 use Rattle.std.proofs.lemmas.Bool.Decides.{nat_tests}
 use Rattle.htmd_text.proofs.BlocksLemmas.{block_of_length, block_of_other_length, is_other_length}

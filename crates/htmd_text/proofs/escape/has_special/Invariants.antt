@@ -1,3 +1,4 @@
+-- What the loop of `has_special` keeps.
 use Rattle.std.proofs.Common.{◌≡◌, take}
 use Rattle.std.specs.List.{list_any}
 use Rattle.htmd_text.specs.Marks.{is_special}

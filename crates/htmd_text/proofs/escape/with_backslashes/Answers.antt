@@ -1,3 +1,4 @@
+-- What is left to prove of `with_backslashes`.
 use Rattle.std.proofs.Common.{◌≡◌, [], ◌∷◌, ◌++◌, true, false, length, arith, lit<, ◌∙◌, ap, sym}
 use Rattle.std.specs.String.{string_bytes}
 use Rattle.std.specs.List.{between}
@@ -5,10 +6,12 @@ use Rattle.htmd_text.specs.Characters.{backslash}
 use Rattle.htmd_text.specs.Marks.{is_marked_by, is_plain}
 use Rattle.htmd_text.proofs.EscapeMarksLemmas.{grows, writing_none, writing_plain, writing_marked, plain_stays}
 use Rattle.htmd_text.proofs.escape.with_backslashes.Goals as goal
-use Rattle.htmd_text.proofs.escape.with_backslashes.Goals.{then-is_marked+in_ok-push_str+in_ok-push, then-is_empty+in_ok-reserve, else-is_empty, else-is_marked}
+use Rattle.htmd_text.proofs.escape.with_backslashes.Goals.{then-is_marked+in_ok-push_str+in_ok-push}
+use Rattle.htmd_text.proofs.escape.with_backslashes.Goals.{then-is_empty+in_ok-reserve, else-is_empty, else-is_marked}
 
 pub loop-i-init : goal.loop-i-init
-loop-i-init c = writing_none (is_marked_by c.args.marks c.args.text.now) c.args.text.now _ c.utf8.text c.new-escaped.ensures.bytes
+loop-i-init c = writing_none (is_marked_by c.args.marks c.args.text.now) c.args.text.now _ c.utf8.text
+    c.new-escaped.ensures.bytes
 
 pub loop-i-preserved : goal.loop-i-preserved
 loop-i-preserved c =
@@ -17,20 +20,27 @@ loop-i-preserved c =
     elim c.if-is_marked.branch [
       | then-is_marked+in_ok-push_str+in_ok-push w ↦
           let here : marked c.loop-i.i ≡ true = cc in
-          let step = writing_marked marked s (string_bytes c.loop-i.escaped) c.loop-i.from c.loop-i.i (omega arith) here (c.requires c.loop-i.i (omega arith) here) c.loop-i.invariant in
+          let step = writing_marked marked s (string_bytes c.loop-i.escaped) c.loop-i.from c.loop-i.i (omega arith) here
+          (c.requires c.loop-i.i (omega arith) here) c.loop-i.invariant in
           let kept : string_bytes w.if-is_empty.escaped ≡ string_bytes c.loop-i.escaped =
           elim w.if-is_empty.branch [
             | then-is_empty+in_ok-reserve v ↦ ap string_bytes v.escaped-is ∙ v.in_ok-reserve.ensures.bytes
             | else-is_empty v ↦ ap string_bytes v.escaped-is
           ] in
-          let written : string_bytes c.if-is_marked.escaped ≡ (string_bytes c.loop-i.escaped ++ between c.loop-i.from c.loop-i.i s) ++ backslash ∷ [] =
-          let piece : string_bytes w.push_str.new.self ≡ string_bytes c.loop-i.escaped ++ between c.loop-i.from c.loop-i.i s = cc (kept, w.in_ok-push_str.ensures.bytes, w.range.ensures.value) in
-          let mark : string_bytes w.push.new.self ≡ string_bytes w.push_str.new.self ++ backslash ∷ [] = w.in_ok-push.ensures.bytes ∙ ap (λ l. string_bytes w.push_str.new.self ++ l) (w.in_ok-push.ensures.ascii (lit< tt)) in
+          let written : string_bytes c.if-is_marked.escaped
+          ≡ (string_bytes c.loop-i.escaped ++ between c.loop-i.from c.loop-i.i s) ++ backslash ∷ [] =
+          let piece : string_bytes w.push_str.new.self ≡ string_bytes c.loop-i.escaped
+          ++ between c.loop-i.from c.loop-i.i s =
+          cc (kept, w.in_ok-push_str.ensures.bytes, w.range.ensures.value) in
+          let mark : string_bytes w.push.new.self ≡ string_bytes w.push_str.new.self ++ backslash ∷ [] =
+          w.in_ok-push.ensures.bytes ∙ ap (λ l. string_bytes w.push_str.new.self ++ l)
+          (w.in_ok-push.ensures.ascii (lit< tt)) in
           ap string_bytes w.escaped-is ∙ mark ∙ ap (λ l. l ++ backslash ∷ []) piece in
           rw (written, w.from-is) step
       | else-is_marked w ↦
           let plain : marked c.loop-i.i ≡ false = cc in
-          let step = writing_plain marked s (string_bytes c.loop-i.escaped) c.loop-i.from c.loop-i.i (omega arith) plain c.loop-i.invariant in
+          let step = writing_plain marked s (string_bytes c.loop-i.escaped) c.loop-i.from c.loop-i.i
+          (omega arith) plain c.loop-i.invariant in
           rw (w.escaped-is, w.from-is) step
     ]
 
@@ -38,9 +48,15 @@ pub returns-in_err-reserve-clause-borrowed : goal.returns-in_err-reserve-clause-
 returns-in_err-reserve-clause-borrowed c =
     let marked = is_marked_by c.args.marks c.args.text.now in
     let here : marked c.loop-i.i ≡ true = cc in
-    λ same. absurd (omega (arith, grows marked 0 c.args.text.now c.loop-i.i (omega arith) (ap marked (omega arith) ∙ here), ap length same))
+    λ same. absurd (omega (
+      arith,
+      grows marked 0 c.args.text.now c.loop-i.i (omega arith) (ap marked (omega arith)
+          ∙ here),
+      ap length same,
+    ))
 
 pub returns-then-is_plain-clause-text : goal.returns-then-is_plain-clause-text
 returns-then-is_plain-clause-text c =
-    let plain = ap (is_plain c.args.marks) (sym c.as_bytes-bytes.ensures.value) ∙ sym c.is_plain.ensures ∙ c.if-is_plain.true in
+    let plain = ap (is_plain c.args.marks) (sym c.as_bytes-bytes.ensures.value) ∙ sym c.is_plain.ensures
+    ∙ c.if-is_plain.true in
     sym (plain_stays c.args.marks c.args.text.now plain)

@@ -1,3 +1,4 @@
+-- What the loop of `with_backslashes` keeps.
 use Rattle.std.specs.String.{string_bytes}
 use Rattle.htmd_text.specs.Marks.{is_marked_by}
 use Rattle.htmd_text.proofs.EscapeMarksLemmas.{Writing}

@@ -1,3 +1,4 @@
+-- What is left to prove of `indent_text_except_first_line`.
 use Rattle.std.proofs.Common.{◌≡◌, ◌<◌, ◌++◌, length, take, map, arith, ap, ◌∙◌}
 use Rattle.std.specs.Str.Lines.{lines}
 use Rattle.std.specs.String.{string_bytes}
@@ -12,30 +13,38 @@ use Rattle.htmd_text.proofs.indent.indent_text_except_first_line.Goals as goal
 pub loop-line-preserved-in_ok-push_str : goal.loop-line-preserved-in_ok-push_str
 loop-line-preserved-in_ok-push_str c =
     let n = length c.loop-line.yielded in
-    let turn = YieldsList-turn (YieldsList-from_lines c.args.text.now cc) c.loop-line.yielded _ c.loop-line.yielded_by _ _ c.in-Some.line c.in-Some.is c.next.ensures.steps in
+    let turn = YieldsList-turn (YieldsList-from_lines c.args.text.now cc) c.loop-line.yielded _ c.loop-line.yielded_by _
+    _ c.in-Some.line c.in-Some.is c.next.ensures.steps in
     let start : n ≡ 0 = grind (arith, nat_tests) in
-    let more = first_line c.args.indent (line_text c.args.trim_line_end) (lines c.args.text.now) n c.in-Some.line.now (string_bytes c.loop-line.indented) turn start c.loop-line.invariant.written in
+    let more = first_line c.args.indent (line_text c.args.trim_line_end) (lines c.args.text.now) n c.in-Some.line.now
+    (string_bytes c.loop-line.indented) turn start c.loop-line.invariant.written in
     record {
-      written = rw (length_push c.loop-line.yielded c.in-Some.line) (c.in_ok-push_str.ensures.bytes ∙ ap (λ l. string_bytes c.loop-line.indented ++ l) c.line_text-line.ensures ∙ more);
+      written = rw (length_push c.loop-line.yielded c.in-Some.line) (c.in_ok-push_str.ensures.bytes
+          ∙ ap (λ l. string_bytes c.loop-line.indented ++ l) c.line_text-line.ensures ∙ more);
       begun = pushed_some c.loop-line.yielded c.in-Some.line;
     }
 
 pub loop-line-preserved : goal.loop-line-preserved
 loop-line-preserved c =
     let n = length c.loop-line.yielded in
-    let turn = YieldsList-turn (YieldsList-from_lines c.args.text.now cc) c.loop-line.yielded _ c.loop-line.yielded_by _ _ c.in-Some.line c.in-Some.is c.next.ensures.steps in
+    let turn = YieldsList-turn (YieldsList-from_lines c.args.text.now cc) c.loop-line.yielded _ c.loop-line.yielded_by _
+    _ c.in-Some.line c.in-Some.is c.next.ensures.steps in
     let some : 0 < n = grind (arith, nat_tests) in
-    let more = later_line c.args.indent (line_text c.args.trim_line_end) (lines c.args.text.now) n c.in-Some.line.now (string_bytes c.loop-line.indented) turn some c.loop-line.invariant.written in
+    let more = later_line c.args.indent (line_text c.args.trim_line_end) (lines c.args.text.now) n c.in-Some.line.now
+    (string_bytes c.loop-line.indented) turn some c.loop-line.invariant.written in
     record {
-      written = rw (length_push c.loop-line.yielded c.in-Some.line) (c.in_ok-push_line.ensures ∙ ap (λ l. string_bytes c.loop-line.indented ++ next_line c.args.indent l) c.line_text-line.ensures ∙ more);
+      written = rw (length_push c.loop-line.yielded c.in-Some.line) (c.in_ok-push_line.ensures
+          ∙ ap (λ l. string_bytes c.loop-line.indented ++ next_line c.args.indent l) c.line_text-line.ensures ∙ more);
       begun = pushed_some c.loop-line.yielded c.in-Some.line;
     }
 
 pub returns : goal.returns
 returns c =
     let ls = lines c.args.text.now in
-    let all = YieldsList-end (YieldsList-from_lines c.args.text.now cc) c.loop-line.yielded _ c.loop-line.yielded_by _ _ c.in-None.is c.next.ensures.steps in
-    let whole : take (length c.loop-line.yielded) ls ≡ ls = take_all (length c.loop-line.yielded) ls (omega (arith, all.1)) in
+    let all = YieldsList-end (YieldsList-from_lines c.args.text.now cc) c.loop-line.yielded _ c.loop-line.yielded_by _ _
+    c.in-None.is c.next.ensures.steps in
+    let whole : take (length c.loop-line.yielded) ls ≡ ls =
+    take_all (length c.loop-line.yielded) ls (omega (arith, all.1)) in
     c.loop-line.invariant.written
     ∙ ap (λ l. indented_lines c.args.indent (map (line_text c.args.trim_line_end) l)) whole
     ∙ lines_indented c.args.text.now c.args.indent c.args.trim_line_end c.if-indent-eq0.false

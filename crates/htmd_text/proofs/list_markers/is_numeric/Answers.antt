@@ -1,3 +1,4 @@
+-- What is left to prove of `is_numeric`.
 use Rattle.std.proofs.Common.{◌<◌, ◌∙◌, sym, arith}
 use Rattle.std.proofs.lemmas.Bool.Decides.{nat_tests}
 use Rattle.htmd_text.proofs.ListMarkersLemmas.{numeric-ascii}

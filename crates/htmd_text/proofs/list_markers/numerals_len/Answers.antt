@@ -1,3 +1,4 @@
+-- What is left to prove of `numerals_len`.
 use Rattle.std.proofs.Common.{◌≡◌, ◌+◌, length, true, arith}
 use Rattle.std.specs.Str.{chars}
 use Rattle.std.proofs.lemmas.Iterator.{YieldsList-from_chars}
@@ -8,31 +9,47 @@ use Rattle.htmd_text.proofs.ListMarkersLemmas.{taken_bound, numeric_more, numeri
 use Rattle.htmd_text.proofs.list_markers.numerals_len.Goals as goal
 
 pub returns-then-not-is_numeric-clause-bound : goal.returns-then-not-is_numeric-clause-bound
-returns-then-not-is_numeric-clause-bound c = omega (arith, taken_bound c.args.text.now (length c.loop-c.yielded) c.utf8.text, c.loop-c.invariant.size)
+returns-then-not-is_numeric-clause-bound c =
+    omega (arith, taken_bound c.args.text.now (length c.loop-c.yielded) c.utf8.text, c.loop-c.invariant.size)
 
 pub returns-then-not-is_numeric-clause-value : goal.returns-then-not-is_numeric-clause-value
 returns-then-not-is_numeric-clause-value c =
-    let turn = YieldsList-turn (YieldsList-from_chars c.args.text.now c.utf8.text cc) c.loop-c.yielded _ c.loop-c.yielded_by _ _ c.in-Some.c c.in-Some.is c.next.ensures.steps in
+    let turn = YieldsList-turn (YieldsList-from_chars c.args.text.now c.utf8.text cc) c.loop-c.yielded _
+    c.loop-c.yielded_by _ _ c.in-Some.c c.in-Some.is c.next.ensures.steps in
     numeric_stop c.args.text.now (length c.loop-c.yielded) c.in-Some.c c.loop-c.len turn (cc) c.loop-c.invariant
 
 pub overflow_add-len : goal.overflow_add-len
 overflow_add-len c =
-    let turn = YieldsList-turn (YieldsList-from_chars c.args.text.now c.utf8.text cc) c.loop-c.yielded _ c.loop-c.yielded_by _ _ c.in-Some.c c.in-Some.is c.next.ensures.steps in
+    let turn = YieldsList-turn (YieldsList-from_chars c.args.text.now c.utf8.text cc) c.loop-c.yielded _
+    c.loop-c.yielded_by _ _ c.in-Some.c c.in-Some.is c.next.ensures.steps in
     let passing : is_numeric c.in-Some.c ≡ true = cc in
-    let more = numeric_more (chars c.args.text.now) (length c.loop-c.yielded) c.in-Some.c c.loop-c.len turn passing c.loop-c.invariant in
-    omega (arith, more.size, taken_bound c.args.text.now (length c.loop-c.yielded + 1) c.utf8.text, c.len_utf8-len.ensures.value)
+    let more = numeric_more (chars c.args.text.now) (length c.loop-c.yielded) c.in-Some.c c.loop-c.len turn passing
+    c.loop-c.invariant in
+    omega (
+      arith,
+      more.size,
+      taken_bound c.args.text.now (length c.loop-c.yielded + 1) c.utf8.text,
+      c.len_utf8-len.ensures.value,
+    )
 
 pub loop-c-preserved : goal.loop-c-preserved
 loop-c-preserved c =
-    let turn = YieldsList-turn (YieldsList-from_chars c.args.text.now c.utf8.text cc) c.loop-c.yielded _ c.loop-c.yielded_by _ _ c.in-Some.c c.in-Some.is c.next.ensures.steps in
+    let turn = YieldsList-turn (YieldsList-from_chars c.args.text.now c.utf8.text cc) c.loop-c.yielded _
+    c.loop-c.yielded_by _ _ c.in-Some.c c.in-Some.is c.next.ensures.steps in
     let passing : is_numeric c.in-Some.c ≡ true = cc in
-    let more = numeric_more (chars c.args.text.now) (length c.loop-c.yielded) c.in-Some.c c.loop-c.len turn passing c.loop-c.invariant in
+    let more = numeric_more (chars c.args.text.now) (length c.loop-c.yielded) c.in-Some.c c.loop-c.len turn passing
+    c.loop-c.invariant in
     rw (length_push c.loop-c.yielded c.in-Some.c, c.len_utf8-len.ensures.value) more
 
 pub returns-clause-bound : goal.returns-clause-bound
-returns-clause-bound c = omega (arith, taken_bound c.args.text.now (length c.loop-c.yielded) c.utf8.text, c.loop-c.invariant.size)
+returns-clause-bound c = omega (
+  arith,
+  taken_bound c.args.text.now (length c.loop-c.yielded) c.utf8.text,
+  c.loop-c.invariant.size,
+)
 
 pub returns-clause-value : goal.returns-clause-value
 returns-clause-value c =
-    let all = YieldsList-end (YieldsList-from_chars c.args.text.now c.utf8.text cc) c.loop-c.yielded _ c.loop-c.yielded_by _ _ c.in-None.is c.next.ensures.steps in
+    let all = YieldsList-end (YieldsList-from_chars c.args.text.now c.utf8.text cc) c.loop-c.yielded _
+    c.loop-c.yielded_by _ _ c.in-None.is c.next.ensures.steps in
     numeric_end c.args.text.now (length c.loop-c.yielded) c.loop-c.len (omega (arith, all.1)) c.loop-c.invariant

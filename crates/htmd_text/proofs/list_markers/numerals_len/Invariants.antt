@@ -1,3 +1,4 @@
+-- What the loop of `numerals_len` keeps.
 use Rattle.std.proofs.Common.{length}
 use Rattle.std.specs.Str.{chars}
 use Rattle.htmd_text.proofs.ListMarkersLemmas.{NumericTo}

@@ -1,3 +1,4 @@
+-- What is left to prove of `digits`.
 use Rattle.std.proofs.Common.{arith}
 use Rattle.htmd_text.proofs.DigitsLemmas.{digits_more, digits_one, digits_le}
 use Rattle.htmd_text.proofs.numbers.digits.Goals as goal

@@ -1,3 +1,4 @@
+-- What the loop of `digits` keeps.
 use Rattle.std.proofs.Common.{◌≡◌, ◌+◌}
 use Rattle.htmd_text.specs.Digits.{digits}
 use Rattle.htmd_text.proofs.numbers.digits.Given as goal

@@ -1,3 +1,4 @@
+-- What the loop of `leading_len` keeps.
 use Rattle.std.proofs.Common.{◌≡◌, ◌==◌, ℕ, ◌<◌, get_or, true}
 use Rattle.htmd_text.proofs.runs.leading_len.Given as goal
 

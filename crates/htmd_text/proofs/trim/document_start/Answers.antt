@@ -1,3 +1,4 @@
+-- What is left to prove of `document_start`.
 use Rattle.std.proofs.Common.{ℕ, length, subst, sym, arith}
 use Rattle.std.specs.Str.{IsCharBoundary}
 use Rattle.std.proofs.lemmas.List.Sums.{prefix_len_is}
@@ -11,8 +12,10 @@ returns-then-not-is_document_white_space-clause-value c =
 
 pub returns-then-not-is_document_white_space-clause-cut : goal.returns-then-not-is_document_white_space-clause-cut
 returns-then-not-is_document_white_space-clause-cut c =
-    subst (λ (k : ℕ). IsCharBoundary c.args.text.now k) (sym (returns-then-not-is_document_white_space-clause-value c)) (start_boundary is_document_white_space c.args.text.now c.utf8.text document_of_ascii)
+    subst (λ (k : ℕ). IsCharBoundary c.args.text.now k) (sym (returns-then-not-is_document_white_space-clause-value c))
+    (start_boundary is_document_white_space c.args.text.now c.utf8.text document_of_ascii)
 
 pub returns-clause-value : goal.returns-clause-value
 returns-clause-value c =
-    sym (prefix_len_is is_document_white_space c.args.text.now (length c.args.text.now) 0 (omega arith) (λ k lt. c.loop-i.invariant k (omega arith)) (λ lt. absurd (omega arith)))
+    sym (prefix_len_is is_document_white_space c.args.text.now (length c.args.text.now) 0 (omega arith)
+    (λ k lt. c.loop-i.invariant k (omega arith)) (λ lt. absurd (omega arith)))

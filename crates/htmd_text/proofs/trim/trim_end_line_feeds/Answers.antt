@@ -8,4 +8,5 @@ use Rattle.htmd_text.proofs.trim.trim_end_line_feeds.Goals as goal
 pub truncate-requires : goal.truncate-requires
 truncate-requires c =
     let s = string_bytes c.args.text.now in
-    λ _. counted_may_cut is_line_feed s c.as_bytes.result.now c.len.result c.trailing_len.result line_feed_of_ascii c.as_bytes.ensures.value (c.len.ensures ∙ sym c.as_bytes.ensures.len) c.trailing_len.ensures.value
+    λ _. counted_may_cut is_line_feed s c.as_bytes.result.now c.len.result c.trailing_len.result line_feed_of_ascii
+    c.as_bytes.ensures.value (c.len.ensures ∙ sym c.as_bytes.ensures.len) c.trailing_len.ensures.value

@@ -1,3 +1,4 @@
+-- What the loop of `compress_whitespace` keeps.
 use Rattle.std.specs.String.{string_bytes}
 use Rattle.htmd_text.proofs.WhiteSpaceLemmas.{Squeezing}
 use Rattle.htmd_text.proofs.white_space.compress_whitespace.Given as goal

@@ -1,5 +1,6 @@
+-- What the loop of `is_squeezed` keeps.
 use Rattle.std.proofs.Common.{◌≡◌, ◌&&◌, false, drop}
-use Rattle.htmd_text.specs.WhiteSpace.{is_squeezed}
+use Rattle.htmd_text.specs.Replacement.{is_squeezed}
 use Rattle.htmd_text.proofs.white_space.is_squeezed.Given as goal
 
 abbrev pub invariant-loop-b : goal.invariant-loop-b

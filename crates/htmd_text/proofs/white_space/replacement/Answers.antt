@@ -1,3 +1,4 @@
+-- What is left to prove of `replacement`.
 use Rattle.std.proofs.Common.{◌≡◌, ℕ, List, [], true, length, get_or, subst, sym, arith}
 use Rattle.std.specs.List.{between}
 use Rattle.std.proofs.lemmas.Slice.{first_rest}

@@ -1,3 +1,4 @@
+-- What is left to prove of `layout_denotes`.
 use Rattle.htmd_tree.proofs.LayoutLemmas.{document_items-denotes}
 use Rattle.htmd_tree.proofs.laws.layout_denotes.Goals as goal
 

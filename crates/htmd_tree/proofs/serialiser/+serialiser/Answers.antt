@@ -1,3 +1,4 @@
+-- What is left to prove of the functions of the cycle `serialiser`.
 use Rattle.std.proofs.Common.{rules, ◌≡◌, ◌<◌, ◌++◌, length, string_bytes, sym, ap, ◌∙◌, subst, arith, ℕ, List, false, OnOk, codes}
 use Rattle.htmd_tree.specs.Items.{children_of, document_node, doctype_node, text_node, comment_node, element_node}
 use Rattle.htmd_tree.specs.NumberedTrees.{tree_of, forest_of, value_forest}

@@ -1,3 +1,4 @@
+-- What the loops of the functions of the cycle `serialiser` keep, and what goes down.
 use Rattle.std.proofs.Common.{◌≡◌, ◌+◌, ◌-◌, ◌*◌, ◌++◌, length, drop, string_bytes}
 use Rattle.htmd_tree.specs.Items.{children_of}
 use Rattle.htmd_tree.specs.NumberedTrees.{tree_of, forest_of, value_forest}

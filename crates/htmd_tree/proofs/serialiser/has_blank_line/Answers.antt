@@ -1,3 +1,4 @@
+-- What is left to prove of `has_blank_line`.
 use Rattle.std.proofs.Common.{◌≡◌, ◌∷◌, ◌∙◌, ◌&&◌, Bool, ap, sym, subst}
 use Rattle.std.specs.Char.{is_whitespace}
 use Rattle.std.specs.Str.{chars}

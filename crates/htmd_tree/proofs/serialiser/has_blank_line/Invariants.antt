@@ -1,3 +1,4 @@
+-- What the loop of `has_blank_line` keeps.
 use Rattle.std.proofs.Common.{◌≡◌}
 use Rattle.std.specs.Str.{IsUtf8, chars}
 use Rattle.std.specs.Str.Iter.{chars_rest}

@@ -1,3 +1,4 @@
+-- What is left to prove of `push_block`.
 use Rattle.std.proofs.Common.{◌∷◌, ◌++◌, ap, sym, ◌∙◌, string_bytes}
 use Rattle.std.specs.Str.{chars, encode_utf8_all}
 use Rattle.std.specs.Str.Iter.{chars_rest}

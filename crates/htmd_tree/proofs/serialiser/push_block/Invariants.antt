@@ -1,3 +1,4 @@
+-- What the loop of `push_block` keeps.
 use Rattle.std.proofs.Common.{◌≡◌, ◌++◌, false, length, string_bytes}
 use Rattle.std.specs.Str.{IsUtf8, chars, encode_utf8_all}
 use Rattle.std.specs.Str.Iter.{chars_rest}

@@ -1,3 +1,4 @@
+-- What the loop of `push_start_tag` keeps.
 use Rattle.std.proofs.Common.{◌≡◌, ◌++◌, drop, string_bytes}
 use Rattle.std.specs.List.{flat_map}
 use Rattle.htmd_tree.specs.Views.{pairs_of}

@@ -1,3 +1,4 @@
+-- What the loop of `push_text` keeps.
 use Rattle.std.proofs.Common.{◌≡◌, ◌++◌, string_bytes}
 use Rattle.std.specs.Str.Iter.{chars_rest}
 use Rattle.htmd_grammar.specs.Serialisation.{text_byte, escaped_html}

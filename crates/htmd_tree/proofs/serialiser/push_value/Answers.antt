@@ -1,3 +1,4 @@
+-- What is left to prove of `push_value`.
 use Rattle.std.proofs.Common.{string_bytes}
 use Rattle.std.specs.Str.Iter.{chars_rest}
 use Rattle.htmd_grammar.specs.Serialisation.{value_byte}

@@ -1,3 +1,4 @@
+-- What is left to prove of `raw_block`.
 use Rattle.std.proofs.Common.{rules, ◌≡◌, ◌++◌, ◌∙◌, ℕ, List, false, string_bytes, codes, chars, IfOk, sym, subst}
 use Rattle.htmd_tree.specs.NumberedTrees.{tree_of, value_tree}
 use Rattle.htmd_grammar.specs.Serialisation.{serialisation}

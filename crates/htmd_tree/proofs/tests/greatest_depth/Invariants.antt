@@ -1,3 +1,4 @@
+-- What the loop of `greatest_depth` keeps.
 use Rattle.std.proofs.Common.{◌<◌, length, IsTrue}
 use Rattle.htmd_tree.specs.Items.{data_at, holds_children}
 use Rattle.htmd_tree.proofs.tests.greatest_depth.Given as goal

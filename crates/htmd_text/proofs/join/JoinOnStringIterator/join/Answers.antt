@@ -1,3 +1,4 @@
+-- What is left to prove of `join`.
 use Rattle.std.proofs.Common.{refl, sym, ap, arith, [], ◌++◌, ◌∙◌, append_assoc, append-nil}
 use Rattle.std.specs.String.{string_bytes}
 use Rattle.std.proofs.iter.Next.{again}

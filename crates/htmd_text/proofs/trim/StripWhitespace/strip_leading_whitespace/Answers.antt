@@ -1,3 +1,4 @@
+-- What is left to prove of `strip_leading_whitespace`.
 use Rattle.htmd_text.proofs.TrimsLemmas.{rest_boundary}
 use Rattle.htmd_text.proofs.trim.StripWhitespace.strip_leading_whitespace.Goals as goal
 

@@ -1,3 +1,4 @@
+-- What is left to prove of `add`.
 use Rattle.std.proofs.Common.{◌≡◌, ◌<◌, ◌∷◌, [], ◌++◌, List, length, get_or, set, arith, rules, refl, sym, ap, ◌∙◌, subst, ◌+◌, ℕ, Some}
 use Rattle.std.proofs.lemmas.List.{length-map}
 use Rattle.htmd_tree.specs.declared.tree.Entry.{Entry}

@@ -1,3 +1,4 @@
+-- What is left to prove of `read`.
 use Rattle.std.proofs.Common.{◌≡◌, ℕ, ◌<◌, List, [], ◌∷◌, length, take, slice_set, refl, arith, rules}
 use Rattle.htmd_cli.proofs.tests.doubles.DrippingSource.read.Goals as goal
 
