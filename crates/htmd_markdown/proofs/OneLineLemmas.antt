@@ -8,7 +8,7 @@ use Rattle.std.proofs.lemmas.List.Folds.{list_any-append}
 use Rattle.std.proofs.lemmas.List.Splits.{length-slice_split}
 use Rattle.std.proofs.lemmas.List.Sums.{fold_push}
 use Rattle.htmd_text.specs.Characters.{grave_accent, line_feed, space}
-use Rattle.htmd_text.specs.Joins.{joined}
+use Rattle.htmd_text.specs.Joins.{joined_texts as joined}
 use Rattle.htmd_text.specs.Trims.{is_line_feed}
 use Rattle.htmd_markdown.specs.Runs.{runs, longest_run, has_run}
 use Rattle.htmd_markdown.specs.CodeSpans.{begins_with, ends_with, space_if, in_one_line, meets_delimiter, is_between_spaces, smallest_unused_len, delimiter_len, delimited, code_span}

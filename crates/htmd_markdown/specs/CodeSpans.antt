@@ -2,7 +2,7 @@
 use Rattle.std.specs.Prelude.{ℕ, ◌+◌, ◌-◌, Bool, not, ◌&&◌, ◌||◌, ◌==◌, if◌then◌else◌, List, [], ◌∷◌, ◌++◌, length, map, replicate, slice_index}
 use Rattle.std.specs.List.{list_all, position_or_len, range_with_len}
 use Rattle.htmd_text.specs.Characters.{grave_accent, line_feed, space}
-use Rattle.htmd_text.specs.Trims.{trimmed, is_line_feed, is_space}
+use Rattle.htmd_text.specs.Trims.{trimmed_text as trimmed, is_line_feed, is_space}
 use Rattle.htmd_text.specs.WhiteSpace.{is_document_white_space}
 use Rattle.htmd_markdown.specs.Runs.{longest_run, has_run}
 

@@ -6,7 +6,7 @@ use Rattle.std.proofs.lemmas.List.{length_push, take_all}
 use Rattle.std.proofs.lemmas.Iterator.Splits.{YieldsList-from_str_split}
 use Rattle.std.proofs.lemmas.Iterator.Consumers.{YieldsList-turn, YieldsList-end}
 use Rattle.htmd_text.specs.Characters.{line_feed, space}
-use Rattle.htmd_text.specs.Joins.{joined}
+use Rattle.htmd_text.specs.Joins.{joined_texts as joined}
 use Rattle.htmd_markdown.specs.CodeSpans.{space_if}
 use Rattle.htmd_markdown.proofs.OneLineLemmas.{line_more, joined_lines, pushed_some}
 use Rattle.htmd_markdown.proofs.code_span.push_with_spaces.Goals as goal

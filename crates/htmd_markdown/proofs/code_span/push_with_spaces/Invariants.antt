@@ -4,7 +4,7 @@ use Rattle.std.specs.Prelude.{◌==◌}
 use Rattle.std.specs.List.{slice_split}
 use Rattle.std.specs.String.{string_bytes}
 use Rattle.htmd_text.specs.Characters.{line_feed, space}
-use Rattle.htmd_text.specs.Joins.{joined}
+use Rattle.htmd_text.specs.Joins.{joined_texts as joined}
 use Rattle.htmd_markdown.proofs.code_span.push_with_spaces.Given as goal
 
 abbrev pub invariant-loop-line : goal.invariant-loop-line
