@@ -3,6 +3,9 @@ pub mod RunsLemmas
 pub mod CodeSpanReadingLemmas
 pub mod CodeSpansLemmas
 pub mod OneLineLemmas
+pub mod CodeBlocksLemmas
+pub mod FenceReadingLemmas
+pub mod FencesLemmas
 pub mod EmphasesLemmas
 pub mod QuotesLemmas
 pub mod Examples

@@ -1,6 +1,10 @@
 pub mod Runs
 pub mod CodeSpans
 pub mod CodeSpanReading
+pub mod CodeBlocks
+pub mod Fences
+pub mod FenceReading
+pub mod IndentedCode
 pub mod Emphases
 pub mod Headings
 pub mod ThematicBreaks

@@ -2,9 +2,12 @@
 //! read back, a definition of its reader that shares nothing with the writer.
 #![tactic(auto)]
 
+mod code_block;
 mod code_span;
 mod emphasis;
+mod fence;
 mod heading;
+mod indented_code;
 mod line_break;
 mod list;
 mod quote;
@@ -15,7 +18,9 @@ mod thematic_break;
 
 pub use self::code_span::write_span;
 pub use self::emphasis::{Emphasis, write_emphasis};
+pub use self::fence::{CodeBlockFence, write_fence};
 pub use self::heading::{HeadingStyle, write_heading};
+pub use self::indented_code::write_indented_code;
 pub use self::line_break::{BrStyle, write_line_break};
 pub use self::list::{
     BulletListMarker, ListBlock, first_number, write_bullet_item, write_list_block,
