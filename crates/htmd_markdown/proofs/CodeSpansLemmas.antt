@@ -7,10 +7,10 @@ use Rattle.std.proofs.lemmas.Bool.Decides.{nat_tests}
 use Rattle.std.proofs.lemmas.List.{append-nil}
 use Rattle.std.proofs.lemmas.List.Sums.{passes_at_first, position_or_len_is}
 use Rattle.htmd_text.specs.Characters.{carriage_return, grave_accent, line_feed, space}
-use Rattle.htmd_text.specs.Trims.{trimmed_text as trimmed}
+use Rattle.htmd_text.specs.Trims.{trimmed_text}
 use Rattle.htmd_text.specs.WhiteSpace.{is_document_white_space}
 use Rattle.htmd_markdown.specs.Runs.{runs, longest_run, has_run}
-use Rattle.htmd_markdown.specs.CodeSpans.{begins_with, ends_with, meets_delimiter, smallest_unused_len, delimiter_len, delimited, code_span}
+use Rattle.htmd_markdown.specs.CodeSpans.{begins_with, ends_with, meets_delimiter, smallest_unused_len, delimiter_len, delimited_text, code_span}
 use Rattle.htmd_markdown.specs.CodeSpanReading.{is_backquote, line_ends_as_spaces, without_padding, read_span}
 use Rattle.htmd_markdown.proofs.RunsLemmas.{first_run, other_runs, runs-cons_no, other_runs-cons_yes, first_run-prefix_len, no_run_so_long}
 use Rattle.htmd_markdown.proofs.CodeSpanReadingLemmas.{lacks_run, ends_behind, read_span-between, line_ends-push_space, line_ends-cons, without_padding-none, without_padding-both}
@@ -122,7 +122,7 @@ delimiter-unused s = free (meets_delimiter s)
     free true = no_run_so_long grave_accent (longest_run grave_accent s + 1) s (omega arith)
     free false = unused s (longest_run grave_accent s) taken refl refl (cases_lt taken (longest_run grave_accent s))
 
--- ---- what is trimmed begins with no document white space
+-- ---- what was trimmed begins with no document white space
 
 first_stops : (passes : ℕ → Bool) (s : List ℕ) (b : ℕ) (t : List ℕ) → drop (prefix_len passes s) s ≡ b ∷ t → passes b ≡ false
 first_stops passes [] b t e = cc
@@ -139,7 +139,7 @@ first_taken zero s b t e = cc
 first_taken (suc n) [] b t e = cc
 first_taken (suc n) (c ∷ s) b t e = (s, cc)
 
-trimmed_stops : (passes : ℕ → Bool) (s : List ℕ) (b : ℕ) (t : List ℕ) → trimmed passes s ≡ b ∷ t → passes b ≡ false
+trimmed_stops : (passes : ℕ → Bool) (s : List ℕ) (b : ℕ) (t : List ℕ) → trimmed_text passes s ≡ b ∷ t → passes b ≡ false
 trimmed_stops passes s b t e =
     let rest = first_taken (length (drop (prefix_len passes s) s) - suffix_len passes (drop (prefix_len passes s) s)) (drop (prefix_len passes s) s) b t e in
     first_stops passes s b rest.0 rest.1
@@ -152,7 +152,7 @@ padded_regrouped d t = simp append_assoc
 bare_regrouped : (d : List ℕ) (t : List ℕ) → (((d ++ []) ++ t) ++ []) ++ d ≡ d ++ (t ++ d)
 bare_regrouped d t = simp (append-nil, append_assoc)
 
-delimited_back : (m : Bool) (b : ℕ) (s : List ℕ) → meets_delimiter (b ∷ s) ≡ m → is_document_white_space b ≡ false → read_span (delimited (m || false) (delimiter_len (b ∷ s)) (b ∷ s)) ≡ Some (line_ends_as_spaces (b ∷ s))
+delimited_back : (m : Bool) (b : ℕ) (s : List ℕ) → meets_delimiter (b ∷ s) ≡ m → is_document_white_space b ≡ false → read_span (delimited_text (m || false) (delimiter_len (b ∷ s)) (b ∷ s)) ≡ Some (line_ends_as_spaces (b ∷ s))
 delimited_back true b s meets inside =
     let t : List ℕ = b ∷ s in
     let n : ℕ = delimiter_len t in
@@ -184,12 +184,12 @@ delimited_back false b s meets inside =
     ∙ ap (λ l. Some l) (without_padding-none b (line_ends_as_spaces s) no_space)
     ∙ ap (λ l. Some l) (sym (line_ends-cons b s no_return no_feed))
 
-trimmed_back : (s t : List ℕ) → trimmed is_document_white_space s ≡ t → t ≢ [] → read_span (delimited (meets_delimiter t || false) (delimiter_len t) t) ≡ Some (line_ends_as_spaces t)
+trimmed_back : (s t : List ℕ) → trimmed_text is_document_white_space s ≡ t → t ≢ [] → read_span (delimited_text (meets_delimiter t || false) (delimiter_len t) t) ≡ Some (line_ends_as_spaces t)
 trimmed_back s [] e some = absurd (some refl)
 trimmed_back s (b ∷ t) e some = delimited_back (meets_delimiter (b ∷ t)) b t refl (trimmed_stops is_document_white_space s b t e)
 
-pub code_span-reads_back : (s : List ℕ) → trimmed is_document_white_space s ≢ [] → read_span (code_span false s) ≡ Some (line_ends_as_spaces (trimmed is_document_white_space s))
-code_span-reads_back s some = trimmed_back s (trimmed is_document_white_space s) refl some
+pub code_span-reads_back : (s : List ℕ) → trimmed_text is_document_white_space s ≢ [] → read_span (code_span false s) ≡ Some (line_ends_as_spaces (trimmed_text is_document_white_space s))
+code_span-reads_back s some = trimmed_back s (trimmed_text is_document_white_space s) refl some
 
 -- ---- the first unused length
 

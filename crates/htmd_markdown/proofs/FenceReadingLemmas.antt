@@ -1,14 +1,14 @@
 -- How a fenced code block is read that was put together in a certain way.
 use Rattle.std.proofs.Common.{◌≡◌, ℕ, zero, suc, ◌+◌, ◌-◌, ◌<◌, ◌≤◌, Bool, true, false, cond, List, [], ◌∷◌, ◌++◌, length, take, drop, refl, sym, ap, ◌∙◌, arith, append_assoc}
-use Rattle.std.specs.Prelude.{not, ◌&&◌, ◌||◌, ◌==◌, nat_le, replicate, slice_index, Option, None, Some}
-use Rattle.std.specs.List.{list_all, list_any, position_or_len, prefix_len}
+use Rattle.std.specs.Prelude.{not, ◌&&◌, ◌||◌, ◌==◌, nat_le, replicate, None, Some}
+use Rattle.std.specs.List.{list_all, list_any, position_or_len}
 use Rattle.std.specs.Option.{option_map}
 use Rattle.std.proofs.lemmas.Bool.Decides.{nat_tests}
-use Rattle.std.proofs.lemmas.List.{length-append, length_push, length-replicate, take-append-le, take_all}
+use Rattle.std.proofs.lemmas.List.{length_push}
 use Rattle.std.proofs.lemmas.List.Folds.{list_any-append}
 use Rattle.std.proofs.Math.Seq.{drop-append_seam, take-append_seam}
-use Rattle.htmd_text.specs.Characters.{carriage_return, grave_accent, line_feed, space, tab, tilde}
-use Rattle.htmd_markdown.specs.FenceReading.{is_line_end, first_line, behind_line_end, behind_first_line, symbols_at_start, behind_symbols, is_opening, unindented, is_closing, before_closing, read_fence}
+use Rattle.htmd_text.specs.Characters.{grave_accent, line_feed, space, tab, tilde}
+use Rattle.htmd_markdown.specs.FenceReading.{is_line_end, first_line, behind_line_end, behind_first_line, symbols_at_start, behind_symbols, is_opening, unindented_line, is_closing, before_closing, read_fence}
 
 -- ---- runs of the symbol
 
@@ -74,7 +74,7 @@ no_closing c n m s below =
     let indent : ℕ = symbols_at_start space (take m s) in
     let part = symbols_of_part c indent m s in
     let short : nat_le n (symbols_at_start c (drop indent (take m s))) ≡ false = grind (arith, nat_tests, part, below indent) in
-    fails (nat_le indent 3) (nat_le n (symbols_at_start c (drop indent (take m s)))) (list_all (λ b. (b == space) || (b == tab)) (behind_symbols c (unindented (take m s)))) short
+    fails (nat_le indent 3) (nat_le n (symbols_at_start c (drop indent (take m s)))) (list_all (λ b. (b == space) || (b == tab)) (behind_symbols c (unindented_line (take m s)))) short
   where
     fails : (x y z : Bool) → y ≡ false → ((x && y) && z) ≡ false
     fails true false z e = refl

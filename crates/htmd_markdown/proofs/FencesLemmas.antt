@@ -1,19 +1,18 @@
 -- A fenced code block reads back.
-use Rattle.std.proofs.Common.{◌≡◌, ◌⊎◌, inl, inr, ℕ, zero, suc, ◌+◌, ◌-◌, ◌<◌, ◌≤◌, Bool, true, false, cond, List, [], ◌∷◌, ◌++◌, drop, max, refl, sym, ap, ◌∙◌, arith, append_assoc, subst}
-use Rattle.std.specs.Prelude.{not, ◌&&◌, ◌||◌, ◌==◌, replicate, Option, None, Some}
+use Rattle.std.proofs.Common.{◌≡◌, ◌⊎◌, inl, inr, ℕ, zero, suc, ◌+◌, ◌<◌, ◌≤◌, Bool, true, false, cond, List, [], ◌∷◌, ◌++◌, drop, refl, ap, ◌∙◌, arith, append_assoc}
+use Rattle.std.specs.Prelude.{not, ◌||◌, ◌==◌, replicate, Option, None, Some}
 use Rattle.std.specs.Option.{option_copied, unwrap_or}
 use denote.Ref.{Bor}
 use Rattle.std.specs.List.{list_any}
-use Rattle.htmd_text.specs.Characters.{carriage_return, grave_accent, line_feed, tilde}
+use Rattle.htmd_text.specs.Characters.{carriage_return, line_feed}
 use Rattle.htmd_markdown.specs.declared.fence.CodeBlockFence.{CodeBlockFence}
 use Rattle.htmd_markdown.specs.declared.fence.CodeBlockFence.TheVariants.{Tildes, Backticks}
-use Rattle.htmd_markdown.specs.Runs.{longest_run}
 use Rattle.htmd_markdown.specs.CodeBlocks.{code_of}
-use Rattle.htmd_markdown.specs.Fences.{symbol_of, info_string, fence_len, fits_fence, fenced, fenced_code_block}
+use Rattle.htmd_markdown.specs.Fences.{symbol_of, info_string, fence_len, fits_fence, between_fences, fenced_code_block}
 use Rattle.htmd_markdown.specs.FenceReading.{is_line_end, symbols_at_start, is_opening, read_fence}
 use Rattle.htmd_markdown.proofs.RunsLemmas.{run_at-le-longest}
 use Rattle.htmd_markdown.proofs.CodeBlocksLemmas.{code_of-behind}
-use Rattle.htmd_markdown.proofs.FenceReadingLemmas.{Below, MakesFences, block, read_fence-between, opens_with_tildes, opens_with_backquotes, symbols_before}
+use Rattle.htmd_markdown.proofs.FenceReadingLemmas.{Below, MakesFences, read_fence-between, opens_with_tildes, opens_with_backquotes, symbols_before}
 
 makes_fences : (fence : CodeBlockFence) → MakesFences (symbol_of fence)
 makes_fences Tildes = record { itself = refl; no_space = refl; no_line_end = refl; no_line_feed = refl }
@@ -37,7 +36,7 @@ opens : (fence : CodeBlockFence) (n : ℕ) (info : List ℕ) → 3 ≤ n → lis
 opens Tildes n info le none = opens_with_tildes n info le
 opens Backticks n info le none = opens_with_backquotes n info le none
 
-regrouped : (fence info code : List ℕ) → fenced fence info code ≡ (fence ++ info) ++ line_feed ∷ (code ++ line_feed ∷ fence)
+regrouped : (fence info code : List ℕ) → between_fences fence info code ≡ (fence ++ info) ++ line_feed ∷ (code ++ line_feed ∷ fence)
 regrouped fence info code = simp append_assoc
 
 pub fenced_code_block-reads_back : (s : List ℕ) (language : Option (List ℕ)) (fence : CodeBlockFence) → fits_fence (symbol_of fence) (info_string language) ≡ true → read_fence (fenced_code_block s language fence) ≡ Some (code_of s)

@@ -1,7 +1,8 @@
-pub mod Answered
+pub mod ResultLemmas
 pub mod RunsLemmas
 pub mod CodeSpanReadingLemmas
 pub mod CodeSpansLemmas
+pub mod JoinedTextsLemmas
 pub mod OneLineLemmas
 pub mod CodeBlocksLemmas
 pub mod FenceReadingLemmas

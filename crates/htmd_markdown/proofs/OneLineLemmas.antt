@@ -1,85 +1,69 @@
 -- A text in one line has the backquotes of the text.
-use Rattle.std.proofs.Common.{◌≡◌, ℕ, zero, suc, ◌+◌, ◌-◌, ◌<◌, ◌≤◌, Bool, true, false, cond, List, [], ◌∷◌, ◌++◌, length, get_or, take, map, max, refl, sym, ap, ◌∙◌, arith, append_assoc}
+use Rattle.std.proofs.Common.{◌≡◌, ℕ, zero, suc, ◌+◌, ◌-◌, ◌<◌, ◌≤◌, Bool, true, false, cond, List, [], ◌∷◌, ◌++◌, length, map, max, refl, sym, ap, ◌∙◌, arith}
 use Rattle.std.specs.Prelude.{not, ◌&&◌, ◌||◌, ◌==◌, slice_index}
 use Rattle.std.specs.List.{fold, list_all, list_any, onto_first, position_or_len, range_with_len, slice_split}
 use Rattle.std.proofs.lemmas.Bool.Decides.{nat_tests}
-use Rattle.std.proofs.lemmas.List.{append-nil, flat_map_more, get_or-append-add, get_or-map, length-append, length-map, length-take-le, length_push, map_push, take_more}
+use Rattle.std.proofs.lemmas.List.{append-nil, get_or-append-add, get_or-map, length-append, length-map, map_push}
 use Rattle.std.proofs.lemmas.List.Folds.{list_any-append}
 use Rattle.std.proofs.lemmas.List.Splits.{length-slice_split}
 use Rattle.std.proofs.lemmas.List.Sums.{fold_push}
 use Rattle.htmd_text.specs.Characters.{grave_accent, line_feed, space}
-use Rattle.htmd_text.specs.Joins.{joined_texts as joined}
+use Rattle.htmd_text.specs.Joins.{joined_texts}
 use Rattle.htmd_text.specs.Trims.{is_line_feed}
 use Rattle.htmd_markdown.specs.Runs.{runs, longest_run, has_run}
-use Rattle.htmd_markdown.specs.CodeSpans.{begins_with, ends_with, space_if, in_one_line, meets_delimiter, is_between_spaces, smallest_unused_len, delimiter_len, delimited, code_span}
+use Rattle.htmd_markdown.specs.CodeSpans.{begins_with, ends_with, space_if, in_one_line, meets_delimiter, is_between_spaces, smallest_unused_len, delimiter_len, delimited_text, code_span}
 use Rattle.htmd_markdown.proofs.RunsLemmas.{runs-cons_yes, runs-cons_no}
 
 -- a character, where it is a line feed a space
-abbrev pub spaced : ℕ → ℕ
-spaced b = cond (is_line_feed b) space b
+abbrev pub spaced_character : ℕ → ℕ
+spaced_character b = cond (is_line_feed b) space b
 
 -- ---- the lines with a space between each two
 
-pub joined_push : (ls : List (List ℕ)) (x : List ℕ) → joined (space ∷ []) (ls ++ x ∷ []) ≡ joined (space ∷ []) ls ++ (space_if (not (length ls == 0)) ++ x)
-joined_push [] x = append-nil x
-joined_push (y ∷ ys) x =
-    let some : (length (y ∷ ys) == 0) ≡ false = grind (arith, nat_tests) in
-    rw some (sym (flat_map_more (λ next. (space ∷ []) ++ next) y ys x))
-
-joined_behind : (ls : List (List ℕ)) → 0 < length ls → joined (space ∷ []) ([] ∷ ls) ≡ space ∷ joined (space ∷ []) ls
+joined_behind : (ls : List (List ℕ)) → 0 < length ls → joined_texts (space ∷ []) ([] ∷ ls) ≡ space ∷ joined_texts (space ∷ []) ls
 joined_behind [] some = absurd (omega arith)
 joined_behind (y ∷ ys) some = refl
 
-joined_onto : (b : ℕ) (ls : List (List ℕ)) → joined (space ∷ []) (onto_first b ls) ≡ b ∷ joined (space ∷ []) ls
+joined_onto : (b : ℕ) (ls : List (List ℕ)) → joined_texts (space ∷ []) (onto_first b ls) ≡ b ∷ joined_texts (space ∷ []) ls
 joined_onto b [] = refl
 joined_onto b (y ∷ ys) = refl
 
-pub joined_lines : (s : List ℕ) → joined (space ∷ []) (slice_split (λ b. b == line_feed) s) ≡ map (λ b. cond (is_line_feed b) space b) s
+pub joined_lines : (s : List ℕ) → joined_texts (space ∷ []) (slice_split (λ b. b == line_feed) s) ≡ map (λ b. cond (is_line_feed b) space b) s
 joined_lines [] = refl
 joined_lines (b ∷ s) = one_more (is_line_feed b) refl (joined_lines s)
   where
-    one_more : (t : Bool) → is_line_feed b ≡ t → joined (space ∷ []) (slice_split (λ b. b == line_feed) s) ≡ map (λ b. cond (is_line_feed b) space b) s → joined (space ∷ []) (slice_split (λ b. b == line_feed) (b ∷ s)) ≡ map (λ b. cond (is_line_feed b) space b) (b ∷ s)
+    one_more : (t : Bool) → is_line_feed b ≡ t → joined_texts (space ∷ []) (slice_split (λ b. b == line_feed) s) ≡ map (λ b. cond (is_line_feed b) space b) s → joined_texts (space ∷ []) (slice_split (λ b. b == line_feed) (b ∷ s)) ≡ map (λ b. cond (is_line_feed b) space b) (b ∷ s)
     one_more true here rest =
         let size = length-slice_split (λ b. b == line_feed) s in
         rw here (joined_behind (slice_split (λ b. b == line_feed) s) (omega (arith, size)) ∙ ap (λ l. space ∷ l) rest)
     one_more false here rest = rw here (joined_onto b (slice_split (λ b. b == line_feed) s) ∙ ap (λ l. b ∷ l) rest)
 
--- one more line
-pub line_more : (ls : List (List ℕ)) (n : ℕ) (x base : List ℕ) (first : Bool) → (n < length ls) × (x ≡ get_or ls n x) → first ≡ (n == 0) → ((base ++ joined (space ∷ []) (take n ls)) ++ space_if (not first)) ++ x ≡ base ++ joined (space ∷ []) (take (n + 1) ls)
-line_more ls n x base first here begun =
-    let size : length (take n ls) ≡ n = length-take-le n ls (omega (arith, here.0)) in
-    let more : take (n + 1) ls ≡ take n ls ++ x ∷ [] = take_more ls n x here.0 ∙ ap (λ y. take n ls ++ y ∷ []) (sym here.1) in
-    rw (more, joined_push (take n ls) x, size, ← begun) (append_assoc (base ++ joined (space ∷ []) (take n ls)) (space_if (not first)) x ∙ append_assoc base (joined (space ∷ []) (take n ls)) (space_if (not first) ++ x))
-
-pub pushed_some : {X : Type 0} (xs : List X) (x : X) → false ≡ (length (xs ++ x ∷ []) == 0)
-pushed_some xs x = let size = length_push xs x in grind (arith, nat_tests)
-
 -- ---- its backquotes
 
-spaced_backquote : (b : ℕ) → (spaced b == grave_accent) ≡ (b == grave_accent)
+spaced_backquote : (b : ℕ) → (spaced_character b == grave_accent) ≡ (b == grave_accent)
 spaced_backquote b = by_case (is_line_feed b) refl
   where
     by_case : (t : Bool) → is_line_feed b ≡ t → (cond t space b == grave_accent) ≡ (b == grave_accent)
     by_case true here = grind (arith, nat_tests)
     by_case false here = refl
 
-spaced_other : (b : ℕ) → (b == grave_accent) ≡ true → spaced b ≡ b
+spaced_other : (b : ℕ) → (b == grave_accent) ≡ true → spaced_character b ≡ b
 spaced_other b same =
     let other : is_line_feed b ≡ false = grind (arith, nat_tests) in
     rw other refl
 
-runs_spaced : (s : List ℕ) → runs grave_accent (map spaced s) ≡ runs grave_accent s
+runs_spaced : (s : List ℕ) → runs grave_accent (map spaced_character s) ≡ runs grave_accent s
 runs_spaced [] = refl
 runs_spaced (b ∷ s) = by_case (b == grave_accent) refl (runs_spaced s)
   where
-    by_case : (t : Bool) → (b == grave_accent) ≡ t → runs grave_accent (map spaced s) ≡ runs grave_accent s → runs grave_accent (spaced b ∷ map spaced s) ≡ runs grave_accent (b ∷ s)
+    by_case : (t : Bool) → (b == grave_accent) ≡ t → runs grave_accent (map spaced_character s) ≡ runs grave_accent s → runs grave_accent (spaced_character b ∷ map spaced_character s) ≡ runs grave_accent (b ∷ s)
     by_case true same rest =
-        runs-cons_yes grave_accent (spaced b) (map spaced s) (spaced_backquote b ∙ same)
-        ∙ ap (λ x. onto_first x (runs grave_accent (map spaced s))) (spaced_other b same)
+        runs-cons_yes grave_accent (spaced_character b) (map spaced_character s) (spaced_backquote b ∙ same)
+        ∙ ap (λ x. onto_first x (runs grave_accent (map spaced_character s))) (spaced_other b same)
         ∙ ap (λ rs. onto_first b rs) rest
         ∙ sym (runs-cons_yes grave_accent b s same)
     by_case false other rest =
-        runs-cons_no grave_accent (spaced b) (map spaced s) (spaced_backquote b ∙ other)
+        runs-cons_no grave_accent (spaced_character b) (map spaced_character s) (spaced_backquote b ∙ other)
         ∙ ap (λ rs. [] ∷ rs) rest
         ∙ sym (runs-cons_no grave_accent b s other)
 
@@ -131,13 +115,13 @@ behind false s = (ap (longest_run grave_accent) (append-nil s), λ n some. ap (h
 same_runs : (s : List ℕ) → SameRuns (in_one_line s) s
 same_runs s =
     let front = space_if (begins_with line_feed s && not (list_all is_line_feed s)) in
-    let back = behind (ends_with line_feed s) (front ++ map spaced s) in
-    let start = in_front (begins_with line_feed s && not (list_all is_line_feed s)) (map spaced s) in
+    let back = behind (ends_with line_feed s) (front ++ map spaced_character s) in
+    let start = in_front (begins_with line_feed s && not (list_all is_line_feed s)) (map spaced_character s) in
     let whole = runs_spaced s in
     (back.0 ∙ start.0 ∙ ap (λ rs. fold max 0 (map (λ run. length run) rs)) whole, λ n some. back.1 n some ∙ start.1 n some ∙ ap (λ rs. list_any (λ run. length run == n) rs) whole)
 
 -- its ends
-begins_behind : (lead : Bool) (b : ℕ) (s after : List ℕ) → (lead ≡ true → (b == grave_accent) ≡ false) → begins_with grave_accent ((space_if lead ++ (spaced b ∷ s)) ++ after) ≡ (b == grave_accent)
+begins_behind : (lead : Bool) (b : ℕ) (s after : List ℕ) → (lead ≡ true → (b == grave_accent) ≡ false) → begins_with grave_accent ((space_if lead ++ (spaced_character b ∷ s)) ++ after) ≡ (b == grave_accent)
 begins_behind true b s after other = sym (other refl)
 begins_behind false b s after other = spaced_backquote b
 
@@ -156,7 +140,7 @@ line_feed_first b false e = by_case (b == line_feed) refl e
 begins_same : (s : List ℕ) → begins_with grave_accent (in_one_line s) ≡ begins_with grave_accent s
 begins_same [] = refl
 begins_same (b ∷ s) =
-    begins_behind ((b == line_feed) && not (list_all is_line_feed (b ∷ s))) b (map spaced s) (space_if (ends_with line_feed (b ∷ s)))
+    begins_behind ((b == line_feed) && not (list_all is_line_feed (b ∷ s))) b (map spaced_character s) (space_if (ends_with line_feed (b ∷ s)))
     (line_feed_first b (list_all is_line_feed (b ∷ s)))
 
 last_behind : (front s : List ℕ) → 0 < length s → slice_index (front ++ s) (length (front ++ s) - 1) ≡ slice_index s (length s - 1)
@@ -164,21 +148,21 @@ last_behind front s some =
     let size : length (front ++ s) - 1 ≡ length front + (length s - 1) = omega (arith, length-append front s) in
     ap (λ k. slice_index (front ++ s) k) size ∙ get_or-append-add front s (length s - 1) 0
 
-last_spaced : (front s : List ℕ) → 0 < length s → (slice_index (front ++ map spaced s) (length (front ++ map spaced s) - 1) == grave_accent) ≡ ends_with grave_accent s
+last_spaced : (front s : List ℕ) → 0 < length s → (slice_index (front ++ map spaced_character s) (length (front ++ map spaced_character s) - 1) == grave_accent) ≡ ends_with grave_accent s
 last_spaced front s some =
-    let size : length (map spaced s) ≡ length s = length-map s spaced in
-    let last : slice_index (map spaced s) (length (map spaced s) - 1) ≡ spaced (slice_index s (length s - 1)) = ap (λ n. slice_index (map spaced s) (n - 1)) size ∙ get_or-map spaced s (length s - 1) 0 0 (omega arith) in
-    ap (λ x. x == grave_accent) (last_behind front (map spaced s) (omega (arith, size)) ∙ last) ∙ spaced_backquote (slice_index s (length s - 1))
+    let size : length (map spaced_character s) ≡ length s = length-map s spaced_character in
+    let last : slice_index (map spaced_character s) (length (map spaced_character s) - 1) ≡ spaced_character (slice_index s (length s - 1)) = ap (λ n. slice_index (map spaced_character s) (n - 1)) size ∙ get_or-map spaced_character s (length s - 1) 0 0 (omega arith) in
+    ap (λ x. x == grave_accent) (last_behind front (map spaced_character s) (omega (arith, size)) ∙ last) ∙ spaced_backquote (slice_index s (length s - 1))
 
-ends_behind_all : (due : Bool) (s : List ℕ) (lead : Bool) → ends_with line_feed s ≡ due → ends_with grave_accent ((space_if lead ++ map spaced s) ++ space_if due) ≡ ends_with grave_accent s
+ends_behind_all : (due : Bool) (s : List ℕ) (lead : Bool) → ends_with line_feed s ≡ due → ends_with grave_accent ((space_if lead ++ map spaced_character s) ++ space_if due) ≡ ends_with grave_accent s
 ends_behind_all true s lead e =
     let other : ends_with grave_accent s ≡ false = grind (arith, nat_tests) in
-    let last = last_behind (space_if lead ++ map spaced s) (space ∷ []) (omega arith) in
+    let last = last_behind (space_if lead ++ map spaced_character s) (space ∷ []) (omega arith) in
     ap (λ x. x == grave_accent) last ∙ sym other
 ends_behind_all false [] true e = refl
 ends_behind_all false [] false e = refl
 ends_behind_all false (b ∷ s) lead e =
-    ap (ends_with grave_accent) (append-nil (space_if lead ++ map spaced (b ∷ s))) ∙ last_spaced (space_if lead) (b ∷ s) (omega arith)
+    ap (ends_with grave_accent) (append-nil (space_if lead ++ map spaced_character (b ∷ s))) ∙ last_spaced (space_if lead) (b ∷ s) (omega arith)
 
 pub meets_delimiter-in_one_line : (s : List ℕ) → meets_delimiter (in_one_line s) ≡ meets_delimiter s
 meets_delimiter-in_one_line s =
@@ -205,7 +189,7 @@ delimiter_len-in_one_line s =
     ∙ ap (λ n. cond (meets_delimiter s) (longest_run grave_accent s + 1) n) (unused_same (in_one_line s) s same)
 
 -- so the delimiters may be found in the text as it is
-pub code_span-in_one_line : (s : List ℕ) → delimited (meets_delimiter s || is_between_spaces s) (delimiter_len s) (in_one_line s) ≡ code_span true s
+pub code_span-in_one_line : (s : List ℕ) → delimited_text (meets_delimiter s || is_between_spaces s) (delimiter_len s) (in_one_line s) ≡ code_span true s
 code_span-in_one_line s =
-    ap (λ t. delimited (t || is_between_spaces s) (delimiter_len s) (in_one_line s)) (sym (meets_delimiter-in_one_line s))
-    ∙ ap (λ n. delimited (meets_delimiter (in_one_line s) || is_between_spaces s) n (in_one_line s)) (sym (delimiter_len-in_one_line s))
+    ap (λ t. delimited_text (t || is_between_spaces s) (delimiter_len s) (in_one_line s)) (sym (meets_delimiter-in_one_line s))
+    ∙ ap (λ n. delimited_text (meets_delimiter (in_one_line s) || is_between_spaces s) n (in_one_line s)) (sym (delimiter_len-in_one_line s))

@@ -2,7 +2,7 @@
 use Rattle.std.specs.Prelude.{ℕ, ◌+◌, ◌-◌, Bool, not, ◌&&◌, ◌||◌, ◌==◌, if◌then◌else◌, List, [], ◌∷◌, ◌++◌, length, map, replicate, slice_index}
 use Rattle.std.specs.List.{list_all, position_or_len, range_with_len}
 use Rattle.htmd_text.specs.Characters.{grave_accent, line_feed, space}
-use Rattle.htmd_text.specs.Trims.{trimmed_text as trimmed, is_line_feed, is_space}
+use Rattle.htmd_text.specs.Trims.{trimmed_text, is_line_feed, is_space}
 use Rattle.htmd_text.specs.WhiteSpace.{is_document_white_space}
 use Rattle.htmd_markdown.specs.Runs.{longest_run, has_run}
 
@@ -28,7 +28,7 @@ in_one_line s =
 -- what stands in the span: with preformatted code its one line, else the content without document
 -- white space at its ends
 abbrev pub span_content : Bool → List ℕ → List ℕ
-span_content preformatted_code s = if preformatted_code then in_one_line s else trimmed is_document_white_space s
+span_content preformatted_code s = if preformatted_code then in_one_line s else trimmed_text is_document_white_space s
 
 -- a backquote stands at the start or at the end
 abbrev pub meets_delimiter : List ℕ → Bool
@@ -48,15 +48,15 @@ abbrev pub delimiter_len : List ℕ → ℕ
 delimiter_len s = if meets_delimiter s then longest_run grave_accent s + 1 else smallest_unused_len s
 
 -- a text inside the delimiters, with a space at each end where it is due
-abbrev pub delimited : Bool → ℕ → List ℕ → List ℕ
-delimited padded n s =
+abbrev pub delimited_text : Bool → ℕ → List ℕ → List ℕ
+delimited_text padded n s =
     (((replicate n grave_accent ++ space_if padded) ++ s) ++ space_if padded) ++ replicate n grave_accent
 
 -- The code span of a content. A space stands inside each delimiter where what stands in the span
 -- meets it, and where preformatted code would lose its own.
 abbrev pub code_span : Bool → List ℕ → List ℕ
 code_span preformatted_code s =
-    delimited
+    delimited_text
     (meets_delimiter (span_content preformatted_code s) || (preformatted_code && is_between_spaces s))
     (delimiter_len (span_content preformatted_code s))
     (span_content preformatted_code s)

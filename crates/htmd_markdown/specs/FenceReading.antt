@@ -35,16 +35,16 @@ is_opening line =
     && not (list_any (λ b. b == grave_accent) (behind_symbols grave_accent line)))
 
 -- a line behind the spaces at its start
-abbrev pub unindented : List ℕ → List ℕ
-unindented line = behind_symbols space line
+abbrev pub unindented_line : List ℕ → List ℕ
+unindented_line line = behind_symbols space line
 
 -- the line closes a fence of n symbols: it is indented by at most three spaces, has as many of the
 -- symbol or more, and only spaces or tabs behind them
 abbrev pub is_closing : ℕ → ℕ → List ℕ → Bool
 is_closing symbol n line =
     nat_le (symbols_at_start space line) 3
-    && nat_le n (symbols_at_start symbol (unindented line))
-    && list_all (λ b. (b == space) || (b == tab)) (behind_symbols symbol (unindented line))
+    && nat_le n (symbols_at_start symbol (unindented_line line))
+    && list_all (λ b. (b == space) || (b == tab)) (behind_symbols symbol (unindented_line line))
 
 -- what stands before the first line that closes the fence, the end of the line before it included
 abbrev pub before_closing : ℕ → ℕ → Bool → List ℕ → Option (List ℕ)

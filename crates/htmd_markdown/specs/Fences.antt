@@ -27,10 +27,10 @@ fits_fence symbol info =
     not (list_any (λ b. (b == line_feed) || (b == carriage_return) || (b == symbol)) info)
 
 -- the code between two fences, behind the first of which stands the info string
-abbrev pub fenced : List ℕ → List ℕ → List ℕ → List ℕ
-fenced fence info code = ((((fence ++ info) ++ line_feed ∷ []) ++ code) ++ line_feed ∷ []) ++ fence
+abbrev pub between_fences : List ℕ → List ℕ → List ℕ → List ℕ
+between_fences fence info code = ((((fence ++ info) ++ line_feed ∷ []) ++ code) ++ line_feed ∷ []) ++ fence
 
 -- the fenced code block of a content
 abbrev pub fenced_code_block : List ℕ → Option (List ℕ) → CodeBlockFence → List ℕ
 fenced_code_block s language fence =
-    fenced (replicate (fence_len (symbol_of fence) (code_of s)) (symbol_of fence)) (info_string language) (code_of s)
+    between_fences (replicate (fence_len (symbol_of fence) (code_of s)) (symbol_of fence)) (info_string language) (code_of s)

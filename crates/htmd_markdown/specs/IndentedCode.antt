@@ -2,9 +2,14 @@
 use Rattle.std.specs.Prelude.{ℕ, List, [], ◌∷◌, ◌++◌, map, replicate}
 use Rattle.std.specs.Str.Lines.{lines}
 use Rattle.htmd_text.specs.Characters.{line_feed, space}
-use Rattle.htmd_text.specs.Joins.{joined}
+use Rattle.htmd_text.specs.Joins.{joined_texts}
 use Rattle.htmd_markdown.specs.CodeBlocks.{code_of}
 
--- The code's lines (those of Rust's `str::lines`), each behind four spaces, joined by line feeds.
+-- a line behind four spaces
+abbrev pub indented_line : List ℕ → List ℕ
+indented_line line = replicate 4 space ++ line
+
+-- the indented code block of a content: its code's lines (those of Rust's `str::lines`), each behind
+-- four spaces, with a line feed between each two
 abbrev pub indented_code_block : List ℕ → List ℕ
-indented_code_block s = joined (line_feed ∷ []) (map (λ line. replicate 4 space ++ line) (lines (code_of s)))
+indented_code_block s = joined_texts (line_feed ∷ []) (map indented_line (lines (code_of s)))

@@ -2,7 +2,7 @@
 ghost use Rattle.std.specs.List.{list_all};
 ghost use Rattle.std.specs.Prelude.{◌≡◌, ◌≢◌, ◌==◌, ◌&&◌, ◌||◌, ◌++◌, [], false, map, Some, if◌then◌else◌, IfOk, OnOk, string_bytes};
 ghost use Rattle.htmd_text.specs.Characters.{space};
-ghost use Rattle.htmd_text.specs.Trims.{is_line_feed, trimmed_text as trimmed};
+ghost use Rattle.htmd_text.specs.Trims.{is_line_feed, trimmed_text};
 ghost use Rattle.htmd_text.specs.WhiteSpace.{is_document_white_space};
 ghost use Rattle.htmd_markdown.specs.CodeSpans as spec;
 ghost use Rattle.htmd_markdown.specs.CodeSpanReading.{read_span, line_ends_as_spaces};
@@ -22,14 +22,14 @@ pub fn write_span(
 ) -> Result<String, AllocError>
     ensures span { IfOk result (λ s. string_bytes s ≡ spec.code_span preformatted_code content.now) }
     ensures reads_back { preformatted_code ≡ false
-        → trimmed is_document_white_space content.now ≢ []
+        → trimmed_text is_document_white_space content.now ≢ []
         → IfOk result (λ s. read_span (string_bytes s)
-        ≡ Some (line_ends_as_spaces (trimmed is_document_white_space content.now))) }
+        ≡ Some (line_ends_as_spaces (trimmed_text is_document_white_space content.now))) }
 {
     if preformatted_code {
-        delimited(alloc, content, true)
+        write_delimited(alloc, content, true)
     } else {
-        delimited(alloc, content.trim_document_whitespace(), false)
+        write_delimited(alloc, content.trim_document_whitespace(), false)
     }
 }
 
@@ -37,8 +37,8 @@ pub fn write_span(
 const MOST_SPACES: usize = 4;
 
 /// The text between its delimiters, in one line with `preformatted_code`.
-fn delimited(alloc: Global, text: &str, preformatted_code: bool) -> Result<String, AllocError>
-    ensures { IfOk result (λ s. string_bytes s ≡ spec.delimited
+fn write_delimited(alloc: Global, text: &str, preformatted_code: bool) -> Result<String, AllocError>
+    ensures { IfOk result (λ s. string_bytes s ≡ spec.delimited_text
         (spec.meets_delimiter text.now || (preformatted_code && spec.is_between_spaces text.now))
         (spec.delimiter_len text.now)
         (if preformatted_code then spec.in_one_line text.now else text.now)) }

@@ -41,17 +41,17 @@ pub fn write_fence(
     ensures reads_back { spec.fits_fence (spec.symbol_of symbol) (spec.info_string (option_copied language.entry)) ≡ true
         → IfOk result (λ s. read_fence (string_bytes s) ≡ Some (code_of content.now)) }
 {
-    fenced(alloc, code_of(content), language.unwrap_or(""), symbol)
+    write_between_fences(alloc, code_of(content), language.unwrap_or(""), symbol)
 }
 
 /// The code between two fences, behind the first of which stands the info string.
-fn fenced(
+fn write_between_fences(
     alloc: Global,
     code: &str,
     info: &str,
     fence: CodeBlockFence,
 ) -> Result<String, AllocError>
-    ensures { IfOk result (λ s. string_bytes s ≡ spec.fenced
+    ensures { IfOk result (λ s. string_bytes s ≡ spec.between_fences
         (replicate (spec.fence_len (spec.symbol_of fence) code.now) (spec.symbol_of fence))
         info.now code.now) }
 {

@@ -1,5 +1,6 @@
 //! Indented code blocks (CommonMark 0.31.2, 4.4).
-ghost use Rattle.std.specs.Prelude.{◌≡◌, IfOk, string_bytes};
+ghost use Rattle.std.specs.Prelude.{◌≡◌, ◌++◌, ◌∷◌, [], not, IfOk, OnOk, if◌then◌else◌, string_bytes};
+ghost use Rattle.htmd_text.specs.Characters.{line_feed};
 ghost use Rattle.htmd_markdown.specs.IndentedCode as spec;
 
 use crate::code_block::code_of;
@@ -7,8 +8,8 @@ use std::alloc::{AllocError, Global};
 
 const INDENT: &str = "    ";
 
-/// The content, less one final line feed of it, with each line (those of `str::lines`) behind four
-/// spaces, joined by line feeds.
+/// The indented code block of a content, less one final line feed of it: each line (those of
+/// `str::lines`) behind four spaces, with a line feed between each two.
 ///
 /// Want of memory is the only error.
 pub fn write_indented_code(alloc: Global, content: &str) -> Result<String, AllocError>
@@ -18,17 +19,26 @@ pub fn write_indented_code(alloc: Global, content: &str) -> Result<String, Alloc
     let mut block = String::with_capacity(alloc, indented_len(code))?;
     let mut is_first = true;
     for line in code.lines() {
-        if !is_first {
-            block.push('\n')?;
-        }
-        block.push_str(INDENT)?;
-        block.push_str(line)?;
+        push_line(&mut block, line, is_first)?;
         is_first = false;
     }
     Ok(block)
 }
 
-/// Room for the text behind indents, as far as a `usize` goes.
+/// Puts the line behind four spaces, and behind a line feed unless it is the first.
+fn push_line(block: &mut String, line: &str, is_first: bool) -> Result<(), AllocError>
+    ensures { OnOk result (string_bytes block.new ≡ (string_bytes block.old
+        ++ (if not is_first then line_feed ∷ [] else [])) ++ spec.indented_line line.now) }
+{
+    if !is_first {
+        block.push('\n')?;
+    }
+    block.push_str(INDENT)?;
+    block.push_str(line)?;
+    Ok(())
+}
+
+/// How much room the lines of a text take behind indents at most, as far as a `usize` goes.
 fn indented_len(text: &str) -> usize {
     let lines = text.lines().count();
     lines
