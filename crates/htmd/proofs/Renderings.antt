@@ -3,7 +3,7 @@ use Rattle.std.proofs.Common.{◌≡◌, ℕ, zero, suc, ◌+◌, ◌<◌, ◌�
 use Rattle.std.proofs.lemmas.List.{drop_more, get_or_default}
 use Rattle.std.proofs.Props.{props}
 use Rattle.std.proofs.Math.Logic.{∥∥₁_elim}
-use Rattle.htmd_grammar.specs.ValueTrees.{AttributePair}
+use Rattle.htmd_tree.specs.ValueTrees.{AttributePair}
 use Rattle.htmd_tree.specs.Items.{Item, Data as Content, document_node, doctype_node, text_node, comment_node, element_node, IsTree, IsBelow, data_at as content_at, children_of, parent_at}
 use Rattle.htmd_tree.specs.NumberedTrees.{with_children as put_together, forest_of, tree_of, height}
 use Rattle.htmd_tree.specs.Ancestors.{ancestor_of, ancestors_of, chain_from}

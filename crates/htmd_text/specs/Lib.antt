@@ -4,6 +4,7 @@
 pub mod Characters
 pub mod WhiteSpace
 pub mod Trims
+pub mod Beginnings
 pub mod Joins
 pub mod BlankLines
 pub mod Indents

@@ -1,4 +1,5 @@
--- What an addition changes; how the value tree and the ancestors of a node are made of those of others; what a document that is laid out denotes; how a node is written.
+-- What an addition changes; how the value tree and the ancestors of a node are made of those of others; what a document
+-- that is laid out denotes; how a node is written.
 pub mod ItemsLemmas
 pub mod EntriesLemmas
 pub mod NumberedTreesLemmas

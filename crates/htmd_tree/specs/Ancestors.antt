@@ -1,7 +1,8 @@
 -- The ancestors of a node, innermost first.
 use Rattle.std.specs.Prelude.{ℕ, zero, suc, List, [], ◌∷◌, Option, Some, None, codes}
 use Rattle.htmd_grammar.specs.ValueTrees.{AttributePair}
-use Rattle.htmd_tree.specs.Items.{Data, document_node, doctype_node, text_node, comment_node, element_node, Item, data_at, parent_at, depth_at}
+use Rattle.htmd_tree.specs.Items.{Data, document_node, doctype_node, text_node, comment_node, element_node, Item}
+use Rattle.htmd_tree.specs.Items.{data_at, parent_at, depth_at}
 
 -- what is known of a node that others stand under
 pub record Ancestor : Type 0 where

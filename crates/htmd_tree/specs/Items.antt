@@ -1,5 +1,6 @@
 -- A tree as its callers see it: its nodes in the order in which they were added, numbered from 0.
-use Rattle.std.specs.Prelude.{◌≡◌, ℕ, suc, ◌+◌, ◌<◌, ◌≤◌, Bool, true, false, ◌==◌, if◌then◌else◌, List, [], ◌∷◌, length, Option, Some, None, IsSome, slice_index_or, Contains, codes}
+use Rattle.std.specs.Prelude.{◌≡◌, ℕ, suc, ◌+◌, ◌<◌, ◌≤◌, Bool, true, false, ◌==◌, if◌then◌else◌, List, [], ◌∷◌, length}
+use Rattle.std.specs.Prelude.{Option, Some, None, IsSome, slice_index_or, Contains, codes}
 use Rattle.htmd_grammar.specs.ValueTrees.{AttributePair}
 
 -- what a node is, apart from where it stands
@@ -40,7 +41,8 @@ is_child p (Some q) = q == p
 -- the numbers of the children of p among items that are numbered from b on
 abbrev pub children_from : ℕ → List Item → ℕ → List ℕ
 children_from b [] p = []
-children_from b (item ∷ items) p = if is_child p item.parent then b ∷ children_from (suc b) items p else children_from (suc b) items p
+children_from b (item ∷ items) p = if is_child p item.parent then b ∷ children_from (suc b) items p
+    else children_from (suc b) items p
 
 -- a node's children: the items that name it as their parent, in order of addition
 abbrev pub children_of : List Item → ℕ → List ℕ

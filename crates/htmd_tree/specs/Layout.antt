@@ -1,7 +1,8 @@
 -- A document laid out as a tree's items in document order: a node, and then what its children are laid out as, from
 -- left to right.
 use Rattle.std.specs.Prelude.{◌≡◌, ℕ, suc, ◌+◌, List, [], ◌∷◌, ◌++◌, Some}
-use Rattle.htmd_tree.specs.Items.{Data, document_node, doctype_node, text_node, comment_node, element_node, Item, document_item}
+use Rattle.htmd_tree.specs.Items.{Data, document_node, doctype_node, text_node, comment_node, element_node, Item}
+use Rattle.htmd_tree.specs.Items.{document_item}
 use Rattle.htmd_tree.specs.NumberedTrees.{tree_of, value_tree}
 use Rattle.htmd_grammar.specs.ValueTrees.{ValueTree, document, doctype, text, comment, element, ValueForest, none, more}
 
@@ -29,7 +30,8 @@ abbrev mutual
   tree_items d p b doctype = item_under d p doctype_node ∷ []
   tree_items d p b (text s) = item_under d p (text_node s) ∷ []
   tree_items d p b (comment s) = item_under d p (comment_node s) ∷ []
-  tree_items d p b (element name attributes children) = item_under d p (element_node name attributes) ∷ forest_items (suc d) b (suc b) children
+  tree_items d p b (element name attributes children) = item_under d p (element_node name attributes)
+      ∷ forest_items (suc d) b (suc b) children
 
   pub forest_items : ℕ → ℕ → ℕ → ValueForest → List Item
   forest_items d p b none = []

@@ -2,7 +2,8 @@
 use Rattle.std.specs.Prelude.{ℕ, suc, max, if◌then◌else◌, List, [], ◌∷◌}
 use Rattle.htmd_grammar.specs.ValueTrees.{AttributePair, ValueTree, ValueForest}
 use Rattle.htmd_grammar.specs.ValueTrees as value
-use Rattle.htmd_tree.specs.Items.{Data, document_node, doctype_node, text_node, comment_node, element_node, Item, is_child, data_at}
+use Rattle.htmd_tree.specs.Items.{Data, document_node, doctype_node, text_node, comment_node, element_node, Item}
+use Rattle.htmd_tree.specs.Items.{is_child, data_at}
 
 mutual
   pub data NumberedTree : Type 0 where

@@ -5,10 +5,10 @@
 #![tactic(auto)]
 
 pub mod laws;
-pub mod serialiser;
-pub mod tree;
+mod serialiser;
+mod tree;
 
-pub use serialiser::{raw_block, serialize};
+pub use serialiser::{is_void, push_end_tag, push_start_tag, raw_block, serialize};
 pub use tree::{Attribute, NodeData, NodeId, Tree, TreeError};
 
 #[cfg(test)]

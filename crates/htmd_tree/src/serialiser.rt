@@ -1,9 +1,10 @@
 //! What a tree is written as, and its block of raw HTML.
-ghost use Rattle.std.specs.Prelude.{◌≡◌, ◌<◌, ◌++◌, ◌∷◌, false, length, string_bytes, IfOk, OnOk};
+ghost use Rattle.std.specs.Prelude.{◌≡◌, ◌<◌, ◌++◌, ◌∷◌, false, length, string_bytes, IfOk, OnErr, OnOk};
 ghost use Rattle.std.specs.Str.{chars, encode_utf8_all};
 ghost use Rattle.htmd_tree.specs.Items.{children_of};
 ghost use Rattle.htmd_tree.specs.NumberedTrees.{tree_of, forest_of, value_tree, value_forest};
 ghost use Rattle.htmd_tree.specs.Views.{pair_of, pairs_of};
+ghost use Rattle.htmd_text.specs.Beginnings.{IsBeginning};
 ghost use Rattle.htmd_grammar.specs.Serialisation as spec;
 ghost use Rattle.htmd_grammar.specs.RawBlocks as blocks;
 ghost use Rattle.htmd_grammar.specs.SerialiserSteps as steps;
@@ -25,8 +26,9 @@ fn push_text_char(out: &mut String, c: char) -> Result<(), AllocError>
 }
 
 fn push_value_char(out: &mut String, c: char) -> Result<(), AllocError>
-    ensures { OnOk result (string_bytes out.new
+    ensures ok { OnOk result (string_bytes out.new
         ≡ string_bytes out.old ++ steps.escaped_html_char spec.value_byte c) }
+    ensures err { OnErr result (string_bytes out.new ≡ string_bytes out.old) }
 {
     match c {
         '&' => out.push_str("&amp;"),
@@ -47,8 +49,9 @@ fn push_text(out: &mut String, text: &str) -> Result<(), AllocError>
 }
 
 fn push_value(out: &mut String, value: &str) -> Result<(), AllocError>
-    ensures { OnOk result (string_bytes out.new
+    ensures ok { OnOk result (string_bytes out.new
         ≡ string_bytes out.old ++ spec.escaped_html spec.value_byte value.now) }
+    ensures err { OnErr result (IsBeginning (string_bytes out.old) (string_bytes out.new)) }
 {
     for c in value.chars() {
         push_value_char(out, c)?;
@@ -96,8 +99,9 @@ fn is_raw_text(name: &str) -> bool
 }
 
 fn push_attribute(out: &mut String, attribute: &Attribute) -> Result<(), AllocError>
-    ensures { OnOk result (string_bytes out.new
+    ensures ok { OnOk result (string_bytes out.new
         ≡ string_bytes out.old ++ spec.attribute_text (pair_of attribute.now)) }
+    ensures err { OnErr result (IsBeginning (string_bytes out.old) (string_bytes out.new)) }
 {
     out.push_str(" ")?;
     out.push_str(attribute.name.as_str())?;
@@ -106,10 +110,12 @@ fn push_attribute(out: &mut String, attribute: &Attribute) -> Result<(), AllocEr
     out.push_str("\"")
 }
 
-/// Puts the start tag of an element behind a text.
+/// Puts the start tag of an element behind a text (HTML Standard, 13.3). After an `Err`, want of memory, what the text
+/// held is still its beginning.
 pub fn push_start_tag(out: &mut String, name: &str, attrs: &[Attribute]) -> Result<(), AllocError>
-    ensures { OnOk result (string_bytes out.new
+    ensures ok { OnOk result (string_bytes out.new
         ≡ string_bytes out.old ++ spec.start_tag name.now (pairs_of attrs.now)) }
+    ensures err { OnErr result (IsBeginning (string_bytes out.old) (string_bytes out.new)) }
 {
     out.push_str("<")?;
     out.push_str(name)?;
@@ -119,9 +125,12 @@ pub fn push_start_tag(out: &mut String, name: &str, attrs: &[Attribute]) -> Resu
     out.push_str(">")
 }
 
-/// Puts the end tag of an element behind a text.
+/// Puts the end tag of an element behind a text (HTML Standard, 13.3). After an `Err`, want of memory, what the text
+/// held is still its beginning.
 pub fn push_end_tag(out: &mut String, name: &str) -> Result<(), AllocError>
-    ensures { OnOk result (string_bytes out.new ≡ string_bytes out.old ++ spec.end_tag name.now) }
+    ensures ok { OnOk result
+        (string_bytes out.new ≡ string_bytes out.old ++ spec.end_tag name.now) }
+    ensures err { OnErr result (IsBeginning (string_bytes out.old) (string_bytes out.new)) }
 {
     out.push_str("</")?;
     out.push_str(name)?;

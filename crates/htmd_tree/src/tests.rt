@@ -1,3 +1,4 @@
+//! What no clause says: that calls succeed where there is memory, and small serialisations, written by hand.
 use super::*;
 use std::test::Fail;
 

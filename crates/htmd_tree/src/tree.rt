@@ -1,6 +1,10 @@
-ghost use Rattle.std.specs.Prelude.{◌≡◌, ◌+◌, ◌<◌, ◌≤◌, ◌↔◌, [], ◌∷◌, ◌++◌, nat_lt, length, IsTrue, IfOk, OnOk, OnErr, IsErrOf, IsOkUnless, MatchResult};
+//! A tree of nodes, to which nodes are only added.
+ghost use Rattle.std.specs.Prelude.{◌≡◌, ◌+◌, ◌<◌, ◌≤◌, ◌↔◌, [], ◌∷◌, ◌++◌, nat_lt, length, IsTrue, IfOk, OnOk, OnErr};
+ghost use Rattle.std.specs.Prelude.{IsErrOf, IsOkUnless, MatchResult};
 ghost use Rattle.std.specs.Option.{option_copied};
-ghost use Rattle.htmd_tree.specs.Items.{IsTree, data_at, parent_at, depth_at, children_of, holds_children, tag_of, new_item, document_item, doctype_node, text_node, comment_node, element_node, greatest_depth};
+ghost use Rattle.htmd_tree.specs.Items.{IsTree, data_at, parent_at, depth_at, children_of, holds_children, tag_of};
+ghost use Rattle.htmd_tree.specs.Items.{new_item, document_item, doctype_node, text_node, comment_node, element_node};
+ghost use Rattle.htmd_tree.specs.Items.{greatest_depth};
 ghost use Rattle.htmd_tree.specs.Views.{data_of, pairs_of};
 ghost use Rattle.htmd_tree.specs.declared.tree.TreeError.TheVariants.{Memory};
 
@@ -9,7 +13,7 @@ use std::marker::Model;
 use thiserror::Error;
 
 /// The greatest depth of a node; the Document is at depth 0.
-pub const MAX_DEPTH: usize = 1024;
+const MAX_DEPTH: usize = 1024;
 
 /// A node of a tree, by its number in order of addition.
 #[derive(Debug, Clone, Copy, PartialEq, Eq)]
@@ -50,7 +54,7 @@ pub enum TreeError {
     /// The request for memory was refused.
     #[error("out of memory")]
     Memory = 1,
-    /// The node would stand deeper than `MAX_DEPTH`.
+    /// The node would stand deeper than level 1,024.
     #[error("too deep")]
     TooDeep = 2,
 }

@@ -15,6 +15,7 @@ decreases-push_node l = (length l.tree.now - l.node) * 2
 abbrev pub invariant-push_children-loop-child : goal.invariant-push_children-loop-child
 invariant-push_children-loop-child l = record {
   items : l.child-items ≡ children_of l.tree l.fn.node;
-  rest : string_bytes l.out ++ all_markup_of l.raw (value_forest (forest_of (tree_of l.tree) (drop l.child-index l.child-items)))
+  rest : string_bytes l.out ++ all_markup_of l.raw
+      (value_forest (forest_of (tree_of l.tree) (drop l.child-index l.child-items)))
       ≡ string_bytes l.fn.out ++ all_markup_of l.raw (value_forest (forest_of (tree_of l.tree) l.child-items));
 }

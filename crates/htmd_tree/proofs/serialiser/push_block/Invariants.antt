@@ -8,7 +8,8 @@ use Rattle.htmd_tree.proofs.serialiser.push_block.Given as goal
 abbrev pub invariant-loop-c : goal.invariant-loop-c
 invariant-loop-c l = record {
   utf8 : IsUtf8 (chars_rest l.chars);
-  rest : string_bytes l.out ++ encode_utf8_all (without_blank_lines l.after (chars (chars_rest l.chars))) ≡ string_bytes l.fn.out ++ encode_utf8_all (without_blank_lines false (chars l.fn.text));
+  rest : string_bytes l.out ++ encode_utf8_all (without_blank_lines l.after (chars (chars_rest l.chars)))
+      ≡ string_bytes l.fn.out ++ encode_utf8_all (without_blank_lines false (chars l.fn.text));
 }
 
 abbrev pub decreases-loop-c : goal.decreases-loop-c

@@ -7,4 +7,6 @@ use Rattle.htmd_tree.proofs.serialiser.push_text.Goals as goal
 
 pub loop-c-preserved : goal.loop-c-preserved
 loop-c-preserved c =
-    escaped_html-turn text_byte text_byte-high (string_bytes c.loop-c.out) (string_bytes c.push_text_char.new.out) (chars_rest c.loop-c.c-iterator) (chars_rest c.next.new.self) _ c.in-Some.c c.in_ok-push_text_char.ensures c.in-Some.ensures.steps.0 c.loop-c.invariant
+    escaped_html-turn text_byte text_byte-high (string_bytes c.loop-c.out) (string_bytes c.push_text_char.new.out)
+    (chars_rest c.loop-c.c-iterator) (chars_rest c.next.new.self) _ c.in-Some.c c.in_ok-push_text_char.ensures
+    c.in-Some.ensures.steps.0 c.loop-c.invariant

@@ -1,5 +1,6 @@
 -- What is left to prove of `add`.
-use Rattle.std.proofs.Common.{◌≡◌, ◌<◌, ◌∷◌, [], ◌++◌, List, length, get_or, set, arith, rules, refl, sym, ap, ◌∙◌, subst, ◌+◌, ℕ, Some}
+use Rattle.std.proofs.Common.{◌≡◌, ◌<◌, ◌∷◌, [], ◌++◌, List, length, get_or, set, arith, rules, refl, sym, ap, ◌∙◌}
+use Rattle.std.proofs.Common.{subst, ◌+◌, ℕ, Some}
 use Rattle.std.proofs.lemmas.List.{length-map}
 use Rattle.htmd_tree.specs.declared.tree.Entry.{Entry}
 use Rattle.htmd_tree.specs.Items.{Item, new_item}
@@ -13,7 +14,8 @@ invariant_of-self-in_err-push c =
     let entries : List Entry = c.reserve.new.self.items in
     let i : ℕ = c.parent.inside.index in
     let old : Entry = c.index_mut.result.now in
-    let new : Entry = record { «data» = old.data; parent = old.parent; depth = old.depth; children = c.push.new.self } in
+    let new : Entry = record { «data» = old.data; parent = old.parent; depth = old.depth; children = c.push.new.self }
+    in
     let items : items_of entries ≡ c.args.self.now = ap items_of c.reserve.ensures.items ∙ c.self.view_is in
     let stored : IsStored entries = subst IsStored (sym c.reserve.ensures.items) c.self.invariant in
     let at : i ≡ c.args.parent = c.parent.view_is in
@@ -25,12 +27,14 @@ returns-in_err-push-clause-err c =
     let entries : List Entry = c.reserve.new.self.items in
     let i : ℕ = c.parent.inside.index in
     let old : Entry = c.index_mut.result.now in
-    let new : Entry = record { «data» = old.data; parent = old.parent; depth = old.depth; children = c.push.new.self } in
+    let new : Entry = record { «data» = old.data; parent = old.parent; depth = old.depth; children = c.push.new.self }
+    in
     let items : items_of entries ≡ c.args.self.now = ap items_of c.reserve.ensures.items ∙ c.self.view_is in
     let stored : IsStored entries = subst IsStored (sym c.reserve.ensures.items) c.self.invariant in
     let at : i ≡ c.args.parent = c.parent.view_is in
     let within : i < length entries = omega (arith, length-map entries item_of, ap length items, c.requires.within) in
-    let same : items_of (set entries i new) ≡ c.args.self.now = items_of-set entries i old new c.index_mut.ensures.value refl ∙ items in
+    let same : items_of (set entries i new) ≡ c.args.self.now =
+    items_of-set entries i old new c.index_mut.ensures.value refl ∙ items in
     search (rules, same)
 
 pub invariant_of-self-2 : goal.invariant_of-self-2
@@ -38,17 +42,27 @@ invariant_of-self-2 c =
     let entries : List Entry = c.reserve.new.self.items in
     let i : ℕ = c.parent.inside.index in
     let old : Entry = c.index_mut.result.now in
-    let new : Entry = record { «data» = old.data; parent = old.parent; depth = old.depth; children = c.push.new.self } in
+    let new : Entry = record { «data» = old.data; parent = old.parent; depth = old.depth; children = c.push.new.self }
+    in
     let items : items_of entries ≡ c.args.self.now = ap items_of c.reserve.ensures.items ∙ c.self.view_is in
     let stored : IsStored entries = subst IsStored (sym c.reserve.ensures.items) c.self.invariant in
     let at : i ≡ c.args.parent = c.parent.view_is in
     let within : i < length entries = omega (arith, length-map entries item_of, ap length items, c.requires.within) in
-    let last : Entry = record { «data» = c.args.node_data; parent = Some c.args.parent; depth = c.index.result.now.depth + 1; children = c.new.result } in
-    let read : c.index.result.now ≡ get_or entries i c.index.result.now = c.index.ensures ∙ ap (λ (x : List Entry). get_or x i c.index.result.now) (sym c.reserve.ensures.items) in
-    let this : item_of last ≡ new_item (items_of entries) i (data_of c.args.node_data) = last_item entries i c.args.parent c.index.result.now (data_of c.args.node_data) within read at in
+    let last : Entry = record {
+      «data» = c.args.node_data;
+      parent = Some c.args.parent;
+      depth = c.index.result.now.depth
+          + 1;
+      children = c.new.result;
+    } in
+    let read : c.index.result.now ≡ get_or entries i c.index.result.now = c.index.ensures
+    ∙ ap (λ (x : List Entry). get_or x i c.index.result.now) (sym c.reserve.ensures.items) in
+    let this : item_of last ≡ new_item (items_of entries) i (data_of c.args.node_data) =
+    last_item entries i c.args.parent c.index.result.now (data_of c.args.node_data) within read at in
     let number : c.len.result ≡ length entries = c.len.ensures ∙ search rules in
     subst IsStored (sym c.in_ok-push-2.ensures.items)
-    (IsStored-added entries i old new last within c.index_mut.ensures.value refl (c.in_ok-push.ensures.items ∙ ap (λ n. old.children.items ++ n ∷ []) number)
+    (IsStored-added entries i old new last within c.index_mut.ensures.value refl (c.in_ok-push.ensures.items
+    ∙ ap (λ n. old.children.items ++ n ∷ []) number)
     this c.new.ensures.items (rw (items, at) c.requires.holds) (rw (items, at) c.requires.shallow) stored)
 
 pub returns-clause-ok : goal.returns-clause-ok
@@ -56,14 +70,23 @@ returns-clause-ok c =
     let entries : List Entry = c.reserve.new.self.items in
     let i : ℕ = c.parent.inside.index in
     let old : Entry = c.index_mut.result.now in
-    let new : Entry = record { «data» = old.data; parent = old.parent; depth = old.depth; children = c.push.new.self } in
+    let new : Entry = record { «data» = old.data; parent = old.parent; depth = old.depth; children = c.push.new.self }
+    in
     let items : items_of entries ≡ c.args.self.now = ap items_of c.reserve.ensures.items ∙ c.self.view_is in
     let stored : IsStored entries = subst IsStored (sym c.reserve.ensures.items) c.self.invariant in
     let at : i ≡ c.args.parent = c.parent.view_is in
     let within : i < length entries = omega (arith, length-map entries item_of, ap length items, c.requires.within) in
-    let last : Entry = record { «data» = c.args.node_data; parent = Some c.args.parent; depth = c.index.result.now.depth + 1; children = c.new.result } in
-    let read : c.index.result.now ≡ get_or entries i c.index.result.now = c.index.ensures ∙ ap (λ (x : List Entry). get_or x i c.index.result.now) (sym c.reserve.ensures.items) in
-    let this : item_of last ≡ new_item (items_of entries) i (data_of c.args.node_data) = last_item entries i c.args.parent c.index.result.now (data_of c.args.node_data) within read at in
+    let last : Entry = record {
+      «data» = c.args.node_data;
+      parent = Some c.args.parent;
+      depth = c.index.result.now.depth
+          + 1;
+      children = c.new.result;
+    } in
+    let read : c.index.result.now ≡ get_or entries i c.index.result.now = c.index.ensures
+    ∙ ap (λ (x : List Entry). get_or x i c.index.result.now) (sym c.reserve.ensures.items) in
+    let this : item_of last ≡ new_item (items_of entries) i (data_of c.args.node_data) =
+    last_item entries i c.args.parent c.index.result.now (data_of c.args.node_data) within read at in
     ap items_of c.in_ok-push-2.ensures.items
     ∙ (items_of-added entries i old new last c.index_mut.ensures.value refl
     ∙ (ap (λ (x : Item). items_of entries ++ x ∷ []) this ∙ rw (items, at) refl))
