@@ -13,3 +13,9 @@ pub mod Examples
 pub mod FirstNumberLemmas
 pub mod ListsLemmas
 pub mod ListExamples
+pub mod AddressesLemmas
+pub mod WrittenBytesLemmas
+pub mod TitlesLemmas
+pub mod LinksLemmas
+pub mod LinkExamples
+pub mod ListColumnsLemmas

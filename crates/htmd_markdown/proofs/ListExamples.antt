@@ -21,7 +21,8 @@ pub equal_columns : ordered_list 9 2 (item (codes "\na\n") ∷ item (codes "\nb\
 unfolding digits
 equal_columns = refl
 
-pub between_items : ordered_list 1 2 (item (codes "\na\n") ∷ other (codes "x") ∷ item (codes "\nb\n") ∷ []) ≡ codes "\n1.  ax\n2.  b"
+pub between_items : ordered_list 1 2 (item (codes "\na\n") ∷ other (codes "x") ∷ item (codes "\nb\n") ∷ [])
+    ≡ codes "\n1.  ax\n2.  b"
 unfolding digits
 between_items = refl
 

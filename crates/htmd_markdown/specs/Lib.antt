@@ -12,3 +12,8 @@ pub mod LineBreaks
 pub mod Quotes
 pub mod ListItems
 pub mod Lists
+pub mod ListColumns
+pub mod Addresses
+pub mod Titles
+pub mod Links
+pub mod WrittenBytes

@@ -4,7 +4,7 @@ use Rattle.std.specs.Fmt.{decimal}
 use Rattle.htmd_text.specs.Characters.{line_feed, space, asterisk, hyphen, full_stop}
 use Rattle.htmd_text.specs.WhiteSpace.{is_document_white_space}
 use Rattle.htmd_text.specs.Trims.{trimmed_start, is_line_feed}
-use Rattle.htmd_text.specs.Indents.{indented_text as indented}
+use Rattle.htmd_text.specs.Indents.{indented_text}
 use Rattle.htmd_text.specs.Digits.{digits}
 use Rattle.htmd_markdown.specs.declared.list.BulletListMarker.{BulletListMarker}
 use Rattle.htmd_markdown.specs.declared.list.BulletListMarker.TheVariants.{Asterisk, Dash}
@@ -12,7 +12,7 @@ use Rattle.htmd_markdown.specs.declared.list.BulletListMarker.TheVariants.{Aster
 -- An item in a line of its own: the list marker with its spaces, and the content. Further lines of the content stand
 -- behind as many spaces as these take, without white space at their ends.
 abbrev pub item : List ℕ → List ℕ → List ℕ
-item marker content = line_feed ∷ marker ++ indented content (length marker) true
+item marker content = line_feed ∷ marker ++ indented_text content (length marker) true
 
 abbrev pub bullet : BulletListMarker → ℕ
 bullet Asterisk = asterisk
@@ -31,7 +31,8 @@ bullet_item marker spacing content =
 abbrev pub unnumbered_item : List ℕ → List ℕ
 unnumbered_item content = line_feed ∷ trimmed_start is_document_white_space content ++ line_feed ∷ []
 
--- the number, a dot, and so many spaces as stand behind the highest number of the list, or more where that has more digits
+-- the number, a dot, and so many spaces as stand behind the highest number of the list, or more where that has more
+-- digits
 abbrev pub number_marker : ℕ → ℕ → ℕ → List ℕ
 number_marker spacing highest number =
     decimal number ++ full_stop ∷ replicate (spacing + (digits highest - digits number)) space

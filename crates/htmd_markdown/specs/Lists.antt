@@ -1,10 +1,11 @@
 -- Ordered lists, and a list among the blocks around it (CommonMark 0.31.2, 5.3).
-use Rattle.std.specs.Prelude.{ℕ, suc, ◌+◌, ◌-◌, ◌^◌, Bool, ◌&&◌, nat_lt, if◌then◌else◌, List, [], ◌∷◌, ◌++◌, length, replicate, Option, Some, None, string_bytes}
+use Rattle.std.specs.Prelude.{ℕ, suc, ◌+◌, ◌-◌, ◌^◌, Bool, ◌&&◌, nat_lt, if◌then◌else◌, List, [], ◌∷◌, ◌++◌, length}
+use Rattle.std.specs.Prelude.{replicate, Option, Some, None, string_bytes}
 use Rattle.std.specs.Option.{option_map}
 use Rattle.std.specs.Str.{all_ascii_digits}
 use Rattle.std.specs.Str.Parse.{without_leading_plus, digits_value}
 use Rattle.htmd_text.specs.Characters.{line_feed}
-use Rattle.htmd_text.specs.Trims.{trimmed_text as trimmed, some_text, is_line_feed}
+use Rattle.htmd_text.specs.Trims.{trimmed_text, some_text, is_line_feed}
 use Rattle.htmd_text.specs.Joins.{joined_blocks}
 use Rattle.htmd_markdown.specs.ListItems.{numbered_item}
 use Rattle.htmd_markdown.specs.declared.list.ListBlock.{ListBlock}
@@ -57,4 +58,5 @@ between_line_feeds count text = replicate count line_feed ++ text ++ replicate c
 -- A list without line feeds at its ends, nothing where it is empty: inside an item it begins and ends a line, elsewhere
 -- blank lines stand around it.
 abbrev pub list_block : Bool → List ℕ → Option (List ℕ)
-list_block is_in_item list = option_map (between_line_feeds (if is_in_item then 1 else 2)) (some_text (trimmed is_line_feed list))
+list_block is_in_item list = option_map (between_line_feeds (if is_in_item then 1 else 2))
+    (some_text (trimmed_text is_line_feed list))

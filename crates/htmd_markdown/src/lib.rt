@@ -2,6 +2,7 @@
 //! read back, a definition of its reader that shares nothing with the writer.
 #![tactic(auto)]
 
+mod address;
 mod code_block;
 mod code_span;
 mod emphasis;
@@ -9,12 +10,14 @@ mod fence;
 mod heading;
 mod indented_code;
 mod line_break;
+mod link;
 mod list;
 mod quote;
 mod runs;
 #[cfg(test)]
 mod tests;
 mod thematic_break;
+mod title;
 
 pub use self::code_span::write_span;
 pub use self::emphasis::{Emphasis, write_emphasis};
@@ -22,6 +25,10 @@ pub use self::fence::{CodeBlockFence, write_fence};
 pub use self::heading::{HeadingStyle, write_heading};
 pub use self::indented_code::write_indented_code;
 pub use self::line_break::{BrStyle, write_line_break};
+pub use self::link::{
+    LinkReferenceStyle, write_autolink, write_definition, write_image, write_inline_link,
+    write_reference,
+};
 pub use self::list::{
     BulletListMarker, ListBlock, first_number, write_bullet_item, write_list_block,
     write_ordered_list, write_unnumbered_item,

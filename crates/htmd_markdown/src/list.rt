@@ -1,9 +1,10 @@
 //! List items and lists (CommonMark 0.31.2, 5.2 and 5.3).
 ghost use Rattle.std.specs.Prelude.{◌≡◌, ◌-◌, ◌<◌, true, ◌++◌, IfOk, OnOk, length, map, string_bytes};
 ghost use Rattle.std.specs.Option.{option_copied, option_map};
-ghost use Rattle.htmd_text.specs.Indents.{indented_text as indented};
+ghost use Rattle.htmd_text.specs.Indents.{indented_text};
 ghost use Rattle.htmd_text.specs.Trims.{trimmed_start, is_line_feed};
 ghost use Rattle.htmd_markdown.specs.ListItems as items;
+ghost use Rattle.htmd_markdown.specs.ListColumns.{HasEqualColumns};
 ghost use Rattle.htmd_markdown.specs.Lists as spec;
 
 use htmd_text::runs::leading_len;
@@ -35,12 +36,11 @@ pub enum ListBlock {
 pub fn first_number(start: Option<&str>) -> u32
     ensures { result ≡ spec.first_number (option_copied start.entry) }
 {
-    match start {
-        Some(text) => match text.parse::<i32>() {
-            Ok(number) if number > 0 => number.unsigned_abs(),
-            _ => 1,
-        },
-        None => 1,
+    let Some(text) = start else { return 1 };
+    match text.parse::<i32>() {
+        Ok(number) if number > 0 => number.unsigned_abs(),
+        Ok(_) => 1,
+        Err(_) => 1,
     }
 }
 
@@ -95,8 +95,10 @@ pub fn write_ordered_list(
     spacing: u8,
     blocks: Vec<ListBlock>,
 ) -> Result<String, AllocError>
-    ensures { IfOk result
+    ensures text { IfOk result
         (λ t. string_bytes t ≡ spec.ordered_list first spacing (map spec.block_of blocks.items)) }
+    ensures columns { IfOk result
+        (λ t. HasEqualColumns first spacing (map spec.block_of blocks.items) (string_bytes t)) }
 {
     let mut number = first as usize;
     let highest = (number + item_count(&blocks)).saturating_sub(1);
@@ -154,7 +156,7 @@ fn write_numbered_item(
 fn push_content(alloc: Global, item: &mut String, content: &str) -> Result<(), AllocError>
     requires { 0 < length (string_bytes item.old) }
     ensures { OnOk result (string_bytes item.new
-        ≡ string_bytes item.old ++ indented content.now (length (string_bytes item.old) - 1) true) }
+        ≡ string_bytes item.old ++ indented_text content.now (length (string_bytes item.old) - 1) true) }
 {
     let content = indent_text_except_first_line(alloc, content, item.len() - 1, true)?;
     item.push_str(&content)

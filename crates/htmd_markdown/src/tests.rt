@@ -3,4 +3,5 @@
 mod blocks;
 mod code_blocks;
 mod code_spans;
+mod links;
 mod lists;

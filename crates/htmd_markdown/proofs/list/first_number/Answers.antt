@@ -1,3 +1,4 @@
+-- What `parse` gives is the number, or 1.
 use Rattle.std.proofs.Common.{◌∙◌, sym, ap, subst}
 use Rattle.std.specs.Prelude.{FitsSigned, unsigned_abs}
 use Rattle.std.specs.Int.{w32}
@@ -16,7 +17,7 @@ returns-in-Ok c =
     c.unsigned_abs.ensures.value
     ∙ sym (ap (λ start. first_number (option_copied start)) c.in-Some.is ∙ read ∙ ap counted c.in-Ok.is ∙ value)
 
-pub returns-in_default-2 : goal.returns-in_default-2
-returns-in_default-2 c =
+pub returns-in-Err : goal.returns-in-Err
+returns-in-Err c =
     let read = read_number c.in-Some.text.now c.parse.result c.parse.ensures.value.0 in
-    sym (ap (λ start. first_number (option_copied start)) c.in-Some.is ∙ read ∙ ap counted c.in_default.is)
+    sym (ap (λ start. first_number (option_copied start)) c.in-Some.is ∙ read ∙ ap counted c.in-Err.is)

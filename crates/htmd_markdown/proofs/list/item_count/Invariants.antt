@@ -1,3 +1,4 @@
+-- The items among the children so far.
 use Rattle.std.proofs.Common.{◌≡◌, take, map}
 use Rattle.htmd_markdown.specs.Lists.{item_count, block_of}
 use Rattle.htmd_markdown.proofs.list.item_count.Given as goal

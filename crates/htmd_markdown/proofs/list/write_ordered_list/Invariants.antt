@@ -1,3 +1,4 @@
+-- The blocks so far, and the next number.
 use Rattle.std.proofs.Common.{◌≡◌, ◌+◌, map}
 use Rattle.std.specs.String.{string_bytes}
 use Rattle.htmd_markdown.specs.Lists.{block_of, item_count, numbered}
