@@ -20,3 +20,5 @@ mod Uniqueness
 mod RawReadBack
 mod LackLemmas
 mod Subtrees
+mod CutLemmas
+mod FullPieces
