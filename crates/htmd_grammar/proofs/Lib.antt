@@ -22,3 +22,4 @@ mod LackLemmas
 mod Subtrees
 mod CutLemmas
 mod FullPieces
+mod FrontsLemmas
