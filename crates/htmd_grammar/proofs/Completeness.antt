@@ -78,7 +78,7 @@ drop_none : (n : ℕ) → ◌≡◌ {A = List ℕ} (drop n []) []
 drop_none zero = refl
 drop_none (suc n) = refl
 
-nothing_read : (u : List ℕ) → ◌≡◌ {A = Option (List ℕ)} (Some []) (Some u) → ◌≡◌ {A = List ℕ} [] u
+pub nothing_read : (u : List ℕ) → ◌≡◌ {A = Option (List ℕ)} (Some []) (Some u) → ◌≡◌ {A = List ℕ} [] u
 nothing_read u e = cc
 
 -- the first piece of a text is the same before `<`

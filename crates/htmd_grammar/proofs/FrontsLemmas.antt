@@ -26,7 +26,7 @@ ends_in_text (more (text u) none) = true
 ends_in_text (more t none) = false
 ends_in_text (more t (more u ts)) = ends_in_text (more u ts)
 
-apart_none : (t : ValueTree) → Apart t none
+pub apart_none : (t : ValueTree) → Apart t none
 apart_none (document ks) = tt
 apart_none doctype = tt
 apart_none (text u) = tt
@@ -67,7 +67,7 @@ row_same (more (text u) ts) n attributes ks us h = h
 row_same (more (comment u) ts) n attributes ks us h = h
 row_same (more (element k a x) ts) n attributes ks us h = h
 
-row_append : (ts us : ValueForest) → begins_with_row ts ≡ true → begins_with_row (ts +++ us) ≡ true
+pub row_append : (ts us : ValueForest) → begins_with_row ts ≡ true → begins_with_row (ts +++ us) ≡ true
 row_append none us h = absurd (cc)
 row_append (more (document kk) ts) us h = h
 row_append (more doctype ts) us h = h

@@ -23,3 +23,5 @@ mod Subtrees
 mod CutLemmas
 mod FullPieces
 mod FrontsLemmas
+mod Soundness
+mod Readings
