@@ -7,18 +7,18 @@ use Rattle.std.specs.Char.{is_ascii_alphabetic, to_ascii_lowercase}
 use Rattle.std.specs.List.{list_all, list_any}
 use Rattle.std.specs.Prelude.{if◌then◌else◌}
 use Rattle.std.specs.Str.{bytes_eq}
-use Rattle.htmd_text.specs.Characters.{slash}
 use Rattle.htmd_text.specs.WhiteSpace.{is_ascii_white_space}
 use Rattle.htmd_grammar.specs.CharacterClasses.{are_distinct, behind_run, is_among, is_empty, is_tag_name, is_tag_name_byte, leading_run, up_to}
 use Rattle.htmd_grammar.specs.Comments.{before_comment_end, is_comment_text, normalized}
+use Rattle.htmd_grammar.specs.Documents.{above_body, below_body, body_text}
 use Rattle.htmd_grammar.specs.Faults.{top_children}
-use Rattle.htmd_grammar.specs.Grammar.{ReadsForest, ReadsTree, begins_with_row, may_end_rows}
+use Rattle.htmd_grammar.specs.Grammar.{ReadsForest, ReadsTree, begins_with_row, may_end_rows, reads}
 use Rattle.htmd_grammar.specs.Places.{Context, holds_parts, is_allowed, is_outside, is_table, is_table_part, is_tbody, parent_name}
 use Rattle.htmd_grammar.specs.RawContent.{content_of, drops_line_feed, ends_text, holds_raw_text, holds_text_alone, raw_text_of, text_of}
 use Rattle.htmd_grammar.specs.References.{Names, Piece, after_line_feed, decode, less_line_feed, piece_at, stands, wrong}
 use Rattle.htmd_grammar.specs.Rules.{Rules}
 use Rattle.htmd_grammar.specs.Serialisation.{is_void}
-use Rattle.htmd_grammar.specs.Steps.{OpenElement, Reaches, State, Step, between, body, close_step, closed, ends_rows, form_step, fresh, has_unknown_reference, here, is_implied, is_text_end, is_too_deep, names_of, place_step, step, via, with_children, with_forest, with_tree, ◌+++◌}
+use Rattle.htmd_grammar.specs.Steps.{OpenElement, Reaches, State, Step, between, body, close_step, closed, ends_rows, finished, form_step, fresh, has_unknown_reference, here, is_implied, is_text_end, is_too_deep, names_of, place_step, started, step, via, with_children, with_forest, with_tree, ◌+++◌}
 use Rattle.htmd_grammar.specs.TagReading.{form_within}
 use Rattle.htmd_grammar.specs.Tags.{IsEndTag, IsStartTag, IsTagRest, attribute_names, decode_values}
 use Rattle.htmd_grammar.specs.ValueTrees.{AttributePair, ValueForest, ValueTree, comment, doctype, document, element, more, none, text}
@@ -406,3 +406,9 @@ module _ (rules : Rules) (outer : Context) where
     pub nodes_read : (ts : ValueForest) → NodesRead ts
     nodes_read none f gs last s after h nm st re = rw (h, append_none f.children) here
     nodes_read (more t ts) f gs last s after h nm st re = next_read t ts (node_read t) (nodes_read ts) f gs last s after h nm st re
+
+-- what the grammar relates is read
+pub complete : (rules : Rules) (s : List ℕ) (content : ValueForest) → reads rules below_body (body_text s) content → Reaches rules above_body (started s) (finished content)
+complete rules s content h =
+    subst (λ (y : List ℕ). Reaches rules above_body (at_piece (body ∷ []) y) (finished content)) (append-nil (body_text s))
+    (nodes_read rules above_body content body [] true (body_text s) [] h (λ q. absurd (cc)) (inl refl) (λ _ q. absurd (cc)))

@@ -1,5 +1,5 @@
 -- Fronts grow by what is whole.
-use Rattle.std.proofs.Common.{Bool, List, [], ap, append_assoc, codes, false, inl, inr, map, refl, rules, subst, sym, true, ℕ, ◌++◌, ◌∙◌, ◌∷◌, ◌≡◌, ◌⊎◌}
+use Rattle.std.proofs.Common.{Bool, List, [], ap, append_assoc, codes, false, inl, inr, map, refl, subst, sym, true, ℕ, ◌++◌, ◌∙◌, ◌∷◌, ◌≡◌, ◌⊎◌}
 use Rattle.std.proofs.lemmas.List.{append-nil}
 use Rattle.std.specs.Char.{is_ascii_alphabetic, to_ascii_lowercase}
 use Rattle.htmd_grammar.specs.CharacterClasses.{is_tag_name_byte, leading_run}
@@ -243,6 +243,6 @@ module _ (rules : Rules) (outer : Context) where
       let q : s ++ e ≡ h.0 ++ (h.1 ++ (h.2 ++ e)) = ap (λ (z : List ℕ). z ++ e) h.3 ∙ simp append_assoc in
       rw q (grows g gs (closed f) (ends_at f) m h.0 y h.4 (closed_node c f l m h.1 h.2 e h.5 h.6 x r) (λ k. ends_here c f h.1 (h.2 ++ e) h.5 k) (λ _. refl) (kept_opened g gs f (content_so_far rules outer g gs (ends_at f) h.0 h.4) h.1 (h.2 ++ e) h.5))
 
-  pub front_weaker : (f : OpenElement) (gs : List OpenElement) (l m : Bool) (s : List ℕ) → (l ≡ true → m ≡ true) → IsFront rules outer l (f ∷ gs) s → IsFront rules outer m (f ∷ gs) s
+  unfoldable pub front_weaker : (f : OpenElement) (gs : List OpenElement) (l m : Bool) (s : List ℕ) → (l ≡ true → m ≡ true) → IsFront rules outer l (f ∷ gs) s → IsFront rules outer m (f ∷ gs) s
   front_weaker f [] l m s i h = (h.0, nodes_weaker (f.name ∷ outer) l m f.children s i h.1, h.2)
   front_weaker f (g ∷ gs) l m s i h = (h.0, h.1, h.2, h.3, h.4, h.5, nodes_weaker (names_of outer (f ∷ g ∷ gs)) l m f.children (content_of f.name h.2) i h.6, h.7)

@@ -25,3 +25,5 @@ mod FullPieces
 mod FrontsLemmas
 mod Soundness
 mod Readings
+mod GoodFronts
+mod ParameterLaw

@@ -1,5 +1,5 @@
 -- Each step takes what it reads off the text, and what has been read stays a front, also in the midst of a text.
-use Rattle.std.proofs.Common.{Bool, List, None, Ok, Option, Some, [], ap, append_assoc, arith, codes, cond, drop, false, inl, inr, length, length-append, not, refl, rules, subst, sym, true, ℕ, ◌&&◌, ◌++◌, ◌∙◌, ◌∷◌, ◌≡◌, ◌≢◌, ◌≤◌, ◌⊎◌}
+use Rattle.std.proofs.Common.{Bool, List, None, Ok, Option, Some, [], ap, append_assoc, arith, codes, cond, drop, false, inl, inr, length, length-append, not, refl, subst, sym, true, ℕ, ◌&&◌, ◌++◌, ◌∙◌, ◌∷◌, ◌≡◌, ◌≢◌, ◌≤◌, ◌⊎◌}
 use Rattle.std.proofs.iter.runs.Made.{run}
 use Rattle.std.proofs.lemmas.List.{append-nil}
 use Rattle.std.specs.List.{list_all}
@@ -236,7 +236,7 @@ module _ (rules : Rules) (outer : Context) where
       )
 
   -- between two pieces nothing of a text has been read
-  at_conf : (f : OpenElement) (gs : List OpenElement) (s before w run rest : List ℕ) → s ≡ before ++ w → IsConf rules outer (f ∷ gs) before (w ++ rest) → w ≡ [] → IsConf rules outer (f ∷ gs) s rest
+  pub at_conf : (f : OpenElement) (gs : List OpenElement) (s before w run rest : List ℕ) → s ≡ before ++ w → IsConf rules outer (f ∷ gs) before (w ++ rest) → w ≡ [] → IsConf rules outer (f ∷ gs) s rest
   at_conf f gs s before w run rest q c e =
       let k : s ≡ before = q ∙ (ap (λ (y : List ℕ). before ++ y) e ∙ append-nil before) in
       subst (λ (y : List ℕ). IsConf rules outer (f ∷ gs) y rest) (sym k) (subst (λ (y : List ℕ). IsConf rules outer (f ∷ gs) before (y ++ rest)) e c)

@@ -1,6 +1,5 @@
 -- What the steps read, the grammar relates: what has been read is a front at each state.
-use Rattle.std.proofs.Common.{Bool, List, None, Ok, Option, Some, [], ap, append_assoc, arith, codes, cond, drop, false, inl, inr, length, map, not, refl, rules, subst, suc, sym, true, ℕ, ◌&&◌, ◌++◌, ◌||◌, ◌∙◌, ◌∷◌, ◌≡◌, ◌≢◌, ◌≤◌}
-use Rattle.std.proofs.iter.runs.Made.{run}
+use Rattle.std.proofs.Common.{Bool, List, None, Ok, Option, Some, [], ap, append_assoc, arith, codes, cond, drop, false, inl, inr, length, map, not, refl, subst, suc, sym, true, ℕ, ◌&&◌, ◌++◌, ◌||◌, ◌∙◌, ◌∷◌, ◌≡◌, ◌≢◌, ◌≤◌}
 use Rattle.std.proofs.lemmas.Bool.Decides.{nat_tests}
 use Rattle.std.proofs.lemmas.List.{append-nil}
 use Rattle.std.specs.Char.{to_ascii_lowercase}
@@ -216,17 +215,17 @@ module _ (rules : Rules) (outer : Context) where
       → (d : Option (List ℕ)) → text_of rules f.name (up_to (ends_text rules.scripting f.name) rest) ≡ d → raw_text_step rules outer (f ∷ gs) d (onward (ends_text rules.scripting f.name) rest) ≡ Ok st → Takes s rest st
   sound_raw f gs s rest st c y m n None d e = absurd (cc)
   sound_raw f gs s rest st c y m n (Some u) d e = sound_add (f ∷ gs) (text u) s rest (onward (ends_text rules.scripting f.name) rest) st e (λ l.
-        let r : List ℕ = up_to (ends_text rules.scripting f.name) rest in
-        let after : List ℕ = onward (ends_text rules.scripting f.name) rest in
-        let q : rest ≡ r ++ after = run_split (ends_text rules.scripting f.name) rest in
-        let c2 = subst (λ (y : List ℕ). IsConf (f ∷ gs) s y) q c in
-        let m2 : ends_text rules.scripting f.name (r ++ after) ≡ false = ap (ends_text rules.scripting f.name) (sym q) ∙ m in
-        let n2 : is_empty (r ++ after) ≡ false = ap is_empty (sym q) ∙ n in
-        let d2 : raw_text_of f.name r ≡ Some u = rw y at d in
-        subst (λ (y : List ℕ). Takes s y (at_piece (with_tree (f ∷ gs) (text u)) after)) (sym q)
-        (added f gs (text u) s r after c2 (raw_text_full f.name r u d2 (run_not_empty (ends_text rules.scripting f.name) rest m n), up_to-up_to f.name rest, d, λ k. absurd (let w = raw_no_parts f.name y in cc), l)
-        (λ k. let z = no_flag f gs (r ++ after) m2 in absurd (cc)) (λ k. absurd (not_stops f.name (r ++ after) m2 n2 k)) (λ _. onward_stops f.name rest)
-        (kept_text f gs s r after c2 (λ k. not_stops f.name (r ++ after) m2 n2 k))))
+      let r : List ℕ = up_to (ends_text rules.scripting f.name) rest in
+      let after : List ℕ = onward (ends_text rules.scripting f.name) rest in
+      let q : rest ≡ r ++ after = run_split (ends_text rules.scripting f.name) rest in
+      let c2 = subst (λ (y : List ℕ). IsConf (f ∷ gs) s y) q c in
+      let m2 : ends_text rules.scripting f.name (r ++ after) ≡ false = ap (ends_text rules.scripting f.name) (sym q) ∙ m in
+      let n2 : is_empty (r ++ after) ≡ false = ap is_empty (sym q) ∙ n in
+      let d2 : raw_text_of f.name r ≡ Some u = rw y at d in
+      subst (λ (y : List ℕ). Takes s y (at_piece (with_tree (f ∷ gs) (text u)) after)) (sym q)
+      (added f gs (text u) s r after c2 (raw_text_full f.name r u d2 (run_not_empty (ends_text rules.scripting f.name) rest m n), up_to-up_to f.name rest, d, λ k. absurd (let w = raw_no_parts f.name y in cc), l)
+      (λ k. let z = no_flag f gs (r ++ after) m2 in absurd (cc)) (λ k. absurd (not_stops f.name (r ++ after) m2 n2 k)) (λ _. onward_stops f.name rest)
+      (kept_text f gs s r after c2 (λ k. not_stops f.name (r ++ after) m2 n2 k))))
 
   pub sound_settled : (fs : List OpenElement) (s rest : List ℕ) (st : State) → IsConf fs s rest → is_implied fs ≡ true → ends_rows rest ≡ true → tbody_step rules outer fs rest ≡ Ok st → Takes s rest st
   sound_settled [] s rest st c i r e = absurd (c.is_front)

@@ -8,7 +8,6 @@ use Rattle.htmd_grammar.specs.Places.{Context, is_tbody}
 use Rattle.htmd_grammar.specs.RawBlocks.{RefersToLineFeeds}
 use Rattle.htmd_grammar.specs.RawContent.{content_of}
 use Rattle.htmd_grammar.specs.ReadBack.{AreIn, DenotesAlone, IsIn, RawBlockReadsBack, ReadsBack, is_plain}
-use Rattle.htmd_grammar.specs.References.{stands}
 use Rattle.htmd_grammar.specs.Rules.{Rules, project}
 use Rattle.htmd_grammar.specs.Serialisation.{is_void, serialisation}
 use Rattle.htmd_grammar.specs.Tags.{IsEndTag, IsStartTag}

@@ -1,5 +1,5 @@
 -- How the text of a tree begins, and what may follow it.
-use Rattle.std.proofs.Common.{Bool, List, [], ap, append_assoc, codes, false, inl, inr, refl, rules, subst, true, ℕ, ◌++◌, ◌∙◌, ◌∷◌, ◌≡◌, ◌⊎◌}
+use Rattle.std.proofs.Common.{Bool, List, [], ap, append_assoc, codes, false, inl, inr, refl, subst, true, ℕ, ◌++◌, ◌∙◌, ◌∷◌, ◌≡◌, ◌⊎◌}
 use Rattle.std.specs.Bool.{MatchBool}
 use Rattle.htmd_grammar.specs.Grammar.{Apart, ReadsForest, ReadsTree, begins_with_row, may_end_rows}
 use Rattle.htmd_grammar.specs.Places.{Context, is_tbody}

@@ -1,5 +1,5 @@
 -- In any context a text denotes at most one list of trees.
-use Rattle.std.proofs.Common.{Bool, Err, List, Ok, [], ap, codes, false, inr, map, refl, rules, subst, sym, true, ℕ, ◌++◌, ◌∙◌, ◌∷◌, ◌≡◌}
+use Rattle.std.proofs.Common.{Bool, Err, List, Ok, [], ap, codes, false, inr, map, refl, subst, sym, true, ℕ, ◌++◌, ◌∙◌, ◌∷◌, ◌≡◌}
 use Rattle.std.specs.Char.{to_ascii_lowercase}
 use Rattle.std.specs.Prelude.{if◌then◌else◌}
 use Rattle.std.specs.Str.{bytes_eq}

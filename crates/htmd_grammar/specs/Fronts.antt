@@ -1,6 +1,7 @@
 -- A beginning of a text that is whole pieces, with the elements that are open at its end.
 use Rattle.std.specs.Prelude.{◌≡◌, ◌⊎◌, ℕ, ◌≤◌, Bool, true, false, ◌&&◌, if◌then◌else◌, List, [], ◌∷◌, ◌++◌, length, codes}
-use Rattle.htmd_grammar.specs.ValueTrees.{ValueForest, none, more}
+use Rattle.htmd_grammar.specs.ValueTrees.{text, ValueForest, none, more}
+use Rattle.htmd_grammar.specs.CharacterClasses.{is_empty}
 use Rattle.htmd_grammar.specs.Rules.{Rules}
 use Rattle.htmd_grammar.specs.Tags.{IsStartTag}
 use Rattle.htmd_grammar.specs.RawContent.{content_of}
@@ -8,7 +9,7 @@ use Rattle.htmd_grammar.specs.Places.{Context, is_table_part, is_tbody, is_allow
 use Rattle.htmd_grammar.specs.Grammar.{begins_with_row, ReadsForest, reads}
 use Rattle.htmd_grammar.specs.Documents.{above_body, below_body}
 use Rattle.htmd_grammar.specs.Serialisation.{is_void, end_tag}
-use Rattle.htmd_grammar.specs.Steps.{OpenElement, names_of, closed, ends_rows, ◌+++◌}
+use Rattle.htmd_grammar.specs.Steps.{OpenElement, names_of, closed, with_children, ends_rows, ◌+++◌}
 
 -- whether an implied `tbody` may end before this element
 abbrev pub ends_at : OpenElement → Bool
@@ -36,6 +37,10 @@ module _ (rules : Rules) (outer : Context) where
   abbrev pub content_so_far : (f : OpenElement) (fs : List OpenElement) (last : Bool) (s : List ℕ) → IsFront last (f ∷ fs) s → List ℕ
   content_so_far f [] last s h = []
   content_so_far f (g ∷ fs) last s h = h.2
+
+-- the innermost element, with the text so far
+abbrev pub with_text : OpenElement → List ℕ → OpenElement
+with_text f run = if is_empty run then f else with_children f (more (text run) none)
 
 -- what follows has no line feed that the element would drop
 abbrev pub IsKept : List ℕ → List ℕ → List ℕ → Type 0

@@ -1,10 +1,13 @@
--- The laws of the grammar, at any rules that the statement doesn't name.
-use Rattle.std.specs.Prelude.{◌≡◌, ℕ, List, ◌∷◌}
+-- The laws of the grammar.
+use Rattle.std.specs.Prelude.{◌≡◌, ℕ, ◌≤◌, false, ◌&&◌, List, ◌∷◌, ◌++◌, Some, Err}
 use Rattle.htmd_grammar.specs.ValueTrees.{ValueTree, ValueForest}
-use Rattle.htmd_grammar.specs.Rules.{Rules}
+use Rattle.htmd_grammar.specs.Rules.{Rules, character_named}
 use Rattle.htmd_grammar.specs.Places.{Context}
 use Rattle.htmd_grammar.specs.Grammar.{reads}
-use Rattle.htmd_grammar.specs.Documents.{ReadsDocument}
+use Rattle.htmd_grammar.specs.Documents.{above_body, below_body, body_text, ReadsDocument}
+use Rattle.htmd_grammar.specs.Steps.{OpenElement, State, Reaches, step, started, finished, ends_rows}
+use Rattle.htmd_grammar.specs.Fronts.{IsGoodFront, with_text}
+use Rattle.htmd_grammar.specs.declared.fault.FaultKind.{FaultKind}
 
 -- In a context that isn't empty a text denotes at most one list of trees.
 abbrev pub AtMostOneForest : Rules → Type 0
@@ -15,3 +18,50 @@ AtMostOneForest rules =
 -- A text denotes at most one document.
 abbrev pub AtMostOneDocument : Rules → Type 0
 AtMostOneDocument rules = (s : List ℕ) (t u : ValueTree) → ReadsDocument rules s t → ReadsDocument rules s u → t ≡ u
+
+-- ---- more names and a greater depth
+
+-- fewer names, which stand for the same, and a smaller depth
+pub record AreFewer (less more : Rules) : Type 0 where
+  pub names : (n : List ℕ) (c : ℕ) → character_named less.names n ≡ Some c → character_named more.names n ≡ Some c
+  pub depth : less.depth ≤ more.depth
+  pub scripting : less.scripting ≡ more.scripting
+
+-- what a text denotes under fewer names and a smaller depth it denotes under more
+abbrev pub MoreRulesReadMore : Type 0
+MoreRulesReadMore =
+    (less more : Rules) → AreFewer less more
+    → (c : Context) (s : List ℕ) (ts : ValueForest) → reads less c s ts → reads more c s ts
+
+abbrev pub MoreRulesReadMoreDocuments : Type 0
+MoreRulesReadMoreDocuments =
+    (less more : Rules) → AreFewer less more
+    → (s : List ℕ) (t : ValueTree) → ReadsDocument less s t → ReadsDocument more s t
+
+-- ---- the steps
+
+-- the steps reach the end, with these trees read
+abbrev pub ReachesEnd : Rules → List ℕ → ValueForest → Type 0
+ReachesEnd rules s content = Reaches rules above_body (started s) (finished content)
+
+-- complete: the steps reach the end of each text that denotes something
+abbrev pub StepsReadAll : Rules → Type 0
+StepsReadAll rules = (s : List ℕ) (content : ValueForest) → reads rules below_body (body_text s) content → ReachesEnd rules s content
+
+-- sound: where the steps reach the end, the text denotes what they read
+abbrev pub StepsReadRightly : Rules → Type 0
+StepsReadRightly rules = (s : List ℕ) (content : ValueForest) → ReachesEnd rules s content → reads rules below_body (body_text s) content
+
+-- where a step finds a fault before the end, the text denotes nothing
+abbrev pub FaultsRefuse : Rules → Type 0
+FaultsRefuse rules =
+    (s : List ℕ) (st : State) (kind : FaultKind) → Reaches rules above_body (started s) st → step rules above_body st ≡ Err kind
+    → ((content : ValueForest) → st ≡ finished content → ⊥)
+    → (content : ValueForest) → reads rules below_body (body_text s) content → ⊥
+
+-- what has been read is a good front, also in the midst of a text, but where an implied `tbody` is about to end
+abbrev pub FrontsAreGood : Rules → Type 0
+FrontsAreGood rules =
+    (s : List ℕ) (f : OpenElement) (fs : List OpenElement) (run rest : List ℕ)
+    → Reaches rules above_body (started s) (record { stack = f ∷ fs; run = run; rest = rest }) → (f.implied && ends_rows rest) ≡ false
+    → (before : List ℕ) × (body_text s ≡ before ++ rest) × IsGoodFront rules (with_text f run) fs before rest

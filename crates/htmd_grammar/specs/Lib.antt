@@ -12,10 +12,10 @@ pub mod RawContent
 pub mod Places
 pub mod Grammar
 pub mod Documents
-pub mod Laws
 pub mod ReadBack
 pub mod TagReading
 pub mod Steps
 pub mod Fronts
 pub mod Faults
+pub mod Laws
 pub mod SerialiserSteps

@@ -1,7 +1,7 @@
 //! Laws of the definitions: each is the contract of a function that does nothing.
 ghost use Rattle.std.specs.Prelude.{Bool};
 ghost use Rattle.htmd_grammar.specs.Rules.{Rules, project};
-ghost use Rattle.htmd_grammar.specs.Laws.{AtMostOneForest, AtMostOneDocument};
+ghost use Rattle.htmd_grammar.specs.Laws.{AtMostOneForest, AtMostOneDocument, MoreRulesReadMore, MoreRulesReadMoreDocuments, StepsReadAll, StepsReadRightly, FaultsRefuse, FrontsAreGood};
 ghost use Rattle.htmd_grammar.specs.ReadBack.{ReadsBack, RawBlockReadsBack};
 
 /// A text denotes at most one document, and in any context at most one list of trees.
@@ -15,4 +15,19 @@ pub fn at_most_one_tree()
 pub fn raw_html_reads_back()
     ensures serialisation { (scripting : Bool) → ReadsBack (project scripting) }
     ensures block { (scripting : Bool) → RawBlockReadsBack (project scripting) }
+{}
+
+/// What a text denotes under fewer names of references and a smaller depth, it denotes under more.
+pub fn more_rules_read_more()
+    ensures in_context { MoreRulesReadMore }
+    ensures document { MoreRulesReadMoreDocuments }
+{}
+
+/// The steps of a reader reach the end exactly for the texts that denote something, and read that; a fault of
+/// a step means that the text denotes nothing, and what was read before it is a good front.
+pub fn steps_read_the_grammar()
+    ensures complete { (rules : Rules) → StepsReadAll rules }
+    ensures sound { (rules : Rules) → StepsReadRightly rules }
+    ensures refused { (rules : Rules) → FaultsRefuse rules }
+    ensures fronts { (rules : Rules) → FrontsAreGood rules }
 {}
