@@ -4,15 +4,15 @@ use lib.Utf8.{encode}
 use Rattle.std.specs.Str.{chars, trim_start, trim_end}
 use Rattle.htmd_markdown.specs.declared.emphasis.Emphasis.TheVariants.{Regular, Strong}
 use Rattle.htmd_markdown.specs.declared.heading.HeadingStyle.TheVariants.{Atx, Setex}
-use Rattle.htmd_markdown.specs.Emphases.{emphasised}
+use Rattle.htmd_markdown.specs.Emphases.{emphasised_text}
 use Rattle.htmd_markdown.specs.Headings.{heading}
 use Rattle.htmd_markdown.specs.Quotes.{quote}
 
-pub strong : emphasised Strong (codes "C ") ≡ Some (codes "**C** ")
+pub strong : emphasised_text Strong (codes "C ") ≡ Some (codes "**C** ")
 unfolding chars trim_start trim_end encode
 strong = refl
 
-pub white_space_alone : emphasised Regular (codes " \n ") ≡ None
+pub white_space_alone : emphasised_text Regular (codes " \n ") ≡ None
 unfolding chars trim_start trim_end encode
 white_space_alone = refl
 

@@ -19,3 +19,8 @@ pub mod TitlesLemmas
 pub mod LinksLemmas
 pub mod LinkExamples
 pub mod ListColumnsLemmas
+pub mod TrimmedTexts
+pub mod CellsLemmas
+pub mod CharacterCounts
+pub mod TablesLemmas
+pub mod TableLinesLemmas

@@ -17,3 +17,6 @@ pub mod Addresses
 pub mod Titles
 pub mod Links
 pub mod WrittenBytes
+pub mod Tables
+pub mod TableReading
+pub mod CellBytes

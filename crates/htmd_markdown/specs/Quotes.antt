@@ -2,7 +2,7 @@
 use Rattle.std.specs.Prelude.{ℕ, List, [], ◌∷◌, ◌++◌, map, codes}
 use Rattle.std.specs.Str.Lines.{lines}
 use Rattle.htmd_text.specs.Characters.{line_feed}
-use Rattle.htmd_text.specs.Joins.{joined_texts as joined}
+use Rattle.htmd_text.specs.Joins.{joined_texts}
 use Rattle.htmd_text.specs.Trims.{trimmed_start, trimmed_end, is_line_feed}
 use Rattle.htmd_text.specs.WhiteSpace.{is_document_white_space}
 use Rattle.htmd_text.specs.BlankLines.{with_blank_lines}
@@ -13,7 +13,7 @@ quoted_line line = codes "> " ++ line
 
 -- each line behind a marker, the lines joined by line feeds
 abbrev pub quoted_lines : List (List ℕ) → List ℕ
-quoted_lines ls = joined (line_feed ∷ []) (map quoted_line ls)
+quoted_lines ls = joined_texts (line_feed ∷ []) (map quoted_line ls)
 
 -- the content without line feeds at its start and document white space at its end
 abbrev pub quoted_content : List ℕ → List ℕ

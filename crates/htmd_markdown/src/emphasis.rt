@@ -22,7 +22,7 @@ pub fn write_emphasis(
     content: &str,
 ) -> Result<Option<String>, AllocError>
     ensures text { IfOk result
-        (λ text. option_map (λ s. string_bytes s) text ≡ spec.emphasised emphasis content.now) }
+        (λ text. option_map (λ s. string_bytes s) text ≡ spec.emphasised_text emphasis content.now) }
     ensures marks { IfOk result
         (λ text. IfSome text
         (λ s. spec.AreMarksInside (spec.mark emphasis) content.now (string_bytes s))) }

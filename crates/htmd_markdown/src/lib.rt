@@ -14,6 +14,7 @@ mod link;
 mod list;
 mod quote;
 mod runs;
+mod table;
 #[cfg(test)]
 mod tests;
 mod thematic_break;
@@ -34,4 +35,5 @@ pub use self::list::{
     write_ordered_list, write_unnumbered_item,
 };
 pub use self::quote::write_quote;
+pub use self::table::write_row;
 pub use self::thematic_break::{HrStyle, write_thematic_break};

@@ -5,3 +5,4 @@ mod code_blocks;
 mod code_spans;
 mod links;
 mod lists;
+mod tables;

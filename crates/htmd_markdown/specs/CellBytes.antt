@@ -1,0 +1,24 @@
+-- Cells byte by byte, as the code goes through them; the contracts of private functions alone cite it.
+use Rattle.std.specs.Prelude.{◌≡◌, ℕ, ◌<◌, Bool, not, ◌&&◌, List, [], ◌∷◌, nat_le, nat_lt, count_by}
+use Rattle.htmd_text.specs.Characters.{vertical_bar}
+use Rattle.htmd_markdown.specs.Tables.{in_cell}
+
+abbrev pub bar : List ℕ
+bar = vertical_bar ∷ []
+
+-- the byte alone
+abbrev pub itself : ℕ → List ℕ
+itself b = b ∷ []
+
+-- the byte is ASCII, and these bytes stand for it
+pub record IsReplaced (b : ℕ) (instead : List ℕ) : Type 0 where
+  pub ascii : b < 128
+  pub text : in_cell b ≡ instead
+
+-- the byte begins a character of UTF-8 (RFC 3629, 3)
+abbrev pub begins_character : ℕ → Bool
+begins_character b = not (nat_le 0x80 b && nat_lt b 0xC0)
+
+-- how many characters begin in what stands for a byte of a cell
+abbrev pub byte_width : ℕ → ℕ
+byte_width b = count_by begins_character (in_cell b)
