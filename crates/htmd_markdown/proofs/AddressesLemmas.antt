@@ -13,7 +13,7 @@ use Rattle.htmd_text.specs.EscapeMarks.{with_backslashes}
 use Rattle.htmd_text.specs.Unescape.{unescape}
 use Rattle.htmd_text.proofs.EscapeMarksLemmas.{Writing, writing_none, writing_plain, writing_marked, writing_all}
 use Rattle.htmd_text.proofs.UnescapeLemmas.{reads_back}
-use Rattle.htmd_markdown.specs.Addresses.{escaped_address, holds_backslash, HoldsAddress}
+use Rattle.htmd_markdown.specs.Addresses.{parentheses, escaped_address, holds_backslash, HoldsAddress}
 
 among_ascii : (characters : List ℕ) (b : ℕ) → list_all is_ascii characters ≡ true → is_one_of characters b ≡ true
     → is_ascii b ≡ true
@@ -72,14 +72,14 @@ no_backslash [] i none = refl
 no_backslash (b ∷ s) zero none = (or_parts (b == backslash) (holds_backslash s) none).0
 no_backslash (b ∷ s) (suc i) none = no_backslash s i (or_parts (b == backslash) (holds_backslash s) none).1
 
-parenthesis_is_punctuation : (b : ℕ) → is_one_of (codes "()") b ≡ true → is_ascii_punctuation b ≡ true
+parenthesis_is_punctuation : (b : ℕ) → is_one_of parentheses b ≡ true → is_ascii_punctuation b ≡ true
 parenthesis_is_punctuation b e = grind (arith, nat_tests)
 
 pub address_reads_back : (address : List ℕ) → holds_backslash address ≡ false
     → unescape (escaped_address address) ≡ address
 address_reads_back address none =
     let here : (i : ℕ) → 0 + i ≡ i = λ i. omega arith in
-    reads_back (λ k. is_one_of (codes "()") (slice_index address k)) 0 address
+    reads_back (λ k. is_one_of parentheses (slice_index address k)) 0 address
     (λ i e. parenthesis_is_punctuation (get_or address i 0) (rw (here i) at e))
     (λ i _ _. no_backslash address i none)
 

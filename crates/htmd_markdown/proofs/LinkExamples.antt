@@ -2,10 +2,10 @@
 use Rattle.std.proofs.Common.{◌≡◌, refl, codes, Some, None}
 use Rattle.std.specs.Fmt.{digits}
 use Rattle.htmd_markdown.specs.declared.link.LinkReferenceStyle.TheVariants.{Full, Collapsed}
-use Rattle.htmd_markdown.specs.Titles.{tidied}
+use Rattle.htmd_markdown.specs.Titles.{tidied_text}
 use Rattle.htmd_markdown.specs.Links.{image, inline_link, autolink, reference, definition}
 
-pub lines_of_a_title : tidied (codes " say\n\n \"hi\" ") ≡ codes "say\n\\\"hi\\\""
+pub lines_of_a_title : tidied_text (codes " say\n\n \"hi\" ") ≡ codes "say\n\\\"hi\\\""
 lines_of_a_title = refl
 
 pub described : image (codes "a b.png") (Some (codes "d")) (Some (codes "t")) ≡ codes "![d](<a b.png> \"t\")"

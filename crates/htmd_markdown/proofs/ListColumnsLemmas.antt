@@ -21,7 +21,7 @@ use Rattle.htmd_text.specs.Indents.{indented_text}
 use Rattle.htmd_text.specs.Joins.{block_separator, join_block, joined_blocks}
 use Rattle.htmd_text.proofs.DigitsLemmas.{digits_more, digits_one}
 use Rattle.htmd_markdown.specs.ListItems.{number_marker, numbered_item}
-use Rattle.htmd_markdown.specs.Lists.{Block, item, item_count, numbered, highest_number, ordered_list}
+use Rattle.htmd_markdown.specs.Lists.{Block, item, item_count, numbered_blocks, highest_number, ordered_list}
 use Rattle.htmd_markdown.specs.ListColumns.{item_content, StandsInColumn, HasEqualColumns}
 use Rattle.htmd_markdown.proofs.ListsLemmas.{numbered-append, item_count-append}
 
@@ -226,13 +226,14 @@ columns_equal first spacing blocks small = λ earlier later content split.
     let behind = full_stop ∷ replicate (spacing + (digits highest - digits number)) space in
     let first_byte = ap is_line_feed (get_or_append_left (decimal number) behind 0 0 numeral.0)
     ∙ digit_first (get_or (decimal number) 0 0) digit.0 in
-    let out = joined_blocks (numbered spacing highest first earlier) in
-    let rest = numbered spacing highest (suc number) later in
+    let out = joined_blocks (numbered_blocks spacing highest first earlier) in
+    let rest = numbered_blocks spacing highest (suc number) later in
     let text : ordered_list first spacing blocks ≡ fold join_block
     (join_block out (numbered_item spacing highest number content)) rest =
-    ap (λ (l : List Block). joined_blocks (numbered spacing highest first l)) split
+    ap (λ (l : List Block). joined_blocks (numbered_blocks spacing highest first l)) split
     ∙ ap joined_blocks (numbered-append spacing highest first earlier (item content ∷ later))
-    ∙ fold-append join_block [] (numbered spacing highest first earlier) (numbered_item spacing highest number content
+    ∙ fold-append join_block [] (numbered_blocks spacing highest first earlier)
+    (numbered_item spacing highest number content
     ∷ rest) in
     let stands = item_stands (spacing + digits highest + 1) marker (indented_text (trimmed_start is_line_feed content)
     (length marker) true) out rest (omega (arith, width)) first_byte (number_marker-end spacing highest number)

@@ -1,9 +1,9 @@
--- How items are counted and numbered.
+-- How items are counted and numbered_blocks.
 use Rattle.std.proofs.Common.{◌≡◌, ℕ, suc, ◌+◌, ◌<◌, ◌≤◌, List, [], ◌∷◌, ◌++◌, length, get_or, take, map, ap, ◌∙◌}
 use Rattle.std.proofs.Common.{arith}
 use Rattle.std.proofs.lemmas.List.{map_more, length-map, length-take-le}
 use Rattle.htmd_markdown.specs.ListItems.{numbered_item}
-use Rattle.htmd_markdown.specs.Lists.{Block, item, other, item_count, numbered}
+use Rattle.htmd_markdown.specs.Lists.{Block, item, other, item_count, numbered_blocks}
 
 pub item_count-append : (xs ys : List Block) → item_count (xs ++ ys) ≡ item_count xs + item_count ys
 item_count-append [] ys = omega arith
@@ -30,19 +30,22 @@ pub counted_more : {X : Type 0} (block_of : X → Block) (xs : List X) (i : ℕ)
 counted_more block_of xs i d lt = ap item_count (map_more block_of xs i d lt)
     ∙ item_count-append (map block_of (take i xs)) (block_of (get_or xs i d) ∷ [])
 
-pub numbered-append : (spacing highest number : ℕ) (xs ys : List Block) → numbered spacing highest number (xs ++ ys)
-    ≡ numbered spacing highest number xs ++ numbered spacing highest (number + item_count xs) ys
-numbered-append spacing highest number [] ys = ap (λ n. numbered spacing highest n ys) (omega arith)
+pub numbered-append : (spacing highest number : ℕ) (xs ys : List Block)
+    → numbered_blocks spacing highest number (xs ++ ys)
+    ≡ numbered_blocks spacing highest number xs ++ numbered_blocks spacing highest (number + item_count xs) ys
+numbered-append spacing highest number [] ys = ap (λ n. numbered_blocks spacing highest n ys) (omega arith)
 numbered-append spacing highest number (item content ∷ xs) ys =
     ap (λ l. numbered_item spacing highest number content ∷ l) (numbered-append spacing highest (suc number) xs ys
-    ∙ ap (λ n. numbered spacing highest (suc number) xs ++ numbered spacing highest n ys) (omega arith))
+    ∙ ap (λ n. numbered_blocks spacing highest (suc number) xs ++ numbered_blocks spacing highest n ys) (omega arith))
 numbered-append spacing highest number (other text ∷ xs) ys =
     ap (λ l. text ∷ l) (numbered-append spacing highest number xs ys)
 
 -- one more block, at the number that comes next
 pub numbered_more : (spacing highest first number : ℕ) (before : List Block) (block : Block) (text : List ℕ)
-    → number ≡ first + item_count before → numbered spacing highest number (block ∷ []) ≡ text ∷ []
-    → numbered spacing highest first (before ++ block ∷ []) ≡ numbered spacing highest first before ++ text ∷ []
+    → number ≡ first + item_count before → numbered_blocks spacing highest number (block ∷ []) ≡ text ∷ []
+    → numbered_blocks spacing highest first (before ++ block ∷ []) ≡ numbered_blocks spacing highest first before
+    ++ text ∷ []
 numbered_more spacing highest first number before block text next one =
-    numbered-append spacing highest first before (block ∷ []) ∙ ap (λ l. numbered spacing highest first before ++ l)
+    numbered-append spacing highest first before (block ∷ [])
+    ∙ ap (λ l. numbered_blocks spacing highest first before ++ l)
     (rw next at one)

@@ -14,22 +14,23 @@ use Rattle.htmd_markdown.specs.Addresses.{escaped_among}
 use Rattle.htmd_markdown.specs.Titles.{is_filled}
 
 -- the first n lines as they are written
-abbrev pub filled : List (List ℕ) → ℕ → List (List ℕ)
-filled ls n = filter is_filled (map (trimmed_text is_document_white_space) (take n ls))
+abbrev pub filled_lines_of : List (List ℕ) → ℕ → List (List ℕ)
+filled_lines_of ls n = filter is_filled (map (trimmed_text is_document_white_space) (take n ls))
 
-abbrev pub quoted : List ℕ → List ℕ
-quoted = escaped_among (codes "\"")
+abbrev pub escaped_line : List ℕ → List ℕ
+escaped_line = escaped_among (codes "\"")
 
 abbrev pub written : List (List ℕ) → List ℕ
-written ls = joined_texts (line_feed ∷ []) (map quoted ls)
+written ls = joined_texts (line_feed ∷ []) (map escaped_line ls)
 
 -- What was written behind a text of the first n lines.
 pub record Tidying (ls : List (List ℕ)) (before out : List ℕ) (is_first : Bool) (n : ℕ) : Type 0 where
-  pub out_is : out ≡ before ++ written (filled ls n)
-  pub begun : is_first ≡ (length (filled ls n) == 0)
+  pub out_is : out ≡ before ++ written (filled_lines_of ls n)
+  pub begun : is_first ≡ (length (filled_lines_of ls n) == 0)
 
 filled_more : (ls : List (List ℕ)) (n : ℕ) (x : List ℕ) → (n < length ls) × (x ≡ get_or ls n x)
-    → filled ls (n + 1) ≡ filled ls n ++ filter is_filled (trimmed_text is_document_white_space x ∷ [])
+    → filled_lines_of ls (n + 1) ≡ filled_lines_of ls n ++ filter is_filled (trimmed_text is_document_white_space x
+    ∷ [])
 filled_more ls n x here =
     ap (λ l. filter is_filled (map (trimmed_text is_document_white_space) l)) (take_more ls n x here.0
     ∙ ap (λ y. take n ls ++ y ∷ []) (sym here.1))
@@ -59,9 +60,10 @@ pub tidying_empty : (ls : List (List ℕ)) (before out : List ℕ) (is_first : B
     → (n < length ls) × (x ≡ get_or ls n x) → (length (trimmed_text is_document_white_space x) == 0) ≡ true
     → Tidying ls before out is_first n → Tidying ls before out is_first (n + 1)
 tidying_empty ls before out is_first n x here empty was =
-    let same : filled ls (n + 1) ≡ filled ls n =
-    filled_more ls n x here ∙ ap (λ l. filled ls n ++ l) (empty_is (trimmed_text is_document_white_space x) empty)
-    ∙ append-nil (filled ls n) in
+    let same : filled_lines_of ls (n + 1) ≡ filled_lines_of ls n =
+    filled_more ls n x here ∙ ap (λ l. filled_lines_of ls n ++ l)
+    (empty_is (trimmed_text is_document_white_space x) empty)
+    ∙ append-nil (filled_lines_of ls n) in
     record {
       out_is = was.out_is ∙ ap (λ l. before ++ written l) (sym same);
       begun = was.begun ∙ ap (λ l. length l == 0) (sym same);
@@ -73,15 +75,16 @@ some_more xs x = let size = length_push xs x in grind (arith, nat_tests)
 pub tidying_first : (ls : List (List ℕ)) (before out : List ℕ) (is_first : Bool) (n : ℕ) (x : List ℕ)
     → (n < length ls) × (x ≡ get_or ls n x) → (length (trimmed_text is_document_white_space x) == 0) ≡ false
     → is_first ≡ true → Tidying ls before out is_first n
-    → Tidying ls before (out ++ quoted (trimmed_text is_document_white_space x)) false (n + 1)
+    → Tidying ls before (out ++ escaped_line (trimmed_text is_document_white_space x)) false (n + 1)
 tidying_first ls before out is_first n x here some first was =
     let t = trimmed_text is_document_white_space x in
-    let none : filled ls n ≡ [] = nil_if (filled ls n) (sym was.begun ∙ first) in
-    let one : filled ls (n + 1) ≡ t ∷ [] = filled_more ls n x here ∙ ap (λ l. l ++ filter is_filled (t ∷ [])) none
+    let none : filled_lines_of ls n ≡ [] = nil_if (filled_lines_of ls n) (sym was.begun ∙ first) in
+    let one : filled_lines_of ls (n + 1) ≡ t ∷ [] = filled_more ls n x here
+    ∙ ap (λ l. l ++ filter is_filled (t ∷ [])) none
     ∙ some_is t some in
     let start : out ≡ before = was.out_is ∙ ap (λ l. before ++ written l) none ∙ append-nil before in
     record {
-      out_is = ap (λ l. l ++ quoted t) start ∙ ap (λ l. before ++ l) (sym (append-nil (quoted t)))
+      out_is = ap (λ l. l ++ escaped_line t) start ∙ ap (λ l. before ++ l) (sym (append-nil (escaped_line t)))
           ∙ ap (λ l. before ++ written l) (sym one);
       begun = sym (ap (λ l. length l == 0) one);
     }
@@ -89,13 +92,14 @@ tidying_first ls before out is_first n x here some first was =
 pub tidying_later : (ls : List (List ℕ)) (before out : List ℕ) (is_first : Bool) (n : ℕ) (x : List ℕ)
     → (n < length ls) × (x ≡ get_or ls n x) → (length (trimmed_text is_document_white_space x) == 0) ≡ false
     → is_first ≡ false → Tidying ls before out is_first n
-    → Tidying ls before ((out ++ line_feed ∷ []) ++ quoted (trimmed_text is_document_white_space x)) false (n + 1)
+    → Tidying ls before ((out ++ line_feed ∷ []) ++ escaped_line (trimmed_text is_document_white_space x)) false (n + 1)
 tidying_later ls before out is_first n x here some later was =
     let t = trimmed_text is_document_white_space x in
-    let more : filled ls (n + 1) ≡ filled ls n ++ t ∷ [] = filled_more ls n x here
-    ∙ ap (λ l. filled ls n ++ l) (some_is t some) in
-    let grown = item_joined quoted (line_feed ∷ []) (filled ls n) t (some_if (filled ls n) (sym was.begun ∙ later)) in
+    let more : filled_lines_of ls (n + 1) ≡ filled_lines_of ls n ++ t ∷ [] = filled_more ls n x here
+    ∙ ap (λ l. filled_lines_of ls n ++ l) (some_is t some) in
+    let grown = item_joined escaped_line (line_feed ∷ []) (filled_lines_of ls n) t
+    (some_if (filled_lines_of ls n) (sym was.begun ∙ later)) in
     record {
       out_is = rw (more, grown, was.out_is) (simp append_assoc);
-      begun = some_more (filled ls n) t ∙ ap (λ l. length l == 0) (sym more);
+      begun = some_more (filled_lines_of ls n) t ∙ ap (λ l. length l == 0) (sym more);
     }

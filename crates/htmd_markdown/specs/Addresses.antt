@@ -9,19 +9,22 @@ use Rattle.htmd_text.specs.Unescape.{unescape}
 abbrev pub escaped_among : List ℕ → List ℕ → List ℕ
 escaped_among characters s = with_backslashes (λ k. is_one_of characters (slice_index s k)) 0 s
 
+abbrev pub parentheses : List ℕ
+parentheses = codes "()"
+
 -- the address with its parentheses behind backslashes
 abbrev pub escaped_address : List ℕ → List ℕ
-escaped_address address = escaped_among (codes "()") address
+escaped_address address = escaped_among parentheses address
 
 abbrev pub holds_space : List ℕ → Bool
 holds_space address = list_any (λ b. b == space) address
 
 -- A destination that holds a space stands between `<` and `>`.
-abbrev pub opening : List ℕ → List ℕ
-opening address = if holds_space address then codes "<" else []
+abbrev pub opening_bracket : List ℕ → List ℕ
+opening_bracket address = if holds_space address then codes "<" else []
 
-abbrev pub closing : List ℕ → List ℕ
-closing address = if holds_space address then codes ">" else []
+abbrev pub closing_bracket : List ℕ → List ℕ
+closing_bracket address = if holds_space address then codes ">" else []
 
 abbrev pub holds_backslash : List ℕ → Bool
 holds_backslash address = list_any (λ b. b == backslash) address

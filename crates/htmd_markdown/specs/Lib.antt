@@ -16,7 +16,7 @@ pub mod ListColumns
 pub mod Addresses
 pub mod Titles
 pub mod Links
-pub mod WrittenBytes
 pub mod Tables
 pub mod TableReading
+pub mod WrittenBytes
 pub mod CellBytes

@@ -4,7 +4,7 @@ use Rattle.std.specs.Fmt.{decimal}
 use Rattle.std.specs.Str.{bytes_eq}
 use Rattle.htmd_text.specs.WhiteSpace.{is_document_white_space}
 use Rattle.htmd_text.specs.Trims.{trimmed_text, trimmed_start, cut_end}
-use Rattle.htmd_markdown.specs.Addresses.{escaped_address, opening, closing}
+use Rattle.htmd_markdown.specs.Addresses.{escaped_address, opening_bracket, closing_bracket}
 use Rattle.htmd_markdown.specs.Titles.{description, title_text}
 use Rattle.htmd_markdown.specs.declared.link.LinkReferenceStyle.{LinkReferenceStyle}
 use Rattle.htmd_markdown.specs.declared.link.LinkReferenceStyle.TheVariants.{Full, Collapsed, Shortcut}
@@ -14,10 +14,10 @@ in_brackets text = codes "[" ++ text ++ codes "]"
 
 -- what stands before an address in parentheses, and behind it
 abbrev pub resource_start : List ℕ → List ℕ
-resource_start address = codes "(" ++ opening address
+resource_start address = codes "(" ++ opening_bracket address
 
 abbrev pub resource_end : List ℕ → Option (List ℕ) → List ℕ
-resource_end address title = closing address ++ title_text title ++ codes ")"
+resource_end address title = closing_bracket address ++ title_text title ++ codes ")"
 
 -- the address and the title in parentheses
 abbrev pub resource : List ℕ → Option (List ℕ) → List ℕ

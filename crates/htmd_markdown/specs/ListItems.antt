@@ -11,8 +11,8 @@ use Rattle.htmd_markdown.specs.declared.list.BulletListMarker.TheVariants.{Aster
 
 -- An item in a line of its own: the list marker with its spaces, and the content. Further lines of the content stand
 -- behind as many spaces as these take, without white space at their ends.
-abbrev pub item : List ℕ → List ℕ → List ℕ
-item marker content = line_feed ∷ marker ++ indented_text content (length marker) true
+abbrev pub list_item : List ℕ → List ℕ → List ℕ
+list_item marker content = line_feed ∷ marker ++ indented_text content (length marker) true
 
 abbrev pub bullet : BulletListMarker → ℕ
 bullet Asterisk = asterisk
@@ -25,7 +25,7 @@ bullet_marker marker spacing = bullet marker ∷ replicate spacing space
 -- the item of a bullet list, without document white space at the start of its content
 abbrev pub bullet_item : BulletListMarker → ℕ → List ℕ → List ℕ
 bullet_item marker spacing content =
-    item (bullet_marker marker spacing) (trimmed_start is_document_white_space content)
+    list_item (bullet_marker marker spacing) (trimmed_start is_document_white_space content)
 
 -- what an item of an ordered list hands on to its list, which puts the number before it
 abbrev pub unnumbered_item : List ℕ → List ℕ
@@ -40,4 +40,4 @@ number_marker spacing highest number =
 -- the item of an ordered list, without line feeds at the start of its content
 abbrev pub numbered_item : ℕ → ℕ → ℕ → List ℕ → List ℕ
 numbered_item spacing highest number content =
-    item (number_marker spacing highest number) (trimmed_start is_line_feed content)
+    list_item (number_marker spacing highest number) (trimmed_start is_line_feed content)

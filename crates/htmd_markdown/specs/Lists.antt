@@ -41,15 +41,15 @@ abbrev pub highest_number : ℕ → List Block → ℕ
 highest_number first blocks = first + item_count blocks - 1
 
 -- each item behind its number, and the other texts as they are; the first item has this number
-abbrev pub numbered : ℕ → ℕ → ℕ → List Block → List (List ℕ)
-numbered spacing highest number [] = []
-numbered spacing highest number (item content ∷ blocks) =
-    numbered_item spacing highest number content ∷ numbered spacing highest (suc number) blocks
-numbered spacing highest number (other text ∷ blocks) = text ∷ numbered spacing highest number blocks
+abbrev pub numbered_blocks : ℕ → ℕ → ℕ → List Block → List (List ℕ)
+numbered_blocks spacing highest number [] = []
+numbered_blocks spacing highest number (item content ∷ blocks) =
+    numbered_item spacing highest number content ∷ numbered_blocks spacing highest (suc number) blocks
+numbered_blocks spacing highest number (other text ∷ blocks) = text ∷ numbered_blocks spacing highest number blocks
 
 -- an ordered list
 abbrev pub ordered_list : ℕ → ℕ → List Block → List ℕ
-ordered_list first spacing blocks = joined_blocks (numbered spacing (highest_number first blocks) first blocks)
+ordered_list first spacing blocks = joined_blocks (numbered_blocks spacing (highest_number first blocks) first blocks)
 
 -- so many line feeds on each side
 abbrev pub between_line_feeds : ℕ → List ℕ → List ℕ

@@ -16,15 +16,15 @@ abbrev pub filled_lines : List ℕ → List (List ℕ)
 filled_lines s = filter is_filled (map (trimmed_text is_document_white_space) (lines s))
 
 -- these lines, with a backslash before each quotation mark: no blank line ends the title, and no quotation mark
-abbrev pub tidied : List ℕ → List ℕ
-tidied s = joined_texts (line_feed ∷ []) (map (escaped_among (codes "\"")) (filled_lines s))
+abbrev pub tidied_text : List ℕ → List ℕ
+tidied_text s = joined_texts (line_feed ∷ []) (map (escaped_among (codes "\"")) (filled_lines s))
 
 -- the description of an image, empty where it has none
 abbrev pub description : Option (List ℕ) → List ℕ
 description None = []
-description (Some alt) = tidied alt
+description (Some alt) = tidied_text alt
 
 -- a title behind the address
 abbrev pub title_text : Option (List ℕ) → List ℕ
 title_text None = []
-title_text (Some title) = codes " \"" ++ tidied title ++ codes "\""
+title_text (Some title) = codes " \"" ++ tidied_text title ++ codes "\""

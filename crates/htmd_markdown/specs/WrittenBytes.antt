@@ -1,11 +1,12 @@
 -- How a text is compared with an address as it is written, byte by byte; private clauses alone cite this.
-use Rattle.std.specs.Prelude.{◌≡◌, ℕ, false, if◌then◌else◌, List, [], ◌∷◌, ◌++◌, Option, Some, None, codes}
+use Rattle.std.specs.Prelude.{◌≡◌, ℕ, false, if◌then◌else◌, List, [], ◌∷◌, ◌++◌, Option, Some, None}
 use Rattle.std.specs.Str.{bytes_eq}
 use Rattle.htmd_text.specs.Characters.{backslash, is_one_of}
+use Rattle.htmd_markdown.specs.Addresses.{parentheses}
 
 -- one byte of an address as it is written
-abbrev pub written : ℕ → List ℕ
-written b = if is_one_of (codes "()") b then backslash ∷ b ∷ [] else b ∷ []
+abbrev pub written_byte : ℕ → List ℕ
+written_byte b = if is_one_of parentheses b then backslash ∷ b ∷ [] else b ∷ []
 
 -- what stands behind the piece at the text's start; None where the text begins otherwise
 abbrev pub StandsBehind : List ℕ → List ℕ → Option (List ℕ) → Type 0

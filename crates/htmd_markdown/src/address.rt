@@ -5,16 +5,18 @@ ghost use Rattle.std.specs.List.{list_all};
 ghost use Rattle.std.specs.Option.{option_copied};
 ghost use Rattle.htmd_text.specs.Characters.{is_one_of};
 ghost use Rattle.htmd_markdown.specs.Addresses as spec;
-ghost use Rattle.htmd_markdown.specs.WrittenBytes.{StandsBehind, written};
+ghost use Rattle.htmd_markdown.specs.WrittenBytes.{StandsBehind, written_byte};
 
 use std::alloc::AllocError;
+
+const PARENTHESES: &[u8] = b"()";
 
 /// Puts the address with its parentheses behind backslashes.
 pub(crate) fn push_address(out: &mut String, address: &str) -> Result<(), AllocError>
     ensures { OnOk result
         (string_bytes out.new ≡ string_bytes out.old ++ spec.escaped_address address.now) }
 {
-    push_escaped(out, address, b"()")
+    push_escaped(out, address, PARENTHESES)
 }
 
 /// Puts the text with a backslash before each of these ASCII characters.
@@ -69,9 +71,9 @@ pub(crate) fn is_written_address(text: &str, address: &str) -> bool
 
 /// What stands behind the byte, written as in an address, where the text begins with it.
 fn behind_written(text: &[u8], byte: u8) -> Option<&[u8]>
-    ensures { StandsBehind text.now (written byte) (option_copied result) }
+    ensures { StandsBehind text.now (written_byte byte) (option_copied result) }
 {
-    if is_one_of(byte, b"()") {
+    if is_one_of(byte, PARENTHESES) {
         behind(behind(text, b'\\')?, byte)
     } else {
         behind(text, byte)

@@ -34,7 +34,7 @@ pub(crate) fn push_title(out: &mut String, title: Option<&str>) -> Result<(), Al
 /// Puts the lines of the text that aren't empty without document white space at their ends, with a
 /// backslash before each quotation mark.
 fn push_tidied(out: &mut String, text: &str) -> Result<(), AllocError>
-    ensures { OnOk result (string_bytes out.new ≡ string_bytes out.old ++ spec.tidied text.now) }
+    ensures { OnOk result (string_bytes out.new ≡ string_bytes out.old ++ spec.tidied_text text.now) }
 {
     let mut is_first = true;
     for line in text.lines() {

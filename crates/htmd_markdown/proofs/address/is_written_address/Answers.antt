@@ -1,7 +1,7 @@
 -- One more byte of the address.
 use Rattle.std.proofs.Common.{◌∙◌, ◌+◌, ◌++◌, length, get_or, sym, ap, arith}
 use Rattle.std.specs.Str.{bytes_eq}
-use Rattle.htmd_markdown.specs.WrittenBytes.{written}
+use Rattle.htmd_markdown.specs.WrittenBytes.{written_byte}
 use Rattle.htmd_markdown.proofs.WrittenBytesLemmas.{rest_written, written_more, written_all, is_empty_is}
 use Rattle.htmd_markdown.proofs.address.is_written_address.Goals as goal
 
@@ -12,7 +12,7 @@ loop-byte-preserved c =
     let byte = ap (λ bytes. get_or bytes i 0) c.as_bytes-byte-items.ensures.value in
     let more = written_more s i (omega (arith, ap length c.as_bytes-byte-items.ensures.value)) in
     c.loop-byte.invariant
-    ∙ ap (bytes_eq c.loop-byte.rest.now) (more ∙ ap (λ b. written b ++ rest_written s (i + 1)) (sym byte))
+    ∙ ap (bytes_eq c.loop-byte.rest.now) (more ∙ ap (λ b. written_byte b ++ rest_written s (i + 1)) (sym byte))
     ∙ c.in-Some.ensures (rest_written s (i + 1))
 
 pub returns : goal.returns
@@ -29,5 +29,5 @@ returns-in-None c =
     let byte = ap (λ bytes. get_or bytes i 0) c.as_bytes-byte-items.ensures.value in
     let more = written_more s i (omega (arith, ap length c.as_bytes-byte-items.ensures.value)) in
     sym (c.loop-byte.invariant
-    ∙ ap (bytes_eq c.loop-byte.rest.now) (more ∙ ap (λ b. written b ++ rest_written s (i + 1)) (sym byte))
+    ∙ ap (bytes_eq c.loop-byte.rest.now) (more ∙ ap (λ b. written_byte b ++ rest_written s (i + 1)) (sym byte))
     ∙ c.in-None.ensures (rest_written s (i + 1)))

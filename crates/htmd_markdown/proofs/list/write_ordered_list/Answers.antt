@@ -10,7 +10,7 @@ use Rattle.std.specs.Global.{Global}
 use Rattle.std.specs.String.{string_bytes}
 use Rattle.htmd_markdown.specs.ListItems.{numbered_item}
 use Rattle.htmd_markdown.specs.ListColumns.{HasEqualColumns}
-use Rattle.htmd_markdown.specs.Lists.{item_count, block_of, numbered, highest_number, ordered_list}
+use Rattle.htmd_markdown.specs.Lists.{item_count, block_of, numbered_blocks, highest_number, ordered_list}
 use Rattle.htmd_markdown.specs.declared.list.ListBlock.{ListBlock}
 use Rattle.htmd_text.specs.Joins.{joined_blocks}
 use Rattle.htmd_markdown.proofs.ListColumnsLemmas.{columns_equal}
@@ -52,7 +52,7 @@ loop-block-preserved-in-Item c =
     map_push block_of c.loop-block.yielded c.in-Some.block in
     let count = ap item_count more ∙ item_count-append before (block_of c.in-Some.block ∷ []) in
     let one = ap (λ block. item_count (block_of block ∷ [])) c.in-Item.is in
-    let numbers = numbered c.args.spacing c.saturating_sub-highest.result in
+    let numbers = numbered_blocks c.args.spacing c.saturating_sub-highest.result in
     let content = c.in_ok-write_numbered_item-in-Item.ensures
     ∙ ap (numbered_item c.args.spacing c.saturating_sub-highest.result c.loop-block.number) c.deref-in-Item.ensures
     in
@@ -77,7 +77,7 @@ loop-block-preserved c =
     map_push block_of c.loop-block.yielded c.in-Some.block in
     let count = ap item_count more ∙ item_count-append before (block_of c.in-Some.block ∷ []) in
     let none = ap (λ block. item_count (block_of block ∷ [])) c.in-Other.is in
-    let numbers = numbered c.args.spacing c.saturating_sub-highest.result in
+    let numbers = numbered_blocks c.args.spacing c.saturating_sub-highest.result in
     let text : numbers c.loop-block.number (block_of c.in-Some.block ∷ []) ≡ string_bytes c.in-Other.text ∷ [] =
     ap (λ block. numbers c.loop-block.number (block_of block ∷ [])) c.in-Other.is in
     record {
@@ -104,9 +104,9 @@ returns-clause-text c =
     let texts =
     ap (map bytes_of) c.deref-2.ensures.value
     ∙ c.loop-block.invariant.texts
-    ∙ ap (λ (blocks : List ListBlock). numbered c.args.spacing c.saturating_sub-highest.result c.args.first
+    ∙ ap (λ (blocks : List ListBlock). numbered_blocks c.args.spacing c.saturating_sub-highest.result c.args.first
     (map block_of blocks)) whole
-    ∙ ap (λ n. numbered c.args.spacing n c.args.first (map block_of c.args.blocks.items)) highest in
+    ∙ ap (λ n. numbered_blocks c.args.spacing n c.args.first (map block_of c.args.blocks.items)) highest in
     IfOk-weaker c.join_blocks.result _ (λ t. string_bytes t ≡ ordered_list c.args.first c.args.spacing
     (map block_of c.args.blocks.items)) (λ t e. e ∙ ap joined_blocks texts) c.join_blocks.ensures
 

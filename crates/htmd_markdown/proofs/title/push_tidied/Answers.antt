@@ -7,7 +7,7 @@ use Rattle.std.proofs.lemmas.List.{length_push, take_all}
 use Rattle.std.proofs.lemmas.Iterator.Splits.{YieldsList-from_lines}
 use Rattle.std.proofs.lemmas.Iterator.Consumers.{YieldsList-turn, YieldsList-end}
 use Rattle.htmd_markdown.proofs.TitlesLemmas.{tidying_none, tidying_empty, tidying_first, tidying_later, written}
-use Rattle.htmd_markdown.proofs.TitlesLemmas.{quoted}
+use Rattle.htmd_markdown.proofs.TitlesLemmas.{escaped_line}
 use Rattle.htmd_markdown.specs.Titles.{is_filled}
 use Rattle.htmd_text.specs.WhiteSpace.{is_document_white_space}
 use Rattle.htmd_text.specs.Trims.{trimmed_text}
@@ -23,7 +23,7 @@ loop-line-preserved-then-not-is_empty c =
     _ c.in-Some.line c.in-Some.is c.next.ensures.steps in
     let line = c.trim_document_whitespace-line.ensures in
     let some = ap (λ l. length l == 0) (sym line) ∙ sym c.is_empty.ensures ∙ c.if-not-is_empty.true in
-    let written = c.in_ok-push_escaped.ensures ∙ ap (λ l. string_bytes c.if-not-is_first.out ++ quoted l) line in
+    let written = c.in_ok-push_escaped.ensures ∙ ap (λ l. string_bytes c.if-not-is_first.out ++ escaped_line l) line in
     elim c.if-not-is_first.branch [
       | then-not-is_first+in_ok-push w ↦
           let mark = ap string_bytes w.out-is ∙ w.in_ok-push.ensures.bytes ∙ ap (λ l. string_bytes c.loop-line.out ++ l)
