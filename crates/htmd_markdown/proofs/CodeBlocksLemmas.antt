@@ -1,5 +1,6 @@
 -- The final line feed of a content.
-use Rattle.std.proofs.Common.{◌≡◌, ◌≢◌, ◌⊎◌, inl, inr, ℕ, suc, ◌-◌, ◌<◌, Bool, true, false, List, [], ◌∷◌, ◌++◌, length, take, refl, sym, ap, ◌∙◌, arith}
+use Rattle.std.proofs.Common.{◌≡◌, ◌≢◌, ◌⊎◌, inl, inr, ℕ, suc, ◌-◌, ◌<◌, Bool, true, false, List, [], ◌∷◌, ◌++◌, length}
+use Rattle.std.proofs.Common.{take, refl, sym, ap, ◌∙◌, arith}
 use Rattle.std.specs.Prelude.{◌==◌, slice_index, Option, None, Some, MatchOption}
 use Rattle.std.specs.Option.{unwrap_or}
 use Rattle.std.proofs.lemmas.Bool.Decides.{nat_tests}
@@ -12,8 +13,10 @@ use Rattle.htmd_markdown.specs.CodeBlocks.{code_of}
 code_of-push : (s : List ℕ) → code_of (s ++ line_feed ∷ []) ≡ s
 code_of-push s =
     let size : length (s ++ line_feed ∷ []) - 1 ≡ length s = omega (arith, length_push s line_feed) in
-    let last : slice_index (s ++ line_feed ∷ []) (length (s ++ line_feed ∷ []) - 1) ≡ line_feed = ap (λ k. slice_index (s ++ line_feed ∷ []) k) size ∙ get_or-append_seam s line_feed [] 0 in
-    rw (ap (λ b. b == line_feed) last) (ap (λ k. take k (s ++ line_feed ∷ [])) size ∙ take-append_seam s (line_feed ∷ []))
+    let last : slice_index (s ++ line_feed ∷ []) (length (s ++ line_feed ∷ []) - 1) ≡ line_feed =
+    ap (λ k. slice_index (s ++ line_feed ∷ []) k) size ∙ get_or-append_seam s line_feed [] 0 in
+    rw (ap (λ b. b == line_feed) last)
+    (ap (λ k. take k (s ++ line_feed ∷ [])) size ∙ take-append_seam s (line_feed ∷ []))
 
 -- the last character behind the others
 ends_apart : (s : List ℕ) → 0 < length s → s ≡ take (length s - 1) s ++ slice_index s (length s - 1) ∷ []
@@ -21,9 +24,11 @@ ends_apart [] some = absurd (omega arith)
 ends_apart (b ∷ []) some = refl
 ends_apart (b ∷ c ∷ s) some =
     let place : suc (length (c ∷ s) - 1) ≡ length (b ∷ c ∷ s) - 1 = omega arith in
-    ap (λ l. b ∷ l) (ends_apart (c ∷ s) (omega arith)) ∙ ap (λ k. take k (b ∷ c ∷ s) ++ slice_index (b ∷ c ∷ s) k ∷ []) place
+    ap (λ l. b ∷ l) (ends_apart (c ∷ s) (omega arith))
+    ∙ ap (λ k. take k (b ∷ c ∷ s) ++ slice_index (b ∷ c ∷ s) k ∷ []) place
 
-ends_in_line_feed : (s : List ℕ) → slice_index s (length s - 1) ≡ line_feed → s ≡ take (length s - 1) s ++ line_feed ∷ []
+ends_in_line_feed : (s : List ℕ) → slice_index s (length s - 1) ≡ line_feed
+    → s ≡ take (length s - 1) s ++ line_feed ∷ []
 ends_in_line_feed [] e = cc
 ends_in_line_feed (b ∷ s) e = ends_apart (b ∷ s) (omega arith) ∙ ap (λ x. take (length (b ∷ s) - 1) (b ∷ s) ++ x ∷ []) e
 
@@ -35,7 +40,9 @@ code_of-kept s other = by_case (slice_index s (length s - 1) == line_feed) refl
     by_case false here = rw here refl
 
 -- what is left where a line feed was stripped, or nothing was
-pub code_of-stripped : (s : List ℕ) (r : Option (Bor (List ℕ))) (whole : Bor (List ℕ)) → whole.now ≡ s → MatchOption r ((front : List ℕ) → s ≢ front ++ line_feed ∷ []) (λ x. s ≡ x.now ++ line_feed ∷ []) → (unwrap_or r whole).now ≡ code_of s
+pub code_of-stripped : (s : List ℕ) (r : Option (Bor (List ℕ))) (whole : Bor (List ℕ)) → whole.now ≡ s
+    → MatchOption r ((front : List ℕ) → s ≢ front ++ line_feed ∷ []) (λ x. s ≡ x.now ++ line_feed ∷ [])
+    → (unwrap_or r whole).now ≡ code_of s
 code_of-stripped s None whole same kept = same ∙ sym (code_of-kept s kept)
 code_of-stripped s (Some x) whole same stripped = sym (ap code_of stripped ∙ code_of-push x.now)
 
@@ -43,6 +50,7 @@ code_of-stripped s (Some x) whole same stripped = sym (ap code_of stripped ∙ c
 pub code_of-behind : (s : List ℕ) → (s ≡ code_of s) ⊎ (s ≡ code_of s ++ line_feed ∷ [])
 code_of-behind s = by_case (slice_index s (length s - 1) == line_feed) refl
   where
-    by_case : (t : Bool) → (slice_index s (length s - 1) == line_feed) ≡ t → (s ≡ code_of s) ⊎ (s ≡ code_of s ++ line_feed ∷ [])
+    by_case : (t : Bool) → (slice_index s (length s - 1) == line_feed) ≡ t → (s ≡ code_of s)
+        ⊎ (s ≡ code_of s ++ line_feed ∷ [])
     by_case true here = rw here (inr (ends_in_line_feed s (grind (arith, nat_tests))))
     by_case false here = rw here (inl refl)

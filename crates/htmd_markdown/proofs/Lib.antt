@@ -10,6 +10,7 @@ pub mod FencesLemmas
 pub mod EmphasesLemmas
 pub mod QuotesLemmas
 pub mod Examples
+pub mod CodeExamples
 pub mod FirstNumberLemmas
 pub mod ListsLemmas
 pub mod ListExamples

@@ -1,5 +1,6 @@
 -- How long runs are.
-use Rattle.std.proofs.Common.{◌≡◌, ℕ, zero, suc, ◌<◌, ◌≤◌, Bool, true, false, List, [], ◌∷◌, length, drop, map, max, refl, ap, ◌∙◌, arith}
+use Rattle.std.proofs.Common.{◌≡◌, ℕ, zero, suc, ◌<◌, ◌≤◌, Bool, true, false, List, [], ◌∷◌, length, drop, map, max}
+use Rattle.std.proofs.Common.{refl, ap, ◌∙◌, arith}
 use Rattle.std.specs.Prelude.{not, ◌==◌}
 use Rattle.std.specs.List.{fold, list_any, onto_first, prefix_len, reduce}
 use Rattle.std.specs.Option.{unwrap_or}
@@ -35,8 +36,11 @@ runs-cons_no c b s other = slice_split-cons_yes (λ b. not (b == c)) b s (ap not
 pub other_runs-cons_yes : (c b : ℕ) (s : List ℕ) → (b == c) ≡ true → other_runs (runs c (b ∷ s)) ≡ other_runs (runs c s)
 other_runs-cons_yes c b s same = ap other_runs (runs-cons_yes c b s same) ∙ other_runs-onto_first b (runs c s)
 
-first_run_len : (c b : ℕ) (s : List ℕ) (t : Bool) → (b == c) ≡ t → length (first_run (runs c s)) ≡ prefix_len (λ b. b == c) s → length (first_run (runs c (b ∷ s))) ≡ prefix_len (λ b. b == c) (b ∷ s)
-first_run_len c b s true same rest = rw same (ap length (first_run-onto_first b (runs c s)) ∙ ap (λ n. suc n) rest ∙ omega arith)
+first_run_len : (c b : ℕ) (s : List ℕ) (t : Bool) → (b == c) ≡ t
+    → length (first_run (runs c s)) ≡ prefix_len (λ b. b == c) s
+    → length (first_run (runs c (b ∷ s))) ≡ prefix_len (λ b. b == c) (b ∷ s)
+first_run_len c b s true same rest =
+    rw same (ap length (first_run-onto_first b (runs c s)) ∙ ap (λ n. suc n) rest ∙ omega arith)
 first_run_len c b s false other rest = rw other refl
 
 pub first_run-prefix_len : (c : ℕ) (s : List ℕ) → length (first_run (runs c s)) ≡ prefix_len (λ b. b == c) s
@@ -56,7 +60,8 @@ longest_parts : (rs : List (List ℕ)) → longest rs ≡ max (length (first_run
 longest_parts [] = omega arith
 longest_parts (run ∷ others) = omega (arith, max_from (max 0 (length run)) (map (λ run. length run) others))
 
-longest-cons_yes : (c b : ℕ) (s : List ℕ) → (b == c) ≡ true → longest_run c (b ∷ s) ≡ max (suc (length (first_run (runs c s)))) (longest (other_runs (runs c s)))
+longest-cons_yes : (c b : ℕ) (s : List ℕ) → (b == c) ≡ true
+    → longest_run c (b ∷ s) ≡ max (suc (length (first_run (runs c s)))) (longest (other_runs (runs c s)))
 longest-cons_yes c b s same =
     ap longest (runs-cons_yes c b s same) ∙ longest_parts (onto_first b (runs c s))
     ∙ ap (λ run. max (length run) (longest (other_runs (onto_first b (runs c s))))) (first_run-onto_first b (runs c s))
@@ -65,20 +70,28 @@ longest-cons_yes c b s same =
 longest-cons_no : (c b : ℕ) (s : List ℕ) → (b == c) ≡ false → longest_run c (b ∷ s) ≡ longest_run c s
 longest-cons_no c b s other = ap longest (runs-cons_no c b s other)
 
-longest_grows : (c b : ℕ) (s : List ℕ) (t : Bool) → (b == c) ≡ t → (longest_run c s ≤ longest_run c (b ∷ s)) × (longest_run c (b ∷ s) ≤ suc (longest_run c s))
-longest_grows c b s true same = (omega (arith, longest-cons_yes c b s same, longest_parts (runs c s)), omega (arith, longest-cons_yes c b s same, longest_parts (runs c s)))
-longest_grows c b s false other = (omega (arith, longest-cons_no c b s other), omega (arith, longest-cons_no c b s other))
+longest_grows : (c b : ℕ) (s : List ℕ) (t : Bool) → (b == c) ≡ t → (longest_run c s ≤ longest_run c (b ∷ s))
+    × (longest_run c (b ∷ s) ≤ suc (longest_run c s))
+longest_grows c b s true same = (
+  omega (arith, longest-cons_yes c b s same, longest_parts (runs c s)),
+  omega
+      (arith, longest-cons_yes c b s same, longest_parts (runs c s)),
+)
+longest_grows c b s false other =
+    (omega (arith, longest-cons_no c b s other), omega (arith, longest-cons_no c b s other))
 
 pub longest_run-le-length : (c : ℕ) (s : List ℕ) → longest_run c s ≤ length s
 longest_run-le-length c [] = omega arith
-longest_run-le-length c (b ∷ s) = let more = longest_grows c b s (b == c) refl in omega (arith, more.1, longest_run-le-length c s)
+longest_run-le-length c (b ∷ s) = let more =
+    longest_grows c b s (b == c) refl in omega (arith, more.1, longest_run-le-length c s)
 
 -- no run that begins anywhere is longer
 pub run_at-le-longest : (c : ℕ) (s : List ℕ) (k : ℕ) → prefix_len (λ b. b == c) (drop k s) ≤ longest_run c s
 run_at-le-longest c [] zero = omega arith
 run_at-le-longest c [] (suc k) = omega arith
 run_at-le-longest c (b ∷ s) zero = omega (arith, longest_parts (runs c (b ∷ s)), first_run-prefix_len c (b ∷ s))
-run_at-le-longest c (b ∷ s) (suc k) = let more = longest_grows c b s (b == c) refl in omega (arith, more.0, run_at-le-longest c s k)
+run_at-le-longest c (b ∷ s) (suc k) = let more =
+    longest_grows c b s (b == c) refl in omega (arith, more.0, run_at-le-longest c s k)
 
 -- what `max().unwrap_or(0)` gives
 pub greatest : (ns : List ℕ) → unwrap_or (reduce max ns) 0 ≡ fold max 0 ns

@@ -1,5 +1,6 @@
 -- Code spans as they are written (CommonMark 0.31.2, 6.1).
-use Rattle.std.specs.Prelude.{ℕ, ◌+◌, ◌-◌, Bool, not, ◌&&◌, ◌||◌, ◌==◌, if◌then◌else◌, List, [], ◌∷◌, ◌++◌, length, map, replicate, slice_index}
+use Rattle.std.specs.Prelude.{ℕ, ◌+◌, ◌-◌, Bool, not, ◌&&◌, ◌||◌, ◌==◌, if◌then◌else◌, List, [], ◌∷◌, ◌++◌, length, map}
+use Rattle.std.specs.Prelude.{replicate, slice_index}
 use Rattle.std.specs.List.{list_all, position_or_len, range_with_len}
 use Rattle.htmd_text.specs.Characters.{grave_accent, line_feed, space}
 use Rattle.htmd_text.specs.Trims.{trimmed_text, is_line_feed, is_space}

@@ -33,4 +33,5 @@ between_fences fence info code = ((((fence ++ info) ++ line_feed ∷ []) ++ code
 -- the fenced code block of a content
 abbrev pub fenced_code_block : List ℕ → Option (List ℕ) → CodeBlockFence → List ℕ
 fenced_code_block s language fence =
-    between_fences (replicate (fence_len (symbol_of fence) (code_of s)) (symbol_of fence)) (info_string language) (code_of s)
+    between_fences (replicate (fence_len (symbol_of fence) (code_of s)) (symbol_of fence)) (info_string language)
+    (code_of s)

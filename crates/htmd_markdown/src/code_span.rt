@@ -1,6 +1,7 @@
 //! Code spans (CommonMark 0.31.2, 6.1).
 ghost use Rattle.std.specs.List.{list_all};
-ghost use Rattle.std.specs.Prelude.{◌≡◌, ◌≢◌, ◌==◌, ◌&&◌, ◌||◌, ◌++◌, [], false, map, Some, if◌then◌else◌, IfOk, OnOk, string_bytes};
+ghost use Rattle.std.specs.Prelude.{◌≡◌, ◌≢◌, ◌==◌, ◌&&◌, ◌||◌, ◌++◌, [], false, map, Some, if◌then◌else◌, IfOk, OnOk};
+ghost use Rattle.std.specs.Prelude.{string_bytes};
 ghost use Rattle.htmd_text.specs.Characters.{space};
 ghost use Rattle.htmd_text.specs.Trims.{is_line_feed, trimmed_text};
 ghost use Rattle.htmd_text.specs.WhiteSpace.{is_document_white_space};

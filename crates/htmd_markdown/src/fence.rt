@@ -38,7 +38,8 @@ pub fn write_fence(
     ensures longer { (k : ℕ) → IfOk result (λ s.
         symbols_at_start (spec.symbol_of symbol) (drop k content.now)
         < symbols_at_start (spec.symbol_of symbol) (string_bytes s)) }
-    ensures reads_back { spec.fits_fence (spec.symbol_of symbol) (spec.info_string (option_copied language.entry)) ≡ true
+    ensures reads_back { spec.fits_fence (spec.symbol_of symbol)
+        (spec.info_string (option_copied language.entry)) ≡ true
         → IfOk result (λ s. read_fence (string_bytes s) ≡ Some (code_of content.now)) }
 {
     write_between_fences(alloc, code_of(content), language.unwrap_or(""), symbol)

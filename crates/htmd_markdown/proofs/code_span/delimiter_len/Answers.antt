@@ -1,3 +1,4 @@
+-- The first length that is no run's, or the one behind the longest.
 use Rattle.std.proofs.Common.{◌≡◌, ◌+◌, ◌-◌, false, sym, ap, ◌∙◌, arith}
 use Rattle.htmd_text.specs.Characters.{grave_accent}
 use Rattle.htmd_markdown.specs.Runs.{longest_run, has_run}
@@ -20,7 +21,8 @@ returns c =
     let s = c.args.text.now in
     let longest : c.longest_run-longest.result ≡ longest_run grave_accent s = c.longest_run-longest.ensures.value in
     let apart : meets_delimiter s ≡ false = cc in
-    let all : 1 + longest_run grave_accent s ≡ delimiter_len s = first_unused s (longest_run grave_accent s) apart (omega arith)
+    let all : 1 + longest_run grave_accent s ≡ delimiter_len s =
+    first_unused s (longest_run grave_accent s) apart (omega arith)
     (λ i low high. c.loop-len.invariant i low (omega arith))
     (λ lt. absurd (omega arith)) in
     omega arith

@@ -1,3 +1,4 @@
+-- One more line behind a space, and the lines of the whole text.
 use Rattle.std.proofs.Common.{◌≡◌, [], ◌∷◌, ◌++◌, length, map, take, arith, ap, ◌∙◌, lit<}
 use Rattle.std.specs.Prelude.{not, ◌==◌}
 use Rattle.std.specs.List.{slice_split}
@@ -17,18 +18,30 @@ loop-line-preserved c =
     let base = string_bytes c.args.span.now in
     let ls = slice_split (λ b. b == line_feed) c.args.text.now in
     let n = length c.loop-line.yielded in
-    let turn = YieldsList-turn (YieldsList-from_str_split line_feed c.args.text.now (lit< tt) (cc) (cc) (cc)) c.loop-line.yielded _ c.loop-line.yielded_by _ _ c.in-Some.line c.in-Some.is c.next.ensures.steps in
-    let more = joined_more (space ∷ []) (λ l. l) ls n c.in-Some.line.now base c.loop-line.is_first turn c.loop-line.invariant.begun in
+    let turn =
+    YieldsList-turn
+    (YieldsList-from_str_split line_feed c.args.text.now (lit< tt) (cc) (cc)
+    (cc)) c.loop-line.yielded _ c.loop-line.yielded_by _ _ c.in-Some.line c.in-Some.is c.next.ensures.steps in
+    let more =
+    joined_more (space ∷ [])
+    (λ l. l) ls n c.in-Some.line.now base c.loop-line.is_first turn c.loop-line.invariant.begun in
     record {
-      written = rw (length_push c.loop-line.yielded c.in-Some.line) (c.in_ok-push_str.ensures.bytes ∙ ap (λ l. l ++ c.in-Some.line.now) (c.in_ok-push_space_if.ensures ∙ ap (λ l. l ++ space_if (not c.loop-line.is_first)) c.loop-line.invariant.written) ∙ more);
+      written = rw (length_push c.loop-line.yielded c.in-Some.line)
+          (c.in_ok-push_str.ensures.bytes
+          ∙ ap (λ l. l ++ c.in-Some.line.now)
+          (c.in_ok-push_space_if.ensures
+          ∙ ap (λ l. l ++ space_if (not c.loop-line.is_first)) c.loop-line.invariant.written) ∙ more);
       begun = pushed_some c.loop-line.yielded c.in-Some.line;
     }
 
 pub returns : goal.returns
 returns c =
     let ls = slice_split (λ b. b == line_feed) c.args.text.now in
-    let all = YieldsList-end (YieldsList-from_str_split line_feed c.args.text.now (lit< tt) (cc) (cc) (cc)) c.loop-line.yielded _ c.loop-line.yielded_by _ _ c.in-None.is c.next.ensures.steps in
-    let whole : take (length c.loop-line.yielded) ls ≡ ls = take_all (length c.loop-line.yielded) ls (omega (arith, all.1)) in
+    let all = YieldsList-end
+    (YieldsList-from_str_split line_feed c.args.text.now (lit< tt) (cc) (cc)
+    (cc)) c.loop-line.yielded _ c.loop-line.yielded_by _ _ c.in-None.is c.next.ensures.steps in
+    let whole : take (length c.loop-line.yielded) ls ≡ ls =
+    take_all (length c.loop-line.yielded) ls (omega (arith, all.1)) in
     c.loop-line.invariant.written
     ∙ ap (λ l. string_bytes c.args.span.now ++ joined_texts (space ∷ []) (map (λ line. line) l)) whole
     ∙ ap (λ l. string_bytes c.args.span.now ++ joined_texts (space ∷ []) l) (map-id ls)

@@ -9,6 +9,7 @@ use Rattle.htmd_markdown.proofs.code_span.push_with_spaces.Given as goal
 
 abbrev pub invariant-loop-line : goal.invariant-loop-line
 invariant-loop-line l = record {
-  written : string_bytes l.span ≡ string_bytes l.fn.span ++ joined_texts (space ∷ []) (map (λ line. line) (take (length l.yielded) (slice_split (λ b. b == line_feed) l.text)));
+  written : string_bytes l.span ≡ string_bytes l.fn.span ++ joined_texts (space ∷ [])
+      (map (λ line. line) (take (length l.yielded) (slice_split (λ b. b == line_feed) l.text)));
   begun : l.is_first ≡ (length l.yielded == 0);
 }

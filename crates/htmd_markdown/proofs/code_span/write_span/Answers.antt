@@ -1,3 +1,4 @@
+-- The delimiters are found in the text as it is, and the span reads back.
 use Rattle.std.proofs.Common.{◌≡◌, ℕ, false, List, IfOk, ap, subst, sym, ◌∙◌, string_bytes}
 use Rattle.std.specs.Prelude.{◌||◌, Some}
 use Rattle.htmd_text.specs.Trims.{trimmed_text}
@@ -19,6 +20,11 @@ pub returns-else-preformatted_code-clause-reads_back : goal.returns-else-preform
 returns-else-preformatted_code-clause-reads_back c =
     let s = c.args.content.now in
     let text = trimmed_text is_document_white_space s in
-    let same = ap (λ (l : List ℕ). delimited_text (meets_delimiter l || false) (delimiter_len l) l) c.trim_document_whitespace.ensures in
-    let span = subst (λ (l : List ℕ). IfOk c.write_delimited-else-preformatted_code.result (λ t. string_bytes t ≡ l)) same c.write_delimited-else-preformatted_code.ensures in
-    λ off some. of_answer (λ t. string_bytes t) c.write_delimited-else-preformatted_code.result (code_span false s) (λ l. read_span l ≡ Some (line_ends_as_spaces text)) (code_span-reads_back s some) span
+    let same =
+    ap (λ (l : List ℕ). delimited_text (meets_delimiter l || false)
+    (delimiter_len l) l) c.trim_document_whitespace.ensures in
+    let span =
+    subst (λ (l : List ℕ). IfOk c.write_delimited-else-preformatted_code.result
+    (λ t. string_bytes t ≡ l)) same c.write_delimited-else-preformatted_code.ensures in
+    λ off some. of_answer (λ t. string_bytes t) c.write_delimited-else-preformatted_code.result (code_span false s)
+    (λ l. read_span l ≡ Some (line_ends_as_spaces text)) (code_span-reads_back s some) span

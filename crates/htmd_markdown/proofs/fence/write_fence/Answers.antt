@@ -1,3 +1,4 @@
+-- The block is its definition, so its laws hold of what was written.
 use Rattle.std.proofs.Common.{◌≡◌, ℕ, ◌<◌, List, IfOk, ap, drop, refl, replicate, string_bytes, subst, ◌∙◌}
 use Rattle.std.specs.Prelude.{Some}
 use Rattle.std.specs.Option.{option_copied}
@@ -12,18 +13,26 @@ pub returns-clause-fence : goal.returns-clause-fence
 returns-clause-fence c =
     let s = c.args.content.now in
     let character : ℕ = symbol_of c.args.symbol in
-    let code = ap (λ l. between_fences (replicate (fence_len character l) character) c.unwrap_or.result.now l) c.code_of.ensures in
-    let info = ap (λ l. between_fences (replicate (fence_len character (code_of s)) character) l (code_of s)) (ap (λ x. x.now) c.unwrap_or.ensures ∙ info_given c.args.language _ refl) in
-    subst (λ (l : List ℕ). IfOk c.write_between_fences.result (λ t. string_bytes t ≡ l)) (code ∙ info) c.write_between_fences.ensures
+    let code =
+    ap (λ l. between_fences (replicate (fence_len character l) character) c.unwrap_or.result.now l) c.code_of.ensures in
+    let info =
+    ap (λ l. between_fences (replicate (fence_len character (code_of s)) character) l (code_of s))
+    (ap (λ x. x.now) c.unwrap_or.ensures ∙ info_given c.args.language _ refl) in
+    subst (λ (l : List ℕ). IfOk c.write_between_fences.result (λ t. string_bytes t ≡ l))
+    (code ∙ info) c.write_between_fences.ensures
 
 pub returns-clause-longer : goal.returns-clause-longer
 returns-clause-longer c = λ k.
-    of_answer (λ t. string_bytes t) c.write_between_fences.result (fenced_code_block c.args.content.now (option_copied c.args.language) c.args.symbol)
-    (λ l. symbols_at_start (symbol_of c.args.symbol) (drop k c.args.content.now) < symbols_at_start (symbol_of c.args.symbol) l)
+    of_answer (λ t. string_bytes t) c.write_between_fences.result
+    (fenced_code_block c.args.content.now (option_copied c.args.language) c.args.symbol)
+    (λ l. symbols_at_start (symbol_of c.args.symbol) (drop k c.args.content.now) < symbols_at_start
+    (symbol_of c.args.symbol) l)
     (fence-longer c.args.content.now (option_copied c.args.language) c.args.symbol k) (returns-clause-fence c)
 
 pub returns-clause-reads_back : goal.returns-clause-reads_back
 returns-clause-reads_back c = λ fits.
-    of_answer (λ t. string_bytes t) c.write_between_fences.result (fenced_code_block c.args.content.now (option_copied c.args.language) c.args.symbol)
+    of_answer (λ t. string_bytes t) c.write_between_fences.result
+    (fenced_code_block c.args.content.now (option_copied c.args.language) c.args.symbol)
     (λ l. read_fence l ≡ Some (code_of c.args.content.now))
-    (fenced_code_block-reads_back c.args.content.now (option_copied c.args.language) c.args.symbol fits) (returns-clause-fence c)
+    (fenced_code_block-reads_back c.args.content.now (option_copied c.args.language) c.args.symbol fits)
+    (returns-clause-fence c)

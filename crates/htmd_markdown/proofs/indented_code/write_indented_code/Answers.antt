@@ -1,3 +1,4 @@
+-- One more line behind a line feed, and the lines of the whole code.
 use Rattle.std.proofs.Common.{◌≡◌, [], ◌∷◌, ◌++◌, length, map, take, arith, ap, ◌∙◌}
 use Rattle.std.specs.Str.Lines.{lines}
 use Rattle.std.proofs.lemmas.List.{length_push, take_all}
@@ -14,16 +15,28 @@ pub loop-line-preserved : goal.loop-line-preserved
 loop-line-preserved c =
     let ls = lines (code_of c.args.content.now) in
     let n = length c.loop-line.yielded in
-    let turn = YieldsList-turn (YieldsList-from_lines (code_of c.args.content.now) (cc)) c.loop-line.yielded _ c.loop-line.yielded_by _ _ c.in-Some.line c.in-Some.is c.next.ensures.steps in
-    let more = joined_more (line_feed ∷ []) indented_line ls n c.in-Some.line.now [] c.loop-line.is_first turn c.loop-line.invariant.begun in
+    let turn =
+    YieldsList-turn
+    (YieldsList-from_lines (code_of c.args.content.now)
+    (cc)) c.loop-line.yielded _ c.loop-line.yielded_by _ _ c.in-Some.line c.in-Some.is c.next.ensures.steps in
+    let more =
+    joined_more
+    (line_feed ∷ []) indented_line ls n c.in-Some.line.now [] c.loop-line.is_first turn c.loop-line.invariant.begun in
     record {
-      written = rw (length_push c.loop-line.yielded c.in-Some.line) (c.in_ok-push_line.ensures ∙ ap (λ l. (l ++ separator_unless c.loop-line.is_first (line_feed ∷ [])) ++ indented_line c.in-Some.line.now) c.loop-line.invariant.written ∙ more);
+      written = rw (length_push c.loop-line.yielded c.in-Some.line)
+          (c.in_ok-push_line.ensures
+          ∙ ap (λ l.
+          (l ++ separator_unless c.loop-line.is_first
+          (line_feed ∷ [])) ++ indented_line c.in-Some.line.now) c.loop-line.invariant.written ∙ more);
       begun = pushed_some c.loop-line.yielded c.in-Some.line;
     }
 
 pub returns : goal.returns
 returns c =
     let ls = lines (code_of c.args.content.now) in
-    let all = YieldsList-end (YieldsList-from_lines (code_of c.args.content.now) (cc)) c.loop-line.yielded _ c.loop-line.yielded_by _ _ c.in-None.is c.next.ensures.steps in
-    let whole : take (length c.loop-line.yielded) ls ≡ ls = take_all (length c.loop-line.yielded) ls (omega (arith, all.1)) in
+    let all = YieldsList-end
+    (YieldsList-from_lines (code_of c.args.content.now)
+    (cc)) c.loop-line.yielded _ c.loop-line.yielded_by _ _ c.in-None.is c.next.ensures.steps in
+    let whole : take (length c.loop-line.yielded) ls ≡ ls =
+    take_all (length c.loop-line.yielded) ls (omega (arith, all.1)) in
     c.loop-line.invariant.written ∙ ap (λ l. joined_texts (line_feed ∷ []) (map indented_line l)) whole

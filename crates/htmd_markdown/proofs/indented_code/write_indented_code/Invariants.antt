@@ -11,6 +11,7 @@ use Rattle.htmd_markdown.proofs.indented_code.write_indented_code.Given as goal
 
 abbrev pub invariant-loop-line : goal.invariant-loop-line
 invariant-loop-line l = record {
-  written : string_bytes l.block ≡ joined_texts (line_feed ∷ []) (map indented_line (take (length l.yielded) (lines (code_of l.content))));
+  written : string_bytes l.block ≡ joined_texts (line_feed ∷ [])
+      (map indented_line (take (length l.yielded) (lines (code_of l.content))));
   begun : l.is_first ≡ (length l.yielded == 0);
 }
