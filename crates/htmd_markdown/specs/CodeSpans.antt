@@ -35,7 +35,7 @@ span_content preformatted_code s = if preformatted_code then in_one_line s else 
 abbrev pub meets_delimiter : List ℕ → Bool
 meets_delimiter s = begins_with grave_accent s || ends_with grave_accent s
 
--- a reader would take a space from each end
+-- a space stands at both ends, and not all are spaces: a reader would take one from each end
 abbrev pub is_between_spaces : List ℕ → Bool
 is_between_spaces s = begins_with space s && ends_with space s && not (list_all is_space s)
 

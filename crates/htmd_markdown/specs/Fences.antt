@@ -17,7 +17,7 @@ abbrev pub info_string : Option (List ℕ) → List ℕ
 info_string None = []
 info_string (Some language) = language
 
--- three symbols, or one more than the longest run of them in the code
+-- three symbols, or one more than the longest run of them in the code, the greater
 abbrev pub fence_len : ℕ → List ℕ → ℕ
 fence_len symbol code = max 3 (longest_run symbol code + 1)
 

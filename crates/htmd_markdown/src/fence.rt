@@ -23,8 +23,9 @@ pub enum CodeBlockFence {
 /// The fewest symbols of a fence.
 const LEAST_LEN: usize = 3;
 
-/// The fenced code block of a content, less one final line feed of it. The fence has three of its
-/// symbol, or one more than the longest run of it in the code; the language stands behind the first.
+/// The fenced code block of a content, whose one final line feed is cut. The fence has three of its
+/// symbol, or one more than the longest run of it in the content; the language stands behind the
+/// first fence. A language that holds a line end or the symbol is written as it is.
 ///
 /// Want of memory is the only error.
 pub fn write_fence(
@@ -57,9 +58,7 @@ fn write_between_fences(
         info.now code.now) }
 {
     let symbol = symbol_of(fence);
-    let len = longest_run(code, symbol as u8)
-        .saturating_add(1)
-        .max(LEAST_LEN);
+    let len = LEAST_LEN.max(longest_run(code, symbol as u8) + 1);
     let room = len
         .saturating_mul(2)
         .saturating_add(info.len())

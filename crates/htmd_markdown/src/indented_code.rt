@@ -8,7 +8,7 @@ use std::alloc::{AllocError, Global};
 
 const INDENT: &str = "    ";
 
-/// The indented code block of a content, less one final line feed of it: each line (those of
+/// The indented code block of a content, whose one final line feed is cut: each line (those of
 /// `str::lines`) behind four spaces, with a line feed between each two.
 ///
 /// Want of memory is the only error.
