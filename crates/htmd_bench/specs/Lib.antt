@@ -1,1 +1,2 @@
+-- What the program makes of a text.
 pub mod Work

@@ -1,2 +1,3 @@
-pub mod Written
+-- What is written part by part, and worked rows.
+pub mod AppendsLemmas
 mod Examples

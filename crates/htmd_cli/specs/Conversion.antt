@@ -1,5 +1,6 @@
 -- The Markdown of an input, and what the program writes for it.
 use Rattle.std.specs.Prelude.{ℕ, List, [], ◌∷◌, ◌++◌, codes}
+use Rattle.htmd_text.specs.Characters.{line_feed}
 use Rattle.htmd_tree.specs.Items.{Item, document_item, new_item, element_node, text_node}
 use Rattle.htmd.specs.Defaults.{default_options}
 use Rattle.htmd.specs.Registries.{built_in}
@@ -18,10 +19,6 @@ paragraph (b ∷ s) = empty_paragraph ++ new_item empty_paragraph 1 (text_node (
 unfoldable pub paragraph_markdown : List ℕ → List ℕ
 paragraph_markdown text = markdown (built_in default_options) (paragraph text) 0
 
--- the line end that follows the Markdown
-abbrev pub line_feed : List ℕ
-line_feed = codes "\n"
-
 -- the Markdown of one paragraph, and a line feed
 abbrev pub paragraph_output : List ℕ → List ℕ
-paragraph_output text = paragraph_markdown text ++ line_feed
+paragraph_output text = paragraph_markdown text ++ line_feed ∷ []

@@ -1,7 +1,8 @@
 //! One run: read all, convert, write.
-ghost use Rattle.std.specs.Prelude.{◌≡◌, ◌≢◌, ◌↔◌, ◌++◌, false, OnOk, OnErr, IfOk, IfErr, IfSome, IsErrOf, IsTrue, IsUtf8, string_bytes};
+ghost use Rattle.std.specs.Prelude.{◌≡◌, ◌≢◌, ◌↔◌, [], ◌∷◌, ◌++◌, false, OnOk, OnErr, IfOk, IfErr, IfSome, IsErrOf, IsTrue, IsUtf8, string_bytes};
 ghost use Rattle.std.specs.Io.KnownBytes.{Appends, Consumes, IsAtEnd, Keeps};
-ghost use Rattle.htmd_cli.specs.Conversion.{line_feed, paragraph_markdown};
+ghost use Rattle.htmd_text.specs.Characters.{line_feed};
+ghost use Rattle.htmd_cli.specs.Conversion.{paragraph_markdown};
 ghost use Rattle.htmd_cli.specs.Failures.{FailsAtErr};
 ghost use Rattle.htmd_cli.specs.Runs.{Converts};
 
@@ -16,12 +17,15 @@ use std::alloc::Global;
 pub struct Mode {
     /// The input is the text of one paragraph, and not HTML.
     pub text: bool,
-    /// What has no Markdown is written as HTML.
+    /// What has no Markdown is written as HTML. A text has nothing of that kind.
     pub faithful: bool,
 }
 
-/// Reads the whole source, converts it, and writes the Markdown and one line feed to the sink. The
-/// first fault is answered, and before the conversion has succeeded nothing is written.
+/// Reads the whole source, then converts it, then writes the Markdown and one line feed to the sink
+/// and flushes it. The source and the sink must not have failed before, and the mode must be that of
+/// a text. The first fault is answered: `Read` and `Write` where the source or the sink failed,
+/// `NotUtf8` where all was read and isn't UTF-8, `Memory` where a growth was refused. Before the
+/// conversion has succeeded nothing is written; after `Write` nothing is said of how much went out.
 pub fn run<R: Source, W: Sink>(
     alloc: Global,
     source: &mut R,
@@ -31,10 +35,10 @@ pub fn run<R: Source, W: Sink>(
     requires source { R.has_failed source.old ≡ false }
     requires sink { W.has_failed sink.old ≡ false }
     requires text { IsTrue mode.text }
-    requires pure { mode.faithful ≡ false }
     ensures ok { OnOk result
         (Converts (R.remaining source.old) (W.contents sink.old) (W.contents sink.new)) }
     ensures end { OnOk result (IsAtEnd (R.remaining source.new)) }
+    ensures end_not_utf8 { IsErrOf result RunError.NotUtf8 → IsAtEnd (R.remaining source.new) }
     ensures not_utf8 { IsErrOf result RunError.NotUtf8 →
         IfSome (R.remaining source.old) (λ input. ¬ IsUtf8 input) }
     ensures nothing_written { ¬ IsErrOf result RunError.Write → OnErr result
@@ -90,7 +94,7 @@ fn converted(alloc: Global, input: &[u8]) -> Result<String, RunError>
 // Writes the Markdown and a line feed, and flushes.
 fn write_line<W: Sink>(sink: &mut W, markdown: &str) -> Result<(), Failed>
     ensures bytes { OnOk result
-        (Appends (W.contents sink.old) (W.contents sink.new) (markdown.now ++ line_feed)) }
+        (Appends (W.contents sink.old) (W.contents sink.new) (markdown.now ++ line_feed ∷ [])) }
     ensures failure { FailsAtErr result (W.has_failed sink.old) (W.has_failed sink.new) }
 {
     write_all(sink, markdown.as_bytes())?;

@@ -13,7 +13,8 @@ use std::fmt::Write;
 
 /// The program: reads its words, converts the source into the sink, and answers the exit status. 0 is
 /// success, 1 a run that did not succeed and 2 a word that is not known. What went wrong is a line on
-/// the sink for errors, whose own faults are passed over.
+/// the sink for errors, whose own faults are passed over. The source and the sink must not have
+/// failed before.
 pub fn command<R: Source, W: Sink, E: Sink>(
     alloc: Global,
     words: &[String],
@@ -48,7 +49,7 @@ pub fn command<R: Source, W: Sink, E: Sink>(
 
 // The mode that the words ask for, if all are known.
 fn mode_of(words: &[String]) -> Option<Mode>
-    ensures { IfSome result (λ mode. IsTrue mode.text × (mode.faithful ≡ false)) }
+    ensures { IfSome result (λ mode. IsTrue mode.text) }
 {
     let mut text = false;
     for word in words {

@@ -1,0 +1,1 @@
+-- No definitions: this crate has tests alone.

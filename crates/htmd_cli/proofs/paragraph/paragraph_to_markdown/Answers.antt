@@ -10,12 +10,15 @@ use Rattle.htmd_cli.specs.Conversion.{paragraph, paragraph_markdown}
 use Rattle.htmd_cli.proofs.paragraph.paragraph_to_markdown.Goals as goal
 
 -- the Markdown of equal trees by equal handlers
-same_markdown : (config wanted : Config) (items tree : List Item) (start root : ℕ) → config ≡ wanted → items ≡ tree → start ≡ root → markdown config items start ≡ markdown wanted tree root
+same_markdown : (config wanted : Config) (items tree : List Item) (start root : ℕ) → config ≡ wanted → items ≡ tree
+    → start ≡ root → markdown config items start ≡ markdown wanted tree root
 same_markdown config wanted items tree start root c i s =
     ap (λ x. markdown x items start) c ∙ ap (λ x. markdown wanted x start) i ∙ ap (markdown wanted tree) s
 
 pub returns : goal.returns
 unfolding paragraph_markdown
 returns c =
-    IfOk-weaker c.tree_to_markdown.result _ (λ text. string_bytes text ≡ markdown (built_in default_options) (paragraph c.args.text.now) 0)
-    (λ text e. e ∙ same_markdown _ _ _ _ _ _ c.in_ok-new.ensures c.in-Ok.ensures.ok c.root.ensures.value) c.tree_to_markdown.ensures
+    IfOk-weaker c.tree_to_markdown.result _
+    (λ text. string_bytes text ≡ markdown (built_in default_options) (paragraph c.args.text.now) 0)
+    (λ text e. e
+    ∙ same_markdown _ _ _ _ _ _ c.in_ok-new.ensures c.in-Ok.ensures.ok c.root.ensures.value) c.tree_to_markdown.ensures

@@ -1,4 +1,5 @@
--- What the source gave so far is in the input, and no read has failed. Each read that isn't the last makes the input longer.
+-- What the source gave so far is in the input, and no read has failed. Each read that isn't the last makes the input
+-- longer.
 use Rattle.std.proofs.Common.{◌≡◌, ◌-◌, ◌^◌, false, vec_items, vec_len}
 use Rattle.std.specs.Io.KnownBytes.{Consumes}
 use Rattle.htmd_cli.proofs.pipeline.read_all.Given as goal

@@ -1,10 +1,10 @@
 -- What is left to prove of `write_all`.
 use Rattle.std.proofs.Common.{rules}
-use Rattle.htmd_cli.proofs.Written.{Written-more}
+use Rattle.htmd_cli.proofs.AppendsLemmas.{AppendsBut-more}
 use Rattle.htmd_cli.proofs.sinks.write_all.Goals as goal
 
 pub loop-rest-preserved : goal.loop-rest-preserved
 loop-rest-preserved g c = record {
-  written = Written-more _ _ _ _ _ _ c.loop-rest.invariant.written c.in_ok-count.ensures.bytes;
+  appended = AppendsBut-more _ _ _ _ _ _ c.loop-rest.invariant.appended c.in_ok-count.ensures.bytes;
   failure = search rules;
 }

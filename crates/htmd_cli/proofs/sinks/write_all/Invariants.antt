@@ -1,11 +1,11 @@
 -- What is gone from the rest was appended, and no write has failed so far.
 use Rattle.std.proofs.Common.{◌≡◌, length}
-use Rattle.htmd_cli.proofs.Written.{Written}
+use Rattle.htmd_cli.proofs.AppendsLemmas.{AppendsBut}
 use Rattle.htmd_cli.proofs.sinks.write_all.Given as goal
 
 abbrev pub invariant-loop-rest : goal.invariant-loop-rest
 invariant-loop-rest g l = record {
-  written : Written (g.W.Sink.contents l.initial.sink) (g.W.Sink.contents l.sink) l.initial.rest l.rest;
+  appended : AppendsBut (g.W.Sink.contents l.initial.sink) (g.W.Sink.contents l.sink) l.initial.rest l.rest;
   failure : g.W.Sink.has_failed l.sink ≡ g.W.Sink.has_failed l.initial.sink;
 }
 
