@@ -1,0 +1,1 @@
+-- No lemmas: the loop of `push_encoded` alone asks for a proof.

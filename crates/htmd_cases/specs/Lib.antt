@@ -1,0 +1,2 @@
+-- How a text stands in a line.
+pub mod Encodings

@@ -1,0 +1,31 @@
+//! Cases: one a line.
+use crate::answers::push_answer;
+use crate::encoding::decode;
+use crate::faults::{Fault, LineFault};
+use crate::settings::Settings;
+use std::alloc::Global;
+
+/// Puts the answers to all the cases, a line each. The first line that is no case is the fault.
+pub(crate) fn push_answers(alloc: Global, answers: &mut String, cases: &str) -> Result<(), Fault> {
+    for (before, case) in cases.lines().enumerate() {
+        if let Err(reason) = push_line(alloc, answers, case) {
+            return Err(Fault {
+                line: before.saturating_add(1),
+                reason,
+            });
+        }
+    }
+    Ok(())
+}
+
+/// Puts the answer to one case, and a line feed.
+fn push_line(alloc: Global, answers: &mut String, case: &str) -> Result<(), LineFault> {
+    let Some((words, code)) = case.split_once('\t') else {
+        return Err(LineFault::NoTab);
+    };
+    let settings = Settings::of(alloc, words)?;
+    let text = decode(alloc, code)?;
+    push_answer(alloc, answers, &settings, &text)?;
+    answers.push('\n')?;
+    Ok(())
+}

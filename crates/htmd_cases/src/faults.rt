@@ -1,0 +1,39 @@
+//! Why a line is no case, or has no answer.
+ghost use Rattle.htmd_cases.specs.declared.faults.LineFault.TheVariants.{Memory};
+ghost use Rattle.std.specs.Prelude.{◌≡◌};
+
+use std::alloc::AllocError;
+use thiserror::Error;
+
+/// A line without an answer, counted from 1.
+#[derive(Debug, Drop, Error)]
+#[error("line {line}: {reason}")]
+pub(crate) struct Fault {
+    pub(crate) line: usize,
+    pub(crate) reason: LineFault,
+}
+
+/// What is wrong with a line.
+#[derive(Debug, Drop, Error)]
+pub(crate) enum LineFault {
+    #[error("no tab")]
+    NoTab,
+    #[error("unknown setting `{0}`")]
+    UnknownSetting(String),
+    #[error("no `text` among the settings")]
+    NoQuestion,
+    #[error("a backslash before none of \\ n r t 0")]
+    UnknownEscape,
+    #[error("out of memory")]
+    Memory,
+    #[error("the run failed")]
+    Run,
+}
+
+impl From<AllocError> for LineFault {
+    ghost from_gives = { λ _ fault. fault ≡ Memory };
+
+    fn from(_error: AllocError) -> LineFault {
+        LineFault::Memory
+    }
+}
