@@ -27,3 +27,7 @@ mod Soundness
 mod Readings
 mod GoodFronts
 mod ParameterLaw
+mod FaultPieces
+mod LowerFaults
+mod StepFaults
+mod RightFaults

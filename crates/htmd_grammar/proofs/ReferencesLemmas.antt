@@ -145,10 +145,10 @@ put_parts (stands n v) go u e = parts (go n) refl e
     parts (Some w) q e = (n, v, w, refl, q, cc)
 
 -- no `&` among the first bytes
-abbrev Skips : ℕ → List ℕ → Type 0
+abbrev pub Skips : ℕ → List ℕ → Type 0
 Skips n s = lacks 38 (take n s) ≡ true
 
-skips_fit : (n : ℕ) (s : List ℕ) → Fits n s → Skips n s
+pub skips_fit : (n : ℕ) (s : List ℕ) → Fits n s → Skips n s
 skips_fit n s f = rw (f.2, first_bytes f.0 f.1 n f.3) f.5
   where
     first_bytes : (w r : List ℕ) (n : ℕ) → length w ≡ n → take n (w ++ r) ≡ w

@@ -76,12 +76,14 @@ abbrev pub HasPiece : Names → List ℕ → Piece → Type 0
 HasPiece names s piece = (b : ℕ) × (rest : List ℕ) × (s ≡ b ∷ rest) × (piece_at names b rest ≡ piece)
 
 -- somewhere in the value stands a reference by a number that isn't right
-abbrev pub HasBadNumber : Names → List ℕ → Type 0
-HasBadNumber names v = (before : List ℕ) × (b : ℕ) × (rest : List ℕ) × (v ≡ before ++ (b ∷ rest)) × (piece_at names b rest ≡ wrong BadNumber)
+abbrev pub is_bad_number : Piece → Bool
+is_bad_number (stands n v) = false
+is_bad_number (wrong BadNumber) = true
+is_bad_number (wrong _) = false
 
-abbrev pub SomeValue : (List ℕ → Type 0) → List AttributePair → Type 0
-SomeValue P [] = ⊥
-SomeValue P (a ∷ attributes) = P a.value ⊎ SomeValue P attributes
+abbrev pub has_bad_number : Names → List ℕ → Bool
+has_bad_number names [] = false
+has_bad_number names (b ∷ s) = is_bad_number (piece_at names b s) || has_bad_number names s
 
 -- what the innermost open element holds so far
 abbrev pub top_children : List OpenElement → ValueForest
@@ -130,7 +132,7 @@ module _ (rules : Rules) (fs : List OpenElement) (s : List ℕ) where
   Says BadNumber =
       (IsTextWithReferences × HasPiece rules.names s (wrong BadNumber))
       ⊎ (IsMarkup × (n : List ℕ) × (spelled : List AttributePair) × (present : Bool) × HasTagForm s n spelled present
-      × SomeValue (HasBadNumber rules.names) spelled)
+      × (list_any (λ a. has_bad_number rules.names a.value) spelled ≡ true))
   Says DuplicateAttribute =
       IsMarkup × (n : List ℕ) × (spelled : List AttributePair) × (present : Bool) × HasTagForm s n spelled present
       × (are_distinct (attribute_names spelled) ≡ false)

@@ -1,12 +1,15 @@
 -- The laws of the grammar.
-use Rattle.std.specs.Prelude.{◌≡◌, ℕ, ◌≤◌, false, ◌&&◌, List, ◌∷◌, ◌++◌, Some, Err}
+use Rattle.std.specs.Prelude.{◌≡◌, ℕ, ◌+◌, ◌≤◌, ◌<◌, true, false, ◌&&◌, List, [], ◌∷◌, ◌++◌, length, Some, Err}
+use Rattle.htmd_text.specs.Characters.{null}
 use Rattle.htmd_grammar.specs.ValueTrees.{ValueTree, ValueForest}
+use Rattle.htmd_grammar.specs.CharacterClasses.{lacks}
 use Rattle.htmd_grammar.specs.Rules.{Rules, character_named}
 use Rattle.htmd_grammar.specs.Places.{Context}
 use Rattle.htmd_grammar.specs.Grammar.{reads}
 use Rattle.htmd_grammar.specs.Documents.{above_body, below_body, body_text, ReadsDocument}
 use Rattle.htmd_grammar.specs.Steps.{OpenElement, State, Reaches, step, started, finished, ends_rows}
 use Rattle.htmd_grammar.specs.Fronts.{IsGoodFront, with_text}
+use Rattle.htmd_grammar.specs.Faults.{IsFault}
 use Rattle.htmd_grammar.specs.declared.fault.FaultKind.{FaultKind}
 
 -- In a context that isn't empty a text denotes at most one list of trees.
@@ -65,3 +68,13 @@ FrontsAreGood rules =
     (s : List ℕ) (f : OpenElement) (fs : List OpenElement) (run rest : List ℕ)
     → Reaches rules above_body (started s) (record { stack = f ∷ fs; run = run; rest = rest }) → (f.implied && ends_rows rest) ≡ false
     → (before : List ℕ) × (body_text s ≡ before ++ rest) × IsGoodFront rules (with_text f run) fs before rest
+
+-- ---- refusals
+
+-- Where a step finds a fault, and the text goes on or an element is open, the fault's kind is right of the place
+-- behind which so much is left.
+abbrev pub FaultsAreRight : Rules → Type 0
+FaultsAreRight rules =
+    (s : List ℕ) (st : State) (kind : FaultKind) (place : ℕ) → lacks null s ≡ true
+    → Reaches rules above_body (started s) st → step rules above_body st ≡ Err kind
+    → (st.rest ≡ [] → 1 < length st.stack) → place + length st.rest ≡ length s → IsFault rules s place kind

@@ -1,7 +1,7 @@
 //! Laws of the definitions: each is the contract of a function that does nothing.
 ghost use Rattle.std.specs.Prelude.{Bool};
 ghost use Rattle.htmd_grammar.specs.Rules.{Rules, project};
-ghost use Rattle.htmd_grammar.specs.Laws.{AtMostOneForest, AtMostOneDocument, MoreRulesReadMore, MoreRulesReadMoreDocuments, StepsReadAll, StepsReadRightly, FaultsRefuse, FrontsAreGood};
+ghost use Rattle.htmd_grammar.specs.Laws.{AtMostOneForest, AtMostOneDocument, MoreRulesReadMore, MoreRulesReadMoreDocuments, StepsReadAll, StepsReadRightly, FaultsRefuse, FrontsAreGood, FaultsAreRight};
 ghost use Rattle.htmd_grammar.specs.ReadBack.{ReadsBack, RawBlockReadsBack};
 
 /// A text denotes at most one document, and in any context at most one list of trees.
@@ -30,4 +30,10 @@ pub fn steps_read_the_grammar()
     ensures sound { (rules : Rules) → StepsReadRightly rules }
     ensures refused { (rules : Rules) → FaultsRefuse rules }
     ensures fronts { (rules : Rules) → FrontsAreGood rules }
+{}
+
+/// Where the steps of a reader stop before the end, what stands there is of the fault's kind and of no lower one,
+/// and what stands before it is a good front.
+pub fn faults_are_right()
+    ensures right { (rules : Rules) → FaultsAreRight rules }
 {}

@@ -1,0 +1,5 @@
+use Rattle.htmd_grammar.proofs.RightFaults.{faults_are_right}
+use Rattle.htmd_grammar.proofs.laws.faults_are_right.Goals as goal
+
+pub returns : goal.returns
+returns c = record { right = faults_are_right }
