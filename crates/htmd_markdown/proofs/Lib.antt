@@ -25,3 +25,5 @@ pub mod CellsLemmas
 pub mod CharacterCounts
 pub mod TablesLemmas
 pub mod TableLinesLemmas
+pub mod ColumnsLemmas
+pub mod TableTextsLemmas

@@ -153,7 +153,7 @@ paddeds [] widths = []
 paddeds (cell ∷ cells) [] = []
 paddeds (cell ∷ cells) (width ∷ widths) = padded_cell cell width ∷ paddeds cells widths
 
-not_passed : (p : Bool) → not p ≡ true → p ≡ false
+pub not_passed : (p : Bool) → not p ≡ true → p ≡ false
 not_passed true e = sym e
 not_passed false e = refl
 

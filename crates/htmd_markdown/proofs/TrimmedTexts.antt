@@ -92,7 +92,7 @@ cut_reversed passes s =
     length-reverse rest ∙ length-drop n (reverse s) ∙ ap (λ k. k - n) (length-reverse s) in
     ap (λ l. drop (length s - n) l) turned ∙ drop_at (reverse rest) (reverse cut) (length s - n) size
 
-reversed_passes : (passes : ℕ → Bool) (s : List ℕ) → list_all passes s ≡ true → list_all passes (reverse s) ≡ true
+pub reversed_passes : (passes : ℕ → Bool) (s : List ℕ) → list_all passes s ≡ true → list_all passes (reverse s) ≡ true
 reversed_passes passes [] all = refl
 reversed_passes passes (b ∷ s) all =
     let parts = and_parts (passes b) (list_all passes s) all in

@@ -1,7 +1,14 @@
 -- Cells byte by byte, as the code goes through them; the contracts of private functions alone cite it.
-use Rattle.std.specs.Prelude.{◌≡◌, ℕ, ◌<◌, Bool, not, ◌&&◌, List, [], ◌∷◌, nat_le, nat_lt, count_by}
+use Rattle.std.specs.Prelude.{◌≡◌, ℕ, ◌<◌, Bool, not, ◌&&◌, List, [], ◌∷◌, nat_le, nat_lt, count_by, min, map}
 use Rattle.htmd_text.specs.Characters.{vertical_bar}
-use Rattle.htmd_markdown.specs.Tables.{in_cell}
+use Rattle.htmd_markdown.specs.Tables.{in_cell, cell_width}
+
+-- a number as far as a `usize` goes
+abbrev pub held : ℕ → ℕ
+held n = min n 0xFFFF_FFFF_FFFF_FFFF
+
+abbrev pub held_widths : List (List ℕ) → List ℕ
+held_widths cells = map held (map cell_width cells)
 
 abbrev pub bar : List ℕ
 bar = vertical_bar ∷ []

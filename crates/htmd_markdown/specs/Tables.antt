@@ -1,11 +1,18 @@
 -- Tables, as extensions of CommonMark have them: a line of cells between bars for the headers, a line of
 -- dashes below it, and a line for each row. All cells of a column are padded to one width.
-use Rattle.std.specs.Prelude.{ℕ, ◌-◌, max, ◌==◌, if◌then◌else◌, List, [], ◌∷◌, ◌++◌, map, fold, length, replicate, codes}
+use Rattle.std.specs.Prelude.{ℕ, ◌-◌, max, ◌==◌, if◌then◌else◌, List, [], ◌∷◌, ◌++◌, map, fold, length, replicate, codes, String, string_bytes, Vec}
 use Rattle.std.specs.List.{flat_map}
 use Rattle.std.specs.Str.{chars}
 use Rattle.htmd_text.specs.Characters.{line_feed, carriage_return, space, hyphen, vertical_bar}
 use Rattle.htmd_text.specs.Trims.{trimmed_text}
 use Rattle.htmd_text.specs.WhiteSpace.{is_document_white_space}
+
+-- the texts of some strings, and of a row
+abbrev pub texts : {Z : Type 0} → List (String Z) → List (List ℕ)
+texts cells = map (λ cell. string_bytes cell) cells
+
+abbrev pub row_texts : {Z Y : Type 0} → Vec (String Z) Y → List (List ℕ)
+row_texts row = texts row.items
 
 -- what stands for a byte of a cell: a line feed becomes a space, a carriage return goes, and a bar
 -- becomes a character reference

@@ -35,5 +35,5 @@ pub use self::list::{
     write_ordered_list, write_unnumbered_item,
 };
 pub use self::quote::write_quote;
-pub use self::table::write_row;
+pub use self::table::{write_row, write_table};
 pub use self::thematic_break::{HrStyle, write_thematic_break};

@@ -1,7 +1,7 @@
 //! Tables: lines of cells between bars.
-ghost use Rattle.std.specs.Prelude.{◌≡◌, ◌≤◌, ◌+◌, ◌++◌, IfOk, OnOk, List, ℕ, length, map, min, string_bytes, MatchOption};
+ghost use Rattle.std.specs.Prelude.{◌≡◌, ◌≤◌, ◌+◌, ◌∷◌, ◌++◌, IfOk, OnOk, MatchOption, length, map, fold, min, string_bytes};
 ghost use Rattle.htmd_markdown.specs.Tables as spec;
-ghost use Rattle.htmd_markdown.specs.TableReading.{read_row, bars};
+ghost use Rattle.htmd_markdown.specs.TableReading.{read_row, bars, column_count, IsEven};
 ghost use Rattle.htmd_markdown.specs.CellBytes as bytes;
 
 use htmd_text::{TrimDocumentWhitespace, push_repeated};
@@ -13,25 +13,118 @@ use std::alloc::{AllocError, Global};
 pub fn write_row(alloc: Global, cells: &[String], widths: &[usize]) -> Result<String, AllocError>
     requires { length cells.now ≤ length widths.now }
     ensures text { IfOk result
-        (λ s. string_bytes s ≡ spec.row (map (λ cell. string_bytes cell) cells.now) widths.now) }
+        (λ s. string_bytes s ≡ spec.row (spec.texts cells.now) widths.now) }
     ensures reads_back { IfOk result
         (λ s. read_row (string_bytes s)
-        ≡ spec.line_cells (length widths.now) (map (λ cell. string_bytes cell) cells.now)) }
+        ≡ spec.line_cells (length widths.now) (spec.texts cells.now)) }
     ensures bars { IfOk result (λ s. bars (string_bytes s) ≡ length widths.now + 1) }
 {
-    let mut text = String::with_capacity(
-        alloc,
-        line_room(widths).saturating_add(total_len(cells)),
-    )?;
+    let room = line_room(widths).saturating_add(further_bytes(cells));
+    let mut text = String::with_capacity(alloc, room)?;
     push_row(&mut text, cells, widths)?;
     Ok(text)
+}
+
+/// The lines of a table: the headers and a line of dashes below them, where there are headers, and the
+/// rows. There are as many columns as the longest line has cells, each as wide as its widest cell.
+pub fn write_table(
+    alloc: Global,
+    headers: &[String],
+    rows: &[Vec<String>],
+) -> Result<String, AllocError>
+    ensures text { IfOk result (λ s. string_bytes s
+        ≡ spec.table (spec.texts headers.now) (map spec.row_texts rows.now)) }
+    ensures even { IfOk result (λ s. IsEven
+        (column_count (spec.texts headers.now ∷ map spec.row_texts rows.now)) (string_bytes s)) }
+{
+    let widths = column_widths(alloc, headers, rows)?;
+    let mut text = String::with_capacity(alloc, table_room(&widths, headers, rows))?;
+    push_head(&mut text, headers, &widths)?;
+    for row in rows {
+        push_row(&mut text, row, &widths)?;
+    }
+    Ok(text)
+}
+
+/// The widths of the columns, as far as a `usize` goes.
+fn column_widths(
+    alloc: Global,
+    headers: &[String],
+    rows: &[Vec<String>],
+) -> Result<Vec<usize>, AllocError>
+    ensures { IfOk result (λ widths. widths.items ≡ fold spec.wider
+        (bytes.held_widths (spec.texts headers.now))
+        (map (λ row. bytes.held_widths (spec.row_texts row)) rows.now)) }
+{
+    let mut widths = Vec::new(alloc);
+    widen(&mut widths, headers)?;
+    for row in rows {
+        widen(&mut widths, row)?;
+    }
+    Ok(widths)
+}
+
+/// Makes the columns wide enough for the cells of one more line.
+fn widen(widths: &mut Vec<usize>, cells: &[String]) -> Result<(), AllocError>
+    ensures { OnOk result (widths.new.items
+        ≡ spec.wider widths.old.items (bytes.held_widths (spec.texts cells.now))) }
+{
+    for (i, cell) in cells.iter().enumerate() {
+        let width = cell_width(cell.as_str());
+        if i < widths.len() {
+            widths[i] = widths[i].max(width);
+        } else {
+            widths.push(width)?;
+        }
+    }
+    Ok(())
+}
+
+/// How many bytes the table has, as far as a `usize` goes.
+fn table_room(widths: &[usize], headers: &[String], rows: &[Vec<String>]) -> usize {
+    let lines = rows.len().saturating_add(2);
+    let mut room = line_room(widths)
+        .saturating_mul(lines)
+        .saturating_add(further_bytes(headers));
+    for row in rows {
+        room = room.saturating_add(further_bytes(row));
+    }
+    room
+}
+
+/// Puts the headers and the separator, where there are headers.
+fn push_head(text: &mut String, headers: &[String], widths: &[usize]) -> Result<(), AllocError>
+    ensures { OnOk result (string_bytes text.new
+        ≡ string_bytes text.old ++ spec.head (spec.texts headers.now) widths.now) }
+{
+    if headers.is_empty() {
+        return Ok(());
+    }
+    push_row(text, headers, widths)?;
+    push_separator(text, widths)?;
+    Ok(())
+}
+
+/// Puts the line between headers and rows.
+fn push_separator(text: &mut String, widths: &[usize]) -> Result<(), AllocError>
+    ensures { OnOk result
+        (string_bytes text.new ≡ string_bytes text.old ++ spec.separator widths.now) }
+{
+    text.push_str("|")?;
+    for width in widths {
+        text.push_str(" ")?;
+        push_repeated(text, '-', *width)?;
+        text.push_str(" |")?;
+    }
+    text.push_str("\n")?;
+    Ok(())
 }
 
 /// Puts the line of a row.
 fn push_row(text: &mut String, cells: &[String], widths: &[usize]) -> Result<(), AllocError>
     ensures { OnOk result
         (string_bytes text.new ≡ string_bytes text.old
-        ++ spec.row (map (λ cell. string_bytes cell) cells.now) widths.now) }
+        ++ spec.row (spec.texts cells.now) widths.now) }
 {
     text.push_str("|")?;
     for (i, width) in widths.iter().enumerate() {
@@ -122,11 +215,16 @@ fn line_room(widths: &[usize]) -> usize {
     room
 }
 
-/// How many bytes the cells have, as far as a `usize` goes.
-fn total_len(cells: &[String]) -> usize {
-    let mut total: usize = 0;
+/// How many bytes of the cells don't begin a character, as far as a `usize` goes.
+fn further_bytes(cells: &[String]) -> usize {
+    let mut count: usize = 0;
     for cell in cells {
-        total = total.saturating_add(cell.len());
+        count = count.saturating_add(continuation_count(cell.as_bytes()));
     }
-    total
+    count
+}
+
+/// How many bytes don't begin a character of UTF-8.
+fn continuation_count(bytes: &[u8]) -> usize {
+    bytes.iter().filter(|b| matches!(**b, 0x80..=0xBF)).count()
 }

@@ -1,4 +1,4 @@
-//! Rows of tables, and their reading back.
+//! Tables, and rows that are read back.
 
 use crate::*;
 use std::alloc::{AllocError, Global};
@@ -60,6 +60,43 @@ fn rows_are_padded_and_read_back(rt: HostRuntime) -> Result<(), Fail> {
         let row = write_row(alloc, &cells(alloc, texts)?, widths)?;
         assert_eq!(rt; row.as_str(), want);
         assert!(rt; reads_as(row.as_str(), back), "at {want}");
+    }
+    Ok(())
+}
+
+#[test]
+fn tables_have_even_lines(rt: HostRuntime) -> Result<(), Fail> {
+    let alloc = rt.alloc();
+    let tables: [(&[&str], &[&[&str]], &str); 8] = [
+        (
+            &["A"],
+            &[&["b|c", "d"]],
+            "| A        |   |\n| -------- | - |\n| b&#124;c | d |\n",
+        ),
+        (
+            &["Language"],
+            &[&["Rust"]],
+            "| Language |\n| -------- |\n| Rust     |\n",
+        ),
+        (&["H"], &[&["1\n\n2"]], "| H    |\n| ---- |\n| 1  2 |\n"),
+        (&[""], &[], "|  |\n|  |\n"),
+        (&["a\rb"], &[], "| ab |\n| -- |\n"),
+        (&[], &[&["A", "B"]], "| A | B |\n"),
+        (&[], &[], ""),
+        (
+            &["漢字", "x"],
+            &[&["e\u{301}a"], &["\u{3000}", "", "z"]],
+            "| 漢字  | x |   |\n| --- | - | - |\n| e\u{301}a |   |   |\n| \u{3000}   |   | z |\n",
+        ),
+    ];
+    for (headers, rows, want) in tables {
+        let headers = cells(alloc, headers)?;
+        let mut lines = Vec::new(alloc);
+        for row in rows {
+            lines.push(cells(alloc, row)?)?;
+        }
+        let table = write_table(alloc, &headers, &lines)?;
+        assert_eq!(rt; table.as_str(), want);
     }
     Ok(())
 }
