@@ -31,3 +31,5 @@ mod FaultPieces
 mod LowerFaults
 mod StepFaults
 mod RightFaults
+mod Runs
+mod FaultExamples

@@ -1,11 +1,13 @@
 -- When no row of a lower number says something of a place.
-use Rattle.std.proofs.Common.{Bool, List, None, [], ap, arith, codes, false, inl, inr, refl, subst, sym, true, ℕ, ◌<◌, ◌∙◌, ◌∷◌, ◌≡◌, ◌≤◌, ◌⊎◌}
+use Rattle.std.proofs.Common.{Bool, List, None, [], ap, arith, codes, false, inl, inr, refl, subst, sym, true, ℕ, ◌<◌}
+use Rattle.std.proofs.Common.{◌∙◌, ◌∷◌, ◌≡◌, ◌≤◌, ◌⊎◌}
 use Rattle.std.specs.Char.{is_ascii_alphabetic}
 use Rattle.std.specs.List.{list_all, list_any}
 use Rattle.htmd_text.specs.WhiteSpace.{is_ascii_white_space}
 use Rattle.htmd_grammar.specs.CharacterClasses.{are_distinct, begins_with, up_to}
 use Rattle.htmd_grammar.specs.Documents.{above_body}
-use Rattle.htmd_grammar.specs.Faults.{HasComment, HasEndTag, HasPiece, HasTagForm, Says, begins_tag, context_for, has_bad_number, number_of}
+use Rattle.htmd_grammar.specs.Faults.{HasComment, HasEndTag, HasPiece, HasTagForm, Says, begins_tag, context_for}
+use Rattle.htmd_grammar.specs.Faults.{has_bad_number, number_of}
 use Rattle.htmd_grammar.specs.Places.{holds_parts, is_allowed, is_outside, parent_name}
 use Rattle.htmd_grammar.specs.RawContent.{ends_text, holds_raw_text, raw_text_of}
 use Rattle.htmd_grammar.specs.References.{Names, Piece, piece_at, stands, wrong}
@@ -15,7 +17,11 @@ use Rattle.htmd_grammar.specs.Steps.{OpenElement, has_unknown_reference, names_o
 use Rattle.htmd_grammar.specs.Tags.{attribute_names}
 use Rattle.htmd_grammar.specs.ValueTrees.{AttributePair}
 use Rattle.htmd_grammar.specs.declared.fault.FaultKind.{FaultKind}
-use Rattle.htmd_grammar.specs.declared.fault.FaultKind.TheVariants.{BadNumber, DuplicateAttribute, MalformedComment, MalformedDeclaration, MalformedTag, NotAllowedHere, Nul, ScriptEscape, SelfClosing, StrayEndTag, StrayText, TagOutside, TooDeep, Unclosed, UnknownReference}
+use Rattle.htmd_grammar.specs.declared.fault.FaultKind.TheVariants.{BadNumber, DuplicateAttribute, MalformedComment}
+use Rattle.htmd_grammar.specs.declared.fault.FaultKind.TheVariants.{MalformedDeclaration, MalformedTag, NotAllowedHere}
+use Rattle.htmd_grammar.specs.declared.fault.FaultKind.TheVariants.{Nul, ScriptEscape, SelfClosing, StrayEndTag}
+use Rattle.htmd_grammar.specs.declared.fault.FaultKind.TheVariants.{StrayText, TagOutside, TooDeep, Unclosed}
+use Rattle.htmd_grammar.specs.declared.fault.FaultKind.TheVariants.{UnknownReference}
 use Rattle.htmd_grammar.proofs.FaultPieces.{comment_is_read, end_is_read, form_letter, name_read}
 use Rattle.htmd_grammar.proofs.TextLemmas.{letter_not, stop_head}
 
@@ -37,7 +43,8 @@ exclamation_tag w e = cc
 exclamation_question : (w : List ℕ) → begins_with (codes "<?") (60 ∷ 33 ∷ w) ≡ true → ⊥
 exclamation_question w e = cc
 
-exclamation_form : (w n : List ℕ) (spelled : List AttributePair) (present : Bool) → HasTagForm (60 ∷ 33 ∷ w) n spelled present → ⊥
+exclamation_form : (w n : List ℕ) (spelled : List AttributePair) (present : Bool)
+    → HasTagForm (60 ∷ 33 ∷ w) n spelled present → ⊥
 exclamation_form w n spelled present h = let a = form_letter 33 w n spelled present h in cc
 
 exclamation_end : (w n : List ℕ) → HasEndTag (60 ∷ 33 ∷ w) n → ⊥
@@ -50,11 +57,13 @@ exclamation_comment w c e = not_both (begins_with (codes "--") w) (comment_is_re
 slash_comment : (w : List ℕ) → begins_with (codes "<!--") (60 ∷ 47 ∷ w) ≡ true → ⊥
 slash_comment w e = cc
 
-slash_declaration : (w : List ℕ) → (begins_with (codes "<?") (60 ∷ 47 ∷ w) ≡ true) ⊎ ((begins_with (codes "<!") (60 ∷ 47 ∷ w) ≡ true) × (begins_with (codes "<!--") (60 ∷ 47 ∷ w) ≡ false)) → ⊥
+slash_declaration : (w : List ℕ) → (begins_with (codes "<?") (60 ∷ 47 ∷ w) ≡ true)
+    ⊎ ((begins_with (codes "<!") (60 ∷ 47 ∷ w) ≡ true) × (begins_with (codes "<!--") (60 ∷ 47 ∷ w) ≡ false)) → ⊥
 slash_declaration w (inl e) = cc
 slash_declaration w (inr e) = let f = e.0 in cc
 
-slash_form : (w n : List ℕ) (spelled : List AttributePair) (present : Bool) → HasTagForm (60 ∷ 47 ∷ w) n spelled present → ⊥
+slash_form : (w n : List ℕ) (spelled : List AttributePair) (present : Bool) → HasTagForm (60 ∷ 47 ∷ w) n spelled present
+    → ⊥
 slash_form w n spelled present h = let a = form_letter 47 w n spelled present h in cc
 
 -- a text that goes on has not ended
@@ -71,7 +80,8 @@ module _ (rules : Rules) (fs : List OpenElement) where
   NoneBelow k s = (lower : FaultKind) → number_of lower < k → Says rules fs s lower → ⊥
 
   -- the first rows of markup
-  pub none_below_five : (k : ℕ) (s : List ℕ) → k ≤ 4 → (2 < k → begins_tag s ≡ false) → (3 < k → begins_with (codes "<!--") s ≡ false) → NoneBelow k s
+  pub none_below_five : (k : ℕ) (s : List ℕ) → k ≤ 4 → (2 < k → begins_tag s ≡ false)
+      → (3 < k → begins_with (codes "<!--") s ≡ false) → NoneBelow k s
   none_below_five k s u t c Nul l h = h
   none_below_five k s u t c MalformedTag l h = not_both (begins_tag s) h.1 (t l)
   none_below_five k s u t c MalformedComment l h = not_both (begins_with (codes "<!--") s) h.1 (c l)
@@ -92,26 +102,33 @@ module _ (rules : Rules) (fs : List OpenElement) where
   pub record TextPassed (k : ℕ) (b : ℕ) (s : List ℕ) : Type 0 where
     pub at_most : k ≤ 15
     pub goes : ends_text rules.scripting TheParent (b ∷ s) ≡ false
-    pub known : 5 < k → holds_raw_text rules.scripting TheParent ≡ false → piece_at rules.names b s ≡ wrong UnknownReference → ⊥
-    pub right_number : 6 < k → holds_raw_text rules.scripting TheParent ≡ false → piece_at rules.names b s ≡ wrong BadNumber → ⊥
-    pub in_place : 12 < k → holds_raw_text rules.scripting TheParent ≡ false → holds_parts TheParent ≡ true → (m : ℕ) (v : List ℕ) → piece_at rules.names b s ≡ stands m v → list_all is_ascii_white_space v ≡ false → ⊥
-    pub no_escape : 14 < k → holds_raw_text rules.scripting TheParent ≡ true → raw_text_of TheParent (up_to (ends_text rules.scripting TheParent) (b ∷ s)) ≡ None → ⊥
+    pub known : 5 < k → holds_raw_text rules.scripting TheParent ≡ false
+        → piece_at rules.names b s ≡ wrong UnknownReference → ⊥
+    pub right_number : 6 < k → holds_raw_text rules.scripting TheParent ≡ false
+        → piece_at rules.names b s ≡ wrong BadNumber → ⊥
+    pub in_place : 12 < k → holds_raw_text rules.scripting TheParent ≡ false → holds_parts TheParent ≡ true
+        → (m : ℕ) (v : List ℕ) → piece_at rules.names b s ≡ stands m v → list_all is_ascii_white_space v ≡ false → ⊥
+    pub no_escape : 14 < k → holds_raw_text rules.scripting TheParent ≡ true
+        → raw_text_of TheParent (up_to (ends_text rules.scripting TheParent) (b ∷ s)) ≡ None → ⊥
 
   pub none_below_text : (k b : ℕ) (s : List ℕ) → TextPassed k b s → NoneBelow k (b ∷ s)
   none_below_text k b s p Nul l h = h
   none_below_text k b s p MalformedTag l h = not_both _ h.0 p.goes
   none_below_text k b s p MalformedComment l h = not_both _ h.0 p.goes
   none_below_text k b s p MalformedDeclaration l h = not_both _ h.0 p.goes
-  none_below_text k b s p UnknownReference l (inl h) = p.known l (h.0).1 (piece_there rules.names b s (wrong UnknownReference) h.1)
+  none_below_text k b s p UnknownReference l (inl h) =
+      p.known l (h.0).1 (piece_there rules.names b s (wrong UnknownReference) h.1)
   none_below_text k b s p UnknownReference l (inr h) = not_both _ h.0 p.goes
-  none_below_text k b s p BadNumber l (inl h) = p.right_number l (h.0).1 (piece_there rules.names b s (wrong BadNumber) h.1)
+  none_below_text k b s p BadNumber l (inl h) =
+      p.right_number l (h.0).1 (piece_there rules.names b s (wrong BadNumber) h.1)
   none_below_text k b s p BadNumber l (inr h) = not_both _ h.0 p.goes
   none_below_text k b s p DuplicateAttribute l h = not_both _ h.0 p.goes
   none_below_text k b s p SelfClosing l h = not_both _ h.0 p.goes
   none_below_text k b s p TagOutside l h = not_both _ h.0 p.goes
   none_below_text k b s p NotAllowedHere l h = not_both _ h.0 p.goes
   none_below_text k b s p StrayEndTag l h = not_both _ h.0 p.goes
-  none_below_text k b s p StrayText l h = p.in_place l (h.0).1 h.1 h.2 h.3 (piece_there rules.names b s (stands h.2 h.3) h.4) h.5
+  none_below_text k b s p StrayText l h =
+      p.in_place l (h.0).1 h.1 h.2 h.3 (piece_there rules.names b s (stands h.2 h.3) h.4) h.5
   none_below_text k b s p Unclosed l h = more_left _ _ h.0
   none_below_text k b s p ScriptEscape l h = p.no_escape l h.2 h.3
   none_below_text k b s p TooDeep l h = let a = p.at_most in omega arith
@@ -122,7 +139,8 @@ module _ (rules : Rules) (fs : List OpenElement) where
     pub markup : ends_text rules.scripting TheParent (60 ∷ d ∷ w) ≡ true
     pub letter : is_ascii_alphabetic d ≡ true
     pub has : HasTagForm (60 ∷ d ∷ w) n spelled present
-    pub only : (m : List ℕ) (others : List AttributePair) (slashed : Bool) → HasTagForm (60 ∷ d ∷ w) m others slashed → (m ≡ n) × (others ≡ spelled) × (slashed ≡ present)
+    pub only : (m : List ℕ) (others : List AttributePair) (slashed : Bool) → HasTagForm (60 ∷ d ∷ w) m others slashed
+        → (m ≡ n) × (others ≡ spelled) × (slashed ≡ present)
     pub known : 5 < k → list_any (λ a. has_unknown_reference rules.names a.value) spelled ≡ false
     pub right_numbers : 6 < k → list_any (λ a. has_bad_number rules.names a.value) spelled ≡ false
     pub distinct : 7 < k → are_distinct (attribute_names spelled) ≡ true
@@ -133,10 +151,12 @@ module _ (rules : Rules) (fs : List OpenElement) where
   no_end_tag : (d : ℕ) (w n : List ℕ) → is_ascii_alphabetic d ≡ true → HasEndTag (60 ∷ d ∷ w) n → ⊥
   no_end_tag d w n a h = let q = (end_is_read d w n h).0 in let z = rw q at a in cc
 
-  pub none_below_tag : (k d : ℕ) (w n : List ℕ) (spelled : List AttributePair) (present : Bool) → TagPassed k d w n spelled present → NoneBelow k (60 ∷ d ∷ w)
+  pub none_below_tag : (k d : ℕ) (w n : List ℕ) (spelled : List AttributePair) (present : Bool)
+      → TagPassed k d w n spelled present → NoneBelow k (60 ∷ d ∷ w)
   none_below_tag k d w n spelled present p Nul l h = h
   none_below_tag k d w n spelled present p MalformedTag l h = h.2 n spelled present p.has
-  none_below_tag k d w n spelled present p MalformedComment l h = let a = letter_not d p.letter in let e = h.1 in let z = rw a.1 at e in cc
+  none_below_tag k d w n spelled present p MalformedComment l h = let a = letter_not d p.letter in let e = h.1 in
+      let z = rw a.1 at e in cc
   none_below_tag k d w n spelled present p MalformedDeclaration l h = elim (h.1) [
     | inl e ↦ (let a = letter_not d p.letter in let z = rw a.3 at e in cc)
     | inr e ↦ (let a = letter_not d p.letter in let f = e.0 in let z = rw a.1 at f in cc)
@@ -144,24 +164,29 @@ module _ (rules : Rules) (fs : List OpenElement) where
   none_below_tag k d w n spelled present p UnknownReference l (inl h) = not_both _ p.markup ((h.0).0).1
   none_below_tag k d w n spelled present p UnknownReference l (inr h) =
       let u = p.only h.1 h.2 h.3 h.4 in
-      not_both _ h.5 (subst (λ (y : List AttributePair). list_any (λ a. has_unknown_reference rules.names a.value) y ≡ false) (sym u.1) (p.known l))
+      not_both _ h.5 (subst (λ (y : List AttributePair). list_any (λ a. has_unknown_reference rules.names a.value) y
+      ≡ false) (sym u.1) (p.known l))
   none_below_tag k d w n spelled present p BadNumber l (inl h) = not_both _ p.markup ((h.0).0).1
   none_below_tag k d w n spelled present p BadNumber l (inr h) =
       let u = p.only h.1 h.2 h.3 h.4 in
-      not_both _ h.5 (subst (λ (y : List AttributePair). list_any (λ a. has_bad_number rules.names a.value) y ≡ false) (sym u.1) (p.right_numbers l))
+      not_both _ h.5 (subst (λ (y : List AttributePair). list_any (λ a. has_bad_number rules.names a.value) y ≡ false)
+      (sym u.1) (p.right_numbers l))
   none_below_tag k d w n spelled present p DuplicateAttribute l h =
       let u = p.only h.1 h.2 h.3 h.4 in
-      not_both _ (subst (λ (y : List AttributePair). are_distinct (attribute_names y) ≡ true) (sym u.1) (p.distinct l)) h.5
+      not_both _ (subst (λ (y : List AttributePair). are_distinct (attribute_names y) ≡ true) (sym u.1) (p.distinct l))
+      h.5
   none_below_tag k d w n spelled present p SelfClosing l h =
       let u = p.only h.1 h.2 true h.3 in
       not_both _ (subst (λ (y : List ℕ). is_void y ≡ true) (sym u.0) (p.may_close l (sym u.2))) h.4
   none_below_tag k d w n spelled present p TagOutside l h = elim (h.3) [
-    | inl f ↦ (let u = p.only h.1 f.0 f.1 f.2 in not_both _ h.2 (subst (λ (y : List ℕ). is_outside y ≡ false) (sym u.0) (p.inside l)))
+    | inl f ↦ (let u = p.only h.1 f.0 f.1 f.2 in
+        not_both _ h.2 (subst (λ (y : List ℕ). is_outside y ≡ false) (sym u.0) (p.inside l)))
     | inr e ↦ no_end_tag d w h.1 p.letter e
   ]
   none_below_tag k d w n spelled present p NotAllowedHere l h =
       let u = p.only h.1 h.2 h.3 h.4 in
-      not_both _ (subst (λ (y : List ℕ). is_allowed rules.scripting (context_for rules fs (60 ∷ d ∷ w) y) y ≡ true) (sym u.0) (p.allowed l)) h.5
+      not_both _ (subst (λ (y : List ℕ). is_allowed rules.scripting (context_for rules fs (60 ∷ d ∷ w) y) y ≡ true)
+      (sym u.0) (p.allowed l)) h.5
   none_below_tag k d w n spelled present p StrayEndTag l h = no_end_tag d w h.1 p.letter h.2
   none_below_tag k d w n spelled present p StrayText l h = not_both _ p.markup ((h.0).0).1
   none_below_tag k d w n spelled present p Unclosed l h = more_left _ _ h.0
@@ -169,7 +194,9 @@ module _ (rules : Rules) (fs : List OpenElement) where
   none_below_tag k d w n spelled present p TooDeep l h = let a = p.at_most in omega arith
 
   -- of an end tag
-  pub none_below_end : (k : ℕ) (w n : List ℕ) → k ≤ 11 → (2 < k → HasEndTag (60 ∷ 47 ∷ w) n) → (9 < k → is_outside (name_read w) ≡ false) → ends_text rules.scripting TheParent (60 ∷ 47 ∷ w) ≡ true → NoneBelow k (60 ∷ 47 ∷ w)
+  pub none_below_end : (k : ℕ) (w n : List ℕ) → k ≤ 11 → (2 < k → HasEndTag (60 ∷ 47 ∷ w) n)
+      → (9 < k → is_outside (name_read w) ≡ false) → ends_text rules.scripting TheParent (60 ∷ 47 ∷ w) ≡ true
+      → NoneBelow k (60 ∷ 47 ∷ w)
   none_below_end k w n u t o m Nul l h = h
   none_below_end k w n u t o m MalformedTag l h = h.3 n (t l)
   none_below_end k w n u t o m MalformedComment l h = slash_comment w h.1
@@ -182,7 +209,8 @@ module _ (rules : Rules) (fs : List OpenElement) where
   none_below_end k w n u t o m SelfClosing l h = slash_form w h.1 h.2 true h.3
   none_below_end k w n u t o m TagOutside l h = elim (h.3) [
     | inl f ↦ slash_form w h.1 f.0 f.1 f.2
-    | inr e ↦ (let r = (end_is_read 47 w h.1 e).3 in not_both _ h.2 (subst (λ (y : List ℕ). is_outside y ≡ false) r (o l)))
+    | inr e ↦ (let r = (end_is_read 47 w h.1 e).3 in
+        not_both _ h.2 (subst (λ (y : List ℕ). is_outside y ≡ false) r (o l)))
   ]
   none_below_end k w n u t o m NotAllowedHere l h = slash_form w h.1 h.2 h.3 h.4
   none_below_end k w n u t o m StrayEndTag l h = omega arith
@@ -192,18 +220,24 @@ module _ (rules : Rules) (fs : List OpenElement) where
   none_below_end k w n u t o m TooDeep l h = omega arith
 
   -- of a comment
-  pub none_below_comment : (k : ℕ) (w : List ℕ) → k ≤ 15 → HasComment (60 ∷ 33 ∷ w) → ends_text rules.scripting TheParent (60 ∷ 33 ∷ w) ≡ true → NoneBelow k (60 ∷ 33 ∷ w)
+  pub none_below_comment : (k : ℕ) (w : List ℕ) → k ≤ 15 → HasComment (60 ∷ 33 ∷ w)
+      → ends_text rules.scripting TheParent (60 ∷ 33 ∷ w) ≡ true → NoneBelow k (60 ∷ 33 ∷ w)
   none_below_comment k w u c m Nul l h = h
   none_below_comment k w u c m MalformedTag l h = exclamation_tag w h.1
   none_below_comment k w u c m MalformedComment l h = h.2 c
-  none_below_comment k w u c m MalformedDeclaration l h = elim (h.1) [ inl e ↦ exclamation_question w e | inr e ↦ exclamation_comment w c e.1 ]
+  none_below_comment k w u c m MalformedDeclaration l h =
+      elim (h.1) [ inl e ↦ exclamation_question w e | inr e ↦ exclamation_comment w c e.1 ]
   none_below_comment k w u c m UnknownReference l (inl h) = not_both _ m ((h.0).0).1
   none_below_comment k w u c m UnknownReference l (inr h) = exclamation_form w h.1 h.2 h.3 h.4
   none_below_comment k w u c m BadNumber l (inl h) = not_both _ m ((h.0).0).1
   none_below_comment k w u c m BadNumber l (inr h) = exclamation_form w h.1 h.2 h.3 h.4
   none_below_comment k w u c m DuplicateAttribute l h = exclamation_form w h.1 h.2 h.3 h.4
   none_below_comment k w u c m SelfClosing l h = exclamation_form w h.1 h.2 true h.3
-  none_below_comment k w u c m TagOutside l h = elim (h.3) [ inl f ↦ exclamation_form w h.1 f.0 f.1 f.2 | inr e ↦ exclamation_end w h.1 e ]
+  none_below_comment k w u c m TagOutside l h = elim (h.3) [
+    | inl f ↦ exclamation_form w h.1 f.0 f.1 f.2
+    | inr e ↦
+        exclamation_end w h.1 e
+  ]
   none_below_comment k w u c m NotAllowedHere l h = exclamation_form w h.1 h.2 h.3 h.4
   none_below_comment k w u c m StrayEndTag l h = exclamation_end w h.1 h.2
   none_below_comment k w u c m StrayText l h = not_both _ m ((h.0).0).1

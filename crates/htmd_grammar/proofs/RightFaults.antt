@@ -1,5 +1,6 @@
 -- A reader that goes by the steps refuses a text rightly.
-use Rattle.std.proofs.Common.{Bool, Err, List, [], ap, codes, false, inl, inr, length, refl, subst, true, ℕ, ◌++◌, ◌+◌, ◌<◌, ◌∷◌, ◌≡◌, ◌⊎◌}
+use Rattle.std.proofs.Common.{Bool, Err, List, [], ap, codes, false, inl, inr, length, refl, subst, true, ℕ, ◌++◌, ◌+◌}
+use Rattle.std.proofs.Common.{◌<◌, ◌∷◌, ◌≡◌, ◌⊎◌}
 use Rattle.htmd_grammar.specs.CharacterClasses.{is_among, is_empty}
 use Rattle.htmd_grammar.specs.Documents.{above_body, body_text}
 use Rattle.htmd_grammar.specs.Faults.{IsPieceFault, Says}
@@ -12,7 +13,11 @@ use Rattle.htmd_grammar.specs.Rules.{Rules}
 use Rattle.htmd_grammar.specs.Steps.{OpenElement, Reaches, names_of, started, step}
 use Rattle.htmd_grammar.specs.ValueTrees.{ValueForest, ValueTree, comment, doctype, document, element, more, none, text}
 use Rattle.htmd_grammar.specs.declared.fault.FaultKind.{FaultKind}
-use Rattle.htmd_grammar.specs.declared.fault.FaultKind.TheVariants.{BadNumber, DuplicateAttribute, MalformedComment, MalformedDeclaration, MalformedTag, NotAllowedHere, Nul, ScriptEscape, SelfClosing, StrayEndTag, StrayText, TagOutside, TooDeep, Unclosed, UnknownReference}
+use Rattle.htmd_grammar.specs.declared.fault.FaultKind.TheVariants.{BadNumber, DuplicateAttribute, MalformedComment}
+use Rattle.htmd_grammar.specs.declared.fault.FaultKind.TheVariants.{MalformedDeclaration, MalformedTag, NotAllowedHere}
+use Rattle.htmd_grammar.specs.declared.fault.FaultKind.TheVariants.{Nul, ScriptEscape, SelfClosing, StrayEndTag}
+use Rattle.htmd_grammar.specs.declared.fault.FaultKind.TheVariants.{StrayText, TagOutside, TooDeep, Unclosed}
+use Rattle.htmd_grammar.specs.declared.fault.FaultKind.TheVariants.{UnknownReference}
 use Rattle.htmd_grammar.proofs.BooleanLemmas.{or_true, test}
 use Rattle.htmd_grammar.proofs.Completeness.{in_text}
 use Rattle.htmd_grammar.proofs.FrontsLemmas.{ends_in_text}
@@ -25,7 +30,9 @@ use Rattle.htmd_grammar.proofs.TreeTexts.{IsTextTree, node_no_title}
 
 module _ (rules : Rules) where
   -- where elements could stand, a list of trees ends with something else than a text
-  elements_could : (p : List ℕ) (c : Context) (l : Bool) (t : ValueTree) (ts : ValueForest) (s : List ℕ) → ReadsForest rules (p ∷ c) l (more t ts) s → ends_in_text (more t ts) ≡ false → holds_text_alone rules.scripting p ≡ false
+  elements_could : (p : List ℕ) (c : Context) (l : Bool) (t : ValueTree) (ts : ValueForest) (s : List ℕ)
+      → ReadsForest rules (p ∷ c) l (more t ts) s → ends_in_text (more t ts) ≡ false
+      → holds_text_alone rules.scripting p ≡ false
   elements_could p c l t none s h e = node_no_title rules p t c (may_end_rows l none h.1) h.0 (last_tree t e) h.4
     where
       last_tree : (t : ValueTree) → ends_in_text (more t none) ≡ false → IsTextTree t ≡ false
@@ -44,27 +51,38 @@ module _ (rules : Rules) where
       later (element n attributes children) e = e
 
   -- an element that holds text alone holds a text or nothing
-  text_or_nothing : (p : List ℕ) (c : Context) (l : Bool) (ts : ValueForest) (s : List ℕ) → ReadsForest rules (p ∷ c) l ts s → holds_text_alone rules.scripting p ≡ true → ends_in_text ts ≡ false → ts ≡ none
+  text_or_nothing : (p : List ℕ) (c : Context) (l : Bool) (ts : ValueForest) (s : List ℕ)
+      → ReadsForest rules (p ∷ c) l ts s → holds_text_alone rules.scripting p ≡ true → ends_in_text ts ≡ false
+      → ts ≡ none
   text_or_nothing p c l none s h t e = refl
-  text_or_nothing p c l (more u us) s h t e = absurd (not_both (holds_text_alone rules.scripting p) t (elements_could p c l u us s h e))
+  text_or_nothing p c l (more u us) s h t e =
+      absurd (not_both (holds_text_alone rules.scripting p) t (elements_could p c l u us s h e))
 
   module _ (f : OpenElement) (gs : List OpenElement) where
     -- before the content of raw text stands nothing
-    nothing_before : (s rest : List ℕ) → IsConf rules above_body (f ∷ gs) s rest → holds_raw_text rules.scripting f.name ≡ true → ends_text rules.scripting f.name rest ≡ false → is_empty rest ≡ false → f.children ≡ none
+    nothing_before : (s rest : List ℕ) → IsConf rules above_body (f ∷ gs) s rest
+        → holds_raw_text rules.scripting f.name ≡ true → ends_text rules.scripting f.name rest ≡ false
+        → is_empty rest ≡ false → f.children ≡ none
     nothing_before s rest c r t n = in_front gs c.is_front
       where
         alone : holds_text_alone rules.scripting f.name ≡ true
         alone = rw r (or_true (is_among (codes "title" ∷ codes "textarea" ∷ []) f.name))
 
         no_text : ends_in_text f.children ≡ false
-        no_text = test (ends_in_text f.children) (λ q. absurd (not_stops rules above_body f.name rest t n (c.texts q))) (λ q. q)
+        no_text = test (ends_in_text f.children) (λ q. absurd (not_stops rules above_body f.name rest t n (c.texts q)))
+            (λ q. q)
 
-        in_front : (hs : List OpenElement) → IsFront rules above_body (flag rules above_body (f ∷ gs) rest) (f ∷ hs) s → f.children ≡ none
-        in_front [] h = text_or_nothing f.name above_body (flag rules above_body (f ∷ gs) rest) f.children s h.1 alone no_text
-        in_front (g ∷ hs) h = text_or_nothing f.name (names_of above_body (g ∷ hs)) (flag rules above_body (f ∷ gs) rest) f.children (content_of f.name h.2) h.6 alone no_text
+        in_front : (hs : List OpenElement) → IsFront rules above_body (flag rules above_body (f ∷ gs) rest) (f ∷ hs) s
+            → f.children ≡ none
+        in_front [] h = text_or_nothing f.name above_body (flag rules above_body (f ∷ gs) rest) f.children s h.1 alone
+            no_text
+        in_front (g ∷ hs) h = text_or_nothing f.name (names_of above_body (g ∷ hs))
+            (flag rules above_body (f ∷ gs) rest) f.children (content_of f.name h.2) h.6 alone no_text
 
     -- with the text so far in the innermost element the rows say the same
-    says_with_text : (run rest : List ℕ) (k : FaultKind) → (is_empty run ≡ false → holds_raw_text rules.scripting f.name ≡ false) → Says rules (f ∷ gs) rest k → Says rules (with_text f run ∷ gs) rest k
+    says_with_text : (run rest : List ℕ) (k : FaultKind)
+        → (is_empty run ≡ false → holds_raw_text rules.scripting f.name ≡ false) → Says rules (f ∷ gs) rest k
+        → Says rules (with_text f run ∷ gs) rest k
     says_with_text [] rest k r h = h
     says_with_text (b ∷ run) rest Nul r h = h
     says_with_text (b ∷ run) rest MalformedTag r h = h
@@ -79,10 +97,12 @@ module _ (rules : Rules) where
     says_with_text (b ∷ run) rest StrayEndTag r h = h
     says_with_text (b ∷ run) rest StrayText r h = h
     says_with_text (b ∷ run) rest Unclosed r h = h
-    says_with_text (b ∷ run) rest ScriptEscape r h = absurd (not_both (holds_raw_text rules.scripting f.name) h.2 (r refl))
+    says_with_text (b ∷ run) rest ScriptEscape r h =
+        absurd (not_both (holds_raw_text rules.scripting f.name) h.2 (r refl))
     says_with_text (b ∷ run) rest TooDeep r h = h
 
-    says_without_text : (run rest : List ℕ) (k : FaultKind) → Says rules (with_text f run ∷ gs) rest k → Says rules (f ∷ gs) rest k
+    says_without_text : (run rest : List ℕ) (k : FaultKind) → Says rules (with_text f run ∷ gs) rest k
+        → Says rules (f ∷ gs) rest k
     says_without_text [] rest k h = h
     says_without_text (b ∷ run) rest Nul h = h
     says_without_text (b ∷ run) rest MalformedTag h = h
@@ -101,10 +121,13 @@ module _ (rules : Rules) where
     says_without_text (b ∷ run) rest TooDeep h = h
 
     -- the fault of a step at a state that is reached
-    piece_fault : (s run rest : List ℕ) (k : FaultKind) (place : ℕ) → Reaches rules above_body (started s) (in_text (f ∷ gs) run rest) → step rules above_body (in_text (f ∷ gs) run rest) ≡ Err k
+    piece_fault : (s run rest : List ℕ) (k : FaultKind) (place : ℕ)
+        → Reaches rules above_body (started s) (in_text (f ∷ gs) run rest)
+        → step rules above_body (in_text (f ∷ gs) run rest) ≡ Err k
         → (rest ≡ [] → 1 < length (f ∷ gs)) → place + length rest ≡ length s → IsPieceFault rules s place k
     piece_fault s run rest k place r e o p =
-        let i = kept rules above_body (started s) (in_text (f ∷ gs) run rest) [] r (conf_start rules above_body (body_text s)) in
+        let i = kept rules above_body (started s) (in_text (f ∷ gs) run rest) [] r
+        (conf_start rules above_body (body_text s)) in
         let a = i.2 in
         let q = step_faulty rules f gs run rest k (childless a.1 a.3 a.4) o e in
         record {
@@ -119,21 +142,28 @@ module _ (rules : Rules) where
           no_lower = λ lower l h. (q.0).1 lower l (says_without_text run rest lower h);
         }
       where
-        childless : {before : List ℕ} (w : List ℕ) → IsConf rules above_body (f ∷ gs) before (w ++ rest) → ((w ≡ []) × (run ≡ [])) ⊎ Middle rules above_body (f ∷ gs) w run rest
-            → holds_raw_text rules.scripting f.name ≡ true → ends_text rules.scripting f.name rest ≡ false → is_empty rest ≡ false → f.children ≡ none
-        childless {before = before} w c (inl m) = nothing_before before rest (subst (λ (y : List ℕ). IsConf rules above_body (f ∷ gs) before (y ++ rest)) m.0 c)
+        childless : {before : List ℕ} (w : List ℕ) → IsConf rules above_body (f ∷ gs) before (w ++ rest)
+            → ((w ≡ []) × (run ≡ [])) ⊎ Middle rules above_body (f ∷ gs) w run rest
+            → holds_raw_text rules.scripting f.name ≡ true → ends_text rules.scripting f.name rest ≡ false
+            → is_empty rest ≡ false → f.children ≡ none
+        childless {before = before} w c (inl m) =
+            nothing_before before rest (subst (λ (y : List ℕ). IsConf rules above_body (f ∷ gs) before (y ++ rest)) m.0
+            c)
         childless w c (inr m) = λ h _ _. absurd (not_both (holds_raw_text rules.scripting f.name) h m.mode)
 
-        not_raw : (w : List ℕ) → ((w ≡ []) × (run ≡ [])) ⊎ Middle rules above_body (f ∷ gs) w run rest → is_empty run ≡ false → holds_raw_text rules.scripting f.name ≡ false
+        not_raw : (w : List ℕ) → ((w ≡ []) × (run ≡ [])) ⊎ Middle rules above_body (f ∷ gs) w run rest
+            → is_empty run ≡ false → holds_raw_text rules.scripting f.name ≡ false
         not_raw w (inl m) n = absurd (not_both (is_empty run) (ap is_empty m.1) n)
         not_raw w (inr m) n = m.mode
 
   pub faults_are_right : FaultsAreRight rules
   faults_are_right s st k place n r e o p = inr (n, go st.stack st.run st.rest r e o p)
     where
-      go : (fs : List OpenElement) (run rest : List ℕ) → Reaches rules above_body (started s) (in_text fs run rest) → step rules above_body (in_text fs run rest) ≡ Err k → (rest ≡ [] → 1 < length fs)
+      go : (fs : List OpenElement) (run rest : List ℕ) → Reaches rules above_body (started s) (in_text fs run rest)
+          → step rules above_body (in_text fs run rest) ≡ Err k → (rest ≡ [] → 1 < length fs)
           → place + length rest ≡ length s → IsPieceFault rules s place k
       go [] run rest r e o p =
-          let i = kept rules above_body (started s) (in_text [] run rest) [] r (conf_start rules above_body (body_text s)) in
+          let i = kept rules above_body (started s) (in_text [] run rest) [] r
+          (conf_start rules above_body (body_text s)) in
           absurd (((i.2).3).is_front)
       go (f ∷ gs) run rest r e o p = piece_fault f gs s run rest k place r e o p

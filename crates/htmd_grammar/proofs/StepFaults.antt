@@ -1,29 +1,42 @@
 -- Each fault of a step is of the kind that stands there, and of no lower one.
-use Rattle.std.proofs.Common.{Bool, Err, List, None, Ok, Option, Some, [], ap, append_assoc, arith, codes, drop, false, inl, inr, length, nat_lt, not, refl, subst, suc, sym, true, ℕ, ◌&&◌, ◌++◌, ◌<◌, ◌==◌, ◌||◌, ◌∙◌, ◌∷◌, ◌≡◌, ◌≢◌, ◌≤◌, ◌⊎◌}
+use Rattle.std.proofs.Common.{Bool, Err, List, None, Ok, Option, Some, [], ap, append_assoc, arith, codes, drop, false}
+use Rattle.std.proofs.Common.{inl, inr, length, nat_lt, not, refl, subst, suc, sym, true, ℕ, ◌&&◌, ◌++◌, ◌<◌, ◌==◌}
+use Rattle.std.proofs.Common.{◌||◌, ◌∙◌, ◌∷◌, ◌≡◌, ◌≢◌, ◌≤◌, ◌⊎◌}
 use Rattle.std.proofs.lemmas.Bool.Decides.{nat_tests}
 use Rattle.std.specs.Char.{is_ascii_alphabetic}
 use Rattle.std.specs.List.{list_all, list_any}
 use Rattle.std.specs.Str.{bytes_eq}
 use Rattle.htmd_text.specs.WhiteSpace.{is_ascii_white_space}
-use Rattle.htmd_grammar.specs.CharacterClasses.{are_distinct, begins_with, behind_run, first_is, is_empty, is_tag_name, is_tag_name_byte, leading_run, onward, up_to}
+use Rattle.htmd_grammar.specs.CharacterClasses.{are_distinct, begins_with, behind_run, first_is, is_empty, is_tag_name}
+use Rattle.htmd_grammar.specs.CharacterClasses.{is_tag_name_byte, leading_run, onward, up_to}
 use Rattle.htmd_grammar.specs.Comments.{before_comment_end, is_comment_text, normalized}
 use Rattle.htmd_grammar.specs.Documents.{above_body}
-use Rattle.htmd_grammar.specs.Faults.{HasComment, HasEndTag, HasTagForm, IsTextWithReferences, Says, context_for, has_bad_number, number_of}
+use Rattle.htmd_grammar.specs.Faults.{HasComment, HasEndTag, HasTagForm, IsTextWithReferences, Says, context_for}
+use Rattle.htmd_grammar.specs.Faults.{has_bad_number, number_of}
 use Rattle.htmd_grammar.specs.Places.{Context, holds_parts, is_allowed, is_outside, is_row}
 use Rattle.htmd_grammar.specs.RawContent.{ends_text, holds_raw_text, holds_text_alone, raw_text_of, text_of}
 use Rattle.htmd_grammar.specs.References.{Piece, piece_at, stands, wrong}
 use Rattle.htmd_grammar.specs.Rules.{Rules}
 use Rattle.htmd_grammar.specs.Serialisation.{is_void}
-use Rattle.htmd_grammar.specs.Steps.{OpenElement, State, Step, character_step, close_step, comment_step, declaration_step, end_tag_step, ends_rows, fault, form_step, fresh, has_unknown_reference, is_text_end, is_too_deep, markup_step, name_step, names_of, open_step, place_step, raw_text_step, start_tag_step, step, text_step, values_step}
+use Rattle.htmd_grammar.specs.Steps.{OpenElement, State, Step, character_step, close_step, comment_step}
+use Rattle.htmd_grammar.specs.Steps.{declaration_step, end_tag_step, ends_rows, fault, form_step, fresh}
+use Rattle.htmd_grammar.specs.Steps.{has_unknown_reference, is_text_end, is_too_deep, markup_step, name_step, names_of}
+use Rattle.htmd_grammar.specs.Steps.{open_step, place_step, raw_text_step, start_tag_step, step, text_step, values_step}
 use Rattle.htmd_grammar.specs.TagReading.{TagForm, form, no_form}
 use Rattle.htmd_grammar.specs.Tags.{attribute_names, decode_values}
 use Rattle.htmd_grammar.specs.ValueTrees.{AttributePair, comment, none}
 use Rattle.htmd_grammar.specs.declared.fault.FaultKind.{FaultKind}
-use Rattle.htmd_grammar.specs.declared.fault.FaultKind.TheVariants.{BadNumber, DuplicateAttribute, MalformedComment, MalformedDeclaration, MalformedTag, NotAllowedHere, ScriptEscape, SelfClosing, StrayEndTag, StrayText, TagOutside, TooDeep, Unclosed, UnknownReference}
+use Rattle.htmd_grammar.specs.declared.fault.FaultKind.TheVariants.{BadNumber, DuplicateAttribute, MalformedComment}
+use Rattle.htmd_grammar.specs.declared.fault.FaultKind.TheVariants.{MalformedDeclaration, MalformedTag, NotAllowedHere}
+use Rattle.htmd_grammar.specs.declared.fault.FaultKind.TheVariants.{ScriptEscape, SelfClosing, StrayEndTag, StrayText}
+use Rattle.htmd_grammar.specs.declared.fault.FaultKind.TheVariants.{TagOutside, TooDeep, Unclosed, UnknownReference}
 use Rattle.htmd_grammar.proofs.BooleanLemmas.{and_true, if_then, not_true, or_right, same_byte, test}
 use Rattle.htmd_grammar.proofs.CommentsLemmas.{before_close-split, cut, cut_same, dashes}
-use Rattle.htmd_grammar.proofs.FaultPieces.{IsWrongReference, comment_is_read, end_is_read, end_tag_there, form_is_read, form_letter, form_read_behind, name_read, piece_wrong, same_form, two_bytes, values_right, values_wrong}
-use Rattle.htmd_grammar.proofs.LowerFaults.{NoneBelow, TextPassed, none_below_comment, none_below_end, none_below_five, none_below_nothing, none_below_tag, none_below_text, not_both}
+use Rattle.htmd_grammar.proofs.FaultPieces.{IsWrongReference, comment_is_read, end_is_read, end_tag_there, form_is_read}
+use Rattle.htmd_grammar.proofs.FaultPieces.{form_letter, form_read_behind, name_read, piece_wrong, same_form, two_bytes}
+use Rattle.htmd_grammar.proofs.FaultPieces.{values_right, values_wrong}
+use Rattle.htmd_grammar.proofs.LowerFaults.{NoneBelow, TextPassed, none_below_comment, none_below_end, none_below_five}
+use Rattle.htmd_grammar.proofs.LowerFaults.{none_below_nothing, none_below_tag, none_below_text, not_both}
 use Rattle.htmd_grammar.proofs.PlacesLemmas.{bytes_same, one_name, row_fits}
 use Rattle.htmd_grammar.proofs.TagReadingLemmas.{back_split}
 use Rattle.htmd_grammar.proofs.TagSpellingLemmas.{tag_spelled}
@@ -67,22 +80,27 @@ module _ (rules : Rules) (f : OpenElement) (gs : List OpenElement) where
 
   -- ---- text
 
-  text_passed : (k b : ℕ) (s v : List ℕ) (m : ℕ) → k ≤ 15 → ends_text rules.scripting f.name (b ∷ s) ≡ false → holds_raw_text rules.scripting f.name ≡ false → piece_at rules.names b s ≡ stands m v
-      → (12 < k → (holds_parts f.name && not (list_all is_ascii_white_space v)) ≡ false) → TextPassed rules (f ∷ gs) k b s
+  text_passed : (k b : ℕ) (s v : List ℕ) (m : ℕ) → k ≤ 15 → ends_text rules.scripting f.name (b ∷ s) ≡ false
+      → holds_raw_text rules.scripting f.name ≡ false → piece_at rules.names b s ≡ stands m v
+      → (12 < k → (holds_parts f.name && not (list_all is_ascii_white_space v)) ≡ false)
+      → TextPassed rules (f ∷ gs) k b s
   text_passed k b s v m u t r q p = record {
     at_most = u;
     goes = t;
     known = λ _ _ e. let z = sym q ∙ e in cc;
     right_number = λ _ _ e. let z = sym q ∙ e in cc;
-    in_place = λ l _ h n x e w. let z = (stands_parts m n v x (sym q ∙ e)) in let y = p l in let i = rw (h, z, w) at y in cc;
+    in_place = λ l _ h n x e w. let z = (stands_parts m n v x (sym q ∙ e)) in let y = p l in let i =
+        rw (h, z, w) at y in cc;
     no_escape = λ _ h _. let z = rw r at h in cc;
   }
     where
       stands_parts : (m n : ℕ) (v x : List ℕ) → stands m v ≡ stands n x → v ≡ x
       stands_parts m n v x e = cc
 
-  character_faulty : (b : ℕ) (s run : List ℕ) (k : FaultKind) → ends_text rules.scripting f.name (b ∷ s) ≡ false → holds_raw_text rules.scripting f.name ≡ false
-      → (o : Piece) → piece_at rules.names b s ≡ o → character_step rules above_body (f ∷ gs) run s o ≡ Err k → IsRight (b ∷ s) k
+  character_faulty : (b : ℕ) (s run : List ℕ) (k : FaultKind) → ends_text rules.scripting f.name (b ∷ s) ≡ false
+      → holds_raw_text rules.scripting f.name ≡ false
+      → (o : Piece) → piece_at rules.names b s ≡ o → character_step rules above_body (f ∷ gs) run s o ≡ Err k
+      → IsRight (b ∷ s) k
   character_faulty b s run k t r (wrong l) q e = right_of (b ∷ s) l k e (go (piece_wrong rules.names b s l q))
     where
       text_here : IsTextWithReferences rules (f ∷ gs) (b ∷ s)
@@ -111,35 +129,44 @@ module _ (rules : Rules) (f : OpenElement) (gs : List OpenElement) where
           no_escape = λ z. absurd (omega arith);
         }),
       )
-  character_faulty b s run k t r (stands m v) q e = elim (if_then (holds_parts f.name && not (list_all is_ascii_white_space v)) (fault StrayText) _ (Err k) e) [
-    | inl w ↦
-        let p = and_true (holds_parts f.name) (not (list_all is_ascii_white_space v)) w.0 in
-        right_of (b ∷ s) StrayText k w.1 (
-          (text_here, p.0, m, v, (b, s, refl, q), not_true (list_all is_ascii_white_space v) p.1),
-          none_below_text rules (f ∷ gs) 12 b s (text_passed 12 b s v m (omega arith) t r q (λ z. absurd (omega arith))),
-        )
-    | inr w ↦ elim (if_then (is_too_deep rules above_body (f ∷ gs)) (fault TooDeep) (Ok (record { stack = f ∷ gs; run = run ++ v; rest = drop m s })) (Err k) w.1) [
-      | inl u ↦ right_of (b ∷ s) TooDeep k u.1 (
-        inl (deep_less rules.depth (length Here) u.0, inl (text_here.0)),
-        none_below_text rules (f ∷ gs) 15 b s (text_passed 15 b s v m (omega arith) t r q (λ _. w.0)),
-      )
-      | inr u ↦ absurd (no_fault _ k u.1)
-    ]
-  ]
+  character_faulty b s run k t r (stands m v) q e =
+      elim (if_then (holds_parts f.name && not (list_all is_ascii_white_space v)) (fault StrayText) _ (Err k) e) [
+        | inl w ↦
+            let p = and_true (holds_parts f.name) (not (list_all is_ascii_white_space v)) w.0 in
+            right_of (b ∷ s) StrayText k w.1 (
+              (text_here, p.0, m, v, (b, s, refl, q), not_true (list_all is_ascii_white_space v) p.1),
+              none_below_text rules (f ∷ gs) 12 b s
+                  (text_passed 12 b s v m (omega arith) t r q (λ z. absurd (omega arith))),
+            )
+        | inr w ↦ elim (if_then (is_too_deep rules above_body (f ∷ gs)) (fault TooDeep)
+            (Ok (record { stack = f ∷ gs; run = run ++ v; rest = drop m s })) (Err k) w.1) [
+              | inl u ↦ right_of (b ∷ s) TooDeep k u.1 (
+                inl (deep_less rules.depth (length Here) u.0, inl (text_here.0)),
+                none_below_text rules (f ∷ gs) 15 b s (text_passed 15 b s v m (omega arith) t r q (λ _. w.0)),
+              )
+              | inr u ↦ absurd (no_fault _ k u.1)
+            ]
+      ]
     where
       text_here : IsTextWithReferences rules (f ∷ gs) (b ∷ s)
       text_here = (((λ z. let y = z in cc), t), r)
 
-  pub text_faulty : (run rest : List ℕ) (k : FaultKind) → is_empty rest ≡ false → ends_text rules.scripting f.name rest ≡ false → holds_raw_text rules.scripting f.name ≡ false → text_step rules above_body (f ∷ gs) run rest ≡ Err k → IsRight rest k
+  pub text_faulty : (run rest : List ℕ) (k : FaultKind) → is_empty rest ≡ false
+      → ends_text rules.scripting f.name rest ≡ false → holds_raw_text rules.scripting f.name ≡ false
+      → text_step rules above_body (f ∷ gs) run rest ≡ Err k → IsRight rest k
   text_faulty run [] k n t r e = absurd (cc)
   text_faulty run (b ∷ s) k n t r e = character_faulty b s run k t r (piece_at rules.names b s) refl e
 
-  raw_is : (u : List ℕ) (o : Option (List ℕ)) → holds_raw_text rules.scripting f.name ≡ true → text_of rules f.name u ≡ o → raw_text_of f.name u ≡ o
+  raw_is : (u : List ℕ) (o : Option (List ℕ)) → holds_raw_text rules.scripting f.name ≡ true
+      → text_of rules f.name u ≡ o → raw_text_of f.name u ≡ o
   raw_is u o r q = rw r at q
 
   -- text without references
-  pub raw_faulty : (rest : List ℕ) (k : FaultKind) → is_empty rest ≡ false → ends_text rules.scripting f.name rest ≡ false → holds_raw_text rules.scripting f.name ≡ true → f.children ≡ none
-      → (o : Option (List ℕ)) → text_of rules f.name (up_to (ends_text rules.scripting f.name) rest) ≡ o → raw_text_step rules above_body (f ∷ gs) o (onward (ends_text rules.scripting f.name) rest) ≡ Err k → IsRight rest k
+  pub raw_faulty : (rest : List ℕ) (k : FaultKind) → is_empty rest ≡ false
+      → ends_text rules.scripting f.name rest ≡ false → holds_raw_text rules.scripting f.name ≡ true → f.children ≡ none
+      → (o : Option (List ℕ)) → text_of rules f.name (up_to (ends_text rules.scripting f.name) rest) ≡ o
+      → raw_text_step rules above_body (f ∷ gs) o (onward (ends_text rules.scripting f.name) rest) ≡ Err k
+      → IsRight rest k
   raw_faulty [] k n t r c o q e = absurd (cc)
   raw_faulty (b ∷ s) k n t r c None q e = right_of (b ∷ s) ScriptEscape k e (
     (((λ z. let y = z in cc), t), c, r, raw_is (up_to (ends_text rules.scripting f.name) (b ∷ s)) None r q),
@@ -152,66 +179,91 @@ module _ (rules : Rules) (f : OpenElement) (gs : List OpenElement) where
       no_escape = λ z. absurd (omega arith);
     }),
   )
-  raw_faulty (b ∷ s) k n t r c (Some u) q e = elim (if_then (is_too_deep rules above_body (f ∷ gs)) (fault TooDeep) _ (Err k) e) [
-    | inl w ↦ right_of (b ∷ s) TooDeep k w.1 (
-      inl (deep_less rules.depth (length Here) w.0, inl ((λ z. let y = z in cc), t)),
-      none_below_text rules (f ∷ gs) 15 b s (record {
-        at_most = omega arith;
-        goes = t;
-        known = λ _ h _. let z = rw r at h in cc;
-        right_number = λ _ h _. let z = rw r at h in cc;
-        in_place = λ _ h _ _ _ _ _. let z = rw r at h in cc;
-        no_escape = λ _ _ z. let x = sym (raw_is (up_to (ends_text rules.scripting f.name) (b ∷ s)) (Some u) r q) ∙ z in cc;
-      }),
-    )
-    | inr w ↦ absurd (no_fault _ k w.1)
-  ]
+  raw_faulty (b ∷ s) k n t r c (Some u) q e =
+      elim (if_then (is_too_deep rules above_body (f ∷ gs)) (fault TooDeep) _ (Err k) e) [
+        | inl w ↦ right_of (b ∷ s) TooDeep k w.1 (
+          inl (deep_less rules.depth (length Here) w.0, inl ((λ z. let y = z in cc), t)),
+          none_below_text rules (f ∷ gs) 15 b s (record {
+            at_most = omega arith;
+            goes = t;
+            known = λ _ h _. let z = rw r at h in cc;
+            right_number = λ _ h _. let z = rw r at h in cc;
+            in_place = λ _ h _ _ _ _ _. let z = rw r at h in cc;
+            no_escape = λ _ _ z. let x = sym (raw_is (up_to (ends_text rules.scripting f.name) (b ∷ s)) (Some u) r q) ∙ z in
+                cc;
+          }),
+        )
+        | inr w ↦ absurd (no_fault _ k w.1)
+      ]
 
   -- ---- declarations and comments
 
   markup_here : (d : ℕ) (w : List ℕ) → Type 0
   markup_here d w = ends_text rules.scripting f.name (60 ∷ d ∷ w) ≡ true
 
-  comment_faulty : (w : List ℕ) (k : FaultKind) → ends_text rules.scripting f.name (60 ∷ 33 ∷ w) ≡ true → begins_with (codes "--") w ≡ true
-      → (o : Option (List ℕ × List ℕ)) → before_comment_end (drop 2 w) ≡ o → comment_step rules above_body (f ∷ gs) o ≡ Err k → IsRight (60 ∷ 33 ∷ w) k
+  comment_faulty : (w : List ℕ) (k : FaultKind) → ends_text rules.scripting f.name (60 ∷ 33 ∷ w) ≡ true
+      → begins_with (codes "--") w ≡ true
+      → (o : Option (List ℕ × List ℕ)) → before_comment_end (drop 2 w) ≡ o → comment_step rules above_body (f ∷ gs) o
+      ≡ Err k → IsRight (60 ∷ 33 ∷ w) k
   comment_faulty w k m b None q e = right_of (60 ∷ 33 ∷ w) MalformedComment k e (
     (m, b, λ h. let c = comment_is_read 33 w h in let z = sym q ∙ c.4 in cc),
     none_below_five rules (f ∷ gs) 3 (60 ∷ 33 ∷ w) (omega arith) (λ _. refl) (λ z. absurd (omega arith)),
   )
-  comment_faulty w k m b (Some p) q e = elim (if_then (is_comment_text p.0) (steps.add rules above_body (f ∷ gs) (comment (normalized p.0)) p.1) (fault MalformedComment) (Err k) e) [
-    | inl u ↦ elim (if_then (is_too_deep rules above_body (f ∷ gs)) (fault TooDeep) _ (Err k) u.1) [
-      | inl y ↦ right_of (60 ∷ 33 ∷ w) TooDeep k y.1 (
-        inl (deep_less rules.depth (length Here) y.0, inr (m, has u.0)),
-        none_below_comment rules (f ∷ gs) 15 w (omega arith) (has u.0) m,
-      )
-      | inr y ↦ absurd (no_fault _ k y.1)
-    ]
-    | inr u ↦ right_of (60 ∷ 33 ∷ w) MalformedComment k u.1 (
-      (m, b, λ h. let c = comment_is_read 33 w h in let z : cut (p.0) (p.1) ≡ cut c.2 c.3 = sym q ∙ c.4 in let y = (cut_same (p.0) (p.1) c.2 c.3 z).0 in not_both (is_comment_text p.0) (ap is_comment_text y ∙ c.5) u.0),
-      none_below_five rules (f ∷ gs) 3 (60 ∷ 33 ∷ w) (omega arith) (λ _. refl) (λ z. absurd (omega arith)),
-    )
-  ]
+  comment_faulty w k m b (Some p) q e =
+      elim (if_then (is_comment_text p.0) (steps.add rules above_body (f ∷ gs) (comment (normalized p.0)) p.1)
+      (fault MalformedComment) (Err k) e) [
+        | inl u ↦ elim (if_then (is_too_deep rules above_body (f ∷ gs)) (fault TooDeep) _ (Err k) u.1) [
+          | inl y ↦ right_of (60 ∷ 33 ∷ w) TooDeep k y.1 (
+            inl (deep_less rules.depth (length Here) y.0, inr (m, has u.0)),
+            none_below_comment rules (f ∷ gs) 15 w (omega arith) (has u.0) m,
+          )
+          | inr y ↦ absurd (no_fault _ k y.1)
+        ]
+        | inr u ↦ right_of (60 ∷ 33 ∷ w) MalformedComment k u.1 (
+          (
+            m,
+            b,
+            λ h. let c = comment_is_read 33 w h in let z : cut (p.0) (p.1) ≡ cut c.2 c.3 = sym q ∙ c.4 in
+                let y = (cut_same (p.0) (p.1) c.2 c.3 z).0 in not_both (is_comment_text p.0) (ap is_comment_text y
+                ∙ c.5) u.0,
+          ),
+          none_below_five rules (f ∷ gs) 3 (60 ∷ 33 ∷ w) (omega arith) (λ _. refl) (λ z. absurd (omega arith)),
+        )
+      ]
     where
       has : is_comment_text p.0 ≡ true → HasComment (60 ∷ 33 ∷ w)
       has i =
-          let t = before_close-split (drop 2 w) p.0 p.1 q in
-          (60 ∷ 33 ∷ 45 ∷ 45 ∷ t.0, p.1, normalized p.0, ap (λ (y : List ℕ). 60 ∷ 33 ∷ y) (dashes w b ∙ ap (λ (y : List ℕ). 45 ∷ 45 ∷ y) t.1), (t.0, p.0, refl, t.2, i, refl))
+          let t = before_close-split (drop 2 w) p.0 p.1 q in (
+            60 ∷ 33 ∷ 45 ∷ 45 ∷ t.0,
+            p.1,
+            normalized p.0,
+            ap (λ (y : List ℕ). 60 ∷ 33 ∷ y) (dashes w b
+                ∙ ap (λ (y : List ℕ). 45 ∷ 45 ∷ y) t.1),
+            (t.0, p.0, refl, t.2, i, refl),
+          )
 
-  declaration_faulty : (w : List ℕ) (k : FaultKind) → ends_text rules.scripting f.name (60 ∷ 33 ∷ w) ≡ true → declaration_step rules above_body (f ∷ gs) w ≡ Err k → IsRight (60 ∷ 33 ∷ w) k
-  declaration_faulty w k m e = elim (if_then (begins_with (codes "--") w) (comment_step rules above_body (f ∷ gs) (before_comment_end (drop 2 w))) (fault MalformedDeclaration) (Err k) e) [
-    | inl u ↦ comment_faulty w k m u.0 (before_comment_end (drop 2 w)) refl u.1
-    | inr u ↦ right_of (60 ∷ 33 ∷ w) MalformedDeclaration k u.1 (
-      (m, inr (refl, u.0)),
-      none_below_five rules (f ∷ gs) 4 (60 ∷ 33 ∷ w) (omega arith) (λ _. refl) (λ _. u.0),
-    )
-  ]
+  declaration_faulty : (w : List ℕ) (k : FaultKind) → ends_text rules.scripting f.name (60 ∷ 33 ∷ w) ≡ true
+      → declaration_step rules above_body (f ∷ gs) w ≡ Err k → IsRight (60 ∷ 33 ∷ w) k
+  declaration_faulty w k m e =
+      elim (if_then (begins_with (codes "--") w)
+      (comment_step rules above_body (f ∷ gs) (before_comment_end (drop 2 w))) (fault MalformedDeclaration) (Err k) e) [
+        | inl u ↦ comment_faulty w k m u.0 (before_comment_end (drop 2 w)) refl u.1
+        | inr u ↦ right_of (60 ∷ 33 ∷ w) MalformedDeclaration k u.1 (
+          (m, inr (refl, u.0)),
+          none_below_five rules (f ∷ gs) 4 (60 ∷ 33 ∷ w) (omega arith) (λ _. refl) (λ _. u.0),
+        )
+      ]
 
-  question_faulty : (w : List ℕ) (k : FaultKind) → ends_text rules.scripting f.name (60 ∷ 63 ∷ w) ≡ true → fault MalformedDeclaration ≡ Err k → IsRight (60 ∷ 63 ∷ w) k
-  question_faulty w k m e = right_of (60 ∷ 63 ∷ w) MalformedDeclaration k e ((m, inl refl), none_below_five rules (f ∷ gs) 4 (60 ∷ 63 ∷ w) (omega arith) (λ _. refl) (λ _. refl))
+  question_faulty : (w : List ℕ) (k : FaultKind) → ends_text rules.scripting f.name (60 ∷ 63 ∷ w) ≡ true
+      → fault MalformedDeclaration ≡ Err k → IsRight (60 ∷ 63 ∷ w) k
+  question_faulty w k m e = right_of (60 ∷ 63 ∷ w) MalformedDeclaration k e
+      ((m, inl refl), none_below_five rules (f ∷ gs) 4 (60 ∷ 63 ∷ w) (omega arith) (λ _. refl) (λ _. refl))
 
   -- ---- end tags
 
-  close_faulty : (w n x : List ℕ) (k : FaultKind) → ends_text rules.scripting f.name (60 ∷ 47 ∷ w) ≡ true → HasEndTag (60 ∷ 47 ∷ w) n → is_outside n ≡ false → name_read w ≡ n → close_step rules above_body (f ∷ gs) n x ≡ Err k → IsRight (60 ∷ 47 ∷ w) k
+  close_faulty : (w n x : List ℕ) (k : FaultKind) → ends_text rules.scripting f.name (60 ∷ 47 ∷ w) ≡ true
+      → HasEndTag (60 ∷ 47 ∷ w) n → is_outside n ≡ false → name_read w ≡ n → close_step rules above_body (f ∷ gs) n x
+      ≡ Err k → IsRight (60 ∷ 47 ∷ w) k
   close_faulty w n x k m h o r e = right_of (60 ∷ 47 ∷ w) StrayEndTag k (stray gs e) (
     (m, n, h, not_closed gs e),
     none_below_end rules (f ∷ gs) 11 w n (omega arith) (λ _. h) (λ _. ap is_outside r ∙ o) m,
@@ -219,38 +271,59 @@ module _ (rules : Rules) (f : OpenElement) (gs : List OpenElement) where
     where
       stray : (hs : List OpenElement) → close_step rules above_body (f ∷ hs) n x ≡ Err k → fault StrayEndTag ≡ Err k
       stray [] e = e
-      stray (g ∷ hs) e = elim (if_then (bytes_eq f.name n) _ (fault StrayEndTag) (Err k) e) [ inl u ↦ absurd (no_fault _ k u.1) | inr u ↦ u.1 ]
+      stray (g ∷ hs) e = elim (if_then (bytes_eq f.name n) _ (fault StrayEndTag) (Err k) e) [
+        | inl u ↦
+            absurd (no_fault _ k u.1)
+        | inr u ↦ u.1
+      ]
 
-      not_closed : (hs : List OpenElement) → close_step rules above_body (f ∷ hs) n x ≡ Err k → (f.name ≢ n) ⊎ (length (f ∷ hs) ≤ 1)
+      not_closed : (hs : List OpenElement) → close_step rules above_body (f ∷ hs) n x ≡ Err k
+          → (f.name ≢ n) ⊎ (length (f ∷ hs) ≤ 1)
       not_closed [] e = inr (omega arith)
       not_closed (g ∷ hs) e = elim (if_then (bytes_eq f.name n) _ (fault StrayEndTag) (Err k) e) [
         | inl u ↦ absurd (no_fault _ k u.1)
         | inr u ↦ inl (λ q. not_both (bytes_eq f.name n) (rw q (bytes_same n)) u.0)
       ]
 
-  end_faulty : (w : List ℕ) (k : FaultKind) → ends_text rules.scripting f.name (60 ∷ 47 ∷ w) ≡ true → end_tag_step rules above_body (f ∷ gs) w ≡ Err k → IsRight (60 ∷ 47 ∷ w) k
-  end_faulty w k m e = elim (if_then (is_tag_name (leading_run is_tag_name_byte w)) (name_step rules above_body (f ∷ gs) (name_read w) (behind_run is_tag_name_byte w)) (fault MalformedTag) (Err k) e) [
-    | inl u ↦ elim (if_then (first_is 62 (behind_run is_ascii_white_space (behind_run is_tag_name_byte w))) _ (fault MalformedTag) (Err k) u.1) [
-      | inl y ↦ ended u.0 y.0 (if_then (is_outside (name_read w)) (fault TagOutside) (close_step rules above_body (f ∷ gs) (name_read w) (drop 1 (behind_run is_ascii_white_space (behind_run is_tag_name_byte w)))) (Err k) y.1)
-      | inr y ↦ right_of (60 ∷ 47 ∷ w) MalformedTag k y.1 (malformed_here (λ n h. not_both _ (end_is_read 47 w n h).2 y.0))
-    ]
-    | inr u ↦ right_of (60 ∷ 47 ∷ w) MalformedTag k u.1 (malformed_here (λ n h. not_both _ (end_is_read 47 w n h).1 u.0))
-  ]
+  end_faulty : (w : List ℕ) (k : FaultKind) → ends_text rules.scripting f.name (60 ∷ 47 ∷ w) ≡ true
+      → end_tag_step rules above_body (f ∷ gs) w ≡ Err k → IsRight (60 ∷ 47 ∷ w) k
+  end_faulty w k m e = elim (if_then (is_tag_name (leading_run is_tag_name_byte w))
+      (name_step rules above_body (f ∷ gs) (name_read w) (behind_run is_tag_name_byte w)) (fault MalformedTag)
+      (Err k) e) [
+        | inl u ↦ elim (if_then (first_is 62 (behind_run is_ascii_white_space (behind_run is_tag_name_byte w))) _
+            (fault MalformedTag) (Err k) u.1) [
+              | inl y ↦ ended u.0 y.0 (if_then (is_outside (name_read w)) (fault TagOutside)
+                  (close_step rules above_body (f ∷ gs) (name_read w)
+                  (drop 1 (behind_run is_ascii_white_space (behind_run is_tag_name_byte w)))) (Err k) y.1)
+              | inr y ↦ right_of (60 ∷ 47 ∷ w) MalformedTag k y.1
+                  (malformed_here (λ n h. not_both _ (end_is_read 47 w n h).2 y.0))
+            ]
+        | inr u ↦ right_of (60 ∷ 47 ∷ w) MalformedTag k u.1
+            (malformed_here (λ n h. not_both _ (end_is_read 47 w n h).1 u.0))
+      ]
     where
       malformed_here : ((n : List ℕ) → HasEndTag (60 ∷ 47 ∷ w) n → ⊥) → IsRight (60 ∷ 47 ∷ w) MalformedTag
       malformed_here h = (
         (m, refl, (λ n spelled present t. let a = form_letter 47 w n spelled present t in cc), h),
-        none_below_five rules (f ∷ gs) 2 (60 ∷ 47 ∷ w) (omega arith) (λ z. absurd (omega arith)) (λ z. absurd (omega arith)),
+        none_below_five rules (f ∷ gs) 2 (60 ∷ 47 ∷ w) (omega arith) (λ z. absurd (omega arith))
+            (λ z. absurd (omega arith)),
       )
 
-      ended : is_tag_name (leading_run is_tag_name_byte w) ≡ true → first_is 62 (behind_run is_ascii_white_space (behind_run is_tag_name_byte w)) ≡ true
-          → ((is_outside (name_read w) ≡ true) × (fault TagOutside ≡ Err k)) ⊎ ((is_outside (name_read w) ≡ false) × (close_step rules above_body (f ∷ gs) (name_read w) (drop 1 (behind_run is_ascii_white_space (behind_run is_tag_name_byte w))) ≡ Err k))
+      ended : is_tag_name (leading_run is_tag_name_byte w) ≡ true
+          → first_is 62 (behind_run is_ascii_white_space (behind_run is_tag_name_byte w)) ≡ true
+          → ((is_outside (name_read w) ≡ true) × (fault TagOutside ≡ Err k))
+          ⊎ ((is_outside (name_read w) ≡ false)
+          × (close_step rules above_body (f ∷ gs) (name_read w)
+          (drop 1 (behind_run is_ascii_white_space (behind_run is_tag_name_byte w))) ≡ Err k))
           → IsRight (60 ∷ 47 ∷ w) k
       ended i j (inl z) = right_of (60 ∷ 47 ∷ w) TagOutside k z.1 (
         (m, name_read w, z.0, inr (end_tag_there w i j)),
-        none_below_end rules (f ∷ gs) 9 w (name_read w) (omega arith) (λ _. end_tag_there w i j) (λ y. absurd (omega arith)) m,
+        none_below_end rules (f ∷ gs) 9 w (name_read w) (omega arith) (λ _. end_tag_there w i j)
+            (λ y. absurd (omega arith)) m,
       )
-      ended i j (inr z) = close_faulty w (name_read w) (drop 1 (behind_run is_ascii_white_space (behind_run is_tag_name_byte w))) k m (end_tag_there w i j) z.0 refl z.1
+      ended i j (inr z) = close_faulty w (name_read w)
+          (drop 1 (behind_run is_ascii_white_space (behind_run is_tag_name_byte w))) k m (end_tag_there w i j) z.0 refl
+          z.1
 
   -- ---- start tags
 
@@ -261,38 +334,48 @@ module _ (rules : Rules) (f : OpenElement) (gs : List OpenElement) where
     called : is_tag_name (leading_run is_tag_name_byte (d ∷ w)) ≡ true
     reads_so : form_read_behind (d ∷ w) ≡ form spelled present x
 
-  tag_has : (d : ℕ) (w x : List ℕ) (spelled : List AttributePair) (present : Bool) → TagThere d w x spelled present → HasTagForm (60 ∷ d ∷ w) (name_read (d ∷ w)) spelled present
+  tag_has : (d : ℕ) (w x : List ℕ) (spelled : List AttributePair) (present : Bool) → TagThere d w x spelled present
+      → HasTagForm (60 ∷ d ∷ w) (name_read (d ∷ w)) spelled present
   tag_has d w x spelled present t =
       let name : List ℕ = leading_run is_tag_name_byte (d ∷ w) in
       let r : List ℕ = behind_run is_tag_name_byte (d ∷ w) in
       let i = tag_spelled (suc (length r)) r x spelled present t.reads_so in (
         60 ∷ (name ++ i.0),
         x,
-        ap (λ (y : List ℕ). 60 ∷ y) (back_split is_tag_name_byte (d ∷ w) ∙ (ap (λ (y : List ℕ). name ++ y) i.1 ∙ sym (append_assoc name i.0 x))),
+        ap (λ (y : List ℕ). 60 ∷ y) (back_split is_tag_name_byte (d ∷ w)
+            ∙ (ap (λ (y : List ℕ). name ++ y) i.1 ∙ sym (append_assoc name i.0 x))),
         (name, i.0, refl, t.called, refl, i.2),
       )
 
-  passed : (d : ℕ) (w x : List ℕ) (spelled : List AttributePair) (present : Bool) → TagThere d w x spelled present → (k : ℕ) → k ≤ 15
-      → (5 < k → list_any (λ a. has_unknown_reference rules.names a.value) spelled ≡ false) → (6 < k → list_any (λ a. has_bad_number rules.names a.value) spelled ≡ false)
-      → (7 < k → are_distinct (attribute_names spelled) ≡ true) → (8 < k → present ≡ true → is_void (name_read (d ∷ w)) ≡ true) → (9 < k → is_outside (name_read (d ∷ w)) ≡ false)
-      → (10 < k → is_allowed rules.scripting (context_for rules (f ∷ gs) (60 ∷ d ∷ w) (name_read (d ∷ w))) (name_read (d ∷ w)) ≡ true)
+  passed : (d : ℕ) (w x : List ℕ) (spelled : List AttributePair) (present : Bool) → TagThere d w x spelled present
+      → (k : ℕ) → k ≤ 15
+      → (5 < k → list_any (λ a. has_unknown_reference rules.names a.value) spelled ≡ false)
+      → (6 < k → list_any (λ a. has_bad_number rules.names a.value) spelled ≡ false)
+      → (7 < k → are_distinct (attribute_names spelled) ≡ true)
+      → (8 < k → present ≡ true → is_void (name_read (d ∷ w)) ≡ true)
+      → (9 < k → is_outside (name_read (d ∷ w)) ≡ false)
+      → (10 < k → is_allowed rules.scripting (context_for rules (f ∷ gs) (60 ∷ d ∷ w) (name_read (d ∷ w)))
+      (name_read (d ∷ w)) ≡ true)
       → NoneBelow rules (f ∷ gs) k (60 ∷ d ∷ w)
-  passed d w x spelled present t k u a b c v o l = none_below_tag rules (f ∷ gs) k d w (name_read (d ∷ w)) spelled present (record {
-    at_most = u;
-    markup = t.markup;
-    letter = t.letter;
-    has = tag_has d w x spelled present t;
-    only = λ m others slash h. same_form (d ∷ w) (name_read (d ∷ w)) x spelled present m others slash refl t.reads_so h;
-    known = a;
-    right_numbers = b;
-    distinct = c;
-    may_close = v;
-    inside = o;
-    allowed = l;
-  })
+  passed d w x spelled present t k u a b c v o l =
+      none_below_tag rules (f ∷ gs) k d w (name_read (d ∷ w)) spelled present (record {
+        at_most = u;
+        markup = t.markup;
+        letter = t.letter;
+        has = tag_has d w x spelled present t;
+        only = λ m others slash h. same_form (d ∷ w) (name_read (d ∷ w)) x spelled present m others slash refl t.reads_so h;
+        known = a;
+        right_numbers = b;
+        distinct = c;
+        may_close = v;
+        inside = o;
+        allowed = l;
+      })
 
-  malformed_tag : (d : ℕ) (w : List ℕ) → ends_text rules.scripting f.name (60 ∷ d ∷ w) ≡ true → is_ascii_alphabetic d ≡ true
-      → ((n : List ℕ) (spelled : List AttributePair) (present : Bool) → HasTagForm (60 ∷ d ∷ w) n spelled present → ⊥) → IsRight (60 ∷ d ∷ w) MalformedTag
+  malformed_tag : (d : ℕ) (w : List ℕ) → ends_text rules.scripting f.name (60 ∷ d ∷ w) ≡ true
+      → is_ascii_alphabetic d ≡ true
+      → ((n : List ℕ) (spelled : List AttributePair) (present : Bool) → HasTagForm (60 ∷ d ∷ w) n spelled present → ⊥)
+      → IsRight (60 ∷ d ∷ w) MalformedTag
   malformed_tag d w m a h = (
     (m, rw a refl, h, (λ n t. let i = (end_is_read d w n t).0 in let z = rw i at a in cc)),
     none_below_five rules (f ∷ gs) 2 (60 ∷ d ∷ w) (omega arith) (λ z. absurd (omega arith)) (λ z. absurd (omega arith)),
@@ -306,29 +389,27 @@ module _ (rules : Rules) (f : OpenElement) (gs : List OpenElement) where
     may_close : present ≡ true → is_void n ≡ true
     inside : is_outside n ≡ false
 
-  open_faulty : (d : ℕ) (w x : List ℕ) (spelled attributes : List AttributePair) (present : Bool) (k : FaultKind) (hs : List OpenElement) → TagThere d w x spelled present → TagRight (name_read (d ∷ w)) spelled present
-      → context_for rules (f ∷ gs) (60 ∷ d ∷ w) (name_read (d ∷ w)) ≡ names_of above_body hs → open_step rules above_body hs (name_read (d ∷ w)) attributes x ≡ Err k → IsRight (60 ∷ d ∷ w) k
-  open_faulty d w x spelled attributes present k hs t r c e = elim (if_then (not (is_allowed rules.scripting (names_of above_body hs) (name_read (d ∷ w)))) (fault NotAllowedHere) _ (Err k) e) [
-    | inl u ↦ right_of (60 ∷ d ∷ w) NotAllowedHere k u.1 (
-      (t.markup, name_read (d ∷ w), spelled, present, tag_has d w x spelled present t, ap (λ (y : Context). is_allowed rules.scripting y (name_read (d ∷ w))) c ∙ not_true (is_allowed rules.scripting (names_of above_body hs) (name_read (d ∷ w))) u.0),
-      passed d w x spelled present t 10 (omega arith) (λ _. r.known) (λ _. r.right_numbers) (λ _. r.distinct) (λ _. r.may_close) (λ _. r.inside) (λ z. absurd (omega arith)),
-    )
-    | inr u ↦ elim (if_then (is_too_deep rules above_body hs) (fault TooDeep) _ (Err k) u.1) [
-      | inl y ↦ right_of (60 ∷ d ∷ w) TooDeep k y.1 (
-        inr (t.markup, name_read (d ∷ w), spelled, present, tag_has d w x spelled present t, subst (λ (z : Context). rules.depth < length z) (sym c) (deep_less rules.depth (length (names_of above_body hs)) y.0)),
-        passed d w x spelled present t 15 (omega arith) (λ _. r.known) (λ _. r.right_numbers) (λ _. r.distinct) (λ _. r.may_close) (λ _. r.inside)
-            (λ _. ap (λ (z : Context). is_allowed rules.scripting z (name_read (d ∷ w))) c ∙ twice (is_allowed rules.scripting (names_of above_body hs) (name_read (d ∷ w))) u.0),
-      )
-      | inr y ↦ elim (if_then (is_void (name_read (d ∷ w))) _ _ (Err k) y.1) [ inl z ↦ absurd (no_fault _ k z.1) | inr z ↦ absurd (no_fault _ k z.1) ]
-    ]
-  ]
-
-  place_faulty : (d : ℕ) (w x : List ℕ) (spelled attributes : List AttributePair) (present : Bool) (k : FaultKind) → TagThere d w x spelled present → TagRight (name_read (d ∷ w)) spelled present
-      → place_step rules above_body (f ∷ gs) (name_read (d ∷ w)) attributes x ≡ Err k → IsRight (60 ∷ d ∷ w) k
-  place_faulty d w x spelled attributes present k t r e = elim (if_then (is_row (name_read (d ∷ w)) && bytes_eq f.name (codes "table")) _ (open_step rules above_body (f ∷ gs) (name_read (d ∷ w)) attributes x) (Err k) e) [
-    | inl u ↦
-        let p = and_true (is_row (name_read (d ∷ w))) (bytes_eq f.name (codes "table")) u.0 in
-        elim (if_then (is_too_deep rules above_body (f ∷ gs)) (fault TooDeep) (open_step rules above_body (fresh (codes "tbody") [] true ∷ f ∷ gs) (name_read (d ∷ w)) attributes x) (Err k) u.1) [
+  open_faulty : (d : ℕ) (w x : List ℕ) (spelled attributes : List AttributePair) (present : Bool) (k : FaultKind)
+      (hs : List OpenElement) → TagThere d w x spelled present → TagRight (name_read (d ∷ w)) spelled present
+      → context_for rules (f ∷ gs) (60 ∷ d ∷ w) (name_read (d ∷ w)) ≡ names_of above_body hs
+      → open_step rules above_body hs (name_read (d ∷ w)) attributes x ≡ Err k → IsRight (60 ∷ d ∷ w) k
+  open_faulty d w x spelled attributes present k hs t r c e =
+      elim (if_then (not (is_allowed rules.scripting (names_of above_body hs) (name_read (d ∷ w))))
+      (fault NotAllowedHere) _ (Err k) e) [
+        | inl u ↦ right_of (60 ∷ d ∷ w) NotAllowedHere k u.1 (
+          (
+            t.markup,
+            name_read (d ∷ w),
+            spelled,
+            present,
+            tag_has d w x spelled present t,
+            ap (λ (y : Context). is_allowed rules.scripting y (name_read (d ∷ w))) c
+                ∙ not_true (is_allowed rules.scripting (names_of above_body hs) (name_read (d ∷ w))) u.0,
+          ),
+          passed d w x spelled present t 10 (omega arith) (λ _. r.known) (λ _. r.right_numbers) (λ _. r.distinct)
+              (λ _. r.may_close) (λ _. r.inside) (λ z. absurd (omega arith)),
+        )
+        | inr u ↦ elim (if_then (is_too_deep rules above_body hs) (fault TooDeep) _ (Err k) u.1) [
           | inl y ↦ right_of (60 ∷ d ∷ w) TooDeep k y.1 (
             inr (
               t.markup,
@@ -336,127 +417,228 @@ module _ (rules : Rules) (f : OpenElement) (gs : List OpenElement) where
               spelled,
               present,
               tag_has d w x spelled present t,
-              subst (λ (z : Context). rules.depth < length z) (sym (row_context p.0 p.1)) (let l = deep_less rules.depth (length Here) y.0 in omega arith),
+              subst (λ (z : Context). rules.depth < length z) (sym c)
+                  (deep_less rules.depth (length (names_of above_body hs)) y.0),
             ),
-            passed d w x spelled present t 15 (omega arith) (λ _. r.known) (λ _. r.right_numbers) (λ _. r.distinct) (λ _. r.may_close) (λ _. r.inside)
-                (λ _. ap (λ (z : Context). is_allowed rules.scripting z (name_read (d ∷ w))) (row_context p.0 p.1)
-                ∙ (ap (is_allowed rules.scripting (codes "tbody" ∷ Here)) (one_name (codes "tr") (name_read (d ∷ w)) p.0) ∙ row_fits rules.scripting Here)),
+            passed d w x spelled present t 15 (omega arith) (λ _. r.known) (λ _. r.right_numbers) (λ _. r.distinct)
+                (λ _. r.may_close) (λ _. r.inside)
+                (λ _. ap (λ (z : Context). is_allowed rules.scripting z (name_read (d ∷ w))) c
+                ∙ twice (is_allowed rules.scripting (names_of above_body hs) (name_read (d ∷ w))) u.0),
           )
-          | inr y ↦ open_faulty d w x spelled attributes present k (fresh (codes "tbody") [] true ∷ f ∷ gs) t r (row_context p.0 p.1) y.1
+          | inr y ↦ elim (if_then (is_void (name_read (d ∷ w))) _ _ (Err k) y.1) [
+            | inl z ↦ absurd (no_fault _ k z.1)
+            | inr z ↦ absurd (no_fault _ k z.1)
+          ]
         ]
-    | inr u ↦ open_faulty d w x spelled attributes present k (f ∷ gs) t r (plain_context u.0) u.1
-  ]
+      ]
+
+  place_faulty : (d : ℕ) (w x : List ℕ) (spelled attributes : List AttributePair) (present : Bool) (k : FaultKind)
+      → TagThere d w x spelled present → TagRight (name_read (d ∷ w)) spelled present
+      → place_step rules above_body (f ∷ gs) (name_read (d ∷ w)) attributes x ≡ Err k → IsRight (60 ∷ d ∷ w) k
+  place_faulty d w x spelled attributes present k t r e =
+      elim (if_then (is_row (name_read (d ∷ w)) && bytes_eq f.name (codes "table")) _
+      (open_step rules above_body (f ∷ gs) (name_read (d ∷ w)) attributes x) (Err k) e) [
+        | inl u ↦
+            let p = and_true (is_row (name_read (d ∷ w))) (bytes_eq f.name (codes "table")) u.0 in
+            elim (if_then (is_too_deep rules above_body (f ∷ gs)) (fault TooDeep)
+            (open_step rules above_body (fresh (codes "tbody") [] true ∷ f ∷ gs) (name_read (d ∷ w)) attributes x)
+            (Err k) u.1) [
+              | inl y ↦ right_of (60 ∷ d ∷ w) TooDeep k y.1 (
+                inr (
+                  t.markup,
+                  name_read (d ∷ w),
+                  spelled,
+                  present,
+                  tag_has d w x spelled present t,
+                  subst (λ (z : Context). rules.depth < length z) (sym (row_context p.0 p.1))
+                      (let l = deep_less rules.depth (length Here) y.0 in omega arith),
+                ),
+                passed d w x spelled present t 15 (omega arith) (λ _. r.known) (λ _. r.right_numbers) (λ _. r.distinct)
+                    (λ _. r.may_close) (λ _. r.inside)
+                    (λ _. ap (λ (z : Context). is_allowed rules.scripting z (name_read (d ∷ w))) (row_context p.0 p.1)
+                    ∙ (ap (is_allowed rules.scripting (codes "tbody" ∷ Here))
+                    (one_name (codes "tr") (name_read (d ∷ w)) p.0) ∙ row_fits rules.scripting Here)),
+              )
+              | inr y ↦ open_faulty d w x spelled attributes present k (fresh (codes "tbody") [] true ∷ f ∷ gs) t r
+                  (row_context p.0 p.1) y.1
+            ]
+        | inr u ↦ open_faulty d w x spelled attributes present k (f ∷ gs) t r (plain_context u.0) u.1
+      ]
     where
-      row_context : is_row (name_read (d ∷ w)) ≡ true → bytes_eq f.name (codes "table") ≡ true → context_for rules (f ∷ gs) (60 ∷ d ∷ w) (name_read (d ∷ w)) ≡ codes "tbody" ∷ Here
+      row_context : is_row (name_read (d ∷ w)) ≡ true → bytes_eq f.name (codes "table") ≡ true
+          → context_for rules (f ∷ gs) (60 ∷ d ∷ w) (name_read (d ∷ w)) ≡ codes "tbody" ∷ Here
       row_context a b = rw (a, b) refl
 
-      plain_context : (is_row (name_read (d ∷ w)) && bytes_eq f.name (codes "table")) ≡ false → context_for rules (f ∷ gs) (60 ∷ d ∷ w) (name_read (d ∷ w)) ≡ Here
+      plain_context : (is_row (name_read (d ∷ w)) && bytes_eq f.name (codes "table")) ≡ false
+          → context_for rules (f ∷ gs) (60 ∷ d ∷ w) (name_read (d ∷ w)) ≡ Here
       plain_context a = rw (or_right (bytes_eq f.name (codes "table")), a) refl
 
-  values_faulty : (d : ℕ) (w x : List ℕ) (spelled : List AttributePair) (present : Bool) (k : FaultKind) → TagThere d w x spelled present → list_any (λ a. has_unknown_reference rules.names a.value) spelled ≡ false
-      → (o : Option (List AttributePair)) → decode_values rules.names spelled ≡ o → values_step rules above_body (f ∷ gs) (name_read (d ∷ w)) spelled present x o ≡ Err k → IsRight (60 ∷ d ∷ w) k
+  values_faulty : (d : ℕ) (w x : List ℕ) (spelled : List AttributePair) (present : Bool) (k : FaultKind)
+      → TagThere d w x spelled present → list_any (λ a. has_unknown_reference rules.names a.value) spelled ≡ false
+      → (o : Option (List AttributePair)) → decode_values rules.names spelled ≡ o
+      → values_step rules above_body (f ∷ gs) (name_read (d ∷ w)) spelled present x o ≡ Err k
+      → IsRight (60 ∷ d ∷ w) k
   values_faulty d w x spelled present k t a None q e = right_of (60 ∷ d ∷ w) BadNumber k e (
-    inr (t.markup, name_read (d ∷ w), spelled, present, tag_has d w x spelled present t, values_wrong rules.names spelled q a),
-    passed d w x spelled present t 6 (omega arith) (λ _. a) (λ z. absurd (omega arith)) (λ z. absurd (omega arith)) (λ z. absurd (omega arith)) (λ z. absurd (omega arith)) (λ z. absurd (omega arith)),
+    inr (
+      t.markup,
+      name_read (d ∷ w),
+      spelled,
+      present,
+      tag_has d w x spelled present t,
+      values_wrong rules.names spelled q a,
+    ),
+    passed d w x spelled present t 6 (omega arith) (λ _. a) (λ z. absurd (omega arith)) (λ z. absurd (omega arith))
+        (λ z. absurd (omega arith)) (λ z. absurd (omega arith)) (λ z. absurd (omega arith)),
   )
-  values_faulty d w x spelled present k t a (Some attributes) q e = elim (if_then (not (are_distinct (attribute_names spelled))) (fault DuplicateAttribute) _ (Err k) e) [
-    | inl u ↦ right_of (60 ∷ d ∷ w) DuplicateAttribute k u.1 (
-      (t.markup, name_read (d ∷ w), spelled, present, tag_has d w x spelled present t, not_true (are_distinct (attribute_names spelled)) u.0),
-      passed d w x spelled present t 7 (omega arith) (λ _. a) (λ _. b) (λ z. absurd (omega arith)) (λ z. absurd (omega arith)) (λ z. absurd (omega arith)) (λ z. absurd (omega arith)),
-    )
-    | inr u ↦
-        let c = twice (are_distinct (attribute_names spelled)) u.0 in
-        elim (if_then (present && not (is_void (name_read (d ∷ w)))) (fault SelfClosing) _ (Err k) u.1) [
-          | inl y ↦
-              let p = and_true present (not (is_void (name_read (d ∷ w)))) y.0 in
-              right_of (60 ∷ d ∷ w) SelfClosing k y.1 (
-                (t.markup, name_read (d ∷ w), spelled, subst (λ (z : Bool). HasTagForm (60 ∷ d ∷ w) (name_read (d ∷ w)) spelled z) p.0 (tag_has d w x spelled present t), not_true (is_void (name_read (d ∷ w))) p.1),
-                passed d w x spelled present t 8 (omega arith) (λ _. a) (λ _. b) (λ _. c) (λ z. absurd (omega arith)) (λ z. absurd (omega arith)) (λ z. absurd (omega arith)),
-              )
-          | inr y ↦
-              let v = slashed present (is_void (name_read (d ∷ w))) y.0 in
-              elim (if_then (is_outside (name_read (d ∷ w))) (fault TagOutside) (place_step rules above_body (f ∷ gs) (name_read (d ∷ w)) attributes x) (Err k) y.1) [
-                | inl z ↦ right_of (60 ∷ d ∷ w) TagOutside k z.1 (
-                  (t.markup, name_read (d ∷ w), z.0, inl (spelled, present, tag_has d w x spelled present t)),
-                  passed d w x spelled present t 9 (omega arith) (λ _. a) (λ _. b) (λ _. c) (λ _. v) (λ z. absurd (omega arith)) (λ z. absurd (omega arith)),
-                )
-                | inr z ↦ place_faulty d w x spelled attributes present k t (record { known = a; right_numbers = b; distinct = c; may_close = v; inside = z.0 }) z.1
-              ]
-        ]
-  ]
+  values_faulty d w x spelled present k t a (Some attributes) q e =
+      elim (if_then (not (are_distinct (attribute_names spelled))) (fault DuplicateAttribute) _ (Err k) e) [
+        | inl u ↦ right_of (60 ∷ d ∷ w) DuplicateAttribute k u.1 (
+          (
+            t.markup,
+            name_read (d ∷ w),
+            spelled,
+            present,
+            tag_has d w x spelled present t,
+            not_true (are_distinct (attribute_names spelled)) u.0,
+          ),
+          passed d w x spelled present t 7 (omega arith) (λ _. a) (λ _. b) (λ z. absurd (omega arith))
+              (λ z. absurd (omega arith)) (λ z. absurd (omega arith)) (λ z. absurd (omega arith)),
+        )
+        | inr u ↦
+            let c = twice (are_distinct (attribute_names spelled)) u.0 in
+            elim (if_then (present && not (is_void (name_read (d ∷ w)))) (fault SelfClosing) _ (Err k) u.1) [
+              | inl y ↦
+                  let p = and_true present (not (is_void (name_read (d ∷ w)))) y.0 in
+                  right_of (60 ∷ d ∷ w) SelfClosing k y.1 (
+                    (
+                      t.markup,
+                      name_read (d ∷ w),
+                      spelled,
+                      subst (λ (z : Bool). HasTagForm (60 ∷ d ∷ w) (name_read (d ∷ w)) spelled z) p.0
+                          (tag_has d w x spelled present t),
+                      not_true (is_void (name_read (d ∷ w))) p.1,
+                    ),
+                    passed d w x spelled present t 8 (omega arith) (λ _. a) (λ _. b) (λ _. c) (λ z. absurd (omega arith))
+                        (λ z. absurd (omega arith)) (λ z. absurd (omega arith)),
+                  )
+              | inr y ↦
+                  let v = slashed present (is_void (name_read (d ∷ w))) y.0 in
+                  elim (if_then (is_outside (name_read (d ∷ w))) (fault TagOutside)
+                  (place_step rules above_body (f ∷ gs) (name_read (d ∷ w)) attributes x) (Err k) y.1) [
+                    | inl z ↦ right_of (60 ∷ d ∷ w) TagOutside k z.1 (
+                      (t.markup, name_read (d ∷ w), z.0, inl (spelled, present, tag_has d w x spelled present t)),
+                      passed d w x spelled present t 9 (omega arith) (λ _. a) (λ _. b) (λ _. c) (λ _. v)
+                          (λ z. absurd (omega arith)) (λ z. absurd (omega arith)),
+                    )
+                    | inr z ↦ place_faulty d w x spelled attributes present k t
+                        (record { known = a; right_numbers = b; distinct = c; may_close = v; inside = z.0 }) z.1
+                  ]
+            ]
+      ]
     where
       b : list_any (λ a. has_bad_number rules.names a.value) spelled ≡ false
       b = values_right rules.names spelled attributes q
 
-  form_faulty : (d : ℕ) (w : List ℕ) (k : FaultKind) → ends_text rules.scripting f.name (60 ∷ d ∷ w) ≡ true → is_ascii_alphabetic d ≡ true → is_tag_name (leading_run is_tag_name_byte (d ∷ w)) ≡ true
-      → (o : TagForm) → form_read_behind (d ∷ w) ≡ o → form_step rules above_body (f ∷ gs) (name_read (d ∷ w)) o ≡ Err k → IsRight (60 ∷ d ∷ w) k
-  form_faulty d w k m a i no_form q e = right_of (60 ∷ d ∷ w) MalformedTag k e (malformed_tag d w m a (λ n spelled present h. let z = sym q ∙ (form_is_read (d ∷ w) n spelled present h).3 in cc))
-  form_faulty d w k m a i (form spelled present x) q e = elim (if_then (list_any (λ a. has_unknown_reference rules.names a.value) spelled) (fault UnknownReference) _ (Err k) e) [
-    | inl u ↦ right_of (60 ∷ d ∷ w) UnknownReference k u.1 (
-      inr (m, name_read (d ∷ w), spelled, present, tag_has d w x spelled present there, u.0),
-      passed d w x spelled present there 5 (omega arith) (λ z. absurd (omega arith)) (λ z. absurd (omega arith)) (λ z. absurd (omega arith)) (λ z. absurd (omega arith)) (λ z. absurd (omega arith)) (λ z. absurd (omega arith)),
-    )
-    | inr u ↦ values_faulty d w x spelled present k there u.0 (decode_values rules.names spelled) refl u.1
-  ]
+  form_faulty : (d : ℕ) (w : List ℕ) (k : FaultKind) → ends_text rules.scripting f.name (60 ∷ d ∷ w) ≡ true
+      → is_ascii_alphabetic d ≡ true → is_tag_name (leading_run is_tag_name_byte (d ∷ w)) ≡ true
+      → (o : TagForm) → form_read_behind (d ∷ w) ≡ o → form_step rules above_body (f ∷ gs) (name_read (d ∷ w)) o ≡ Err k
+      → IsRight (60 ∷ d ∷ w) k
+  form_faulty d w k m a i no_form q e =
+      right_of (60 ∷ d ∷ w) MalformedTag k e (malformed_tag d w m a (λ n spelled present h. let z = sym q
+      ∙ (form_is_read (d ∷ w) n spelled present h).3 in cc))
+  form_faulty d w k m a i (form spelled present x) q e =
+      elim (if_then (list_any (λ a. has_unknown_reference rules.names a.value) spelled) (fault UnknownReference) _
+      (Err k) e) [
+        | inl u ↦ right_of (60 ∷ d ∷ w) UnknownReference k u.1 (
+          inr (m, name_read (d ∷ w), spelled, present, tag_has d w x spelled present there, u.0),
+          passed d w x spelled present there 5 (omega arith) (λ z. absurd (omega arith)) (λ z. absurd (omega arith))
+              (λ z. absurd (omega arith)) (λ z. absurd (omega arith)) (λ z. absurd (omega arith))
+              (λ z. absurd (omega arith)),
+        )
+        | inr u ↦ values_faulty d w x spelled present k there u.0 (decode_values rules.names spelled) refl u.1
+      ]
     where
       there : TagThere d w x spelled present
       there = record { markup = m; letter = a; called = i; reads_so = q }
 
-  start_faulty : (d : ℕ) (w : List ℕ) (k : FaultKind) → ends_text rules.scripting f.name (60 ∷ d ∷ w) ≡ true → is_ascii_alphabetic d ≡ true → start_tag_step rules above_body (f ∷ gs) (d ∷ w) ≡ Err k → IsRight (60 ∷ d ∷ w) k
-  start_faulty d w k m a e = elim (if_then (is_tag_name (leading_run is_tag_name_byte (d ∷ w))) (form_step rules above_body (f ∷ gs) (name_read (d ∷ w)) (form_read_behind (d ∷ w))) (fault MalformedTag) (Err k) e) [
-    | inl u ↦ form_faulty d w k m a u.0 (form_read_behind (d ∷ w)) refl u.1
-    | inr u ↦ right_of (60 ∷ d ∷ w) MalformedTag k u.1 (malformed_tag d w m a (λ n spelled present h. not_both _ (form_is_read (d ∷ w) n spelled present h).0 u.0))
-  ]
+  start_faulty : (d : ℕ) (w : List ℕ) (k : FaultKind) → ends_text rules.scripting f.name (60 ∷ d ∷ w) ≡ true
+      → is_ascii_alphabetic d ≡ true → start_tag_step rules above_body (f ∷ gs) (d ∷ w) ≡ Err k → IsRight (60 ∷ d ∷ w) k
+  start_faulty d w k m a e =
+      elim (if_then (is_tag_name (leading_run is_tag_name_byte (d ∷ w)))
+      (form_step rules above_body (f ∷ gs) (name_read (d ∷ w)) (form_read_behind (d ∷ w))) (fault MalformedTag)
+      (Err k) e) [
+        | inl u ↦ form_faulty d w k m a u.0 (form_read_behind (d ∷ w)) refl u.1
+        | inr u ↦ right_of (60 ∷ d ∷ w) MalformedTag k u.1
+            (malformed_tag d w m a (λ n spelled present h. not_both _ (form_is_read (d ∷ w) n spelled present h).0 u.0))
+      ]
 
   -- ---- all of them
 
-  letter_here : (d : ℕ) (w : List ℕ) → ends_text rules.scripting f.name (60 ∷ d ∷ w) ≡ true → (d == 47) ≡ false → (d == 33) ≡ false → (d == 63) ≡ false → is_ascii_alphabetic d ≡ true
-  letter_here d w m a b c = test (holds_text_alone rules.scripting f.name) (λ t. absurd (let z = rw (t, a) at m in cc)) (λ t. let z = rw (t, a, b, c) at m in only_letter (is_ascii_alphabetic d) z)
+  letter_here : (d : ℕ) (w : List ℕ) → ends_text rules.scripting f.name (60 ∷ d ∷ w) ≡ true → (d == 47) ≡ false
+      → (d == 33) ≡ false → (d == 63) ≡ false → is_ascii_alphabetic d ≡ true
+  letter_here d w m a b c = test (holds_text_alone rules.scripting f.name) (λ t. absurd (let z = rw (t, a) at m in cc))
+      (λ t. let z = rw (t, a, b, c) at m in only_letter (is_ascii_alphabetic d) z)
     where
       only_letter : (l : Bool) → (l || false || false || false) ≡ true → l ≡ true
       only_letter true e = refl
       only_letter false e = absurd (cc)
 
-  markup_faulty_at : (d : ℕ) (w : List ℕ) (k : FaultKind) → ends_text rules.scripting f.name (60 ∷ d ∷ w) ≡ true → markup_step rules above_body (f ∷ gs) (d ∷ w) ≡ Err k → IsRight (60 ∷ d ∷ w) k
+  markup_faulty_at : (d : ℕ) (w : List ℕ) (k : FaultKind) → ends_text rules.scripting f.name (60 ∷ d ∷ w) ≡ true
+      → markup_step rules above_body (f ∷ gs) (d ∷ w) ≡ Err k → IsRight (60 ∷ d ∷ w) k
   markup_faulty_at d w k m e = elim (if_then (d == 47) (end_tag_step rules above_body (f ∷ gs) w) _ (Err k) e) [
-    | inl u ↦ (let i = same_byte d 47 u.0 in subst (λ (y : ℕ). IsRight (60 ∷ y ∷ w) k) (sym i) (end_faulty w k (subst (λ (y : ℕ). ends_text rules.scripting f.name (60 ∷ y ∷ w) ≡ true) i m) u.1))
+    | inl u ↦ (let i = same_byte d 47 u.0 in subst (λ (y : ℕ). IsRight (60 ∷ y ∷ w) k) (sym i)
+        (end_faulty w k (subst (λ (y : ℕ). ends_text rules.scripting f.name (60 ∷ y ∷ w) ≡ true) i m) u.1))
     | inr u ↦ elim (if_then (d == 33) (declaration_step rules above_body (f ∷ gs) w) _ (Err k) u.1) [
-      | inl y ↦ (let i = same_byte d 33 y.0 in subst (λ (z : ℕ). IsRight (60 ∷ z ∷ w) k) (sym i) (declaration_faulty w k (subst (λ (z : ℕ). ends_text rules.scripting f.name (60 ∷ z ∷ w) ≡ true) i m) y.1))
-      | inr y ↦ elim (if_then (d == 63) (fault MalformedDeclaration) (start_tag_step rules above_body (f ∷ gs) (d ∷ w)) (Err k) y.1) [
-        | inl z ↦ (let i = same_byte d 63 z.0 in subst (λ (v : ℕ). IsRight (60 ∷ v ∷ w) k) (sym i) (question_faulty w k (subst (λ (v : ℕ). ends_text rules.scripting f.name (60 ∷ v ∷ w) ≡ true) i m) z.1))
-        | inr z ↦ start_faulty d w k m (letter_here d w m u.0 y.0 z.0) z.1
-      ]
+      | inl y ↦ (let i = same_byte d 33 y.0 in subst (λ (z : ℕ). IsRight (60 ∷ z ∷ w) k) (sym i)
+          (declaration_faulty w k (subst (λ (z : ℕ). ends_text rules.scripting f.name (60 ∷ z ∷ w) ≡ true) i m) y.1))
+      | inr y ↦ elim (if_then (d == 63) (fault MalformedDeclaration) (start_tag_step rules above_body (f ∷ gs) (d ∷ w))
+          (Err k) y.1) [
+            | inl z ↦ (let i = same_byte d 63 z.0 in subst (λ (v : ℕ). IsRight (60 ∷ v ∷ w) k) (sym i)
+                (question_faulty w k (subst (λ (v : ℕ). ends_text rules.scripting f.name (60 ∷ v ∷ w) ≡ true) i m) z.1))
+            | inr z ↦ start_faulty d w k m (letter_here d w m u.0 y.0 z.0) z.1
+          ]
     ]
   ]
 
-  markup_faulty : (rest : List ℕ) (k : FaultKind) → ends_text rules.scripting f.name rest ≡ true → markup_step rules above_body (f ∷ gs) (drop 1 rest) ≡ Err k → IsRight rest k
+  markup_faulty : (rest : List ℕ) (k : FaultKind) → ends_text rules.scripting f.name rest ≡ true
+      → markup_step rules above_body (f ∷ gs) (drop 1 rest) ≡ Err k → IsRight rest k
   markup_faulty rest k m e =
       let h = two_bytes rules.scripting f.name rest m in
-      subst (λ (y : List ℕ). IsRight y k) (sym h.2) (markup_faulty_at h.0 h.1 k (ap (ends_text rules.scripting f.name) (sym h.2) ∙ m) (ap (λ (y : List ℕ). markup_step rules above_body (f ∷ gs) (drop 1 y)) (sym h.2) ∙ e))
+      subst (λ (y : List ℕ). IsRight y k) (sym h.2)
+      (markup_faulty_at h.0 h.1 k (ap (ends_text rules.scripting f.name) (sym h.2) ∙ m)
+      (ap (λ (y : List ℕ). markup_step rules above_body (f ∷ gs) (drop 1 y)) (sym h.2) ∙ e))
 
   -- what a step's fault says is right, and no implied `tbody` ends there
-  pub step_faulty : (run rest : List ℕ) (k : FaultKind) → (holds_raw_text rules.scripting f.name ≡ true → ends_text rules.scripting f.name rest ≡ false → is_empty rest ≡ false → f.children ≡ none) → (rest ≡ [] → 1 < length (f ∷ gs))
-      → step rules above_body (record { stack = f ∷ gs; run = run; rest = rest }) ≡ Err k → IsRight rest k × ((f.implied && ends_rows rest) ≡ false)
+  pub step_faulty : (run rest : List ℕ) (k : FaultKind)
+      → (holds_raw_text rules.scripting f.name ≡ true → ends_text rules.scripting f.name rest ≡ false
+      → is_empty rest ≡ false → f.children ≡ none) → (rest ≡ [] → 1 < length (f ∷ gs))
+      → step rules above_body (record { stack = f ∷ gs; run = run; rest = rest }) ≡ Err k
+      → IsRight rest k × ((f.implied && ends_rows rest) ≡ false)
   unfolding step
-  step_faulty run rest k c o e = elim (if_then (not (is_empty run) && is_text_end rules above_body (f ∷ gs) rest) _ _ (Err k) e) [
-    | inl x ↦ absurd (no_fault _ k x.1)
-    | inr x ↦ elim (if_then (f.implied && ends_rows rest) _ _ (Err k) x.1) [
-      | inl y ↦ absurd (no_fault _ k y.1)
-      | inr y ↦ (
-        elim (if_then (ends_text rules.scripting f.name rest) (markup_step rules above_body (f ∷ gs) (drop 1 rest)) _ (Err k) y.1) [
-          | inl u ↦ markup_faulty rest k u.0 u.1
-          | inr u ↦ elim (if_then (is_empty rest) (fault Unclosed) _ (Err k) u.1) [
-            | inl v ↦ unclosed (empty_is rest v.0) v.1
-            | inr v ↦ elim (if_then (holds_raw_text rules.scripting f.name) _ (text_step rules above_body (f ∷ gs) run rest) (Err k) v.1) [
-              | inl r ↦ raw_faulty rest k v.0 u.0 r.0 (c r.0 u.0 v.0) (text_of rules f.name (up_to (ends_text rules.scripting f.name) rest)) refl r.1
-              | inr r ↦ text_faulty run rest k v.0 u.0 r.0 r.1
-            ]
-          ]
-        ],
-        y.0,
-      )
-    ]
-  ]
+  step_faulty run rest k c o e =
+      elim (if_then (not (is_empty run) && is_text_end rules above_body (f ∷ gs) rest) _ _ (Err k) e) [
+        | inl x ↦ absurd (no_fault _ k x.1)
+        | inr x ↦ elim (if_then (f.implied && ends_rows rest) _ _ (Err k) x.1) [
+          | inl y ↦ absurd (no_fault _ k y.1)
+          | inr y ↦ (
+            elim (if_then (ends_text rules.scripting f.name rest) (markup_step rules above_body (f ∷ gs) (drop 1 rest)) _
+                (Err k) y.1) [
+                  | inl u ↦ markup_faulty rest k u.0 u.1
+                  | inr u ↦ elim (if_then (is_empty rest) (fault Unclosed) _ (Err k) u.1) [
+                    | inl v ↦ unclosed (empty_is rest v.0) v.1
+                    | inr v ↦ elim (if_then (holds_raw_text rules.scripting f.name) _
+                        (text_step rules above_body (f ∷ gs) run rest) (Err k) v.1) [
+                          | inl r ↦ raw_faulty rest k v.0 u.0 r.0 (c r.0 u.0 v.0)
+                              (text_of rules f.name (up_to (ends_text rules.scripting f.name) rest)) refl r.1
+                          | inr r ↦ text_faulty run rest k v.0 u.0 r.0 r.1
+                        ]
+                  ]
+                ],
+            y.0,
+          )
+        ]
+      ]
     where
       unclosed : rest ≡ [] → fault Unclosed ≡ Err k → IsRight rest k
-      unclosed n e = subst (λ (y : List ℕ). IsRight y k) (sym n) (right_of [] Unclosed k e ((refl, o n), none_below_nothing rules (f ∷ gs)))
+      unclosed n e = subst (λ (y : List ℕ). IsRight y k) (sym n)
+          (right_of [] Unclosed k e ((refl, o n), none_below_nothing rules (f ∷ gs)))

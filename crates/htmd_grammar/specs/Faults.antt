@@ -1,5 +1,6 @@
 -- Which place and kind of a refusal are right.
-use Rattle.std.specs.Prelude.{◌≡◌, ◌≢◌, ◌⊎◌, ℕ, ◌<◌, ◌≤◌, ◌+◌, Bool, true, false, ◌&&◌, ◌||◌, ◌==◌, if◌then◌else◌, List, [], ◌∷◌, ◌++◌, length, codes, None}
+use Rattle.std.specs.Prelude.{◌≡◌, ◌≢◌, ◌⊎◌, ℕ, ◌<◌, ◌≤◌, ◌+◌, Bool, true, false, ◌&&◌, ◌||◌, ◌==◌, if◌then◌else◌, List}
+use Rattle.std.specs.Prelude.{[], ◌∷◌, ◌++◌, length, codes, None}
 use Rattle.std.specs.List.{list_any, list_all}
 use Rattle.std.specs.Char.{is_ascii_alphabetic}
 use Rattle.htmd_text.specs.Characters.{null, slash, less_than_sign}
@@ -124,7 +125,8 @@ module _ (rules : Rules) (fs : List OpenElement) (s : List ℕ) where
       × ((n : List ℕ) → HasEndTag s n → ⊥)
   Says MalformedComment = IsMarkup × (begins_with (codes "<!--") s ≡ true) × (HasComment s → ⊥)
   Says MalformedDeclaration =
-      IsMarkup × ((begins_with (codes "<?") s ≡ true) ⊎ ((begins_with (codes "<!") s ≡ true) × (begins_with (codes "<!--") s ≡ false)))
+      IsMarkup × ((begins_with (codes "<?") s ≡ true)
+      ⊎ ((begins_with (codes "<!") s ≡ true) × (begins_with (codes "<!--") s ≡ false)))
   Says UnknownReference =
       (IsTextWithReferences × HasPiece rules.names s (wrong UnknownReference))
       ⊎ (IsMarkup × (n : List ℕ) × (spelled : List AttributePair) × (present : Bool) × HasTagForm s n spelled present
@@ -146,11 +148,13 @@ module _ (rules : Rules) (fs : List OpenElement) (s : List ℕ) where
       × (is_allowed rules.scripting (context_for n) n ≡ false)
   Says StrayEndTag = IsMarkup × (n : List ℕ) × HasEndTag s n × ((parent ≢ n) ⊎ (length fs ≤ 1))
   Says StrayText =
-      IsTextWithReferences × (holds_parts parent ≡ true) × (length_ : ℕ) × (v : List ℕ) × HasPiece rules.names s (stands length_ v)
+      IsTextWithReferences × (holds_parts parent ≡ true) × (more_bytes : ℕ) × (v : List ℕ) × HasPiece rules.names s
+      (stands more_bytes v)
       × (list_all is_ascii_white_space v ≡ false)
   Says Unclosed = (s ≡ []) × (1 < length fs)
   Says ScriptEscape =
-      IsText × (top_children fs ≡ none) × (holds_raw_text rules.scripting parent ≡ true) × (raw_text_of parent (up_to (ends_text rules.scripting parent) s) ≡ None)
+      IsText × (top_children fs ≡ none) × (holds_raw_text rules.scripting parent ≡ true)
+      × (raw_text_of parent (up_to (ends_text rules.scripting parent) s) ≡ None)
   Says TooDeep =
       ((rules.depth < length here) × (IsText ⊎ (IsMarkup × HasComment s)))
       ⊎ (IsMarkup × (n : List ℕ) × (spelled : List AttributePair) × (present : Bool) × HasTagForm s n spelled present
@@ -176,7 +180,8 @@ pub record IsPieceFault (rules : Rules) (text : List ℕ) (place : ℕ) (kind : 
   pub place_is : place + length behind ≡ length text
   pub front_is_good : IsGoodFront rules innermost opened before behind
   pub says : Says rules (innermost ∷ opened) behind kind
-  pub no_lower : (lower : FaultKind) → number_of lower < number_of kind → Says rules (innermost ∷ opened) behind lower → ⊥
+  pub no_lower : (lower : FaultKind) → number_of lower < number_of kind → Says rules (innermost ∷ opened) behind lower
+      → ⊥
 
 -- The refusal is right.
 abbrev pub IsFault : Rules → List ℕ → ℕ → FaultKind → Type 0

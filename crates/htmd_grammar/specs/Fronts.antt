@@ -1,5 +1,6 @@
 -- A beginning of a text that is whole pieces, with the elements that are open at its end.
-use Rattle.std.specs.Prelude.{◌≡◌, ◌⊎◌, ℕ, ◌≤◌, Bool, true, false, ◌&&◌, if◌then◌else◌, List, [], ◌∷◌, ◌++◌, length, codes}
+use Rattle.std.specs.Prelude.{◌≡◌, ◌⊎◌, ℕ, ◌≤◌, Bool, true, false, ◌&&◌, if◌then◌else◌, List, [], ◌∷◌, ◌++◌, length}
+use Rattle.std.specs.Prelude.{codes}
 use Rattle.htmd_grammar.specs.ValueTrees.{text, ValueForest, none, more}
 use Rattle.htmd_grammar.specs.CharacterClasses.{is_empty}
 use Rattle.htmd_grammar.specs.Rules.{Rules}
@@ -27,14 +28,17 @@ module _ (rules : Rules) (outer : Context) where
   -- The flag says whether an implied `tbody` may end where the text ends.
   abbrev pub IsFront : Bool → List OpenElement → List ℕ → Type 0
   IsFront last [] s = ⊥
-  IsFront last (f ∷ []) s = (f.implied ≡ false) × ReadsForest rules (f.name ∷ outer) last f.children s × (f.name ≡ codes "body")
+  IsFront last (f ∷ []) s = (f.implied ≡ false) × ReadsForest rules (f.name ∷ outer) last f.children s
+      × (f.name ≡ codes "body")
   IsFront last (f ∷ g ∷ fs) s =
-      (before tag inner : List ℕ) × (s ≡ before ++ (tag ++ inner)) × IsFront (ends_at f) (g ∷ fs) before × Opens (names_of outer (g ∷ fs)) f tag
+      (before tag inner : List ℕ) × (s ≡ before ++ (tag ++ inner)) × IsFront (ends_at f) (g ∷ fs) before
+      × Opens (names_of outer (g ∷ fs)) f tag
       × ReadsForest rules (names_of outer (f ∷ g ∷ fs)) last f.children (content_of f.name inner)
       × (g.implied ≡ true → begins_with_row (g.children +++ more (closed f) none) ≡ true)
 
   -- the content of the innermost element so far
-  abbrev pub content_so_far : (f : OpenElement) (fs : List OpenElement) (last : Bool) (s : List ℕ) → IsFront last (f ∷ fs) s → List ℕ
+  abbrev pub content_so_far : (f : OpenElement) (fs : List OpenElement) (last : Bool) (s : List ℕ)
+      → IsFront last (f ∷ fs) s → List ℕ
   content_so_far f [] last s h = []
   content_so_far f (g ∷ fs) last s h = h.2
 
@@ -58,5 +62,6 @@ pub record IsGoodFront (rules : Rules) (f : OpenElement) (fs : List OpenElement)
   -- an implied `tbody` that ends there is closed
   pub no_more_rows : (f.implied && ends_rows behind) ≡ false
   -- a line feed that is dropped stands before the place
-  pub dropped : f.children ≡ none → IsKept f.name (content_so_far rules above_body f fs (ends_rows behind) before pieces) behind
+  pub dropped : f.children ≡ none
+      → IsKept f.name (content_so_far rules above_body f fs (ends_rows behind) before pieces) behind
   pub complete : (ts : ValueForest) × reads rules below_body (before ++ end_tags (f ∷ fs)) ts

@@ -49,16 +49,19 @@ ReachesEnd rules s content = Reaches rules above_body (started s) (finished cont
 
 -- complete: the steps reach the end of each text that denotes something
 abbrev pub StepsReadAll : Rules → Type 0
-StepsReadAll rules = (s : List ℕ) (content : ValueForest) → reads rules below_body (body_text s) content → ReachesEnd rules s content
+StepsReadAll rules = (s : List ℕ) (content : ValueForest) → reads rules below_body (body_text s) content
+    → ReachesEnd rules s content
 
 -- sound: where the steps reach the end, the text denotes what they read
 abbrev pub StepsReadRightly : Rules → Type 0
-StepsReadRightly rules = (s : List ℕ) (content : ValueForest) → ReachesEnd rules s content → reads rules below_body (body_text s) content
+StepsReadRightly rules = (s : List ℕ) (content : ValueForest) → ReachesEnd rules s content
+    → reads rules below_body (body_text s) content
 
 -- where a step finds a fault before the end, the text denotes nothing
 abbrev pub FaultsRefuse : Rules → Type 0
 FaultsRefuse rules =
-    (s : List ℕ) (st : State) (kind : FaultKind) → Reaches rules above_body (started s) st → step rules above_body st ≡ Err kind
+    (s : List ℕ) (st : State) (kind : FaultKind) → Reaches rules above_body (started s) st
+    → step rules above_body st ≡ Err kind
     → ((content : ValueForest) → st ≡ finished content → ⊥)
     → (content : ValueForest) → reads rules below_body (body_text s) content → ⊥
 
@@ -66,7 +69,8 @@ FaultsRefuse rules =
 abbrev pub FrontsAreGood : Rules → Type 0
 FrontsAreGood rules =
     (s : List ℕ) (f : OpenElement) (fs : List OpenElement) (run rest : List ℕ)
-    → Reaches rules above_body (started s) (record { stack = f ∷ fs; run = run; rest = rest }) → (f.implied && ends_rows rest) ≡ false
+    → Reaches rules above_body (started s) (record { stack = f ∷ fs; run = run; rest = rest })
+    → (f.implied && ends_rows rest) ≡ false
     → (before : List ℕ) × (body_text s ≡ before ++ rest) × IsGoodFront rules (with_text f run) fs before rest
 
 -- ---- refusals
