@@ -33,3 +33,4 @@ mod StepFaults
 mod RightFaults
 mod Runs
 mod FaultExamples
+mod TextsLeft

@@ -189,7 +189,8 @@ module _ (rules : Rules) (f : OpenElement) (gs : List OpenElement) where
             known = λ _ h _. let z = rw r at h in cc;
             right_number = λ _ h _. let z = rw r at h in cc;
             in_place = λ _ h _ _ _ _ _. let z = rw r at h in cc;
-            no_escape = λ _ _ z. let x = sym (raw_is (up_to (ends_text rules.scripting f.name) (b ∷ s)) (Some u) r q) ∙ z in
+            no_escape = λ _ _ z.
+                let x = sym (raw_is (up_to (ends_text rules.scripting f.name) (b ∷ s)) (Some u) r q) ∙ z in
                 cc;
           }),
         )
@@ -363,7 +364,8 @@ module _ (rules : Rules) (f : OpenElement) (gs : List OpenElement) where
         markup = t.markup;
         letter = t.letter;
         has = tag_has d w x spelled present t;
-        only = λ m others slash h. same_form (d ∷ w) (name_read (d ∷ w)) x spelled present m others slash refl t.reads_so h;
+        only = λ m others slash h.
+            same_form (d ∷ w) (name_read (d ∷ w)) x spelled present m others slash refl t.reads_so h;
         known = a;
         right_numbers = b;
         distinct = c;
@@ -518,7 +520,8 @@ module _ (rules : Rules) (f : OpenElement) (gs : List OpenElement) where
                           (tag_has d w x spelled present t),
                       not_true (is_void (name_read (d ∷ w))) p.1,
                     ),
-                    passed d w x spelled present t 8 (omega arith) (λ _. a) (λ _. b) (λ _. c) (λ z. absurd (omega arith))
+                    passed d w x spelled present t 8 (omega arith) (λ _. a) (λ _. b) (λ _. c)
+                        (λ z. absurd (omega arith))
                         (λ z. absurd (omega arith)) (λ z. absurd (omega arith)),
                   )
               | inr y ↦
@@ -621,7 +624,8 @@ module _ (rules : Rules) (f : OpenElement) (gs : List OpenElement) where
         | inr x ↦ elim (if_then (f.implied && ends_rows rest) _ _ (Err k) x.1) [
           | inl y ↦ absurd (no_fault _ k y.1)
           | inr y ↦ (
-            elim (if_then (ends_text rules.scripting f.name rest) (markup_step rules above_body (f ∷ gs) (drop 1 rest)) _
+            elim (if_then (ends_text rules.scripting f.name rest)
+                (markup_step rules above_body (f ∷ gs) (drop 1 rest)) _
                 (Err k) y.1) [
                   | inl u ↦ markup_faulty rest k u.0 u.1
                   | inr u ↦ elim (if_then (is_empty rest) (fault Unclosed) _ (Err k) u.1) [

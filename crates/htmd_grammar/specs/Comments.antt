@@ -30,13 +30,13 @@ IsComment s u =
 
 -- ---- the doctype: `<!DOCTYPE`, white space, `html`, optional white space and `>`, in any case
 
-abbrev doctype_end : List ℕ → Option (List ℕ)
+abbrev pub doctype_end : List ℕ → Option (List ℕ)
 doctype_end s = if first_is greater_than_sign s then Some (drop 1 s) else None
 
-abbrev doctype_name : List ℕ → Option (List ℕ)
+abbrev pub doctype_name : List ℕ → Option (List ℕ)
 doctype_name s = if begins_in_any_case (codes "html") s then doctype_end (behind_run is_ascii_white_space (drop 4 s)) else None
 
-abbrev white_space_and_name : List ℕ → Option (List ℕ)
+abbrev pub white_space_and_name : List ℕ → Option (List ℕ)
 white_space_and_name [] = None
 white_space_and_name (b ∷ s) = if is_ascii_white_space b then doctype_name (behind_run is_ascii_white_space s) else None
 

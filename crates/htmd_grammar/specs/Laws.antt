@@ -82,3 +82,15 @@ FaultsAreRight rules =
     (s : List ℕ) (st : State) (kind : FaultKind) (place : ℕ) → lacks null s ≡ true
     → Reaches rules above_body (started s) st → step rules above_body st ≡ Err kind
     → (st.rest ≡ [] → 1 < length st.stack) → place + length st.rest ≡ length s → IsFault rules s place kind
+
+-- and the text denotes nothing
+abbrev pub FaultsRefuseDocuments : Rules → Type 0
+FaultsRefuseDocuments rules =
+    (s : List ℕ) (st : State) (kind : FaultKind) → Reaches rules above_body (started s) st
+    → step rules above_body st ≡ Err kind
+    → (st.rest ≡ [] → 1 < length st.stack) → (t : ValueTree) → ReadsDocument rules s t → ⊥
+
+-- what is left at a state is an end of the text
+abbrev pub RestIsAnEnd : Rules → Type 0
+RestIsAnEnd rules =
+    (s : List ℕ) (st : State) → Reaches rules above_body (started s) st → (taken : List ℕ) × (s ≡ taken ++ st.rest)

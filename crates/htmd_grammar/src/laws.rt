@@ -1,7 +1,7 @@
 //! Laws of the definitions: each is the contract of a function that does nothing.
 ghost use Rattle.std.specs.Prelude.{Bool};
 ghost use Rattle.htmd_grammar.specs.Rules.{Rules, project};
-ghost use Rattle.htmd_grammar.specs.Laws.{AtMostOneForest, AtMostOneDocument, MoreRulesReadMore, MoreRulesReadMoreDocuments, StepsReadAll, StepsReadRightly, FaultsRefuse, FrontsAreGood, FaultsAreRight};
+ghost use Rattle.htmd_grammar.specs.Laws.{AtMostOneForest, AtMostOneDocument, MoreRulesReadMore, MoreRulesReadMoreDocuments, StepsReadAll, StepsReadRightly, FaultsRefuse, FrontsAreGood, FaultsAreRight, FaultsRefuseDocuments, RestIsAnEnd};
 ghost use Rattle.htmd_grammar.specs.ReadBack.{ReadsBack, RawBlockReadsBack};
 
 /// A text denotes at most one document, and in any context at most one list of trees.
@@ -33,7 +33,9 @@ pub fn steps_read_the_grammar()
 {}
 
 /// Where the steps of a reader stop before the end, what stands there is of the fault's kind and of no lower one,
-/// and what stands before it is a good front.
+/// what stands before it is a good front, and the text denotes nothing. What is left there is an end of the text.
 pub fn faults_are_right()
     ensures right { (rules : Rules) → FaultsAreRight rules }
+    ensures refused { (rules : Rules) → FaultsRefuseDocuments rules }
+    ensures rest { (rules : Rules) → RestIsAnEnd rules }
 {}
