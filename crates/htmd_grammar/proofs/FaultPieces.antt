@@ -206,10 +206,6 @@ form_letter d w n spelled present h =
     second : {b : ℕ} {u : List ℕ} → 60 ∷ d ∷ w ≡ 60 ∷ b ∷ u → d ≡ b
     second q = cc
 
-pub form_begun : (s n : List ℕ) (spelled : List AttributePair) (present : Bool) → HasTagForm s n spelled present
-    → (w : List ℕ) × (s ≡ 60 ∷ w)
-form_begun s n spelled present h = let t = h.3 in ((t.0 ++ t.1) ++ h.1, h.2 ∙ ap (λ (y : List ℕ). y ++ h.1) t.2)
-
 -- an end tag that stands there is the one that is read
 pub end_is_read : (d : ℕ) (w n : List ℕ) → HasEndTag (60 ∷ d ∷ w) n
     → (d ≡ 47) × (is_tag_name (leading_run is_tag_name_byte w) ≡ true)

@@ -57,9 +57,6 @@ twice : (b : Bool) → not b ≡ false → b ≡ true
 twice true e = refl
 twice false e = absurd (cc)
 
-not_false : (b : Bool) → not b ≡ true → b ≡ false
-not_false b e = not_true b e
-
 slashed : (a b : Bool) → (a && not b) ≡ false → a ≡ true → b ≡ true
 slashed a true e i = refl
 slashed a false e i = absurd (let w = rw i at e in cc)
@@ -198,9 +195,6 @@ module _ (rules : Rules) (f : OpenElement) (gs : List OpenElement) where
       ]
 
   -- ---- declarations and comments
-
-  markup_here : (d : ℕ) (w : List ℕ) → Type 0
-  markup_here d w = ends_text rules.scripting f.name (60 ∷ d ∷ w) ≡ true
 
   comment_faulty : (w : List ℕ) (k : FaultKind) → ends_text rules.scripting f.name (60 ∷ 33 ∷ w) ≡ true
       → begins_with (codes "--") w ≡ true
