@@ -1,5 +1,6 @@
 //! One run: read all, convert, write.
-ghost use Rattle.std.specs.Prelude.{◌≡◌, ◌≢◌, ◌↔◌, [], ◌∷◌, ◌++◌, false, OnOk, OnErr, IfOk, IfErr, IfSome, IsErrOf, IsTrue, IsUtf8, string_bytes};
+ghost use Rattle.std.specs.Prelude.{◌≡◌, ◌≢◌, ◌↔◌, [], ◌∷◌, ◌++◌, false, IsTrue, IsUtf8, string_bytes};
+ghost use Rattle.std.specs.Prelude.{OnOk, OnErr, IfOk, IfErr, IfSome, IsErrOf};
 ghost use Rattle.std.specs.Io.KnownBytes.{Appends, Consumes, IsAtEnd, Keeps};
 ghost use Rattle.htmd_text.specs.Characters.{line_feed};
 ghost use Rattle.htmd_cli.specs.Conversion.{paragraph_markdown};

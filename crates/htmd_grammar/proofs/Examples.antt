@@ -12,25 +12,33 @@ title s = record { name = codes "title"; value = s } ∷ []
 serialisation-text : serialisation (text (codes "1 < 2 & 3 > 2 \"")) ≡ codes "1 &lt; 2 &amp; 3 &gt; 2 \""
 serialisation-text = refl
 
-serialisation-no_break_space : serialisation (text (0xC2 ∷ 0xA0 ∷ 0xC2 ∷ 0xA9 ∷ [])) ≡ codes "&nbsp;" ++ 0xC2 ∷ 0xA9 ∷ []
+serialisation-no_break_space : serialisation
+    (text (0xC2 ∷ 0xA0 ∷ 0xC2 ∷ 0xA9 ∷ [])) ≡ codes "&nbsp;" ++ 0xC2 ∷ 0xA9 ∷ []
 serialisation-no_break_space = refl
 
-serialisation-value : serialisation (element (codes "br") (title (codes "<&\">")) none) ≡ codes "<br title=\"<&amp;&quot;>\">"
+serialisation-value : serialisation
+    (element (codes "br") (title (codes "<&\">")) none) ≡ codes "<br title=\"<&amp;&quot;>\">"
 unfolding is_void
 serialisation-value = refl
 
-serialisation-raw_text : serialisation (element (codes "script") [] (more (text (codes "a<b")) none)) ≡ codes "<script>a<b</script>"
+serialisation-raw_text : serialisation
+    (element (codes "script") [] (more (text (codes "a<b")) none)) ≡ codes "<script>a<b</script>"
 unfolding is_void is_raw_text
 serialisation-raw_text = refl
 
-serialisation-document : serialisation (document (more doctype (more (element (codes "p") [] (more (text (codes "<")) none)) (more (comment (codes "<")) none)))) ≡ codes "<!DOCTYPE html><p>&lt;</p><!--<-->"
+serialisation-document : serialisation
+    (document
+    (more doctype
+    (more (element (codes "p") [] (more (text (codes "<")) none))
+    (more (comment (codes "<")) none)))) ≡ codes "<!DOCTYPE html><p>&lt;</p><!--<-->"
 unfolding is_void is_raw_text
 serialisation-document = refl
 
 without_blank_lines-line_feeds : without_blank_lines false (codes "a\n\n\n \nb") ≡ codes "a\n&#10;\n &#10;b"
 without_blank_lines-line_feeds = refl
 
-without_blank_lines-carriage_returns : without_blank_lines false (codes "\r\n \r\n\r\r\n") ≡ codes "\r\n &#13;&#10;\r\r\n"
+without_blank_lines-carriage_returns : without_blank_lines false
+    (codes "\r\n \r\n\r\r\n") ≡ codes "\r\n &#13;&#10;\r\r\n"
 without_blank_lines-carriage_returns = refl
 
 without_blank_lines-lone_carriage_return : without_blank_lines false (codes "a\n\rb") ≡ codes "a\n\rb"

@@ -1,16 +1,20 @@
 -- Blocks of raw HTML: texts without CR, and blank lines.
-use Rattle.std.proofs.Common.{◌≡◌, ◌≢◌, ℕ, Bool, true, false, ◌&&◌, ◌||◌, eqb, List, [], ◌∷◌, ◌++◌, refl, sym, ap, ◌∙◌, subst, arith, codes, drop, Result, Ok, Err, IfOk, String, string_bytes}
+use Rattle.std.proofs.Common.{◌≡◌, ◌≢◌, ℕ, Bool, true, false, ◌&&◌, ◌||◌, eqb, List, [], ◌∷◌, ◌++◌, refl, sym, ap, ◌∙◌}
+use Rattle.std.proofs.Common.{subst, arith, codes, drop, Result, Ok, Err, IfOk, String, string_bytes}
 use Rattle.std.proofs.Math.Bool.{and-true, and-false, or-true}
 use Rattle.std.proofs.lemmas.Bool.Decides.{nat_tests}
 use Rattle.std.proofs.lemmas.Bool.{false≢true, eqb-true}
-use Rattle.std.proofs.lemmas.Str.{encodes-append, encodes-chars, chars_past_char, IsUtf8-drop, IsCharBoundary-after_ascii}
+use Rattle.std.proofs.lemmas.Str.{encodes-append, encodes-chars, chars_past_char, IsUtf8-drop}
+use Rattle.std.proofs.lemmas.Str.{IsCharBoundary-after_ascii}
 use Rattle.std.specs.Char.{is_whitespace}
 use Rattle.std.specs.List.{list_any, list_all}
 use Rattle.std.specs.Str.{IsUtf8, IsCharBoundary, chars, encode_utf8_all}
 use lib.Utf8.{encode}
 use Rattle.htmd_text.specs.Characters.{line_feed, carriage_return}
 use Rattle.htmd_text.specs.BlankLines.{with_blank_lines}
-use Rattle.htmd_grammar.specs.RawBlocks.{line_feed_reference, begins_line, without_blank_lines, raw_block, HasBlankLine, has_carriage_return, raw_html_from, raw_html, RefersToLineFeeds, nothing, same, reference, IsRawBlock}
+use Rattle.htmd_grammar.specs.RawBlocks.{line_feed_reference, begins_line, without_blank_lines, raw_block, HasBlankLine}
+use Rattle.htmd_grammar.specs.RawBlocks.{has_carriage_return, raw_html_from, raw_html, RefersToLineFeeds, nothing, same}
+use Rattle.htmd_grammar.specs.RawBlocks.{reference, IsRawBlock}
 use Rattle.htmd_grammar.specs.SerialiserSteps.{has_blank_line_from, has_blank_line}
 use Rattle.htmd_text.proofs.Cases.{test}
 
@@ -21,14 +25,17 @@ both_false true y e = absurd (cc)
 both_false false y e = (refl, e)
 
 -- without CR, a text is rewritten to its raw text
-without_blank_lines-raw_html : (after : Bool) (cs : List ℕ) → list_any (λ c. eqb c carriage_return) cs ≡ false → without_blank_lines after cs ≡ raw_html_from after cs
+without_blank_lines-raw_html : (after : Bool) (cs : List ℕ) → list_any (λ c. eqb c carriage_return) cs ≡ false
+    → without_blank_lines after cs ≡ raw_html_from after cs
 without_blank_lines-raw_html after [] h = refl
 without_blank_lines-raw_html after (c ∷ cs) h =
     let parts = both_false (eqb c carriage_return) (list_any (λ c. eqb c carriage_return) cs) h in
     let other : eqb c carriage_return ≡ false = parts.0 in
-    let escaped : without_blank_lines false cs ≡ raw_html_from false cs = without_blank_lines-raw_html false cs parts.1 in
+    let escaped : without_blank_lines false cs ≡ raw_html_from false cs =
+    without_blank_lines-raw_html false cs parts.1 in
     let ended : without_blank_lines true cs ≡ raw_html_from true cs = without_blank_lines-raw_html true cs parts.1 in
-    let white : without_blank_lines (after && is_whitespace c) cs ≡ raw_html_from (after && is_whitespace c) cs = without_blank_lines-raw_html (after && is_whitespace c) cs parts.1 in
+    let white : without_blank_lines (after && is_whitespace c) cs ≡ raw_html_from (after && is_whitespace c) cs =
+    without_blank_lines-raw_html (after && is_whitespace c) cs parts.1 in
     test (eqb c line_feed) (λ y. rw (y, escaped, ended) refl) (λ n. rw (n, other, white) refl)
 
 -- ---- blank lines
@@ -38,7 +45,8 @@ raw_html_from-no_blank_line : (after : Bool) (cs : List ℕ) → has_blank_line_
 raw_html_from-no_blank_line after [] = refl
 raw_html_from-no_blank_line after (c ∷ cs) =
     test (eqb c line_feed)
-    (λ y. test after (λ a. rw (y, a) (raw_html_from-no_blank_line false cs)) (λ a. rw (y, a, y) (raw_html_from-no_blank_line true cs)))
+    (λ y. test after (λ a. rw (y, a) (raw_html_from-no_blank_line false cs))
+    (λ a. rw (y, a, y) (raw_html_from-no_blank_line true cs)))
     (λ n. rw (n, n) (raw_html_from-no_blank_line (after && is_whitespace c) cs))
 
 both_true : (x y : Bool) → (x && y) ≡ true → (x ≡ true) × (y ≡ true)
@@ -46,14 +54,16 @@ both_true true y e = (refl, e)
 both_true false y e = absurd (false≢true e)
 
 -- a line feed behind white space behind a line feed is found
-found_behind : (between behind : List ℕ) → list_all is_whitespace between ≡ true → has_blank_line_from true (between ++ line_feed ∷ behind) ≡ true
+found_behind : (between behind : List ℕ) → list_all is_whitespace between ≡ true
+    → has_blank_line_from true (between ++ line_feed ∷ behind) ≡ true
 found_behind [] behind w = refl
 found_behind (c ∷ between) behind w =
     let parts = both_true (is_whitespace c) (list_all is_whitespace between) w in
     let white : is_whitespace c ≡ true = parts.0 in
     test (eqb c line_feed) (λ y. rw y refl) (λ n. rw (n, white) (found_behind between behind parts.1))
 
-found : (after : Bool) (before between behind : List ℕ) → list_all is_whitespace between ≡ true → has_blank_line_from after (before ++ line_feed ∷ between ++ line_feed ∷ behind) ≡ true
+found : (after : Bool) (before between behind : List ℕ) → list_all is_whitespace between ≡ true
+    → has_blank_line_from after (before ++ line_feed ∷ between ++ line_feed ∷ behind) ≡ true
 found after [] between behind w = rw (found_behind between behind w) (or-true after)
 found after (c ∷ before) between behind w =
     test (eqb c line_feed)
@@ -73,11 +83,13 @@ module _ (total : Bool) (c : ℕ) (cs : List ℕ) where
   pub past_line_feed : c ≡ line_feed → has_blank_line_from false (c ∷ cs) ≡ total → has_blank_line_from true cs ≡ total
   past_line_feed e h = let y : eqb c line_feed ≡ true = grind (arith, nat_tests) in rw y at h
 
-  pub past_other : (after : Bool) → c ≢ line_feed → has_blank_line_from after (c ∷ cs) ≡ total → has_blank_line_from (after && is_whitespace c) cs ≡ total
+  pub past_other : (after : Bool) → c ≢ line_feed → has_blank_line_from after (c ∷ cs) ≡ total
+      → has_blank_line_from (after && is_whitespace c) cs ≡ total
   past_other after e h = let n : eqb c line_feed ≡ false = grind (arith, nat_tests) in rw n at h
 
 -- the test, one character on
-pub has_blank_line-turn : (s rest : List ℕ) (c : ℕ) (after total : Bool) → IsUtf8 s → s ≡ encode c ++ rest → has_blank_line_from after (chars s) ≡ total → has_blank_line_from after (c ∷ chars rest) ≡ total
+pub has_blank_line-turn : (s rest : List ℕ) (c : ℕ) (after total : Bool) → IsUtf8 s → s ≡ encode c ++ rest
+    → has_blank_line_from after (chars s) ≡ total → has_blank_line_from after (c ∷ chars rest) ≡ total
 has_blank_line-turn s rest c after total u e h = ap (has_blank_line_from after) (sym (chars_past_char s rest c u e)) ∙ h
 
 -- what holds no blank line behind a line feed holds none anywhere
@@ -97,10 +109,12 @@ begins_none after (c ∷ cs) h =
     (λ n. rw n (and-false after))
 
 carriage_return-white : (after : Bool) (c : ℕ) → eqb c carriage_return ≡ true → (after && is_whitespace c) ≡ after
-carriage_return-white after c e = subst (λ x. (after && is_whitespace x) ≡ after) (sym (eqb-true c carriage_return e)) (and-true after)
+carriage_return-white after c e =
+    subst (λ x. (after && is_whitespace x) ≡ after) (sym (eqb-true c carriage_return e)) (and-true after)
 
 -- a text with no blank line is not without_blank_lines
-without_blank_lines-same : (after : Bool) (cs : List ℕ) → has_blank_line_from after cs ≡ false → without_blank_lines after cs ≡ cs
+without_blank_lines-same : (after : Bool) (cs : List ℕ) → has_blank_line_from after cs ≡ false
+    → without_blank_lines after cs ≡ cs
 without_blank_lines-same after [] h = refl
 without_blank_lines-same after (c ∷ cs) h =
     test (eqb c line_feed)
@@ -111,13 +125,17 @@ without_blank_lines-same after (c ∷ cs) h =
     let none : has_blank_line_from (after && is_whitespace c) cs ≡ false = rw n at h in
     test (eqb c carriage_return)
     (λ y.
-    let behind : has_blank_line_from after cs ≡ false = subst (λ x. has_blank_line_from x cs ≡ false) (carriage_return-white after c y) none in
-    rw (n, y, begins_none after cs behind) (ap (λ x. c ∷ x) (without_blank_lines-same false cs (none_afresh after cs behind))))
+    let behind : has_blank_line_from after cs ≡ false =
+    subst (λ x. has_blank_line_from x cs ≡ false) (carriage_return-white after c y) none in
+    rw (n, y, begins_none after cs behind)
+    (ap (λ x. c ∷ x) (without_blank_lines-same false cs (none_afresh after cs behind))))
     (λ o. rw (n, o) (ap (λ x. c ∷ x) (without_blank_lines-same (after && is_whitespace c) cs none))))
 
 -- the block of a text with no blank line is that text
-raw_block-same : (s : List ℕ) → IsUtf8 s → has_blank_line (chars s) ≡ false → raw_block s ≡ codes "\n\n" ++ s ++ codes "\n\n"
-raw_block-same s u h = ap with_blank_lines (ap encode_utf8_all (without_blank_lines-same false (chars s) h) ∙ encodes-chars s u)
+raw_block-same : (s : List ℕ) → IsUtf8 s → has_blank_line (chars s) ≡ false
+    → raw_block s ≡ codes "\n\n" ++ s ++ codes "\n\n"
+raw_block-same s u h =
+    ap with_blank_lines (ap encode_utf8_all (without_blank_lines-same false (chars s) h) ∙ encodes-chars s u)
 
 -- ---- references to line feeds
 
@@ -133,40 +151,54 @@ encodes-reference : encode_utf8_all line_feed_reference ≡ line_feed_reference
 unfolding encode
 encodes-reference = refl
 
-raw_html_from-refers : (after : Bool) (cs : List ℕ) → RefersToLineFeeds (encode_utf8_all cs) (encode_utf8_all (raw_html_from after cs))
+raw_html_from-refers : (after : Bool) (cs : List ℕ)
+    → RefersToLineFeeds (encode_utf8_all cs) (encode_utf8_all (raw_html_from after cs))
 raw_html_from-refers after [] = nothing
 raw_html_from-refers after (c ∷ cs) =
     test (eqb c line_feed)
     (λ y. test after
-    (λ a. rw (y, a) (subst (λ x. RefersToLineFeeds (x ++ encode_utf8_all cs) (encode_utf8_all (line_feed_reference ++ raw_html_from false cs))) (sym (ap encode (eqb-true c line_feed y) ∙ encode-line_feed))
-    (subst (λ x. RefersToLineFeeds (line_feed ∷ encode_utf8_all cs) x) (sym (encodes-append line_feed_reference (raw_html_from false cs) ∙ ap (λ x. x ++ encode_utf8_all (raw_html_from false cs)) encodes-reference))
+    (λ a. rw (y, a)
+    (subst (λ x. RefersToLineFeeds (x ++ encode_utf8_all cs)
+    (encode_utf8_all (line_feed_reference ++ raw_html_from false cs)))
+    (sym (ap encode (eqb-true c line_feed y) ∙ encode-line_feed))
+    (subst (λ x. RefersToLineFeeds (line_feed ∷ encode_utf8_all cs) x)
+    (sym (encodes-append line_feed_reference (raw_html_from false cs)
+    ∙ ap (λ x. x ++ encode_utf8_all (raw_html_from false cs)) encodes-reference))
     (reference (raw_html_from-refers false cs)))))
     (λ a. rw (y, a) (same_all (encode c) (raw_html_from-refers true cs))))
     (λ n. rw n (same_all (encode c) (raw_html_from-refers (after && is_whitespace c) cs)))
 
 -- a text behind two line feeds
-pub behind_line_feeds : (out s : List ℕ) → IsUtf8 out → out ≡ codes "\n\n" ++ s → IsCharBoundary out 2 × (drop 2 out ≡ s) × IsUtf8 s
+pub behind_line_feeds : (out s : List ℕ) → IsUtf8 out → out ≡ codes "\n\n" ++ s → IsCharBoundary out 2
+    × (drop 2 out ≡ s) × IsUtf8 s
 behind_line_feeds out s u e =
     let text : IsUtf8 (codes "\n\n" ++ s) = subst IsUtf8 e u in
-    let here : IsCharBoundary (codes "\n\n" ++ s) 2 = IsCharBoundary-after_ascii (codes "\n\n" ++ s) 1 text (omega arith) (omega arith) in
+    let here : IsCharBoundary (codes "\n\n" ++ s) 2 =
+    IsCharBoundary-after_ascii (codes "\n\n" ++ s) 1 text (omega arith) (omega arith) in
     (subst (λ x. IsCharBoundary x 2) (sym e) here, ap (drop 2) e, IsUtf8-drop (codes "\n\n" ++ s) 2 text here)
 
 -- where there is no blank line, the text behind two line feeds is its block but for the end
-pub block_kept : (out text s : List ℕ) → IsUtf8 out → out ≡ codes "\n\n" ++ s → text ≡ drop 2 out → has_blank_line (chars text) ≡ false → (raw_block s ≡ codes "\n\n" ++ s ++ codes "\n\n") × IsUtf8 s
+pub block_kept : (out text s : List ℕ) → IsUtf8 out → out ≡ codes "\n\n" ++ s → text ≡ drop 2 out
+    → has_blank_line (chars text) ≡ false → (raw_block s ≡ codes "\n\n" ++ s ++ codes "\n\n") × IsUtf8 s
 block_kept out text s u e cut none =
     let parts = behind_line_feeds out s u e in
     let same : text ≡ s = cut ∙ parts.1 in
     (raw_block-same s parts.2 (subst (λ x. has_blank_line (chars x) ≡ false) same none), parts.2)
 
 -- the block of a text without CR
-pub raw_block-raw_html : (s text : List ℕ) → IsUtf8 s → text ≡ raw_block s → has_carriage_return s ≡ false → IsRawBlock s text
+pub raw_block-raw_html : (s text : List ℕ) → IsUtf8 s → text ≡ raw_block s → has_carriage_return s ≡ false
+    → IsRawBlock s text
 raw_block-raw_html s text u e h = record {
   block = e ∙ ap (λ cs. with_blank_lines (encode_utf8_all cs)) (without_blank_lines-raw_html false (chars s) h);
-  line_feeds_alone = subst (λ x. RefersToLineFeeds x (encode_utf8_all (raw_html (chars s)))) (encodes-chars s u) (raw_html_from-refers false (chars s));
+  line_feeds_alone =
+      subst (λ x. RefersToLineFeeds x (encode_utf8_all (raw_html (chars s)))) (encodes-chars s u)
+      (raw_html_from-refers false (chars s));
   no_blank_line = none_found (raw_html (chars s)) (raw_html_from-no_blank_line false (chars s));
 }
 
 -- a block that was made of a text, if it was made
-pub IfOk-raw_block : {T E : Type 0} (r : Result (String T) E) (s : List ℕ) → IsUtf8 s → IfOk r (λ text. string_bytes text ≡ raw_block s) → IfOk r (λ text. has_carriage_return s ≡ false → IsRawBlock s (string_bytes text))
+pub IfOk-raw_block : {T E : Type 0} (r : Result (String T) E) (s : List ℕ) → IsUtf8 s
+    → IfOk r (λ text. string_bytes text ≡ raw_block s)
+    → IfOk r (λ text. has_carriage_return s ≡ false → IsRawBlock s (string_bytes text))
 IfOk-raw_block (Ok text) s u e = raw_block-raw_html s (string_bytes text) u e
 IfOk-raw_block (Err e) s u h = tt

@@ -68,8 +68,8 @@ pub data RefersToLineFeeds : List ℕ → List ℕ → Type 0 where
   same : {s t : List ℕ} (c : ℕ) → RefersToLineFeeds s t → RefersToLineFeeds (c ∷ s) (c ∷ t)
   reference : {s t : List ℕ} → RefersToLineFeeds s t → RefersToLineFeeds (line_feed ∷ s) (line_feed_reference ++ t)
 
--- What the block of a text without CR is: the text, with no blank line in it, since references stand in place of some of
--- its line feeds.
+-- What the block of a text without CR is: the text, with no blank line in it, since references stand in place of some
+-- of its line feeds.
 pub record IsRawBlock (s text : List ℕ) : Type 0 where
   pub block : text ≡ with_blank_lines (encode_utf8_all (raw_html (chars s)))
   pub line_feeds_alone : RefersToLineFeeds s (encode_utf8_all (raw_html (chars s)))

@@ -14,8 +14,8 @@ pub fn with_blank_lines(alloc: Global, text: &str) -> Result<String, AllocError>
     concat(alloc, &[BLANK_LINE, text, BLANK_LINE])
 }
 
-/// Puts a blank line before and after the text, in place, with one growth at most. On an `Err`, want of memory, the text is
-/// as it was.
+/// Puts a blank line before and after the text, in place, with one growth at most. On an `Err`, want of
+/// memory, the text is as it was.
 pub fn surround_with_blank_lines(text: &mut String) -> Result<(), AllocError>
     ensures ok { OnOk result
         (string_bytes text.new ≡ spec.with_blank_lines (string_bytes text.old)) }

@@ -23,10 +23,11 @@ pub(crate) enum Marks {
     },
 }
 
-/// The text with a backslash before each marked place: `\`, `*`, `_`, backquote, `[` and `]`; a `<` that opens HTML; at
-/// the front `=`, `~`, `>`, `-` or `+` before a space, the first `#` of an ATX heading; and the dot of an ordered list
-/// item whose number begins with an ASCII digit (CommonMark 0.31.2, 2.4). So `---`, `1) a`, `#` alone and `-` alone stay
-/// as they are. Where no place is marked the text is borrowed; an `Err` is want of memory for a text with marks.
+/// The text with a backslash before each marked place: `\`, `*`, `_`, backquote, `[` and `]`; a `<` that
+/// opens HTML; at the front `=`, `~`, `>`, `-` or `+` before a space, the first `#` of an ATX heading; and
+/// the dot of an ordered list item whose number begins with an ASCII digit (CommonMark 0.31.2, 2.4). So
+/// `---`, `1) a`, `#` alone and `-` alone stay as they are. Where no place is marked the text is borrowed; an
+/// `Err` is want of memory for a text with marks.
 pub fn escape_if_needed(alloc: Global, text: &str) -> Result<CowStr<'_>, AllocError>
     ensures text { IfOk result (λ c. cow_str_bytes c ≡ spec.escaped_markdown text.now) }
     ensures reads_back { IfOk result (λ c. unescape (cow_str_bytes c) ≡ text.now) }
@@ -43,9 +44,9 @@ pub fn escape_if_needed(alloc: Global, text: &str) -> Result<CowStr<'_>, AllocEr
     with_backslashes(alloc, text, marks)
 }
 
-/// The text with a backslash before each `<` that opens HTML: before an ASCII letter, `?`, `/` and a letter, or `!` that
-/// does not begin a CDATA section, escaped or not (CommonMark 0.31.2, 4.6 and 6.6). Where there is none the text is
-/// borrowed; an `Err` is want of memory for a text with marks.
+/// The text with a backslash before each `<` that opens HTML: before an ASCII letter, `?`, `/` and a letter,
+/// or `!` that does not begin a CDATA section, escaped or not (CommonMark 0.31.2, 4.6 and 6.6). Where there
+/// is none the text is borrowed; an `Err` is want of memory for a text with marks.
 pub fn escape_html(alloc: Global, text: &str) -> Result<CowStr<'_>, AllocError>
     ensures text { IfOk result (λ c. cow_str_bytes c ≡ spec.escaped_angle_brackets text.now) }
     ensures borrowed { spec.escaped_angle_brackets text.now ≡ text.now

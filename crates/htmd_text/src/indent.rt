@@ -6,9 +6,9 @@ use crate::repetition::push_repeated;
 use crate::trim::without_document_end;
 use std::alloc::{AllocError, Global};
 
-/// The text's lines (as of `str::lines`: a line ends at LF or CR LF) joined by line feeds, each but the first and the
-/// empty ones behind so many spaces, and where asked without document white space at their ends. Without spaces it is the
-/// text itself. An `Err` is want of memory.
+/// The text's lines (as of `str::lines`: a line ends at LF or CR LF) joined by line feeds, each but the first
+/// and the empty ones behind so many spaces, and where asked without document white space at their ends.
+/// Without spaces it is the text itself. An `Err` is want of memory.
 pub fn indent_text_except_first_line(
     alloc: Global,
     text: &str,

@@ -11,8 +11,8 @@ use std::convert::AsStr;
 
 /// The items of an iterator as one text.
 pub trait JoinOnStringIterator: Iterator {
-    /// The items that are left, with the separator between each two. The iterator has to end. An `Err` is want of memory;
-    /// the items that were taken are gone then.
+    /// The items that are left, with the separator between each two. The iterator has to end. An `Err` is
+    /// want of memory; the items that were taken are gone then.
     final fn join(&mut self, alloc: Global, separator: &str) -> Result<String, AllocError>
     where
         Self: Sized,

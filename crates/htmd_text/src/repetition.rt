@@ -3,8 +3,8 @@ ghost use Rattle.std.specs.Prelude.{◌≡◌, ◌<◌, ◌++◌, OnErr, OnOk, r
 
 use std::alloc::AllocError;
 
-/// Puts an ASCII character so often behind the text, with one growth at most. On an `Err`, want of memory, the text is as
-/// it was.
+/// Puts an ASCII character so often behind the text, with one growth at most. On an `Err`, want of memory,
+/// the text is as it was.
 pub fn push_repeated(text: &mut String, character: char, count: usize) -> Result<(), AllocError>
     requires { character < 128 }
     ensures ok { OnOk result

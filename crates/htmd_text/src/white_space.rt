@@ -7,8 +7,8 @@ ghost use Rattle.htmd_text.specs.Replacement.{IsReplaced, is_squeezed};
 use std::alloc::{AllocError, Global};
 use std::borrow::CowStr;
 
-/// The text with each maximal run of ASCII white space (Infra standard, 4.5) as one space. A text that stays as it is is
-/// borrowed; an `Err` is want of memory for one that changes.
+/// The text with each maximal run of ASCII white space (Infra standard, 4.5) as one space. A text that stays
+/// as it is is borrowed; an `Err` is want of memory for one that changes.
 pub fn compress_whitespace(alloc: Global, text: &str) -> Result<CowStr<'_>, AllocError>
     ensures text { IfOk result (λ c. cow_str_bytes c ≡ spec.squeezed_text text.now) }
     ensures borrowed { spec.squeezed_text text.now ≡ text.now → IsOkAnd result (λ c. IsBorrowedStr c) }

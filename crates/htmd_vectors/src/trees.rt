@@ -115,6 +115,7 @@ fn underlines_headings(rt: HostRuntime) -> Result<(), Fail> {
     ];
     let setext = Options {
         heading_style: HeadingStyle::Setex,
+        ..Options::default()
     };
     let converter = HtmlToMarkdown::builder(rt.alloc())?.options(setext).build();
     for (name, text, markdown) in table {
