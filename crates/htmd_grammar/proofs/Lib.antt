@@ -34,3 +34,5 @@ mod RightFaults
 mod Runs
 mod FaultExamples
 mod TextsLeft
+mod DenotationExamples
+mod RefusalExamples
