@@ -5,6 +5,8 @@ use Rattle.std.proofs.Common.{◌∷◌, ◌≡◌, ◌⊎◌}
 use Rattle.std.specs.Char.{is_ascii_alphabetic, is_ascii_alphanumeric, is_ascii_digit, is_ascii_hexdigit}
 use Rattle.std.specs.Char.{to_ascii_lowercase}
 use Rattle.std.specs.List.{list_any}
+use Rattle.htmd_text.specs.Characters.{ampersand, carriage_return, exclamation_mark, greater_than_sign, hyphen}
+use Rattle.htmd_text.specs.Characters.{less_than_sign, line_feed, number_sign, semicolon, slash}
 use Rattle.htmd_text.specs.WhiteSpace.{is_ascii_white_space}
 use Rattle.htmd_grammar.specs.CharacterClasses.{begins_in_any_case, begins_with, behind_run, first_is, is_tag_name}
 use Rattle.htmd_grammar.specs.CharacterClasses.{is_tag_name_byte, lacks, leading_run}
@@ -32,8 +34,10 @@ use Rattle.htmd_grammar.proofs.TextLemmas.{gap_no_name, name_cut, name_head, sto
 -- ---- references
 
 -- only `&` begins a reference
-pub no_number : (names : Names) (b : ℕ) (s : List ℕ) → (b == 38) ≡ false → is_bad_number (piece_at names b s) ≡ false
-no_number names b s e = test (b == 13) (λ t. test (first_is 10 s) (λ q. rw (e, t, q) refl) (λ q. rw (e, t, q) refl))
+pub no_number : (names : Names) (b : ℕ) (s : List ℕ) → (b == ampersand) ≡ false
+    → is_bad_number (piece_at names b s) ≡ false
+no_number names b s e = test (b == carriage_return) (λ t. test (first_is line_feed s) (λ q. rw (e, t, q) refl)
+    (λ q. rw (e, t, q) refl))
     (λ t. rw (e, t) refl)
 
 numbers_right_from : (names : Names) (s : List ℕ) (n : ℕ) (u : List ℕ) → decode names n s ≡ Some u → Skips n s
@@ -43,8 +47,8 @@ numbers_right_from names (b ∷ s) zero u d k =
     let p = put_parts (piece_at names b s) (λ n. decode names n s) u d in
     rw (p.3, numbers_right_from names s p.0 p.2 p.4 (skips_fit p.0 s (piece_fits names b s p.1 p.0 p.3))) refl
 numbers_right_from names (b ∷ s) (suc n) u d k =
-    let q = and_true (not (b == 38)) (lacks 38 (take n s)) k in
-    rw (no_number names b s (not_true (b == 38) q.0), numbers_right_from names s n u d q.1) refl
+    let q = and_true (not (b == ampersand)) (lacks ampersand (take n s)) k in
+    rw (no_number names b s (not_true (b == ampersand) q.0), numbers_right_from names s n u d q.1) refl
 
 -- what is decoded has no wrong number
 pub numbers_right : (names : Names) (s u : List ℕ) → decode names 0 s ≡ Some u → has_bad_number names s ≡ false
@@ -59,7 +63,7 @@ wrong_same k l e = cc
 
 number_wrong : (p : ℕ → Bool) (base n : ℕ) (s : List ℕ) (k : FaultKind) → number_at p base n s ≡ wrong k → BadNumber ≡ k
 number_wrong p base n s k e =
-    elim (if_then (first_is 59 (behind_run p s) && not (first_is 59 s))
+    elim (if_then (first_is semicolon (behind_run p s) && not (first_is semicolon s))
     (numbered (suc (n + length (leading_run p s))) (number base 0 (leading_run p s))) (wrong BadNumber) (wrong k) e) [
       | inl w ↦ elim (if_then (may_be_numbered (number base 0 (leading_run p s))) (stands _ _) (wrong BadNumber)
           (wrong k) w.1) [ inl u ↦ absurd (let z = u.1 in cc) | inr u ↦ wrong_same BadNumber k u.1 ]
@@ -78,10 +82,10 @@ named_wrong n (Some c) k e = absurd (cc)
 
 pub piece_wrong : (names : Names) (b : ℕ) (s : List ℕ) (k : FaultKind) → piece_at names b s ≡ wrong k
     → IsWrongReference k
-piece_wrong names b s k e = elim (if_then (b == 38) (behind_ampersand names s) _ (wrong k) e) [
-  | inl w ↦ elim (if_then (first_is 35 s) (behind_number_sign (drop 1 s)) _ (wrong k) w.1) [
+piece_wrong names b s k e = elim (if_then (b == ampersand) (behind_ampersand names s) _ (wrong k) e) [
+  | inl w ↦ elim (if_then (first_is number_sign s) (behind_number_sign (drop 1 s)) _ (wrong k) w.1) [
     | inl u ↦ inr (sym (sign_wrong (drop 1 s) k u.1))
-    | inr u ↦ elim (if_then (first_is 59 (behind_run is_ascii_alphanumeric s) && not (first_is 59 s))
+    | inr u ↦ elim (if_then (first_is semicolon (behind_run is_ascii_alphanumeric s) && not (first_is semicolon s))
         (named (suc (length (leading_run is_ascii_alphanumeric s)))
         (character_named names (leading_run is_ascii_alphanumeric s))) _ (wrong k) u.1) [
           | inl y ↦ inl (sym (named_wrong (suc (length (leading_run is_ascii_alphanumeric s)))
@@ -89,12 +93,13 @@ piece_wrong names b s k e = elim (if_then (b == 38) (behind_ampersand names s) _
           | inr y ↦ absurd (let z = y.1 in cc)
         ]
   ]
-  | inr w ↦ elim (if_then (b == 13) _ (stands 0 (b ∷ [])) (wrong k) w.1) [
-    | inl u ↦ elim (if_then (first_is 10 s) (stands 1 (10 ∷ [])) (stands 0 (10 ∷ [])) (wrong k) u.1) [
-      | inl y ↦
-          absurd (let z = y.1 in cc)
-      | inr y ↦ absurd (let z = y.1 in cc)
-    ]
+  | inr w ↦ elim (if_then (b == carriage_return) _ (stands 0 (b ∷ [])) (wrong k) w.1) [
+    | inl u ↦ elim (if_then (first_is line_feed s) (stands 1 (line_feed ∷ [])) (stands 0 (line_feed ∷ []))
+        (wrong k) u.1) [
+          | inl y ↦
+              absurd (let z = y.1 in cc)
+          | inr y ↦ absurd (let z = y.1 in cc)
+        ]
     | inr u ↦ absurd (let z = u.1 in cc)
   ]
 ]
@@ -159,13 +164,14 @@ form_read_behind w = form_within (suc (length (behind_run is_tag_name_byte w))) 
 
 -- a start tag that stands there is the one that is read
 pub form_is_read : (w n : List ℕ) (spelled : List AttributePair) (present : Bool)
-    → HasTagForm (60 ∷ w) n spelled present
+    → HasTagForm (less_than_sign ∷ w) n spelled present
     → (is_tag_name (leading_run is_tag_name_byte w) ≡ true) × (name_read w ≡ n) × (x : List ℕ)
     × (form_read_behind w ≡ form spelled present x)
 form_is_read w n spelled present h =
     let t = h.3 in
     let e : w ≡ t.0 ++ (t.1 ++ h.1) =
-    tail_same (h.2 ∙ (ap (λ (y : List ℕ). y ++ h.1) t.2 ∙ ap (λ (y : List ℕ). 60 ∷ y) (append_assoc t.0 t.1 h.1)))
+    tail_same (h.2 ∙ (ap (λ (y : List ℕ). y ++ h.1) t.2
+    ∙ ap (λ (y : List ℕ). less_than_sign ∷ y) (append_assoc t.0 t.1 h.1)))
     in
     let c = name_cut t.0 (t.1 ++ h.1) t.3 (halts_name (t.1 ++ h.1) (rest_halts spelled present t.1 h.1 t.5).0) in
     let l : leading_run is_tag_name_byte w ≡ t.0 = ap (leading_run is_tag_name_byte) e ∙ c.0 in
@@ -177,7 +183,7 @@ form_is_read w n spelled present h =
       ap (λ (y : List ℕ). form_within (suc (length y)) y) b ∙ form_read spelled present t.1 h.1 t.5,
     )
   where
-    tail_same : {u : List ℕ} → 60 ∷ w ≡ 60 ∷ u → w ≡ u
+    tail_same : {u : List ℕ} → less_than_sign ∷ w ≡ less_than_sign ∷ u → w ≡ u
     tail_same q = cc
 
 form_parts : (a b : List AttributePair) (c d : Bool) (s t : List ℕ) → form a c s ≡ form b d t → (a ≡ b) × (c ≡ d)
@@ -186,7 +192,7 @@ form_parts a b c d s t e = (cc, cc)
 -- so there is no other
 pub same_form : (w n x : List ℕ) (spelled : List AttributePair) (present : Bool) (m : List ℕ)
     (others : List AttributePair) (slashed : Bool) → name_read w ≡ n → form_read_behind w ≡ form spelled present x
-    → HasTagForm (60 ∷ w) m others slashed → (m ≡ n) × (others ≡ spelled) × (slashed ≡ present)
+    → HasTagForm (less_than_sign ∷ w) m others slashed → (m ≡ n) × (others ≡ spelled) × (slashed ≡ present)
 same_form w n x spelled present m others slashed e f h =
     let r = form_is_read w m others slashed h in
     let p = form_parts others spelled slashed present r.2 x (sym r.3 ∙ f) in
@@ -194,48 +200,52 @@ same_form w n x spelled present m others slashed e f h =
 
 -- it begins with `<` and a letter
 pub form_letter : (d : ℕ) (w n : List ℕ) (spelled : List AttributePair) (present : Bool)
-    → HasTagForm (60 ∷ d ∷ w) n spelled present → is_ascii_alphabetic d ≡ true
+    → HasTagForm (less_than_sign ∷ d ∷ w) n spelled present → is_ascii_alphabetic d ≡ true
 form_letter d w n spelled present h =
     let t = h.3 in
     let k = name_head t.0 t.3 in
-    let e : 60 ∷ d ∷ w ≡ 60 ∷ k.0 ∷ (k.1 ++ (t.1 ++ h.1)) = h.2
-    ∙ (ap (λ (y : List ℕ). y ++ h.1) (t.2 ∙ ap (λ (y : List ℕ). 60 ∷ (y ++ t.1)) k.2)
-    ∙ ap (λ (y : List ℕ). 60 ∷ k.0 ∷ y) (append_assoc k.1 t.1 h.1)) in
+    let e : less_than_sign ∷ d ∷ w ≡ less_than_sign ∷ k.0 ∷ (k.1 ++ (t.1 ++ h.1)) = h.2
+    ∙ (ap (λ (y : List ℕ). y ++ h.1) (t.2 ∙ ap (λ (y : List ℕ). less_than_sign ∷ (y ++ t.1)) k.2)
+    ∙ ap (λ (y : List ℕ). less_than_sign ∷ k.0 ∷ y) (append_assoc k.1 t.1 h.1)) in
     ap is_ascii_alphabetic (second e) ∙ k.3
   where
-    second : {b : ℕ} {u : List ℕ} → 60 ∷ d ∷ w ≡ 60 ∷ b ∷ u → d ≡ b
+    second : {b : ℕ} {u : List ℕ} → less_than_sign ∷ d ∷ w ≡ less_than_sign ∷ b ∷ u → d ≡ b
     second q = cc
 
 -- an end tag that stands there is the one that is read
-pub end_is_read : (d : ℕ) (w n : List ℕ) → HasEndTag (60 ∷ d ∷ w) n
-    → (d ≡ 47) × (is_tag_name (leading_run is_tag_name_byte w) ≡ true)
-    × (first_is 62 (behind_run is_ascii_white_space (behind_run is_tag_name_byte w)) ≡ true) × (name_read w ≡ n)
+pub end_is_read : (d : ℕ) (w n : List ℕ) → HasEndTag (less_than_sign ∷ d ∷ w) n
+    → (d ≡ slash) × (is_tag_name (leading_run is_tag_name_byte w) ≡ true)
+    × (first_is greater_than_sign (behind_run is_ascii_white_space (behind_run is_tag_name_byte w)) ≡ true)
+    × (name_read w ≡ n)
 end_is_read d w n h =
     let t = h.3 in
-    let e : 60 ∷ d ∷ w ≡ 60 ∷ 47 ∷ (t.0 ++ (t.1 ++ (62 ∷ h.1))) =
-    h.2 ∙ (ap (λ (y : List ℕ). y ++ h.1) t.2 ∙ ap (λ (y : List ℕ). 60 ∷ 47 ∷ y) (append_assoc t.0 (t.1 ++ 62 ∷ []) h.1
-    ∙ ap (λ (y : List ℕ). t.0 ++ y) (append_assoc t.1 (62 ∷ []) h.1))) in
+    let e : less_than_sign ∷ d ∷ w ≡ less_than_sign ∷ slash ∷ (t.0 ++ (t.1 ++ (greater_than_sign ∷ h.1))) =
+    h.2 ∙ (ap (λ (y : List ℕ). y ++ h.1) t.2 ∙ ap (λ (y : List ℕ). less_than_sign ∷ slash ∷ y)
+    (append_assoc t.0 (t.1 ++ greater_than_sign ∷ []) h.1
+    ∙ ap (λ (y : List ℕ). t.0 ++ y) (append_assoc t.1 (greater_than_sign ∷ []) h.1))) in
     let q = parts e in
-    let c = name_cut t.0 (t.1 ++ (62 ∷ h.1)) t.3 (gap_no_name t.1 h.1 t.4) in
+    let c = name_cut t.0 (t.1 ++ (greater_than_sign ∷ h.1)) t.3 (gap_no_name t.1 h.1 t.4) in
     let l : leading_run is_tag_name_byte w ≡ t.0 = ap (leading_run is_tag_name_byte) q.1 ∙ c.0 in
-    let b : behind_run is_tag_name_byte w ≡ t.1 ++ (62 ∷ h.1) = ap (behind_run is_tag_name_byte) q.1 ∙ c.1 in (
+    let b : behind_run is_tag_name_byte w ≡ t.1 ++ (greater_than_sign ∷ h.1) = ap (behind_run is_tag_name_byte) q.1
+    ∙ c.1 in (
       q.0,
       ap is_tag_name l ∙ t.3,
-      ap (λ (y : List ℕ). first_is 62 (behind_run is_ascii_white_space y)) b
-          ∙ ap (first_is 62) (white_back t.1 (62 ∷ h.1) t.4 refl),
+      ap (λ (y : List ℕ). first_is greater_than_sign (behind_run is_ascii_white_space y)) b
+          ∙ ap (first_is greater_than_sign) (white_back t.1 (greater_than_sign ∷ h.1) t.4 refl),
       ap (map to_ascii_lowercase) l ∙ t.5,
     )
   where
-    parts : {u : List ℕ} → 60 ∷ d ∷ w ≡ 60 ∷ 47 ∷ u → (d ≡ 47) × (w ≡ u)
+    parts : {u : List ℕ} → less_than_sign ∷ d ∷ w ≡ less_than_sign ∷ slash ∷ u → (d ≡ slash) × (w ≡ u)
     parts q = (cc, cc)
 
 -- a comment begins with `<!`, and is the one that is read
-pub comment_is_read : (d : ℕ) (w : List ℕ) → HasComment (60 ∷ d ∷ w)
-    → (d ≡ 33) × (begins_with (codes "--") w ≡ true) × (inner rest : List ℕ)
+pub comment_is_read : (d : ℕ) (w : List ℕ) → HasComment (less_than_sign ∷ d ∷ w)
+    → (d ≡ exclamation_mark) × (begins_with (codes "--") w ≡ true) × (inner rest : List ℕ)
     × (before_comment_end (drop 2 w) ≡ cut inner rest) × (is_comment_text inner ≡ true)
 comment_is_read d w h =
     let i = h.4 in
-    let e : 60 ∷ d ∷ w ≡ 60 ∷ 33 ∷ 45 ∷ 45 ∷ (i.0 ++ h.1) = h.3 ∙ ap (λ (y : List ℕ). y ++ h.1) i.2 in
+    let e : less_than_sign ∷ d ∷ w ≡ less_than_sign ∷ exclamation_mark ∷ hyphen ∷ hyphen ∷ (i.0 ++ h.1) = h.3
+    ∙ ap (λ (y : List ℕ). y ++ h.1) i.2 in
     let q = parts e in (
       q.0,
       ap (begins_with (codes "--")) q.1,
@@ -246,27 +256,30 @@ comment_is_read d w h =
       i.4,
     )
   where
-    parts : {u : List ℕ} → 60 ∷ d ∷ w ≡ 60 ∷ 33 ∷ u → (d ≡ 33) × (w ≡ u)
+    parts : {u : List ℕ} → less_than_sign ∷ d ∷ w ≡ less_than_sign ∷ exclamation_mark ∷ u
+        → (d ≡ exclamation_mark) × (w ≡ u)
     parts q = (cc, cc)
 
 -- what is read as an end tag is one
 pub end_tag_there : (w : List ℕ) → is_tag_name (leading_run is_tag_name_byte w) ≡ true
-    → first_is 62 (behind_run is_ascii_white_space (behind_run is_tag_name_byte w)) ≡ true
-    → HasEndTag (60 ∷ 47 ∷ w) (name_read w)
+    → first_is greater_than_sign (behind_run is_ascii_white_space (behind_run is_tag_name_byte w)) ≡ true
+    → HasEndTag (less_than_sign ∷ slash ∷ w) (name_read w)
 end_tag_there w i j =
     let t = end_tag_at (leading_run is_tag_name_byte w) (behind_run is_tag_name_byte w) i j in (
       t.0,
       drop 1 (behind_run is_ascii_white_space (behind_run is_tag_name_byte w)),
-      ap (λ (y : List ℕ). 60 ∷ 47 ∷ y)
+      ap (λ (y : List ℕ). less_than_sign ∷ slash ∷ y)
           (back_split is_tag_name_byte w) ∙ t.1,
       t.2,
     )
 
 -- what ends a text has two characters, the first is `<`
-pub two_bytes : (z : Bool) (n s : List ℕ) → ends_text z n s ≡ true → (d : ℕ) × (x : List ℕ) × (s ≡ 60 ∷ d ∷ x)
+pub two_bytes : (z : Bool) (n s : List ℕ) → ends_text z n s ≡ true
+    → (d : ℕ) × (x : List ℕ) × (s ≡ less_than_sign ∷ d ∷ x)
 two_bytes z n [] e = let h = stop_head z n [] e in absurd (let k = h.1 in cc)
 two_bytes z n (b ∷ []) e = absurd (no_one (test (holds_text_alone z n) (λ t. rw t at e) (λ t. rw t at e)))
   where
     no_one : false ≡ true → ⊥
     no_one q = cc
-two_bytes z n (b ∷ d ∷ x) e = let h = (stop_head z n (b ∷ d ∷ x) e).1 in (d, x, let i : b ≡ 60 = cc in rw i refl)
+two_bytes z n (b ∷ d ∷ x) e = let h = (stop_head z n (b ∷ d ∷ x) e).1 in
+    (d, x, let i : b ≡ less_than_sign = cc in rw i refl)

@@ -3,6 +3,7 @@ use Rattle.std.proofs.Common.{Bool, List, None, [], ap, arith, codes, false, inl
 use Rattle.std.proofs.Common.{◌∙◌, ◌∷◌, ◌≡◌, ◌≤◌, ◌⊎◌}
 use Rattle.std.specs.Char.{is_ascii_alphabetic}
 use Rattle.std.specs.List.{list_all, list_any}
+use Rattle.htmd_text.specs.Characters.{exclamation_mark, less_than_sign, slash}
 use Rattle.htmd_text.specs.WhiteSpace.{is_ascii_white_space}
 use Rattle.htmd_grammar.specs.CharacterClasses.{are_distinct, begins_with, up_to}
 use Rattle.htmd_grammar.specs.Documents.{above_body}
@@ -37,34 +38,37 @@ pub not_both : (b : Bool) → b ≡ true → b ≡ false → ⊥
 not_both b e f = let w = rw f at e in cc
 
 -- `<!` begins no tag, and no `<?`
-exclamation_tag : (w : List ℕ) → begins_tag (60 ∷ 33 ∷ w) ≡ true → ⊥
+exclamation_tag : (w : List ℕ) → begins_tag (less_than_sign ∷ exclamation_mark ∷ w) ≡ true → ⊥
 exclamation_tag w e = cc
 
-exclamation_question : (w : List ℕ) → begins_with (codes "<?") (60 ∷ 33 ∷ w) ≡ true → ⊥
+exclamation_question : (w : List ℕ) → begins_with (codes "<?") (less_than_sign ∷ exclamation_mark ∷ w) ≡ true → ⊥
 exclamation_question w e = cc
 
 exclamation_form : (w n : List ℕ) (spelled : List AttributePair) (present : Bool)
-    → HasTagForm (60 ∷ 33 ∷ w) n spelled present → ⊥
-exclamation_form w n spelled present h = let a = form_letter 33 w n spelled present h in cc
+    → HasTagForm (less_than_sign ∷ exclamation_mark ∷ w) n spelled present → ⊥
+exclamation_form w n spelled present h = let a = form_letter exclamation_mark w n spelled present h in cc
 
-exclamation_end : (w n : List ℕ) → HasEndTag (60 ∷ 33 ∷ w) n → ⊥
-exclamation_end w n h = let a = (end_is_read 33 w n h).0 in cc
+exclamation_end : (w n : List ℕ) → HasEndTag (less_than_sign ∷ exclamation_mark ∷ w) n → ⊥
+exclamation_end w n h = let a = (end_is_read exclamation_mark w n h).0 in cc
 
-exclamation_comment : (w : List ℕ) → HasComment (60 ∷ 33 ∷ w) → begins_with (codes "<!--") (60 ∷ 33 ∷ w) ≡ false → ⊥
-exclamation_comment w c e = not_both (begins_with (codes "--") w) (comment_is_read 33 w c).1 e
+exclamation_comment : (w : List ℕ) → HasComment (less_than_sign ∷ exclamation_mark ∷ w)
+    → begins_with (codes "<!--") (less_than_sign ∷ exclamation_mark ∷ w) ≡ false → ⊥
+exclamation_comment w c e = not_both (begins_with (codes "--") w) (comment_is_read exclamation_mark w c).1 e
 
 -- `</` begins no start tag, and nothing with `<!` or `<?`
-slash_comment : (w : List ℕ) → begins_with (codes "<!--") (60 ∷ 47 ∷ w) ≡ true → ⊥
+slash_comment : (w : List ℕ) → begins_with (codes "<!--") (less_than_sign ∷ slash ∷ w) ≡ true → ⊥
 slash_comment w e = cc
 
-slash_declaration : (w : List ℕ) → (begins_with (codes "<?") (60 ∷ 47 ∷ w) ≡ true)
-    ⊎ ((begins_with (codes "<!") (60 ∷ 47 ∷ w) ≡ true) × (begins_with (codes "<!--") (60 ∷ 47 ∷ w) ≡ false)) → ⊥
+slash_declaration : (w : List ℕ) → (begins_with (codes "<?") (less_than_sign ∷ slash ∷ w) ≡ true)
+    ⊎ ((begins_with (codes "<!") (less_than_sign ∷ slash ∷ w) ≡ true)
+    × (begins_with (codes "<!--") (less_than_sign ∷ slash ∷ w) ≡ false)) → ⊥
 slash_declaration w (inl e) = cc
 slash_declaration w (inr e) = let f = e.0 in cc
 
-slash_form : (w n : List ℕ) (spelled : List AttributePair) (present : Bool) → HasTagForm (60 ∷ 47 ∷ w) n spelled present
+slash_form : (w n : List ℕ) (spelled : List AttributePair) (present : Bool)
+    → HasTagForm (less_than_sign ∷ slash ∷ w) n spelled present
     → ⊥
-slash_form w n spelled present h = let a = form_letter 47 w n spelled present h in cc
+slash_form w n spelled present h = let a = form_letter slash w n spelled present h in cc
 
 -- a text that goes on has not ended
 more_left : (b : ℕ) (s : List ℕ) → b ∷ s ≡ [] → ⊥
@@ -136,23 +140,24 @@ module _ (rules : Rules) (fs : List OpenElement) where
   -- what is known of a start tag
   pub record TagPassed (k d : ℕ) (w n : List ℕ) (spelled : List AttributePair) (present : Bool) : Type 0 where
     pub at_most : k ≤ 15
-    pub markup : ends_text rules.scripting TheParent (60 ∷ d ∷ w) ≡ true
+    pub markup : ends_text rules.scripting TheParent (less_than_sign ∷ d ∷ w) ≡ true
     pub letter : is_ascii_alphabetic d ≡ true
-    pub has : HasTagForm (60 ∷ d ∷ w) n spelled present
-    pub only : (m : List ℕ) (others : List AttributePair) (slashed : Bool) → HasTagForm (60 ∷ d ∷ w) m others slashed
+    pub has : HasTagForm (less_than_sign ∷ d ∷ w) n spelled present
+    pub only : (m : List ℕ) (others : List AttributePair) (slashed : Bool)
+        → HasTagForm (less_than_sign ∷ d ∷ w) m others slashed
         → (m ≡ n) × (others ≡ spelled) × (slashed ≡ present)
     pub known : 5 < k → list_any (λ a. has_unknown_reference rules.names a.value) spelled ≡ false
     pub right_numbers : 6 < k → list_any (λ a. has_bad_number rules.names a.value) spelled ≡ false
     pub distinct : 7 < k → are_distinct (attribute_names spelled) ≡ true
     pub may_close : 8 < k → present ≡ true → is_void n ≡ true
     pub inside : 9 < k → is_outside n ≡ false
-    pub allowed : 10 < k → is_allowed rules.scripting (context_for rules fs (60 ∷ d ∷ w) n) n ≡ true
+    pub allowed : 10 < k → is_allowed rules.scripting (context_for rules fs (less_than_sign ∷ d ∷ w) n) n ≡ true
 
-  no_end_tag : (d : ℕ) (w n : List ℕ) → is_ascii_alphabetic d ≡ true → HasEndTag (60 ∷ d ∷ w) n → ⊥
+  no_end_tag : (d : ℕ) (w n : List ℕ) → is_ascii_alphabetic d ≡ true → HasEndTag (less_than_sign ∷ d ∷ w) n → ⊥
   no_end_tag d w n a h = let q = (end_is_read d w n h).0 in let z = rw q at a in cc
 
   pub none_below_tag : (k d : ℕ) (w n : List ℕ) (spelled : List AttributePair) (present : Bool)
-      → TagPassed k d w n spelled present → NoneBelow k (60 ∷ d ∷ w)
+      → TagPassed k d w n spelled present → NoneBelow k (less_than_sign ∷ d ∷ w)
   none_below_tag k d w n spelled present p Nul l h = h
   none_below_tag k d w n spelled present p MalformedTag l h = h.2 n spelled present p.has
   none_below_tag k d w n spelled present p MalformedComment l h = let a = letter_not d p.letter in let e = h.1 in
@@ -185,7 +190,8 @@ module _ (rules : Rules) (fs : List OpenElement) where
   ]
   none_below_tag k d w n spelled present p NotAllowedHere l h =
       let u = p.only h.1 h.2 h.3 h.4 in
-      not_both _ (subst (λ (y : List ℕ). is_allowed rules.scripting (context_for rules fs (60 ∷ d ∷ w) y) y ≡ true)
+      not_both _ (subst (λ (y : List ℕ). is_allowed rules.scripting (context_for rules fs (less_than_sign ∷ d ∷ w) y) y
+      ≡ true)
       (sym u.0) (p.allowed l)) h.5
   none_below_tag k d w n spelled present p StrayEndTag l h = no_end_tag d w h.1 p.letter h.2
   none_below_tag k d w n spelled present p StrayText l h = not_both _ p.markup ((h.0).0).1
@@ -194,9 +200,10 @@ module _ (rules : Rules) (fs : List OpenElement) where
   none_below_tag k d w n spelled present p TooDeep l h = let a = p.at_most in omega arith
 
   -- of an end tag
-  pub none_below_end : (k : ℕ) (w n : List ℕ) → k ≤ 11 → (2 < k → HasEndTag (60 ∷ 47 ∷ w) n)
-      → (9 < k → is_outside (name_read w) ≡ false) → ends_text rules.scripting TheParent (60 ∷ 47 ∷ w) ≡ true
-      → NoneBelow k (60 ∷ 47 ∷ w)
+  pub none_below_end : (k : ℕ) (w n : List ℕ) → k ≤ 11 → (2 < k → HasEndTag (less_than_sign ∷ slash ∷ w) n)
+      → (9 < k → is_outside (name_read w) ≡ false) → ends_text rules.scripting TheParent (less_than_sign ∷ slash ∷ w)
+      ≡ true
+      → NoneBelow k (less_than_sign ∷ slash ∷ w)
   none_below_end k w n u t o m Nul l h = h
   none_below_end k w n u t o m MalformedTag l h = h.3 n (t l)
   none_below_end k w n u t o m MalformedComment l h = slash_comment w h.1
@@ -209,7 +216,7 @@ module _ (rules : Rules) (fs : List OpenElement) where
   none_below_end k w n u t o m SelfClosing l h = slash_form w h.1 h.2 true h.3
   none_below_end k w n u t o m TagOutside l h = elim (h.3) [
     | inl f ↦ slash_form w h.1 f.0 f.1 f.2
-    | inr e ↦ (let r = (end_is_read 47 w h.1 e).3 in
+    | inr e ↦ (let r = (end_is_read slash w h.1 e).3 in
         not_both _ h.2 (subst (λ (y : List ℕ). is_outside y ≡ false) r (o l)))
   ]
   none_below_end k w n u t o m NotAllowedHere l h = slash_form w h.1 h.2 h.3 h.4
@@ -220,8 +227,9 @@ module _ (rules : Rules) (fs : List OpenElement) where
   none_below_end k w n u t o m TooDeep l h = omega arith
 
   -- of a comment
-  pub none_below_comment : (k : ℕ) (w : List ℕ) → k ≤ 15 → HasComment (60 ∷ 33 ∷ w)
-      → ends_text rules.scripting TheParent (60 ∷ 33 ∷ w) ≡ true → NoneBelow k (60 ∷ 33 ∷ w)
+  pub none_below_comment : (k : ℕ) (w : List ℕ) → k ≤ 15 → HasComment (less_than_sign ∷ exclamation_mark ∷ w)
+      → ends_text rules.scripting TheParent (less_than_sign ∷ exclamation_mark ∷ w) ≡ true
+      → NoneBelow k (less_than_sign ∷ exclamation_mark ∷ w)
   none_below_comment k w u c m Nul l h = h
   none_below_comment k w u c m MalformedTag l h = exclamation_tag w h.1
   none_below_comment k w u c m MalformedComment l h = h.2 c
@@ -241,7 +249,7 @@ module _ (rules : Rules) (fs : List OpenElement) where
   none_below_comment k w u c m NotAllowedHere l h = exclamation_form w h.1 h.2 h.3 h.4
   none_below_comment k w u c m StrayEndTag l h = exclamation_end w h.1 h.2
   none_below_comment k w u c m StrayText l h = not_both _ m ((h.0).0).1
-  none_below_comment k w u c m Unclosed l h = more_left 60 (33 ∷ w) h.0
+  none_below_comment k w u c m Unclosed l h = more_left less_than_sign (exclamation_mark ∷ w) h.0
   none_below_comment k w u c m ScriptEscape l h = not_both _ m (h.0).1
   none_below_comment k w u c m TooDeep l h = omega arith
 

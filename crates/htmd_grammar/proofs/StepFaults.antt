@@ -6,6 +6,8 @@ use Rattle.std.proofs.lemmas.Bool.Decides.{nat_tests}
 use Rattle.std.specs.Char.{is_ascii_alphabetic}
 use Rattle.std.specs.List.{list_all, list_any}
 use Rattle.std.specs.Str.{bytes_eq}
+use Rattle.htmd_text.specs.Characters.{exclamation_mark, greater_than_sign, hyphen, less_than_sign, question_mark}
+use Rattle.htmd_text.specs.Characters.{slash}
 use Rattle.htmd_text.specs.WhiteSpace.{is_ascii_white_space}
 use Rattle.htmd_grammar.specs.CharacterClasses.{are_distinct, begins_with, behind_run, first_is, is_empty, is_tag_name}
 use Rattle.htmd_grammar.specs.CharacterClasses.{is_tag_name_byte, leading_run, onward, up_to}
@@ -196,70 +198,79 @@ module _ (rules : Rules) (f : OpenElement) (gs : List OpenElement) where
 
   -- ---- declarations and comments
 
-  comment_faulty : (w : List ℕ) (k : FaultKind) → ends_text rules.scripting f.name (60 ∷ 33 ∷ w) ≡ true
+  comment_faulty : (w : List ℕ) (k : FaultKind)
+      → ends_text rules.scripting f.name (less_than_sign ∷ exclamation_mark ∷ w) ≡ true
       → begins_with (codes "--") w ≡ true
       → (o : Option (List ℕ × List ℕ)) → before_comment_end (drop 2 w) ≡ o → comment_step rules above_body (f ∷ gs) o
-      ≡ Err k → IsRight (60 ∷ 33 ∷ w) k
-  comment_faulty w k m b None q e = right_of (60 ∷ 33 ∷ w) MalformedComment k e (
-    (m, b, λ h. let c = comment_is_read 33 w h in let z = sym q ∙ c.4 in cc),
-    none_below_five rules (f ∷ gs) 3 (60 ∷ 33 ∷ w) (omega arith) (λ _. refl) (λ z. absurd (omega arith)),
+      ≡ Err k → IsRight (less_than_sign ∷ exclamation_mark ∷ w) k
+  comment_faulty w k m b None q e = right_of (less_than_sign ∷ exclamation_mark ∷ w) MalformedComment k e (
+    (m, b, λ h. let c = comment_is_read exclamation_mark w h in let z = sym q ∙ c.4 in cc),
+    none_below_five rules (f ∷ gs) 3 (less_than_sign ∷ exclamation_mark ∷ w) (omega arith) (λ _. refl)
+        (λ z. absurd (omega arith)),
   )
   comment_faulty w k m b (Some p) q e =
       elim (if_then (is_comment_text p.0) (steps.add rules above_body (f ∷ gs) (comment (normalized p.0)) p.1)
       (fault MalformedComment) (Err k) e) [
         | inl u ↦ elim (if_then (is_too_deep rules above_body (f ∷ gs)) (fault TooDeep) _ (Err k) u.1) [
-          | inl y ↦ right_of (60 ∷ 33 ∷ w) TooDeep k y.1 (
+          | inl y ↦ right_of (less_than_sign ∷ exclamation_mark ∷ w) TooDeep k y.1 (
             inl (deep_less rules.depth (length Here) y.0, inr (m, has u.0)),
             none_below_comment rules (f ∷ gs) 15 w (omega arith) (has u.0) m,
           )
           | inr y ↦ absurd (no_fault _ k y.1)
         ]
-        | inr u ↦ right_of (60 ∷ 33 ∷ w) MalformedComment k u.1 (
+        | inr u ↦ right_of (less_than_sign ∷ exclamation_mark ∷ w) MalformedComment k u.1 (
           (
             m,
             b,
-            λ h. let c = comment_is_read 33 w h in let z : cut (p.0) (p.1) ≡ cut c.2 c.3 = sym q ∙ c.4 in
+            λ h. let c = comment_is_read exclamation_mark w h in let z : cut (p.0) (p.1) ≡ cut c.2 c.3 = sym q ∙ c.4 in
                 let y = (cut_same (p.0) (p.1) c.2 c.3 z).0 in not_both (is_comment_text p.0) (ap is_comment_text y
                 ∙ c.5) u.0,
           ),
-          none_below_five rules (f ∷ gs) 3 (60 ∷ 33 ∷ w) (omega arith) (λ _. refl) (λ z. absurd (omega arith)),
+          none_below_five rules (f ∷ gs) 3 (less_than_sign ∷ exclamation_mark ∷ w) (omega arith) (λ _. refl)
+              (λ z. absurd (omega arith)),
         )
       ]
     where
-      has : is_comment_text p.0 ≡ true → HasComment (60 ∷ 33 ∷ w)
+      has : is_comment_text p.0 ≡ true → HasComment (less_than_sign ∷ exclamation_mark ∷ w)
       has i =
           let t = before_close-split (drop 2 w) p.0 p.1 q in (
-            60 ∷ 33 ∷ 45 ∷ 45 ∷ t.0,
+            less_than_sign ∷ exclamation_mark ∷ hyphen ∷ hyphen ∷ t.0,
             p.1,
             normalized p.0,
-            ap (λ (y : List ℕ). 60 ∷ 33 ∷ y) (dashes w b
-                ∙ ap (λ (y : List ℕ). 45 ∷ 45 ∷ y) t.1),
+            ap (λ (y : List ℕ). less_than_sign ∷ exclamation_mark ∷ y) (dashes w b
+                ∙ ap (λ (y : List ℕ). hyphen ∷ hyphen ∷ y) t.1),
             (t.0, p.0, refl, t.2, i, refl),
           )
 
-  declaration_faulty : (w : List ℕ) (k : FaultKind) → ends_text rules.scripting f.name (60 ∷ 33 ∷ w) ≡ true
-      → declaration_step rules above_body (f ∷ gs) w ≡ Err k → IsRight (60 ∷ 33 ∷ w) k
+  declaration_faulty : (w : List ℕ) (k : FaultKind)
+      → ends_text rules.scripting f.name (less_than_sign ∷ exclamation_mark ∷ w) ≡ true
+      → declaration_step rules above_body (f ∷ gs) w ≡ Err k → IsRight (less_than_sign ∷ exclamation_mark ∷ w) k
   declaration_faulty w k m e =
       elim (if_then (begins_with (codes "--") w)
       (comment_step rules above_body (f ∷ gs) (before_comment_end (drop 2 w))) (fault MalformedDeclaration) (Err k) e) [
         | inl u ↦ comment_faulty w k m u.0 (before_comment_end (drop 2 w)) refl u.1
-        | inr u ↦ right_of (60 ∷ 33 ∷ w) MalformedDeclaration k u.1 (
+        | inr u ↦ right_of (less_than_sign ∷ exclamation_mark ∷ w) MalformedDeclaration k u.1 (
           (m, inr (refl, u.0)),
-          none_below_five rules (f ∷ gs) 4 (60 ∷ 33 ∷ w) (omega arith) (λ _. refl) (λ _. u.0),
+          none_below_five rules (f ∷ gs) 4 (less_than_sign ∷ exclamation_mark ∷ w) (omega arith) (λ _. refl) (λ _. u.0),
         )
       ]
 
-  question_faulty : (w : List ℕ) (k : FaultKind) → ends_text rules.scripting f.name (60 ∷ 63 ∷ w) ≡ true
-      → fault MalformedDeclaration ≡ Err k → IsRight (60 ∷ 63 ∷ w) k
-  question_faulty w k m e = right_of (60 ∷ 63 ∷ w) MalformedDeclaration k e
-      ((m, inl refl), none_below_five rules (f ∷ gs) 4 (60 ∷ 63 ∷ w) (omega arith) (λ _. refl) (λ _. refl))
+  question_faulty : (w : List ℕ) (k : FaultKind) → ends_text rules.scripting f.name (less_than_sign ∷ question_mark ∷ w)
+      ≡ true
+      → fault MalformedDeclaration ≡ Err k → IsRight (less_than_sign ∷ question_mark ∷ w) k
+  question_faulty w k m e = right_of (less_than_sign ∷ question_mark ∷ w) MalformedDeclaration k e (
+    (m, inl refl),
+    none_below_five rules (f ∷ gs) 4 (less_than_sign ∷ question_mark ∷ w) (omega arith) (λ _. refl)
+        (λ _. refl),
+  )
 
   -- ---- end tags
 
-  close_faulty : (w n x : List ℕ) (k : FaultKind) → ends_text rules.scripting f.name (60 ∷ 47 ∷ w) ≡ true
-      → HasEndTag (60 ∷ 47 ∷ w) n → is_outside n ≡ false → name_read w ≡ n → close_step rules above_body (f ∷ gs) n x
-      ≡ Err k → IsRight (60 ∷ 47 ∷ w) k
-  close_faulty w n x k m h o r e = right_of (60 ∷ 47 ∷ w) StrayEndTag k (stray gs e) (
+  close_faulty : (w n x : List ℕ) (k : FaultKind) → ends_text rules.scripting f.name (less_than_sign ∷ slash ∷ w) ≡ true
+      → HasEndTag (less_than_sign ∷ slash ∷ w) n → is_outside n ≡ false → name_read w ≡ n
+      → close_step rules above_body (f ∷ gs) n x
+      ≡ Err k → IsRight (less_than_sign ∷ slash ∷ w) k
+  close_faulty w n x k m h o r e = right_of (less_than_sign ∷ slash ∷ w) StrayEndTag k (stray gs e) (
     (m, n, h, not_closed gs e),
     none_below_end rules (f ∷ gs) 11 w n (omega arith) (λ _. h) (λ _. ap is_outside r ∙ o) m,
   )
@@ -280,38 +291,40 @@ module _ (rules : Rules) (f : OpenElement) (gs : List OpenElement) where
         | inr u ↦ inl (λ q. not_both (bytes_eq f.name n) (rw q (bytes_same n)) u.0)
       ]
 
-  end_faulty : (w : List ℕ) (k : FaultKind) → ends_text rules.scripting f.name (60 ∷ 47 ∷ w) ≡ true
-      → end_tag_step rules above_body (f ∷ gs) w ≡ Err k → IsRight (60 ∷ 47 ∷ w) k
+  end_faulty : (w : List ℕ) (k : FaultKind) → ends_text rules.scripting f.name (less_than_sign ∷ slash ∷ w) ≡ true
+      → end_tag_step rules above_body (f ∷ gs) w ≡ Err k → IsRight (less_than_sign ∷ slash ∷ w) k
   end_faulty w k m e = elim (if_then (is_tag_name (leading_run is_tag_name_byte w))
       (name_step rules above_body (f ∷ gs) (name_read w) (behind_run is_tag_name_byte w)) (fault MalformedTag)
       (Err k) e) [
-        | inl u ↦ elim (if_then (first_is 62 (behind_run is_ascii_white_space (behind_run is_tag_name_byte w))) _
+        | inl u ↦ elim (if_then (first_is greater_than_sign
+            (behind_run is_ascii_white_space (behind_run is_tag_name_byte w))) _
             (fault MalformedTag) (Err k) u.1) [
               | inl y ↦ ended u.0 y.0 (if_then (is_outside (name_read w)) (fault TagOutside)
                   (close_step rules above_body (f ∷ gs) (name_read w)
                   (drop 1 (behind_run is_ascii_white_space (behind_run is_tag_name_byte w)))) (Err k) y.1)
-              | inr y ↦ right_of (60 ∷ 47 ∷ w) MalformedTag k y.1
-                  (malformed_here (λ n h. not_both _ (end_is_read 47 w n h).2 y.0))
+              | inr y ↦ right_of (less_than_sign ∷ slash ∷ w) MalformedTag k y.1
+                  (malformed_here (λ n h. not_both _ (end_is_read slash w n h).2 y.0))
             ]
-        | inr u ↦ right_of (60 ∷ 47 ∷ w) MalformedTag k u.1
-            (malformed_here (λ n h. not_both _ (end_is_read 47 w n h).1 u.0))
+        | inr u ↦ right_of (less_than_sign ∷ slash ∷ w) MalformedTag k u.1
+            (malformed_here (λ n h. not_both _ (end_is_read slash w n h).1 u.0))
       ]
     where
-      malformed_here : ((n : List ℕ) → HasEndTag (60 ∷ 47 ∷ w) n → ⊥) → IsRight (60 ∷ 47 ∷ w) MalformedTag
+      malformed_here : ((n : List ℕ) → HasEndTag (less_than_sign ∷ slash ∷ w) n → ⊥)
+          → IsRight (less_than_sign ∷ slash ∷ w) MalformedTag
       malformed_here h = (
-        (m, refl, (λ n spelled present t. let a = form_letter 47 w n spelled present t in cc), h),
-        none_below_five rules (f ∷ gs) 2 (60 ∷ 47 ∷ w) (omega arith) (λ z. absurd (omega arith))
+        (m, refl, (λ n spelled present t. let a = form_letter slash w n spelled present t in cc), h),
+        none_below_five rules (f ∷ gs) 2 (less_than_sign ∷ slash ∷ w) (omega arith) (λ z. absurd (omega arith))
             (λ z. absurd (omega arith)),
       )
 
       ended : is_tag_name (leading_run is_tag_name_byte w) ≡ true
-          → first_is 62 (behind_run is_ascii_white_space (behind_run is_tag_name_byte w)) ≡ true
+          → first_is greater_than_sign (behind_run is_ascii_white_space (behind_run is_tag_name_byte w)) ≡ true
           → ((is_outside (name_read w) ≡ true) × (fault TagOutside ≡ Err k))
           ⊎ ((is_outside (name_read w) ≡ false)
           × (close_step rules above_body (f ∷ gs) (name_read w)
           (drop 1 (behind_run is_ascii_white_space (behind_run is_tag_name_byte w))) ≡ Err k))
-          → IsRight (60 ∷ 47 ∷ w) k
-      ended i j (inl z) = right_of (60 ∷ 47 ∷ w) TagOutside k z.1 (
+          → IsRight (less_than_sign ∷ slash ∷ w) k
+      ended i j (inl z) = right_of (less_than_sign ∷ slash ∷ w) TagOutside k z.1 (
         (m, name_read w, z.0, inr (end_tag_there w i j)),
         none_below_end rules (f ∷ gs) 9 w (name_read w) (omega arith) (λ _. end_tag_there w i j)
             (λ y. absurd (omega arith)) m,
@@ -324,20 +337,20 @@ module _ (rules : Rules) (f : OpenElement) (gs : List OpenElement) where
 
   -- a start tag that is read there
   record TagThere (d : ℕ) (w x : List ℕ) (spelled : List AttributePair) (present : Bool) : Type 0 where
-    markup : ends_text rules.scripting f.name (60 ∷ d ∷ w) ≡ true
+    markup : ends_text rules.scripting f.name (less_than_sign ∷ d ∷ w) ≡ true
     letter : is_ascii_alphabetic d ≡ true
     called : is_tag_name (leading_run is_tag_name_byte (d ∷ w)) ≡ true
     reads_so : form_read_behind (d ∷ w) ≡ form spelled present x
 
   tag_has : (d : ℕ) (w x : List ℕ) (spelled : List AttributePair) (present : Bool) → TagThere d w x spelled present
-      → HasTagForm (60 ∷ d ∷ w) (name_read (d ∷ w)) spelled present
+      → HasTagForm (less_than_sign ∷ d ∷ w) (name_read (d ∷ w)) spelled present
   tag_has d w x spelled present t =
       let name : List ℕ = leading_run is_tag_name_byte (d ∷ w) in
       let r : List ℕ = behind_run is_tag_name_byte (d ∷ w) in
       let i = tag_spelled (suc (length r)) r x spelled present t.reads_so in (
-        60 ∷ (name ++ i.0),
+        less_than_sign ∷ (name ++ i.0),
         x,
-        ap (λ (y : List ℕ). 60 ∷ y) (back_split is_tag_name_byte (d ∷ w)
+        ap (λ (y : List ℕ). less_than_sign ∷ y) (back_split is_tag_name_byte (d ∷ w)
             ∙ (ap (λ (y : List ℕ). name ++ y) i.1 ∙ sym (append_assoc name i.0 x))),
         (name, i.0, refl, t.called, refl, i.2),
       )
@@ -349,17 +362,17 @@ module _ (rules : Rules) (f : OpenElement) (gs : List OpenElement) where
       → (7 < k → are_distinct (attribute_names spelled) ≡ true)
       → (8 < k → present ≡ true → is_void (name_read (d ∷ w)) ≡ true)
       → (9 < k → is_outside (name_read (d ∷ w)) ≡ false)
-      → (10 < k → is_allowed rules.scripting (context_for rules (f ∷ gs) (60 ∷ d ∷ w) (name_read (d ∷ w)))
+      → (10 < k → is_allowed rules.scripting (context_for rules (f ∷ gs) (less_than_sign ∷ d ∷ w) (name_read (d ∷ w)))
       (name_read (d ∷ w)) ≡ true)
-      → NoneBelow rules (f ∷ gs) k (60 ∷ d ∷ w)
+      → NoneBelow rules (f ∷ gs) k (less_than_sign ∷ d ∷ w)
   passed d w x spelled present t k u a b c v o l =
       none_below_tag rules (f ∷ gs) k d w (name_read (d ∷ w)) spelled present (record {
         at_most = u;
         markup = t.markup;
         letter = t.letter;
         has = tag_has d w x spelled present t;
-        only = λ m others slash h.
-            same_form (d ∷ w) (name_read (d ∷ w)) x spelled present m others slash refl t.reads_so h;
+        only = λ m others with_slash h.
+            same_form (d ∷ w) (name_read (d ∷ w)) x spelled present m others with_slash refl t.reads_so h;
         known = a;
         right_numbers = b;
         distinct = c;
@@ -368,13 +381,15 @@ module _ (rules : Rules) (f : OpenElement) (gs : List OpenElement) where
         allowed = l;
       })
 
-  malformed_tag : (d : ℕ) (w : List ℕ) → ends_text rules.scripting f.name (60 ∷ d ∷ w) ≡ true
+  malformed_tag : (d : ℕ) (w : List ℕ) → ends_text rules.scripting f.name (less_than_sign ∷ d ∷ w) ≡ true
       → is_ascii_alphabetic d ≡ true
-      → ((n : List ℕ) (spelled : List AttributePair) (present : Bool) → HasTagForm (60 ∷ d ∷ w) n spelled present → ⊥)
-      → IsRight (60 ∷ d ∷ w) MalformedTag
+      → ((n : List ℕ) (spelled : List AttributePair) (present : Bool)
+      → HasTagForm (less_than_sign ∷ d ∷ w) n spelled present → ⊥)
+      → IsRight (less_than_sign ∷ d ∷ w) MalformedTag
   malformed_tag d w m a h = (
     (m, rw a refl, h, (λ n t. let i = (end_is_read d w n t).0 in let z = rw i at a in cc)),
-    none_below_five rules (f ∷ gs) 2 (60 ∷ d ∷ w) (omega arith) (λ z. absurd (omega arith)) (λ z. absurd (omega arith)),
+    none_below_five rules (f ∷ gs) 2 (less_than_sign ∷ d ∷ w) (omega arith) (λ z. absurd (omega arith))
+        (λ z. absurd (omega arith)),
   )
 
   -- what is known of a tag before its place is asked
@@ -387,12 +402,12 @@ module _ (rules : Rules) (f : OpenElement) (gs : List OpenElement) where
 
   open_faulty : (d : ℕ) (w x : List ℕ) (spelled attributes : List AttributePair) (present : Bool) (k : FaultKind)
       (hs : List OpenElement) → TagThere d w x spelled present → TagRight (name_read (d ∷ w)) spelled present
-      → context_for rules (f ∷ gs) (60 ∷ d ∷ w) (name_read (d ∷ w)) ≡ names_of above_body hs
-      → open_step rules above_body hs (name_read (d ∷ w)) attributes x ≡ Err k → IsRight (60 ∷ d ∷ w) k
+      → context_for rules (f ∷ gs) (less_than_sign ∷ d ∷ w) (name_read (d ∷ w)) ≡ names_of above_body hs
+      → open_step rules above_body hs (name_read (d ∷ w)) attributes x ≡ Err k → IsRight (less_than_sign ∷ d ∷ w) k
   open_faulty d w x spelled attributes present k hs t r c e =
       elim (if_then (not (is_allowed rules.scripting (names_of above_body hs) (name_read (d ∷ w))))
       (fault NotAllowedHere) _ (Err k) e) [
-        | inl u ↦ right_of (60 ∷ d ∷ w) NotAllowedHere k u.1 (
+        | inl u ↦ right_of (less_than_sign ∷ d ∷ w) NotAllowedHere k u.1 (
           (
             t.markup,
             name_read (d ∷ w),
@@ -406,7 +421,7 @@ module _ (rules : Rules) (f : OpenElement) (gs : List OpenElement) where
               (λ _. r.may_close) (λ _. r.inside) (λ z. absurd (omega arith)),
         )
         | inr u ↦ elim (if_then (is_too_deep rules above_body hs) (fault TooDeep) _ (Err k) u.1) [
-          | inl y ↦ right_of (60 ∷ d ∷ w) TooDeep k y.1 (
+          | inl y ↦ right_of (less_than_sign ∷ d ∷ w) TooDeep k y.1 (
             inr (
               t.markup,
               name_read (d ∷ w),
@@ -430,7 +445,8 @@ module _ (rules : Rules) (f : OpenElement) (gs : List OpenElement) where
 
   place_faulty : (d : ℕ) (w x : List ℕ) (spelled attributes : List AttributePair) (present : Bool) (k : FaultKind)
       → TagThere d w x spelled present → TagRight (name_read (d ∷ w)) spelled present
-      → place_step rules above_body (f ∷ gs) (name_read (d ∷ w)) attributes x ≡ Err k → IsRight (60 ∷ d ∷ w) k
+      → place_step rules above_body (f ∷ gs) (name_read (d ∷ w)) attributes x ≡ Err k
+      → IsRight (less_than_sign ∷ d ∷ w) k
   place_faulty d w x spelled attributes present k t r e =
       elim (if_then (is_row (name_read (d ∷ w)) && bytes_eq f.name (codes "table")) _
       (open_step rules above_body (f ∷ gs) (name_read (d ∷ w)) attributes x) (Err k) e) [
@@ -439,7 +455,7 @@ module _ (rules : Rules) (f : OpenElement) (gs : List OpenElement) where
             elim (if_then (is_too_deep rules above_body (f ∷ gs)) (fault TooDeep)
             (open_step rules above_body (fresh (codes "tbody") [] true ∷ f ∷ gs) (name_read (d ∷ w)) attributes x)
             (Err k) u.1) [
-              | inl y ↦ right_of (60 ∷ d ∷ w) TooDeep k y.1 (
+              | inl y ↦ right_of (less_than_sign ∷ d ∷ w) TooDeep k y.1 (
                 inr (
                   t.markup,
                   name_read (d ∷ w),
@@ -462,19 +478,19 @@ module _ (rules : Rules) (f : OpenElement) (gs : List OpenElement) where
       ]
     where
       row_context : is_row (name_read (d ∷ w)) ≡ true → bytes_eq f.name (codes "table") ≡ true
-          → context_for rules (f ∷ gs) (60 ∷ d ∷ w) (name_read (d ∷ w)) ≡ codes "tbody" ∷ Here
+          → context_for rules (f ∷ gs) (less_than_sign ∷ d ∷ w) (name_read (d ∷ w)) ≡ codes "tbody" ∷ Here
       row_context a b = rw (a, b) refl
 
       plain_context : (is_row (name_read (d ∷ w)) && bytes_eq f.name (codes "table")) ≡ false
-          → context_for rules (f ∷ gs) (60 ∷ d ∷ w) (name_read (d ∷ w)) ≡ Here
+          → context_for rules (f ∷ gs) (less_than_sign ∷ d ∷ w) (name_read (d ∷ w)) ≡ Here
       plain_context a = rw (or_right (bytes_eq f.name (codes "table")), a) refl
 
   values_faulty : (d : ℕ) (w x : List ℕ) (spelled : List AttributePair) (present : Bool) (k : FaultKind)
       → TagThere d w x spelled present → list_any (λ a. has_unknown_reference rules.names a.value) spelled ≡ false
       → (o : Option (List AttributePair)) → decode_values rules.names spelled ≡ o
       → values_step rules above_body (f ∷ gs) (name_read (d ∷ w)) spelled present x o ≡ Err k
-      → IsRight (60 ∷ d ∷ w) k
-  values_faulty d w x spelled present k t a None q e = right_of (60 ∷ d ∷ w) BadNumber k e (
+      → IsRight (less_than_sign ∷ d ∷ w) k
+  values_faulty d w x spelled present k t a None q e = right_of (less_than_sign ∷ d ∷ w) BadNumber k e (
     inr (
       t.markup,
       name_read (d ∷ w),
@@ -488,7 +504,7 @@ module _ (rules : Rules) (f : OpenElement) (gs : List OpenElement) where
   )
   values_faulty d w x spelled present k t a (Some attributes) q e =
       elim (if_then (not (are_distinct (attribute_names spelled))) (fault DuplicateAttribute) _ (Err k) e) [
-        | inl u ↦ right_of (60 ∷ d ∷ w) DuplicateAttribute k u.1 (
+        | inl u ↦ right_of (less_than_sign ∷ d ∷ w) DuplicateAttribute k u.1 (
           (
             t.markup,
             name_read (d ∷ w),
@@ -505,12 +521,12 @@ module _ (rules : Rules) (f : OpenElement) (gs : List OpenElement) where
             elim (if_then (present && not (is_void (name_read (d ∷ w)))) (fault SelfClosing) _ (Err k) u.1) [
               | inl y ↦
                   let p = and_true present (not (is_void (name_read (d ∷ w)))) y.0 in
-                  right_of (60 ∷ d ∷ w) SelfClosing k y.1 (
+                  right_of (less_than_sign ∷ d ∷ w) SelfClosing k y.1 (
                     (
                       t.markup,
                       name_read (d ∷ w),
                       spelled,
-                      subst (λ (z : Bool). HasTagForm (60 ∷ d ∷ w) (name_read (d ∷ w)) spelled z) p.0
+                      subst (λ (z : Bool). HasTagForm (less_than_sign ∷ d ∷ w) (name_read (d ∷ w)) spelled z) p.0
                           (tag_has d w x spelled present t),
                       not_true (is_void (name_read (d ∷ w))) p.1,
                     ),
@@ -522,7 +538,7 @@ module _ (rules : Rules) (f : OpenElement) (gs : List OpenElement) where
                   let v = slashed present (is_void (name_read (d ∷ w))) y.0 in
                   elim (if_then (is_outside (name_read (d ∷ w))) (fault TagOutside)
                   (place_step rules above_body (f ∷ gs) (name_read (d ∷ w)) attributes x) (Err k) y.1) [
-                    | inl z ↦ right_of (60 ∷ d ∷ w) TagOutside k z.1 (
+                    | inl z ↦ right_of (less_than_sign ∷ d ∷ w) TagOutside k z.1 (
                       (t.markup, name_read (d ∷ w), z.0, inl (spelled, present, tag_has d w x spelled present t)),
                       passed d w x spelled present t 9 (omega arith) (λ _. a) (λ _. b) (λ _. c) (λ _. v)
                           (λ z. absurd (omega arith)) (λ z. absurd (omega arith)),
@@ -536,17 +552,17 @@ module _ (rules : Rules) (f : OpenElement) (gs : List OpenElement) where
       b : list_any (λ a. has_bad_number rules.names a.value) spelled ≡ false
       b = values_right rules.names spelled attributes q
 
-  form_faulty : (d : ℕ) (w : List ℕ) (k : FaultKind) → ends_text rules.scripting f.name (60 ∷ d ∷ w) ≡ true
+  form_faulty : (d : ℕ) (w : List ℕ) (k : FaultKind) → ends_text rules.scripting f.name (less_than_sign ∷ d ∷ w) ≡ true
       → is_ascii_alphabetic d ≡ true → is_tag_name (leading_run is_tag_name_byte (d ∷ w)) ≡ true
       → (o : TagForm) → form_read_behind (d ∷ w) ≡ o → form_step rules above_body (f ∷ gs) (name_read (d ∷ w)) o ≡ Err k
-      → IsRight (60 ∷ d ∷ w) k
+      → IsRight (less_than_sign ∷ d ∷ w) k
   form_faulty d w k m a i no_form q e =
-      right_of (60 ∷ d ∷ w) MalformedTag k e (malformed_tag d w m a (λ n spelled present h. let z = sym q
+      right_of (less_than_sign ∷ d ∷ w) MalformedTag k e (malformed_tag d w m a (λ n spelled present h. let z = sym q
       ∙ (form_is_read (d ∷ w) n spelled present h).3 in cc))
   form_faulty d w k m a i (form spelled present x) q e =
       elim (if_then (list_any (λ a. has_unknown_reference rules.names a.value) spelled) (fault UnknownReference) _
       (Err k) e) [
-        | inl u ↦ right_of (60 ∷ d ∷ w) UnknownReference k u.1 (
+        | inl u ↦ right_of (less_than_sign ∷ d ∷ w) UnknownReference k u.1 (
           inr (m, name_read (d ∷ w), spelled, present, tag_has d w x spelled present there, u.0),
           passed d w x spelled present there 5 (omega arith) (λ z. absurd (omega arith)) (λ z. absurd (omega arith))
               (λ z. absurd (omega arith)) (λ z. absurd (omega arith)) (λ z. absurd (omega arith))
@@ -558,21 +574,23 @@ module _ (rules : Rules) (f : OpenElement) (gs : List OpenElement) where
       there : TagThere d w x spelled present
       there = record { markup = m; letter = a; called = i; reads_so = q }
 
-  start_faulty : (d : ℕ) (w : List ℕ) (k : FaultKind) → ends_text rules.scripting f.name (60 ∷ d ∷ w) ≡ true
-      → is_ascii_alphabetic d ≡ true → start_tag_step rules above_body (f ∷ gs) (d ∷ w) ≡ Err k → IsRight (60 ∷ d ∷ w) k
+  start_faulty : (d : ℕ) (w : List ℕ) (k : FaultKind) → ends_text rules.scripting f.name (less_than_sign ∷ d ∷ w) ≡ true
+      → is_ascii_alphabetic d ≡ true → start_tag_step rules above_body (f ∷ gs) (d ∷ w) ≡ Err k
+      → IsRight (less_than_sign ∷ d ∷ w) k
   start_faulty d w k m a e =
       elim (if_then (is_tag_name (leading_run is_tag_name_byte (d ∷ w)))
       (form_step rules above_body (f ∷ gs) (name_read (d ∷ w)) (form_read_behind (d ∷ w))) (fault MalformedTag)
       (Err k) e) [
         | inl u ↦ form_faulty d w k m a u.0 (form_read_behind (d ∷ w)) refl u.1
-        | inr u ↦ right_of (60 ∷ d ∷ w) MalformedTag k u.1
+        | inr u ↦ right_of (less_than_sign ∷ d ∷ w) MalformedTag k u.1
             (malformed_tag d w m a (λ n spelled present h. not_both _ (form_is_read (d ∷ w) n spelled present h).0 u.0))
       ]
 
   -- ---- all of them
 
-  letter_here : (d : ℕ) (w : List ℕ) → ends_text rules.scripting f.name (60 ∷ d ∷ w) ≡ true → (d == 47) ≡ false
-      → (d == 33) ≡ false → (d == 63) ≡ false → is_ascii_alphabetic d ≡ true
+  letter_here : (d : ℕ) (w : List ℕ) → ends_text rules.scripting f.name (less_than_sign ∷ d ∷ w) ≡ true
+      → (d == slash) ≡ false
+      → (d == exclamation_mark) ≡ false → (d == question_mark) ≡ false → is_ascii_alphabetic d ≡ true
   letter_here d w m a b c = test (holds_text_alone rules.scripting f.name) (λ t. absurd (let z = rw (t, a) at m in cc))
       (λ t. let z = rw (t, a, b, c) at m in only_letter (is_ascii_alphabetic d) z)
     where
@@ -580,18 +598,24 @@ module _ (rules : Rules) (f : OpenElement) (gs : List OpenElement) where
       only_letter true e = refl
       only_letter false e = absurd (cc)
 
-  markup_faulty_at : (d : ℕ) (w : List ℕ) (k : FaultKind) → ends_text rules.scripting f.name (60 ∷ d ∷ w) ≡ true
-      → markup_step rules above_body (f ∷ gs) (d ∷ w) ≡ Err k → IsRight (60 ∷ d ∷ w) k
-  markup_faulty_at d w k m e = elim (if_then (d == 47) (end_tag_step rules above_body (f ∷ gs) w) _ (Err k) e) [
-    | inl u ↦ (let i = same_byte d 47 u.0 in subst (λ (y : ℕ). IsRight (60 ∷ y ∷ w) k) (sym i)
-        (end_faulty w k (subst (λ (y : ℕ). ends_text rules.scripting f.name (60 ∷ y ∷ w) ≡ true) i m) u.1))
-    | inr u ↦ elim (if_then (d == 33) (declaration_step rules above_body (f ∷ gs) w) _ (Err k) u.1) [
-      | inl y ↦ (let i = same_byte d 33 y.0 in subst (λ (z : ℕ). IsRight (60 ∷ z ∷ w) k) (sym i)
-          (declaration_faulty w k (subst (λ (z : ℕ). ends_text rules.scripting f.name (60 ∷ z ∷ w) ≡ true) i m) y.1))
-      | inr y ↦ elim (if_then (d == 63) (fault MalformedDeclaration) (start_tag_step rules above_body (f ∷ gs) (d ∷ w))
+  markup_faulty_at : (d : ℕ) (w : List ℕ) (k : FaultKind) → ends_text rules.scripting f.name (less_than_sign ∷ d ∷ w)
+      ≡ true
+      → markup_step rules above_body (f ∷ gs) (d ∷ w) ≡ Err k → IsRight (less_than_sign ∷ d ∷ w) k
+  markup_faulty_at d w k m e = elim (if_then (d == slash) (end_tag_step rules above_body (f ∷ gs) w) _ (Err k) e) [
+    | inl u ↦ (let i = same_byte d slash u.0 in subst (λ (y : ℕ). IsRight (less_than_sign ∷ y ∷ w) k) (sym i)
+        (end_faulty w k (subst (λ (y : ℕ). ends_text rules.scripting f.name (less_than_sign ∷ y ∷ w) ≡ true) i m) u.1))
+    | inr u ↦ elim (if_then (d == exclamation_mark) (declaration_step rules above_body (f ∷ gs) w) _ (Err k) u.1) [
+      | inl y ↦ (let i = same_byte d exclamation_mark y.0 in subst (λ (z : ℕ). IsRight (less_than_sign ∷ z ∷ w) k)
+          (sym i)
+          (declaration_faulty w k (subst (λ (z : ℕ). ends_text rules.scripting f.name (less_than_sign ∷ z ∷ w) ≡ true) i
+          m) y.1))
+      | inr y ↦ elim (if_then (d == question_mark) (fault MalformedDeclaration)
+          (start_tag_step rules above_body (f ∷ gs) (d ∷ w))
           (Err k) y.1) [
-            | inl z ↦ (let i = same_byte d 63 z.0 in subst (λ (v : ℕ). IsRight (60 ∷ v ∷ w) k) (sym i)
-                (question_faulty w k (subst (λ (v : ℕ). ends_text rules.scripting f.name (60 ∷ v ∷ w) ≡ true) i m) z.1))
+            | inl z ↦ (let i = same_byte d question_mark z.0 in subst (λ (v : ℕ). IsRight (less_than_sign ∷ v ∷ w) k)
+                (sym i)
+                (question_faulty w k (subst (λ (v : ℕ). ends_text rules.scripting f.name (less_than_sign ∷ v ∷ w)
+                ≡ true) i m) z.1))
             | inr z ↦ start_faulty d w k m (letter_here d w m u.0 y.0 z.0) z.1
           ]
     ]

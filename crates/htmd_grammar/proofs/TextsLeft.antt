@@ -1,6 +1,7 @@
 -- What is left of a text at a state is an end of it.
 use Rattle.std.proofs.Common.{Bool, List, None, Option, Some, [], ap, append_assoc, arith, codes, drop, inl, inr}
 use Rattle.std.proofs.Common.{length, refl, subst, suc, sym, zero, ℕ, ◌++◌, ◌∙◌, ◌∷◌, ◌≡◌}
+use Rattle.htmd_text.specs.Characters.{greater_than_sign}
 use Rattle.htmd_text.specs.WhiteSpace.{is_ascii_white_space}
 use Rattle.htmd_grammar.specs.CharacterClasses.{begins_in_any_case, begins_with, behind_run, first_is, leading_run}
 use Rattle.htmd_grammar.specs.Comments.{behind_doctype, doctype_end, doctype_name, white_space_and_name}
@@ -45,7 +46,7 @@ doctype_left s r e = elim (if_then (begins_in_any_case (codes "<!doctype") s) _ 
 ]
   where
     closed_end : (x : List ℕ) → doctype_end x ≡ Some r → IsEndOf r x
-    closed_end x e = elim (if_then (first_is 62 x) (Some (drop 1 x)) None (Some r) e) [
+    closed_end x e = elim (if_then (first_is greater_than_sign x) (Some (drop 1 x)) None (Some r) e) [
       | inl w ↦ subst (λ (y : List ℕ). IsEndOf y x) (some_end (drop 1 x) r w.1) (drop_end 1 x)
       | inr w ↦ absurd (let z = w.1 in cc)
     ]
