@@ -36,3 +36,4 @@ mod FaultExamples
 mod TextsLeft
 mod DenotationExamples
 mod RefusalExamples
+mod ReadBackExamples
