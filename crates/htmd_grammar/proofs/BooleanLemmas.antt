@@ -1,5 +1,6 @@
 -- Tests and lists.
-use Rattle.std.proofs.Common.{Bool, List, [], arith, cond, false, inl, inr, not, refl, true, ℕ, ◌&&◌, ◌++◌, ◌||◌, ◌∷◌, ◌≡◌, ◌⊎◌}
+use Rattle.std.proofs.Common.{Bool, List, [], arith, cond, false, inl, inr, not, refl, true, ℕ, ◌&&◌, ◌++◌, ◌||◌, ◌∷◌}
+use Rattle.std.proofs.Common.{◌≡◌, ◌⊎◌}
 use Rattle.std.proofs.lemmas.Bool.Decides.{nat_tests}
 use Rattle.std.specs.List.{list_all}
 use Rattle.std.specs.Prelude.{◌==◌}
@@ -46,6 +47,7 @@ lacks-append b [] t e f = f
 lacks-append b (c ∷ s) t e f = let p = and_true (not (c == b)) (lacks b s) e in rw (p.0, lacks-append b s t p.1 f) refl
 
 -- what passes one test passes another
-pub all_pass : (p q : ℕ → Bool) (s : List ℕ) → ((b : ℕ) → p b ≡ true → q b ≡ true) → list_all p s ≡ true → list_all q s ≡ true
+pub all_pass : (p q : ℕ → Bool) (s : List ℕ) → ((b : ℕ) → p b ≡ true → q b ≡ true) → list_all p s ≡ true
+    → list_all q s ≡ true
 all_pass p q [] h e = refl
 all_pass p q (b ∷ s) h e = let k = and_true (p b) (list_all p s) e in rw (h b k.0, all_pass p q s h k.1) refl

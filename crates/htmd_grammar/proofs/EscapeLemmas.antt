@@ -1,5 +1,6 @@
 -- An escaped_html text denotes the text, also with references in place of line feeds.
-use Rattle.std.proofs.Common.{List, Some, [], ap, codes, false, inl, inr, not, refl, subst, sym, true, ℕ, ◌++◌, ◌∙◌, ◌∷◌, ◌≡◌}
+use Rattle.std.proofs.Common.{List, Some, [], ap, codes, false, inl, inr, not, refl, subst, sym, true, ℕ, ◌++◌, ◌∙◌}
+use Rattle.std.proofs.Common.{◌∷◌, ◌≡◌}
 use Rattle.std.proofs.lemmas.List.{append-nil}
 use Rattle.std.specs.Prelude.{◌==◌}
 use lib.Utf8.{encode}
@@ -52,37 +53,50 @@ module _ (names : Names) (has : HasEscapes names) where
   byte_decodes b e f z u h = rw (e, f, h) refl
 
   -- one byte that is markup_of as it is
-  byte_back : (stop b : ℕ) (y : List ℕ) → (b == 38) ≡ false → (b == 13) ≡ false → (b == stop) ≡ false → lacks stop line_feed_reference ≡ true → RefersToLineFeeds (b ∷ []) y
+  byte_back : (stop b : ℕ) (y : List ℕ) → (b == 38) ≡ false → (b == 13) ≡ false → (b == stop) ≡ false
+      → lacks stop line_feed_reference ≡ true → RefersToLineFeeds (b ∷ []) y
       → Decodes y (b ∷ []) × (lacks stop y ≡ true)
   byte_back stop b y e f g k r = elim (refers_first b [] y r) [
     | inl w ↦
         let q : y ≡ b ∷ [] = w.1 ∙ ap (λ (t : List ℕ). b ∷ t) (refers_nothing w.0 w.2) in
         subst (λ (t : List ℕ). Decodes t (b ∷ []) × (lacks stop t ≡ true)) (sym q) (byte_decodes b e f, rw g refl)
     | inr w ↦
-        let q : y ≡ line_feed_reference = w.2 ∙ ap (λ (t : List ℕ). line_feed_reference ++ t) (refers_nothing w.0 w.3) in
-        subst (λ (t : List ℕ). Decodes t (b ∷ []) × (lacks stop t ≡ true)) (sym q) (subst (λ (n : ℕ). Decodes line_feed_reference (n ∷ [])) (sym w.1) line_feed_decodes, k)
+        let q : y ≡ line_feed_reference = w.2 ∙ ap (λ (t : List ℕ). line_feed_reference ++ t)
+        (refers_nothing w.0 w.3) in
+        subst (λ (t : List ℕ). Decodes t (b ∷ []) × (lacks stop t ≡ true)) (sym q)
+        (subst (λ (n : ℕ). Decodes line_feed_reference (n ∷ [])) (sym w.1) line_feed_decodes, k)
   ]
 
   -- one byte that is markup_of as a reference
-  escape_back : (stop b c : ℕ) (s y : List ℕ) → lacks 10 s ≡ true → lacks stop s ≡ true → b ≡ c → Decodes s (c ∷ []) → RefersToLineFeeds s y → Decodes y (b ∷ []) × (lacks stop y ≡ true)
+  escape_back : (stop b c : ℕ) (s y : List ℕ) → lacks 10 s ≡ true → lacks stop s ≡ true → b ≡ c → Decodes s (c ∷ [])
+      → RefersToLineFeeds s y → Decodes y (b ∷ []) × (lacks stop y ≡ true)
   escape_back stop b c s y l k e d r =
-      subst (λ (t : List ℕ). Decodes t (b ∷ []) × (lacks stop t ≡ true)) (sym (refers_plain s y l r)) (subst (λ (n : ℕ). Decodes s (n ∷ [])) (sym e) d, k)
+      subst (λ (t : List ℕ). Decodes t (b ∷ []) × (lacks stop t ≡ true)) (sym (refers_plain s y l r))
+      (subst (λ (n : ℕ). Decodes s (n ∷ [])) (sym e) d, k)
 
-  text_byte_back : (b : ℕ) (y : List ℕ) → (b == 13) ≡ false → RefersToLineFeeds (text_byte b) y → Decodes y (b ∷ []) × (lacks 60 y ≡ true)
+  text_byte_back : (b : ℕ) (y : List ℕ) → (b == 13) ≡ false → RefersToLineFeeds (text_byte b) y
+      → Decodes y (b ∷ []) × (lacks 60 y ≡ true)
   text_byte_back b y f r =
-      test (b == 38) (λ t. escape_back 60 b 38 (codes "&amp;") y refl refl (same_byte b 38 t) amp_decodes (rw t at r)) (λ t.
-      test (b == 60) (λ p. escape_back 60 b 60 (codes "&lt;") y refl refl (same_byte b 60 p) lt_decodes (rw (t, p) at r)) (λ p.
-      test (b == 62) (λ q. escape_back 60 b 62 (codes "&gt;") y refl refl (same_byte b 62 q) gt_decodes (rw (t, p, q) at r)) (λ q.
+      test (b == 38) (λ t. escape_back 60 b 38 (codes "&amp;") y refl refl (same_byte b 38 t) amp_decodes (rw t at r))
+      (λ t.
+      test (b == 60) (λ p. escape_back 60 b 60 (codes "&lt;") y refl refl (same_byte b 60 p) lt_decodes
+      (rw (t, p) at r)) (λ p.
+      test (b == 62) (λ q. escape_back 60 b 62 (codes "&gt;") y refl refl (same_byte b 62 q) gt_decodes
+      (rw (t, p, q) at r)) (λ q.
       byte_back 60 b y t f p refl (rw (t, p, q) at r))))
 
-  value_byte_back : (b : ℕ) (y : List ℕ) → (b == 13) ≡ false → RefersToLineFeeds (value_byte b) y → Decodes y (b ∷ []) × (lacks 34 y ≡ true)
+  value_byte_back : (b : ℕ) (y : List ℕ) → (b == 13) ≡ false → RefersToLineFeeds (value_byte b) y
+      → Decodes y (b ∷ []) × (lacks 34 y ≡ true)
   value_byte_back b y f r =
-      test (b == 38) (λ t. escape_back 34 b 38 (codes "&amp;") y refl refl (same_byte b 38 t) amp_decodes (rw t at r)) (λ t.
-      test (b == 34) (λ p. escape_back 34 b 34 (codes "&quot;") y refl refl (same_byte b 34 p) quot_decodes (rw (t, p) at r)) (λ p.
+      test (b == 38) (λ t. escape_back 34 b 38 (codes "&amp;") y refl refl (same_byte b 38 t) amp_decodes (rw t at r))
+      (λ t.
+      test (b == 34) (λ p. escape_back 34 b 34 (codes "&quot;") y refl refl (same_byte b 34 p) quot_decodes
+      (rw (t, p) at r)) (λ p.
       byte_back 34 b y t f p refl (rw (t, p) at r)))
 
   module _ (stop : ℕ) (byte : ℕ → List ℕ) (clean : lacks stop (codes "&nbsp;") ≡ true)
-      (byte_ok : (b : ℕ) (y : List ℕ) → (b == 13) ≡ false → RefersToLineFeeds (byte b) y → Decodes y (b ∷ []) × (lacks stop y ≡ true)) where
+      (byte_ok : (b : ℕ) (y : List ℕ) → (b == 13) ≡ false → RefersToLineFeeds (byte b) y
+      → Decodes y (b ∷ []) × (lacks stop y ≡ true)) where
     abbrev Back : List ℕ → List ℕ → Type 0
     Back x s = (decode names 0 x ≡ Some s) × (lacks stop x ≡ true)
 
@@ -105,7 +119,8 @@ module _ (names : Names) (has : HasEscapes names) where
         let k : i.0 ≡ codes "&nbsp;" = refers_plain (codes "&nbsp;") i.0 refl i.3 in
         let m = and_true (b == 0xC2) (c == 0xA0) t in
         subst (λ (v : List ℕ). Back x (v ++ s)) (two b c (same_byte b 0xC2 m.0) (same_byte c 0xA0 m.1))
-        (joined x (codes "&nbsp;") i.1 (0xC2 ∷ 0xA0 ∷ []) s (i.2 ∙ ap (λ (y : List ℕ). y ++ i.1) k) nbsp_decodes clean (escaped_back s i.1 q.1 i.4)))
+        (joined x (codes "&nbsp;") i.1 (0xC2 ∷ 0xA0 ∷ []) s (i.2 ∙ ap (λ (y : List ℕ). y ++ i.1) k) nbsp_decodes clean
+        (escaped_back s i.1 q.1 i.4)))
         (λ t.
         let i = refers_split (byte b) (escaped_html byte (c ∷ s)) x (rw t at r) in
         let o = byte_ok b i.0 (not_true (b == 13) p.0) i.3 in
@@ -114,8 +129,10 @@ module _ (names : Names) (has : HasEscapes names) where
         two : (b c : ℕ) → b ≡ 0xC2 → c ≡ 0xA0 → ◌≡◌ {A = List ℕ} (0xC2 ∷ 0xA0 ∷ []) (b ∷ c ∷ [])
         two b c e f = rw (e, f) refl
 
-  pub text_back : (s x : List ℕ) → lacks 13 s ≡ true → RefersToLineFeeds (escaped_html text_byte s) x → (decode names 0 x ≡ Some s) × (lacks 60 x ≡ true)
+  pub text_back : (s x : List ℕ) → lacks 13 s ≡ true → RefersToLineFeeds (escaped_html text_byte s) x
+      → (decode names 0 x ≡ Some s) × (lacks 60 x ≡ true)
   text_back = escaped_back 60 text_byte refl text_byte_back
 
-  pub value_back : (s x : List ℕ) → lacks 13 s ≡ true → RefersToLineFeeds (escaped_html value_byte s) x → (decode names 0 x ≡ Some s) × (lacks 34 x ≡ true)
+  pub value_back : (s x : List ℕ) → lacks 13 s ≡ true → RefersToLineFeeds (escaped_html value_byte s) x
+      → (decode names 0 x ≡ Some s) × (lacks 34 x ≡ true)
   value_back = escaped_back 34 value_byte refl value_byte_back

@@ -1,10 +1,12 @@
 -- Which names may stand where.
-use Rattle.std.proofs.Common.{Bool, List, [], ap, codes, false, inl, inr, not, refl, sym, true, ℕ, ◌&&◌, ◌∙◌, ◌∷◌, ◌≡◌, ◌⊎◌}
+use Rattle.std.proofs.Common.{Bool, List, [], ap, codes, false, inl, inr, not, refl, sym, true, ℕ, ◌&&◌, ◌∙◌, ◌∷◌, ◌≡◌}
+use Rattle.std.proofs.Common.{◌⊎◌}
 use Rattle.std.proofs.lemmas.Slice.Eq.{bytes_eq-Decides}
 use Rattle.std.specs.List.{list_all}
 use Rattle.std.specs.Str.{bytes_eq}
 use Rattle.htmd_grammar.specs.CharacterClasses.{is_among}
-use Rattle.htmd_grammar.specs.Places.{Context, fits_lists, fits_open_elements, fits_select, fits_table, is_allowed, is_outside, is_row, is_table, is_table_part, is_tbody, parent_name}
+use Rattle.htmd_grammar.specs.Places.{Context, fits_lists, fits_open_elements, fits_select, fits_table, is_allowed}
+use Rattle.htmd_grammar.specs.Places.{is_outside, is_row, is_table, is_table_part, is_tbody, parent_name}
 use Rattle.htmd_grammar.specs.RawContent.{holds_text_alone}
 use Rattle.htmd_grammar.specs.Serialisation.{is_void}
 use Rattle.htmd_grammar.proofs.BooleanLemmas.{and_false, and_true, not_true, or_right, test}
@@ -22,7 +24,8 @@ pub two_names : (a b n : List ℕ) → is_among (a ∷ b ∷ []) n ≡ true → 
 two_names a b n e = test (bytes_eq n a) (λ t. inl (same_bytes n a t)) (λ t. let w = rw t at e in inr (one_name b n w))
 
 -- what each of some names passes
-pub among_passes : (P : List ℕ → Bool) (names : List (List ℕ)) (n : List ℕ) → is_among names n ≡ true → list_all P names ≡ true → P n ≡ true
+pub among_passes : (P : List ℕ → Bool) (names : List (List ℕ)) (n : List ℕ) → is_among names n ≡ true
+    → list_all P names ≡ true → P n ≡ true
 among_passes P [] n e l = absurd (cc)
 among_passes P (m ∷ names) n e l =
     let k = and_true (P m) (list_all P names) l in
@@ -31,17 +34,23 @@ among_passes P (m ∷ names) n e l =
 -- the elements that hold text alone, whatever scripting is
 abbrev pub text_alone_names : List (List ℕ)
 text_alone_names =
-    codes "title" ∷ codes "textarea" ∷ codes "script" ∷ codes "style" ∷ codes "iframe" ∷ codes "noembed" ∷ codes "noframes" ∷ codes "xmp" ∷ codes "noscript" ∷ []
+    codes "title" ∷ codes "textarea" ∷ codes "script" ∷ codes "style" ∷ codes "iframe" ∷ codes "noembed"
+    ∷ codes "noframes" ∷ codes "xmp" ∷ codes "noscript" ∷ []
 
-pub text_alone_passes : (P : List ℕ → Bool) (z : Bool) (n : List ℕ) → holds_text_alone z n ≡ true → list_all P text_alone_names ≡ true → P n ≡ true
+pub text_alone_passes : (P : List ℕ → Bool) (z : Bool) (n : List ℕ) → holds_text_alone z n ≡ true
+    → list_all P text_alone_names ≡ true → P n ≡ true
 text_alone_passes P z n e l = among_passes P text_alone_names n (named e) l
   where
     named : holds_text_alone z n ≡ true → is_among text_alone_names n ≡ true
     named e =
-        test (bytes_eq n (codes "title")) (λ t. rw t refl) (λ a. test (bytes_eq n (codes "textarea")) (λ t. rw (a, t) refl)
-        (λ b. test (bytes_eq n (codes "script")) (λ t. rw (a, b, t) refl) (λ c. test (bytes_eq n (codes "style")) (λ t. rw (a, b, c, t) refl)
-        (λ d. test (bytes_eq n (codes "iframe")) (λ t. rw (a, b, c, d, t) refl) (λ f. test (bytes_eq n (codes "noembed")) (λ t. rw (a, b, c, d, f, t) refl)
-        (λ g. test (bytes_eq n (codes "noframes")) (λ t. rw (a, b, c, d, f, g, t) refl) (λ h. test (bytes_eq n (codes "xmp")) (λ t. rw (a, b, c, d, f, g, h, t) refl)
+        test (bytes_eq n (codes "title")) (λ t. rw t refl)
+        (λ a. test (bytes_eq n (codes "textarea")) (λ t. rw (a, t) refl)
+        (λ b. test (bytes_eq n (codes "script")) (λ t. rw (a, b, t) refl)
+        (λ c. test (bytes_eq n (codes "style")) (λ t. rw (a, b, c, t) refl)
+        (λ d. test (bytes_eq n (codes "iframe")) (λ t. rw (a, b, c, d, t) refl)
+        (λ f. test (bytes_eq n (codes "noembed")) (λ t. rw (a, b, c, d, f, t) refl)
+        (λ g. test (bytes_eq n (codes "noframes")) (λ t. rw (a, b, c, d, f, g, t) refl)
+        (λ h. test (bytes_eq n (codes "xmp")) (λ t. rw (a, b, c, d, f, g, h, t) refl)
         (λ i. test (bytes_eq n (codes "noscript")) (λ t. rw (a, b, c, d, f, g, h, i, t) refl)
         (λ j. absurd (let w = rw (a, b, c, d, f, g, h, i, j, and_false z) at e in cc))))))))))
 
@@ -53,16 +62,22 @@ pub allowed_parts : (z : Bool) (c : Context) (n : List ℕ) → is_allowed z c n
     → (is_outside n ≡ false) × (holds_text_alone z (parent_name c) ≡ false) × (fits_table (parent_name c) n ≡ true)
 unfolding is_allowed
 allowed_parts z c n a =
-    let e = and_true (not (is_outside n) && not (holds_text_alone z (parent_name c)) && fits_table (parent_name c) n && fits_select (parent_name c) n && fits_open_elements c n) (fits_lists c n) a in
-    let f = and_true (not (is_outside n) && not (holds_text_alone z (parent_name c)) && fits_table (parent_name c) n && fits_select (parent_name c) n) (fits_open_elements c n) e.0 in
-    let g = and_true (not (is_outside n) && not (holds_text_alone z (parent_name c)) && fits_table (parent_name c) n) (fits_select (parent_name c) n) f.0 in
-    let h = and_true (not (is_outside n) && not (holds_text_alone z (parent_name c))) (fits_table (parent_name c) n) g.0 in
+    let e = and_true (not (is_outside n) && not (holds_text_alone z (parent_name c)) && fits_table (parent_name c) n
+    && fits_select (parent_name c) n && fits_open_elements c n) (fits_lists c n) a in
+    let f = and_true (not (is_outside n) && not (holds_text_alone z (parent_name c)) && fits_table (parent_name c) n
+    && fits_select (parent_name c) n) (fits_open_elements c n) e.0 in
+    let g = and_true (not (is_outside n) && not (holds_text_alone z (parent_name c)) && fits_table (parent_name c) n)
+    (fits_select (parent_name c) n) f.0 in
+    let h = and_true (not (is_outside n) && not (holds_text_alone z (parent_name c))) (fits_table (parent_name c) n) g.0
+    in
     let i = and_true (not (is_outside n)) (not (holds_text_alone z (parent_name c))) h.0 in
     (not_true (is_outside n) i.0, not_true (holds_text_alone z (parent_name c)) i.1, h.1)
 
 -- a row that stands in its place isn't right in a table
-pub row_place : (z : Bool) (p : List ℕ) (c : Context) (n : List ℕ) → is_allowed z (p ∷ c) n ≡ true → (is_row n && bytes_eq p (codes "table")) ≡ false
-row_place z p c n a = test (is_row n) (λ r. test (bytes_eq p (codes "table")) (λ t. absurd (no r t)) (λ t. rw t (and_false (is_row n)))) (λ r. rw r refl)
+pub row_place : (z : Bool) (p : List ℕ) (c : Context) (n : List ℕ) → is_allowed z (p ∷ c) n ≡ true
+    → (is_row n && bytes_eq p (codes "table")) ≡ false
+row_place z p c n a = test (is_row n) (λ r. test (bytes_eq p (codes "table")) (λ t. absurd (no r t))
+    (λ t. rw t (and_false (is_row n)))) (λ r. rw r refl)
   where
     no : is_row n ≡ true → bytes_eq p (codes "table") ≡ true → ⊥
     no r t =
@@ -72,20 +87,24 @@ row_place z p c n a = test (is_row n) (λ r. test (bytes_eq p (codes "table")) (
         let b = rw (e, q) at h in cc
 
 -- a part of a table stands in a table only
-pub part_place : (z : Bool) (p : List ℕ) (c : Context) (n : List ℕ) (i : Bool) → (i ≡ true → is_tbody p ≡ true) → is_allowed z (p ∷ c) n ≡ true → (i && is_table_part n) ≡ false
-part_place z p c n i h a = test i (λ t. test (is_table_part n) (λ r. absurd (no (h t) r)) (λ r. rw r (and_false i))) (λ t. rw t refl)
+pub part_place : (z : Bool) (p : List ℕ) (c : Context) (n : List ℕ) (i : Bool) → (i ≡ true → is_tbody p ≡ true)
+    → is_allowed z (p ∷ c) n ≡ true → (i && is_table_part n) ≡ false
+part_place z p c n i h a = test i (λ t. test (is_table_part n) (λ r. absurd (no (h t) r)) (λ r. rw r (and_false i)))
+    (λ t. rw t refl)
   where
     no : is_tbody p ≡ true → is_table_part n ≡ true → ⊥
     no t r = let g = (allowed_parts z (p ∷ c) n a).2 in let b = rw r at g in tbody_not_table p t b
 
 -- a `tbody` stands in a table
-pub tbody_place : (z : Bool) (p : List ℕ) (c : Context) (n : List ℕ) → is_tbody n ≡ true → is_allowed z (p ∷ c) n ≡ true → is_table p ≡ true
+pub tbody_place : (z : Bool) (p : List ℕ) (c : Context) (n : List ℕ) → is_tbody n ≡ true → is_allowed z (p ∷ c) n ≡ true
+    → is_table p ≡ true
 tbody_place z p c n t a = let e = one_name (codes "tbody") n t in let g = (allowed_parts z (p ∷ c) n a).2 in rw e at g
 
 pub row_is_no_tbody : (n : List ℕ) → is_row n ≡ true → is_tbody n ≡ false
 row_is_no_tbody n r = let e = one_name (codes "tr") n r in rw e refl
 
-pub table_takes : (z : Bool) (p : List ℕ) (c : Context) → is_table p ≡ true → is_allowed z (p ∷ c) (codes "tbody") ≡ true
+pub table_takes : (z : Bool) (p : List ℕ) (c : Context) → is_table p ≡ true
+    → is_allowed z (p ∷ c) (codes "tbody") ≡ true
 unfolding is_allowed
 table_takes z p c q = let e = one_name (codes "table") p q in rw (e, and_false z) refl
 
@@ -103,7 +122,8 @@ unfolding is_void
 tbody_not_void = refl
 
 -- nothing but text stands in an element that holds text alone
-pub no_text_alone : (z : Bool) (p : List ℕ) (c : Context) (n : List ℕ) → is_allowed z (p ∷ c) n ≡ true → holds_text_alone z p ≡ false
+pub no_text_alone : (z : Bool) (p : List ℕ) (c : Context) (n : List ℕ) → is_allowed z (p ∷ c) n ≡ true
+    → holds_text_alone z p ≡ false
 no_text_alone z p c n a = (allowed_parts z (p ∷ c) n a).1
 
 pub tbody_no_text_alone : (z : Bool) (n : List ℕ) → is_tbody n ≡ true → holds_text_alone z n ≡ false

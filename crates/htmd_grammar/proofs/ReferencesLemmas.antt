@@ -1,10 +1,14 @@
 -- A piece looks no further than the next `<`, and holds none.
-use Rattle.std.proofs.Common.{Bool, List, None, Option, Some, [], ap, append_assoc, arith, codes, drop, false, inl, inr, length, length-append, not, refl, subst, suc, sym, take, true, zero, ℕ, ◌&&◌, ◌++◌, ◌+◌, ◌∙◌, ◌∷◌, ◌≡◌}
+use Rattle.std.proofs.Common.{Bool, List, None, Option, Some, [], ap, append_assoc, arith, codes, drop, false, inl, inr}
+use Rattle.std.proofs.Common.{length, length-append, not, refl, subst, suc, sym, take, true, zero, ℕ, ◌&&◌, ◌++◌, ◌+◌}
+use Rattle.std.proofs.Common.{◌∙◌, ◌∷◌, ◌≡◌}
 use Rattle.std.proofs.lemmas.Bool.Decides.{nat_tests}
 use Rattle.std.specs.Char.{is_ascii_alphanumeric, is_ascii_digit, is_ascii_hexdigit, to_ascii_lowercase}
 use Rattle.std.specs.Prelude.{◌==◌}
 use Rattle.htmd_grammar.specs.CharacterClasses.{begins_in_any_case, behind_run, first_is, lacks, leading_run}
-use Rattle.htmd_grammar.specs.References.{Names, Piece, behind, behind_ampersand, behind_number_sign, decode, may_be_numbered, named, number, number_at, numbered, piece_at, put, stands, wrong}
+use Rattle.htmd_grammar.specs.References.{Names, Piece, behind, behind_ampersand, behind_number_sign, decode}
+use Rattle.htmd_grammar.specs.References.{may_be_numbered, named, number, number_at, numbered, piece_at, put, stands}
+use Rattle.htmd_grammar.specs.References.{wrong}
 use Rattle.htmd_grammar.specs.Rules.{character_named}
 use Rattle.htmd_grammar.specs.Steps.{has_unknown_reference, is_unknown}
 use Rattle.htmd_grammar.proofs.BooleanLemmas.{and_true, if_then, lacks-append, not_true, same_byte, test}
@@ -15,7 +19,8 @@ front_over : (p : ℕ → Bool) (s t : List ℕ) → p 60 ≡ false → leading_
 front_over p [] t e = rw e refl
 front_over p (b ∷ s) t e = rw (front_over p s t e) refl
 
-back_over : (p : ℕ → Bool) (s t : List ℕ) → p 60 ≡ false → first_is 59 (behind_run p (s ++ (60 ∷ t))) ≡ first_is 59 (behind_run p s)
+back_over : (p : ℕ → Bool) (s t : List ℕ) → p 60 ≡ false → first_is 59 (behind_run p (s ++ (60 ∷ t))) ≡ first_is 59
+    (behind_run p s)
 back_over p [] t e = rw e refl
 back_over p (b ∷ s) t e = test (p b) (λ q. rw q (back_over p s t e)) (λ q. rw q refl)
 
@@ -23,16 +28,22 @@ semicolon_over : (s t : List ℕ) → first_is 59 (s ++ (60 ∷ t)) ≡ first_is
 semicolon_over [] t = refl
 semicolon_over (b ∷ s) t = refl
 
-number_over : (p : ℕ → Bool) (base n : ℕ) (s t : List ℕ) → p 60 ≡ false → number_at p base n (s ++ (60 ∷ t)) ≡ number_at p base n s
+number_over : (p : ℕ → Bool) (base n : ℕ) (s t : List ℕ) → p 60 ≡ false
+    → number_at p base n (s ++ (60 ∷ t)) ≡ number_at p base n s
 number_over p base n s t e = rw (front_over p s t e, back_over p s t e, semicolon_over s t) refl
 
 sharp_over : (s t : List ℕ) → behind_number_sign (s ++ (60 ∷ t)) ≡ behind_number_sign s
 sharp_over [] t = refl
-sharp_over (b ∷ s) t = rw (number_over is_ascii_hexdigit 16 2 s t refl, number_over is_ascii_digit 10 1 (b ∷ s) t refl) refl
+sharp_over (b ∷ s) t = rw (number_over is_ascii_hexdigit 16 2 s t refl, number_over is_ascii_digit 10 1 (b ∷ s) t refl)
+    refl
 
 and_over : (names : Names) (s t : List ℕ) → behind_ampersand names (s ++ (60 ∷ t)) ≡ behind_ampersand names s
 and_over names [] t = refl
-and_over names (b ∷ s) t = rw (sharp_over s t, front_over is_ascii_alphanumeric (b ∷ s) t refl, back_over is_ascii_alphanumeric (b ∷ s) t refl) refl
+and_over names (b ∷ s) t = rw (
+  sharp_over s t,
+  front_over is_ascii_alphanumeric (b ∷ s) t refl,
+  back_over is_ascii_alphanumeric (b ∷ s) t refl,
+) refl
 
 pub piece_over : (names : Names) (b : ℕ) (s t : List ℕ) → piece_at names b (s ++ (60 ∷ t)) ≡ piece_at names b s
 piece_over names b [] t = rw (and_over names [] t) refl
@@ -55,39 +66,63 @@ lacks_front c p (b ∷ s) e = test (p b) (λ q. rw q (rw (other q, lacks_front c
     other : p b ≡ true → (b == c) ≡ false
     other q = test (b == c) (λ t. absurd (let k = same_byte b c t in let w = rw k at q in cc)) (λ t. t)
 
-fits_ended : (p : ℕ → Bool) (s : List ℕ) → p 60 ≡ false → p 38 ≡ false → first_is 59 (behind_run p s) ≡ true → Fits (suc (length (leading_run p s))) s
+fits_ended : (p : ℕ → Bool) (s : List ℕ) → p 60 ≡ false → p 38 ≡ false → first_is 59 (behind_run p s) ≡ true
+    → Fits (suc (length (leading_run p s))) s
 fits_ended p s e g a =
     let h = at_head 59 (behind_run p s) a in
     let k = length-append (leading_run p s) (59 ∷ []) in (
       leading_run p s ++ 59 ∷ [],
       drop 1 (behind_run p s),
-      back_split p s ∙ (ap (λ (y : List ℕ). leading_run p s ++ y) h ∙ sym (Rattle.std.proofs.Common.append_assoc (leading_run p s) (59 ∷ []) (drop 1 (behind_run p s)))),
+      back_split p s ∙ (ap (λ (y : List ℕ). leading_run p s ++ y) h
+          ∙ sym (Rattle.std.proofs.Common.append_assoc (leading_run p s) (59 ∷ []) (drop 1 (behind_run p s)))),
       (omega arith),
       lacks-append 60 (leading_run p s) (59 ∷ []) (lacks_front 60 p s e) refl,
       lacks-append 38 (leading_run p s) (59 ∷ []) (lacks_front 38 p s g) refl,
     )
 
 fits_more : (b n m : ℕ) (s : List ℕ) → (b == 60) ≡ false → (b == 38) ≡ false → Fits n s → suc n ≡ m → Fits m (b ∷ s)
-fits_more b n m s e g f q = (b ∷ f.0, f.1, ap (λ (y : List ℕ). b ∷ y) f.2, (let k = f.3 in omega arith), rw (e, f.4) refl, rw (g, f.5) refl)
+fits_more b n m s e g f q = (
+  b ∷ f.0,
+  f.1,
+  ap (λ (y : List ℕ). b ∷ y) f.2,
+  (let k = f.3 in omega arith),
+  rw (e, f.4) refl,
+  rw (g, f.5) refl,
+)
 
-number_fits : (p : ℕ → Bool) (base k m : ℕ) (s v : List ℕ) → p 60 ≡ false → p 38 ≡ false → number_at p base k s ≡ stands m v → Fits (suc (length (leading_run p s))) s × (m ≡ suc (k + length (leading_run p s)))
-number_fits p base k m s v e g h = elim (if_then (first_is 59 (behind_run p s) && not (first_is 59 s)) (numbered (suc (k + length (leading_run p s))) (number base 0 (leading_run p s))) _ (stands m v) h) [
-  | inl w ↦ elim (if_then (may_be_numbered (number base 0 (leading_run p s))) (stands (suc (k + length (leading_run p s))) _) _ (stands m v) w.1) [
-    | inl u ↦ (fits_ended p s e g (and_true (first_is 59 (behind_run p s)) (not (first_is 59 s)) w.0).0, sym (stands_same (suc (k + length (leading_run p s))) m _ v u.1).0)
-    | inr u ↦ absurd (let z = u.1 in cc)
-  ]
-  | inr w ↦ absurd (let z = w.1 in cc)
-]
+number_fits : (p : ℕ → Bool) (base k m : ℕ) (s v : List ℕ) → p 60 ≡ false → p 38 ≡ false
+    → number_at p base k s ≡ stands m v → Fits (suc (length (leading_run p s))) s
+    × (m ≡ suc (k + length (leading_run p s)))
+number_fits p base k m s v e g h =
+    elim (if_then (first_is 59 (behind_run p s) && not (first_is 59 s))
+    (numbered (suc (k + length (leading_run p s))) (number base 0 (leading_run p s))) _ (stands m v) h) [
+      | inl w ↦ elim (if_then (may_be_numbered (number base 0 (leading_run p s)))
+          (stands (suc (k + length (leading_run p s))) _) _ (stands m v) w.1) [
+            | inl u ↦ (
+              fits_ended p s e g (and_true (first_is 59 (behind_run p s)) (not (first_is 59 s)) w.0).0,
+              sym (stands_same (suc (k + length (leading_run p s))) m _ v u.1).0,
+            )
+            | inr u ↦ absurd (let z = u.1 in cc)
+          ]
+      | inr w ↦ absurd (let z = w.1 in cc)
+    ]
 
 sharp_fits : (s v : List ℕ) (m : ℕ) → behind_number_sign s ≡ stands m v → (n : ℕ) × Fits n s × (m ≡ suc n)
 sharp_fits [] v m e = absurd (cc)
-sharp_fits (b ∷ s) v m e = elim (if_then (begins_in_any_case (codes "x") (b ∷ s)) (number_at is_ascii_hexdigit 16 2 s) (number_at is_ascii_digit 10 1 (b ∷ s)) (stands m v) e) [
-  | inl w ↦
-      let f = number_fits is_ascii_hexdigit 16 2 m s v refl refl w.1 in
-      let n : ((b == 60) ≡ false) × ((b == 38) ≡ false) = letter_x b w.0 in
-      (suc (suc (length (leading_run is_ascii_hexdigit s))), fits_more b (suc (length (leading_run is_ascii_hexdigit s))) (suc (suc (length (leading_run is_ascii_hexdigit s)))) s (n.0) (n.1) f.0 refl, (let k = f.1 in omega arith))
-  | inr w ↦ let f = number_fits is_ascii_digit 10 1 m (b ∷ s) v refl refl w.1 in (suc (length (leading_run is_ascii_digit (b ∷ s))), f.0, (let k = f.1 in omega arith))
-]
+sharp_fits (b ∷ s) v m e =
+    elim (if_then (begins_in_any_case (codes "x") (b ∷ s)) (number_at is_ascii_hexdigit 16 2 s)
+    (number_at is_ascii_digit 10 1 (b ∷ s)) (stands m v) e) [
+      | inl w ↦
+          let f = number_fits is_ascii_hexdigit 16 2 m s v refl refl w.1 in
+          let n : ((b == 60) ≡ false) × ((b == 38) ≡ false) = letter_x b w.0 in (
+            suc (suc (length (leading_run is_ascii_hexdigit s))),
+            fits_more b (suc (length (leading_run is_ascii_hexdigit s)))
+                (suc (suc (length (leading_run is_ascii_hexdigit s)))) s (n.0) (n.1) f.0 refl,
+            (let k = f.1 in omega arith),
+          )
+      | inr w ↦ let f = number_fits is_ascii_digit 10 1 m (b ∷ s) v refl refl w.1 in
+          (suc (length (leading_run is_ascii_digit (b ∷ s))), f.0, (let k = f.1 in omega arith))
+    ]
   where
     letter_x : (b : ℕ) → ((to_ascii_lowercase b == 120) && true) ≡ true → ((b == 60) ≡ false) × ((b == 38) ≡ false)
     letter_x b e = (grind (arith, nat_tests), grind (arith, nat_tests))
@@ -102,10 +137,15 @@ and_fits names s v m e = elim (if_then (first_is 35 s) (behind_number_sign (drop
       let f = sharp_fits (drop 1 s) v m w.1 in
       let h = at_head 35 s w.0 in
       subst (Fits m) (sym h) (fits_more 35 f.0 m (drop 1 s) refl refl f.1 (sym f.2))
-  | inr w ↦ elim (if_then (first_is 59 (behind_run is_ascii_alphanumeric s) && not (first_is 59 s)) (named (suc (length (leading_run is_ascii_alphanumeric s))) (character_named names (leading_run is_ascii_alphanumeric s))) _ (stands m v) w.1) [
-    | inl u ↦ subst (λ (k : ℕ). Fits k s) (named_fits (suc (length (leading_run is_ascii_alphanumeric s))) m (character_named names (leading_run is_ascii_alphanumeric s)) v u.1) (fits_ended is_ascii_alphanumeric s refl refl (and_true (first_is 59 (behind_run is_ascii_alphanumeric s)) (not (first_is 59 s)) u.0).0)
-    | inr u ↦ subst (λ (k : ℕ). Fits k s) (stands_same 0 m (38 ∷ []) v u.1).0 (none_fits s)
-  ]
+  | inr w ↦ elim (if_then (first_is 59 (behind_run is_ascii_alphanumeric s) && not (first_is 59 s))
+      (named (suc (length (leading_run is_ascii_alphanumeric s)))
+      (character_named names (leading_run is_ascii_alphanumeric s))) _ (stands m v) w.1) [
+        | inl u ↦ subst (λ (k : ℕ). Fits k s) (named_fits (suc (length (leading_run is_ascii_alphanumeric s))) m
+            (character_named names (leading_run is_ascii_alphanumeric s)) v u.1)
+            (fits_ended is_ascii_alphanumeric s refl refl (and_true (first_is 59 (behind_run is_ascii_alphanumeric s))
+            (not (first_is 59 s)) u.0).0)
+        | inr u ↦ subst (λ (k : ℕ). Fits k s) (stands_same 0 m (38 ∷ []) v u.1).0 (none_fits s)
+      ]
 ]
 
 pub piece_fits : (names : Names) (b : ℕ) (s v : List ℕ) (m : ℕ) → piece_at names b s ≡ stands m v → Fits m s
@@ -113,7 +153,8 @@ piece_fits names b s v m e = elim (if_then (b == 38) (behind_ampersand names s) 
   | inl w ↦ and_fits names s v m w.1
   | inr w ↦ elim (if_then (b == 13) _ (stands 0 (b ∷ [])) (stands m v) w.1) [
     | inl u ↦ elim (if_then (first_is 10 s) (stands 1 (10 ∷ [])) (stands 0 (10 ∷ [])) (stands m v) u.1) [
-      | inl y ↦ subst (λ (k : ℕ). Fits k s) (stands_same 1 m (10 ∷ []) v y.1).0 (subst (Fits 1) (sym (at_head 10 s y.0)) (fits_more 10 0 1 (drop 1 s) refl refl (none_fits (drop 1 s)) refl))
+      | inl y ↦ subst (λ (k : ℕ). Fits k s) (stands_same 1 m (10 ∷ []) v y.1).0
+          (subst (Fits 1) (sym (at_head 10 s y.0)) (fits_more 10 0 1 (drop 1 s) refl refl (none_fits (drop 1 s)) refl))
       | inr y ↦ subst (λ (k : ℕ). Fits k s) (stands_same 0 m (10 ∷ []) v y.1).0 (none_fits s)
     ]
     | inr u ↦ subst (λ (k : ℕ). Fits k s) (stands_same 0 m (b ∷ []) v u.1).0 (none_fits s)
@@ -134,13 +175,16 @@ drop_over n s x f =
 
 -- only `&` begins a reference
 pub no_reference : (names : Names) (b : ℕ) (s : List ℕ) → (b == 38) ≡ false → is_unknown (piece_at names b s) ≡ false
-no_reference names b s e = test (b == 13) (λ t. test (first_is 10 s) (λ q. rw (e, t, q) refl) (λ q. rw (e, t, q) refl)) (λ t. rw (e, t) refl)
+no_reference names b s e = test (b == 13) (λ t. test (first_is 10 s) (λ q. rw (e, t, q) refl) (λ q. rw (e, t, q) refl))
+    (λ t. rw (e, t) refl)
 
-pub put_parts : (p : Piece) (go : ℕ → Option (List ℕ)) (u : List ℕ) → put p go ≡ Some u → (m : ℕ) × (v w : List ℕ) × (p ≡ stands m v) × (go m ≡ Some w) × (u ≡ v ++ w)
+pub put_parts : (p : Piece) (go : ℕ → Option (List ℕ)) (u : List ℕ) → put p go ≡ Some u
+    → (m : ℕ) × (v w : List ℕ) × (p ≡ stands m v) × (go m ≡ Some w) × (u ≡ v ++ w)
 put_parts (wrong k) go u e = absurd (cc)
 put_parts (stands n v) go u e = parts (go n) refl e
   where
-    parts : (o : Option (List ℕ)) → go n ≡ o → behind v o ≡ Some u → (m : ℕ) × (y w : List ℕ) × (stands n v ≡ stands m y) × (go m ≡ Some w) × (u ≡ y ++ w)
+    parts : (o : Option (List ℕ)) → go n ≡ o → behind v o ≡ Some u
+        → (m : ℕ) × (y w : List ℕ) × (stands n v ≡ stands m y) × (go m ≡ Some w) × (u ≡ y ++ w)
     parts None q e = absurd (cc)
     parts (Some w) q e = (n, v, w, refl, q, cc)
 
@@ -155,7 +199,8 @@ skips_fit n s f = rw (f.2, first_bytes f.0 f.1 n f.3) f.5
     first_bytes [] r n e = rw (sym e) refl
     first_bytes (b ∷ w) r n e = rw (sym e) (ap (λ (y : List ℕ). b ∷ y) (first_bytes w r (length w) refl))
 
-known_from : (names : Names) (s : List ℕ) (n : ℕ) (u : List ℕ) → decode names n s ≡ Some u → Skips n s → has_unknown_reference names s ≡ false
+known_from : (names : Names) (s : List ℕ) (n : ℕ) (u : List ℕ) → decode names n s ≡ Some u → Skips n s
+    → has_unknown_reference names s ≡ false
 known_from names [] n u d k = refl
 known_from names (b ∷ s) zero u d k =
     let p = put_parts (piece_at names b s) (λ n. decode names n s) u d in

@@ -6,7 +6,8 @@ use Rattle.htmd_grammar.specs.References.{may_be_numbered}
 use Rattle.htmd_grammar.specs.Rules.{Rules, named_characters, project}
 use Rattle.htmd_grammar.specs.Serialisation.{is_void}
 use Rattle.htmd_grammar.specs.Steps.{step}
-use Rattle.htmd_grammar.specs.declared.fault.FaultKind.TheVariants.{BadNumber, MalformedComment, MalformedDeclaration, MalformedTag, NotAllowedHere, StrayText, TooDeep}
+use Rattle.htmd_grammar.specs.declared.fault.FaultKind.TheVariants.{BadNumber, MalformedComment, MalformedDeclaration}
+use Rattle.htmd_grammar.specs.declared.fault.FaultKind.TheVariants.{MalformedTag, NotAllowedHere, StrayText, TooDeep}
 use Rattle.htmd_grammar.proofs.Runs.{Refuses, refuses}
 
 -- the project's names, and so many levels below the Document
@@ -39,11 +40,13 @@ number_in_tag = refuses (project true) (codes "<b><i a=\"x&#xD800;\"></i></b>") 
 
 block_in_button_in_paragraph : Refuses (project true) (codes "<p><button><div></div></button></p>") 11 NotAllowedHere
 unfolding step is_allowed is_void may_be_numbered encode
-block_in_button_in_paragraph = refuses (project true) (codes "<p><button><div></div></button></p>") 11 NotAllowedHere 60 refl refl refl refl
+block_in_button_in_paragraph = refuses (project true) (codes "<p><button><div></div></button></p>") 11 NotAllowedHere 60
+    refl refl refl refl
 
 optgroup_in_optgroup : Refuses (project true) (codes "<optgroup><optgroup></optgroup></optgroup>") 10 NotAllowedHere
 unfolding step is_allowed is_void may_be_numbered encode
-optgroup_in_optgroup = refuses (project true) (codes "<optgroup><optgroup></optgroup></optgroup>") 10 NotAllowedHere 60 refl refl refl refl
+optgroup_in_optgroup = refuses (project true) (codes "<optgroup><optgroup></optgroup></optgroup>") 10 NotAllowedHere 60
+    refl refl refl refl
 
 heading_in_heading : Refuses (project true) (codes "<h1><h2></h2></h1>") 4 NotAllowedHere
 unfolding step is_allowed is_void may_be_numbered encode
@@ -51,7 +54,8 @@ heading_in_heading = refuses (project true) (codes "<h1><h2></h2></h1>") 4 NotAl
 
 term_in_description : Refuses (project true) (codes "<dl><dd><dt></dt></dd></dl>") 8 NotAllowedHere
 unfolding step is_allowed is_void may_be_numbered encode
-term_in_description = refuses (project true) (codes "<dl><dd><dt></dt></dd></dl>") 8 NotAllowedHere 60 refl refl refl refl
+term_in_description = refuses (project true) (codes "<dl><dd><dt></dt></dd></dl>") 8 NotAllowedHere 60 refl refl refl
+    refl
 
 head_of_no_table : Refuses (project true) (codes "<div><thead></thead></div>") 5 NotAllowedHere
 unfolding step is_allowed is_void may_be_numbered encode
@@ -75,11 +79,13 @@ phrase_in_option = refuses (project true) (codes "<option><b></b></option>") 8 N
 
 select_in_optgroup : Refuses (project true) (codes "<optgroup><b></b></optgroup>") 10 NotAllowedHere
 unfolding step is_allowed is_void may_be_numbered encode
-select_in_optgroup = refuses (project true) (codes "<optgroup><b></b></optgroup>") 10 NotAllowedHere 60 refl refl refl refl
+select_in_optgroup = refuses (project true) (codes "<optgroup><b></b></optgroup>") 10 NotAllowedHere 60 refl refl refl
+    refl
 
 paragraph_in_noscript : Refuses (project false) (codes "<p><noscript><p></p></noscript></p>") 13 NotAllowedHere
 unfolding step is_allowed is_void may_be_numbered encode
-paragraph_in_noscript = refuses (project false) (codes "<p><noscript><p></p></noscript></p>") 13 NotAllowedHere 60 refl refl refl refl
+paragraph_in_noscript = refuses (project false) (codes "<p><noscript><p></p></noscript></p>") 13 NotAllowedHere 60 refl
+    refl refl refl
 
 reference_in_table : Refuses (project true) (codes "<table> &amp;</table>") 8 StrayText
 unfolding step is_allowed is_void may_be_numbered encode

@@ -1,5 +1,6 @@
 -- A text that is written out is read by computing its steps.
-use Rattle.std.proofs.Common.{Bool, Err, List, Ok, [], ap, arith, false, length, refl, rules, subst, suc, sym, true, zero, ℕ, ◌&&◌, ◌+◌, ◌<◌, ◌∙◌, ◌≡◌}
+use Rattle.std.proofs.Common.{Bool, Err, List, Ok, [], ap, arith, false, length, refl, rules, subst, suc, sym, true}
+use Rattle.std.proofs.Common.{zero, ℕ, ◌&&◌, ◌+◌, ◌<◌, ◌∙◌, ◌≡◌}
 use Rattle.std.proofs.lemmas.Bool.Decides.{nat_tests}
 use Rattle.std.specs.Prelude.{nat_le}
 use Rattle.htmd_text.specs.Characters.{null}
@@ -26,7 +27,8 @@ pub steps_reach : (rules : Rules) (n : ℕ) (st : State) → Reaches rules above
 steps_reach rules zero st = here
 steps_reach rules (suc n) st = first (step rules above_body st) refl (λ a. steps_reach rules n a)
   where
-    first : (o : Step) → step rules above_body st ≡ o → ((a : State) → Reaches rules above_body a (steps rules n a)) → Reaches rules above_body st (go_on st (steps rules n) o)
+    first : (o : Step) → step rules above_body st ≡ o → ((a : State) → Reaches rules above_body a (steps rules n a))
+        → Reaches rules above_body st (go_on st (steps rules n) o)
     first (Ok a) e go = via e (go a)
     first (Err kind) e go = here
 
@@ -34,9 +36,16 @@ steps_reach rules (suc n) st = first (step rules above_body st) refl (λ a. step
 abbrev pub Denotes : Bool → List ℕ → ValueForest → Type 0
 Denotes scripting s content = ReadsDocument (project scripting) s (document_tree s content)
 
-pub denotes : (scripting : Bool) (s : List ℕ) (content : ValueForest) (n : ℕ) → lacks null s ≡ true → steps (project scripting) n (started s) ≡ finished content → Denotes scripting s content
-denotes scripting s content n l e =
-    (l, content, refl, sound_end (project scripting) s content (subst (λ (st : State). Reaches (project scripting) above_body (started s) st) e (steps_reach (project scripting) n (started s))))
+pub denotes : (scripting : Bool) (s : List ℕ) (content : ValueForest) (n : ℕ) → lacks null s ≡ true
+    → steps (project scripting) n (started s) ≡ finished content → Denotes scripting s content
+denotes scripting s content n l e = (
+  l,
+  content,
+  refl,
+  sound_end (project scripting) s content
+      (subst (λ (st : State). Reaches (project scripting) above_body (started s) st) e
+      (steps_reach (project scripting) n (started s))),
+)
 
 -- ---- refusals
 
@@ -51,8 +60,11 @@ Refuses rules s place kind = ((t : ValueTree) → ReadsDocument rules s t → �
 pub refuses : (rules : Rules) (s : List ℕ) (place : ℕ) (kind : FaultKind) (n : ℕ) → lacks null s ≡ true
     → step rules above_body (steps rules n (started s)) ≡ Err kind → is_over (steps rules n (started s)) ≡ false
     → place + length (steps rules n (started s)).rest ≡ length s → Refuses rules s place kind
-refuses rules s place kind n l e o p =
-    (denies, faults_are_right rules s (steps rules n (started s)) kind place l reached e (not_over (steps rules n (started s)) o) p)
+refuses rules s place kind n l e o p = (
+  denies,
+  faults_are_right rules s (steps rules n (started s)) kind place l reached e
+      (not_over (steps rules n (started s)) o) p,
+)
   where
     reached : Reaches rules above_body (started s) (steps rules n (started s))
     reached = steps_reach rules n (started s)
@@ -63,5 +75,6 @@ refuses rules s place kind n l e o p =
     denies : (t : ValueTree) → ReadsDocument rules s t → ⊥
     denies t h =
         refused rules s (steps rules n (started s)) kind reached e
-        (λ content q. let z : is_over (steps rules n (started s)) ≡ true = ap is_over q in let y : true ≡ false = sym z ∙ o in cc)
+        (λ content q. let z : is_over (steps rules n (started s)) ≡ true = ap is_over q in let y : true ≡ false = sym z
+        ∙ o in cc)
         h.1 h.3

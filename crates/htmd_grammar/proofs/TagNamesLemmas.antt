@@ -4,17 +4,22 @@ use Rattle.std.proofs.lemmas.Bool.Decides.{nat_tests}
 use Rattle.std.specs.Char.{is_ascii_alphabetic, is_ascii_uppercase, to_ascii_lowercase}
 use Rattle.std.specs.List.{list_all}
 use Rattle.std.specs.Prelude.{nat_lt, ◌==◌}
-use Rattle.htmd_grammar.specs.CharacterClasses.{holds_control, is_attribute_name, is_attribute_name_byte, is_empty, is_tag_name, is_tag_name_byte, lacks}
+use Rattle.htmd_grammar.specs.CharacterClasses.{holds_control, is_attribute_name, is_attribute_name_byte, is_empty}
+use Rattle.htmd_grammar.specs.CharacterClasses.{is_tag_name, is_tag_name_byte, lacks}
 use Rattle.htmd_grammar.proofs.BooleanLemmas.{all_pass, and_true, test}
 
 -- what is said of a byte in small letters is said for capital letters and for the others
-pub by_lower : (P : ℕ → ℕ → Type 0) (b : ℕ) → (is_ascii_uppercase b ≡ true → P b (b + 32)) → (is_ascii_uppercase b ≡ false → P b b) → P b (to_ascii_lowercase b)
+pub by_lower : (P : ℕ → ℕ → Type 0) (b : ℕ) → (is_ascii_uppercase b ≡ true → P b (b + 32))
+    → (is_ascii_uppercase b ≡ false → P b b) → P b (to_ascii_lowercase b)
 by_lower P b f g =
     test (nat_lt b 65) (λ e. rw e (g (grind (arith, nat_tests))))
-    (λ e. test (nat_lt b 91) (λ h. rw (e, h) (f (grind (arith, nat_tests)))) (λ h. rw (e, h) (g (grind (arith, nat_tests)))))
+    (λ e. test (nat_lt b 91) (λ h. rw (e, h) (f (grind (arith, nat_tests))))
+    (λ h. rw (e, h) (g (grind (arith, nat_tests)))))
 
 lower_lower : (b : ℕ) → to_ascii_lowercase (to_ascii_lowercase b) ≡ to_ascii_lowercase b
-lower_lower b = by_lower (λ x y. to_ascii_lowercase y ≡ y) b (λ e. by_lower (λ x y. y ≡ x) (b + 32) (λ h. absurd (grind (arith, nat_tests))) (λ h. refl)) (λ e. by_lower (λ x y. y ≡ x) b (λ h. absurd (grind (arith, nat_tests))) (λ h. refl))
+lower_lower b = by_lower (λ x y. to_ascii_lowercase y ≡ y) b
+    (λ e. by_lower (λ x y. y ≡ x) (b + 32) (λ h. absurd (grind (arith, nat_tests))) (λ h. refl))
+    (λ e. by_lower (λ x y. y ≡ x) b (λ h. absurd (grind (arith, nat_tests))) (λ h. refl))
 
 pub lower_name : (w : List ℕ) → map to_ascii_lowercase (map to_ascii_lowercase w) ≡ map to_ascii_lowercase w
 lower_name [] = refl
@@ -26,14 +31,16 @@ letter_lower b h = by_lower (λ x y. is_ascii_alphabetic y ≡ true) b (λ e. gr
 name_byte_lower : (b : ℕ) → is_tag_name_byte b ≡ true → is_tag_name_byte (to_ascii_lowercase b) ≡ true
 name_byte_lower b h = by_lower (λ x y. is_tag_name_byte y ≡ true) b (λ e. grind (arith, nat_tests)) (λ e. h)
 
-all_lower : (p : ℕ → Bool) (w : List ℕ) → ((b : ℕ) → p b ≡ true → p (to_ascii_lowercase b) ≡ true) → list_all p w ≡ true → list_all p (map to_ascii_lowercase w) ≡ true
+all_lower : (p : ℕ → Bool) (w : List ℕ) → ((b : ℕ) → p b ≡ true → p (to_ascii_lowercase b) ≡ true) → list_all p w ≡ true
+    → list_all p (map to_ascii_lowercase w) ≡ true
 all_lower p [] h e = refl
 all_lower p (b ∷ w) h e = let k = and_true (p b) (list_all p w) e in rw (h b k.0, all_lower p w h k.1) refl
 
 -- a name in small letters is a name
 pub is_name-lower : (w : List ℕ) → is_tag_name w ≡ true → is_tag_name (map to_ascii_lowercase w) ≡ true
 is_name-lower [] e = absurd (cc)
-is_name-lower (b ∷ w) e = let k = and_true (is_ascii_alphabetic b) (list_all is_tag_name_byte w) e in rw (letter_lower b k.0, all_lower is_tag_name_byte w name_byte_lower k.1) refl
+is_name-lower (b ∷ w) e = let k = and_true (is_ascii_alphabetic b) (list_all is_tag_name_byte w) e in
+    rw (letter_lower b k.0, all_lower is_tag_name_byte w name_byte_lower k.1) refl
 
 key_byte_lower : (b : ℕ) → is_attribute_name_byte b ≡ true → is_attribute_name_byte (to_ascii_lowercase b) ≡ true
 key_byte_lower b h = by_lower (λ x y. is_attribute_name_byte y ≡ true) b (λ e. grind (arith, nat_tests)) (λ e. h)
@@ -84,7 +91,8 @@ name_lacks (b ∷ w) e =
 pub key_lacks : (w : List ℕ) → is_attribute_name w ≡ true → lacks 10 w ≡ true
 key_lacks w e =
     let p = and_true (not (is_empty w) && list_all is_attribute_name_byte w) (not (holds_control w)) e in
-    all_pass is_attribute_name_byte (λ c. not (c == 10)) w byte_no (and_true (not (is_empty w)) (list_all is_attribute_name_byte w) p.0).1
+    all_pass is_attribute_name_byte (λ c. not (c == 10)) w byte_no
+    (and_true (not (is_empty w)) (list_all is_attribute_name_byte w) p.0).1
   where
     byte_no : (b : ℕ) → is_attribute_name_byte b ≡ true → not (b == 10) ≡ true
     byte_no b e = grind (arith, nat_tests)

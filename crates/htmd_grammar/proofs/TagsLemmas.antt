@@ -1,5 +1,6 @@
 -- The tags that the serialiser writes.
-use Rattle.std.proofs.Common.{Bool, List, None, Option, Some, [], ap, append_assoc, codes, false, inl, inr, map, refl, subst, sym, true, ℕ, ◌++◌, ◌∙◌, ◌∷◌, ◌≡◌}
+use Rattle.std.proofs.Common.{Bool, List, None, Option, Some, [], ap, append_assoc, codes, false, inl, inr, map, refl}
+use Rattle.std.proofs.Common.{subst, sym, true, ℕ, ◌++◌, ◌∙◌, ◌∷◌, ◌≡◌}
 use Rattle.std.specs.Char.{to_ascii_lowercase}
 use Rattle.std.specs.List.{flat_map, list_all}
 use Rattle.std.specs.Prelude.{⊤}
@@ -8,7 +9,8 @@ use Rattle.htmd_grammar.specs.RawBlocks.{RefersToLineFeeds}
 use Rattle.htmd_grammar.specs.ReadBack.{is_plain_attribute}
 use Rattle.htmd_grammar.specs.References.{Names, decode}
 use Rattle.htmd_grammar.specs.Serialisation.{attribute_text, end_tag, escaped_html, start_tag, value_byte}
-use Rattle.htmd_grammar.specs.Tags.{IsEndTag, IsStartTag, IsTagForm, IsTagRest, attribute_names, decode_values, with_value}
+use Rattle.htmd_grammar.specs.Tags.{IsEndTag, IsStartTag, IsTagForm, IsTagRest, attribute_names, decode_values}
+use Rattle.htmd_grammar.specs.Tags.{with_value}
 use Rattle.htmd_grammar.specs.ValueTrees.{AttributePair}
 use Rattle.htmd_grammar.proofs.BooleanLemmas.{and_true, lacks-append}
 use Rattle.htmd_grammar.proofs.EscapeLemmas.{HasEscapes, value_back}
@@ -27,18 +29,26 @@ AreTreeKeys (k ∷ ks) = (is_attribute_name k ≡ true) × (map to_ascii_lowerca
 pub tree_name : (name n : List ℕ) → is_tag_name name ≡ true → map to_ascii_lowercase name ≡ n → IsTreeName n
 tree_name name n e d = subst IsTreeName d (is_name-lower name e, lower_name name)
 
-around : (k v r : List ℕ) → (32 ∷ (k ++ (61 ∷ 34 ∷ []))) ++ (v ++ (34 ∷ r)) ≡ (32 ∷ []) ++ (k ++ ((61 ∷ (34 ∷ (v ++ 34 ∷ []))) ++ r))
+around : (k v r : List ℕ) → (32 ∷ (k ++ (61 ∷ 34 ∷ []))) ++ (v ++ (34 ∷ r)) ≡ (32 ∷ [])
+    ++ (k ++ ((61 ∷ (34 ∷ (v ++ 34 ∷ []))) ++ r))
 around k v r = simp append_assoc
 
 -- however a tag was markup_of
-pub tree_keys : (spelled : List AttributePair) (present : Bool) (s : List ℕ) → IsTagRest spelled present s → AreTreeKeys (attribute_names spelled)
+pub tree_keys : (spelled : List AttributePair) (present : Bool) (s : List ℕ) → IsTagRest spelled present s
+    → AreTreeKeys (attribute_names spelled)
 tree_keys [] present s h = tt
-tree_keys (a ∷ spelled) present s h =
-    (subst (λ (k : List ℕ). is_attribute_name k ≡ true) h.8 (is_key-lower h.1 h.7), ap (map to_ascii_lowercase) (sym h.8) ∙ (lower_name h.1 ∙ h.8), tree_keys spelled present h.3 h.10)
+tree_keys (a ∷ spelled) present s h = (
+  subst (λ (k : List ℕ). is_attribute_name k ≡ true) h.8 (is_key-lower h.1 h.7),
+  ap (map to_ascii_lowercase)
+      (sym h.8) ∙ (lower_name h.1 ∙ h.8),
+  tree_keys spelled present h.3 h.10,
+)
 
 -- the value of the first attribute, and the others
-pub values_parts : (n : List ℕ) (v : Option (List ℕ)) (o : Option (List AttributePair)) (attributes : List AttributePair) → with_value n v o ≡ Some attributes
-    → (u : List ℕ) × (others : List AttributePair) × (v ≡ Some u) × (o ≡ Some others) × (attributes ≡ record { name = n; value = u } ∷ others)
+pub values_parts : (n : List ℕ) (v : Option (List ℕ)) (o : Option (List AttributePair))
+    (attributes : List AttributePair) → with_value n v o ≡ Some attributes
+    → (u : List ℕ) × (others : List AttributePair) × (v ≡ Some u) × (o ≡ Some others)
+    × (attributes ≡ record { name = n; value = u } ∷ others)
 values_parts n None o attributes e = absurd (cc)
 values_parts n (Some u) None attributes e = absurd (cc)
 values_parts n (Some u) (Some others) attributes e = (u, others, refl, refl, sym (same e))
@@ -47,10 +57,12 @@ values_parts n (Some u) (Some others) attributes e = (u, others, refl, refl, sym
     same q = cc
 
 module _ (names : Names) where
-  pub decoded_names : (spelled attributes : List AttributePair) → decode_values names spelled ≡ Some attributes → attribute_names spelled ≡ attribute_names attributes
+  pub decoded_names : (spelled attributes : List AttributePair) → decode_values names spelled ≡ Some attributes
+      → attribute_names spelled ≡ attribute_names attributes
   decoded_names [] attributes e = nothing e
     where
-      nothing : ◌≡◌ {A = Option (List AttributePair)} (Some []) (Some attributes) → attribute_names [] ≡ attribute_names attributes
+      nothing : ◌≡◌ {A = Option (List AttributePair)} (Some []) (Some attributes)
+          → attribute_names [] ≡ attribute_names attributes
       nothing q = let w : [] ≡ attributes = cc in ap attribute_names w
   decoded_names (a ∷ spelled) attributes e =
       let w = values_parts a.name (decode names 0 a.value) (decode_values names spelled) attributes e in
@@ -58,10 +70,12 @@ module _ (names : Names) where
 
   -- attributes, spelled so
   abbrev Spells : List AttributePair → List ℕ → Type 0
-  Spells attributes x = (spelled : List AttributePair) × IsTagRest spelled false x × (decode_values names spelled ≡ Some attributes)
+  Spells attributes x = (spelled : List AttributePair) × IsTagRest spelled false x
+      × (decode_values names spelled ≡ Some attributes)
 
   -- the attributes as the serialiser writes them
-  pub attributes_back : HasEscapes names → (attributes : List AttributePair) (x : List ℕ) → AreTreeKeys (attribute_names attributes) → list_all is_plain_attribute attributes ≡ true
+  pub attributes_back : HasEscapes names → (attributes : List AttributePair) (x : List ℕ)
+      → AreTreeKeys (attribute_names attributes) → list_all is_plain_attribute attributes ≡ true
       → RefersToLineFeeds (flat_map attribute_text attributes ++ codes ">") x → Spells attributes x
   attributes_back has [] x k p r = ([], ([], refers_plain (codes ">") x refl r, refl), refl)
   attributes_back has (a ∷ attributes) x k p r =
@@ -69,16 +83,19 @@ module _ (names : Names) where
       let before : List ℕ = 32 ∷ (a.name ++ (61 ∷ 34 ∷ [])) in
       let value : List ℕ = escaped_html value_byte a.value in
       let others : List ℕ = flat_map attribute_text attributes ++ codes ">" in
-      let e : (attribute_text a ++ flat_map attribute_text attributes) ++ codes ">" ≡ before ++ (value ++ (34 ∷ others)) = simp append_assoc in
+      let e : (attribute_text a ++ flat_map attribute_text attributes) ++ codes ">" ≡ before
+      ++ (value ++ (34 ∷ others)) = simp append_assoc in
       let i = refers_split before (value ++ (34 ∷ others)) x (subst (λ (y : List ℕ). RefersToLineFeeds y x) e r) in
       let j = refers_split value (34 ∷ others) i.1 i.4 in
       let l = refers_split (34 ∷ []) others j.1 j.4 in
-      let b : i.0 ≡ before = refers_plain before i.0 (lacks-append 10 a.name (61 ∷ 34 ∷ []) (key_lacks a.name k.0) refl) i.3 in
+      let b : i.0 ≡ before = refers_plain before i.0 (lacks-append 10 a.name (61 ∷ 34 ∷ []) (key_lacks a.name k.0) refl)
+      i.3 in
       let c : l.0 ≡ 34 ∷ [] = refers_plain (34 ∷ []) l.0 refl l.3 in
       let v = value_back names has a.value j.0 q.0 j.3 in
       put_together i.0 i.1 j.0 j.1 l.0 l.1 i.2 j.2 l.2 b c v.0 v.1 (attributes_back has attributes l.1 k.2 q.1 l.4)
     where
-      put_together : (i0 i1 j0 j1 l0 l1 : List ℕ) → x ≡ i0 ++ i1 → i1 ≡ j0 ++ j1 → j1 ≡ l0 ++ l1 → i0 ≡ 32 ∷ (a.name ++ (61 ∷ 34 ∷ [])) → l0 ≡ 34 ∷ []
+      put_together : (i0 i1 j0 j1 l0 l1 : List ℕ) → x ≡ i0 ++ i1 → i1 ≡ j0 ++ j1 → j1 ≡ l0 ++ l1
+          → i0 ≡ 32 ∷ (a.name ++ (61 ∷ 34 ∷ [])) → l0 ≡ 34 ∷ []
           → decode names 0 j0 ≡ Some a.value → lacks 34 j0 ≡ true → Spells attributes l1 → Spells (a ∷ attributes) x
       put_together i0 i1 j0 j1 l0 l1 e1 e2 e3 b c d n rest =
           let spelled : x ≡ (32 ∷ []) ++ (a.name ++ ((61 ∷ (34 ∷ (j0 ++ 34 ∷ []))) ++ l1)) =
@@ -101,13 +118,16 @@ module _ (names : Names) where
             rw (d, rest.2) refl,
           )
 
-  pub start_tag_back : HasEscapes names → (n : List ℕ) (attributes : List AttributePair) (tag x : List ℕ) → IsStartTag names tag n attributes → list_all is_plain_attribute attributes ≡ true
+  pub start_tag_back : HasEscapes names → (n : List ℕ) (attributes : List AttributePair) (tag x : List ℕ)
+      → IsStartTag names tag n attributes → list_all is_plain_attribute attributes ≡ true
       → RefersToLineFeeds (start_tag n attributes) x → IsStartTag names x n attributes
   start_tag_back has n attributes tag x h p r =
       let f : IsTagForm tag n h.0 h.1 = h.2 in
       let t = tree_name f.0 n f.3 f.4 in
       let s = decoded_names h.0 attributes h.3 in
-      let i = refers_split (60 ∷ n) (flat_map attribute_text attributes ++ codes ">") x (subst (λ (y : List ℕ). RefersToLineFeeds y x) (append_assoc (60 ∷ n) (flat_map attribute_text attributes) (codes ">")) r) in
+      let i = refers_split (60 ∷ n) (flat_map attribute_text attributes ++ codes ">") x
+      (subst (λ (y : List ℕ). RefersToLineFeeds y x) (append_assoc (60 ∷ n) (flat_map attribute_text attributes)
+      (codes ">")) r) in
       let e : i.0 ≡ 60 ∷ n = refers_plain (60 ∷ n) i.0 (name_lacks n t.0) i.3 in
       let a = attributes_back has attributes i.1 (subst AreTreeKeys s (tree_keys h.0 h.1 f.1 f.5)) p i.4 in (
         a.0,
@@ -119,4 +139,11 @@ module _ (names : Names) where
       )
 
 pub end_tag_back : (n x : List ℕ) → IsTreeName n → RefersToLineFeeds (end_tag n) x → IsEndTag x n
-end_tag_back n x t r = (n, [], refers_plain (end_tag n) x (lacks-append 10 n (62 ∷ []) (name_lacks n t.0) refl) r, t.0, refl, t.1)
+end_tag_back n x t r = (
+  n,
+  [],
+  refers_plain (end_tag n) x (lacks-append 10 n (62 ∷ []) (name_lacks n t.0) refl) r,
+  t.0,
+  refl,
+  t.1,
+)

@@ -88,7 +88,8 @@ is_tag_name (b ∷ s) = is_ascii_alphabetic b && list_all is_tag_name_byte s
 -- in an attribute name: no ASCII white space or control, and none of `"`, `'`, `<`, `/`, `>`, `=`
 abbrev pub is_attribute_name_byte : ℕ → Bool
 is_attribute_name_byte b =
-    not (is_ascii_white_space b || is_ascii_control b || (b == quotation_mark) || (b == apostrophe) || (b == less_than_sign)
+    not (is_ascii_white_space b || is_ascii_control b || (b == quotation_mark) || (b == apostrophe)
+    || (b == less_than_sign)
     || (b == slash) || (b == greater_than_sign) || (b == equals_sign))
 
 -- one of the controls U+0080 to U+009F, which are two bytes in UTF-8, stands in the text

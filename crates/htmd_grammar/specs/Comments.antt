@@ -1,5 +1,6 @@
 -- Comments (HTML Standard, 13.1.6) and the doctype (13.1.1).
-use Rattle.std.specs.Prelude.{◌≡◌, ℕ, Bool, true, not, ◌&&◌, ◌==◌, if◌then◌else◌, List, [], ◌∷◌, ◌++◌, drop, Option, Some, None, option_map, codes}
+use Rattle.std.specs.Prelude.{◌≡◌, ℕ, Bool, true, not, ◌&&◌, ◌==◌, if◌then◌else◌, List, [], ◌∷◌, ◌++◌, drop, Option}
+use Rattle.std.specs.Prelude.{Some, None, option_map, codes}
 use Rattle.htmd_text.specs.Characters.{line_feed, carriage_return, greater_than_sign}
 use Rattle.htmd_text.specs.WhiteSpace.{is_ascii_white_space}
 use Rattle.htmd_grammar.specs.CharacterClasses.{first_is, begins_with, begins_in_any_case, behind_run, holds}
@@ -16,7 +17,8 @@ normalized (b ∷ s) =
 abbrev pub before_comment_end : List ℕ → Option (List ℕ × List ℕ)
 before_comment_end [] = None
 before_comment_end (b ∷ s) =
-    if begins_with (codes "-->") (b ∷ s) then Some ([], drop 2 s) else option_map (λ p. (b ∷ p.0, p.1)) (before_comment_end s)
+    if begins_with (codes "-->") (b ∷ s) then Some ([], drop 2 s)
+    else option_map (λ p. (b ∷ p.0, p.1)) (before_comment_end s)
 
 -- the text of a comment neither begins with `>` or `->` nor holds `--!>`
 abbrev pub is_comment_text : List ℕ → Bool
@@ -34,7 +36,8 @@ abbrev pub doctype_end : List ℕ → Option (List ℕ)
 doctype_end s = if first_is greater_than_sign s then Some (drop 1 s) else None
 
 abbrev pub doctype_name : List ℕ → Option (List ℕ)
-doctype_name s = if begins_in_any_case (codes "html") s then doctype_end (behind_run is_ascii_white_space (drop 4 s)) else None
+doctype_name s = if begins_in_any_case (codes "html") s then doctype_end (behind_run is_ascii_white_space (drop 4 s))
+    else None
 
 abbrev pub white_space_and_name : List ℕ → Option (List ℕ)
 white_space_and_name [] = None

@@ -27,7 +27,8 @@ below_body = codes "body" ∷ above_body
 -- `html` with an empty `head`, and a `body` with this content
 abbrev pub skeleton : ValueForest → ValueForest
 skeleton content =
-    more (element (codes "html") [] (more (element (codes "head") [] none) (more (element (codes "body") [] content) none))) none
+    more (element (codes "html") []
+    (more (element (codes "head") [] none) (more (element (codes "body") [] content) none))) none
 
 -- a Doctype stands first where the text begins with one
 abbrev pub with_doctype : Option (List ℕ) → ValueForest → ValueForest
@@ -50,4 +51,5 @@ document_tree s content = document (with_doctype (behind_doctype (behind_mark s)
 -- The text, which has no U+0000, denotes this document.
 abbrev pub ReadsDocument : Rules → List ℕ → ValueTree → Type 0
 ReadsDocument rules s t =
-    (lacks null s ≡ true) × (content : ValueForest) × (t ≡ document_tree s content) × reads rules below_body (body_text s) content
+    (lacks null s ≡ true) × (content : ValueForest) × (t ≡ document_tree s content) × reads rules below_body
+    (body_text s) content

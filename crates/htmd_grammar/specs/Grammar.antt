@@ -1,5 +1,6 @@
 -- The strict grammar: which trees a text denotes in the context of its ancestors.
-use Rattle.std.specs.Prelude.{◌≡◌, ◌≢◌, ◌⊎◌, ℕ, ◌≤◌, Bool, true, false, ◌&&◌, ◌==◌, if◌then◌else◌, List, [], ◌∷◌, ◌++◌, length, map, Some, ⊤}
+use Rattle.std.specs.Prelude.{◌≡◌, ◌≢◌, ◌⊎◌, ℕ, ◌≤◌, Bool, true, false, ◌&&◌, ◌==◌, if◌then◌else◌, List, [], ◌∷◌, ◌++◌}
+use Rattle.std.specs.Prelude.{length, map, Some, ⊤}
 use Rattle.std.specs.Bool.{MatchBool}
 use Rattle.std.specs.List.{list_all}
 use Rattle.std.specs.Char.{to_ascii_lowercase, is_ascii_alphabetic}
@@ -25,7 +26,8 @@ Apart _ _ = ⊤
 abbrev pub tag_name_at : List ℕ → List ℕ
 tag_name_at [] = []
 tag_name_at (b ∷ []) = []
-tag_name_at (b ∷ c ∷ s) = if b == less_than_sign && is_ascii_alphabetic c then map to_ascii_lowercase (leading_run is_tag_name_byte (c ∷ s)) else []
+tag_name_at (b ∷ c ∷ s) = if b == less_than_sign && is_ascii_alphabetic c
+    then map to_ascii_lowercase (leading_run is_tag_name_byte (c ∷ s)) else []
 
 -- An implied `tbody` ends before the next part of the table, or where its content ends. The flag says whether it may
 -- where these nodes end, whose text is given.
@@ -49,17 +51,20 @@ module _ (rules : Rules) where
     ReadsTree c last doctype s = ⊥
     -- characters and references, up to what ends a text; between the parts of a table they are white space
     ReadsTree c last (text u) s =
-        (u ≢ []) × (up_to (ends_text rules.scripting (parent_name c)) s ≡ s) × (text_of rules (parent_name c) s ≡ Some u)
+        (u ≢ []) × (up_to (ends_text rules.scripting (parent_name c)) s ≡ s)
+        × (text_of rules (parent_name c) s ≡ Some u)
         × (holds_parts (parent_name c) ≡ true → list_all is_ascii_white_space u ≡ true) × (length c ≤ rules.depth)
     ReadsTree c last (comment u) s =
         IsComment s u × (holds_text_alone rules.scripting (parent_name c) ≡ false) × (length c ≤ rules.depth)
-    -- a start tag, and unless the element is void its content and end tag; or an implied `tbody`, whose end tag may be absent
+    -- a start tag, and unless the element is void its content and end tag; or an implied `tbody`, whose end tag may be
+    -- absent
     ReadsTree c last (element n attributes children) s =
         (is_allowed rules.scripting c n ≡ true) × (length c ≤ rules.depth)
         × (((tag inner end : List ℕ) × (s ≡ tag ++ (inner ++ end)) × IsStartTag rules.names tag n attributes
         × MatchBool (is_void n) ((inner ≡ []) × (end ≡ []) × (children ≡ none))
         (ReadsForest (n ∷ c) true children (content_of n inner) × IsEndTag end n))
-        ⊎ ((inner end : List ℕ) × (s ≡ inner ++ end) × (is_tbody n ≡ true) × (attributes ≡ []) × (begins_with_row children ≡ true)
+        ⊎ ((inner end : List ℕ) × (s ≡ inner ++ end) × (is_tbody n ≡ true) × (attributes ≡ [])
+        × (begins_with_row children ≡ true)
         × ReadsForest (n ∷ c) true children inner × (IsEndTag end n ⊎ ((end ≡ []) × (last ≡ true)))))
 
     -- one tree after another

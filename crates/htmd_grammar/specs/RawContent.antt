@@ -34,7 +34,8 @@ begins_own_end n (b ∷ c ∷ s) = (b == less_than_sign) && (c == slash) && goes
 
 -- `<` before a letter, `/`, `!` or `?` begins markup; any other `<` is a character
 abbrev pub is_markup : ℕ → ℕ → Bool
-is_markup b c = (b == less_than_sign) && (is_ascii_alphabetic c || (c == slash) || (c == exclamation_mark) || (c == question_mark))
+is_markup b c = (b == less_than_sign) && (is_ascii_alphabetic c || (c == slash) || (c == exclamation_mark)
+    || (c == question_mark))
 
 abbrev pub begins_markup : List ℕ → Bool
 begins_markup [] = false

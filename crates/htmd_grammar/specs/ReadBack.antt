@@ -5,7 +5,8 @@ use Rattle.std.specs.List.{list_all}
 use Rattle.std.specs.Str.{IsUtf8}
 use Rattle.htmd_text.specs.BlankLines.{with_blank_lines}
 use Rattle.htmd_text.specs.Characters.{carriage_return}
-use Rattle.htmd_grammar.specs.ValueTrees.{AttributePair, ValueTree, document, doctype, text, comment, element, ValueForest, none, more}
+use Rattle.htmd_grammar.specs.ValueTrees.{AttributePair, ValueTree, document, doctype, text, comment, element}
+use Rattle.htmd_grammar.specs.ValueTrees.{ValueForest, none, more}
 use Rattle.htmd_grammar.specs.CharacterClasses.{lacks, is_among}
 use Rattle.htmd_grammar.specs.Rules.{Rules}
 use Rattle.htmd_grammar.specs.Places.{Context}
@@ -37,13 +38,15 @@ abbrev mutual
   all_plain (more tree trees) = is_plain tree && all_plain trees
 
 abbrev mutual
-  -- the tree t, whose ancestors have the names d, is the first tree, whose ancestors have the names c, or stands below it
+  -- the tree t, whose ancestors have the names d, is the first tree, whose ancestors have the names c, or stands below
+  -- it
   pub IsIn : Context → ValueTree → Context → ValueTree → Type 0
   IsIn c (document children) d t = ⊥
   IsIn c doctype d t = ⊥
   IsIn c (text v) d t = (d ≡ c) × (t ≡ text v)
   IsIn c (comment v) d t = (d ≡ c) × (t ≡ comment v)
-  IsIn c (element n attributes children) d t = ((d ≡ c) × (t ≡ element n attributes children)) ⊎ AreIn (n ∷ c) children d t
+  IsIn c (element n attributes children) d t = ((d ≡ c) × (t ≡ element n attributes children))
+      ⊎ AreIn (n ∷ c) children d t
 
   -- the same for one of some trees
   pub AreIn : Context → ValueForest → Context → ValueTree → Type 0
@@ -69,7 +72,8 @@ pub record IsPlainElement (c : Context) (ts : ValueForest) (d : Context) (t : Va
   pub stands : AreIn c ts d t
   pub plain : is_plain t ≡ true
 
--- Of trees that were read in some context: the serialisation of a plain element, with references in place of some of its
+-- Of trees that were read in some context: the serialisation of a plain element, with references in place of some of
+-- its
 -- line feeds, denotes that element alone, in the context of its ancestors.
 abbrev pub ReadsBack : Rules → Type 0
 ReadsBack rules =

@@ -1,6 +1,7 @@
 -- Characters and character references (HTML Standard, 13.1.4), and what a run of them denotes. CR LF and a lone CR
 -- are a line feed.
-use Rattle.std.specs.Prelude.{ℕ, zero, suc, ◌+◌, ◌-◌, ◌*◌, Bool, not, ◌&&◌, ◌==◌, nat_le, nat_lt, if◌then◌else◌, List, [], ◌∷◌, ◌++◌, length, drop, Option, Some, None, codes}
+use Rattle.std.specs.Prelude.{ℕ, zero, suc, ◌+◌, ◌-◌, ◌*◌, Bool, not, ◌&&◌, ◌==◌, nat_le, nat_lt, if◌then◌else◌, List}
+use Rattle.std.specs.Prelude.{[], ◌∷◌, ◌++◌, length, drop, Option, Some, None, codes}
 use Rattle.std.specs.Str.{bytes_eq}
 use Rattle.std.specs.Char.{encode_utf8, to_ascii_lowercase, is_ascii_digit, is_ascii_hexdigit, is_ascii_alphanumeric}
 use Rattle.htmd_text.specs.Characters.{
@@ -76,7 +77,8 @@ behind_ampersand names s =
     if first_is number_sign s
     then behind_number_sign (drop 1 s)
     else if first_is semicolon (behind_run is_ascii_alphanumeric s) && not (first_is semicolon s)
-    then named (suc (length (leading_run is_ascii_alphanumeric s))) (character_named names (leading_run is_ascii_alphanumeric s))
+    then named (suc (length (leading_run is_ascii_alphanumeric s)))
+    (character_named names (leading_run is_ascii_alphanumeric s))
     else stands 0 (ampersand ∷ [])
 
 -- ---- runs

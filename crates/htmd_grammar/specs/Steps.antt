@@ -1,13 +1,15 @@
 -- What the reader does from piece to piece: one character or one reference at a time, the tests in the order of the
 -- kinds of fault. So each fault stands at the beginning of what is left.
-use Rattle.std.specs.Prelude.{◌≡◌, ℕ, suc, Bool, true, false, not, ◌&&◌, ◌||◌, ◌==◌, nat_lt, if◌then◌else◌, List, [], ◌∷◌, ◌++◌, length, map, drop, Option, Some, None, Result, Ok, Err, codes}
+use Rattle.std.specs.Prelude.{◌≡◌, ℕ, suc, Bool, true, false, not, ◌&&◌, ◌||◌, ◌==◌, nat_lt, if◌then◌else◌, List, []}
+use Rattle.std.specs.Prelude.{◌∷◌, ◌++◌, length, map, drop, Option, Some, None, Result, Ok, Err, codes}
 use Rattle.std.specs.List.{list_any, list_all}
 use Rattle.std.specs.Str.{bytes_eq}
 use Rattle.std.specs.Char.{to_ascii_lowercase}
 use Rattle.htmd_text.specs.Characters.{exclamation_mark, slash, less_than_sign, greater_than_sign, question_mark}
 use Rattle.htmd_text.specs.WhiteSpace.{is_ascii_white_space}
 use Rattle.htmd_grammar.specs.ValueTrees.{AttributePair, ValueTree, text, comment, element, ValueForest, none, more}
-use Rattle.htmd_grammar.specs.CharacterClasses.{is_empty, first_is, begins_with, leading_run, behind_run, up_to, onward, is_tag_name_byte, is_tag_name, are_distinct}
+use Rattle.htmd_grammar.specs.CharacterClasses.{is_empty, first_is, begins_with, leading_run, behind_run, up_to, onward}
+use Rattle.htmd_grammar.specs.CharacterClasses.{is_tag_name_byte, is_tag_name, are_distinct}
 use Rattle.htmd_grammar.specs.Rules.{Rules}
 use Rattle.htmd_grammar.specs.References.{Names, Piece, stands, wrong, piece_at}
 use Rattle.htmd_grammar.specs.Tags.{attribute_names, decode_values}
@@ -48,7 +50,8 @@ pub record OpenElement : Type 0 where
   pub implied : Bool
   pub children : ValueForest
 
--- the open elements, innermost first; what the text at the end of the innermost one denotes so far; the text that is left
+-- the open elements, innermost first; what the text at the end of the innermost one denotes so far; the text that is
+-- left
 pub record State : Type 0 where
   pub stack : List OpenElement
   pub run : List ℕ
@@ -143,10 +146,12 @@ module _ (rules : Rules) (outer : Context) where
 
   abbrev pub comment_step : List OpenElement → Option (List ℕ × List ℕ) → Step
   comment_step fs None = fault MalformedComment
-  comment_step fs (Some p) = if is_comment_text p.0 then add fs (comment (normalized p.0)) p.1 else fault MalformedComment
+  comment_step fs (Some p) = if is_comment_text p.0 then add fs (comment (normalized p.0)) p.1
+      else fault MalformedComment
 
   abbrev pub declaration_step : List OpenElement → List ℕ → Step
-  declaration_step fs s = if begins_with (codes "--") s then comment_step fs (before_comment_end (drop 2 s)) else fault MalformedDeclaration
+  declaration_step fs s = if begins_with (codes "--") s then comment_step fs (before_comment_end (drop 2 s))
+      else fault MalformedDeclaration
 
   -- ---- start tags
 
@@ -165,7 +170,8 @@ module _ (rules : Rules) (outer : Context) where
       then (if is_too_deep fs then fault TooDeep else open_step (fresh (codes "tbody") [] true ∷ fs) n attributes rest)
       else open_step fs n attributes rest
 
-  abbrev pub values_step : List OpenElement → List ℕ → List AttributePair → Bool → List ℕ → Option (List AttributePair) → Step
+  abbrev pub values_step : List OpenElement → List ℕ → List AttributePair → Bool → List ℕ → Option (List AttributePair)
+      → Step
   values_step fs n spelled present rest None = fault BadNumber
   values_step fs n spelled present rest (Some attributes) =
       if not (are_distinct (attribute_names spelled)) then fault DuplicateAttribute
@@ -182,7 +188,8 @@ module _ (rules : Rules) (outer : Context) where
   abbrev pub start_tag_step : List OpenElement → List ℕ → Step
   start_tag_step fs s =
       if is_tag_name (leading_run is_tag_name_byte s)
-      then form_step fs (map to_ascii_lowercase (leading_run is_tag_name_byte s)) (form_within (suc (length (behind_run is_tag_name_byte s))) (behind_run is_tag_name_byte s))
+      then form_step fs (map to_ascii_lowercase (leading_run is_tag_name_byte s))
+      (form_within (suc (length (behind_run is_tag_name_byte s))) (behind_run is_tag_name_byte s))
       else fault MalformedTag
 
   -- ---- end tags
@@ -191,7 +198,8 @@ module _ (rules : Rules) (outer : Context) where
   abbrev pub close_step : List OpenElement → List ℕ → List ℕ → Step
   close_step [] n rest = fault StrayEndTag
   close_step (f ∷ []) n rest = fault StrayEndTag
-  close_step (f ∷ g ∷ fs) n rest = if bytes_eq f.name n then between (with_tree (g ∷ fs) (closed f)) rest else fault StrayEndTag
+  close_step (f ∷ g ∷ fs) n rest = if bytes_eq f.name n then between (with_tree (g ∷ fs) (closed f)) rest
+      else fault StrayEndTag
 
   -- behind the name of an end tag
   abbrev pub name_step : List OpenElement → List ℕ → List ℕ → Step
@@ -233,7 +241,9 @@ module _ (rules : Rules) (outer : Context) where
       else if ends_text rules.scripting (innermost st.stack) st.rest then markup_step st.stack (drop 1 st.rest)
       else if is_empty st.rest then fault Unclosed
       else if holds_raw_text rules.scripting (innermost st.stack)
-      then raw_text_step st.stack (text_of rules (innermost st.stack) (up_to (ends_text rules.scripting (innermost st.stack)) st.rest)) (onward (ends_text rules.scripting (innermost st.stack)) st.rest)
+      then raw_text_step st.stack
+      (text_of rules (innermost st.stack) (up_to (ends_text rules.scripting (innermost st.stack)) st.rest))
+      (onward (ends_text rules.scripting (innermost st.stack)) st.rest)
       else text_step st.stack st.run st.rest
 
   -- some steps lead from one state to the other

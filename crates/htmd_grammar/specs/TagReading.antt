@@ -5,7 +5,8 @@ use Rattle.std.specs.Char.{to_ascii_lowercase}
 use Rattle.htmd_text.specs.Characters.{quotation_mark, apostrophe, slash, equals_sign, greater_than_sign}
 use Rattle.htmd_text.specs.WhiteSpace.{is_ascii_white_space}
 use Rattle.htmd_grammar.specs.ValueTrees.{AttributePair}
-use Rattle.htmd_grammar.specs.CharacterClasses.{is_empty, first_is, leading_run, behind_run, is_attribute_name_byte, is_attribute_name, is_unquoted_byte}
+use Rattle.htmd_grammar.specs.CharacterClasses.{is_empty, first_is, leading_run, behind_run, is_attribute_name_byte}
+use Rattle.htmd_grammar.specs.CharacterClasses.{is_attribute_name, is_unquoted_byte}
 
 -- what comes next in a tag
 pub data TagPart : Type 0 where

@@ -2,10 +2,12 @@
 use Rattle.std.specs.Prelude.{◌≡◌, ◌≢◌, ◌⊎◌, ℕ, Bool, true, if◌then◌else◌, List, [], ◌∷◌, ◌++◌, map, Option, Some, None}
 use Rattle.std.specs.List.{list_all}
 use Rattle.std.specs.Char.{to_ascii_lowercase}
-use Rattle.htmd_text.specs.Characters.{quotation_mark, apostrophe, slash, less_than_sign, equals_sign, greater_than_sign}
+use Rattle.htmd_text.specs.Characters.{quotation_mark, apostrophe, slash, less_than_sign, equals_sign}
+use Rattle.htmd_text.specs.Characters.{greater_than_sign}
 use Rattle.htmd_text.specs.WhiteSpace.{is_ascii_white_space}
 use Rattle.htmd_grammar.specs.ValueTrees.{AttributePair}
-use Rattle.htmd_grammar.specs.CharacterClasses.{is_tag_name, is_attribute_name, is_unquoted_byte, leading_run, lacks, are_distinct}
+use Rattle.htmd_grammar.specs.CharacterClasses.{is_tag_name, is_attribute_name, is_unquoted_byte, leading_run, lacks}
+use Rattle.htmd_grammar.specs.CharacterClasses.{are_distinct}
 use Rattle.htmd_grammar.specs.References.{Names, decode}
 use Rattle.htmd_grammar.specs.Serialisation.{is_void}
 
@@ -22,7 +24,8 @@ IsValue s rest v =
     ((s ≡ []) × (v ≡ []))
     ⊎ ((equals : List ℕ) × (quote : ℕ) × (s ≡ equals ++ (quote ∷ (v ++ quote ∷ []))) × IsEqualsSign equals
     × ((quote ≡ quotation_mark) ⊎ (quote ≡ apostrophe)) × (lacks quote v ≡ true))
-    ⊎ ((equals : List ℕ) × (s ≡ equals ++ v) × IsEqualsSign equals × (v ≢ []) × (leading_run is_unquoted_byte (v ++ rest) ≡ v))
+    ⊎ ((equals : List ℕ) × (s ≡ equals ++ v) × IsEqualsSign equals × (v ≢ [])
+    × (leading_run is_unquoted_byte (v ++ rest) ≡ v))
 
 abbrev pub optional_slash : Bool → List ℕ
 optional_slash present = if present then slash ∷ [] else []
@@ -31,7 +34,8 @@ optional_slash present = if present then slash ∷ [] else []
 -- they are spelled; then optional white space, an optional `/`, and `>`.
 abbrev pub IsTagRest : List AttributePair → Bool → List ℕ → Type 0
 IsTagRest [] present s =
-    (gap : List ℕ) × (s ≡ gap ++ (optional_slash present ++ greater_than_sign ∷ [])) × (list_all is_ascii_white_space gap ≡ true)
+    (gap : List ℕ) × (s ≡ gap ++ (optional_slash present ++ greater_than_sign ∷ []))
+    × (list_all is_ascii_white_space gap ≡ true)
 IsTagRest (a ∷ attributes) present s =
     (gap name value rest : List ℕ) × (s ≡ gap ++ (name ++ (value ++ rest)))
     × (gap ≢ []) × (list_all is_ascii_white_space gap ≡ true)

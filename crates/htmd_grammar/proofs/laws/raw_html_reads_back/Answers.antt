@@ -3,4 +3,7 @@ use Rattle.htmd_grammar.proofs.Subtrees.{project_has, reads_back, raw_block_read
 use Rattle.htmd_grammar.proofs.laws.raw_html_reads_back.Goals as goal
 
 pub returns : goal.returns
-returns c = record { serialisation = λ z. reads_back (project z) (project_has z); block = λ z. raw_block_reads_back (project z) (project_has z) }
+returns c = record {
+  serialisation = λ z. reads_back (project z) (project_has z);
+  block = λ z. raw_block_reads_back (project z) (project_has z);
+}
