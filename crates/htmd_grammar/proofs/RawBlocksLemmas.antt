@@ -1,14 +1,13 @@
 -- Blocks of raw HTML: texts without CR, and blank lines.
 use Rattle.std.proofs.Common.{◌≡◌, ◌≢◌, ℕ, Bool, true, false, ◌&&◌, ◌||◌, eqb, List, [], ◌∷◌, ◌++◌, refl, sym, ap, ◌∙◌}
-use Rattle.std.proofs.Common.{subst, arith, codes, drop, Result, Ok, Err, IfOk, String, string_bytes}
+use Rattle.std.proofs.Common.{subst, arith}
 use Rattle.std.proofs.Math.Bool.{and-true, and-false, or-true}
 use Rattle.std.proofs.lemmas.Bool.Decides.{nat_tests}
 use Rattle.std.proofs.lemmas.Bool.{false≢true, eqb-true}
-use Rattle.std.proofs.lemmas.Str.{encodes-append, encodes-chars, chars_past_char, IsUtf8-drop}
-use Rattle.std.proofs.lemmas.Str.{IsCharBoundary-after_ascii}
+use Rattle.std.proofs.lemmas.Str.{encodes-append, encodes-chars, chars_past_char}
 use Rattle.std.specs.Char.{is_whitespace}
 use Rattle.std.specs.List.{list_any, list_all}
-use Rattle.std.specs.Str.{IsUtf8, IsCharBoundary, chars, encode_utf8_all}
+use Rattle.std.specs.Str.{IsUtf8, chars, encode_utf8_all}
 use lib.Utf8.{encode}
 use Rattle.htmd_text.specs.Characters.{line_feed, carriage_return}
 use Rattle.htmd_text.specs.BlankLines.{with_blank_lines}
@@ -131,11 +130,11 @@ without_blank_lines-same after (c ∷ cs) h =
     (ap (λ x. c ∷ x) (without_blank_lines-same false cs (none_afresh after cs behind))))
     (λ o. rw (n, o) (ap (λ x. c ∷ x) (without_blank_lines-same (after && is_whitespace c) cs none))))
 
--- the block of a text with no blank line is that text
-raw_block-same : (s : List ℕ) → IsUtf8 s → has_blank_line (chars s) ≡ false
-    → raw_block s ≡ codes "\n\n" ++ s ++ codes "\n\n"
-raw_block-same s u h =
-    ap with_blank_lines (ap encode_utf8_all (without_blank_lines-same false (chars s) h) ∙ encodes-chars s u)
+-- nor as bytes
+pub without_blank_lines-none : (s : List ℕ) → IsUtf8 s → has_blank_line (chars s) ≡ false
+    → s ≡ encode_utf8_all (without_blank_lines false (chars s))
+without_blank_lines-none s u h =
+    sym (ap encode_utf8_all (without_blank_lines-same false (chars s) h) ∙ encodes-chars s u)
 
 -- ---- references to line feeds
 
@@ -168,23 +167,6 @@ raw_html_from-refers after (c ∷ cs) =
     (λ a. rw (y, a) (same_all (encode c) (raw_html_from-refers true cs))))
     (λ n. rw n (same_all (encode c) (raw_html_from-refers (after && is_whitespace c) cs)))
 
--- a text behind two line feeds
-pub behind_line_feeds : (out s : List ℕ) → IsUtf8 out → out ≡ codes "\n\n" ++ s → IsCharBoundary out 2
-    × (drop 2 out ≡ s) × IsUtf8 s
-behind_line_feeds out s u e =
-    let text : IsUtf8 (codes "\n\n" ++ s) = subst IsUtf8 e u in
-    let here : IsCharBoundary (codes "\n\n" ++ s) 2 =
-    IsCharBoundary-after_ascii (codes "\n\n" ++ s) 1 text (omega arith) (omega arith) in
-    (subst (λ x. IsCharBoundary x 2) (sym e) here, ap (drop 2) e, IsUtf8-drop (codes "\n\n" ++ s) 2 text here)
-
--- where there is no blank line, the text behind two line feeds is its block but for the end
-pub block_kept : (out text s : List ℕ) → IsUtf8 out → out ≡ codes "\n\n" ++ s → text ≡ drop 2 out
-    → has_blank_line (chars text) ≡ false → (raw_block s ≡ codes "\n\n" ++ s ++ codes "\n\n") × IsUtf8 s
-block_kept out text s u e cut none =
-    let parts = behind_line_feeds out s u e in
-    let same : text ≡ s = cut ∙ parts.1 in
-    (raw_block-same s parts.2 (subst (λ x. has_blank_line (chars x) ≡ false) same none), parts.2)
-
 -- the block of a text without CR
 pub raw_block-raw_html : (s text : List ℕ) → IsUtf8 s → text ≡ raw_block s → has_carriage_return s ≡ false
     → IsRawBlock s text
@@ -195,10 +177,3 @@ raw_block-raw_html s text u e h = record {
       (raw_html_from-refers false (chars s));
   no_blank_line = none_found (raw_html (chars s)) (raw_html_from-no_blank_line false (chars s));
 }
-
--- a block that was made of a text, if it was made
-pub IfOk-raw_block : {T E : Type 0} (r : Result (String T) E) (s : List ℕ) → IsUtf8 s
-    → IfOk r (λ text. string_bytes text ≡ raw_block s)
-    → IfOk r (λ text. has_carriage_return s ≡ false → IsRawBlock s (string_bytes text))
-IfOk-raw_block (Ok text) s u e = raw_block-raw_html s (string_bytes text) u e
-IfOk-raw_block (Err e) s u h = tt

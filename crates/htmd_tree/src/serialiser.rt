@@ -10,6 +10,7 @@ ghost use Rattle.htmd_grammar.specs.RawBlocks as blocks;
 ghost use Rattle.htmd_grammar.specs.SerialiserSteps as steps;
 
 use crate::tree::{Attribute, NodeData, NodeId, Tree};
+use htmd_text::surround_with_blank_lines;
 use std::alloc::{AllocError, Global};
 
 fn push_text_char(out: &mut String, c: char) -> Result<(), AllocError>
@@ -184,7 +185,8 @@ fn push_children(out: &mut String, tree: &Tree, node: NodeId, raw: bool) -> Resu
     Ok(())
 }
 
-/// The serialisation of a node and what is below it.
+/// The fragment serialisation of a node and what is below it (HTML Standard, 13.3). The tree must contain the
+/// node; an `Err` is want of memory.
 pub fn serialize(alloc: Global, tree: &Tree, node: NodeId) -> Result<String, AllocError>
     requires { node < length tree.now }
     ensures { IfOk result
@@ -245,17 +247,6 @@ fn push_block(out: &mut String, text: &str) -> Result<(), AllocError>
     Ok(())
 }
 
-/// A text as a block, with references in place of the line ends that would make a blank line.
-fn rewritten_block(alloc: Global, text: &str) -> Result<String, AllocError>
-    ensures { IfOk result (λ block. string_bytes block ≡ blocks.raw_block text.now) }
-{
-    let mut out = String::new(alloc);
-    out.push_str("\n\n")?;
-    push_block(&mut out, text)?;
-    out.push_str("\n\n")?;
-    Ok(out)
-}
-
 /// Whether two line feeds have white space alone between them.
 fn has_blank_line(text: &str) -> bool
     ensures { result ≡ steps.has_blank_line (chars text.now) }
@@ -274,22 +265,32 @@ fn has_blank_line(text: &str) -> bool
     false
 }
 
-/// The serialisation of a node as a block of raw HTML, with references in place of the line ends
-/// that would make a blank line. Where there is none, nothing is written twice.
+/// The text with references in place of the line ends that would make a blank line. A text that has none
+/// is not written again.
+fn without_blank_lines(alloc: Global, text: String) -> Result<String, AllocError>
+    ensures { IfOk result (λ rewritten. string_bytes rewritten
+        ≡ encode_utf8_all (blocks.without_blank_lines false (chars (string_bytes text)))) }
+{
+    if !has_blank_line(text.as_str()) {
+        return Ok(text);
+    }
+    let mut rewritten = String::with_capacity(alloc, text.len())?;
+    push_block(&mut rewritten, text.as_str())?;
+    Ok(rewritten)
+}
+
+/// The serialisation of a node as a block of raw HTML (CommonMark 0.31.2, 4.6): between blank lines, with
+/// references in place of the line ends that would make one. The tree must contain the node; an `Err` is want
+/// of memory.
 pub fn raw_block(alloc: Global, tree: &Tree, node: NodeId) -> Result<String, AllocError>
     requires { node < length tree.now }
-    ensures text { IfOk result
-        (λ text. string_bytes text ≡ blocks.raw_block (spec.serialisation (value_tree (tree_of tree.now node)))) }
+    ensures text { IfOk result (λ text. string_bytes text
+        ≡ blocks.raw_block (spec.serialisation (value_tree (tree_of tree.now node)))) }
     ensures raw { let s = spec.serialisation (value_tree (tree_of tree.now node)) in IfOk result
         (λ text. blocks.has_carriage_return s ≡ false → blocks.IsRawBlock s (string_bytes text)) }
 {
-    let mut block = String::new(alloc);
-    block.push_str("\n\n")?;
-    push_node(&mut block, tree, node, false)?;
-    let text = &block.as_str()[2..];
-    if has_blank_line(text) {
-        return rewritten_block(alloc, text);
-    }
-    block.push_str("\n\n")?;
+    let text = serialize(alloc, tree, node)?;
+    let mut block = without_blank_lines(alloc, text)?;
+    surround_with_blank_lines(&mut block)?;
     Ok(block)
 }
