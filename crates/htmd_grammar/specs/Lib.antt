@@ -14,6 +14,7 @@ pub mod Grammar
 pub mod Documents
 pub mod ReadBack
 pub mod TagReading
+pub mod OpenElements
 pub mod Steps
 pub mod Fronts
 pub mod Faults

@@ -5,18 +5,17 @@ use Rattle.std.specs.Prelude.{◌∷◌, ◌++◌, length, map, drop, Option, So
 use Rattle.std.specs.List.{list_any, list_all}
 use Rattle.std.specs.Str.{bytes_eq}
 use Rattle.std.specs.Char.{to_ascii_lowercase}
-use Rattle.htmd_text.specs.Characters.{exclamation_mark, slash, less_than_sign, greater_than_sign, question_mark}
+use Rattle.htmd_text.specs.Characters.{exclamation_mark, slash, greater_than_sign, question_mark}
 use Rattle.htmd_text.specs.WhiteSpace.{is_ascii_white_space}
-use Rattle.htmd_grammar.specs.ValueTrees.{AttributePair, ValueTree, text, comment, element, ValueForest, none, more}
+use Rattle.htmd_grammar.specs.ValueTrees.{AttributePair, ValueTree, text, comment, element, ValueForest, none}
 use Rattle.htmd_grammar.specs.CharacterClasses.{is_empty, first_is, begins_with, leading_run, behind_run, up_to, onward}
 use Rattle.htmd_grammar.specs.CharacterClasses.{is_tag_name_byte, is_tag_name, are_distinct}
 use Rattle.htmd_grammar.specs.Rules.{Rules}
-use Rattle.htmd_grammar.specs.References.{Names, Piece, stands, wrong, piece_at}
+use Rattle.htmd_grammar.specs.References.{Piece, stands, wrong, piece_at}
 use Rattle.htmd_grammar.specs.Tags.{attribute_names, decode_values}
 use Rattle.htmd_grammar.specs.Comments.{normalized, before_comment_end, is_comment_text}
 use Rattle.htmd_grammar.specs.RawContent.{holds_raw_text, ends_text, text_of, content_of}
-use Rattle.htmd_grammar.specs.Places.{Context, parent_name, is_outside, is_table_part, is_row, holds_parts, is_allowed}
-use Rattle.htmd_grammar.specs.Grammar.{tag_name_at}
+use Rattle.htmd_grammar.specs.Places.{Context, parent_name, is_outside, is_row, holds_parts, is_allowed}
 use Rattle.htmd_grammar.specs.Documents.{body_text}
 use Rattle.htmd_grammar.specs.Serialisation.{is_void}
 use Rattle.htmd_grammar.specs.TagReading.{TagForm, no_form, form, form_within}
@@ -37,72 +36,7 @@ use Rattle.htmd_grammar.specs.declared.fault.FaultKind.TheVariants.{
   ScriptEscape,
   TooDeep,
 }
-
-infixl 10 ◌+++◌
-abbrev pub ◌+++◌ : ValueForest → ValueForest → ValueForest
-none +++ us = us
-(more t ts) +++ us = more t (ts +++ us)
-
--- an open element, with what it holds so far
-pub record OpenElement : Type 0 where
-  pub name : List ℕ
-  pub attributes : List AttributePair
-  pub implied : Bool
-  pub children : ValueForest
-
--- the open elements, innermost first; what the text at the end of the innermost one denotes so far; the text that is
--- left
-pub record State : Type 0 where
-  pub stack : List OpenElement
-  pub run : List ℕ
-  pub rest : List ℕ
-
--- the context of what comes next; the outermost open element has these ancestors
-abbrev pub names_of : Context → List OpenElement → Context
-names_of outer [] = outer
-names_of outer (f ∷ fs) = f.name ∷ names_of outer fs
-
-abbrev pub fresh : List ℕ → List AttributePair → Bool → OpenElement
-fresh n attributes implied = record { name = n; attributes = attributes; implied = implied; children = none }
-
-abbrev pub with_children : OpenElement → ValueForest → OpenElement
-with_children f ts = record f { children = f.children +++ ts }
-
-abbrev pub with_forest : List OpenElement → ValueForest → List OpenElement
-with_forest [] ts = []
-with_forest (f ∷ fs) ts = with_children f ts ∷ fs
-
-abbrev pub with_tree : List OpenElement → ValueTree → List OpenElement
-with_tree fs t = with_forest fs (more t none)
-
-abbrev pub closed : OpenElement → ValueTree
-closed f = element f.name f.attributes f.children
-
--- whether the innermost open element is a `tbody` that no tag opened
-abbrev pub is_implied : List OpenElement → Bool
-is_implied [] = false
-is_implied (f ∷ fs) = f.implied
-
--- the name of the end tag with which the text begins, in lower case
-abbrev pub end_tag_name_at : List ℕ → List ℕ
-end_tag_name_at [] = []
-end_tag_name_at (b ∷ []) = []
-end_tag_name_at (b ∷ c ∷ s) =
-    if b == less_than_sign && c == slash then map to_ascii_lowercase (leading_run is_tag_name_byte s) else []
-
--- an implied `tbody` ends before a part of the table, and at the table's end
-abbrev pub ends_rows : List ℕ → Bool
-ends_rows s = is_table_part (tag_name_at s) || bytes_eq (end_tag_name_at s) (codes "table")
-
--- somewhere in the value stands a reference by an unknown name
-abbrev pub is_unknown : Piece → Bool
-is_unknown (stands n v) = false
-is_unknown (wrong UnknownReference) = true
-is_unknown (wrong _) = false
-
-abbrev pub has_unknown_reference : Names → List ℕ → Bool
-has_unknown_reference names [] = false
-has_unknown_reference names (b ∷ s) = is_unknown (piece_at names b s) || has_unknown_reference names s
+pub use Rattle.htmd_grammar.specs.OpenElements.{OpenElement, State, closed, end_tag_name_at, ends_rows, fresh, has_unknown_reference, is_implied, is_unknown, names_of, with_children, with_forest, with_tree, ◌+++◌}
 
 abbrev pub Step : Type 0
 Step = Result State FaultKind
