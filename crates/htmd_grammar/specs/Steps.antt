@@ -36,7 +36,9 @@ use Rattle.htmd_grammar.specs.declared.fault.FaultKind.TheVariants.{
   ScriptEscape,
   TooDeep,
 }
-pub use Rattle.htmd_grammar.specs.OpenElements.{OpenElement, State, closed, end_tag_name_at, ends_rows, fresh, has_unknown_reference, is_implied, is_unknown, names_of, with_children, with_forest, with_tree, ◌+++◌}
+pub use Rattle.htmd_grammar.specs.OpenElements.{OpenElement, State, closed, end_tag_name_at, ends_rows}
+pub use Rattle.htmd_grammar.specs.OpenElements.{fresh, has_unknown_reference, is_implied, is_unknown, names_of}
+pub use Rattle.htmd_grammar.specs.OpenElements.{with_children, with_forest, with_tree, ◌+++◌}
 
 abbrev pub Step : Type 0
 Step = Result State FaultKind
