@@ -7,14 +7,9 @@ use Rattle.htmd.specs.Rendering.{rendered_within}
 use Rattle.htmd.specs.Run.{markdown}
 use Rattle.htmd_cli.specs.Conversion.{paragraph_markdown, paragraph_output}
 
-squeezed_and_escaped : paragraph_output (codes "a\n\n  b *c*\n") ≡ codes "a b \\*c\\*\n"
+-- white space is squeezed, and emphasis escaped; nothing for nothing; `---` stays
+paragraphs : (paragraph_output (codes "a\n\n  b *c*\n") ≡ codes "a b \\*c\\*\n")
+    × (paragraph_output (codes "") ≡ codes "\n")
+    × (paragraph_output (codes "--- a") ≡ codes "--- a\n")
 unfolding paragraph_markdown markdown rendered_within tree_of forest_from ancestors_of ancestors_up is_block
-squeezed_and_escaped = refl
-
-nothing_for_nothing : paragraph_output (codes "") ≡ codes "\n"
-unfolding paragraph_markdown markdown rendered_within tree_of forest_from ancestors_of ancestors_up is_block
-nothing_for_nothing = refl
-
-no_break_escaped : paragraph_output (codes "--- a") ≡ codes "--- a\n"
-unfolding paragraph_markdown markdown rendered_within tree_of forest_from ancestors_of ancestors_up is_block
-no_break_escaped = refl
+paragraphs = (refl, refl, refl)
