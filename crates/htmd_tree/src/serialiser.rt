@@ -60,7 +60,7 @@ fn push_value(out: &mut String, value: &str) -> Result<(), AllocError>
     Ok(())
 }
 
-/// Whether an element has no end tag.
+/// Whether an element of this name, in lower case, is written without an end tag (HTML Standard, 13.3).
 #[tactic(auto, unfolding(htmd_grammar::specs::Serialisation::is_void))]
 pub fn is_void(name: &str) -> bool
     ensures { result ≡ spec.is_void name.now }

@@ -104,7 +104,7 @@ impl Model for Tree {
 }
 
 impl Tree {
-    /// A tree of the Document alone.
+    /// A tree of the Document alone. An `Err` is `Memory`.
     pub fn new(alloc: Global) -> Result<Tree, TreeError>
         ensures ok { IfOk result (λ tree. tree ≡ document_item ∷ []) }
         ensures memory { IsOkUnless result TreeError.Memory }
@@ -136,7 +136,7 @@ impl Tree {
         NodeId { index: 0 }
     }
 
-    /// What a node is.
+    /// What a node of the tree is.
     pub fn data(&self, id: NodeId) -> &NodeData
         requires { id < length self.now }
         ensures value { data_of result.now ≡ data_at self.now id }
@@ -145,7 +145,7 @@ impl Tree {
         &self.entries[id.index].data
     }
 
-    /// The node that a node stands right under; the Document has none.
+    /// The node that a node of the tree stands right under; the Document has none.
     pub fn parent(&self, id: NodeId) -> Option<NodeId>
         requires { id < length self.now }
         ensures value { result ≡ parent_at self.now id }
@@ -154,7 +154,7 @@ impl Tree {
         self.entries[id.index].parent
     }
 
-    /// The nodes right under a node, in order.
+    /// The nodes right under a node of the tree, in order.
     pub fn children(&self, id: NodeId) -> &[NodeId]
         requires { id < length self.now }
         ensures value { result.now ≡ children_of self.now id }
@@ -163,7 +163,7 @@ impl Tree {
         self.entries[id.index].children.as_slice()
     }
 
-    /// The name of an element, and `html` for the Document.
+    /// The name of an element of the tree, and `html` for the Document; no other node has one.
     pub fn tag_name(&self, id: NodeId) -> Option<&str>
         requires { id < length self.now }
         ensures value { option_copied result ≡ tag_of (data_at self.now id) }
@@ -176,7 +176,7 @@ impl Tree {
         }
     }
 
-    /// How many ancestors a node has.
+    /// How many ancestors a node of the tree has.
     pub fn depth(&self, id: NodeId) -> usize
         requires { id < length self.now }
         ensures value { result ≡ depth_at self.now id }
@@ -223,7 +223,9 @@ impl Tree {
         Ok(id)
     }
 
-    /// A new last child of a node: an element with a name and attributes.
+    /// A new last child of a node: an element with a name and attributes. The tree must contain the
+    /// parent, a Document or an element. `TooDeep` where the child would stand below level 1,024, `Memory`
+    /// where a growth was refused; the tree is then as it was, and the attributes are dropped.
     pub fn add_element(
         &mut self,
         parent: NodeId,
@@ -245,7 +247,9 @@ impl Tree {
         self.add(parent, NodeData::Element { name, attrs })
     }
 
-    /// A new last child of a node: a text.
+    /// A new last child of a node: a text. The tree must contain the
+    /// parent, a Document or an element. `TooDeep` where the child would stand below level 1,024, `Memory`
+    /// where a growth was refused; the tree is then as it was.
     pub fn add_text(&mut self, parent: NodeId, text: &str) -> Result<NodeId, TreeError>
         requires within { parent < length self.old }
         requires holds { IsTrue (holds_children (data_at self.old parent)) }
@@ -261,7 +265,9 @@ impl Tree {
         self.add(parent, NodeData::Text(text))
     }
 
-    /// A new last child of a node: a comment.
+    /// A new last child of a node: a comment. The tree must contain the
+    /// parent, a Document or an element. `TooDeep` where the child would stand below level 1,024, `Memory`
+    /// where a growth was refused; the tree is then as it was.
     pub fn add_comment(&mut self, parent: NodeId, text: &str) -> Result<NodeId, TreeError>
         requires within { parent < length self.old }
         requires holds { IsTrue (holds_children (data_at self.old parent)) }
@@ -277,7 +283,9 @@ impl Tree {
         self.add(parent, NodeData::Comment(text))
     }
 
-    /// A new last child of a node: a Doctype.
+    /// A new last child of a node: a Doctype. The tree must contain the
+    /// parent, a Document or an element. `TooDeep` where the child would stand below level 1,024, `Memory`
+    /// where a growth was refused; the tree is then as it was.
     pub fn add_doctype(&mut self, parent: NodeId) -> Result<NodeId, TreeError>
         requires within { parent < length self.old }
         requires holds { IsTrue (holds_children (data_at self.old parent)) }
