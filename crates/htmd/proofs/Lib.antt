@@ -1,9 +1,13 @@
 pub mod Cuts
-pub mod Placed
-pub mod Grown
-pub mod SeamLemmas
+pub mod SeamsLemmas
 pub mod Nodes
-pub mod Choices
-pub mod Renderings
-pub mod NothingAppended
+pub mod ChoiceLemmas
+pub mod RegistrationsLemmas
+pub mod GroupsLemmas
+pub mod ElementsLemmas
+pub mod BeginningsLemmas
+pub mod ChildrenLemmas
+pub mod RenderingLemmas
+pub mod WalkingLemmas
+pub mod PassingLemmas
 mod Examples

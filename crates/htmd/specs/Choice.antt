@@ -2,46 +2,54 @@
 use Rattle.std.specs.Prelude.{ℕ, List, [], ◌∷◌, ◌++◌, None, if◌then◌else◌, length, map, slice_index_or}
 use Rattle.std.specs.Str.{bytes_eq}
 use Rattle.htmd.specs.declared.options.Options.{Options}
-use Rattle.htmd.specs.Handling.{Meaning, nothing}
+use Rattle.htmd.specs.Handling.{HandlerMeaning, nothing, of_plan}
 
--- a tag, and the place of a handler that is registered for it
-pub record TagPlace : Type 0 where
+-- a tag, and the index of a handler that is registered for it
+pub record TagIndex : Type 0 where
   pub tag : List ℕ
-  pub place : ℕ
+  pub index : ℕ
 
 -- what a registry means: its handlers and its registrations in order, and the options
 pub record Config : Type 0 where
   pub options : Options
-  pub handlers : List Meaning
-  pub registered : List TagPlace
+  pub handlers : List HandlerMeaning
+  pub registered : List TagIndex
 
--- the places of a tag's handlers, the newest first; repeats are kept
-abbrev pub places : List ℕ → List TagPlace → List ℕ
-places tag [] = []
-places tag (r ∷ rs) = places tag rs ++ (if bytes_eq r.tag tag then r.place ∷ [] else [])
+-- the indexes of a tag's handlers, the newest first; repeats are kept
+abbrev pub indexes : List ℕ → List TagIndex → List ℕ
+indexes tag [] = []
+indexes tag (r ∷ rs) = indexes tag rs ++ (if bytes_eq r.tag tag then r.index ∷ [] else [])
 
 -- a handler that gives nothing
-abbrev pub no_handler : Meaning
-no_handler = record { plan = λ _. nothing; finish = λ _ _ lines. record { made = None; lines = lines }; append = λ _. None }
+abbrev pub no_handler : HandlerMeaning
+no_handler = of_plan (λ view. nothing) (λ view content. None)
 
-abbrev pub handler_at : List Meaning → ℕ → Meaning
-handler_at handlers place = slice_index_or handlers place no_handler
+abbrev pub handler_at : List HandlerMeaning → ℕ → HandlerMeaning
+handler_at handlers index = slice_index_or handlers index no_handler
 
-abbrev pub handlers_at : List Meaning → List ℕ → List Meaning
+abbrev pub handlers_at : List HandlerMeaning → List ℕ → List HandlerMeaning
 handlers_at handlers [] = []
-handlers_at handlers (place ∷ places) = handler_at handlers place ∷ handlers_at handlers places
+handlers_at handlers (index ∷ indexes) = handler_at handlers index ∷ handlers_at handlers indexes
 
-abbrev pub tag_at : ℕ → List ℕ → TagPlace
-tag_at place tag = record { tag = tag; place = place }
+abbrev pub tag_at : ℕ → List ℕ → TagIndex
+tag_at index tag = record { tag = tag; index = index }
 
--- each of these tags, and the place
-abbrev pub tags_at : ℕ → List (List ℕ) → List TagPlace
-tags_at place tags = map (tag_at place) tags
+-- each of these tags, and the index
+abbrev pub tags_at : ℕ → List (List ℕ) → List TagIndex
+tags_at index tags = map (tag_at index) tags
 
 -- a handler is asked first for these tags from now on
-abbrev pub with_handler : Config → List (List ℕ) → Meaning → Config
-with_handler config tags m = record { options = config.options; handlers = config.handlers ++ m ∷ []; registered = config.registered ++ tags_at (length config.handlers) tags }
+abbrev pub with_handler : Config → List (List ℕ) → HandlerMeaning → Config
+with_handler config tags handler = record {
+  options = config.options;
+  handlers = config.handlers ++ handler ∷ [];
+  registered = config.registered ++ tags_at (length config.handlers) tags;
+}
 
 -- the same handlers with other options
 abbrev pub with_options : Config → Options → Config
-with_options config options = record { options = options; handlers = config.handlers; registered = config.registered }
+with_options config options = record {
+  options = options;
+  handlers = config.handlers;
+  registered = config.registered;
+}

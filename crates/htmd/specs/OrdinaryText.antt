@@ -2,8 +2,8 @@
 use Rattle.std.specs.Prelude.{ℕ, Bool, false, ◌&&◌, ◌||◌, if◌then◌else◌, List, [], ◌∷◌, drop, codes}
 use Rattle.std.specs.List.{list_any}
 use Rattle.std.specs.Str.{bytes_eq}
-use Rattle.htmd_text.specs.EscapeMarks.{escaped_markdown as escaped, escaped_pre_text as pre_escaped}
-use Rattle.htmd_text.specs.WhiteSpace.{squeezed_text as squeezed}
+use Rattle.htmd_text.specs.EscapeMarks.{escaped_markdown, escaped_pre_text}
+use Rattle.htmd_text.specs.WhiteSpace.{squeezed_text}
 use Rattle.htmd_tree.specs.Ancestors.{Ancestor}
 use Rattle.htmd.specs.Seams.{begins_with_space, ends_with_space}
 
@@ -20,14 +20,14 @@ parent_is_pre [] = false
 parent_is_pre (a ∷ above) = bytes_eq a.tag (codes "pre")
 
 -- preformatted text stays as it is, but opens no fence where its parent is `pre`
-abbrev pub preformatted : Bool → List ℕ → List ℕ
-preformatted in_pre s = if in_pre then pre_escaped s else s
+abbrev pub preformatted_text : Bool → List ℕ → List ℕ
+preformatted_text in_pre s = if in_pre then escaped_pre_text s else s
 
 -- a text without the space at its start, where that is to go
 abbrev pub without_first_space : Bool → List ℕ → List ℕ
 without_first_space goes s = if goes && begins_with_space s then drop 1 s else s
 
--- Ordinary text is squeezed, then loses the space at its start where the trim flag is set or where the
--- text so far ends with one, then is escaped.
-abbrev pub ordinary : Bool → List ℕ → List ℕ → List ℕ
-ordinary trim out s = escaped (without_first_space (trim || ends_with_space out) (squeezed s))
+-- Ordinary text is squeezed_text, then loses the space at its start where the trim flag is set or where the
+-- text so far ends with one, then is escaped_markdown.
+abbrev pub ordinary_text : Bool → List ℕ → List ℕ → List ℕ
+ordinary_text trim out s = escaped_markdown (without_first_space (trim || ends_with_space out) (squeezed_text s))

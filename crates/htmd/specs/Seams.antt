@@ -1,11 +1,9 @@
 -- How a text is put behind another one.
-use Rattle.std.specs.Prelude.{ℕ, ◌+◌, min, max, Bool, ◌&&◌, ◌||◌, ◌==◌, nat_lt, if◌then◌else◌, List, ◌++◌, length, drop, replicate}
+use Rattle.std.specs.Prelude.{ℕ, ◌+◌, min, max, Bool, ◌&&◌, ◌||◌, ◌==◌, nat_lt, if◌then◌else◌, List, ◌++◌, length, drop}
+use Rattle.std.specs.Prelude.{replicate}
 use Rattle.std.specs.List.{prefix_len, suffix_len}
-use Rattle.htmd_text.specs.Characters.{line_feed, space}
-use Rattle.htmd_text.specs.Trims.{trimmed_start, trimmed_end, is_line_feed}
-
-abbrev pub is_space : ℕ → Bool
-is_space b = b == space
+use Rattle.htmd_text.specs.Characters.{line_feed}
+use Rattle.htmd_text.specs.Trims.{trimmed_start, trimmed_end, is_line_feed, is_space}
 
 abbrev pub begins_with_space : List ℕ → Bool
 begins_with_space s = nat_lt 0 (prefix_len is_space s)
@@ -15,19 +13,20 @@ ends_with_space s = nat_lt 0 (suffix_len is_space s)
 
 -- Where a line feeds end the first text and b begin the second, min (a + b) (max 2 a) of them stand at
 -- the seam: a blank line parts blocks (CommonMark 0.31.2, 4.9), and more are not added.
-abbrev pub lines_joined : ℕ → ℕ → List ℕ → List ℕ → List ℕ
-lines_joined a b out content = (trimmed_end is_line_feed out ++ replicate (min (a + b) (max 2 a)) line_feed) ++ trimmed_start is_line_feed content
+abbrev pub joined_by_line_feeds : ℕ → ℕ → List ℕ → List ℕ → List ℕ
+joined_by_line_feeds a b out content = (trimmed_end is_line_feed out ++ replicate (min (a + b) (max 2 a)) line_feed)
+    ++ trimmed_start is_line_feed content
 
 -- where no line feed stands at the seam, one of two spaces goes
-abbrev pub joined_at : ℕ → ℕ → List ℕ → List ℕ → List ℕ
-joined_at a b out content =
+abbrev pub joined_texts : ℕ → ℕ → List ℕ → List ℕ → List ℕ
+joined_texts a b out content =
     if ((a == 0) && (b == 0)) && (ends_with_space out && begins_with_space content)
     then out ++ drop 1 content
-    else lines_joined a b out content
+    else joined_by_line_feeds a b out content
 
 -- content behind a text: whole where the text is empty or preformatted
-abbrev pub seam : List ℕ → List ℕ → Bool → List ℕ
-seam out content whole =
+abbrev pub joined_at_seam : List ℕ → List ℕ → Bool → List ℕ
+joined_at_seam out content whole =
     if whole || (length out == 0)
     then out ++ content
-    else joined_at (suffix_len is_line_feed out) (prefix_len is_line_feed content) out content
+    else joined_texts (suffix_len is_line_feed out) (prefix_len is_line_feed content) out content

@@ -1,20 +1,31 @@
 //! Handlers of elements, and what they are shown and give.
 
-ghost use Rattle.std.specs.Prelude.{◌≡◌, ◌<◌, [], length};
-ghost use Rattle.htmd_tree.specs.Items.{data_at as content_at, element_node};
+ghost use Rattle.std.specs.Prelude.{◌≡◌, ◌<◌, ◌&&◌, [], ℕ, List, Option, IfOk, IfSome, map, length, not, string_bytes};
+ghost use Rattle.std.specs.Option.{option_copied};
+ghost use Rattle.htmd_tree.specs.Items.{data_at, element_node};
 ghost use Rattle.htmd_tree.specs.Views.{pairs_of};
+ghost use Rattle.htmd.specs.Handling.{ElementView, ResultView, PlanView, IsProper};
+ghost use Rattle.htmd.specs.Groups.{only_text, group_children, children_at};
 
 use crate::options::Options;
 use htmd_tree::{Attribute, NodeId, Tree};
-use std::alloc::Global;
+use std::alloc::{AllocError, Global};
 use std::marker::Model;
 
+mod blocks;
+mod br;
+mod built_in;
+mod element_handlers;
+mod emphasis;
 mod headings;
-mod p;
-mod registry;
+mod hr;
+mod page;
+pub(crate) mod plans;
+mod quote;
+pub(crate) mod registry;
+mod span;
 
-pub use crate::dom_walker::Handlers;
-pub use registry::ElementHandlers;
+pub use element_handlers::{ElementHandlers, HandlerRefused};
 
 /// What a handler is shown of an element.
 #[derive(Drop)]
@@ -27,7 +38,32 @@ pub struct Element<'a> {
     pub(crate) options: &'a Options,
     pub(crate) text: Option<&'a str>,
     ghost within: { node < length tree.now },
-    ghost is_element: { content_at tree.now node ≡ element_node tag.now (pairs_of attrs.now) },
+    ghost is_element: { data_at tree.now node ≡ element_node tag.now (pairs_of attrs.now) },
+    ghost shows: { option_copied text ≡ only_text (group_children (option_copied text) (children_at tree.now node)) },
+}
+
+impl<'a> Element<'a> {
+    /// The tree as it was handed in.
+    pub fn tree(&self) -> &Tree
+        ensures { result.now ≡ self.now.tree.now }
+    {
+        self.tree
+    }
+
+    /// The options of the conversion.
+    pub fn options(&self) -> &Options
+        ensures { result.now ≡ self.now.options.now }
+    {
+        self.options
+    }
+
+    /// The text of the only child, joined for a group; nothing where the element hasn't exactly one
+    /// child that is a text.
+    pub fn text(&self) -> Option<&str>
+        ensures { option_copied result ≡ option_copied self.now.text }
+    {
+        self.text
+    }
 }
 
 /// A text, and whether all of it is Markdown.
@@ -37,6 +73,29 @@ pub struct HandlerResult {
     pub markdown_translated: bool,
 }
 
+impl HandlerResult {
+    ghost use Rattle.std.specs.Prelude.{true};
+
+    /// This text, as Markdown.
+    pub fn from_string(content: String) -> HandlerResult
+        ensures content { result.content ≡ content }
+        ensures markdown_translated { result.markdown_translated ≡ true }
+    {
+        HandlerResult {
+            content,
+            markdown_translated: true,
+        }
+    }
+
+    /// A copy of this text, as Markdown. It refuses for want of memory alone.
+    pub fn from_text(alloc: Global, content: &str) -> Result<HandlerResult, AllocError>
+        ensures content { IfOk result (λ r. string_bytes r.content ≡ content.now) }
+        ensures markdown_translated { IfOk result (λ r. r.markdown_translated ≡ true) }
+    {
+        Ok(HandlerResult::from_string(String::from_str(alloc, content)?))
+    }
+}
+
 /// What a handler asks for.
 #[derive(Drop)]
 pub enum Plan {
@@ -44,6 +103,8 @@ pub enum Plan {
     Skip,
     /// Nothing: this is the result.
     Text(HandlerResult),
+    /// Nothing: the result is the element's raw HTML, which is no Markdown.
+    RawHtml,
     /// The content of the children.
     Children,
     /// The content of a proper descendant, handed over alone.
@@ -52,7 +113,7 @@ pub enum Plan {
     Fallback,
 }
 
-/// The link definition lines of a run.
+/// The link definitions of a conversion, one a line.
 #[derive(Drop)]
 pub struct Links {
     lines: Vec<String>,
@@ -67,7 +128,7 @@ impl Model for Links {
 }
 
 impl Links {
-    /// No lines yet.
+    /// No definitions yet.
     pub fn new(alloc: Global) -> Links
         ensures { result ≡ [] }
     {
@@ -75,4 +136,46 @@ impl Links {
             lines: Vec::new(alloc),
         }
     }
+
+    /// The definitions so far, in order.
+    pub fn lines(&self) -> &[String]
+        ensures { map string_bytes result.now ≡ self.now }
+    {
+        self.lines.as_slice()
+    }
+}
+
+/// Converts the elements of the tags that it is registered for. What it answers is a function of its
+/// value and of what it is shown, an Err comes for want of memory alone, and a `Plan::Descendant` is a
+/// proper descendant of `element.node`.
+pub trait ElementHandler: Drop {
+    ghost use Rattle.htmd.specs.Views.{plan_view, optional_result, result_view, element_view, optional_text};
+
+    /// What it asks for.
+    ghost plan_of: { Self → ElementView → PlanView };
+
+    /// What it makes of the content that it asked for.
+    ghost finish_of: { Self → ElementView → ResultView → Option ResultView };
+
+    /// What it puts after a conversion.
+    ghost append_of: { Self → Option (List ℕ) };
+
+    /// What it puts after a conversion, if anything.
+    fn append(&self, alloc: Global) -> Result<Option<String>, AllocError>
+        ensures { IfOk result (λ r. optional_text r ≡ append_of self.now) };
+
+    /// What it asks for. What ends at once gives its result; for content `finish` is called.
+    fn plan(&self, alloc: Global, element: &Element) -> Result<Plan, AllocError>
+        ensures plan { IfOk result (λ p. plan_view p ≡ plan_of self.now (element_view element.now)) }
+        ensures proper { IfOk result (λ p. IsProper element.now.tree.now element.now.node (plan_view p)) };
+
+    /// The result of the content that was asked for, or nothing.
+    fn finish(
+        &self,
+        alloc: Global,
+        element: &Element,
+        content: HandlerResult,
+    ) -> Result<Option<HandlerResult>, AllocError>
+        ensures { IfOk result
+            (λ r. optional_result r ≡ finish_of self.now (element_view element.now) (result_view content)) };
 }

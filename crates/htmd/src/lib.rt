@@ -5,11 +5,11 @@
 mod converter;
 mod dom_walker;
 pub mod element_handler;
+mod group;
 mod node_util;
 pub mod options;
 mod seam;
 mod text_node;
-mod text_util;
 
-pub use converter::{HtmlToMarkdown, HtmlToMarkdownBuilder};
+pub use converter::{AddRefused, HtmlToMarkdown, HtmlToMarkdownBuilder, SkipRefused};
 pub use htmd_tree::{Attribute, NodeData, NodeId, Tree, TreeError};

@@ -3,11 +3,13 @@
 ghost use Rattle.std.specs.Prelude.{◌≡◌, ◌<◌, ◌||◌, codes, length};
 ghost use Rattle.std.specs.Option.{option_copied};
 ghost use Rattle.std.specs.Str.{bytes_eq};
-ghost use Rattle.htmd_tree.specs.Items.{data_at as content_at, IsTree};
+ghost use Rattle.htmd_tree.specs.Items.{data_at, IsTree};
 ghost use Rattle.htmd_tree.specs.NumberedTrees.{tree_of};
 ghost use Rattle.htmd_tree.specs.Ancestors.{ancestor_of, ancestors_of};
 ghost use Rattle.htmd.specs.OrdinaryText.{is_pre_or_code, pre, parent_is_pre};
-ghost use Rattle.htmd.specs.Rendering.{only_text, children_at, is_block_tree, is_text, trims_first, inside_of};
+ghost use Rattle.htmd.specs.Groups.{only_text, children_at};
+ghost use Rattle.htmd.specs.Children.{is_block_tree, trims_first};
+ghost use Rattle.htmd.specs.Rendering.{is_text, inside_of};
 
 use htmd_text::is_block_element;
 use htmd_tree::{NodeData, NodeId, Tree};
@@ -15,7 +17,7 @@ use htmd_tree::{NodeData, NodeId, Tree};
 /// Whether a node is `pre` or `code`.
 pub(crate) fn is_pre_or_code(tree: &Tree, node: NodeId) -> bool
     requires { node < length tree.now }
-    ensures { result ≡ is_pre_or_code (ancestor_of (content_at tree.now node)) }
+    ensures { result ≡ is_pre_or_code (ancestor_of (data_at tree.now node)) }
 {
     match tree.data(node) {
         NodeData::Element { name, .. } => name.as_str() == "pre" || name.as_str() == "code",
@@ -81,7 +83,7 @@ pub(crate) fn trims_first(tree: &Tree, node: NodeId, inside_pre: bool) -> bool
 /// Whether a node is a text.
 pub(crate) fn is_text(tree: &Tree, node: NodeId) -> bool
     requires { node < length tree.now }
-    ensures value { result ≡ is_text (content_at tree.now node) }
+    ensures value { result ≡ is_text (data_at tree.now node) }
     ensures tree { IsTree tree.now }
 {
     matches!(tree.data(node), NodeData::Text(_))

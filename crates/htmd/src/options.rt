@@ -1,18 +1,81 @@
+//! The options of a conversion.
+
 ghost use Rattle.std.specs.Prelude.{◌≡◌};
 
-/// How headings are written.
+pub use htmd_markdown::{BrStyle, HeadingStyle, HrStyle};
+
+/// How a link is written (CommonMark 0.31.2, 6.3).
 #[derive(Debug, Clone, Copy, PartialEq)]
-pub enum HeadingStyle {
-    /// `#` as often as the level (CommonMark 0.31.2, 4.2).
-    Atx,
-    /// Levels 1 and 2 are underlined (CommonMark 0.31.2, 4.3), the others as in `Atx`.
-    Setex,
+pub enum LinkStyle {
+    /// `[text](address "title")`
+    Inlined,
+    /// `<address>` where the text is the address, else as in `Inlined` (CommonMark 0.31.2, 6.5).
+    InlinedPreferAutolinks,
+    /// A reference, whose definition stands at the end.
+    Referenced,
+}
+
+/// How a link reference is written (CommonMark 0.31.2, 6.3).
+#[derive(Debug, Clone, Copy, PartialEq)]
+pub enum LinkReferenceStyle {
+    /// `[text][1]`
+    Full,
+    /// `[text][]`
+    Collapsed,
+    /// `[text]`
+    Shortcut,
+}
+
+/// How a code block is written.
+#[derive(Debug, Clone, Copy, PartialEq)]
+pub enum CodeBlockStyle {
+    /// Four spaces before each line (CommonMark 0.31.2, 4.4).
+    Indented,
+    /// Between two fences (CommonMark 0.31.2, 4.5).
+    Fenced,
+}
+
+/// The symbol of a code fence (CommonMark 0.31.2, 4.5).
+#[derive(Debug, Clone, Copy, PartialEq)]
+pub enum CodeBlockFence {
+    Tildes,
+    Backticks,
+}
+
+/// The marker of an item of a bullet list (CommonMark 0.31.2, 5.2).
+#[derive(Debug, Clone, Copy, PartialEq)]
+pub enum BulletListMarker {
+    Asterisk,
+    Dash,
+}
+
+/// What becomes of an element that Markdown has no form for.
+#[derive(Debug, Clone, Copy, PartialEq)]
+pub enum TranslationMode {
+    /// Its content alone is written.
+    Pure,
+    /// It is written as HTML.
+    Faithful,
 }
 
 /// What a conversion goes by.
 #[derive(Debug, Drop)]
 pub struct Options {
     pub heading_style: HeadingStyle,
+    pub hr_style: HrStyle,
+    pub br_style: BrStyle,
+    pub link_style: LinkStyle,
+    pub link_reference_style: LinkReferenceStyle,
+    pub code_block_style: CodeBlockStyle,
+    pub code_block_fence: CodeBlockFence,
+    pub bullet_list_marker: BulletListMarker,
+    /// The spaces behind the marker of an item of a bullet list.
+    pub ul_bullet_spacing: u8,
+    /// The spaces behind the longest number of an ordered list.
+    pub ol_number_spacing: u8,
+    /// Whether the white space of a code span is kept.
+    pub preformatted_code: bool,
+    pub translation_mode: TranslationMode,
 }
 
 impl Default for Options {
@@ -23,6 +86,17 @@ impl Default for Options {
     fn default() -> Options {
         Options {
             heading_style: HeadingStyle::Atx,
+            hr_style: HrStyle::Asterisks,
+            br_style: BrStyle::TwoSpaces,
+            link_style: LinkStyle::Inlined,
+            link_reference_style: LinkReferenceStyle::Full,
+            code_block_style: CodeBlockStyle::Fenced,
+            code_block_fence: CodeBlockFence::Backticks,
+            bullet_list_marker: BulletListMarker::Asterisk,
+            ul_bullet_spacing: 3,
+            ol_number_spacing: 2,
+            preformatted_code: false,
+            translation_mode: TranslationMode::Pure,
         }
     }
 }

@@ -3,7 +3,7 @@
 ghost use Rattle.std.specs.Prelude.{◌≡◌, ◌++◌, ◌&&◌, ◌==◌, OnOk, string_bytes};
 ghost use Rattle.std.specs.List.{prefix_len, suffix_len};
 ghost use Rattle.htmd_text.specs.Trims.{is_line_feed};
-ghost use Rattle.htmd.specs.Seams.{begins_with_space, ends_with_space, joined_at, seam};
+ghost use Rattle.htmd.specs.Seams.{begins_with_space, ends_with_space, joined_texts, joined_at_seam};
 
 use htmd_text::runs::{leading_len, trailing_len};
 use std::alloc::AllocError;
@@ -21,7 +21,7 @@ fn loses_space(out: &[u8], content: &[u8]) -> bool
 /// What of a content is put behind a text that is not empty.
 fn rest_at_seam<'a>(out: &[u8], content: &'a str) -> &'a str
     ensures { out.now ++ result.now
-        ≡ joined_at (suffix_len is_line_feed out.now) (prefix_len is_line_feed content.now) out.now content.now }
+        ≡ joined_texts (suffix_len is_line_feed out.now) (prefix_len is_line_feed content.now) out.now content.now }
 {
     if loses_space(out, content.as_bytes()) {
         return &content[1..];
@@ -32,15 +32,22 @@ fn rest_at_seam<'a>(out: &[u8], content: &'a str) -> &'a str
     &content[beginning - kept..]
 }
 
-/// Puts content behind a text.
-pub(crate) fn append(out: &mut String, content: &str, whole: bool) -> Result<(), AllocError>
-    ensures { OnOk result (string_bytes out.new ≡ seam (string_bytes out.old) content.now whole) }
+/// Puts content behind a text; onto an empty text it is moved.
+pub(crate) fn append_normalized_content(
+    out: &mut String,
+    content: String,
+    whole: bool,
+) -> Result<(), AllocError>
+    ensures { OnOk result (string_bytes out.new
+        ≡ joined_at_seam (string_bytes out.old) (string_bytes content) whole) }
 {
-    let rest = if whole || out.is_empty() {
-        content
-    } else {
-        rest_at_seam(out.as_bytes(), content)
-    };
-    out.push_str(rest)?;
-    Ok(())
+    if out.is_empty() {
+        *out = content;
+        return Ok(());
+    }
+    if whole {
+        return out.push_str(content.as_str());
+    }
+    let rest = rest_at_seam(out.as_bytes(), content.as_str());
+    out.push_str(rest)
 }

@@ -3,8 +3,8 @@ use Rattle.std.specs.Prelude.{ℕ, List, [], ◌∷◌, ◌++◌, codes}
 use Rattle.htmd_text.specs.Characters.{line_feed}
 use Rattle.htmd_tree.specs.Items.{Item, document_item, new_item, element_node, text_node}
 use Rattle.htmd.specs.Defaults.{default_options}
-use Rattle.htmd.specs.Registries.{built_in}
-use Rattle.htmd.specs.Run.{markdown}
+use Rattle.htmd.specs.BuiltIn.{built_in}
+use Rattle.htmd.specs.Markdown.{markdown}
 
 -- the Document, and under it a `p`
 abbrev pub empty_paragraph : List Item

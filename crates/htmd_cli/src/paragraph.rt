@@ -28,5 +28,5 @@ pub(crate) fn paragraph_to_markdown(alloc: Global, text: &str) -> Result<String,
         Err(TreeError::Memory) => return Err(AllocError),
         Err(TreeError::TooDeep) => unreachable!(),
     };
-    HtmlToMarkdown::new(alloc)?.tree_to_markdown(&tree, tree.root())
+    HtmlToMarkdown::new(alloc)?.tree_to_markdown(alloc, &tree, tree.root())
 }

@@ -10,7 +10,7 @@ fn greeting(alloc: Global) -> Result<String, TreeError> {
     let heading = tree.add_element(tree.root(), "h1", Vec::new(alloc))?;
     tree.add_text(heading, "Hello, *world*")?;
     let converter = HtmlToMarkdown::new(alloc)?;
-    Ok(converter.tree_to_markdown(&tree, tree.root())?)
+    Ok(converter.tree_to_markdown(alloc, &tree, tree.root())?)
 }
 
 fn main(rt: HostRuntime) -> io::Result<()> {

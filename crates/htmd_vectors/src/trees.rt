@@ -98,9 +98,77 @@ fn converts_paragraphs_and_headings(rt: HostRuntime) -> Result<(), Fail> {
         let (tree, _) = built(rt.alloc(), row)?;
         let root = tree.root();
         for _ in 0..2 {
-            let answer = converter.tree_to_markdown(&tree, root)?;
+            let answer = converter.tree_to_markdown(rt.alloc(), &tree, root)?;
             assert_eq!(rt; answer.as_str(), markdown);
         }
+    }
+    Ok(())
+}
+
+// Neighbours that join stand as one; texts are squeezed before they are escaped; breaks, sections and
+// emphasis.
+#[test]
+fn converts_simple_elements(rt: HostRuntime) -> Result<(), Fail> {
+    let table: [(Row, &str); 9] = [
+        (
+            &[(0, "i", ""), (1, "", "-"), (0, "em", ""), (3, "", " x")],
+            "*\\- x*",
+        ),
+        (
+            &[
+                (0, "p", ""),
+                (1, "", "Hi"),
+                (1, "br", ""),
+                (1, "", "there"),
+                (1, "br", ""),
+                (1, "br", ""),
+                (1, "", "!"),
+            ],
+            "Hi  \nthere  \n  \n!",
+        ),
+        (
+            &[
+                (0, "div", ""),
+                (1, "", "a"),
+                (0, "", "b"),
+                (0, "hr", ""),
+                (0, "", "c"),
+            ],
+            "a\n\nb\n\n* * *\n\nc",
+        ),
+        (&[(0, "p", ""), (1, "", " - x")], "\\- x"),
+        (&[(0, "p", ""), (1, "", "1.\na")], "1\\. a"),
+        (&[(0, "p", ""), (1, "", "-\tx")], "\\- x"),
+        (
+            &[
+                (0, "p", ""),
+                (1, "", "a"),
+                (1, "i", ""),
+                (3, "", "b"),
+                (1, "", " - x"),
+            ],
+            "a*b* - x",
+        ),
+        (
+            &[(0, "p", ""), (1, "b", ""), (2, "", "a "), (1, "", " - x")],
+            "**a** \\- x",
+        ),
+        (
+            &[
+                (0, "blockquote", ""),
+                (1, "p", ""),
+                (2, "", "a"),
+                (1, "p", ""),
+                (4, "", "b"),
+            ],
+            "> a\n> \n> b",
+        ),
+    ];
+    let converter = HtmlToMarkdown::new(rt.alloc())?;
+    for (row, markdown) in table {
+        let (tree, _) = built(rt.alloc(), row)?;
+        let answer = converter.tree_to_markdown(rt.alloc(), &tree, tree.root())?;
+        assert_eq!(rt; answer.as_str(), markdown);
     }
     Ok(())
 }
@@ -120,7 +188,7 @@ fn underlines_headings(rt: HostRuntime) -> Result<(), Fail> {
     let converter = HtmlToMarkdown::builder(rt.alloc())?.options(setext).build();
     for (name, text, markdown) in table {
         let (tree, _) = built(rt.alloc(), &[(0, name, ""), (1, "", text)])?;
-        let answer = converter.tree_to_markdown(&tree, tree.root())?;
+        let answer = converter.tree_to_markdown(rt.alloc(), &tree, tree.root())?;
         assert_eq!(rt; answer.as_str(), markdown);
     }
     Ok(())
@@ -135,32 +203,30 @@ fn starts_anywhere(rt: HostRuntime) -> Result<(), Fail> {
     if !tree.contains(last) {
         return Err(Fail::from("the text is in the tree"));
     }
-    let answer = converter.tree_to_markdown(&tree, last)?;
+    let answer = converter.tree_to_markdown(rt.alloc(), &tree, last)?;
     assert_eq!(rt; answer.as_str(), "\\*literal\\* second");
     let above = tree.parent(last).ok_or("the text has a parent")?;
     if !tree.contains(above) {
         return Err(Fail::from("the parent is in the tree"));
     }
-    let answer = converter.tree_to_markdown(&tree, above)?;
+    let answer = converter.tree_to_markdown(rt.alloc(), &tree, above)?;
     assert_eq!(rt; answer.as_str(), text);
     Ok(())
 }
 
+// A tag's handlers are asked from the newest on; a tag without handlers has none.
 #[test]
 fn finds_handlers(rt: HostRuntime) -> Result<(), Fail> {
-    let table: [(&str, usize, Option<usize>); 6] = [
-        ("h1", 0, Some(0)),
-        ("h6", 0, Some(0)),
-        ("p", 0, Some(1)),
-        ("p", 1, None),
-        ("u", 0, None),
-        ("", 0, None),
-    ];
     let handlers = ElementHandlers::new(rt.alloc(), Options::default())?;
-    for (tag, skipped, place) in table {
+    assert_eq!(rt;
+        handlers.find_handler("h1", 0),
+        handlers.find_handler("h6", 0)
+    );
+    assert!(rt; handlers.find_handler("p", 0).is_some());
+    for (tag, skipped) in [("p", 1), ("u", 0), ("", 0)] {
         assert_eq!(rt;
             handlers.find_handler(tag, skipped),
-            place,
+            None,
             "{tag} {skipped}"
         );
     }

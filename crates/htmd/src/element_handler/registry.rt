@@ -1,176 +1,107 @@
-//! The registry of handlers.
+//! What a walk goes by: the handlers, as a registry answers for them.
 
-ghost use Rattle.std.specs.Prelude.{◌≡◌, ◌+◌, ◌^◌, ◌<◌, IfOk, IfSome, OnOk, All, map, length, slice_get};
-ghost use Rattle.htmd.specs.Choice.{tags_at, with_handler};
-ghost use Rattle.htmd.specs.TagPlaces.{tag_place};
+ghost use Rattle.std.specs.Prelude.{◌≡◌, ◌+◌, ◌^◌, ◌<◌, ◌++◌, IfOk, IfSome, OnErr, IsTrue};
+ghost use Rattle.std.specs.Prelude.{length, slice_get, string_bytes};
+ghost use Rattle.htmd_tree.specs.Items.{data_at};
+ghost use Rattle.htmd.specs.Handling.{IsProper};
+ghost use Rattle.htmd.specs.Choice.{Config, handler_at, indexes};
+ghost use Rattle.htmd.specs.Beginnings.{Begins};
+ghost use Rattle.htmd.specs.Elements.{finish_answer};
+ghost use Rattle.htmd.specs.Markdown.{append_texts};
+ghost use Rattle.htmd.specs.Passing.{IsPassed};
+ghost use Rattle.htmd.specs.Views.{result_view, optional_result, results_view, answer_view, element_view};
+ghost use Rattle.htmd.specs.Walking.{request_view};
 
-use super::headings::heading;
-use super::p::wrapped;
 use super::{Element, HandlerResult, Links, Plan};
-use crate::dom_walker::Handlers;
 use crate::options::Options;
+use htmd_tree::{NodeId, Tree};
 use std::alloc::{AllocError, Global};
 
-/// A handler, as it is registered.
+/// What a handler asks for, a built-in one too.
 #[derive(Drop)]
-pub(crate) enum Handler {
-    Headings,
-    Paragraph,
+pub enum Request {
+    OfPlan(Plan),
+    /// Each of these nodes by itself, in order, and then the children's content where it is asked for.
+    Each { nodes: Vec<NodeId>, children: bool },
 }
 
-/// A tag, and the place of a handler that is registered for it.
+/// What was asked for by `Request::Each`.
 #[derive(Drop)]
-pub(crate) struct Registration {
-    pub(crate) tag: String,
-    pub(crate) place: usize,
+pub struct Contents {
+    pub results: Vec<HandlerResult>,
+    pub children: Option<HandlerResult>,
 }
 
-/// The handlers in order of registration.
-#[derive(Drop)]
-pub struct ElementHandlers {
-    pub(crate) handlers: Vec<Handler>,
-    pub(crate) registered: Vec<Registration>,
-    pub(crate) options: Options,
-    alloc: Global,
-    ghost within: { All (λ r. r.place < length handlers.items) registered.items },
-}
+/// The handlers that a walk goes by.
+pub trait Registry {
+    /// The options, the handlers and the tags that they are registered for.
+    ghost config: { Self → Config };
 
-/// A registration for each tag, of the handler at a place.
-fn registrations(
-    alloc: Global,
-    tags: &[&str],
-    place: usize,
-) -> Result<Vec<Registration>, AllocError>
-    ensures tags { IfOk result (λ v. map tag_place v.items ≡ tags_at place (map (λ t. t.now) tags.now)) }
-    ensures places { IfOk result (λ v. All (λ r. r.place ≡ place) v.items) }
-{
-    let mut fresh = Vec::with_capacity(alloc, tags.len())?;
-    for tag in tags {
-        let tag = String::from_str(alloc, *tag)?;
-        fresh.push(Registration { tag, place })?;
-    }
-    Ok(fresh)
-}
+    /// What is handed in keeps its interface.
+    ghost ready: { Self → Type 0 };
 
-impl ElementHandlers {
-    ghost use Rattle.htmd.specs.Choice.{places};
-    ghost use Rattle.htmd.specs.Registries.{meaning_of, built_in};
+    /// The options.
+    fn options(&self) -> &Options
+        ensures { result.now ≡ (config self.now).options };
 
-    /// The built-in handlers.
-    pub fn new(alloc: Global, options: Options) -> Result<ElementHandlers, AllocError>
-        ensures { let config = ⟦<ElementHandlers as Handlers>⟧.config in
-            IfOk result (λ handlers. config handlers ≡ built_in options) }
-    {
-        let mut handlers = ElementHandlers {
-            handlers: Vec::new(alloc),
-            registered: Vec::new(alloc),
-            options,
-            alloc,
-        };
-        let headings = ["h1", "h2", "h3", "h4", "h5", "h6"];
-        handlers.register(headings.as_slice(), Handler::Headings)?;
-        handlers.register(["p"].as_slice(), Handler::Paragraph)?;
-        Ok(handlers)
-    }
-
-    /// Asks a handler first for these tags from now on.
-    fn register(&mut self, tags: &[&str], handler: Handler) -> Result<(), AllocError>
-        ensures { let config = ⟦<ElementHandlers as Handlers>⟧.config in
-            OnOk result (config self.new ≡ with_handler (config self.old) (map (λ t. t.now) tags.now) (meaning_of handler)) }
-    {
-        let mut fresh = registrations(self.alloc, tags, self.handlers.len())?;
-        self.handlers.reserve(1)?;
-        self.registered.append(&mut fresh)?;
-        self.handlers.push(handler)?;
-        Ok(())
-    }
-
-    /// The place, in order of registration from 0, of the handler that is asked for a tag after so
-    /// many newer ones.
-    pub fn find_handler(&self, tag: &str, skipped: usize) -> Option<usize>
-        ensures value { let config = ⟦<ElementHandlers as Handlers>⟧.config self.now in
-            result ≡ slice_get (places tag.now config.registered) skipped }
-        ensures few { let config = ⟦<ElementHandlers as Handlers>⟧.config self.now in
-            IfSome result (λ _. skipped < length config.registered) }
+    /// The index of the handler that is asked for a tag after so many newer ones.
+    fn find(&self, tag: &str, skipped: usize) -> Option<usize>
+        ensures value { result ≡ slice_get (indexes tag.now (config self.now).registered) skipped }
+        ensures few { IfSome result (λ _. skipped < length (config self.now).registered) }
         ensures fits { IfSome result (λ _. skipped + 1 < 2 ^ 64) }
-        ensures within { let config = ⟦<ElementHandlers as Handlers>⟧.config self.now in
-            IfSome result (λ place. place < length config.handlers) }
-    {
-        let mut left = skipped;
-        let mut i = self.registered.len();
-        while i > 0 {
-            i -= 1;
-            let registration = &self.registered[i];
-            if registration.tag.as_str() == tag {
-                if left == 0 {
-                    return Some(registration.place);
-                }
-                left -= 1;
-            }
-        }
-        None
-    }
-}
+        ensures within { IfSome result (λ index. index < length (config self.now).handlers) };
 
-impl ElementHandlers {
-    ghost use Rattle.htmd.specs.Choice.{with_options};
+    /// Whether the content of an element stands for what its handlers would give.
+    fn goes_past(&self, tree: &Tree, node: NodeId) -> bool
+        requires { node < length tree.now }
+        ensures { IsTrue result → IsPassed (config self.now) (data_at tree.now node) };
 
-    /// The same handlers with other options.
-    pub(crate) fn set_options(&mut self, options: Options)
-        ensures { let config = ⟦<ElementHandlers as Handlers>⟧.config in
-            config self.new ≡ with_options (config self.old) options }
-    {
-        self.options = options;
-    }
-}
+    /// What the handler at an index asks for.
+    fn plan(&self, alloc: Global, index: usize, element: &Element) -> Result<Request, AllocError>
+        requires within { index < length (config self.now).handlers }
+        requires ready { ready self.now }
+        ensures plan { IfOk result (λ p. request_view p
+            ≡ (handler_at (config self.now).handlers index).plan (element_view element.now)) }
+        ensures proper { IfOk result (λ p. IsProper element.now.tree.now element.now.node (request_view p)) };
 
-impl Handlers for ElementHandlers {
-    ghost use Rattle.htmd.specs.Registries.{config_of};
-
-    ghost config = { config_of };
-
-    ghost ready = { λ _. Unit {0} };
-
-    fn options(&self) -> &Options {
-        &self.options
-    }
-
-    fn find(&self, tag: &str, skipped: usize) -> Option<usize> {
-        self.find_handler(tag, skipped)
-    }
-
-    fn ask(&self, _alloc: Global, place: usize, _element: &Element) -> Result<Plan, AllocError> {
-        match self.handlers[place] {
-            Handler::Headings => Ok(Plan::Children),
-            Handler::Paragraph => Ok(Plan::Children),
-        }
-    }
-
+    /// What the handler at an index makes of the content that it asked for.
     fn finish(
         &self,
         alloc: Global,
-        place: usize,
+        index: usize,
         element: &Element,
         content: HandlerResult,
-        _links: &mut Links,
-    ) -> Result<Option<HandlerResult>, AllocError> {
-        let content = match self.handlers[place] {
-            Handler::Headings => heading(
-                alloc,
-                element.options.heading_style,
-                element.tag,
-                content.content.as_str(),
-            )?,
-            Handler::Paragraph => wrapped(alloc, content.content)?,
-        };
-        Ok(Some(HandlerResult {
-            content,
-            markdown_translated: true,
-        }))
-    }
+        links: &mut Links,
+    ) -> Result<Option<HandlerResult>, AllocError>
+        requires within { index < length (config self.now).handlers }
+        requires ready { ready self.now }
+        ensures ok { let handler = handler_at (config self.now).handlers index in
+            IfOk result (λ r. answer_view r links.new
+            ≡ finish_answer (handler.finish (element_view element.now) (result_view content) links.old) links.old) }
+        ensures err { let handler = handler_at (config self.now).handlers index in
+            OnErr result (Begins links.old links.new
+            (links.old ++ (handler.finish (element_view element.now) (result_view content) links.old).added)) };
 
-    // No built-in handler puts anything after a run yet.
-    fn appended(&self, alloc: Global, _links: &Links) -> Result<String, AllocError> {
-        Ok(String::new(alloc))
-    }
+    /// What the handler at an index makes of the contents that it asked for.
+    fn finish_each(
+        &self,
+        alloc: Global,
+        index: usize,
+        element: &Element,
+        contents: Contents,
+        links: &mut Links,
+    ) -> Result<Option<HandlerResult>, AllocError>
+        requires within { index < length (config self.now).handlers }
+        requires ready { ready self.now }
+        ensures ok { let handler = handler_at (config self.now).handlers index in
+            IfOk result (λ r. answer_view r links.new ≡ finish_answer (handler.finish_each (element_view element.now)
+            (results_view contents.results.items) (optional_result contents.children) links.old) links.old) }
+        ensures err { let handler = handler_at (config self.now).handlers index in
+            OnErr result (Begins links.old links.new (links.old ++ (handler.finish_each (element_view element.now)
+            (results_view contents.results.items) (optional_result contents.children) links.old).added)) };
+
+    /// What the handlers put after a conversion with these link definitions, in order of registration.
+    fn append(&self, alloc: Global, links: &Links) -> Result<String, AllocError>
+        requires ready { ready self.now }
+        ensures { IfOk result (λ text. string_bytes text ≡ append_texts (config self.now).handlers links.now) };
 }

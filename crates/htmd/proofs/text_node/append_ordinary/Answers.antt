@@ -1,8 +1,9 @@
 use Rattle.std.proofs.Common.{◌≡◌, ◌++◌, ◌∙◌, ◌||◌, ap, sym, string_bytes, ltb}
 use Rattle.std.specs.List.{suffix_len}
-use Rattle.htmd_text.specs.EscapeMarks.{escaped_markdown as escaped}
-use Rattle.htmd_text.specs.WhiteSpace.{squeezed_text as squeezed}
-use Rattle.htmd.specs.Seams.{is_space, ends_with_space}
+use Rattle.htmd_text.specs.EscapeMarks.{escaped_markdown}
+use Rattle.htmd_text.specs.WhiteSpace.{squeezed_text}
+use Rattle.htmd_text.specs.Trims.{is_space}
+use Rattle.htmd.specs.Seams.{ends_with_space}
 use Rattle.htmd.specs.OrdinaryText.{without_first_space}
 use Rattle.htmd.proofs.text_node.append_ordinary.Goals as goal
 use Rattle.htmd.proofs.text_node.append_ordinary.Goals.{then-trim, else-trim}
@@ -12,7 +13,11 @@ returns c =
     let out = string_bytes c.args.out.now in
     let goes : c.if-trim.goes ≡ (c.args.trim || ends_with_space out) = elim c.if-trim.branch [
       | then-trim w ↦ w.goes-is ∙ w.if-trim.true ∙ sym (ap (λ t. t || ends_with_space out) w.if-trim.true)
-      | else-trim w ↦ w.goes-is ∙ ap (ltb 0) (w.trailing_len.ensures.value ∙ ap (suffix_len is_space) w.as_bytes.ensures.value) ∙ sym (ap (λ t. t || ends_with_space out) w.if-trim.false)
+      | else-trim w ↦ w.goes-is
+          ∙ ap (ltb 0) (w.trailing_len.ensures.value ∙ ap (suffix_len is_space) w.as_bytes.ensures.value)
+          ∙ sym (ap (λ t. t || ends_with_space out) w.if-trim.false)
     ] in
-    let rest = c.without_first_space.ensures ∙ ap (without_first_space c.if-trim.goes) (c.as_str.ensures.value ∙ c.in_ok-squeezed.ensures.text) ∙ ap (λ t. without_first_space t (squeezed c.args.text.now)) goes in
-    c.in_ok-push_str.ensures.bytes ∙ ap (λ s. out ++ s) (c.as_str-2.ensures.value ∙ c.in_ok-escaped.ensures.text ∙ ap escaped rest)
+    let rest = c.without_first_space.ensures ∙ ap (without_first_space c.if-trim.goes) (c.as_str.ensures.value
+    ∙ c.in_ok-squeezed.ensures.text) ∙ ap (λ t. without_first_space t (squeezed_text c.args.text.now)) goes in
+    c.in_ok-push_str.ensures.bytes ∙ ap (λ s. out ++ s) (c.as_str-2.ensures.value ∙ c.in_ok-escaped.ensures.text
+    ∙ ap escaped_markdown rest)

@@ -1,6 +1,6 @@
 use Rattle.std.proofs.Common.{◌∙◌, ap, arith}
 use Rattle.std.specs.List.{prefix_len}
-use Rattle.htmd.specs.Seams.{is_space}
+use Rattle.htmd_text.specs.Trims.{is_space}
 use Rattle.htmd.proofs.Cuts.{cut_in_leading, space_of_ascii}
 use Rattle.htmd.proofs.text_node.without_first_space.Goals as goal
 

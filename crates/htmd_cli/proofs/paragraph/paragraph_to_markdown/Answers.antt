@@ -4,8 +4,8 @@ use Rattle.std.proofs.lemmas.Result.{IfOk-weaker}
 use Rattle.htmd_tree.specs.Items.{Item}
 use Rattle.htmd.specs.Choice.{Config}
 use Rattle.htmd.specs.Defaults.{default_options}
-use Rattle.htmd.specs.Registries.{built_in}
-use Rattle.htmd.specs.Run.{markdown}
+use Rattle.htmd.specs.BuiltIn.{built_in}
+use Rattle.htmd.specs.Markdown.{markdown}
 use Rattle.htmd_cli.specs.Conversion.{paragraph, paragraph_markdown}
 use Rattle.htmd_cli.proofs.paragraph.paragraph_to_markdown.Goals as goal
 

@@ -1,0 +1,79 @@
+-- The built-in handlers and their tags.
+use Rattle.std.specs.Prelude.{ℕ, List, [], ◌∷◌, ◌++◌, codes}
+use Rattle.htmd.specs.declared.options.Options.{Options}
+use Rattle.htmd.specs.declared.element_handler.built_in.BuiltIn.{BuiltIn}
+use Rattle.htmd.specs.declared.element_handler.built_in.BuiltIn.TheVariants.{BlockQuote, Strong, Emphasis, Heading}
+use Rattle.htmd.specs.declared.element_handler.built_in.BuiltIn.TheVariants.{LineBreak, ThematicBreak, Paragraph}
+use Rattle.htmd.specs.declared.element_handler.built_in.BuiltIn.TheVariants.{HeadOrBody}
+use Rattle.htmd.specs.declared.element_handler.built_in.BuiltIn.TheVariants.{Html, Span, OtherBlock}
+use Rattle.htmd.specs.Handling.{HandlerMeaning}
+use Rattle.htmd.specs.Choice.{Config, with_handler}
+use Rattle.htmd_markdown.specs.declared.emphasis.Emphasis.TheVariants as kind
+use Rattle.htmd.specs.Sections.{quotes, paragraphs, parts_of_page, pages, other_blocks}
+use Rattle.htmd.specs.Inline.{headings, emphasis_of, line_breaks, thematic_breaks}
+use Rattle.htmd.specs.Spans.{spans}
+
+-- a handler, and the tags that it is registered for
+pub record Row : Type 0 where
+  pub tags : List (List ℕ)
+  pub handler : HandlerMeaning
+
+abbrev pub row : List (List ℕ) → HandlerMeaning → Row
+row tags handler = record { tags = tags; handler = handler }
+
+abbrev pub heading_tags : List (List ℕ)
+heading_tags = codes "h1" ∷ codes "h2" ∷ codes "h3" ∷ codes "h4" ∷ codes "h5" ∷ codes "h6" ∷ []
+
+-- the 43 names of block elements that have no other handler
+abbrev pub other_block_tags : List (List ℕ)
+other_block_tags =
+    codes "address" ∷ codes "article" ∷ codes "aside" ∷ codes "base" ∷ codes "basefont" ∷ codes "center" ∷
+    codes "col" ∷ codes "colgroup" ∷ codes "dd" ∷ codes "details" ∷ codes "dialog" ∷ codes "dir" ∷
+    codes "div" ∷ codes "dl" ∷ codes "dt" ∷ codes "fieldset" ∷ codes "figcaption" ∷ codes "figure" ∷
+    codes "footer" ∷ codes "form" ∷ codes "frame" ∷ codes "frameset" ∷ codes "header" ∷ codes "iframe" ∷
+    codes "legend" ∷ codes "link" ∷ codes "main" ∷ codes "menu" ∷ codes "menuitem" ∷ codes "nav" ∷
+    codes "noframes" ∷ codes "optgroup" ∷ codes "option" ∷ codes "param" ∷ codes "script" ∷ codes "search" ∷
+    codes "section" ∷ codes "style" ∷ codes "summary" ∷ codes "textarea" ∷ codes "tfoot" ∷ codes "title" ∷
+    codes "track" ∷ []
+
+-- the built-in handlers in order of registration
+abbrev pub built_in_rows : List Row
+built_in_rows =
+    row (codes "blockquote" ∷ []) quotes
+    ∷ row (codes "strong" ∷ codes "b" ∷ []) (emphasis_of kind.Strong)
+    ∷ row (codes "i" ∷ codes "em" ∷ []) (emphasis_of kind.Regular)
+    ∷ row heading_tags headings
+    ∷ row (codes "br" ∷ []) line_breaks
+    ∷ row (codes "hr" ∷ []) thematic_breaks
+    ∷ row (codes "p" ∷ []) paragraphs
+    ∷ row (codes "head" ∷ codes "body" ∷ []) parts_of_page
+    ∷ row (codes "html" ∷ []) pages
+    ∷ row (codes "span" ∷ []) spans
+    ∷ row other_block_tags other_blocks
+    ∷ []
+
+abbrev pub with_rows : List Row → Config → Config
+with_rows [] config = config
+with_rows (r ∷ rs) config = with_rows rs (with_handler config r.tags r.handler)
+
+-- no handler
+abbrev pub empty_config : Options → Config
+empty_config options = record { options = options; handlers = []; registered = [] }
+
+-- the registry that has the built-in handlers alone
+abbrev pub built_in : Options → Config
+built_in options = with_rows built_in_rows (empty_config options)
+
+-- what a built-in handler means
+abbrev pub meaning_of : BuiltIn → HandlerMeaning
+meaning_of BlockQuote = quotes
+meaning_of Strong = emphasis_of kind.Strong
+meaning_of Emphasis = emphasis_of kind.Regular
+meaning_of Heading = headings
+meaning_of LineBreak = line_breaks
+meaning_of ThematicBreak = thematic_breaks
+meaning_of Paragraph = paragraphs
+meaning_of HeadOrBody = parts_of_page
+meaning_of Html = pages
+meaning_of Span = spans
+meaning_of OtherBlock = other_blocks

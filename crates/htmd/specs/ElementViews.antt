@@ -1,0 +1,53 @@
+-- What a handler reads off an element that it is shown, and the plans that many handlers have.
+use Rattle.std.specs.Prelude.{ℕ, Bool, false, not, ◌&&◌, ◌||◌, if◌then◌else◌, nat_lt, List, [], ◌∷◌, length, Option}
+use Rattle.std.specs.Prelude.{Some, None}
+use Rattle.std.specs.List.{list_any}
+use Rattle.std.specs.Str.{bytes_eq}
+use Rattle.htmd_tree.specs.ValueTrees.{AttributePair}
+use Rattle.htmd_tree.specs.Items as tree
+use Rattle.htmd_tree.specs.Ancestors as above
+use Rattle.htmd.specs.Handling.{ElementView, PlanView, raw_html, content_of_children}
+use Rattle.htmd.specs.Outputs.{is_pure}
+
+abbrev pub tag_of : ElementView → List ℕ
+tag_of view = (above.ancestor_of (tree.data_at view.items view.node)).tag
+
+abbrev pub attributes_of : ElementView → List AttributePair
+attributes_of view = (above.ancestor_of (tree.data_at view.items view.node)).attributes
+
+abbrev pub ancestors_of : ElementView → List above.Ancestor
+ancestors_of view = above.ancestors_of view.items view.node
+
+abbrev pub tag_at : List tree.Item → Option ℕ → Option (List ℕ)
+tag_at items None = None
+tag_at items (Some node) = tree.tag_of (tree.data_at items node)
+
+-- the tag of the parent; the Document's is html
+abbrev pub parent_tag : ElementView → Option (List ℕ)
+parent_tag view = tag_at view.items (tree.parent_at view.items view.node)
+
+-- in Faithful, and with more attributes than these
+abbrev pub is_raw_html_due : ElementView → ℕ → Bool
+is_raw_html_due view allowed = not (is_pure view.options) && nat_lt allowed (length (attributes_of view))
+
+-- this, unless the element has attributes that Markdown has no form for
+abbrev pub unless_attributes : ElementView → PlanView → PlanView
+unless_attributes view plan = if is_raw_html_due view 0 then raw_html else plan
+
+abbrev pub plain_plan : ElementView → PlanView
+plain_plan view = unless_attributes view content_of_children
+
+-- the children's content in Pure, and where this holds
+abbrev pub plan_if : Bool → ElementView → PlanView
+plan_if holds view = if is_pure view.options || holds then content_of_children else raw_html
+
+abbrev pub pure_plan : ElementView → PlanView
+pure_plan view = plan_if false view
+
+abbrev pub is_tag_among : List (List ℕ) → Option (List ℕ) → Bool
+is_tag_among tags None = false
+is_tag_among tags (Some tag) = list_any (λ t. bytes_eq t tag) tags
+
+-- in Faithful only under a parent with one of these tags
+abbrev pub plan_under : List (List ℕ) → ElementView → PlanView
+plan_under tags view = plan_if (is_tag_among tags (parent_tag view)) view

@@ -1,0 +1,62 @@
+-- What a conversion goes by, and what it has written so far.
+use Rattle.std.specs.Prelude.{ℕ, Bool, true, false, List, [], ◌++◌}
+use Rattle.htmd_tree.specs.Items.{Item}
+use Rattle.htmd_tree.specs.NumberedTrees.{NumberedTree}
+use Rattle.htmd_tree.specs.Ancestors.{Ancestor}
+use Rattle.htmd.specs.declared.options.Options.{Options}
+use Rattle.htmd.specs.declared.options.TranslationMode.{TranslationMode}
+use Rattle.htmd.specs.declared.options.TranslationMode.TheVariants.{Pure, Faithful}
+use Rattle.htmd.specs.Handling.{ResultView}
+use Rattle.htmd.specs.Choice.{Config}
+
+abbrev pub is_pure_mode : TranslationMode → Bool
+is_pure_mode Pure = true
+is_pure_mode Faithful = false
+
+abbrev pub is_pure : Options → Bool
+is_pure options = is_pure_mode options.translation_mode
+
+-- what a conversion goes by: the tree as it was handed in, and what the registry means
+pub record Conversion : Type 0 where
+  pub items : List Item
+  pub config : Config
+
+abbrev pub conversion_of : Config → List Item → Conversion
+conversion_of config items = record { items = items; config = config }
+
+-- the text so far, whether all of it is Markdown, and the link definitions of the conversion so far
+pub record Output : Type 0 where
+  pub text : List ℕ
+  pub markdown_translated : Bool
+  pub definitions : List (List ℕ)
+
+-- nothing is written yet, of a text of its own
+abbrev pub empty_output : List (List ℕ) → Output
+empty_output definitions = record { text = []; markdown_translated = true; definitions = definitions }
+
+-- the output with another text
+abbrev pub replace_text : List ℕ → Output → Output
+replace_text s out = record {
+  text = s;
+  markdown_translated = out.markdown_translated;
+  definitions = out.definitions;
+}
+
+abbrev pub push_text : Output → List ℕ → Output
+push_text out s = replace_text (out.text ++ s) out
+
+abbrev pub result_of : Output → ResultView
+result_of out = record { content = out.text; markdown_translated = out.markdown_translated }
+
+-- where a node is written: under these ancestors, as preformatted text or not, with this trim flag
+pub record Context : Type 0 where
+  pub ancestors : List Ancestor
+  pub preformatted : Bool
+  pub trim : Bool
+
+abbrev pub context_of : List Ancestor → Bool → Bool → Context
+context_of ancestors preformatted trim = record { ancestors = ancestors; preformatted = preformatted; trim = trim }
+
+-- how a node is written behind what is written so far
+abbrev pub Writes : Type 0
+Writes = NumberedTree → Context → Output → Output

@@ -1,0 +1,53 @@
+-- The handlers of sections and paragraphs: p, blockquote, html, head, body, and the block elements that
+-- have no other handler.
+use Rattle.std.specs.Prelude.{ℕ, Bool, true, false, List, [], ◌∷◌, Option, Some, None, codes}
+use Rattle.htmd_text.specs.Trims.{trimmed_text, is_line_feed}
+use Rattle.htmd_text.specs.BlankLines.{with_blank_lines}
+use Rattle.htmd_markdown.specs.Quotes.{quote}
+use Rattle.htmd_tree.specs.Items.{Item, Data, document_node, doctype_node, text_node, comment_node, element_node}
+use Rattle.htmd_tree.specs.Items.{data_at, parent_at}
+use Rattle.htmd.specs.Handling.{ElementView, ResultView, PlanView, HandlerMeaning, of_plan}
+use Rattle.htmd.specs.ElementViews.{plain_plan, pure_plan, plan_under, plan_if}
+
+-- this text, as Markdown
+abbrev pub markdown_result : List ℕ → Option ResultView
+markdown_result s = Some (record { content = s; markdown_translated = true })
+
+-- the content without line feeds at its ends, with blank lines around
+abbrev pub wrapped_result : ElementView → ResultView → Option ResultView
+wrapped_result view content = markdown_result (with_blank_lines (trimmed_text is_line_feed content.content))
+
+abbrev pub paragraphs : HandlerMeaning
+paragraphs = of_plan plain_plan wrapped_result
+
+abbrev pub quote_result : ElementView → ResultView → Option ResultView
+quote_result view content = markdown_result (quote content.content)
+
+abbrev pub quotes : HandlerMeaning
+quotes = of_plan plain_plan quote_result
+
+-- head and body belong under html, whose tag the Document has too
+abbrev pub parts_of_page : HandlerMeaning
+parts_of_page = of_plan (plan_under (codes "html" ∷ [])) wrapped_result
+
+abbrev pub is_document : Data → Bool
+is_document document_node = true
+is_document doctype_node = false
+is_document (text_node s) = false
+is_document (comment_node s) = false
+is_document (element_node name attributes) = false
+
+abbrev pub is_document_at : List Item → Option ℕ → Bool
+is_document_at items None = false
+is_document_at items (Some node) = is_document (data_at items node)
+
+-- html belongs under the Document
+abbrev pub page_plan : ElementView → PlanView
+page_plan view = plan_if (is_document_at view.items (parent_at view.items view.node)) view
+
+abbrev pub pages : HandlerMeaning
+pages = of_plan page_plan wrapped_result
+
+-- in Faithful they are raw HTML
+abbrev pub other_blocks : HandlerMeaning
+other_blocks = of_plan pure_plan wrapped_result

@@ -1,0 +1,44 @@
+-- The handler of span.
+use Rattle.std.specs.Prelude.{ℕ, Bool, true, false, if◌then◌else◌, List, [], ◌∷◌, ◌++◌, Option, Some, None, codes}
+use Rattle.std.specs.Option.{is_some}
+use Rattle.std.specs.Str.{bytes_eq}
+use Rattle.htmd_text.specs.Trims.{trimmed_text, is_line_feed}
+use Rattle.htmd_tree.specs.ValueTrees.{AttributePair}
+use Rattle.htmd.specs.Handling.{ElementView, ResultView, PlanView, this_result, HandlerMeaning, of_plan}
+use Rattle.htmd.specs.OrdinaryText.{pre}
+use Rattle.htmd.specs.ElementViews.{attributes_of, ancestors_of, pure_plan}
+
+abbrev pub is_span : List ℕ → Bool
+is_span name = bytes_eq name (codes "span")
+
+-- what stands on both sides of a formula of this class
+abbrev pub mark_of_class : List ℕ → Option (List ℕ)
+mark_of_class class =
+    if bytes_eq class (codes "math math-inline") then Some (codes "$")
+    else (if bytes_eq class (codes "math math-display") then Some (codes "$$") else None)
+
+-- where the class is the only attribute
+abbrev pub formula_mark : List AttributePair → Option (List ℕ)
+formula_mark [] = None
+formula_mark (a ∷ []) = if bytes_eq a.name (codes "class") then mark_of_class a.value else None
+formula_mark (a ∷ b ∷ attributes) = None
+
+abbrev pub has_math_class : List AttributePair → Bool
+has_math_class attributes = is_some (formula_mark attributes)
+
+-- a formula is the text of the only child, unescaped, between its marks
+abbrev pub formula_plan : ElementView → Option (List ℕ) → Option (List ℕ) → PlanView
+formula_plan view None text = pure_plan view
+formula_plan view (Some mark) None = pure_plan view
+formula_plan view (Some mark) (Some text) =
+    this_result (record { content = (mark ++ text) ++ mark; markdown_translated = true })
+
+-- else the content, without line feeds at its ends unless it is preformatted
+abbrev pub span_result : ElementView → ResultView → Option ResultView
+span_result view content = Some (record {
+  content = if pre (ancestors_of view) then content.content else trimmed_text is_line_feed content.content;
+  markdown_translated = content.markdown_translated;
+})
+
+abbrev pub spans : HandlerMeaning
+spans = of_plan (λ view. formula_plan view (formula_mark (attributes_of view)) view.text) span_result

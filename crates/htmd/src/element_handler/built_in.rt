@@ -1,0 +1,100 @@
+//! The built-in handlers, and the tags that they are registered for.
+
+ghost use Rattle.std.specs.Prelude.{◌≡◌, ◌++◌, IfOk, OnErr};
+ghost use Rattle.htmd.specs.Handling.{IsProper};
+ghost use Rattle.htmd.specs.Beginnings.{Begins};
+ghost use Rattle.htmd.specs.Elements.{finish_answer};
+ghost use Rattle.htmd.specs.BuiltIn.{meaning_of};
+ghost use Rattle.htmd.specs.Views.{result_view, optional_result, results_view, answer_view, element_view};
+ghost use Rattle.htmd.specs.Walking.{request_view};
+
+use super::registry::{Contents, Request};
+use super::{
+    Element, HandlerResult, Links, Plan, br, emphasis, headings, hr, page, plans, quote, span,
+};
+use htmd_markdown::Emphasis;
+use std::alloc::{AllocError, Global};
+
+/// A built-in handler.
+#[derive(Clone, Copy)]
+pub(crate) enum BuiltIn {
+    BlockQuote,
+    Strong,
+    Emphasis,
+    Heading,
+    LineBreak,
+    ThematicBreak,
+    Paragraph,
+    HeadOrBody,
+    Html,
+    Span,
+    OtherBlock,
+}
+
+impl BuiltIn {
+    /// What the handler asks for.
+    pub(crate) fn plan(self, alloc: Global, element: &Element) -> Result<Request, AllocError>
+        ensures plan { IfOk result (λ p. request_view p ≡ (meaning_of self).plan (element_view element.now)) }
+        ensures proper { IfOk result (λ p. IsProper element.now.tree.now element.now.node (request_view p)) }
+    {
+        match self {
+            BuiltIn::BlockQuote => Ok(Request::OfPlan(plans::plain_plan(element))),
+            BuiltIn::Strong => Ok(Request::OfPlan(plans::plain_plan(element))),
+            BuiltIn::Emphasis => Ok(Request::OfPlan(plans::plain_plan(element))),
+            BuiltIn::Heading => Ok(Request::OfPlan(plans::plain_plan(element))),
+            BuiltIn::LineBreak => Ok(Request::OfPlan(br::plan(alloc, element)?)),
+            BuiltIn::ThematicBreak => Ok(Request::OfPlan(hr::plan(alloc, element)?)),
+            BuiltIn::Paragraph => Ok(Request::OfPlan(plans::plain_plan(element))),
+            BuiltIn::HeadOrBody => Ok(Request::OfPlan(page::plan_of_part(element))),
+            BuiltIn::Html => Ok(Request::OfPlan(page::plan(element))),
+            BuiltIn::Span => Ok(Request::OfPlan(span::plan(alloc, element)?)),
+            BuiltIn::OtherBlock => Ok(Request::OfPlan(plans::pure_plan(element))),
+        }
+    }
+
+    /// What it makes of the content that it asked for.
+    pub(crate) fn finish(
+        self,
+        alloc: Global,
+        element: &Element,
+        content: HandlerResult,
+        _links: &mut Links,
+    ) -> Result<Option<HandlerResult>, AllocError>
+        ensures ok { IfOk result (λ r. answer_view r _links.new ≡ finish_answer
+            ((meaning_of self).finish (element_view element.now) (result_view content) _links.old) _links.old) }
+        ensures err { OnErr result (Begins _links.old _links.new
+            (_links.old ++ ((meaning_of self).finish (element_view element.now) (result_view content) _links.old).added)) }
+    {
+        match self {
+            BuiltIn::BlockQuote => quote::finish(alloc, element, content),
+            BuiltIn::Strong => emphasis::finish(alloc, Emphasis::Strong, element, content),
+            BuiltIn::Emphasis => emphasis::finish(alloc, Emphasis::Regular, element, content),
+            BuiltIn::Heading => headings::finish(alloc, element, content),
+            BuiltIn::LineBreak => Ok(None),
+            BuiltIn::ThematicBreak => Ok(None),
+            BuiltIn::Paragraph => plans::wrap(alloc, element, content),
+            BuiltIn::HeadOrBody => plans::wrap(alloc, element, content),
+            BuiltIn::Html => plans::wrap(alloc, element, content),
+            BuiltIn::Span => span::finish(alloc, element, content),
+            BuiltIn::OtherBlock => plans::wrap(alloc, element, content),
+        }
+    }
+
+    /// What it makes of the contents that it asked for.
+    pub(crate) fn finish_each(
+        self,
+        _alloc: Global,
+        _element: &Element,
+        _contents: Contents,
+        _links: &mut Links,
+    ) -> Result<Option<HandlerResult>, AllocError>
+        ensures ok { IfOk result (λ r. answer_view r _links.new ≡ finish_answer
+            ((meaning_of self).finish_each (element_view _element.now) (results_view _contents.results.items)
+            (optional_result _contents.children) _links.old) _links.old) }
+        ensures err { OnErr result (Begins _links.old _links.new (_links.old
+            ++ ((meaning_of self).finish_each (element_view _element.now) (results_view _contents.results.items)
+            (optional_result _contents.children) _links.old).added)) }
+    {
+        Ok(None)
+    }
+}

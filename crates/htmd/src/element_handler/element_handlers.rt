@@ -1,0 +1,345 @@
+//! The registry of handlers.
+
+ghost use Rattle.std.specs.Prelude.{◌≡◌, ◌+◌, ◌^◌, ◌<◌, IfOk, IfSome, IfErr, OnOk, OnErr, All, map, length, slice_get, [], ◌++◌, string_bytes, IsTrue};
+ghost use Rattle.htmd.specs.Choice.{tags_at, with_handler};
+ghost use Rattle.htmd.specs.Handling.{of_functions, IsProper};
+ghost use Rattle.htmd.specs.Views.{plan_view, element_view, result_view, optional_result, optional_text};
+ghost use Rattle.htmd.specs.TagIndexes.{tag_index};
+ghost use Rattle.htmd.specs.Markdown.{append_text};
+ghost use Rattle.htmd.specs.HandlerMeanings.{handler_meaning};
+ghost use Rattle.htmd.specs.Spans.{spans};
+
+use super::blocks::TAGS;
+use super::built_in::BuiltIn;
+use super::plans::is_pure;
+use super::registry::{Contents, Registry, Request};
+use super::span::formula_mark;
+use super::{Element, ElementHandler, HandlerResult, Links, Plan};
+use crate::options::Options;
+use htmd_tree::{NodeData, NodeId, Tree};
+use std::alloc::{AllocError, Global};
+
+/// A handler, as it is registered.
+#[derive(Drop)]
+pub(crate) enum Handler {
+    BuiltIn(BuiltIn),
+    Skipping,
+    Custom(Box<dyn ElementHandler>),
+}
+
+/// A tag, and the index of a handler that is registered for it.
+#[derive(Drop)]
+pub(crate) struct Registration {
+    pub(crate) tag: String,
+    pub(crate) index: usize,
+}
+
+/// The handlers in order of registration. A tag's handlers are asked from the newest on.
+#[derive(Drop)]
+pub struct ElementHandlers {
+    pub(crate) handlers: Vec<Handler>,
+    pub(crate) registered: Vec<Registration>,
+    pub(crate) options: Options,
+    alloc: Global,
+    ghost within: { All (λ r. r.index < length handlers.items) registered.items },
+}
+
+/// The request for memory was refused. The registry is as it was, and this is the handler.
+#[derive(Drop)]
+pub struct HandlerRefused {
+    pub handler: Box<dyn ElementHandler>,
+}
+
+/// A registration for each tag, of the handler at an index.
+fn registrations(
+    alloc: Global,
+    tags: &[&str],
+    index: usize,
+) -> Result<Vec<Registration>, AllocError>
+    ensures tags { IfOk result (λ v. map tag_index v.items ≡ tags_at index (map (λ t. t.now) tags.now)) }
+    ensures indexes { IfOk result (λ v. All (λ r. r.index ≡ index) v.items) }
+{
+    let mut fresh = Vec::with_capacity(alloc, tags.len())?;
+    for tag in tags {
+        let tag = String::from_str(alloc, *tag)?;
+        fresh.push(Registration { tag, index })?;
+    }
+    Ok(fresh)
+}
+
+/// What a handler of one's own asks for.
+fn plan_of_custom(
+    handler: &Box<dyn ElementHandler>,
+    alloc: Global,
+    element: &Element,
+) -> Result<Plan, AllocError>
+    ensures plan { IfOk result (λ p. plan_view p ≡ plan_of handler.now (element_view element.now)) }
+    ensures proper { IfOk result (λ p. IsProper element.now.tree.now element.now.node (plan_view p)) }
+{
+    handler.plan(alloc, element)
+}
+
+/// What a handler of one's own makes of the content that it asked for.
+fn finish_of_custom(
+    handler: &Box<dyn ElementHandler>,
+    alloc: Global,
+    element: &Element,
+    content: HandlerResult,
+) -> Result<Option<HandlerResult>, AllocError>
+    ensures { IfOk result
+        (λ r. optional_result r ≡ finish_of handler.now (element_view element.now) (result_view content)) }
+{
+    handler.finish(alloc, element, content)
+}
+
+/// What a handler of one's own puts after a conversion.
+fn append_of_custom(
+    handler: &Box<dyn ElementHandler>,
+    alloc: Global,
+) -> Result<Option<String>, AllocError>
+    ensures { IfOk result (λ r. optional_text r ≡ append_of handler.now) }
+{
+    handler.append(alloc)
+}
+
+/// Whether it is the built-in handler of `span`.
+fn is_span_handler(handler: &Handler) -> bool
+    ensures { let meaning = handler_meaning (λ b. of_functions (plan_of b) (finish_of b) (append_of b)) handler.now in
+        IsTrue result → meaning ≡ spans }
+{
+    match handler {
+        Handler::BuiltIn(handler) => matches!(handler, BuiltIn::Span),
+        _ => false,
+    }
+}
+
+/// Puts what a handler puts after a conversion behind a text.
+fn push_appended(
+    handler: &Handler,
+    alloc: Global,
+    _links: &Links,
+    out: &mut String,
+) -> Result<(), AllocError>
+    ensures { let meaning = handler_meaning (λ b. of_functions (plan_of b) (finish_of b) (append_of b)) handler.now in
+        OnOk result (string_bytes out.new ≡ string_bytes out.old ++ append_text (meaning.append _links.now)) }
+{
+    let Handler::Custom(handler) = handler else {
+        return Ok(());
+    };
+    if let Some(text) = append_of_custom(handler, alloc)? {
+        out.push_str(text.as_str())?;
+    }
+    Ok(())
+}
+
+impl ElementHandlers {
+    ghost use Rattle.htmd.specs.Choice.{indexes, no_handler};
+    ghost use Rattle.htmd.specs.BuiltIn.{built_in, empty_config, meaning_of};
+
+    /// The built-in handlers.
+    pub fn new(alloc: Global, options: Options) -> Result<ElementHandlers, AllocError>
+        ensures { let config = ⟦<ElementHandlers as Registry>⟧.config in
+            IfOk result (λ handlers. config handlers ≡ built_in options) }
+    {
+        let mut handlers = ElementHandlers {
+            handlers: Vec::new(alloc),
+            registered: Vec::new(alloc),
+            options,
+            alloc,
+        };
+        handlers.add_built_in(["blockquote"].as_slice(), BuiltIn::BlockQuote)?;
+        handlers.add_built_in(["strong", "b"].as_slice(), BuiltIn::Strong)?;
+        handlers.add_built_in(["i", "em"].as_slice(), BuiltIn::Emphasis)?;
+        handlers.add_built_in(
+            ["h1", "h2", "h3", "h4", "h5", "h6"].as_slice(),
+            BuiltIn::Heading,
+        )?;
+        handlers.add_built_in(["br"].as_slice(), BuiltIn::LineBreak)?;
+        handlers.add_built_in(["hr"].as_slice(), BuiltIn::ThematicBreak)?;
+        handlers.add_built_in(["p"].as_slice(), BuiltIn::Paragraph)?;
+        handlers.add_built_in(["head", "body"].as_slice(), BuiltIn::HeadOrBody)?;
+        handlers.add_built_in(["html"].as_slice(), BuiltIn::Html)?;
+        handlers.add_built_in(["span"].as_slice(), BuiltIn::Span)?;
+        handlers.add_built_in(TAGS.as_slice(), BuiltIn::OtherBlock)?;
+        Ok(handlers)
+    }
+
+    /// Asks a built-in handler first for these tags from now on.
+    fn add_built_in(&mut self, tags: &[&str], handler: BuiltIn) -> Result<(), AllocError>
+        ensures ok { let config = ⟦<ElementHandlers as Registry>⟧.config in
+            OnOk result (config self.new ≡ with_handler (config self.old) (map (λ t. t.now) tags.now) (meaning_of handler)) }
+        ensures err { let config = ⟦<ElementHandlers as Registry>⟧.config in
+            OnErr result (config self.new ≡ config self.old) }
+    {
+        let mut fresh = registrations(self.alloc, tags, self.handlers.len())?;
+        self.handlers.reserve(1)?;
+        self.registered.append(&mut fresh)?;
+        self.handlers.push(Handler::BuiltIn(handler))?;
+        Ok(())
+    }
+
+    /// Passes over the elements of these tags from now on. It refuses for want of memory alone.
+    pub(crate) fn skip_tags(&mut self, tags: &[&str]) -> Result<(), AllocError>
+        ensures ok { let config = ⟦<ElementHandlers as Registry>⟧.config in
+            OnOk result (config self.new ≡ with_handler (config self.old) (map (λ t. t.now) tags.now) no_handler) }
+        ensures err { let config = ⟦<ElementHandlers as Registry>⟧.config in
+            OnErr result (config self.new ≡ config self.old) }
+    {
+        let mut fresh = registrations(self.alloc, tags, self.handlers.len())?;
+        self.handlers.reserve(1)?;
+        self.registered.append(&mut fresh)?;
+        self.handlers.push(Handler::Skipping)?;
+        Ok(())
+    }
+
+    /// Asks a handler first for these tags from now on; a tag that is named twice is registered twice.
+    /// It refuses for want of memory alone, and hands the handler back.
+    pub fn add_handler(
+        &mut self,
+        tags: &[&str],
+        handler: Box<dyn ElementHandler>,
+    ) -> Result<(), HandlerRefused>
+        requires tags { 0 < length tags.now }
+        ensures ok { let config = ⟦<ElementHandlers as Registry>⟧.config in
+            OnOk result (config self.new ≡ with_handler (config self.old) (map (λ t. t.now) tags.now)
+            (of_functions (plan_of handler) (finish_of handler) (append_of handler))) }
+        ensures handler { IfErr result (λ refused. refused.handler ≡ handler) }
+        ensures err { let config = ⟦<ElementHandlers as Registry>⟧.config in
+            OnErr result (config self.new ≡ config self.old) }
+    {
+        let Ok(mut fresh) = registrations(self.alloc, tags, self.handlers.len()) else {
+            return Err(HandlerRefused { handler });
+        };
+        if self.handlers.reserve(1).is_err() {
+            return Err(HandlerRefused { handler });
+        }
+        if self.registered.append(&mut fresh).is_err() {
+            return Err(HandlerRefused { handler });
+        }
+        match self.handlers.push(Handler::Custom(handler)) {
+            Ok(()) => Ok(()),
+            Err(_) => unreachable!(),
+        }
+    }
+
+    /// The index, in order of registration from 0, of the handler that is asked for a tag after so
+    /// many newer ones.
+    pub fn find_handler(&self, tag: &str, skipped: usize) -> Option<usize>
+        ensures { let config = ⟦<ElementHandlers as Registry>⟧.config self.now in
+            result ≡ slice_get (indexes tag.now config.registered) skipped }
+    {
+        self.find(tag, skipped)
+    }
+}
+
+impl ElementHandlers {
+    ghost use Rattle.htmd.specs.Choice.{with_options};
+
+    /// The same handlers with other options.
+    pub(crate) fn set_options(&mut self, options: Options)
+        ensures { let config = ⟦<ElementHandlers as Registry>⟧.config in
+            config self.new ≡ with_options (config self.old) options }
+    {
+        self.options = options;
+    }
+}
+
+impl Registry for ElementHandlers {
+    ghost use Rattle.htmd.specs.Registries.{config_of};
+
+    ghost config = { config_of (λ b. of_functions ((ElementHandler-box b).plan_of b.value)
+        ((ElementHandler-box b).finish_of b.value) ((ElementHandler-box b).append_of b.value)) };
+
+    ghost ready = { λ _. Unit {0} };
+
+    fn options(&self) -> &Options {
+        &self.options
+    }
+
+    fn find(&self, tag: &str, skipped: usize) -> Option<usize> {
+        let mut left = skipped;
+        let mut i = self.registered.len();
+        while i > 0 {
+            i -= 1;
+            let registration = &self.registered[i];
+            if registration.tag.as_str() == tag {
+                if left == 0 {
+                    return Some(registration.index);
+                }
+                left -= 1;
+            }
+        }
+        None
+    }
+
+    fn goes_past(&self, tree: &Tree, node: NodeId) -> bool {
+        let NodeData::Element { name, attrs } = tree.data(node) else {
+            return false;
+        };
+        if !is_pure(&self.options) {
+            return false;
+        }
+        let tag = name.as_str();
+        let Some(index) = self.find(tag, 0) else {
+            return tag != "span";
+        };
+        if tag != "span" {
+            return false;
+        }
+        if self.find(tag, 1).is_some() {
+            return false;
+        }
+        if !is_span_handler(&self.handlers[index]) {
+            return false;
+        }
+        formula_mark(attrs.as_slice()).is_none()
+    }
+
+    fn plan(&self, alloc: Global, index: usize, element: &Element) -> Result<Request, AllocError> {
+        match &self.handlers[index] {
+            Handler::BuiltIn(handler) => handler.plan(alloc, element),
+            Handler::Skipping => Ok(Request::OfPlan(Plan::Skip)),
+            Handler::Custom(handler) => {
+                Ok(Request::OfPlan(plan_of_custom(handler, alloc, element)?))
+            }
+        }
+    }
+
+    fn finish(
+        &self,
+        alloc: Global,
+        index: usize,
+        element: &Element,
+        content: HandlerResult,
+        links: &mut Links,
+    ) -> Result<Option<HandlerResult>, AllocError> {
+        match &self.handlers[index] {
+            Handler::BuiltIn(handler) => handler.finish(alloc, element, content, links),
+            Handler::Skipping => Ok(None),
+            Handler::Custom(handler) => finish_of_custom(handler, alloc, element, content),
+        }
+    }
+
+    fn finish_each(
+        &self,
+        alloc: Global,
+        index: usize,
+        element: &Element,
+        contents: Contents,
+        links: &mut Links,
+    ) -> Result<Option<HandlerResult>, AllocError> {
+        match &self.handlers[index] {
+            Handler::BuiltIn(handler) => handler.finish_each(alloc, element, contents, links),
+            Handler::Skipping => Ok(None),
+            Handler::Custom(_) => Ok(None),
+        }
+    }
+
+    fn append(&self, alloc: Global, links: &Links) -> Result<String, AllocError> {
+        let mut all = String::new(alloc);
+        for handler in &self.handlers {
+            push_appended(handler, alloc, links, &mut all)?;
+        }
+        Ok(all)
+    }
+}

@@ -1,0 +1,21 @@
+//! The handler of `hr`.
+
+ghost use Rattle.std.specs.Prelude.{◌≡◌, IfOk};
+ghost use Rattle.htmd.specs.Inline.{thematic_breaks};
+ghost use Rattle.htmd.specs.Views.{plan_view, element_view};
+
+use super::plans::is_plain;
+use super::{Element, HandlerResult, Plan};
+use htmd_markdown::write_thematic_break;
+use std::alloc::{AllocError, Global};
+
+/// A thematic break, unless the element has attributes that Markdown has no form for.
+pub(crate) fn plan(alloc: Global, element: &Element) -> Result<Plan, AllocError>
+    ensures { IfOk result (λ p. plan_view p ≡ thematic_breaks.plan (element_view element.now)) }
+{
+    if !is_plain(element) {
+        return Ok(Plan::RawHtml);
+    }
+    let text = write_thematic_break(alloc, element.options.hr_style)?;
+    Ok(Plan::Text(HandlerResult::from_string(text)))
+}

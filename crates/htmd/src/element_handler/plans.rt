@@ -1,0 +1,84 @@
+//! The plans that many handlers have, and a content with blank lines around.
+
+ghost use Rattle.std.specs.Prelude.{◌≡◌, ◌||◌, not, IfOk, map};
+ghost use Rattle.std.specs.Option.{option_copied};
+ghost use Rattle.htmd.specs.ElementViews as spec;
+ghost use Rattle.htmd.specs.Outputs.{is_pure};
+ghost use Rattle.htmd.specs.Sections.{wrapped_result};
+ghost use Rattle.htmd.specs.Views.{plan_view, element_view, result_view, optional_result};
+
+use super::{Element, HandlerResult, Plan};
+use crate::options::{Options, TranslationMode};
+use htmd_text::{surround_with_blank_lines, trim_newlines};
+use std::alloc::{AllocError, Global};
+
+/// Whether Markdown alone is written.
+pub(crate) fn is_pure(options: &Options) -> bool
+    ensures { result ≡ is_pure options.now }
+{
+    match options.translation_mode {
+        TranslationMode::Pure => true,
+        TranslationMode::Faithful => false,
+    }
+}
+
+/// Whether the element is written as Markdown, as far as its attributes decide.
+pub(crate) fn is_plain(element: &Element) -> bool
+    ensures { result ≡ not (spec.is_raw_html_due (element_view element.now) 0) }
+{
+    is_pure(element.options) || element.attrs.is_empty()
+}
+
+/// The children's content, unless the element has attributes that Markdown has no form for.
+pub(crate) fn plain_plan(element: &Element) -> Plan
+    ensures { plan_view result ≡ spec.plain_plan (element_view element.now) }
+{
+    if is_plain(element) {
+        Plan::Children
+    } else {
+        Plan::RawHtml
+    }
+}
+
+/// The children's content in Pure, and where this holds.
+pub(crate) fn plan_if(holds: bool, element: &Element) -> Plan
+    ensures { plan_view result ≡ spec.plan_if holds (element_view element.now) }
+{
+    if is_pure(element.options) || holds {
+        Plan::Children
+    } else {
+        Plan::RawHtml
+    }
+}
+
+/// The children's content in Pure alone.
+pub(crate) fn pure_plan(element: &Element) -> Plan
+    ensures { plan_view result ≡ spec.pure_plan (element_view element.now) }
+{
+    plan_if(false, element)
+}
+
+/// The tag of the parent.
+pub(crate) fn parent_tag<'e>(element: &'e Element) -> Option<&'e str>
+    ensures { option_copied result ≡ spec.parent_tag (element_view element.now) }
+{
+    match element.tree.parent(element.node) {
+        Some(parent) => element.tree.tag_name(parent),
+        None => None,
+    }
+}
+
+/// The content without line feeds at its ends, with blank lines around.
+pub(crate) fn wrap(
+    _alloc: Global,
+    _element: &Element,
+    content: HandlerResult,
+) -> Result<Option<HandlerResult>, AllocError>
+    ensures { IfOk result
+        (λ r. optional_result r ≡ wrapped_result (element_view _element.now) (result_view content)) }
+{
+    let mut text = content.content;
+    trim_newlines(&mut text);
+    surround_with_blank_lines(&mut text)?;
+    Ok(Some(HandlerResult::from_string(text)))
+}
