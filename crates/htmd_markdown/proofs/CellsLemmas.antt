@@ -1,5 +1,6 @@
 -- What a normalised cell holds.
-use Rattle.std.proofs.Common.{◌≡◌, ℕ, suc, ◌+◌, ◌<◌, ◌≤◌, Bool, true, false, List, [], ◌∷◌, ◌++◌, length, get_or, drop, append_assoc, refl, sym, ap, ◌∙◌, subst, arith, ⊎_elim, codes}
+use Rattle.std.proofs.Common.{◌≡◌, ℕ, suc, ◌+◌, ◌<◌, ◌≤◌, Bool, true, false, List, [], ◌∷◌, ◌++◌, length, get_or, drop}
+use Rattle.std.proofs.Common.{append_assoc, refl, sym, ap, ◌∙◌, subst, arith, ⊎_elim, codes}
 use Rattle.std.specs.Prelude.{reverse, not, ◌&&◌, ◌==◌, nat_lt}
 use Rattle.std.specs.List.{between, flat_map, list_all}
 use Rattle.std.specs.Str.{IsCharBoundary, IsUtf8, all_scalars, encode_utf8_all}
@@ -12,7 +13,8 @@ use Rattle.std.proofs.lemmas.List.Edits.{between_more, between_none}
 use Rattle.std.proofs.lemmas.Slice.{between_to_end}
 use Rattle.std.proofs.lemmas.List.Folds.{list_all-append}
 use Rattle.std.proofs.lemmas.List.Concat.{flat_map-append}
-use Rattle.std.proofs.lemmas.Str.{IsUtf8-nil, IsUtf8-append, IsUtf8-take, IsUtf8-drop, encode_ascii, inside_one, IsCharBoundary-start, IsCharBoundary-after_ascii}
+use Rattle.std.proofs.lemmas.Str.{IsUtf8-nil, IsUtf8-append, IsUtf8-take, IsUtf8-drop, encode_ascii, inside_one}
+use Rattle.std.proofs.lemmas.Str.{IsCharBoundary-start, IsCharBoundary-after_ascii}
 use Rattle.htmd_text.specs.Characters.{line_feed, carriage_return, space, vertical_bar}
 use Rattle.htmd_text.specs.Trims.{trimmed_text, trimmed_start}
 use Rattle.htmd_text.specs.WhiteSpace.{is_document_white_space}
@@ -25,8 +27,10 @@ same_byte : (b c : ℕ) → (b == c) ≡ true → b ≡ c
 same_byte b c e = grind (arith, nat_tests)
 
 -- what stands for a byte, case by case
-pub by_cases : (P : List ℕ → Type 0) (b : ℕ) → (b ≡ line_feed → P (space ∷ [])) → (b ≡ carriage_return → P []) → (b ≡ vertical_bar → P (codes "&#124;"))
-    → ((b == line_feed) ≡ false → (b == carriage_return) ≡ false → (b == vertical_bar) ≡ false → P (b ∷ [])) → P (in_cell b)
+pub by_cases : (P : List ℕ → Type 0) (b : ℕ) → (b ≡ line_feed → P (space ∷ [])) → (b ≡ carriage_return → P [])
+    → (b ≡ vertical_bar → P (codes "&#124;"))
+    → ((b == line_feed) ≡ false → (b == carriage_return) ≡ false → (b == vertical_bar) ≡ false → P (b ∷ []))
+        → P (in_cell b)
 by_cases P b at_line_feed at_return at_bar else_case =
     ⊎_elim
     (λ (yes : (b == line_feed) ≡ true). rw yes (at_line_feed (same_byte b line_feed yes)))
@@ -49,7 +53,8 @@ white_stays b white =
     (λ is. absurd (false≢true (sym (ap is_document_white_space is) ∙ white)))
     (λ f r v. ap (λ first. first && true) white)
 
-white_in_cells : (s : List ℕ) → list_all is_document_white_space s ≡ true → list_all is_document_white_space (flat_map in_cell s) ≡ true
+white_in_cells : (s : List ℕ) → list_all is_document_white_space s ≡ true
+    → list_all is_document_white_space (flat_map in_cell s) ≡ true
 white_in_cells [] all = refl
 white_in_cells (b ∷ s) all =
     let parts = and_parts (is_document_white_space b) (list_all is_document_white_space s) all in
@@ -66,7 +71,8 @@ fails_on : (passes : ℕ → Bool) (s t : List ℕ) → Fails passes s → Begin
 fails_on passes [] t fails = absurd fails
 fails_on passes (b ∷ s) t fails = fails
 
-begins_in : (f : ℕ → List ℕ) (passes : ℕ → Bool) → ((b : ℕ) → passes b ≡ false → Fails passes (f b)) → (s : List ℕ) → Begins passes s → Begins passes (flat_map f s)
+begins_in : (f : ℕ → List ℕ) (passes : ℕ → Bool) → ((b : ℕ) → passes b ≡ false → Fails passes (f b)) → (s : List ℕ)
+    → Begins passes s → Begins passes (flat_map f s)
 begins_in f passes fails [] begins = tt
 begins_in f passes fails (b ∷ s) begins = fails_on passes (f b) (flat_map f s) (fails b begins)
 
@@ -96,19 +102,22 @@ reverse-flat_map f (b ∷ s) =
     ∙ ap (flat_map (λ c. reverse (f c))) (sym (reverse-append (b ∷ []) s))
 
 -- a cell may as well be trimmed first
-pub normalised_is : (cell : List ℕ) → normalised_cell cell ≡ flat_map in_cell (trimmed_text is_document_white_space cell)
+pub normalised_is : (cell : List ℕ)
+    → normalised_cell cell ≡ flat_map in_cell (trimmed_text is_document_white_space cell)
 normalised_is cell =
     let here = trimmed_between is_document_white_space cell in
     let middle = trimmed_text is_document_white_space cell in
     trimmed_is is_document_white_space (flat_map in_cell cell) (flat_map in_cell middle) (record {
       before = flat_map in_cell here.before;
       after = flat_map in_cell here.after;
-      whole = ap (flat_map in_cell) here.whole ∙ flat_map-append in_cell here.before (middle ++ here.after) ∙ ap (λ l. flat_map in_cell here.before ++ l) (flat_map-append in_cell middle here.after);
+      whole = ap (flat_map in_cell) here.whole ∙ flat_map-append in_cell here.before (middle ++ here.after)
+          ∙ ap (λ l. flat_map in_cell here.before ++ l) (flat_map-append in_cell middle here.after);
       cut = white_in_cells here.before here.cut;
       cut_behind = white_in_cells here.after here.cut_behind;
       bare = record {
         front = begins_in in_cell is_document_white_space bare_first middle here.bare.front;
-        back = subst (λ (l : List ℕ). Begins is_document_white_space l) (sym (reverse-flat_map in_cell middle)) (begins_in (λ b. reverse (in_cell b)) is_document_white_space bare_last (reverse middle) here.bare.back);
+        back = subst (λ (l : List ℕ). Begins is_document_white_space l) (sym (reverse-flat_map in_cell middle))
+            (begins_in (λ b. reverse (in_cell b)) is_document_white_space bare_last (reverse middle) here.bare.back);
       };
     })
 
@@ -118,7 +127,8 @@ normalised_is cell =
 abbrev pub lacks : ℕ → List ℕ → Bool
 lacks c s = list_all (λ b. not (b == c)) s
 
-all_in_cells : (passes : ℕ → Bool) → ((b : ℕ) → list_all passes (in_cell b) ≡ true) → (s : List ℕ) → list_all passes (flat_map in_cell s) ≡ true
+all_in_cells : (passes : ℕ → Bool) → ((b : ℕ) → list_all passes (in_cell b) ≡ true) → (s : List ℕ)
+    → list_all passes (flat_map in_cell s) ≡ true
 all_in_cells passes each [] = refl
 all_in_cells passes each (b ∷ s) =
     list_all-append passes (in_cell b) (flat_map in_cell s)
@@ -135,7 +145,8 @@ no_line_feed b = by_cases (λ l. lacks line_feed l ≡ true) b (λ is. refl) (λ
 
 high_stays : (b : ℕ) → 128 ≤ b → in_cell b ≡ b ∷ []
 high_stays b high =
-    by_cases (λ l. l ≡ b ∷ []) b (λ is. absurd (omega arith)) (λ is. absurd (omega arith)) (λ is. absurd (omega arith)) (λ f r v. refl)
+    by_cases (λ l. l ≡ b ∷ []) b (λ is. absurd (omega arith)) (λ is. absurd (omega arith)) (λ is. absurd (omega arith))
+        (λ f r v. refl)
 
 high_in_cells : (s : List ℕ) → ((k : ℕ) → k < length s → 128 ≤ get_or s k 0) → flat_map in_cell s ≡ s
 high_in_cells [] high = refl
@@ -171,7 +182,8 @@ character_in_cells c good =
     (λ (no : nat_lt c 128 ≡ false).
     let high : 128 ≤ c = grind (arith, nat_tests) in
     let whole : encode_utf8 c ≡ encode_utf8 c ++ [] = sym (append-nil (encode_utf8 c)) in
-    let same = high_in_cells (encode_utf8 c) (λ k lt. high_byte (get_or (encode_utf8 c) k 0) c high (inside_one c [] (encode_utf8 c) k whole lt)) in
+    let same = high_in_cells (encode_utf8 c) (λ k lt. high_byte (get_or (encode_utf8 c) k 0) c high
+        (inside_one c [] (encode_utf8 c) k whole lt)) in
     subst (λ (l : List ℕ). IsUtf8 l) (sym same) (c ∷ [], (ap (λ t. t && true) good, append-nil (encode_utf8 c))))
     (cases_Bool (nat_lt c 128))
 
@@ -180,7 +192,8 @@ characters_in_cells [] good = IsUtf8-nil
 characters_in_cells (c ∷ cs) good =
     let parts = and_parts (scalar c) (all_scalars cs) good in
     subst (λ (l : List ℕ). IsUtf8 l) (sym (flat_map-append in_cell (encode_utf8 c) (encode_utf8_all cs)))
-    (IsUtf8-append (flat_map in_cell (encode_utf8 c)) (flat_map in_cell (encode_utf8_all cs)) (character_in_cells c parts.0) (characters_in_cells cs parts.1))
+    (IsUtf8-append (flat_map in_cell (encode_utf8 c)) (flat_map in_cell (encode_utf8_all cs))
+        (character_in_cells c parts.0) (characters_in_cells cs parts.1))
 
 text_in_cells : (s : List ℕ) → IsUtf8 s → IsUtf8 (flat_map in_cell s)
 text_in_cells s (cs, (good, e)) = subst (λ (l : List ℕ). IsUtf8 (flat_map in_cell l)) e (characters_in_cells cs good)
@@ -188,7 +201,8 @@ text_in_cells s (cs, (good, e)) = subst (λ (l : List ℕ). IsUtf8 (flat_map in_
 trimmed_is_text : (s : List ℕ) → IsUtf8 s → IsUtf8 (trimmed_text is_document_white_space s)
 trimmed_is_text s text =
     let rest = trimmed_start is_document_white_space s in
-    IsUtf8-take rest _ (IsUtf8-drop s _ text (start_boundary is_document_white_space s text document_of_ascii)) (end_boundary is_document_white_space rest document_of_ascii)
+    IsUtf8-take rest _ (IsUtf8-drop s _ text (start_boundary is_document_white_space s text document_of_ascii))
+        (end_boundary is_document_white_space rest document_of_ascii)
 
 -- a cell as it is written: a text with neither bars nor line feeds nor white space at its ends
 pub record IsCell (cell : List ℕ) : Type 0 where
@@ -201,8 +215,10 @@ pub normalised_is_cell : (cell : List ℕ) → IsUtf8 cell → IsCell (normalise
 normalised_is_cell cell text = record {
   text = trimmed_is_text (flat_map in_cell cell) (text_in_cells cell text);
   bare = (trimmed_between is_document_white_space (flat_map in_cell cell)).bare;
-  bars = ap (lacks vertical_bar) (normalised_is cell) ∙ all_in_cells (λ b. not (b == vertical_bar)) no_bar (trimmed_text is_document_white_space cell);
-  line_feeds = ap (lacks line_feed) (normalised_is cell) ∙ all_in_cells (λ b. not (b == line_feed)) no_line_feed (trimmed_text is_document_white_space cell);
+  bars = ap (lacks vertical_bar) (normalised_is cell) ∙ all_in_cells (λ b. not (b == vertical_bar)) no_bar
+      (trimmed_text is_document_white_space cell);
+  line_feeds = ap (lacks line_feed) (normalised_is cell) ∙ all_in_cells (λ b. not (b == line_feed)) no_line_feed
+      (trimmed_text is_document_white_space cell);
 }
 
 -- ---- a cell, byte by byte
@@ -220,31 +236,42 @@ normalising_none cell old text = record {
   whole = refl;
 }
 
-pub normalising_stays : (cell old out : List ℕ) (from i : ℕ) → i < length cell → in_cell (get_or cell i 0) ≡ get_or cell i 0 ∷ [] → Normalising cell old out from i → Normalising cell old out from (i + 1)
+pub normalising_stays : (cell old out : List ℕ) (from i : ℕ) → i < length cell
+    → in_cell (get_or cell i 0) ≡ get_or cell i 0 ∷ [] → Normalising cell old out from i
+    → Normalising cell old out from (i + 1)
 normalising_stays cell old out from i lt stays was = record {
   in_order = omega (arith, was.in_order);
   cut = was.cut;
   whole =
       let b = get_or cell i 0 in
       let rest = flat_map in_cell (drop (i + 1) cell) in
-      let first : flat_map in_cell (drop i cell) ≡ b ∷ rest = ap (flat_map in_cell) (drop_more cell i 0 lt) ∙ ap (λ l. l ++ rest) stays in
+      let first : flat_map in_cell (drop i cell) ≡ b ∷ rest = ap (flat_map in_cell) (drop_more cell i 0 lt)
+          ∙ ap (λ l. l ++ rest) stays in
       let grown : between from (i + 1) cell ++ rest ≡ between from i cell ++ b ∷ rest =
-      ap (λ l. l ++ rest) (between_more cell from i 0 was.in_order lt) ∙ append_assoc (between from i cell) (b ∷ []) rest in
+      ap (λ l. l ++ rest) (between_more cell from i 0 was.in_order lt)
+          ∙ append_assoc (between from i cell) (b ∷ []) rest in
       ap (λ l. out ++ l) (grown ∙ ap (λ l. between from i cell ++ l) (sym first)) ∙ was.whole;
 }
 
-pub normalising_replaced : (cell old out instead : List ℕ) (from i : ℕ) → IsUtf8 cell → i < length cell → IsReplaced (get_or cell i 0) instead → Normalising cell old out from i → Normalising cell old ((out ++ between from i cell) ++ instead) (i + 1) (i + 1)
+pub normalising_replaced : (cell old out instead : List ℕ) (from i : ℕ) → IsUtf8 cell → i < length cell
+    → IsReplaced (get_or cell i 0) instead → Normalising cell old out from i
+    → Normalising cell old ((out ++ between from i cell) ++ instead) (i + 1) (i + 1)
 normalising_replaced cell old out instead from i text lt here was = record {
   in_order = omega arith;
   cut = IsCharBoundary-after_ascii cell i text lt here.ascii;
   whole =
       let rest = flat_map in_cell (drop (i + 1) cell) in
-      let first : flat_map in_cell (drop i cell) ≡ instead ++ rest = ap (flat_map in_cell) (drop_more cell i 0 lt) ∙ ap (λ l. l ++ rest) here.text in
-      rw (between_none cell (i + 1), append_assoc, append_assoc) (ap (λ l. out ++ (between from i cell ++ l)) (sym first) ∙ was.whole);
+      let first : flat_map in_cell (drop i cell) ≡ instead ++ rest = ap (flat_map in_cell) (drop_more cell i 0 lt)
+          ∙ ap (λ l. l ++ rest) here.text in
+      rw (between_none cell (i + 1), append_assoc, append_assoc)
+          (ap (λ l. out ++ (between from i cell ++ l)) (sym first) ∙ was.whole);
 }
 
-pub normalising_all : (cell old out : List ℕ) (from i : ℕ) → length cell ≤ i → Normalising cell old out from i → out ++ between from (length cell) cell ≡ old ++ flat_map in_cell cell
+pub normalising_all : (cell old out : List ℕ) (from i : ℕ) → length cell ≤ i → Normalising cell old out from i
+    → out ++ between from (length cell) cell ≡ old ++ flat_map in_cell cell
 normalising_all cell old out from i past was =
-    let piece : between from (length cell) cell ≡ between from i cell = between_to_end cell from (length cell) (omega arith) ∙ sym (between_to_end cell from i past) in
+    let piece : between from (length cell) cell ≡ between from i cell =
+        between_to_end cell from (length cell) (omega arith) ∙ sym (between_to_end cell from i past) in
     let ended : flat_map in_cell (drop i cell) ≡ [] = ap (flat_map in_cell) (drop_all i cell past) in
-    rw piece (ap (λ l. out ++ l) (sym (append-nil (between from i cell)) ∙ ap (λ l. between from i cell ++ l) (sym ended)) ∙ was.whole)
+    rw piece (ap (λ l. out ++ l) (sym (append-nil (between from i cell))
+        ∙ ap (λ l. between from i cell ++ l) (sym ended)) ∙ was.whole)

@@ -1,5 +1,6 @@
 -- Characters of a text, counted by the bytes that begin one.
-use Rattle.std.proofs.Common.{◌≡◌, ℕ, ◌+◌, ◌/◌, ◌%◌, ◌<◌, ◌≤◌, true, false, List, [], ◌∷◌, ◌++◌, length, refl, sym, ap, ◌∙◌, arith, ⊎_elim}
+use Rattle.std.proofs.Common.{◌≡◌, ℕ, ◌+◌, ◌/◌, ◌%◌, ◌<◌, ◌≤◌, true, false, List, [], ◌∷◌, ◌++◌, length, refl, sym, ap}
+use Rattle.std.proofs.Common.{◌∙◌, arith, ⊎_elim}
 use Rattle.std.specs.Prelude.{nat_lt, count_by, sum_by, cond}
 use Rattle.std.specs.List.{flat_map}
 use Rattle.std.specs.Str.{IsUtf8, encode_utf8_all, chars}
@@ -28,10 +29,12 @@ one b first = rw first refl
 two : (b c : ℕ) → begins_character b ≡ true → begins_character c ≡ false → characters (b ∷ c ∷ []) ≡ 1
 two b c first second = rw (first, second) refl
 
-three : (b c d : ℕ) → begins_character b ≡ true → begins_character c ≡ false → begins_character d ≡ false → characters (b ∷ c ∷ d ∷ []) ≡ 1
+three : (b c d : ℕ) → begins_character b ≡ true → begins_character c ≡ false → begins_character d ≡ false
+    → characters (b ∷ c ∷ d ∷ []) ≡ 1
 three b c d first second third = rw (first, second, third) refl
 
-four : (b c d e : ℕ) → begins_character b ≡ true → begins_character c ≡ false → begins_character d ≡ false → begins_character e ≡ false → characters (b ∷ c ∷ d ∷ e ∷ []) ≡ 1
+four : (b c d e : ℕ) → begins_character b ≡ true → begins_character c ≡ false → begins_character d ≡ false
+    → begins_character e ≡ false → characters (b ∷ c ∷ d ∷ e ∷ []) ≡ 1
 four b c d e first second third fourth = rw (first, second, third, fourth) refl
 
 begins_low : (b : ℕ) → b < 128 → begins_character b ≡ true
@@ -56,11 +59,15 @@ character_is_one c =
     (λ (yes : nat_lt c 128 ≡ true). let low : c < 128 = grind (arith, nat_tests) in rw yes (one c (begins_low c low)))
     (λ (no : nat_lt c 128 ≡ false).
     ⊎_elim
-    (λ (yes : nat_lt c 2048 ≡ true). rw (no, yes) (two (192 + c / 64) (128 + c % 64) (begins_high (192 + c / 64) (omega arith)) (goes_on c)))
+    (λ (yes : nat_lt c 2048 ≡ true). rw (no, yes)
+        (two (192 + c / 64) (128 + c % 64) (begins_high (192 + c / 64) (omega arith)) (goes_on c)))
     (λ (no' : nat_lt c 2048 ≡ false).
     ⊎_elim
-    (λ (yes : nat_lt c 65536 ≡ true). rw (no, no', yes) (three (224 + c / 4096) (128 + c / 64 % 64) (128 + c % 64) (begins_high (224 + c / 4096) (omega arith)) (goes_on (c / 64)) (goes_on c)))
-    (λ (no'' : nat_lt c 65536 ≡ false). rw (no, no', no'') (four (240 + c / 262144) (128 + c / 4096 % 64) (128 + c / 64 % 64) (128 + c % 64) (begins_high (240 + c / 262144) (omega arith)) (goes_on (c / 4096)) (goes_on (c / 64)) (goes_on c)))
+    (λ (yes : nat_lt c 65536 ≡ true). rw (no, no', yes) (three (224 + c / 4096) (128 + c / 64 % 64) (128 + c % 64)
+        (begins_high (224 + c / 4096) (omega arith)) (goes_on (c / 64)) (goes_on c)))
+    (λ (no'' : nat_lt c 65536 ≡ false). rw (no, no', no'')
+        (four (240 + c / 262144) (128 + c / 4096 % 64) (128 + c / 64 % 64) (128 + c % 64)
+        (begins_high (240 + c / 262144) (omega arith)) (goes_on (c / 4096)) (goes_on (c / 64)) (goes_on c)))
     (cases_Bool (nat_lt c 65536)))
     (cases_Bool (nat_lt c 2048)))
     (cases_Bool (nat_lt c 128))
@@ -87,7 +94,8 @@ counted (b ∷ s) =
     omega (arith, here, both, rest)
 
 -- a cell's width, byte by byte
-pub width_counted : (cell : List ℕ) → IsUtf8 cell → sum_by byte_width (trimmed_text is_document_white_space cell) ≡ cell_width cell
+pub width_counted : (cell : List ℕ) → IsUtf8 cell → sum_by byte_width (trimmed_text is_document_white_space cell)
+    ≡ cell_width cell
 width_counted cell text =
     counted (trimmed_text is_document_white_space cell)
     ∙ ap characters (sym (normalised_is cell))

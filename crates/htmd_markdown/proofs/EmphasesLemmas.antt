@@ -1,5 +1,6 @@
 -- The white space at the ends of a text, and what stands between.
-use Rattle.std.proofs.Common.{◌≡◌, ◌≢◌, ℕ, ◌-◌, ◌<◌, List, [], ◌∷◌, ◌++◌, length, take, drop, min, refl, sym, ap, ◌∙◌, subst, arith, append_assoc, length-append, length-drop}
+use Rattle.std.proofs.Common.{◌≡◌, ◌≢◌, ℕ, ◌-◌, ◌<◌, List, [], ◌∷◌, ◌++◌, length, take, drop, min, refl, sym, ap, ◌∙◌}
+use Rattle.std.proofs.Common.{subst, arith, append_assoc, length-append, length-drop}
 use Rattle.std.specs.Char.{is_not_whitespace, encode_utf8}
 use Rattle.std.specs.Str.{IsUtf8, IsTrimStart, IsTrimEnd, EmptyOrStartsWithPassing, encode_utf8_all}
 use Rattle.std.proofs.lemmas.List.{take_min, take-append-drop}
@@ -14,7 +15,8 @@ cut_is s r n e =
     ap (λ k. take k s) place ∙ take_min n s
 
 -- a text that is not empty begins with the character with which any text begins that goes on from it
-begins_same : (middle after rest : List ℕ) (c : ℕ) → IsUtf8 middle → middle ≢ [] → middle ++ after ≡ encode_utf8 c ++ rest → (more : List ℕ) × (middle ≡ encode_utf8 c ++ more)
+begins_same : (middle after rest : List ℕ) (c : ℕ) → IsUtf8 middle → middle ≢ []
+    → middle ++ after ≡ encode_utf8 c ++ rest → (more : List ℕ) × (middle ≡ encode_utf8 c ++ more)
 begins_same middle after rest c ([], (scalar, e)) filled whole = absurd (filled (sym e))
 begins_same middle after rest c (d ∷ ds, (scalar, e)) filled whole =
     let spelled : encode_utf8 d ++ (encode_utf8_all ds ++ after) ≡ encode_utf8 c ++ rest =
@@ -27,9 +29,11 @@ some_length [] filled = absurd (filled refl)
 some_length (b ∷ s) filled = omega arith
 
 -- without white space at its end, the beginning of a text that begins with none is tight
-tight : (rest middle after : List ℕ) → IsUtf8 middle → middle ≢ [] → middle ++ after ≡ rest → ((more : List ℕ) × EmptyOrStartsWithPassing is_not_whitespace rest more) → IsTrimEnd rest middle → IsTight middle
+tight : (rest middle after : List ℕ) → IsUtf8 middle → middle ≢ [] → middle ++ after ≡ rest
+    → ((more : List ℕ) × EmptyOrStartsWithPassing is_not_whitespace rest more) → IsTrimEnd rest middle → IsTight middle
 tight rest middle after text filled whole (more, begins) end =
-    let some : 0 < length rest = omega (arith, some_length middle filled, ap length whole, length-append middle after) in
+    let some : 0 < length rest = omega (arith, some_length middle filled, ap length whole, length-append middle after)
+        in
     let first = begins some in
     let same = begins_same middle after more first.0 text filled (whole ∙ first.2) in
     record {
@@ -39,13 +43,16 @@ tight rest middle after text filled whole (more, begins) end =
     }
 
 -- the marks around what the two trims leave
-pub marks_inside : (mark s rest middle before after out : List ℕ) → IsUtf8 middle → middle ≢ [] → IsTrimStart s rest → IsTrimEnd rest middle → before ≡ take (length s - length rest) s → after ≡ drop (length middle) rest → out ≡ (((before ++ mark) ++ middle) ++ mark) ++ after → AreMarksInside mark s out
+pub marks_inside : (mark s rest middle before after out : List ℕ) → IsUtf8 middle → middle ≢ [] → IsTrimStart s rest
+    → IsTrimEnd rest middle → before ≡ take (length s - length rest) s → after ≡ drop (length middle) rest
+    → out ≡ (((before ++ mark) ++ middle) ++ mark) ++ after → AreMarksInside mark s out
 marks_inside mark s rest middle before after out text filled start end b a e =
     let front : before ≡ take start.0 s = b ∙ cut_is s rest start.0 start.1 in
     let back : after ≡ drop end.0 rest = a ∙ ap (λ k. drop k rest) end.4 in
     let inner : middle ++ after ≡ rest = rw (back, end.1) (take-append-drop end.0 rest) in
     let all : before ++ rest ≡ s = rw (front, start.1) (take-append-drop start.0 s) in
-    let split : s ≡ (before ++ middle) ++ after = sym all ∙ ap (λ l. before ++ l) (sym inner) ∙ sym (append_assoc before middle after) in (
+    let split : s ≡ (before ++ middle) ++ after = sym all ∙ ap (λ l. before ++ l) (sym inner)
+        ∙ sym (append_assoc before middle after) in (
       before,
       middle,
       after,

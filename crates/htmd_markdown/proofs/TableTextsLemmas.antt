@@ -1,5 +1,6 @@
 -- A table as its lines.
-use Rattle.std.proofs.Common.{◌≡◌, ℕ, zero, suc, ◌-◌, ◌<◌, ◌≤◌, true, false, List, [], ◌∷◌, ◌++◌, length, map, refl, sym, ap, ◌∙◌, subst, arith, append_assoc, length-append, codes}
+use Rattle.std.proofs.Common.{◌≡◌, ℕ, zero, suc, ◌-◌, ◌<◌, ◌≤◌, true, false, List, [], ◌∷◌, ◌++◌, length, map, refl}
+use Rattle.std.proofs.Common.{sym, ap, ◌∙◌, subst, arith, append_assoc, length-append, codes}
 use Rattle.std.specs.Prelude.{not, ◌&&◌, ◌==◌, reverse, slice_index, replicate, String, Vec}
 use Rattle.std.specs.List.{list_all, flat_map}
 use Rattle.std.specs.Str.{chars}
@@ -17,7 +18,8 @@ use Rattle.htmd_markdown.proofs.TrimmedTexts.{Begins, reversed_passes}
 use Rattle.htmd_markdown.proofs.CellsLemmas.{IsCell, lacks}
 use Rattle.htmd_markdown.proofs.TablesLemmas.{AreCells, not_passed, padded_pushed, line_cells-length, row_cells}
 use Rattle.htmd_markdown.proofs.TableLinesLemmas.{Fit, IsLine, AreLines, joined_lines, lines_even}
-use Rattle.htmd_markdown.proofs.ColumnsLemmas.{Covers, CoversAll, covers_all, covers_length, line_fit, held_same, columns_counted}
+use Rattle.htmd_markdown.proofs.ColumnsLemmas.{Covers, CoversAll, covers_all, covers_length, line_fit, held_same}
+use Rattle.htmd_markdown.proofs.ColumnsLemmas.{columns_counted}
 
 -- ---- dashes
 
@@ -39,26 +41,31 @@ dashes_lack (suc w) c other = ap (λ first. not first && lacks c (spec.dashes w)
 
 bare_begins : (s : List ℕ) → list_all (λ b. not (is_document_white_space b)) s ≡ true → Begins is_document_white_space s
 bare_begins [] all = tt
-bare_begins (b ∷ s) all = not_passed (is_document_white_space b) (and_parts (not (is_document_white_space b)) (list_all (λ c. not (is_document_white_space c)) s) all).0
+bare_begins (b ∷ s) all =
+    not_passed (is_document_white_space b)
+    (and_parts (not (is_document_white_space b)) (list_all (λ c. not (is_document_white_space c)) s) all).0
 
 dashes_cell : (w : ℕ) → IsCell (spec.dashes w)
 dashes_cell w = record {
   text = IsUtf8-from_ascii (spec.dashes w) (dashes_ascii w);
   bare = record {
     front = bare_begins (spec.dashes w) (dashes_bare w);
-    back = bare_begins (reverse (spec.dashes w)) (reversed_passes (λ b. not (is_document_white_space b)) (spec.dashes w) (dashes_bare w));
+    back = bare_begins (reverse (spec.dashes w)) (reversed_passes (λ b. not (is_document_white_space b)) (spec.dashes w)
+        (dashes_bare w));
   };
   bars = dashes_lack w vertical_bar refl;
   line_feeds = dashes_lack w line_feed refl;
 }
 
-pub dashes_pushed : (out : List ℕ) (w : ℕ) → ((out ++ space ∷ []) ++ spec.dashes w) ++ codes " |" ≡ (out ++ spec.padded_cell (spec.dashes w) w) ++ bar
+pub dashes_pushed : (out : List ℕ) (w : ℕ) → ((out ++ space ∷ []) ++ spec.dashes w) ++ codes " |"
+    ≡ (out ++ spec.padded_cell (spec.dashes w) w) ++ bar
 dashes_pushed out w =
     let pad = replicate (w - length (chars (spec.dashes w))) space in
     let count : w - length (chars (spec.dashes w)) ≡ 0 = omega (arith, dashes_width w) in
     let none : pad ≡ [] = ap (λ n. replicate n space) count in
     let written = (out ++ space ∷ []) ++ spec.dashes w in
-    ap (λ l. l ++ codes " |") (sym (append-nil written) ∙ ap (λ l. written ++ l) (sym none)) ∙ padded_pushed out (spec.dashes w) pad
+    ap (λ l. l ++ codes " |") (sym (append-nil written) ∙ ap (λ l. written ++ l) (sym none))
+        ∙ padded_pushed out (spec.dashes w) pad
 
 dashes_cells : (ws : List ℕ) → AreCells (map spec.dashes ws)
 dashes_cells [] = tt
@@ -78,35 +85,46 @@ row_lines ws rows = map (spec.line_cells (length ws)) rows
 
 abbrev all_lines : List ℕ → List (List ℕ) → List (List (List ℕ)) → List (List (List ℕ))
 all_lines ws [] rows = row_lines ws rows
-all_lines ws (header ∷ headers) rows = spec.line_cells (length ws) (header ∷ headers) ∷ map spec.dashes ws ∷ row_lines ws rows
+all_lines ws (header ∷ headers) rows = spec.line_cells (length ws) (header ∷ headers) ∷ map spec.dashes ws
+    ∷ row_lines ws rows
 
-rows_joined : (ws : List ℕ) (rows : List (List (List ℕ))) → flat_map (λ cells. spec.row cells ws) rows ≡ joined_lines (map (λ cells. spec.line cells ws) (row_lines ws rows))
+rows_joined : (ws : List ℕ) (rows : List (List (List ℕ))) → flat_map (λ cells. spec.row cells ws) rows ≡ joined_lines
+    (map (λ cells. spec.line cells ws) (row_lines ws rows))
 rows_joined ws [] = refl
 rows_joined ws (cells ∷ rows) = ap (λ l. spec.row cells ws ++ l) (rows_joined ws rows)
 
-table_joined : (ws : List ℕ) (headers : List (List ℕ)) (rows : List (List (List ℕ))) → spec.table_of_widths ws headers rows ≡ joined_lines (map (λ cells. spec.line cells ws) (all_lines ws headers rows))
+table_joined : (ws : List ℕ) (headers : List (List ℕ)) (rows : List (List (List ℕ)))
+    → spec.table_of_widths ws headers rows ≡ joined_lines
+    (map (λ cells. spec.line cells ws) (all_lines ws headers rows))
 table_joined ws [] rows = rows_joined ws rows
 table_joined ws (header ∷ headers) rows =
     append_assoc (spec.row (header ∷ headers) ws) (spec.separator ws) (flat_map (λ cells. spec.row cells ws) rows)
     ∙ ap (λ l. spec.row (header ∷ headers) ws ++ (spec.separator ws ++ l)) (rows_joined ws rows)
 
-row_line : {Z : Type 0} (ws : List ℕ) (cells : List (String Z)) → Covers (map spec.cell_width (texts cells)) ws → IsLine ws (spec.line_cells (length ws) (texts cells))
+row_line : {Z : Type 0} (ws : List ℕ) (cells : List (String Z)) → Covers (map spec.cell_width (texts cells)) ws
+    → IsLine ws (spec.line_cells (length ws) (texts cells))
 row_line ws cells covers = record {
   each = row_cells (length ws) cells;
-  count = omega (arith, line_cells-length (length ws) (texts cells), covers_length (map spec.cell_width (texts cells)) ws covers, length-map (texts cells) spec.cell_width);
+  count = omega (arith, line_cells-length (length ws) (texts cells),
+      covers_length (map spec.cell_width (texts cells)) ws covers, length-map (texts cells) spec.cell_width);
   fit = line_fit (texts cells) ws covers;
 }
 
-rows_lines : {Z Y : Type 0} (ws : List ℕ) (rows : List (Vec (String Z) Y)) → CoversAll (map (map spec.cell_width) (map row_texts rows)) ws → AreLines ws (row_lines ws (map row_texts rows))
+rows_lines : {Z Y : Type 0} (ws : List ℕ) (rows : List (Vec (String Z) Y))
+    → CoversAll (map (map spec.cell_width) (map row_texts rows)) ws → AreLines ws (row_lines ws (map row_texts rows))
 rows_lines ws [] covers = tt
 rows_lines ws (cells ∷ rows) covers = (row_line ws cells.items covers.0, rows_lines ws rows covers.1)
 
-lines_all : {Z Y : Type 0} (ws : List ℕ) (headers : List (String Z)) (rows : List (Vec (String Z) Y)) → CoversAll (map (map spec.cell_width) (texts headers ∷ map row_texts rows)) ws → AreLines ws (all_lines ws (texts headers) (map row_texts rows))
+lines_all : {Z Y : Type 0} (ws : List ℕ) (headers : List (String Z)) (rows : List (Vec (String Z) Y))
+    → CoversAll (map (map spec.cell_width) (texts headers ∷ map row_texts rows)) ws
+    → AreLines ws (all_lines ws (texts headers) (map row_texts rows))
 lines_all ws [] rows covers = rows_lines ws rows covers.1
-lines_all ws (header ∷ headers) rows covers = (row_line ws (header ∷ headers) covers.0, (separator_line ws, rows_lines ws rows covers.1))
+lines_all ws (header ∷ headers) rows covers =
+    (row_line ws (header ∷ headers) covers.0, (separator_line ws, rows_lines ws rows covers.1))
 
 -- all lines of a table are alike
-pub table_even : {Z Y : Type 0} (headers : List (String Z)) (rows : List (Vec (String Z) Y)) → IsEven (column_count (texts headers ∷ map row_texts rows)) (spec.table (texts headers) (map row_texts rows))
+pub table_even : {Z Y : Type 0} (headers : List (String Z)) (rows : List (Vec (String Z) Y))
+    → IsEven (column_count (texts headers ∷ map row_texts rows)) (spec.table (texts headers) (map row_texts rows))
 table_even headers rows =
     let lines = texts headers ∷ map row_texts rows in
     let ws = spec.column_widths lines in
@@ -118,25 +136,32 @@ table_even headers rows =
 
 -- ---- no width was cut
 
-line_held : {Z : Type 0} (ws : List ℕ) (cells : List (String Z)) → length (spec.row (texts cells) (map held ws)) ≤ 0xFFFF_FFFF_FFFF_FFFF → map held ws ≡ ws
+line_held : {Z : Type 0} (ws : List ℕ) (cells : List (String Z)) → length (spec.row (texts cells) (map held ws))
+    ≤ 0xFFFF_FFFF_FFFF_FFFF → map held ws ≡ ws
 line_held ws cells fits =
     let n = length (map held ws) in
     let written = spec.line_cells n (texts cells) in
     let size : n ≡ length ws = length-map ws held in
     let ended = length-append (spec.line written (map held ws)) (line_feed ∷ []) in
-    held_same written ws (row_cells n cells) (omega (arith, line_cells-length n (texts cells), size)) (omega (arith, ended, fits))
+    held_same written ws (row_cells n cells) (omega (arith, line_cells-length n (texts cells), size))
+        (omega (arith, ended, fits))
 
 -- what was written tells that each width is that of the table
-pub widths_held : {Z Y : Type 0} (headers : List (String Z)) (rows : List (Vec (String Z) Y)) → let ws = spec.column_widths (texts headers ∷ map row_texts rows) in length (spec.table_of_widths (map held ws) (texts headers) (map row_texts rows)) ≤ 0xFFFF_FFFF_FFFF_FFFF → map held ws ≡ ws
+pub widths_held : {Z Y : Type 0} (headers : List (String Z)) (rows : List (Vec (String Z) Y)) → let ws =
+    spec.column_widths (texts headers ∷ map row_texts rows) in
+    length (spec.table_of_widths (map held ws) (texts headers) (map row_texts rows)) ≤ 0xFFFF_FFFF_FFFF_FFFF
+    → map held ws ≡ ws
 widths_held [] [] fits = refl
 widths_held [] (cells ∷ rows) fits =
     let ws = spec.column_widths ([] ∷ map row_texts (cells ∷ rows)) in
-    let size = length-append (spec.row (row_texts cells) (map held ws)) (flat_map (λ row. spec.row row (map held ws)) (map row_texts rows)) in
+    let size = length-append (spec.row (row_texts cells) (map held ws))
+        (flat_map (λ row. spec.row row (map held ws)) (map row_texts rows)) in
     line_held ws cells.items (omega (arith, size, fits))
 widths_held (header ∷ headers) rows fits =
     let ws = spec.column_widths (texts (header ∷ headers) ∷ map row_texts rows) in
     let own = spec.row (texts (header ∷ headers)) (map held ws) in
-    let outer = length-append (own ++ spec.separator (map held ws)) (flat_map (λ row. spec.row row (map held ws)) (map row_texts rows)) in
+    let outer = length-append (own ++ spec.separator (map held ws))
+        (flat_map (λ row. spec.row row (map held ws)) (map row_texts rows)) in
     let inner = length-append own (spec.separator (map held ws)) in
     line_held ws (header ∷ headers) (omega (arith, outer, inner, fits))
 

@@ -1,9 +1,11 @@
 -- What is left of a text between what is cut from its ends.
-use Rattle.std.proofs.Common.{◌≡◌, ℕ, zero, suc, ◌+◌, ◌-◌, Bool, true, false, List, [], ◌∷◌, ◌++◌, length, take, drop, refl, sym, ap, ◌∙◌, subst, arith, length-drop, ⊎_elim}
+use Rattle.std.proofs.Common.{◌≡◌, ℕ, zero, suc, ◌+◌, ◌-◌, Bool, true, false, List, [], ◌∷◌, ◌++◌, length, take, drop}
+use Rattle.std.proofs.Common.{refl, sym, ap, ◌∙◌, subst, arith, length-drop, ⊎_elim}
 use Rattle.std.specs.Prelude.{reverse, ◌&&◌}
 use Rattle.std.specs.List.{prefix_len, suffix_len, list_all}
 use Rattle.std.proofs.lemmas.Bool.{and_parts, cond-true, cond-false, cases_Bool}
-use Rattle.std.proofs.lemmas.List.{append-nil, take-append-drop, take_at, drop_at, reverse-append, reverse-reverse, length-reverse}
+use Rattle.std.proofs.lemmas.List.{append-nil, take-append-drop, take_at, drop_at, reverse-append, reverse-reverse}
+use Rattle.std.proofs.lemmas.List.{length-reverse}
 use Rattle.std.proofs.lemmas.List.Folds.{list_all-append}
 use Rattle.htmd_text.specs.Trims.{trimmed_start, trimmed_end, trimmed_text}
 
@@ -33,7 +35,8 @@ stays_start passes (b ∷ s) begins = rw begins refl
 one_more : (n : ℕ) → 1 + n ≡ suc n
 one_more n = omega arith
 
-passed_start : (passes : ℕ → Bool) (before s : List ℕ) → list_all passes before ≡ true → trimmed_start passes (before ++ s) ≡ trimmed_start passes s
+passed_start : (passes : ℕ → Bool) (before s : List ℕ) → list_all passes before ≡ true
+    → trimmed_start passes (before ++ s) ≡ trimmed_start passes s
 passed_start passes [] s all = refl
 passed_start passes (b ∷ before) s all =
     let parts = and_parts (passes b) (list_all passes before) all in
@@ -81,7 +84,8 @@ end_reversed passes s =
     ap (λ l. take (length s - n) l) turned ∙ take_at (reverse rest) (reverse cut) (length s - n) size
 
 -- what is cut from the end is what is cut from the start of the reverse
-cut_reversed : (passes : ℕ → Bool) (s : List ℕ) → drop (length s - suffix_len passes s) s ≡ reverse (take (suffix_len passes s) (reverse s))
+cut_reversed : (passes : ℕ → Bool) (s : List ℕ) → drop (length s - suffix_len passes s) s ≡ reverse
+    (take (suffix_len passes s) (reverse s))
 cut_reversed passes s =
     let n = suffix_len passes s in
     let cut = take n (reverse s) in
@@ -123,7 +127,8 @@ trimmed_is passes s (b ∷ middle) here =
     ap (trimmed_end passes) rest
     ∙ end_reversed passes ((b ∷ middle) ++ here.after)
     ∙ ap (λ l. reverse (trimmed_start passes l)) (reverse-append (b ∷ middle) here.after)
-    ∙ ap reverse (passed_start passes (reverse here.after) (reverse (b ∷ middle)) (reversed_passes passes here.after here.cut_behind))
+    ∙ ap reverse (passed_start passes (reverse here.after) (reverse (b ∷ middle))
+        (reversed_passes passes here.after here.cut_behind))
     ∙ ap reverse (stays_start passes (reverse (b ∷ middle)) here.bare.back)
     ∙ reverse-reverse (b ∷ middle)
 
@@ -137,9 +142,11 @@ trimmed_between passes s =
     record {
       before = take (prefix_len passes s) s;
       after = drop kept rest;
-      whole = sym (take-append-drop (prefix_len passes s) s) ∙ ap (λ l. take (prefix_len passes s) s ++ l) (sym (take-append-drop kept rest));
+      whole = sym (take-append-drop (prefix_len passes s) s) ∙ ap (λ l. take (prefix_len passes s) s ++ l)
+          (sym (take-append-drop kept rest));
       cut = front_passes passes s;
-      cut_behind = ap (list_all passes) (cut_reversed passes rest) ∙ reversed_passes passes (take (suffix_len passes rest) (reverse rest)) (front_passes passes (reverse rest));
+      cut_behind = ap (list_all passes) (cut_reversed passes rest)
+          ∙ reversed_passes passes (take (suffix_len passes rest) (reverse rest)) (front_passes passes (reverse rest));
       bare = record {
         front = begins_taken passes rest kept (rest_begins passes s);
         back = subst (λ (l : List ℕ). Begins passes l) (sym back) (rest_begins passes (reverse rest));

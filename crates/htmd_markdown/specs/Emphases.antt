@@ -18,7 +18,8 @@ between mark before (b ∷ middle) after = Some ((((before ++ mark) ++ (b ∷ mi
 
 -- the content between marks, and outside of them the white space at its ends
 abbrev pub emphasised_text : Emphasis → List ℕ → Option (List ℕ)
-emphasised_text emphasis s = between (mark emphasis) (white_space_at_start s) (trim s) (white_space_at_end (trim_start s))
+emphasised_text emphasis s = between (mark emphasis) (white_space_at_start s) (trim s)
+    (white_space_at_end (trim_start s))
 
 -- each character is white space (Unicode's property White_Space)
 abbrev pub IsWhiteSpace : List ℕ → Type 0

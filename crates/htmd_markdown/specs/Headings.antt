@@ -27,4 +27,5 @@ styled_heading Setex level content = if nat_le level 2 then setext level content
 
 -- the content without document white space at its ends, as a heading of the level, with blank lines around
 abbrev pub heading : HeadingStyle → ℕ → List ℕ → List ℕ
-heading style level content = with_blank_lines (styled_heading style level (trimmed_text is_document_white_space content))
+heading style level content =
+    with_blank_lines (styled_heading style level (trimmed_text is_document_white_space content))

@@ -1,6 +1,7 @@
 -- Tables, as extensions of CommonMark have them: a line of cells between bars for the headers, a line of
 -- dashes below it, and a line for each row. All cells of a column are padded to one width.
-use Rattle.std.specs.Prelude.{ℕ, ◌-◌, max, ◌==◌, if◌then◌else◌, List, [], ◌∷◌, ◌++◌, map, fold, length, replicate, codes, String, string_bytes, Vec}
+use Rattle.std.specs.Prelude.{ℕ, ◌-◌, max, ◌==◌, if◌then◌else◌, List, [], ◌∷◌, ◌++◌, map, fold, length, replicate}
+use Rattle.std.specs.Prelude.{codes, String, string_bytes, Vec}
 use Rattle.std.specs.List.{flat_map}
 use Rattle.std.specs.Str.{chars}
 use Rattle.htmd_text.specs.Characters.{line_feed, carriage_return, space, hyphen, vertical_bar}

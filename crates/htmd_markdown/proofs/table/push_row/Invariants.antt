@@ -6,4 +6,5 @@ use Rattle.htmd_markdown.proofs.table.push_row.Given as goal
 abbrev pub invariant-loop-i : goal.invariant-loop-i
 invariant-loop-i l =
     let texts = map (λ cell. string_bytes cell) l.cells in
-    string_bytes l.text ++ left (line_cells (length l.widths) texts) l.widths l.i ≡ string_bytes l.fn.text ++ row texts l.widths
+    string_bytes l.text ++ left (line_cells (length l.widths) texts) l.widths l.i ≡ string_bytes l.fn.text
+        ++ row texts l.widths

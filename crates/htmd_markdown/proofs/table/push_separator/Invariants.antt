@@ -4,4 +4,5 @@ use Rattle.htmd_markdown.proofs.TablesLemmas.{left}
 use Rattle.htmd_markdown.proofs.table.push_separator.Given as goal
 
 abbrev pub invariant-loop-width : goal.invariant-loop-width
-invariant-loop-width l = string_bytes l.text ++ left (map dashes l.widths) l.widths l.width-index ≡ string_bytes l.fn.text ++ separator l.widths
+invariant-loop-width l = string_bytes l.text ++ left (map dashes l.widths) l.widths l.width-index
+    ≡ string_bytes l.fn.text ++ separator l.widths
