@@ -10,4 +10,5 @@ pub mod ChildrenLemmas
 pub mod RenderingLemmas
 pub mod WalkingLemmas
 pub mod PassingLemmas
+pub mod LawsLemmas
 mod Examples

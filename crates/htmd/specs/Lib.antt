@@ -1,6 +1,6 @@
 -- What Markdown a tree becomes, in reading order: what a handler is and answers, which handlers a tag has, how texts
--- are put together, what an element and a node give by them, what a whole conversion gives; then the built-in handlers
--- and the registry; last what private contracts alone speak of.
+-- are put together, what an element and a node give by them, what a whole conversion gives, and its laws; then the
+-- built-in handlers and the registry; last what private contracts alone speak of.
 pub mod Handling
 pub mod Choice
 pub mod Seams
@@ -11,6 +11,7 @@ pub mod Children
 pub mod Elements
 pub mod Rendering
 pub mod Markdown
+pub mod Laws
 pub mod ElementViews
 pub mod Sections
 pub mod Inline

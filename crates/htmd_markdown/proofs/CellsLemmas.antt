@@ -30,7 +30,7 @@ same_byte b c e = grind (arith, nat_tests)
 pub by_cases : (P : List ℕ → Type 0) (b : ℕ) → (b ≡ line_feed → P (space ∷ [])) → (b ≡ carriage_return → P [])
     → (b ≡ vertical_bar → P (codes "&#124;"))
     → ((b == line_feed) ≡ false → (b == carriage_return) ≡ false → (b == vertical_bar) ≡ false → P (b ∷ []))
-        → P (in_cell b)
+    → P (in_cell b)
 by_cases P b at_line_feed at_return at_bar else_case =
     ⊎_elim
     (λ (yes : (b == line_feed) ≡ true). rw yes (at_line_feed (same_byte b line_feed yes)))
@@ -146,7 +146,7 @@ no_line_feed b = by_cases (λ l. lacks line_feed l ≡ true) b (λ is. refl) (λ
 high_stays : (b : ℕ) → 128 ≤ b → in_cell b ≡ b ∷ []
 high_stays b high =
     by_cases (λ l. l ≡ b ∷ []) b (λ is. absurd (omega arith)) (λ is. absurd (omega arith)) (λ is. absurd (omega arith))
-        (λ f r v. refl)
+    (λ f r v. refl)
 
 high_in_cells : (s : List ℕ) → ((k : ℕ) → k < length s → 128 ≤ get_or s k 0) → flat_map in_cell s ≡ s
 high_in_cells [] high = refl
@@ -183,7 +183,7 @@ character_in_cells c good =
     let high : 128 ≤ c = grind (arith, nat_tests) in
     let whole : encode_utf8 c ≡ encode_utf8 c ++ [] = sym (append-nil (encode_utf8 c)) in
     let same = high_in_cells (encode_utf8 c) (λ k lt. high_byte (get_or (encode_utf8 c) k 0) c high
-        (inside_one c [] (encode_utf8 c) k whole lt)) in
+    (inside_one c [] (encode_utf8 c) k whole lt)) in
     subst (λ (l : List ℕ). IsUtf8 l) (sym same) (c ∷ [], (ap (λ t. t && true) good, append-nil (encode_utf8 c))))
     (cases_Bool (nat_lt c 128))
 
@@ -193,7 +193,7 @@ characters_in_cells (c ∷ cs) good =
     let parts = and_parts (scalar c) (all_scalars cs) good in
     subst (λ (l : List ℕ). IsUtf8 l) (sym (flat_map-append in_cell (encode_utf8 c) (encode_utf8_all cs)))
     (IsUtf8-append (flat_map in_cell (encode_utf8 c)) (flat_map in_cell (encode_utf8_all cs))
-        (character_in_cells c parts.0) (characters_in_cells cs parts.1))
+    (character_in_cells c parts.0) (characters_in_cells cs parts.1))
 
 text_in_cells : (s : List ℕ) → IsUtf8 s → IsUtf8 (flat_map in_cell s)
 text_in_cells s (cs, (good, e)) = subst (λ (l : List ℕ). IsUtf8 (flat_map in_cell l)) e (characters_in_cells cs good)
@@ -202,7 +202,7 @@ trimmed_is_text : (s : List ℕ) → IsUtf8 s → IsUtf8 (trimmed_text is_docume
 trimmed_is_text s text =
     let rest = trimmed_start is_document_white_space s in
     IsUtf8-take rest _ (IsUtf8-drop s _ text (start_boundary is_document_white_space s text document_of_ascii))
-        (end_boundary is_document_white_space rest document_of_ascii)
+    (end_boundary is_document_white_space rest document_of_ascii)
 
 -- a cell as it is written: a text with neither bars nor line feeds nor white space at its ends
 pub record IsCell (cell : List ℕ) : Type 0 where
@@ -246,10 +246,10 @@ normalising_stays cell old out from i lt stays was = record {
       let b = get_or cell i 0 in
       let rest = flat_map in_cell (drop (i + 1) cell) in
       let first : flat_map in_cell (drop i cell) ≡ b ∷ rest = ap (flat_map in_cell) (drop_more cell i 0 lt)
-          ∙ ap (λ l. l ++ rest) stays in
+      ∙ ap (λ l. l ++ rest) stays in
       let grown : between from (i + 1) cell ++ rest ≡ between from i cell ++ b ∷ rest =
       ap (λ l. l ++ rest) (between_more cell from i 0 was.in_order lt)
-          ∙ append_assoc (between from i cell) (b ∷ []) rest in
+      ∙ append_assoc (between from i cell) (b ∷ []) rest in
       ap (λ l. out ++ l) (grown ∙ ap (λ l. between from i cell ++ l) (sym first)) ∙ was.whole;
 }
 
@@ -262,16 +262,16 @@ normalising_replaced cell old out instead from i text lt here was = record {
   whole =
       let rest = flat_map in_cell (drop (i + 1) cell) in
       let first : flat_map in_cell (drop i cell) ≡ instead ++ rest = ap (flat_map in_cell) (drop_more cell i 0 lt)
-          ∙ ap (λ l. l ++ rest) here.text in
+      ∙ ap (λ l. l ++ rest) here.text in
       rw (between_none cell (i + 1), append_assoc, append_assoc)
-          (ap (λ l. out ++ (between from i cell ++ l)) (sym first) ∙ was.whole);
+      (ap (λ l. out ++ (between from i cell ++ l)) (sym first) ∙ was.whole);
 }
 
 pub normalising_all : (cell old out : List ℕ) (from i : ℕ) → length cell ≤ i → Normalising cell old out from i
     → out ++ between from (length cell) cell ≡ old ++ flat_map in_cell cell
 normalising_all cell old out from i past was =
     let piece : between from (length cell) cell ≡ between from i cell =
-        between_to_end cell from (length cell) (omega arith) ∙ sym (between_to_end cell from i past) in
+    between_to_end cell from (length cell) (omega arith) ∙ sym (between_to_end cell from i past) in
     let ended : flat_map in_cell (drop i cell) ≡ [] = ap (flat_map in_cell) (drop_all i cell past) in
     rw piece (ap (λ l. out ++ l) (sym (append-nil (between from i cell))
-        ∙ ap (λ l. between from i cell ++ l) (sym ended)) ∙ was.whole)
+    ∙ ap (λ l. between from i cell ++ l) (sym ended)) ∙ was.whole)

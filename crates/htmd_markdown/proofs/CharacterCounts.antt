@@ -60,14 +60,14 @@ character_is_one c =
     (λ (no : nat_lt c 128 ≡ false).
     ⊎_elim
     (λ (yes : nat_lt c 2048 ≡ true). rw (no, yes)
-        (two (192 + c / 64) (128 + c % 64) (begins_high (192 + c / 64) (omega arith)) (goes_on c)))
+    (two (192 + c / 64) (128 + c % 64) (begins_high (192 + c / 64) (omega arith)) (goes_on c)))
     (λ (no' : nat_lt c 2048 ≡ false).
     ⊎_elim
     (λ (yes : nat_lt c 65536 ≡ true). rw (no, no', yes) (three (224 + c / 4096) (128 + c / 64 % 64) (128 + c % 64)
-        (begins_high (224 + c / 4096) (omega arith)) (goes_on (c / 64)) (goes_on c)))
+    (begins_high (224 + c / 4096) (omega arith)) (goes_on (c / 64)) (goes_on c)))
     (λ (no'' : nat_lt c 65536 ≡ false). rw (no, no', no'')
-        (four (240 + c / 262144) (128 + c / 4096 % 64) (128 + c / 64 % 64) (128 + c % 64)
-        (begins_high (240 + c / 262144) (omega arith)) (goes_on (c / 4096)) (goes_on (c / 64)) (goes_on c)))
+    (four (240 + c / 262144) (128 + c / 4096 % 64) (128 + c / 64 % 64) (128 + c % 64)
+    (begins_high (240 + c / 262144) (omega arith)) (goes_on (c / 4096)) (goes_on (c / 64)) (goes_on c)))
     (cases_Bool (nat_lt c 65536)))
     (cases_Bool (nat_lt c 2048)))
     (cases_Bool (nat_lt c 128))

@@ -54,11 +54,11 @@ widening_push old more ws i w past within is was = record {
       let size = length_push ws w in
       let here : spec.wider (drop i ws) (drop i more) ≡ w ∷ drop (i + 1) more =
       ap (λ l. spec.wider l (drop i more)) (drop_all i ws past) ∙ drop_more more i 0 within
-          ∙ ap (λ x. x ∷ drop (i + 1) more) (sym is) in
+      ∙ ap (λ x. x ∷ drop (i + 1) more) (sym is) in
       ap (λ l. l ++ spec.wider (drop (i + 1) (ws ++ w ∷ [])) (drop (i + 1) more))
-          (take_all (i + 1) (ws ++ w ∷ []) (omega (arith, size)))
+      (take_all (i + 1) (ws ++ w ∷ []) (omega (arith, size)))
       ∙ ap (λ l. (ws ++ w ∷ []) ++ spec.wider l (drop (i + 1) more))
-          (drop_all (i + 1) (ws ++ w ∷ []) (omega (arith, size, was.within)))
+      (drop_all (i + 1) (ws ++ w ∷ []) (omega (arith, size, was.within)))
       ∙ append_assoc ws (w ∷ []) (drop (i + 1) more)
       ∙ ap (λ l. l ++ w ∷ drop (i + 1) more) (sym (take_all i ws past))
       ∙ ap (λ l. take i ws ++ l) (sym here)
@@ -175,9 +175,11 @@ pub line_fit : (cells : List (List ℕ)) (ws : List ℕ) → Covers (map spec.ce
 line_fit [] ws covers = empty_fit ws (length ws - 0) (omega arith)
 line_fit (cell ∷ cells) [] covers = absurd covers
 line_fit (cell ∷ cells) (w ∷ ws) covers =
-    let count : suc (length ws) - suc (length cells) ≡ length ws - length cells = omega arith in
-    (covers.0, subst (λ (n : ℕ). Fit (map spec.normalised_cell cells ++ replicate n []) ws) (sym count)
-        (line_fit cells ws covers.1))
+    let count : suc (length ws) - suc (length cells) ≡ length ws - length cells = omega arith in (
+      covers.0,
+      subst (λ (n : ℕ). Fit (map spec.normalised_cell cells ++ replicate n []) ws) (sym count)
+          (line_fit cells ws covers.1),
+    )
 
 -- as many columns as the longest line has cells
 wider-length : (ws vs : List ℕ) → length (spec.wider ws vs) ≡ max (length ws) (length vs)
@@ -191,7 +193,7 @@ count_from : (ws : List ℕ) (lines : List (List (List ℕ)))
 count_from ws [] = refl
 count_from ws (cells ∷ lines) =
     let size : length (spec.wider ws (map spec.cell_width cells)) ≡ max (length ws) (length cells) =
-        wider-length ws (map spec.cell_width cells) ∙ ap (max (length ws)) (length-map cells spec.cell_width) in
+    wider-length ws (map spec.cell_width cells) ∙ ap (max (length ws)) (length-map cells spec.cell_width) in
     count_from (spec.wider ws (map spec.cell_width cells)) lines
     ∙ ap (λ n. fold (λ count cs. max count (length cs)) n lines) size
 

@@ -33,7 +33,7 @@ tight : (rest middle after : List ℕ) → IsUtf8 middle → middle ≢ [] → m
     → ((more : List ℕ) × EmptyOrStartsWithPassing is_not_whitespace rest more) → IsTrimEnd rest middle → IsTight middle
 tight rest middle after text filled whole (more, begins) end =
     let some : 0 < length rest = omega (arith, some_length middle filled, ap length whole, length-append middle after)
-        in
+    in
     let first = begins some in
     let same = begins_same middle after more first.0 text filled (whole ∙ first.2) in
     record {
@@ -52,7 +52,7 @@ marks_inside mark s rest middle before after out text filled start end b a e =
     let inner : middle ++ after ≡ rest = rw (back, end.1) (take-append-drop end.0 rest) in
     let all : before ++ rest ≡ s = rw (front, start.1) (take-append-drop start.0 s) in
     let split : s ≡ (before ++ middle) ++ after = sym all ∙ ap (λ l. before ++ l) (sym inner)
-        ∙ sym (append_assoc before middle after) in (
+    ∙ sym (append_assoc before middle after) in (
       before,
       middle,
       after,

@@ -29,7 +29,7 @@ pub one_more : (start : List ℕ) (ls : List (List ℕ)) (n : ℕ) (x out : List
 one_more start ls n x out is_first here begun was =
     let size : length (take n ls) ≡ n = length-take-le n ls (omega (arith, here.0)) in
     let more : take (n + 1) ls ≡ take n ls ++ x ∷ [] = take_more ls n x here.0
-        ∙ ap (λ y. take n ls ++ y ∷ []) (sym here.1) in
+    ∙ ap (λ y. take n ls ++ y ∷ []) (sym here.1) in
     let first : marker is_first ≡ marker (length (take n ls) == 0) = ap marker (begun ∙ ap (λ k. k == 0) (sym size)) in
     ap (λ l. (l ++ marker is_first) ++ x) was
     ∙ ap (λ l. ((start ++ quoted_lines (take n ls)) ++ l) ++ x) first

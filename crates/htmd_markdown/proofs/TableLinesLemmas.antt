@@ -86,7 +86,7 @@ padded_text cell width text =
     let pad = replicate (width - length (chars cell)) space in
     IsUtf8-append (space ∷ []) (cell ++ (pad ++ space ∷ [])) (spaces_text 1)
     (IsUtf8-append cell (pad ++ space ∷ []) text
-        (IsUtf8-append pad (space ∷ []) (spaces_text (width - length (chars cell))) (spaces_text 1)))
+    (IsUtf8-append pad (space ∷ []) (spaces_text (width - length (chars cell))) (spaces_text 1)))
 
 bar_text : IsUtf8 bar
 unfolding encode
@@ -97,7 +97,7 @@ barred_text [] widths are = IsUtf8-nil
 barred_text (cell ∷ cells) [] are = IsUtf8-nil
 barred_text (cell ∷ cells) (width ∷ widths) are =
     IsUtf8-append (spec.padded_cell cell width) (vertical_bar ∷ spec.barred_cells cells widths)
-        (padded_text cell width are.0.text)
+    (padded_text cell width are.0.text)
     (IsUtf8-append bar (spec.barred_cells cells widths) bar_text (barred_text cells widths are.1))
 
 line_text : (cells : List (List ℕ)) (widths : List ℕ) → AreCells cells → IsUtf8 (spec.line cells widths)
@@ -109,9 +109,9 @@ barred_lacks [] widths are = refl
 barred_lacks (cell ∷ cells) [] are = refl
 barred_lacks (cell ∷ cells) (width ∷ widths) are =
     list_all-append (λ b. not (b == line_feed)) (spec.padded_cell cell width)
-        (vertical_bar ∷ spec.barred_cells cells widths)
+    (vertical_bar ∷ spec.barred_cells cells widths)
     ∙ ap (λ front. front && lacks line_feed (vertical_bar ∷ spec.barred_cells cells widths))
-        (padded_lacks cell width line_feed refl are.0.line_feeds)
+    (padded_lacks cell width line_feed refl are.0.line_feeds)
     ∙ barred_lacks cells widths are.1
 
 line_lacks : (cells : List (List ℕ)) (widths : List ℕ) → AreCells cells → lacks line_feed (spec.line cells widths)
@@ -158,7 +158,7 @@ bar_stays front =
     let l = front ++ vertical_bar ∷ [] in
     let size : length l ≡ length front + 1 = length-append front (vertical_bar ∷ []) in
     let last : slice_index l (length l - 1) ≡ vertical_bar = ap (slice_index l) (omega (arith, size))
-        ∙ get_or_at front vertical_bar [] 0 (length front) refl in
+    ∙ get_or_at front vertical_bar [] 0 (length front) refl in
     cond-false (slice_index l (length l - 1) == 13) (take (length l - 1) l) l (ap (λ b. b == 13) last)
 
 whole_stays : (l : List ℕ) → EndsWithBar l → strip_carriage_return l ≡ l
@@ -181,9 +181,11 @@ barred_ends (cell ∷ cells) [] same front = absurd (omega arith)
 barred_ends (cell ∷ cells) (width ∷ widths) same front =
     let padded = spec.padded_cell cell width in
     let before = (front ++ vertical_bar ∷ []) ++ padded in
-    let more = barred_ends cells widths (omega arith) before in
-    (more.0, sym (append_assoc (front ++ vertical_bar ∷ []) padded (vertical_bar ∷ spec.barred_cells cells widths))
-        ∙ sym (append_assoc before bar (spec.barred_cells cells widths)) ∙ more.1)
+    let more = barred_ends cells widths (omega arith) before in (
+      more.0,
+      sym (append_assoc (front ++ vertical_bar ∷ []) padded (vertical_bar ∷ spec.barred_cells cells widths))
+          ∙ sym (append_assoc before bar (spec.barred_cells cells widths)) ∙ more.1,
+    )
 
 is_whole : (cells : List (List ℕ)) (widths : List ℕ) → IsLine widths cells → IsWhole (spec.line cells widths)
 is_whole cells widths is = record {
@@ -206,12 +208,14 @@ all_table_lines : (widths : List ℕ) (rest : List (List (List ℕ))) → AreLin
 all_table_lines widths [] are = All-nil (IsTableLine (line_width widths) (length widths))
 all_table_lines widths (cells ∷ rest) are =
     All-cons (IsTableLine (line_width widths) (length widths)) (spec.line cells widths)
-        (map (λ c. spec.line c widths) rest) (is_table_line cells widths are.0) (all_table_lines widths rest are.1)
+    (map (λ c. spec.line c widths) rest) (is_table_line cells widths are.0) (all_table_lines widths rest are.1)
 
 -- all lines are alike
 pub lines_even : (widths : List ℕ) (rest : List (List (List ℕ))) → AreLines widths rest
     → IsEven (length widths) (joined_lines (map (λ cells. spec.line cells widths) rest))
 lines_even widths rest are =
-    let ls = map (λ cells. spec.line cells widths) rest in
-    (line_width widths, subst (λ (l : List (List ℕ)). All (IsTableLine (line_width widths) (length widths)) l)
-        (sym (lines_are ls (all_whole widths rest are))) (all_table_lines widths rest are))
+    let ls = map (λ cells. spec.line cells widths) rest in (
+      line_width widths,
+      subst (λ (l : List (List ℕ)). All (IsTableLine (line_width widths) (length widths)) l)
+          (sym (lines_are ls (all_whole widths rest are))) (all_table_lines widths rest are),
+    )

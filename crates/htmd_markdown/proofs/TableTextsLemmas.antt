@@ -65,7 +65,7 @@ dashes_pushed out w =
     let none : pad ≡ [] = ap (λ n. replicate n space) count in
     let written = (out ++ space ∷ []) ++ spec.dashes w in
     ap (λ l. l ++ codes " |") (sym (append-nil written) ∙ ap (λ l. written ++ l) (sym none))
-        ∙ padded_pushed out (spec.dashes w) pad
+    ∙ padded_pushed out (spec.dashes w) pad
 
 dashes_cells : (ws : List ℕ) → AreCells (map spec.dashes ws)
 dashes_cells [] = tt
@@ -105,8 +105,12 @@ row_line : {Z : Type 0} (ws : List ℕ) (cells : List (String Z)) → Covers (ma
     → IsLine ws (spec.line_cells (length ws) (texts cells))
 row_line ws cells covers = record {
   each = row_cells (length ws) cells;
-  count = omega (arith, line_cells-length (length ws) (texts cells),
-      covers_length (map spec.cell_width (texts cells)) ws covers, length-map (texts cells) spec.cell_width);
+  count = omega (
+    arith,
+    line_cells-length (length ws) (texts cells),
+    covers_length (map spec.cell_width (texts cells)) ws covers,
+    length-map (texts cells) spec.cell_width,
+  );
   fit = line_fit (texts cells) ws covers;
 }
 
@@ -144,7 +148,7 @@ line_held ws cells fits =
     let size : n ≡ length ws = length-map ws held in
     let ended = length-append (spec.line written (map held ws)) (line_feed ∷ []) in
     held_same written ws (row_cells n cells) (omega (arith, line_cells-length n (texts cells), size))
-        (omega (arith, ended, fits))
+    (omega (arith, ended, fits))
 
 -- what was written tells that each width is that of the table
 pub widths_held : {Z Y : Type 0} (headers : List (String Z)) (rows : List (Vec (String Z) Y)) → let ws =
@@ -155,13 +159,13 @@ widths_held [] [] fits = refl
 widths_held [] (cells ∷ rows) fits =
     let ws = spec.column_widths ([] ∷ map row_texts (cells ∷ rows)) in
     let size = length-append (spec.row (row_texts cells) (map held ws))
-        (flat_map (λ row. spec.row row (map held ws)) (map row_texts rows)) in
+    (flat_map (λ row. spec.row row (map held ws)) (map row_texts rows)) in
     line_held ws cells.items (omega (arith, size, fits))
 widths_held (header ∷ headers) rows fits =
     let ws = spec.column_widths (texts (header ∷ headers) ∷ map row_texts rows) in
     let own = spec.row (texts (header ∷ headers)) (map held ws) in
     let outer = length-append (own ++ spec.separator (map held ws))
-        (flat_map (λ row. spec.row row (map held ws)) (map row_texts rows)) in
+    (flat_map (λ row. spec.row row (map held ws)) (map row_texts rows)) in
     let inner = length-append own (spec.separator (map held ws)) in
     line_held ws (header ∷ headers) (omega (arith, outer, inner, fits))
 

@@ -65,7 +65,7 @@ pub line_ended : (out : List ℕ) (cells : List (List ℕ)) (widths : List ℕ) 
     → out ++ line_feed ∷ [] ≡ out ++ left cells widths i
 line_ended out cells widths i past =
     ap (λ l. out ++ (l ++ line_feed ∷ [])) (sym (ap (λ l. barred_cells (drop i cells) l) (drop_all i widths past)
-        ∙ none_left (drop i cells)))
+    ∙ none_left (drop i cells)))
 
 pub line_cells-length : (columns : ℕ) (cells : List (List ℕ)) → length (line_cells columns cells) ≡ length cells
     + (columns - length cells)
@@ -87,7 +87,7 @@ cell_at columns cells i lt =
     (λ (no : nat_lt i (length cells) ≡ false).
     let past : length cells ≤ i = grind (arith, nat_tests) in
     get_or-append_right (map normalised_cell cells) (replicate (columns - length cells) [])
-        (length cells) i [] size past
+    (length cells) i [] size past
     ∙ get_or-replicate (columns - length cells) (i - length cells) [] [] (omega arith)
     ∙ ap normalised_cell (sym (get_or_past cells i [] past)))
     (cases_Bool (nat_lt i (length cells)))
@@ -126,7 +126,7 @@ pub row_cells : {Z : Type 0} (columns : ℕ) (cells : List (String Z))
 row_cells columns cells =
     let texts = map (λ cell. string_bytes cell) cells in
     both_cells (map normalised_cell texts) (replicate (columns - length texts) []) (normalised_are_cells cells)
-        (empty_cells (columns - length texts))
+    (empty_cells (columns - length texts))
 
 -- ---- reading
 
@@ -186,10 +186,10 @@ parts_of [] widths are = refl
 parts_of (cell ∷ cells) [] are = refl
 parts_of (cell ∷ cells) (width ∷ widths) are =
     ap (slice_split (λ b. b == vertical_bar))
-        (append_assoc (padded_cell cell width) (vertical_bar ∷ barred_cells cells widths) (line_feed ∷ []))
+    (append_assoc (padded_cell cell width) (vertical_bar ∷ barred_cells cells widths) (line_feed ∷ []))
     ∙ slice_split_at (λ b. b == vertical_bar) (padded_cell cell width) vertical_bar
-        (barred_cells cells widths ++ line_feed ∷ [])
-        (none_of vertical_bar (padded_cell cell width) (padded_lacks cell width vertical_bar refl are.0.bars)) refl
+    (barred_cells cells widths ++ line_feed ∷ [])
+    (none_of vertical_bar (padded_cell cell width) (padded_lacks cell width vertical_bar refl are.0.bars)) refl
     ∙ ap (λ l. padded_cell cell width ∷ l) (parts_of cells widths are.1)
 
 all_trimmed : (cells : List (List ℕ)) (widths : List ℕ) → length cells ≡ length widths → AreCells cells
@@ -198,7 +198,7 @@ all_trimmed [] widths same are = refl
 all_trimmed (cell ∷ cells) [] same are = absurd (omega arith)
 all_trimmed (cell ∷ cells) (width ∷ widths) same are =
     ap (λ l. l ∷ map (trimmed_text is_document_white_space) (paddeds cells widths))
-        (padded_trimmed cell width are.0.bare)
+    (padded_trimmed cell width are.0.bare)
     ∙ ap (λ l. cell ∷ l) (all_trimmed cells widths (omega arith) are.1)
 
 inner_of : (inner : List (List ℕ)) (first last : List ℕ) → let parts = first ∷ (inner ++ last ∷ []) in
@@ -214,7 +214,7 @@ pub line_read : (cells : List (List ℕ)) (widths : List ℕ) → length cells �
     → read_row (line cells widths ++ line_feed ∷ []) ≡ cells
 line_read cells widths same are =
     let parts : slice_split (λ b. b == vertical_bar) (line cells widths ++ line_feed ∷ []) ≡ []
-        ∷ (paddeds cells widths ++ (line_feed ∷ []) ∷ []) =
+    ∷ (paddeds cells widths ++ (line_feed ∷ []) ∷ []) =
     ap (λ l. [] ∷ l) (parts_of cells widths are) in
     ap (λ ps. map (trimmed_text is_document_white_space) (drop 1 (take (length ps - 1) ps))) parts
     ∙ ap (map (trimmed_text is_document_white_space)) (inner_of (paddeds cells widths) [] (line_feed ∷ []))

@@ -128,7 +128,7 @@ trimmed_is passes s (b ∷ middle) here =
     ∙ end_reversed passes ((b ∷ middle) ++ here.after)
     ∙ ap (λ l. reverse (trimmed_start passes l)) (reverse-append (b ∷ middle) here.after)
     ∙ ap reverse (passed_start passes (reverse here.after) (reverse (b ∷ middle))
-        (reversed_passes passes here.after here.cut_behind))
+    (reversed_passes passes here.after here.cut_behind))
     ∙ ap reverse (stays_start passes (reverse (b ∷ middle)) here.bare.back)
     ∙ reverse-reverse (b ∷ middle)
 

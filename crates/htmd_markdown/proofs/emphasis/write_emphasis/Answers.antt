@@ -15,15 +15,15 @@ pub range_from-requires : goal.range_from-requires
 range_from-requires c =
     let cut = c.trim_end-middle.ensures.value in
     λ _. front_boundary c.trim_start-rest.result.now c.trim_end-middle.result.now cut.0 c.trim_start-rest.utf8
-        c.trim_end-middle.utf8 cut.5 cut.4 cut.1
+    c.trim_end-middle.utf8 cut.5 cut.4 cut.1
 
 pub returns-clause-marks : goal.returns-clause-marks
 returns-clause-marks c =
     let filled : c.trim_end-middle.result.now ≢ [] = grind (arith, nat_tests) in
     let before : c.range.result.now ≡ take (length c.args.content.now - length c.trim_start-rest.result.now)
-        c.args.content.now = grind (arith, common_steps) in
+    c.args.content.now = grind (arith, common_steps) in
     let after : c.range_from.result.now ≡ drop (length c.trim_end-middle.result.now) c.trim_start-rest.result.now =
-        grind (arith, common_steps) in
+    grind (arith, common_steps) in
     marks_inside (spec.mark c.args.emphasis) c.args.content.now c.trim_start-rest.result.now
-        c.trim_end-middle.result.now c.range.result.now c.range_from.result.now _ c.trim_end-middle.utf8 filled
-        c.trim_start-rest.ensures.value c.trim_end-middle.ensures.value before after (search rules)
+    c.trim_end-middle.result.now c.range.result.now c.range_from.result.now _ c.trim_end-middle.utf8 filled
+    c.trim_start-rest.ensures.value c.trim_end-middle.ensures.value before after (search rules)

@@ -10,6 +10,6 @@ pub returns-clause-bound : goal.returns-clause-bound
 returns-clause-bound c =
     let s = c.args.text.now in
     let size : length (chars s) ≤ length s =
-        omega (arith, length-le-encodes (chars s), ap length (encodes-chars s c.utf8.text)) in
+    omega (arith, length-le-encodes (chars s), ap length (encodes-chars s c.utf8.text)) in
     let same = returns-clause-value c in
     omega (arith, size, same)

@@ -7,5 +7,5 @@ use Rattle.htmd_markdown.proofs.quote.write_quote.Goals as goal
 pub range_from-rest-requires : goal.range_from-rest-requires
 range_from-rest-requires c =
     let cut = start_may_cut c.args.content.now c.leading_len.result c.utf8.content (c.leading_len.ensures.value
-        ∙ ap (prefix_len is_line_feed) c.as_bytes.ensures.value) in
+    ∙ ap (prefix_len is_line_feed) c.as_bytes.ensures.value) in
     λ some. (cut.0, cut.1 some)

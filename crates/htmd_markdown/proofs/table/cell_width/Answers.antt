@@ -11,7 +11,7 @@ pub returns : goal.returns
 returns c =
     let bytes = c.as_bytes-b-items.result.now in
     let items : bytes ≡ trimmed_text is_document_white_space c.args.cell.now = c.as_bytes-b-items.ensures.value
-        ∙ c.trim_document_whitespace-cell.ensures in
+    ∙ c.trim_document_whitespace-cell.ensures in
     let whole : take c.loop-b.b-index bytes ≡ bytes = take_all c.loop-b.b-index bytes c.loop-b-test.false in
     c.loop-b.invariant
     ∙ ap (λ l. min (sum_by byte_width l) 0xFFFF_FFFF_FFFF_FFFF) (whole ∙ items)

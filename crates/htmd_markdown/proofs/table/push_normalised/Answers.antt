@@ -20,17 +20,17 @@ loop-i-preserved c =
     let out = string_bytes c.loop-i.text in
     let i = c.loop-i.i in
     let same : get_or c.as_bytes-bytes.result.now i 0 ≡ get_or s i 0 =
-        ap (λ l. get_or l i 0) c.as_bytes-bytes.ensures.value in
+    ap (λ l. get_or l i 0) c.as_bytes-bytes.ensures.value in
     let size : length c.as_bytes-bytes.result.now ≡ length s = ap length c.as_bytes-bytes.ensures.value in
     elim c.match-replacement.branch [
       | in-Some+in_ok-push_str+in_ok-push_str-2 w ↦
           let here = subst (λ (b : ℕ). IsReplaced b w.in-Some.instead.now) same w.in-Some.ensures in
           let step = normalising_replaced s old out w.in-Some.instead.now c.loop-i.from i
-              c.trim_document_whitespace-cell.utf8 (omega arith) here c.loop-i.invariant in
+          c.trim_document_whitespace-cell.utf8 (omega arith) here c.loop-i.invariant in
           let piece : string_bytes w.push_str.new.self ≡ out ++ between c.loop-i.from i s =
-              cc (w.in_ok-push_str.ensures.bytes, w.range.ensures.value) in
+          cc (w.in_ok-push_str.ensures.bytes, w.range.ensures.value) in
           let written : string_bytes c.match-replacement.text ≡ (out ++ between c.loop-i.from i s)
-              ++ w.in-Some.instead.now =
+          ++ w.in-Some.instead.now =
           ap string_bytes w.text-is ∙ w.in_ok-push_str-2.ensures.bytes ∙ ap (λ l. l ++ w.in-Some.instead.now) piece in
           rw (written, w.from-is) step
       | in_default w ↦
@@ -45,7 +45,7 @@ returns c =
     let old = string_bytes c.args.text.now in
     let size : length c.as_bytes-bytes.result.now ≡ length s = ap length c.as_bytes-bytes.ensures.value in
     let piece : c.range_from.result.now ≡ between c.loop-i.from (length s) s = c.range_from.ensures.value
-        ∙ sym (between_to_end s c.loop-i.from (length s) (omega arith)) in
+    ∙ sym (between_to_end s c.loop-i.from (length s) (omega arith)) in
     c.in_ok-push_str-3.ensures.bytes
     ∙ ap (λ l. string_bytes c.loop-i.text ++ l) piece
     ∙ normalising_all s old (string_bytes c.loop-i.text) c.loop-i.from c.loop-i.i (omega arith) c.loop-i.invariant

@@ -11,7 +11,7 @@ loop-i-init c =
     let widths = c.args.widths.now in
     let cells = line_cells (length widths) (map (λ cell. string_bytes cell) c.args.cells.now) in
     ap (λ l. l ++ left cells widths 0) c.in_ok-push_str.ensures.bytes
-        ∙ line_begun (string_bytes c.args.text.now) cells widths
+    ∙ line_begun (string_bytes c.args.text.now) cells widths
 
 pub loop-i-preserved : goal.loop-i-preserved
 loop-i-preserved c =
@@ -33,10 +33,10 @@ loop-i-preserved c =
           ap (λ cell. cell.now) w.cell-is ∙ sym (get_or_past texts i [] (omega (arith, past, size)))
     ] in
     let cell : normalised_cell c.match-get.cell.now ≡ get_or cells i [] = ap normalised_cell text
-        ∙ sym (cell_at (length widths) texts i c.loop-i-test.true) in
+    ∙ sym (cell_at (length widths) texts i c.loop-i-test.true) in
     let within : i < length cells = omega (arith, line_cells-length (length widths) texts, c.loop-i-test.true) in
     ap (λ l. l ++ left cells widths (i + 1)) (c.in_ok-push_padded.ensures
-        ∙ ap (λ l. (out ++ padded_cell l (get_or widths i 0)) ++ bar) cell)
+    ∙ ap (λ l. (out ++ padded_cell l (get_or widths i 0)) ++ bar) cell)
     ∙ line_more out cells widths i within c.loop-i-test.true
     ∙ c.loop-i.invariant
 

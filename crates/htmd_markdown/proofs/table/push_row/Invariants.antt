@@ -7,4 +7,4 @@ abbrev pub invariant-loop-i : goal.invariant-loop-i
 invariant-loop-i l =
     let texts = map (λ cell. string_bytes cell) l.cells in
     string_bytes l.text ++ left (line_cells (length l.widths) texts) l.widths l.i ≡ string_bytes l.fn.text
-        ++ row texts l.widths
+    ++ row texts l.widths

@@ -22,7 +22,7 @@ loop-i-preserved c =
     c.cell_width-width.ensures
     ∙ ap (λ s. held (cell_width s)) (c.as_str.ensures.value ∙ ap (λ cell. string_bytes cell) c.index-cells-i.is)
     ∙ ap (λ s. held (cell_width s))
-        (sym (get_or-map (λ cell. string_bytes cell) cells i c.index-cells-i.result [] c.loop-i-test.true))
+    (sym (get_or-map (λ cell. string_bytes cell) cells i c.index-cells-i.result [] c.loop-i-test.true))
     ∙ ap held (sym (get_or-map cell_width words i [] 0 (omega (arith, first))))
     ∙ sym (get_or-map held (map cell_width words) i 0 0 (omega (arith, first, second))) in
     let within : i < length more = omega (arith, first, second, third) in
@@ -35,13 +35,13 @@ loop-i-preserved c =
           ∙ ap (λ n. max (get_or ws i 0) n) width in
           let items : c.if-i-len.widths.items ≡ set ws i w.max.result = ap (λ v. v.items) w.widths-is in
           subst (λ (l : List ℕ). Widening old more l (i + 1)) (sym items)
-              (widening_set old more ws i w.max.result lt within is c.loop-i.invariant)
+          (widening_set old more ws i w.max.result lt within is c.loop-i.invariant)
       | else-i-len+in_ok-push w ↦
           let past : length ws ≤ i = omega arith in
           let items : c.if-i-len.widths.items ≡ ws ++ c.cell_width-width.result ∷ [] = ap (λ v. v.items) w.widths-is
-              ∙ w.in_ok-push.ensures.items in
+          ∙ w.in_ok-push.ensures.items in
           subst (λ (l : List ℕ). Widening old more l (i + 1)) (sym items)
-              (widening_push old more ws i c.cell_width-width.result past within width c.loop-i.invariant)
+          (widening_push old more ws i c.cell_width-width.result past within width c.loop-i.invariant)
     ]
 
 pub returns : goal.returns
@@ -49,6 +49,10 @@ returns c =
     let cells = c.args.cells.now in
     let more = held_widths (texts cells) in
     let past : length more ≤ c.loop-i.i =
-        omega (arith, length-map cells (λ cell. string_bytes cell), length-map (texts cells) cell_width,
-        length-map (map cell_width (texts cells)) held) in
+    omega (
+      arith,
+      length-map cells (λ cell. string_bytes cell),
+      length-map (texts cells) cell_width,
+      length-map (map cell_width (texts cells)) held,
+    ) in
     widening_all c.args.widths.now.items more c.loop-i.widths.items c.loop-i.i past c.loop-i.invariant

@@ -11,10 +11,14 @@ returns-clause-reads_back c =
     let texts = map (λ cell. string_bytes cell) c.args.cells.now in
     let text : string_bytes c.push_row.new.text ≡ row texts widths = search rules in
     let size : length (line_cells (length widths) texts) ≡ length widths =
-        omega (arith, line_cells-length (length widths) texts, length-map c.args.cells.now (λ cell. string_bytes cell),
-        c.requires) in
+    omega (
+      arith,
+      line_cells-length (length widths) texts,
+      length-map c.args.cells.now (λ cell. string_bytes cell),
+      c.requires,
+    ) in
     ap read_row text ∙ line_read (line_cells (length widths) texts) widths size
-        (row_cells (length widths) c.args.cells.now)
+    (row_cells (length widths) c.args.cells.now)
 
 pub returns-clause-bars : goal.returns-clause-bars
 returns-clause-bars c =
@@ -22,6 +26,10 @@ returns-clause-bars c =
     let texts = map (λ cell. string_bytes cell) c.args.cells.now in
     let text : string_bytes c.push_row.new.text ≡ row texts widths = search rules in
     let size : length (line_cells (length widths) texts) ≡ length widths =
-        omega (arith, line_cells-length (length widths) texts, length-map c.args.cells.now (λ cell. string_bytes cell),
-        c.requires) in
+    omega (
+      arith,
+      line_cells-length (length widths) texts,
+      length-map c.args.cells.now (λ cell. string_bytes cell),
+      c.requires,
+    ) in
     ap bars text ∙ row_bars (line_cells (length widths) texts) widths size (row_cells (length widths) c.args.cells.now)

@@ -17,7 +17,7 @@ returns-clause-text c =
     let ws = column_widths (hs ∷ rs) in
     let widths = c.in_ok-widths.widths.items in
     let cut : widths ≡ map held ws = c.in_ok-widths.ensures
-        ∙ ap (fold wider (held_widths hs)) (maps held_widths row_texts rows) ∙ held_columns hs rs in
+    ∙ ap (fold wider (held_widths hs)) (maps held_widths row_texts rows) ∙ held_columns hs rs in
     let all : take c.loop-row.row-index rows ≡ rows = take_all c.loop-row.row-index rows c.loop-row-test.false in
     let written : string_bytes c.loop-row.text ≡ table_of_widths (map held ws) hs rs =
     c.loop-row.invariant
@@ -25,7 +25,7 @@ returns-clause-text c =
     ∙ ap (λ w. table_of_widths w hs rs) cut in
     let small : length (string_bytes c.loop-row.text) ≤ 0xFFFF_FFFF_FFFF_FFFF = omega arith in
     let fits : length (table_of_widths (map held ws) hs rs) ≤ 0xFFFF_FFFF_FFFF_FFFF =
-        omega (arith, small, ap length written) in
+    omega (arith, small, ap length written) in
     written ∙ ap (λ w. table_of_widths w hs rs) (widths_held c.args.headers.now rows fits)
 
 pub returns-clause-even : goal.returns-clause-even
@@ -33,4 +33,4 @@ returns-clause-even c =
     let hs = texts c.args.headers.now in
     let rs = map row_texts c.args.rows.now in
     subst (λ (s : List ℕ). IsEven (column_count (hs ∷ rs)) s) (sym (returns-clause-text c))
-        (table_even c.args.headers.now c.args.rows.now)
+    (table_even c.args.headers.now c.args.rows.now)

@@ -6,4 +6,4 @@ use Rattle.htmd_markdown.proofs.table.write_table.Given as goal
 abbrev pub invariant-loop-row : goal.invariant-loop-row
 invariant-loop-row l =
     string_bytes l.text ≡ head (texts l.headers) l.widths.items ++ flat_map (λ cells. row cells l.widths.items)
-        (map row_texts (take l.row-index l.rows))
+    (map row_texts (take l.row-index l.rows))
