@@ -1,5 +1,6 @@
 -- The built-in handlers and their tags.
-use Rattle.std.specs.Prelude.{ℕ, List, [], ◌∷◌, ◌++◌, codes}
+use Rattle.std.specs.Prelude.{ℕ, List, [], ◌∷◌, ◌++◌, codes, map}
+use Rattle.std.specs.Borrow.{Bor}
 use Rattle.htmd.specs.declared.options.Options.{Options}
 use Rattle.htmd.specs.declared.element_handler.built_in.BuiltIn.{BuiltIn}
 use Rattle.htmd.specs.declared.element_handler.built_in.BuiltIn.TheVariants.{BlockQuote, Strong, Emphasis, Heading}
@@ -77,3 +78,7 @@ meaning_of HeadOrBody = parts_of_page
 meaning_of Html = pages
 meaning_of Span = spans
 meaning_of OtherBlock = other_blocks
+
+-- a handler and its tags, as the source has them
+abbrev pub row_of : BuiltIn × Bor (List (Bor (List ℕ))) → Row
+row_of r = row (map (λ tag. tag.now) r.1.now) (meaning_of r.0)

@@ -8,6 +8,7 @@ ghost use Rattle.htmd.specs.BuiltIn.{meaning_of};
 ghost use Rattle.htmd.specs.Views.{result_view, optional_result, results_view, answer_view, element_view};
 ghost use Rattle.htmd.specs.Walking.{request_view};
 
+use super::blocks::TAGS;
 use super::registry::{Contents, Request};
 use super::{
     Element, HandlerResult, Links, Plan, br, emphasis, headings, hr, page, plans, quote, span,
@@ -30,6 +31,21 @@ pub(crate) enum BuiltIn {
     Span,
     OtherBlock,
 }
+
+/// The built-in handlers in order of registration, each with the tags that it is registered for.
+pub(crate) const HANDLERS_AND_TAGS: &[(BuiltIn, &[&str])] = &[
+    (BuiltIn::BlockQuote, &["blockquote"]),
+    (BuiltIn::Strong, &["strong", "b"]),
+    (BuiltIn::Emphasis, &["i", "em"]),
+    (BuiltIn::Heading, &["h1", "h2", "h3", "h4", "h5", "h6"]),
+    (BuiltIn::LineBreak, &["br"]),
+    (BuiltIn::ThematicBreak, &["hr"]),
+    (BuiltIn::Paragraph, &["p"]),
+    (BuiltIn::HeadOrBody, &["head", "body"]),
+    (BuiltIn::Html, &["html"]),
+    (BuiltIn::Span, &["span"]),
+    (BuiltIn::OtherBlock, &TAGS),
+];
 
 impl BuiltIn {
     /// What the handler asks for.

@@ -9,8 +9,7 @@ ghost use Rattle.htmd.specs.Markdown.{append_text};
 ghost use Rattle.htmd.specs.HandlerMeanings.{handler_meaning};
 ghost use Rattle.htmd.specs.Spans.{spans};
 
-use super::blocks::TAGS;
-use super::built_in::BuiltIn;
+use super::built_in::{BuiltIn, HANDLERS_AND_TAGS};
 use super::plans::is_pure;
 use super::registry::{Contents, Registry, Request};
 use super::span::formula_mark;
@@ -134,7 +133,7 @@ fn push_appended(
 
 impl ElementHandlers {
     ghost use Rattle.htmd.specs.Choice.{indexes, no_handler};
-    ghost use Rattle.htmd.specs.BuiltIn.{built_in, empty_config, meaning_of};
+    ghost use Rattle.htmd.specs.BuiltIn.{built_in, empty_config, meaning_of, with_rows, row_of};
 
     /// The built-in handlers.
     pub fn new(alloc: Global, options: Options) -> Result<ElementHandlers, AllocError>
@@ -147,21 +146,19 @@ impl ElementHandlers {
             options,
             alloc,
         };
-        handlers.add_built_in(["blockquote"].as_slice(), BuiltIn::BlockQuote)?;
-        handlers.add_built_in(["strong", "b"].as_slice(), BuiltIn::Strong)?;
-        handlers.add_built_in(["i", "em"].as_slice(), BuiltIn::Emphasis)?;
-        handlers.add_built_in(
-            ["h1", "h2", "h3", "h4", "h5", "h6"].as_slice(),
-            BuiltIn::Heading,
-        )?;
-        handlers.add_built_in(["br"].as_slice(), BuiltIn::LineBreak)?;
-        handlers.add_built_in(["hr"].as_slice(), BuiltIn::ThematicBreak)?;
-        handlers.add_built_in(["p"].as_slice(), BuiltIn::Paragraph)?;
-        handlers.add_built_in(["head", "body"].as_slice(), BuiltIn::HeadOrBody)?;
-        handlers.add_built_in(["html"].as_slice(), BuiltIn::Html)?;
-        handlers.add_built_in(["span"].as_slice(), BuiltIn::Span)?;
-        handlers.add_built_in(TAGS.as_slice(), BuiltIn::OtherBlock)?;
+        handlers.add_rows(HANDLERS_AND_TAGS)?;
         Ok(handlers)
+    }
+
+    /// Registers these handlers in order, each for its tags.
+    fn add_rows(&mut self, rows: &[(BuiltIn, &[&str])]) -> Result<(), AllocError>
+        ensures { let config = ⟦<ElementHandlers as Registry>⟧.config in
+            OnOk result (config self.new ≡ with_rows (map row_of rows.now) (config self.old)) }
+    {
+        for (handler, tags) in rows {
+            self.add_built_in(tags, *handler)?;
+        }
+        Ok(())
     }
 
     /// Asks a built-in handler first for these tags from now on.
