@@ -2,6 +2,7 @@
 use crate::encoding::push_encoded;
 use crate::faults::LineFault;
 use crate::settings::{Question, Settings};
+use htmd::options::{Options, TranslationMode};
 use htmd_cli::{Input, Mode, Output, RunError, run};
 use std::alloc::Global;
 
@@ -14,7 +15,7 @@ pub(crate) fn push_answer(
 ) -> Result<(), LineFault> {
     match settings.question {
         Question::Text => {
-            let markdown = paragraph_markdown(alloc, text)?;
+            let markdown = paragraph_markdown(alloc, text, &settings.options)?;
             answers.push('=')?;
             push_encoded(answers, &markdown)?;
             Ok(())
@@ -23,10 +24,10 @@ pub(crate) fn push_answer(
 }
 
 /// The Markdown of one paragraph, as a run of the program writes it, less its line feed.
-fn paragraph_markdown(alloc: Global, text: &str) -> Result<String, LineFault> {
+fn paragraph_markdown(alloc: Global, text: &str, options: &Options) -> Result<String, LineFault> {
     let mode = Mode {
         text: true,
-        faithful: false,
+        faithful: options.translation_mode == TranslationMode::Faithful,
     };
     let mut written = Vec::new(alloc);
     let mut source = Input::new(text.as_bytes());

@@ -7,6 +7,7 @@ mod answers;
 mod cases;
 mod encoding;
 mod faults;
+mod options;
 mod settings;
 
 use crate::cases::push_answers;

@@ -1,6 +1,8 @@
-//! The settings of a case: what is asked, and later how it is converted.
+//! The settings of a case: what is asked, and how it is converted.
 use crate::faults::LineFault;
-use std::alloc::Global;
+use crate::options::{set_field, truth};
+use htmd::options::Options;
+use std::alloc::{AllocError, Global};
 
 /// What is asked of the text.
 #[derive(Clone, Copy)]
@@ -13,21 +15,70 @@ pub(crate) enum Question {
 #[derive(Drop)]
 pub(crate) struct Settings {
     pub(crate) question: Question,
+    pub(crate) options: Options,
+    /// whether the content of `noscript` is read as one text
+    pub(crate) scripting: bool,
+    /// the tags that are skipped, named in one call
+    pub(crate) skipped: Vec<String>,
 }
 
 impl Settings {
     /// The settings that the words name, in any order. A word that is no setting is the fault.
     pub(crate) fn of(alloc: Global, words: &str) -> Result<Settings, LineFault> {
+        let mut settings = Settings {
+            question: Question::Text,
+            options: Options::default(),
+            scripting: true,
+            skipped: Vec::new(alloc),
+        };
         let mut question = None;
         for word in words.split_whitespace() {
             match word {
                 "text" => question = Some(Question::Text),
-                _ => return Err(LineFault::UnknownSetting(String::from_str(alloc, word)?)),
+                _ => settings.set(alloc, word)?,
             }
         }
         match question {
-            Some(question) => Ok(Settings { question }),
+            Some(question) => Ok(Settings {
+                question,
+                ..settings
+            }),
             None => Err(LineFault::NoQuestion),
         }
     }
+
+    /// Sets what a word `FIELD=VALUE` names.
+    fn set(&mut self, alloc: Global, word: &str) -> Result<(), LineFault> {
+        let (field, value) = word.split_once('=').unwrap_or((word, ""));
+        let is_known = match field {
+            "scripting" => self.set_scripting(value),
+            "skip_tags" => {
+                self.skipped = names_of(alloc, value)?;
+                !self.skipped.is_empty()
+            }
+            _ => set_field(&mut self.options, field, value),
+        };
+        if is_known {
+            return Ok(());
+        }
+        Err(LineFault::UnknownSetting(String::from_str(alloc, word)?))
+    }
+
+    /// Sets the scripting; whether the value is one.
+    fn set_scripting(&mut self, value: &str) -> bool {
+        let Some(scripting) = truth(value) else {
+            return false;
+        };
+        self.scripting = scripting;
+        true
+    }
+}
+
+/// The names between the commas.
+fn names_of(alloc: Global, value: &str) -> Result<Vec<String>, AllocError> {
+    let mut names = Vec::new(alloc);
+    for name in value.split(',') {
+        names.push(String::from_str(alloc, name)?)?;
+    }
+    Ok(names)
 }

@@ -1,5 +1,5 @@
 -- Worked examples of what the program writes.
-use Rattle.std.proofs.Common.{◌≡◌, codes, refl}
+use Rattle.std.proofs.Common.{◌≡◌, ℕ, List, [], ◌∷◌, true, false, codes, refl}
 use Rattle.htmd_text.specs.Blocks.{is_block}
 use Rattle.htmd_tree.specs.NumberedTrees.{tree_of, forest_from}
 use Rattle.htmd_tree.specs.Ancestors.{ancestors_of, ancestors_up}
@@ -8,8 +8,14 @@ use Rattle.htmd.specs.Markdown.{markdown}
 use Rattle.htmd_cli.specs.Conversion.{paragraph_markdown, paragraph_output}
 
 -- white space is squeezed, and emphasis escaped; nothing for nothing; `---` stays
-paragraphs : (paragraph_output (codes "a\n\n  b *c*\n") ≡ codes "a b \\*c\\*\n")
-    × (paragraph_output (codes "") ≡ codes "\n")
-    × (paragraph_output (codes "--- a") ≡ codes "--- a\n")
+paragraphs : (paragraph_output false (codes "a\n\n  b *c*\n") ≡ codes "a b \\*c\\*\n")
+    × (paragraph_output false (codes "") ≡ codes "\n")
+    × (paragraph_output false (codes "--- a") ≡ codes "--- a\n")
 unfolding paragraph_markdown markdown written_within tree_of forest_from ancestors_of ancestors_up is_block
 paragraphs = (refl, refl, refl)
+
+-- a text has nothing that Faithful would write otherwise
+faithful_paragraphs : (text : List ℕ) → paragraph_output true text ≡ paragraph_output false text
+unfolding paragraph_markdown markdown written_within tree_of forest_from ancestors_of ancestors_up is_block
+faithful_paragraphs [] = refl
+faithful_paragraphs (b ∷ s) = refl

@@ -1,7 +1,9 @@
 -- The Markdown of an input, and what the program writes for it.
-use Rattle.std.specs.Prelude.{ℕ, List, [], ◌∷◌, ◌++◌, codes}
+use Rattle.std.specs.Prelude.{ℕ, Bool, if◌then◌else◌, List, [], ◌∷◌, ◌++◌, codes}
 use Rattle.htmd_text.specs.Characters.{line_feed}
 use Rattle.htmd_tree.specs.Items.{Item, document_item, new_item, element_node, text_node}
+use Rattle.htmd.specs.declared.options.Options.{Options}
+use Rattle.htmd.specs.declared.options.TranslationMode.TheVariants.{Pure, Faithful}
 use Rattle.htmd.specs.Defaults.{default_options}
 use Rattle.htmd.specs.BuiltIn.{built_in}
 use Rattle.htmd.specs.Markdown.{markdown}
@@ -15,10 +17,14 @@ abbrev pub paragraph : List ℕ → List Item
 paragraph [] = empty_paragraph
 paragraph (b ∷ s) = empty_paragraph ++ new_item empty_paragraph 1 (text_node (b ∷ s)) ∷ []
 
--- the Markdown of a text that is one paragraph, by the built-in handlers and the default options
-unfoldable pub paragraph_markdown : List ℕ → List ℕ
-paragraph_markdown text = markdown (built_in default_options) (paragraph text) 0
+-- the default options, but Faithful where that is asked for
+abbrev pub options_of : Bool → Options
+options_of faithful = record default_options { translation_mode = if faithful then Faithful else Pure }
+
+-- the Markdown of a text that is one paragraph, by the built-in handlers
+unfoldable pub paragraph_markdown : Bool → List ℕ → List ℕ
+paragraph_markdown faithful text = markdown (built_in (options_of faithful)) (paragraph text) 0
 
 -- the Markdown of one paragraph, and a line feed
-abbrev pub paragraph_output : List ℕ → List ℕ
-paragraph_output text = paragraph_markdown text ++ line_feed ∷ []
+abbrev pub paragraph_output : Bool → List ℕ → List ℕ
+paragraph_output faithful text = paragraph_markdown faithful text ++ line_feed ∷ []

@@ -2,3 +2,4 @@
 pub mod Failures
 pub mod Conversion
 pub mod Runs
+pub mod Words

@@ -37,7 +37,7 @@ pub fn run<R: Source, W: Sink>(
     requires sink { W.has_failed sink.old ≡ false }
     requires text { IsTrue mode.text }
     ensures ok { OnOk result
-        (Converts (R.remaining source.old) (W.contents sink.old) (W.contents sink.new)) }
+        (Converts mode.faithful (R.remaining source.old) (W.contents sink.old) (W.contents sink.new)) }
     ensures end { OnOk result (IsAtEnd (R.remaining source.new)) }
     ensures end_not_utf8 { IsErrOf result RunError.NotUtf8 → IsAtEnd (R.remaining source.new) }
     ensures not_utf8 { IsErrOf result RunError.NotUtf8 →
@@ -48,7 +48,7 @@ pub fn run<R: Source, W: Sink>(
     ensures write_failed { IsErrOf result RunError.Write ↔ IsTrue (W.has_failed sink.new) }
 {
     let input = read_all(alloc, source)?;
-    let markdown = converted(alloc, input.as_slice())?;
+    let markdown = converted(alloc, input.as_slice(), mode)?;
     if write_line(sink, markdown.as_str()).is_err() {
         return Err(RunError::Write);
     }
@@ -80,16 +80,16 @@ fn read_all<R: Source>(alloc: Global, source: &mut R) -> Result<Vec<u8>, RunErro
 }
 
 // The Markdown of an input that is UTF-8.
-fn converted(alloc: Global, input: &[u8]) -> Result<String, RunError>
+fn converted(alloc: Global, input: &[u8], mode: Mode) -> Result<String, RunError>
     ensures ok { IfOk result (λ markdown.
-        IsUtf8 input.now × (string_bytes markdown ≡ paragraph_markdown input.now)) }
+        IsUtf8 input.now × (string_bytes markdown ≡ paragraph_markdown mode.faithful input.now)) }
     ensures not_utf8 { IsErrOf result RunError.NotUtf8 → ¬ IsUtf8 input.now }
     ensures others { IfErr result (λ error. error ≢ RunError.Read × error ≢ RunError.Write) }
 {
     let Ok(text) = str::from_utf8(input) else {
         return Err(RunError::NotUtf8);
     };
-    Ok(paragraph_to_markdown(alloc, text)?)
+    Ok(paragraph_to_markdown(alloc, text, mode.faithful)?)
 }
 
 // Writes the Markdown and a line feed, and flushes.

@@ -2,6 +2,7 @@
 ghost use Rattle.std.specs.Prelude.{◌≡◌, ◌≢◌, ◌≤◌, false, IsTrue, IfSome};
 ghost use Rattle.std.specs.Io.KnownBytes.{Appends, IsAtEnd, Keeps};
 ghost use Rattle.htmd_cli.specs.Runs.{Converts};
+ghost use Rattle.htmd_cli.specs.Words.{is_faithful};
 
 use crate::faults::RunError;
 use crate::pipeline::{Mode, run};
@@ -25,7 +26,7 @@ pub fn command<R: Source, W: Sink, E: Sink>(
     requires source { R.has_failed source.old ≡ false }
     requires sink { W.has_failed sink.old ≡ false }
     ensures success { result ≡ 0 →
-        Converts (R.remaining source.old) (W.contents sink.old) (W.contents sink.new) }
+        Converts (is_faithful words.now) (R.remaining source.old) (W.contents sink.old) (W.contents sink.new) }
     ensures end { result ≡ 0 → IsAtEnd (R.remaining source.new) }
     ensures no_failure { result ≡ 0 →
         (R.has_failed source.new ≡ false) × (W.has_failed sink.new ≡ false) }
@@ -49,22 +50,22 @@ pub fn command<R: Source, W: Sink, E: Sink>(
 
 // The mode that the words ask for, if all are known.
 fn mode_of(words: &[String]) -> Option<Mode>
-    ensures { IfSome result (λ mode. IsTrue mode.text) }
+    ensures text { IfSome result (λ mode. IsTrue mode.text) }
+    ensures faithful { IfSome result (λ mode. mode.faithful ≡ is_faithful words.now) }
 {
     let mut text = false;
+    let mut faithful = false;
     for word in words {
         match word.as_str() {
             "--text" => text = true,
+            "--faithful" => faithful = true,
             _ => return None,
         }
     }
     if !text {
         return None;
     }
-    Some(Mode {
-        text,
-        faithful: false,
-    })
+    Some(Mode { text, faithful })
 }
 
 // A sink as a formatter's writer.

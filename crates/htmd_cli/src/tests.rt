@@ -23,8 +23,31 @@ fn strings(alloc: Global, words: &[&str]) -> Result<Vec<String>, AllocError> {
 #[test]
 fn answers_words(rt: HostRuntime) -> Result<(), Fail> {
     let unknown = "htmd: unknown word\n";
-    let table: [(&[&str], &[u8], &str, &str, u8); 7] = [
+    let table: [(&[&str], &[u8], &str, &str, u8); 12] = [
         (&["--text"], b"a b", "a b\n", "", 0),
+        (
+            &["--text", "--faithful"],
+            b"<b>*a*",
+            "\\<b>\\*a\\*\n",
+            "",
+            0,
+        ),
+        (
+            &["--faithful", "--text", "--faithful"],
+            b"a\r\nb",
+            "a b\n",
+            "",
+            0,
+        ),
+        (
+            &["--faithful", "--text"],
+            b"\xff",
+            "",
+            "htmd: not UTF-8\n",
+            1,
+        ),
+        (&["--text", "--faithfully"], b"x", "", unknown, 2),
+        (&["--faithful", "--bogus", "--text"], b"x", "", unknown, 2),
         (&["--text"], b"", "\n", "", 0),
         (&["--text", "--text"], b"a", "a\n", "", 0),
         (&["--text"], b"\xff", "", "htmd: not UTF-8\n", 1),

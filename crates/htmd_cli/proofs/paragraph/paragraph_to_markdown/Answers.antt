@@ -2,11 +2,11 @@
 use Rattle.std.proofs.Common.{◌≡◌, ◌∙◌, ap, ℕ, List, string_bytes}
 use Rattle.std.proofs.lemmas.Result.{IfOk-weaker}
 use Rattle.htmd_tree.specs.Items.{Item}
-use Rattle.htmd.specs.Choice.{Config}
+use Rattle.htmd.specs.Choice.{Config, with_options}
 use Rattle.htmd.specs.Defaults.{default_options}
 use Rattle.htmd.specs.BuiltIn.{built_in}
 use Rattle.htmd.specs.Markdown.{markdown}
-use Rattle.htmd_cli.specs.Conversion.{paragraph, paragraph_markdown}
+use Rattle.htmd_cli.specs.Conversion.{paragraph, options_of, paragraph_markdown}
 use Rattle.htmd_cli.proofs.paragraph.paragraph_to_markdown.Goals as goal
 
 -- the Markdown of equal trees by equal handlers
@@ -19,6 +19,8 @@ pub returns : goal.returns
 unfolding paragraph_markdown
 returns c =
     IfOk-weaker c.tree_to_markdown.result _
-    (λ text. string_bytes text ≡ markdown (built_in default_options) (paragraph c.args.text.now) 0)
+    (λ text. string_bytes text ≡ markdown (built_in (options_of c.args.faithful)) (paragraph c.args.text.now) 0)
     (λ text e. e
-    ∙ same_markdown _ _ _ _ _ _ c.in_ok-new.ensures c.in-Ok.ensures.ok c.root.ensures.value) c.tree_to_markdown.ensures
+    ∙ same_markdown _ (with_options (built_in default_options) (options_of c.args.faithful)) _ _ _ _
+    (cc (c.build-converter.ensures, c.options.ensures, c.in_ok-builder.ensures, c.options_of.ensures))
+    c.in-Ok.ensures.ok c.root.ensures.value) c.tree_to_markdown.ensures

@@ -1,0 +1,6 @@
+use Rattle.std.proofs.Common.{◌≡◌, take}
+use Rattle.htmd_cli.specs.Words.{is_faithful}
+use Rattle.htmd_cli.proofs.program.mode_of.Given as goal
+
+abbrev pub invariant-loop-word : goal.invariant-loop-word
+invariant-loop-word l = l.faithful ≡ is_faithful (take l.word-index l.words)

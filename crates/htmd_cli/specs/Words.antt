@@ -1,0 +1,10 @@
+-- The program's words.
+use Rattle.std.specs.Prelude.{Bool, List, codes, string_bytes}
+use Rattle.std.specs.List.{list_any}
+use Rattle.std.specs.Str.{bytes_eq}
+use Rattle.std.specs.declared.alloc.Global.{Global}
+use Rattle.std.specs.declared.string.String.{String}
+
+-- Faithful is asked for
+abbrev pub is_faithful : List (String Global) → Bool
+is_faithful words = list_any (λ word. bytes_eq (string_bytes word) (codes "--faithful")) words
