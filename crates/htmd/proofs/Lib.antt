@@ -10,5 +10,6 @@ pub mod ChildrenLemmas
 pub mod RenderingLemmas
 pub mod WalkingLemmas
 pub mod PassingLemmas
+pub mod CodeLemmas
 pub mod LawsLemmas
 mod Examples

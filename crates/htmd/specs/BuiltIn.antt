@@ -5,6 +5,7 @@ use Rattle.htmd.specs.declared.options.Options.{Options}
 use Rattle.htmd.specs.declared.element_handler.built_in.BuiltIn.{BuiltIn}
 use Rattle.htmd.specs.declared.element_handler.built_in.BuiltIn.TheVariants.{BlockQuote, Strong, Emphasis, Heading}
 use Rattle.htmd.specs.declared.element_handler.built_in.BuiltIn.TheVariants.{LineBreak, ThematicBreak, Paragraph}
+use Rattle.htmd.specs.declared.element_handler.built_in.BuiltIn.TheVariants.{Code, Preformatted}
 use Rattle.htmd.specs.declared.element_handler.built_in.BuiltIn.TheVariants.{HeadOrBody}
 use Rattle.htmd.specs.declared.element_handler.built_in.BuiltIn.TheVariants.{Html, Span, OtherBlock}
 use Rattle.htmd.specs.Handling.{HandlerMeaning}
@@ -13,6 +14,7 @@ use Rattle.htmd_markdown.specs.declared.emphasis.Emphasis.TheVariants as kind
 use Rattle.htmd.specs.Sections.{quotes, paragraphs, parts_of_page, pages, other_blocks}
 use Rattle.htmd.specs.Inline.{headings, emphasis_of, line_breaks, thematic_breaks}
 use Rattle.htmd.specs.Spans.{spans}
+use Rattle.htmd.specs.Code.{code, preformatted_texts}
 
 -- a handler, and the tags that it is registered for
 pub record Row : Type 0 where
@@ -41,12 +43,14 @@ other_block_tags =
 abbrev pub built_in_rows : List Row
 built_in_rows =
     row (codes "blockquote" ∷ []) quotes
+    ∷ row (codes "code" ∷ []) code
     ∷ row (codes "strong" ∷ codes "b" ∷ []) (emphasis_of kind.Strong)
     ∷ row (codes "i" ∷ codes "em" ∷ []) (emphasis_of kind.Regular)
     ∷ row heading_tags headings
     ∷ row (codes "br" ∷ []) line_breaks
     ∷ row (codes "hr" ∷ []) thematic_breaks
     ∷ row (codes "p" ∷ []) paragraphs
+    ∷ row (codes "pre" ∷ []) preformatted_texts
     ∷ row (codes "head" ∷ codes "body" ∷ []) parts_of_page
     ∷ row (codes "html" ∷ []) pages
     ∷ row (codes "span" ∷ []) spans
@@ -68,12 +72,14 @@ built_in options = with_rows built_in_rows (empty_config options)
 -- what a built-in handler means
 abbrev pub meaning_of : BuiltIn → HandlerMeaning
 meaning_of BlockQuote = quotes
+meaning_of Code = code
 meaning_of Strong = emphasis_of kind.Strong
 meaning_of Emphasis = emphasis_of kind.Regular
 meaning_of Heading = headings
 meaning_of LineBreak = line_breaks
 meaning_of ThematicBreak = thematic_breaks
 meaning_of Paragraph = paragraphs
+meaning_of Preformatted = preformatted_texts
 meaning_of HeadOrBody = parts_of_page
 meaning_of Html = pages
 meaning_of Span = spans

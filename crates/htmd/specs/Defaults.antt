@@ -4,9 +4,9 @@ use Rattle.htmd_markdown.specs.declared.heading.HeadingStyle.TheVariants.{Atx}
 use Rattle.htmd_markdown.specs.declared.thematic_break.HrStyle.TheVariants.{Asterisks}
 use Rattle.htmd_markdown.specs.declared.line_break.BrStyle.TheVariants.{TwoSpaces}
 use Rattle.htmd.specs.declared.options.LinkStyle.TheVariants.{Inlined}
-use Rattle.htmd.specs.declared.options.LinkReferenceStyle.TheVariants.{Full}
+use Rattle.htmd_markdown.specs.declared.link.LinkReferenceStyle.TheVariants.{Full}
 use Rattle.htmd.specs.declared.options.CodeBlockStyle.TheVariants.{Fenced}
-use Rattle.htmd.specs.declared.options.CodeBlockFence.TheVariants.{Backticks}
+use Rattle.htmd_markdown.specs.declared.fence.CodeBlockFence.TheVariants.{Backticks}
 use Rattle.htmd.specs.declared.options.BulletListMarker.TheVariants.{Asterisk}
 use Rattle.htmd.specs.declared.options.TranslationMode.TheVariants.{Pure}
 use Rattle.htmd.specs.declared.options.Options.{Options}

@@ -16,6 +16,7 @@ pub mod ElementViews
 pub mod Sections
 pub mod Inline
 pub mod Spans
+pub mod Code
 pub mod BuiltIn
 pub mod Beginnings
 pub mod Views

@@ -2,7 +2,7 @@
 
 ghost use Rattle.std.specs.Prelude.{◌≡◌};
 
-pub use htmd_markdown::{BrStyle, HeadingStyle, HrStyle};
+pub use htmd_markdown::{BrStyle, CodeBlockFence, HeadingStyle, HrStyle, LinkReferenceStyle};
 
 /// How a link is written (CommonMark 0.31.2, 6.3).
 #[derive(Debug, Clone, Copy, PartialEq)]
@@ -15,17 +15,6 @@ pub enum LinkStyle {
     Referenced,
 }
 
-/// How a link reference is written (CommonMark 0.31.2, 6.3).
-#[derive(Debug, Clone, Copy, PartialEq)]
-pub enum LinkReferenceStyle {
-    /// `[text][1]`
-    Full,
-    /// `[text][]`
-    Collapsed,
-    /// `[text]`
-    Shortcut,
-}
-
 /// How a code block is written.
 #[derive(Debug, Clone, Copy, PartialEq)]
 pub enum CodeBlockStyle {
@@ -33,13 +22,6 @@ pub enum CodeBlockStyle {
     Indented,
     /// Between two fences (CommonMark 0.31.2, 4.5).
     Fenced,
-}
-
-/// The symbol of a code fence (CommonMark 0.31.2, 4.5).
-#[derive(Debug, Clone, Copy, PartialEq)]
-pub enum CodeBlockFence {
-    Tildes,
-    Backticks,
 }
 
 /// The marker of an item of a bullet list (CommonMark 0.31.2, 5.2).

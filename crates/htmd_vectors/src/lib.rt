@@ -3,6 +3,10 @@
 #![tactic(auto)]
 
 #[cfg(test)]
+mod code;
+#[cfg(test)]
 mod program;
+#[cfg(test)]
+mod rows;
 #[cfg(test)]
 mod trees;

@@ -11,7 +11,8 @@ ghost use Rattle.htmd.specs.Walking.{request_view};
 use super::blocks::TAGS;
 use super::registry::{Contents, Request};
 use super::{
-    Element, HandlerResult, Links, Plan, br, emphasis, headings, hr, page, plans, quote, span,
+    Element, HandlerResult, Links, Plan, br, code, emphasis, headings, hr, page, plans, pre, quote,
+    span,
 };
 use htmd_markdown::Emphasis;
 use std::alloc::{AllocError, Global};
@@ -20,12 +21,14 @@ use std::alloc::{AllocError, Global};
 #[derive(Clone, Copy)]
 pub(crate) enum BuiltIn {
     BlockQuote,
+    Code,
     Strong,
     Emphasis,
     Heading,
     LineBreak,
     ThematicBreak,
     Paragraph,
+    Preformatted,
     HeadOrBody,
     Html,
     Span,
@@ -35,12 +38,14 @@ pub(crate) enum BuiltIn {
 /// The built-in handlers in order of registration, each with the tags that it is registered for.
 pub(crate) const HANDLERS_AND_TAGS: &[(BuiltIn, &[&str])] = &[
     (BuiltIn::BlockQuote, &["blockquote"]),
+    (BuiltIn::Code, &["code"]),
     (BuiltIn::Strong, &["strong", "b"]),
     (BuiltIn::Emphasis, &["i", "em"]),
     (BuiltIn::Heading, &["h1", "h2", "h3", "h4", "h5", "h6"]),
     (BuiltIn::LineBreak, &["br"]),
     (BuiltIn::ThematicBreak, &["hr"]),
     (BuiltIn::Paragraph, &["p"]),
+    (BuiltIn::Preformatted, &["pre"]),
     (BuiltIn::HeadOrBody, &["head", "body"]),
     (BuiltIn::Html, &["html"]),
     (BuiltIn::Span, &["span"]),
@@ -55,12 +60,14 @@ impl BuiltIn {
     {
         match self {
             BuiltIn::BlockQuote => Ok(Request::OfPlan(plans::plain_plan(element))),
+            BuiltIn::Code => Ok(Request::OfPlan(code::plan(element))),
             BuiltIn::Strong => Ok(Request::OfPlan(plans::plain_plan(element))),
             BuiltIn::Emphasis => Ok(Request::OfPlan(plans::plain_plan(element))),
             BuiltIn::Heading => Ok(Request::OfPlan(plans::plain_plan(element))),
             BuiltIn::LineBreak => Ok(Request::OfPlan(br::plan(alloc, element)?)),
             BuiltIn::ThematicBreak => Ok(Request::OfPlan(hr::plan(alloc, element)?)),
             BuiltIn::Paragraph => Ok(Request::OfPlan(plans::plain_plan(element))),
+            BuiltIn::Preformatted => Ok(Request::OfPlan(pre::plan(element))),
             BuiltIn::HeadOrBody => Ok(Request::OfPlan(page::plan_of_part(element))),
             BuiltIn::Html => Ok(Request::OfPlan(page::plan(element))),
             BuiltIn::Span => Ok(Request::OfPlan(span::plan(alloc, element)?)),
@@ -83,12 +90,14 @@ impl BuiltIn {
     {
         match self {
             BuiltIn::BlockQuote => quote::finish(alloc, element, content),
+            BuiltIn::Code => code::finish(alloc, element, content),
             BuiltIn::Strong => emphasis::finish(alloc, Emphasis::Strong, element, content),
             BuiltIn::Emphasis => emphasis::finish(alloc, Emphasis::Regular, element, content),
             BuiltIn::Heading => headings::finish(alloc, element, content),
             BuiltIn::LineBreak => Ok(None),
             BuiltIn::ThematicBreak => Ok(None),
             BuiltIn::Paragraph => plans::wrap(alloc, element, content),
+            BuiltIn::Preformatted => pre::finish(alloc, element, content),
             BuiltIn::HeadOrBody => plans::wrap(alloc, element, content),
             BuiltIn::Html => plans::wrap(alloc, element, content),
             BuiltIn::Span => span::finish(alloc, element, content),

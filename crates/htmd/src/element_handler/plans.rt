@@ -29,6 +29,13 @@ pub(crate) fn is_plain(element: &Element) -> bool
     is_pure(element.options) || element.attrs.is_empty()
 }
 
+/// Whether the element has more attributes than Markdown has a form for, where that matters.
+pub(crate) fn is_raw_html_due(element: &Element, allowed: usize) -> bool
+    ensures { result ≡ spec.is_raw_html_due (element_view element.now) allowed }
+{
+    !is_pure(element.options) && element.attrs.len() > allowed
+}
+
 /// The children's content, unless the element has attributes that Markdown has no form for.
 pub(crate) fn plain_plan(element: &Element) -> Plan
     ensures { plan_view result ≡ spec.plain_plan (element_view element.now) }
