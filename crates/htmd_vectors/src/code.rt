@@ -1,5 +1,5 @@
 //! Code spans and code blocks, from trees that are built by calls.
-use crate::rows::{Row, converts};
+use crate::rows::{Row, converted};
 use htmd::options::{CodeBlockFence, CodeBlockStyle, Options, TranslationMode};
 use std::test::Fail;
 
@@ -10,7 +10,10 @@ fn converts_code(rt: HostRuntime) -> Result<(), Fail> {
         (&[(0, "code", ""), (1, "", "code`")], "`` code` ``"),
         (&[(0, "p", ""), (1, "code", "")], "``"),
         (&[(0, "code", ""), (1, "", "a\nb")], "`a\nb`"),
-        (&[(0, "code", ""), (1, "", "a `` b ` c")], "```a `` b ` c```"),
+        (
+            &[(0, "code", ""), (1, "", "a `` b ` c")],
+            "```a `` b ` c```",
+        ),
         (&[(0, "pre", ""), (1, "", "~x")], "\\~x"),
         (
             &[
@@ -29,7 +32,11 @@ fn converts_code(rt: HostRuntime) -> Result<(), Fail> {
             "```c-sharp\na\n```",
         ),
         (
-            &[(0, "pre", "class=language-rust"), (1, "code", ""), (2, "", "x")],
+            &[
+                (0, "pre", "class=language-rust"),
+                (1, "code", ""),
+                (2, "", "x"),
+            ],
             "```rust\nx\n```",
         ),
         (
@@ -49,55 +56,68 @@ fn converts_code(rt: HostRuntime) -> Result<(), Fail> {
             "`ab`",
         ),
     ];
-    converts(rt, Options::default(), &table)
+    for (row, markdown) in table {
+        let options = Options::default();
+        let answer = converted(rt.alloc(), options, row)?;
+        assert_eq!(rt; answer.as_str(), markdown);
+    }
+    Ok(())
 }
 
 #[test]
 fn indents_code(rt: HostRuntime) -> Result<(), Fail> {
-    let options = Options {
-        code_block_style: CodeBlockStyle::Indented,
-        ..Options::default()
-    };
     let table: [(Row, &str); 1] = [(
         &[(0, "pre", ""), (1, "code", ""), (2, "", "a\n\nb\n")],
         "    a\n    \n    b",
     )];
-    converts(rt, options, &table)
+    for (row, markdown) in table {
+        let options = Options {
+            code_block_style: CodeBlockStyle::Indented,
+            ..Options::default()
+        };
+        let answer = converted(rt.alloc(), options, row)?;
+        assert_eq!(rt; answer.as_str(), markdown);
+    }
+    Ok(())
 }
 
 #[test]
 fn fences_with_tildes(rt: HostRuntime) -> Result<(), Fail> {
-    let options = Options {
-        code_block_fence: CodeBlockFence::Tildes,
-        ..Options::default()
-    };
     let table: [(Row, &str); 1] = [(
         &[(0, "pre", ""), (1, "code", ""), (2, "", "~~~~~\nx")],
         "~~~~~~\n~~~~~\nx\n~~~~~~",
     )];
-    converts(rt, options, &table)
+    for (row, markdown) in table {
+        let options = Options {
+            code_block_fence: CodeBlockFence::Tildes,
+            ..Options::default()
+        };
+        let answer = converted(rt.alloc(), options, row)?;
+        assert_eq!(rt; answer.as_str(), markdown);
+    }
+    Ok(())
 }
 
 #[test]
 fn keeps_white_space(rt: HostRuntime) -> Result<(), Fail> {
-    let options = Options {
-        preformatted_code: true,
-        ..Options::default()
-    };
     let table: [(Row, &str); 3] = [
         (&[(0, "code", ""), (1, "", " foo ")], "`  foo  `"),
         (&[(0, "code", ""), (1, "", "a\nb")], "`a b`"),
         (&[(0, "code", ""), (1, "", "\n a\n")], "`   a  `"),
     ];
-    converts(rt, options, &table)
+    for (row, markdown) in table {
+        let options = Options {
+            preformatted_code: true,
+            ..Options::default()
+        };
+        let answer = converted(rt.alloc(), options, row)?;
+        assert_eq!(rt; answer.as_str(), markdown);
+    }
+    Ok(())
 }
 
 #[test]
 fn is_faithful(rt: HostRuntime) -> Result<(), Fail> {
-    let options = Options {
-        translation_mode: TranslationMode::Faithful,
-        ..Options::default()
-    };
     let table: [(Row, &str); 6] = [
         (&[(0, "pre", ""), (1, "", "Test")], "<pre>Test</pre>"),
         (
@@ -109,7 +129,11 @@ fn is_faithful(rt: HostRuntime) -> Result<(), Fail> {
             "<pre><code accesskey=\"f\">Test</code></pre>",
         ),
         (
-            &[(0, "pre", ""), (1, "code", "class=language-x"), (2, "", "a")],
+            &[
+                (0, "pre", ""),
+                (1, "code", "class=language-x"),
+                (2, "", "a"),
+            ],
             "```x\na\n```",
         ),
         (
@@ -121,5 +145,13 @@ fn is_faithful(rt: HostRuntime) -> Result<(), Fail> {
             "<code class=\"language-x\">a</code>",
         ),
     ];
-    converts(rt, options, &table)
+    for (row, markdown) in table {
+        let options = Options {
+            translation_mode: TranslationMode::Faithful,
+            ..Options::default()
+        };
+        let answer = converted(rt.alloc(), options, row)?;
+        assert_eq!(rt; answer.as_str(), markdown);
+    }
+    Ok(())
 }

@@ -28,7 +28,10 @@ pub(crate) fn plan(element: &Element) -> Plan
     if !is_plain(element) {
         return Plan::RawHtml;
     }
-    plan_if(element.markdown_translated && is_code_alone(element), element)
+    plan_if(
+        element.markdown_translated && is_code_alone(element),
+        element,
+    )
 }
 
 /// The content with blank lines around; in Faithful the element's raw HTML where not all is Markdown.
