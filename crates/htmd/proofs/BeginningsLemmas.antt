@@ -20,9 +20,9 @@ use Rattle.htmd.specs.Children.{is_block_tree, before_child, trim_after, write_c
 use Rattle.htmd.specs.Children.{content_alone, descendant_tree}
 use Rattle.htmd.specs.Elements.{Occurrence, Answer, content_of, raw_element, raw_answer, finish_answer, after_fallback}
 use Rattle.htmd.specs.Elements.{Contents}
-use Rattle.htmd.specs.Elements.{contents_alone, content_if, plan_answer, without_handler, first_answer, answer_after}
+use Rattle.htmd.specs.Elements.{contents_alone, content_if, plan_answer, first_answer, answer_after}
 use Rattle.htmd.specs.Elements.{occurrence_at}
-use Rattle.htmd.specs.Elements.{answer_of, each_answer}
+use Rattle.htmd.specs.Elements.{each_answer}
 use Rattle.htmd.specs.Rendering.{with_result, write_node, written_within}
 use Rattle.htmd.proofs.ElementsLemmas.{answer-some}
 

@@ -1,11 +1,10 @@
 -- What the handlers of an element answer, one handler at a time.
-use Rattle.std.proofs.Common.{◌≡◌, ℕ, zero, suc, ◌+◌, List, [], ◌∷◌, drop, Option, Some, None, slice_get, refl, sym, ap}
+use Rattle.std.proofs.Common.{◌≡◌, ℕ, zero, suc, ◌+◌, List, [], ◌∷◌, drop, Some, None, slice_get, refl, sym, ap}
 use Rattle.std.proofs.Common.{◌∙◌}
-use Rattle.std.proofs.Common.{Bool, true, false, cond, add-one}
-use Rattle.htmd_tree.specs.Items.{Data, element_node, data_at}
-use Rattle.htmd.specs.Handling.{ElementView, ResultView, PlanView, HandlerMeaning, Finish}
+use Rattle.std.proofs.Common.{true, false, cond, add-one}
+use Rattle.htmd.specs.Handling.{PlanView}
 use Rattle.htmd.specs.Choice.{indexes, handler_at, handlers_at}
-use Rattle.htmd.specs.Outputs.{Output, is_pure}
+use Rattle.htmd.specs.Outputs.{is_pure}
 use Rattle.htmd.specs.Elements.{Occurrence, Answer, plan_answer, first_answer, answer_after, without_handler}
 use Rattle.htmd.specs.Elements.{raw_answer}
 use Rattle.htmd.specs.Elements.{content_if}

@@ -1,5 +1,5 @@
 -- The first group of what is left of a node's children, and what a node shows with the joined text.
-use Rattle.std.proofs.Common.{◌≡◌, ℕ, zero, suc, ◌<◌, ◌≤◌, List, [], ◌∷◌, ◌++◌, length, get_or, take, drop, Option}
+use Rattle.std.proofs.Common.{◌≡◌, ℕ, suc, ◌<◌, List, [], ◌∷◌, ◌++◌, length, get_or, take, drop, Option}
 use Rattle.std.proofs.Common.{Some, None, IsSome}
 use Rattle.std.proofs.Common.{refl, sym, ap, ◌∙◌, subst, Bool, true, false, cond, arith}
 use Rattle.std.proofs.lemmas.List.{append-nil}
@@ -14,9 +14,9 @@ use Rattle.htmd_tree.specs.Views.{data_of}
 use Rattle.htmd_tree.proofs.NumberedTreesLemmas.{tree-open}
 use Rattle.htmd_tree.specs.NumberedTrees.{NumberedTree, document, doctype, text, comment, element}
 use Rattle.htmd_tree.specs.NumberedTrees.{NumberedForest, none, more, forest_of, with_children, tree_of}
-use Rattle.htmd.specs.Groups.{only_text, with_only_text, Joint, joint_with, joint_of, joins, both_join, is_joinable}
+use Rattle.htmd.specs.Groups.{only_text, with_only_text, Joint, joint_with, joint_of, both_join, is_joinable}
 use Rattle.htmd.specs.Groups.{joint_text, text_of, with_text, in_front, groups_of, group_length, texts_of, group_text}
-use Rattle.htmd.specs.Groups.{group_tree, group_children, children_at}
+use Rattle.htmd.specs.Groups.{group_tree, children_at}
 
 -- ---- a tree with another text
 

@@ -1,5 +1,6 @@
 pub mod Cuts
 pub mod SeamsLemmas
+pub mod PlainTextsLemmas
 pub mod Nodes
 pub mod ChoiceLemmas
 pub mod RegistrationsLemmas

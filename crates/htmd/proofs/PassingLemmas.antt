@@ -10,13 +10,13 @@ use Rattle.htmd_tree.specs.ValueTrees.{AttributePair}
 use Rattle.htmd_tree.specs.Items.{Data, element_node, data_at}
 use Rattle.std.proofs.lemmas.Slice.Eq.{bytes_eq-Decides}
 use Rattle.htmd_tree.specs.Ancestors.{Ancestor, ancestor_of}
-use Rattle.htmd.specs.Handling.{PlanView, raw_html, content_of_children, HandlerMeaning}
+use Rattle.htmd.specs.Handling.{raw_html, content_of_children, HandlerMeaning}
 use Rattle.htmd.specs.Choice.{Config, indexes, handler_at, handlers_at}
 use Rattle.htmd.specs.Markdown.{append_text, append_texts}
 use Rattle.htmd.proofs.ElementsLemmas.{drop_at_some, drop_at_none}
 use Rattle.htmd.specs.OrdinaryText.{pre}
 use Rattle.htmd.specs.Outputs.{Output, is_pure}
-use Rattle.htmd.specs.ElementViews.{ancestors_of, pure_plan}
+use Rattle.htmd.specs.ElementViews.{ancestors_of}
 use Rattle.htmd.specs.Elements.{Occurrence, Answer, content_of, first_answer, answer_after, plan_answer, content_if}
 use Rattle.htmd.specs.Elements.{raw_answer}
 use Rattle.htmd.specs.Spans.{is_span, formula_mark, has_math_class, formula_plan, spans}

@@ -1,5 +1,5 @@
 -- How a node is written, by what it is.
-use Rattle.std.proofs.Common.{◌≡◌, ℕ, zero, suc, ◌+◌, ◌<◌, ◌≤◌, List, [], ◌∷◌, length, Option, Some, None, refl, sym}
+use Rattle.std.proofs.Common.{◌≡◌, ℕ, zero, suc, ◌<◌, ◌≤◌, List, ◌∷◌, length, Option, Some, None, refl, sym}
 use Rattle.std.proofs.Common.{ap, ◌∙◌}
 use Rattle.std.proofs.Common.{Bool, true, false, cond, arith}
 use Rattle.std.proofs.Props.{props}
@@ -7,7 +7,7 @@ use Rattle.std.proofs.Math.Logic.{∥∥₁_elim}
 use Rattle.htmd_text.specs.Trims.{trimmed_end, is_space}
 use Rattle.htmd_tree.specs.ValueTrees.{AttributePair}
 use Rattle.htmd_tree.specs.Items.{Item, Data, document_node, doctype_node, text_node, comment_node, element_node}
-use Rattle.htmd_tree.specs.Items.{IsTree, IsBelow, data_at, parent_at}
+use Rattle.htmd_tree.specs.Items.{IsTree, IsBelow, data_at}
 use Rattle.htmd_tree.specs.NumberedTrees.{NumberedTree, NumberedForest, document, doctype, text, comment, element}
 use Rattle.htmd_tree.specs.NumberedTrees.{with_children}
 use Rattle.htmd_tree.specs.NumberedTrees.{tree_of, height}

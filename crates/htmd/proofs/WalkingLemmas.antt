@@ -1,11 +1,11 @@
 -- What the walk shows of an element, and the contents of nodes, one after another.
 use Rattle.std.proofs.Common.{◌≡◌, ℕ, zero, suc, ◌+◌, ◌<◌, List, [], ◌∷◌, ◌++◌, length, get_or, drop, Option, Some}
 use Rattle.std.proofs.Common.{None, refl, sym, ap, ◌∙◌, ◌≤◌, arith, subst, IsSome}
-use Rattle.std.proofs.Common.{Bool, true, false, cond, not, Result, Ok, Err, IfOk, OnErr, OnOk}
+use Rattle.std.proofs.Common.{Bool, true, false, cond, Result, Ok, Err, IfOk, OnErr}
 use Rattle.std.proofs.lemmas.List.{drop_more, append_assoc}
 use Rattle.htmd_text.specs.Blocks.{is_block}
 use Rattle.htmd_tree.specs.ValueTrees.{AttributePair}
-use Rattle.htmd_tree.specs.Items.{Item, Data, element_node, data_at, IsTree, IsBelow}
+use Rattle.htmd_tree.specs.Items.{Item, element_node, data_at, IsTree, IsBelow}
 use Rattle.htmd_tree.proofs.NumberedTreesLemmas.{tree-open, height_pos, IsLower}
 use Rattle.htmd_tree.specs.RawBlocks.{raw_block}
 use Rattle.htmd.proofs.RenderingLemmas.{proper_lower}
@@ -24,10 +24,10 @@ use Rattle.htmd.specs.Rendering.{write_text, written_within}
 use Rattle.htmd.specs.Children.{content_inside, content_alone, descendant_tree, trims_first}
 use Rattle.htmd.specs.Elements.{Occurrence, occurrence_at, Answer, Contents, contents_alone, raw_answer, raw_element}
 use Rattle.htmd.specs.Elements.{raw_result}
-use Rattle.htmd.specs.Elements.{content_of, end_of_element}
+use Rattle.htmd.specs.Elements.{content_of, end_of_element, view_at}
 use Rattle.htmd_tree.specs.Serialisation.{serialisation, start_tag}
 use Rattle.htmd.specs.declared.element_handler.Element.{Element}
-use Rattle.htmd.specs.Walking.{AtElement, occurrence_of}
+use Rattle.htmd.specs.Walking.{AtElement}
 
 -- results in front of those that follow
 abbrev pub following : List ResultView → Contents → Contents
@@ -63,6 +63,48 @@ none_of None h = refl
 none_of (Some x) h = absurd (h x refl)
 
 -- what the walk shows a handler is what the definition shows it
+pub shown-same : (write : Writes) (conversion : Conversion) (id : ℕ) (inside : List Ancestor)
+    (children : NumberedForest) (shown : Option (List ℕ)) (options : Options) (markdown_translated : Bool)
+    → shown ≡ only_text children → options ≡ conversion.config.options
+    → ◌≡◌ {A = Occurrence} (record {
+      write = write;
+      conversion = conversion;
+      view = record {
+        items = conversion.items;
+        node = id;
+        text = shown;
+        options = options;
+        markdown_translated = markdown_translated;
+      };
+      inside = inside;
+      children = children;
+    })
+    (record {
+      write = write;
+      conversion = conversion;
+      view = view_at conversion id markdown_translated children;
+      inside = inside;
+      children = children;
+    })
+shown-same write conversion id inside children shown options markdown_translated e o =
+    let view : Option (List ℕ) → Options → ElementView = λ s x. record {
+      items = conversion.items;
+      node = id;
+      text = s;
+      options = x;
+      markdown_translated = markdown_translated;
+    } in
+    let put : ElementView → Occurrence = λ v. record {
+      write = write;
+      conversion = conversion;
+      view = v;
+      inside =
+          inside;
+      children = children;
+    } in
+    ap (λ s. put (view s options)) e ∙ ap (λ x. put (view (only_text children) x)) o
+
+-- the same, where all before it is Markdown
 pub occurrence-same : (write : Writes) (conversion : Conversion) (id : ℕ) (inside : List Ancestor)
     (children : NumberedForest) (shown : Option (List ℕ)) (options : Options) → shown ≡ only_text children
     → options ≡ conversion.config.options
@@ -74,22 +116,7 @@ pub occurrence-same : (write : Writes) (conversion : Conversion) (id : ℕ) (ins
       children = children;
     }) (occurrence_at write conversion id inside children)
 occurrence-same write conversion id inside children shown options e o =
-    let view : Option (List ℕ) → Options → ElementView = λ s x. record {
-      items = conversion.items;
-      node = id;
-      text = s;
-      options = x;
-      markdown_translated = true;
-    } in
-    let put : ElementView → Occurrence = λ v. record {
-      write = write;
-      conversion = conversion;
-      view = v;
-      inside =
-          inside;
-      children = children;
-    } in
-    ap (λ s. put (view s options)) e ∙ ap (λ x. put (view (only_text children) x)) o
+    shown-same write conversion id inside children shown options true e o
 
 -- ---- answers of every count of levels that suffices
 

@@ -7,7 +7,7 @@ use Rattle.htmd.specs.declared.options.LinkStyle.TheVariants.{Inlined}
 use Rattle.htmd_markdown.specs.declared.link.LinkReferenceStyle.TheVariants.{Full}
 use Rattle.htmd.specs.declared.options.CodeBlockStyle.TheVariants.{Fenced}
 use Rattle.htmd_markdown.specs.declared.fence.CodeBlockFence.TheVariants.{Backticks}
-use Rattle.htmd.specs.declared.options.BulletListMarker.TheVariants.{Asterisk}
+use Rattle.htmd_markdown.specs.declared.list.BulletListMarker.TheVariants.{Asterisk}
 use Rattle.htmd.specs.declared.options.TranslationMode.TheVariants.{Pure}
 use Rattle.htmd.specs.declared.options.Options.{Options}
 

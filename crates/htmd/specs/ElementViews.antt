@@ -1,6 +1,6 @@
 -- What a handler reads off an element that it is shown, and the plans that many handlers have.
-use Rattle.std.specs.Prelude.{ℕ, Bool, false, not, ◌&&◌, ◌||◌, if◌then◌else◌, nat_lt, List, [], ◌∷◌, length, Option}
-use Rattle.std.specs.Prelude.{Some, None}
+use Rattle.std.specs.Prelude.{ℕ, Bool, false, not, ◌&&◌, ◌||◌, if◌then◌else◌, nat_lt, List, length, Option}
+use Rattle.std.specs.Prelude.{Some, None, true, ℤ, pos, negsuc}
 use Rattle.std.specs.List.{list_any}
 use Rattle.std.specs.Str.{bytes_eq}
 use Rattle.htmd_tree.specs.ValueTrees.{AttributePair}
@@ -29,6 +29,11 @@ parent_tag view = tag_at view.items (tree.parent_at view.items view.node)
 -- in Faithful, and with more attributes than these
 abbrev pub is_raw_html_due : ElementView → ℕ → Bool
 is_raw_html_due view allowed = not (is_pure view.options) && nat_lt allowed (length (attributes_of view))
+
+-- more of them than this number, which may be below zero
+abbrev pub is_more_than : ℤ → ℕ → Bool
+is_more_than (pos allowed) count = nat_lt allowed count
+is_more_than (negsuc n) count = true
 
 -- this, unless the element has attributes that Markdown has no form for
 abbrev pub unless_attributes : ElementView → PlanView → PlanView

@@ -1,7 +1,7 @@
 -- What the handlers of an element's tag make of it.
 use Rattle.std.specs.Prelude.{ℕ, Bool, true, false, if◌then◌else◌, List, [], ◌∷◌, ◌++◌, drop, Option, Some, None}
 use Rattle.htmd_text.specs.Blocks.{is_block}
-use Rattle.htmd_tree.specs.Items.{Data, document_node, doctype_node, text_node, comment_node, element_node, data_at}
+use Rattle.htmd_tree.specs.Items.{Data, element_node, data_at}
 use Rattle.htmd_tree.specs.NumberedTrees.{NumberedForest, tree_of, value_tree}
 use Rattle.htmd_tree.specs.Ancestors.{Ancestor}
 use Rattle.htmd_tree.specs.Serialisation.{serialisation, start_tag, end_tag, is_void}

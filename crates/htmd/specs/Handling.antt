@@ -1,5 +1,5 @@
 -- What a handler means: what it asks for, what it makes of what it asked for, what it puts after a conversion.
-use Rattle.std.specs.Prelude.{ℕ, List, [], Option, Some, None, Bool, All}
+use Rattle.std.specs.Prelude.{ℕ, List, [], Option, None, Bool, All}
 use Rattle.htmd_tree.specs.Items.{Item, IsBelow}
 use Rattle.htmd.specs.declared.options.Options.{Options}
 

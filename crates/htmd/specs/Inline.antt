@@ -2,7 +2,6 @@
 use Rattle.std.specs.Prelude.{ℕ, true, if◌then◌else◌, List, Option, Some, None, codes}
 use Rattle.std.specs.Str.{bytes_eq}
 use Rattle.htmd_markdown.specs.declared.emphasis.Emphasis.{Emphasis}
-use Rattle.htmd_markdown.specs.declared.emphasis.Emphasis.TheVariants.{Regular, Strong}
 use Rattle.htmd_markdown.specs.Emphases.{emphasised_text}
 use Rattle.htmd_markdown.specs.Headings.{heading}
 use Rattle.htmd_markdown.specs.LineBreaks.{line_break}

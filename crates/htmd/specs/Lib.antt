@@ -11,6 +11,7 @@ pub mod Children
 pub mod Elements
 pub mod Rendering
 pub mod Markdown
+pub mod Handled
 pub mod Laws
 pub mod ElementViews
 pub mod Sections
@@ -28,3 +29,4 @@ pub mod TagIndexes
 pub mod Joints
 pub mod Passing
 pub mod Walking
+pub mod PlainTexts

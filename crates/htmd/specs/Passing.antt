@@ -1,7 +1,5 @@
 -- Where the walk may go past an element's handlers: what they would give is known without asking them.
-use Rattle.std.specs.Prelude.{◌≡◌, ℕ, Bool, true, false, List, [], ◌∷◌, codes}
-use Rattle.std.specs.Str.{bytes_eq}
-use Rattle.htmd_tree.specs.ValueTrees.{AttributePair}
+use Rattle.std.specs.Prelude.{◌≡◌, Bool, true, false, List, [], ◌∷◌}
 use Rattle.htmd_tree.specs.Items.{Data, document_node, doctype_node, text_node, comment_node, element_node}
 use Rattle.htmd.specs.Handling.{HandlerMeaning}
 use Rattle.htmd.specs.Choice.{Config, indexes, handlers_at}

@@ -1,18 +1,17 @@
 -- How a node is written: the plain definition, over value trees and lists of ancestors.
-use Rattle.std.specs.Prelude.{ℕ, zero, suc, Bool, true, false, ◌&&◌, if◌then◌else◌, List, [], ◌∷◌, ◌++◌, drop}
+use Rattle.std.specs.Prelude.{ℕ, zero, suc, Bool, true, false, ◌&&◌, if◌then◌else◌, List, [], ◌∷◌}
 use Rattle.std.specs.Prelude.{Option, Some, None, codes}
 use Rattle.htmd_text.specs.WhiteSpace.{is_document_white_space}
 use Rattle.htmd_text.specs.Trims.{trimmed_end}
 use Rattle.htmd_tree.specs.Items.{Item, Data, document_node, doctype_node, text_node, comment_node, element_node}
 use Rattle.htmd_tree.specs.Items.{data_at}
-use Rattle.htmd_tree.specs.Items.{children_of}
-use Rattle.htmd_tree.specs.NumberedTrees.{document, doctype, text, comment, element, NumberedForest, tree_of, forest_of}
+use Rattle.htmd_tree.specs.NumberedTrees.{document, doctype, text, comment, element}
 use Rattle.htmd_tree.specs.Ancestors.{Ancestor, ancestor_of, ancestors_of}
 use Rattle.htmd_tree.specs.Serialisation.{comment_of}
 use Rattle.htmd.specs.Handling.{ResultView}
 use Rattle.htmd.specs.Seams.{joined_at_seam}
 use Rattle.htmd.specs.OrdinaryText.{pre, parent_is_pre, preformatted_text, ordinary_text}
-use Rattle.htmd.specs.Outputs.{Conversion, Output, replace_text, push_text, Context, Writes, is_pure}
+use Rattle.htmd.specs.Outputs.{Conversion, Output, push_text, Context, Writes, is_pure}
 use Rattle.htmd.specs.Children.{write_groups}
 use Rattle.htmd.specs.Elements.{Answer, answer_after, occurrence_at}
 

@@ -1,5 +1,5 @@
 -- What the types of the source stand for.
-use Rattle.std.specs.Prelude.{ℕ, Bool, List, map, Option, Some, None, string_bytes, String}
+use Rattle.std.specs.Prelude.{ℕ, List, map, Option, Some, None, string_bytes, String}
 use Rattle.std.specs.Global.{Global}
 use Rattle.std.specs.Option.{option_copied}
 use Rattle.htmd_tree.specs.NumberedTrees.{NumberedForest}

@@ -16,6 +16,7 @@ ghost use Rattle.htmd.specs.Children.{write_groups, content_alone, descendant_tr
 ghost use Rattle.htmd.specs.Elements.{content_of, content_if, contents_alone, answer_after, raw_answer, raw_result, end_of_element};
 ghost use Rattle.htmd.specs.Rendering.{is_text, inside_of};
 ghost use Rattle.htmd.specs.Markdown.{markdown};
+ghost use Rattle.htmd.specs.Handled.{IsElement, handled};
 ghost use Rattle.htmd.specs.Beginnings.{Begins};
 ghost use Rattle.htmd.specs.Views.{optional_text, output_view, answer_view, contents_view, result_view};
 ghost use Rattle.htmd.specs.Walking.{AtElement, AtNode, InNode};
@@ -553,4 +554,39 @@ pub(crate) fn tree_to_markdown<R: Registry>(
     trim_end_line_feeds(&mut appended);
     markdown.push_str(appended.as_str())?;
     Ok(markdown)
+}
+
+/// What the handlers of an element's tag make of it, from the one after so many newer ones on.
+pub(crate) fn handle_element<R: Registry>(
+    registry: &R,
+    alloc: Global,
+    tree: &Tree,
+    node: NodeId,
+    markdown_translated: bool,
+    skipped: usize,
+    links: &mut Links,
+) -> Result<Option<HandlerResult>, AllocError>
+    requires ready { R.ready registry.now }
+    requires within { node < length tree.now }
+    requires element { IsElement (data_at tree.now node) }
+    ensures ok { let answer = handled (R.config registry.now) tree.now node markdown_translated skipped links.old in
+        IfOk result (λ r. answer_view r links.new ≡ answer) }
+    ensures err { let answer = handled (R.config registry.now) tree.now node markdown_translated skipped links.old in
+        OnErr result (Begins links.old links.new answer.definitions) }
+{
+    let NodeData::Element { name, attrs } = tree.data(node) else {
+        unreachable!();
+    };
+    let element = Element {
+        node,
+        tag: name.as_str(),
+        attrs: attrs.as_slice(),
+        markdown_translated,
+        tree,
+        options: registry.options(),
+        text: text_shown(tree, node, None),
+    };
+    let inside_pre = is_inside_pre(tree, node) || is_pre_or_code(tree, node);
+    let walk = Walk::new(registry, alloc, tree);
+    walk.handle(&element, inside_pre, skipped, links)
 }

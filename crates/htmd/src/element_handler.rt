@@ -28,6 +28,7 @@ pub(crate) mod registry;
 mod span;
 
 pub use element_handlers::{ElementHandlers, HandlerRefused};
+pub use plans::is_raw_html_due;
 
 /// What a handler is shown of an element.
 #[derive(Drop)]

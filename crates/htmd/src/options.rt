@@ -2,7 +2,9 @@
 
 ghost use Rattle.std.specs.Prelude.{◌≡◌};
 
-pub use htmd_markdown::{BrStyle, CodeBlockFence, HeadingStyle, HrStyle, LinkReferenceStyle};
+pub use htmd_markdown::{
+    BrStyle, BulletListMarker, CodeBlockFence, HeadingStyle, HrStyle, LinkReferenceStyle,
+};
 
 /// How a link is written (CommonMark 0.31.2, 6.3).
 #[derive(Debug, Clone, Copy, PartialEq)]
@@ -22,13 +24,6 @@ pub enum CodeBlockStyle {
     Indented,
     /// Between two fences (CommonMark 0.31.2, 4.5).
     Fenced,
-}
-
-/// The marker of an item of a bullet list (CommonMark 0.31.2, 5.2).
-#[derive(Debug, Clone, Copy, PartialEq)]
-pub enum BulletListMarker {
-    Asterisk,
-    Dash,
 }
 
 /// What becomes of an element that Markdown has no form for.

@@ -1,7 +1,10 @@
 //! The text of a text node, put behind a text.
 
-ghost use Rattle.std.specs.Prelude.{◌≡◌, ◌++◌, OnOk, if◌then◌else◌, string_bytes};
+ghost use Rattle.std.specs.Prelude.{◌≡◌, ◌++◌, Bool, false, IsTrue, OnOk, if◌then◌else◌, string_bytes};
+ghost use Rattle.htmd_text.specs.EscapeMarks.{escaped_markdown};
+ghost use Rattle.htmd_text.specs.WhiteSpace.{squeezed_text};
 ghost use Rattle.htmd.specs.OrdinaryText as spec;
+ghost use Rattle.htmd.specs.PlainTexts.{is_plain_byte, stays_plain, may_begin, begins_plain};
 
 use htmd_text::runs::{leading_len, trailing_len};
 use htmd_text::{compress_whitespace, escape_if_needed, escape_pre_text_if_needed};
@@ -24,6 +27,54 @@ fn without_first_space(text: &str, goes: bool) -> &str
     text
 }
 
+/// Whether the byte stands for itself wherever it stands.
+fn is_plain_byte(byte: u8) -> bool
+    ensures { result ≡ is_plain_byte byte }
+{
+    byte > b' ' && !matches!(byte, b'\\' | b'*' | b'_' | b'`' | b'[' | b']' | b'<')
+}
+
+/// Whether each byte stands for itself or is a space alone. All bytes are looked at, so that a
+/// processor can compare many at once.
+fn stays_plain(bytes: &[u8]) -> bool
+    ensures { result ≡ stays_plain false bytes.now }
+{
+    let mut plain = true;
+    let mut after_space = false;
+    for b in bytes {
+        let space = *b == b' ';
+        plain &= is_plain_byte(*b) | (!after_space & space);
+        after_space = space;
+    }
+    plain
+}
+
+/// Whether the byte may get a backslash at the start of a text alone.
+fn may_begin(byte: u8) -> bool
+    ensures { result ≡ may_begin byte }
+{
+    matches!(byte, b'=' | b'~' | b'>' | b'-' | b'+' | b'#' | b'0'..=b'9')
+}
+
+/// Whether neither the text nor what stands behind a space at its start begins with such a byte.
+fn begins_plain(bytes: &[u8]) -> bool
+    ensures { result ≡ begins_plain bytes.now }
+{
+    match bytes {
+        [b' ', b, ..] => !may_begin(*b),
+        [b, ..] => !may_begin(*b),
+        [] => true,
+    }
+}
+
+/// Whether a text is written as it is, with the space at its start or without it.
+fn is_plain(text: &str) -> bool
+    ensures { IsTrue result → (goes : Bool) → escaped_markdown (spec.without_first_space goes (squeezed_text text.now))
+        ≡ spec.without_first_space goes text.now }
+{
+    begins_plain(text.as_bytes()) && stays_plain(text.as_bytes())
+}
+
 /// Squeezed, without its first space where a space is not wanted, and escaped.
 fn append_ordinary(
     alloc: Global,
@@ -35,6 +86,9 @@ fn append_ordinary(
         ≡ string_bytes out.old ++ spec.ordinary_text trim (string_bytes out.old) text.now) }
 {
     let goes = trim || trailing_len(out.as_bytes(), b' ') > 0;
+    if is_plain(text) {
+        return out.push_str(without_first_space(text, goes));
+    }
     let squeezed = compress_whitespace(alloc, text)?;
     let escaped = escape_if_needed(alloc, without_first_space(squeezed.as_str(), goes))?;
     out.push_str(escaped.as_str())?;

@@ -14,6 +14,7 @@ use super::plans::is_pure;
 use super::registry::{Contents, Registry, Request};
 use super::span::formula_mark;
 use super::{Element, ElementHandler, HandlerResult, Links, Plan};
+use crate::dom_walker::handle_element;
 use crate::options::Options;
 use htmd_tree::{NodeData, NodeId, Tree};
 use std::alloc::{AllocError, Global};
@@ -226,6 +227,45 @@ impl ElementHandlers {
             result ≡ slice_get (indexes tag.now config.registered) skipped }
     {
         self.find(tag, skipped)
+    }
+}
+
+impl ElementHandlers {
+    ghost use Rattle.htmd_tree.specs.Items.{data_at};
+    ghost use Rattle.htmd.specs.Handled.{IsElement, handled};
+    ghost use Rattle.htmd.specs.Beginnings.{Begins};
+    ghost use Rattle.htmd.specs.Views.{answer_view};
+
+    /// What the handlers of an element's tag make of it, from the one after so many newer ones on: a
+    /// result or nothing. The definitions that they add stand at the end of the links. It refuses for
+    /// want of memory alone; the links then hold what they held and a beginning of what is added.
+    pub fn handle(
+        &self,
+        alloc: Global,
+        tree: &Tree,
+        node: NodeId,
+        markdown_translated: bool,
+        skipped_handlers: usize,
+        links: &mut Links,
+    ) -> Result<Option<HandlerResult>, AllocError>
+        requires within { node < length tree.now }
+        requires element { IsElement (data_at tree.now node) }
+        ensures ok { let config = ⟦<ElementHandlers as Registry>⟧.config self.now in
+            let answer = handled config tree.now node markdown_translated skipped_handlers links.old in
+            IfOk result (λ r. answer_view r links.new ≡ answer) }
+        ensures err { let config = ⟦<ElementHandlers as Registry>⟧.config self.now in
+            let answer = handled config tree.now node markdown_translated skipped_handlers links.old in
+            OnErr result (Begins links.old links.new answer.definitions) }
+    {
+        handle_element(
+            self,
+            alloc,
+            tree,
+            node,
+            markdown_translated,
+            skipped_handlers,
+            links,
+        )
     }
 }
 

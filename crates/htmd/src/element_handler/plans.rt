@@ -1,6 +1,6 @@
 //! The plans that many handlers have, and a content with blank lines around.
 
-ghost use Rattle.std.specs.Prelude.{◌≡◌, ◌||◌, not, IfOk, map};
+ghost use Rattle.std.specs.Prelude.{◌≡◌, ◌&&◌, ◌||◌, not, IfOk, length, map};
 ghost use Rattle.std.specs.Option.{option_copied};
 ghost use Rattle.htmd.specs.ElementViews as spec;
 ghost use Rattle.htmd.specs.Outputs.{is_pure};
@@ -20,6 +20,18 @@ pub(crate) fn is_pure(options: &Options) -> bool
         TranslationMode::Pure => true,
         TranslationMode::Faithful => false,
     }
+}
+
+/// Whether raw HTML is due: in Faithful, where the element has more attributes than these, which say
+/// more than its Markdown would.
+pub fn is_raw_html_due(options: &Options, element: &Element, allowed: i64) -> bool
+    ensures { let attributes = spec.attributes_of (element_view element.now) in
+        result ≡ (not (is_pure options.now) && spec.is_more_than allowed (length attributes)) }
+{
+    if is_pure(options) {
+        return false;
+    }
+    allowed < 0 || element.attrs.len() > allowed as usize
 }
 
 /// Whether the element is written as Markdown, as far as its attributes decide.

@@ -1,4 +1,4 @@
-use Rattle.std.proofs.Common.{◌≡◌, List, ℕ, [], ◌++◌, ◌∙◌, ap, string_bytes, arith}
+use Rattle.std.proofs.Common.{List, ℕ, ◌++◌, ◌∙◌, ap, string_bytes, arith}
 use Rattle.htmd_text.specs.Trims.{trimmed_text, trimmed_end, is_line_feed}
 use Rattle.htmd_tree.specs.Items.{Item}
 use Rattle.htmd_tree.specs.NumberedTrees.{tree_of, height}

@@ -1,4 +1,4 @@
-use Rattle.std.proofs.Common.{◌≡◌, List, ℕ, Option, Some, None, sym, ap, ◌∙◌, string_bytes}
+use Rattle.std.proofs.Common.{List, ℕ, Option, Some, None, sym, ap, ◌∙◌, string_bytes}
 use Rattle.htmd_tree.specs.ValueTrees.{AttributePair}
 use Rattle.htmd_tree.specs.Views.{data_of, pairs_of}
 use Rattle.htmd.specs.Groups.{Joint}

@@ -1,4 +1,6 @@
 use Rattle.std.proofs.Common.{◌≡◌, ◌++◌, ◌∙◌, ◌||◌, ap, sym, string_bytes, ltb}
+use Rattle.std.proofs.Common.{List, ℕ, Result, Ok, Err, OnOk, cond}
+use Rattle.std.specs.Result.{is_ok}
 use Rattle.std.specs.List.{suffix_len}
 use Rattle.htmd_text.specs.EscapeMarks.{escaped_markdown}
 use Rattle.htmd_text.specs.WhiteSpace.{squeezed_text}
@@ -7,6 +9,25 @@ use Rattle.htmd.specs.Seams.{ends_with_space}
 use Rattle.htmd.specs.OrdinaryText.{without_first_space}
 use Rattle.htmd.proofs.text_node.append_ordinary.Goals as goal
 use Rattle.htmd.proofs.text_node.append_ordinary.Goals.{then-trim, else-trim}
+
+pushed : {T E : Type 0} (r : Result T E) (new long short : List ℕ) {whole : List ℕ} → new ≡ cond (is_ok r) long short
+    → long ≡ whole → OnOk r (new ≡ whole)
+pushed (Ok x) new long short e f = e ∙ f
+pushed (Err x) new long short e f = tt
+
+pub returns-then-is_plain : goal.returns-then-is_plain
+returns-then-is_plain c =
+    let out = string_bytes c.args.out.now in
+    let goes : c.if-trim.goes ≡ (c.args.trim || ends_with_space out) = elim c.if-trim.branch [
+      | then-trim w ↦ w.goes-is ∙ w.if-trim.true ∙ sym (ap (λ t. t || ends_with_space out) w.if-trim.true)
+      | else-trim w ↦ w.goes-is
+          ∙ ap (ltb 0) (w.trailing_len.ensures.value ∙ ap (suffix_len is_space) w.as_bytes.ensures.value)
+          ∙ sym (ap (λ t. t || ends_with_space out) w.if-trim.false)
+    ] in
+    let rest = c.without_first_space.ensures ∙ sym (c.is_plain.ensures c.if-is_plain.true c.if-trim.goes)
+    ∙ ap (λ t. escaped_markdown (without_first_space t (squeezed_text c.args.text.now))) goes in
+    pushed c.push_str.result (string_bytes c.push_str.new.self) (out ++ c.without_first_space.result.now) out
+    c.push_str.ensures.bytes (ap (λ s. out ++ s) rest)
 
 pub returns : goal.returns
 returns c =
@@ -17,7 +38,7 @@ returns c =
           ∙ ap (ltb 0) (w.trailing_len.ensures.value ∙ ap (suffix_len is_space) w.as_bytes.ensures.value)
           ∙ sym (ap (λ t. t || ends_with_space out) w.if-trim.false)
     ] in
-    let rest = c.without_first_space.ensures ∙ ap (without_first_space c.if-trim.goes) (c.as_str.ensures.value
+    let rest = c.without_first_space-2.ensures ∙ ap (without_first_space c.if-trim.goes) (c.as_str.ensures.value
     ∙ c.in_ok-squeezed.ensures.text) ∙ ap (λ t. without_first_space t (squeezed_text c.args.text.now)) goes in
     c.in_ok-push_str.ensures.bytes ∙ ap (λ s. out ++ s) (c.as_str-2.ensures.value ∙ c.in_ok-escaped.ensures.text
     ∙ ap escaped_markdown rest)

@@ -1,4 +1,4 @@
-use Rattle.std.proofs.Common.{◌≡◌, ℕ, suc, ◌+◌, ◌-◌, ◌*◌, ◌≤◌, length, drop, map, All}
+use Rattle.std.proofs.Common.{◌≡◌, ℕ, suc, ◌+◌, ◌-◌, ◌*◌, ◌≤◌, length, drop, All}
 use Rattle.htmd_tree.specs.NumberedTrees.{forest_of, tree_of, height}
 use Rattle.htmd.specs.Beginnings.{IsBeginning}
 use Rattle.htmd.specs.Choice.{Config}

@@ -1,5 +1,5 @@
 -- The texts that handlers append, one handler after another.
-use Rattle.std.proofs.Common.{◌≡◌, ◌++◌, ◌∷◌, [], ◌∙◌, ap, sym, map, take}
+use Rattle.std.proofs.Common.{◌++◌, ◌∷◌, [], ◌∙◌, ap, sym, map, take}
 use Rattle.std.proofs.lemmas.List.{take_more, take_all, map-append}
 use Rattle.htmd.specs.Handling.{of_functions}
 use Rattle.htmd.specs.HandlerMeanings.{handler_meaning}

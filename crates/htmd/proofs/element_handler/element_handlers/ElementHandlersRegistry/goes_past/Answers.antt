@@ -1,6 +1,6 @@
 -- Where the walk goes past, the registrations of the tag say what its handlers would give.
-use Rattle.std.proofs.Common.{◌≡◌, ◌∙◌, ap, sym, refl, Option, Some, None, not, true, false, Bool}
-use Rattle.std.specs.Option.{is_some, option_copied}
+use Rattle.std.proofs.Common.{◌∙◌, ap, sym, refl, not}
+use Rattle.std.specs.Option.{is_some}
 use Rattle.htmd_tree.specs.Items.{element_node}
 use Rattle.htmd_tree.specs.Views.{data_of, pairs_of}
 use Rattle.htmd.specs.Handling.{of_functions}

@@ -1,0 +1,213 @@
+-- Nodes that are handed over by themselves.
+use Rattle.std.proofs.Common.{rules, ◌≡◌, ◌<◌, ◌≤◌, ◌+◌, ◌++◌, ◌∙◌, ℕ, List, [], ◌∷◌, Bool}
+use Rattle.std.proofs.Common.{true, false, not}
+use Rattle.std.proofs.Common.{refl, sym, ap, subst, arith, length, drop}
+use Rattle.std.proofs.Common.{string_bytes}
+use Rattle.std.specs.Option.{option_copied}
+use Rattle.std.proofs.lemmas.List.{map-append}
+use Rattle.htmd_tree.specs.Items.{Item, IsBelow}
+use Rattle.htmd_tree.specs.NumberedTrees.{tree_of, height}
+use Rattle.htmd_tree.specs.Ancestors.{ancestors_of}
+use Rattle.htmd_tree.proofs.NumberedTreesLemmas.{height_pos}
+use Rattle.htmd.specs.Handling.{ResultView}
+use Rattle.htmd.specs.OrdinaryText.{ordinary_text}
+use Rattle.htmd.specs.Outputs.{Output, conversion_of, context_of, empty_output}
+use Rattle.htmd.specs.Children.{content_alone, descendant_tree}
+use Rattle.htmd.specs.Elements.{Occurrence, Contents, contents_alone}
+use Rattle.htmd.specs.Rendering.{written_within}
+use Rattle.htmd.specs.Beginnings.{Begins}
+use Rattle.htmd.specs.Views.{output_view, result_view, results_view}
+use Rattle.htmd.specs.Walking.{occurrence_of, AtNode}
+use Rattle.htmd.proofs.BeginningsLemmas.{beginning-trans, beginning-to, beginning-from}
+use Rattle.htmd.proofs.BeginningsLemmas.{begins-wider}
+use Rattle.htmd.proofs.BeginningsLemmas.{begins-start, begins-to}
+use Rattle.htmd.proofs.BeginningsLemmas.{grows-alone}
+use Rattle.htmd.proofs.BeginningsLemmas.{grows-contents}
+use Rattle.htmd.proofs.BeginningsLemmas.{grows-within}
+use Rattle.htmd.proofs.BeginningsLemmas.{on_err_always}
+use Rattle.htmd.proofs.RenderingLemmas.{unpreformatted}
+use Rattle.htmd.proofs.WalkingLemmas.{following, contents_more, contents_first}
+use Rattle.htmd.proofs.WalkingLemmas.{exit-err, text_alone, below_lower}
+use Rattle.htmd.proofs.dom_walker.Walk.+walk.Goals as goal
+use Rattle.htmd.proofs.dom_walker.Walk.+walk.Goals.{walk_alone-then-not-is_text, walk_alone-else-not-is_text}
+
+pub walk_alone-returns-clause-ok : goal.walk_alone-returns-clause-ok
+walk_alone-returns-clause-ok g t c =
+    let v = conversion_of (g.R.Registry.config c.args.self.now.registry.now) c.args.self.now.tree.now in
+    let put : List ℕ → Bool → Output =
+    λ s b. record { text = s; markdown_translated = b; definitions = c.args.links.now } in
+    let start : put (string_bytes c.empty_result-out.result.content) c.empty_result-out.result.markdown_translated
+    ≡ empty_output c.args.links.now =
+    ap (λ s. put s c.empty_result-out.result.markdown_translated) c.empty_result-out.ensures.content
+    ∙ ap (put []) c.empty_result-out.ensures.markdown_translated in
+    let there : ℕ → Bool → Output = λ n p. written_within n v (tree_of c.args.self.now.tree.now c.args.node)
+    (context_of (ancestors_of c.args.self.now.tree.now c.args.node) p true) (empty_output c.args.links.now) in
+    let turned : (n : ℕ) → height (tree_of c.args.self.now.tree.now c.args.node) ≤ n
+    → there n c.if-not-is_text.context ≡ there n false =
+    λ n h. elim c.if-not-is_text.branch as (λ _. there n c.if-not-is_text.context ≡ there n false) [
+      | walk_alone-then-not-is_text w ↦ unpreformatted (g.R.Registry.config c.args.self.now.registry.now)
+          c.args.self.now.tree.now c.is_text.ensures.tree c.args.node c.requires.within n c.if-not-is_text.context true
+          (empty_output c.args.links.now) h (sym c.is_text.ensures.value ∙ w.if-not-is_text.true)
+      | walk_alone-else-not-is_text w ↦ ap (there n) (w.context-is ∙ ap not w.if-not-is_text.false)
+    ] in
+    let whole : (n : ℕ) → height (tree_of c.args.self.now.tree.now c.args.node) ≤ n
+    → written_within n v (tree_of c.args.self.now.tree.now c.args.node)
+    (context_of (ancestors_of c.args.self.now.tree.now c.args.node) c.if-not-is_text.context true)
+    (put (string_bytes c.empty_result-out.result.content) c.empty_result-out.result.markdown_translated)
+    ≡ there n false = λ n h.
+    ap (written_within n v (tree_of c.args.self.now.tree.now c.args.node)
+    (context_of (ancestors_of c.args.self.now.tree.now c.args.node) c.if-not-is_text.context true)) start
+    ∙ turned n h in
+    λ n h. c.in_ok-walk_node.ensures.ok n h ∙ whole n h
+
+pub walk_alone-returns-in_err-walk_node-clause-err : goal.walk_alone-returns-in_err-walk_node-clause-err
+walk_alone-returns-in_err-walk_node-clause-err g t c =
+    let v = conversion_of (g.R.Registry.config c.args.self.now.registry.now) c.args.self.now.tree.now in
+    let put : List ℕ → Bool → Output =
+    λ s b. record { text = s; markdown_translated = b; definitions = c.args.links.now } in
+    let start : put (string_bytes c.empty_result-out.result.content) c.empty_result-out.result.markdown_translated
+    ≡ empty_output c.args.links.now =
+    ap (λ s. put s c.empty_result-out.result.markdown_translated) c.empty_result-out.ensures.content
+    ∙ ap (put []) c.empty_result-out.ensures.markdown_translated in
+    let there : ℕ → Bool → Output = λ n p. written_within n v (tree_of c.args.self.now.tree.now c.args.node)
+    (context_of (ancestors_of c.args.self.now.tree.now c.args.node) p true) (empty_output c.args.links.now) in
+    let turned : (n : ℕ) → height (tree_of c.args.self.now.tree.now c.args.node) ≤ n
+    → there n c.if-not-is_text.context ≡ there n false =
+    λ n h. elim c.if-not-is_text.branch as (λ _. there n c.if-not-is_text.context ≡ there n false) [
+      | walk_alone-then-not-is_text w ↦ unpreformatted (g.R.Registry.config c.args.self.now.registry.now)
+          c.args.self.now.tree.now c.is_text.ensures.tree c.args.node c.requires.within n c.if-not-is_text.context true
+          (empty_output c.args.links.now) h (sym c.is_text.ensures.value ∙ w.if-not-is_text.true)
+      | walk_alone-else-not-is_text w ↦ ap (there n) (w.context-is ∙ ap not w.if-not-is_text.false)
+    ] in
+    let whole : (n : ℕ) → height (tree_of c.args.self.now.tree.now c.args.node) ≤ n
+    → written_within n v (tree_of c.args.self.now.tree.now c.args.node)
+    (context_of (ancestors_of c.args.self.now.tree.now c.args.node) c.if-not-is_text.context true)
+    (put (string_bytes c.empty_result-out.result.content) c.empty_result-out.result.markdown_translated)
+    ≡ there n false = λ n h.
+    ap (written_within n v (tree_of c.args.self.now.tree.now c.args.node)
+    (context_of (ancestors_of c.args.self.now.tree.now c.args.node) c.if-not-is_text.context true)) start
+    ∙ turned n h in
+    on_err_always {P = AtNode v c.args.node (λ write. Begins c.args.links.now c.walk_node.new.links
+    (content_alone write v (tree_of c.args.self.now.tree.now c.args.node) c.args.node
+    c.args.links.now).definitions)} _ (λ n h.
+    begins-to (c.in_err-walk_node.ensures.err n h) (ap (λ (o : Output). o.definitions) (whole n h)))
+
+pub walk_descendant-returns-in_err-append_text-clause-err : goal.walk_descendant-returns-in_err-append_text-clause-err
+walk_descendant-returns-in_err-append_text-clause-err g t c =
+    let v = conversion_of (g.R.Registry.config c.args.self.now.registry.now) c.args.self.now.tree.now in
+    on_err_always {P = AtNode v c.args.below
+    (λ write. Begins c.args.links.now c.args.links.now
+    (content_alone write v (descendant_tree c.args.self.now.tree.now (option_copied c.args.element.now.text)
+    c.args.below) c.args.below c.args.links.now).definitions)} _ (λ n h.
+    begins-start (grows-within n v (descendant_tree c.args.self.now.tree.now (option_copied c.args.element.now.text)
+    c.args.below) (context_of (ancestors_of c.args.self.now.tree.now c.args.below) false true)
+    (empty_output c.args.links.now)))
+
+pub walk_descendant-returns-clause-ok : goal.walk_descendant-returns-clause-ok
+walk_descendant-returns-clause-ok g t c =
+    let v = conversion_of (g.R.Registry.config c.args.self.now.registry.now) c.args.self.now.tree.now in
+    let put : List ℕ → Bool → Output =
+    λ s b. record { text = s; markdown_translated = b; definitions = c.args.links.now } in
+    let start : put (string_bytes c.empty_result-out.result.content) c.empty_result-out.result.markdown_translated
+    ≡ empty_output c.args.links.now =
+    ap (λ s. put s c.empty_result-out.result.markdown_translated) c.empty_result-out.ensures.content
+    ∙ ap (put []) c.empty_result-out.ensures.markdown_translated in
+    λ n h.
+    ap (λ s. put s c.empty_result-out.result.markdown_translated) (c.in_ok-append_text.ensures
+    ∙ ap (λ s. s ++ ordinary_text true s c.in-Some.text.now) c.empty_result-out.ensures.content)
+    ∙ ap (put (ordinary_text true [] c.in-Some.text.now)) c.empty_result-out.ensures.markdown_translated
+    ∙ text_alone n v c.args.below c.in-Some.text.now
+    (context_of (ancestors_of c.args.self.now.tree.now c.args.below) false true) c.args.links.now
+    (let p = height_pos (tree_of c.args.self.now.tree.now c.args.below) in omega arith)
+    ∙ (ap (λ j. content_alone (written_within n v) v (descendant_tree c.args.self.now.tree.now j c.args.below)
+    c.args.below c.args.links.now) (sym (ap option_copied c.in-Some.is)))
+
+pub walk_each-returns-in_err-results-clause-err : goal.walk_each-returns-in_err-results-clause-err
+walk_each-returns-in_err-results-clause-err g t c =
+    let v = conversion_of (g.R.Registry.config c.args.self.now.registry.now) c.args.self.now.tree.now in
+    let e = c.args.element.now in
+    let at : ℕ → Occurrence = λ n. occurrence_of n v e in
+    exit-err v e (λ o. Begins c.args.links.now c.args.links.now
+    (contents_alone o c.args.nodes.now c.args.links.now).definitions) _
+    (λ n l. begins-start (grows-contents (at n) (grows-within n v) c.args.nodes.now c.args.links.now))
+
+pub walk_each-walk_descendant-requires : goal.walk_each-walk_descendant-requires
+walk_each-walk_descendant-requires g t c κs within =
+    let low = below_lower c.args.self.now.tree.now c.args.self.now.tree.now c.args.element.now.node c.node-item.result
+    c.args.self.now.is_tree refl (subst (λ (x : List Item). c.args.element.now.node < length x) c.requires.tree
+    c.args.element.now.within)
+    (subst (λ d. ∥ IsBelow c.args.self.now.tree.now c.args.element.now.node d ∥₁) (sym c.node-item.is)
+    (c.requires.proper c.loop-node.node-index c.node-item.result c.loop-node-test.true)) in
+    (search rules, (within, (search rules, (low.0, low.1))))
+
+pub walk_each-returns-in_err-result-clause-err : goal.walk_each-returns-in_err-result-clause-err
+walk_each-returns-in_err-result-clause-err g t c =
+    let v = conversion_of (g.R.Registry.config c.args.self.now.registry.now) c.args.self.now.tree.now in
+    let e = c.args.element.now in
+    let at : ℕ → Occurrence = λ n. occurrence_of n v e in
+    let low = below_lower c.args.self.now.tree.now c.args.self.now.tree.now c.args.element.now.node c.node-item.result
+    c.args.self.now.is_tree refl (subst (λ (x : List Item). c.args.element.now.node < length x) c.requires.tree
+    c.args.element.now.within)
+    (subst (λ d. ∥ IsBelow c.args.self.now.tree.now c.args.element.now.node d ∥₁) (sym c.node-item.is)
+    (c.requires.proper c.loop-node.node-index c.node-item.result c.loop-node-test.true)) in
+    exit-err v e (λ o. Begins c.args.links.now c.walk_descendant.new.links
+    (contents_alone o c.args.nodes.now c.args.links.now).definitions) _ (λ n l.
+    begins-wider c.loop-node.invariant.kept (c.in_err-result.ensures.err n (omega (arith, low.2, l)))
+    (beginning-to (contents_first (at n) (grows-within n v) c.args.nodes.now c.loop-node.node-index
+    c.node-item.result c.loop-node.links c.loop-node-test.true c.node-item.is)
+    (ap (λ (x : Contents). x.definitions) (c.loop-node.invariant.rest n l))))
+
+pub walk_each-returns-in_err-push-clause-err : goal.walk_each-returns-in_err-push-clause-err
+walk_each-returns-in_err-push-clause-err g t c =
+    let v = conversion_of (g.R.Registry.config c.args.self.now.registry.now) c.args.self.now.tree.now in
+    let e = c.args.element.now in
+    let at : ℕ → Occurrence = λ n. occurrence_of n v e in
+    let low = below_lower c.args.self.now.tree.now c.args.self.now.tree.now c.args.element.now.node c.node-item.result
+    c.args.self.now.is_tree refl (subst (λ (x : List Item). c.args.element.now.node < length x) c.requires.tree
+    c.args.element.now.within)
+    (subst (λ d. ∥ IsBelow c.args.self.now.tree.now c.args.element.now.node d ∥₁) (sym c.node-item.is)
+    (c.requires.proper c.loop-node.node-index c.node-item.result c.loop-node-test.true)) in
+    exit-err v e (λ o. Begins c.args.links.now c.walk_descendant.new.links
+    (contents_alone o c.args.nodes.now c.args.links.now).definitions) _ (λ n l.
+    let made = ap (λ (o : Output). o.definitions) (c.in_ok-result.ensures.ok n (omega (arith, low.2, l))) in
+    record {
+      kept = beginning-trans c.loop-node.invariant.kept
+          (beginning-to (grows-alone (at n) (grows-within n v)
+          (descendant_tree v.items (at n).view.text c.node-item.result) c.node-item.result c.loop-node.links)
+          (sym made));
+      begun = beginning-from made
+          (beginning-to (contents_first (at n) (grows-within n v) c.args.nodes.now c.loop-node.node-index
+          c.node-item.result c.loop-node.links c.loop-node-test.true c.node-item.is)
+          (ap (λ (x : Contents). x.definitions) (c.loop-node.invariant.rest n l)));
+    })
+
+pub walk_each-loop-node-preserved : goal.walk_each-loop-node-preserved
+walk_each-loop-node-preserved g t c =
+    let v = conversion_of (g.R.Registry.config c.args.self.now.registry.now) c.args.self.now.tree.now in
+    let e = c.args.element.now in
+    let at : ℕ → Occurrence = λ n. occurrence_of n v e in
+    let low = below_lower c.args.self.now.tree.now c.args.self.now.tree.now c.args.element.now.node c.node-item.result
+    c.args.self.now.is_tree refl (subst (λ (x : List Item). c.args.element.now.node < length x) c.requires.tree
+    c.args.element.now.within)
+    (subst (λ d. ∥ IsBelow c.args.self.now.tree.now c.args.element.now.node d ∥₁) (sym c.node-item.is)
+    (c.requires.proper c.loop-node.node-index c.node-item.result c.loop-node-test.true)) in
+    let bound = height (tree_of c.args.self.now.tree.now c.args.element.now.node) in
+    let made = c.in_ok-result.ensures.ok bound (omega (arith, low.2)) in
+    record {
+      kept = beginning-trans c.loop-node.invariant.kept
+          (beginning-to (grows-within bound v
+          (descendant_tree c.args.self.now.tree.now (option_copied c.args.element.now.text) c.node-item.result)
+          (context_of (ancestors_of c.args.self.now.tree.now c.node-item.result) false true)
+          (empty_output c.loop-node.links)) (sym (ap (λ (o : Output). o.definitions) made)));
+      rest = λ n l.
+          let rest : List ResultView → Contents =
+          λ rs. following rs (contents_alone (at n) (drop (c.loop-node.node-index + 1) c.args.nodes.now)
+          c.walk_descendant.new.links) in
+          ap rest (ap results_view c.in_ok-push.ensures.items ∙ map-append result_view c.loop-node.results.items
+          (c.in_ok-result.result ∷ []))
+          ∙ contents_more (at n) c.args.nodes.now c.loop-node.node-index c.node-item.result
+          (results_view c.loop-node.results.items) (output_view c.in_ok-result.result c.walk_descendant.new.links)
+          c.loop-node.links c.loop-node-test.true c.node-item.is
+          (c.in_ok-result.ensures.ok n (omega (arith, low.2, l)))
+          ∙ c.loop-node.invariant.rest n l;
+    }

@@ -1,0 +1,407 @@
+-- What the handlers of an element make of it, one arm of their plans after another.
+use Rattle.std.proofs.Common.{rules, ◌+◌, ◌++◌, ◌∙◌, ℕ}
+use Rattle.std.proofs.Common.{true}
+use Rattle.std.proofs.Common.{sym, ap, arith}
+use Rattle.htmd.specs.Handling.{nothing, this_result, raw_html, content_of_children, content_of_descendant}
+use Rattle.htmd.specs.Handling.{content_of_fallback, contents_of_each}
+use Rattle.htmd.specs.Choice.{handler_at}
+use Rattle.htmd.specs.Outputs.{Output, conversion_of, is_pure, is_pure_mode}
+use Rattle.htmd.specs.Children.{content_alone, descendant_tree}
+use Rattle.htmd.specs.Elements.{Occurrence, Answer, Contents, answer_after, content_if, content_of, contents_alone}
+use Rattle.htmd.specs.Elements.{raw_answer}
+use Rattle.htmd.specs.Elements.{finish_answer, with_finish, with_finish_each, each_answer, after_fallback}
+use Rattle.htmd.specs.Beginnings.{Begins}
+use Rattle.htmd.specs.Views.{answer_view, result_view, results_view, optional_result}
+use Rattle.htmd.specs.Views.{plan_view}
+use Rattle.htmd.specs.Views.{element_view}
+use Rattle.htmd.specs.Walking.{occurrence_of, request_view}
+use Rattle.htmd.proofs.ElementsLemmas.{answer-none-pure, answer-none-faithful, answer-some}
+use Rattle.htmd.proofs.BeginningsLemmas.{beginning-refl, beginning-more, beginning-trans, beginning-to}
+use Rattle.htmd.proofs.BeginningsLemmas.{begins-wider}
+use Rattle.htmd.proofs.BeginningsLemmas.{begins-start, begins-to, grows-content}
+use Rattle.htmd.proofs.BeginningsLemmas.{grows-alone}
+use Rattle.htmd.proofs.BeginningsLemmas.{grows-contents, grows-content_if, grows-fallback, grows-each, grows-answer}
+use Rattle.htmd.proofs.BeginningsLemmas.{grows-within}
+use Rattle.htmd.proofs.BeginningsLemmas.{content-broken, finish-broken}
+use Rattle.htmd.proofs.WalkingLemmas.{at-ok, now-ok, at-err}
+use Rattle.htmd.proofs.WalkingLemmas.{now-err}
+use Rattle.htmd.proofs.WalkingLemmas.{exit-err, asked_lower}
+use Rattle.htmd.proofs.dom_walker.Walk.+walk.Goals as goal
+
+pub handle-returns-in-Pure-clause-ok : goal.handle-returns-in-Pure-clause-ok
+handle-returns-in-Pure-clause-ok g t c =
+    let v = conversion_of (g.R.Registry.config c.args.self.now.registry.now) c.args.self.now.tree.now in
+    let e = c.args.element.now in
+    let at : ℕ → Occurrence = λ n. occurrence_of n v e in
+    at-ok (λ r. answer_view r c.content_if.new.links) v e (λ o. content_if true o c.args.links.now)
+    (λ o. answer_after c.args.skipped c.args.element.now.tag.now o c.args.links.now) c.content_if.result
+    (λ n l. answer-none-pure c.args.element.now.tag.now (at n) c.args.skipped c.args.links.now
+    c.in_default.ensures.value (ap is_pure (sym c.options.ensures) ∙ ap is_pure_mode c.in-Pure.is))
+    c.content_if.ensures.ok
+
+pub handle-returns-in-Pure-clause-err : goal.handle-returns-in-Pure-clause-err
+handle-returns-in-Pure-clause-err g t c =
+    let v = conversion_of (g.R.Registry.config c.args.self.now.registry.now) c.args.self.now.tree.now in
+    let e = c.args.element.now in
+    let at : ℕ → Occurrence = λ n. occurrence_of n v e in
+    at-err v e (λ o. Begins c.args.links.now c.content_if.new.links (content_if true o c.args.links.now).definitions)
+    (λ o. Begins c.args.links.now c.content_if.new.links
+    (answer_after c.args.skipped c.args.element.now.tag.now o c.args.links.now).definitions) c.content_if.result
+    (λ n l b. begins-to b (ap (λ (a : Answer). a.definitions)
+    (answer-none-pure c.args.element.now.tag.now (at n) c.args.skipped c.args.links.now c.in_default.ensures.value
+    (ap is_pure (sym c.options.ensures) ∙ ap is_pure_mode c.in-Pure.is)))) c.content_if.ensures.err
+
+pub handle-returns-in-Faithful-clause-ok : goal.handle-returns-in-Faithful-clause-ok
+handle-returns-in-Faithful-clause-ok g t c =
+    let v = conversion_of (g.R.Registry.config c.args.self.now.registry.now) c.args.self.now.tree.now in
+    let e = c.args.element.now in
+    let at : ℕ → Occurrence = λ n. occurrence_of n v e in
+    at-ok (λ r. answer_view r c.raw_html.new.links) v e (λ o. raw_answer o c.args.links.now)
+    (λ o. answer_after c.args.skipped c.args.element.now.tag.now o c.args.links.now) c.raw_html.result
+    (λ n l. answer-none-faithful c.args.element.now.tag.now (at n) c.args.skipped c.args.links.now
+    c.in_default.ensures.value (ap is_pure (sym c.options.ensures) ∙ ap is_pure_mode c.in-Faithful.is))
+    c.raw_html.ensures.ok
+
+pub handle-returns-in-Faithful-clause-err : goal.handle-returns-in-Faithful-clause-err
+handle-returns-in-Faithful-clause-err g t c =
+    let v = conversion_of (g.R.Registry.config c.args.self.now.registry.now) c.args.self.now.tree.now in
+    let e = c.args.element.now in
+    let at : ℕ → Occurrence = λ n. occurrence_of n v e in
+    at-err v e (λ o. Begins c.args.links.now c.raw_html.new.links (raw_answer o c.args.links.now).definitions)
+    (λ o. Begins c.args.links.now c.raw_html.new.links
+    (answer_after c.args.skipped c.args.element.now.tag.now o c.args.links.now).definitions) c.raw_html.result
+    (λ n l b. begins-to b (ap (λ (a : Answer). a.definitions)
+    (answer-none-faithful c.args.element.now.tag.now (at n) c.args.skipped c.args.links.now
+    c.in_default.ensures.value (ap is_pure (sym c.options.ensures) ∙ ap is_pure_mode c.in-Faithful.is))))
+    c.raw_html.ensures.err
+
+pub handle-returns-in_err-plan-clause-err : goal.handle-returns-in_err-plan-clause-err
+handle-returns-in_err-plan-clause-err g t c =
+    let v = conversion_of (g.R.Registry.config c.args.self.now.registry.now) c.args.self.now.tree.now in
+    let e = c.args.element.now in
+    let at : ℕ → Occurrence = λ n. occurrence_of n v e in
+    exit-err v e (λ o. Begins c.args.links.now c.args.links.now
+    (answer_after c.args.skipped c.args.element.now.tag.now o c.args.links.now).definitions) _
+    (λ n l. begins-start (grows-answer (at n) (grows-within n v) c.args.skipped c.args.element.now.tag.now
+    c.args.links.now))
+
+pub handle-returns-in_err-content-in-Children-clause-err : goal.handle-returns-in_err-content-in-Children-clause-err
+handle-returns-in_err-content-in-Children-clause-err g t c =
+    let v = conversion_of (g.R.Registry.config c.args.self.now.registry.now) c.args.self.now.tree.now in
+    let e = c.args.element.now in
+    let at : ℕ → Occurrence = λ n. occurrence_of n v e in
+    exit-err v e (λ o. Begins c.args.links.now c.content.new.links
+    (answer_after c.args.skipped c.args.element.now.tag.now o c.args.links.now).definitions) _ (λ n l.
+    content-broken (at n) (grows-within n v) c.args.element.now.tag.now c.args.skipped c.args.links.now c.in-Some.index
+    c.in-Some.ensures.value content_of_children (content_of (at n) c.args.links.now).definitions c.content.new.links
+    (sym (ap request_view c.in-OfPlan.is ∙ ap plan_view c.in-Children.is) ∙ c.in_ok-plan.ensures.plan)
+    (beginning-more _ _) (c.in_err-content-in-Children.ensures.err n l))
+
+pub handle-walk_descendant-requires : goal.handle-walk_descendant-requires
+handle-walk_descendant-requires g t c κs within =
+    let low = asked_lower c.args.self.now.tree.now c.args.element.now.tree.now c.args.element.now.node
+    c.in-Descendant.below (request_view c.in_ok-plan.field-0) c.args.self.now.is_tree c.requires.tree
+    c.args.element.now.within c.in_ok-plan.ensures.proper (ap request_view c.in-OfPlan.is
+    ∙ ap plan_view c.in-Descendant.is) in
+    (search rules, (within, (search rules, (low.0, low.1))))
+
+pub handle-returns-in_err-content-in-Descendant-clause-err : goal.handle-returns-in_err-content-in-Descendant-clause-err
+handle-returns-in_err-content-in-Descendant-clause-err g t c =
+    let v = conversion_of (g.R.Registry.config c.args.self.now.registry.now) c.args.self.now.tree.now in
+    let e = c.args.element.now in
+    let at : ℕ → Occurrence = λ n. occurrence_of n v e in
+    let low = asked_lower c.args.self.now.tree.now c.args.element.now.tree.now c.args.element.now.node
+    c.in-Descendant.below (request_view c.in_ok-plan.field-0) c.args.self.now.is_tree c.requires.tree
+    c.args.element.now.within c.in_ok-plan.ensures.proper (ap request_view c.in-OfPlan.is
+    ∙ ap plan_view c.in-Descendant.is) in
+    exit-err v e (λ o. Begins c.args.links.now c.walk_descendant.new.links
+    (answer_after c.args.skipped c.args.element.now.tag.now o c.args.links.now).definitions) _ (λ n l.
+    content-broken (at n) (grows-within n v) c.args.element.now.tag.now c.args.skipped c.args.links.now c.in-Some.index
+    c.in-Some.ensures.value (content_of_descendant c.in-Descendant.below)
+    (content_alone (at n).write v (descendant_tree v.items (at n).view.text c.in-Descendant.below)
+    c.in-Descendant.below c.args.links.now).definitions c.walk_descendant.new.links
+    (sym (ap request_view c.in-OfPlan.is ∙ ap plan_view c.in-Descendant.is) ∙ c.in_ok-plan.ensures.plan)
+    (beginning-more _ _) (c.in_err-content-in-Descendant.ensures.err n (omega (arith, low.2, l))))
+
+pub handle-returns-in_err-handle-in-Fallback-clause-err : goal.handle-returns-in_err-handle-in-Fallback-clause-err
+handle-returns-in_err-handle-in-Fallback-clause-err g t c =
+    let v = conversion_of (g.R.Registry.config c.args.self.now.registry.now) c.args.self.now.tree.now in
+    let e = c.args.element.now in
+    let at : ℕ → Occurrence = λ n. occurrence_of n v e in
+    exit-err v e (λ o. Begins c.args.links.now c.handle.new.links
+    (answer_after c.args.skipped c.args.element.now.tag.now o c.args.links.now).definitions) _ (λ n l.
+    content-broken (at n) (grows-within n v) c.args.element.now.tag.now c.args.skipped c.args.links.now c.in-Some.index
+    c.in-Some.ensures.value content_of_fallback (answer_after (c.args.skipped + 1) c.args.element.now.tag.now
+    (at n) c.args.links.now).definitions c.handle.new.links
+    (sym (ap request_view c.in-OfPlan.is ∙ ap plan_view c.in-Fallback.is) ∙ c.in_ok-plan.ensures.plan)
+    (grows-fallback (at n) (grows-within n v) (handler_at v.config.handlers c.in-Some.index) (at n).view
+    (answer_after (c.args.skipped + 1) c.args.element.now.tag.now (at n) c.args.links.now).result
+    (answer_after (c.args.skipped + 1) c.args.element.now.tag.now (at n) c.args.links.now).definitions)
+    (c.in_err-handle-in-Fallback.ensures.err n l))
+
+pub handle-returns-in_err-results-in-Each-clause-err : goal.handle-returns-in_err-results-in-Each-clause-err
+handle-returns-in_err-results-in-Each-clause-err g t c =
+    let v = conversion_of (g.R.Registry.config c.args.self.now.registry.now) c.args.self.now.tree.now in
+    let e = c.args.element.now in
+    let at : ℕ → Occurrence = λ n. occurrence_of n v e in
+    exit-err v e (λ o. Begins c.args.links.now c.walk_each.new.links
+    (answer_after c.args.skipped c.args.element.now.tag.now o c.args.links.now).definitions) _ (λ n l.
+    content-broken (at n) (grows-within n v) c.args.element.now.tag.now c.args.skipped c.args.links.now c.in-Some.index
+    c.in-Some.ensures.value (contents_of_each c.in-Each.nodes.items c.in-Each.children)
+    (contents_alone (at n) c.in-Each.nodes.items c.args.links.now).definitions c.walk_each.new.links
+    (sym (ap request_view c.in-Each.is) ∙ c.in_ok-plan.ensures.plan)
+    (grows-each (at n) (grows-within n v) (handler_at v.config.handlers c.in-Some.index) c.in-Each.children
+    (contents_alone (at n) c.in-Each.nodes.items c.args.links.now))
+    (begins-to (c.in_err-results-in-Each.ensures.err n l)
+    (ap (λ (x : Contents). x.definitions)
+    (ap (λ xs. contents_alone (at n) xs c.args.links.now) c.as_slice.ensures.value))))
+
+pub handle-returns-in_err-children-in-Each-clause-err : goal.handle-returns-in_err-children-in-Each-clause-err
+handle-returns-in_err-children-in-Each-clause-err g t c =
+    let v = conversion_of (g.R.Registry.config c.args.self.now.registry.now) c.args.self.now.tree.now in
+    let e = c.args.element.now in
+    let at : ℕ → Occurrence = λ n. occurrence_of n v e in
+    exit-err v e (λ o. Begins c.args.links.now c.content_if-in-Each.new.links
+    (answer_after c.args.skipped c.args.element.now.tag.now o c.args.links.now).definitions) _ (λ n l.
+    content-broken (at n) (grows-within n v) c.args.element.now.tag.now c.args.skipped c.args.links.now c.in-Some.index
+    c.in-Some.ensures.value (contents_of_each c.in-Each.nodes.items c.in-Each.children)
+    (content_if c.in-Each.children (at n)
+    (contents_alone (at n) c.in-Each.nodes.items c.args.links.now).definitions).definitions
+    c.content_if-in-Each.new.links (sym (ap request_view c.in-Each.is) ∙ c.in_ok-plan.ensures.plan)
+    (beginning-more _ _)
+    (begins-wider (beginning-to (grows-contents (at n) (grows-within n v) c.in-Each.nodes.items c.args.links.now)
+    (ap (λ (x : Contents). x.definitions)
+    (sym (c.in_ok-results-in-Each.ensures.ok n l
+    ∙ (ap (λ xs. contents_alone (at n) xs c.args.links.now) c.as_slice.ensures.value)))))
+    (c.in_err-children-in-Each.ensures.err n l)
+    (beginning-to (beginning-refl _)
+    (ap (λ (x : Contents). (content_if c.in-Each.children (at n) x.definitions).definitions)
+    (c.in_ok-results-in-Each.ensures.ok n l
+    ∙ (ap (λ xs. contents_alone (at n) xs c.args.links.now) c.as_slice.ensures.value))))))
+
+pub handle-returns-in-Skip-clause-ok : goal.handle-returns-in-Skip-clause-ok
+handle-returns-in-Skip-clause-ok g t c =
+    let v = conversion_of (g.R.Registry.config c.args.self.now.registry.now) c.args.self.now.tree.now in
+    let e = c.args.element.now in
+    let at : ℕ → Occurrence = λ n. occurrence_of n v e in
+    λ n l. sym (answer-some c.args.element.now.tag.now (at n) c.args.skipped c.args.links.now c.in-Some.index nothing
+    c.in-Some.ensures.value (sym (ap request_view c.in-OfPlan.is ∙ ap plan_view c.in-Skip.is)
+    ∙ c.in_ok-plan.ensures.plan))
+
+pub handle-returns-in-Text-clause-ok : goal.handle-returns-in-Text-clause-ok
+handle-returns-in-Text-clause-ok g t c =
+    let v = conversion_of (g.R.Registry.config c.args.self.now.registry.now) c.args.self.now.tree.now in
+    let e = c.args.element.now in
+    let at : ℕ → Occurrence = λ n. occurrence_of n v e in
+    λ n l. sym (answer-some c.args.element.now.tag.now (at n) c.args.skipped c.args.links.now c.in-Some.index
+    (this_result (result_view c.in-Text.result)) c.in-Some.ensures.value
+    (sym (ap request_view c.in-OfPlan.is ∙ ap plan_view c.in-Text.is) ∙ c.in_ok-plan.ensures.plan))
+
+pub handle-returns-in-RawHtml-clause-ok : goal.handle-returns-in-RawHtml-clause-ok
+handle-returns-in-RawHtml-clause-ok g t c =
+    let v = conversion_of (g.R.Registry.config c.args.self.now.registry.now) c.args.self.now.tree.now in
+    let e = c.args.element.now in
+    let at : ℕ → Occurrence = λ n. occurrence_of n v e in
+    at-ok (λ r. answer_view r c.raw_html-in-RawHtml.new.links) v e (λ o. raw_answer o c.args.links.now)
+    (λ o. answer_after c.args.skipped c.args.element.now.tag.now o c.args.links.now) c.raw_html-in-RawHtml.result
+    (λ n l. sym (answer-some c.args.element.now.tag.now (at n) c.args.skipped c.args.links.now c.in-Some.index raw_html
+    c.in-Some.ensures.value (sym (ap request_view c.in-OfPlan.is ∙ ap plan_view c.in-RawHtml.is)
+    ∙ c.in_ok-plan.ensures.plan))) c.raw_html-in-RawHtml.ensures.ok
+
+pub handle-returns-in-RawHtml-clause-err : goal.handle-returns-in-RawHtml-clause-err
+handle-returns-in-RawHtml-clause-err g t c =
+    let v = conversion_of (g.R.Registry.config c.args.self.now.registry.now) c.args.self.now.tree.now in
+    let e = c.args.element.now in
+    let at : ℕ → Occurrence = λ n. occurrence_of n v e in
+    at-err v e (λ o. Begins c.args.links.now c.raw_html-in-RawHtml.new.links
+    (raw_answer o c.args.links.now).definitions) (λ o. Begins c.args.links.now c.raw_html-in-RawHtml.new.links
+    (answer_after c.args.skipped c.args.element.now.tag.now o c.args.links.now).definitions)
+    c.raw_html-in-RawHtml.result
+    (λ n l b. begins-to b (ap (λ (a : Answer). a.definitions)
+    (sym (answer-some c.args.element.now.tag.now (at n) c.args.skipped c.args.links.now c.in-Some.index raw_html
+    c.in-Some.ensures.value (sym (ap request_view c.in-OfPlan.is ∙ ap plan_view c.in-RawHtml.is)
+    ∙ c.in_ok-plan.ensures.plan))))) c.raw_html-in-RawHtml.ensures.err
+
+pub handle-returns-in_ok-content-in-Children-clause-ok : goal.handle-returns-in_ok-content-in-Children-clause-ok
+handle-returns-in_ok-content-in-Children-clause-ok g t c =
+    let v = conversion_of (g.R.Registry.config c.args.self.now.registry.now) c.args.self.now.tree.now in
+    let e = c.args.element.now in
+    let at : ℕ → Occurrence = λ n. occurrence_of n v e in
+    now-ok (λ r. answer_view r c.finish.new.links) v e
+    (finish_answer ((handler_at v.config.handlers c.in-Some.index).finish (element_view e)
+    (result_view c.in_ok-content-in-Children.content) c.content.new.links) c.content.new.links)
+    (λ o. answer_after c.args.skipped c.args.element.now.tag.now o c.args.links.now) c.finish.result
+    (λ n l. ap (with_finish (handler_at v.config.handlers c.in-Some.index) (element_view e))
+    (c.in_ok-content-in-Children.ensures.ok n l)
+    ∙ sym (answer-some c.args.element.now.tag.now (at n) c.args.skipped c.args.links.now c.in-Some.index
+    content_of_children c.in-Some.ensures.value
+    (sym (ap request_view c.in-OfPlan.is ∙ ap plan_view c.in-Children.is) ∙ c.in_ok-plan.ensures.plan)))
+    c.finish.ensures.ok
+
+pub handle-returns-in_ok-content-in-Children-clause-err : goal.handle-returns-in_ok-content-in-Children-clause-err
+handle-returns-in_ok-content-in-Children-clause-err g t c =
+    let v = conversion_of (g.R.Registry.config c.args.self.now.registry.now) c.args.self.now.tree.now in
+    let e = c.args.element.now in
+    let at : ℕ → Occurrence = λ n. occurrence_of n v e in
+    now-err v e (Begins c.content.new.links c.finish.new.links
+    (c.content.new.links ++ ((handler_at v.config.handlers c.in-Some.index).finish (element_view e)
+    (result_view c.in_ok-content-in-Children.content) c.content.new.links).added))
+    (λ o. Begins c.args.links.now c.finish.new.links
+    (answer_after c.args.skipped c.args.element.now.tag.now o c.args.links.now).definitions) c.finish.result
+    (λ n l b. finish-broken (at n) (grows-within n v) c.args.element.now.tag.now c.args.skipped c.args.links.now
+    c.in-Some.index c.in-Some.ensures.value content_of_children c.content.new.links c.finish.new.links
+    ((handler_at v.config.handlers c.in-Some.index).finish (element_view e)
+    (result_view c.in_ok-content-in-Children.content) c.content.new.links)
+    (sym (ap request_view c.in-OfPlan.is ∙ ap plan_view c.in-Children.is) ∙ c.in_ok-plan.ensures.plan)
+    (beginning-to (grows-content (at n) (grows-within n v) c.args.links.now)
+    (ap (λ (o : Output). o.definitions) (sym (c.in_ok-content-in-Children.ensures.ok n l))))
+    (ap (with_finish (handler_at v.config.handlers c.in-Some.index) (element_view e))
+    (c.in_ok-content-in-Children.ensures.ok n l)) b) c.finish.ensures.err
+
+pub handle-returns-in_ok-content-in-Descendant-clause-ok : goal.handle-returns-in_ok-content-in-Descendant-clause-ok
+handle-returns-in_ok-content-in-Descendant-clause-ok g t c =
+    let v = conversion_of (g.R.Registry.config c.args.self.now.registry.now) c.args.self.now.tree.now in
+    let e = c.args.element.now in
+    let at : ℕ → Occurrence = λ n. occurrence_of n v e in
+    let low = asked_lower c.args.self.now.tree.now c.args.element.now.tree.now c.args.element.now.node
+    c.in-Descendant.below (request_view c.in_ok-plan.field-0) c.args.self.now.is_tree c.requires.tree
+    c.args.element.now.within c.in_ok-plan.ensures.proper (ap request_view c.in-OfPlan.is
+    ∙ ap plan_view c.in-Descendant.is) in
+    now-ok (λ r. answer_view r c.finish-in-Descendant.new.links) v e
+    (finish_answer ((handler_at v.config.handlers c.in-Some.index).finish (element_view e)
+    (result_view c.in_ok-content-in-Descendant.content) c.walk_descendant.new.links) c.walk_descendant.new.links)
+    (λ o. answer_after c.args.skipped c.args.element.now.tag.now o c.args.links.now) c.finish-in-Descendant.result
+    (λ n l. ap (with_finish (handler_at v.config.handlers c.in-Some.index) (element_view e))
+    (c.in_ok-content-in-Descendant.ensures.ok n (omega (arith, low.2, l)))
+    ∙ sym (answer-some c.args.element.now.tag.now (at n) c.args.skipped c.args.links.now c.in-Some.index
+    (content_of_descendant c.in-Descendant.below) c.in-Some.ensures.value
+    (sym (ap request_view c.in-OfPlan.is ∙ ap plan_view c.in-Descendant.is) ∙ c.in_ok-plan.ensures.plan)))
+    c.finish-in-Descendant.ensures.ok
+
+pub handle-returns-in_ok-content-in-Descendant-clause-err : goal.handle-returns-in_ok-content-in-Descendant-clause-err
+handle-returns-in_ok-content-in-Descendant-clause-err g t c =
+    let v = conversion_of (g.R.Registry.config c.args.self.now.registry.now) c.args.self.now.tree.now in
+    let e = c.args.element.now in
+    let at : ℕ → Occurrence = λ n. occurrence_of n v e in
+    let low = asked_lower c.args.self.now.tree.now c.args.element.now.tree.now c.args.element.now.node
+    c.in-Descendant.below (request_view c.in_ok-plan.field-0) c.args.self.now.is_tree c.requires.tree
+    c.args.element.now.within c.in_ok-plan.ensures.proper (ap request_view c.in-OfPlan.is
+    ∙ ap plan_view c.in-Descendant.is) in
+    now-err v e (Begins c.walk_descendant.new.links c.finish-in-Descendant.new.links
+    (c.walk_descendant.new.links ++ ((handler_at v.config.handlers c.in-Some.index).finish (element_view e)
+    (result_view c.in_ok-content-in-Descendant.content) c.walk_descendant.new.links).added))
+    (λ o. Begins c.args.links.now c.finish-in-Descendant.new.links
+    (answer_after c.args.skipped c.args.element.now.tag.now o c.args.links.now).definitions)
+    c.finish-in-Descendant.result
+    (λ n l b. finish-broken (at n) (grows-within n v) c.args.element.now.tag.now c.args.skipped c.args.links.now
+    c.in-Some.index c.in-Some.ensures.value (content_of_descendant c.in-Descendant.below)
+    c.walk_descendant.new.links c.finish-in-Descendant.new.links
+    ((handler_at v.config.handlers c.in-Some.index).finish (element_view e)
+    (result_view c.in_ok-content-in-Descendant.content) c.walk_descendant.new.links)
+    (sym (ap request_view c.in-OfPlan.is ∙ ap plan_view c.in-Descendant.is) ∙ c.in_ok-plan.ensures.plan)
+    (beginning-to (grows-alone (at n) (grows-within n v)
+    (descendant_tree v.items (at n).view.text c.in-Descendant.below) c.in-Descendant.below c.args.links.now)
+    (ap (λ (o : Output). o.definitions)
+    (sym (c.in_ok-content-in-Descendant.ensures.ok n (omega (arith, low.2, l))))))
+    (ap (with_finish (handler_at v.config.handlers c.in-Some.index) (element_view e))
+    (c.in_ok-content-in-Descendant.ensures.ok n (omega (arith, low.2, l)))) b) c.finish-in-Descendant.ensures.err
+
+pub handle-returns-in-None-clause-ok : goal.handle-returns-in-None-clause-ok
+handle-returns-in-None-clause-ok g t c =
+    let v = conversion_of (g.R.Registry.config c.args.self.now.registry.now) c.args.self.now.tree.now in
+    let e = c.args.element.now in
+    let at : ℕ → Occurrence = λ n. occurrence_of n v e in
+    λ n l. ap (λ (a : Answer). after_fallback (handler_at v.config.handlers c.in-Some.index) (element_view e) a.result
+    a.definitions) (ap (λ x. answer_view x c.handle.new.links) (sym c.in-None.is)
+    ∙ c.in_ok-handle-in-Fallback.ensures.ok n l)
+    ∙ sym (answer-some c.args.element.now.tag.now (at n) c.args.skipped c.args.links.now c.in-Some.index
+    content_of_fallback c.in-Some.ensures.value
+    (sym (ap request_view c.in-OfPlan.is ∙ ap plan_view c.in-Fallback.is) ∙ c.in_ok-plan.ensures.plan))
+
+pub handle-returns-in-Some-2-clause-ok : goal.handle-returns-in-Some-2-clause-ok
+handle-returns-in-Some-2-clause-ok g t c =
+    let v = conversion_of (g.R.Registry.config c.args.self.now.registry.now) c.args.self.now.tree.now in
+    let e = c.args.element.now in
+    let at : ℕ → Occurrence = λ n. occurrence_of n v e in
+    now-ok (λ r. answer_view r c.finish-in-Some-2.new.links) v e
+    (finish_answer ((handler_at v.config.handlers c.in-Some.index).finish (element_view e)
+    (result_view c.in-Some-2.content) c.handle.new.links) c.handle.new.links)
+    (λ o. answer_after c.args.skipped c.args.element.now.tag.now o c.args.links.now) c.finish-in-Some-2.result
+    (λ n l. ap (λ (a : Answer). after_fallback (handler_at v.config.handlers c.in-Some.index) (element_view e) a.result
+    a.definitions) (ap (λ x. answer_view x c.handle.new.links) (sym c.in-Some-2.is)
+    ∙ c.in_ok-handle-in-Fallback.ensures.ok n l)
+    ∙ sym (answer-some c.args.element.now.tag.now (at n) c.args.skipped c.args.links.now c.in-Some.index
+    content_of_fallback c.in-Some.ensures.value
+    (sym (ap request_view c.in-OfPlan.is ∙ ap plan_view c.in-Fallback.is) ∙ c.in_ok-plan.ensures.plan)))
+    c.finish-in-Some-2.ensures.ok
+
+pub handle-returns-in-Some-2-clause-err : goal.handle-returns-in-Some-2-clause-err
+handle-returns-in-Some-2-clause-err g t c =
+    let v = conversion_of (g.R.Registry.config c.args.self.now.registry.now) c.args.self.now.tree.now in
+    let e = c.args.element.now in
+    let at : ℕ → Occurrence = λ n. occurrence_of n v e in
+    now-err v e (Begins c.handle.new.links c.finish-in-Some-2.new.links
+    (c.handle.new.links ++ ((handler_at v.config.handlers c.in-Some.index).finish (element_view e)
+    (result_view c.in-Some-2.content) c.handle.new.links).added))
+    (λ o. Begins c.args.links.now c.finish-in-Some-2.new.links
+    (answer_after c.args.skipped c.args.element.now.tag.now o c.args.links.now).definitions)
+    c.finish-in-Some-2.result
+    (λ n l b. finish-broken (at n) (grows-within n v) c.args.element.now.tag.now c.args.skipped c.args.links.now
+    c.in-Some.index c.in-Some.ensures.value content_of_fallback c.handle.new.links c.finish-in-Some-2.new.links
+    ((handler_at v.config.handlers c.in-Some.index).finish (element_view e) (result_view c.in-Some-2.content)
+    c.handle.new.links) (sym (ap request_view c.in-OfPlan.is ∙ ap plan_view c.in-Fallback.is)
+    ∙ c.in_ok-plan.ensures.plan)
+    (beginning-to (grows-answer (at n) (grows-within n v) (c.args.skipped + 1) c.args.element.now.tag.now
+    c.args.links.now) (ap (λ (a : Answer). a.definitions)
+    (sym (ap (λ x. answer_view x c.handle.new.links) (sym c.in-Some-2.is)
+    ∙ c.in_ok-handle-in-Fallback.ensures.ok n l))))
+    (ap (λ (a : Answer). after_fallback (handler_at v.config.handlers c.in-Some.index) (element_view e) a.result
+    a.definitions) (ap (λ x. answer_view x c.handle.new.links) (sym c.in-Some-2.is)
+    ∙ c.in_ok-handle-in-Fallback.ensures.ok n l)) b) c.finish-in-Some-2.ensures.err
+
+pub handle-returns-in_ok-children-in-Each-clause-ok : goal.handle-returns-in_ok-children-in-Each-clause-ok
+handle-returns-in_ok-children-in-Each-clause-ok g t c =
+    let v = conversion_of (g.R.Registry.config c.args.self.now.registry.now) c.args.self.now.tree.now in
+    let e = c.args.element.now in
+    let at : ℕ → Occurrence = λ n. occurrence_of n v e in
+    now-ok (λ r. answer_view r c.finish_each.new.links) v e
+    (finish_answer ((handler_at v.config.handlers c.in-Some.index).finish_each (element_view e)
+    (results_view c.in_ok-results-in-Each.results.items) (optional_result c.in_ok-children-in-Each.children)
+    c.content_if-in-Each.new.links) c.content_if-in-Each.new.links)
+    (λ o. answer_after c.args.skipped c.args.element.now.tag.now o c.args.links.now) c.finish_each.result
+    (λ n l. ap (with_finish_each (handler_at v.config.handlers c.in-Some.index) (element_view e)
+    (results_view c.in_ok-results-in-Each.results.items)) (c.in_ok-children-in-Each.ensures.ok n l)
+    ∙ ap (each_answer (handler_at v.config.handlers c.in-Some.index) (at n) c.in-Each.children)
+    (c.in_ok-results-in-Each.ensures.ok n l
+    ∙ (ap (λ xs. contents_alone (at n) xs c.args.links.now) c.as_slice.ensures.value))
+    ∙ sym (answer-some c.args.element.now.tag.now (at n) c.args.skipped c.args.links.now c.in-Some.index
+    (contents_of_each c.in-Each.nodes.items c.in-Each.children) c.in-Some.ensures.value
+    (sym (ap request_view c.in-Each.is) ∙ c.in_ok-plan.ensures.plan))) c.finish_each.ensures.ok
+
+pub handle-returns-in_ok-children-in-Each-clause-err : goal.handle-returns-in_ok-children-in-Each-clause-err
+handle-returns-in_ok-children-in-Each-clause-err g t c =
+    let v = conversion_of (g.R.Registry.config c.args.self.now.registry.now) c.args.self.now.tree.now in
+    let e = c.args.element.now in
+    let at : ℕ → Occurrence = λ n. occurrence_of n v e in
+    now-err v e (Begins c.content_if-in-Each.new.links c.finish_each.new.links
+    (c.content_if-in-Each.new.links ++ ((handler_at v.config.handlers c.in-Some.index).finish_each (element_view e)
+    (results_view c.in_ok-results-in-Each.results.items) (optional_result c.in_ok-children-in-Each.children)
+    c.content_if-in-Each.new.links).added)) (λ o. Begins c.args.links.now c.finish_each.new.links
+    (answer_after c.args.skipped c.args.element.now.tag.now o c.args.links.now).definitions) c.finish_each.result
+    (λ n l b. finish-broken (at n) (grows-within n v) c.args.element.now.tag.now c.args.skipped c.args.links.now
+    c.in-Some.index c.in-Some.ensures.value (contents_of_each c.in-Each.nodes.items c.in-Each.children)
+    c.content_if-in-Each.new.links c.finish_each.new.links
+    ((handler_at v.config.handlers c.in-Some.index).finish_each (element_view e)
+    (results_view c.in_ok-results-in-Each.results.items) (optional_result c.in_ok-children-in-Each.children)
+    c.content_if-in-Each.new.links) (sym (ap request_view c.in-Each.is) ∙ c.in_ok-plan.ensures.plan)
+    (beginning-trans (beginning-to (grows-contents (at n) (grows-within n v) c.in-Each.nodes.items c.args.links.now)
+    (ap (λ (x : Contents). x.definitions)
+    (sym (c.in_ok-results-in-Each.ensures.ok n l
+    ∙ (ap (λ xs. contents_alone (at n) xs c.args.links.now) c.as_slice.ensures.value)))))
+    (beginning-to (grows-content_if (at n) (grows-within n v) c.in-Each.children c.walk_each.new.links)
+    (ap (λ (a : Answer). a.definitions) (sym (c.in_ok-children-in-Each.ensures.ok n l)))))
+    (ap (with_finish_each (handler_at v.config.handlers c.in-Some.index) (element_view e)
+    (results_view c.in_ok-results-in-Each.results.items)) (c.in_ok-children-in-Each.ensures.ok n l)
+    ∙ ap (each_answer (handler_at v.config.handlers c.in-Some.index) (at n) c.in-Each.children)
+    (c.in_ok-results-in-Each.ensures.ok n l
+    ∙ (ap (λ xs. contents_alone (at n) xs c.args.links.now) c.as_slice.ensures.value))) b) c.finish_each.ensures.err
