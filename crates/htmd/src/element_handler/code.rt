@@ -7,7 +7,7 @@ ghost use Rattle.htmd_tree.specs.Views.{pairs_of};
 ghost use Rattle.htmd.specs.Code as spec;
 ghost use Rattle.htmd.specs.Views.{plan_view, element_view, result_view, optional_result};
 
-use super::plans::{is_pure, is_raw_html_due, parent_tag};
+use super::plans::{has_attributes_beyond, is_pure, parent_tag};
 use super::{Element, HandlerResult, Plan};
 use crate::node_util::is_text;
 use crate::options::CodeBlockStyle;
@@ -114,7 +114,7 @@ pub(crate) fn plan(element: &Element) -> Plan
         return Plan::RawHtml;
     }
     let allowed = if shows_language(element) { 1 } else { 0 };
-    if is_raw_html_due(element, allowed) {
+    if has_attributes_beyond(element, allowed) {
         return Plan::RawHtml;
     }
     Plan::Children

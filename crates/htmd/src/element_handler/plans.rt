@@ -42,7 +42,7 @@ pub(crate) fn is_plain(element: &Element) -> bool
 }
 
 /// Whether the element has more attributes than Markdown has a form for, where that matters.
-pub(crate) fn is_raw_html_due(element: &Element, allowed: usize) -> bool
+pub(crate) fn has_attributes_beyond(element: &Element, allowed: usize) -> bool
     ensures { result ≡ spec.is_raw_html_due (element_view element.now) allowed }
 {
     !is_pure(element.options) && element.attrs.len() > allowed
