@@ -6,4 +6,8 @@ pub mod NumberedTreesLemmas
 pub mod AncestorsLemmas
 pub mod LayoutLemmas
 pub mod SerialiserLemmas
+pub mod CharacterClassesLemmas
+pub mod CommentTextsLemmas
+pub mod DecodedCharactersLemmas
+pub mod RawContentLemmas
 mod Examples

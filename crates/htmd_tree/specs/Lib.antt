@@ -10,3 +10,4 @@ pub mod Ancestors
 pub mod Views
 pub mod Layout
 pub mod Entries
+pub mod DecodedCharacters
