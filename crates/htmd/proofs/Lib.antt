@@ -12,5 +12,6 @@ pub mod RenderingLemmas
 pub mod WalkingLemmas
 pub mod PassingLemmas
 pub mod CodeLemmas
+pub mod LayersLemmas
 pub mod LawsLemmas
 mod Examples

@@ -2,10 +2,9 @@
 use Rattle.std.specs.Prelude.{}
 use Rattle.htmd.specs.declared.converter.HtmlToMarkdown.{HtmlToMarkdown}
 use Rattle.htmd.specs.declared.converter.HtmlToMarkdownBuilder.{HtmlToMarkdownBuilder}
-use Rattle.htmd.specs.declared.element_handler.element_handlers.ElementHandlers.{ElementHandlers}
 
-abbrev pub handlers_of : {H : Type 0} → HtmlToMarkdown H → H
+abbrev pub handlers_of : {R : Type 0} → HtmlToMarkdown R → R
 handlers_of converter = converter.handlers
 
-abbrev pub handlers_built : {X : Type 0} {F : X → Type 0} → HtmlToMarkdownBuilder X F → ElementHandlers X F
+abbrev pub handlers_built : {R : Type 0} → HtmlToMarkdownBuilder R → R
 handlers_built builder = builder.handlers

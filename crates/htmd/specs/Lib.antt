@@ -26,6 +26,8 @@ pub mod Registries
 pub mod Converters
 pub mod Defaults
 pub mod TagIndexes
+pub mod Closures
+pub mod Layers
 pub mod Joints
 pub mod Passing
 pub mod Walking

@@ -1,12 +1,15 @@
 //! The converter and its builder.
 
-ghost use Rattle.std.specs.Prelude.{◌≡◌, ◌<◌, IfOk, IfErr, map, length, string_bytes};
+ghost use Rattle.std.specs.Prelude.{◌≡◌, ◌<◌, None, IfOk, IfErr, map, length, string_bytes};
 ghost use Rattle.htmd.specs.Handling.{of_functions};
 ghost use Rattle.htmd.specs.Choice.{no_handler, with_handler, with_options};
 ghost use Rattle.htmd.specs.Defaults.{default_options};
 ghost use Rattle.htmd.specs.Markdown.{markdown};
 
 use crate::dom_walker;
+use crate::element_handler::fn_handler::Answering;
+use crate::element_handler::layered::Layered;
+use crate::element_handler::registrar::Registrar;
 use crate::element_handler::registry::Registry;
 use crate::element_handler::{ElementHandler, ElementHandlers};
 use crate::options::Options;
@@ -21,14 +24,14 @@ pub struct HtmlToMarkdown<R = ElementHandlers> {
 
 /// Makes a converter.
 #[derive(Drop)]
-pub struct HtmlToMarkdownBuilder {
-    handlers: ElementHandlers,
+pub struct HtmlToMarkdownBuilder<R = ElementHandlers> {
+    handlers: R,
 }
 
 /// The request for memory was refused. This is the builder as it was.
 #[derive(Drop)]
-pub struct SkipRefused {
-    pub builder: HtmlToMarkdownBuilder,
+pub struct SkipRefused<R = ElementHandlers> {
+    pub builder: HtmlToMarkdownBuilder<R>,
 }
 
 /// The request for memory was refused. This is the builder as it was, and the handler.
@@ -36,6 +39,13 @@ pub struct SkipRefused {
 pub struct AddRefused {
     pub builder: HtmlToMarkdownBuilder,
     pub handler: Box<dyn ElementHandler>,
+}
+
+/// The request for memory was refused. This is the builder as it was, and the handler.
+#[derive(Drop)]
+pub struct AddFnRefused<R, H> {
+    pub builder: HtmlToMarkdownBuilder<R>,
+    pub handler: H,
 }
 
 impl HtmlToMarkdown {
@@ -91,31 +101,6 @@ impl HtmlToMarkdownBuilder {
         Ok(HtmlToMarkdownBuilder { handlers })
     }
 
-    /// The same with these options.
-    pub fn options(mut self, options: Options) -> Self
-        ensures { let config = ⟦<ElementHandlers as Registry>⟧.config in
-            config (handlers_built result) ≡ with_options (config (handlers_built self)) options }
-    {
-        self.handlers.set_options(options);
-        self
-    }
-
-    /// The same, but elements of these tags give nothing. It refuses for want of memory alone, and
-    /// hands back the builder as it was.
-    pub fn skip_tags(mut self, tags: &[&str]) -> Result<Self, SkipRefused>
-        requires tags { 0 < length tags.now }
-        ensures ok { let config = ⟦<ElementHandlers as Registry>⟧.config in
-            IfOk result (λ builder. config (handlers_built builder)
-            ≡ with_handler (config (handlers_built self)) (map (λ t. t.now) tags.now) no_handler) }
-        ensures builder { let config = ⟦<ElementHandlers as Registry>⟧.config in
-            IfErr result (λ refused. config (handlers_built refused.builder) ≡ config (handlers_built self)) }
-    {
-        match self.handlers.skip_tags(tags) {
-            Ok(()) => Ok(self),
-            Err(_) => Err(SkipRefused { builder: self }),
-        }
-    }
-
     /// The same, but this handler is asked first for these tags. It refuses for want of memory alone,
     /// and hands back the builder as it was, and the handler.
     pub fn add_handler(
@@ -140,10 +125,81 @@ impl HtmlToMarkdownBuilder {
             }),
         }
     }
+}
+
+impl<R: Registrar> HtmlToMarkdownBuilder<R> {
+    ghost use Rattle.htmd.specs.Converters.{handlers_of, handlers_built};
+
+    /// The same with these options.
+    pub fn options(mut self, options: Options) -> Self
+        requires ready { R.ready (handlers_built self) }
+        ensures config { R.config (handlers_built result) ≡ with_options (R.config (handlers_built self)) options }
+        ensures ready { R.ready (handlers_built result) }
+    {
+        self.handlers.take_options(options);
+        self
+    }
+
+    /// The same, but elements of these tags give nothing. It refuses for want of memory alone, and
+    /// hands back the builder as it was.
+    pub fn skip_tags(mut self, tags: &[&str]) -> Result<Self, SkipRefused<R>>
+        requires tags { 0 < length tags.now }
+        requires ready { R.ready (handlers_built self) }
+        ensures ok { IfOk result (λ builder. R.config (handlers_built builder)
+            ≡ with_handler (R.config (handlers_built self)) (map (λ t. t.now) tags.now) no_handler) }
+        ensures builder { IfErr result
+            (λ refused. R.config (handlers_built refused.builder) ≡ R.config (handlers_built self)) }
+        ensures ready { IfOk result (λ builder. R.ready (handlers_built builder)) }
+        ensures builder_ready { IfErr result (λ refused. R.ready (handlers_built refused.builder)) }
+    {
+        match self.handlers.take_skipping(tags) {
+            Ok(_) => Ok(self),
+            Err(_) => Err(SkipRefused { builder: self }),
+        }
+    }
+
+    /// The same, but this handler of closures is asked first for these tags. The closures answer what
+    /// its rule names. It refuses for want of memory alone, and hands back the builder as it was, and
+    /// the handler.
+    pub fn add_fn_handler<H: Answering + Drop>(
+        mut self,
+        tags: &[&str],
+        handler: H,
+    ) -> Result<HtmlToMarkdownBuilder<Layered<R, H>>, AddFnRefused<R, H>>
+        requires tags { 0 < length tags.now }
+        requires keeps { H.keeps handler }
+        requires ready { R.ready (handlers_built self) }
+        ensures ok { let config = ⟦<Layered<R, H> as Registry>⟧.config in
+            IfOk result (λ builder. config (handlers_built builder)
+            ≡ with_handler (R.config (handlers_built self)) (map (λ t. t.now) tags.now)
+            (of_functions (H.plan_named handler) (H.finish_named handler) None)) }
+        ensures builder { IfErr result
+            (λ refused. R.config (handlers_built refused.builder) ≡ R.config (handlers_built self)) }
+        ensures handler { IfErr result (λ refused. refused.handler ≡ handler) }
+        ensures ready { let ready = ⟦<Layered<R, H> as Registry>⟧.ready in
+            IfOk result (λ builder. ready (handlers_built builder)) }
+        ensures builder_ready { IfErr result (λ refused. R.ready (handlers_built refused.builder)) }
+    {
+        match self.handlers.take_skipping(tags) {
+            Ok(index) => Ok(HtmlToMarkdownBuilder {
+                handlers: Layered::new(self.handlers, index, handler),
+            }),
+            Err(_) => Err(AddFnRefused {
+                builder: self,
+                handler,
+            }),
+        }
+    }
+}
+
+impl<R: Registry> HtmlToMarkdownBuilder<R> {
+    ghost use Rattle.htmd.specs.Converters.{handlers_of, handlers_built};
 
     /// The converter.
-    pub fn build(self) -> HtmlToMarkdown
-        ensures { handlers_of result ≡ handlers_built self }
+    pub fn build(self) -> HtmlToMarkdown<R>
+        requires ready { R.ready (handlers_built self) }
+        ensures config { R.config (handlers_of result) ≡ R.config (handlers_built self) }
+        ensures ready { R.ready (handlers_of result) }
     {
         HtmlToMarkdown {
             handlers: self.handlers,

@@ -18,16 +18,20 @@ mod built_in;
 mod code;
 mod element_handlers;
 mod emphasis;
+pub(crate) mod fn_handler;
 mod headings;
 mod hr;
+pub(crate) mod layered;
 mod page;
 pub(crate) mod plans;
 mod pre;
 mod quote;
+pub(crate) mod registrar;
 pub(crate) mod registry;
 mod span;
 
 pub use element_handlers::{ElementHandlers, HandlerRefused};
+pub use fn_handler::{FnHandler, HandlerRule};
 pub use plans::is_raw_html_due;
 
 /// What a handler is shown of an element.

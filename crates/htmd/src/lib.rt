@@ -22,5 +22,5 @@ pub mod options;
 mod seam;
 mod text_node;
 
-pub use converter::{AddRefused, HtmlToMarkdown, HtmlToMarkdownBuilder, SkipRefused};
+pub use converter::{AddFnRefused, AddRefused, HtmlToMarkdown, HtmlToMarkdownBuilder, SkipRefused};
 pub use htmd_tree::{Attribute, NodeData, NodeId, Tree, TreeError};

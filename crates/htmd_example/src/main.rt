@@ -1,7 +1,14 @@
-//! The smallest use of the library: a tree is built by calls, and its Markdown is printed.
+//! Uses of the library: trees are built by calls, and their Markdown is printed, a line each.
 #![tactic(auto)]
 
+mod closures;
+mod highlight;
+mod skipping;
+
+use closures::shouted;
+use highlight::highlighted;
 use htmd::{HtmlToMarkdown, Tree, TreeError};
+use skipping::without_asides;
 use std::alloc::Global;
 use std::io;
 
@@ -14,8 +21,17 @@ fn greeting(alloc: Global) -> Result<String, TreeError> {
 }
 
 fn main(rt: HostRuntime) -> io::Result<()> {
-    match greeting(rt.alloc()) {
-        Ok(markdown) => println!(rt; "{markdown}"),
-        Err(error) => eprintln!(rt; "{error}"),
+    let alloc = rt.alloc();
+    for answer in [
+        greeting(alloc),
+        highlighted(alloc),
+        without_asides(alloc),
+        shouted(alloc),
+    ] {
+        match answer {
+            Ok(markdown) => println!(rt; "{markdown}")?,
+            Err(error) => eprintln!(rt; "{error}")?,
+        }
     }
+    Ok(())
 }

@@ -22,5 +22,7 @@ returns c =
     (λ text. string_bytes text ≡ markdown (built_in (options_of c.args.faithful)) (paragraph c.args.text.now) 0)
     (λ text e. e
     ∙ same_markdown _ (with_options (built_in default_options) (options_of c.args.faithful)) _ _ _ _
-    (cc (c.build-converter.ensures, c.options.ensures, c.in_ok-builder.ensures, c.options_of.ensures))
+    (c.build-converter.ensures.config ∙ c.options.ensures.config
+    ∙ ap (λ k. with_options k c.options_of.result) c.in_ok-builder.ensures
+    ∙ ap (with_options (built_in default_options)) c.options_of.ensures)
     c.in-Ok.ensures.ok c.root.ensures.value) c.tree_to_markdown.ensures

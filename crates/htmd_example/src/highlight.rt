@@ -1,0 +1,54 @@
+//! A handler of one's own: what stands in `mark` is put between two pairs of equal signs.
+ghost use Rattle.std.specs.Prelude.{◌++◌, Some, None, true, codes};
+ghost use Rattle.htmd.specs.Handling.{content_of_children};
+
+use htmd::element_handler::{Element, ElementHandler, HandlerResult, Plan};
+use htmd::{HtmlToMarkdown, Tree, TreeError};
+use std::alloc::{AllocError, Global};
+
+#[derive(Drop)]
+struct Highlight;
+
+impl ElementHandler for Highlight {
+    ghost plan_of = { λ _ _. content_of_children };
+
+    ghost finish_of = { λ _ _ given. Some (record {
+      content = codes "==" ++ given.content ++ codes "==";
+      markdown_translated = true;
+    }) };
+
+    ghost append_of = { λ _. None };
+
+    fn append(&self, _alloc: Global) -> Result<Option<String>, AllocError> {
+        Ok(None)
+    }
+
+    fn plan(&self, _alloc: Global, _element: &Element) -> Result<Plan, AllocError> {
+        Ok(Plan::Children)
+    }
+
+    fn finish(
+        &self,
+        alloc: Global,
+        _element: &Element,
+        content: HandlerResult,
+    ) -> Result<Option<HandlerResult>, AllocError> {
+        let text = format!(in alloc; "=={}==", content.content)?;
+        Ok(Some(HandlerResult::from_string(text)))
+    }
+}
+
+/// The Markdown of `<p>A <mark>new</mark> word</p>`.
+pub(crate) fn highlighted(alloc: Global) -> Result<String, TreeError> {
+    let mut tree = Tree::new(alloc)?;
+    let paragraph = tree.add_element(tree.root(), "p", Vec::new(alloc))?;
+    tree.add_text(paragraph, "A ")?;
+    let mark = tree.add_element(paragraph, "mark", Vec::new(alloc))?;
+    tree.add_text(mark, "new")?;
+    tree.add_text(paragraph, " word")?;
+    let handler: Box<dyn ElementHandler> = Box::new(alloc, Highlight)?;
+    let Ok(builder) = HtmlToMarkdown::builder(alloc)?.add_handler(&["mark"], handler) else {
+        return Err(TreeError::Memory);
+    };
+    Ok(builder.build().tree_to_markdown(alloc, &tree, tree.root())?)
+}
