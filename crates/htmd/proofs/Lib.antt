@@ -3,7 +3,7 @@ pub mod SeamsLemmas
 pub mod PlainTextsLemmas
 pub mod Nodes
 pub mod ChoiceLemmas
-pub mod RegistrationsLemmas
+pub mod LatestLemmas
 pub mod GroupsLemmas
 pub mod ElementsLemmas
 pub mod BeginningsLemmas

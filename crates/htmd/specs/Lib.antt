@@ -28,6 +28,7 @@ pub mod Defaults
 pub mod TagIndexes
 pub mod Closures
 pub mod Layers
+pub mod Latest
 pub mod Joints
 pub mod Passing
 pub mod Walking

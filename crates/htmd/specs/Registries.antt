@@ -13,5 +13,5 @@ abbrev pub config_of : {X : Type 0} {F : X → Type 0} → (DynBox X Global F �
 config_of of_box registry = record {
   options = registry.options;
   handlers = map (handler_meaning of_box) registry.handlers.items;
-  registered = map tag_index registry.registered.items;
+  registered = map tag_index registry.registered.all.items;
 }

@@ -1,6 +1,6 @@
 -- What a registration stands for.
 use Rattle.std.specs.Prelude.{string_bytes}
-use Rattle.htmd.specs.declared.element_handler.element_handlers.Registration.{Registration}
+use Rattle.htmd.specs.declared.element_handler.registrations.Registration.{Registration}
 use Rattle.htmd.specs.Choice.{TagIndex}
 
 abbrev pub tag_index : Registration → TagIndex

@@ -27,6 +27,7 @@ pub(crate) mod plans;
 mod pre;
 mod quote;
 pub(crate) mod registrar;
+mod registrations;
 pub(crate) mod registry;
 mod span;
 

@@ -11,6 +11,7 @@ ghost use Rattle.htmd.specs.Spans.{spans};
 
 use super::built_in::{BuiltIn, HANDLERS_AND_TAGS};
 use super::plans::is_pure;
+use super::registrations::Registrations;
 use super::registry::{Contents, Registry, Request};
 use super::span::formula_mark;
 use super::{Element, ElementHandler, HandlerResult, Links, Plan};
@@ -27,44 +28,20 @@ pub(crate) enum Handler {
     Custom(Box<dyn ElementHandler>),
 }
 
-/// A tag, and the index of a handler that is registered for it.
-#[derive(Drop)]
-pub(crate) struct Registration {
-    pub(crate) tag: String,
-    pub(crate) index: usize,
-}
-
 /// The handlers in order of registration. A tag's handlers are asked from the newest on.
 #[derive(Drop)]
 pub struct ElementHandlers {
     pub(crate) handlers: Vec<Handler>,
-    pub(crate) registered: Vec<Registration>,
+    pub(crate) registered: Registrations,
     pub(crate) options: Options,
     alloc: Global,
-    ghost within: { All (λ r. r.index < length handlers.items) registered.items },
+    ghost within: { All (λ r. r.index < length handlers.items) (map tag_index registered.all.items) },
 }
 
 /// The request for memory was refused. The registry is as it was, and this is the handler.
 #[derive(Drop)]
 pub struct HandlerRefused {
     pub handler: Box<dyn ElementHandler>,
-}
-
-/// A registration for each tag, of the handler at an index.
-fn registrations(
-    alloc: Global,
-    tags: &[&str],
-    index: usize,
-) -> Result<Vec<Registration>, AllocError>
-    ensures tags { IfOk result (λ v. map tag_index v.items ≡ tags_at index (map (λ t. t.now) tags.now)) }
-    ensures indexes { IfOk result (λ v. All (λ r. r.index ≡ index) v.items) }
-{
-    let mut fresh = Vec::with_capacity(alloc, tags.len())?;
-    for tag in tags {
-        let tag = String::from_str(alloc, *tag)?;
-        fresh.push(Registration { tag, index })?;
-    }
-    Ok(fresh)
 }
 
 /// What a handler of one's own asks for.
@@ -143,7 +120,7 @@ impl ElementHandlers {
     {
         let mut handlers = ElementHandlers {
             handlers: Vec::new(alloc),
-            registered: Vec::new(alloc),
+            registered: Registrations::new(alloc),
             options,
             alloc,
         };
@@ -169,9 +146,8 @@ impl ElementHandlers {
         ensures err { let config = ⟦<ElementHandlers as Registry>⟧.config in
             OnErr result (config self.new ≡ config self.old) }
     {
-        let mut fresh = registrations(self.alloc, tags, self.handlers.len())?;
         self.handlers.reserve(1)?;
-        self.registered.append(&mut fresh)?;
+        self.registered.add(self.alloc, tags, self.handlers.len())?;
         self.handlers.push(Handler::BuiltIn(handler))?;
         Ok(())
     }
@@ -183,9 +159,8 @@ impl ElementHandlers {
         ensures err { let config = ⟦<ElementHandlers as Registry>⟧.config in
             OnErr result (config self.new ≡ config self.old) }
     {
-        let mut fresh = registrations(self.alloc, tags, self.handlers.len())?;
         self.handlers.reserve(1)?;
-        self.registered.append(&mut fresh)?;
+        self.registered.add(self.alloc, tags, self.handlers.len())?;
         self.handlers.push(Handler::Skipping)?;
         Ok(())
     }
@@ -205,13 +180,11 @@ impl ElementHandlers {
         ensures err { let config = ⟦<ElementHandlers as Registry>⟧.config in
             OnErr result (config self.new ≡ config self.old) }
     {
-        let Ok(mut fresh) = registrations(self.alloc, tags, self.handlers.len()) else {
-            return Err(HandlerRefused { handler });
-        };
         if self.handlers.reserve(1).is_err() {
             return Err(HandlerRefused { handler });
         }
-        if self.registered.append(&mut fresh).is_err() {
+        let index = self.handlers.len();
+        if self.registered.add(self.alloc, tags, index).is_err() {
             return Err(HandlerRefused { handler });
         }
         match self.handlers.push(Handler::Custom(handler)) {
@@ -294,19 +267,7 @@ impl Registry for ElementHandlers {
     }
 
     fn find(&self, tag: &str, skipped: usize) -> Option<usize> {
-        let mut left = skipped;
-        let mut i = self.registered.len();
-        while i > 0 {
-            i -= 1;
-            let registration = &self.registered[i];
-            if registration.tag.as_str() == tag {
-                if left == 0 {
-                    return Some(registration.index);
-                }
-                left -= 1;
-            }
-        }
-        None
+        self.registered.find(tag, skipped)
     }
 
     fn goes_past(&self, tree: &Tree, node: NodeId) -> bool {

@@ -1,5 +1,5 @@
 -- The occurrence that the walk is handed is that of the definition.
-use Rattle.std.proofs.Common.{◌≡◌, List, ℕ, ◌∙◌, ap, sym, arith, suc, ◌≤◌, IfOk}
+use Rattle.std.proofs.Common.{◌≡◌, List, ℕ, ◌∙◌, ap, sym, arith}
 use Rattle.std.specs.Option.{option_copied}
 use Rattle.std.proofs.lemmas.Result.{IfOk-weaker, on_err_weaker}
 use Rattle.htmd_tree.specs.Items.{Item, Data, data_at}

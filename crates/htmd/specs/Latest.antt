@@ -1,0 +1,24 @@
+-- Where the newest registration of a tag stands, as the code looks it up. No public clause cites it.
+use Rattle.std.specs.Prelude.{◌≡◌, ℕ, suc, ◌<◌, Bool, true, false, List, [], ◌∷◌, Option, Some, None}
+use Rattle.std.specs.Prelude.{length, map, take, slice_index_or, string_bytes}
+use Rattle.std.specs.Str.{bytes_eq}
+use Rattle.htmd.specs.declared.element_handler.registrations.Registration.{Registration}
+use Rattle.htmd.specs.Choice.{TagIndex}
+use Rattle.htmd.specs.TagIndexes.{tag_index}
+
+-- one place further; the first place, where nothing behind it was found
+abbrev pub place_behind : Option ℕ → Bool → Option ℕ
+place_behind None false = None
+place_behind None true = Some 0
+place_behind (Some place) here = Some (suc place)
+
+-- the place of the last registration for a tag
+abbrev pub latest : List ℕ → List TagIndex → Option ℕ
+latest tag [] = None
+latest tag (r ∷ rs) = place_behind (latest tag rs) (bytes_eq r.tag tag)
+
+-- each registration knows the place of the one before it for its tag
+abbrev pub IsChained : List Registration → Type 0
+IsChained rs =
+    (k : ℕ) (d : Registration) → k < length rs → (slice_index_or rs k d).older
+    ≡ latest (string_bytes (slice_index_or rs k d).tag) (take k (map tag_index rs))
