@@ -10,4 +10,7 @@ pub mod CharacterClassesLemmas
 pub mod CommentTextsLemmas
 pub mod DecodedCharactersLemmas
 pub mod RawContentLemmas
+pub mod TextRunsLemmas
+pub mod LineEndsLemmas
+pub mod DecodedValuesLemmas
 mod Examples

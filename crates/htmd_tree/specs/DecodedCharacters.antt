@@ -1,10 +1,11 @@
 -- What the functions on references answer, as the grammar's pieces.
-use Rattle.std.specs.Prelude.{List, ℕ, ◌-◌, ◌<◌, ◌≤◌, length, slice_index, Bool, not, ◌&&◌, ◌==◌, Result, Ok, Err}
+use Rattle.std.specs.Prelude.{◌≡◌, List, ℕ, ◌-◌, ◌<◌, ◌≤◌, length, slice_index, Bool, not}
+use Rattle.std.specs.Prelude.{◌&&◌, ◌==◌, Result, Ok, Err}
 use Rattle.std.specs.Borrow.{Bor}
 use Rattle.std.specs.Char.{encode_utf8}
 use Rattle.htmd_text.specs.Characters.{carriage_return, ampersand}
-use Rattle.htmd_grammar.specs.References.{Piece, stands, wrong}
-use Rattle.htmd_grammar.specs.Rules.{NamedCharacter}
+use Rattle.htmd_grammar.specs.References.{Piece, stands, wrong, behind, decode}
+use Rattle.htmd_grammar.specs.Rules.{NamedCharacter, named_characters}
 use Rattle.htmd_grammar.specs.declared.fault.FaultKind.{FaultKind}
 use Rattle.htmd_tree.specs.declared.reader.references.Character.{Character}
 
@@ -19,6 +20,11 @@ piece_of (Err kind) = wrong kind
 -- a piece may end behind so many bytes: the last of them is ASCII
 abbrev pub IsPieceEnd : List ℕ → ℕ → Type 0
 IsPieceEnd s n = (n ≤ length s) × (0 < n → slice_index s (n - 1) < 128)
+
+-- what stands between two places of a text was put behind a value, with what it denotes
+abbrev pub HasPushed : List ℕ → List ℕ → List ℕ → List ℕ → Type 0
+HasPushed before s after rest =
+    behind after (decode named_characters 0 rest) ≡ behind before (decode named_characters 0 s)
 
 -- a byte that is no reference's or line end's
 abbrev pub is_itself : ℕ → Bool

@@ -11,3 +11,4 @@ pub mod Views
 pub mod Layout
 pub mod Entries
 pub mod DecodedCharacters
+pub mod TextRuns

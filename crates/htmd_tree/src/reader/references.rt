@@ -1,5 +1,6 @@
 //! Characters and character references (HTML Standard, 13.1.4).
-ghost use Rattle.std.specs.Prelude.{◌≡◌, ◌≤◌, ◌<◌, ◌+◌, ℕ, Bool, length, drop, map, min, None, Some, if◌then◌else◌, false, IfOk};
+ghost use Rattle.std.specs.Prelude.{◌≡◌, ◌≤◌, ◌<◌, ◌+◌, ℕ, Bool, length, drop, map, min, None};
+ghost use Rattle.std.specs.Prelude.{Some, if◌then◌else◌, false, IfOk};
 ghost use Rattle.std.specs.Char.{is_ascii_digit, is_ascii_hexdigit};
 ghost use Rattle.htmd_grammar.specs.CharacterClasses.{first_is, leading_run};
 ghost use Rattle.htmd_grammar.specs.References as spec;
@@ -136,7 +137,8 @@ fn reference_by_number(
     requires small { base ≤ 16 }
     requires base { 0 < base }
     requires within { from + len ≤ length behind.now }
-    ensures piece { (is_digit : ℕ → Bool) → is_digit semicolon ≡ false → len ≡ length (leading_run is_digit (drop from behind.now))
+    ensures piece { (is_digit : ℕ → Bool) → is_digit semicolon ≡ false
+        → len ≡ length (leading_run is_digit (drop from behind.now))
         → piece_of result ≡ spec.number_at is_digit base from (drop from behind.now) }
     ensures end { IfOk result (λ c. IsPieceEnd behind.now c.behind) }
 {
