@@ -58,7 +58,7 @@ both_join-replaced s None y = refl
 both_join-replaced s (Some x) None = refl
 both_join-replaced s (Some x) (Some y) = refl
 
-is_joinable-with : (s : List ℕ) (t u : NumberedTree) → is_joinable t (with_text s u) ≡ is_joinable t u
+pub is_joinable-with : (s : List ℕ) (t u : NumberedTree) → is_joinable t (with_text s u) ≡ is_joinable t u
 is_joinable-with s t u = ap (both_join (joint_of t)) (joint_of-with s u)
     ∙ both_join-replaced s (joint_of t) (joint_of u)
 
@@ -67,7 +67,7 @@ joint_text-replaced s None y e = cc
 joint_text-replaced s (Some x) None e = cc
 joint_text-replaced s (Some x) (Some y) e = refl
 
-text_of-with : (s : List ℕ) (t u : NumberedTree) → is_joinable t u ≡ true → text_of (with_text s u) ≡ s
+pub text_of-with : (s : List ℕ) (t u : NumberedTree) → is_joinable t u ≡ true → text_of (with_text s u) ≡ s
 text_of-with s t u e = ap joint_text (joint_of-with s u) ∙ joint_text-replaced s (joint_of t) (joint_of u) e
 
 with_only_text-same : (n : List ℕ) (a : List AttributePair) (trees : NumberedForest)

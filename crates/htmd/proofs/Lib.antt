@@ -14,4 +14,6 @@ pub mod PassingLemmas
 pub mod CodeLemmas
 pub mod LayersLemmas
 pub mod LawsLemmas
+pub mod GroupCuts
+pub mod EmphasisLawsLemmas
 mod Examples

@@ -19,6 +19,8 @@ pub mod Inline
 pub mod Spans
 pub mod Code
 pub mod BuiltIn
+pub mod GroupLaws
+pub mod EmphasisLaws
 pub mod Beginnings
 pub mod Views
 pub mod HandlerMeanings

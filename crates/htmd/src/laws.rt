@@ -1,5 +1,11 @@
-//! Laws of the conversion: each is the contract of a function that does nothing.
+//! Laws of the conversion: each is the contract of a function that does nothing, or reads a text alone.
+//! The writers of pieces that read back are here too: what they promise of a piece holds of what a
+//! handler writes.
 ghost use Rattle.htmd.specs.Laws.{ContentIsTrimmed, RepeatsAreKept};
+ghost use Rattle.htmd.specs.GroupLaws.{ChildrenAreCut};
+ghost use Rattle.htmd.specs.EmphasisLaws.{MarksStandInside};
+
+pub use htmd_markdown::{Emphasis, write_fence, write_row, write_span, write_table};
 
 /// The content of a node, before anything is put after it, neither begins nor ends with a line feed.
 pub fn content_is_trimmed()
@@ -10,3 +16,18 @@ pub fn content_is_trimmed()
 pub fn repeats_are_kept()
     ensures { RepeatsAreKept }
 {}
+
+/// The children of a node are cut into groups in one way alone: into runs of neighbours that join, none
+/// of which could be longer. Nothing is lost, and each group stands for its run.
+pub fn children_are_cut()
+    ensures { ChildrenAreCut }
+{}
+
+/// In Pure the built-in handlers of `strong`, `b`, `i` and `em` put their marks inside the white space at
+/// the ends of a content, around a text that is not empty; without the marks it is the content.
+pub fn marks_stand_inside(emphasis: Emphasis, content: &str)
+    ensures { MarksStandInside emphasis content.now }
+{
+    let start = content.trim_start();
+    let _ = start.trim_end();
+}
