@@ -10,3 +10,6 @@ pub mod Ancestors
 pub mod Views
 pub mod Layout
 pub mod Entries
+pub mod PlaceFlags
+pub mod OpenNodes
+pub mod Advances

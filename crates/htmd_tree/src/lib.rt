@@ -5,6 +5,7 @@
 #![tactic(auto)]
 
 pub mod laws;
+mod reader;
 mod serialiser;
 mod tree;
 

@@ -13,7 +13,7 @@ use std::marker::Model;
 use thiserror::Error;
 
 /// The greatest depth of a node; the Document is at depth 0.
-const MAX_DEPTH: usize = 1024;
+pub(crate) const MAX_DEPTH: usize = 1024;
 
 /// A node of a tree, by its number in order of addition.
 #[derive(Debug, Clone, Copy, PartialEq, Eq)]

@@ -1,0 +1,23 @@
+//! Comments and other declarations.
+ghost use Rattle.std.specs.Prelude.{◌≡◌, ◌<◌, Bool, true, false, List, length, drop, OnOk};
+ghost use Rattle.htmd_grammar.specs.Documents.{above_body};
+ghost use Rattle.htmd_grammar.specs.Steps.{OpenElement, declaration_step};
+ghost use Rattle.htmd_tree.specs.OpenNodes.{Holds, IsReading};
+ghost use Rattle.htmd_tree.specs.Advances.{Follows, rules_of};
+
+use crate::reader::{Reader, Stop};
+
+impl<'a> Reader<'a> {
+    /// Reads a declaration, of which what stands behind `<!` is given.
+    pub(super) fn read_declaration(&mut self, behind: &'a str) -> Result<(), Stop>
+        requires reading { IsReading self.old }
+        requires behind { length behind.now < length self.old.rest.now }
+        ensures follows { (doctype : Bool) (fs : List OpenElement) → Holds self.old doctype fs
+            → Follows self.old self.new doctype result
+            (declaration_step (rules_of self.old) above_body fs behind.now) }
+        ensures reading { OnOk result (IsReading self.new) }
+        ensures shorter { OnOk result (length self.new.rest.now < length self.old.rest.now) }
+    {
+        Err(Stop::Memory)
+    }
+}
