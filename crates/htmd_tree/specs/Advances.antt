@@ -5,9 +5,9 @@ use Rattle.htmd_grammar.specs.CharacterClasses.{is_empty}
 use Rattle.htmd_grammar.specs.Rules.{Rules, project}
 use Rattle.htmd_grammar.specs.RawContent.{ends_text, holds_raw_text}
 use Rattle.htmd_grammar.specs.Documents.{above_body}
-use Rattle.htmd_grammar.specs.Steps.{OpenElement, State, Step, step, Reaches, innermost, is_implied, ends_rows}
+use Rattle.htmd_grammar.specs.Steps.{OpenElement, State, Step, step, Reaches, is_implied, ends_rows}
 use Rattle.htmd_tree.specs.Items.{Data, document_node, doctype_node, text_node, comment_node, element_node}
-use Rattle.htmd_tree.specs.OpenNodes.{Holds}
+use Rattle.htmd_tree.specs.OpenNodes.{Holds, innermost_name}
 use Rattle.htmd_tree.specs.declared.reader.Reader.{Reader}
 use Rattle.htmd_tree.specs.declared.reader.Stop.{Stop}
 use Rattle.htmd_tree.specs.declared.reader.Stop.TheVariants.{Memory, Refused}
@@ -24,26 +24,26 @@ abbrev pub rules_of : Reader → Rules
 rules_of reader = project reader.scripting
 
 -- the reader is at this state, and reads as before
-pub record IsAt (old new : Reader) (doctype : Bool) (st : State) : Type 0 where
-  pub holds : Holds new doctype st.stack
+pub record IsAt (old new : Reader) (has_doctype : Bool) (st : State) : Type 0 where
+  pub holds : Holds new has_doctype st.stack
   pub run : st.run ≡ []
   pub rest : new.rest.now ≡ st.rest
   pub scripting : new.scripting ≡ old.scripting
 
 -- What a call left and answered is what the step says, unless memory was refused.
 abbrev pub Follows : Reader → Reader → Bool → Answer → Step → Type 0
-Follows old new doctype (Ok x) (Ok st) = IsAt old new doctype st
-Follows old new doctype (Ok x) (Err kind) = ⊥
-Follows old new doctype (Err Memory) taken = ⊤
-Follows old new doctype (Err (Refused left kind)) (Ok st) = ⊥
-Follows old new doctype (Err (Refused left kind)) (Err fault) = (kind ≡ fault) × (left ≡ length old.rest.now)
+Follows old new has_doctype (Ok x) (Ok st) = IsAt old new has_doctype st
+Follows old new has_doctype (Ok x) (Err kind) = ⊥
+Follows old new has_doctype (Err Memory) taken = ⊤
+Follows old new has_doctype (Err (Refused left kind)) (Ok st) = ⊥
+Follows old new has_doctype (Err (Refused left kind)) (Err fault) = (kind ≡ fault) × (left ≡ length old.rest.now)
 
 -- Some steps lead from where these elements are open to what a call left, or to the fault that it answered.
 abbrev pub Advances : Reader → Reader → Bool → List OpenElement → Answer → Type 0
-Advances old new doctype fs (Ok x) =
-    (st : State) × IsAt old new doctype st × Reaches (rules_of old) above_body (place fs old.rest.now) st
-Advances old new doctype fs (Err Memory) = ⊤
-Advances old new doctype fs (Err (Refused left kind)) =
+Advances old new has_doctype fs (Ok x) =
+    (st : State) × IsAt old new has_doctype st × Reaches (rules_of old) above_body (place fs old.rest.now) st
+Advances old new has_doctype fs (Err Memory) = ⊤
+Advances old new has_doctype fs (Err (Refused left kind)) =
     (st : State) × Reaches (rules_of old) above_body (place fs old.rest.now) st
     × (step (rules_of old) above_body st ≡ Err kind) × (is_empty st.rest ≡ false) × (left ≡ length st.rest)
 
@@ -65,6 +65,6 @@ IsLeaf (element_node name attributes) = ⊤
 -- A text with references stands where these elements are open.
 pub record IsAtText (reader : Reader) (fs : List OpenElement) : Type 0 where
   pub more_text : is_empty reader.rest.now ≡ false
-  pub no_markup : ends_text reader.scripting (innermost above_body fs) reader.rest.now ≡ false
-  pub no_raw_text : holds_raw_text reader.scripting (innermost above_body fs) ≡ false
+  pub no_markup : ends_text reader.scripting (innermost_name fs) reader.rest.now ≡ false
+  pub no_raw_text : holds_raw_text reader.scripting (innermost_name fs) ≡ false
   pub no_end_of_rows : (is_implied fs && ends_rows reader.rest.now) ≡ false

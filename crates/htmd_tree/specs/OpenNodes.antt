@@ -1,6 +1,6 @@
 -- The tree that a reader builds and the open elements that it keeps, as those of the grammar's steps.
 use Rattle.std.specs.Prelude.{◌≡◌, ℕ, suc, Bool, true, false, List, [], ◌∷◌, ◌++◌, length, codes}
-use Rattle.htmd_grammar.specs.Places.{is_tbody, is_table}
+use Rattle.htmd_grammar.specs.Places.{parent_name, is_tbody, is_table}
 use Rattle.htmd_grammar.specs.Documents.{above_body}
 use Rattle.htmd_grammar.specs.Steps.{OpenElement, names_of}
 use Rattle.htmd_tree.specs.Items.{Item, document_item, doctype_node, element_node}
@@ -26,31 +26,35 @@ html_number true = 2
 abbrev mutual
   -- the items of the open elements and of what they hold so far, outermost first
   pub stack_items : Bool → List OpenElement → List Item
-  stack_items doctype [] = items_above doctype
-  stack_items doctype (f ∷ fs) =
-      stack_items doctype fs
-      ++ (item_under (length (names_of above_body fs)) (innermost_number doctype fs) (element_node f.name f.attributes)
-      ∷ forest_items (suc (length (names_of above_body fs))) (length (stack_items doctype fs))
-      (suc (length (stack_items doctype fs))) f.children)
+  stack_items has_doctype [] = items_above has_doctype
+  stack_items has_doctype (f ∷ fs) =
+      stack_items has_doctype fs
+      ++ (item_under (length (names_of above_body fs)) (innermost_number has_doctype fs) (element_node f.name f.attributes)
+      ∷ forest_items (suc (length (names_of above_body fs))) (length (stack_items has_doctype fs))
+      (suc (length (stack_items has_doctype fs))) f.children)
 
   -- the number of the innermost open element's node; around `body` that is `html`
   pub innermost_number : Bool → List OpenElement → ℕ
-  innermost_number doctype [] = html_number doctype
-  innermost_number doctype (f ∷ fs) = length (stack_items doctype fs)
+  innermost_number has_doctype [] = html_number has_doctype
+  innermost_number has_doctype (f ∷ fs) = length (stack_items has_doctype fs)
 
 -- what is kept of the innermost open element
 abbrev pub open_node : Bool → Bool → OpenElement → List OpenElement → OpenNode
-open_node scripting doctype f fs =
+open_node scripting has_doctype f fs =
     record {
-      id = length (stack_items doctype fs);
+      id = length (stack_items has_doctype fs);
       implied = f.implied;
       place = place_of scripting (names_of above_body (f ∷ fs));
     }
 
 -- what is kept of the open elements, outermost first
 abbrev pub open_nodes : Bool → Bool → List OpenElement → List OpenNode
-open_nodes scripting doctype [] = []
-open_nodes scripting doctype (f ∷ fs) = open_nodes scripting doctype fs ++ open_node scripting doctype f fs ∷ []
+open_nodes scripting has_doctype [] = []
+open_nodes scripting has_doctype (f ∷ fs) = open_nodes scripting has_doctype fs ++ open_node scripting has_doctype f fs ∷ []
+
+-- the name of the innermost open element
+abbrev pub innermost_name : List OpenElement → List ℕ
+innermost_name fs = parent_name (names_of above_body fs)
 
 -- the outermost open element is `body`, and an implied one is a `tbody` right in a `table`
 abbrev pub AreOpen : List OpenElement → Type 0
@@ -60,11 +64,11 @@ AreOpen (f ∷ g ∷ fs) =
     (f.implied ≡ true → (is_tbody f.name ≡ true) × (is_table g.name ≡ true)) × AreOpen (g ∷ fs)
 
 -- The reader is where these elements are open; the flag says whether the document has a Doctype.
-pub record Holds (reader : Reader) (doctype : Bool) (fs : List OpenElement) : Type 0 where
-  pub tree_is : reader.tree ≡ stack_items doctype fs
-  pub stack_is : reader.stack.items ≡ open_nodes reader.scripting doctype fs
+pub record Holds (reader : Reader) (has_doctype : Bool) (fs : List OpenElement) : Type 0 where
+  pub tree_is : reader.tree ≡ stack_items has_doctype fs
+  pub stack_is : reader.stack.items ≡ open_nodes reader.scripting has_doctype fs
   pub are_open : AreOpen fs
 
 -- the reader is where some elements are open
 abbrev pub IsReading : Reader → Type 0
-IsReading reader = (doctype : Bool) × (fs : List OpenElement) × Holds reader doctype fs
+IsReading reader = (has_doctype : Bool) × (fs : List OpenElement) × Holds reader has_doctype fs

@@ -6,12 +6,12 @@ ghost use Rattle.htmd_grammar.specs.Documents.{above_body};
 ghost use Rattle.htmd_grammar.specs.Places.{parent_name, is_table};
 ghost use Rattle.htmd_grammar.specs.RawContent.{ends_text, holds_raw_text, text_of};
 ghost use Rattle.htmd_grammar.specs.CharacterClasses.{up_to, onward};
-ghost use Rattle.htmd_grammar.specs.Steps.{OpenElement, names_of, innermost, is_too_deep, add, fault, between};
+ghost use Rattle.htmd_grammar.specs.Steps.{OpenElement, is_too_deep, add, fault, between};
 ghost use Rattle.htmd_grammar.specs.Steps.{fresh, closed, with_tree, is_implied, ends_rows, raw_text_step};
 ghost use Rattle.htmd_grammar.specs.Steps.{declaration_step, start_tag_step, end_tag_step, markup_step};
 ghost use Rattle.htmd_grammar.specs.declared.fault.FaultKind.TheVariants.{TooDeep};
 ghost use Rattle.htmd_tree.specs.Views.{data_of, pairs_of};
-ghost use Rattle.htmd_tree.specs.OpenNodes.{Holds, IsReading};
+ghost use Rattle.htmd_tree.specs.OpenNodes.{Holds, IsReading, innermost_name};
 ghost use Rattle.htmd_tree.specs.Advances.{Follows, Advances, IsLeaf, leaf, rules_of};
 ghost use Rattle.htmd_tree.specs.declared.reader.Stop.TheVariants.{Memory};
 
@@ -78,8 +78,8 @@ impl<'a> Reader<'a> {
     /// The name of the innermost open element.
     fn innermost_name(&self) -> &str
         requires reading { IsReading self.now }
-        ensures { (doctype : Bool) (fs : List OpenElement) → Holds self.now doctype fs
-            → result.now ≡ innermost above_body fs }
+        ensures { (has_doctype : Bool) (fs : List OpenElement) → Holds self.now has_doctype fs
+            → result.now ≡ innermost_name fs }
     {
         match self.tree.data(self.top().id) {
             NodeData::Element { name, .. } => name.as_str(),
@@ -90,7 +90,7 @@ impl<'a> Reader<'a> {
     /// Whether a node in the innermost open element would stand too deep.
     fn is_too_deep(&self) -> bool
         requires reading { IsReading self.now }
-        ensures { (doctype : Bool) (fs : List OpenElement) → Holds self.now doctype fs
+        ensures { (has_doctype : Bool) (fs : List OpenElement) → Holds self.now has_doctype fs
             → result ≡ is_too_deep (rules_of self.now) above_body fs }
     {
         self.tree.depth(self.top().id) >= MAX_DEPTH
@@ -108,8 +108,8 @@ impl<'a> Reader<'a> {
     fn add_leaf(&mut self, node: NodeData, rest: &'a str) -> Result<(), Stop>
         requires reading { IsReading self.old }
         requires leaf { IsLeaf (data_of node) }
-        ensures follows { (doctype : Bool) (fs : List OpenElement) → Holds self.old doctype fs
-            → Follows self.old self.new doctype result
+        ensures follows { (has_doctype : Bool) (fs : List OpenElement) → Holds self.old has_doctype fs
+            → Follows self.old self.new has_doctype result
             (add (rules_of self.old) above_body fs (leaf (data_of node)) rest.now) }
         ensures reading { OnOk result (IsReading self.new) }
     {
@@ -124,8 +124,8 @@ impl<'a> Reader<'a> {
         rest: &'a str,
     ) -> Result<(), Stop>
         requires reading { IsReading self.old }
-        ensures follows { (doctype : Bool) (fs : List OpenElement) → Holds self.old doctype fs
-            → Follows self.old self.new doctype result
+        ensures follows { (has_doctype : Bool) (fs : List OpenElement) → Holds self.old has_doctype fs
+            → Follows self.old self.new has_doctype result
             (if is_too_deep (rules_of self.old) above_body fs then fault TooDeep
             else between (fresh (string_bytes name) (pairs_of attrs.items) false ∷ fs) rest.now) }
         ensures reading { OnOk result (IsReading self.new) }
@@ -136,9 +136,9 @@ impl<'a> Reader<'a> {
     /// An implied `tbody` in the innermost open element, a `table`.
     fn open_implied_body(&mut self) -> Result<(), Stop>
         requires reading { IsReading self.old }
-        ensures follows { (doctype : Bool) (fs : List OpenElement) → Holds self.old doctype fs
-            → is_table (innermost above_body fs) ≡ true
-            → Follows self.old self.new doctype result
+        ensures follows { (has_doctype : Bool) (fs : List OpenElement) → Holds self.old has_doctype fs
+            → is_table (innermost_name fs) ≡ true
+            → Follows self.old self.new has_doctype result
             (if is_too_deep (rules_of self.old) above_body fs then fault TooDeep
             else between (fresh (codes "tbody") [] true ∷ fs) self.old.rest.now) }
         ensures reading { OnOk result (IsReading self.new) }
@@ -150,8 +150,8 @@ impl<'a> Reader<'a> {
     fn close_element(&mut self, rest: &'a str)
         requires reading { IsReading self.old }
         requires inner { 1 < length self.old.stack.items }
-        ensures holds { (doctype : Bool) (f g : OpenElement) (fs : List OpenElement)
-            → Holds self.old doctype (f ∷ g ∷ fs) → Holds self.new doctype (with_tree (g ∷ fs) (closed f)) }
+        ensures holds { (has_doctype : Bool) (f g : OpenElement) (fs : List OpenElement)
+            → Holds self.old has_doctype (f ∷ g ∷ fs) → Holds self.new has_doctype (with_tree (g ∷ fs) (closed f)) }
         ensures rest { self.new.rest.now ≡ rest.now }
         ensures scripting { self.new.scripting ≡ self.old.scripting }
         ensures reading { IsReading self.new }

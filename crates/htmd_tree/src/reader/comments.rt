@@ -12,8 +12,8 @@ impl<'a> Reader<'a> {
     pub(super) fn read_declaration(&mut self, behind: &'a str) -> Result<(), Stop>
         requires reading { IsReading self.old }
         requires behind { length behind.now < length self.old.rest.now }
-        ensures follows { (doctype : Bool) (fs : List OpenElement) → Holds self.old doctype fs
-            → Follows self.old self.new doctype result
+        ensures follows { (has_doctype : Bool) (fs : List OpenElement) → Holds self.old has_doctype fs
+            → Follows self.old self.new has_doctype result
             (declaration_step (rules_of self.old) above_body fs behind.now) }
         ensures reading { OnOk result (IsReading self.new) }
         ensures shorter { OnOk result (length self.new.rest.now < length self.old.rest.now) }

@@ -14,8 +14,8 @@ impl<'a> Reader<'a> {
     pub(super) fn read_start_tag(&mut self, behind: &'a str) -> Result<(), Stop>
         requires reading { IsReading self.old }
         requires behind { length behind.now < length self.old.rest.now }
-        ensures follows { (doctype : Bool) (fs : List OpenElement) → Holds self.old doctype fs
-            → Follows self.old self.new doctype result
+        ensures follows { (has_doctype : Bool) (fs : List OpenElement) → Holds self.old has_doctype fs
+            → Follows self.old self.new has_doctype result
             (start_tag_step (rules_of self.old) above_body fs behind.now) }
         ensures reading { OnOk result (IsReading self.new) }
         ensures shorter { OnOk result (length self.new.rest.now < length self.old.rest.now) }
@@ -27,8 +27,8 @@ impl<'a> Reader<'a> {
     pub(super) fn read_end_tag(&mut self, behind: &'a str) -> Result<(), Stop>
         requires reading { IsReading self.old }
         requires behind { length behind.now < length self.old.rest.now }
-        ensures follows { (doctype : Bool) (fs : List OpenElement) → Holds self.old doctype fs
-            → Follows self.old self.new doctype result
+        ensures follows { (has_doctype : Bool) (fs : List OpenElement) → Holds self.old has_doctype fs
+            → Follows self.old self.new has_doctype result
             (end_tag_step (rules_of self.old) above_body fs behind.now) }
         ensures reading { OnOk result (IsReading self.new) }
         ensures shorter { OnOk result (length self.new.rest.now < length self.old.rest.now) }
@@ -40,8 +40,8 @@ impl<'a> Reader<'a> {
     pub(super) fn read_markup(&mut self) -> Result<(), Stop>
         requires reading { IsReading self.old }
         requires markup { first_is less_than_sign self.old.rest.now ≡ true }
-        ensures follows { (doctype : Bool) (fs : List OpenElement) → Holds self.old doctype fs
-            → Follows self.old self.new doctype result
+        ensures follows { (has_doctype : Bool) (fs : List OpenElement) → Holds self.old has_doctype fs
+            → Follows self.old self.new has_doctype result
             (markup_step (rules_of self.old) above_body fs (drop 1 self.old.rest.now)) }
         ensures reading { OnOk result (IsReading self.new) }
         ensures shorter { OnOk result (length self.new.rest.now < length self.old.rest.now) }

@@ -2,7 +2,7 @@
 ghost use Rattle.std.specs.Prelude.{◌≡◌, ◌<◌, Bool, true, false, List, length, drop, OnOk};
 ghost use Rattle.htmd_grammar.specs.Documents.{above_body};
 ghost use Rattle.htmd_grammar.specs.CharacterClasses.{is_empty};
-ghost use Rattle.htmd_grammar.specs.Steps.{OpenElement, innermost};
+ghost use Rattle.htmd_grammar.specs.Steps.{OpenElement};
 ghost use Rattle.htmd_tree.specs.OpenNodes.{Holds, IsReading};
 ghost use Rattle.htmd_tree.specs.Advances.{Advances, IsAtText};
 
@@ -13,8 +13,8 @@ impl<'a> Reader<'a> {
     pub(super) fn read_text(&mut self) -> Result<(), Stop>
         requires reading { IsReading self.old }
         requires more { is_empty self.old.rest.now ≡ false }
-        ensures advances { (doctype : Bool) (fs : List OpenElement) → Holds self.old doctype fs
-            → IsAtText self.old fs → Advances self.old self.new doctype fs result }
+        ensures advances { (has_doctype : Bool) (fs : List OpenElement) → Holds self.old has_doctype fs
+            → IsAtText self.old fs → Advances self.old self.new has_doctype fs result }
         ensures reading { OnOk result (IsReading self.new) }
         ensures shorter { OnOk result (length self.new.rest.now < length self.old.rest.now) }
     {
