@@ -6,4 +6,7 @@ pub mod NumberedTreesLemmas
 pub mod AncestorsLemmas
 pub mod LayoutLemmas
 pub mod SerialiserLemmas
+pub mod RunsLemmas
+pub mod TagPartsLemmas
+pub mod NamesLemmas
 mod Examples

@@ -13,3 +13,5 @@ pub mod Entries
 pub mod PlaceFlags
 pub mod OpenNodes
 pub mod Advances
+pub mod Runs
+pub mod TagParts

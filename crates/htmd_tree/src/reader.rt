@@ -15,9 +15,12 @@ ghost use Rattle.htmd_tree.specs.OpenNodes.{Holds, IsReading, innermost_name};
 ghost use Rattle.htmd_tree.specs.Advances.{Follows, Advances, IsLeaf, leaf, rules_of};
 ghost use Rattle.htmd_tree.specs.declared.reader.Stop.TheVariants.{Memory};
 
+mod attributes;
 mod comments;
 mod places;
 mod raw_text;
+mod runs;
+mod tag_names;
 mod tags;
 mod texts;
 

@@ -1,0 +1,33 @@
+-- What the parts of a start tag, as the reader holds them, are in the grammar's terms.
+use Rattle.std.specs.Prelude.{ℕ, List, ◌++◌, map, if◌then◌else◌}
+use Rattle.std.specs.Char.{to_ascii_lowercase}
+use Rattle.htmd_grammar.specs.ValueTrees.{AttributePair}
+use Rattle.htmd_grammar.specs.CharacterClasses.{leading_run, behind_run, is_attribute_name, is_attribute_name_byte}
+use Rattle.htmd_grammar.specs.TagReading.{TagPart, malformed, tag_end, attribute, behind_attribute_name}
+use Rattle.htmd_grammar.specs.TagReading.{TagForm, no_form, form}
+use Rattle.htmd_tree.specs.declared.reader.attributes.SpelledAttribute.{SpelledAttribute}
+use Rattle.htmd_tree.specs.declared.reader.attributes.Part.{Part}
+use Rattle.htmd_tree.specs.declared.reader.attributes.Part.TheVariants.{Malformed, End, Attribute}
+
+abbrev pub part_of : Part → TagPart
+part_of Malformed = malformed
+part_of (End slash rest) = tag_end slash rest.now
+part_of (Attribute spelled rest) = attribute spelled.name.now spelled.value.now rest.now
+
+abbrev pub spelled_of : SpelledAttribute → AttributePair
+spelled_of a = record { name = map to_ascii_lowercase a.name.now; value = a.value.now }
+
+abbrev pub all_spelled_of : List SpelledAttribute → List AttributePair
+all_spelled_of spelled = map spelled_of spelled
+
+-- attributes, and then a form
+abbrev pub with_attributes : List AttributePair → TagForm → TagForm
+with_attributes spelled no_form = no_form
+with_attributes spelled (form more present s) = form (spelled ++ more) present s
+
+-- an attribute, which begins with its name
+abbrev pub attribute_part : List ℕ → TagPart
+attribute_part s =
+    if is_attribute_name (leading_run is_attribute_name_byte s)
+    then behind_attribute_name (leading_run is_attribute_name_byte s) (behind_run is_attribute_name_byte s)
+    else malformed
