@@ -10,6 +10,7 @@ pub mod Ancestors
 pub mod Views
 pub mod Layout
 pub mod Entries
+pub mod Pieces
 pub mod PlaceFlags
 pub mod OpenNodes
 pub mod Advances

@@ -16,13 +16,20 @@ ghost use Rattle.htmd_tree.specs.Advances.{Follows, Advances, IsLeaf, leaf, rule
 ghost use Rattle.htmd_tree.specs.declared.reader.Stop.TheVariants.{Memory};
 
 mod attributes;
+mod comment_texts;
 mod comments;
+mod line_ends;
 mod places;
+mod prelude;
+mod raw_content;
 mod raw_text;
+mod references;
 mod runs;
+mod scan;
 mod tag_names;
 mod tags;
 mod texts;
+mod values;
 
 use crate::reader::places::Place;
 use crate::tree::{Attribute, MAX_DEPTH, NodeData, NodeId, Tree};

@@ -5,7 +5,11 @@ ghost use Rattle.htmd_grammar.specs.Steps.{OpenElement, declaration_step};
 ghost use Rattle.htmd_tree.specs.OpenNodes.{Holds, IsReading};
 ghost use Rattle.htmd_tree.specs.Advances.{Follows, rules_of};
 
+use crate::reader::comment_texts::{is_comment_text, split_comment};
+use crate::reader::line_ends::normalized;
 use crate::reader::{Reader, Stop};
+use crate::tree::NodeData;
+use htmd_grammar::FaultKind;
 
 impl<'a> Reader<'a> {
     /// Reads a declaration, of which what stands behind `<!` is given.
@@ -18,6 +22,15 @@ impl<'a> Reader<'a> {
         ensures reading { OnOk result (IsReading self.new) }
         ensures shorter { OnOk result (length self.new.rest.now < length self.old.rest.now) }
     {
-        Err(Stop::Memory)
+        if !matches!(behind.as_bytes(), [b'-', b'-', ..]) {
+            return Err(self.refused(FaultKind::MalformedDeclaration));
+        }
+        match split_comment(&behind[2..]) {
+            Some((body, rest)) if is_comment_text(body.as_bytes()) => {
+                let text = normalized(self.alloc, body)?;
+                self.add_leaf(NodeData::Comment(text), rest)
+            }
+            _ => Err(self.refused(FaultKind::MalformedComment)),
+        }
     }
 }

@@ -7,7 +7,11 @@ ghost use Rattle.htmd_grammar.specs.Steps.{OpenElement, raw_text_step};
 ghost use Rattle.htmd_tree.specs.OpenNodes.{Holds, IsReading, innermost_name};
 ghost use Rattle.htmd_tree.specs.Advances.{Follows, rules_of};
 
+use crate::reader::line_ends::normalized;
+use crate::reader::raw_content::{has_script_escape, raw_content_len};
 use crate::reader::{Reader, Stop};
+use crate::tree::NodeData;
+use htmd_grammar::FaultKind;
 
 impl<'a> Reader<'a> {
     /// Reads text without references, up to what ends it.
@@ -22,6 +26,13 @@ impl<'a> Reader<'a> {
             (onward (ends_text self.old.scripting (innermost_name fs)) self.old.rest.now)) }
         ensures reading { OnOk result (IsReading self.new) }
     {
-        Err(Stop::Memory)
+        let name = self.innermost_name();
+        let len = raw_content_len(self.rest.as_bytes(), name.as_bytes());
+        let (content, rest) = self.rest.split_at(len);
+        if name == "script" && has_script_escape(content.as_bytes()) {
+            return Err(self.refused(FaultKind::ScriptEscape));
+        }
+        let text = normalized(self.alloc, content)?;
+        self.add_leaf(NodeData::Text(text), rest)
     }
 }

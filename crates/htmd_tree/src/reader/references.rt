@@ -1,0 +1,195 @@
+//! Characters and character references (HTML Standard, 13.1.4).
+ghost use Rattle.std.specs.Prelude.{◌≡◌, ◌≤◌, ◌<◌, ◌+◌, ℕ, Bool, length, drop, map, min, None, Some, if◌then◌else◌};
+ghost use Rattle.std.specs.Char.{is_ascii_digit, is_ascii_hexdigit};
+ghost use Rattle.htmd_grammar.specs.CharacterClasses.{leading_run};
+ghost use Rattle.htmd_grammar.specs.References as spec;
+ghost use Rattle.htmd_grammar.specs.Rules as rules;
+ghost use Rattle.htmd_tree.specs.Pieces.{entry, piece_of};
+
+use crate::reader::scan::{
+    alphanumeric_len, begins_in_any_case, digits_len, first_is, hexdigits_len,
+};
+use htmd_grammar::FaultKind;
+
+/// The names that references may have, and their characters.
+const NAMES: [(&str, char); 44] = [
+    ("amp", '&'),
+    ("lt", '<'),
+    ("gt", '>'),
+    ("quot", '"'),
+    ("apos", '\''),
+    ("nbsp", '\u{a0}'),
+    ("copy", '\u{a9}'),
+    ("reg", '\u{ae}'),
+    ("deg", '\u{b0}'),
+    ("middot", '\u{b7}'),
+    ("laquo", '\u{ab}'),
+    ("raquo", '\u{bb}'),
+    ("frac12", '\u{bd}'),
+    ("times", '\u{d7}'),
+    ("agrave", '\u{e0}'),
+    ("auml", '\u{e4}'),
+    ("ccedil", '\u{e7}'),
+    ("egrave", '\u{e8}'),
+    ("eacute", '\u{e9}'),
+    ("ouml", '\u{f6}'),
+    ("uuml", '\u{fc}'),
+    ("szlig", '\u{df}'),
+    ("ndash", '\u{2013}'),
+    ("mdash", '\u{2014}'),
+    ("lsquo", '\u{2018}'),
+    ("rsquo", '\u{2019}'),
+    ("ldquo", '\u{201c}'),
+    ("rdquo", '\u{201d}'),
+    ("bull", '\u{2022}'),
+    ("hellip", '\u{2026}'),
+    ("euro", '\u{20ac}'),
+    ("trade", '\u{2122}'),
+    ("iexcl", '\u{a1}'),
+    ("cent", '\u{a2}'),
+    ("pound", '\u{a3}'),
+    ("yen", '\u{a5}'),
+    ("sect", '\u{a7}'),
+    ("plusmn", '\u{b1}'),
+    ("micro", '\u{b5}'),
+    ("para", '\u{b6}'),
+    ("iquest", '\u{bf}'),
+    ("aacute", '\u{e1}'),
+    ("iacute", '\u{ed}'),
+    ("ntilde", '\u{f1}'),
+];
+
+/// One more than the greatest number of a character.
+const LIMIT: u32 = 0x11_0000;
+
+/// A character that a text stands for, and how many bytes behind the first one belong to it.
+#[derive(Clone, Copy, Drop)]
+pub(crate) struct Character {
+    pub(crate) value: char,
+    pub(crate) behind: usize,
+}
+
+/// The character of this name.
+fn character_named(name: &[u8], names: &[(&str, char)]) -> Option<char>
+    ensures { result ≡ rules.character_named (map entry names.now) name.now }
+{
+    for (known, character) in names {
+        if known.as_bytes() == name {
+            return Some(*character);
+        }
+    }
+    None
+}
+
+/// The value of a digit.
+fn digit_value(digit: u8) -> u8
+    ensures value { result ≡ spec.digit_value digit }
+{
+    if digit.is_ascii_digit() {
+        digit - b'0'
+    } else {
+        digit.to_ascii_lowercase().saturating_sub(b'a') + 10
+    }
+}
+
+/// What digits mean in a base, or the limit where that is more.
+fn number(digits: &[u8], base: u32) -> u32
+    requires small { base ≤ 16 }
+    requires base { 0 < base }
+    ensures { result ≡ min (spec.number base 0 digits.now) LIMIT }
+{
+    let mut sum = 0;
+    for digit in digits {
+        sum = LIMIT.min(base * sum + u32::from(digit_value(*digit)));
+    }
+    sum
+}
+
+/// The character of this number, where a reference may name it.
+fn character_numbered(number: u32) -> Option<char>
+    ensures { result ≡ if spec.may_be_numbered number then Some number else None }
+{
+    if number == 0 || 0x80 <= number && number <= 0x9F {
+        return None;
+    }
+    char::from_u32(number)
+}
+
+/// A reference by a number, of whose digits there are so many behind so much.
+fn reference_by_number(
+    behind: &[u8],
+    from: usize,
+    len: usize,
+    base: u32,
+) -> Result<Character, FaultKind>
+    requires small { base ≤ 16 }
+    requires base { 0 < base }
+    requires within { from + len ≤ length behind.now }
+    ensures { (is_digit : ℕ → Bool) → len ≡ length (leading_run is_digit (drop from behind.now))
+        → piece_of result ≡ spec.number_at is_digit base from (drop from behind.now) }
+{
+    let end = from + len;
+    if len == 0 || !first_is(&behind[end..], b';') {
+        return Err(FaultKind::BadNumber);
+    }
+    match character_numbered(number(&behind[from..end], base)) {
+        Some(value) => Ok(Character {
+            value,
+            behind: end + 1,
+        }),
+        None => Err(FaultKind::BadNumber),
+    }
+}
+
+/// A reference by a name, or `&` itself.
+fn reference_by_name(behind: &[u8]) -> Result<Character, FaultKind> {
+    let len = alphanumeric_len(behind);
+    if len == 0 || !first_is(&behind[len..], b';') {
+        return Ok(Character {
+            value: '&',
+            behind: 0,
+        });
+    }
+    match character_named(&behind[..len], &NAMES) {
+        Some(value) => Ok(Character {
+            value,
+            behind: len + 1,
+        }),
+        None => Err(FaultKind::UnknownReference),
+    }
+}
+
+/// What `&` and what stands behind it begin with: a reference, or `&` itself.
+fn reference(behind: &[u8]) -> Result<Character, FaultKind>
+    ensures { piece_of result ≡ spec.behind_ampersand rules.named_characters behind.now }
+{
+    if !first_is(behind, b'#') {
+        return reference_by_name(behind);
+    }
+    if begins_in_any_case(&behind[1..], b"x") {
+        let len = hexdigits_len(&behind[2..]);
+        reference_by_number(behind, 2, len, 16)
+    } else {
+        let len = digits_len(&behind[1..]);
+        reference_by_number(behind, 1, len, 10)
+    }
+}
+
+/// The character that an ASCII character, or a reference that begins with it, stands for. CR LF and a lone CR are a
+/// line feed.
+pub(crate) fn character_at(first: u8, behind: &[u8]) -> Result<Character, FaultKind>
+    requires { first < 128 }
+    ensures { piece_of result ≡ spec.piece_at rules.named_characters first behind.now }
+{
+    match first {
+        b'&' => reference(behind),
+        b'\r' => Ok(Character {
+            value: '\n',
+            behind: usize::from(first_is(behind, b'\n')),
+        }),
+        _ => Ok(Character {
+            value: char::from(first),
+            behind: 0,
+        }),
+    }
+}
