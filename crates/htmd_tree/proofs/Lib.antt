@@ -9,4 +9,8 @@ pub mod SerialiserLemmas
 pub mod RunsLemmas
 pub mod TagPartsLemmas
 pub mod NamesLemmas
+pub mod OpenNodesLemmas
+pub mod AdvancesLemmas
+pub mod PiecesLemmas
+pub mod DocumentsLemmas
 mod Examples

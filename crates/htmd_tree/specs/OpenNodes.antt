@@ -59,9 +59,13 @@ innermost_name fs = parent_name (names_of above_body fs)
 -- the outermost open element is `body`, and an implied one is a `tbody` right in a `table`
 abbrev pub AreOpen : List OpenElement → Type 0
 AreOpen [] = ⊥
-AreOpen (f ∷ []) = (f.name ≡ codes "body") × (f.implied ≡ false)
+AreOpen (f ∷ []) = (f.name ≡ codes "body") × (f.attributes ≡ []) × (f.implied ≡ false)
 AreOpen (f ∷ g ∷ fs) =
     (f.implied ≡ true → (is_tbody f.name ≡ true) × (is_table g.name ≡ true)) × AreOpen (g ∷ fs)
+
+-- an element may open there: an implied one is a `tbody` right in a `table`
+abbrev pub MayOpen : List ℕ → Bool → List OpenElement → Type 0
+MayOpen n implied fs = implied ≡ true → (is_tbody n ≡ true) × (is_table (innermost_name fs) ≡ true)
 
 -- The reader is where these elements are open; the flag says whether the document has a Doctype.
 pub record Holds (reader : Reader) (has_doctype : Bool) (fs : List OpenElement) : Type 0 where
@@ -71,4 +75,4 @@ pub record Holds (reader : Reader) (has_doctype : Bool) (fs : List OpenElement) 
 
 -- the reader is where some elements are open
 abbrev pub IsReading : Reader → Type 0
-IsReading reader = (has_doctype : Bool) × (fs : List OpenElement) × Holds reader has_doctype fs
+IsReading reader = (has_doctype : Bool) × (f : OpenElement) × (fs : List OpenElement) × Holds reader has_doctype (f ∷ fs)
