@@ -13,4 +13,5 @@ pub mod OpenNodesLemmas
 pub mod AdvancesLemmas
 pub mod PiecesLemmas
 pub mod DocumentsLemmas
+pub mod TagStepsLemmas
 mod Examples

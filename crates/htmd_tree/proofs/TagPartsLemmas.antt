@@ -83,7 +83,7 @@ attribute_is_named s name rest d e f g =
 
 -- ---- each part takes at least one character
 
-behind_within : (p : ℕ → Bool) (s : List ℕ) → length (behind_run p s) ≤ length s
+pub behind_within : (p : ℕ → Bool) (s : List ℕ) → length (behind_run p s) ≤ length s
 behind_within p [] = omega arith
 behind_within p (b ∷ s) =
     test (p b) (λ e. let k = behind_within p s in rw e (omega arith)) (λ e. rw e (omega arith))
@@ -156,11 +156,16 @@ gap_size w (b ∷ s) =
     white true = attribute_size (b ∷ s)
     white false = omega arith
 
+part_size : (s : List ℕ) → size_of (next_part s) ≤ length s
+part_size s =
+    let b = gap_size (not (is_empty (leading_run is_ascii_white_space s))) (behind_run is_ascii_white_space s) in
+    let c = behind_within is_ascii_white_space s in
+    omega arith
+
 pub part_shorter : (s name value rest : List ℕ) → attribute name value rest ≡ next_part s → length rest < length s
 part_shorter s name value rest e =
     let a : suc (length rest) ≡ size_of (next_part s) = ap size_of e in
-    let b = gap_size (not (is_empty (leading_run is_ascii_white_space s))) (behind_run is_ascii_white_space s) in
-    let c = behind_within is_ascii_white_space s in
+    let b = part_size s in
     omega arith
 
 -- ---- the form of a tag
@@ -200,3 +205,24 @@ form_more s name value rest spelled whole e h =
     form_same (suc (length rest)) (length s) rest (omega arith) l in
     with_one_more spelled name value _ ∙ (ap (λ (x : TagForm). with_attributes spelled (with_attribute name value x)) f
     ∙ (ap (with_attributes spelled) (sym g) ∙ h))
+
+-- what follows a tag
+abbrev pub size_of_rest : TagForm → ℕ
+size_of_rest no_form = 0
+size_of_rest (form spelled present s) = length s
+
+rest_with : (name value : List ℕ) (f : TagForm) → size_of_rest (with_attribute name value f) ≡ size_of_rest f
+rest_with name value no_form = refl
+rest_with name value (form spelled present s) = refl
+
+-- what follows a tag is no longer than what stands behind its name
+pub form_size : (k : ℕ) (s : List ℕ) → size_of_rest (form_within k s) ≤ length s
+form_size zero s = omega arith
+form_size (suc k) s = by_part (next_part s) (part_size s) (λ rest. form_size k rest)
+  where
+    by_part : (p : TagPart) → size_of p ≤ length s → ((rest : List ℕ) → size_of_rest (form_within k rest) ≤ length rest)
+        → size_of_rest (form_behind p (form_within k)) ≤ length s
+    by_part malformed l go = omega arith
+    by_part (tag_end present t) l go = omega arith
+    by_part (attribute name value t) l go =
+        let e = rest_with name value (form_within k t) in let g = go t in omega arith

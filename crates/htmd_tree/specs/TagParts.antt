@@ -1,8 +1,15 @@
 -- What the parts of a start tag, as the reader holds them, are in the grammar's terms.
-use Rattle.std.specs.Prelude.{ℕ, List, ◌++◌, map, if◌then◌else◌}
+use Rattle.std.specs.Prelude.{ℕ, List, ◌++◌, map, if◌then◌else◌, Option, Some, None, Result, Ok, Err}
+use Rattle.std.specs.List.{list_any}
 use Rattle.std.specs.Char.{to_ascii_lowercase}
 use Rattle.htmd_grammar.specs.ValueTrees.{AttributePair}
 use Rattle.htmd_grammar.specs.CharacterClasses.{leading_run, behind_run, is_attribute_name, is_attribute_name_byte}
+use Rattle.htmd_grammar.specs.CharacterClasses.{are_distinct}
+use Rattle.htmd_grammar.specs.Rules.{named_characters}
+use Rattle.htmd_grammar.specs.Tags.{attribute_names, decode_values}
+use Rattle.htmd_grammar.specs.OpenElements.{has_unknown_reference}
+use Rattle.htmd_grammar.specs.declared.fault.FaultKind.{FaultKind}
+use Rattle.htmd_grammar.specs.declared.fault.FaultKind.TheVariants.{UnknownReference, BadNumber, DuplicateAttribute}
 use Rattle.htmd_grammar.specs.TagReading.{TagPart, malformed, tag_end, attribute, behind_attribute_name}
 use Rattle.htmd_grammar.specs.TagReading.{TagForm, no_form, form}
 use Rattle.htmd_tree.specs.declared.reader.attributes.SpelledAttribute.{SpelledAttribute}
@@ -31,3 +38,16 @@ attribute_part s =
     if is_attribute_name (leading_run is_attribute_name_byte s)
     then behind_attribute_name (leading_run is_attribute_name_byte s) (behind_run is_attribute_name_byte s)
     else malformed
+
+-- ---- attributes of which the form has been read
+
+abbrev pub distinct_attributes : List AttributePair → Option (List AttributePair) → Result (List AttributePair) FaultKind
+distinct_attributes spelled None = Err BadNumber
+distinct_attributes spelled (Some attributes) =
+    if are_distinct (attribute_names spelled) then Ok attributes else Err DuplicateAttribute
+
+-- the attributes that are spelled so, or what is wrong with them
+abbrev pub read_attributes : List AttributePair → Result (List AttributePair) FaultKind
+read_attributes spelled =
+    if list_any (λ a. has_unknown_reference named_characters a.value) spelled then Err UnknownReference
+    else distinct_attributes spelled (decode_values named_characters spelled)

@@ -29,6 +29,7 @@ mod attributes;
 mod beginning;
 mod comment_texts;
 mod comments;
+mod contents;
 mod line_ends;
 mod pieces;
 mod places;

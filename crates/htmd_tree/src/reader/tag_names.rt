@@ -1,8 +1,6 @@
 //! The names of tags.
 ghost use Rattle.std.specs.Prelude.{◌≡◌, true, false, MatchOption};
 ghost use Rattle.htmd_grammar.specs.CharacterClasses.{leading_run, behind_run, is_tag_name, is_tag_name_byte};
-ghost use Rattle.htmd_grammar.specs.Places as places;
-ghost use Rattle.htmd_grammar.specs.RawContent as raw;
 
 use crate::reader::runs::{Class, split_run};
 
@@ -18,29 +16,4 @@ pub(crate) fn split_name(text: &str) -> Option<(&str, &str)>
         [first, ..] if first.is_ascii_alphabetic() => Some(split_run(text, Class::TagName)),
         _ => None,
     }
-}
-
-/// Whether tags of this name have no place at all.
-pub(crate) fn is_outside(name: &str) -> bool
-    ensures { result ≡ places.is_outside name.now }
-{
-    matches!(
-        name,
-        "html"
-            | "head"
-            | "body"
-            | "frameset"
-            | "frame"
-            | "template"
-            | "plaintext"
-            | "listing"
-            | "image"
-    )
-}
-
-/// Whether an element of this name drops a line feed at the beginning of its content.
-pub(crate) fn drops_line_feed(name: &str) -> bool
-    ensures { result ≡ raw.drops_line_feed name.now }
-{
-    matches!(name, "pre" | "textarea")
 }
