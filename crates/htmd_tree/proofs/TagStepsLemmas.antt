@@ -64,7 +64,7 @@ module _ (scripting : Bool) (outer : Context) (fs : List OpenElement) where
       ≡ form_step (project scripting) outer fs (map to_ascii_lowercase name) f
   start_named s name behind f e n b g =
       let h : form_within (suc (length (behind_run is_tag_name_byte s))) (behind_run is_tag_name_byte s) ≡ f =
-          ap (λ (x : List ℕ). form_within (suc (length x)) x) (sym b) ∙ g in
+      ap (λ (x : List ℕ). form_within (suc (length x)) x) (sym b) ∙ g in
       rw (e, n, h) refl
 
   -- the tag has its form, and these attributes
