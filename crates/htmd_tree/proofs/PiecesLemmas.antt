@@ -26,7 +26,8 @@ use Rattle.htmd_tree.specs.declared.reader.Reader.{Reader}
 use Rattle.htmd_tree.specs.declared.reader.Stop.{Stop}
 use Rattle.htmd_tree.specs.declared.reader.Stop.TheVariants.{Memory, Refused}
 use Rattle.htmd_tree.proofs.OpenNodesLemmas.{length-open_nodes}
-use Rattle.htmd_tree.proofs.AdvancesLemmas.{IsTop, reading_at, holds_kept, advance}
+use Rattle.htmd_tree.proofs.AdvancesLemmas.{IsTop, top_at, advance}
+use Rattle.htmd_tree.specs.declared.reader.places.Place.{Place}
 
 -- ---- steps
 
@@ -332,3 +333,21 @@ ends_well old new has_doctype fs h e l = each h.opened h.holds h.reaches
         subst (λ x. Reaches (rules_of old) above_body (place fs old.rest.now) (place (x ∷ []) [])) b
         (subst (λ t. Reaches (rules_of old) above_body (place fs old.rest.now) (place (f ∷ []) t))
         (empty_is new.rest.now e) p))
+
+-- ---- what is kept of the innermost open element
+
+pub text_alone_at : (reader : Reader) (has_doctype : Bool) (fs : List OpenElement) (o : OpenNode) → IsTop reader o
+    → Holds reader has_doctype fs → o.place.text_alone ≡ holds_text_alone reader.scripting (innermost_name fs)
+text_alone_at reader has_doctype fs o t h = ap (λ (p : Place). p.text_alone) ((top_at reader has_doctype fs o t h).1)
+
+pub raw_text_at : (reader : Reader) (has_doctype : Bool) (fs : List OpenElement) (o : OpenNode) → IsTop reader o
+    → Holds reader has_doctype fs → o.place.raw_text ≡ holds_raw_text reader.scripting (innermost_name fs)
+raw_text_at reader has_doctype fs o t h = ap (λ (p : Place). p.raw_text) ((top_at reader has_doctype fs o t h).1)
+
+pub ends_alone : (scripting : Bool) (n s : List ℕ) → holds_text_alone scripting n ≡ true
+    → begins_own_end n s ≡ ends_text scripting n s
+ends_alone scripting n s e = rw e refl
+
+pub ends_at_markup : (scripting : Bool) (n s : List ℕ) → holds_text_alone scripting n ≡ false
+    → begins_markup s ≡ ends_text scripting n s
+ends_at_markup scripting n s e = rw e refl

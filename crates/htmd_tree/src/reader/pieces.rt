@@ -21,7 +21,10 @@ impl<'a> Reader<'a> {
         ensures reading { IsReading self.new }
         ensures rest { self.new.rest.now ≡ self.old.rest.now }
     {
-        if self.top().implied && ends_rows(self.rest.as_bytes()) {
+        if !self.top().implied {
+            return;
+        }
+        if ends_rows(self.rest.as_bytes()) {
             self.close_element(self.rest);
         }
     }
