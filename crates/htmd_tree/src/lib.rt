@@ -15,4 +15,6 @@ pub use htmd_grammar::FaultKind;
 pub use tree::{Attribute, NodeData, NodeId, Tree, TreeError};
 
 #[cfg(test)]
+mod reader_tests;
+#[cfg(test)]
 mod tests;
