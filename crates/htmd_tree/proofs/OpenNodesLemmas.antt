@@ -15,7 +15,7 @@ use Rattle.htmd_tree.specs.declared.reader.OpenNode.{OpenNode}
 use Rattle.htmd_tree.specs.declared.reader.Reader.{Reader}
 
 mutual
-  length-tree_items : (t : ValueTree) (d p b : ℕ) → length (tree_items d p b t) ≡ size t
+  pub length-tree_items : (t : ValueTree) (d p b : ℕ) → length (tree_items d p b t) ≡ size t
   length-tree_items (document children) d p b = ap suc (length-forest_items children (suc d) b (suc b))
   length-tree_items doctype d p b = refl
   length-tree_items (text s) d p b = refl
@@ -23,7 +23,7 @@ mutual
   length-tree_items (element name attributes children) d p b =
       ap suc (length-forest_items children (suc d) b (suc b))
 
-  length-forest_items : (ts : ValueForest) (d p b : ℕ) → length (forest_items d p b ts) ≡ sizes ts
+  pub length-forest_items : (ts : ValueForest) (d p b : ℕ) → length (forest_items d p b ts) ≡ sizes ts
   length-forest_items none d p b = refl
   length-forest_items (more t ts) d p b =
       length-append (tree_items d p b t) (forest_items d p (b + size t) ts)
@@ -78,7 +78,7 @@ AreOpen-with (f ∷ g ∷ fs) ts h = h
 pub AreOpen-outer : (f g : OpenElement) (fs : List OpenElement) → AreOpen (f ∷ g ∷ fs) → AreOpen (g ∷ fs)
 AreOpen-outer f g fs h = h.1
 
-item_at-middle : (items rest : List Item) (x : Item) → item_at (items ++ x ∷ rest) (length items) ≡ x
+pub item_at-middle : (items rest : List Item) (x : Item) → item_at (items ++ x ∷ rest) (length items) ≡ x
 item_at-middle [] rest x = refl
 item_at-middle (i ∷ items) rest x = item_at-middle items rest x
 
