@@ -48,10 +48,11 @@ pub read_rightly : (old new : Reader) (scripting : Bool) (s : List ℕ) → Step
 read_rightly old new scripting s sound l rest flag e =
     let reaches : Reaches (project scripting) above_body (started s) (finished (e.0)) =
     subst (λ b. Reaches (project b) above_body (started s) (finished (e.0))) flag
-    (subst (λ t. Reaches (rules_of old) above_body (place (body ∷ []) t) (finished (e.0))) rest (e.2)) in
-    (with_doctype (behind_doctype (behind_mark s)) (skeleton (e.0)),
-    e.1 ∙ laid_out (behind_doctype (behind_mark s)) (e.0),
-    (l, e.0, refl, sound s (e.0) reaches))
+    (subst (λ t. Reaches (rules_of old) above_body (place (body ∷ []) t) (finished (e.0))) rest (e.2)) in (
+      with_doctype (behind_doctype (behind_mark s)) (skeleton (e.0)),
+      e.1 ∙ laid_out (behind_doctype (behind_mark s)) (e.0),
+      (l, e.0, refl, sound s (e.0) reaches),
+    )
 
 -- ---- refusals
 
@@ -75,8 +76,13 @@ nul_behind b s n e f = record {
 nul_at : (s : List ℕ) → position_or_len is_null s < length s → IsFirstNul s (position_or_len is_null s)
 nul_at [] l = absurd (omega arith)
 nul_at (b ∷ s) l = test (b == null)
-    (λ e. rw e (record { before = []; behind = s; text_is = ap (λ c. c ∷ s) (eqb-true b null e); place_is = refl;
-    first = refl }))
+    (λ e. rw e (record {
+      before = [];
+      behind = s;
+      text_is = ap (λ c. c ∷ s) (eqb-true b null e);
+      place_is = refl;
+      first = refl;
+    }))
     (λ e. rw e (nul_behind b s (position_or_len is_null s) e (nul_at s (let k = rw e at l in omega arith))))
 
 no_nul : (s : List ℕ) → length s ≤ position_or_len is_null s → lacks null s ≡ true

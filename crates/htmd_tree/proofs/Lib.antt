@@ -13,5 +13,8 @@ pub mod OpenNodesLemmas
 pub mod AdvancesLemmas
 pub mod PiecesLemmas
 pub mod DocumentsLemmas
+pub mod ValuesLemmas
+pub mod ContentsLemmas
 pub mod TagStepsLemmas
+pub mod TagAnswersLemmas
 mod Examples

@@ -21,29 +21,37 @@ use Rattle.htmd_grammar.specs.TagReading.{TagForm, no_form, form, form_within}
 use Rattle.htmd_grammar.specs.OpenElements.{has_unknown_reference}
 use Rattle.htmd_grammar.specs.Steps.{OpenElement, State, Step, fault, between, fresh, with_tree, names_of, innermost}
 use Rattle.htmd_grammar.specs.Steps.{is_too_deep, add, open_step, place_step, values_step, form_step, start_tag_step}
-use Rattle.htmd_grammar.specs.Steps.{close_step, name_step, end_tag_step}
+use Rattle.htmd_grammar.specs.Steps.{close_step, name_step, end_tag_step, markup_step}
 use Rattle.htmd_grammar.specs.declared.fault.FaultKind.{FaultKind}
 use Rattle.htmd_grammar.specs.declared.fault.FaultKind.TheVariants.{MalformedTag, SelfClosing, TagOutside}
-use Rattle.htmd_tree.specs.TagParts.{read_attributes, distinct_attributes}
-use Rattle.htmd_tree.proofs.TagPartsLemmas.{behind_within, size_of_rest, form_size}
+use Rattle.htmd_tree.specs.TagParts.{read_attributes, distinct_attributes, fault_of_name}
 
 -- ---- a start tag
 
 module _ (scripting : Bool) (outer : Context) (fs : List OpenElement) where
+  abbrev pub named_step : List ℕ → List AttributePair → List ℕ → Option FaultKind → Step
+  named_step n attributes rest (Some kind) = fault kind
+  named_step n attributes rest None = place_step (project scripting) outer fs n attributes rest
+
   -- a start tag, once its attributes have been read
   abbrev pub attributes_step : List ℕ → Bool → List ℕ → Result (List AttributePair) FaultKind → Step
   attributes_step n present rest (Err kind) = fault kind
-  attributes_step n present rest (Ok attributes) =
-      if present && not (is_void n) then fault SelfClosing
-      else if is_outside n then fault TagOutside
-      else place_step (project scripting) outer fs n attributes rest
+  attributes_step n present rest (Ok attributes) = named_step n attributes rest (fault_of_name n present)
+
+  name_is : (n : List ℕ) (attributes : List AttributePair) (present : Bool) (rest : List ℕ)
+      → cond (present && not (is_void n)) (fault SelfClosing) (cond (is_outside n) (fault TagOutside)
+      (place_step (project scripting) outer fs n attributes rest))
+      ≡ named_step n attributes rest (fault_of_name n present)
+  name_is n attributes present rest =
+      test (present && not (is_void n)) (λ e. rw e refl)
+      (λ e. test (is_outside n) (λ f. rw (e, f) refl) (λ f. rw (e, f) refl))
 
   values_are : (n : List ℕ) (spelled : List AttributePair) (present : Bool) (rest : List ℕ)
       (values : Option (List AttributePair)) → values_step (project scripting) outer fs n spelled present rest values
       ≡ attributes_step n present rest (distinct_attributes spelled values)
   values_are n spelled present rest None = refl
   values_are n spelled present rest (Some attributes) =
-      test (are_distinct (attribute_names spelled)) (λ e. rw e refl) (λ e. rw e refl)
+      test (are_distinct (attribute_names spelled)) (λ e. rw e (name_is n attributes present rest)) (λ e. rw e refl)
 
   pub form_is : (n : List ℕ) (spelled : List AttributePair) (present : Bool) (rest : List ℕ)
       → form_step (project scripting) outer fs n (form spelled present rest)
@@ -95,6 +103,13 @@ module _ (scripting : Bool) (outer : Context) (fs : List OpenElement) where
       (close_step (project scripting) outer fs (map to_ascii_lowercase name) (drop 1 end_))) (fault MalformedTag)
   end_named s name behind end_ e n b g = rw (e, g, n, b) refl
 
+  -- ---- markup
+
+  pub end_tag_begins : (s name : List ℕ) → first_is 47 s ≡ true → name ≡ drop 1 s
+      → markup_step (project scripting) outer fs s ≡ end_tag_step (project scripting) outer fs name
+  end_tag_begins [] name e d = absurd (cc)
+  end_tag_begins (b ∷ s) name e d = rw (e, d) refl
+
 -- ---- what is left doesn't grow
 
 abbrev pub Within : ℕ → Step → Type 0
@@ -139,52 +154,7 @@ module _ (rules : Rules) (outer : Context) where
       (cond_within (length rest) (is_too_deep rules outer fs) _ _ tt
       (open_within (fresh (codes "tbody") [] true ∷ fs) n attributes rest)) (open_within fs n attributes rest)
 
-  raised : (m n : ℕ) (x : Step) → m ≤ n → Within m x → Within n x
-  raised m n (Ok st) l h = omega arith
-  raised m n (Err kind) l h = tt
-
-  values_within : (fs : List OpenElement) (n : List ℕ) (spelled : List AttributePair) (present : Bool) (rest : List ℕ)
-      (values : Option (List AttributePair)) → Within (length rest) (values_step rules outer fs n spelled present rest values)
-  values_within fs n spelled present rest None = tt
-  values_within fs n spelled present rest (Some attributes) =
-      cond_within (length rest) (not (are_distinct (attribute_names spelled))) _ _ tt
-      (cond_within (length rest) (present && not (is_void n)) _ _ tt
-      (cond_within (length rest) (is_outside n) _ _ tt (place_within fs n attributes rest)))
-
-  form_step_within : (fs : List OpenElement) (n : List ℕ) (f : TagForm) → Within (size_of_rest f) (form_step rules outer fs n f)
-  form_step_within fs n no_form = tt
-  form_step_within fs n (form spelled present rest) =
-      cond_within (length rest) (list_any (λ a. has_unknown_reference rules.names a.value) spelled) _ _ tt
-      (values_within fs n spelled present rest (decode_values rules.names spelled))
-
-  pub start_within : (fs : List OpenElement) (s : List ℕ) → Within (length s) (start_tag_step rules outer fs s)
-  start_within fs s =
-      let behind : List ℕ = behind_run is_tag_name_byte s in
-      let b = behind_within is_tag_name_byte s in
-      let g = form_size (suc (length behind)) behind in
-      cond_within (length s) (is_tag_name (leading_run is_tag_name_byte s)) _ _
-      (raised (size_of_rest (form_within (suc (length behind)) behind)) (length s) _ (omega arith)
-      (form_step_within fs (map to_ascii_lowercase (leading_run is_tag_name_byte s))
-      (form_within (suc (length behind)) behind))) tt
-
-  close_within : (fs : List OpenElement) (n rest : List ℕ) → Within (length rest) (close_step rules outer fs n rest)
+  pub close_within : (fs : List OpenElement) (n rest : List ℕ) → Within (length rest) (close_step rules outer fs n rest)
   close_within [] n rest = tt
   close_within (f ∷ []) n rest = tt
   close_within (f ∷ g ∷ fs) n rest = cond_within (length rest) (bytes_eq f.name n) _ _ (omega arith) tt
-
-  name_within : (fs : List OpenElement) (n s : List ℕ) → Within (length s) (name_step rules outer fs n s)
-  name_within fs n s =
-      let end_ : List ℕ = behind_run is_ascii_white_space s in
-      let b = behind_within is_ascii_white_space s in
-      let d = length-drop 1 end_ in
-      cond_within (length s) (first_is 62 end_) _ _
-      (cond_within (length s) (is_outside n) _ _ tt
-      (raised (length (drop 1 end_)) (length s) _ (omega arith) (close_within fs n (drop 1 end_)))) tt
-
-  pub end_within : (fs : List OpenElement) (s : List ℕ) → Within (length s) (end_tag_step rules outer fs s)
-  end_within fs s =
-      let behind : List ℕ = behind_run is_tag_name_byte s in
-      let b = behind_within is_tag_name_byte s in
-      cond_within (length s) (is_tag_name (leading_run is_tag_name_byte s)) _ _
-      (raised (length behind) (length s) _ (omega arith)
-      (name_within fs (map to_ascii_lowercase (leading_run is_tag_name_byte s)) behind)) tt

@@ -1,15 +1,18 @@
 -- What the parts of a start tag, as the reader holds them, are in the grammar's terms.
-use Rattle.std.specs.Prelude.{ℕ, List, ◌++◌, map, if◌then◌else◌, Option, Some, None, Result, Ok, Err}
+use Rattle.std.specs.Prelude.{ℕ, Bool, not, ◌&&◌, List, ◌++◌, map, if◌then◌else◌, Option, Some, None, Result, Ok, Err}
 use Rattle.std.specs.List.{list_any}
 use Rattle.std.specs.Char.{to_ascii_lowercase}
 use Rattle.htmd_grammar.specs.ValueTrees.{AttributePair}
 use Rattle.htmd_grammar.specs.CharacterClasses.{leading_run, behind_run, is_attribute_name, is_attribute_name_byte}
 use Rattle.htmd_grammar.specs.CharacterClasses.{are_distinct}
+use Rattle.htmd_grammar.specs.Places.{is_outside}
 use Rattle.htmd_grammar.specs.Rules.{named_characters}
+use Rattle.htmd_grammar.specs.Serialisation.{is_void}
 use Rattle.htmd_grammar.specs.Tags.{attribute_names, decode_values}
 use Rattle.htmd_grammar.specs.OpenElements.{has_unknown_reference}
 use Rattle.htmd_grammar.specs.declared.fault.FaultKind.{FaultKind}
-use Rattle.htmd_grammar.specs.declared.fault.FaultKind.TheVariants.{UnknownReference, BadNumber, DuplicateAttribute}
+use Rattle.htmd_grammar.specs.declared.fault.FaultKind.TheVariants.{UnknownReference, BadNumber, DuplicateAttribute, SelfClosing}
+use Rattle.htmd_grammar.specs.declared.fault.FaultKind.TheVariants.{TagOutside}
 use Rattle.htmd_grammar.specs.TagReading.{TagPart, malformed, tag_end, attribute, behind_attribute_name}
 use Rattle.htmd_grammar.specs.TagReading.{TagForm, no_form, form}
 use Rattle.htmd_tree.specs.declared.reader.attributes.SpelledAttribute.{SpelledAttribute}
@@ -51,3 +54,8 @@ abbrev pub read_attributes : List AttributePair → Result (List AttributePair) 
 read_attributes spelled =
     if list_any (λ a. has_unknown_reference named_characters a.value) spelled then Err UnknownReference
     else distinct_attributes spelled (decode_values named_characters spelled)
+
+-- what is wrong with a start tag of this name, with a `/` or without
+abbrev pub fault_of_name : List ℕ → Bool → Option FaultKind
+fault_of_name n present =
+    if present && not (is_void n) then Some SelfClosing else if is_outside n then Some TagOutside else None

@@ -25,6 +25,7 @@ ghost use Rattle.htmd_tree.specs.OpenNodes.{Holds, IsReading, MayOpen, innermost
 ghost use Rattle.htmd_tree.specs.Advances.{Follows, HasAdded, StopsDeep, IsLeaf, leaf, rules_of};
 ghost use Rattle.htmd_tree.specs.declared.reader.Stop.TheVariants.{Memory, Refused};
 
+mod attribute_values;
 mod attributes;
 mod beginning;
 mod comment_texts;
@@ -182,12 +183,7 @@ impl<'a> Reader<'a> {
     }
 
     /// A new element in the innermost open element, which then is the innermost one.
-    fn open_node(
-        &mut self,
-        name: String,
-        attrs: Vec<Attribute>,
-        implied: bool,
-    ) -> Result<(), Stop>
+    fn open_node(&mut self, name: String, attrs: Vec<Attribute>, implied: bool) -> Result<(), Stop>
         requires reading { IsReading self.old }
         requires may_open { (has_doctype : Bool) (fs : List OpenElement) → Holds self.old has_doctype fs
             → MayOpen (string_bytes name) implied fs }

@@ -1,25 +1,20 @@
 //! The attributes of a start tag.
-ghost use Rattle.std.specs.Prelude.{◌≡◌, ◌<◌, suc, length, option_map, Ok, Err, IfOk, MatchOption, MatchResult};
-ghost use Rattle.std.specs.List.{list_any};
-ghost use Rattle.htmd_grammar.specs.OpenElements as steps;
-ghost use Rattle.htmd_grammar.specs.Rules.{named_characters};
+ghost use Rattle.std.specs.Prelude.{◌≡◌, ◌<◌, suc, length, IfOk, MatchOption};
 ghost use Rattle.htmd_grammar.specs.CharacterClasses as classes;
 ghost use Rattle.htmd_grammar.specs.TagReading as spec;
-ghost use Rattle.htmd_grammar.specs.Tags.{attribute_names, decode_values};
-ghost use Rattle.htmd_tree.specs.TagParts.{part_of, all_spelled_of, attribute_part, read_attributes};
+ghost use Rattle.htmd_grammar.specs.Tags.{attribute_names};
+ghost use Rattle.htmd_tree.specs.TagParts.{part_of, all_spelled_of, attribute_part};
 ghost use Rattle.htmd_tree.specs.Views.{pairs_of};
 
 use crate::reader::runs::{Class, split_run, strip_byte};
-use crate::reader::values;
 use crate::tree::Attribute;
-use htmd_grammar::FaultKind;
 use std::alloc::{AllocError, Global};
 use std::collections::BTreeSet;
 
 /// An attribute as it is spelled.
 #[derive(Clone, Copy, Drop)]
 pub(crate) struct SpelledAttribute<'a> {
-    name: &'a str,
+    pub(crate) name: &'a str,
     pub(crate) value: &'a str,
 }
 
@@ -184,37 +179,6 @@ pub(crate) fn tag_form<'a>(alloc: Global, text: &'a str) -> Result<Option<TagFor
     }
 }
 
-/// Whether a reference by an unknown name stands in a value.
-fn has_unknown_reference(spelled: &[SpelledAttribute<'_>]) -> bool
-    ensures { result ≡ list_any (λ a. steps.has_unknown_reference named_characters a.value) (all_spelled_of spelled.now) }
-{
-    for attribute in spelled {
-        if values::has_unknown_reference(attribute.value) {
-            return true;
-        }
-    }
-    false
-}
-
-/// The attributes with what their values denote, where each reference is right.
-fn decoded(
-    alloc: Global,
-    spelled: &[SpelledAttribute<'_>],
-) -> Result<Option<Vec<Attribute>>, AllocError>
-    ensures { IfOk result (λ answer. option_map (λ v. pairs_of v.items) answer
-        ≡ decode_values named_characters (all_spelled_of spelled.now)) }
-{
-    let mut attributes = Vec::with_capacity(alloc, spelled.len())?;
-    for attribute in spelled {
-        let Some(value) = values::decoded(alloc, attribute.value)? else {
-            return Ok(None);
-        };
-        let name = attribute.name.to_ascii_lowercase(alloc)?;
-        attributes.push(Attribute { name, value })?;
-    }
-    Ok(Some(attributes))
-}
-
 /// So many names are compared pair by pair.
 const FEW: usize = 12;
 
@@ -260,26 +224,4 @@ pub(crate) fn are_distinct(alloc: Global, attributes: &[Attribute]) -> Result<bo
         rest = others;
     }
     Ok(true)
-}
-
-/// The attributes with what the references in their values stand for. A fault is `UnknownReference`, `BadNumber` or
-/// `DuplicateAttribute`, the first of these that fits.
-pub(crate) fn attributes_of(
-    alloc: Global,
-    spelled: &[SpelledAttribute<'_>],
-) -> Result<Result<Vec<Attribute>, FaultKind>, AllocError>
-    ensures { IfOk result (λ answer. MatchResult answer
-        (λ attributes. read_attributes (all_spelled_of spelled.now) ≡ Ok (pairs_of attributes.items))
-        (λ kind. read_attributes (all_spelled_of spelled.now) ≡ Err kind)) }
-{
-    if has_unknown_reference(spelled) {
-        return Ok(Err(FaultKind::UnknownReference));
-    }
-    let Some(attributes) = decoded(alloc, spelled)? else {
-        return Ok(Err(FaultKind::BadNumber));
-    };
-    if !are_distinct(alloc, attributes.as_slice())? {
-        return Ok(Err(FaultKind::DuplicateAttribute));
-    }
-    Ok(Ok(attributes))
 }

@@ -4,6 +4,7 @@ ghost use Rattle.htmd_grammar.specs.RawContent as spec;
 ghost use Rattle.htmd_grammar.specs.References.{after_line_feed};
 
 use crate::reader::references::character_at;
+use crate::reader::runs::behind_first;
 
 fn drops_line_feed(name: &str) -> bool
     ensures { result ≡ spec.drops_line_feed name.now }
@@ -17,7 +18,7 @@ fn without_line_feed(text: &str) -> &str
 {
     match text.as_bytes() {
         [first, behind @ ..] if first.is_ascii() => match character_at(*first, behind) {
-            Ok(character) if character.value == '\n' => &text[1 + character.behind..],
+            Ok(character) if character.value == '\n' => &behind_first(text)[character.behind..],
             _ => text,
         },
         _ => text,

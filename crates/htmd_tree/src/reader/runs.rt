@@ -1,5 +1,5 @@
 //! How a text begins: the longest run of characters of one class, and one character.
-ghost use Rattle.std.specs.Prelude.{◌≡◌, ◌<◌, ◌≤◌, true, false, length, drop, MatchOption};
+ghost use Rattle.std.specs.Prelude.{◌≡◌, ◌<◌, ◌≤◌, true, false, length, drop, slice_index, MatchOption};
 ghost use Rattle.htmd_grammar.specs.CharacterClasses.{first_is, leading_run, behind_run};
 ghost use Rattle.htmd_tree.specs.Runs.{is_in, is_ascii};
 
@@ -57,7 +57,6 @@ pub(crate) fn split_run(text: &str, class: Class) -> (&str, &str)
     text.split_at(run_len(text.as_bytes(), class))
 }
 
-#[tactic(auto, using(std::proofs::lemmas::Str::lead_after_ascii))]
 /// The text behind this ASCII character, where it begins with it.
 pub(crate) fn strip_byte(text: &str, byte: u8) -> Option<&str>
     requires { byte < 128 }
@@ -68,4 +67,14 @@ pub(crate) fn strip_byte(text: &str, byte: u8) -> Option<&str>
         [first, ..] if *first == byte => Some(&text[1..]),
         _ => None,
     }
+}
+
+#[tactic(auto, using(std::proofs::lemmas::Str::lead_after_ascii))]
+/// The text behind its first character, which must be ASCII.
+pub(crate) fn behind_first(text: &str) -> &str
+    requires filled { 0 < length text.now }
+    requires ascii { slice_index text.now 0 < 128 }
+    ensures { result.now ≡ drop 1 text.now }
+{
+    &text[1..]
 }

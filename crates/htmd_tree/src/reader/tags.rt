@@ -1,25 +1,51 @@
 //! Start tags and end tags. A fault of a tag stands at its `<`, where the text that is left begins.
-ghost use Rattle.std.specs.Prelude.{◌≡◌, ◌<◌, Bool, true, false, List, length, drop, OnOk, string_bytes};
+ghost use Rattle.std.specs.Prelude.{◌≡◌, ◌<◌, ◌&&◌, Bool, true, false, List, length, drop, OnOk, string_bytes, codes};
+ghost use Rattle.std.specs.Str.{bytes_eq};
 ghost use Rattle.htmd_text.specs.Characters.{less_than_sign};
 ghost use Rattle.htmd_grammar.specs.CharacterClasses.{first_is};
 ghost use Rattle.htmd_grammar.specs.Documents.{above_body};
-ghost use Rattle.htmd_grammar.specs.Steps.{OpenElement, start_tag_step, place_step, open_step, end_tag_step, close_step};
+ghost use Rattle.htmd_grammar.specs.Places.{is_allowed, is_row};
+ghost use Rattle.htmd_grammar.specs.Steps.{OpenElement, names_of, start_tag_step, place_step, open_step, end_tag_step, close_step};
 ghost use Rattle.htmd_grammar.specs.Steps.{markup_step};
 ghost use Rattle.htmd_tree.specs.Views.{pairs_of};
-ghost use Rattle.htmd_tree.specs.OpenNodes.{Holds, IsReading};
+ghost use Rattle.htmd_tree.specs.TagParts.{fault_of_name};
+ghost use Rattle.htmd_tree.specs.OpenNodes.{Holds, IsReading, innermost_name};
 ghost use Rattle.htmd_tree.specs.Advances.{Follows, rules_of};
 
-use crate::reader::attributes::{attributes_of, tag_form};
+use crate::reader::attribute_values::attributes_of;
+use crate::reader::attributes::tag_form;
 use crate::reader::contents::content_of;
 use crate::reader::places::is_outside;
-use crate::reader::runs::{Class, split_run, strip_byte};
+use crate::reader::runs::{Class, behind_first, split_run, strip_byte};
 use crate::reader::tag_names::split_name;
 use crate::reader::{Reader, Stop};
 use crate::serialiser::is_void;
 use crate::tree::{Attribute, NodeData};
 use htmd_grammar::FaultKind;
 
+/// What is wrong with a start tag of this name: it has a `/` and isn't void, or it has no place at all.
+fn fault_of_name(name: &str, slash: bool) -> Option<FaultKind>
+    ensures { result ≡ fault_of_name name.now slash }
+{
+    if slash && !is_void(name) {
+        return Some(FaultKind::SelfClosing);
+    }
+    if is_outside(name) {
+        return Some(FaultKind::TagOutside);
+    }
+    None
+}
+
 impl<'a> Reader<'a> {
+    /// Whether an element of this name may stand here.
+    fn allows(&self, name: &str) -> bool
+        requires reading { IsReading self.now }
+        ensures { (has_doctype : Bool) (fs : List OpenElement) → Holds self.now has_doctype fs
+            → result ≡ is_allowed self.now.scripting (names_of above_body fs) name.now }
+    {
+        self.top().place.allows(name)
+    }
+
     /// Opens the element of a start tag, or adds a void one.
     fn open_tag(&mut self, name: String, attrs: Vec<Attribute>, rest: &'a str) -> Result<(), Stop>
         requires reading { IsReading self.old }
@@ -28,7 +54,7 @@ impl<'a> Reader<'a> {
             (open_step (rules_of self.old) above_body fs (string_bytes name) (pairs_of attrs.items) rest.now) }
         ensures reading { OnOk result (IsReading self.new) }
     {
-        if !self.top().place.allows(name.as_str()) {
+        if !self.allows(name.as_str()) {
             return Err(self.refused(FaultKind::NotAllowedHere));
         }
         if is_void(name.as_str()) {
@@ -38,7 +64,16 @@ impl<'a> Reader<'a> {
         self.open_element(name, attrs, content)
     }
 
-    /// Gives the element of a start tag its place: a row in a table implies a `tbody`.
+    /// Whether an element of this name implies a `tbody` here: a row in a table.
+    fn implies_body(&self, name: &str) -> bool
+        requires reading { IsReading self.now }
+        ensures { (has_doctype : Bool) (fs : List OpenElement) → Holds self.now has_doctype fs
+            → result ≡ (is_row name.now && bytes_eq (innermost_name fs) (codes "table")) }
+    {
+        name == "tr" && self.innermost_name() == "table"
+    }
+
+    /// Gives the element of a start tag its place, in an implied `tbody` where it implies one.
     fn place_tag(&mut self, name: String, attrs: Vec<Attribute>, rest: &'a str) -> Result<(), Stop>
         requires reading { IsReading self.old }
         ensures follows { (has_doctype : Bool) (fs : List OpenElement) → Holds self.old has_doctype fs
@@ -46,8 +81,9 @@ impl<'a> Reader<'a> {
             (place_step (rules_of self.old) above_body fs (string_bytes name) (pairs_of attrs.items) rest.now) }
         ensures reading { OnOk result (IsReading self.new) }
     {
-        if name.as_str() == "tr" && self.innermost_name() == "table" {
+        if self.implies_body(name.as_str()) {
             self.open_implied_body()?;
+            return self.open_tag(name, attrs, rest);
         }
         self.open_tag(name, attrs, rest)
     }
@@ -73,13 +109,10 @@ impl<'a> Reader<'a> {
             Err(kind) => return Err(self.refused(kind)),
         };
         let name = spelled.to_ascii_lowercase(self.alloc)?;
-        if form.slash && !is_void(name.as_str()) {
-            return Err(self.refused(FaultKind::SelfClosing));
+        match fault_of_name(name.as_str(), form.slash) {
+            Some(kind) => Err(self.refused(kind)),
+            None => self.place_tag(name, attrs, form.rest),
         }
-        if is_outside(name.as_str()) {
-            return Err(self.refused(FaultKind::TagOutside));
-        }
-        self.place_tag(name, attrs, form.rest)
     }
 
     /// Closes the innermost open element, which must have this name.
@@ -90,7 +123,10 @@ impl<'a> Reader<'a> {
             (close_step (rules_of self.old) above_body fs name.now rest.now) }
         ensures reading { OnOk result (IsReading self.new) }
     {
-        if self.stack.len() < 2 || self.innermost_name() != name {
+        if self.stack.len() < 2 {
+            return Err(self.refused(FaultKind::StrayEndTag));
+        }
+        if self.innermost_name() != name {
             return Err(self.refused(FaultKind::StrayEndTag));
         }
         self.close_element(rest);
@@ -131,7 +167,7 @@ impl<'a> Reader<'a> {
         ensures reading { OnOk result (IsReading self.new) }
         ensures shorter { OnOk result (length self.new.rest.now < length self.old.rest.now) }
     {
-        let behind = &self.rest[1..];
+        let behind = behind_first(self.rest);
         if let Some(name) = strip_byte(behind, b'/') {
             return self.read_end_tag(name);
         }

@@ -12,6 +12,9 @@ returns-in-Ok-clause-ok c = λ has_doctype fs h.
 
 pub returns-in-Err-TooDeep-clause-err : goal.returns-in-Err-TooDeep-clause-err
 returns-in-Err-TooDeep-clause-err c = λ has_doctype fs h.
-    subst (λ s. StopsDeep c.args.self.now fs s) (sym c.refused.ensures)
-    (refl, refl, too_deep_at c.args.self.now has_doctype fs c.top-parent.result c.top-parent.ensures.top h
-    (c.in-Err-TooDeep.ensures.too_deep.0 (cc)))
+    subst (λ s. StopsDeep c.args.self.now fs s) (sym c.refused.ensures) (
+      refl,
+      refl,
+      too_deep_at c.args.self.now has_doctype fs c.top-parent.result c.top-parent.ensures.top h
+          (c.in-Err-TooDeep.ensures.too_deep.0 (cc)),
+    )
