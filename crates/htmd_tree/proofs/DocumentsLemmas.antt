@@ -28,7 +28,7 @@ use Rattle.htmd_tree.specs.declared.reader.Reader.{Reader}
 use Rattle.htmd_tree.specs.declared.reader.Stop.TheVariants.{Refused}
 
 -- a document is laid out as the items of `body`, which is open
-laid_out : (o : Option (List ℕ)) (content : ValueForest)
+pub laid_out : (o : Option (List ℕ)) (content : ValueForest)
     → stack_items (is_some o) (with_children body content ∷ []) ≡ document_items (with_doctype o (skeleton content))
 laid_out None content =
     let items : List Item = forest_items 3 3 4 content in

@@ -17,4 +17,6 @@ pub mod ValuesLemmas
 pub mod ContentsLemmas
 pub mod TagStepsLemmas
 pub mod TagAnswersLemmas
+pub mod PartsLemmas
+pub mod RawBlockLemmas
 mod Examples

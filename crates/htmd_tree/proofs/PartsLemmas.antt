@@ -8,9 +8,18 @@ use Rattle.htmd_grammar.specs.ValueTrees.{ValueTree, document, doctype, text, co
 use Rattle.htmd_grammar.specs.ValueTrees.{AttributePair}
 use Rattle.htmd_grammar.specs.Places.{Context}
 use Rattle.htmd_grammar.specs.ReadBack.{IsIn, AreIn}
+use Rattle.htmd_grammar.specs.Rules.{Rules}
+use Rattle.htmd_grammar.specs.Documents.{below_body}
+use Rattle.htmd_grammar.specs.Grammar.{ReadsTree, ReadsForest, may_end_rows}
+use Rattle.htmd_grammar.specs.RawContent.{content_of}
+use Rattle.htmd_grammar.specs.Serialisation.{is_void}
+use Rattle.htmd_grammar.specs.Steps.{body, with_children}
+use Rattle.htmd_text.proofs.Cases.{test}
 use Rattle.htmd_tree.specs.Items.{Data, document_node, doctype_node, text_node, comment_node, element_node, Item}
-use Rattle.htmd_tree.specs.Items.{item_at, parent_at, depth_at, data_at, is_child}
-use Rattle.htmd_tree.specs.NumberedTrees.{with_children, forest_from, tree_of, value_tree, value_forest}
+use Rattle.htmd_tree.specs.Items.{document_item, item_at, parent_at, depth_at, data_at, is_child}
+use Rattle.htmd_tree.specs.NumberedTrees.{forest_from, tree_of, value_tree, value_forest}
+use Rattle.htmd_tree.specs.NumberedTrees as numbered
+use Rattle.htmd_tree.specs.OpenNodes.{items_above, stack_items}
 use Rattle.htmd_tree.specs.Ancestors.{ancestor_of, ancestors_up, ancestors_of}
 use Rattle.htmd_tree.specs.Layout.{size, sizes, item_under, tree_items, forest_items}
 use Rattle.htmd_tree.specs.Parts.{ancestor_names, value_at}
@@ -105,9 +114,9 @@ module _ (items : List Item) where
         let parent : parent_at items k ≡ Some p = ap (λ (i : Item). i.parent) at in
         rw (depth, parent) a.names
 
-    value_is : value_at items k ≡ value_tree (with_children k x (forest_from 0 items k))
+    value_is : value_at items k ≡ value_tree (numbered.with_children k x (forest_from 0 items k))
     unfolding tree_of
-    value_is = ap (λ (i : Item). value_tree (with_children k i.node_data (forest_from 0 items k))) at
+    value_is = ap (λ (i : Item). value_tree (numbered.with_children k i.node_data (forest_from 0 items k))) at
 
     below_is : (n : List ℕ) (attributes : List AttributePair) (c : Context) → x ≡ element_node n attributes → IsAbove d p c
         → IsAbove (suc d) k (n ∷ c)
@@ -127,7 +136,7 @@ module _ (items : List Item) where
 
   leaf_part : (d p b k : ℕ) (c : Context) (x : Data) → item_at items b ≡ item_under (suc d) p x → IsAbove d p c
       → b ≤ k → k < b + 1 → (ancestor_names items k ≡ c)
-      × (value_at items k ≡ value_tree (with_children k x (forest_from 0 items k)))
+      × (value_at items k ≡ value_tree (numbered.with_children k x (forest_from 0 items k)))
   leaf_part d p b k c x at a l m =
       let e : b ≡ k = omega arith in
       let here : item_at items k ≡ item_under (suc d) p x = subst (λ j. item_at items j ≡ item_under (suc d) p x) e at in
@@ -204,3 +213,93 @@ module _ (items : List Item) where
               (tree_more before (suc d) p b t h n l) (omega arith)
               (λ q y z. none_there q (omega arith) (omega arith)) a both.1 past (omega arith))
         ]
+
+-- ---- a document
+
+none_behind : (b n : ℕ) → HasNoChildren b n []
+unfolding forest_from
+none_behind b n q l m = refl
+
+document_before : StandBefore (document_item ∷ [])
+unfolding forest_from
+document_before q rest l = refl
+
+abbrev html_item : Item
+html_item = item_under 1 0 (element_node (codes "html") [])
+
+body_above : (has_doctype : Bool) (content : ValueForest)
+    → IsAbove (stack_items has_doctype (with_children body content ∷ [])) 2 (length (items_above has_doctype)) below_body
+unfolding ancestors_up
+body_above false content = record { depth = refl; names = refl }
+body_above true content = record { depth = refl; names = refl }
+
+pub parts_without : (content : ValueForest) → are_content content ≡ true → (id : ℕ)
+    → 2 < depth_at (stack_items false (with_children body content ∷ [])) id
+    → id < length (stack_items false (with_children body content ∷ []))
+    → AreIn below_body content (ancestor_names (stack_items false (with_children body content ∷ [])) id)
+    (value_at (stack_items false (with_children body content ∷ [])) id)
+parts_without content a zero l m = absurd (omega arith)
+parts_without content a (suc zero) l m = absurd (omega arith)
+parts_without content a (suc (suc zero)) l m = absurd (omega arith)
+parts_without content a (suc (suc (suc zero))) l m = absurd (omega arith)
+parts_without content a (suc (suc (suc (suc id)))) l m =
+    let items : List Item = stack_items false (with_children body content ∷ []) in
+    let html : List Item = document_item ∷ html_item ∷ [] in
+    let head : List Item = html ++ item_under 2 1 (element_node (codes "head") []) ∷ [] in
+    let before : List Item = head ++ item_under 2 1 (element_node (codes "body") []) ∷ [] in
+    let n = length-forest_items content 3 3 4 in
+    forest_parts items content 2 3 4 (4 + id) below_body before []
+    (ap (λ (y : List Item). before ++ y) (sym (append-nil (forest_items 3 3 4 content)))) refl
+    (one_more head 2 1 (element_node (codes "body") [])
+    (one_more html 2 1 (element_node (codes "head") [])
+    (one_more (document_item ∷ []) 1 0 (element_node (codes "html") []) document_before (omega arith)) (omega arith))
+    (omega arith)) (omega arith) (none_behind 4 (4 + sizes content)) (body_above false content) a (omega arith)
+    (omega arith)
+
+pub parts_with : (content : ValueForest) → are_content content ≡ true → (id : ℕ)
+    → 2 < depth_at (stack_items true (with_children body content ∷ [])) id
+    → id < length (stack_items true (with_children body content ∷ []))
+    → AreIn below_body content (ancestor_names (stack_items true (with_children body content ∷ [])) id)
+    (value_at (stack_items true (with_children body content ∷ [])) id)
+parts_with content a zero l m = absurd (omega arith)
+parts_with content a (suc zero) l m = absurd (omega arith)
+parts_with content a (suc (suc zero)) l m = absurd (omega arith)
+parts_with content a (suc (suc (suc zero))) l m = absurd (omega arith)
+parts_with content a (suc (suc (suc (suc zero)))) l m = absurd (omega arith)
+parts_with content a (suc (suc (suc (suc (suc id))))) l m =
+    let items : List Item = stack_items true (with_children body content ∷ []) in
+    let type : List Item = document_item ∷ item_under 1 0 doctype_node ∷ [] in
+    let html : List Item = type ++ html_item ∷ [] in
+    let head : List Item = html ++ item_under 2 2 (element_node (codes "head") []) ∷ [] in
+    let before : List Item = head ++ item_under 2 2 (element_node (codes "body") []) ∷ [] in
+    let n = length-forest_items content 3 4 5 in
+    forest_parts items content 2 4 5 (5 + id) below_body before []
+    (ap (λ (y : List Item). before ++ y) (sym (append-nil (forest_items 3 4 5 content)))) refl
+    (one_more head 2 2 (element_node (codes "body") [])
+    (one_more html 2 2 (element_node (codes "head") [])
+    (one_more type 1 0 (element_node (codes "html") [])
+    (one_more (document_item ∷ []) 1 0 doctype_node document_before (omega arith)) (omega arith)) (omega arith))
+    (omega arith)) (omega arith) (none_behind 5 (5 + sizes content)) (body_above true content) a (omega arith)
+    (omega arith)
+
+-- ---- what was read is content
+
+mutual
+  tree_is_content : (rules : Rules) (t : ValueTree) (c : Context) (last : Bool) (s : List ℕ)
+      → ReadsTree rules c last t s → is_content t ≡ true
+  tree_is_content rules (document children) c last s h = absurd h
+  tree_is_content rules doctype c last s h = absurd h
+  tree_is_content rules (text u) c last s h = refl
+  tree_is_content rules (comment u) c last s h = refl
+  tree_is_content rules (element n attributes children) c last s h = elim (h.2) [
+    | inl a ↦ test (is_void n) (λ e. ap are_content ((rw e at (a.5)).2))
+        (λ e. forest_is_content rules children (n ∷ c) true (content_of n (a.1)) ((rw e at (a.5)).0))
+    | inr b ↦ forest_is_content rules children (n ∷ c) true (b.0) (b.6)
+  ]
+
+  pub forest_is_content : (rules : Rules) (ts : ValueForest) (c : Context) (last : Bool) (s : List ℕ)
+      → ReadsForest rules c last ts s → are_content ts ≡ true
+  forest_is_content rules none c last s h = refl
+  forest_is_content rules (more t ts) c last s h =
+      rw (tree_is_content rules t c (may_end_rows last ts (h.1)) (h.0) (h.4),
+      forest_is_content rules ts c last (h.1) (h.5)) refl

@@ -111,7 +111,7 @@ settled_closed old new has_doctype [] o h t i e close scripting = absurd h.are_o
 settled_closed old new has_doctype (f ∷ []) o h t i e close scripting =
     let flag : f.implied ≡ true = sym (ap (λ (y : OpenNode). y.implied) (t has_doctype f [] h)) ∙ i in
     let no_flag : f.implied ≡ false = h.are_open.2 in
-    (cc)
+    absurd (cc)
 settled_closed old new has_doctype (f ∷ g ∷ fs) o h t i e close scripting =
     let flag : f.implied ≡ true = sym (ap (λ (y : OpenNode). y.implied) (t has_doctype f (g ∷ fs) h)) ∙ i in
     let outer : g.implied ≡ false = outer_is_tag f g fs h.are_open flag in
@@ -133,7 +133,7 @@ implied_is_inner reader o r t i = each (r.2) (r.3)
     each [] h =
         let flag : (r.1).implied ≡ true = sym (ap (λ (y : OpenNode). y.implied) (t (r.0) (r.1) [] h)) ∙ i in
         let no_flag : (r.1).implied ≡ false = h.are_open.2 in
-        (cc)
+        absurd (cc)
     each (g ∷ fs) h =
         let n : length reader.stack.items ≡ suc (suc (length fs)) = ap length h.stack_is
         ∙ length-open_nodes reader.scripting (r.0) (r.1 ∷ g ∷ fs) in
@@ -242,7 +242,9 @@ pub raw_text_shorter : (old middle new : Reader) (has_doctype : Bool) (gs : List
     → OnOk r (length new.rest.now < length old.rest.now)
 raw_text_shorter old middle new has_doctype gs (Err stop) same left_over e f = tt
 raw_text_shorter old middle new has_doctype gs (Ok x) same left_over e f =
-    let n = raw_text_rest middle new has_doctype gs _ _ f in
+    let n = raw_text_rest middle new has_doctype gs (text_of (rules_of middle) (innermost_name gs)
+    (up_to (ends_text middle.scripting (innermost_name gs)) middle.rest.now))
+    (onward (ends_text middle.scripting (innermost_name gs)) middle.rest.now) f in
     let l = onward_shorter (ends_text middle.scripting (innermost_name gs)) middle.rest.now e
     (ap is_empty same ∙ left_over) in
     subst (λ t. length new.rest.now < length t) same (subst (λ t. length t < length middle.rest.now) (sym n) l)

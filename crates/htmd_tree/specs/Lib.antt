@@ -9,6 +9,7 @@ pub mod NumberedTrees
 pub mod Ancestors
 pub mod Views
 pub mod Layout
+pub mod Parts
 pub mod Entries
 pub mod Pieces
 pub mod PlaceFlags

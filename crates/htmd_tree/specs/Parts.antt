@@ -1,11 +1,12 @@
 -- The nodes of a document that was read, and the parts of the document that they are.
-use Rattle.std.specs.Prelude.{◌≡◌, ℕ, ◌<◌, Bool, true, false, ◌&&◌, List, [], length, map, codes}
-use Rattle.htmd_grammar.specs.ValueTrees.{AttributePair, ValueTree, document, doctype, text, comment, element}
+use Rattle.std.specs.Prelude.{◌≡◌, ℕ, ◌<◌, Bool, true, List, map}
+use Rattle.htmd_grammar.specs.ValueTrees.{AttributePair, ValueTree, document}
 use Rattle.htmd_grammar.specs.ValueTrees.{ValueForest, none, more}
 use Rattle.htmd_grammar.specs.Places.{Context}
-use Rattle.htmd_grammar.specs.Rules.{Rules, project}
-use Rattle.htmd_grammar.specs.Documents.{below_body, document_tree, body_text, ReadsDocument}
-use Rattle.htmd_grammar.specs.ReadBack.{AreIn, is_plain, DenotesAlone}
+use Rattle.htmd_grammar.specs.Rules.{project}
+use Rattle.htmd_grammar.specs.Documents.{ReadsDocument}
+use Rattle.htmd_grammar.specs.ReadBack.{is_plain, DenotesAlone}
+use Rattle.htmd_text.specs.BlankLines.{with_blank_lines}
 use Rattle.htmd_tree.specs.Items.{Item, element_node, data_at, depth_at}
 use Rattle.htmd_tree.specs.NumberedTrees.{tree_of, value_tree}
 use Rattle.htmd_tree.specs.Ancestors.{ancestors_of}
@@ -19,10 +20,13 @@ ancestor_names items id = map (λ a. a.tag) (ancestors_of items id)
 abbrev pub value_at : List Item → ℕ → ValueTree
 value_at items id = value_tree (tree_of items id)
 
--- In a tree that was read, a node below `body` is that part of the content of the document, under those ancestors.
-abbrev pub NodesAreParts : Type 0
-NodesAreParts =
-    (rules : Rules) (s : List ℕ) (content children : ValueForest) → ReadsDocument rules s (document children)
-    → document children ≡ document_tree s content
-    → (id : ℕ) → 2 < depth_at (document_items children) id → id < length (document_items children)
-    → AreIn below_body content (ancestor_names (document_items children) id) (value_at (document_items children) id)
+-- The text is a block of raw HTML of an element below `body` of a tree that was read. What stands between the blank lines
+-- denotes that element alone, in the context of its ancestors, unless it holds a carriage return, a comment, `pre`,
+-- `textarea` or a raw text element.
+abbrev pub IsReadBack : List Item → ℕ → List ℕ → Type 0
+IsReadBack items id block =
+    (scripting : Bool) (s : List ℕ) (children : ValueForest) → items ≡ document_items children
+    → ReadsDocument (project scripting) s (document children) → 2 < depth_at items id
+    → (name : List ℕ) (attributes : List AttributePair) → data_at items id ≡ element_node name attributes
+    → is_plain (value_at items id) ≡ true → (x : List ℕ) → block ≡ with_blank_lines x
+    → DenotesAlone (project scripting) (ancestor_names items id) x (more (value_at items id) none)

@@ -1,6 +1,6 @@
 //! The reader of HTML: a tree from a text of the strict grammar, or the first fault of any other text.
 ghost use Rattle.std.specs.Prelude.{◌≡◌, ◌∷◌, ◌<◌, ◌≤◌, ℕ, Bool, true, false, not, ◌&&◌, List, [], length, drop};
-ghost use Rattle.std.specs.Prelude.{OnOk, IfOk, IfErr, IsTrue, Ok, Err, if◌then◌else◌, codes, string_bytes};
+ghost use Rattle.std.specs.Prelude.{◌==◌, OnOk, IfOk, IfErr, IsTrue, Ok, Err, if◌then◌else◌, codes, string_bytes};
 ghost use Rattle.htmd_grammar.specs.CharacterClasses.{is_empty, first_is};
 ghost use Rattle.htmd_grammar.specs.Documents.{above_body};
 ghost use Rattle.htmd_grammar.specs.Places.{parent_name, is_table};
@@ -10,15 +10,14 @@ ghost use Rattle.htmd_grammar.specs.Steps.{OpenElement, is_too_deep, add, fault,
 ghost use Rattle.htmd_grammar.specs.Steps.{fresh, closed, with_tree, is_implied, ends_rows, raw_text_step};
 ghost use Rattle.htmd_grammar.specs.Steps.{declaration_step, start_tag_step, end_tag_step, markup_step};
 ghost use Rattle.htmd_grammar.specs.Documents.{ReadsDocument};
-ghost use Rattle.htmd_grammar.specs.Faults.{IsFault, IsFirstNul};
+ghost use Rattle.htmd_grammar.specs.Faults.{IsFault};
 ghost use Rattle.htmd_grammar.specs.Rules.{project};
-ghost use Rattle.htmd_grammar.specs.CharacterClasses.{lacks};
 ghost use Rattle.htmd_grammar.specs.ValueTrees.{ValueTree, ValueForest, document};
 ghost use Rattle.htmd_grammar.specs.declared.fault.FaultKind.{FaultKind};
 ghost use Rattle.htmd_grammar.specs.declared.fault.FaultKind.TheVariants.{TooDeep};
 ghost use Rattle.htmd_text.specs.Characters.{null};
 ghost use Rattle.htmd_tree.specs.Layout.{document_items};
-ghost use Rattle.std.specs.Option.{MatchOption};
+ghost use Rattle.std.specs.List.{position};
 ghost use Rattle.htmd_tree.specs.Views.{data_of, pairs_of};
 ghost use Rattle.htmd_tree.specs.Items.{holds_children, data_at};
 ghost use Rattle.htmd_tree.specs.OpenNodes.{Holds, IsReading, MayOpen, innermost_name, open_node};
@@ -250,7 +249,7 @@ impl<'a> Reader<'a> {
 
 /// Where the first U+0000 stands.
 fn first_null(text: &str) -> Option<usize>
-    ensures { MatchOption result (lacks null text.now ≡ true) (λ place. IsFirstNul text.now place) }
+    ensures { result ≡ position (λ b. b == null) text.now }
 {
     text.as_bytes().iter().position(|b| *b == 0)
 }

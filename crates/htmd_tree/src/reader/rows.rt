@@ -4,6 +4,7 @@ ghost use Rattle.std.specs.Str.{bytes_eq};
 ghost use Rattle.std.specs.Char.{to_ascii_lowercase};
 ghost use Rattle.htmd_grammar.specs.CharacterClasses as classes;
 ghost use Rattle.htmd_grammar.specs.OpenElements as spec;
+ghost use Rattle.htmd_grammar.specs.Places as places;
 
 fn is_tag_name_byte(byte: u8) -> bool
     ensures { result ≡ classes.is_tag_name_byte byte }
@@ -31,19 +32,25 @@ fn is_tag_name(bytes: &[u8], name: &[u8]) -> bool
     }
 }
 
+/// Whether the name of a part of a table stands here.
+fn is_table_part(bytes: &[u8]) -> bool
+    ensures { result ≡ places.is_table_part
+        (map to_ascii_lowercase (classes.leading_run classes.is_tag_name_byte bytes.now)) }
+{
+    is_tag_name(bytes, b"caption")
+        || is_tag_name(bytes, b"colgroup")
+        || is_tag_name(bytes, b"thead")
+        || is_tag_name(bytes, b"tbody")
+        || is_tag_name(bytes, b"tfoot")
+}
+
 /// Whether an implied `tbody` ends here: before a part of the table, or at the table's end.
 pub(super) fn ends_rows(bytes: &[u8]) -> bool
     ensures { result ≡ spec.ends_rows bytes.now }
 {
     match bytes {
         [b'<', b'/', name @ ..] => is_tag_name(name, b"table"),
-        [b'<', name @ ..] => {
-            is_tag_name(name, b"caption")
-                || is_tag_name(name, b"colgroup")
-                || is_tag_name(name, b"thead")
-                || is_tag_name(name, b"tbody")
-                || is_tag_name(name, b"tfoot")
-        }
+        [b'<', c, ..] if c.is_ascii_alphabetic() => is_table_part(&bytes[1..]),
         _ => false,
     }
 }
