@@ -1,6 +1,6 @@
 -- What a document is that was read to its end, or up to a fault.
 use Rattle.std.proofs.Common.{◌≡◌, ℕ, ◌+◌, ◌-◌, ◌<◌, ◌≤◌, Bool, true, false, List, [], ◌∷◌, ◌++◌, length, Option, Some, None}
-use Rattle.std.proofs.Common.{refl, sym, ap, ◌∙◌, subst, arith, Ok, Err, is_some, inl, inr, codes, ◌&&◌, ◌==◌, not}
+use Rattle.std.proofs.Common.{refl, sym, ap, ◌∙◌, subst, arith, Ok, Err, Result, is_some, inl, inr, codes, ◌&&◌, ◌==◌, not}
 use Rattle.std.proofs.Common.{eqb-true}
 use Rattle.std.specs.Prelude.{nat_lt}
 use Rattle.std.specs.List.{position, position_or_len}
@@ -26,6 +26,8 @@ use Rattle.htmd_tree.specs.OpenNodes.{stack_items}
 use Rattle.htmd_tree.specs.Advances.{Ends, place, rules_of}
 use Rattle.htmd_tree.specs.declared.reader.Reader.{Reader}
 use Rattle.htmd_tree.specs.declared.reader.Stop.TheVariants.{Refused}
+use Rattle.htmd_tree.specs.declared.reader.ReadError.{ReadError}
+use Rattle.htmd_tree.specs.declared.reader.ReadError.TheVariants.{Refused as RefusedAt}
 
 -- a document is laid out as the items of `body`, which is open
 pub laid_out : (o : Option (List ℕ)) (content : ValueForest)
@@ -133,3 +135,19 @@ module _ (old new : Reader) (scripting : Bool) (s : List ℕ) (left : ℕ) (kind
   pub fault_refuses : FaultsRefuseDocuments (project scripting) → (t : ValueTree)
       → ReadsDocument (project scripting) s t → ⊥
   fault_refuses law t r = law s (e.0) kind fault_reached fault_found (e.3) t r
+
+pub null_found : (s : List ℕ) (o : Option ℕ) (place : ℕ) → o ≡ position is_null s → o ≡ Some place → IsFirstNul s place
+null_found s o place e f =
+    subst (λ x. MatchOption x (lacks null s ≡ true) (λ k. IsFirstNul s k)) f (first_null_is s o e)
+
+pub null_lacks : (s : List ℕ) (o : Option ℕ) → o ≡ position is_null s → o ≡ None → lacks null s ≡ true
+null_lacks s o e f = subst (λ x. MatchOption x (lacks null s ≡ true) (λ k. IsFirstNul s k)) f (first_null_is s o e)
+
+pub same_refusal : {T : Type 0} (p q : ℕ) (k l : FaultKind)
+    → ◌≡◌ {A = Result T ReadError} (Err (RefusedAt p k)) (Err (RefusedAt q l)) → (p ≡ q) × (k ≡ l)
+same_refusal p q k l e = (cc, cc)
+
+pub nul_is_right : (scripting : Bool) (s : List ℕ) (found place : ℕ) (kind : FaultKind) → IsFirstNul s found
+    → (found ≡ place) × (Nul ≡ kind) → IsFault (project scripting) s place kind
+nul_is_right scripting s found place kind n e =
+    inl (sym (e.1), subst (λ k. IsFirstNul s k) (e.0) n)

@@ -182,7 +182,8 @@ module _ (items : List Item) where
           | inl inside ↦ inr (forest_parts children (suc d) b (suc b) k (name ∷ c) (before ++ x ∷ []) rest
               (e ∙ sym (append_assoc before (x ∷ []) (inner ++ rest))) count
               (one_more before (suc d) p (element_node name attributes) h (omega arith)) (omega arith)
-              (λ q y z. none_there q (omega arith) (omega arith))
+              (λ q y z. renumbered (suc b + sizes children) (b + suc (sizes children)) q rest (omega arith)
+              ∙ none_there q (omega arith) (omega arith))
               (below_is d p b (element_node name attributes) at name attributes c refl a) i (omega arith) (omega arith))
           | inr out ↦ let same : b ≡ k = omega arith in
               subst (λ j. IsIn c (element name attributes children) (ancestor_names items j) (value_at items j)) same
@@ -211,7 +212,8 @@ module _ (items : List Item) where
           | inr past ↦ inr (forest_parts ts d p (b + size t) k c (before ++ first) rest
               (whole ∙ sym (append_assoc before first (later ++ rest))) count
               (tree_more before (suc d) p b t h n l) (omega arith)
-              (λ q y z. none_there q (omega arith) (omega arith)) a both.1 past (omega arith))
+              (λ q y z. renumbered ((b + size t) + sizes ts) (b + (size t + sizes ts)) q rest (omega arith)
+              ∙ none_there q (omega arith) (omega arith)) a both.1 past (omega arith))
         ]
 
 -- ---- a document

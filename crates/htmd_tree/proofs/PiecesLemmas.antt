@@ -1,6 +1,6 @@
 -- How the pieces of a document and their order are the grammar's steps.
 use Rattle.std.proofs.Common.{◌≡◌, ℕ, suc, ◌+◌, ◌<◌, ◌≤◌, Bool, true, false, cond, ◌&&◌, ◌||◌, ◌==◌, List, [], ◌∷◌, length}
-use Rattle.std.proofs.Common.{refl, sym, ap, ◌∙◌, subst, arith, Ok, Err, Option, Some, None, drop, OnOk, codes}
+use Rattle.std.proofs.Common.{refl, sym, ap, ◌∙◌, subst, arith, Ok, Err, Option, Some, None, drop, OnOk, codes, not}
 use Rattle.std.specs.Str.{bytes_eq}
 use Rattle.std.proofs.lemmas.Slice.Eq.{bytes_eq-Decides}
 use Rattle.htmd_text.proofs.Cases.{test}
@@ -65,6 +65,14 @@ no_markup_at_end scripting n = test (holds_text_alone scripting n) (λ e. rw e r
 end_is : (rules : Rules) (fs : List OpenElement) → step rules above_body (place fs []) ≡ Err Unclosed
 unfolding step
 end_is rules fs = rw (no_rows_at_end (is_implied fs), no_markup_at_end rules.scripting (innermost_name fs)) refl
+
+pub not_true : (x : Bool) → not x ≡ true → x ≡ false
+not_true true e = absurd (cc)
+not_true false e = refl
+
+pub not_false : (x : Bool) → not x ≡ false → x ≡ true
+not_false true e = refl
+not_false false e = absurd (cc)
 
 -- ---- an implied `tbody`
 
@@ -204,12 +212,10 @@ pub markup_begins : (scripting : Bool) (n s : List ℕ) → ends_text scripting 
 markup_begins scripting n [] e = let k = no_markup_at_end scripting n in (cc)
 markup_begins scripting n (b ∷ []) e = test (holds_text_alone scripting n) (λ h. let k = rw h at e in (cc))
     (λ h. let k = rw h at e in (cc))
-markup_begins scripting n (b ∷ c ∷ s) e = test (holds_text_alone scripting n)
-    (λ h. and_left (b == less_than_sign) _ (rw h at e)) (λ h. and_left (b == less_than_sign) _ (rw h at e))
-  where
-    and_left : (x y : Bool) → (x && y) ≡ true → x ≡ true
-    and_left true y e = refl
-    and_left false y e = e
+markup_begins scripting n (b ∷ c ∷ s) e =
+    test (b == less_than_sign) (λ y. y) (λ q. test (holds_text_alone scripting n)
+    (λ h. let k = rw h at e in let m = rw q at k in absurd (cc))
+    (λ h. let k = rw h at e in let m = rw q at k in absurd (cc)))
 
 -- text without references is not empty
 length-onward : (stop : List ℕ → Bool) (s : List ℕ) → length (onward stop s) ≤ length s
