@@ -250,7 +250,7 @@ parts_without content a (suc (suc (suc (suc id)))) l m =
     let head : List Item = html ++ item_under 2 1 (element_node (codes "head") []) ∷ [] in
     let before : List Item = head ++ item_under 2 1 (element_node (codes "body") []) ∷ [] in
     let n = length-forest_items content 3 3 4 in
-    forest_parts items content 2 3 4 (4 + id) below_body before []
+    forest_parts items content 2 3 4 (suc (suc (suc (suc id)))) below_body before []
     (ap (λ (y : List Item). before ++ y) (sym (append-nil (forest_items 3 3 4 content)))) refl
     (one_more head 2 1 (element_node (codes "body") [])
     (one_more html 2 1 (element_node (codes "head") [])
@@ -275,7 +275,7 @@ parts_with content a (suc (suc (suc (suc (suc id))))) l m =
     let head : List Item = html ++ item_under 2 2 (element_node (codes "head") []) ∷ [] in
     let before : List Item = head ++ item_under 2 2 (element_node (codes "body") []) ∷ [] in
     let n = length-forest_items content 3 4 5 in
-    forest_parts items content 2 4 5 (5 + id) below_body before []
+    forest_parts items content 2 4 5 (suc (suc (suc (suc (suc id))))) below_body before []
     (ap (λ (y : List Item). before ++ y) (sym (append-nil (forest_items 3 4 5 content)))) refl
     (one_more head 2 2 (element_node (codes "body") [])
     (one_more html 2 2 (element_node (codes "head") [])
