@@ -17,6 +17,7 @@ pub mod ValuesLemmas
 pub mod ContentsLemmas
 pub mod TagStepsLemmas
 pub mod TagAnswersLemmas
+pub mod PreludeLemmas
 pub mod PartsLemmas
 pub mod RawBlockLemmas
 mod Examples
