@@ -2,8 +2,8 @@
 pub mod SerialisationLemmas
 pub mod RawBlocksLemmas
 mod Examples
-mod BooleanLemmas
-mod PlacesLemmas
+pub mod BooleanLemmas
+pub mod PlacesLemmas
 mod ReferencedLineFeeds
 mod EscapeLemmas
 mod TagNamesLemmas
@@ -11,7 +11,7 @@ mod TagsLemmas
 mod ReadBackLemmas
 mod TagReadingLemmas
 mod TagSpellingLemmas
-mod TextLemmas
+pub mod TextLemmas
 mod CommentsLemmas
 mod ReferencesLemmas
 mod TreeTexts

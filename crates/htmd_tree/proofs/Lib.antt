@@ -20,4 +20,12 @@ pub mod TagAnswersLemmas
 pub mod PreludeLemmas
 pub mod PartsLemmas
 pub mod RawBlockLemmas
+pub mod CharacterClassesLemmas
+pub mod CommentTextsLemmas
+pub mod DecodedCharactersLemmas
+pub mod RawContentLemmas
+pub mod TextRunsLemmas
+pub mod LineEndsLemmas
+pub mod DecodedValuesLemmas
+pub mod TextsLemmas
 mod Examples

@@ -11,9 +11,10 @@ pub mod Views
 pub mod Layout
 pub mod Parts
 pub mod Entries
-pub mod Pieces
+pub mod DecodedCharacters
 pub mod PlaceFlags
 pub mod OpenNodes
 pub mod Advances
 pub mod Runs
 pub mod TagParts
+pub mod TextRuns

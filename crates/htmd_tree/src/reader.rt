@@ -42,6 +42,7 @@ mod runs;
 mod scan;
 mod tag_names;
 mod tags;
+mod text_runs;
 mod texts;
 mod values;
 

@@ -1,10 +1,12 @@
 //! Characters and character references (HTML Standard, 13.1.4).
-ghost use Rattle.std.specs.Prelude.{◌≡◌, ◌≤◌, ◌<◌, ◌+◌, ℕ, Bool, length, drop, map, min, None, Some, if◌then◌else◌};
+ghost use Rattle.std.specs.Prelude.{◌≡◌, ◌≤◌, ◌<◌, ◌+◌, ℕ, Bool, length, drop, map, min, None};
+ghost use Rattle.std.specs.Prelude.{Some, if◌then◌else◌, false, IfOk};
 ghost use Rattle.std.specs.Char.{is_ascii_digit, is_ascii_hexdigit};
-ghost use Rattle.htmd_grammar.specs.CharacterClasses.{leading_run};
+ghost use Rattle.htmd_grammar.specs.CharacterClasses.{first_is, leading_run};
 ghost use Rattle.htmd_grammar.specs.References as spec;
+ghost use Rattle.htmd_text.specs.Characters.{number_sign, semicolon};
 ghost use Rattle.htmd_grammar.specs.Rules as rules;
-ghost use Rattle.htmd_tree.specs.Pieces.{entry, piece_of};
+ghost use Rattle.htmd_tree.specs.DecodedCharacters.{entry, piece_of, IsPieceEnd};
 
 use crate::reader::scan::{
     alphanumeric_len, begins_in_any_case, digits_len, first_is, hexdigits_len,
@@ -74,7 +76,7 @@ fn character_named(name: &[u8], names: &[(&str, char)]) -> Option<char>
     ensures { result ≡ rules.character_named (map entry names.now) name.now }
 {
     for (known, character) in names {
-        if known.as_bytes() == name {
+        if name == known.as_bytes() {
             return Some(*character);
         }
     }
@@ -105,11 +107,21 @@ fn number(digits: &[u8], base: u32) -> u32
     sum
 }
 
+/// Whether this is the number of a control above ASCII.
+fn is_control(number: u32) -> bool
+    ensures { result ≡ spec.is_between 0x80 0x9F number }
+{
+    0x80 <= number && number <= 0x9F
+}
+
 /// The character of this number, where a reference may name it.
 fn character_numbered(number: u32) -> Option<char>
     ensures { result ≡ if spec.may_be_numbered number then Some number else None }
 {
-    if number == 0 || 0x80 <= number && number <= 0x9F {
+    if number == 0 {
+        return None;
+    }
+    if is_control(number) {
         return None;
     }
     char::from_u32(number)
@@ -125,8 +137,10 @@ fn reference_by_number(
     requires small { base ≤ 16 }
     requires base { 0 < base }
     requires within { from + len ≤ length behind.now }
-    ensures { (is_digit : ℕ → Bool) → len ≡ length (leading_run is_digit (drop from behind.now))
+    ensures piece { (is_digit : ℕ → Bool) → is_digit semicolon ≡ false
+        → len ≡ length (leading_run is_digit (drop from behind.now))
         → piece_of result ≡ spec.number_at is_digit base from (drop from behind.now) }
+    ensures end { IfOk result (λ c. IsPieceEnd behind.now c.behind) }
 {
     let end = from + len;
     if len == 0 || !first_is(&behind[end..], b';') {
@@ -142,7 +156,11 @@ fn reference_by_number(
 }
 
 /// A reference by a name, or `&` itself.
-fn reference_by_name(behind: &[u8]) -> Result<Character, FaultKind> {
+fn reference_by_name(behind: &[u8]) -> Result<Character, FaultKind>
+    requires { first_is number_sign behind.now ≡ false }
+    ensures piece { piece_of result ≡ spec.behind_ampersand rules.named_characters behind.now }
+    ensures end { IfOk result (λ c. IsPieceEnd behind.now c.behind) }
+{
     let len = alphanumeric_len(behind);
     if len == 0 || !first_is(&behind[len..], b';') {
         return Ok(Character {
@@ -161,7 +179,8 @@ fn reference_by_name(behind: &[u8]) -> Result<Character, FaultKind> {
 
 /// What `&` and what stands behind it begin with: a reference, or `&` itself.
 fn reference(behind: &[u8]) -> Result<Character, FaultKind>
-    ensures { piece_of result ≡ spec.behind_ampersand rules.named_characters behind.now }
+    ensures piece { piece_of result ≡ spec.behind_ampersand rules.named_characters behind.now }
+    ensures end { IfOk result (λ c. IsPieceEnd behind.now c.behind) }
 {
     if !first_is(behind, b'#') {
         return reference_by_name(behind);
@@ -179,7 +198,8 @@ fn reference(behind: &[u8]) -> Result<Character, FaultKind>
 /// line feed.
 pub(crate) fn character_at(first: u8, behind: &[u8]) -> Result<Character, FaultKind>
     requires { first < 128 }
-    ensures { piece_of result ≡ spec.piece_at rules.named_characters first behind.now }
+    ensures piece { piece_of result ≡ spec.piece_at rules.named_characters first behind.now }
+    ensures end { IfOk result (λ c. IsPieceEnd behind.now c.behind) }
 {
     match first {
         b'&' => reference(behind),

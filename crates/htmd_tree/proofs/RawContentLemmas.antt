@@ -1,0 +1,50 @@
+-- A script with a comment and a script in it.
+use Rattle.std.proofs.Common.{◌≡◌, ℕ, ◌+◌, ◌-◌, ◌<◌, Bool, true, false, ◌&&◌, ◌||◌, List}
+use Rattle.std.proofs.Common.{[], ◌∷◌, length, take, drop}
+use Rattle.std.proofs.Common.{get_or, codes, refl, ap, sym, ◌∙◌, arith}
+use Rattle.std.proofs.lemmas.List.{drop_more}
+use Rattle.std.proofs.lemmas.Slice.{between_to_end}
+use Rattle.htmd_grammar.specs.CharacterClasses.{begins_with, begins_in_any_case, holds_in_any_case}
+use Rattle.htmd_grammar.specs.RawContent.{has_script_escape}
+
+-- whether the rest has what is still to come
+abbrev pub goes_on : Bool → List ℕ → Bool
+goes_on escaped s = (escaped && holds_in_any_case (codes "<script") s) || has_script_escape s
+
+absorbed : (x y z : Bool) → (x || ((y && x) || z)) ≡ (x || z)
+absorbed true y z = refl
+absorbed false true z = refl
+absorbed false false z = refl
+
+rest_of : (s : List ℕ) (i : ℕ) → take (length s - i) (drop i s) ≡ drop i s
+rest_of s i = between_to_end s i (length s) (omega arith)
+
+-- behind `<!--`, where no `<script` stands here
+pub script_later : (s : List ℕ) (i : ℕ) (r : Bool) → i < length s
+    → r ≡ begins_in_any_case (codes "<script") (take (length s - i) (drop i s)) → r ≡ false
+    → goes_on true (drop (i + 1) s) ≡ goes_on true (drop i s)
+script_later s i r l e q =
+    let d = drop_more s i 0 l in
+    let no : begins_in_any_case (codes "<script") (get_or s i 0 ∷ drop (i + 1) s) ≡ false =
+    ap (begins_in_any_case (codes "<script")) (sym d ∙ sym (rest_of s i)) ∙ sym e ∙ q in
+    rw d (rw no (sym (absorbed (holds_in_any_case (codes "<script") (drop (i + 1) s))
+    (begins_with (codes "<!--") (get_or s i 0 ∷ drop (i + 1) s)) (has_script_escape (drop (i + 1) s)))))
+
+pub script_here : (s : List ℕ) (i : ℕ) (r : Bool) → i < length s
+    → r ≡ begins_in_any_case (codes "<script") (take (length s - i) (drop i s)) → r ≡ true
+    → goes_on true (drop i s) ≡ true
+script_here s i r l e q =
+    let d = drop_more s i 0 l in
+    let yes : begins_in_any_case (codes "<script") (get_or s i 0 ∷ drop (i + 1) s) ≡ true =
+    ap (begins_in_any_case (codes "<script")) (sym d ∙ sym (rest_of s i)) ∙ sym e ∙ q in
+    rw d (rw yes refl)
+
+-- before `<!--`, or at it
+pub escape_more : (s : List ℕ) (i : ℕ) (r : Bool) → i < length s
+    → r ≡ begins_with (codes "<!--") (take (length s - i) (drop i s))
+    → goes_on r (drop (i + 1) s) ≡ goes_on false (drop i s)
+escape_more s i r l e =
+    let d = drop_more s i 0 l in
+    let here : begins_with (codes "<!--") (get_or s i 0 ∷ drop (i + 1) s) ≡ r =
+    ap (begins_with (codes "<!--")) (sym d ∙ sym (rest_of s i)) ∙ sym e in
+    rw d (rw here refl)
