@@ -1,5 +1,7 @@
 //! What is kept of an open element and its ancestors, so that asking what may stand there costs the same at any depth.
-ghost use Rattle.std.specs.Prelude.{◌≡◌, ◌∷◌, Bool};
+ghost use Rattle.std.specs.Prelude.{◌≡◌, ◌||◌, ◌&&◌, not, false, [], ◌∷◌, Bool, codes};
+ghost use Rattle.std.specs.Str.{bytes_eq};
+ghost use Rattle.htmd_grammar.specs.CharacterClasses.{is_among};
 ghost use Rattle.htmd_grammar.specs.Documents.{below_body};
 ghost use Rattle.htmd_grammar.specs.Places as spec;
 ghost use Rattle.htmd_grammar.specs.RawContent as raw;
@@ -159,6 +161,58 @@ fn holds_parts(name: &str) -> bool
     )
 }
 
+/// Whether in an element of this name stand rows.
+fn holds_rows(name: &str) -> bool
+    ensures { result ≡ spec.holds_rows name.now }
+{
+    matches!(name, "thead" | "tbody" | "tfoot")
+}
+
+/// Whether this is that name.
+fn is_named(name: &str, wanted: &str) -> bool
+    ensures { result ≡ (bytes_eq name.now wanted.now || false) }
+{
+    name == wanted
+}
+
+/// Whether an element of that name is open in one of this name.
+fn opens(name: &str, wanted: &str, above: bool) -> bool
+    ensures { result ≡ ((bytes_eq name.now wanted.now || false) || above) }
+{
+    is_named(name, wanted) || above
+}
+
+/// Whether an `optgroup` or an `option` is open in an element of this name.
+fn opens_options(name: &str, above: bool) -> bool
+    ensures { result ≡ (is_among (codes "optgroup" ∷ codes "option" ∷ []) name.now || above) }
+{
+    matches!(name, "optgroup" | "option") || above
+}
+
+/// Whether an `li` is open, in no list inside it, in an element of this name.
+fn opens_item(name: &str, above: bool) -> bool
+    ensures { result ≡ (is_among (codes "li" ∷ []) name.now
+        || (not (is_among (codes "ul" ∷ codes "ol" ∷ codes "menu" ∷ codes "dir" ∷ []) name.now) && above)) }
+{
+    match name {
+        "li" => true,
+        "ul" | "ol" | "menu" | "dir" => false,
+        _ => above,
+    }
+}
+
+/// Whether a `dd` or `dt` is open, in no `dl` inside it, in an element of this name.
+fn opens_description(name: &str, above: bool) -> bool
+    ensures { result ≡ (is_among (codes "dd" ∷ codes "dt" ∷ []) name.now
+        || (not (is_among (codes "dl" ∷ []) name.now) && above)) }
+{
+    match name {
+        "dd" | "dt" => true,
+        "dl" => false,
+        _ => above,
+    }
+}
+
 impl Place {
     /// What is kept of `body`.
     pub(crate) fn of_body(scripting: bool) -> Place
@@ -198,24 +252,24 @@ impl Place {
             text_alone: holds_text_alone(name, scripting),
             raw_text: holds_raw_text(name, scripting),
             parts: holds_parts(name),
-            table: name == "table",
-            rows: matches!(name, "thead" | "tbody" | "tfoot"),
-            row: name == "tr",
-            columns: name == "colgroup",
-            select: name == "select",
-            option_group: name == "optgroup",
-            option: name == "option",
+            table: is_named(name, "table"),
+            rows: holds_rows(name),
+            row: is_named(name, "tr"),
+            columns: is_named(name, "colgroup"),
+            select: is_named(name, "select"),
+            option_group: is_named(name, "optgroup"),
+            option: is_named(name, "option"),
             heading: is_heading(name),
-            open_p: name == "p" || self.open_p,
-            open_a: name == "a" || self.open_a,
-            open_button: name == "button" || self.open_button,
-            open_form: name == "form" || self.open_form,
-            open_nobr: name == "nobr" || self.open_nobr,
-            open_select: name == "select" || self.open_select,
-            open_option: name == "option" || self.open_option,
-            open_options: matches!(name, "optgroup" | "option") || self.open_options,
-            item: name == "li" || !matches!(name, "ul" | "ol" | "menu" | "dir") && self.item,
-            description: matches!(name, "dd" | "dt") || name != "dl" && self.description,
+            open_p: opens(name, "p", self.open_p),
+            open_a: opens(name, "a", self.open_a),
+            open_button: opens(name, "button", self.open_button),
+            open_form: opens(name, "form", self.open_form),
+            open_nobr: opens(name, "nobr", self.open_nobr),
+            open_select: opens(name, "select", self.open_select),
+            open_option: opens(name, "option", self.open_option),
+            open_options: opens_options(name, self.open_options),
+            item: opens_item(name, self.item),
+            description: opens_description(name, self.description),
         }
     }
 

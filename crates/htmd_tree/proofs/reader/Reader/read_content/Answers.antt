@@ -17,7 +17,7 @@ pub returns-in_err-read_piece : goal.returns-in_err-read_piece
 returns-in_err-read_piece c = record {
   ends = λ has_doctype fs h.
       let stop = c.in_err-read_piece.field-0.0 in
-      let e : c.from_residual.result ≡ Err stop = first_of (cc c.from_residual.ensures, search (rules, c.from_residual.ensures), search rules) in
+      let e : c.from_residual.result ≡ Err stop = first_of (search rules, search (rules, c.from_residual.ensures)) in
       subst (λ r. Ends c.args.self.now c.read_piece.new.self has_doctype fs r) (sym e)
       (read_stops c.args.self.now c.loop-self.self c.read_piece.new.self has_doctype fs stop
       (c.loop-self.invariant.1 has_doctype fs h) c.in_err-read_piece.ensures.advances);
