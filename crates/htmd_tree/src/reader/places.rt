@@ -6,6 +6,7 @@ ghost use Rattle.htmd_grammar.specs.Documents.{below_body};
 ghost use Rattle.htmd_grammar.specs.Places as spec;
 ghost use Rattle.htmd_grammar.specs.RawContent as raw;
 ghost use Rattle.htmd_tree.specs.PlaceFlags.{place_of};
+ghost use Rattle.htmd_tree.specs.PlaceFlags as flags;
 
 /// What is kept of an open element and its ancestors.
 #[derive(Clone, Copy, Drop)]
@@ -274,7 +275,9 @@ impl Place {
     }
 
     /// Whether a part of a table of this name, or another element, may stand here as tables go.
-    fn fits_table(self, name: &str) -> bool {
+    fn fits_table(self, name: &str) -> bool
+        ensures { result ≡ flags.flags_fit_table self name.now }
+    {
         if is_table_part(name) {
             return self.table;
         }
@@ -287,18 +290,22 @@ impl Place {
     }
 
     /// Whether an element of this name may stand here as `select` goes.
-    fn fits_select(self, name: &str) -> bool {
+    fn fits_select(self, name: &str) -> bool
+        ensures { result ≡ flags.flags_fit_select self name.now }
+    {
         if self.select {
-            matches!(name, "option" | "optgroup")
-        } else if self.option_group {
-            name == "option"
-        } else {
-            !self.option
+            return matches!(name, "option" | "optgroup");
         }
+        if self.option_group {
+            return matches!(name, "option");
+        }
+        !self.option
     }
 
-    /// Whether an element that doesn't stand in itself is open.
-    fn is_open(self, name: &str) -> bool {
+    /// Whether an element of this name, which doesn't stand in itself, is open.
+    fn is_open(self, name: &str) -> bool
+        ensures { result ≡ flags.own_flag self name.now }
+    {
         match name {
             "a" => self.open_a,
             "button" => self.open_button,
@@ -306,31 +313,31 @@ impl Place {
             "nobr" => self.open_nobr,
             "select" => self.open_select,
             "option" => self.open_option,
-            "optgroup" => self.open_options,
             _ => false,
         }
     }
 
     /// Whether an element of this name may stand here as the open elements go.
-    fn fits_open_elements(self, name: &str) -> bool {
-        !(self.open_p && closes_paragraph(name))
+    fn fits_open_elements(self, name: &str) -> bool
+        ensures { result ≡ flags.flags_fit_open_elements self name.now }
+    {
+        !(closes_paragraph(name) && self.open_p)
             && !self.is_open(name)
-            && !(self.heading && is_heading(name))
+            && !(is_named(name, "optgroup") && self.open_options)
+            && !(is_heading(name) && self.heading)
     }
 
     /// Whether an element of this name may stand here as lists go.
-    fn fits_lists(self, name: &str) -> bool {
-        match name {
-            "li" => !self.item,
-            "dd" | "dt" => !self.description,
-            _ => true,
-        }
+    fn fits_lists(self, name: &str) -> bool
+        ensures { result ≡ flags.flags_fit_lists self name.now }
+    {
+        !(is_named(name, "li") && self.item)
+            && !(matches!(name, "dd" | "dt") && self.description)
     }
 
-    /// Whether an element of this name may stand here.
-    pub(crate) fn allows(self, name: &str) -> bool
-        ensures { (scripting : Bool) (c : spec.Context) → self ≡ place_of scripting c
-            → result ≡ spec.is_allowed scripting c name.now }
+    /// Whether all that is kept lets an element of this name stand here.
+    fn fits(self, name: &str) -> bool
+        ensures { result ≡ flags.flags_allow self name.now }
     {
         !is_outside(name)
             && !self.text_alone
@@ -338,5 +345,13 @@ impl Place {
             && self.fits_select(name)
             && self.fits_open_elements(name)
             && self.fits_lists(name)
+    }
+
+    /// Whether an element of this name may stand here.
+    pub(crate) fn allows(self, name: &str) -> bool
+        ensures { (scripting : Bool) (c : spec.Context) → self ≡ place_of scripting c
+            → result ≡ spec.is_allowed scripting c name.now }
+    {
+        self.fits(name)
     }
 }
