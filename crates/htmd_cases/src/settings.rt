@@ -9,6 +9,8 @@ use std::alloc::{AllocError, Global};
 pub(crate) enum Question {
     /// the Markdown of the paragraph that has this text
     Text,
+    /// the HTML of the Document that this text denotes
+    Read,
 }
 
 /// The settings of a case.
@@ -35,6 +37,7 @@ impl Settings {
         for word in words.split_whitespace() {
             match word {
                 "text" => question = Some(Question::Text),
+                "read" => question = Some(Question::Read),
                 _ => settings.set(alloc, word)?,
             }
         }

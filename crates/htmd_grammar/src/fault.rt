@@ -1,4 +1,5 @@
 //! What is wrong at a place of a text.
+use std::fmt;
 
 /// The kind of a refusal: what stands at its place. Where two fit the same piece, it is the earlier one here.
 #[derive(Clone, Copy, Debug, PartialEq, Eq)]
@@ -33,4 +34,27 @@ pub enum FaultKind {
     ScriptEscape,
     /// A node too many levels below the Document.
     TooDeep,
+}
+
+/// The name of the kind.
+impl fmt::Display for FaultKind {
+    fn fmt<W: fmt::Write>(&self, f: &mut fmt::Formatter<W>) -> fmt::Result {
+        f.write_str(match self {
+            FaultKind::Nul => "Nul",
+            FaultKind::MalformedTag => "MalformedTag",
+            FaultKind::MalformedComment => "MalformedComment",
+            FaultKind::MalformedDeclaration => "MalformedDeclaration",
+            FaultKind::UnknownReference => "UnknownReference",
+            FaultKind::BadNumber => "BadNumber",
+            FaultKind::DuplicateAttribute => "DuplicateAttribute",
+            FaultKind::SelfClosing => "SelfClosing",
+            FaultKind::TagOutside => "TagOutside",
+            FaultKind::NotAllowedHere => "NotAllowedHere",
+            FaultKind::StrayEndTag => "StrayEndTag",
+            FaultKind::StrayText => "StrayText",
+            FaultKind::Unclosed => "Unclosed",
+            FaultKind::ScriptEscape => "ScriptEscape",
+            FaultKind::TooDeep => "TooDeep",
+        })
+    }
 }

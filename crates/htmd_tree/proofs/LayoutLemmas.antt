@@ -17,12 +17,12 @@ module _ (d p b : ℕ) (node_data : Data) (rest : List Item) where
   own_first = let same : eqb p p ≡ true = grind (arith, nat_tests) in rw same refl
 
   -- a child of another node gives none
-  other_first : (q : ℕ) → p ≢ q → forest_from b (item_under d p node_data ∷ rest) q ≡ forest_from (suc b) rest q
+  pub other_first : (q : ℕ) → p ≢ q → forest_from b (item_under d p node_data ∷ rest) q ≡ forest_from (suc b) rest q
   unfolding forest_from
   other_first q apart = let other : eqb p q ≡ false = grind (arith, nat_tests) in rw other refl
 
 -- the items that are numbered from one number or from an equal one
-renumbered : (b n p : ℕ) (rest : List Item) → n ≡ b → forest_from b rest p ≡ forest_from n rest p
+pub renumbered : (b n p : ℕ) (rest : List Item) → n ≡ b → forest_from b rest p ≡ forest_from n rest p
 renumbered b n p rest e = ap (λ k. forest_from k rest p) (sym e)
 
 mutual
@@ -42,7 +42,7 @@ mutual
       other_first d p b (element_node name attributes) (forest_items (suc d) b (suc b) children ++ rest) q apart
       ∙ forest_items-skip children (suc d) b (suc b) n q rest (omega arith) (omega arith) (omega arith)
 
-  forest_items-skip : (ts : ValueForest) (d p b n q : ℕ) (rest : List Item) → n ≡ b + sizes ts → p ≢ q → q < b
+  pub forest_items-skip : (ts : ValueForest) (d p b n q : ℕ) (rest : List Item) → n ≡ b + sizes ts → p ≢ q → q < b
       → forest_from b (forest_items d p b ts ++ rest) q ≡ forest_from n rest q
   forest_items-skip none d p b n q rest e apart l = renumbered b n q rest (omega arith)
   forest_items-skip (more t ts) d p b n q rest e apart l =
@@ -51,7 +51,7 @@ mutual
       ∙ forest_items-skip ts d p (b + size t) n q rest (omega arith) apart (omega arith))
 
 -- none of these items is a child of a node that is numbered from b on, below n
-abbrev HasNoChildren : ℕ → ℕ → List Item → Type 0
+abbrev pub HasNoChildren : ℕ → ℕ → List Item → Type 0
 HasNoChildren b n rest = (q : ℕ) → b ≤ q → q < n → forest_from n rest q ≡ numbered.none
 
 mutual
@@ -79,7 +79,7 @@ mutual
       ∙ rw (inner, later) refl
 
   -- the trees that are laid out under p are the trees of p's children
-  forest_items-denotes : (ts : ValueForest) (d p b n : ℕ) (rest : List Item) → n ≡ b + sizes ts → p < b
+  pub forest_items-denotes : (ts : ValueForest) (d p b n : ℕ) (rest : List Item) → n ≡ b + sizes ts → p < b
       → HasNoChildren b n rest → forest_from n rest p ≡ numbered.none
       → value_forest (forest_from b (forest_items d p b ts ++ rest) p) ≡ ts
   forest_items-denotes none d p b n rest e l h last = ap value_forest (renumbered b n p rest (omega arith) ∙ last)

@@ -6,6 +6,21 @@ pub mod NumberedTreesLemmas
 pub mod AncestorsLemmas
 pub mod LayoutLemmas
 pub mod SerialiserLemmas
+pub mod RunsLemmas
+pub mod TagPartsLemmas
+pub mod NamesLemmas
+pub mod OpenNodesLemmas
+pub mod AdvancesLemmas
+pub mod PiecesLemmas
+pub mod DocumentsLemmas
+pub mod ValuesLemmas
+pub mod ContentsLemmas
+pub mod TagStepsLemmas
+pub mod TagAnswersLemmas
+pub mod PreludeLemmas
+pub mod PlaceFlagsLemmas
+pub mod PartsLemmas
+pub mod RawBlockLemmas
 pub mod CharacterClassesLemmas
 pub mod CommentTextsLemmas
 pub mod DecodedCharactersLemmas
@@ -13,4 +28,5 @@ pub mod RawContentLemmas
 pub mod TextRunsLemmas
 pub mod LineEndsLemmas
 pub mod DecodedValuesLemmas
+pub mod TextsLemmas
 mod Examples

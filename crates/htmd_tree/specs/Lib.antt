@@ -9,6 +9,12 @@ pub mod NumberedTrees
 pub mod Ancestors
 pub mod Views
 pub mod Layout
+pub mod Parts
 pub mod Entries
 pub mod DecodedCharacters
+pub mod PlaceFlags
+pub mod OpenNodes
+pub mod Advances
+pub mod Runs
+pub mod TagParts
 pub mod TextRuns

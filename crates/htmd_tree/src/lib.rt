@@ -9,8 +9,12 @@ mod reader;
 mod serialiser;
 mod tree;
 
+pub use htmd_grammar::FaultKind;
+pub use reader::{ReadError, read_html};
 pub use serialiser::{is_void, push_end_tag, push_start_tag, raw_block, serialize};
 pub use tree::{Attribute, NodeData, NodeId, Tree, TreeError};
 
+#[cfg(test)]
+mod reader_tests;
 #[cfg(test)]
 mod tests;

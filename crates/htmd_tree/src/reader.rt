@@ -1,17 +1,76 @@
 //! The reader of HTML: a tree from a text of the strict grammar, or the first fault of any other text.
-ghost use Rattle.std.specs.Prelude.{◌≡◌};
-ghost use Rattle.htmd_tree.specs.declared.reader.Stop.TheVariants.{Memory};
+ghost use Rattle.std.specs.Prelude.{◌≡◌, ◌∷◌, ◌<◌, ◌≤◌, ℕ, Bool, true, false, not, ◌&&◌, List, [], length, drop};
+ghost use Rattle.std.specs.Prelude.{◌==◌, OnOk, IfOk, IfErr, IsTrue, Ok, Err, if◌then◌else◌, codes, string_bytes};
+ghost use Rattle.htmd_grammar.specs.CharacterClasses.{is_empty, first_is};
+ghost use Rattle.htmd_grammar.specs.Documents.{above_body};
+ghost use Rattle.htmd_grammar.specs.Places.{parent_name, is_table};
+ghost use Rattle.htmd_grammar.specs.RawContent.{ends_text, holds_raw_text, text_of};
+ghost use Rattle.htmd_grammar.specs.CharacterClasses.{up_to, onward};
+ghost use Rattle.htmd_grammar.specs.Steps.{OpenElement, is_too_deep, add, fault, between};
+ghost use Rattle.htmd_grammar.specs.Steps.{fresh, closed, with_tree, is_implied, ends_rows, raw_text_step};
+ghost use Rattle.htmd_grammar.specs.Steps.{declaration_step, start_tag_step, end_tag_step, markup_step};
+ghost use Rattle.htmd_grammar.specs.Documents.{ReadsDocument};
+ghost use Rattle.htmd_grammar.specs.Faults.{IsFault};
+ghost use Rattle.htmd_grammar.specs.Rules.{project};
+ghost use Rattle.htmd_grammar.specs.ValueTrees.{ValueTree, ValueForest, document};
+ghost use Rattle.htmd_grammar.specs.declared.fault.FaultKind.{FaultKind};
+ghost use Rattle.htmd_grammar.specs.declared.fault.FaultKind.TheVariants.{TooDeep};
+ghost use Rattle.htmd_text.specs.Characters.{null};
+ghost use Rattle.htmd_tree.specs.Layout.{document_items};
+ghost use Rattle.std.specs.List.{position};
+ghost use Rattle.htmd_tree.specs.Views.{data_of, pairs_of};
+ghost use Rattle.htmd_tree.specs.Items.{holds_children, data_at};
+ghost use Rattle.htmd_tree.specs.OpenNodes.{Holds, IsReading, MayOpen, innermost_name, open_node};
+ghost use Rattle.htmd_tree.specs.Advances.{Follows, HasAdded, StopsDeep, IsLeaf, leaf, rules_of};
+ghost use Rattle.htmd_tree.specs.declared.reader.Stop.TheVariants.{Memory, Refused};
 
+mod attribute_values;
+mod attributes;
+mod beginning;
 mod comment_texts;
+mod comments;
+mod contents;
 mod line_ends;
+mod pieces;
+mod places;
+mod prelude;
 mod raw_content;
+mod raw_text;
 mod references;
+mod rows;
+mod runs;
 mod scan;
+mod tag_names;
+mod tags;
 mod text_runs;
+mod texts;
 mod values;
 
+use crate::reader::places::Place;
+use crate::tree::{Attribute, MAX_DEPTH, NodeData, NodeId, Tree, TreeError};
 use htmd_grammar::FaultKind;
-use std::alloc::{AllocError, AllocFailed};
+use htmd_grammar::laws::{faults_are_right, steps_read_the_grammar};
+use std::alloc::{AllocError, AllocFailed, Global};
+use thiserror::Error;
+
+/// Why a text was not read.
+#[derive(Debug, PartialEq, Eq, Drop, Error)]
+pub enum ReadError {
+    /// The text is outside the grammar: the byte place of its first fault, and the fault's kind.
+    #[error("refused at byte {place}: {kind}")]
+    Refused { place: usize, kind: FaultKind },
+    /// A request for memory was refused.
+    #[error("out of memory")]
+    Memory,
+}
+
+/// What is kept of an open element: its node, whether no tag opened it, and what its place allows.
+#[derive(Clone, Copy, Drop)]
+pub(crate) struct OpenNode {
+    id: NodeId,
+    implied: bool,
+    place: Place,
+}
 
 /// Why the reader stops. A fault is named by how many bytes are left from its place on.
 #[derive(Drop)]
@@ -33,5 +92,197 @@ impl<T: Drop> From<AllocFailed<T>> for Stop {
 
     fn from(_e: AllocFailed<T>) -> Stop {
         Stop::Memory
+    }
+}
+
+/// The tree so far, the open elements, outermost first, and the text that is left.
+#[derive(Drop)]
+pub(crate) struct Reader<'a> {
+    alloc: Global,
+    tree: Tree,
+    stack: Vec<OpenNode>,
+    rest: &'a str,
+    scripting: bool,
+}
+
+impl<'a> Reader<'a> {
+    /// What is kept of the innermost open element.
+    fn top(&self) -> OpenNode
+        requires reading { IsReading self.now }
+        ensures top { (has_doctype : Bool) (f : OpenElement) (fs : List OpenElement)
+            → Holds self.now has_doctype (f ∷ fs)
+            → result ≡ open_node self.now.scripting has_doctype f fs }
+        ensures within { result.id < length self.now.tree }
+        ensures element { IsTrue (holds_children (data_at self.now.tree result.id)) }
+    {
+        self.stack[self.stack.len() - 1]
+    }
+
+    /// The name of the innermost open element.
+    fn innermost_name(&self) -> &str
+        requires reading { IsReading self.now }
+        ensures { (has_doctype : Bool) (fs : List OpenElement) → Holds self.now has_doctype fs
+            → result.now ≡ innermost_name fs }
+    {
+        match self.tree.data(self.top().id) {
+            NodeData::Element { name, .. } => name.as_str(),
+            _ => "",
+        }
+    }
+
+    /// Whether a node in the innermost open element would stand too deep.
+    fn is_too_deep(&self) -> bool
+        requires reading { IsReading self.now }
+        ensures { (has_doctype : Bool) (fs : List OpenElement) → Holds self.now has_doctype fs
+            → result ≡ is_too_deep (rules_of self.now) above_body fs }
+    {
+        self.tree.depth(self.top().id) >= MAX_DEPTH
+    }
+
+    /// The stop for a fault that stands where the text that is left begins.
+    fn refused(&self, kind: FaultKind) -> Stop
+        ensures { result ≡ Refused (length self.now.rest.now) kind }
+    {
+        Stop::Refused {
+            left: self.rest.len(),
+            kind,
+        }
+    }
+
+    /// A new node in the innermost open element.
+    fn add_node(&mut self, node: NodeData) -> Result<NodeId, Stop>
+        requires reading { IsReading self.old }
+        ensures ok { IfOk result (λ id. (has_doctype : Bool) (fs : List OpenElement)
+            → Holds self.old has_doctype fs → HasAdded self.old self.new has_doctype fs (data_of node) id) }
+        ensures err { IfErr result (λ stop. (has_doctype : Bool) (fs : List OpenElement)
+            → Holds self.old has_doctype fs → StopsDeep self.old fs stop) }
+        ensures stack { self.new.stack.items ≡ self.old.stack.items }
+        ensures rest { self.new.rest.now ≡ self.old.rest.now }
+        ensures scripting { self.new.scripting ≡ self.old.scripting }
+    {
+        let parent = self.top().id;
+        match self.tree.add_node(parent, node) {
+            Ok(id) => Ok(id),
+            Err(TreeError::TooDeep) => Err(self.refused(FaultKind::TooDeep)),
+            Err(TreeError::Memory) => Err(Stop::Memory),
+        }
+    }
+
+    /// A new node without children in the innermost open element; what is left then is given.
+    fn add_leaf(&mut self, node: NodeData, rest: &'a str) -> Result<(), Stop>
+        requires reading { IsReading self.old }
+        requires leaf { IsLeaf (data_of node) }
+        ensures follows { (has_doctype : Bool) (fs : List OpenElement) → Holds self.old has_doctype fs
+            → Follows self.old self.new has_doctype result
+            (add (rules_of self.old) above_body fs (leaf (data_of node)) rest.now) }
+        ensures reading { OnOk result (IsReading self.new) }
+    {
+        self.add_node(node)?;
+        self.rest = rest;
+        Ok(())
+    }
+
+    /// A new element in the innermost open element, which then is the innermost one.
+    fn open_node(&mut self, name: String, attrs: Vec<Attribute>, implied: bool) -> Result<(), Stop>
+        requires reading { IsReading self.old }
+        requires may_open { (has_doctype : Bool) (fs : List OpenElement) → Holds self.old has_doctype fs
+            → MayOpen (string_bytes name) implied fs }
+        ensures follows { (has_doctype : Bool) (fs : List OpenElement) → Holds self.old has_doctype fs
+            → Follows self.old self.new has_doctype result
+            (if is_too_deep (rules_of self.old) above_body fs then fault TooDeep
+            else between (fresh (string_bytes name) (pairs_of attrs.items) implied ∷ fs) self.old.rest.now) }
+        ensures rest { self.new.rest.now ≡ self.old.rest.now }
+    {
+        let place = self.top().place.inner(name.as_str(), self.scripting);
+        let id = self.add_node(NodeData::Element { name, attrs })?;
+        self.stack.push(OpenNode { id, implied, place })?;
+        Ok(())
+    }
+
+    /// A new element in the innermost open element, which then is the innermost one; what is left then is given.
+    fn open_element(
+        &mut self,
+        name: String,
+        attrs: Vec<Attribute>,
+        rest: &'a str,
+    ) -> Result<(), Stop>
+        requires reading { IsReading self.old }
+        ensures follows { (has_doctype : Bool) (fs : List OpenElement) → Holds self.old has_doctype fs
+            → Follows self.old self.new has_doctype result
+            (if is_too_deep (rules_of self.old) above_body fs then fault TooDeep
+            else between (fresh (string_bytes name) (pairs_of attrs.items) false ∷ fs) rest.now) }
+        ensures reading { OnOk result (IsReading self.new) }
+    {
+        self.open_node(name, attrs, false)?;
+        self.rest = rest;
+        Ok(())
+    }
+
+    /// An implied `tbody` in the innermost open element, a `table`.
+    fn open_implied_body(&mut self) -> Result<(), Stop>
+        requires reading { IsReading self.old }
+        requires table { (has_doctype : Bool) (fs : List OpenElement) → Holds self.old has_doctype fs
+            → is_table (innermost_name fs) ≡ true }
+        ensures follows { (has_doctype : Bool) (fs : List OpenElement) → Holds self.old has_doctype fs
+            → Follows self.old self.new has_doctype result
+            (if is_too_deep (rules_of self.old) above_body fs then fault TooDeep
+            else between (fresh (codes "tbody") [] true ∷ fs) self.old.rest.now) }
+        ensures reading { OnOk result (IsReading self.new) }
+    {
+        let name = String::from_str(self.alloc, "tbody")?;
+        self.open_node(name, Vec::new(self.alloc), true)
+    }
+
+    /// Closes the innermost open element, which isn't the outermost; what is left then is given.
+    fn close_element(&mut self, rest: &'a str)
+        requires reading { IsReading self.old }
+        requires inner { 1 < length self.old.stack.items }
+        ensures holds { (has_doctype : Bool) (f g : OpenElement) (fs : List OpenElement)
+            → Holds self.old has_doctype (f ∷ g ∷ fs) → Holds self.new has_doctype (with_tree (g ∷ fs) (closed f)) }
+        ensures rest { self.new.rest.now ≡ rest.now }
+        ensures scripting { self.new.scripting ≡ self.old.scripting }
+        ensures reading { IsReading self.new }
+    {
+        let _ = self.stack.pop();
+        self.rest = rest;
+    }
+}
+
+/// Where the first U+0000 stands.
+fn first_null(text: &str) -> Option<usize>
+    ensures { result ≡ position (λ b. b == null) text.now }
+{
+    text.as_bytes().iter().position(|b| *b == 0)
+}
+
+/// The tree that a text denotes by the strict grammar, with scripting on or off: the Document, a Doctype where
+/// the text begins with one, `html` with an empty `head`, and `body` with the content. `Refused` for each text that
+/// denotes none, with the byte place and the kind of its first fault; `Memory` where a growth was refused.
+pub fn read_html(alloc: Global, text: &str, scripting: bool) -> Result<Tree, ReadError>
+    ensures ok { IfOk result (λ tree. (children : ValueForest) × (tree ≡ document_items children)
+        × ReadsDocument (project scripting) text.now (document children)) }
+    ensures refused { (place : ℕ) (kind : FaultKind) → result ≡ Err (ReadError.Refused place kind)
+        → (t : ValueTree) → ReadsDocument (project scripting) text.now t → ⊥ }
+    ensures right { (place : ℕ) (kind : FaultKind) → result ≡ Err (ReadError.Refused place kind)
+        → IsFault (project scripting) text.now place kind }
+{
+    steps_read_the_grammar();
+    faults_are_right();
+    if let Some(place) = first_null(text) {
+        return Err(ReadError::Refused {
+            place,
+            kind: FaultKind::Nul,
+        });
+    }
+    let Ok(mut reader) = Reader::new(alloc, text, scripting) else {
+        return Err(ReadError::Memory);
+    };
+    match reader.read_content() {
+        Ok(()) => Ok(reader.tree),
+        Err(Stop::Memory) => Err(ReadError::Memory),
+        Err(Stop::Refused { left, kind }) => Err(ReadError::Refused {
+            place: text.len() - left,
+            kind,
+        }),
     }
 }

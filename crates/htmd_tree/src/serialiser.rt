@@ -4,12 +4,14 @@ ghost use Rattle.std.specs.Str.{chars, encode_utf8_all};
 ghost use Rattle.htmd_tree.specs.Items.{children_of};
 ghost use Rattle.htmd_tree.specs.NumberedTrees.{tree_of, forest_of, value_tree, value_forest};
 ghost use Rattle.htmd_tree.specs.Views.{pair_of, pairs_of};
+ghost use Rattle.htmd_tree.specs.Parts.{IsReadBack};
 ghost use Rattle.htmd_text.specs.Beginnings.{IsBeginning};
 ghost use Rattle.htmd_grammar.specs.Serialisation as spec;
 ghost use Rattle.htmd_grammar.specs.RawBlocks as blocks;
 ghost use Rattle.htmd_grammar.specs.SerialiserSteps as steps;
 
 use crate::tree::{Attribute, NodeData, NodeId, Tree};
+use htmd_grammar::laws::raw_html_reads_back;
 use htmd_text::surround_with_blank_lines;
 use std::alloc::{AllocError, Global};
 
@@ -280,15 +282,18 @@ fn without_blank_lines(alloc: Global, text: String) -> Result<String, AllocError
 }
 
 /// The serialisation of a node as a block of raw HTML (CommonMark 0.31.2, 4.6): between blank lines, with
-/// references in place of the line ends that would make one. The tree must contain the node; an `Err` is want
-/// of memory.
+/// references in place of the line ends that would make one. Of an element below `body` of a tree that was read, which
+/// holds no carriage return, comment, `pre`, `textarea` or raw text element, the block reads back as that element. The
+/// tree must contain the node; an `Err` is want of memory.
 pub fn raw_block(alloc: Global, tree: &Tree, node: NodeId) -> Result<String, AllocError>
     requires { node < length tree.now }
     ensures text { IfOk result (λ text. string_bytes text
         ≡ blocks.raw_block (spec.serialisation (value_tree (tree_of tree.now node)))) }
     ensures raw { let s = spec.serialisation (value_tree (tree_of tree.now node)) in IfOk result
         (λ text. blocks.has_carriage_return s ≡ false → blocks.IsRawBlock s (string_bytes text)) }
+    ensures reads_back { IfOk result (λ text. IsReadBack tree.now node (string_bytes text)) }
 {
+    raw_html_reads_back();
     let text = serialize(alloc, tree, node)?;
     let mut block = without_blank_lines(alloc, text)?;
     surround_with_blank_lines(&mut block)?;

@@ -13,7 +13,7 @@ use std::marker::Model;
 use thiserror::Error;
 
 /// The greatest depth of a node; the Document is at depth 0.
-const MAX_DEPTH: usize = 1024;
+pub(crate) const MAX_DEPTH: usize = 1024;
 
 /// A node of a tree, by its number in order of addition.
 #[derive(Debug, Clone, Copy, PartialEq, Eq)]
@@ -221,6 +221,27 @@ impl Tree {
         self.entries[parent.index].children.push(id)?;
         self.entries.push(entry)?;
         Ok(id)
+    }
+
+    /// A new last child of a node: a node of its own. The tree must contain the parent, a Document or an
+    /// element. `TooDeep` where the child would stand below level 1,024, `Memory` where a growth was refused;
+    /// the tree is then as it was.
+    pub(crate) fn add_node(
+        &mut self,
+        parent: NodeId,
+        node_data: NodeData,
+    ) -> Result<NodeId, TreeError>
+        requires within { parent < length self.old }
+        requires holds { IsTrue (holds_children (data_at self.old parent)) }
+        ensures id { IfOk result (λ id. id ≡ length self.old) }
+        ensures ok { OnOk result (self.new
+            ≡ self.old ++ new_item self.old parent (data_of node_data) ∷ []) }
+        ensures too_deep { IsErrOf result TreeError.TooDeep
+            ↔ (greatest_depth ≤ depth_at self.old parent) }
+        ensures err { OnErr result (self.new ≡ self.old) }
+    {
+        self.ask_depth(parent)?;
+        self.add(parent, node_data)
     }
 
     /// A new last child of a node: an element with a name and attributes. The tree must contain the

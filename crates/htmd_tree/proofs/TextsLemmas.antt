@@ -1,0 +1,113 @@
+-- A text, read in one call, against the grammar's steps.
+use Rattle.std.proofs.Common.{◌≡◌, ℕ, ◌<◌, Bool, true, false, cond, List, [], ◌∷◌, length, Ok, Err, refl, ap, sym, subst}
+use Rattle.std.proofs.Common.{◌∙◌, arith, codes}
+use Rattle.std.specs.Prelude.{◌&&◌, ◌||◌, not}
+use Rattle.htmd_text.proofs.Cases.{test}
+use Rattle.htmd_grammar.specs.ValueTrees.{text}
+use Rattle.htmd_grammar.specs.CharacterClasses.{is_empty, up_to, onward}
+use Rattle.htmd_grammar.specs.Documents.{above_body}
+use Rattle.htmd_grammar.specs.Places.{parent_name, is_tbody}
+use Rattle.htmd_grammar.specs.RawContent.{begins_markup, begins_own_end, ends_text, holds_raw_text, holds_text_alone}
+use Rattle.htmd_grammar.specs.Rules.{project}
+use Rattle.htmd_grammar.specs.Steps.{OpenElement, State, Reaches, here, via, step, names_of, is_implied, is_too_deep}
+use Rattle.htmd_grammar.specs.Steps.{add, between, with_tree}
+use Rattle.htmd_grammar.proofs.BooleanLemmas.{and_false}
+use Rattle.htmd_grammar.proofs.PlacesLemmas.{one_name}
+use Rattle.htmd_tree.specs.OpenNodes.{Holds, AreOpen, innermost_name, open_node}
+use Rattle.htmd_tree.specs.Advances.{Answer, rules_of, place, IsAt, Follows, Advances, IsAtText}
+use Rattle.htmd_tree.specs.TextRuns.{IsTextPlace, in_run, is_run_end, StopsRun}
+use Rattle.htmd_tree.specs.declared.reader.OpenNode.{OpenNode}
+use Rattle.htmd_tree.specs.declared.reader.Reader.{Reader}
+use Rattle.htmd_tree.specs.declared.reader.Stop.{Stop}
+use Rattle.htmd_tree.specs.declared.reader.Stop.TheVariants.{Memory, Refused}
+use Rattle.htmd_tree.specs.declared.reader.text_runs.TextPlace.{TextPlace}
+use Rattle.htmd_tree.proofs.TextRunsLemmas.{reaches_then}
+
+-- ---- the place of a text
+
+tbody_holds_more : (scripting : Bool) (n : List ℕ) → is_tbody n ≡ true → holds_text_alone scripting n ≡ false
+tbody_holds_more scripting n e =
+    subst (λ m. holds_text_alone scripting m ≡ false) (sym (one_name (codes "tbody") n e)) (and_false scripting)
+
+implied_holds_more : (scripting : Bool) (f : OpenElement) (fs : List OpenElement) → AreOpen (f ∷ fs)
+    → (f.implied && holds_text_alone scripting f.name) ≡ false
+implied_holds_more scripting f [] o = rw o.2 refl
+implied_holds_more scripting f (g ∷ fs) o =
+    test f.implied (λ q. rw q (tbody_holds_more scripting f.name (o.0 q).0)) (λ q. rw q refl)
+
+pub text_place_is : (reader : Reader) (has_doctype : Bool) (fs : List OpenElement) (o : OpenNode) (deep : Bool)
+    → ((h : Bool) (f : OpenElement) (gs : List OpenElement) → Holds reader h (f ∷ gs)
+    → o ≡ open_node reader.scripting h f gs)
+    → Holds reader has_doctype fs → IsAtText reader fs → deep ≡ is_too_deep (rules_of reader) above_body fs
+    → IsTextPlace reader.scripting (record { alone = o.place.text_alone; parts = o.place.parts; too_deep = deep })
+    (innermost_name fs) fs
+text_place_is reader has_doctype [] o deep t h i e = absurd h.are_open
+text_place_is reader has_doctype (f ∷ gs) o deep t h i e =
+    let q = t has_doctype f gs h in
+    record {
+      name_is = refl;
+      alone_is = ap (λ (x : OpenNode). x.place.text_alone) q;
+      parts_is = ap (λ (x : OpenNode). x.place.parts) q;
+      deep_is = e;
+      no_raw_text = i.no_raw_text;
+      no_rows = ap (λ (x : OpenNode). f.implied && x.place.text_alone) q
+        ∙ implied_holds_more reader.scripting f gs h.are_open;
+    }
+
+-- ---- a text and its end
+
+run_goes_on : (scripting : Bool) (p : TextPlace) (n s : List ℕ) (fs : List OpenElement) → IsTextPlace scripting p n fs
+    → is_empty s ≡ false → ends_text scripting (parent_name (names_of above_body fs)) s ≡ false
+    → is_run_end p.alone n s ≡ false
+run_goes_on scripting p n [] fs t e f = absurd (cc)
+run_goes_on scripting p n (b ∷ s) fs t e f =
+    subst (λ z. cond z (begins_own_end n (b ∷ s)) (begins_markup (b ∷ s)) ≡ false) (sym t.alone_is)
+    (subst (λ m. ends_text scripting m (b ∷ s) ≡ false) (sym t.name_is) f)
+
+pub text_goes_on : (reader : Reader) (p : TextPlace) (n : List ℕ) (fs : List OpenElement)
+    → IsTextPlace reader.scripting p n fs → IsAtText reader fs → is_run_end p.alone n reader.rest.now ≡ false
+text_goes_on reader p n fs t i =
+    run_goes_on reader.scripting p n reader.rest.now fs t i.more_text i.no_markup
+
+flush : (scripting : Bool) (p : TextPlace) (n run s : List ℕ) (fs : List OpenElement) → IsTextPlace scripting p n fs
+    → 0 < length run → is_run_end p.alone n s ≡ true
+    → step (project scripting) above_body (in_run fs run s) ≡ between (with_tree fs (text run)) s
+unfolding step
+flush scripting p n [] s fs t l e = absurd (omega arith)
+flush scripting p n (b ∷ run) [] fs t l e =
+    rw (or_true (ends_text scripting (parent_name (names_of above_body fs)) [])) refl
+  where
+    or_true : (x : Bool) → (x || true) ≡ true
+    or_true true = refl
+    or_true false = refl
+flush scripting p n (b ∷ run) (d ∷ s) fs t l e =
+    let q : ends_text scripting (parent_name (names_of above_body fs)) (d ∷ s) ≡ true =
+    subst (λ m. ends_text scripting m (d ∷ s) ≡ true) t.name_is
+    (subst (λ z. cond z (begins_own_end n (d ∷ s)) (begins_markup (d ∷ s)) ≡ true) t.alone_is e) in
+    rw q refl
+
+-- the text was added, and the reader is behind it
+pub text_read : (old new : Reader) (has_doctype : Bool) (fs : List OpenElement) (answer : Answer) (p : TextPlace)
+    (n run rest : List ℕ) → IsTextPlace old.scripting p n fs → p.too_deep ≡ false → 0 < length run
+    → Reaches (rules_of old) above_body (in_run fs [] old.rest.now) (in_run fs run rest)
+    → is_run_end p.alone n rest ≡ true
+    → Follows old new has_doctype answer (add (rules_of old) above_body fs (text run) rest)
+    → Advances old new has_doctype fs answer
+text_read old new has_doctype fs answer p n run rest t d l r e f =
+    go answer (subst (λ b. Follows old new has_doctype answer
+    (cond b (Err Rattle.htmd_grammar.specs.declared.fault.FaultKind.TheVariants.TooDeep)
+    (between (with_tree fs (text run)) rest))) (sym t.deep_is ∙ d) f)
+  where
+    go : (a : Answer) → Follows old new has_doctype a (between (with_tree fs (text run)) rest)
+        → Advances old new has_doctype fs a
+    go (Ok x) w =
+        (record { stack = with_tree fs (text run); run = []; rest = rest }, w,
+        reaches_then r (via (flush old.scripting p n run rest fs t l e) here))
+    go (Err Memory) w = tt
+    go (Err (Refused left kind)) w = absurd w
+
+-- a fault in the run
+pub text_stops : (old new : Reader) (has_doctype : Bool) (fs : List OpenElement) (stop : Stop)
+    → StopsRun old.scripting fs old.rest.now stop → Advances old new has_doctype fs (Err stop)
+text_stops old new has_doctype fs Memory w = tt
+text_stops old new has_doctype fs (Refused left kind) w = w

@@ -1,0 +1,81 @@
+-- What a reader keeps of an open element and its ancestors, to know what may stand there.
+use Rattle.std.specs.Prelude.{ℕ, Bool, false, not, ◌&&◌, ◌||◌, if◌then◌else◌, List, [], ◌∷◌, codes}
+use Rattle.htmd_grammar.specs.CharacterClasses.{is_among}
+use Rattle.htmd_grammar.specs.RawContent.{holds_raw_text, holds_text_alone}
+use Rattle.htmd_grammar.specs.Places.{Context, parent_name, is_open, is_met_before, is_heading, is_table, holds_rows}
+use Rattle.htmd_grammar.specs.Places.{is_row, holds_parts, is_optgroup, is_option, is_outside, is_table_part, closes_paragraph}
+use Rattle.htmd_tree.specs.declared.reader.places.Place.{Place}
+
+abbrev pub place_of : Bool → Context → Place
+place_of scripting c =
+    record {
+      text_alone = holds_text_alone scripting (parent_name c);
+      raw_text = holds_raw_text scripting (parent_name c);
+      parts = holds_parts (parent_name c);
+      table = is_table (parent_name c);
+      rows = holds_rows (parent_name c);
+      row = is_row (parent_name c);
+      columns = is_among (codes "colgroup" ∷ []) (parent_name c);
+      select = is_among (codes "select" ∷ []) (parent_name c);
+      option_group = is_optgroup (parent_name c);
+      option = is_option (parent_name c);
+      heading = is_heading (parent_name c);
+      open_p = is_open (codes "p" ∷ []) c;
+      open_a = is_open (codes "a" ∷ []) c;
+      open_button = is_open (codes "button" ∷ []) c;
+      open_form = is_open (codes "form" ∷ []) c;
+      open_nobr = is_open (codes "nobr" ∷ []) c;
+      open_select = is_open (codes "select" ∷ []) c;
+      open_option = is_open (codes "option" ∷ []) c;
+      open_options = is_open (codes "optgroup" ∷ codes "option" ∷ []) c;
+      item = is_met_before (codes "li" ∷ []) (codes "ul" ∷ codes "ol" ∷ codes "menu" ∷ codes "dir" ∷ []) c;
+      description = is_met_before (codes "dd" ∷ codes "dt" ∷ []) (codes "dl" ∷ []) c;
+    }
+
+-- ---- what may stand where this is kept, as `is_allowed` has it
+
+abbrev pub flags_fit_table : Place → List ℕ → Bool
+flags_fit_table place n =
+    if is_table_part n then place.table
+    else if is_row n then place.rows
+    else if is_among (codes "td" ∷ codes "th" ∷ []) n then place.row
+    else if is_among (codes "col" ∷ []) n then place.columns
+    else not place.parts
+
+abbrev pub flags_fit_select : Place → List ℕ → Bool
+flags_fit_select place n =
+    if place.select then is_option n || is_optgroup n
+    else if place.option_group then is_option n
+    else not place.option
+
+-- an element that doesn't stand in itself is open
+abbrev pub own_flag : Place → List ℕ → Bool
+own_flag place n =
+    if is_among (codes "a" ∷ []) n then place.open_a
+    else if is_among (codes "button" ∷ []) n then place.open_button
+    else if is_among (codes "form" ∷ []) n then place.open_form
+    else if is_among (codes "nobr" ∷ []) n then place.open_nobr
+    else if is_among (codes "select" ∷ []) n then place.open_select
+    else if is_among (codes "option" ∷ []) n then place.open_option
+    else false
+
+abbrev pub flags_fit_open_elements : Place → List ℕ → Bool
+flags_fit_open_elements place n =
+    not (closes_paragraph n && place.open_p)
+    && not (own_flag place n)
+    && not (is_optgroup n && place.open_options)
+    && not (is_heading n && place.heading)
+
+abbrev pub flags_fit_lists : Place → List ℕ → Bool
+flags_fit_lists place n =
+    not (is_among (codes "li" ∷ []) n && place.item)
+    && not (is_among (codes "dd" ∷ codes "dt" ∷ []) n && place.description)
+
+abbrev pub flags_allow : Place → List ℕ → Bool
+flags_allow place n =
+    not (is_outside n)
+    && not place.text_alone
+    && flags_fit_table place n
+    && flags_fit_select place n
+    && flags_fit_open_elements place n
+    && flags_fit_lists place n

@@ -1,0 +1,80 @@
+//! The content of a document, piece by piece.
+ghost use Rattle.std.specs.Prelude.{◌≡◌, ◌<◌, ◌&&◌, Bool, false, List, length, OnOk};
+ghost use Rattle.htmd_grammar.specs.CharacterClasses.{is_empty};
+ghost use Rattle.htmd_grammar.specs.RawContent.{ends_text};
+ghost use Rattle.htmd_grammar.specs.Steps.{OpenElement};
+ghost use Rattle.htmd_tree.specs.OpenNodes.{Holds, IsReading, innermost_name};
+ghost use Rattle.htmd_tree.specs.Advances.{Advances, Ends, HasSettled};
+
+use crate::reader::raw_content::begins_own_end;
+use crate::reader::rows::ends_rows;
+use crate::reader::scan::begins_markup;
+use crate::reader::{Reader, Stop};
+use htmd_grammar::FaultKind;
+
+impl<'a> Reader<'a> {
+    /// Closes an implied `tbody` that ends where the text that is left begins.
+    fn close_implied_body(&mut self)
+        requires reading { IsReading self.old }
+        ensures settled { (has_doctype : Bool) (fs : List OpenElement) → Holds self.old has_doctype fs
+            → HasSettled self.old self.new has_doctype fs }
+        ensures reading { IsReading self.new }
+        ensures rest { self.new.rest.now ≡ self.old.rest.now }
+    {
+        if !self.top().implied {
+            return;
+        }
+        if ends_rows(self.rest.as_bytes()) {
+            self.close_element(self.rest);
+        }
+    }
+
+    /// Whether a text can't go on here: markup stands here, or the end of an element that holds text alone.
+    fn is_at_markup(&self) -> bool
+        requires reading { IsReading self.now }
+        ensures { (has_doctype : Bool) (fs : List OpenElement) → Holds self.now has_doctype fs
+            → result ≡ ends_text self.now.scripting (innermost_name fs) self.now.rest.now }
+    {
+        let bytes = self.rest.as_bytes();
+        if self.top().place.text_alone {
+            begins_own_end(bytes, self.innermost_name().as_bytes())
+        } else {
+            begins_markup(bytes)
+        }
+    }
+
+    /// Reads the next piece.
+    fn read_piece(&mut self) -> Result<(), Stop>
+        requires reading { IsReading self.old }
+        requires more { is_empty self.old.rest.now ≡ false }
+        ensures advances { (has_doctype : Bool) (fs : List OpenElement) → Holds self.old has_doctype fs
+            → Advances self.old self.new has_doctype fs result }
+        ensures reading { OnOk result (IsReading self.new) }
+        ensures shorter { OnOk result (length self.new.rest.now < length self.old.rest.now) }
+    {
+        self.close_implied_body();
+        if self.is_at_markup() {
+            return self.read_markup();
+        }
+        if self.top().place.raw_text {
+            self.read_raw_text()
+        } else {
+            self.read_text()
+        }
+    }
+
+    /// Reads the content of `body` up to the end of the text.
+    pub(super) fn read_content(&mut self) -> Result<(), Stop>
+        requires reading { IsReading self.old }
+        ensures ends { (has_doctype : Bool) (fs : List OpenElement) → Holds self.old has_doctype fs
+            → Ends self.old self.new has_doctype fs result }
+    {
+        while !self.rest.is_empty() {
+            self.read_piece()?;
+        }
+        if self.stack.len() > 1 {
+            return Err(self.refused(FaultKind::Unclosed));
+        }
+        Ok(())
+    }
+}

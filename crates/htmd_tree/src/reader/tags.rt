@@ -1,0 +1,182 @@
+//! Start tags and end tags. A fault of a tag stands at its `<`, where the text that is left begins.
+ghost use Rattle.std.specs.Prelude.{◌≡◌, ◌<◌, ◌&&◌, Bool, true, false, List, length, drop, OnOk, string_bytes, codes};
+ghost use Rattle.std.specs.Str.{bytes_eq};
+ghost use Rattle.htmd_text.specs.Characters.{less_than_sign};
+ghost use Rattle.htmd_grammar.specs.CharacterClasses.{first_is};
+ghost use Rattle.htmd_grammar.specs.Documents.{above_body};
+ghost use Rattle.htmd_grammar.specs.Places.{is_allowed, is_row};
+ghost use Rattle.htmd_grammar.specs.Steps.{OpenElement, names_of, start_tag_step, place_step, open_step, end_tag_step, close_step};
+ghost use Rattle.htmd_grammar.specs.Steps.{markup_step};
+ghost use Rattle.htmd_tree.specs.Views.{pairs_of};
+ghost use Rattle.htmd_tree.specs.TagParts.{fault_of_name};
+ghost use Rattle.htmd_tree.specs.OpenNodes.{Holds, IsReading, innermost_name};
+ghost use Rattle.htmd_tree.specs.Advances.{Follows, rules_of};
+
+use crate::reader::attribute_values::attributes_of;
+use crate::reader::attributes::tag_form;
+use crate::reader::contents::content_of;
+use crate::reader::places::is_outside;
+use crate::reader::runs::{Class, behind_first, split_run, strip_byte};
+use crate::reader::tag_names::split_name;
+use crate::reader::{Reader, Stop};
+use crate::serialiser::is_void;
+use crate::tree::{Attribute, NodeData};
+use htmd_grammar::FaultKind;
+
+/// What is wrong with a start tag of this name: it has a `/` and isn't void, or it has no place at all.
+fn fault_of_name(name: &str, slash: bool) -> Option<FaultKind>
+    ensures { result ≡ fault_of_name name.now slash }
+{
+    if slash && !is_void(name) {
+        return Some(FaultKind::SelfClosing);
+    }
+    if is_outside(name) {
+        return Some(FaultKind::TagOutside);
+    }
+    None
+}
+
+impl<'a> Reader<'a> {
+    /// Whether an element of this name may stand here.
+    fn allows(&self, name: &str) -> bool
+        requires reading { IsReading self.now }
+        ensures { (has_doctype : Bool) (fs : List OpenElement) → Holds self.now has_doctype fs
+            → result ≡ is_allowed self.now.scripting (names_of above_body fs) name.now }
+    {
+        self.top().place.allows(name)
+    }
+
+    /// Opens the element of a start tag, or adds a void one.
+    fn open_tag(&mut self, name: String, attrs: Vec<Attribute>, rest: &'a str) -> Result<(), Stop>
+        requires reading { IsReading self.old }
+        ensures follows { (has_doctype : Bool) (fs : List OpenElement) → Holds self.old has_doctype fs
+            → Follows self.old self.new has_doctype result
+            (open_step (rules_of self.old) above_body fs (string_bytes name) (pairs_of attrs.items) rest.now) }
+        ensures reading { OnOk result (IsReading self.new) }
+    {
+        if !self.allows(name.as_str()) {
+            return Err(self.refused(FaultKind::NotAllowedHere));
+        }
+        if is_void(name.as_str()) {
+            return self.add_leaf(NodeData::Element { name, attrs }, rest);
+        }
+        let content = content_of(name.as_str(), rest);
+        self.open_element(name, attrs, content)
+    }
+
+    /// Whether an element of this name implies a `tbody` here: a row in a table.
+    fn implies_body(&self, name: &str) -> bool
+        requires reading { IsReading self.now }
+        ensures { (has_doctype : Bool) (fs : List OpenElement) → Holds self.now has_doctype fs
+            → result ≡ (is_row name.now && bytes_eq (innermost_name fs) (codes "table")) }
+    {
+        name == "tr" && self.innermost_name() == "table"
+    }
+
+    /// Gives the element of a start tag its place, in an implied `tbody` where it implies one.
+    fn place_tag(&mut self, name: String, attrs: Vec<Attribute>, rest: &'a str) -> Result<(), Stop>
+        requires reading { IsReading self.old }
+        ensures follows { (has_doctype : Bool) (fs : List OpenElement) → Holds self.old has_doctype fs
+            → Follows self.old self.new has_doctype result
+            (place_step (rules_of self.old) above_body fs (string_bytes name) (pairs_of attrs.items) rest.now) }
+        ensures reading { OnOk result (IsReading self.new) }
+    {
+        if self.implies_body(name.as_str()) {
+            self.open_implied_body()?;
+            return self.open_tag(name, attrs, rest);
+        }
+        self.open_tag(name, attrs, rest)
+    }
+
+    /// Reads a start tag, of which what stands behind `<` is given.
+    pub(super) fn read_start_tag(&mut self, behind: &'a str) -> Result<(), Stop>
+        requires reading { IsReading self.old }
+        requires behind { length behind.now < length self.old.rest.now }
+        ensures follows { (has_doctype : Bool) (fs : List OpenElement) → Holds self.old has_doctype fs
+            → Follows self.old self.new has_doctype result
+            (start_tag_step (rules_of self.old) above_body fs behind.now) }
+        ensures reading { OnOk result (IsReading self.new) }
+        ensures shorter { OnOk result (length self.new.rest.now < length self.old.rest.now) }
+    {
+        let Some((spelled, behind_name)) = split_name(behind) else {
+            return Err(self.refused(FaultKind::MalformedTag));
+        };
+        let Some(form) = tag_form(self.alloc, behind_name)? else {
+            return Err(self.refused(FaultKind::MalformedTag));
+        };
+        let attrs = match attributes_of(self.alloc, form.attributes.as_slice())? {
+            Ok(attrs) => attrs,
+            Err(kind) => return Err(self.refused(kind)),
+        };
+        let name = spelled.to_ascii_lowercase(self.alloc)?;
+        match fault_of_name(name.as_str(), form.slash) {
+            Some(kind) => Err(self.refused(kind)),
+            None => self.place_tag(name, attrs, form.rest),
+        }
+    }
+
+    /// Closes the innermost open element, which must have this name.
+    fn close_tag(&mut self, name: &str, rest: &'a str) -> Result<(), Stop>
+        requires reading { IsReading self.old }
+        ensures follows { (has_doctype : Bool) (fs : List OpenElement) → Holds self.old has_doctype fs
+            → Follows self.old self.new has_doctype result
+            (close_step (rules_of self.old) above_body fs name.now rest.now) }
+        ensures reading { OnOk result (IsReading self.new) }
+    {
+        if self.stack.len() < 2 {
+            return Err(self.refused(FaultKind::StrayEndTag));
+        }
+        if self.innermost_name() != name {
+            return Err(self.refused(FaultKind::StrayEndTag));
+        }
+        self.close_element(rest);
+        Ok(())
+    }
+
+    /// Reads an end tag, of which what stands behind `</` is given.
+    pub(super) fn read_end_tag(&mut self, behind: &'a str) -> Result<(), Stop>
+        requires reading { IsReading self.old }
+        requires behind { length behind.now < length self.old.rest.now }
+        ensures follows { (has_doctype : Bool) (fs : List OpenElement) → Holds self.old has_doctype fs
+            → Follows self.old self.new has_doctype result
+            (end_tag_step (rules_of self.old) above_body fs behind.now) }
+        ensures reading { OnOk result (IsReading self.new) }
+        ensures shorter { OnOk result (length self.new.rest.now < length self.old.rest.now) }
+    {
+        let Some((spelled, behind_name)) = split_name(behind) else {
+            return Err(self.refused(FaultKind::MalformedTag));
+        };
+        let (_, end) = split_run(behind_name, Class::WhiteSpace);
+        let Some(rest) = strip_byte(end, b'>') else {
+            return Err(self.refused(FaultKind::MalformedTag));
+        };
+        let name = spelled.to_ascii_lowercase(self.alloc)?;
+        if is_outside(name.as_str()) {
+            return Err(self.refused(FaultKind::TagOutside));
+        }
+        self.close_tag(name.as_str(), rest)
+    }
+
+    /// Reads markup, which begins with `<`.
+    pub(super) fn read_markup(&mut self) -> Result<(), Stop>
+        requires reading { IsReading self.old }
+        requires markup { first_is less_than_sign self.old.rest.now ≡ true }
+        ensures follows { (has_doctype : Bool) (fs : List OpenElement) → Holds self.old has_doctype fs
+            → Follows self.old self.new has_doctype result
+            (markup_step (rules_of self.old) above_body fs (drop 1 self.old.rest.now)) }
+        ensures reading { OnOk result (IsReading self.new) }
+        ensures shorter { OnOk result (length self.new.rest.now < length self.old.rest.now) }
+    {
+        let behind = behind_first(self.rest);
+        if let Some(name) = strip_byte(behind, b'/') {
+            return self.read_end_tag(name);
+        }
+        if let Some(declaration) = strip_byte(behind, b'!') {
+            return self.read_declaration(declaration);
+        }
+        if strip_byte(behind, b'?').is_some() {
+            return Err(self.refused(FaultKind::MalformedDeclaration));
+        }
+        self.read_start_tag(behind)
+    }
+}

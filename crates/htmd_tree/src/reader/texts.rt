@@ -1,0 +1,44 @@
+//! Texts: characters and references.
+ghost use Rattle.std.specs.Prelude.{◌≡◌, ◌<◌, ◌≤◌, Bool, true, false, List, length, drop, OnOk};
+ghost use Rattle.htmd_grammar.specs.Documents.{above_body};
+ghost use Rattle.htmd_grammar.specs.CharacterClasses.{is_empty, leading_run};
+ghost use Rattle.htmd_grammar.specs.Steps.{OpenElement};
+ghost use Rattle.htmd_tree.specs.OpenNodes.{Holds, IsReading, innermost_name};
+ghost use Rattle.htmd_tree.specs.TextRuns.{IsTextPlace};
+ghost use Rattle.htmd_tree.specs.Advances.{Advances, IsAtText};
+
+use crate::reader::text_runs::{TextPlace, read_run};
+use crate::reader::{Reader, Stop};
+use crate::tree::NodeData;
+
+impl<'a> Reader<'a> {
+    /// What the innermost open element asks of its texts.
+    fn text_place(&self) -> TextPlace
+        requires reading { IsReading self.now }
+        ensures { (has_doctype : Bool) (fs : List OpenElement) → Holds self.now has_doctype fs
+            → IsAtText self.now fs
+            → IsTextPlace self.now.scripting result (innermost_name fs) fs }
+    {
+        let place = self.top().place;
+        TextPlace {
+            alone: place.text_alone,
+            parts: place.parts,
+            too_deep: self.is_too_deep(),
+        }
+    }
+
+    /// Reads a text with references, up to what ends it.
+    pub(super) fn read_text(&mut self) -> Result<(), Stop>
+        requires reading { IsReading self.old }
+        requires more { is_empty self.old.rest.now ≡ false }
+        ensures advances { (has_doctype : Bool) (fs : List OpenElement) → Holds self.old has_doctype fs
+            → IsAtText self.old fs → Advances self.old self.new has_doctype fs result }
+        ensures reading { OnOk result (IsReading self.new) }
+        ensures shorter { OnOk result (length self.new.rest.now < length self.old.rest.now) }
+    {
+        let place = self.text_place();
+        let name = self.innermost_name().as_bytes();
+        let (run, rest) = read_run(self.alloc, self.rest, name, place)?;
+        self.add_leaf(NodeData::Text(run), rest)
+    }
+}
