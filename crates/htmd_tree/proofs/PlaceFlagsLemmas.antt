@@ -8,6 +8,79 @@ use Rattle.htmd_grammar.specs.Places.{Context, is_open, excludes_itself, is_allo
 use Rattle.htmd_tree.specs.PlaceFlags.{place_of, own_flag, flags_allow}
 use Rattle.htmd_tree.specs.declared.reader.places.Place.{Place}
 
+-- a place is what its flags are
+pub same_place : (p q : Place)
+    → p.text_alone ≡ q.text_alone
+    → p.raw_text ≡ q.raw_text
+    → p.parts ≡ q.parts
+    → p.table ≡ q.table
+    → p.rows ≡ q.rows
+    → p.row ≡ q.row
+    → p.columns ≡ q.columns
+    → p.select ≡ q.select
+    → p.option_group ≡ q.option_group
+    → p.option ≡ q.option
+    → p.heading ≡ q.heading
+    → p.open_p ≡ q.open_p
+    → p.open_a ≡ q.open_a
+    → p.open_button ≡ q.open_button
+    → p.open_form ≡ q.open_form
+    → p.open_nobr ≡ q.open_nobr
+    → p.open_select ≡ q.open_select
+    → p.open_option ≡ q.open_option
+    → p.open_options ≡ q.open_options
+    → p.item ≡ q.item
+    → p.description ≡ q.description
+    → p ≡ q
+same_place p q h1 h2 h3 h4 h5 h6 h7 h8 h9 h10 h11 h12 h13 h14 h15 h16 h17 h18 h19 h20 h21 =
+    let p1 : Place = record p { text_alone = q.text_alone } in
+    let p2 : Place = record p1 { raw_text = q.raw_text } in
+    let p3 : Place = record p2 { parts = q.parts } in
+    let p4 : Place = record p3 { table = q.table } in
+    let p5 : Place = record p4 { rows = q.rows } in
+    let p6 : Place = record p5 { row = q.row } in
+    let p7 : Place = record p6 { columns = q.columns } in
+    let p8 : Place = record p7 { select = q.select } in
+    let p9 : Place = record p8 { option_group = q.option_group } in
+    let p10 : Place = record p9 { option = q.option } in
+    let p11 : Place = record p10 { heading = q.heading } in
+    let p12 : Place = record p11 { open_p = q.open_p } in
+    let p13 : Place = record p12 { open_a = q.open_a } in
+    let p14 : Place = record p13 { open_button = q.open_button } in
+    let p15 : Place = record p14 { open_form = q.open_form } in
+    let p16 : Place = record p15 { open_nobr = q.open_nobr } in
+    let p17 : Place = record p16 { open_select = q.open_select } in
+    let p18 : Place = record p17 { open_option = q.open_option } in
+    let p19 : Place = record p18 { open_options = q.open_options } in
+    let p20 : Place = record p19 { item = q.item } in
+    ap (λ (x : Bool). record p { text_alone = x }) h1
+    ∙ (ap (λ (x : Bool). record p1 { raw_text = x }) h2
+    ∙ (ap (λ (x : Bool). record p2 { parts = x }) h3
+    ∙ (ap (λ (x : Bool). record p3 { table = x }) h4
+    ∙ (ap (λ (x : Bool). record p4 { rows = x }) h5
+    ∙ (ap (λ (x : Bool). record p5 { row = x }) h6
+    ∙ (ap (λ (x : Bool). record p6 { columns = x }) h7
+    ∙ (ap (λ (x : Bool). record p7 { select = x }) h8
+    ∙ (ap (λ (x : Bool). record p8 { option_group = x }) h9
+    ∙ (ap (λ (x : Bool). record p9 { option = x }) h10
+    ∙ (ap (λ (x : Bool). record p10 { heading = x }) h11
+    ∙ (ap (λ (x : Bool). record p11 { open_p = x }) h12
+    ∙ (ap (λ (x : Bool). record p12 { open_a = x }) h13
+    ∙ (ap (λ (x : Bool). record p13 { open_button = x }) h14
+    ∙ (ap (λ (x : Bool). record p14 { open_form = x }) h15
+    ∙ (ap (λ (x : Bool). record p15 { open_nobr = x }) h16
+    ∙ (ap (λ (x : Bool). record p16 { open_select = x }) h17
+    ∙ (ap (λ (x : Bool). record p17 { open_option = x }) h18
+    ∙ (ap (λ (x : Bool). record p18 { open_options = x }) h19
+    ∙ (ap (λ (x : Bool). record p19 { item = x }) h20
+    ∙ (ap (λ (x : Bool). record p20 { description = x }) h21))))))))))))))))))))
+
+pub with_flag : (r x a b : Bool) → r ≡ (x || a) → a ≡ b → r ≡ (x || b)
+with_flag r x a b e f = e ∙ ap (λ z. x || z) f
+
+pub with_bound : (r x y a b : Bool) → r ≡ (x || (y && a)) → a ≡ b → r ≡ (x || (y && b))
+with_bound r x y a b e f = e ∙ ap (λ z. x || (y && z)) f
+
 named_so : (m n : List ℕ) → is_among (m ∷ []) n ≡ true → n ≡ m
 named_so m n e = (bytes_eq-Decides n m).0 (or_right (bytes_eq n m) e)
   where
