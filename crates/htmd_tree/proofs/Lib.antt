@@ -13,4 +13,9 @@ pub mod RawContentLemmas
 pub mod TextRunsLemmas
 pub mod LineEndsLemmas
 pub mod DecodedValuesLemmas
+pub mod RunsLemmas
+pub mod TagPartsLemmas
+pub mod NamesLemmas
+pub mod ValuesLemmas
+pub mod TagStepsLemmas
 mod Examples

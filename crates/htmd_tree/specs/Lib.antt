@@ -12,3 +12,5 @@ pub mod Layout
 pub mod Entries
 pub mod DecodedCharacters
 pub mod TextRuns
+pub mod Runs
+pub mod TagParts

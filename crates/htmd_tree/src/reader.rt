@@ -2,11 +2,14 @@
 ghost use Rattle.std.specs.Prelude.{◌≡◌};
 ghost use Rattle.htmd_tree.specs.declared.reader.Stop.TheVariants.{Memory};
 
+mod attributes;
 mod comment_texts;
 mod line_ends;
 mod raw_content;
 mod references;
+mod runs;
 mod scan;
+mod tag_names;
 mod text_runs;
 mod values;
 

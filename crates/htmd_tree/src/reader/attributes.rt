@@ -1,0 +1,227 @@
+//! The attributes of a start tag.
+ghost use Rattle.std.specs.Prelude.{◌≡◌, ◌<◌, suc, length, IfOk, MatchOption};
+ghost use Rattle.htmd_grammar.specs.CharacterClasses as classes;
+ghost use Rattle.htmd_grammar.specs.TagReading as spec;
+ghost use Rattle.htmd_grammar.specs.Tags.{attribute_names};
+ghost use Rattle.htmd_tree.specs.TagParts.{part_of, all_spelled_of, attribute_part};
+ghost use Rattle.htmd_tree.specs.Views.{pairs_of};
+
+use crate::reader::runs::{Class, split_run, strip_byte};
+use crate::tree::Attribute;
+use std::alloc::{AllocError, Global};
+use std::collections::BTreeSet;
+
+/// An attribute as it is spelled.
+#[derive(Clone, Copy, Drop)]
+pub(crate) struct SpelledAttribute<'a> {
+    pub(crate) name: &'a str,
+    pub(crate) value: &'a str,
+}
+
+/// What comes next in a start tag behind its name.
+#[derive(Drop)]
+pub(crate) enum Part<'a> {
+    Malformed,
+    End {
+        slash: bool,
+        rest: &'a str,
+    },
+    Attribute {
+        spelled: SpelledAttribute<'a>,
+        rest: &'a str,
+    },
+}
+
+/// What stands behind the name of a start tag, and what follows the tag.
+#[derive(Drop)]
+pub(crate) struct TagForm<'a> {
+    pub(crate) attributes: Vec<SpelledAttribute<'a>>,
+    pub(crate) slash: bool,
+    pub(crate) rest: &'a str,
+}
+
+/// A value between quotes, of which the first stands before the text.
+fn quoted_value<'a>(name: &'a str, text: &'a str, quote: u8) -> Part<'a>
+    requires { quote < 128 }
+    ensures { part_of result ≡ spec.quoted_value quote name.now text.now }
+{
+    let (value, behind) = split_run(text, Class::Other(quote));
+    match strip_byte(behind, quote) {
+        Some(rest) => Part::Attribute {
+            spelled: SpelledAttribute { name, value },
+            rest,
+        },
+        None => Part::Malformed,
+    }
+}
+
+fn unquoted_value<'a>(name: &'a str, text: &'a str) -> Part<'a>
+    ensures { part_of result ≡ spec.unquoted_value name.now text.now }
+{
+    let (value, rest) = split_run(text, Class::UnquotedValue);
+    if value.is_empty() {
+        return Part::Malformed;
+    }
+    Part::Attribute {
+        spelled: SpelledAttribute { name, value },
+        rest,
+    }
+}
+
+/// Behind `=` and white space.
+fn value_part<'a>(name: &'a str, text: &'a str) -> Part<'a>
+    ensures { part_of result ≡ spec.value_part name.now text.now }
+{
+    if let Some(value) = strip_byte(text, b'"') {
+        return quoted_value(name, value, b'"');
+    }
+    if let Some(value) = strip_byte(text, b'\'') {
+        return quoted_value(name, value, b'\'');
+    }
+    unquoted_value(name, text)
+}
+
+/// Behind the name of an attribute.
+fn behind_name<'a>(name: &'a str, text: &'a str) -> Part<'a>
+    ensures { part_of result ≡ spec.behind_attribute_name name.now text.now }
+{
+    let (_, sign) = split_run(text, Class::WhiteSpace);
+    let Some(gap) = strip_byte(sign, b'=') else {
+        return Part::Attribute {
+            spelled: SpelledAttribute { name, value: "" },
+            rest: text,
+        };
+    };
+    let (_, value) = split_run(gap, Class::WhiteSpace);
+    value_part(name, value)
+}
+
+/// Whether one of the controls U+0080 to U+009F stands in the text.
+fn holds_control(bytes: &[u8]) -> bool
+    ensures { result ≡ classes.holds_control bytes.now }
+{
+    let mut rest = bytes;
+    while let [first, behind @ ..] = rest {
+        if *first == 0xC2 && matches!(behind, [second, ..] if *second < 0xA0) {
+            return true;
+        }
+        rest = behind;
+    }
+    false
+}
+
+/// An attribute, which begins with its name.
+fn attribute(text: &str) -> Part<'_>
+    ensures { part_of result ≡ attribute_part text.now }
+{
+    let (name, rest) = split_run(text, Class::AttributeName);
+    if name.is_empty() {
+        return Part::Malformed;
+    }
+    if holds_control(name.as_bytes()) {
+        return Part::Malformed;
+    }
+    behind_name(name, rest)
+}
+
+/// Behind `/`.
+fn behind_slash(text: &str) -> Part<'_>
+    ensures { part_of result ≡ spec.behind_slash text.now }
+{
+    match strip_byte(text, b'>') {
+        Some(rest) => Part::End { slash: true, rest },
+        None => Part::Malformed,
+    }
+}
+
+/// The next attribute, or the end of the tag.
+fn next_part(text: &str) -> Part<'_>
+    ensures { part_of result ≡ spec.next_part text.now }
+{
+    let (gap, behind) = split_run(text, Class::WhiteSpace);
+    if let Some(rest) = strip_byte(behind, b'>') {
+        return Part::End { slash: false, rest };
+    }
+    if let Some(end) = strip_byte(behind, b'/') {
+        return behind_slash(end);
+    }
+    if gap.is_empty() {
+        return Part::Malformed;
+    }
+    attribute(behind)
+}
+
+/// The form of a start tag from behind its name on: its attributes, its `/` and its `>`. None where what stands
+/// there has no such form; an `Err` is want of memory.
+pub(crate) fn tag_form<'a>(alloc: Global, text: &'a str) -> Result<Option<TagForm<'a>>, AllocError>
+    ensures { IfOk result (λ o. MatchOption o
+        (spec.form_within (suc (length text.now)) text.now ≡ spec.no_form)
+        (λ f. spec.form_within (suc (length text.now)) text.now
+        ≡ spec.form (all_spelled_of f.attributes.items) f.slash f.rest.now)) }
+{
+    let mut attributes = Vec::new(alloc);
+    let mut behind = text;
+    loop {
+        match next_part(behind) {
+            Part::Malformed => return Ok(None),
+            Part::End { slash, rest } => {
+                return Ok(Some(TagForm {
+                    attributes,
+                    slash,
+                    rest,
+                }));
+            }
+            Part::Attribute { spelled, rest } => {
+                attributes.push(spelled)?;
+                behind = rest;
+            }
+        }
+    }
+}
+
+/// So many names are compared pair by pair.
+const FEW: usize = 12;
+
+fn has_name(attributes: &[Attribute], name: &str) -> bool
+    ensures { result ≡ classes.is_among (attribute_names (pairs_of attributes.now)) name.now }
+{
+    for attribute in attributes {
+        if name == attribute.name.as_str() {
+            return true;
+        }
+    }
+    false
+}
+
+fn are_pairwise_distinct(attributes: &[Attribute]) -> bool
+    ensures { result ≡ classes.are_distinct (attribute_names (pairs_of attributes.now)) }
+{
+    let mut rest = attributes;
+    while let [first, others @ ..] = rest {
+        if has_name(others, first.name.as_str()) {
+            return false;
+        }
+        rest = others;
+    }
+    true
+}
+
+/// Whether no two attributes have one name. An `Err` is want of memory.
+pub(crate) fn are_distinct(alloc: Global, attributes: &[Attribute]) -> Result<bool, AllocError>
+    ensures { IfOk result (λ answer. answer
+        ≡ classes.are_distinct (attribute_names (pairs_of attributes.now))) }
+{
+    if attributes.len() <= FEW {
+        return Ok(are_pairwise_distinct(attributes));
+    }
+    let mut names = BTreeSet::new(alloc);
+    let mut rest = attributes;
+    while let [others @ .., last] = rest {
+        let is_new = names.insert(last.name.as_str())?;
+        if !is_new {
+            return Ok(false);
+        }
+        rest = others;
+    }
+    Ok(true)
+}
