@@ -16,4 +16,5 @@ pub mod LayersLemmas
 pub mod LawsLemmas
 pub mod GroupCuts
 pub mod EmphasisLawsLemmas
+pub mod ChildListsLemmas
 mod Examples

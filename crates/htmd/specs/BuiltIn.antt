@@ -3,6 +3,7 @@ use Rattle.std.specs.Prelude.{ℕ, List, [], ◌∷◌, codes, map}
 use Rattle.std.specs.Borrow.{Bor}
 use Rattle.htmd.specs.declared.options.Options.{Options}
 use Rattle.htmd.specs.declared.element_handler.built_in.BuiltIn.{BuiltIn}
+use Rattle.htmd.specs.declared.element_handler.built_in.BuiltIn.TheVariants.{ListElement, ListItem}
 use Rattle.htmd.specs.declared.element_handler.built_in.BuiltIn.TheVariants.{BlockQuote, Strong, Emphasis, Heading}
 use Rattle.htmd.specs.declared.element_handler.built_in.BuiltIn.TheVariants.{LineBreak, ThematicBreak, Paragraph}
 use Rattle.htmd.specs.declared.element_handler.built_in.BuiltIn.TheVariants.{Code, Preformatted}
@@ -15,6 +16,7 @@ use Rattle.htmd.specs.Sections.{quotes, paragraphs, parts_of_page, pages, other_
 use Rattle.htmd.specs.Inline.{headings, emphasis_of, line_breaks, thematic_breaks}
 use Rattle.htmd.specs.Spans.{spans}
 use Rattle.htmd.specs.Code.{code, preformatted_texts}
+use Rattle.htmd.specs.ListElements.{lists, list_items}
 
 -- a handler, and the tags that it is registered for
 pub record Row : Type 0 where
@@ -42,7 +44,9 @@ other_block_tags =
 -- the built-in handlers in order of registration
 abbrev pub built_in_rows : List Row
 built_in_rows =
-    row (codes "blockquote" ∷ []) quotes
+    row (codes "ol" ∷ codes "ul" ∷ []) lists
+    ∷ row (codes "li" ∷ []) list_items
+    ∷ row (codes "blockquote" ∷ []) quotes
     ∷ row (codes "code" ∷ []) code
     ∷ row (codes "strong" ∷ codes "b" ∷ []) (emphasis_of kind.Strong)
     ∷ row (codes "i" ∷ codes "em" ∷ []) (emphasis_of kind.Regular)
@@ -71,6 +75,8 @@ built_in options = with_rows built_in_rows (empty_config options)
 
 -- what a built-in handler means
 abbrev pub meaning_of : BuiltIn → HandlerMeaning
+meaning_of ListElement = lists
+meaning_of ListItem = list_items
 meaning_of BlockQuote = quotes
 meaning_of Code = code
 meaning_of Strong = emphasis_of kind.Strong

@@ -18,6 +18,7 @@ pub mod Sections
 pub mod Inline
 pub mod Spans
 pub mod Code
+pub mod ListElements
 pub mod BuiltIn
 pub mod GroupLaws
 pub mod EmphasisLaws

@@ -22,6 +22,8 @@ pub(crate) mod fn_handler;
 mod headings;
 mod hr;
 pub(crate) mod layered;
+mod list;
+mod list_item;
 mod page;
 pub(crate) mod plans;
 mod pre;
