@@ -17,4 +17,7 @@ pub mod LawsLemmas
 pub mod GroupCuts
 pub mod EmphasisLawsLemmas
 pub mod ChildListsLemmas
+pub mod TableNodesLemmas
+pub mod TableHeadersLemmas
+pub mod TableTextsLemmas
 mod Examples

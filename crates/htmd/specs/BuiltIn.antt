@@ -7,6 +7,7 @@ use Rattle.htmd.specs.declared.element_handler.built_in.BuiltIn.TheVariants.{Lis
 use Rattle.htmd.specs.declared.element_handler.built_in.BuiltIn.TheVariants.{BlockQuote, Strong, Emphasis, Heading}
 use Rattle.htmd.specs.declared.element_handler.built_in.BuiltIn.TheVariants.{LineBreak, ThematicBreak, Paragraph}
 use Rattle.htmd.specs.declared.element_handler.built_in.BuiltIn.TheVariants.{Code, Preformatted}
+use Rattle.htmd.specs.declared.element_handler.built_in.BuiltIn.TheVariants.{Table, TableCell, TableRow, TablePart}
 use Rattle.htmd.specs.declared.element_handler.built_in.BuiltIn.TheVariants.{HeadOrBody}
 use Rattle.htmd.specs.declared.element_handler.built_in.BuiltIn.TheVariants.{Html, Span, OtherBlock}
 use Rattle.htmd.specs.Handling.{HandlerMeaning}
@@ -17,6 +18,7 @@ use Rattle.htmd.specs.Inline.{headings, emphasis_of, line_breaks, thematic_break
 use Rattle.htmd.specs.Spans.{spans}
 use Rattle.htmd.specs.Code.{code, preformatted_texts}
 use Rattle.htmd.specs.ListElements.{lists, list_items}
+use Rattle.htmd.specs.TableElements.{tables, cells, table_rows, table_parts}
 
 -- a handler, and the tags that it is registered for
 pub record Row : Type 0 where
@@ -53,6 +55,12 @@ built_in_rows =
     ∷ row heading_tags headings
     ∷ row (codes "br" ∷ []) line_breaks
     ∷ row (codes "hr" ∷ []) thematic_breaks
+    ∷ row (codes "table" ∷ []) tables
+    ∷ row (codes "td" ∷ codes "th" ∷ []) cells
+    ∷ row (codes "tr" ∷ []) table_rows
+    ∷ row (codes "tbody" ∷ []) table_parts
+    ∷ row (codes "thead" ∷ []) table_parts
+    ∷ row (codes "caption" ∷ []) table_parts
     ∷ row (codes "p" ∷ []) paragraphs
     ∷ row (codes "pre" ∷ []) preformatted_texts
     ∷ row (codes "head" ∷ codes "body" ∷ []) parts_of_page
@@ -84,6 +92,10 @@ meaning_of Emphasis = emphasis_of kind.Regular
 meaning_of Heading = headings
 meaning_of LineBreak = line_breaks
 meaning_of ThematicBreak = thematic_breaks
+meaning_of Table = tables
+meaning_of TableCell = cells
+meaning_of TableRow = table_rows
+meaning_of TablePart = table_parts
 meaning_of Paragraph = paragraphs
 meaning_of Preformatted = preformatted_texts
 meaning_of HeadOrBody = parts_of_page

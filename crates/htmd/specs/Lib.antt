@@ -19,6 +19,7 @@ pub mod Inline
 pub mod Spans
 pub mod Code
 pub mod ListElements
+pub mod TableElements
 pub mod BuiltIn
 pub mod GroupLaws
 pub mod EmphasisLaws
@@ -35,4 +36,5 @@ pub mod Latest
 pub mod Joints
 pub mod Passing
 pub mod Walking
+pub mod TableLayouts
 pub mod PlainTexts

@@ -32,6 +32,10 @@ pub(crate) mod registrar;
 mod registrations;
 pub(crate) mod registry;
 mod span;
+mod table;
+mod table_cell;
+mod table_layout;
+mod table_part;
 
 pub use element_handlers::{ElementHandlers, HandlerRefused};
 pub use fn_handler::{FnHandler, HandlerRule};
