@@ -2,6 +2,7 @@
 ghost use Rattle.std.specs.Prelude.{◌≡◌};
 ghost use Rattle.htmd_tree.specs.declared.reader.Stop.TheVariants.{Memory};
 
+mod attribute_values;
 mod attributes;
 mod comment_texts;
 mod line_ends;
