@@ -16,4 +16,8 @@ pub mod LayersLemmas
 pub mod LawsLemmas
 pub mod GroupCuts
 pub mod EmphasisLawsLemmas
+pub mod ChildListsLemmas
+pub mod TableNodesLemmas
+pub mod TableHeadersLemmas
+pub mod TableTextsLemmas
 mod Examples

@@ -3,9 +3,11 @@ use Rattle.std.specs.Prelude.{ℕ, List, [], ◌∷◌, codes, map}
 use Rattle.std.specs.Borrow.{Bor}
 use Rattle.htmd.specs.declared.options.Options.{Options}
 use Rattle.htmd.specs.declared.element_handler.built_in.BuiltIn.{BuiltIn}
+use Rattle.htmd.specs.declared.element_handler.built_in.BuiltIn.TheVariants.{ListElement, ListItem}
 use Rattle.htmd.specs.declared.element_handler.built_in.BuiltIn.TheVariants.{BlockQuote, Strong, Emphasis, Heading}
 use Rattle.htmd.specs.declared.element_handler.built_in.BuiltIn.TheVariants.{LineBreak, ThematicBreak, Paragraph}
 use Rattle.htmd.specs.declared.element_handler.built_in.BuiltIn.TheVariants.{Code, Preformatted}
+use Rattle.htmd.specs.declared.element_handler.built_in.BuiltIn.TheVariants.{Table, TableCell, TableRow, TablePart}
 use Rattle.htmd.specs.declared.element_handler.built_in.BuiltIn.TheVariants.{HeadOrBody}
 use Rattle.htmd.specs.declared.element_handler.built_in.BuiltIn.TheVariants.{Html, Span, OtherBlock}
 use Rattle.htmd.specs.Handling.{HandlerMeaning}
@@ -15,6 +17,8 @@ use Rattle.htmd.specs.Sections.{quotes, paragraphs, parts_of_page, pages, other_
 use Rattle.htmd.specs.Inline.{headings, emphasis_of, line_breaks, thematic_breaks}
 use Rattle.htmd.specs.Spans.{spans}
 use Rattle.htmd.specs.Code.{code, preformatted_texts}
+use Rattle.htmd.specs.ListElements.{lists, list_items}
+use Rattle.htmd.specs.TableElements.{tables, cells, table_rows, table_parts}
 
 -- a handler, and the tags that it is registered for
 pub record Row : Type 0 where
@@ -42,13 +46,21 @@ other_block_tags =
 -- the built-in handlers in order of registration
 abbrev pub built_in_rows : List Row
 built_in_rows =
-    row (codes "blockquote" ∷ []) quotes
+    row (codes "ol" ∷ codes "ul" ∷ []) lists
+    ∷ row (codes "li" ∷ []) list_items
+    ∷ row (codes "blockquote" ∷ []) quotes
     ∷ row (codes "code" ∷ []) code
     ∷ row (codes "strong" ∷ codes "b" ∷ []) (emphasis_of kind.Strong)
     ∷ row (codes "i" ∷ codes "em" ∷ []) (emphasis_of kind.Regular)
     ∷ row heading_tags headings
     ∷ row (codes "br" ∷ []) line_breaks
     ∷ row (codes "hr" ∷ []) thematic_breaks
+    ∷ row (codes "table" ∷ []) tables
+    ∷ row (codes "td" ∷ codes "th" ∷ []) cells
+    ∷ row (codes "tr" ∷ []) table_rows
+    ∷ row (codes "tbody" ∷ []) table_parts
+    ∷ row (codes "thead" ∷ []) table_parts
+    ∷ row (codes "caption" ∷ []) table_parts
     ∷ row (codes "p" ∷ []) paragraphs
     ∷ row (codes "pre" ∷ []) preformatted_texts
     ∷ row (codes "head" ∷ codes "body" ∷ []) parts_of_page
@@ -71,6 +83,8 @@ built_in options = with_rows built_in_rows (empty_config options)
 
 -- what a built-in handler means
 abbrev pub meaning_of : BuiltIn → HandlerMeaning
+meaning_of ListElement = lists
+meaning_of ListItem = list_items
 meaning_of BlockQuote = quotes
 meaning_of Code = code
 meaning_of Strong = emphasis_of kind.Strong
@@ -78,6 +92,10 @@ meaning_of Emphasis = emphasis_of kind.Regular
 meaning_of Heading = headings
 meaning_of LineBreak = line_breaks
 meaning_of ThematicBreak = thematic_breaks
+meaning_of Table = tables
+meaning_of TableCell = cells
+meaning_of TableRow = table_rows
+meaning_of TablePart = table_parts
 meaning_of Paragraph = paragraphs
 meaning_of Preformatted = preformatted_texts
 meaning_of HeadOrBody = parts_of_page

@@ -1,12 +1,15 @@
 -- What a handler reads off an element that it is shown, and the plans that many handlers have.
-use Rattle.std.specs.Prelude.{ℕ, Bool, false, not, ◌&&◌, ◌||◌, if◌then◌else◌, nat_lt, List, length, Option}
+use Rattle.std.specs.Prelude.{ℕ, Bool, false, not, ◌&&◌, ◌||◌, if◌then◌else◌, nat_lt, List, [], ◌∷◌, length, Option}
 use Rattle.std.specs.Prelude.{Some, None, true, ℤ, pos, negsuc}
-use Rattle.std.specs.List.{list_any}
+use Rattle.std.specs.List.{list_any, list_all}
 use Rattle.std.specs.Str.{bytes_eq}
 use Rattle.htmd_tree.specs.ValueTrees.{AttributePair}
 use Rattle.htmd_tree.specs.Items as tree
 use Rattle.htmd_tree.specs.Ancestors as above
-use Rattle.htmd.specs.Handling.{ElementView, PlanView, raw_html, content_of_children}
+use Rattle.htmd_tree.specs.NumberedTrees.{tree_of, value_tree}
+use Rattle.htmd_tree.specs.Serialisation.{serialisation}
+use Rattle.htmd_tree.specs.RawBlocks.{raw_block}
+use Rattle.htmd.specs.Handling.{ElementView, ResultView, PlanView, raw_html, content_of_children}
 use Rattle.htmd.specs.Outputs.{is_pure}
 
 abbrev pub tag_of : ElementView → List ℕ
@@ -25,6 +28,22 @@ tag_at items (Some node) = tree.tag_of (tree.data_at items node)
 -- the tag of the parent; the Document's is html
 abbrev pub parent_tag : ElementView → Option (List ℕ)
 parent_tag view = tag_at view.items (tree.parent_at view.items view.node)
+
+-- the value of the first attribute of this name
+abbrev pub value_of_first : List ℕ → List AttributePair → Option (List ℕ)
+value_of_first name [] = None
+value_of_first name (a ∷ attributes) = if bytes_eq a.name name then Some a.value else value_of_first name attributes
+
+-- whether all of these are Markdown
+abbrev pub are_markdown : List ResultView → Bool
+are_markdown results = list_all (λ (r : ResultView). r.markdown_translated) results
+
+-- the raw HTML of a block element, which a handler gives that finds its content to be no Markdown
+abbrev pub raw_block_result : ElementView → ResultView
+raw_block_result view = record {
+  content = raw_block (serialisation (value_tree (tree_of view.items view.node)));
+  markdown_translated = false;
+}
 
 -- in Faithful, and with more attributes than these
 abbrev pub is_raw_html_due : ElementView → ℕ → Bool

@@ -18,6 +18,8 @@ pub mod Sections
 pub mod Inline
 pub mod Spans
 pub mod Code
+pub mod ListElements
+pub mod TableElements
 pub mod BuiltIn
 pub mod GroupLaws
 pub mod EmphasisLaws
@@ -34,4 +36,5 @@ pub mod Latest
 pub mod Joints
 pub mod Passing
 pub mod Walking
+pub mod TableLayouts
 pub mod PlainTexts

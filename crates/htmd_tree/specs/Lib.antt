@@ -18,3 +18,5 @@ pub mod Advances
 pub mod Runs
 pub mod TagParts
 pub mod TextRuns
+pub mod Runs
+pub mod TagParts

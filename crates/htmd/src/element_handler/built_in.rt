@@ -11,8 +11,8 @@ ghost use Rattle.htmd.specs.Walking.{request_view};
 use super::blocks::TAGS;
 use super::registry::{Contents, Request};
 use super::{
-    Element, HandlerResult, Links, Plan, br, code, emphasis, headings, hr, page, plans, pre, quote,
-    span,
+    Element, HandlerResult, Links, Plan, br, code, emphasis, headings, hr, list, list_item, page,
+    plans, pre, quote, span, table, table_cell, table_part,
 };
 use htmd_markdown::Emphasis;
 use std::alloc::{AllocError, Global};
@@ -20,6 +20,8 @@ use std::alloc::{AllocError, Global};
 /// A built-in handler.
 #[derive(Clone, Copy)]
 pub(crate) enum BuiltIn {
+    ListElement,
+    ListItem,
     BlockQuote,
     Code,
     Strong,
@@ -27,6 +29,10 @@ pub(crate) enum BuiltIn {
     Heading,
     LineBreak,
     ThematicBreak,
+    Table,
+    TableCell,
+    TableRow,
+    TablePart,
     Paragraph,
     Preformatted,
     HeadOrBody,
@@ -37,6 +43,8 @@ pub(crate) enum BuiltIn {
 
 /// The built-in handlers in order of registration, each with the tags that it is registered for.
 pub(crate) const HANDLERS_AND_TAGS: &[(BuiltIn, &[&str])] = &[
+    (BuiltIn::ListElement, &["ol", "ul"]),
+    (BuiltIn::ListItem, &["li"]),
     (BuiltIn::BlockQuote, &["blockquote"]),
     (BuiltIn::Code, &["code"]),
     (BuiltIn::Strong, &["strong", "b"]),
@@ -44,6 +52,12 @@ pub(crate) const HANDLERS_AND_TAGS: &[(BuiltIn, &[&str])] = &[
     (BuiltIn::Heading, &["h1", "h2", "h3", "h4", "h5", "h6"]),
     (BuiltIn::LineBreak, &["br"]),
     (BuiltIn::ThematicBreak, &["hr"]),
+    (BuiltIn::Table, &["table"]),
+    (BuiltIn::TableCell, &["td", "th"]),
+    (BuiltIn::TableRow, &["tr"]),
+    (BuiltIn::TablePart, &["tbody"]),
+    (BuiltIn::TablePart, &["thead"]),
+    (BuiltIn::TablePart, &["caption"]),
     (BuiltIn::Paragraph, &["p"]),
     (BuiltIn::Preformatted, &["pre"]),
     (BuiltIn::HeadOrBody, &["head", "body"]),
@@ -59,6 +73,8 @@ impl BuiltIn {
         ensures proper { IfOk result (λ p. IsProper element.now.tree.now element.now.node (request_view p)) }
     {
         match self {
+            BuiltIn::ListElement => list::plan(alloc, element),
+            BuiltIn::ListItem => Ok(Request::OfPlan(plans::plain_plan(element))),
             BuiltIn::BlockQuote => Ok(Request::OfPlan(plans::plain_plan(element))),
             BuiltIn::Code => Ok(Request::OfPlan(code::plan(element))),
             BuiltIn::Strong => Ok(Request::OfPlan(plans::plain_plan(element))),
@@ -66,6 +82,10 @@ impl BuiltIn {
             BuiltIn::Heading => Ok(Request::OfPlan(plans::plain_plan(element))),
             BuiltIn::LineBreak => Ok(Request::OfPlan(br::plan(alloc, element)?)),
             BuiltIn::ThematicBreak => Ok(Request::OfPlan(hr::plan(alloc, element)?)),
+            BuiltIn::Table => table::plan(alloc, element),
+            BuiltIn::TableCell => Ok(Request::OfPlan(table_cell::plan(element))),
+            BuiltIn::TableRow => Ok(Request::OfPlan(table_part::plan_of_row(element))),
+            BuiltIn::TablePart => Ok(Request::OfPlan(table_part::plan_of_part(element))),
             BuiltIn::Paragraph => Ok(Request::OfPlan(plans::plain_plan(element))),
             BuiltIn::Preformatted => Ok(Request::OfPlan(pre::plan(element))),
             BuiltIn::HeadOrBody => Ok(Request::OfPlan(page::plan_of_part(element))),
@@ -89,6 +109,8 @@ impl BuiltIn {
             (_links.old ++ ((meaning_of self).finish (element_view element.now) (result_view content) _links.old).added)) }
     {
         match self {
+            BuiltIn::ListElement => list::finish(alloc, element, content),
+            BuiltIn::ListItem => list_item::finish(alloc, element, content),
             BuiltIn::BlockQuote => quote::finish(alloc, element, content),
             BuiltIn::Code => code::finish(alloc, element, content),
             BuiltIn::Strong => emphasis::finish(alloc, Emphasis::Strong, element, content),
@@ -96,6 +118,10 @@ impl BuiltIn {
             BuiltIn::Heading => headings::finish(alloc, element, content),
             BuiltIn::LineBreak => Ok(None),
             BuiltIn::ThematicBreak => Ok(None),
+            BuiltIn::Table => Ok(Some(content)),
+            BuiltIn::TableCell => plans::wrap(alloc, element, content),
+            BuiltIn::TableRow => table_part::finish(alloc, element, content),
+            BuiltIn::TablePart => table_part::finish(alloc, element, content),
             BuiltIn::Paragraph => plans::wrap(alloc, element, content),
             BuiltIn::Preformatted => pre::finish(alloc, element, content),
             BuiltIn::HeadOrBody => plans::wrap(alloc, element, content),
@@ -108,18 +134,38 @@ impl BuiltIn {
     /// What it makes of the contents that it asked for.
     pub(crate) fn finish_each(
         self,
-        _alloc: Global,
-        _element: &Element,
-        _contents: Contents,
+        alloc: Global,
+        element: &Element,
+        contents: Contents,
         _links: &mut Links,
     ) -> Result<Option<HandlerResult>, AllocError>
         ensures ok { IfOk result (λ r. answer_view r _links.new ≡ finish_answer
-            ((meaning_of self).finish_each (element_view _element.now) (results_view _contents.results.items)
-            (optional_result _contents.children) _links.old) _links.old) }
+            ((meaning_of self).finish_each (element_view element.now) (results_view contents.results.items)
+            (optional_result contents.children) _links.old) _links.old) }
         ensures err { OnErr result (Begins _links.old _links.new (_links.old
-            ++ ((meaning_of self).finish_each (element_view _element.now) (results_view _contents.results.items)
-            (optional_result _contents.children) _links.old).added)) }
+            ++ ((meaning_of self).finish_each (element_view element.now) (results_view contents.results.items)
+            (optional_result contents.children) _links.old).added)) }
     {
-        Ok(None)
+        match self {
+            BuiltIn::ListElement => list::finish_ordered(alloc, element, contents.results),
+            BuiltIn::ListItem => Ok(None),
+            BuiltIn::BlockQuote => Ok(None),
+            BuiltIn::Code => Ok(None),
+            BuiltIn::Strong => Ok(None),
+            BuiltIn::Emphasis => Ok(None),
+            BuiltIn::Heading => Ok(None),
+            BuiltIn::LineBreak => Ok(None),
+            BuiltIn::ThematicBreak => Ok(None),
+            BuiltIn::Table => table::finish(alloc, element, contents),
+            BuiltIn::TableCell => Ok(None),
+            BuiltIn::TableRow => Ok(None),
+            BuiltIn::TablePart => Ok(None),
+            BuiltIn::Paragraph => Ok(None),
+            BuiltIn::Preformatted => Ok(None),
+            BuiltIn::HeadOrBody => Ok(None),
+            BuiltIn::Html => Ok(None),
+            BuiltIn::Span => Ok(None),
+            BuiltIn::OtherBlock => Ok(None),
+        }
     }
 }

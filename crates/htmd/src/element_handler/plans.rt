@@ -2,14 +2,16 @@
 
 ghost use Rattle.std.specs.Prelude.{◌≡◌, ◌&&◌, ◌||◌, not, IfOk, length, map};
 ghost use Rattle.std.specs.Option.{option_copied};
+ghost use Rattle.htmd_tree.specs.Views.{pairs_of};
 ghost use Rattle.htmd.specs.ElementViews as spec;
 ghost use Rattle.htmd.specs.Outputs.{is_pure};
 ghost use Rattle.htmd.specs.Sections.{wrapped_result};
-ghost use Rattle.htmd.specs.Views.{plan_view, element_view, result_view, optional_result};
+ghost use Rattle.htmd.specs.Views.{plan_view, element_view, result_view, results_view, optional_result};
 
 use super::{Element, HandlerResult, Plan};
 use crate::options::{Options, TranslationMode};
 use htmd_text::{surround_with_blank_lines, trim_newlines};
+use htmd_tree::{Attribute, raw_block};
 use std::alloc::{AllocError, Global};
 
 /// Whether Markdown alone is written.
@@ -100,4 +102,42 @@ pub(crate) fn wrap(
     trim_newlines(&mut text);
     surround_with_blank_lines(&mut text)?;
     Ok(Some(HandlerResult::from_string(text)))
+}
+
+/// The value of the first attribute of this name.
+pub(crate) fn find_value<'e>(attrs: &'e [Attribute], name: &str) -> Option<&'e str>
+    ensures { option_copied result ≡ spec.value_of_first name.now (pairs_of attrs.now) }
+{
+    for attribute in attrs {
+        if attribute.name.as_str() == name {
+            return Some(attribute.value.as_str());
+        }
+    }
+    None
+}
+
+/// Whether all of these are Markdown.
+pub(crate) fn are_markdown(contents: &[HandlerResult]) -> bool
+    ensures { result ≡ spec.are_markdown (results_view contents.now) }
+{
+    for content in contents {
+        if !content.markdown_translated {
+            return false;
+        }
+    }
+    true
+}
+
+/// The raw HTML of a block element, for a handler that finds its content to be no Markdown.
+pub(crate) fn raw_block_result(
+    alloc: Global,
+    element: &Element,
+) -> Result<HandlerResult, AllocError>
+    ensures { IfOk result (λ r. result_view r ≡ spec.raw_block_result (element_view element.now)) }
+{
+    let content = raw_block(alloc, element.tree, element.node)?;
+    Ok(HandlerResult {
+        content,
+        markdown_translated: false,
+    })
 }

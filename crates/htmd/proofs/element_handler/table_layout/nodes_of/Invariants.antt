@@ -1,0 +1,7 @@
+use Rattle.std.proofs.Common.{◌≡◌, take}
+use Rattle.htmd.specs.TableElements.{nodes_of}
+use Rattle.htmd.specs.TableLayouts.{parts_view}
+use Rattle.htmd.proofs.element_handler.table_layout.nodes_of.Given as goal
+
+abbrev pub invariant-loop-part : goal.invariant-loop-part
+invariant-loop-part l = l.nodes.items ≡ nodes_of (parts_view (take l.part-index l.parts))

@@ -1,0 +1,105 @@
+-- The handlers of ol, ul and li.
+use Rattle.std.specs.Prelude.{ℕ, Bool, true, false, not, ◌&&◌, ◌||◌, if◌then◌else◌, List, [], ◌∷◌, length, map}
+use Rattle.std.specs.Prelude.{Option, Some, None, codes}
+use Rattle.std.specs.List.{list_any, zip}
+use Rattle.std.specs.Str.{bytes_eq}
+use Rattle.htmd_markdown.specs.ListItems.{bullet_item, unnumbered_item}
+use Rattle.htmd_markdown.specs.Lists.{first_number, Block, item, other, ordered_list, list_block}
+use Rattle.htmd_tree.specs.ValueTrees.{AttributePair}
+use Rattle.htmd_tree.specs.Items.{Item, data_at, children_of}
+use Rattle.htmd_tree.specs.Items as tree
+use Rattle.htmd.specs.Handling.{ElementView, ResultView, PlanView, raw_html, content_of_children, contents_of_each}
+use Rattle.htmd.specs.Handling.{HandlerMeaning, without_definitions, of_plan}
+use Rattle.htmd.specs.Outputs.{is_pure}
+use Rattle.htmd.specs.ElementViews.{tag_of, attributes_of, parent_tag, is_tag_among, is_raw_html_due, plain_plan}
+use Rattle.htmd.specs.ElementViews.{value_of_first, are_markdown, raw_block_result}
+use Rattle.htmd.specs.Sections.{markdown_result}
+use Rattle.htmd.specs.Inline.{optional_markdown}
+
+-- ---- ol and ul
+
+-- how many attributes a list may have: `start`, where it stands first
+abbrev pub allowed_attributes : List AttributePair → ℕ
+allowed_attributes [] = 0
+allowed_attributes (a ∷ attributes) = if bytes_eq a.name (codes "start") then 1 else 0
+
+-- an element that is no item; among children only elements have tags
+abbrev pub is_other_tag : Option (List ℕ) → Bool
+is_other_tag None = false
+is_other_tag (Some tag) = not (bytes_eq tag (codes "li"))
+
+abbrev pub is_other_element : List Item → ℕ → Bool
+is_other_element items node = is_other_tag (tree.tag_of (data_at items node))
+
+-- in Faithful, what is raw HTML before anything is converted
+abbrev pub is_raw_list : ElementView → Bool
+is_raw_list view =
+    is_raw_html_due view (allowed_attributes (attributes_of view))
+    || (not (is_pure view.options)
+    && (not view.markdown_translated || list_any (is_other_element view.items) (children_of view.items view.node)))
+
+abbrev pub is_ordered : ElementView → Bool
+is_ordered view = bytes_eq (tag_of view) (codes "ol")
+
+-- of an ordered list each child by itself
+abbrev pub list_plan : ElementView → PlanView
+list_plan view =
+    if is_raw_list view then raw_html
+    else (if is_ordered view then contents_of_each (children_of view.items view.node) false else content_of_children)
+
+abbrev pub is_in_item : ElementView → Bool
+is_in_item view = is_tag_among (codes "li" ∷ []) (parent_tag view)
+
+-- a list among the blocks around it; in Faithful a list that isn't Markdown throughout is raw HTML
+abbrev pub list_result : ElementView → ResultView → Option ResultView
+list_result view list =
+    if is_pure view.options || list.markdown_translated
+    then optional_markdown (list_block (is_in_item view) list.content)
+    else Some (raw_block_result view)
+
+-- what a child gives: an item its content, which gets a number, another child a text
+abbrev pub block_of_child : Option (List ℕ) → List ℕ → Block
+block_of_child tag content = if is_tag_among (codes "li" ∷ []) tag then item content else other content
+
+-- the children's contents, in order
+abbrev pub blocks_of_list : List Item → List ℕ → List ResultView → List Block
+blocks_of_list items children contents =
+    map (λ p. block_of_child (tree.tag_of (data_at items p.0)) p.1.content) (zip children contents)
+
+abbrev pub blocks_of : ElementView → List ResultView → List Block
+blocks_of view contents = blocks_of_list view.items (children_of view.items view.node) contents
+
+abbrev pub first_number_of : ElementView → ℕ
+first_number_of view = first_number (value_of_first (codes "start") (attributes_of view))
+
+-- the items behind their numbers, and the other children's contents
+abbrev pub numbered_list : ElementView → List ResultView → ResultView
+numbered_list view contents = record {
+  content = ordered_list (first_number_of view) view.options.ol_number_spacing (blocks_of view contents);
+  markdown_translated = are_markdown contents;
+}
+
+abbrev pub ordered_result : ElementView → List ResultView → Option ResultView
+ordered_result view contents = list_result view (numbered_list view contents)
+
+abbrev pub lists : HandlerMeaning
+lists = record {
+  plan = list_plan;
+  finish = λ view content definitions. without_definitions (list_result view content);
+  finish_each = λ view contents children definitions. without_definitions (ordered_result view contents);
+  append = λ definitions. None;
+}
+
+-- ---- li
+
+abbrev pub is_in_ordered : ElementView → Bool
+is_in_ordered view = is_tag_among (codes "ol" ∷ []) (parent_tag view)
+
+-- under ol the list puts the number before the item
+abbrev pub item_result : ElementView → ResultView → Option ResultView
+item_result view content = markdown_result
+    (if is_in_ordered view then unnumbered_item content.content
+    else bullet_item view.options.bullet_list_marker view.options.ul_bullet_spacing content.content)
+
+abbrev pub list_items : HandlerMeaning
+list_items = of_plan plain_plan item_result

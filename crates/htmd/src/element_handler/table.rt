@@ -1,0 +1,281 @@
+//! The handler of `table`.
+
+ghost use Rattle.std.specs.Prelude.{◌≡◌, ◌<◌, ◌++◌, IfOk, OnOk, map, length, string_bytes};
+ghost use Rattle.std.specs.Option.{option_map};
+ghost use Rattle.htmd_text.specs.Trims.{trimmed_text, some_text, is_line_feed};
+ghost use Rattle.htmd_text.specs.BlankLines.{with_blank_lines};
+ghost use Rattle.std.specs.List.{list_any, flat_map};
+ghost use Rattle.htmd_tree.specs.Items.{IsTree};
+ghost use Rattle.htmd_tree.specs.NumberedTrees.{tree_of};
+ghost use Rattle.htmd_tree.specs.Ancestors.{ancestors_of};
+ghost use Rattle.htmd.specs.Groups.{children_at};
+ghost use Rattle.htmd.specs.Handling.{IsProper};
+ghost use Rattle.htmd.specs.TableElements as spec;
+ghost use Rattle.htmd.specs.TableLayouts.{parts_view, texts_view};
+ghost use Rattle.htmd.specs.Views.{element_view, result_view, results_view, optional_result};
+ghost use Rattle.htmd.specs.Walking.{request_view};
+
+use super::plans::{are_markdown, is_plain, is_pure, raw_block_result};
+use super::registry::{Contents, Request};
+use super::table_layout::{Part, PartKind, has_tag, layout_of, nodes_of};
+use super::{Element, HandlerResult, Plan};
+use htmd_markdown::write_table;
+use htmd_text::{TrimDocumentWhitespace, surround_with_blank_lines, trim_newlines};
+use htmd_tree::{NodeId, Tree};
+use std::alloc::{AllocError, Global};
+
+/// The texts of a table's parts, and whether all of its cells are Markdown.
+#[derive(Drop)]
+pub(crate) struct TableTexts {
+    captions: Vec<String>,
+    headers: Vec<String>,
+    rows: Vec<Vec<String>>,
+    markdown_translated: bool,
+}
+
+/// Whether a node is `th` or `thead`.
+fn is_header(tree: &Tree, node: NodeId) -> bool
+    requires { node < length tree.now }
+    ensures { result ≡ spec.has_tag spec.header_tags tree.now node }
+{
+    matches!(tree.tag_name(node), Some("th" | "thead"))
+}
+
+/// Whether `th` or `thead` stands below a node, where no table is looked into.
+fn has_header_below(tree: &Tree, node: NodeId) -> bool
+    requires { node < length tree.now }
+    ensures { result ≡ spec.has_header_below (tree_of tree.now node) }
+{
+    for child in tree.children(node) {
+        if is_header(tree, *child) {
+            return true;
+        }
+        if has_tag(tree, *child, "table") {
+            continue;
+        }
+        if has_header_below(tree, *child) {
+            return true;
+        }
+    }
+    false
+}
+
+/// Whether `th` or `thead` stands below a table: only tables among its own children are looked into.
+fn has_explicit_headers(tree: &Tree, table: NodeId) -> bool
+    requires { table < length tree.now }
+    ensures { result ≡ spec.has_explicit_headers (children_at tree.now table) }
+{
+    for child in tree.children(table) {
+        if is_header(tree, *child) {
+            return true;
+        }
+        if has_header_below(tree, *child) {
+            return true;
+        }
+    }
+    false
+}
+
+/// Whether a node is `td` or `th`.
+fn is_cell(tree: &Tree, node: NodeId) -> bool
+    requires { node < length tree.now }
+    ensures { result ≡ spec.has_tag spec.cell_tags tree.now node }
+{
+    matches!(tree.tag_name(node), Some("td" | "th"))
+}
+
+/// Whether an ancestor is `td` or `th`.
+fn is_in_cell(tree: &Tree, node: NodeId) -> bool
+    requires { node < length tree.now }
+    ensures { result ≡ list_any spec.is_cell (ancestors_of tree.now node) }
+{
+    let mut at = node;
+    while let Some(parent) = tree.parent(at) {
+        if is_cell(tree, parent) {
+            return true;
+        }
+        at = parent;
+    }
+    false
+}
+
+/// Whether the next handler is asked.
+fn is_left_out(element: &Element) -> bool
+    ensures { result ≡ spec.is_left_out (element_view element.now) }
+{
+    if !is_pure(element.options) {
+        return false;
+    }
+    !has_explicit_headers(element.tree, element.node) || is_in_cell(element.tree, element.node)
+}
+
+/// The captions and cells of a table, each by itself, and the children's content where there are
+/// neither headers nor rows.
+pub(crate) fn plan(alloc: Global, element: &Element) -> Result<Request, AllocError>
+    ensures plan { IfOk result (λ p. request_view p ≡ spec.table_plan (element_view element.now)) }
+    ensures proper { IfOk result (λ p. IsProper element.now.tree.now element.now.node (request_view p)) }
+{
+    if !is_plain(element) {
+        return Ok(Request::OfPlan(Plan::RawHtml));
+    }
+    if is_left_out(element) {
+        return Ok(Request::OfPlan(Plan::Fallback));
+    }
+    let layout = layout_of(alloc, element.tree, element.node)?;
+    let nodes = nodes_of(alloc, &layout.parts)?;
+    Ok(Request::Each {
+        nodes,
+        children: !layout.has_lines(),
+    })
+}
+
+/// The content without document white space at its ends.
+fn cell_text(alloc: Global, content: &HandlerResult) -> Result<String, AllocError>
+    ensures { IfOk result (λ text. string_bytes text ≡ spec.text_of_cell (result_view content.now)) }
+{
+    String::from_str(alloc, content.content.trim_document_whitespace())
+}
+
+/// The contents without document white space at their ends.
+fn texts_of(alloc: Global, contents: &[HandlerResult]) -> Result<Vec<String>, AllocError>
+    ensures { IfOk result (λ texts. map (λ text. string_bytes text) texts.items
+        ≡ map spec.text_of_cell (results_view contents.now)) }
+{
+    let mut texts = Vec::with_capacity(alloc, contents.len())?;
+    for content in contents {
+        texts.push(cell_text(alloc, content)?)?;
+    }
+    Ok(texts)
+}
+
+impl TableTexts {
+    /// The contents of one more part.
+    fn push(
+        &mut self,
+        alloc: Global,
+        kind: PartKind,
+        contents: &[HandlerResult],
+    ) -> Result<(), AllocError>
+        ensures { OnOk result
+            (texts_view self.new ≡ spec.with_part (texts_view self.old) kind (results_view contents.now)) }
+    {
+        let mut texts = texts_of(alloc, contents)?;
+        match kind {
+            PartKind::Caption => self.captions.append(&mut texts)?,
+            PartKind::Headers => {
+                self.headers = texts;
+                self.markdown_translated = self.markdown_translated && are_markdown(contents);
+            }
+            PartKind::Row => {
+                self.rows.push(texts)?;
+                self.markdown_translated = self.markdown_translated && are_markdown(contents);
+            }
+        }
+        Ok(())
+    }
+}
+
+/// The contents of the parts, in order.
+fn texts_of_parts(
+    alloc: Global,
+    parts: &[Part],
+    contents: &[HandlerResult],
+) -> Result<TableTexts, AllocError>
+    ensures { IfOk result (λ texts. texts_view texts
+        ≡ spec.with_parts spec.no_texts (parts_view parts.now) (results_view contents.now)) }
+{
+    let mut texts = TableTexts {
+        captions: Vec::new(alloc),
+        headers: Vec::new(alloc),
+        rows: Vec::new(alloc),
+        markdown_translated: true,
+    };
+    let mut rest = contents;
+    for part in parts {
+        let (own, behind) = rest.split_at(part.nodes.len().min(rest.len()));
+        texts.push(alloc, part.kind, own)?;
+        rest = behind;
+    }
+    Ok(texts)
+}
+
+/// Puts a line behind a text.
+fn push_line(out: &mut String, line: &str) -> Result<(), AllocError>
+    ensures { OnOk result (string_bytes out.new ≡ string_bytes out.old ++ spec.in_line line.now) }
+{
+    out.push_str(line)?;
+    out.push_str("\n")?;
+    Ok(())
+}
+
+/// Puts each caption in a line of its own.
+fn push_captions(out: &mut String, captions: &[String]) -> Result<(), AllocError>
+    ensures { OnOk result (string_bytes out.new
+        ≡ string_bytes out.old ++ flat_map spec.in_line (map (λ text. string_bytes text) captions.now)) }
+{
+    for caption in captions {
+        push_line(out, caption.as_str())?;
+    }
+    Ok(())
+}
+
+/// The captions, and then the headers and rows.
+fn write_texts(alloc: Global, texts: &TableTexts) -> Result<String, AllocError>
+    ensures { IfOk result (λ text. string_bytes text ≡ spec.table_text (texts_view texts.now)) }
+{
+    let lines = write_table(alloc, &texts.headers, &texts.rows)?;
+    let mut text = String::with_capacity(alloc, lines.len().saturating_add(3))?;
+    text.push_str("\n\n")?;
+    push_captions(&mut text, &texts.captions)?;
+    push_line(&mut text, lines.as_str())?;
+    Ok(text)
+}
+
+/// The text without line feeds at its ends, with blank lines around; nothing where it is empty.
+fn surrounded(mut text: String) -> Result<Option<String>, AllocError>
+    ensures { IfOk result (λ block. option_map string_bytes block
+        ≡ option_map with_blank_lines (some_text (trimmed_text is_line_feed (string_bytes text)))) }
+{
+    trim_newlines(&mut text);
+    if text.is_empty() {
+        return Ok(None);
+    }
+    surround_with_blank_lines(&mut text)?;
+    Ok(Some(text))
+}
+
+/// The table; without headers and rows the children's content, which is asked for there alone.
+fn table_block(
+    alloc: Global,
+    texts: &TableTexts,
+    children: Option<HandlerResult>,
+) -> Result<Option<String>, AllocError>
+    ensures { IfOk result (λ block. option_map string_bytes block
+        ≡ spec.table_block (texts_view texts.now) (optional_result children)) }
+{
+    match children {
+        Some(content) => surrounded(content.content),
+        None => Ok(Some(write_texts(alloc, texts)?)),
+    }
+}
+
+/// The table, or its raw HTML where a cell is no Markdown.
+pub(crate) fn finish(
+    alloc: Global,
+    element: &Element,
+    contents: Contents,
+) -> Result<Option<HandlerResult>, AllocError>
+    ensures { IfOk result (λ r. optional_result r ≡ spec.table_result (element_view element.now)
+        (results_view contents.results.items) (optional_result contents.children)) }
+{
+    let layout = layout_of(alloc, element.tree, element.node)?;
+    let Contents { results, children } = contents;
+    let texts = texts_of_parts(alloc, &layout.parts, &results)?;
+    if !is_pure(element.options) && !texts.markdown_translated {
+        return Ok(Some(raw_block_result(alloc, element)?));
+    }
+    match table_block(alloc, &texts, children)? {
+        Some(text) => Ok(Some(HandlerResult::from_string(text))),
+        None => Ok(None),
+    }
+}
