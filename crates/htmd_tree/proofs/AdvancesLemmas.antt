@@ -1,6 +1,6 @@
 -- What the calls of a reader leave, by the grammar's steps.
 use Rattle.std.proofs.Common.{◌≡◌, ℕ, suc, ◌+◌, ◌-◌, ◌<◌, ◌≤◌, Bool, true, false, cond, ◌&&◌, List, [], ◌∷◌, ◌++◌, length, refl}
-use Rattle.std.proofs.Common.{sym, ap, ◌∙◌, subst, arith, Ok, Err, Option, Some, None, IsSome}
+use Rattle.std.proofs.Common.{sym, ap, ◌∙◌, subst, arith, Ok, Err, OnOk, Option, Some, None, IsSome}
 use Rattle.std.specs.Option.{option_to_list}
 use Rattle.std.proofs.lemmas.List.{length-append}
 use Rattle.std.specs.Prelude.{nat_le, nat_lt}
@@ -112,6 +112,11 @@ pub reading_after : (old new : Reader) (has_doctype : Bool) (s : Step) → Follo
     → IsReading new
 reading_after old new has_doctype (Ok st) at = reading_at new has_doctype st.stack at.holds
 reading_after old new has_doctype (Err kind) at = absurd at
+
+pub reading_either : (old new : Reader) (has_doctype : Bool) (r : Answer) (s : Step)
+    → Follows old new has_doctype r s → OnOk r (IsReading new)
+reading_either old new has_doctype (Ok x) s f = reading_after old new has_doctype s f
+reading_either old new has_doctype (Err stop) s f = tt
 
 pub stop_follows : (old new : Reader) (has_doctype : Bool) (fs : List OpenElement) (stop : Stop) (s : Step)
     → StopsDeep old fs stop → Follows old new has_doctype (Err stop)
