@@ -1,8 +1,8 @@
 -- Where a comment ends.
 use Rattle.std.proofs.Common.{◌≡◌, ℕ, ◌+◌, ◌<◌, ◌≤◌, true, false, List, [], ◌∷◌, length}
 use Rattle.std.proofs.Common.{take, drop, get_or, codes}
-use Rattle.std.proofs.Common.{None, Some, Option, refl, ap, sym, subst, ◌∙◌, arith}
-use Rattle.std.proofs.lemmas.Bool.{and_parts, and_right}
+use Rattle.std.proofs.Common.{⊎_elim, None, Some, Option, refl, ap, sym, subst, ◌∙◌, arith}
+use Rattle.std.proofs.lemmas.Bool.{and_parts, and_right, cases_eq}
 use Rattle.std.proofs.lemmas.Bool.Decides.{nat_tests}
 use Rattle.std.proofs.lemmas.List.{get_or-drop, length-drop, drop-drop}
 use Rattle.std.proofs.lemmas.Str.{IsCharBoundary-before_ascii, IsCharBoundary-after_ascii}
@@ -78,3 +78,29 @@ cut_behind s n u e k =
     let h = at_end s n e k in
     let q : n + 2 + 1 ≡ n + 3 = omega arith in
     subst (IsCharBoundary s) q (IsCharBoundary-after_ascii s (n + 2) u (omega (arith, h.0)) (omega (arith, h.2)))
+
+abbrev Cut : Type 0
+Cut = List ℕ × List ℕ
+
+-- what follows a comment is no longer than what held it
+pub comment_within : (s body rest : List ℕ) → Some (body, rest) ≡ before_comment_end s → length rest ≤ length s
+comment_within s body rest e =
+    ⊎_elim
+    (λ q. absurd (let f : Some (body, rest) ≡ None = e ∙ no_comment_end s q in cc))
+    (λ k. let f = e ∙ comment_end s (length (ends s)) refl k in
+    let q : ◌≡◌ {A = Cut} (body, rest) (take (length (ends s)) s, drop (length (ends s) + 3) s) = cc in
+    let r : rest ≡ drop (length (ends s) + 3) s = ap (λ (x : Cut). x.1) q in
+    omega (arith, ap length r, length-drop (length (ends s) + 3) s))
+    (cases_eq (length (ends s)) (length s))
+
+-- the text may be cut behind the dashes of a comment
+pub dashes_cut : (s : List ℕ) → IsUtf8 s → begins_with (codes "--") s ≡ true → IsCharBoundary s 2
+dashes_cut [] u e = absurd (cc)
+dashes_cut (b ∷ []) u e = absurd (let q = rw (and_right (b == 45) false refl) at e in cc)
+dashes_cut (b ∷ c ∷ s) u e =
+    let q = and_parts (b == 45) ((c == 45) && true) e in
+    let r = and_parts (c == 45) true q.1 in
+    IsCharBoundary-after_ascii (b ∷ c ∷ s) 1 u (omega arith) (low c r.0)
+  where
+    low : (x : ℕ) → (x == 45) ≡ true → x < 128
+    low x h = grind (arith, nat_tests)

@@ -187,8 +187,10 @@ module _ (items : List Item) where
               (below_is d p b (element_node name attributes) at name attributes c refl a) i (omega arith) (omega arith))
           | inr out ↦ let same : b ≡ k = omega arith in
               subst (λ j. IsIn c (element name attributes children) (ancestor_names items j) (value_at items j)) same
-              (inl (names_at d p b (element_node name attributes) at c a,
-              element_value d p b name attributes children before rest e n h l none_there))
+              (inl (
+                names_at d p b (element_node name attributes) at c a,
+                element_value d p b name attributes children before rest e n h l none_there,
+              ))
         ]
 
     pub forest_parts : (ts : ValueForest) (d p b k : ℕ) (c : Context) (before rest : List Item)
@@ -303,5 +305,7 @@ mutual
       → ReadsForest rules c last ts s → are_content ts ≡ true
   forest_is_content rules none c last s h = refl
   forest_is_content rules (more t ts) c last s h =
-      rw (tree_is_content rules t c (may_end_rows last ts (h.1)) (h.0) (h.4),
-      forest_is_content rules ts c last (h.1) (h.5)) refl
+      rw (
+        tree_is_content rules t c (may_end_rows last ts (h.1)) (h.0) (h.4),
+        forest_is_content rules ts c last (h.1) (h.5),
+      ) refl

@@ -152,13 +152,19 @@ implied_is_inner reader o r t i = each (r.2) (r.3)
 pub joined : (old middle new : Reader) (has_doctype : Bool) (fs gs : List OpenElement) (r : Answer)
     → Reaches (rules_of old) above_body (place fs old.rest.now) (place gs middle.rest.now)
     → middle.scripting ≡ old.scripting → Advances middle new has_doctype gs r → Advances old new has_doctype fs r
-joined old middle new has_doctype fs gs (Ok x) p e a =
-    (a.0, record { holds = a.1.holds; run = a.1.run; rest = a.1.rest; scripting = a.1.scripting ∙ e },
-    reaches_then p (subst (λ b. Reaches (project b) above_body (place gs middle.rest.now) (a.0)) e (a.2)))
+joined old middle new has_doctype fs gs (Ok x) p e a = (
+  a.0,
+  record { holds = a.1.holds; run = a.1.run; rest = a.1.rest; scripting = a.1.scripting ∙ e },
+  reaches_then p (subst (λ b. Reaches (project b) above_body (place gs middle.rest.now) (a.0)) e (a.2)),
+)
 joined old middle new has_doctype fs gs (Err Memory) p e a = tt
-joined old middle new has_doctype fs gs (Err (Refused left kind)) p e a =
-    (a.0, reaches_then p (subst (λ b. Reaches (project b) above_body (place gs middle.rest.now) (a.0)) e (a.1)),
-    subst (λ b. step (project b) above_body (a.0) ≡ Err kind) e (a.2), a.3, a.4)
+joined old middle new has_doctype fs gs (Err (Refused left kind)) p e a = (
+  a.0,
+  reaches_then p (subst (λ b. Reaches (project b) above_body (place gs middle.rest.now) (a.0)) e (a.1)),
+  subst (λ b. step (project b) above_body (a.0) ≡ Err kind) e (a.2),
+  a.3,
+  a.4,
+)
 
 module _ (old middle new : Reader) (has_doctype : Bool) (fs : List OpenElement) (r : Answer)
     (s : HasSettled old middle has_doctype fs) (same : middle.rest.now ≡ old.rest.now)
@@ -306,10 +312,14 @@ ends_open old new has_doctype fs stop h e l same =
     let n : length new.stack.items ≡ length h.opened = ap length (h.holds).stack_is
     ∙ length-open_nodes new.scripting has_doctype h.opened in
     let two : 1 < length h.opened = omega arith in
-    subst (λ x. Ends old new has_doctype fs (Err x)) (sym same)
-    (place h.opened new.rest.now, h.reaches,
-    ap (λ t. step (rules_of old) above_body (place h.opened t)) (empty_is new.rest.now e)
-    ∙ end_is (rules_of old) h.opened, (λ _. two), refl)
+    subst (λ x. Ends old new has_doctype fs (Err x)) (sym same) (
+      place h.opened new.rest.now,
+      h.reaches,
+      ap (λ t. step (rules_of old) above_body (place h.opened t)) (empty_is new.rest.now e)
+          ∙ end_is (rules_of old) h.opened,
+      (λ _. two),
+      refl,
+    )
 
 body_is : (f : OpenElement) → f.name ≡ codes "body" → f.attributes ≡ [] → f.implied ≡ false
     → f ≡ with_children body f.children
@@ -336,11 +346,13 @@ ends_well old new has_doctype fs h e l = each h.opened h.holds h.reaches
         ∙ length-open_nodes new.scripting has_doctype (f ∷ g ∷ gs) in
         absurd (omega arith)
     each (f ∷ []) i p =
-        let b : f ≡ with_children body f.children = body_is f (i.are_open.0) (i.are_open.1) (i.are_open.2) in
-        (f.children, i.tree_is ∙ ap (λ x. stack_items has_doctype (x ∷ [])) b,
-        subst (λ x. Reaches (rules_of old) above_body (place fs old.rest.now) (place (x ∷ []) [])) b
-        (subst (λ t. Reaches (rules_of old) above_body (place fs old.rest.now) (place (f ∷ []) t))
-        (empty_is new.rest.now e) p))
+        let b : f ≡ with_children body f.children = body_is f (i.are_open.0) (i.are_open.1) (i.are_open.2) in (
+          f.children,
+          i.tree_is ∙ ap (λ x. stack_items has_doctype (x ∷ [])) b,
+          subst (λ x. Reaches (rules_of old) above_body (place fs old.rest.now) (place (x ∷ []) [])) b
+              (subst (λ t. Reaches (rules_of old) above_body (place fs old.rest.now) (place (f ∷ []) t))
+              (empty_is new.rest.now e) p),
+        )
 
 -- ---- what is kept of the innermost open element
 

@@ -116,7 +116,7 @@ module _ (scripting : Bool) (c : Context) where
         not_named (codes "form") n s,
         not_named (codes "nobr") n t,
         not_named (codes "select") n u,
-        not_named (codes "option") n v
+        not_named (codes "option") n v,
       ) refl))))))
 
   allowed_there : (n : List ℕ) → flags_allow (place_of scripting c) n ≡ is_allowed scripting c n

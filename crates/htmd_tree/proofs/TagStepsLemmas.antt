@@ -135,7 +135,7 @@ content_within n s =
     let k = after_within s in test (drops_line_feed n) (λ e. rw e k) (λ e. rw e (omega arith))
 
 module _ (rules : Rules) (outer : Context) where
-  add_within : (fs : List OpenElement) (t : ValueTree) (rest : List ℕ) → Within (length rest) (add rules outer fs t rest)
+  pub add_within : (fs : List OpenElement) (t : ValueTree) (rest : List ℕ) → Within (length rest) (add rules outer fs t rest)
   add_within fs t rest =
       cond_within (length rest) (is_too_deep rules outer fs) _ (between (with_tree fs t) rest) tt (omega arith)
 

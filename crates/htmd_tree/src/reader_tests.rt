@@ -65,8 +65,14 @@ fn accepted(rt: HostRuntime) -> Result<(), Fail> {
         ("<script>if (a<b) x</script>", "<script>if (a<b) x</script>"),
         ("AT&T", "AT&amp;T"),
         ("a&amp;b", "a&amp;b"),
-        ("<table><tr><td>x</td></tr></tbody></table>", "<table><tbody><tr><td>x</td></tr></tbody></table>"),
-        ("<table><tr></tr><tfoot></tfoot></table>", "<table><tbody><tr></tr></tbody><tfoot></tfoot></table>"),
+        (
+            "<table><tr><td>x</td></tr></tbody></table>",
+            "<table><tbody><tr><td>x</td></tr></tbody></table>",
+        ),
+        (
+            "<table><tr></tr><tfoot></tfoot></table>",
+            "<table><tbody><tr></tr></tbody><tfoot></tfoot></table>",
+        ),
         ("<p>a<b c=\"d\">e</b></p>", "<p>a<b c=\"d\">e</b></p>"),
         ("a\r\nb\rc", "a\nb\nc"),
         ("<!--a\r\n-->", "<!--a\n-->"),
@@ -88,8 +94,10 @@ fn doctypes(rt: HostRuntime) -> Result<(), Fail> {
         "<!doctype\tHTML ><p>a</p>",
         "\u{feff}<!DOCTYPE html><p>a</p>",
     ] {
-        assert_eq!(rt; written(alloc, html)?.as_str(),
-            "<!DOCTYPE html><html><head></head><body><p>a</p></body></html>");
+        assert_eq!(rt;
+            written(alloc, html)?.as_str(),
+            "<!DOCTYPE html><html><head></head><body><p>a</p></body></html>"
+        );
     }
     Ok(())
 }
@@ -101,7 +109,8 @@ fn scripting_off(rt: HostRuntime) -> Result<(), Fail> {
         let tree = read_html(alloc, "<noscript>&amp;</noscript>", scripting)?;
         let text = serialize(alloc, &tree, tree.root())?;
         let want = format!(in alloc;
-            "<html><head></head><body><noscript>{want}</noscript></body></html>")?;
+            "<html><head></head><body><noscript>{want}</noscript></body></html>"
+        )?;
         assert_eq!(rt; text.as_str(), want.as_str());
     }
     Ok(())
@@ -117,9 +126,17 @@ fn refused(rt: HostRuntime) -> Result<(), Fail> {
         ("<b></i>", 3, FaultKind::StrayEndTag),
         ("<br></br>", 4, FaultKind::StrayEndTag),
         ("<a><b><a></a></b></a>", 6, FaultKind::NotAllowedHere),
-        ("<ul><li>a<li>b</li></li></ul>", 9, FaultKind::NotAllowedHere),
+        (
+            "<ul><li>a<li>b</li></li></ul>",
+            9,
+            FaultKind::NotAllowedHere,
+        ),
         ("<select><b></b></select>", 8, FaultKind::NotAllowedHere),
-        ("<table><tr><td>x</td></tr>y</table>", 26, FaultKind::StrayText),
+        (
+            "<table><tr><td>x</td></tr>y</table>",
+            26,
+            FaultKind::StrayText,
+        ),
         ("<textarea>a", 11, FaultKind::Unclosed),
         ("<title>&bogus;", 7, FaultKind::UnknownReference),
         ("<title></i>&bogus;", 11, FaultKind::UnknownReference),
@@ -237,7 +254,10 @@ fn depths(rt: HostRuntime) -> Result<(), Fail> {
     assert!(rt; read_html(alloc, deepest.as_str(), true).is_ok());
     let deeper = nested(alloc, 1023, true)?;
     let refusal = Err(ReadError::Refused { place: 5110, kind });
-    assert_eq!(rt; read_html(alloc, deeper.as_str(), true).map(|_| ()), refusal);
+    assert_eq!(rt;
+        read_html(alloc, deeper.as_str(), true).map(|_| ()),
+        refusal
+    );
     let mut table = nested(alloc, 1020, false)?;
     table.push_str("<table><tr>")?;
     let refusal = Err(ReadError::Refused { place: 5107, kind });

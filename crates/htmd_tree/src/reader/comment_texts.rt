@@ -10,6 +10,13 @@ fn begins_end(bytes: &[u8]) -> bool
     matches!(bytes, [b'-', b'-', b'>', ..])
 }
 
+/// Whether the text begins with `--`.
+pub(crate) fn begins_dashes(bytes: &[u8]) -> bool
+    ensures { result ≡ begins_with (codes "--") bytes.now }
+{
+    matches!(bytes, [b'-', b'-', ..])
+}
+
 /// How many bytes stand before the first `-->`.
 fn comment_len(bytes: &[u8]) -> usize
     ensures bound { result ≤ length bytes.now }

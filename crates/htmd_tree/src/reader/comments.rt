@@ -5,7 +5,7 @@ ghost use Rattle.htmd_grammar.specs.Steps.{OpenElement, declaration_step};
 ghost use Rattle.htmd_tree.specs.OpenNodes.{Holds, IsReading};
 ghost use Rattle.htmd_tree.specs.Advances.{Follows, rules_of};
 
-use crate::reader::comment_texts::{is_comment_text, split_comment};
+use crate::reader::comment_texts::{begins_dashes, is_comment_text, split_comment};
 use crate::reader::line_ends::normalized;
 use crate::reader::{Reader, Stop};
 use crate::tree::NodeData;
@@ -22,7 +22,7 @@ impl<'a> Reader<'a> {
         ensures reading { OnOk result (IsReading self.new) }
         ensures shorter { OnOk result (length self.new.rest.now < length self.old.rest.now) }
     {
-        if !matches!(behind.as_bytes(), [b'-', b'-', ..]) {
+        if !begins_dashes(behind.as_bytes()) {
             return Err(self.refused(FaultKind::MalformedDeclaration));
         }
         match split_comment(&behind[2..]) {

@@ -331,8 +331,7 @@ impl Place {
     fn fits_lists(self, name: &str) -> bool
         ensures { result ≡ flags.flags_fit_lists self name.now }
     {
-        !(is_named(name, "li") && self.item)
-            && !(matches!(name, "dd" | "dt") && self.description)
+        !(is_named(name, "li") && self.item) && !(matches!(name, "dd" | "dt") && self.description)
     }
 
     /// Whether all that is kept lets an element of this name stand here.

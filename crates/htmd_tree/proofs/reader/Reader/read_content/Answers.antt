@@ -8,10 +8,12 @@ pub loop-self-init : goal.loop-self-init
 loop-self-init c = (c.requires.reading, λ has_doctype fs h. read_nothing c.args.self.now has_doctype fs h)
 
 pub loop-self-preserved : goal.loop-self-preserved
-loop-self-preserved c =
-    (c.in_ok-read_piece.ensures.reading, λ has_doctype fs h.
-    read_more c.args.self.now c.loop-self.self c.read_piece.new.self has_doctype fs
-    (c.loop-self.invariant.1 has_doctype fs h) c.in_ok-read_piece.ensures.advances)
+loop-self-preserved c = (
+  c.in_ok-read_piece.ensures.reading,
+  λ has_doctype fs h.
+      read_more c.args.self.now c.loop-self.self c.read_piece.new.self has_doctype fs
+      (c.loop-self.invariant.1 has_doctype fs h) c.in_ok-read_piece.ensures.advances,
+)
 
 pub returns-in_err-read_piece : goal.returns-in_err-read_piece
 returns-in_err-read_piece c = record {
