@@ -254,7 +254,10 @@ fn depths(rt: HostRuntime) -> Result<(), Fail> {
     assert!(rt; read_html(alloc, deepest.as_str(), true).is_ok());
     let deeper = nested(alloc, 1023, true)?;
     let refusal = ReadError::Refused { place: 5110, kind };
-    assert_eq!(rt; read_html(alloc, deeper.as_str(), true).err(), Some(refusal));
+    assert_eq!(rt;
+        read_html(alloc, deeper.as_str(), true).err(),
+        Some(refusal)
+    );
     let mut table = nested(alloc, 1020, false)?;
     table.push_str("<table><tr>")?;
     let refusal = ReadError::Refused { place: 5107, kind };
