@@ -18,5 +18,3 @@ pub mod Advances
 pub mod Runs
 pub mod TagParts
 pub mod TextRuns
-pub mod Runs
-pub mod TagParts
