@@ -1,10 +1,9 @@
-//! The answer to a case: `=` and a text, or `!`, the byte place and the kind of a refusal.
+//! The answer to a case: `=` and a text.
 use crate::encoding::push_encoded;
 use crate::faults::LineFault;
 use crate::settings::{Question, Settings};
 use htmd::options::{Options, TranslationMode};
 use htmd_cli::{Input, Mode, Output, RunError, run};
-use htmd_tree::{ReadError, read_html, serialize};
 use std::alloc::Global;
 
 /// Puts the answer to a text.
@@ -21,20 +20,6 @@ pub(crate) fn push_answer(
             push_encoded(answers, &markdown)?;
             Ok(())
         }
-        Question::Read => match read_html(alloc, text, settings.scripting) {
-            Ok(tree) => {
-                let html = serialize(alloc, &tree, tree.root())?;
-                answers.push('=')?;
-                push_encoded(answers, &html)?;
-                Ok(())
-            }
-            Err(ReadError::Refused { place, kind }) => {
-                let refusal = format!(in alloc; "!{place} {kind}")?;
-                answers.push_str(&refusal)?;
-                Ok(())
-            }
-            Err(ReadError::Memory) => Err(LineFault::Memory),
-        },
     }
 }
 

@@ -9,8 +9,6 @@ use std::alloc::{AllocError, Global};
 pub(crate) enum Question {
     /// the Markdown of the paragraph that has this text
     Text,
-    /// the HTML of the Document that this text denotes
-    Read,
 }
 
 /// The settings of a case.
@@ -37,7 +35,6 @@ impl Settings {
         for word in words.split_whitespace() {
             match word {
                 "text" => question = Some(Question::Text),
-                "read" => question = Some(Question::Read),
                 _ => settings.set(alloc, word)?,
             }
         }
