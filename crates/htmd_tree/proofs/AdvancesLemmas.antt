@@ -1,22 +1,21 @@
 -- What the calls of a reader leave, by the grammar's steps.
-use Rattle.std.proofs.Common.{◌≡◌, ℕ, suc, ◌+◌, ◌-◌, ◌<◌, ◌≤◌, Bool, true, false, cond, ◌&&◌, List, [], ◌∷◌, ◌++◌, length, refl}
-use Rattle.std.proofs.Common.{sym, ap, ◌∙◌, subst, arith, Ok, Err, OnOk, Option, Some, None, IsSome}
+use Rattle.std.proofs.Common.{◌≡◌, ℕ, ◌+◌, ◌<◌, ◌≤◌, Bool, true, false, cond, List, [], ◌∷◌, ◌++◌, length, refl}
+use Rattle.std.proofs.Common.{sym, ap, ◌∙◌, arith, Ok, Err, OnOk, Option, Some, None, IsSome}
 use Rattle.std.specs.Option.{option_to_list}
 use Rattle.std.proofs.lemmas.List.{length-append}
 use Rattle.std.specs.Prelude.{nat_le, nat_lt}
 use Rattle.std.proofs.lemmas.Bool.Decides.{nat_tests}
-use Rattle.htmd_grammar.specs.ValueTrees.{ValueTree, AttributePair, none, more}
+use Rattle.htmd_grammar.specs.ValueTrees.{AttributePair, none, more}
 use Rattle.htmd_grammar.specs.CharacterClasses.{is_empty}
 use Rattle.htmd_grammar.specs.Documents.{above_body}
-use Rattle.htmd_grammar.specs.Places.{is_tbody, is_table}
-use Rattle.htmd_grammar.specs.Steps.{OpenElement, State, Step, step, Reaches, here, via, names_of, closed, fresh}
+use Rattle.htmd_grammar.specs.Steps.{OpenElement, Step, step, here, via, names_of, closed, fresh}
 use Rattle.htmd_grammar.specs.Steps.{with_tree, add, fault, between, is_too_deep}
 use Rattle.htmd_grammar.specs.declared.fault.FaultKind.TheVariants.{TooDeep}
 use Rattle.htmd_tree.specs.Items.{Data, element_node, Item, depth_at, data_at, new_item, greatest_depth}
 use Rattle.htmd_tree.specs.PlaceFlags.{place_of}
-use Rattle.htmd_tree.specs.OpenNodes.{stack_items, innermost_number, innermost_name, open_node, open_nodes, AreOpen}
+use Rattle.htmd_tree.specs.OpenNodes.{stack_items, innermost_number, innermost_name, open_node, open_nodes}
 use Rattle.htmd_tree.specs.OpenNodes.{MayOpen, Holds, IsReading}
-use Rattle.htmd_tree.specs.Advances.{Answer, place, rules_of, IsAt, Follows, Advances, leaf, IsLeaf, HasAdded}
+use Rattle.htmd_tree.specs.Advances.{Answer, place, rules_of, Follows, Advances, leaf, IsLeaf, HasAdded}
 use Rattle.htmd_tree.specs.Advances.{StopsDeep}
 use Rattle.htmd_tree.specs.declared.reader.OpenNode.{OpenNode}
 use Rattle.htmd_tree.specs.declared.reader.Reader.{Reader}
@@ -24,7 +23,7 @@ use Rattle.htmd_tree.specs.declared.reader.places.Place.{Place}
 use Rattle.htmd_tree.specs.declared.reader.Stop.{Stop}
 use Rattle.htmd_tree.specs.declared.reader.Stop.TheVariants.{Memory, Refused}
 use Rattle.htmd_tree.proofs.OpenNodesLemmas.{top_depth, top_data, stack_items-leaf, stack_items-opened}
-use Rattle.htmd_tree.proofs.OpenNodesLemmas.{stack_items-closed, AreOpen-with, length-open_nodes}
+use Rattle.htmd_tree.proofs.OpenNodesLemmas.{stack_items-closed, AreOpen-with}
 
 -- ---- the innermost open element
 

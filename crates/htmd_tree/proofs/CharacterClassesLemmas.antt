@@ -1,14 +1,11 @@
 -- How long the runs at the beginning of a text are, and where they end.
 use Rattle.std.proofs.Common.{◌≡◌, ℕ, ◌+◌, ◌-◌, ◌<◌, ◌≤◌, Bool, true, false, List, []}
 use Rattle.std.proofs.Common.{◌∷◌, length, take, drop, get_or}
-use Rattle.std.proofs.Common.{refl, ap, sym, subst, ◌∙◌, arith}
-use Rattle.std.proofs.lemmas.List.{drop_more, drop-drop}
+use Rattle.std.proofs.Common.{refl, ap, sym, ◌∙◌, arith}
+use Rattle.std.proofs.lemmas.List.{drop_more}
 use Rattle.std.proofs.lemmas.Slice.{between_to_end}
-use Rattle.std.specs.Char.{to_ascii_lowercase}
-use Rattle.std.specs.Prelude.{◌==◌, ◌&&◌, not}
-use Rattle.std.specs.Str.{IsCharBoundary}
 use Rattle.htmd_text.proofs.Cases.{test}
-use Rattle.htmd_grammar.specs.CharacterClasses.{leading_run, behind_run, up_to, onward, begins_in_any_case, first_is}
+use Rattle.htmd_grammar.specs.CharacterClasses.{leading_run, behind_run, up_to, onward, begins_in_any_case}
 use Rattle.htmd_grammar.specs.RawContent.{goes_on_with_name}
 
 -- ---- runs of characters that pass a test

@@ -1,9 +1,9 @@
 -- References by number and by name.
 use Rattle.std.proofs.Common.{◌≡◌, ◌⊎◌, ℕ, suc, ◌+◌, ◌-◌, ◌*◌, ◌<◌, ◌≤◌, min}
 use Rattle.std.proofs.Common.{Bool, true, false, cond, List, [], ◌∷◌, length}
-use Rattle.std.proofs.Common.{take, drop, get_or, map, codes, None, Some, Option, refl, ap, sym, subst, ◌∙◌}
+use Rattle.std.proofs.Common.{take, drop, get_or, map, codes, None, Some, Option, refl, ap, sym, ◌∙◌}
 use Rattle.std.proofs.Common.{arith, inl, inr, lit<}
-use Rattle.std.proofs.lemmas.Bool.{cases_lt, cases_eq}
+use Rattle.std.proofs.lemmas.Bool.{cases_lt}
 use Rattle.std.proofs.lemmas.Bool.Decides.{nat_tests}
 use Rattle.std.proofs.lemmas.List.{drop_more, drop-drop, get_or-drop, length-drop}
 use Rattle.std.proofs.lemmas.Slice.{between_to_end}
@@ -12,16 +12,15 @@ use Rattle.std.proofs.Math.Nat.{mul-le-mul_left}
 use Rattle.std.specs.Borrow.{Bor}
 use Rattle.std.specs.Char.{encode_utf8, is_ascii_alphanumeric, is_ascii_digit, IsScalar, InScalarRange}
 use Rattle.std.specs.Char.{OutOfScalarRange}
-use Rattle.std.specs.Int.{IsInRange}
 use Rattle.std.specs.Option.{MatchOption, SomeIff}
-use Rattle.std.specs.Prelude.{◌==◌, ◌&&◌, not, slice_index}
+use Rattle.std.specs.Prelude.{◌==◌, ◌&&◌, not}
 use Rattle.std.specs.Str.{bytes_eq}
 use Rattle.htmd_text.proofs.Cases.{test}
 use Rattle.htmd_grammar.specs.CharacterClasses.{first_is, leading_run, behind_run, begins_in_any_case}
-use Rattle.htmd_grammar.specs.References.{Piece, stands, wrong, number, digit_value, may_be_numbered, is_between}
+use Rattle.htmd_grammar.specs.References.{stands, wrong, number, digit_value, may_be_numbered, is_between}
 use Rattle.htmd_grammar.specs.References.{numbered}
 use Rattle.htmd_grammar.specs.References.{named, number_at, behind_ampersand, behind_number_sign}
-use Rattle.htmd_grammar.specs.Rules.{NamedCharacter, character_named, named_characters}
+use Rattle.htmd_grammar.specs.Rules.{character_named, named_characters}
 use Rattle.htmd_grammar.specs.declared.fault.FaultKind.TheVariants.{UnknownReference, BadNumber}
 use Rattle.htmd_tree.specs.DecodedCharacters.{entry, IsPieceEnd}
 use Rattle.htmd_tree.proofs.CharacterClassesLemmas.{take_leading_run, drop_leading_run}

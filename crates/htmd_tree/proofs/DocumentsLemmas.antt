@@ -1,6 +1,6 @@
 -- What a document is that was read to its end, or up to a fault.
 use Rattle.std.proofs.Common.{◌≡◌, ℕ, ◌+◌, ◌-◌, ◌<◌, ◌≤◌, Bool, true, false, List, [], ◌∷◌, ◌++◌, length, Option, Some, None}
-use Rattle.std.proofs.Common.{refl, sym, ap, ◌∙◌, subst, arith, Ok, Err, Result, is_some, inl, inr, codes, ◌&&◌, ◌==◌, not}
+use Rattle.std.proofs.Common.{refl, sym, ap, ◌∙◌, subst, arith, Ok, Err, Result, is_some, inl, ◌&&◌, ◌==◌, not}
 use Rattle.std.proofs.Common.{eqb-true}
 use Rattle.std.specs.Prelude.{nat_lt}
 use Rattle.std.specs.List.{position, position_or_len}
@@ -13,9 +13,9 @@ use Rattle.htmd_grammar.specs.ValueTrees.{ValueTree, ValueForest, document}
 use Rattle.htmd_grammar.specs.CharacterClasses.{lacks}
 use Rattle.htmd_grammar.specs.Comments.{behind_doctype}
 use Rattle.htmd_grammar.specs.Rules.{project}
-use Rattle.htmd_grammar.specs.Documents.{above_body, body_text, behind_mark, with_doctype, skeleton, document_tree}
+use Rattle.htmd_grammar.specs.Documents.{above_body, body_text, behind_mark, with_doctype, skeleton}
 use Rattle.htmd_grammar.specs.Documents.{ReadsDocument}
-use Rattle.htmd_grammar.specs.Steps.{State, step, Reaches, started, finished, body, with_children}
+use Rattle.htmd_grammar.specs.Steps.{step, Reaches, started, finished, body, with_children}
 use Rattle.htmd_grammar.specs.Faults.{IsFault, IsFirstNul}
 use Rattle.htmd_grammar.specs.Laws.{StepsReadRightly, FaultsAreRight, FaultsRefuseDocuments, RestIsAnEnd}
 use Rattle.htmd_grammar.specs.declared.fault.FaultKind.{FaultKind}

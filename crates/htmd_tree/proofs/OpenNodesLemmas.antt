@@ -1,5 +1,5 @@
 -- What the items of the open elements become where a node is added and where an element opens or is closed.
-use Rattle.std.proofs.Common.{◌≡◌, ℕ, zero, suc, ◌+◌, ◌-◌, ◌<◌, ◌≤◌, Bool, true, false, List, [], ◌∷◌, ◌++◌, length, refl}
+use Rattle.std.proofs.Common.{◌≡◌, ℕ, suc, ◌+◌, ◌-◌, ◌<◌, ◌≤◌, Bool, true, List, [], ◌∷◌, ◌++◌, length, refl}
 use Rattle.std.proofs.Common.{sym, ap, ◌∙◌, subst, arith, add-zero, add_assoc, get_or}
 use Rattle.std.proofs.lemmas.List.{append_assoc, append-nil, length-append}
 use Rattle.htmd_grammar.specs.ValueTrees.{ValueTree, document, doctype, text, comment, element, ValueForest, none, more}
@@ -7,7 +7,7 @@ use Rattle.htmd_grammar.specs.ValueTrees.{AttributePair}
 use Rattle.htmd_grammar.specs.Documents.{above_body}
 use Rattle.htmd_grammar.specs.Steps.{OpenElement, names_of, closed, fresh, with_forest, with_tree, ◌+++◌}
 use Rattle.htmd_tree.specs.Items.{Data, document_node, doctype_node, text_node, comment_node, element_node, Item}
-use Rattle.htmd_tree.specs.Items.{document_item, item_at, depth_at, data_at, new_item, holds_children}
+use Rattle.htmd_tree.specs.Items.{item_at, depth_at, data_at, new_item, holds_children}
 use Rattle.htmd_tree.specs.Layout.{size, sizes, item_under, tree_items, forest_items}
 use Rattle.htmd_tree.specs.OpenNodes.{stack_items, innermost_number, open_node, open_nodes, AreOpen, Holds, IsReading}
 use Rattle.htmd_tree.specs.Advances.{leaf, IsLeaf}

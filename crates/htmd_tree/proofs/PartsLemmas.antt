@@ -1,8 +1,7 @@
 -- Which part of a document each node of its layout is.
-use Rattle.std.proofs.Common.{◌≡◌, ◌≢◌, ℕ, zero, suc, ◌+◌, ◌<◌, ◌≤◌, Bool, true, false, ◌&&◌, List, [], ◌∷◌, ◌++◌, length, map}
-use Rattle.std.proofs.Common.{refl, sym, ap, ◌∙◌, subst, arith, inl, inr, Option, Some, None, codes}
+use Rattle.std.proofs.Common.{◌≡◌, ℕ, zero, suc, ◌+◌, ◌<◌, ◌≤◌, Bool, true, false, ◌&&◌, List, [], ◌∷◌, ◌++◌, length, map}
+use Rattle.std.proofs.Common.{refl, sym, ap, ◌∙◌, subst, arith, inl, inr, Some, codes}
 use Rattle.std.proofs.lemmas.Bool.{cases_lt}
-use Rattle.std.proofs.lemmas.Bool.Decides.{nat_tests}
 use Rattle.std.proofs.lemmas.List.{append_assoc, append-nil, length-append}
 use Rattle.htmd_grammar.specs.ValueTrees.{ValueTree, document, doctype, text, comment, element, ValueForest, none, more}
 use Rattle.htmd_grammar.specs.ValueTrees.{AttributePair}
@@ -16,7 +15,7 @@ use Rattle.htmd_grammar.specs.Serialisation.{is_void}
 use Rattle.htmd_grammar.specs.Steps.{body, with_children}
 use Rattle.htmd_text.proofs.Cases.{test}
 use Rattle.htmd_tree.specs.Items.{Data, document_node, doctype_node, text_node, comment_node, element_node, Item}
-use Rattle.htmd_tree.specs.Items.{document_item, item_at, parent_at, depth_at, data_at, is_child}
+use Rattle.htmd_tree.specs.Items.{document_item, item_at, parent_at, depth_at, data_at}
 use Rattle.htmd_tree.specs.NumberedTrees.{forest_from, tree_of, value_tree, value_forest}
 use Rattle.htmd_tree.specs.NumberedTrees as numbered
 use Rattle.htmd_tree.specs.OpenNodes.{items_above, stack_items}

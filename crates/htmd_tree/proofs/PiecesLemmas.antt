@@ -1,11 +1,11 @@
 -- How the pieces of a document and their order are the grammar's steps.
-use Rattle.std.proofs.Common.{◌≡◌, ℕ, suc, ◌+◌, ◌<◌, ◌≤◌, Bool, true, false, cond, ◌&&◌, ◌||◌, ◌==◌, List, [], ◌∷◌, length}
+use Rattle.std.proofs.Common.{◌≡◌, ℕ, suc, ◌<◌, ◌≤◌, Bool, true, false, cond, ◌&&◌, ◌||◌, ◌==◌, List, [], ◌∷◌, length}
 use Rattle.std.proofs.Common.{refl, sym, ap, ◌∙◌, subst, arith, Ok, Err, Option, Some, None, drop, OnOk, codes, not}
 use Rattle.std.specs.Str.{bytes_eq}
 use Rattle.std.proofs.lemmas.Slice.Eq.{bytes_eq-Decides}
 use Rattle.htmd_text.proofs.Cases.{test}
 use Rattle.htmd_text.specs.Characters.{less_than_sign}
-use Rattle.htmd_grammar.specs.ValueTrees.{AttributePair, text, ValueForest, none, more}
+use Rattle.htmd_grammar.specs.ValueTrees.{AttributePair, text}
 use Rattle.htmd_grammar.specs.CharacterClasses.{is_empty, first_is, is_among, onward}
 use Rattle.htmd_grammar.specs.Rules.{Rules, project}
 use Rattle.htmd_grammar.specs.RawContent.{holds_text_alone, holds_raw_text, begins_own_end, begins_markup, ends_text}
@@ -13,13 +13,12 @@ use Rattle.htmd_grammar.specs.RawContent.{text_of}
 use Rattle.htmd_grammar.specs.CharacterClasses.{up_to}
 use Rattle.htmd_grammar.specs.Documents.{above_body}
 use Rattle.htmd_grammar.specs.Places.{is_tbody, is_table}
-use Rattle.htmd_grammar.specs.Steps.{OpenElement, State, Step, step, Reaches, here, via, closed, with_tree, add, fault}
+use Rattle.htmd_grammar.specs.Steps.{OpenElement, State, step, Reaches, here, via, closed, with_tree, fault}
 use Rattle.htmd_grammar.specs.Steps.{between, is_too_deep, is_implied, ends_rows, markup_step, raw_text_step}
-use Rattle.htmd_grammar.specs.Steps.{with_children, body, finished}
-use Rattle.htmd_grammar.specs.declared.fault.FaultKind.{FaultKind}
+use Rattle.htmd_grammar.specs.Steps.{with_children, body}
 use Rattle.htmd_grammar.specs.declared.fault.FaultKind.TheVariants.{Unclosed, TooDeep}
-use Rattle.htmd_tree.specs.OpenNodes.{stack_items, innermost_name, open_node, AreOpen, Holds, IsReading}
-use Rattle.htmd_tree.specs.Advances.{Answer, place, rules_of, IsAt, Follows, Advances, Ends, HasSettled, HasRead}
+use Rattle.htmd_tree.specs.OpenNodes.{stack_items, innermost_name, AreOpen, Holds, IsReading}
+use Rattle.htmd_tree.specs.Advances.{Answer, place, rules_of, Follows, Advances, Ends, HasSettled, HasRead}
 use Rattle.htmd_tree.specs.Advances.{IsAtText}
 use Rattle.htmd_tree.specs.declared.reader.OpenNode.{OpenNode}
 use Rattle.htmd_tree.specs.declared.reader.Reader.{Reader}

@@ -1,7 +1,7 @@
 -- A script with a comment and a script in it.
 use Rattle.std.proofs.Common.{◌≡◌, ℕ, ◌+◌, ◌-◌, ◌<◌, Bool, true, false, ◌&&◌, ◌||◌, List}
 use Rattle.std.proofs.Common.{[], ◌∷◌, length, take, drop}
-use Rattle.std.proofs.Common.{get_or, codes, refl, ap, sym, subst, ◌∙◌, ◌≤◌, arith}
+use Rattle.std.proofs.Common.{get_or, codes, refl, ap, sym, subst, ◌∙◌, arith}
 use Rattle.std.proofs.lemmas.Bool.{and_parts}
 use Rattle.std.proofs.lemmas.Bool.Decides.{nat_tests}
 use Rattle.std.proofs.lemmas.List.{drop_more, get_or-drop}

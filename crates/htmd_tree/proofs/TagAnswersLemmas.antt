@@ -1,5 +1,5 @@
 -- What the calls on tags answer, by the grammar's steps.
-use Rattle.std.proofs.Common.{◌≡◌, ℕ, ◌<◌, ◌≤◌, Bool, true, false, List, [], ◌∷◌, length, refl, sym, ◌∙◌, ap, subst, arith}
+use Rattle.std.proofs.Common.{◌≡◌, ℕ, ◌<◌, ◌≤◌, Bool, true, List, [], ◌∷◌, length, refl, sym, ◌∙◌, ap, subst, arith}
 use Rattle.std.proofs.Common.{Ok, Err, OnOk}
 use Rattle.htmd_grammar.specs.Documents.{above_body}
 use Rattle.std.specs.Prelude.{◌&&◌, cond, codes}
@@ -8,12 +8,12 @@ use Rattle.htmd_text.proofs.Cases.{test}
 use Rattle.htmd_grammar.specs.ValueTrees.{AttributePair}
 use Rattle.htmd_grammar.specs.Rules.{project}
 use Rattle.htmd_grammar.specs.Places.{is_row}
-use Rattle.htmd_grammar.specs.Steps.{OpenElement, State, Step, fault, between, fresh, closed, with_tree, is_too_deep}
+use Rattle.htmd_grammar.specs.Steps.{OpenElement, Step, fault, between, fresh, closed, with_tree, is_too_deep}
 use Rattle.htmd_grammar.specs.Steps.{open_step, place_step, close_step}
 use Rattle.htmd_grammar.specs.declared.fault.FaultKind.{FaultKind}
 use Rattle.htmd_grammar.specs.declared.fault.FaultKind.TheVariants.{TooDeep}
 use Rattle.htmd_tree.specs.OpenNodes.{Holds, IsReading, innermost_name}
-use Rattle.htmd_tree.specs.Advances.{Answer, Follows, IsAt, rules_of}
+use Rattle.htmd_tree.specs.Advances.{Answer, Follows, rules_of}
 use Rattle.htmd_tree.specs.declared.reader.Reader.{Reader}
 use Rattle.htmd_tree.specs.declared.reader.Stop.{Stop}
 use Rattle.htmd_tree.specs.declared.reader.Stop.TheVariants.{Memory, Refused}

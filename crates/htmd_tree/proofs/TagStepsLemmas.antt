@@ -1,7 +1,7 @@
 -- The steps of tags: what each test decides, and that what is left doesn't grow.
-use Rattle.std.proofs.Common.{◌≡◌, ℕ, zero, suc, ◌+◌, ◌-◌, ◌<◌, ◌≤◌, Bool, true, false, not, ◌&&◌, cond, List, [], ◌∷◌, length, map, drop}
+use Rattle.std.proofs.Common.{◌≡◌, ℕ, suc, ◌≤◌, Bool, true, false, not, ◌&&◌, cond, List, [], ◌∷◌, length, map, drop}
 use Rattle.std.proofs.Common.{refl, sym, ◌∙◌, ap, arith, Option, Some, None, Result, Ok, Err, length-drop}
-use Rattle.std.specs.Prelude.{if◌then◌else◌, codes, ⊤}
+use Rattle.std.specs.Prelude.{codes, ⊤}
 use Rattle.std.specs.List.{list_any}
 use Rattle.std.specs.Str.{bytes_eq}
 use Rattle.std.specs.Char.{to_ascii_lowercase}
@@ -17,11 +17,11 @@ use Rattle.htmd_grammar.specs.Tags.{attribute_names, decode_values}
 use Rattle.htmd_grammar.specs.RawContent.{drops_line_feed, content_of}
 use Rattle.htmd_grammar.specs.Places.{Context, is_outside, is_row, is_allowed}
 use Rattle.htmd_grammar.specs.Serialisation.{is_void}
-use Rattle.htmd_grammar.specs.TagReading.{TagForm, no_form, form, form_within}
+use Rattle.htmd_grammar.specs.TagReading.{TagForm, form, form_within}
 use Rattle.htmd_grammar.specs.OpenElements.{has_unknown_reference}
-use Rattle.htmd_grammar.specs.Steps.{OpenElement, State, Step, fault, between, fresh, with_tree, names_of, innermost}
+use Rattle.htmd_grammar.specs.Steps.{OpenElement, Step, fault, between, fresh, with_tree, names_of, innermost}
 use Rattle.htmd_grammar.specs.Steps.{is_too_deep, add, open_step, place_step, values_step, form_step, start_tag_step}
-use Rattle.htmd_grammar.specs.Steps.{close_step, name_step, end_tag_step, markup_step}
+use Rattle.htmd_grammar.specs.Steps.{close_step, end_tag_step, markup_step}
 use Rattle.htmd_grammar.specs.declared.fault.FaultKind.{FaultKind}
 use Rattle.htmd_grammar.specs.declared.fault.FaultKind.TheVariants.{MalformedTag, SelfClosing, TagOutside}
 use Rattle.htmd_tree.specs.TagParts.{read_attributes, distinct_attributes, fault_of_name}

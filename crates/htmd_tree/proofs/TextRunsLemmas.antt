@@ -1,8 +1,7 @@
 -- Runs of characters and references, against the grammar's steps.
-use Rattle.std.proofs.Common.{◌≡◌, ◌⊎◌, ℕ, zero, suc, ◌+◌, ◌-◌, ◌<◌, ◌≤◌, Bool, true}
+use Rattle.std.proofs.Common.{◌≡◌, ℕ, zero, suc, ◌+◌, ◌-◌, ◌<◌, ◌≤◌, Bool, true}
 use Rattle.std.proofs.Common.{false, cond, List, [], ◌∷◌, ◌++◌}
 use Rattle.std.proofs.Common.{length, take, drop, get_or, Ok, Err, Some, None, refl, ap, sym, subst, ◌∙◌, arith}
-use Rattle.std.proofs.Common.{inl, inr}
 use Rattle.std.proofs.Common.{⊎_elim, append_assoc}
 use Rattle.std.proofs.lemmas.Bool.{and_parts, and_cases, and_left, cases_lt, cases_eq}
 use Rattle.std.proofs.lemmas.Bool.Decides.{nat_tests}
@@ -11,7 +10,7 @@ use Rattle.std.proofs.lemmas.Str.{encode_ascii, length-encode, len_utf8_bounds, 
 use Rattle.std.proofs.lemmas.Str.{lead_after_ascii, IsCharBoundary-after_ascii}
 use Rattle.std.specs.Char.{encode_utf8, is_ascii_whitespace}
 use Rattle.std.specs.List.{list_all}
-use Rattle.std.specs.Prelude.{◌==◌, ◌&&◌, ◌||◌, not, slice_index}
+use Rattle.std.specs.Prelude.{◌==◌, ◌&&◌, not, slice_index}
 use Rattle.std.specs.Str.{IsUtf8, IsCharBoundary}
 use Rattle.htmd_text.proofs.Cases.{test}
 use Rattle.htmd_text.specs.WhiteSpace.{is_ascii_white_space}

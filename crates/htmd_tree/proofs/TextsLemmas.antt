@@ -2,7 +2,7 @@
 use Rattle.std.proofs.Common.{◌≡◌, ℕ, ◌<◌, Bool, true, false, cond, List, [], ◌∷◌, length, Ok, Err, refl, ap, sym, subst}
 use Rattle.std.proofs.Common.{◌∙◌, arith, codes, take, drop}
 use Rattle.std.proofs.lemmas.Bool.{or_right}
-use Rattle.std.specs.Prelude.{◌&&◌, ◌||◌, not}
+use Rattle.std.specs.Prelude.{◌&&◌, ◌||◌}
 use Rattle.std.specs.Str.{bytes_eq}
 use Rattle.htmd_text.proofs.Cases.{test}
 use Rattle.htmd_grammar.specs.ValueTrees.{text}
@@ -14,13 +14,13 @@ use Rattle.htmd_grammar.specs.RawContent.{begins_markup, begins_own_end, ends_te
 use Rattle.htmd_grammar.specs.RawContent.{has_script_escape, raw_text_of, text_of}
 use Rattle.htmd_grammar.specs.References.{decode}
 use Rattle.htmd_grammar.specs.Rules.{project, named_characters}
-use Rattle.htmd_grammar.specs.Steps.{OpenElement, State, Reaches, here, via, step, names_of, is_implied, is_too_deep}
+use Rattle.htmd_grammar.specs.Steps.{OpenElement, Reaches, here, via, step, names_of, is_too_deep}
 use Rattle.htmd_grammar.specs.Steps.{Step, add, between, fault, with_tree, raw_text_step}
 use Rattle.htmd_grammar.specs.declared.fault.FaultKind.TheVariants.{ScriptEscape, TooDeep}
 use Rattle.htmd_grammar.proofs.BooleanLemmas.{and_false}
 use Rattle.htmd_grammar.proofs.PlacesLemmas.{one_name}
 use Rattle.htmd_tree.specs.OpenNodes.{Holds, AreOpen, innermost_name, open_node}
-use Rattle.htmd_tree.specs.Advances.{Answer, rules_of, place, IsAt, Follows, Advances, IsAtText}
+use Rattle.htmd_tree.specs.Advances.{Answer, rules_of, Follows, Advances, IsAtText}
 use Rattle.htmd_tree.specs.TextRuns.{IsTextPlace, in_run, is_run_end, StopsRun}
 use Rattle.htmd_tree.specs.declared.reader.OpenNode.{OpenNode}
 use Rattle.htmd_tree.specs.declared.reader.Reader.{Reader}

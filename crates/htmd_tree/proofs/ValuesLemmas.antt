@@ -1,7 +1,7 @@
 -- Attributes whose values are decoded one after another.
-use Rattle.std.proofs.Common.{◌≡◌, ℕ, ◌+◌, ◌<◌, List, [], ◌∷◌, ◌++◌, length, map, drop, get_or, refl, sym, ◌∙◌, ap}
+use Rattle.std.proofs.Common.{◌≡◌, ℕ, List, [], ◌∷◌, ◌++◌, refl, sym, ◌∙◌, ap}
 use Rattle.std.proofs.Common.{Option, Some, None, append_assoc}
-use Rattle.std.proofs.Common.{Bool, true, false, cond, Ok, Err}
+use Rattle.std.proofs.Common.{Bool, false, cond, Ok, Err}
 use Rattle.std.specs.List.{list_any}
 use Rattle.htmd_grammar.specs.CharacterClasses.{are_distinct}
 use Rattle.htmd_grammar.specs.OpenElements.{has_unknown_reference}

@@ -1,5 +1,5 @@
 -- What a call of a reader left and answered, by the grammar's steps.
-use Rattle.std.specs.Prelude.{◌≡◌, ℕ, ◌<◌, Bool, false, ◌&&◌, if◌then◌else◌, List, [], ◌∷◌, ◌++◌, length, true, ⊤, Result, Ok, Err}
+use Rattle.std.specs.Prelude.{◌≡◌, ℕ, ◌<◌, Bool, false, ◌&&◌, List, [], ◌∷◌, ◌++◌, length, true, ⊤, Result, Ok, Err}
 use Rattle.htmd_grammar.specs.ValueTrees.{ValueTree, ValueForest, none, doctype, text, comment, element}
 use Rattle.htmd_grammar.specs.CharacterClasses.{is_empty}
 use Rattle.htmd_grammar.specs.Rules.{Rules, project}

@@ -1,5 +1,5 @@
 -- What is left to prove of `add_node`.
-use Rattle.std.proofs.Common.{◌≡◌, refl, sym, subst}
+use Rattle.std.proofs.Common.{refl, sym, subst}
 use Rattle.htmd_tree.specs.Views.{data_of}
 use Rattle.htmd_tree.specs.Advances.{StopsDeep}
 use Rattle.htmd_tree.proofs.AdvancesLemmas.{added_at, too_deep_at}

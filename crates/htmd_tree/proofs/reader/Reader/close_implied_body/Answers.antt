@@ -1,5 +1,5 @@
 -- What is left to prove of `close_implied_body`.
-use Rattle.std.proofs.Common.{◌≡◌, true, false, ◌&&◌, ◌∙◌, refl, sym, ap}
+use Rattle.std.proofs.Common.{◌≡◌, false, ◌&&◌, ◌∙◌, sym, ap}
 use Rattle.htmd_grammar.specs.Steps.{ends_rows}
 use Rattle.htmd_tree.proofs.PiecesLemmas.{settled_open, settled_closed, implied_is_inner, not_true, not_false}
 use Rattle.htmd_tree.proofs.reader.Reader.close_implied_body.Goals as goal

@@ -1,5 +1,5 @@
 -- What is left to prove of `innermost_name`.
-use Rattle.std.proofs.Common.{◌≡◌, ◌∙◌, sym, ap}
+use Rattle.std.proofs.Common.{◌∙◌, sym, ap}
 use Rattle.std.specs.Prelude.{string_bytes}
 use Rattle.htmd_tree.specs.Views.{data_of, pairs_of}
 use Rattle.htmd_tree.proofs.AdvancesLemmas.{name_at}

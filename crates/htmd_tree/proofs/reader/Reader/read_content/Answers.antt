@@ -1,5 +1,5 @@
 -- What is left to prove of `read_content`.
-use Rattle.std.proofs.Common.{◌≡◌, ◌<◌, ◌≤◌, Err, length, rules, arith, sym, subst}
+use Rattle.std.proofs.Common.{◌≡◌, ◌<◌, ◌≤◌, Err, length, rules, sym, subst}
 use Rattle.htmd_tree.specs.Advances.{Ends}
 use Rattle.htmd_tree.proofs.PiecesLemmas.{read_nothing, read_more, read_stops, ends_open, ends_well}
 use Rattle.htmd_tree.proofs.reader.Reader.read_content.Goals as goal

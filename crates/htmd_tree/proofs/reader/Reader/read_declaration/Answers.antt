@@ -1,5 +1,5 @@
 -- What is left to prove of `read_declaration`.
-use Rattle.std.proofs.Common.{◌<◌, ◌≤◌, ◌∙◌, length, codes, ap, sym, arith}
+use Rattle.std.proofs.Common.{◌<◌, ◌∙◌, length, codes, ap, sym, arith}
 use Rattle.std.proofs.lemmas.List.{length-drop}
 use Rattle.std.specs.String.{string_bytes}
 use Rattle.htmd_grammar.specs.ValueTrees.{comment}

@@ -1,5 +1,5 @@
 -- What is left to prove of `read_piece`.
-use Rattle.std.proofs.Common.{◌≡◌, ◌∷◌, ◌∙◌, sym}
+use Rattle.std.proofs.Common.{◌∷◌, ◌∙◌, sym}
 use Rattle.htmd_tree.specs.OpenNodes.{innermost_name}
 use Rattle.htmd_tree.proofs.PiecesLemmas.{markup_begins, markup_advances, raw_text_advances, text_advances}
 use Rattle.htmd_tree.proofs.PiecesLemmas.{raw_text_shorter, raw_text_at}

@@ -1,6 +1,6 @@
 -- What is left to prove of `top`.
-use Rattle.std.proofs.Common.{◌≡◌, ◌<◌, ◌+◌, ℕ, length, rules, arith, sym, ap, ◌∙◌, refl, subst}
-use Rattle.htmd_tree.proofs.OpenNodesLemmas.{some_open, top_is, top_number}
+use Rattle.std.proofs.Common.{arith}
+use Rattle.htmd_tree.proofs.OpenNodesLemmas.{some_open}
 use Rattle.htmd_tree.proofs.reader.Reader.top.Goals as goal
 
 pub overflow_sub-len : goal.overflow_sub-len

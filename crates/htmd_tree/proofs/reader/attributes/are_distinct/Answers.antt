@@ -1,6 +1,5 @@
 -- The last name of those that are left, in the set or not.
-use Rattle.std.proofs.Common.{◌≡◌, true, false, not, sym, ◌∙◌}
-use Rattle.std.proofs.lemmas.Bool.Decides.{nat_tests}
+use Rattle.std.proofs.Common.{sym, ◌∙◌}
 use Rattle.htmd_tree.proofs.TagPartsLemmas.{not_false, not_true}
 use Rattle.htmd_tree.proofs.NamesLemmas.{met_again, met_first}
 use Rattle.htmd_tree.proofs.reader.attributes.are_distinct.Goals as goal

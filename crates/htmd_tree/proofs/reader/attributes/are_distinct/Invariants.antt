@@ -1,6 +1,6 @@
 -- The set has the names that were met, from the back, and none stood twice.
 use Rattle.std.proofs.Common.{◌≡◌, true, List, ◌++◌, length}
-use Rattle.htmd_grammar.specs.CharacterClasses.{is_among, are_distinct}
+use Rattle.htmd_grammar.specs.CharacterClasses.{are_distinct}
 use Rattle.htmd_grammar.specs.Tags.{attribute_names}
 use Rattle.htmd_tree.specs.declared.tree.Attribute.{Attribute}
 use Rattle.htmd_tree.specs.Views.{pairs_of}

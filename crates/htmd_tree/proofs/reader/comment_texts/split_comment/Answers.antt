@@ -1,7 +1,7 @@
 -- What is left to prove of `split_comment`.
-use Rattle.std.proofs.Common.{◌≡◌, ◌+◌, ◌∙◌, List, Some, None, ℕ, length, codes, drop, take, sym}
-use Rattle.std.proofs.Common.{ap, arith}
-use Rattle.std.proofs.lemmas.Slice.{between_from_start, between_to_end}
+use Rattle.std.proofs.Common.{◌≡◌, ◌+◌, ◌∙◌, length, codes, drop, take, sym}
+use Rattle.std.proofs.Common.{ap}
+use Rattle.std.proofs.lemmas.Slice.{between_from_start}
 use Rattle.htmd_grammar.specs.CharacterClasses.{begins_with, up_to}
 use Rattle.htmd_tree.proofs.CommentTextsLemmas.{no_comment_end, comment_end, cut_before, cut_behind}
 use Rattle.htmd_tree.proofs.reader.comment_texts.split_comment.Goals as goal

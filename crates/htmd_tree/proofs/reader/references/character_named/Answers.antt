@@ -1,5 +1,5 @@
 -- What is left to prove of `character_named`.
-use Rattle.std.proofs.Common.{◌≡◌, ◌∙◌, ℕ, List, [], true, false, ap, sym, arith, get_or}
+use Rattle.std.proofs.Common.{◌∙◌, ℕ, List, [], ap, sym, arith}
 use Rattle.std.specs.Borrow.{Bor}
 use Rattle.std.specs.Str.{bytes_eq}
 use Rattle.htmd_tree.proofs.DecodedCharactersLemmas.{name_more, name_found}

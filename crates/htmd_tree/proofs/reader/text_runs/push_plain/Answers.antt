@@ -1,5 +1,5 @@
 -- What is left to prove of `push_plain`.
-use Rattle.std.proofs.Common.{Err, Result, refl, subst, sym, arith}
+use Rattle.std.proofs.Common.{Err, refl, subst, sym, arith}
 use Rattle.std.proofs.lemmas.Str.{IsUtf8-drop}
 use Rattle.std.specs.Str.{IsUtf8}
 use Rattle.std.specs.String.{string_bytes}

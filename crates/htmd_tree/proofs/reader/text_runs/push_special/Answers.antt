@@ -1,5 +1,5 @@
 -- What is left to prove of `push_special`.
-use Rattle.std.proofs.Common.{ℕ, List, Err, refl, subst, sym, arith}
+use Rattle.std.proofs.Common.{ℕ, List, Err, refl, subst, sym}
 use Rattle.std.specs.String.{string_bytes}
 use Rattle.htmd_tree.specs.TextRuns.{Pushes, IsCharacterIn, IsFaultIn}
 use Rattle.htmd_tree.specs.declared.reader.Stop.{Stop}

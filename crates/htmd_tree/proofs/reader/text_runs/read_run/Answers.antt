@@ -1,5 +1,5 @@
 -- What is left to prove of `read_run`.
-use Rattle.std.proofs.Common.{◌≡◌, ◌∙◌, [], false, true, refl, sym, ap, arith}
+use Rattle.std.proofs.Common.{◌≡◌, ◌∙◌, [], false, sym, ap, arith}
 use Rattle.std.proofs.lemmas.Result.{err_from_is_err_and}
 use Rattle.std.specs.String.{string_bytes}
 use Rattle.htmd_grammar.specs.Steps.{here}

@@ -1,5 +1,5 @@
 -- What is left to prove of `inner`.
-use Rattle.std.proofs.Common.{Bool, false, not, ◌∷◌, [], ap, codes}
+use Rattle.std.proofs.Common.{not, ◌∷◌, [], ap, codes}
 use Rattle.htmd_grammar.specs.CharacterClasses.{is_among}
 use Rattle.htmd_tree.specs.PlaceFlags.{place_of}
 use Rattle.htmd_tree.specs.declared.reader.places.Place.{Place}
