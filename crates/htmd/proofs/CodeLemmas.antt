@@ -1,21 +1,13 @@
 -- The language of a code block, one class or one attribute after another.
 use Rattle.std.proofs.Common.{◌≡◌, ℕ, suc, ◌+◌, ◌<◌, Bool, List, ◌∷◌, length, get_or, drop, Some, None}
 use Rattle.std.proofs.Common.{true, false, cond, sym, ap, ◌∙◌, string_bytes, add-one, codes, ◌&&◌}
-use Rattle.std.proofs.Math.Seq.{drop-cons}
 use Rattle.std.specs.List.{list_all}
 use Rattle.std.specs.Option.{option_or}
 use Rattle.std.specs.Str.{bytes_eq}
 use Rattle.htmd_tree.specs.declared.tree.Attribute.{Attribute}
 use Rattle.htmd_tree.specs.Views.{pairs_of}
+use Rattle.htmd.proofs.Steps.{stepped}
 use Rattle.htmd.specs.Code.{language_of_class, first_language, classes_of, language_of}
-
--- one step on in a list
-stepped : {A B : Type 0} (f : List A → B) (all : List A) (k : ℕ) (x : A) → k < length all → x ≡ get_or all k x
-    → f (drop k all) ≡ f (x ∷ drop (k + 1) all)
-stepped f all k x l here =
-    ap f (drop-cons all k x l)
-    ∙ ap (λ y. f (y ∷ drop (suc k) all)) (sym here)
-    ∙ ap (λ n. f (x ∷ drop n all)) (sym (add-one k))
 
 pub language-here : (all : List (List ℕ)) (k : ℕ) (class language : List ℕ) → k < length all → class ≡ get_or all k class
     → Some language ≡ language_of_class class → first_language (drop k all) ≡ Some language

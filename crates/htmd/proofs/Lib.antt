@@ -11,8 +11,14 @@ pub mod ChildrenLemmas
 pub mod RenderingLemmas
 pub mod WalkingLemmas
 pub mod PassingLemmas
+pub mod Steps
 pub mod CodeLemmas
 pub mod LayersLemmas
+pub mod LinkAttributesLemmas
+pub mod AnchorsLemmas
+pub mod LinkLawsLemmas
+pub mod KeepingLemmas
+pub mod NumbersLemmas
 pub mod LawsLemmas
 pub mod GroupCuts
 pub mod EmphasisLawsLemmas

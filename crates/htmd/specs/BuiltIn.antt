@@ -6,7 +6,7 @@ use Rattle.htmd.specs.declared.element_handler.built_in.BuiltIn.{BuiltIn}
 use Rattle.htmd.specs.declared.element_handler.built_in.BuiltIn.TheVariants.{ListElement, ListItem}
 use Rattle.htmd.specs.declared.element_handler.built_in.BuiltIn.TheVariants.{BlockQuote, Strong, Emphasis, Heading}
 use Rattle.htmd.specs.declared.element_handler.built_in.BuiltIn.TheVariants.{LineBreak, ThematicBreak, Paragraph}
-use Rattle.htmd.specs.declared.element_handler.built_in.BuiltIn.TheVariants.{Code, Preformatted}
+use Rattle.htmd.specs.declared.element_handler.built_in.BuiltIn.TheVariants.{Code, Preformatted, Image, Anchor}
 use Rattle.htmd.specs.declared.element_handler.built_in.BuiltIn.TheVariants.{Table, TableCell, TableRow, TablePart}
 use Rattle.htmd.specs.declared.element_handler.built_in.BuiltIn.TheVariants.{HeadOrBody}
 use Rattle.htmd.specs.declared.element_handler.built_in.BuiltIn.TheVariants.{Html, Span, OtherBlock}
@@ -19,6 +19,8 @@ use Rattle.htmd.specs.Spans.{spans}
 use Rattle.htmd.specs.Code.{code, preformatted_texts}
 use Rattle.htmd.specs.ListElements.{lists, list_items}
 use Rattle.htmd.specs.TableElements.{tables, cells, table_rows, table_parts}
+use Rattle.htmd.specs.Images.{images}
+use Rattle.htmd.specs.Anchors.{anchors}
 
 -- a handler, and the tags that it is registered for
 pub record Row : Type 0 where
@@ -46,7 +48,9 @@ other_block_tags =
 -- the built-in handlers in order of registration
 abbrev pub built_in_rows : List Row
 built_in_rows =
-    row (codes "ol" ∷ codes "ul" ∷ []) lists
+    row (codes "img" ∷ []) images
+    ∷ row (codes "a" ∷ []) anchors
+    ∷ row (codes "ol" ∷ codes "ul" ∷ []) lists
     ∷ row (codes "li" ∷ []) list_items
     ∷ row (codes "blockquote" ∷ []) quotes
     ∷ row (codes "code" ∷ []) code
@@ -83,6 +87,8 @@ built_in options = with_rows built_in_rows (empty_config options)
 
 -- what a built-in handler means
 abbrev pub meaning_of : BuiltIn → HandlerMeaning
+meaning_of Image = images
+meaning_of Anchor = anchors
 meaning_of ListElement = lists
 meaning_of ListItem = list_items
 meaning_of BlockQuote = quotes

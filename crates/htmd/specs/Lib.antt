@@ -20,9 +20,13 @@ pub mod Spans
 pub mod Code
 pub mod ListElements
 pub mod TableElements
+pub mod LinkAttributes
+pub mod Images
+pub mod Anchors
 pub mod BuiltIn
 pub mod GroupLaws
 pub mod EmphasisLaws
+pub mod LinkLaws
 pub mod Beginnings
 pub mod Views
 pub mod HandlerMeanings

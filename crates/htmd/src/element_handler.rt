@@ -12,6 +12,7 @@ use htmd_tree::{Attribute, NodeId, Tree};
 use std::alloc::{AllocError, Global};
 use std::marker::Model;
 
+mod anchor;
 mod blocks;
 mod br;
 mod built_in;
@@ -21,7 +22,9 @@ mod emphasis;
 pub(crate) mod fn_handler;
 mod headings;
 mod hr;
+mod img;
 pub(crate) mod layered;
+mod link_attributes;
 mod list;
 mod list_item;
 mod page;
@@ -130,7 +133,7 @@ pub enum Plan {
 /// The link definitions of a conversion, one a line.
 #[derive(Drop)]
 pub struct Links {
-    lines: Vec<String>,
+    pub(crate) lines: Vec<String>,
 }
 
 impl Model for Links {

@@ -4,6 +4,8 @@
 ghost use Rattle.htmd.specs.Laws.{ContentIsTrimmed, RepeatsAreKept};
 ghost use Rattle.htmd.specs.GroupLaws.{ChildrenAreCut};
 ghost use Rattle.htmd.specs.EmphasisLaws.{MarksStandInside};
+ghost use Rattle.htmd.specs.LinkLaws.{AnchorsTakeTheNextNumber, ReferencesAreNumbered};
+ghost use Rattle.htmd.specs.LinkLaws.{ImagesHoldAddresses, LinksHoldAddresses};
 
 pub use htmd_markdown::{Emphasis, write_fence, write_row, write_span, write_table};
 
@@ -31,3 +33,23 @@ pub fn marks_stand_inside(emphasis: Emphasis, content: &str)
     let start = content.trim_start();
     let _ = start.trim_end();
 }
+
+/// An anchor that is written as a reference in style Full takes the number behind the definitions so far.
+pub fn anchors_take_the_next_number()
+    ensures { AnchorsTakeTheNextNumber }
+{}
+
+/// In style Full the i-th line of a conversion defines the number i, and anchors alone add lines.
+pub fn references_are_numbered()
+    ensures { ReferencesAreNumbered }
+{}
+
+/// What is written for the address of an image reads back as the address, if that has no backslash.
+pub fn images_hold_addresses()
+    ensures { ImagesHoldAddresses }
+{}
+
+/// What is written for the address of a link reads back as the address, if that has no backslash.
+pub fn links_hold_addresses()
+    ensures { LinksHoldAddresses }
+{}

@@ -5,6 +5,8 @@
 #[cfg(test)]
 mod code;
 #[cfg(test)]
+mod links;
+#[cfg(test)]
 mod program;
 #[cfg(test)]
 mod rows;

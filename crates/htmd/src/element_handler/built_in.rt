@@ -1,18 +1,19 @@
 //! The built-in handlers, and the tags that they are registered for.
 
-ghost use Rattle.std.specs.Prelude.{◌≡◌, ◌++◌, IfOk, OnErr};
+ghost use Rattle.std.specs.Prelude.{◌≡◌, ◌++◌, IfOk, OnOk, OnErr, string_bytes};
 ghost use Rattle.htmd.specs.Handling.{IsProper};
 ghost use Rattle.htmd.specs.Beginnings.{Begins};
 ghost use Rattle.htmd.specs.Elements.{finish_answer};
 ghost use Rattle.htmd.specs.BuiltIn.{meaning_of};
+ghost use Rattle.htmd.specs.Markdown.{append_text};
 ghost use Rattle.htmd.specs.Views.{result_view, optional_result, results_view, answer_view, element_view};
 ghost use Rattle.htmd.specs.Walking.{request_view};
 
 use super::blocks::TAGS;
 use super::registry::{Contents, Request};
 use super::{
-    Element, HandlerResult, Links, Plan, br, code, emphasis, headings, hr, list, list_item, page,
-    plans, pre, quote, span, table, table_cell, table_part,
+    Element, HandlerResult, Links, Plan, anchor, br, code, emphasis, headings, hr, img, list,
+    list_item, page, plans, pre, quote, span, table, table_cell, table_part,
 };
 use htmd_markdown::Emphasis;
 use std::alloc::{AllocError, Global};
@@ -20,6 +21,8 @@ use std::alloc::{AllocError, Global};
 /// A built-in handler.
 #[derive(Clone, Copy)]
 pub(crate) enum BuiltIn {
+    Image,
+    Anchor,
     ListElement,
     ListItem,
     BlockQuote,
@@ -43,6 +46,8 @@ pub(crate) enum BuiltIn {
 
 /// The built-in handlers in order of registration, each with the tags that it is registered for.
 pub(crate) const HANDLERS_AND_TAGS: &[(BuiltIn, &[&str])] = &[
+    (BuiltIn::Image, &["img"]),
+    (BuiltIn::Anchor, &["a"]),
     (BuiltIn::ListElement, &["ol", "ul"]),
     (BuiltIn::ListItem, &["li"]),
     (BuiltIn::BlockQuote, &["blockquote"]),
@@ -73,6 +78,8 @@ impl BuiltIn {
         ensures proper { IfOk result (λ p. IsProper element.now.tree.now element.now.node (request_view p)) }
     {
         match self {
+            BuiltIn::Image => Ok(Request::OfPlan(img::plan(alloc, element)?)),
+            BuiltIn::Anchor => Ok(Request::OfPlan(anchor::plan(element))),
             BuiltIn::ListElement => list::plan(alloc, element),
             BuiltIn::ListItem => Ok(Request::OfPlan(plans::plain_plan(element))),
             BuiltIn::BlockQuote => Ok(Request::OfPlan(plans::plain_plan(element))),
@@ -101,14 +108,16 @@ impl BuiltIn {
         alloc: Global,
         element: &Element,
         content: HandlerResult,
-        _links: &mut Links,
+        links: &mut Links,
     ) -> Result<Option<HandlerResult>, AllocError>
-        ensures ok { IfOk result (λ r. answer_view r _links.new ≡ finish_answer
-            ((meaning_of self).finish (element_view element.now) (result_view content) _links.old) _links.old) }
-        ensures err { OnErr result (Begins _links.old _links.new
-            (_links.old ++ ((meaning_of self).finish (element_view element.now) (result_view content) _links.old).added)) }
+        ensures ok { IfOk result (λ r. answer_view r links.new ≡ finish_answer
+            ((meaning_of self).finish (element_view element.now) (result_view content) links.old) links.old) }
+        ensures err { OnErr result (Begins links.old links.new
+            (links.old ++ ((meaning_of self).finish (element_view element.now) (result_view content) links.old).added)) }
     {
         match self {
+            BuiltIn::Image => Ok(None),
+            BuiltIn::Anchor => anchor::finish(alloc, element, content, links),
             BuiltIn::ListElement => list::finish(alloc, element, content),
             BuiltIn::ListItem => list_item::finish(alloc, element, content),
             BuiltIn::BlockQuote => quote::finish(alloc, element, content),
@@ -166,6 +175,17 @@ impl BuiltIn {
             BuiltIn::Html => Ok(None),
             BuiltIn::Span => Ok(None),
             BuiltIn::OtherBlock => Ok(None),
+        }
+    }
+
+    /// Puts what it puts after a conversion with these definitions behind a text.
+    pub(crate) fn push_appended(self, links: &Links, out: &mut String) -> Result<(), AllocError>
+        ensures { OnOk result (string_bytes out.new
+            ≡ string_bytes out.old ++ append_text ((meaning_of self).append links.now)) }
+    {
+        match self {
+            BuiltIn::Anchor => anchor::push_definitions(links, out),
+            _ => Ok(()),
         }
     }
 }

@@ -94,19 +94,22 @@ fn is_span_handler(handler: &Handler) -> bool
 fn push_appended(
     handler: &Handler,
     alloc: Global,
-    _links: &Links,
+    links: &Links,
     out: &mut String,
 ) -> Result<(), AllocError>
     ensures { let meaning = handler_meaning (λ b. of_functions (plan_of b) (finish_of b) (append_of b)) handler.now in
-        OnOk result (string_bytes out.new ≡ string_bytes out.old ++ append_text (meaning.append _links.now)) }
+        OnOk result (string_bytes out.new ≡ string_bytes out.old ++ append_text (meaning.append links.now)) }
 {
-    let Handler::Custom(handler) = handler else {
-        return Ok(());
-    };
-    if let Some(text) = append_of_custom(handler, alloc)? {
-        out.push_str(text.as_str())?;
+    match handler {
+        Handler::BuiltIn(handler) => handler.push_appended(links, out),
+        Handler::Skipping => Ok(()),
+        Handler::Custom(handler) => {
+            if let Some(text) = append_of_custom(handler, alloc)? {
+                out.push_str(text.as_str())?;
+            }
+            Ok(())
+        }
     }
-    Ok(())
 }
 
 impl ElementHandlers {
