@@ -32,6 +32,7 @@ pub mod Views
 pub mod HandlerMeanings
 pub mod Registries
 pub mod Converters
+pub mod Conversions
 pub mod Defaults
 pub mod TagIndexes
 pub mod Closures

@@ -1,11 +1,14 @@
 //! The converter and its builder.
 
-ghost use Rattle.std.specs.Prelude.{◌≡◌, ◌<◌, None, IfOk, IfErr, map, length, string_bytes};
+ghost use Rattle.std.specs.Prelude.{◌≡◌, ◌<◌, ℕ, true, None, Err, IfOk, IfErr, MatchResult, map, length, string_bytes};
+ghost use Rattle.htmd_grammar.specs.declared.fault.FaultKind.{FaultKind};
 ghost use Rattle.htmd.specs.Handling.{of_functions};
 ghost use Rattle.htmd.specs.Choice.{no_handler, with_handler, with_options};
+ghost use Rattle.htmd.specs.Conversions.{IsRefused, IsMarkdownOf, IsTreeOf};
 ghost use Rattle.htmd.specs.Defaults.{default_options};
 ghost use Rattle.htmd.specs.Markdown.{markdown};
 
+use crate::conversion::ConvertError;
 use crate::dom_walker;
 use crate::element_handler::fn_handler::Answering;
 use crate::element_handler::layered::Layered;
@@ -13,19 +16,21 @@ use crate::element_handler::registrar::Registrar;
 use crate::element_handler::registry::Registry;
 use crate::element_handler::{ElementHandler, ElementHandlers};
 use crate::options::Options;
-use htmd_tree::{NodeId, Tree};
+use htmd_tree::{NodeId, Tree, read_html};
 use std::alloc::{AllocError, Global};
 
 /// Converts trees to Markdown, by handlers that are registered for tags.
 #[derive(Drop)]
 pub struct HtmlToMarkdown<R = ElementHandlers> {
     handlers: R,
+    scripting: bool,
 }
 
 /// Makes a converter.
 #[derive(Drop)]
 pub struct HtmlToMarkdownBuilder<R = ElementHandlers> {
     handlers: R,
+    scripting: bool,
 }
 
 /// The request for memory was refused. This is the builder as it was.
@@ -49,20 +54,24 @@ pub struct AddFnRefused<R, H> {
 }
 
 impl HtmlToMarkdown {
-    ghost use Rattle.htmd.specs.Converters.{handlers_of, handlers_built};
+    ghost use Rattle.htmd.specs.Converters.{handlers_of, handlers_built, scripting_of, scripting_built};
     ghost use Rattle.htmd.specs.BuiltIn.{built_in};
 
-    /// A converter with the built-in handlers and the default options. It refuses for want of memory alone.
+    /// A converter with the built-in handlers, the default options and scripting on. It refuses for want of memory
+    /// alone.
     pub fn new(alloc: Global) -> Result<HtmlToMarkdown, AllocError>
-        ensures { let config = ⟦<ElementHandlers as Registry>⟧.config in
+        ensures scripting { IfOk result (λ converter. scripting_of converter ≡ true) }
+        ensures handlers { let config = ⟦<ElementHandlers as Registry>⟧.config in
             IfOk result (λ converter. config (handlers_of converter) ≡ built_in default_options) }
     {
         Ok(HtmlToMarkdown::builder(alloc)?.build())
     }
 
-    /// A builder with the built-in handlers and the default options. It refuses for want of memory alone.
+    /// A builder with the built-in handlers, the default options and scripting on. It refuses for want of memory
+    /// alone.
     pub fn builder(alloc: Global) -> Result<HtmlToMarkdownBuilder, AllocError>
-        ensures { let config = ⟦<ElementHandlers as Registry>⟧.config in
+        ensures scripting { IfOk result (λ builder. scripting_built builder ≡ true) }
+        ensures handlers { let config = ⟦<ElementHandlers as Registry>⟧.config in
             IfOk result (λ builder. config (handlers_built builder) ≡ built_in default_options) }
     {
         HtmlToMarkdownBuilder::new(alloc)
@@ -70,7 +79,29 @@ impl HtmlToMarkdown {
 }
 
 impl<R: Registry> HtmlToMarkdown<R> {
-    ghost use Rattle.htmd.specs.Converters.{handlers_of};
+    ghost use Rattle.htmd.specs.Converters.{handlers_of, scripting_of};
+
+    /// The tree of a text of HTML, by the strict grammar. `Refused` for each text outside the grammar, with the byte
+    /// place and the kind of its first fault; `Memory` where a growth was refused.
+    pub fn html_to_tree(&self, alloc: Global, html: &str) -> Result<Tree, ConvertError>
+        ensures ok { IfOk result (λ tree. IsTreeOf (scripting_of self.now) html.now tree) }
+        ensures refused { (place : ℕ) (kind : FaultKind) → result ≡ Err (ConvertError.Refused place kind)
+            → IsRefused (scripting_of self.now) html.now place kind }
+    {
+        Ok(read_html(alloc, html, self.scripting)?)
+    }
+
+    /// The Markdown of a text of HTML: of its tree, from the Document. It is refused as its tree is.
+    pub fn convert(&self, alloc: Global, html: &str) -> Result<String, ConvertError>
+        requires ready { R.ready (handlers_of self.now) }
+        ensures ok { IfOk result (λ text. IsMarkdownOf (R.config (handlers_of self.now))
+            (scripting_of self.now) html.now (string_bytes text)) }
+        ensures refused { (place : ℕ) (kind : FaultKind) → result ≡ Err (ConvertError.Refused place kind)
+            → IsRefused (scripting_of self.now) html.now place kind }
+    {
+        let tree = self.html_to_tree(alloc, html)?;
+        Ok(self.tree_to_markdown(alloc, &tree, tree.root())?)
+    }
 
     /// The Markdown of a node that is handed over by itself. It refuses for want of memory alone, and
     /// neither the converter nor the tree is changed.
@@ -82,23 +113,29 @@ impl<R: Registry> HtmlToMarkdown<R> {
     ) -> Result<String, AllocError>
         requires ready { R.ready (handlers_of self.now) }
         requires within { node < length tree.now }
-        ensures { IfOk result (λ text. string_bytes text ≡ markdown (R.config (handlers_of self.now)) tree.now node) }
+        ensures { IfOk result
+            (λ text. string_bytes text ≡ markdown (R.config (handlers_of self.now)) tree.now node) }
     {
         dom_walker::tree_to_markdown(&self.handlers, alloc, tree, node)
     }
 }
 
 impl HtmlToMarkdownBuilder {
-    ghost use Rattle.htmd.specs.Converters.{handlers_of, handlers_built};
+    ghost use Rattle.htmd.specs.Converters.{handlers_of, handlers_built, scripting_of, scripting_built};
     ghost use Rattle.htmd.specs.BuiltIn.{built_in};
 
-    /// A builder with the built-in handlers and the default options. It refuses for want of memory alone.
+    /// A builder with the built-in handlers, the default options and scripting on. It refuses for want of memory
+    /// alone.
     pub fn new(alloc: Global) -> Result<HtmlToMarkdownBuilder, AllocError>
-        ensures { let config = ⟦<ElementHandlers as Registry>⟧.config in
+        ensures scripting { IfOk result (λ builder. scripting_built builder ≡ true) }
+        ensures handlers { let config = ⟦<ElementHandlers as Registry>⟧.config in
             IfOk result (λ builder. config (handlers_built builder) ≡ built_in default_options) }
     {
         let handlers = ElementHandlers::new(alloc, Options::default())?;
-        Ok(HtmlToMarkdownBuilder { handlers })
+        Ok(HtmlToMarkdownBuilder {
+            handlers,
+            scripting: true,
+        })
     }
 
     /// The same, but this handler is asked first for these tags. It refuses for want of memory alone,
@@ -115,6 +152,8 @@ impl HtmlToMarkdownBuilder {
             (of_functions (plan_of handler) (finish_of handler) (append_of handler))) }
         ensures builder { let config = ⟦<ElementHandlers as Registry>⟧.config in
             IfErr result (λ refused. config (handlers_built refused.builder) ≡ config (handlers_built self)) }
+        ensures scripting { MatchResult result (λ builder. scripting_built builder ≡ scripting_built self)
+            (λ refused. scripting_built refused.builder ≡ scripting_built self) }
         ensures handler { IfErr result (λ refused. refused.handler ≡ handler) }
     {
         match self.handlers.add_handler(tags, handler) {
@@ -128,13 +167,14 @@ impl HtmlToMarkdownBuilder {
 }
 
 impl<R: Registrar> HtmlToMarkdownBuilder<R> {
-    ghost use Rattle.htmd.specs.Converters.{handlers_of, handlers_built};
+    ghost use Rattle.htmd.specs.Converters.{handlers_of, handlers_built, scripting_built};
 
     /// The same with these options.
     pub fn options(mut self, options: Options) -> Self
         requires ready { R.ready (handlers_built self) }
         ensures config { R.config (handlers_built result) ≡ with_options (R.config (handlers_built self)) options }
         ensures ready { R.ready (handlers_built result) }
+        ensures scripting { scripting_built result ≡ scripting_built self }
     {
         self.handlers.take_options(options);
         self
@@ -151,6 +191,8 @@ impl<R: Registrar> HtmlToMarkdownBuilder<R> {
             (λ refused. R.config (handlers_built refused.builder) ≡ R.config (handlers_built self)) }
         ensures ready { IfOk result (λ builder. R.ready (handlers_built builder)) }
         ensures builder_ready { IfErr result (λ refused. R.ready (handlers_built refused.builder)) }
+        ensures scripting { MatchResult result (λ builder. scripting_built builder ≡ scripting_built self)
+            (λ refused. scripting_built refused.builder ≡ scripting_built self) }
     {
         match self.handlers.take_skipping(tags) {
             Ok(_) => Ok(self),
@@ -179,10 +221,13 @@ impl<R: Registrar> HtmlToMarkdownBuilder<R> {
         ensures ready { let ready = ⟦<Layered<R, H> as Registry>⟧.ready in
             IfOk result (λ builder. ready (handlers_built builder)) }
         ensures builder_ready { IfErr result (λ refused. R.ready (handlers_built refused.builder)) }
+        ensures scripting { MatchResult result (λ builder. scripting_built builder ≡ scripting_built self)
+            (λ refused. scripting_built refused.builder ≡ scripting_built self) }
     {
         match self.handlers.take_skipping(tags) {
             Ok(index) => Ok(HtmlToMarkdownBuilder {
                 handlers: Layered::new(self.handlers, index, handler),
+                scripting: self.scripting,
             }),
             Err(_) => Err(AddFnRefused {
                 builder: self,
@@ -193,16 +238,29 @@ impl<R: Registrar> HtmlToMarkdownBuilder<R> {
 }
 
 impl<R: Registry> HtmlToMarkdownBuilder<R> {
-    ghost use Rattle.htmd.specs.Converters.{handlers_of, handlers_built};
+    ghost use Rattle.htmd.specs.Converters.{handlers_of, handlers_built, scripting_of, scripting_built};
+
+    /// The same with scripting on or off: where it is on, the content of `noscript` is one text, else it is nodes.
+    pub fn scripting_enabled(mut self, scripting: bool) -> Self
+        requires ready { R.ready (handlers_built self) }
+        ensures config { R.config (handlers_built result) ≡ R.config (handlers_built self) }
+        ensures ready { R.ready (handlers_built result) }
+        ensures scripting { scripting_built result ≡ scripting }
+    {
+        self.scripting = scripting;
+        self
+    }
 
     /// The converter.
     pub fn build(self) -> HtmlToMarkdown<R>
         requires ready { R.ready (handlers_built self) }
         ensures config { R.config (handlers_of result) ≡ R.config (handlers_built self) }
         ensures ready { R.ready (handlers_of result) }
+        ensures scripting { scripting_of result ≡ scripting_built self }
     {
         HtmlToMarkdown {
             handlers: self.handlers,
+            scripting: self.scripting,
         }
     }
 }

@@ -1,17 +1,16 @@
-//! Markdown of a tree of HTML nodes. What a tree becomes is defined over value trees and lists of
-//! ancestors (`specs/Rendering.antt`, `specs/Markdown.antt`); `HtmlToMarkdown::tree_to_markdown` gives it:
+//! Markdown of HTML. Which texts are HTML, and what tree each denotes, is the grammar of `htmd_grammar`; what a
+//! tree becomes is defined over value trees and lists of ancestors (`specs/Rendering.antt`,
+//! `specs/Markdown.antt`). `convert` refuses every other text, and gives:
 //!
 //! ```text
-//! let mut tree = Tree::new(alloc)?;
-//! let heading = tree.add_element(tree.root(), "h1", Vec::new(alloc))?;
-//! tree.add_text(heading, "Hello, *world*")?;
-//! let converter = HtmlToMarkdown::new(alloc)?;
-//! let markdown = converter.tree_to_markdown(alloc, &tree, tree.root())?;
+//! let markdown = convert(alloc, "<h1>Hello, <i>world</i></h1>")?;
 //! ```
 //!
-//! answers `# Hello, \*world\*`.
+//! answers `# Hello, *world*`. `HtmlToMarkdown` has options, skipped tags and handlers of one's own, and its
+//! `tree_to_markdown` converts trees that are built by calls.
 #![tactic(auto)]
 
+mod conversion;
 mod converter;
 mod dom_walker;
 pub mod element_handler;
@@ -22,5 +21,6 @@ pub mod options;
 mod seam;
 mod text_node;
 
+pub use conversion::{ConvertError, convert};
 pub use converter::{AddFnRefused, AddRefused, HtmlToMarkdown, HtmlToMarkdownBuilder, SkipRefused};
-pub use htmd_tree::{Attribute, NodeData, NodeId, Tree, TreeError};
+pub use htmd_tree::{Attribute, FaultKind, NodeData, NodeId, ReadError, Tree, TreeError};

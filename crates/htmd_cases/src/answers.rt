@@ -1,26 +1,103 @@
-//! The answer to a case: `=` and a text.
+//! The answer to a case: `=` and a text, or `!`, the byte place and the kind of a refusal.
 use crate::encoding::push_encoded;
 use crate::faults::LineFault;
 use crate::settings::{Question, Settings};
 use htmd::options::{Options, TranslationMode};
+use htmd::{ConvertError, FaultKind, HtmlToMarkdown, HtmlToMarkdownBuilder};
 use htmd_cli::{Input, Mode, Output, RunError, run};
-use std::alloc::Global;
+use htmd_tree::{ReadError, read_html, serialize};
+use std::alloc::{AllocError, Global};
 
 /// Puts the answer to a text.
 pub(crate) fn push_answer(
     alloc: Global,
     answers: &mut String,
-    settings: &Settings,
+    settings: Settings,
     text: &str,
 ) -> Result<(), LineFault> {
     match settings.question {
         Question::Text => {
             let markdown = paragraph_markdown(alloc, text, &settings.options)?;
-            answers.push('=')?;
-            push_encoded(answers, &markdown)?;
-            Ok(())
+            push_text(answers, &markdown)
         }
+        Question::Read => push_page(alloc, answers, settings.scripting, text),
+        Question::Convert => push_conversion(alloc, answers, settings, text),
     }
+}
+
+/// Puts a text.
+fn push_text(answers: &mut String, text: &str) -> Result<(), LineFault> {
+    answers.push('=')?;
+    push_encoded(answers, text)?;
+    Ok(())
+}
+
+/// Puts a refusal.
+fn push_refusal(
+    alloc: Global,
+    answers: &mut String,
+    place: usize,
+    kind: FaultKind,
+) -> Result<(), LineFault> {
+    let refusal = format!(in alloc; "!{place} {kind}")?;
+    answers.push_str(&refusal)?;
+    Ok(())
+}
+
+/// Puts the HTML of the Document that a text denotes.
+fn push_page(
+    alloc: Global,
+    answers: &mut String,
+    scripting: bool,
+    text: &str,
+) -> Result<(), LineFault> {
+    match read_html(alloc, text, scripting) {
+        Ok(tree) => {
+            let html = serialize(alloc, &tree, tree.root())?;
+            push_text(answers, &html)
+        }
+        Err(ReadError::Refused { place, kind }) => push_refusal(alloc, answers, place, kind),
+        Err(ReadError::Memory) => Err(LineFault::Memory),
+    }
+}
+
+/// Puts the Markdown of the Document that a text denotes.
+fn push_conversion(
+    alloc: Global,
+    answers: &mut String,
+    settings: Settings,
+    text: &str,
+) -> Result<(), LineFault> {
+    let converter = converter_of(alloc, settings)?;
+    match converter.convert(alloc, text) {
+        Ok(markdown) => push_text(answers, &markdown),
+        Err(ConvertError::Refused { place, kind }) => push_refusal(alloc, answers, place, kind),
+        Err(ConvertError::Memory) => Err(LineFault::Memory),
+    }
+}
+
+/// The converter that the settings ask for.
+fn converter_of(alloc: Global, settings: Settings) -> Result<HtmlToMarkdown, LineFault> {
+    let builder = HtmlToMarkdownBuilder::new(alloc)?
+        .options(settings.options)
+        .scripting_enabled(settings.scripting);
+    let tags = texts_of(alloc, &settings.skipped)?;
+    if tags.is_empty() {
+        return Ok(builder.build());
+    }
+    match builder.skip_tags(tags.as_slice()) {
+        Ok(builder) => Ok(builder.build()),
+        Err(_) => Err(LineFault::Memory),
+    }
+}
+
+/// The same names, lent.
+fn texts_of<'n>(alloc: Global, names: &'n [String]) -> Result<Vec<&'n str>, AllocError> {
+    let mut texts = Vec::with_capacity(alloc, names.len())?;
+    for name in names {
+        texts.push(name.as_str())?;
+    }
+    Ok(texts)
 }
 
 /// The Markdown of one paragraph, as a run of the program writes it, less its line feed.

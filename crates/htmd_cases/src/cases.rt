@@ -25,7 +25,7 @@ fn push_line(alloc: Global, answers: &mut String, case: &str) -> Result<(), Line
     };
     let settings = Settings::of(alloc, words)?;
     let text = decode(alloc, code)?;
-    push_answer(alloc, answers, &settings, &text)?;
+    push_answer(alloc, answers, settings, &text)?;
     answers.push('\n')?;
     Ok(())
 }

@@ -20,8 +20,6 @@ pub(crate) enum LineFault {
     NoTab,
     #[error("unknown setting `{0}`")]
     UnknownSetting(String),
-    #[error("no `text` among the settings")]
-    NoQuestion,
     #[error("a backslash before none of \\ n r t 0")]
     UnknownEscape,
     #[error("out of memory")]

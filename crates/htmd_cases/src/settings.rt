@@ -9,6 +9,10 @@ use std::alloc::{AllocError, Global};
 pub(crate) enum Question {
     /// the Markdown of the paragraph that has this text
     Text,
+    /// the HTML of the Document that this text denotes
+    Read,
+    /// the Markdown of the Document that this text denotes
+    Convert,
 }
 
 /// The settings of a case.
@@ -26,25 +30,19 @@ impl Settings {
     /// The settings that the words name, in any order. A word that is no setting is the fault.
     pub(crate) fn of(alloc: Global, words: &str) -> Result<Settings, LineFault> {
         let mut settings = Settings {
-            question: Question::Text,
+            question: Question::Convert,
             options: Options::default(),
             scripting: true,
             skipped: Vec::new(alloc),
         };
-        let mut question = None;
         for word in words.split_whitespace() {
             match word {
-                "text" => question = Some(Question::Text),
+                "text" => settings.question = Question::Text,
+                "read" => settings.question = Question::Read,
                 _ => settings.set(alloc, word)?,
             }
         }
-        match question {
-            Some(question) => Ok(Settings {
-                question,
-                ..settings
-            }),
-            None => Err(LineFault::NoQuestion),
-        }
+        Ok(settings)
     }
 
     /// Sets what a word `FIELD=VALUE` names.

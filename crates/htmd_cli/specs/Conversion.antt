@@ -1,5 +1,5 @@
 -- The Markdown of an input, and what the program writes for it.
-use Rattle.std.specs.Prelude.{ℕ, Bool, if◌then◌else◌, List, [], ◌∷◌, ◌++◌, codes}
+use Rattle.std.specs.Prelude.{◌≡◌, ℕ, Bool, true, false, if◌then◌else◌, List, [], ◌∷◌, ◌++◌, codes}
 use Rattle.htmd_text.specs.Characters.{line_feed}
 use Rattle.htmd_tree.specs.Items.{Item, document_item, new_item, element_node, text_node}
 use Rattle.htmd.specs.declared.options.Options.{Options}
@@ -7,6 +7,7 @@ use Rattle.htmd.specs.declared.options.TranslationMode.TheVariants.{Pure, Faithf
 use Rattle.htmd.specs.Defaults.{default_options}
 use Rattle.htmd.specs.BuiltIn.{built_in}
 use Rattle.htmd.specs.Markdown.{markdown}
+use Rattle.htmd.specs.Conversions.{IsMarkdownOf}
 
 -- the Document, and under it a `p`
 abbrev pub empty_paragraph : List Item
@@ -28,3 +29,8 @@ paragraph_markdown faithful text = markdown (built_in (options_of faithful)) (pa
 -- the Markdown of one paragraph, and a line feed
 abbrev pub paragraph_output : Bool → List ℕ → List ℕ
 paragraph_output faithful text = paragraph_markdown faithful text ++ line_feed ∷ []
+
+-- this is the Markdown of an input, of one paragraph where it is taken for a text, else of a page
+abbrev pub HasMarkdown : Bool → Bool → List ℕ → List ℕ → Type 0
+HasMarkdown true faithful input text = text ≡ paragraph_markdown faithful input
+HasMarkdown false faithful input text = IsMarkdownOf (built_in (options_of faithful)) true input text

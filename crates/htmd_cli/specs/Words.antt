@@ -5,6 +5,10 @@ use Rattle.std.specs.Str.{bytes_eq}
 use Rattle.std.specs.declared.alloc.Global.{Global}
 use Rattle.std.specs.declared.string.String.{String}
 
+-- the input is the text of one paragraph
+abbrev pub is_text : List (String Global) → Bool
+is_text words = list_any (λ word. bytes_eq (string_bytes word) (codes "--text")) words
+
 -- Faithful is asked for
 abbrev pub is_faithful : List (String Global) → Bool
 is_faithful words = list_any (λ word. bytes_eq (string_bytes word) (codes "--faithful")) words

@@ -1,7 +1,9 @@
 //! What can go wrong in a run.
 ghost use Rattle.std.specs.Prelude.{◌≡◌};
 ghost use Rattle.htmd_cli.specs.declared.faults.RunError.TheVariants.{Memory};
+ghost use Rattle.htmd_cli.specs.Failures.{run_error};
 
+use htmd::{ConvertError, FaultKind};
 use std::alloc::AllocError;
 use thiserror::Error;
 
@@ -12,6 +14,9 @@ pub struct Failed;
 /// Why a run did not succeed.
 #[derive(Debug, PartialEq, Eq, Drop, Error)]
 pub enum RunError {
+    /// The input is HTML outside the grammar: the byte place of its first fault, and the fault's kind.
+    #[error("refused at byte {place}: {kind}")]
+    Refused { place: usize, kind: FaultKind },
     /// The input is not UTF-8.
     #[error("not UTF-8")]
     NotUtf8,
@@ -31,5 +36,16 @@ impl From<AllocError> for RunError {
 
     fn from(_error: AllocError) -> RunError {
         RunError::Memory
+    }
+}
+
+impl From<ConvertError> for RunError {
+    ghost from_gives = { λ e error. error ≡ run_error e };
+
+    fn from(e: ConvertError) -> RunError {
+        match e {
+            ConvertError::Refused { place, kind } => RunError::Refused { place, kind },
+            ConvertError::Memory => RunError::Memory,
+        }
     }
 }

@@ -7,6 +7,7 @@
 #![tactic(auto)]
 
 mod faults;
+mod page;
 mod paragraph;
 mod pipeline;
 mod program;

@@ -21,7 +21,7 @@ fn paragraph(alloc: Global, text: &str) -> Result<Tree, TreeError>
 }
 
 // The default options, but Faithful where that is asked for.
-fn options_of(faithful: bool) -> Options
+pub(crate) fn options_of(faithful: bool) -> Options
     ensures { result ≡ options_of faithful }
 {
     let translation_mode = if faithful {

@@ -1,13 +1,16 @@
 //! One run: read all, convert, write.
-ghost use Rattle.std.specs.Prelude.{◌≡◌, ◌≢◌, ◌↔◌, [], ◌∷◌, ◌++◌, false, IsTrue, IsUtf8, string_bytes};
+ghost use Rattle.std.specs.Prelude.{◌≡◌, ◌≢◌, ◌↔◌, ℕ, [], ◌∷◌, ◌++◌, true, false, IsTrue, Err, IsUtf8, string_bytes};
 ghost use Rattle.std.specs.Prelude.{OnOk, OnErr, IfOk, IfErr, IfSome, IsErrOf};
 ghost use Rattle.std.specs.Io.KnownBytes.{Appends, Consumes, IsAtEnd, Keeps};
 ghost use Rattle.htmd_text.specs.Characters.{line_feed};
-ghost use Rattle.htmd_cli.specs.Conversion.{paragraph_markdown};
+ghost use Rattle.htmd_grammar.specs.declared.fault.FaultKind.{FaultKind};
+ghost use Rattle.htmd.specs.Conversions.{IsRefused};
+ghost use Rattle.htmd_cli.specs.Conversion.{HasMarkdown};
 ghost use Rattle.htmd_cli.specs.Failures.{FailsAtErr};
 ghost use Rattle.htmd_cli.specs.Runs.{Converts};
 
 use crate::faults::{Failed, RunError};
+use crate::page::page_to_markdown;
 use crate::paragraph::paragraph_to_markdown;
 use crate::sinks::{Sink, write_all};
 use crate::sources::Source;
@@ -23,9 +26,9 @@ pub struct Mode {
 }
 
 /// Reads the whole source, then converts it, then writes the Markdown and one line feed to the sink
-/// and flushes it. The source and the sink must not have failed before, and the mode must be that of
-/// a text. The first fault is answered: `Read` and `Write` where the source or the sink failed,
-/// `NotUtf8` where all was read and isn't UTF-8, `Memory` where a growth was refused. Before the
+/// and flushes it. The source and the sink must not have failed before. The first fault is answered:
+/// `Read` and `Write` where the source or the sink failed, `NotUtf8` where all was read and isn't UTF-8,
+/// `Refused` where it is HTML outside the grammar, `Memory` where a growth was refused. Before the
 /// conversion has succeeded nothing is written; after `Write` nothing is said of how much went out.
 pub fn run<R: Source, W: Sink>(
     alloc: Global,
@@ -35,13 +38,18 @@ pub fn run<R: Source, W: Sink>(
 ) -> Result<(), RunError>
     requires source { R.has_failed source.old ≡ false }
     requires sink { W.has_failed sink.old ≡ false }
-    requires text { IsTrue mode.text }
     ensures ok { OnOk result
-        (Converts mode.faithful (R.remaining source.old) (W.contents sink.old) (W.contents sink.new)) }
+        (Converts mode.text mode.faithful (R.remaining source.old) (W.contents sink.old) (W.contents sink.new)) }
     ensures end { OnOk result (IsAtEnd (R.remaining source.new)) }
     ensures end_not_utf8 { IsErrOf result RunError.NotUtf8 → IsAtEnd (R.remaining source.new) }
     ensures not_utf8 { IsErrOf result RunError.NotUtf8 →
         IfSome (R.remaining source.old) (λ input. ¬ IsUtf8 input) }
+    ensures end_refused { (place : ℕ) (kind : FaultKind) → result ≡ Err (RunError.Refused place kind)
+        → IsAtEnd (R.remaining source.new) }
+    ensures refused_html { (place : ℕ) (kind : FaultKind) → result ≡ Err (RunError.Refused place kind)
+        → mode.text ≡ false }
+    ensures refused { (place : ℕ) (kind : FaultKind) → result ≡ Err (RunError.Refused place kind)
+        → IfSome (R.remaining source.old) (λ input. IsRefused true input place kind) }
     ensures nothing_written { ¬ IsErrOf result RunError.Write → OnErr result
         (Keeps (W.contents sink.old) (W.contents sink.new)) }
     ensures read_failed { IsErrOf result RunError.Read ↔ IsTrue (R.has_failed source.new) }
@@ -49,10 +57,10 @@ pub fn run<R: Source, W: Sink>(
 {
     let input = read_all(alloc, source)?;
     let markdown = converted(alloc, input.as_slice(), mode)?;
-    if write_line(sink, markdown.as_str()).is_err() {
-        return Err(RunError::Write);
+    match write_line(sink, markdown.as_str()) {
+        Ok(()) => Ok(()),
+        Err(_) => Err(RunError::Write),
     }
-    Ok(())
 }
 
 const BUFFER_SIZE: usize = 8192;
@@ -64,7 +72,8 @@ fn read_all<R: Source>(alloc: Global, source: &mut R) -> Result<Vec<u8>, RunErro
         Consumes (R.remaining source.old) (R.remaining source.new) input.items) }
     ensures end { OnOk result (IsAtEnd (R.remaining source.new)) }
     ensures read_failed { IsErrOf result RunError.Read ↔ IsTrue (R.has_failed source.new) }
-    ensures others { IfErr result (λ error. error ≢ RunError.Write × error ≢ RunError.NotUtf8) }
+    ensures others { IfErr result (λ error. (error ≢ RunError.Write) × (error ≢ RunError.NotUtf8)
+        × ((place : ℕ) (kind : FaultKind) → error ≢ RunError.Refused place kind)) }
 {
     let mut input = Vec::new(alloc);
     let mut buffer = [0u8; BUFFER_SIZE];
@@ -82,14 +91,21 @@ fn read_all<R: Source>(alloc: Global, source: &mut R) -> Result<Vec<u8>, RunErro
 // The Markdown of an input that is UTF-8.
 fn converted(alloc: Global, input: &[u8], mode: Mode) -> Result<String, RunError>
     ensures ok { IfOk result (λ markdown.
-        IsUtf8 input.now × (string_bytes markdown ≡ paragraph_markdown mode.faithful input.now)) }
+        IsUtf8 input.now × HasMarkdown mode.text mode.faithful input.now (string_bytes markdown)) }
     ensures not_utf8 { IsErrOf result RunError.NotUtf8 → ¬ IsUtf8 input.now }
+    ensures refused_html { (place : ℕ) (kind : FaultKind) → result ≡ Err (RunError.Refused place kind)
+        → mode.text ≡ false }
+    ensures refused { (place : ℕ) (kind : FaultKind) → result ≡ Err (RunError.Refused place kind)
+        → IsRefused true input.now place kind }
     ensures others { IfErr result (λ error. error ≢ RunError.Read × error ≢ RunError.Write) }
 {
     let Ok(text) = str::from_utf8(input) else {
         return Err(RunError::NotUtf8);
     };
-    Ok(paragraph_to_markdown(alloc, text, mode.faithful)?)
+    if mode.text {
+        return Ok(paragraph_to_markdown(alloc, text, mode.faithful)?);
+    }
+    Ok(page_to_markdown(alloc, text, mode.faithful)?)
 }
 
 // Writes the Markdown and a line feed, and flushes.

@@ -1,8 +1,8 @@
 //! The program: its words, its statuses, and its lines on the sink for errors.
-ghost use Rattle.std.specs.Prelude.{◌≡◌, ◌≢◌, ◌≤◌, false, IsTrue, IfSome};
+ghost use Rattle.std.specs.Prelude.{◌≡◌, ◌≢◌, ◌≤◌, false, IfSome};
 ghost use Rattle.std.specs.Io.KnownBytes.{Appends, IsAtEnd, Keeps};
 ghost use Rattle.htmd_cli.specs.Runs.{Converts};
-ghost use Rattle.htmd_cli.specs.Words.{is_faithful};
+ghost use Rattle.htmd_cli.specs.Words.{is_text, is_faithful};
 
 use crate::faults::RunError;
 use crate::pipeline::{Mode, run};
@@ -26,7 +26,7 @@ pub fn command<R: Source, W: Sink, E: Sink>(
     requires source { R.has_failed source.old ≡ false }
     requires sink { W.has_failed sink.old ≡ false }
     ensures success { result ≡ 0 →
-        Converts (is_faithful words.now) (R.remaining source.old) (W.contents sink.old) (W.contents sink.new) }
+        Converts (is_text words.now) (is_faithful words.now) (R.remaining source.old) (W.contents sink.old) (W.contents sink.new) }
     ensures end { result ≡ 0 → IsAtEnd (R.remaining source.new) }
     ensures no_failure { result ≡ 0 →
         (R.has_failed source.new ≡ false) × (W.has_failed sink.new ≡ false) }
@@ -50,7 +50,7 @@ pub fn command<R: Source, W: Sink, E: Sink>(
 
 // The mode that the words ask for, if all are known.
 fn mode_of(words: &[String]) -> Option<Mode>
-    ensures text { IfSome result (λ mode. IsTrue mode.text) }
+    ensures text { IfSome result (λ mode. mode.text ≡ is_text words.now) }
     ensures faithful { IfSome result (λ mode. mode.faithful ≡ is_faithful words.now) }
 {
     let mut text = false;
@@ -61,9 +61,6 @@ fn mode_of(words: &[String]) -> Option<Mode>
             "--faithful" => faithful = true,
             _ => return None,
         }
-    }
-    if !text {
-        return None;
     }
     Some(Mode { text, faithful })
 }

@@ -1,4 +1,5 @@
-//! Uses of the library: trees are built by calls, and their Markdown is printed, a line each.
+//! Uses of the library: a text of HTML and trees that are built by calls are converted, and their Markdown is
+//! printed, a line each.
 #![tactic(auto)]
 
 mod closures;
@@ -7,12 +8,16 @@ mod skipping;
 
 use closures::shouted;
 use highlight::highlighted;
-use htmd::{HtmlToMarkdown, Tree, TreeError};
+use htmd::{ConvertError, HtmlToMarkdown, Tree, TreeError, convert};
 use skipping::without_asides;
 use std::alloc::Global;
 use std::io;
 
-fn greeting(alloc: Global) -> Result<String, TreeError> {
+fn greeting(alloc: Global) -> Result<String, ConvertError> {
+    convert(alloc, "<h1>Hello, <i>world</i></h1>")
+}
+
+fn built(alloc: Global) -> Result<String, TreeError> {
     let mut tree = Tree::new(alloc)?;
     let heading = tree.add_element(tree.root(), "h1", Vec::new(alloc))?;
     tree.add_text(heading, "Hello, *world*")?;
@@ -22,8 +27,12 @@ fn greeting(alloc: Global) -> Result<String, TreeError> {
 
 fn main(rt: HostRuntime) -> io::Result<()> {
     let alloc = rt.alloc();
+    match greeting(alloc) {
+        Ok(markdown) => println!(rt; "{markdown}")?,
+        Err(error) => eprintln!(rt; "{error}")?,
+    }
     for answer in [
-        greeting(alloc),
+        built(alloc),
         highlighted(alloc),
         without_asides(alloc),
         shouted(alloc),

@@ -1,6 +1,6 @@
 -- An address as it is written, byte by byte.
 use Rattle.std.proofs.Common.{◌≡◌, ℕ, suc, ◌+◌, ◌<◌, ◌≤◌, Bool, true, false, cond, List, [], ◌∷◌, ◌++◌, length, get_or}
-use Rattle.std.proofs.Common.{drop, codes, refl, sym, ap, ◌∙◌, arith, add-one}
+use Rattle.std.proofs.Common.{drop, refl, sym, ap, ◌∙◌, arith, add-one}
 use Rattle.std.specs.Prelude.{◌==◌, slice_index}
 use Rattle.std.specs.Str.{bytes_eq}
 use Rattle.std.proofs.lemmas.Bool.Decides.{nat_tests}

@@ -1,1 +1,2 @@
--- No definitions: this crate has tests alone.
+-- What the handlers of the tests ask for.
+pub mod Plans

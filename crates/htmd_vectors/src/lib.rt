@@ -3,12 +3,28 @@
 #![tactic(auto)]
 
 #[cfg(test)]
+mod builders;
+#[cfg(test)]
+mod closures;
+#[cfg(test)]
 mod code;
+#[cfg(test)]
+mod custom;
+#[cfg(test)]
+mod handlers;
 #[cfg(test)]
 mod links;
 #[cfg(test)]
+mod lists;
+#[cfg(test)]
+mod modes;
+#[cfg(test)]
 mod program;
 #[cfg(test)]
+mod registry;
+#[cfg(test)]
 mod rows;
+#[cfg(test)]
+mod tables;
 #[cfg(test)]
 mod trees;

@@ -156,6 +156,8 @@ impl BuiltIn {
             (optional_result contents.children) _links.old).added)) }
     {
         match self {
+            BuiltIn::Image => Ok(None),
+            BuiltIn::Anchor => Ok(None),
             BuiltIn::ListElement => list::finish_ordered(alloc, element, contents.results),
             BuiltIn::ListItem => Ok(None),
             BuiltIn::BlockQuote => Ok(None),

@@ -12,7 +12,7 @@ fn pair(alloc: Global, first: &str, second: &str) -> Result<Vec<String>, AllocEr
     Ok(cells)
 }
 
-/// The row of a line under three columns.
+/// The row of a line, where each cell has a width.
 fn row(alloc: Global, cells: &[String], widths: &[usize]) -> Result<String, Fail> {
     if cells.len() > widths.len() {
         return Err(Fail::from("each cell has a width"));
@@ -20,9 +20,62 @@ fn row(alloc: Global, cells: &[String], widths: &[usize]) -> Result<String, Fail
     Ok(write_row(alloc, cells, widths)?)
 }
 
+/// Reads a row's cells one by one: what stands between two bars, without spaces, tabs and line ends at its ends.
+fn is_row_of(line: &str, cells: &[&str]) -> bool {
+    let Some(inside) = line.strip_prefix('|') else {
+        return false;
+    };
+    let Some(inside) = inside.strip_suffix("|\n") else {
+        return false;
+    };
+    let mut read = inside.split('|');
+    for cell in cells {
+        let Some(text) = read.next() else {
+            return false;
+        };
+        if text.trim_matches([' ', '\t', '\r', '\n']) != *cell {
+            return false;
+        }
+    }
+    read.next().is_none()
+}
+
+#[test]
+fn rows_are_read_back(rt: HostRuntime) -> Result<(), Fail> {
+    let alloc = rt.alloc();
+    let widths: [usize; 3] = [0, 4, 1];
+    let cells = pair(alloc, "\ta|\r\nb ", "||")?;
+    let line = row(alloc, cells.as_slice(), widths.as_slice())?;
+    assert!(rt; is_row_of(line.as_str(), ["a&#124; b", "&#124;&#124;", ""].as_slice()));
+    let cells = pair(alloc, "e\u{301} 漢", "\u{3000}x\u{3000}")?;
+    let line = row(alloc, cells.as_slice(), widths.as_slice())?;
+    assert!(rt;
+        is_row_of(
+            line.as_str(),
+            ["e\u{301} 漢", "\u{3000}x\u{3000}", ""].as_slice()
+        )
+    );
+    assert!(rt;
+        !is_row_of(
+            line.as_str(),
+            ["e\u{301} 漢", "\u{3000}x\u{3000}"].as_slice()
+        )
+    );
+    Ok(())
+}
+
 #[test]
 fn rows_are_padded(rt: HostRuntime) -> Result<(), Fail> {
     let alloc = rt.alloc();
+    let bars = pair(alloc, "a|b", "")?;
+    let widths: [usize; 2] = [3, 1];
+    let line = row(alloc, bars.as_slice(), widths.as_slice())?;
+    assert_eq!(rt; line.as_str(), "| a&#124;b |   |\n");
+    let mut cells = Vec::new(alloc);
+    cells.push(String::from_str(alloc, "a\rb\nc")?)?;
+    let widths: [usize; 1] = [0];
+    let line = row(alloc, cells.as_slice(), widths.as_slice())?;
+    assert_eq!(rt; line.as_str(), "| ab c |\n");
     let widths: [usize; 3] = [3, 1, 2];
     let bars = pair(alloc, "a|b", "")?;
     let line = row(alloc, bars.as_slice(), widths.as_slice())?;

@@ -23,6 +23,6 @@ returns c =
     (λ text e. e
     ∙ same_markdown _ (with_options (built_in default_options) (options_of c.args.faithful)) _ _ _ _
     (c.build-converter.ensures.config ∙ c.options.ensures.config
-    ∙ ap (λ k. with_options k c.options_of.result) c.in_ok-builder.ensures
+    ∙ ap (λ k. with_options k c.options_of.result) c.in_ok-builder.ensures.handlers
     ∙ ap (with_options (built_in default_options)) c.options_of.ensures)
     c.in-Ok.ensures.ok c.root.ensures.value) c.tree_to_markdown.ensures

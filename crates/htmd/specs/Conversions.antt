@@ -1,0 +1,40 @@
+-- What a text of HTML becomes.
+use Rattle.std.specs.Prelude.{◌≡◌, ℕ, Bool, List}
+use Rattle.htmd_grammar.specs.ValueTrees.{ValueTree, ValueForest, document}
+use Rattle.htmd_grammar.specs.Documents.{ReadsDocument}
+use Rattle.htmd_grammar.specs.Rules.{project}
+use Rattle.htmd_grammar.specs.Faults.{IsFault}
+use Rattle.htmd_grammar.specs.declared.fault.FaultKind.{FaultKind}
+use Rattle.htmd_tree.specs.Items.{Item}
+use Rattle.htmd_tree.specs.Layout.{document_items}
+use Rattle.htmd_tree.specs.declared.reader.ReadError.{ReadError}
+use Rattle.htmd_tree.specs.declared.reader.ReadError.TheVariants as read
+use Rattle.htmd.specs.declared.conversion.ConvertError.{ConvertError}
+use Rattle.htmd.specs.declared.conversion.ConvertError.TheVariants as convert
+use Rattle.htmd.specs.Choice.{Config}
+use Rattle.htmd.specs.Markdown.{markdown}
+
+-- the text denotes a document that is laid out as this tree; the flag says whether scripting is on
+abbrev pub IsTreeOf : Bool → List ℕ → List Item → Type 0
+IsTreeOf scripting html tree =
+    (children : ValueForest) × (tree ≡ document_items children)
+    × ReadsDocument (project scripting) html (document children)
+
+-- the text denotes no document
+abbrev pub DenotesNothing : Bool → List ℕ → Type 0
+DenotesNothing scripting html = (t : ValueTree) → ReadsDocument (project scripting) html t → ⊥
+
+-- the text denotes no document, and this place and kind are right of its first fault
+pub record IsRefused (scripting : Bool) (html : List ℕ) (place : ℕ) (kind : FaultKind) : Type 0 where
+  pub denotes_nothing : DenotesNothing scripting html
+  pub is_fault : IsFault (project scripting) html place kind
+
+-- this is the Markdown of the document that the text denotes
+abbrev pub IsMarkdownOf : Config → Bool → List ℕ → List ℕ → Type 0
+IsMarkdownOf config scripting html text =
+    (tree : List Item) × IsTreeOf scripting html tree × (text ≡ markdown config tree 0)
+
+-- why a text was not read is why it was not converted
+abbrev pub conversion_error : ReadError → ConvertError
+conversion_error (read.Refused place kind) = convert.Refused place kind
+conversion_error read.Memory = convert.Memory

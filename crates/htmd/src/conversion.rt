@@ -1,0 +1,55 @@
+//! The conversion of a text of HTML.
+
+ghost use Rattle.std.specs.Prelude.{◌≡◌, ℕ, IfOk, Err, true, string_bytes};
+ghost use Rattle.htmd_grammar.specs.declared.fault.FaultKind.{FaultKind};
+ghost use Rattle.htmd.specs.BuiltIn.{built_in};
+ghost use Rattle.htmd.specs.Conversions.{IsRefused, IsMarkdownOf, conversion_error};
+ghost use Rattle.htmd.specs.Defaults.{default_options};
+ghost use Rattle.htmd.specs.declared.conversion.ConvertError.TheVariants.{Memory};
+
+use crate::converter::HtmlToMarkdown;
+use htmd_tree::{FaultKind, ReadError};
+use std::alloc::{AllocError, Global};
+use thiserror::Error;
+
+/// Why a text of HTML was not converted.
+#[derive(Debug, PartialEq, Eq, Drop, Error)]
+pub enum ConvertError {
+    /// The text is outside the grammar: the byte place of its first fault, and the fault's kind.
+    #[error("refused at byte {place}: {kind}")]
+    Refused { place: usize, kind: FaultKind },
+    /// A request for memory was refused.
+    #[error("out of memory")]
+    Memory,
+}
+
+impl From<ReadError> for ConvertError {
+    ghost from_gives = { λ e error. error ≡ conversion_error e };
+
+    fn from(e: ReadError) -> ConvertError {
+        match e {
+            ReadError::Refused { place, kind } => ConvertError::Refused { place, kind },
+            ReadError::Memory => ConvertError::Memory,
+        }
+    }
+}
+
+impl From<AllocError> for ConvertError {
+    ghost from_gives = { λ _ error. error ≡ Memory };
+
+    fn from(_e: AllocError) -> ConvertError {
+        ConvertError::Memory
+    }
+}
+
+/// The Markdown of a text of HTML, by a new converter: the built-in handlers, the default options and
+/// scripting on. `Refused` for each text outside the grammar, with the byte place and the kind of its first
+/// fault; `Memory` where a growth was refused.
+pub fn convert(alloc: Global, html: &str) -> Result<String, ConvertError>
+    ensures ok { IfOk result
+        (λ text. IsMarkdownOf (built_in default_options) true html.now (string_bytes text)) }
+    ensures refused { (place : ℕ) (kind : FaultKind) → result ≡ Err (ConvertError.Refused place kind)
+        → IsRefused true html.now place kind }
+{
+    HtmlToMarkdown::new(alloc)?.convert(alloc, html)
+}

@@ -1,0 +1,45 @@
+-- A run from its input to what it wrote, and a refused conversion as the run's.
+use Rattle.std.proofs.Common.{◌≡◌, ◌∙◌, sym, ap, subst, ℕ, Bool, List, [], ◌∷◌, ◌++◌, Option, Some, None}
+use Rattle.std.proofs.Common.{Result, Err, IsErrAnd, IsUtf8, append-nil}
+use Rattle.std.specs.Io.KnownBytes.{Appends, Consumes, IsAtEnd}
+use Rattle.htmd_text.specs.Characters.{line_feed}
+use Rattle.htmd_grammar.specs.declared.fault.FaultKind.{FaultKind}
+use Rattle.htmd.specs.declared.conversion.ConvertError.{ConvertError}
+use Rattle.htmd.specs.declared.conversion.ConvertError.TheVariants as conversion
+use Rattle.htmd_cli.specs.declared.faults.RunError.{RunError}
+use Rattle.htmd_cli.specs.declared.faults.RunError.TheVariants as run
+use Rattle.htmd_cli.specs.Failures.{run_error}
+use Rattle.htmd_cli.specs.Conversion.{HasMarkdown}
+use Rattle.htmd_cli.specs.Runs.{Converts, Writes}
+
+-- all of the source was converted, and that was written
+converted_all : (text faithful : Bool) (old new : Option (List ℕ)) (input markdown : List ℕ)
+    (before after : Option (List ℕ)) → Consumes old new input → IsAtEnd new
+    → IsUtf8 input × HasMarkdown text faithful input markdown → Appends before after (markdown ++ line_feed ∷ [])
+    → Converts text faithful old before after
+converted_all text faithful None new input markdown before after c e m a = tt
+converted_all text faithful (Some xs) None input markdown before after c e m a = absurd c
+converted_all text faithful (Some xs) (Some ys) input markdown before after c e m a =
+    subst (Writes text faithful before after) (sym (c ∙ ap (λ z. input ++ z) e ∙ append-nil input))
+    (m.0, markdown, m.1, a)
+
+-- the same of equal texts
+pub converted_run : (text faithful : Bool) (old new : Option (List ℕ)) (items input markdown written : List ℕ)
+    (before after : Option (List ℕ)) → Consumes old new items → IsAtEnd new → input ≡ items
+    → IsUtf8 input × HasMarkdown text faithful input markdown → written ≡ markdown
+    → Appends before after (written ++ line_feed ∷ []) → Converts text faithful old before after
+converted_run text faithful old new items input markdown written before after c e i m w a =
+    converted_all text faithful old new input markdown before after (subst (Consumes old new) (sym i) c) e m
+    (subst (λ z. Appends before after (z ++ line_feed ∷ [])) w a)
+
+refused_conversion : (e : ConvertError) (place : ℕ) (kind : FaultKind)
+    → run.Refused place kind ≡ run_error e → e ≡ conversion.Refused place kind
+refused_conversion (conversion.Refused p k) place kind q = cc
+refused_conversion conversion.Memory place kind q = absurd cc
+
+-- a refusal of a run comes of a refused conversion, with its place and kind
+pub conversion_before : {T U : Type 0} (r : Result T RunError) (x : Result U ConvertError) (e : ConvertError)
+    (place : ℕ) (kind : FaultKind) → x ≡ Err e → IsErrAnd r (λ error. error ≡ run_error e)
+    → r ≡ Err (run.Refused place kind) → x ≡ Err (conversion.Refused place kind)
+conversion_before r x e place kind was given q =
+    was ∙ ap Err (refused_conversion e place kind (subst (λ y. IsErrAnd y (λ error. error ≡ run_error e)) q given))
