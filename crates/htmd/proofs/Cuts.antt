@@ -13,7 +13,8 @@ pub space_of_ascii : OfAscii is_space
 space_of_ascii b e = grind (arith, nat_tests)
 
 -- between or behind such characters at the start
-pub cut_in_leading : (passes : ℕ → Bool) (s : List ℕ) (k : ℕ) → IsUtf8 s → OfAscii passes → k ≤ prefix_len passes s
+pub cut_in_leading : (passes : ℕ → Bool) (s : List ℕ) (k : ℕ) → IsUtf8 s → OfAscii passes
+    → k ≤ prefix_len passes s
     → IsCharBoundary s k
 cut_in_leading passes s zero text ascii l = IsCharBoundary-start s text
 cut_in_leading passes s (suc k) text ascii l =
@@ -24,7 +25,8 @@ cut_in_leading passes s (suc k) text ascii l =
     (ascii (get_or s k 0) passed))
 
 -- in front of such characters at the end
-pub cut_before_final : (passes : ℕ → Bool) (s : List ℕ) (n : ℕ) → OfAscii passes → n ≡ length s - suffix_len passes s
+pub cut_before_final : (passes : ℕ → Bool) (s : List ℕ) (n : ℕ) → OfAscii passes
+    → n ≡ length s - suffix_len passes s
     → IsSplitPoint s n
 cut_before_final passes s n ascii e =
     let here = subst (λ (k : ℕ). IsCharBoundary s k) (sym e) (end_boundary passes s ascii) in

@@ -45,7 +45,8 @@ module _ (items : List Item) (t : IsTree items) where
       ∙ block-put id (data_at items id) (children_at items id)
 
   -- one step up
-  pub pre-root : (id : ℕ) → id < length items → parent_at items id ≡ None → pre (ancestors_of items id) ≡ false
+  pub pre-root : (id : ℕ) → id < length items → parent_at items id ≡ None
+      → pre (ancestors_of items id) ≡ false
   pre-root id l e = ap pre (ancestors-open items id t l ∙ ap (chain_from (ancestors_of items) items) e)
 
   pub pre-up : (id p : ℕ) → id < length items → parent_at items id ≡ Some p
@@ -63,21 +64,25 @@ module _ (items : List Item) (t : IsTree items) where
 
   pub parent_pre-root : (id : ℕ) → id < length items → parent_at items id ≡ None
       → parent_is_pre (ancestors_of items id) ≡ false
-  parent_pre-root id l e = ap parent_is_pre (ancestors-open items id t l ∙ ap (chain_from (ancestors_of items) items) e)
+  parent_pre-root id l e =
+      ap parent_is_pre (ancestors-open items id t l ∙ ap (chain_from (ancestors_of items) items) e)
 
-  pub parent_pre-up : (id p : ℕ) (c : Data) → id < length items → parent_at items id ≡ Some p → data_at items p ≡ c
+  pub parent_pre-up : (id p : ℕ) (c : Data) → id < length items → parent_at items id ≡ Some p
+      → data_at items p ≡ c
       → parent_is_pre (ancestors_of items id) ≡ bytes_eq (ancestor_of c).tag (codes "pre")
   parent_pre-up id p c l e k =
       ap parent_is_pre (ancestors-open items id t l ∙ ap (chain_from (ancestors_of items) items) e)
       ∙ ap (λ x. bytes_eq (ancestor_of x).tag (codes "pre")) k
 
   -- the text of an only child
-  text_put : (id : ℕ) (c : Data) → data_at items id ≡ c → id < length items → only_text (more (tree_of items id) none)
+  text_put : (id : ℕ) (c : Data) → data_at items id ≡ c → id < length items
+      → only_text (more (tree_of items id) none)
       ≡ only_text (more (with_children id c (children_at items id)) none)
   text_put id c e l = ap (λ v. only_text (more v none)) (tree-open items id t l
       ∙ ap (λ x. with_children id x (children_at items id)) e)
 
-  pub only_text-one : (ids : List ℕ) (id : ℕ) (s : List ℕ) → length ids ≡ 1 → id ≡ get_or ids 0 id → id < length items
+  pub only_text-one : (ids : List ℕ) (id : ℕ) (s : List ℕ) → length ids ≡ 1 → id ≡ get_or ids 0 id
+      → id < length items
       → data_at items id ≡ text_node s → only_text (forest_of (tree_of items) ids) ≡ Some s
   only_text-one [] id s l e h k = absurd (omega arith)
   only_text-one (i ∷ []) id s l e h k = subst (λ j. only_text (more (tree_of items j) none) ≡ Some s) e
@@ -92,7 +97,8 @@ module _ (items : List Item) (t : IsTree items) where
   no_text id (comment_node s) trees h = refl
   no_text id (element_node name attributes) trees h = refl
 
-  pub only_text-other : (ids : List ℕ) (id : ℕ) → length ids ≡ 1 → id ≡ get_or ids 0 id → id < length items
+  pub only_text-other : (ids : List ℕ) (id : ℕ) → length ids ≡ 1 → id ≡ get_or ids 0 id
+      → id < length items
       → is_text (data_at items id) ≡ false → only_text (forest_of (tree_of items) ids) ≡ None
   only_text-other [] id l e h k = absurd (omega arith)
   only_text-other (i ∷ []) id l e h k =
@@ -107,7 +113,8 @@ module _ (items : List Item) (t : IsTree items) where
   two_or_more (comment i s) w trees = refl
   two_or_more (element i n a ks) w trees = refl
 
-  pub only_text-none : (ids : List ℕ) → (length ids ≡ 1 → ⊥) → only_text (forest_of (tree_of items) ids) ≡ None
+  pub only_text-none : (ids : List ℕ) → (length ids ≡ 1 → ⊥)
+      → only_text (forest_of (tree_of items) ids) ≡ None
   only_text-none [] l = refl
   only_text-none (i ∷ []) l = absurd (l (omega arith))
   only_text-none (i ∷ j ∷ ids) l = two_or_more (tree_of items i) (tree_of items j) (forest_of (tree_of items) ids)
@@ -136,7 +143,8 @@ not_block (Text s) h = refl
 not_block (Comment s) h = refl
 not_block (Element name attributes) h = absurd (h name attributes refl)
 
-pub not_pre : (n : NodeData) → ((name : String Global) (attributes : Vec Attribute Global) → n ≡ Element name attributes
+pub not_pre : (n : NodeData)
+    → ((name : String Global) (attributes : Vec Attribute Global) → n ≡ Element name attributes
     → ⊥) → bytes_eq (ancestor_of (data_of n)).tag (codes "pre") ≡ false
 not_pre Document h = refl
 not_pre Doctype h = refl
@@ -160,7 +168,8 @@ and_true true = refl
 and_true false = refl
 
 -- the trim flag at the start of a node's content
-pub no_trim : (items : List Item) (id : ℕ) → pre (inside_of items id) ≡ true → trims_first (inside_of items id) ≡ false
+pub no_trim : (items : List Item) (id : ℕ) → pre (inside_of items id) ≡ true
+    → trims_first (inside_of items id) ≡ false
 no_trim items id e = ap (λ t. is_block (ancestor_of (data_at items id)).tag && not t) e
     ∙ and_false (is_block (ancestor_of (data_at items id)).tag)
 

@@ -16,7 +16,8 @@ is_line_feed-true : (b : ℕ) → is_line_feed b ≡ true → b ≡ line_feed
 is_line_feed-true b e = grind (arith, nat_tests)
 
 -- what stands before the first other byte is line feeds
-take_leading : (bs : List ℕ) → take (prefix_len is_line_feed bs) bs ≡ replicate (prefix_len is_line_feed bs) line_feed
+take_leading : (bs : List ℕ)
+    → take (prefix_len is_line_feed bs) bs ≡ replicate (prefix_len is_line_feed bs) line_feed
 take_leading bs =
     let within = prefix_len-le-length is_line_feed bs in
     let long : length (take (prefix_len is_line_feed bs) bs) ≡ prefix_len is_line_feed bs =
@@ -28,7 +29,8 @@ take_leading bs =
     ∙ sym (get_or-replicate _ k line_feed d below))
 
 -- the rest of a text from some of its leading line feeds on
-drop_leading : (bs : List ℕ) (k : ℕ) → k ≤ prefix_len is_line_feed bs → drop (prefix_len is_line_feed bs - k) bs
+drop_leading : (bs : List ℕ) (k : ℕ) → k ≤ prefix_len is_line_feed bs
+    → drop (prefix_len is_line_feed bs - k) bs
     ≡ replicate k line_feed ++ drop (prefix_len is_line_feed bs) bs
 drop_leading bs k l =
     let n = prefix_len is_line_feed bs in
@@ -40,7 +42,8 @@ drop_leading bs k l =
     ∙ ap (λ xs. xs ++ drop n bs) (drop-replicate (n - k) n line_feed ∙ ap (λ m. replicate m line_feed) left)
 
 -- what stands behind the last other byte is line feeds
-drop_final : (bs : List ℕ) → drop (length bs - suffix_len is_line_feed bs) bs ≡ replicate (suffix_len is_line_feed bs)
+drop_final : (bs : List ℕ)
+    → drop (length bs - suffix_len is_line_feed bs) bs ≡ replicate (suffix_len is_line_feed bs)
     line_feed
 drop_final bs =
     let n = suffix_len is_line_feed bs in
@@ -54,10 +57,12 @@ drop_final bs =
     let place : length bs - 1 - (n - 1 - k) ≡ length bs - n + k = omega arith in
     let passes : is_line_feed (get_or (reverse bs) (n - 1 - k) d) ≡ true = prefix_len_passes is_line_feed (reverse bs)
     (n - 1 - k) d (omega arith) in
-    get_or-drop (length bs - n) bs k d ∙ ap (λ i. get_or bs i d) (sym place) ∙ sym turned ∙ is_line_feed-true _ passes
+    get_or-drop (length bs - n) bs k d ∙ ap (λ i. get_or bs i d) (sym place) ∙ sym turned
+    ∙ is_line_feed-true _ passes
     ∙ sym (get_or-replicate n k line_feed d below))
 
-final_parts : (out : List ℕ) → out ≡ trimmed_end is_line_feed out ++ replicate (suffix_len is_line_feed out) line_feed
+final_parts : (out : List ℕ)
+    → out ≡ trimmed_end is_line_feed out ++ replicate (suffix_len is_line_feed out) line_feed
 final_parts out =
     sym (take-append-drop (length out - suffix_len is_line_feed out) out)
     ∙ ap (λ xs. trimmed_end is_line_feed out ++ xs) (drop_final out)

@@ -26,7 +26,8 @@ occurrence_of n conversion e = record {
 
 -- it holds of the element, whatever count of levels suffices for what is in it
 abbrev pub AtElement : Conversion → Element → (Occurrence → Type 0) → Type 0
-AtElement conversion e P = (n : ℕ) → height (tree_of conversion.items e.node) ≤ suc n → P (occurrence_of n conversion e)
+AtElement conversion e P = (n : ℕ) → height (tree_of conversion.items e.node) ≤ suc n
+    → P (occurrence_of n conversion e)
 
 -- it holds of how a node is written, whatever count of levels suffices for it
 abbrev pub AtNode : Conversion → ℕ → (Writes → Type 0) → Type 0
@@ -34,4 +35,5 @@ AtNode conversion id P = (n : ℕ) → height (tree_of conversion.items id) ≤ 
 
 -- the same, of how its children are written
 abbrev pub InNode : Conversion → ℕ → (Writes → Type 0) → Type 0
-InNode conversion id P = (n : ℕ) → height (tree_of conversion.items id) ≤ suc n → P (written_within n conversion)
+InNode conversion id P = (n : ℕ) → height (tree_of conversion.items id) ≤ suc n
+    → P (written_within n conversion)

@@ -22,7 +22,8 @@ abbrev pub cut : List ℕ → List ℕ → Option Cut
 cut s t = Some (s, t)
 
 pub cut_same : (s t u r : List ℕ) → cut s t ≡ cut u r → (s ≡ u) × (t ≡ r)
-cut_same s t u r e = let q : ◌≡◌ {A = Cut} (s, t) (u, r) = cc in (ap (λ (x : Cut). x.0) q, ap (λ (x : Cut). x.1) q)
+cut_same s t u r e = let q : ◌≡◌ {A = Cut} (s, t) (u, r) =
+    cc in (ap (λ (x : Cut). x.0) q, ap (λ (x : Cut). x.1) q)
 
 grown : (b : ℕ) (o : Option Cut) (q : Cut) (u r a : List ℕ) → o ≡ cut (q.0) (q.1 ++ a)
     → ◌≡◌ {A = Cut} (cons_cut b q) (u, r) → option_map (cons_cut b) o ≡ cut u (r ++ a)
@@ -49,7 +50,8 @@ before_close-append (b ∷ c ∷ d ∷ s) a u r e =
         let i = ih (m.0).0 (m.0).1 m.1 in
         rw w.0 (grown b (before_comment_end ((c ∷ d ∷ s) ++ a)) m.0 u r a i m.2)
 
-one_more : (b : ℕ) (t x v : List ℕ) → before_comment_end t ≡ cut v [] → begins_with (codes "-->") (b ∷ (t ++ x)) ≡ false
+one_more : (b : ℕ) (t x v : List ℕ) → before_comment_end t ≡ cut v []
+    → begins_with (codes "-->") (b ∷ (t ++ x)) ≡ false
     → before_comment_end (b ∷ t) ≡ cut (b ∷ v) []
 one_more b [] x v h f = absurd (cc)
 one_more b (c ∷ []) x v h f = let q = rw (and_false (c == 45)) at h in absurd (cc)
@@ -67,7 +69,8 @@ before_close-split (b ∷ c ∷ d ∷ s) u r e =
     go : ((begins_with (codes "-->") (b ∷ c ∷ d ∷ s) ≡ true) × (cut [] s ≡ cut u r))
         ⊎ ((begins_with (codes "-->") (b ∷ c ∷ d ∷ s) ≡ false)
         × (option_map (cons_cut b) (before_comment_end (c ∷ d ∷ s)) ≡ cut u r))
-        → ((v x : List ℕ) → before_comment_end (c ∷ d ∷ s) ≡ cut v x → (t : List ℕ) × (c ∷ d ∷ s ≡ t ++ x)
+        → ((v x : List ℕ) → before_comment_end (c ∷ d ∷ s) ≡ cut v x
+        → (t : List ℕ) × (c ∷ d ∷ s ≡ t ++ x)
         × (before_comment_end t ≡ cut v []))
         → (t : List ℕ) × (b ∷ c ∷ d ∷ s ≡ t ++ r) × (before_comment_end t ≡ cut u [])
     go (inl w) ih = let q = cut_same [] s u r w.1 in

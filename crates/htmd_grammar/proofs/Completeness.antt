@@ -73,7 +73,8 @@ slash_ok : (slash void : Bool) → (slash ≡ true → void ≡ true) → (slash
 slash_ok true void h = rw (h refl) refl
 slash_ok false void h = refl
 
-all_known : (names : Names) (spelled attributes : List AttributePair) → decode_values names spelled ≡ Some attributes
+all_known : (names : Names) (spelled attributes : List AttributePair)
+    → decode_values names spelled ≡ Some attributes
     → list_any (λ a. has_unknown_reference names a.value) spelled ≡ false
 all_known names [] attributes e = refl
 all_known names (a ∷ spelled) attributes e =
@@ -97,7 +98,8 @@ drop_none : (n : ℕ) → ◌≡◌ {A = List ℕ} (drop n []) []
 drop_none zero = refl
 drop_none (suc n) = refl
 
-pub nothing_read : (u : List ℕ) → ◌≡◌ {A = Option (List ℕ)} (Some []) (Some u) → ◌≡◌ {A = List ℕ} [] u
+pub nothing_read : (u : List ℕ) → ◌≡◌ {A = Option (List ℕ)} (Some []) (Some u)
+    → ◌≡◌ {A = List ℕ} [] u
 nothing_read u e = cc
 
 -- the first piece of a text is the same before `<`
@@ -123,7 +125,8 @@ module _ (rules : Rules) (outer : Context) where
   pub one_step : {a b : State} → step rules outer a ≡ Ok b → Reaches rules outer a b
   one_step e = via e here
 
-  pub not_deep : (fs : List OpenElement) → length (names_of outer fs) ≤ rules.depth → is_too_deep rules outer fs ≡ false
+  pub not_deep : (fs : List OpenElement) → length (names_of outer fs) ≤ rules.depth
+      → is_too_deep rules outer fs ≡ false
   not_deep fs l = grind (arith, nat_tests)
 
   raw_full : (p u : List ℕ) → raw_text_of p [] ≡ Some u → u ≢ [] → ⊥
@@ -157,10 +160,12 @@ module _ (rules : Rules) (outer : Context) where
       rw (t, and_false (not (is_empty run)), text_goes_on rules.scripting f (b ∷ s) nm t, r, p, w, d) refl
 
   -- the pieces of a text, after so many bytes
-  pieces_read : (f : OpenElement) (gs : List OpenElement) (x : List ℕ) (n : ℕ) (run after u : List ℕ) → IsNamed f
+  pieces_read : (f : OpenElement) (gs : List OpenElement) (x : List ℕ) (n : ℕ) (run after u : List ℕ)
+      → IsNamed f
       → holds_raw_text rules.scripting f.name ≡ false → is_too_deep rules outer (f ∷ gs) ≡ false
       → Stops rules.scripting f.name after → up_to (ends_text rules.scripting f.name) x ≡ x
-      → (holds_parts f.name ≡ true → list_all is_ascii_white_space u ≡ true) → decode rules.names n x ≡ Some u
+      → (holds_parts f.name ≡ true → list_all is_ascii_white_space u ≡ true)
+      → decode rules.names n x ≡ Some u
       → Reaches rules outer (in_text (f ∷ gs) run (drop n x ++ after)) (in_text (f ∷ gs) (run ++ u) after)
   pieces_read f gs [] n run after u nm r d st k w e =
       moved_text (f ∷ gs) run run (run ++ u) (drop n [] ++ after) after after
@@ -181,11 +186,13 @@ module _ (rules : Rules) (outer : Context) where
       (pieces_read f gs x p.0 (run ++ p.1) after p.2 nm r d st h.1
       (λ t. (white_parts p.1 p.2 (ap (list_all is_ascii_white_space) (sym p.5) ∙ w t)).1) p.4))
     where
-      first : (v y : List ℕ) → u ≡ v ++ y → (holds_parts f.name && not (list_all is_ascii_white_space v)) ≡ false
+      first : (v y : List ℕ) → u ≡ v ++ y
+          → (holds_parts f.name && not (list_all is_ascii_white_space v)) ≡ false
       first v y q = white_test f.name v (λ t. (white_parts v y (ap (list_all is_ascii_white_space) (sym q) ∙ w t)).0)
 
   -- a text ends
-  flush_is : (f : OpenElement) (gs : List OpenElement) (u after : List ℕ) → Stops rules.scripting f.name after → u ≢ []
+  flush_is : (f : OpenElement) (gs : List OpenElement) (u after : List ℕ) → Stops rules.scripting f.name after
+      → u ≢ []
       → step rules outer (in_text (f ∷ gs) u after) ≡ Ok (at_piece (with_tree (f ∷ gs) (text u)) after)
   unfolding step
   flush_is f gs u after st n = rw (filled u n, ended st) refl
@@ -197,7 +204,8 @@ module _ (rules : Rules) (outer : Context) where
   -- text without references
   raw_is : (f : OpenElement) (gs : List OpenElement) (s after u : List ℕ) → IsNamed f → u ≢ []
       → holds_raw_text rules.scripting f.name ≡ true → up_to (ends_text rules.scripting f.name) s ≡ s
-      → text_of rules f.name s ≡ Some u → is_too_deep rules outer (f ∷ gs) ≡ false → Stops rules.scripting f.name after
+      → text_of rules f.name s ≡ Some u → is_too_deep rules outer (f ∷ gs) ≡ false
+      → Stops rules.scripting f.name after
       → step rules outer (at_piece (f ∷ gs) (s ++ after)) ≡ Ok (at_piece (with_tree (f ∷ gs) (text u)) after)
   unfolding step
   raw_is f gs [] after u nm n r k d l h = absurd (decoded_full f.name [] u d n refl)
@@ -236,7 +244,8 @@ module _ (rules : Rules) (outer : Context) where
 
   -- `<` and a name
   start_reads : (fs : List OpenElement) (b : ℕ) (s name r : List ℕ)
-      → holds_text_alone rules.scripting (parent_name (names_of outer fs)) ≡ false → is_ascii_alphabetic b ≡ true
+      → holds_text_alone rules.scripting (parent_name (names_of outer fs)) ≡ false
+      → is_ascii_alphabetic b ≡ true
       → leading_run is_tag_name_byte (b ∷ s) ≡ name → behind_run is_tag_name_byte (b ∷ s) ≡ r
       → is_tag_name name ≡ true → (is_implied fs && is_table_part (map to_ascii_lowercase name)) ≡ false
       → step rules outer (at_piece fs (60 ∷ b ∷ s)) ≡ form_step rules outer fs (map to_ascii_lowercase name)
@@ -249,9 +258,11 @@ module _ (rules : Rules) (outer : Context) where
   -- a start tag, where no implied `tbody` ends
   pub start_step_is : (fs : List OpenElement) (name r x : List ℕ) (spelled attributes : List AttributePair)
       (present : Bool) → holds_text_alone rules.scripting (parent_name (names_of outer fs)) ≡ false
-      → is_tag_name name ≡ true → IsTagRest spelled present r → decode_values rules.names spelled ≡ Some attributes
+      → is_tag_name name ≡ true → IsTagRest spelled present r
+      → decode_values rules.names spelled ≡ Some attributes
       → are_distinct (attribute_names spelled) ≡ true
-      → (present ≡ true → is_void (map to_ascii_lowercase name) ≡ true) → is_outside (map to_ascii_lowercase name)
+      → (present ≡ true → is_void (map to_ascii_lowercase name) ≡ true)
+      → is_outside (map to_ascii_lowercase name)
       ≡ false → (is_implied fs && is_table_part (map to_ascii_lowercase name)) ≡ false
       → step rules outer (at_piece fs (60 ∷ (name ++ (r ++ x)))) ≡ place_step rules outer fs
       (map to_ascii_lowercase name) attributes x
@@ -282,7 +293,8 @@ module _ (rules : Rules) (outer : Context) where
       let w = white_back gap (62 ∷ x) l refl in
       rw (q.0, i, t, q.1, e, w, o) refl
 
-  pub settled_is : (f : OpenElement) (gs : List OpenElement) (s : List ℕ) → f.implied ≡ true → ends_rows s ≡ true
+  pub settled_is : (f : OpenElement) (gs : List OpenElement) (s : List ℕ) → f.implied ≡ true
+      → ends_rows s ≡ true
       → step rules outer (at_piece (f ∷ gs) s) ≡ Ok (at_piece (with_tree gs (closed f)) s)
   unfolding step
   settled_is f gs s i e = rw (i, e) refl
@@ -311,13 +323,15 @@ module _ (rules : Rules) (outer : Context) where
   opened f gs n attributes x = if is_void n then between (with_tree (f ∷ gs) (element n attributes none)) x
       else between (fresh n attributes false ∷ f ∷ gs) (content_of n x)
 
-  start_opens : (f : OpenElement) (gs : List OpenElement) (name r x : List ℕ) (spelled attributes : List AttributePair)
+  start_opens : (f : OpenElement) (gs : List OpenElement) (name r x : List ℕ)
+      (spelled attributes : List AttributePair)
       (present : Bool) → is_tag_name name ≡ true → IsTagRest spelled present r
       → decode_values rules.names spelled ≡ Some attributes → are_distinct (attribute_names spelled) ≡ true
       → (present ≡ true → is_void (map to_ascii_lowercase name) ≡ true) → IsNamed f
       → is_allowed rules.scripting (names_of outer (f ∷ gs)) (map to_ascii_lowercase name) ≡ true
       → length (names_of outer (f ∷ gs)) ≤ rules.depth
-      → step rules outer (at_piece (f ∷ gs) (60 ∷ (name ++ (r ++ x)))) ≡ opened f gs (map to_ascii_lowercase name)
+      → step rules outer (at_piece (f ∷ gs) (60 ∷ (name ++ (r ++ x))))
+      ≡ opened f gs (map to_ascii_lowercase name)
       attributes x
   start_opens f gs name r x spelled attributes present e k d u v h a l =
       start_step_is (f ∷ gs) name r x spelled attributes present
@@ -332,26 +346,31 @@ module _ (rules : Rules) (outer : Context) where
 
   tag_opens : (f : OpenElement) (gs : List OpenElement) (n tag x : List ℕ) (attributes : List AttributePair)
       → IsStartTag rules.names tag n attributes → IsNamed f
-      → is_allowed rules.scripting (names_of outer (f ∷ gs)) n ≡ true → length (names_of outer (f ∷ gs)) ≤ rules.depth
+      → is_allowed rules.scripting (names_of outer (f ∷ gs)) n ≡ true
+      → length (names_of outer (f ∷ gs)) ≤ rules.depth
       → step rules outer (at_piece (f ∷ gs) (tag ++ x)) ≡ opened f gs n attributes x
   tag_opens f gs n tag x attributes t h a l =
       ap (λ (y : List ℕ). step rules outer (at_piece (f ∷ gs) y)) (ap (λ (y : List ℕ). y ++ x) (t.2).2
       ∙ ap (λ (y : List ℕ). 60 ∷ y) (append_assoc (t.2).0 (t.2).1 x))
       ∙ subst (λ (m : List ℕ). is_allowed rules.scripting (names_of outer (f ∷ gs)) m ≡ true
-      → (t.1 ≡ true → is_void m ≡ true) → step rules outer (at_piece (f ∷ gs) (60 ∷ ((t.2).0 ++ ((t.2).1 ++ x))))
+      → (t.1 ≡ true → is_void m ≡ true)
+      → step rules outer (at_piece (f ∷ gs) (60 ∷ ((t.2).0 ++ ((t.2).1 ++ x))))
       ≡ opened f gs m attributes x)
       (t.2).4 (λ b k. start_opens f gs (t.2).0 (t.2).1 x t.0 attributes t.1 (t.2).3 (t.2).5 t.3 t.4 k h b l) a t.5
 
   -- an end tag closes the innermost element, of its name
   end_closes : (f g : OpenElement) (gs : List OpenElement) (tag n x : List ℕ) → IsEndTag tag n → f.name ≡ n
       → is_outside n ≡ false → (f.implied && bytes_eq n (codes "table")) ≡ false
-      → step rules outer (at_piece (f ∷ g ∷ gs) (tag ++ x)) ≡ Ok (at_piece (with_tree (g ∷ gs) (closed f)) (x))
+      → step rules outer (at_piece (f ∷ g ∷ gs) (tag ++ x))
+      ≡ Ok (at_piece (with_tree (g ∷ gs) (closed f)) (x))
   end_closes f g gs tag n x t q o i =
       let b : bytes_eq f.name (map to_ascii_lowercase t.0) ≡ true = ap (bytes_eq f.name) (t.5 ∙ sym q)
       ∙ bytes_same f.name in
       ap (λ (y : List ℕ). step rules outer (at_piece (f ∷ g ∷ gs) (y))) (spell_end t.0 t.1 tag x t.2)
-      ∙ (end_step_is (f ∷ g ∷ gs) t.0 t.1 x t.3 t.4 (end_stops rules.scripting f.name t.0 t.1 x (t.5 ∙ sym q) t.4)
-      (ap is_outside t.5 ∙ o) (ap (λ (m : List ℕ). f.implied && bytes_eq m (codes "table")) t.5 ∙ i) ∙ rw b refl)
+      ∙ (end_step_is (f ∷ g ∷ gs) t.0 t.1 x t.3 t.4
+      (end_stops rules.scripting f.name t.0 t.1 x (t.5 ∙ sym q) t.4)
+      (ap is_outside t.5 ∙ o) (ap (λ (m : List ℕ). f.implied && bytes_eq m (codes "table")) t.5 ∙ i)
+      ∙ rw b refl)
     where
       spell_end : (name gap tag x : List ℕ) → tag ≡ 60 ∷ 47 ∷ (name ++ (gap ++ 62 ∷ []))
           → tag ++ x ≡ 60 ∷ 47 ∷ (name ++ (gap ++ (62 ∷ x)))
@@ -381,7 +400,8 @@ module _ (rules : Rules) (outer : Context) where
   opened_at g f gs y = between (g ∷ f ∷ gs) y
 
   -- what is dropped is the same before the end tag
-  content_before : (n s tag after : List ℕ) → IsEndTag tag n → content_of n (s ++ (tag ++ after)) ≡ content_of n s
+  content_before : (n s tag after : List ℕ) → IsEndTag tag n
+      → content_of n (s ++ (tag ++ after)) ≡ content_of n s
       ++ (tag ++ after)
   content_before n s tag after t = rw t.2 (content_over n s (47 ∷ ((t.0 ++ (t.1 ++ 62 ∷ [])) ++ after)))
 
@@ -389,19 +409,22 @@ module _ (rules : Rules) (outer : Context) where
   explicit_read : (n : List ℕ) (attributes : List AttributePair) (ks : ValueForest) → NodesRead ks
       → (f : OpenElement) (gs : List OpenElement) (tag inner end after : List ℕ)
       → IsStartTag rules.names tag n attributes → IsEndTag end n → is_void n ≡ false
-      → is_allowed rules.scripting (names_of outer (f ∷ gs)) n ≡ true → length (names_of outer (f ∷ gs)) ≤ rules.depth
+      → is_allowed rules.scripting (names_of outer (f ∷ gs)) n ≡ true
+      → length (names_of outer (f ∷ gs)) ≤ rules.depth
       → IsNamed f
       → ReadsForest rules (n ∷ names_of outer (f ∷ gs)) true ks (content_of n inner)
       → Leads f gs (tag ++ (inner ++ end)) after (more (element n attributes ks) none)
   explicit_read n attributes ks ih f gs tag inner end after st en v a l h k =
       let g : OpenElement = fresh n attributes false in
       let behind : List ℕ = end ++ after in
-      let over : content_of n (inner ++ behind) ≡ content_of n inner ++ behind = content_before n inner end after en in
+      let over : content_of n (inner ++ behind) ≡ content_of n inner ++ behind =
+      content_before n inner end after en in
       let entered : step rules outer (at_piece (f ∷ gs) (tag ++ (inner ++ behind)))
       ≡ Ok (at_piece (g ∷ f ∷ gs) (content_of n inner ++ behind)) =
       tag_opens f gs n tag (inner ++ behind) attributes st h a l
       ∙ rw v (ap (λ (y : List ℕ). opened_at g f gs y) over) in
-      let inside : Leads g (f ∷ gs) (content_of n inner) behind ks = ih g (f ∷ gs) true (content_of n inner) behind k
+      let inside : Leads g (f ∷ gs) (content_of n inner) behind ks =
+      ih g (f ∷ gs) true (content_of n inner) behind k
       (λ q. absurd (cc)) (inr (end_tag_stops end n after en)) (λ _ t. rows_end end n after en t) in
       let left : step rules outer (at_piece (with_children g ks ∷ f ∷ gs) (behind))
       ≡ Ok (at_piece (with_tree (f ∷ gs) (element n attributes ks)) (after)) =
@@ -414,7 +437,8 @@ module _ (rules : Rules) (outer : Context) where
   void_read : (n : List ℕ) (attributes : List AttributePair) (f : OpenElement) (gs : List OpenElement)
       (tag after : List ℕ)
       → IsStartTag rules.names tag n attributes → is_void n ≡ true
-      → is_allowed rules.scripting (names_of outer (f ∷ gs)) n ≡ true → length (names_of outer (f ∷ gs)) ≤ rules.depth
+      → is_allowed rules.scripting (names_of outer (f ∷ gs)) n ≡ true
+      → length (names_of outer (f ∷ gs)) ≤ rules.depth
       → IsNamed f
       → Leads f gs (tag ++ []) after (more (element n attributes none) none)
   void_read n attributes f gs tag after st v a l h =
@@ -432,7 +456,8 @@ module _ (rules : Rules) (outer : Context) where
       ∙ ap (λ (y : List ℕ). 60 ∷ y) (append_assoc (t.2).0 (t.2).1 x) in
       let d : map to_ascii_lowercase (t.2).0 ≡ codes "tr" = (t.2).4 in
       let v : t.1 ≡ true → is_void (map to_ascii_lowercase (t.2).0) ≡ true = (λ i. ap is_void d ∙ t.5 i) in
-      rw e (start_step_is (f ∷ gs) (t.2).0 (t.2).1 x t.0 attributes t.1 (rw (q, and_false rules.scripting) refl) (t.2).3
+      rw e (start_step_is (f ∷ gs) (t.2).0 (t.2).1 x t.0 attributes t.1 (rw (q, and_false rules.scripting) refl)
+      (t.2).3
       (t.2).5 t.3 t.4 v (rw d refl) (rw d (and_false f.implied))
       ∙ (rw d (rw (q, k) refl) ∙ sym (start_step_is (fresh (codes "tbody") [] true ∷ f ∷ gs) (t.2).0
       (t.2).1 x t.0 attributes t.1 (and_false rules.scripting) (t.2).3 (t.2).5 t.3 t.4 v (rw d refl) (rw d refl))))
@@ -445,7 +470,8 @@ module _ (rules : Rules) (outer : Context) where
   row_opens_in f gs n tag x attributes q t e k = rw q (row_opens f gs tag x attributes t e k)
 
   -- what is reached by at least one step
-  moved : (a a' b : State) → Reaches rules outer a b → (a ≡ b → ⊥) → step rules outer a' ≡ step rules outer a
+  moved : (a a' b : State) → Reaches rules outer a b → (a ≡ b → ⊥)
+      → step rules outer a' ≡ step rules outer a
       → Reaches rules outer a' b
   moved a a' b here n e = absurd (n refl)
   moved a a' b (via p q) n e = via (e ∙ p) q
@@ -456,9 +482,11 @@ module _ (rules : Rules) (outer : Context) where
 
   implied_read : (n : List ℕ) (ks : ValueForest) → NodesRead ks
       → (f : OpenElement) (gs : List OpenElement) (last : Bool) (inner end after : List ℕ)
-      → is_tbody n ≡ true → begins_with_row ks ≡ true → is_allowed rules.scripting (names_of outer (f ∷ gs)) n ≡ true
+      → is_tbody n ≡ true → begins_with_row ks ≡ true
+      → is_allowed rules.scripting (names_of outer (f ∷ gs)) n ≡ true
       → length (names_of outer (f ∷ gs)) ≤ rules.depth → IsNamed f
-      → ReadsForest rules (n ∷ names_of outer (f ∷ gs)) true ks inner → IsEndTag end n ⊎ ((end ≡ []) × (last ≡ true))
+      → ReadsForest rules (n ∷ names_of outer (f ∷ gs)) true ks inner
+      → IsEndTag end n ⊎ ((end ≡ []) × (last ≡ true))
       → RowsEnd f last after
       → Leads f gs (inner ++ end) after (more (element n [] ks) none)
   implied_read n ks ih f gs last inner end after t b a l h k ends re =
@@ -517,7 +545,8 @@ module _ (rules : Rules) (outer : Context) where
 
   next_read : (t : ValueTree) (ts : ValueForest) → NodeRead t → NodesRead ts → NodesRead (more t ts)
   next_read t ts one_t all_ts f gs last s after h nm st re =
-      along (f ∷ gs) _ (h.0 ++ (h.1 ++ after)) _ (ap (λ (y : List ℕ). y ++ after) h.2 ∙ append_assoc h.0 h.1 after)
+      along (f ∷ gs) _ (h.0 ++ (h.1 ++ after)) _
+      (ap (λ (y : List ℕ). y ++ after) h.2 ∙ append_assoc h.0 h.1 after)
       (reaches_then
       (one_t f gs (may_end_rows last ts h.1) h.0 (h.1 ++ after) h.4 nm
       (stops_after rules f.name t ts (names_of outer gs) last h.1 after h.3 h.5 st)

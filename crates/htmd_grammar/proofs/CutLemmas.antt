@@ -50,8 +50,10 @@ ended p s e a = (
     first (b ∷ s) x a = test (p b) (λ q. rw q refl) (λ q. let w = rw q at a in rw (q, w) refl)
 
 -- what a number stands for, whatever follows its `;`
-number_cut : (p : ℕ → Bool) (base k m : ℕ) (s v : List ℕ) → p 59 ≡ false → number_at p base k s ≡ stands m v
-    → (first_is 59 (behind_run p s) ≡ true) × (first_is 59 s ≡ false) × (m ≡ suc (k + length (leading_run p s)))
+number_cut : (p : ℕ → Bool) (base k m : ℕ) (s v : List ℕ) → p 59 ≡ false
+    → number_at p base k s ≡ stands m v
+    → (first_is 59 (behind_run p s) ≡ true) × (first_is 59 s ≡ false)
+    × (m ≡ suc (k + length (leading_run p s)))
     × ((x : List ℕ) → number_at p base k ((leading_run p s ++ 59 ∷ []) ++ x) ≡ stands m v)
 number_cut p base k m s v e h =
     elim (if_then (first_is 59 (behind_run p s) && not (first_is 59 s))
@@ -80,7 +82,8 @@ Cuts read m v s = (w r : List ℕ) × (s ≡ w ++ r) × (length w ≡ m) × ((x 
     → read (w ++ x) ≡ stands m v)
 
 pub sharp_cut : (s v : List ℕ) (m : ℕ) → behind_number_sign s ≡ stands m v
-    → (w r : List ℕ) × (s ≡ w ++ r) × (suc (length w) ≡ m) × ((x : List ℕ) → behind_number_sign (w ++ x) ≡ stands m v)
+    → (w r : List ℕ) × (s ≡ w ++ r) × (suc (length w) ≡ m)
+    × ((x : List ℕ) → behind_number_sign (w ++ x) ≡ stands m v)
 sharp_cut [] v m e = absurd (cc)
 sharp_cut (b ∷ s) v m e =
     elim (if_then (begins_in_any_case (codes "x") (b ∷ s)) (number_at is_ascii_hexdigit 16 2 s)
@@ -106,7 +109,8 @@ sharp_cut (b ∷ s) v m e =
           )
     ]
   where
-    sharp_digit : (b : ℕ) (s x : List ℕ) → first_is 59 (behind_run is_ascii_digit (b ∷ s)) ≡ true → (b == 59) ≡ false
+    sharp_digit : (b : ℕ) (s x : List ℕ) → first_is 59 (behind_run is_ascii_digit (b ∷ s)) ≡ true
+        → (b == 59) ≡ false
         → (begins_in_any_case (codes "x") (b ∷ s)) ≡ false
         → number_at is_ascii_digit 10 1 ((leading_run is_ascii_digit (b ∷ s) ++ 59 ∷ []) ++ x) ≡ stands m v
         → behind_number_sign ((leading_run is_ascii_digit (b ∷ s) ++ 59 ∷ []) ++ x) ≡ stands m v
@@ -127,10 +131,12 @@ named_size n m None v e = absurd (cc)
 named_size n m (Some c) v e = (stands_same n m _ v e).0
 
 -- a run that nothing ends is ended by nothing where it is cut off
-no_end : (p : ℕ → Bool) (x z : List ℕ) → (first_is 59 (behind_run p (x ++ z)) && not (first_is 59 (x ++ z))) ≡ false
+no_end : (p : ℕ → Bool) (x z : List ℕ)
+    → (first_is 59 (behind_run p (x ++ z)) && not (first_is 59 (x ++ z))) ≡ false
     → (first_is 59 (behind_run p x) && not (first_is 59 x)) ≡ false
 no_end p [] z e = refl
-no_end p (b ∷ x) z e = test (first_is 59 (behind_run p (b ∷ x))) (λ q. let k = longer (b ∷ x) q in let w = rw k at e in
+no_end p (b ∷ x) z e =
+    test (first_is 59 (behind_run p (b ∷ x))) (λ q. let k = longer (b ∷ x) q in let w = rw k at e in
     rw q w) (λ q. rw q refl)
   where
     longer : (x : List ℕ) → first_is 59 (behind_run p x) ≡ true → first_is 59 (behind_run p (x ++ z)) ≡ true
@@ -163,11 +169,13 @@ and_cut names s v m e = elim (if_then (first_is 35 s) (behind_number_sign (drop 
               (omega arith),
               λ x z q. name_same s x w.0 a.0 n (c.1 x) u.1,
             )
-        | inr u ↦ (let g = stands_same 0 m (38 ∷ []) v u.1 in ([], s, refl, g.0, λ x z q. plain_same x z q w.0 u.0 u.1))
+        | inr u ↦ (let g =
+            stands_same 0 m (38 ∷ []) v u.1 in ([], s, refl, g.0, λ x z q. plain_same x z q w.0 u.0 u.1))
       ]
 ]
   where
-    name_same : (s x : List ℕ) → first_is 35 s ≡ false → first_is 59 (behind_run is_ascii_alphanumeric s) ≡ true
+    name_same : (s x : List ℕ) → first_is 35 s ≡ false
+        → first_is 59 (behind_run is_ascii_alphanumeric s) ≡ true
         → first_is 59 s ≡ false
         → (leading_run is_ascii_alphanumeric ((leading_run is_ascii_alphanumeric s ++ 59 ∷ []) ++ x)
         ≡ leading_run is_ascii_alphanumeric s)
@@ -178,7 +186,8 @@ and_cut names s v m e = elim (if_then (first_is 35 s) (behind_number_sign (drop 
         → behind_ampersand names ((leading_run is_ascii_alphanumeric s ++ 59 ∷ []) ++ x) ≡ stands m v
     name_same s x h a n c u = rw (c.0, c.1, c.2, n, no_sharp s x h a) u
       where
-        no_sharp : (s x : List ℕ) → first_is 35 s ≡ false → first_is 59 (behind_run is_ascii_alphanumeric s) ≡ true
+        no_sharp : (s x : List ℕ) → first_is 35 s ≡ false
+            → first_is 59 (behind_run is_ascii_alphanumeric s) ≡ true
             → first_is 35 ((leading_run is_ascii_alphanumeric s ++ 59 ∷ []) ++ x) ≡ false
         no_sharp [] x h a = absurd (cc)
         no_sharp (b ∷ s) x h a = test (is_ascii_alphanumeric b) (λ q. rw q h) (λ q. rw q refl)
@@ -200,7 +209,8 @@ piece_cut names b s v m e = elim (if_then (b == 38) (behind_ampersand names s) _
     | inl u ↦ elim (if_then (first_is 10 s) (stands 1 (10 ∷ [])) (stands 0 (10 ∷ [])) (stands m v) u.1) [
       | inl y ↦ (let g = stands_same 1 m (10 ∷ []) v y.1 in
           (10 ∷ [], drop 1 s, at_head 10 s y.0, g.0, λ x z q. rw (w.0, u.0) y.1))
-      | inr y ↦ (let g = stands_same 0 m (10 ∷ []) v y.1 in ([], s, refl, g.0, λ x z q. alone x z w.0 u.0 q y.0 y.1))
+      | inr y ↦ (let g =
+          stands_same 0 m (10 ∷ []) v y.1 in ([], s, refl, g.0, λ x z q. alone x z w.0 u.0 q y.0 y.1))
     ]
     | inr u ↦ (let g = stands_same 0 m (b ∷ []) v u.1 in ([], s, refl, g.0, λ x z q. rw (w.0, u.0) u.1))
   ]
@@ -218,7 +228,8 @@ abbrev pub IsLineFeedPiece : ℕ → List ℕ → ℕ → Type 0
 IsLineFeedPiece b s m = piece_at [] b s ≡ stands m (10 ∷ [])
 
 -- what stands for a line feed does so with more behind, and is not shorter then
-line_feed_over : (b : ℕ) (s x : List ℕ) (m : ℕ) → IsLineFeedPiece b s m → (n : ℕ) × IsLineFeedPiece b (s ++ x) n
+line_feed_over : (b : ℕ) (s x : List ℕ) (m : ℕ) → IsLineFeedPiece b s m
+    → (n : ℕ) × IsLineFeedPiece b (s ++ x) n
     × (m ≤ n)
 line_feed_over b s x m e = test (b == 38) (λ t. reference t (rw t at e))
     (λ t. test (b == 13) (λ r. return t r s (rw (t, r) at e)) (λ r. (m, rw (t, r) (rw (t, r) at e), omega arith)))
@@ -230,7 +241,8 @@ line_feed_over b s x m e = test (b == 38) (λ t. reference t (rw t at e))
         test (first_is 10 x) (λ y. (1, rw (t, r, y) refl, omega arith)) (λ y. (0, rw (t, r, y) refl, omega arith))
     return t r (c ∷ s) q = (m, rw (t, r) q, omega arith)
 
-    reference : (b == 38) ≡ true → behind_ampersand [] s ≡ stands m (10 ∷ []) → (n : ℕ) × IsLineFeedPiece b (s ++ x) n
+    reference : (b == 38) ≡ true → behind_ampersand [] s ≡ stands m (10 ∷ [])
+        → (n : ℕ) × IsLineFeedPiece b (s ++ x) n
         × (m ≤ n)
     reference t q = elim (if_then (first_is 35 s) (behind_number_sign (drop 1 s)) _ (stands m (10 ∷ [])) q) [
       | inl w ↦
@@ -247,10 +259,12 @@ line_feed_over b s x m e = test (b == 38) (λ t. reference t (rw t at e))
     ]
 
 -- what is a piece for a line feed, or begins with none
-line_feed_or_not : (b : ℕ) (s : List ℕ) → ((m : ℕ) × IsLineFeedPiece b s m) ⊎ (after_line_feed [] (b ∷ s) ≡ b ∷ s)
+line_feed_or_not : (b : ℕ) (s : List ℕ) → ((m : ℕ) × IsLineFeedPiece b s m)
+    ⊎ (after_line_feed [] (b ∷ s) ≡ b ∷ s)
 line_feed_or_not b s = go (piece_at [] b s) refl
   where
-    go : (p : Piece) → piece_at [] b s ≡ p → ((m : ℕ) × IsLineFeedPiece b s m) ⊎ (after_line_feed [] (b ∷ s) ≡ b ∷ s)
+    go : (p : Piece) → piece_at [] b s ≡ p → ((m : ℕ) × IsLineFeedPiece b s m)
+        ⊎ (after_line_feed [] (b ∷ s) ≡ b ∷ s)
     go (wrong k) e = inr (ap (λ (p : Piece). less_line_feed p b s) e)
     go (stands m v) e = test (bytes_eq v (10 ∷ []))
         (λ t. inl (m, e ∙ ap (stands m) (same_bytes v (10 ∷ []) t)))
@@ -325,5 +339,6 @@ kept_cut n i x z e k = test (drops_line_feed n)
     (λ d.
     let e2 : after_line_feed [] i ≡ [] = rw d at e in
     let k2 : after_line_feed [] (i ++ (x ++ z)) ≡ after_line_feed [] i ++ (x ++ z) = rw d at k in
-    rw d (kept_whole i x z e2 (k2 ∙ ap (λ (y : List ℕ). y ++ (x ++ z)) e2) ∙ ap (λ (y : List ℕ). y ++ x) (sym e2)))
+    rw d (kept_whole i x z e2 (k2 ∙ ap (λ (y : List ℕ). y ++ (x ++ z)) e2)
+    ∙ ap (λ (y : List ℕ). y ++ x) (sym e2)))
     (λ d. rw d refl)

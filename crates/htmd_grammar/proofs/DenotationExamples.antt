@@ -46,7 +46,8 @@ value_forms : Denotes true (codes "<i a b=1 c='2\"' d = \"3'\"></i>")
 unfolding step is_allowed is_void may_be_numbered encode
 value_forms = denotes true (codes "<i a b=1 c='2\"' d = \"3'\"></i>")
     (more (element (codes "i") (attribute_pair (codes "a") [] ∷ attribute_pair (codes "b") (codes "1")
-    ∷ attribute_pair (codes "c") (codes "2\"") ∷ attribute_pair (codes "d") (codes "3'") ∷ []) none) none) 60 refl refl
+    ∷ attribute_pair (codes "c") (codes "2\"") ∷ attribute_pair (codes "d") (codes "3'") ∷ []) none) none) 60 refl
+    refl
 
 value_with_ampersands : Denotes true (codes "<a href=\"/x?a=1&b=2&amp;c\">t</a>")
     (more (element (codes "a") (attribute_pair (codes "href") (codes "/x?a=1&b=2&c") ∷ [])

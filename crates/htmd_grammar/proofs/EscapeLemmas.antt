@@ -59,7 +59,8 @@ module _ (names : Names) (has : HasEscapes names) where
   byte_back stop b y e f g k r = elim (refers_first b [] y r) [
     | inl w ↦
         let q : y ≡ b ∷ [] = w.1 ∙ ap (λ (t : List ℕ). b ∷ t) (refers_nothing w.0 w.2) in
-        subst (λ (t : List ℕ). Decodes t (b ∷ []) × (lacks stop t ≡ true)) (sym q) (byte_decodes b e f, rw g refl)
+        subst (λ (t : List ℕ). Decodes t (b ∷ []) × (lacks stop t ≡ true)) (sym q)
+        (byte_decodes b e f, rw g refl)
     | inr w ↦
         let q : y ≡ line_feed_reference = w.2 ∙ ap (λ (t : List ℕ). line_feed_reference ++ t)
         (refers_nothing w.0 w.3) in
@@ -68,7 +69,8 @@ module _ (names : Names) (has : HasEscapes names) where
   ]
 
   -- one byte that is markup_of as a reference
-  escape_back : (stop b c : ℕ) (s y : List ℕ) → lacks 10 s ≡ true → lacks stop s ≡ true → b ≡ c → Decodes s (c ∷ [])
+  escape_back : (stop b c : ℕ) (s y : List ℕ) → lacks 10 s ≡ true → lacks stop s ≡ true → b ≡ c
+      → Decodes s (c ∷ [])
       → RefersToLineFeeds s y → Decodes y (b ∷ []) × (lacks stop y ≡ true)
   escape_back stop b c s y l k e d r =
       subst (λ (t : List ℕ). Decodes t (b ∷ []) × (lacks stop t ≡ true)) (sym (refers_plain s y l r))
@@ -101,7 +103,8 @@ module _ (names : Names) (has : HasEscapes names) where
     Back x s = (decode names 0 x ≡ Some s) × (lacks stop x ≡ true)
 
     -- a piece and what follows it
-    joined : (x y z v s : List ℕ) → x ≡ y ++ z → Decodes y v → lacks stop y ≡ true → Back z s → Back x (v ++ s)
+    joined : (x y z v s : List ℕ) → x ≡ y ++ z → Decodes y v → lacks stop y ≡ true → Back z s
+        → Back x (v ++ s)
     joined x y z v s e d k h = rw e (d z s h.0, lacks-append stop y z k h.1)
 
     escaped_back : (s x : List ℕ) → lacks 13 s ≡ true → RefersToLineFeeds (escaped_html byte s) x → Back x s
@@ -119,14 +122,16 @@ module _ (names : Names) (has : HasEscapes names) where
         let k : i.0 ≡ codes "&nbsp;" = refers_plain (codes "&nbsp;") i.0 refl i.3 in
         let m = and_true (b == 0xC2) (c == 0xA0) t in
         subst (λ (v : List ℕ). Back x (v ++ s)) (two b c (same_byte b 0xC2 m.0) (same_byte c 0xA0 m.1))
-        (joined x (codes "&nbsp;") i.1 (0xC2 ∷ 0xA0 ∷ []) s (i.2 ∙ ap (λ (y : List ℕ). y ++ i.1) k) nbsp_decodes clean
+        (joined x (codes "&nbsp;") i.1 (0xC2 ∷ 0xA0 ∷ []) s (i.2 ∙ ap (λ (y : List ℕ). y ++ i.1) k)
+        nbsp_decodes clean
         (escaped_back s i.1 q.1 i.4)))
         (λ t.
         let i = refers_split (byte b) (escaped_html byte (c ∷ s)) x (rw t at r) in
         let o = byte_ok b i.0 (not_true (b == 13) p.0) i.3 in
         joined x i.0 i.1 (b ∷ []) (c ∷ s) i.2 o.0 o.1 (escaped_back (c ∷ s) i.1 p.1 i.4))
       where
-        two : (b c : ℕ) → b ≡ 0xC2 → c ≡ 0xA0 → ◌≡◌ {A = List ℕ} (0xC2 ∷ 0xA0 ∷ []) (b ∷ c ∷ [])
+        two : (b c : ℕ) → b ≡ 0xC2 → c ≡ 0xA0
+            → ◌≡◌ {A = List ℕ} (0xC2 ∷ 0xA0 ∷ []) (b ∷ c ∷ [])
         two b c e f = rw (e, f) refl
 
   pub text_back : (s x : List ℕ) → lacks 13 s ≡ true → RefersToLineFeeds (escaped_html text_byte s) x

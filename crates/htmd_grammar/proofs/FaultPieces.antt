@@ -40,7 +40,8 @@ no_number names b s e = test (b == carriage_return) (λ t. test (first_is line_f
     (λ q. rw (e, t, q) refl))
     (λ t. rw (e, t) refl)
 
-numbers_right_from : (names : Names) (s : List ℕ) (n : ℕ) (u : List ℕ) → decode names n s ≡ Some u → Skips n s
+numbers_right_from : (names : Names) (s : List ℕ) (n : ℕ) (u : List ℕ) → decode names n s ≡ Some u
+    → Skips n s
     → has_bad_number names s ≡ false
 numbers_right_from names [] n u d k = refl
 numbers_right_from names (b ∷ s) zero u d k =
@@ -51,7 +52,8 @@ numbers_right_from names (b ∷ s) (suc n) u d k =
     rw (no_number names b s (not_true (b == ampersand) q.0), numbers_right_from names s n u d q.1) refl
 
 -- what is decoded has no wrong number
-pub numbers_right : (names : Names) (s u : List ℕ) → decode names 0 s ≡ Some u → has_bad_number names s ≡ false
+pub numbers_right : (names : Names) (s u : List ℕ) → decode names 0 s ≡ Some u
+    → has_bad_number names s ≡ false
 numbers_right names s u d = numbers_right_from names s 0 u d refl
 
 -- a piece that is wrong is a reference of one of two kinds
@@ -61,7 +63,8 @@ IsWrongReference kind = (kind ≡ UnknownReference) ⊎ (kind ≡ BadNumber)
 wrong_same : (k l : FaultKind) → wrong k ≡ wrong l → k ≡ l
 wrong_same k l e = cc
 
-number_wrong : (p : ℕ → Bool) (base n : ℕ) (s : List ℕ) (k : FaultKind) → number_at p base n s ≡ wrong k → BadNumber ≡ k
+number_wrong : (p : ℕ → Bool) (base n : ℕ) (s : List ℕ) (k : FaultKind) → number_at p base n s ≡ wrong k
+    → BadNumber ≡ k
 number_wrong p base n s k e =
     elim (if_then (first_is semicolon (behind_run p s) && not (first_is semicolon s))
     (numbered (suc (n + length (leading_run p s))) (number base 0 (leading_run p s))) (wrong BadNumber) (wrong k) e) [
@@ -73,8 +76,10 @@ number_wrong p base n s k e =
 sign_wrong : (s : List ℕ) (k : FaultKind) → behind_number_sign s ≡ wrong k → BadNumber ≡ k
 sign_wrong [] k e = wrong_same BadNumber k e
 sign_wrong (b ∷ s) k e = elim (if_then (begins_in_any_case (codes "x") (b ∷ s)) (number_at is_ascii_hexdigit 16 2 s)
-    (number_at is_ascii_digit 10 1 (b ∷ s)) (wrong k) e)
-    [ inl w ↦ number_wrong is_ascii_hexdigit 16 2 s k w.1 | inr w ↦ number_wrong is_ascii_digit 10 1 (b ∷ s) k w.1 ]
+    (number_at is_ascii_digit 10 1 (b ∷ s)) (wrong k) e) [
+      | inl w ↦ number_wrong is_ascii_hexdigit 16 2 s k w.1
+      | inr w ↦ number_wrong is_ascii_digit 10 1 (b ∷ s) k w.1
+    ]
 
 named_wrong : (n : ℕ) (o : Option ℕ) (k : FaultKind) → named n o ≡ wrong k → UnknownReference ≡ k
 named_wrong n None k e = wrong_same UnknownReference k e
@@ -105,7 +110,8 @@ piece_wrong names b s k e = elim (if_then (b == ampersand) (behind_ampersand nam
 ]
 
 -- what isn't decoded has one of the two
-wrong_from : (names : Names) (s : List ℕ) (n : ℕ) → decode names n s ≡ None → has_unknown_reference names s ≡ false
+wrong_from : (names : Names) (s : List ℕ) (n : ℕ) → decode names n s ≡ None
+    → has_unknown_reference names s ≡ false
     → has_bad_number names s ≡ true
 wrong_from names [] n d k = absurd (cc)
 wrong_from names (b ∷ s) (suc n) d k =
@@ -130,7 +136,8 @@ wrong_from names (b ∷ s) zero d k =
 
 -- the values of attributes
 pub values_right : (names : Names) (spelled attributes : List AttributePair)
-    → decode_values names spelled ≡ Some attributes → list_any (λ a. has_bad_number names a.value) spelled ≡ false
+    → decode_values names spelled ≡ Some attributes
+    → list_any (λ a. has_bad_number names a.value) spelled ≡ false
 values_right names [] attributes d = refl
 values_right names (a ∷ spelled) attributes d =
     let p = values_parts a.name (decode names 0 a.value) (decode_values names spelled) attributes d in
@@ -141,12 +148,14 @@ pub values_wrong : (names : Names) (spelled : List AttributePair) → decode_val
     → list_any (λ a. has_bad_number names a.value) spelled ≡ true
 values_wrong names [] d k = absurd (cc)
 values_wrong names (a ∷ spelled) d k =
-    let q = or_false (has_unknown_reference names a.value) (list_any (λ a. has_unknown_reference names a.value) spelled)
+    let q =
+    or_false (has_unknown_reference names a.value) (list_any (λ a. has_unknown_reference names a.value) spelled)
     k in
     go (decode names 0 a.value) refl (decode_values names spelled) refl d q.0 (λ e. values_wrong names spelled e q.1)
   where
     go : (o : Option (List ℕ)) → decode names 0 a.value ≡ o → (r : Option (List AttributePair))
-        → decode_values names spelled ≡ r → with_value a.name o r ≡ None → has_unknown_reference names a.value ≡ false
+        → decode_values names spelled ≡ r → with_value a.name o r ≡ None
+        → has_unknown_reference names a.value ≡ false
         → (decode_values names spelled ≡ None → list_any (λ a. has_bad_number names a.value) spelled ≡ true)
         → (has_bad_number names a.value || list_any (λ a. has_bad_number names a.value) spelled) ≡ true
     go None e r f w u ih = rw (wrong_from names a.value 0 e u) refl
@@ -186,13 +195,16 @@ form_is_read w n spelled present h =
     tail_same : {u : List ℕ} → less_than_sign ∷ w ≡ less_than_sign ∷ u → w ≡ u
     tail_same q = cc
 
-form_parts : (a b : List AttributePair) (c d : Bool) (s t : List ℕ) → form a c s ≡ form b d t → (a ≡ b) × (c ≡ d)
+form_parts : (a b : List AttributePair) (c d : Bool) (s t : List ℕ) → form a c s ≡ form b d t
+    → (a ≡ b) × (c ≡ d)
 form_parts a b c d s t e = (cc, cc)
 
 -- so there is no other
 pub same_form : (w n x : List ℕ) (spelled : List AttributePair) (present : Bool) (m : List ℕ)
-    (others : List AttributePair) (slashed : Bool) → name_read w ≡ n → form_read_behind w ≡ form spelled present x
-    → HasTagForm (less_than_sign ∷ w) m others slashed → (m ≡ n) × (others ≡ spelled) × (slashed ≡ present)
+    (others : List AttributePair) (slashed : Bool) → name_read w ≡ n
+    → form_read_behind w ≡ form spelled present x
+    → HasTagForm (less_than_sign ∷ w) m others slashed
+    → (m ≡ n) × (others ≡ spelled) × (slashed ≡ present)
 same_form w n x spelled present m others slashed e f h =
     let r = form_is_read w m others slashed h in
     let p = form_parts others spelled slashed present r.2 x (sym r.3 ∙ f) in
@@ -235,7 +247,8 @@ end_is_read d w n h =
       ap (map to_ascii_lowercase) l ∙ t.5,
     )
   where
-    parts : {u : List ℕ} → less_than_sign ∷ d ∷ w ≡ less_than_sign ∷ slash ∷ u → (d ≡ slash) × (w ≡ u)
+    parts : {u : List ℕ} → less_than_sign ∷ d ∷ w ≡ less_than_sign ∷ slash ∷ u
+        → (d ≡ slash) × (w ≡ u)
     parts q = (cc, cc)
 
 -- a comment begins with `<!`, and is the one that is read
@@ -244,7 +257,8 @@ pub comment_is_read : (d : ℕ) (w : List ℕ) → HasComment (less_than_sign �
     × (before_comment_end (drop 2 w) ≡ cut inner rest) × (is_comment_text inner ≡ true)
 comment_is_read d w h =
     let i = h.4 in
-    let e : less_than_sign ∷ d ∷ w ≡ less_than_sign ∷ exclamation_mark ∷ hyphen ∷ hyphen ∷ (i.0 ++ h.1) = h.3
+    let e : less_than_sign ∷ d ∷ w ≡ less_than_sign ∷ exclamation_mark ∷ hyphen ∷ hyphen ∷ (i.0 ++ h.1) =
+    h.3
     ∙ ap (λ (y : List ℕ). y ++ h.1) i.2 in
     let q = parts e in (
       q.0,

@@ -55,7 +55,8 @@ apart_append (comment v) t (more w us) a e = tt
 apart_append (element n attributes ks) t (more w us) a e = tt
 
 rest_text : (u : ValueTree) (us : ValueForest) (t : ValueTree)
-    → (ends_in_text (more u us) ≡ true → IsTextTree t ≡ false) → ends_in_text us ≡ true → IsTextTree t ≡ false
+    → (ends_in_text (more u us) ≡ true → IsTextTree t ≡ false) → ends_in_text us ≡ true
+    → IsTextTree t ≡ false
 rest_text u none t e q = absurd (cc)
 rest_text (document ks) (more w us) t e q = e q
 rest_text doctype (more w us) t e q = e q
@@ -82,7 +83,8 @@ row_append (more (comment u) ts) us h = h
 row_append (more (element k a x) ts) us h = h
 
 -- the name of a tag, whatever follows it
-pub form_starts : (tag n x : List ℕ) (spelled : List AttributePair) (present : Bool) → IsTagForm tag n spelled present
+pub form_starts : (tag n x : List ℕ) (spelled : List AttributePair) (present : Bool)
+    → IsTagForm tag n spelled present
     → tag_name_at (tag ++ x) ≡ n
 form_starts tag n x spelled present t =
     let k = name_head t.0 t.3 in
@@ -137,9 +139,11 @@ module _ (rules : Rules) (outer : Context) where
   -- where two nodes stand is no `title`
   two_no_title : (p : List ℕ) (c : Context) (l m : Bool) (u : ValueTree) (us : ValueForest) (t : ValueTree)
       (s b : List ℕ) → ReadsForest rules (p ∷ c) l (more u us) s → ReadsTree rules (p ∷ c) m t b
-      → (ends_in_text (more u us) ≡ true → IsTextTree t ≡ false) → holds_text_alone rules.scripting p ≡ false
+      → (ends_in_text (more u us) ≡ true → IsTextTree t ≡ false)
+      → holds_text_alone rules.scripting p ≡ false
   two_no_title p c l m u us t s b h n e = test (IsTextTree t)
-      (λ y. last_no_title p c l u us s h (test (ends_in_text (more u us)) (λ x. absurd (let z = e x in cc)) (λ x. x)))
+      (λ y. last_no_title p c l u us s h
+      (test (ends_in_text (more u us)) (λ x. absurd (let z = e x in cc)) (λ x. x)))
       (λ y. node_no_title rules p t c m b y n)
 
   -- a part of the table that begins a text begins it with more behind
@@ -178,7 +182,8 @@ module _ (rules : Rules) (outer : Context) where
       go (inr w) =
           let r = row_start rules ks (n ∷ p ∷ c) true w.0 w.6 w.5 in
           same r.0 ((r.1 ++ w.1) ++ h.1) (codes "tr") r.2 r.4
-          (h.2 ∙ (ap (λ (y : List ℕ). y ++ h.1) (w.2 ∙ (ap (λ (y : List ℕ). y ++ w.1) r.3 ∙ append_assoc r.0 r.1 w.1))
+          (h.2 ∙ (ap (λ (y : List ℕ). y ++ h.1)
+          (w.2 ∙ (ap (λ (y : List ℕ). y ++ w.1) r.3 ∙ append_assoc r.0 r.1 w.1))
           ∙ append_assoc r.0 (r.1 ++ w.1) h.1))
 
   ends_on : (us : ValueForest) (t : ValueTree) (p : List ℕ) (c : Context) (l m : Bool) (s b : List ℕ)
@@ -190,7 +195,8 @@ module _ (rules : Rules) (outer : Context) where
 
   pub snoc : (ts : ValueForest) (t : ValueTree) (p : List ℕ) (c : Context) (l m : Bool) (a b : List ℕ)
       → ReadsForest rules (p ∷ c) l ts a → ReadsTree rules (p ∷ c) m t b
-      → (l ≡ true → is_table_part (tag_name_at b) ≡ true) → (ends_in_text ts ≡ true → IsTextTree t ≡ false)
+      → (l ≡ true → is_table_part (tag_name_at b) ≡ true)
+      → (ends_in_text ts ≡ true → IsTextTree t ≡ false)
       → ReadsForest rules (p ∷ c) m (ts +++ more t none) (a ++ b)
   snoc none t p c l m a b h n k e = (b, [], rw (h, append-nil b) refl, apart_none t, n, refl)
   snoc (more u us) t p c l m a b h n k e = (
@@ -206,7 +212,8 @@ module _ (rules : Rules) (outer : Context) where
   -- what is added to the innermost element
   pub grows : (f : OpenElement) (gs : List OpenElement) (t : ValueTree) (l m : Bool) (s b : List ℕ)
       → (h : IsFront rules outer l (f ∷ gs) s) → ReadsTree rules (names_of outer (f ∷ gs)) m t b
-      → (l ≡ true → is_table_part (tag_name_at b) ≡ true) → (ends_in_text f.children ≡ true → IsTextTree t ≡ false)
+      → (l ≡ true → is_table_part (tag_name_at b) ≡ true)
+      → (ends_in_text f.children ≡ true → IsTextTree t ≡ false)
       → IsKept f.name (content_so_far rules outer f gs l s h) b
       → IsFront rules outer m (with_children f (more t none) ∷ gs) (s ++ b)
   grows f [] t l m s b h n p e k = (h.0, snoc f.children t f.name outer l m s b h.1 n p e, h.2)
@@ -217,7 +224,8 @@ module _ (rules : Rules) (outer : Context) where
     ap (λ (y : List ℕ). y ++ b) h.3 ∙ simp append_assoc,
     h.4,
     h.5,
-    subst (λ (y : List ℕ). ReadsForest rules (names_of outer (f ∷ g ∷ gs)) m (f.children +++ more t none) y) (sym k)
+    subst (λ (y : List ℕ). ReadsForest rules (names_of outer (f ∷ g ∷ gs)) m (f.children +++ more t none) y)
+        (sym k)
         (snoc f.children t f.name (names_of outer (g ∷ gs)) l m (content_of f.name h.2) b h.6 n p e),
     λ i. row_same g.children f.name f.attributes f.children (f.children +++ more t none) (h.7 i),
   )
@@ -239,7 +247,8 @@ module _ (rules : Rules) (outer : Context) where
     | inr w ↦
         let d : drops_line_feed g.name ≡ false =
         table_drops g.name (tbody_place rules.scripting g.name (names_of outer gs) f.name w.2 o.0) in
-        content_plain g.name (i ++ (tag ++ z)) d ∙ ap (λ (y : List ℕ). y ++ (tag ++ z)) (sym (content_plain g.name i d))
+        content_plain g.name (i ++ (tag ++ z)) d
+        ∙ ap (λ (y : List ℕ). y ++ (tag ++ z)) (sym (content_plain g.name i d))
   ]
 
   abbrev pub Ends : Bool → OpenElement → List ℕ → Type 0
@@ -259,7 +268,8 @@ module _ (rules : Rules) (outer : Context) where
           (content_plain f.name inner (tbody_drops f.name t)) ks
 
       go : ((f.implied ≡ false) × IsStartTag rules.names tag f.name f.attributes × (is_void f.name ≡ false))
-          ⊎ ((f.implied ≡ true) × (tag ≡ []) × (is_tbody f.name ≡ true) × (f.attributes ≡ [])) → Ends m f e
+          ⊎ ((f.implied ≡ true) × (tag ≡ []) × (is_tbody f.name ≡ true) × (f.attributes ≡ []))
+          → Ends m f e
           → Inside rules c m f.name f.attributes f.children (tag ++ (inner ++ e))
       go (inl w) (inl y) = inl (tag, inner, e, refl, w.1, rw w.2 (ks, y))
       go (inl w) (inr y) = absurd (let i = w.0 in let j = y.2 in cc)
@@ -280,7 +290,8 @@ module _ (rules : Rules) (outer : Context) where
 
   -- the innermost element is closed
   pub closes : (f g : OpenElement) (gs : List OpenElement) (l m : Bool) (s e : List ℕ)
-      → IsFront rules outer l (f ∷ g ∷ gs) s → Ends m f e → (f.implied ≡ true → begins_with_row f.children ≡ true)
+      → IsFront rules outer l (f ∷ g ∷ gs) s → Ends m f e
+      → (f.implied ≡ true → begins_with_row f.children ≡ true)
       → IsFront rules outer m (with_children g (more (closed f) none) ∷ gs) (s ++ e)
   closes f g gs l m s e h x r =
       let c : Context = names_of outer (g ∷ gs) in

@@ -75,19 +75,22 @@ module _ (names : Names) where
     ]
   ]
 
-  put_full : (p : Piece) (go : ℕ → Option (List ℕ)) (u : List ℕ) → ((m : ℕ) (v : List ℕ) → p ≡ stands m v → v ≢ [])
+  put_full : (p : Piece) (go : ℕ → Option (List ℕ)) (u : List ℕ)
+      → ((m : ℕ) (v : List ℕ) → p ≡ stands m v → v ≢ [])
       → put p go ≡ Some u → u ≢ []
   put_full (wrong k) go u h e q = cc
   put_full (stands n v) go u h e q = behind_full v (go n) u (h n v refl) e q
     where
-      behind_full : (v : List ℕ) (o : Option (List ℕ)) (u : List ℕ) → v ≢ [] → behind v o ≡ Some u → u ≢ []
+      behind_full : (v : List ℕ) (o : Option (List ℕ)) (u : List ℕ) → v ≢ [] → behind v o ≡ Some u
+          → u ≢ []
       behind_full v None u h e q = cc
       behind_full [] (Some w) u h e q = h refl
       behind_full (b ∷ v) (Some w) u h e q = cc
 
   pub decode_full : (s u : List ℕ) → decode names 0 s ≡ Some u → s ≢ [] → u ≢ []
   decode_full [] u d n = absurd (n refl)
-  decode_full (b ∷ s) u d n = put_full (piece_at names b s) (λ n. decode names n s) u (λ m v e. piece_full b s v m e) d
+  decode_full (b ∷ s) u d n =
+      put_full (piece_at names b s) (λ n. decode names n s) u (λ m v e. piece_full b s v m e) d
 
 normal_full : (s : List ℕ) → s ≢ [] → normalized s ≢ []
 normal_full [] n q = n refl

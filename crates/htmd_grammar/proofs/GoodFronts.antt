@@ -51,7 +51,8 @@ module _ (rules : Rules) where
       )
 
   -- between two pieces
-  front_between : (f : OpenElement) (gs : List OpenElement) (s rest : List ℕ) → IsConf rules above_body (f ∷ gs) s rest
+  front_between : (f : OpenElement) (gs : List OpenElement) (s rest : List ℕ)
+      → IsConf rules above_body (f ∷ gs) s rest
       → (f.implied && ends_rows rest) ≡ false → IsGoodFront rules f gs s rest
   unfolding front_weaker
   front_between f [] s rest c e = record {
@@ -93,7 +94,8 @@ module _ (rules : Rules) where
           → IsGoodFront rules (with_text f run) gs s rest
       go before w q c (inl i) =
           let k = at_conf rules above_body f gs s before w run rest q c i.0 in
-          subst (λ (y : List ℕ). IsGoodFront rules (with_text f y) gs s rest) (sym i.1) (front_between f gs s rest k e)
+          subst (λ (y : List ℕ). IsGoodFront rules (with_text f y) gs s rest) (sym i.1)
+          (front_between f gs s rest k e)
       go before w q c (inr i) =
           let n : is_empty run ≡ false = filled run i.begun in
           let k : IsGoodFront rules (with_children f (more (text run) none)) gs (before ++ w) rest =

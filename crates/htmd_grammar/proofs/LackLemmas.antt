@@ -71,7 +71,8 @@ module _ (k : ℕ) (low : k < 32) where
   value_byte_lacks b e = test (b == 0x26) (λ q. rw q (high (codes "&amp;") refl))
       (λ q. test (b == 0x22) (λ r. rw (q, r) (high (codes "&quot;") refl)) (λ r. rw (q, r) (rw e refl)))
 
-  escaped_lacks : (byte : ℕ → List ℕ) → ((b : ℕ) → not (b == k) ≡ true → lacks k (byte b) ≡ true) → (s : List ℕ)
+  escaped_lacks : (byte : ℕ → List ℕ) → ((b : ℕ) → not (b == k) ≡ true → lacks k (byte b) ≡ true)
+      → (s : List ℕ)
       → lacks k s ≡ true → lacks k (escaped_html byte s) ≡ true
   escaped_lacks byte h [] e = refl
   escaped_lacks byte h (b ∷ []) e = h b (and_true (not (b == k)) true e).0
@@ -81,7 +82,8 @@ module _ (k : ℕ) (low : k < 32) where
       test (is_no_break_space b c)
       (λ t. rw t (lacks-append k (codes "&nbsp;") (escaped_html byte s) (high (codes "&nbsp;") refl)
       (escaped_lacks byte h s q.1)))
-      (λ t. rw t (lacks-append k (byte b) (escaped_html byte (c ∷ s)) (h b p.0) (escaped_lacks byte h (c ∷ s) p.1)))
+      (λ t. rw t (lacks-append k (byte b) (escaped_html byte (c ∷ s)) (h b p.0)
+      (escaped_lacks byte h (c ∷ s) p.1)))
 
   attributes_lack : (attributes : List AttributePair) → AreTreeKeys (attribute_names attributes)
       → list_all (λ a. lacks k a.value) attributes ≡ true → lacks k (flat_map attribute_text attributes) ≡ true
@@ -100,7 +102,8 @@ module _ (k : ℕ) (low : k < 32) where
       (high (codes "\"") refl) in
       lacks-append k (attribute_text a) (flat_map attribute_text attributes) whole (attributes_lack attributes h.2 p.1)
 
-  start_lacks : (n : List ℕ) (attributes : List AttributePair) → IsTreeName n → AreTreeKeys (attribute_names attributes)
+  start_lacks : (n : List ℕ) (attributes : List AttributePair) → IsTreeName n
+      → AreTreeKeys (attribute_names attributes)
       → list_all (λ a. lacks k a.value) attributes ≡ true → lacks k (start_tag n attributes) ≡ true
   start_lacks n attributes t h e =
       lacks-append k (60 ∷ n ++ flat_map attribute_text attributes) (codes ">")
@@ -114,7 +117,8 @@ module _ (k : ℕ) (low : k < 32) where
 
   module _ (rules : Rules) where
     element_lacks : (c : Context) (l raw : Bool) (n : List ℕ) (attributes : List AttributePair) (ks : ValueForest)
-        (s : List ℕ) → ((y : List ℕ) → ReadsForest rules (n ∷ c) true ks y → lacks k (all_markup_of (is_raw_text n) ks)
+        (s : List ℕ) → ((y : List ℕ) → ReadsForest rules (n ∷ c) true ks y
+        → lacks k (all_markup_of (is_raw_text n) ks)
         ≡ true)
         → ReadsTree rules c l (element n attributes ks) s → list_all (λ a. lacks k a.value) attributes ≡ true
         → lacks k (markup_of raw (element n attributes ks)) ≡ true
@@ -132,7 +136,8 @@ module _ (k : ℕ) (low : k < 32) where
         go : Inside rules c l n attributes ks s → lacks k (markup_of raw (element n attributes ks)) ≡ true
         go (inl w) = put_together (tree_name ((w.4).2).0 n ((w.4).2).3 ((w.4).2).4)
             (subst AreTreeKeys (decoded_names rules.names (w.4).0 attributes (w.4).3)
-            (tree_keys (w.4).0 (w.4).1 ((w.4).2).1 ((w.4).2).5)) (λ v. let m = rw v at w.5 in ih (content_of n w.1) m.0)
+            (tree_keys (w.4).0 (w.4).1 ((w.4).2).1 ((w.4).2).5))
+            (λ v. let m = rw v at w.5 in ih (content_of n w.1) m.0)
         go (inr w) = put_together (rw (one_name (codes "tbody") n w.3) (refl, refl)) (rw w.4 tt) (λ v. ih w.0 w.6)
 
     mutual

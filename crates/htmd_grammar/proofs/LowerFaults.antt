@@ -29,7 +29,8 @@ use Rattle.htmd_grammar.proofs.TextLemmas.{letter_not, stop_head}
 pub no_second : (b c : ℕ) (s t : List ℕ) → b ∷ s ≡ c ∷ t → (b ≡ c) × (s ≡ t)
 no_second b c s t e = (cc, cc)
 
-pub piece_there : (names : Names) (b : ℕ) (s : List ℕ) (p : Piece) → HasPiece names (b ∷ s) p → piece_at names b s ≡ p
+pub piece_there : (names : Names) (b : ℕ) (s : List ℕ) (p : Piece) → HasPiece names (b ∷ s) p
+    → piece_at names b s ≡ p
 piece_there names b s p h =
     let q = no_second b h.0 s h.1 h.2 in
     ap (λ (y : List ℕ). piece_at names b y) q.1 ∙ (ap (λ (y : ℕ). piece_at names y h.1) q.0 ∙ h.3)
@@ -41,7 +42,8 @@ not_both b e f = let w = rw f at e in cc
 exclamation_tag : (w : List ℕ) → begins_tag (less_than_sign ∷ exclamation_mark ∷ w) ≡ true → ⊥
 exclamation_tag w e = cc
 
-exclamation_question : (w : List ℕ) → begins_with (codes "<?") (less_than_sign ∷ exclamation_mark ∷ w) ≡ true → ⊥
+exclamation_question : (w : List ℕ) → begins_with (codes "<?") (less_than_sign ∷ exclamation_mark ∷ w) ≡ true
+    → ⊥
 exclamation_question w e = cc
 
 exclamation_form : (w n : List ℕ) (spelled : List AttributePair) (present : Bool)
@@ -111,7 +113,8 @@ module _ (rules : Rules) (fs : List OpenElement) where
     pub right_number : 6 < k → holds_raw_text rules.scripting TheParent ≡ false
         → piece_at rules.names b s ≡ wrong BadNumber → ⊥
     pub in_place : 12 < k → holds_raw_text rules.scripting TheParent ≡ false → holds_parts TheParent ≡ true
-        → (m : ℕ) (v : List ℕ) → piece_at rules.names b s ≡ stands m v → list_all is_ascii_white_space v ≡ false → ⊥
+        → (m : ℕ) (v : List ℕ) → piece_at rules.names b s ≡ stands m v
+        → list_all is_ascii_white_space v ≡ false → ⊥
     pub no_escape : 14 < k → holds_raw_text rules.scripting TheParent ≡ true
         → raw_text_of TheParent (up_to (ends_text rules.scripting TheParent) (b ∷ s)) ≡ None → ⊥
 
@@ -153,7 +156,8 @@ module _ (rules : Rules) (fs : List OpenElement) where
     pub inside : 9 < k → is_outside n ≡ false
     pub allowed : 10 < k → is_allowed rules.scripting (context_for rules fs (less_than_sign ∷ d ∷ w) n) n ≡ true
 
-  no_end_tag : (d : ℕ) (w n : List ℕ) → is_ascii_alphabetic d ≡ true → HasEndTag (less_than_sign ∷ d ∷ w) n → ⊥
+  no_end_tag : (d : ℕ) (w n : List ℕ) → is_ascii_alphabetic d ≡ true
+      → HasEndTag (less_than_sign ∷ d ∷ w) n → ⊥
   no_end_tag d w n a h = let q = (end_is_read d w n h).0 in let z = rw q at a in cc
 
   pub none_below_tag : (k d : ℕ) (w n : List ℕ) (spelled : List AttributePair) (present : Bool)
@@ -174,11 +178,13 @@ module _ (rules : Rules) (fs : List OpenElement) where
   none_below_tag k d w n spelled present p BadNumber l (inl h) = not_both _ p.markup ((h.0).0).1
   none_below_tag k d w n spelled present p BadNumber l (inr h) =
       let u = p.only h.1 h.2 h.3 h.4 in
-      not_both _ h.5 (subst (λ (y : List AttributePair). list_any (λ a. has_bad_number rules.names a.value) y ≡ false)
+      not_both _ h.5 (subst (λ (y : List AttributePair). list_any (λ a. has_bad_number rules.names a.value) y
+      ≡ false)
       (sym u.1) (p.right_numbers l))
   none_below_tag k d w n spelled present p DuplicateAttribute l h =
       let u = p.only h.1 h.2 h.3 h.4 in
-      not_both _ (subst (λ (y : List AttributePair). are_distinct (attribute_names y) ≡ true) (sym u.1) (p.distinct l))
+      not_both _ (subst (λ (y : List AttributePair). are_distinct (attribute_names y) ≡ true) (sym u.1)
+      (p.distinct l))
       h.5
   none_below_tag k d w n spelled present p SelfClosing l h =
       let u = p.only h.1 h.2 true h.3 in
@@ -190,7 +196,8 @@ module _ (rules : Rules) (fs : List OpenElement) where
   ]
   none_below_tag k d w n spelled present p NotAllowedHere l h =
       let u = p.only h.1 h.2 h.3 h.4 in
-      not_both _ (subst (λ (y : List ℕ). is_allowed rules.scripting (context_for rules fs (less_than_sign ∷ d ∷ w) y) y
+      not_both _ (subst (λ (y : List ℕ). is_allowed rules.scripting
+      (context_for rules fs (less_than_sign ∷ d ∷ w) y) y
       ≡ true)
       (sym u.0) (p.allowed l)) h.5
   none_below_tag k d w n spelled present p StrayEndTag l h = no_end_tag d w h.1 p.letter h.2
@@ -200,8 +207,10 @@ module _ (rules : Rules) (fs : List OpenElement) where
   none_below_tag k d w n spelled present p TooDeep l h = let a = p.at_most in omega arith
 
   -- of an end tag
-  pub none_below_end : (k : ℕ) (w n : List ℕ) → k ≤ 11 → (2 < k → HasEndTag (less_than_sign ∷ slash ∷ w) n)
-      → (9 < k → is_outside (name_read w) ≡ false) → ends_text rules.scripting TheParent (less_than_sign ∷ slash ∷ w)
+  pub none_below_end : (k : ℕ) (w n : List ℕ) → k ≤ 11
+      → (2 < k → HasEndTag (less_than_sign ∷ slash ∷ w) n)
+      → (9 < k → is_outside (name_read w) ≡ false)
+      → ends_text rules.scripting TheParent (less_than_sign ∷ slash ∷ w)
       ≡ true
       → NoneBelow k (less_than_sign ∷ slash ∷ w)
   none_below_end k w n u t o m Nul l h = h
@@ -227,7 +236,8 @@ module _ (rules : Rules) (fs : List OpenElement) where
   none_below_end k w n u t o m TooDeep l h = omega arith
 
   -- of a comment
-  pub none_below_comment : (k : ℕ) (w : List ℕ) → k ≤ 15 → HasComment (less_than_sign ∷ exclamation_mark ∷ w)
+  pub none_below_comment : (k : ℕ) (w : List ℕ) → k ≤ 15
+      → HasComment (less_than_sign ∷ exclamation_mark ∷ w)
       → ends_text rules.scripting TheParent (less_than_sign ∷ exclamation_mark ∷ w) ≡ true
       → NoneBelow k (less_than_sign ∷ exclamation_mark ∷ w)
   none_below_comment k w u c m Nul l h = h

@@ -22,12 +22,14 @@ use Rattle.htmd_grammar.proofs.TreeTexts.{Inside}
 
 module _ (few many : Names) (has : (n : List ℕ) (c : ℕ) → character_named few n ≡ Some c
     → character_named many n ≡ Some c) where
-  named_more : (k m : ℕ) (n v : List ℕ) (o : Option ℕ) → character_named few n ≡ o → named k o ≡ stands m v
+  named_more : (k m : ℕ) (n v : List ℕ) (o : Option ℕ) → character_named few n ≡ o
+      → named k o ≡ stands m v
       → named k (character_named many n) ≡ stands m v
   named_more k m n v None q e = absurd (cc)
   named_more k m n v (Some c) q e = rw (has n c q) e
 
-  and_more : (s v : List ℕ) (m : ℕ) → behind_ampersand few s ≡ stands m v → behind_ampersand many s ≡ stands m v
+  and_more : (s v : List ℕ) (m : ℕ) → behind_ampersand few s ≡ stands m v
+      → behind_ampersand many s ≡ stands m v
   and_more s v m e = test (first_is 35 s) (λ t. let w = rw t at e in rw t w)
       (λ t. test (first_is 59 (behind_run is_ascii_alphanumeric s) && not (first_is 59 s))
       (λ q. let w = rw (t, q) at e in
@@ -35,7 +37,8 @@ module _ (few many : Names) (has : (n : List ℕ) (c : ℕ) → character_named 
       (leading_run is_ascii_alphanumeric s) v (character_named few (leading_run is_ascii_alphanumeric s)) refl w))
       (λ q. let w = rw (t, q) at e in rw (t, q) w))
 
-  piece_more : (b : ℕ) (s v : List ℕ) (m : ℕ) → piece_at few b s ≡ stands m v → piece_at many b s ≡ stands m v
+  piece_more : (b : ℕ) (s v : List ℕ) (m : ℕ) → piece_at few b s ≡ stands m v
+      → piece_at many b s ≡ stands m v
   piece_more b s v m e = test (b == 38) (λ t. let w = rw t at e in rw t (and_more s v m w)) (λ t. let w = rw t at e in
       rw t w)
 
@@ -55,7 +58,8 @@ module _ (few many : Names) (has : (n : List ℕ) (c : ℕ) → character_named 
       rw (decode_more a.value 0 w.0 w.2, values_more spelled w.1 w.3)
       (ap (λ (y : List AttributePair). Some y) (sym w.4))
 
-module _ (few many : Names) (small great : ℕ) (z : Bool) (has : (n : List ℕ) (c : ℕ) → character_named few n ≡ Some c
+module _ (few many : Names) (small great : ℕ) (z : Bool)
+    (has : (n : List ℕ) (c : ℕ) → character_named few n ≡ Some c
     → character_named many n ≡ Some c) (deep : small ≤ great) where
   abbrev Fewer : Rules
   Fewer = record { names = few; depth = small; scripting = z }
@@ -67,8 +71,10 @@ module _ (few many : Names) (small great : ℕ) (z : Bool) (has : (n : List ℕ)
   text_more p s u e = test (holds_raw_text z p) (λ t. let w = rw t at e in rw t w) (λ t. let w = rw t at e in
       rw t (decode_more few many has s 0 u w))
 
-  element_more : (c : Context) (l : Bool) (n : List ℕ) (attributes : List AttributePair) (ks : ValueForest) (s : List ℕ)
-      → ((inner : List ℕ) → ReadsForest Fewer (n ∷ c) true ks inner → ReadsForest More (n ∷ c) true ks inner)
+  element_more : (c : Context) (l : Bool) (n : List ℕ) (attributes : List AttributePair) (ks : ValueForest)
+      (s : List ℕ)
+      → ((inner : List ℕ) → ReadsForest Fewer (n ∷ c) true ks inner
+      → ReadsForest More (n ∷ c) true ks inner)
       → ReadsTree Fewer c l (element n attributes ks) s → ReadsTree More c l (element n attributes ks) s
   element_more c l n attributes ks s ih h = (h.0, (let a = h.1 in omega arith), go h.2)
     where
@@ -85,7 +91,8 @@ module _ (few many : Names) (small great : ℕ) (z : Bool) (has : (n : List ℕ)
       go (inr w) = inr (w.0, w.1, w.2, w.3, w.4, w.5, ih w.0 w.6, w.7)
 
   mutual
-    node_more : (t : ValueTree) (c : Context) (l : Bool) (s : List ℕ) → ReadsTree Fewer c l t s → ReadsTree More c l t s
+    node_more : (t : ValueTree) (c : Context) (l : Bool) (s : List ℕ) → ReadsTree Fewer c l t s
+        → ReadsTree More c l t s
     node_more (document ks) c l s h = h
     node_more doctype c l s h = h
     node_more (text u) c l s h = (h.0, h.1, text_more (parent_name c) s u h.2, h.3, (let a = h.4 in omega arith))

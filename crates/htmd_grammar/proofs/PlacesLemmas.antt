@@ -29,7 +29,8 @@ pub among_passes : (P : List ℕ → Bool) (names : List (List ℕ)) (n : List �
 among_passes P [] n e l = absurd (cc)
 among_passes P (m ∷ names) n e l =
     let k = and_true (P m) (list_all P names) l in
-    test (bytes_eq n m) (λ t. ap P (same_bytes n m t) ∙ k.0) (λ t. let w = rw t at e in among_passes P names n w k.1)
+    test (bytes_eq n m) (λ t. ap P (same_bytes n m t) ∙ k.0)
+    (λ t. let w = rw t at e in among_passes P names n w k.1)
 
 -- the elements that hold text alone, whatever scripting is
 abbrev pub text_alone_names : List (List ℕ)
@@ -59,7 +60,8 @@ tbody_not_table p t e = let q = one_name (codes "table") p e in let r = rw q at 
 
 -- what the places ask, apart from what is open further out
 pub allowed_parts : (z : Bool) (c : Context) (n : List ℕ) → is_allowed z c n ≡ true
-    → (is_outside n ≡ false) × (holds_text_alone z (parent_name c) ≡ false) × (fits_table (parent_name c) n ≡ true)
+    → (is_outside n ≡ false) × (holds_text_alone z (parent_name c) ≡ false)
+    × (fits_table (parent_name c) n ≡ true)
 unfolding is_allowed
 allowed_parts z c n a =
     let e = and_true (not (is_outside n) && not (holds_text_alone z (parent_name c)) && fits_table (parent_name c) n
@@ -87,7 +89,8 @@ row_place z p c n a = test (is_row n) (λ r. test (bytes_eq p (codes "table")) (
         let b = rw (e, q) at h in cc
 
 -- a part of a table stands in a table only
-pub part_place : (z : Bool) (p : List ℕ) (c : Context) (n : List ℕ) (i : Bool) → (i ≡ true → is_tbody p ≡ true)
+pub part_place : (z : Bool) (p : List ℕ) (c : Context) (n : List ℕ) (i : Bool)
+    → (i ≡ true → is_tbody p ≡ true)
     → is_allowed z (p ∷ c) n ≡ true → (i && is_table_part n) ≡ false
 part_place z p c n i h a = test i (λ t. test (is_table_part n) (λ r. absurd (no (h t) r)) (λ r. rw r (and_false i)))
     (λ t. rw t refl)
@@ -96,7 +99,8 @@ part_place z p c n i h a = test i (λ t. test (is_table_part n) (λ r. absurd (n
     no t r = let g = (allowed_parts z (p ∷ c) n a).2 in let b = rw r at g in tbody_not_table p t b
 
 -- a `tbody` stands in a table
-pub tbody_place : (z : Bool) (p : List ℕ) (c : Context) (n : List ℕ) → is_tbody n ≡ true → is_allowed z (p ∷ c) n ≡ true
+pub tbody_place : (z : Bool) (p : List ℕ) (c : Context) (n : List ℕ) → is_tbody n ≡ true
+    → is_allowed z (p ∷ c) n ≡ true
     → is_table p ≡ true
 tbody_place z p c n t a = let e = one_name (codes "tbody") n t in let g = (allowed_parts z (p ∷ c) n a).2 in rw e at g
 

@@ -40,7 +40,8 @@ without_blank_lines-raw_html after (c ∷ cs) h =
 -- ---- blank lines
 
 -- a raw text has no blank line
-raw_html_from-no_blank_line : (after : Bool) (cs : List ℕ) → has_blank_line_from after (raw_html_from after cs) ≡ false
+raw_html_from-no_blank_line : (after : Bool) (cs : List ℕ)
+    → has_blank_line_from after (raw_html_from after cs) ≡ false
 raw_html_from-no_blank_line after [] = refl
 raw_html_from-no_blank_line after (c ∷ cs) =
     test (eqb c line_feed)
@@ -71,7 +72,8 @@ found after (c ∷ before) between behind w =
 
 -- the test finds each blank line
 none_found : (cs : List ℕ) → has_blank_line cs ≡ false → HasBlankLine cs → ⊥
-none_found cs e b = false≢true (sym e ∙ (ap has_blank_line b.text ∙ found false b.before b.between b.behind b.white))
+none_found cs e b =
+    false≢true (sym e ∙ (ap has_blank_line b.text ∙ found false b.before b.between b.behind b.white))
 
 module _ (total : Bool) (c : ℕ) (cs : List ℕ) where
   -- a line feed behind a line feed
@@ -79,7 +81,8 @@ module _ (total : Bool) (c : ℕ) (cs : List ℕ) where
   found_here e h = let y : eqb c line_feed ≡ true = grind (arith, nat_tests) in rw y at h
 
   -- the first of two line feeds
-  pub past_line_feed : c ≡ line_feed → has_blank_line_from false (c ∷ cs) ≡ total → has_blank_line_from true cs ≡ total
+  pub past_line_feed : c ≡ line_feed → has_blank_line_from false (c ∷ cs) ≡ total
+      → has_blank_line_from true cs ≡ total
   past_line_feed e h = let y : eqb c line_feed ≡ true = grind (arith, nat_tests) in rw y at h
 
   pub past_other : (after : Bool) → c ≢ line_feed → has_blank_line_from after (c ∷ cs) ≡ total
@@ -89,10 +92,12 @@ module _ (total : Bool) (c : ℕ) (cs : List ℕ) where
 -- the test, one character on
 pub has_blank_line-turn : (s rest : List ℕ) (c : ℕ) (after total : Bool) → IsUtf8 s → s ≡ encode c ++ rest
     → has_blank_line_from after (chars s) ≡ total → has_blank_line_from after (c ∷ chars rest) ≡ total
-has_blank_line-turn s rest c after total u e h = ap (has_blank_line_from after) (sym (chars_past_char s rest c u e)) ∙ h
+has_blank_line-turn s rest c after total u e h = ap (has_blank_line_from after) (sym (chars_past_char s rest c u e))
+    ∙ h
 
 -- what holds no blank line behind a line feed holds none anywhere
-none_afresh : (after : Bool) (cs : List ℕ) → has_blank_line_from after cs ≡ false → has_blank_line_from false cs ≡ false
+none_afresh : (after : Bool) (cs : List ℕ) → has_blank_line_from after cs ≡ false
+    → has_blank_line_from false cs ≡ false
 none_afresh after [] h = refl
 none_afresh after (c ∷ cs) h =
     test (eqb c line_feed)
@@ -100,14 +105,16 @@ none_afresh after (c ∷ cs) h =
     (λ n. rw n (none_afresh (after && is_whitespace c) cs (rw n at h)))
 
 -- a line feed would make a blank line behind white space
-begins_none : (after : Bool) (cs : List ℕ) → has_blank_line_from after cs ≡ false → (after && begins_line cs) ≡ false
+begins_none : (after : Bool) (cs : List ℕ) → has_blank_line_from after cs ≡ false
+    → (after && begins_line cs) ≡ false
 begins_none after [] h = and-false after
 begins_none after (c ∷ cs) h =
     test (eqb c line_feed)
     (λ y. rw (both_false after (has_blank_line_from true cs) (rw y at h)).0 refl)
     (λ n. rw n (and-false after))
 
-carriage_return-white : (after : Bool) (c : ℕ) → eqb c carriage_return ≡ true → (after && is_whitespace c) ≡ after
+carriage_return-white : (after : Bool) (c : ℕ) → eqb c carriage_return ≡ true
+    → (after && is_whitespace c) ≡ after
 carriage_return-white after c e =
     subst (λ x. (after && is_whitespace x) ≡ after) (sym (eqb-true c carriage_return e)) (and-true after)
 

@@ -17,10 +17,12 @@ unfolding encode
 encode-carriage_return = refl
 
 -- no byte 13, no character 13
-no_carriage_return : (cs : List ℕ) → lacks 13 (encode_utf8_all cs) ≡ true → list_any (λ c. eqb c 13) cs ≡ false
+no_carriage_return : (cs : List ℕ) → lacks 13 (encode_utf8_all cs) ≡ true
+    → list_any (λ c. eqb c 13) cs ≡ false
 no_carriage_return [] e = refl
 no_carriage_return (c ∷ cs) e = test (eqb c 13)
-    (λ y. let q : encode c ≡ 13 ∷ [] = ap encode (eqb-true c 13 y) ∙ encode-carriage_return in let z = rw q at e in
+    (λ y. let q : encode c ≡ 13 ∷ [] = ap encode (eqb-true c 13 y) ∙ encode-carriage_return in let z =
+    rw q at e in
     absurd (cc))
     (λ n. rw (n, no_carriage_return cs (lacks-behind 13 (encode c) (encode_utf8_all cs) e)) refl)
   where
@@ -47,7 +49,8 @@ between_same s t e =
 pub block_refers : (s x : List ℕ) → IsUtf8 s → lacks 13 s ≡ true → raw_block s ≡ with_blank_lines x
     → RefersToLineFeeds s x
 block_refers s x u l e =
-    let n : list_any (λ c. eqb c 13) (chars s) ≡ false = no_carriage_return (chars s) (ap (lacks 13) (encodes-chars s u)
+    let n : list_any (λ c. eqb c 13) (chars s) ≡ false =
+    no_carriage_return (chars s) (ap (lacks 13) (encodes-chars s u)
     ∙ l) in
     let b = raw_block-raw_html s (raw_block s) u refl n in
     subst (λ y. RefersToLineFeeds s y) (between_same (encode_utf8_all (raw_html (chars s))) x (sym b.block ∙ e))

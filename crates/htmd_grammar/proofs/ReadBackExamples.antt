@@ -38,7 +38,8 @@ referred_refers (f ∷ flags) (b ∷ s) = test (b == line_feed)
   where
     written : {x : List ℕ} → b ≡ line_feed → RefersToLineFeeds s x
         → RefersToLineFeeds (b ∷ s) (line_feed_reference ++ x)
-    written {x = x} e r = subst (λ (c : ℕ). RefersToLineFeeds (c ∷ s) (line_feed_reference ++ x)) (sym e) (reference r)
+    written {x = x} e r =
+        subst (λ (c : ℕ). RefersToLineFeeds (c ∷ s) (line_feed_reference ++ x)) (sym e) (reference r)
 
 abbrev attribute_pair : List ℕ → List ℕ → List AttributePair
 attribute_pair n v = record { name = n; value = v } ∷ []

@@ -91,11 +91,13 @@ tbody_tag names = (
 module _ (rules : Rules) (has : HasEscapes rules.names) where
   abbrev pub NodeBack : ValueTree → Type 0
   NodeBack t = (c : Context) (l m : Bool) (s x : List ℕ)
-      → (IsTextTree t ≡ true → holds_raw_text rules.scripting (parent_name c) ≡ false) → ReadsTree rules c l t s
+      → (IsTextTree t ≡ true → holds_raw_text rules.scripting (parent_name c) ≡ false)
+      → ReadsTree rules c l t s
       → is_plain t ≡ true → RefersToLineFeeds (markup_of false t) x → ReadsTree rules c m t x
 
   abbrev pub NodesBack : ValueForest → Type 0
-  NodesBack ts = (c : Context) (l m : Bool) (s x : List ℕ) → holds_raw_text rules.scripting (parent_name c) ≡ false
+  NodesBack ts = (c : Context) (l m : Bool) (s x : List ℕ)
+      → holds_raw_text rules.scripting (parent_name c) ≡ false
       → ReadsForest rules c l ts s → all_plain ts ≡ true → RefersToLineFeeds (all_markup_of false ts) x
       → ReadsForest rules c m ts x
 
@@ -140,7 +142,8 @@ module _ (rules : Rules) (has : HasEscapes rules.names) where
           × MatchBool (is_void n) ((inner ≡ []) × (end ≡ []) × (ks ≡ none))
           (ReadsForest rules (n ∷ c) true ks (content_of n inner) × IsEndTag end n)
 
-      paired : is_void n ≡ false → RefersToLineFeeds (start_tag n attributes ++ (all_markup_of false ks ++ end_tag n)) x
+      paired : is_void n ≡ false
+          → RefersToLineFeeds (start_tag n attributes ++ (all_markup_of false ks ++ end_tag n)) x
       paired v =
           let w = not_raw n q.0 in
           let z = rw (v, w) at r in subst (λ (y : List ℕ). RefersToLineFeeds y x)

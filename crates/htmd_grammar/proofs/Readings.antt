@@ -31,7 +31,8 @@ use Rattle.htmd_grammar.proofs.Soundness.{sound_any, sound_raw, sound_settled, s
 use Rattle.htmd_grammar.proofs.TextLemmas.{Stops, stop_head}
 
 -- bytes other than `<` end no text
-clean_stops : (z : Bool) (n : List ℕ) (b : ℕ) (s : List ℕ) → (b == 60) ≡ false → ends_text z n (b ∷ s) ≡ false
+clean_stops : (z : Bool) (n : List ℕ) (b : ℕ) (s : List ℕ) → (b == 60) ≡ false
+    → ends_text z n (b ∷ s) ≡ false
 clean_stops z n b s e = test (ends_text z n (b ∷ s))
     (λ t. absurd (let h = stop_head z n (b ∷ s) t in let k : b ≡ 60 = head h.1 in no k)) (λ t. t)
   where
@@ -47,7 +48,8 @@ clean_run z n [] r e = refl
 clean_run z n (b ∷ w) r e = let p = and_true (not (b == 60)) (lacks 60 w) e in
     rw (clean_stops z n b (w ++ r) (not_true (b == 60) p.0), clean_run z n w r p.1) refl
 
-decode_skip : (names : Names) (w z : List ℕ) (n : ℕ) → length w ≡ n → decode names n (w ++ z) ≡ decode names 0 z
+decode_skip : (names : Names) (w z : List ℕ) (n : ℕ) → length w ≡ n
+    → decode names n (w ++ z) ≡ decode names 0 z
 decode_skip names [] z n e = rw (sym e) refl
 decode_skip names (b ∷ w) z n e = rw (sym e) (decode_skip names w z (length w) refl)
 
@@ -86,11 +88,13 @@ module _ (rules : Rules) (outer : Context) where
     pub text_goes : up_to (ends_text rules.scripting (parent_name (names_of outer fs))) (w ++ rest) ≡ w
         ++ up_to (ends_text rules.scripting (parent_name (names_of outer fs))) rest
     -- wherever the rest is cut off
-    pub denotes : (x z : List ℕ) → rest ≡ x ++ z → decode rules.names 0 (w ++ x) ≡ behind run (decode rules.names 0 x)
+    pub denotes : (x z : List ℕ) → rest ≡ x ++ z
+        → decode rules.names 0 (w ++ x) ≡ behind run (decode rules.names 0 x)
     pub white : holds_parts (parent_name (names_of outer fs)) ≡ true → list_all is_ascii_white_space run ≡ true
 
   -- what was read denotes the run
-  pub so_far : (fs : List OpenElement) (w run rest : List ℕ) → Middle fs w run rest → decode rules.names 0 w ≡ Some run
+  pub so_far : (fs : List OpenElement) (w run rest : List ℕ) → Middle fs w run rest
+      → decode rules.names 0 w ≡ Some run
   so_far fs w run rest h = ap (decode rules.names 0) (sym (append-nil w))
       ∙ (h.denotes [] rest refl ∙ ap (λ (y : List ℕ). Some y) (append-nil run))
 
@@ -112,12 +116,15 @@ module _ (rules : Rules) (outer : Context) where
   -- what was read before this piece, and what it denotes
   abbrev Parts : List OpenElement → List ℕ → List ℕ → List ℕ → Type 0
   Parts fs w run rest =
-      (length (names_of outer fs) ≤ rules.depth) × (up_to (ends_text rules.scripting (parent_name (names_of outer fs)))
+      (length (names_of outer fs) ≤ rules.depth)
+      × (up_to (ends_text rules.scripting (parent_name (names_of outer fs)))
       (w ++ rest) ≡ w ++ up_to (ends_text rules.scripting (parent_name (names_of outer fs))) rest)
-      × ((x z : List ℕ) → rest ≡ x ++ z → decode rules.names 0 (w ++ x) ≡ behind run (decode rules.names 0 x))
+      × ((x z : List ℕ) → rest ≡ x ++ z
+      → decode rules.names 0 (w ++ x) ≡ behind run (decode rules.names 0 x))
       × (holds_parts (parent_name (names_of outer fs)) ≡ true → list_all is_ascii_white_space run ≡ true)
 
-  parts : (f : OpenElement) (gs : List OpenElement) (w run rest : List ℕ) → is_too_deep rules outer (f ∷ gs) ≡ false
+  parts : (f : OpenElement) (gs : List OpenElement) (w run rest : List ℕ)
+      → is_too_deep rules outer (f ∷ gs) ≡ false
       → Before f gs w run rest → Parts (f ∷ gs) w run rest
   parts f gs w run rest d (inl h) =
       rw (h.0, h.1) (
@@ -132,7 +139,8 @@ module _ (rules : Rules) (outer : Context) where
   grown : (f : OpenElement) (gs : List OpenElement) (w run : List ℕ) (b : ℕ) (s v : List ℕ) (m : ℕ)
       → Parts (f ∷ gs) w run (b ∷ s) → holds_raw_text rules.scripting f.name ≡ false
       → ends_text rules.scripting f.name (b ∷ s) ≡ false
-      → piece_at rules.names b s ≡ stands m v → (holds_parts f.name && not (list_all is_ascii_white_space v)) ≡ false
+      → piece_at rules.names b s ≡ stands m v
+      → (holds_parts f.name && not (list_all is_ascii_white_space v)) ≡ false
       → (y : List ℕ) × (b ∷ s ≡ y ++ drop m s) × Middle (f ∷ gs) (w ++ y) (run ++ v) (drop m s)
   grown f gs w run b s v m h r t q k =
       let k0 = piece_fits rules.names b s v m q in
@@ -151,7 +159,8 @@ module _ (rules : Rules) (outer : Context) where
       here_run : up_to (ends_text rules.scripting f.name) (b ∷ s) ≡ b ∷ up_to (ends_text rules.scripting f.name) s
       here_run = rw t refl
 
-      further : (f0 f1 : List ℕ) → s ≡ f0 ++ f1 → length f0 ≡ m → up_to (ends_text rules.scripting f.name) s ≡ f0
+      further : (f0 f1 : List ℕ) → s ≡ f0 ++ f1 → length f0 ≡ m
+          → up_to (ends_text rules.scripting f.name) s ≡ f0
           ++ up_to (ends_text rules.scripting f.name) f1
           → ((x z : List ℕ) → f1 ≡ x ++ z → piece_at rules.names b (f0 ++ x) ≡ stands m v)
           → Middle (f ∷ gs) (w ++ (b ∷ f0)) (run ++ v) f1
@@ -181,7 +190,8 @@ module _ (rules : Rules) (outer : Context) where
   run_alone p [] rest e = refl
   run_alone p (b ∷ w) rest e =
       elim (if_then (ends_text rules.scripting p (b ∷ (w ++ rest))) []
-      (b ∷ up_to (ends_text rules.scripting p) (w ++ rest)) (b ∷ (w ++ up_to (ends_text rules.scripting p) rest)) e) [
+      (b ∷ up_to (ends_text rules.scripting p) (w ++ rest))
+      (b ∷ (w ++ up_to (ends_text rules.scripting p) rest)) e) [
         | inl q ↦ absurd (let z = q.1 in cc)
         | inr q ↦
             let z : up_to (ends_text rules.scripting p) (w ++ rest) ≡ w ++ up_to (ends_text rules.scripting p) rest =
@@ -235,7 +245,8 @@ module _ (rules : Rules) (outer : Context) where
 
   -- a text ends
   flushed : (f : OpenElement) (gs : List OpenElement) (s w run rest : List ℕ)
-      → IsConf rules outer (f ∷ gs) s (w ++ rest) → Middle (f ∷ gs) w run rest → Stops rules.scripting f.name rest
+      → IsConf rules outer (f ∷ gs) s (w ++ rest) → Middle (f ∷ gs) w run rest
+      → Stops rules.scripting f.name rest
       → Takes rules outer s (w ++ rest) (at_piece (with_tree (f ∷ gs) (text run)) rest)
   flushed f gs s w run rest c h st =
       let g = middle_goes f gs w run rest h in
@@ -252,10 +263,12 @@ module _ (rules : Rules) (outer : Context) where
   same_state : {a b : State} → ◌≡◌ {A = Step} (Ok a) (Ok b) → a ≡ b
   same_state e = cc
 
-  to_state : (s rest : List ℕ) (a b : State) → ◌≡◌ {A = Step} (Ok a) (Ok b) → Moves s rest a → Moves s rest b
+  to_state : (s rest : List ℕ) (a b : State) → ◌≡◌ {A = Step} (Ok a) (Ok b) → Moves s rest a
+      → Moves s rest b
   to_state s rest a b e m = subst (λ (x : State). Moves s rest x) (same_state e) m
 
-  pub named_front : (f : OpenElement) (gs : List OpenElement) (l : Bool) (s : List ℕ) → IsFront rules outer l (f ∷ gs) s
+  pub named_front : (f : OpenElement) (gs : List OpenElement) (l : Bool) (s : List ℕ)
+      → IsFront rules outer l (f ∷ gs) s
       → IsNamed f
   named_front f [] l s h i = absurd (let q = h.0 in cc)
   named_front f (g ∷ gs) l s h i = elim (h.5).2 [ inl w ↦ absurd (let q = w.0 in cc) | inr w ↦ w.2 ]
@@ -278,7 +291,8 @@ module _ (rules : Rules) (outer : Context) where
             ]
       ]
 
-  text_moves : (f : OpenElement) (gs : List OpenElement) (s before w run rest : List ℕ) (st : State) → s ≡ before ++ w
+  text_moves : (f : OpenElement) (gs : List OpenElement) (s before w run rest : List ℕ) (st : State)
+      → s ≡ before ++ w
       → IsConf rules outer (f ∷ gs) before (w ++ rest) → Before f gs w run rest
       → holds_raw_text rules.scripting f.name ≡ false → ends_text rules.scripting f.name rest ≡ false
       → text_step rules outer (f ∷ gs) run rest ≡ Ok st → Moves s rest st
@@ -319,7 +333,8 @@ module _ (rules : Rules) (outer : Context) where
       (text_step rules outer (f ∷ gs) run rest))))
 
   -- each step takes what it reads
-  step_moves : (f : OpenElement) (gs : List OpenElement) (s before w run rest : List ℕ) (st : State) → s ≡ before ++ w
+  step_moves : (f : OpenElement) (gs : List OpenElement) (s before w run rest : List ℕ) (st : State)
+      → s ≡ before ++ w
       → IsConf rules outer (f ∷ gs) before (w ++ rest) → Before f gs w run rest
       → step rules outer (in_text (f ∷ gs) run rest) ≡ Ok st → Moves s rest st
   unfolding step
@@ -372,25 +387,30 @@ module _ (rules : Rules) (outer : Context) where
       raw_here (inl i) r = at_conf f gs s before w run rest q c i.0
       raw_here (inr i) r = absurd (let m = i.mode in cc)
 
-      others : (not (is_empty run) && is_text_end rules outer (f ∷ gs) rest) ≡ false → other_step f gs run rest ≡ Ok st
+      others : (not (is_empty run) && is_text_end rules outer (f ∷ gs) rest) ≡ false
+          → other_step f gs run rest ≡ Ok st
           → Moves s rest st
       others n e = elim (if_then (f.implied && ends_rows rest) (tbody_step rules outer (f ∷ gs) rest) _ (Ok st) e) [
         | inl y ↦
             let p = and_true f.implied (ends_rows rest) y.0 in
-            let t : ends_text rules.scripting f.name rest ≡ true = test (ends_text rules.scripting f.name rest) (λ i. i)
+            let t : ends_text rules.scripting f.name rest ≡ true =
+            test (ends_text rules.scripting f.name rest) (λ i. i)
             (λ i. absurd (let z = text_goes_on rules.scripting f rest nm i in let v = y.0 in cc)) in
             let r : run ≡ [] = nothing_yet n (rw t refl) in
             taken s rest st (sound_settled rules outer (f ∷ gs) s rest st (at_a_piece h r) p.0 p.1 y.1)
-        | inr y ↦ elim (if_then (ends_text rules.scripting f.name rest) (markup_step rules outer (f ∷ gs) (drop 1 rest))
+        | inr y ↦ elim (if_then (ends_text rules.scripting f.name rest)
+            (markup_step rules outer (f ∷ gs) (drop 1 rest))
             _ (Ok st) y.1) [
-              | inl v ↦ taken s rest st (sound_any rules outer f gs s rest st (at_a_piece h (nothing_yet n (rw v.0 refl)))
+              | inl v ↦ taken s rest st
+                  (sound_any rules outer f gs s rest st (at_a_piece h (nothing_yet n (rw v.0 refl)))
                   v.0 v.1)
               | inr v ↦ elim (if_then (is_empty rest) (fault Unclosed) _ (Ok st) v.1) [
                 | inl u ↦ absurd (let z = u.1 in cc)
                 | inr u ↦ elim (if_then (holds_raw_text rules.scripting f.name)
                     (raw_text_step rules outer (f ∷ gs)
                     (text_of rules f.name (up_to (ends_text rules.scripting f.name) rest))
-                    (onward (ends_text rules.scripting f.name) rest)) (text_step rules outer (f ∷ gs) run rest) (Ok st) u.1) [
+                    (onward (ends_text rules.scripting f.name) rest)) (text_step rules outer (f ∷ gs) run rest)
+                    (Ok st) u.1) [
                       | inl x ↦ taken s rest st (sound_raw rules outer f gs s rest st (raw_here h x.0) x.0 v.0 u.0
                           (text_of rules f.name (up_to (ends_text rules.scripting f.name) rest)) refl x.1)
                       | inr x ↦ text_moves f gs s before w run rest st q c h x.0 v.0 x.1
@@ -399,7 +419,8 @@ module _ (rules : Rules) (outer : Context) where
             ]
       ]
 
-  pub sound_step : (st next : State) (s : List ℕ) → IsAt st s → step rules outer st ≡ Ok next → Moves s st.rest next
+  pub sound_step : (st next : State) (s : List ℕ) → IsAt st s → step rules outer st ≡ Ok next
+      → Moves s st.rest next
   sound_step st next s h e = go st.stack st.run st.rest h e
     where
       go : (fs : List OpenElement) (run rest : List ℕ) → IsAt (in_text fs run rest) s
@@ -408,7 +429,8 @@ module _ (rules : Rules) (outer : Context) where
       go (f ∷ gs) run rest h e = step_moves f gs s h.0 h.1 run rest next h.2 h.3 h.4 e
 
   -- what has been read at each state that is reached
-  pub kept : (a b : State) (s : List ℕ) → Reaches rules outer a b → IsAt a s → (t : List ℕ) × (a.rest ≡ t ++ b.rest)
+  pub kept : (a b : State) (s : List ℕ) → Reaches rules outer a b → IsAt a s
+      → (t : List ℕ) × (a.rest ≡ t ++ b.rest)
       × IsAt b (s ++ t)
   kept a b s here c = ([], refl, subst (λ (y : List ℕ). IsAt a y) (sym (append-nil s)) c)
   kept a b s (via {b = m} p q) c =
@@ -434,7 +456,8 @@ module _ (rules : Rules) (outer : Context) where
   )
 
   -- what is read is related
-  pub sound : (s : List ℕ) (f : OpenElement) → Reaches rules outer (at_piece (body ∷ []) s) (at_piece (f ∷ []) [])
+  pub sound : (s : List ℕ) (f : OpenElement)
+      → Reaches rules outer (at_piece (body ∷ []) s) (at_piece (f ∷ []) [])
       → reads rules (codes "body" ∷ outer) s f.children
   sound s f r =
       let k = kept (at_piece (body ∷ []) s) (at_piece (f ∷ []) []) [] r (conf_start s) in
@@ -442,7 +465,8 @@ module _ (rules : Rules) (outer : Context) where
       subst (λ (y : List ℕ). reads rules (codes "body" ∷ outer) y f.children) (sym e)
       (end (k.2).0 (k.2).1 (k.2).2 (k.2).3 (k.2).4)
     where
-      end : {t : List ℕ} (before w : List ℕ) → t ≡ before ++ w → IsConf rules outer (f ∷ []) before (w ++ [])
+      end : {t : List ℕ} (before w : List ℕ) → t ≡ before ++ w
+          → IsConf rules outer (f ∷ []) before (w ++ [])
           → ((w ≡ []) × (◌≡◌ {A = List ℕ} [] [])) ⊎ Middle (f ∷ []) w [] []
           → reads rules (codes "body" ∷ outer) t f.children
       end before w q c (inl i) =

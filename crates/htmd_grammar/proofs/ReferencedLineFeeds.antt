@@ -14,7 +14,8 @@ refers_nothing x nothing = refl
 
 -- the first byte stands there, or it is a line feed and its reference stands there
 pub refers_first : (b : ℕ) (s x : List ℕ) → RefersToLineFeeds (b ∷ s) x
-    → ((t : List ℕ) × (x ≡ b ∷ t) × RefersToLineFeeds s t) ⊎ ((t : List ℕ) × (b ≡ 10) × (x ≡ line_feed_reference ++ t)
+    → ((t : List ℕ) × (x ≡ b ∷ t) × RefersToLineFeeds s t)
+    ⊎ ((t : List ℕ) × (b ≡ 10) × (x ≡ line_feed_reference ++ t)
     × RefersToLineFeeds s t)
 refers_first b s x (same {t = t} c r) = inl (t, refl, r)
 refers_first b s x (reference {t = t} r) = inr (t, refl, refl, r)
@@ -23,7 +24,8 @@ pub refers_split : (a b x : List ℕ) → RefersToLineFeeds (a ++ b) x
     → (y z : List ℕ) × (x ≡ y ++ z) × RefersToLineFeeds a y × RefersToLineFeeds b z
 refers_split [] b x r = ([], x, refl, nothing, r)
 refers_split (c ∷ a) b x r = elim (refers_first c (a ++ b) x r) [
-  | inl w ↦ let i = refers_split a b w.0 w.2 in (c ∷ i.0, i.1, w.1 ∙ ap (λ (y : List ℕ). c ∷ y) i.2, same c i.3, i.4)
+  | inl w ↦ let i =
+      refers_split a b w.0 w.2 in (c ∷ i.0, i.1, w.1 ∙ ap (λ (y : List ℕ). c ∷ y) i.2, same c i.3, i.4)
   | inr w ↦
       let i = refers_split a b w.0 w.3 in (
         line_feed_reference ++ i.0,

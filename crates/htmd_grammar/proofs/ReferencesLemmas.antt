@@ -15,11 +15,13 @@ use Rattle.htmd_grammar.proofs.BooleanLemmas.{and_true, if_then, lacks-append, n
 use Rattle.htmd_grammar.proofs.TagReadingLemmas.{back_split}
 use Rattle.htmd_grammar.proofs.TagSpellingLemmas.{at_head}
 
-front_over : (p : ℕ → Bool) (s t : List ℕ) → p 60 ≡ false → leading_run p (s ++ (60 ∷ t)) ≡ leading_run p s
+front_over : (p : ℕ → Bool) (s t : List ℕ) → p 60 ≡ false
+    → leading_run p (s ++ (60 ∷ t)) ≡ leading_run p s
 front_over p [] t e = rw e refl
 front_over p (b ∷ s) t e = rw (front_over p s t e) refl
 
-back_over : (p : ℕ → Bool) (s t : List ℕ) → p 60 ≡ false → first_is 59 (behind_run p (s ++ (60 ∷ t))) ≡ first_is 59
+back_over : (p : ℕ → Bool) (s t : List ℕ) → p 60 ≡ false
+    → first_is 59 (behind_run p (s ++ (60 ∷ t))) ≡ first_is 59
     (behind_run p s)
 back_over p [] t e = rw e refl
 back_over p (b ∷ s) t e = test (p b) (λ q. rw q (back_over p s t e)) (λ q. rw q refl)
@@ -34,7 +36,8 @@ number_over p base n s t e = rw (front_over p s t e, back_over p s t e, semicolo
 
 sharp_over : (s t : List ℕ) → behind_number_sign (s ++ (60 ∷ t)) ≡ behind_number_sign s
 sharp_over [] t = refl
-sharp_over (b ∷ s) t = rw (number_over is_ascii_hexdigit 16 2 s t refl, number_over is_ascii_digit 10 1 (b ∷ s) t refl)
+sharp_over (b ∷ s) t =
+    rw (number_over is_ascii_hexdigit 16 2 s t refl, number_over is_ascii_digit 10 1 (b ∷ s) t refl)
     refl
 
 and_over : (names : Names) (s t : List ℕ) → behind_ampersand names (s ++ (60 ∷ t)) ≡ behind_ampersand names s
@@ -45,7 +48,8 @@ and_over names (b ∷ s) t = rw (
   back_over is_ascii_alphanumeric (b ∷ s) t refl,
 ) refl
 
-pub piece_over : (names : Names) (b : ℕ) (s t : List ℕ) → piece_at names b (s ++ (60 ∷ t)) ≡ piece_at names b s
+pub piece_over : (names : Names) (b : ℕ) (s t : List ℕ)
+    → piece_at names b (s ++ (60 ∷ t)) ≡ piece_at names b s
 piece_over names b [] t = rw (and_over names [] t) refl
 piece_over names b (c ∷ s) t = rw (and_over names (c ∷ s) t) refl
 
@@ -66,7 +70,8 @@ lacks_front c p (b ∷ s) e = test (p b) (λ q. rw q (rw (other q, lacks_front c
     other : p b ≡ true → (b == c) ≡ false
     other q = test (b == c) (λ t. absurd (let k = same_byte b c t in let w = rw k at q in cc)) (λ t. t)
 
-fits_ended : (p : ℕ → Bool) (s : List ℕ) → p 60 ≡ false → p 38 ≡ false → first_is 59 (behind_run p s) ≡ true
+fits_ended : (p : ℕ → Bool) (s : List ℕ) → p 60 ≡ false → p 38 ≡ false
+    → first_is 59 (behind_run p s) ≡ true
     → Fits (suc (length (leading_run p s))) s
 fits_ended p s e g a =
     let h = at_head 59 (behind_run p s) a in
@@ -80,7 +85,8 @@ fits_ended p s e g a =
       lacks-append 38 (leading_run p s) (59 ∷ []) (lacks_front 38 p s g) refl,
     )
 
-fits_more : (b n m : ℕ) (s : List ℕ) → (b == 60) ≡ false → (b == 38) ≡ false → Fits n s → suc n ≡ m → Fits m (b ∷ s)
+fits_more : (b n m : ℕ) (s : List ℕ) → (b == 60) ≡ false → (b == 38) ≡ false → Fits n s → suc n ≡ m
+    → Fits m (b ∷ s)
 fits_more b n m s e g f q = (
   b ∷ f.0,
   f.1,
@@ -107,7 +113,8 @@ number_fits p base k m s v e g h =
       | inr w ↦ absurd (let z = w.1 in cc)
     ]
 
-sharp_fits : (s v : List ℕ) (m : ℕ) → behind_number_sign s ≡ stands m v → (n : ℕ) × Fits n s × (m ≡ suc n)
+sharp_fits : (s v : List ℕ) (m : ℕ) → behind_number_sign s ≡ stands m v
+    → (n : ℕ) × Fits n s × (m ≡ suc n)
 sharp_fits [] v m e = absurd (cc)
 sharp_fits (b ∷ s) v m e =
     elim (if_then (begins_in_any_case (codes "x") (b ∷ s)) (number_at is_ascii_hexdigit 16 2 s)
@@ -124,7 +131,8 @@ sharp_fits (b ∷ s) v m e =
           (suc (length (leading_run is_ascii_digit (b ∷ s))), f.0, (let k = f.1 in omega arith))
     ]
   where
-    letter_x : (b : ℕ) → ((to_ascii_lowercase b == 120) && true) ≡ true → ((b == 60) ≡ false) × ((b == 38) ≡ false)
+    letter_x : (b : ℕ) → ((to_ascii_lowercase b == 120) && true) ≡ true
+        → ((b == 60) ≡ false) × ((b == 38) ≡ false)
     letter_x b e = (grind (arith, nat_tests), grind (arith, nat_tests))
 
 named_fits : (n m : ℕ) (o : Option ℕ) (v : List ℕ) → named n o ≡ stands m v → n ≡ m
@@ -162,20 +170,24 @@ piece_fits names b s v m e = elim (if_then (b == 38) (behind_ampersand names s) 
 ]
 
 -- a list cut where the first part ends
-pub drop_cut : (w r x : List ℕ) (n : ℕ) → length w ≡ n → (drop n (w ++ r) ≡ r) × (drop n ((w ++ r) ++ x) ≡ r ++ x)
+pub drop_cut : (w r x : List ℕ) (n : ℕ) → length w ≡ n
+    → (drop n (w ++ r) ≡ r) × (drop n ((w ++ r) ++ x) ≡ r ++ x)
 drop_cut [] r x n e = rw (sym e) (refl, refl)
 drop_cut (b ∷ w) r x n e = let i = drop_cut w r x (length w) refl in rw (sym e) (i.0, i.1)
 
 pub drop_over : (n : ℕ) (s x : List ℕ) → Fits n s → drop n (s ++ x) ≡ drop n s ++ x
 drop_over n s x f =
     let c = drop_cut f.0 f.1 x n f.3 in
-    ap (λ (y : List ℕ). drop n (y ++ x)) f.2 ∙ (c.1 ∙ ap (λ (y : List ℕ). y ++ x) (sym (ap (drop n) f.2 ∙ c.0)))
+    ap (λ (y : List ℕ). drop n (y ++ x)) f.2
+    ∙ (c.1 ∙ ap (λ (y : List ℕ). y ++ x) (sym (ap (drop n) f.2 ∙ c.0)))
 
 -- ---- references by unknown names
 
 -- only `&` begins a reference
-pub no_reference : (names : Names) (b : ℕ) (s : List ℕ) → (b == 38) ≡ false → is_unknown (piece_at names b s) ≡ false
-no_reference names b s e = test (b == 13) (λ t. test (first_is 10 s) (λ q. rw (e, t, q) refl) (λ q. rw (e, t, q) refl))
+pub no_reference : (names : Names) (b : ℕ) (s : List ℕ) → (b == 38) ≡ false
+    → is_unknown (piece_at names b s) ≡ false
+no_reference names b s e =
+    test (b == 13) (λ t. test (first_is 10 s) (λ q. rw (e, t, q) refl) (λ q. rw (e, t, q) refl))
     (λ t. rw (e, t) refl)
 
 pub put_parts : (p : Piece) (go : ℕ → Option (List ℕ)) (u : List ℕ) → put p go ≡ Some u

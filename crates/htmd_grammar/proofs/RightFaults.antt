@@ -52,7 +52,8 @@ module _ (rules : Rules) where
 
   -- an element that holds text alone holds a text or nothing
   text_or_nothing : (p : List ℕ) (c : Context) (l : Bool) (ts : ValueForest) (s : List ℕ)
-      → ReadsForest rules (p ∷ c) l ts s → holds_text_alone rules.scripting p ≡ true → ends_in_text ts ≡ false
+      → ReadsForest rules (p ∷ c) l ts s → holds_text_alone rules.scripting p ≡ true
+      → ends_in_text ts ≡ false
       → ts ≡ none
   text_or_nothing p c l none s h t e = refl
   text_or_nothing p c l (more u us) s h t e =
@@ -72,7 +73,8 @@ module _ (rules : Rules) where
         no_text = test (ends_in_text f.children) (λ q. absurd (not_stops rules above_body f.name rest t n (c.texts q)))
             (λ q. q)
 
-        in_front : (hs : List OpenElement) → IsFront rules above_body (flag rules above_body (f ∷ gs) rest) (f ∷ hs) s
+        in_front : (hs : List OpenElement)
+            → IsFront rules above_body (flag rules above_body (f ∷ gs) rest) (f ∷ hs) s
             → f.children ≡ none
         in_front [] h = text_or_nothing f.name above_body (flag rules above_body (f ∷ gs) rest) f.children s h.1 alone
             no_text
@@ -81,7 +83,8 @@ module _ (rules : Rules) where
 
     -- with the text so far in the innermost element the rows say the same
     says_with_text : (run rest : List ℕ) (k : FaultKind)
-        → (is_empty run ≡ false → holds_raw_text rules.scripting f.name ≡ false) → Says rules (f ∷ gs) rest k
+        → (is_empty run ≡ false → holds_raw_text rules.scripting f.name ≡ false)
+        → Says rules (f ∷ gs) rest k
         → Says rules (with_text f run ∷ gs) rest k
     says_with_text [] rest k r h = h
     says_with_text (b ∷ run) rest Nul r h = h
@@ -117,14 +120,16 @@ module _ (rules : Rules) where
     says_without_text (b ∷ run) rest StrayEndTag h = h
     says_without_text (b ∷ run) rest StrayText h = h
     says_without_text (b ∷ run) rest Unclosed h = h
-    says_without_text (b ∷ run) rest ScriptEscape h = absurd (not_none rules above_body f.children (text (b ∷ run)) h.1)
+    says_without_text (b ∷ run) rest ScriptEscape h =
+        absurd (not_none rules above_body f.children (text (b ∷ run)) h.1)
     says_without_text (b ∷ run) rest TooDeep h = h
 
     -- the fault of a step at a state that is reached
     piece_fault : (s run rest : List ℕ) (k : FaultKind) (place : ℕ)
         → Reaches rules above_body (started s) (in_text (f ∷ gs) run rest)
         → step rules above_body (in_text (f ∷ gs) run rest) ≡ Err k
-        → (rest ≡ [] → 1 < length (f ∷ gs)) → place + length rest ≡ length s → IsPieceFault rules s place k
+        → (rest ≡ [] → 1 < length (f ∷ gs)) → place + length rest ≡ length s
+        → IsPieceFault rules s place k
     piece_fault s run rest k place r e o p =
         let i = kept rules above_body (started s) (in_text (f ∷ gs) run rest) [] r
         (conf_start rules above_body (body_text s)) in
@@ -147,7 +152,8 @@ module _ (rules : Rules) where
             → holds_raw_text rules.scripting f.name ≡ true → ends_text rules.scripting f.name rest ≡ false
             → is_empty rest ≡ false → f.children ≡ none
         childless {before = before} w c (inl m) =
-            nothing_before before rest (subst (λ (y : List ℕ). IsConf rules above_body (f ∷ gs) before (y ++ rest)) m.0
+            nothing_before before rest
+            (subst (λ (y : List ℕ). IsConf rules above_body (f ∷ gs) before (y ++ rest)) m.0
             c)
         childless w c (inr m) = λ h _ _. absurd (not_both (holds_raw_text rules.scripting f.name) h m.mode)
 

@@ -27,7 +27,8 @@ pub steps_reach : (rules : Rules) (n : ℕ) (st : State) → Reaches rules above
 steps_reach rules zero st = here
 steps_reach rules (suc n) st = first (step rules above_body st) refl (λ a. steps_reach rules n a)
   where
-    first : (o : Step) → step rules above_body st ≡ o → ((a : State) → Reaches rules above_body a (steps rules n a))
+    first : (o : Step) → step rules above_body st ≡ o
+        → ((a : State) → Reaches rules above_body a (steps rules n a))
         → Reaches rules above_body st (go_on st (steps rules n) o)
     first (Ok a) e go = via e (go a)
     first (Err kind) e go = here
@@ -75,6 +76,7 @@ refuses rules s place kind n l e o p = (
     denies : (t : ValueTree) → ReadsDocument rules s t → ⊥
     denies t h =
         refused rules s (steps rules n (started s)) kind reached e
-        (λ content q. let z : is_over (steps rules n (started s)) ≡ true = ap is_over q in let y : true ≡ false = sym z
+        (λ content q. let z : is_over (steps rules n (started s)) ≡ true = ap is_over q in let y : true ≡ false =
+        sym z
         ∙ o in cc)
         h.1 h.3

@@ -18,7 +18,8 @@ turn out new piece rest total e h = ap (λ x. x ++ rest) e ∙ (append_assoc out
 
 -- ---- characters
 
-encode-two : (c : ℕ) → ltb c 0x80 ≡ false → ltb c 0x800 ≡ true → encode c ≡ (192 + c / 64) ∷ (128 + c % 64) ∷ []
+encode-two : (c : ℕ) → ltb c 0x80 ≡ false → ltb c 0x800 ≡ true
+    → encode c ≡ (192 + c / 64) ∷ (128 + c % 64) ∷ []
 unfolding encode
 encode-two c n y = rw (n, y) refl
 
@@ -38,7 +39,8 @@ encode-no_break_space = refl
 
 module _ (byte : ℕ → List ℕ) where
   -- a byte that begins no no-break space
-  escaped_html-one : (b : ℕ) (s : List ℕ) → b ≢ 0xC2 → escaped_html byte (b ∷ s) ≡ byte b ++ escaped_html byte s
+  escaped_html-one : (b : ℕ) (s : List ℕ) → b ≢ 0xC2
+      → escaped_html byte (b ∷ s) ≡ byte b ++ escaped_html byte s
   escaped_html-one b [] n = sym (append-nil (byte b))
   escaped_html-one b (c ∷ s) n = let e : eqb b 0xC2 ≡ false = grind (arith, nat_tests) in rw e refl
 
@@ -50,7 +52,8 @@ module _ (byte : ℕ → List ℕ) where
       rw f refl
 
   module _ (high : (b : ℕ) → 0x80 ≤ b → byte b ≡ b ∷ []) where
-    escaped_html-high : (b : ℕ) (s : List ℕ) → 0x80 ≤ b → b ≢ 0xC2 → escaped_html byte (b ∷ s) ≡ b ∷ escaped_html byte s
+    escaped_html-high : (b : ℕ) (s : List ℕ) → 0x80 ≤ b → b ≢ 0xC2
+        → escaped_html byte (b ∷ s) ≡ b ∷ escaped_html byte s
     escaped_html-high b s l n = escaped_html-one b s n ∙ ap (λ x. x ++ escaped_html byte s) (high b l)
 
     two : (c : ℕ) (s : List ℕ) → 0x80 ≤ c → c < 0x800 → c ≢ 0xA0
@@ -69,7 +72,8 @@ module _ (byte : ℕ → List ℕ) where
         ]
 
     three : (c : ℕ) (s : List ℕ)
-        → escaped_html byte ((224 + c / 4096) ∷ (128 + c / 64 % 64) ∷ (128 + c % 64) ∷ s) ≡ (224 + c / 4096) ∷
+        → escaped_html byte ((224 + c / 4096) ∷ (128 + c / 64 % 64) ∷ (128 + c % 64) ∷ s) ≡ (224 + c / 4096)
+        ∷
         (128 + c / 64 % 64) ∷ (128 + c % 64) ∷ escaped_html byte s
     three c s =
         escaped_html-high (224 + c / 4096) ((128 + c / 64 % 64) ∷ (128 + c % 64) ∷ s) (omega arith) (omega arith)
@@ -78,13 +82,15 @@ module _ (byte : ℕ → List ℕ) where
         ∙ ap (λ x. (128 + c / 64 % 64) ∷ x) (escaped_html-high (128 + c % 64) s (omega arith) (omega arith)))
 
     four : (c : ℕ) (s : List ℕ)
-        → escaped_html byte ((240 + c / 262144) ∷ (128 + c / 4096 % 64) ∷ (128 + c / 64 % 64) ∷ (128 + c % 64) ∷ s) ≡
+        → escaped_html byte ((240 + c / 262144) ∷ (128 + c / 4096 % 64) ∷ (128 + c / 64 % 64) ∷ (128 + c % 64)
+        ∷ s) ≡
         (240 + c / 262144) ∷ (128 + c / 4096 % 64) ∷ (128 + c / 64 % 64) ∷ (128 + c % 64) ∷ escaped_html byte s
     four c s =
         escaped_html-high (240 + c / 262144) ((128 + c / 4096 % 64) ∷ (128 + c / 64 % 64) ∷ (128 + c % 64) ∷ s)
         (omega arith) (omega arith)
         ∙ ap (λ x. (240 + c / 262144) ∷ x)
-        (escaped_html-high (128 + c / 4096 % 64) ((128 + c / 64 % 64) ∷ (128 + c % 64) ∷ s) (omega arith) (omega arith)
+        (escaped_html-high (128 + c / 4096 % 64) ((128 + c / 64 % 64) ∷ (128 + c % 64) ∷ s) (omega arith)
+        (omega arith)
         ∙ ap (λ x. (128 + c / 4096 % 64) ∷ x)
         (escaped_html-high (128 + c / 64 % 64) ((128 + c % 64) ∷ s) (omega arith) (omega arith)
         ∙ ap (λ x. (128 + c / 64 % 64) ∷ x) (escaped_html-high (128 + c % 64) s (omega arith) (omega arith))))
@@ -118,7 +124,8 @@ module _ (byte : ℕ → List ℕ) where
 
     -- a step over a character of a text
     pub escaped_html-turn : (out new rest after total : List ℕ) (c : ℕ) → new ≡ out ++ escaped_html_char byte c
-        → rest ≡ encode c ++ after → out ++ escaped_html byte rest ≡ total → new ++ escaped_html byte after ≡ total
+        → rest ≡ encode c ++ after → out ++ escaped_html byte rest ≡ total
+        → new ++ escaped_html byte after ≡ total
     escaped_html-turn out new rest after total c e f h =
         turn out new (escaped_html_char byte c) (escaped_html byte after) total e
         (ap (λ x. out ++ x) (sym (ap (escaped_html byte) f ∙ escaped_html-encode c after)) ∙ h)

@@ -49,7 +49,8 @@ use Rattle.htmd_grammar.proofs.TextLemmas.{Stops, letter_not, markup_head, name_
 use Rattle.htmd_grammar.proofs.TreeTexts.{IsTextTree, node_stops}
 
 -- an end tag that was read, and what follows it
-pub end_tag_at : (name r : List ℕ) → is_tag_name name ≡ true → first_is 62 (behind_run is_ascii_white_space r) ≡ true
+pub end_tag_at : (name r : List ℕ) → is_tag_name name ≡ true
+    → first_is 62 (behind_run is_ascii_white_space r) ≡ true
     → (tag : List ℕ) × (60 ∷ 47 ∷ (name ++ r) ≡ tag ++ drop 1 (behind_run is_ascii_white_space r))
     × IsEndTag tag (map to_ascii_lowercase name)
 end_tag_at name r n w =
@@ -59,7 +60,8 @@ end_tag_at name r n w =
     ∙ ap (λ (y : List ℕ). gap ++ y) (at_head 62 (behind_run is_ascii_white_space r) w) in (
       60 ∷ 47 ∷ (name ++ (gap ++ 62 ∷ [])),
       ap (λ (y : List ℕ). 60 ∷ 47 ∷ (name ++ y)) q
-          ∙ ap (λ (y : List ℕ). 60 ∷ 47 ∷ y) (ap (λ (y : List ℕ). name ++ y) (sym (append_assoc gap (62 ∷ []) x))
+          ∙ ap (λ (y : List ℕ). 60 ∷ 47 ∷ y)
+          (ap (λ (y : List ℕ). name ++ y) (sym (append_assoc gap (62 ∷ []) x))
           ∙ sym (append_assoc name (gap ++ 62 ∷ []) x)),
       (name, gap, refl, n, front_all is_ascii_white_space r, refl),
     )
@@ -102,7 +104,8 @@ module _ (rules : Rules) (outer : Context) where
   ends_in_text-last (more (comment u) (more v ts)) t = ends_in_text-last (more v ts) t
   ends_in_text-last (more (element n attributes ks) (more v ts)) t = ends_in_text-last (more v ts) t
 
-  pub shallow : (fs : List OpenElement) → is_too_deep rules outer fs ≡ false → length (names_of outer fs) ≤ rules.depth
+  pub shallow : (fs : List OpenElement) → is_too_deep rules outer fs ≡ false
+      → length (names_of outer fs) ≤ rules.depth
   shallow fs e = grind (arith, nat_tests)
 
   pub not_stops : (n s : List ℕ) → ends_text rules.scripting n s ≡ false → is_empty s ≡ false
@@ -110,13 +113,15 @@ module _ (rules : Rules) (outer : Context) where
   not_stops n s m k (inl w) = let q = rw w at k in cc
   not_stops n s m k (inr w) = cc
 
-  pub moved_to : (s rest : List ℕ) (a st : State) → ◌≡◌ {A = Step} (Ok a) (Ok st) → Takes s rest a → Takes s rest st
+  pub moved_to : (s rest : List ℕ) (a st : State) → ◌≡◌ {A = Step} (Ok a) (Ok st) → Takes s rest a
+      → Takes s rest st
   moved_to s rest a st e t = let q : a ≡ st = cc in subst (λ (x : State). Takes s rest x) q t
 
   -- a node is added where the stack is not too deep
   sound_add : (fs : List OpenElement) (t : ValueTree) (s rest after : List ℕ) (st : State)
       → add rules outer fs t after ≡ Ok st
-      → (length (names_of outer fs) ≤ rules.depth → Takes s rest (at_piece (with_tree fs t) (after))) → Takes s rest st
+      → (length (names_of outer fs) ≤ rules.depth → Takes s rest (at_piece (with_tree fs t) (after)))
+      → Takes s rest st
   sound_add fs t s rest after st e go =
       elim (if_then (is_too_deep rules outer fs) (fault TooDeep) (between (with_tree fs t) after) (Ok st) e) [
         | inl w ↦ absurd (let q = w.1 in cc)
@@ -125,7 +130,8 @@ module _ (rules : Rules) (outer : Context) where
       ]
 
   -- the flag means nothing where text goes on
-  pub no_flag : (f : OpenElement) (gs : List OpenElement) (s : List ℕ) → ends_text rules.scripting f.name s ≡ false
+  pub no_flag : (f : OpenElement) (gs : List OpenElement) (s : List ℕ)
+      → ends_text rules.scripting f.name s ≡ false
       → flag (f ∷ gs) s ≡ false
   no_flag f gs s m = test (holds_text_alone rules.scripting f.name) (λ t. rw t refl) (λ t. let k = rw t at m in
       let q = no_tag s k in rw (t, q.0, q.1) refl)
@@ -140,7 +146,8 @@ module _ (rules : Rules) (outer : Context) where
 
   -- a leaf, or an element that is whole, is added
   pub added : (f : OpenElement) (gs : List OpenElement) (t : ValueTree) (s b rest : List ℕ)
-      → (c : IsConf (f ∷ gs) s (b ++ rest)) → ReadsTree rules (names_of outer (f ∷ gs)) (flag (f ∷ gs) rest) t b
+      → (c : IsConf (f ∷ gs) s (b ++ rest))
+      → ReadsTree rules (names_of outer (f ∷ gs)) (flag (f ∷ gs) rest) t b
       → (flag (f ∷ gs) (b ++ rest) ≡ true → is_table_part (tag_name_at b) ≡ true)
       → (Stops rules.scripting f.name (b ++ rest) → IsTextTree t ≡ false)
       → (IsTextTree t ≡ true → Stops rules.scripting f.name rest)
@@ -166,9 +173,11 @@ module _ (rules : Rules) (outer : Context) where
 
   pub onward_stops : (n s : List ℕ) → Stops rules.scripting n (onward (ends_text rules.scripting n) s)
   onward_stops n [] = inl refl
-  onward_stops n (b ∷ s) = test (ends_text rules.scripting n (b ∷ s)) (λ q. rw q (inr q)) (λ q. rw q (onward_stops n s))
+  onward_stops n (b ∷ s) =
+      test (ends_text rules.scripting n (b ∷ s)) (λ q. rw q (inr q)) (λ q. rw q (onward_stops n s))
 
-  pub run_not_empty : (stop : List ℕ → Bool) (s : List ℕ) → stop s ≡ false → is_empty s ≡ false → up_to stop s ≢ []
+  pub run_not_empty : (stop : List ℕ → Bool) (s : List ℕ) → stop s ≡ false → is_empty s ≡ false
+      → up_to stop s ≢ []
   run_not_empty stop [] m e q = absurd (cc)
   run_not_empty stop (b ∷ s) m e q = let w = rw m at q in absurd (cc)
 
@@ -204,7 +213,8 @@ module _ (rules : Rules) (outer : Context) where
       let m = markup_head h.0 (node_stops rules (comment v) (p ∷ c) (may_end_rows l us h.1) h.0 refl h.4) in
       ([], m.0 ++ h.1, h.2 ∙ ap (λ (y : List ℕ). y ++ h.1) m.1)
   holds_tag p c l (element n attributes ks) us s h e =
-      let m = markup_head h.0 (node_stops rules (element n attributes ks) (p ∷ c) (may_end_rows l us h.1) h.0 refl h.4)
+      let m =
+      markup_head h.0 (node_stops rules (element n attributes ks) (p ∷ c) (may_end_rows l us h.1) h.0 refl h.4)
       in
       ([], m.0 ++ h.1, h.2 ∙ ap (λ (y : List ℕ). y ++ h.1) m.1)
   holds_tag p c l (text v) (more w us) s h e =
@@ -215,7 +225,8 @@ module _ (rules : Rules) (outer : Context) where
   pub content_split : (n x : List ℕ) → (d : List ℕ) × (x ≡ d ++ content_of n x) × (content_of n d ≡ [])
   content_split n x = test (drops_line_feed n) (λ t. rw t (after x)) (λ t. rw t ([], refl, refl))
     where
-      less : (b : ℕ) (s : List ℕ) (p : Piece) → piece_at [] b s ≡ p → (d : List ℕ) × (b ∷ s ≡ d ++ less_line_feed p b s)
+      less : (b : ℕ) (s : List ℕ) (p : Piece) → piece_at [] b s ≡ p
+          → (d : List ℕ) × (b ∷ s ≡ d ++ less_line_feed p b s)
           × (after_line_feed [] d ≡ [])
       less b s (wrong k) e = ([], refl, refl)
       less b s (stands m v) e = test (bytes_eq v (10 ∷ []))
@@ -237,7 +248,8 @@ module _ (rules : Rules) (outer : Context) where
   kept_behind : (n i x t b : List ℕ) → i ≡ x ++ (60 ∷ t) → IsKept n i b
   kept_behind n i x t b e =
       rw (e, append_assoc x (60 ∷ t) b) (content_over n x (t ++ b)
-      ∙ (sym (append_assoc (content_of n x) (60 ∷ t) b) ∙ ap (λ (y : List ℕ). y ++ b) (sym (content_over n x t))))
+      ∙ (sym (append_assoc (content_of n x) (60 ∷ t) b)
+      ∙ ap (λ (y : List ℕ). y ++ b) (sym (content_over n x t))))
 
   kept_nodes : (n : List ℕ) (c : Context) (l : Bool) (ks : ValueForest) (i b z : List ℕ)
       → ReadsForest rules (n ∷ c) l ks (content_of n i) → (ends_in_text ks ≡ true → ⊥)
@@ -255,7 +267,8 @@ module _ (rules : Rules) (outer : Context) where
       → (Stops rules.scripting f.name (b ++ z) → ⊥)
       → IsKept f.name (content_so_far rules outer f gs (flag (f ∷ gs) (b ++ z)) s c.is_front) b
   kept_text f [] s b z c n = rw (c.is_front).2 refl
-  kept_text f (g ∷ gs) s b z c n = kept_nodes f.name (names_of outer (g ∷ gs)) (flag (f ∷ g ∷ gs) (b ++ z)) f.children
+  kept_text f (g ∷ gs) s b z c n =
+      kept_nodes f.name (names_of outer (g ∷ gs)) (flag (f ∷ g ∷ gs) (b ++ z)) f.children
       (c.is_front).2 b z (c.is_front).6 (λ q. n (c.texts q)) c.first
 
   raw_no_parts : (p : List ℕ) → holds_raw_text rules.scripting p ≡ true → holds_parts p ≡ false
@@ -263,7 +276,8 @@ module _ (rules : Rules) (outer : Context) where
       (rw r (or_true (is_among (codes "title" ∷ codes "textarea" ∷ []) p))) refl)
 
   -- text without references
-  pub sound_raw : (f : OpenElement) (gs : List OpenElement) (s rest : List ℕ) (st : State) → IsConf (f ∷ gs) s rest
+  pub sound_raw : (f : OpenElement) (gs : List OpenElement) (s rest : List ℕ) (st : State)
+      → IsConf (f ∷ gs) s rest
       → holds_raw_text rules.scripting f.name ≡ true → ends_text rules.scripting f.name rest ≡ false
       → is_empty rest ≡ false
       → (d : Option (List ℕ)) → text_of rules f.name (up_to (ends_text rules.scripting f.name) rest) ≡ d
@@ -292,7 +306,8 @@ module _ (rules : Rules) (outer : Context) where
       (λ _. onward_stops f.name rest)
       (kept_text f gs s r after c2 (λ k. not_stops f.name (r ++ after) m2 n2 k))))
 
-  pub sound_settled : (fs : List OpenElement) (s rest : List ℕ) (st : State) → IsConf fs s rest → is_implied fs ≡ true
+  pub sound_settled : (fs : List OpenElement) (s rest : List ℕ) (st : State) → IsConf fs s rest
+      → is_implied fs ≡ true
       → ends_rows rest ≡ true → tbody_step rules outer fs rest ≡ Ok st → Takes s rest st
   sound_settled [] s rest st c i r e = absurd (c.is_front)
   sound_settled (f ∷ []) s rest st c i r e = absurd (let h = c.is_front in let q = h.0 in cc)
@@ -317,7 +332,8 @@ module _ (rules : Rules) (outer : Context) where
   -- what stands behind `<` in a comment
   sound_comment : (f : OpenElement) (gs : List OpenElement) (s x : List ℕ) (st : State)
       → IsConf (f ∷ gs) s (60 ∷ 33 ∷ 45 ∷ 45 ∷ x) → holds_text_alone rules.scripting f.name ≡ false
-      → (o : Option (List ℕ × List ℕ)) → before_comment_end x ≡ o → comment_step rules outer (f ∷ gs) o ≡ Ok st
+      → (o : Option (List ℕ × List ℕ)) → before_comment_end x ≡ o
+      → comment_step rules outer (f ∷ gs) o ≡ Ok st
       → Takes s (60 ∷ 33 ∷ 45 ∷ 45 ∷ x) st
   sound_comment f gs s x st c tf None d e = absurd (cc)
   sound_comment f gs s x st c tf (Some p) d e =
@@ -327,9 +343,11 @@ module _ (rules : Rules) (outer : Context) where
         | inl w ↦ sound_add (f ∷ gs) (comment (normalized p.0)) s (60 ∷ 33 ∷ 45 ∷ 45 ∷ x) p.1 st w.1 (λ l.
             let t = before_close-split x p.0 p.1 d in
             let b : List ℕ = 60 ∷ 33 ∷ 45 ∷ 45 ∷ t.0 in
-            let q : 60 ∷ 33 ∷ 45 ∷ 45 ∷ x ≡ b ++ p.1 = ap (λ (y : List ℕ). 60 ∷ 33 ∷ 45 ∷ 45 ∷ y) t.1 in
+            let q : 60 ∷ 33 ∷ 45 ∷ 45 ∷ x ≡ b ++ p.1 =
+            ap (λ (y : List ℕ). 60 ∷ 33 ∷ 45 ∷ 45 ∷ y) t.1 in
             let c2 = subst (λ (y : List ℕ). IsConf (f ∷ gs) s y) q c in
-            subst (λ (y : List ℕ). Takes s y (at_piece (with_tree (f ∷ gs) (comment (normalized p.0))) (p.1))) (sym q)
+            subst (λ (y : List ℕ). Takes s y (at_piece (with_tree (f ∷ gs) (comment (normalized p.0))) (p.1)))
+            (sym q)
             (added f gs (comment (normalized p.0)) s b p.1 c2 ((t.0, p.0, refl, t.2, w.0, refl), tf, l)
             (λ k. let z = flag_rows (f ∷ gs) (b ++ p.1) k in absurd (cc)) (λ _. refl) (λ k. absurd (cc))
             (content_over f.name (content_so_far rules outer f gs (flag (f ∷ gs) (b ++ p.1)) s c2.is_front)
@@ -339,7 +357,8 @@ module _ (rules : Rules) (outer : Context) where
   -- an element that is not void opens
   entered : (f : OpenElement) (gs : List OpenElement) (n : List ℕ) (attributes : List AttributePair)
       (s tag rest : List ℕ) → IsConf (f ∷ gs) s (tag ++ rest) → IsStartTag rules.names tag n attributes
-      → is_allowed rules.scripting (names_of outer (f ∷ gs)) n ≡ true → length (names_of outer (f ∷ gs)) ≤ rules.depth
+      → is_allowed rules.scripting (names_of outer (f ∷ gs)) n ≡ true
+      → length (names_of outer (f ∷ gs)) ≤ rules.depth
       → is_void n ≡ false → (flag (f ∷ gs) (tag ++ rest) ≡ true → is_table_part n ≡ true)
       → Takes s (tag ++ rest) (at_piece (fresh n attributes false ∷ f ∷ gs) (content_of n rest))
   entered f gs n attributes s tag rest c t a l v p = (
@@ -378,7 +397,8 @@ module _ (rules : Rules) (outer : Context) where
       → is_allowed rules.scripting (codes "tbody" ∷ names_of outer (f ∷ gs)) n ≡ true
       → length (codes "tbody" ∷ names_of outer (f ∷ gs)) ≤ rules.depth
       → is_void n ≡ false → (flag (f ∷ gs) (tag ++ rest) ≡ true → is_table_part n ≡ true)
-      → Takes s (tag ++ rest) (at_piece (fresh n attributes false ∷ fresh (codes "tbody") [] true ∷ f ∷ gs) (rest))
+      → Takes s (tag ++ rest) (at_piece (fresh n attributes false ∷ fresh (codes "tbody") [] true ∷ f ∷ gs)
+      (rest))
   entered_row f gs n attributes s tag rest c t r q l a k v p = (
     tag,
     refl,
@@ -437,7 +457,8 @@ module _ (rules : Rules) (outer : Context) where
       ∙ (sym (or_right (is_table_part (tag_name_at (tag ++ x)))) ∙ w)
 
   sound_opened : (f : OpenElement) (gs : List OpenElement) (n : List ℕ) (attributes : List AttributePair)
-      (s tag rest : List ℕ) (st : State) → IsConf (f ∷ gs) s (tag ++ rest) → IsStartTag rules.names tag n attributes
+      (s tag rest : List ℕ) (st : State) → IsConf (f ∷ gs) s (tag ++ rest)
+      → IsStartTag rules.names tag n attributes
       → open_step rules outer (f ∷ gs) n attributes rest ≡ Ok st → Takes s (tag ++ rest) st
   sound_opened f gs n attributes s tag rest st c t e = test (is_allowed rules.scripting (names_of outer (f ∷ gs)) n)
       (λ a. test (is_too_deep rules outer (f ∷ gs)) (λ k. absurd (deep a k))
@@ -452,13 +473,15 @@ module _ (rules : Rules) (outer : Context) where
       tn : tag_name_at tag ≡ n
       tn = ap tag_name_at (sym (append-nil tag)) ∙ tag_starts rules outer tag n [] attributes t
 
-      deep : is_allowed rules.scripting (names_of outer (f ∷ gs)) n ≡ true → is_too_deep rules outer (f ∷ gs) ≡ true → ⊥
+      deep : is_allowed rules.scripting (names_of outer (f ∷ gs)) n ≡ true
+          → is_too_deep rules outer (f ∷ gs) ≡ true → ⊥
       deep a k = let w = rw (a, k) at e in cc
 
       bad : is_allowed rules.scripting (names_of outer (f ∷ gs)) n ≡ false → ⊥
       bad a = let w = rw a at e in cc
 
-      void_ : is_allowed rules.scripting (names_of outer (f ∷ gs)) n ≡ true → is_too_deep rules outer (f ∷ gs) ≡ false
+      void_ : is_allowed rules.scripting (names_of outer (f ∷ gs)) n ≡ true
+          → is_too_deep rules outer (f ∷ gs) ≡ false
           → is_void n ≡ true → Takes s (tag ++ rest) st
       void_ a k v =
           let w = rw (a, k, v) at e in
@@ -468,7 +491,8 @@ module _ (rules : Rules) (outer : Context) where
           (λ i. ap is_table_part tn ∙ p i) (λ _. refl) (λ i. absurd (cc))
           (kept_whole (content_so_far rules outer f gs (flag (f ∷ gs) (tag ++ rest)) s c.is_front)))
 
-      full : is_allowed rules.scripting (names_of outer (f ∷ gs)) n ≡ true → is_too_deep rules outer (f ∷ gs) ≡ false
+      full : is_allowed rules.scripting (names_of outer (f ∷ gs)) n ≡ true
+          → is_too_deep rules outer (f ∷ gs) ≡ false
           → is_void n ≡ false → Takes s (tag ++ rest) st
       full a k v =
           let w = rw (a, k, v) at e in
@@ -476,7 +500,8 @@ module _ (rules : Rules) (outer : Context) where
           (entered f gs n attributes s tag rest c t a (shallow (f ∷ gs) k) v p)
 
   sound_row : (f : OpenElement) (gs : List OpenElement) (n : List ℕ) (attributes : List AttributePair)
-      (s tag rest : List ℕ) (st : State) → IsConf (f ∷ gs) s (tag ++ rest) → IsStartTag rules.names tag n attributes
+      (s tag rest : List ℕ) (st : State) → IsConf (f ∷ gs) s (tag ++ rest)
+      → IsStartTag rules.names tag n attributes
       → is_row n ≡ true → is_table f.name ≡ true
       → length (names_of outer (f ∷ gs)) ≤ rules.depth
       → open_step rules outer (fresh (codes "tbody") [] true ∷ f ∷ gs) n attributes rest ≡ Ok st
@@ -499,10 +524,12 @@ module _ (rules : Rules) (outer : Context) where
       no_void = ap is_void (one_name (codes "tr") n r) ∙ row_void
 
       full : is_allowed rules.scripting (codes "tbody" ∷ names_of outer (f ∷ gs)) n ≡ true
-          → is_too_deep rules outer (fresh (codes "tbody") [] true ∷ f ∷ gs) ≡ false → Takes s (tag ++ rest) st
+          → is_too_deep rules outer (fresh (codes "tbody") [] true ∷ f ∷ gs) ≡ false
+          → Takes s (tag ++ rest) st
       full a k =
           let w = rw (a, k, no_void) at e in
-          moved_to s (tag ++ rest) (at_piece (fresh n attributes false ∷ fresh (codes "tbody") [] true ∷ f ∷ gs) (rest))
+          moved_to s (tag ++ rest)
+          (at_piece (fresh n attributes false ∷ fresh (codes "tbody") [] true ∷ f ∷ gs) (rest))
           st (ap (λ (y : List ℕ). opened_at y) (sym plain) ∙ w)
           (entered_row f gs n attributes s tag rest c t r q l a (shallow (fresh (codes "tbody") [] true ∷ f ∷ gs) k)
           no_void (λ i. start_rows tag n rest attributes t (flag_rows (f ∷ gs) (tag ++ rest) i)))
@@ -517,13 +544,15 @@ module _ (rules : Rules) (outer : Context) where
             elim (if_then (is_too_deep rules outer (f ∷ gs)) (fault TooDeep)
             (open_step rules outer (fresh (codes "tbody") [] true ∷ f ∷ gs) n attributes x) (Ok st) w.1) [
               | inl v ↦ absurd (let z = v.1 in cc)
-              | inr v ↦ sound_row f gs n attributes s tag x st c t p.0 (or_right (bytes_eq f.name (codes "table")) ∙ p.1)
+              | inr v ↦ sound_row f gs n attributes s tag x st c t p.0
+                  (or_right (bytes_eq f.name (codes "table")) ∙ p.1)
                   (shallow (f ∷ gs) v.0) v.1
             ]
         | inr w ↦ sound_opened f gs n attributes s tag x st c t w.1
       ]
 
-  sound_close : (fs : List OpenElement) (s tag n x : List ℕ) (st : State) → IsConf fs s (tag ++ x) → IsEndTag tag n
+  sound_close : (fs : List OpenElement) (s tag n x : List ℕ) (st : State) → IsConf fs s (tag ++ x)
+      → IsEndTag tag n
       → close_step rules outer fs n x ≡ Ok st → Takes s (tag ++ x) st
   sound_close [] s tag n x st c t e = absurd (c.is_front)
   sound_close (f ∷ []) s tag n x st c t e = absurd (cc)
@@ -546,7 +575,8 @@ module _ (rules : Rules) (outer : Context) where
 
   -- the tag that a start tag's reading found
   found_values : (f : OpenElement) (gs : List OpenElement) (s tag n x : List ℕ) (st : State)
-      (spelled : List AttributePair) (present : Bool) → IsConf (f ∷ gs) s (tag ++ x) → IsTagForm tag n spelled present
+      (spelled : List AttributePair) (present : Bool) → IsConf (f ∷ gs) s (tag ++ x)
+      → IsTagForm tag n spelled present
       → (o : Option (List AttributePair)) → decode_values rules.names spelled ≡ o
       → values_step rules outer (f ∷ gs) n spelled present x o ≡ Ok st → Takes s (tag ++ x) st
   found_values f gs s tag n x st spelled present c t None d e = absurd (cc)
@@ -556,7 +586,8 @@ module _ (rules : Rules) (outer : Context) where
         | inr v ↦ elim (if_then (present && not (is_void n)) (fault SelfClosing)
             (cond (is_outside n) (fault TagOutside) (place_step rules outer (f ∷ gs) n attributes x)) (Ok st) v.1) [
               | inl u ↦ absurd (let z = u.1 in cc)
-              | inr u ↦ elim (if_then (is_outside n) (fault TagOutside) (place_step rules outer (f ∷ gs) n attributes x)
+              | inr u ↦ elim (if_then (is_outside n) (fault TagOutside)
+                  (place_step rules outer (f ∷ gs) n attributes x)
                   (Ok st) u.1) [
                     | inl y ↦ absurd (let z = y.1 in cc)
                     | inr y ↦ sound_start f gs n attributes s tag x st c (
@@ -586,11 +617,13 @@ module _ (rules : Rules) (outer : Context) where
   form_at name r x w spelled present q n a =
       let t = tag_spelled (suc (length r)) r x spelled present a in (
         60 ∷ (name ++ t.0),
-        ap (λ (y : List ℕ). 60 ∷ y) (q ∙ (ap (λ (y : List ℕ). name ++ y) t.1 ∙ sym (append_assoc name t.0 x))),
+        ap (λ (y : List ℕ). 60 ∷ y)
+            (q ∙ (ap (λ (y : List ℕ). name ++ y) t.1 ∙ sym (append_assoc name t.0 x))),
         (name, t.0, refl, n, refl, t.2),
       )
 
-  found_form : (f : OpenElement) (gs : List OpenElement) (s w name r : List ℕ) (st : State) → IsConf (f ∷ gs) s (60 ∷ w)
+  found_form : (f : OpenElement) (gs : List OpenElement) (s w name r : List ℕ) (st : State)
+      → IsConf (f ∷ gs) s (60 ∷ w)
       → w ≡ name ++ r → is_tag_name name ≡ true
       → (t : TagForm) → form_within (suc (length r)) r ≡ t
       → form_step rules outer (f ∷ gs) (map to_ascii_lowercase name) t ≡ Ok st → Takes s (60 ∷ w) st
@@ -638,7 +671,8 @@ module _ (rules : Rules) (outer : Context) where
         (name_step rules outer (f ∷ gs) (map to_ascii_lowercase (leading_run is_tag_name_byte x))
         (behind_run is_tag_name_byte x)) (fault MalformedTag) (Ok st) w.1) [
           | inl v ↦
-              let k : 60 ∷ d ∷ x ≡ 60 ∷ 47 ∷ (leading_run is_tag_name_byte x ++ behind_run is_tag_name_byte x) =
+              let k : 60 ∷ d ∷ x ≡ 60 ∷ 47
+              ∷ (leading_run is_tag_name_byte x ++ behind_run is_tag_name_byte x) =
               rw i (ap (λ (y : List ℕ). 60 ∷ 47 ∷ y) (back_split is_tag_name_byte x)) in
               subst (λ (y : List ℕ). Takes s y st) (sym k) (found_end (f ∷ gs) s (leading_run is_tag_name_byte x)
               (behind_run is_tag_name_byte x) st (subst (λ (y : List ℕ). IsConf (f ∷ gs) s y) k c) v.0 v.1)
@@ -647,7 +681,8 @@ module _ (rules : Rules) (outer : Context) where
     | inr w ↦ elim (if_then (d == 33) _ _ (Ok st) w.1) [
       | inl v ↦
           let i = same_byte d 33 v.0 in
-          elim (if_then (begins_with (codes "--") x) (comment_step rules outer (f ∷ gs) (before_comment_end (drop 2 x)))
+          elim (if_then (begins_with (codes "--") x)
+          (comment_step rules outer (f ∷ gs) (before_comment_end (drop 2 x)))
           (fault MalformedDeclaration) (Ok st) v.1) [
             | inl u ↦ (let k : 60 ∷ d ∷ x ≡ 60 ∷ 33 ∷ 45 ∷ 45 ∷ drop 2 x =
                 rw i (ap (λ (y : List ℕ). 60 ∷ 33 ∷ y) (dashes x u.0)) in
@@ -661,10 +696,12 @@ module _ (rules : Rules) (outer : Context) where
             | inl y ↦ absurd (let z = y.1 in cc)
             | inr y ↦ elim (if_then (is_tag_name (leading_run is_tag_name_byte (d ∷ x)))
                 (form_step rules outer (f ∷ gs) (map to_ascii_lowercase (leading_run is_tag_name_byte (d ∷ x)))
-                (form_within (suc (length (behind_run is_tag_name_byte (d ∷ x)))) (behind_run is_tag_name_byte (d ∷ x))))
+                (form_within (suc (length (behind_run is_tag_name_byte (d ∷ x))))
+                (behind_run is_tag_name_byte (d ∷ x))))
                 (fault MalformedTag) (Ok st) y.1) [
                   | inl u ↦ found_form f gs s (d ∷ x) (leading_run is_tag_name_byte (d ∷ x))
-                      (behind_run is_tag_name_byte (d ∷ x)) st c (back_split is_tag_name_byte (d ∷ x)) u.0 _ refl u.1
+                      (behind_run is_tag_name_byte (d ∷ x)) st c (back_split is_tag_name_byte (d ∷ x)) u.0 _ refl
+                      u.1
                   | inr u ↦ absurd (let z = u.1 in cc)
                 ]
           ]
@@ -675,7 +712,8 @@ module _ (rules : Rules) (outer : Context) where
       no_title_here i = test (holds_text_alone rules.scripting f.name) (λ t. absurd (let w = rw (t, i) at m in cc))
           (λ t. t)
 
-  pub sound_any : (f : OpenElement) (gs : List OpenElement) (s rest : List ℕ) (st : State) → IsConf (f ∷ gs) s rest
+  pub sound_any : (f : OpenElement) (gs : List OpenElement) (s rest : List ℕ) (st : State)
+      → IsConf (f ∷ gs) s rest
       → ends_text rules.scripting f.name rest ≡ true → markup_step rules outer (f ∷ gs) (drop 1 rest) ≡ Ok st
       → Takes s rest st
   sound_any f gs s [] st c m e = let h = stop_head rules.scripting f.name [] m in absurd (let z = h.1 in cc)

@@ -79,7 +79,8 @@ module _ (rules : Rules) (f : OpenElement) (gs : List OpenElement) where
 
   -- ---- text
 
-  text_passed : (k b : ℕ) (s v : List ℕ) (m : ℕ) → k ≤ 15 → ends_text rules.scripting f.name (b ∷ s) ≡ false
+  text_passed : (k b : ℕ) (s v : List ℕ) (m : ℕ) → k ≤ 15
+      → ends_text rules.scripting f.name (b ∷ s) ≡ false
       → holds_raw_text rules.scripting f.name ≡ false → piece_at rules.names b s ≡ stands m v
       → (12 < k → (holds_parts f.name && not (list_all is_ascii_white_space v)) ≡ false)
       → TextPassed rules (f ∷ gs) k b s
@@ -96,9 +97,11 @@ module _ (rules : Rules) (f : OpenElement) (gs : List OpenElement) where
       stands_parts : (m n : ℕ) (v x : List ℕ) → stands m v ≡ stands n x → v ≡ x
       stands_parts m n v x e = cc
 
-  character_faulty : (b : ℕ) (s run : List ℕ) (k : FaultKind) → ends_text rules.scripting f.name (b ∷ s) ≡ false
+  character_faulty : (b : ℕ) (s run : List ℕ) (k : FaultKind)
+      → ends_text rules.scripting f.name (b ∷ s) ≡ false
       → holds_raw_text rules.scripting f.name ≡ false
-      → (o : Piece) → piece_at rules.names b s ≡ o → character_step rules above_body (f ∷ gs) run s o ≡ Err k
+      → (o : Piece) → piece_at rules.names b s ≡ o
+      → character_step rules above_body (f ∷ gs) run s o ≡ Err k
       → IsRight (b ∷ s) k
   character_faulty b s run k t r (wrong l) q e = right_of (b ∷ s) l k e (go (piece_wrong rules.names b s l q))
     where
@@ -162,7 +165,8 @@ module _ (rules : Rules) (f : OpenElement) (gs : List OpenElement) where
 
   -- text without references
   pub raw_faulty : (rest : List ℕ) (k : FaultKind) → is_empty rest ≡ false
-      → ends_text rules.scripting f.name rest ≡ false → holds_raw_text rules.scripting f.name ≡ true → f.children ≡ none
+      → ends_text rules.scripting f.name rest ≡ false → holds_raw_text rules.scripting f.name ≡ true
+      → f.children ≡ none
       → (o : Option (List ℕ)) → text_of rules f.name (up_to (ends_text rules.scripting f.name) rest) ≡ o
       → raw_text_step rules above_body (f ∷ gs) o (onward (ends_text rules.scripting f.name) rest) ≡ Err k
       → IsRight rest k
@@ -201,7 +205,8 @@ module _ (rules : Rules) (f : OpenElement) (gs : List OpenElement) where
   comment_faulty : (w : List ℕ) (k : FaultKind)
       → ends_text rules.scripting f.name (less_than_sign ∷ exclamation_mark ∷ w) ≡ true
       → begins_with (codes "--") w ≡ true
-      → (o : Option (List ℕ × List ℕ)) → before_comment_end (drop 2 w) ≡ o → comment_step rules above_body (f ∷ gs) o
+      → (o : Option (List ℕ × List ℕ)) → before_comment_end (drop 2 w) ≡ o
+      → comment_step rules above_body (f ∷ gs) o
       ≡ Err k → IsRight (less_than_sign ∷ exclamation_mark ∷ w) k
   comment_faulty w k m b None q e = right_of (less_than_sign ∷ exclamation_mark ∷ w) MalformedComment k e (
     (m, b, λ h. let c = comment_is_read exclamation_mark w h in let z = sym q ∙ c.4 in cc),
@@ -222,7 +227,8 @@ module _ (rules : Rules) (f : OpenElement) (gs : List OpenElement) where
           (
             m,
             b,
-            λ h. let c = comment_is_read exclamation_mark w h in let z : cut (p.0) (p.1) ≡ cut c.2 c.3 = sym q ∙ c.4 in
+            λ h. let c = comment_is_read exclamation_mark w h in let z : cut (p.0) (p.1) ≡ cut c.2 c.3 =
+                sym q ∙ c.4 in
                 let y = (cut_same (p.0) (p.1) c.2 c.3 z).0 in not_both (is_comment_text p.0) (ap is_comment_text y
                 ∙ c.5) u.0,
           ),
@@ -244,18 +250,22 @@ module _ (rules : Rules) (f : OpenElement) (gs : List OpenElement) where
 
   declaration_faulty : (w : List ℕ) (k : FaultKind)
       → ends_text rules.scripting f.name (less_than_sign ∷ exclamation_mark ∷ w) ≡ true
-      → declaration_step rules above_body (f ∷ gs) w ≡ Err k → IsRight (less_than_sign ∷ exclamation_mark ∷ w) k
+      → declaration_step rules above_body (f ∷ gs) w ≡ Err k
+      → IsRight (less_than_sign ∷ exclamation_mark ∷ w) k
   declaration_faulty w k m e =
       elim (if_then (begins_with (codes "--") w)
-      (comment_step rules above_body (f ∷ gs) (before_comment_end (drop 2 w))) (fault MalformedDeclaration) (Err k) e) [
+      (comment_step rules above_body (f ∷ gs) (before_comment_end (drop 2 w)))
+      (fault MalformedDeclaration) (Err k) e) [
         | inl u ↦ comment_faulty w k m u.0 (before_comment_end (drop 2 w)) refl u.1
         | inr u ↦ right_of (less_than_sign ∷ exclamation_mark ∷ w) MalformedDeclaration k u.1 (
           (m, inr (refl, u.0)),
-          none_below_five rules (f ∷ gs) 4 (less_than_sign ∷ exclamation_mark ∷ w) (omega arith) (λ _. refl) (λ _. u.0),
+          none_below_five rules (f ∷ gs) 4 (less_than_sign ∷ exclamation_mark ∷ w) (omega arith) (λ _. refl)
+              (λ _. u.0),
         )
       ]
 
-  question_faulty : (w : List ℕ) (k : FaultKind) → ends_text rules.scripting f.name (less_than_sign ∷ question_mark ∷ w)
+  question_faulty : (w : List ℕ) (k : FaultKind)
+      → ends_text rules.scripting f.name (less_than_sign ∷ question_mark ∷ w)
       ≡ true
       → fault MalformedDeclaration ≡ Err k → IsRight (less_than_sign ∷ question_mark ∷ w) k
   question_faulty w k m e = right_of (less_than_sign ∷ question_mark ∷ w) MalformedDeclaration k e (
@@ -266,7 +276,8 @@ module _ (rules : Rules) (f : OpenElement) (gs : List OpenElement) where
 
   -- ---- end tags
 
-  close_faulty : (w n x : List ℕ) (k : FaultKind) → ends_text rules.scripting f.name (less_than_sign ∷ slash ∷ w) ≡ true
+  close_faulty : (w n x : List ℕ) (k : FaultKind)
+      → ends_text rules.scripting f.name (less_than_sign ∷ slash ∷ w) ≡ true
       → HasEndTag (less_than_sign ∷ slash ∷ w) n → is_outside n ≡ false → name_read w ≡ n
       → close_step rules above_body (f ∷ gs) n x
       ≡ Err k → IsRight (less_than_sign ∷ slash ∷ w) k
@@ -275,7 +286,8 @@ module _ (rules : Rules) (f : OpenElement) (gs : List OpenElement) where
     none_below_end rules (f ∷ gs) 11 w n (omega arith) (λ _. h) (λ _. ap is_outside r ∙ o) m,
   )
     where
-      stray : (hs : List OpenElement) → close_step rules above_body (f ∷ hs) n x ≡ Err k → fault StrayEndTag ≡ Err k
+      stray : (hs : List OpenElement) → close_step rules above_body (f ∷ hs) n x ≡ Err k
+          → fault StrayEndTag ≡ Err k
       stray [] e = e
       stray (g ∷ hs) e = elim (if_then (bytes_eq f.name n) _ (fault StrayEndTag) (Err k) e) [
         | inl u ↦
@@ -291,7 +303,8 @@ module _ (rules : Rules) (f : OpenElement) (gs : List OpenElement) where
         | inr u ↦ inl (λ q. not_both (bytes_eq f.name n) (rw q (bytes_same n)) u.0)
       ]
 
-  end_faulty : (w : List ℕ) (k : FaultKind) → ends_text rules.scripting f.name (less_than_sign ∷ slash ∷ w) ≡ true
+  end_faulty : (w : List ℕ) (k : FaultKind)
+      → ends_text rules.scripting f.name (less_than_sign ∷ slash ∷ w) ≡ true
       → end_tag_step rules above_body (f ∷ gs) w ≡ Err k → IsRight (less_than_sign ∷ slash ∷ w) k
   end_faulty w k m e = elim (if_then (is_tag_name (leading_run is_tag_name_byte w))
       (name_step rules above_body (f ∷ gs) (name_read w) (behind_run is_tag_name_byte w)) (fault MalformedTag)
@@ -342,7 +355,8 @@ module _ (rules : Rules) (f : OpenElement) (gs : List OpenElement) where
     called : is_tag_name (leading_run is_tag_name_byte (d ∷ w)) ≡ true
     reads_so : form_read_behind (d ∷ w) ≡ form spelled present x
 
-  tag_has : (d : ℕ) (w x : List ℕ) (spelled : List AttributePair) (present : Bool) → TagThere d w x spelled present
+  tag_has : (d : ℕ) (w x : List ℕ) (spelled : List AttributePair) (present : Bool)
+      → TagThere d w x spelled present
       → HasTagForm (less_than_sign ∷ d ∷ w) (name_read (d ∷ w)) spelled present
   tag_has d w x spelled present t =
       let name : List ℕ = leading_run is_tag_name_byte (d ∷ w) in
@@ -362,7 +376,8 @@ module _ (rules : Rules) (f : OpenElement) (gs : List OpenElement) where
       → (7 < k → are_distinct (attribute_names spelled) ≡ true)
       → (8 < k → present ≡ true → is_void (name_read (d ∷ w)) ≡ true)
       → (9 < k → is_outside (name_read (d ∷ w)) ≡ false)
-      → (10 < k → is_allowed rules.scripting (context_for rules (f ∷ gs) (less_than_sign ∷ d ∷ w) (name_read (d ∷ w)))
+      → (10 < k → is_allowed rules.scripting
+      (context_for rules (f ∷ gs) (less_than_sign ∷ d ∷ w) (name_read (d ∷ w)))
       (name_read (d ∷ w)) ≡ true)
       → NoneBelow rules (f ∷ gs) k (less_than_sign ∷ d ∷ w)
   passed d w x spelled present t k u a b c v o l =
@@ -403,7 +418,8 @@ module _ (rules : Rules) (f : OpenElement) (gs : List OpenElement) where
   open_faulty : (d : ℕ) (w x : List ℕ) (spelled attributes : List AttributePair) (present : Bool) (k : FaultKind)
       (hs : List OpenElement) → TagThere d w x spelled present → TagRight (name_read (d ∷ w)) spelled present
       → context_for rules (f ∷ gs) (less_than_sign ∷ d ∷ w) (name_read (d ∷ w)) ≡ names_of above_body hs
-      → open_step rules above_body hs (name_read (d ∷ w)) attributes x ≡ Err k → IsRight (less_than_sign ∷ d ∷ w) k
+      → open_step rules above_body hs (name_read (d ∷ w)) attributes x ≡ Err k
+      → IsRight (less_than_sign ∷ d ∷ w) k
   open_faulty d w x spelled attributes present k hs t r c e =
       elim (if_then (not (is_allowed rules.scripting (names_of above_body hs) (name_read (d ∷ w))))
       (fault NotAllowedHere) _ (Err k) e) [
@@ -465,13 +481,16 @@ module _ (rules : Rules) (f : OpenElement) (gs : List OpenElement) where
                   subst (λ (z : Context). rules.depth < length z) (sym (row_context p.0 p.1))
                       (let l = deep_less rules.depth (length Here) y.0 in omega arith),
                 ),
-                passed d w x spelled present t 15 (omega arith) (λ _. r.known) (λ _. r.right_numbers) (λ _. r.distinct)
+                passed d w x spelled present t 15 (omega arith) (λ _. r.known) (λ _. r.right_numbers)
+                    (λ _. r.distinct)
                     (λ _. r.may_close) (λ _. r.inside)
-                    (λ _. ap (λ (z : Context). is_allowed rules.scripting z (name_read (d ∷ w))) (row_context p.0 p.1)
+                    (λ _. ap (λ (z : Context). is_allowed rules.scripting z (name_read (d ∷ w)))
+                    (row_context p.0 p.1)
                     ∙ (ap (is_allowed rules.scripting (codes "tbody" ∷ Here))
                     (one_name (codes "tr") (name_read (d ∷ w)) p.0) ∙ row_fits rules.scripting Here)),
               )
-              | inr y ↦ open_faulty d w x spelled attributes present k (fresh (codes "tbody") [] true ∷ f ∷ gs) t r
+              | inr y ↦ open_faulty d w x spelled attributes present k (fresh (codes "tbody") [] true ∷ f ∷ gs) t
+                  r
                   (row_context p.0 p.1) y.1
             ]
         | inr u ↦ open_faulty d w x spelled attributes present k (f ∷ gs) t r (plain_context u.0) u.1
@@ -486,7 +505,8 @@ module _ (rules : Rules) (f : OpenElement) (gs : List OpenElement) where
       plain_context a = rw (or_right (bytes_eq f.name (codes "table")), a) refl
 
   values_faulty : (d : ℕ) (w x : List ℕ) (spelled : List AttributePair) (present : Bool) (k : FaultKind)
-      → TagThere d w x spelled present → list_any (λ a. has_unknown_reference rules.names a.value) spelled ≡ false
+      → TagThere d w x spelled present
+      → list_any (λ a. has_unknown_reference rules.names a.value) spelled ≡ false
       → (o : Option (List AttributePair)) → decode_values rules.names spelled ≡ o
       → values_step rules above_body (f ∷ gs) (name_read (d ∷ w)) spelled present x o ≡ Err k
       → IsRight (less_than_sign ∷ d ∷ w) k
@@ -552,12 +572,15 @@ module _ (rules : Rules) (f : OpenElement) (gs : List OpenElement) where
       b : list_any (λ a. has_bad_number rules.names a.value) spelled ≡ false
       b = values_right rules.names spelled attributes q
 
-  form_faulty : (d : ℕ) (w : List ℕ) (k : FaultKind) → ends_text rules.scripting f.name (less_than_sign ∷ d ∷ w) ≡ true
+  form_faulty : (d : ℕ) (w : List ℕ) (k : FaultKind)
+      → ends_text rules.scripting f.name (less_than_sign ∷ d ∷ w) ≡ true
       → is_ascii_alphabetic d ≡ true → is_tag_name (leading_run is_tag_name_byte (d ∷ w)) ≡ true
-      → (o : TagForm) → form_read_behind (d ∷ w) ≡ o → form_step rules above_body (f ∷ gs) (name_read (d ∷ w)) o ≡ Err k
+      → (o : TagForm) → form_read_behind (d ∷ w) ≡ o
+      → form_step rules above_body (f ∷ gs) (name_read (d ∷ w)) o ≡ Err k
       → IsRight (less_than_sign ∷ d ∷ w) k
   form_faulty d w k m a i no_form q e =
-      right_of (less_than_sign ∷ d ∷ w) MalformedTag k e (malformed_tag d w m a (λ n spelled present h. let z = sym q
+      right_of (less_than_sign ∷ d ∷ w) MalformedTag k e
+      (malformed_tag d w m a (λ n spelled present h. let z = sym q
       ∙ (form_is_read (d ∷ w) n spelled present h).3 in cc))
   form_faulty d w k m a i (form spelled present x) q e =
       elim (if_then (list_any (λ a. has_unknown_reference rules.names a.value) spelled) (fault UnknownReference) _
@@ -574,7 +597,8 @@ module _ (rules : Rules) (f : OpenElement) (gs : List OpenElement) where
       there : TagThere d w x spelled present
       there = record { markup = m; letter = a; called = i; reads_so = q }
 
-  start_faulty : (d : ℕ) (w : List ℕ) (k : FaultKind) → ends_text rules.scripting f.name (less_than_sign ∷ d ∷ w) ≡ true
+  start_faulty : (d : ℕ) (w : List ℕ) (k : FaultKind)
+      → ends_text rules.scripting f.name (less_than_sign ∷ d ∷ w) ≡ true
       → is_ascii_alphabetic d ≡ true → start_tag_step rules above_body (f ∷ gs) (d ∷ w) ≡ Err k
       → IsRight (less_than_sign ∷ d ∷ w) k
   start_faulty d w k m a e =
@@ -583,7 +607,8 @@ module _ (rules : Rules) (f : OpenElement) (gs : List OpenElement) where
       (Err k) e) [
         | inl u ↦ form_faulty d w k m a u.0 (form_read_behind (d ∷ w)) refl u.1
         | inr u ↦ right_of (less_than_sign ∷ d ∷ w) MalformedTag k u.1
-            (malformed_tag d w m a (λ n spelled present h. not_both _ (form_is_read (d ∷ w) n spelled present h).0 u.0))
+            (malformed_tag d w m a (λ n spelled present h. not_both _ (form_is_read (d ∷ w) n spelled present h).0
+            u.0))
       ]
 
   -- ---- all of them
@@ -598,21 +623,26 @@ module _ (rules : Rules) (f : OpenElement) (gs : List OpenElement) where
       only_letter true e = refl
       only_letter false e = absurd (cc)
 
-  markup_faulty_at : (d : ℕ) (w : List ℕ) (k : FaultKind) → ends_text rules.scripting f.name (less_than_sign ∷ d ∷ w)
+  markup_faulty_at : (d : ℕ) (w : List ℕ) (k : FaultKind)
+      → ends_text rules.scripting f.name (less_than_sign ∷ d ∷ w)
       ≡ true
       → markup_step rules above_body (f ∷ gs) (d ∷ w) ≡ Err k → IsRight (less_than_sign ∷ d ∷ w) k
   markup_faulty_at d w k m e = elim (if_then (d == slash) (end_tag_step rules above_body (f ∷ gs) w) _ (Err k) e) [
     | inl u ↦ (let i = same_byte d slash u.0 in subst (λ (y : ℕ). IsRight (less_than_sign ∷ y ∷ w) k) (sym i)
-        (end_faulty w k (subst (λ (y : ℕ). ends_text rules.scripting f.name (less_than_sign ∷ y ∷ w) ≡ true) i m) u.1))
+        (end_faulty w k (subst (λ (y : ℕ). ends_text rules.scripting f.name (less_than_sign ∷ y ∷ w) ≡ true) i
+        m) u.1))
     | inr u ↦ elim (if_then (d == exclamation_mark) (declaration_step rules above_body (f ∷ gs) w) _ (Err k) u.1) [
-      | inl y ↦ (let i = same_byte d exclamation_mark y.0 in subst (λ (z : ℕ). IsRight (less_than_sign ∷ z ∷ w) k)
+      | inl y ↦ (let i =
+          same_byte d exclamation_mark y.0 in subst (λ (z : ℕ). IsRight (less_than_sign ∷ z ∷ w) k)
           (sym i)
-          (declaration_faulty w k (subst (λ (z : ℕ). ends_text rules.scripting f.name (less_than_sign ∷ z ∷ w) ≡ true) i
+          (declaration_faulty w k (subst
+          (λ (z : ℕ). ends_text rules.scripting f.name (less_than_sign ∷ z ∷ w) ≡ true) i
           m) y.1))
       | inr y ↦ elim (if_then (d == question_mark) (fault MalformedDeclaration)
           (start_tag_step rules above_body (f ∷ gs) (d ∷ w))
           (Err k) y.1) [
-            | inl z ↦ (let i = same_byte d question_mark z.0 in subst (λ (v : ℕ). IsRight (less_than_sign ∷ v ∷ w) k)
+            | inl z ↦ (let i =
+                same_byte d question_mark z.0 in subst (λ (v : ℕ). IsRight (less_than_sign ∷ v ∷ w) k)
                 (sym i)
                 (question_faulty w k (subst (λ (v : ℕ). ends_text rules.scripting f.name (less_than_sign ∷ v ∷ w)
                 ≡ true) i m) z.1))

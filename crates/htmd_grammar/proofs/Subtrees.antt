@@ -38,7 +38,8 @@ module _ (rules : Rules) (d : Context) (k : List ℕ) (attributes : List Attribu
       go : ((tag inner end : List ℕ) × (s ≡ tag ++ (inner ++ end)) × IsStartTag rules.names tag n as_
           × MatchBool (is_void n) ((inner ≡ []) × (end ≡ []) × (ks ≡ none))
           (ReadsForest rules (n ∷ c) true ks (content_of n inner) × IsEndTag end n))
-          ⊎ ((inner end : List ℕ) × (s ≡ inner ++ end) × (is_tbody n ≡ true) × (as_ ≡ []) × (begins_with_row ks ≡ true)
+          ⊎ ((inner end : List ℕ) × (s ≡ inner ++ end) × (is_tbody n ≡ true) × (as_ ≡ [])
+          × (begins_with_row ks ≡ true)
           × ReadsForest rules (n ∷ c) true ks inner × (IsEndTag end n ⊎ ((end ≡ []) × (l ≡ true)))) → Read
       go (inl w) = test (is_void n)
           (λ v. let e = rw v at w.5 in absurd (nothing_in ks e.2 i))
@@ -46,7 +47,8 @@ module _ (rules : Rules) (d : Context) (k : List ℕ) (attributes : List Attribu
       go (inr w) = ih w.0 w.6 i
 
   mutual
-    node_in : (t : ValueTree) (c : Context) (l : Bool) (s : List ℕ) → ReadsTree rules c l t s → IsIn c t d Sought → Read
+    node_in : (t : ValueTree) (c : Context) (l : Bool) (s : List ℕ) → ReadsTree rules c l t s → IsIn c t d Sought
+        → Read
     node_in (document as_) c l s h i = absurd i
     node_in doctype c l s h i = absurd i
     node_in (text u) c l s h i = absurd (let e = i.1 in cc)
@@ -57,7 +59,8 @@ module _ (rules : Rules) (d : Context) (k : List ℕ) (attributes : List Attribu
       subst (λ (t : ValueTree). ReadsTree rules d l t s) (sym i.1)
           (subst (λ (x : Context). ReadsTree rules x l (element n as_ ks) s) (sym i.0) h),
     )
-    node_in (element n as_ ks) c l s h (inr i) = element_holds c l n as_ ks s (λ y g j. nodes_in ks (n ∷ c) true y g j)
+    node_in (element n as_ ks) c l s h (inr i) =
+        element_holds c l n as_ ks s (λ y g j. nodes_in ks (n ∷ c) true y g j)
         h i
 
     pub nodes_in : (ts : ValueForest) (c : Context) (l : Bool) (s : List ℕ) → ReadsForest rules c l ts s
@@ -71,7 +74,8 @@ module _ (rules : Rules) (d : Context) (k : List ℕ) (attributes : List Attribu
   alone x h = (x, [], sym (append-nil x), tt, h, refl)
 
   -- law 1 and law 2 at once: the serialisation, with references in place of some line feeds, is read as the node
-  pub referred_back : HasEscapes rules.names → (c : Context) (s x : List ℕ) (ts : ValueForest) → reads rules c s ts
+  pub referred_back : HasEscapes rules.names → (c : Context) (s x : List ℕ) (ts : ValueForest)
+      → reads rules c s ts
       → AreIn c ts d Sought → is_plain Sought ≡ true
       → RefersToLineFeeds (serialisation Sought) x → reads rules d x (more Sought none)
   referred_back has c s x ts h i p r =

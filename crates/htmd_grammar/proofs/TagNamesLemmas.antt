@@ -31,7 +31,8 @@ letter_lower b h = by_lower (λ x y. is_ascii_alphabetic y ≡ true) b (λ e. gr
 name_byte_lower : (b : ℕ) → is_tag_name_byte b ≡ true → is_tag_name_byte (to_ascii_lowercase b) ≡ true
 name_byte_lower b h = by_lower (λ x y. is_tag_name_byte y ≡ true) b (λ e. grind (arith, nat_tests)) (λ e. h)
 
-all_lower : (p : ℕ → Bool) (w : List ℕ) → ((b : ℕ) → p b ≡ true → p (to_ascii_lowercase b) ≡ true) → list_all p w ≡ true
+all_lower : (p : ℕ → Bool) (w : List ℕ) → ((b : ℕ) → p b ≡ true → p (to_ascii_lowercase b) ≡ true)
+    → list_all p w ≡ true
     → list_all p (map to_ascii_lowercase w) ≡ true
 all_lower p [] h e = refl
 all_lower p (b ∷ w) h e = let k = and_true (p b) (list_all p w) e in rw (h b k.0, all_lower p w h k.1) refl
@@ -42,7 +43,8 @@ is_name-lower [] e = absurd (cc)
 is_name-lower (b ∷ w) e = let k = and_true (is_ascii_alphabetic b) (list_all is_tag_name_byte w) e in
     rw (letter_lower b k.0, all_lower is_tag_name_byte w name_byte_lower k.1) refl
 
-key_byte_lower : (b : ℕ) → is_attribute_name_byte b ≡ true → is_attribute_name_byte (to_ascii_lowercase b) ≡ true
+key_byte_lower : (b : ℕ) → is_attribute_name_byte b ≡ true
+    → is_attribute_name_byte (to_ascii_lowercase b) ≡ true
 key_byte_lower b h = by_lower (λ x y. is_attribute_name_byte y ≡ true) b (λ e. grind (arith, nat_tests)) (λ e. h)
 
 lead_lower : (b : ℕ) → (to_ascii_lowercase b == 0xC2) ≡ (b == 0xC2)
@@ -69,7 +71,8 @@ is_empty-lower [] = refl
 is_empty-lower (b ∷ w) = refl
 
 -- the same for the name of an attribute
-pub is_key-lower : (w : List ℕ) → is_attribute_name w ≡ true → is_attribute_name (map to_ascii_lowercase w) ≡ true
+pub is_key-lower : (w : List ℕ) → is_attribute_name w ≡ true
+    → is_attribute_name (map to_ascii_lowercase w) ≡ true
 is_key-lower w e =
     let p = and_true (not (is_empty w) && list_all is_attribute_name_byte w) (not (holds_control w)) e in
     let q = and_true (not (is_empty w)) (list_all is_attribute_name_byte w) p.0 in

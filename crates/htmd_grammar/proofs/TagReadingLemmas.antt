@@ -80,13 +80,15 @@ key_bytes key e = let p = and_true (not (is_empty key) && list_all is_attribute_
 key_no_white : (b : ℕ) → is_attribute_name_byte b ≡ true → is_ascii_white_space b ≡ false
 key_no_white b e = grind (arith, nat_tests)
 
-key_not : (b : ℕ) → is_attribute_name_byte b ≡ true → ((b == 62) ≡ false) × ((b == 47) ≡ false) × ((b == 61) ≡ false)
+key_not : (b : ℕ) → is_attribute_name_byte b ≡ true → ((b == 62) ≡ false) × ((b == 47) ≡ false)
+    × ((b == 61) ≡ false)
 key_not b e = (grind (arith, nat_tests), grind (arith, nat_tests), grind (arith, nat_tests))
 
 white_no_key : (b : ℕ) → is_ascii_white_space b ≡ true → is_attribute_name_byte b ≡ false
 white_no_key b e = grind (arith, nat_tests)
 
-bare_no_white : (b : ℕ) → is_unquoted_byte b ≡ true → (is_ascii_white_space b ≡ false) × ((b == 34) ≡ false)
+bare_no_white : (b : ℕ) → is_unquoted_byte b ≡ true
+    → (is_ascii_white_space b ≡ false) × ((b == 34) ≡ false)
     × ((b == 39) ≡ false)
 bare_no_white b e = (grind (arith, nat_tests), grind (arith, nat_tests), grind (arith, nat_tests))
 
@@ -98,13 +100,15 @@ gap_halts (b ∷ gap) r n l = let k = and_true (is_ascii_white_space b) (list_al
     rw (white_no_key b k.0) refl
 
 -- white space, then `=` at once
-eq_halts : (one r : List ℕ) → list_all is_ascii_white_space one ≡ true → halts is_attribute_name_byte (one ++ (61 ∷ r))
+eq_halts : (one r : List ℕ) → list_all is_ascii_white_space one ≡ true
+    → halts is_attribute_name_byte (one ++ (61 ∷ r))
     ≡ true
 eq_halts [] r l = refl
 eq_halts (b ∷ one) r l = let k = and_true (is_ascii_white_space b) (list_all is_ascii_white_space one) l in
     rw (white_no_key b k.0) refl
 
-pub white_back : (gap r : List ℕ) → list_all is_ascii_white_space gap ≡ true → halts is_ascii_white_space r ≡ true
+pub white_back : (gap r : List ℕ) → list_all is_ascii_white_space gap ≡ true
+    → halts is_ascii_white_space r ≡ true
     → behind_run is_ascii_white_space (gap ++ r) ≡ r
 white_back gap r l h = (front_cut is_ascii_white_space gap r l h).1
 
@@ -115,7 +119,8 @@ key_halts (b ∷ key) r e =
     let k = and_true (is_attribute_name_byte b) (list_all is_attribute_name_byte key) (key_bytes (b ∷ key) e) in
     (rw (key_no_white b k.0) refl, (key_not b k.0).2)
 
-gap_and_rest : (gap r : List ℕ) → list_all is_ascii_white_space gap ≡ true → halts is_ascii_white_space r ≡ true
+gap_and_rest : (gap r : List ℕ) → list_all is_ascii_white_space gap ≡ true
+    → halts is_ascii_white_space r ≡ true
     → first_is 61 r ≡ false → (gap ≡ [] → halts is_attribute_name_byte r ≡ true)
     → (halts is_attribute_name_byte (gap ++ r) ≡ true) × (first_is 61 (behind_run is_ascii_white_space (gap ++ r))
     ≡ false)
@@ -123,7 +128,8 @@ gap_and_rest [] r l h q k = (k refl, ap (first_is 61) (white_back [] r l h) ∙ 
 gap_and_rest (b ∷ gap) r l h q k =
     (gap_halts (b ∷ gap) r (λ z. let w = z in cc) l, ap (first_is 61) (white_back (b ∷ gap) r l h) ∙ q)
 
-spell_quoted : (q : ℕ) (one two body r x : List ℕ) → (((one ++ (61 ∷ two)) ++ (q ∷ (body ++ q ∷ []))) ++ r) ++ x ≡ one
+spell_quoted : (q : ℕ) (one two body r x : List ℕ)
+    → (((one ++ (61 ∷ two)) ++ (q ∷ (body ++ q ∷ []))) ++ r) ++ x ≡ one
     ++ (61 ∷ (two ++ (q ∷ (body ++ (q ∷ (r ++ x))))))
 spell_quoted q one two body r x =
     append_assoc ((one ++ (61 ∷ two)) ++ (q ∷ (body ++ q ∷ []))) r x
@@ -186,8 +192,10 @@ rest_full (a ∷ attributes) present s h e = begun h.0 (h.1 ++ (h.2 ++ h.3)) h.5
 
 -- the tag goes on with no name and no `=`
 pub rest_halts : (attributes : List AttributePair) (present : Bool) (s x : List ℕ) → IsTagRest attributes present s
-    → (halts is_attribute_name_byte (s ++ x) ≡ true) × (first_is 61 (behind_run is_ascii_white_space (s ++ x)) ≡ false)
-rest_halts [] false s x h = rw (h.1, append_assoc h.0 (62 ∷ []) x) (gap_and_rest h.0 (62 ∷ x) h.2 refl refl (λ q. refl))
+    → (halts is_attribute_name_byte (s ++ x) ≡ true)
+    × (first_is 61 (behind_run is_ascii_white_space (s ++ x)) ≡ false)
+rest_halts [] false s x h =
+    rw (h.1, append_assoc h.0 (62 ∷ []) x) (gap_and_rest h.0 (62 ∷ x) h.2 refl refl (λ q. refl))
 rest_halts [] true s x h = rw (h.1, append_assoc h.0 (47 ∷ 62 ∷ []) x)
     (gap_and_rest h.0 (47 ∷ 62 ∷ x) h.2 refl refl (λ q. refl))
 rest_halts (a ∷ attributes) present s x h =
@@ -214,7 +222,8 @@ key_valued key value r x v (inr (inr h)) n q =
     let f = front_whole is_unquoted_byte v r h.4 in
     let w = valued_bare key v (r ++ x) h.3 f.0 (halts_append is_unquoted_byte r x n f.1) in
     let e : (value ++ r) ++ x ≡ (h.2).0 ++ (61 ∷ ((h.2).1 ++ (v ++ (r ++ x)))) =
-    ap (λ (y : List ℕ). (y ++ r) ++ x) (h.1 ∙ ap (λ (y : List ℕ). y ++ v) (h.2).2) ∙ spell_bare (h.2).0 (h.2).1 v r x in
+    ap (λ (y : List ℕ). (y ++ r) ++ x) (h.1 ∙ ap (λ (y : List ℕ). y ++ v) (h.2).2)
+    ∙ spell_bare (h.2).0 (h.2).1 v r x in
     ap (behind_attribute_name key) e ∙ (after_equals key (h.2).0 (h.2).1 (v ++ (r ++ x)) (h.2).3 (h.2).4 w.0 ∙ w.1)
 
 value_halts : (value r x v : List ℕ) → IsValue value r v → halts is_attribute_name_byte (r ++ x) ≡ true
@@ -247,7 +256,8 @@ attr_lexes a attributes present s x h =
     let v = key_valued h.1 h.2 h.3 x a.value h.9 (rest_full attributes present h.3 h.10) r.1 in
     let g : not (is_empty h.0) ≡ true = ap not (filled h.0 h.5) in
     let e : s ++ x ≡ h.0 ++ (h.1 ++ y) = ap (λ (z : List ℕ). z ++ x) h.4
-    ∙ (append_assoc h.0 (h.1 ++ (h.2 ++ h.3)) x ∙ ap (λ (z : List ℕ). h.0 ++ z) (append_assoc h.1 (h.2 ++ h.3) x))
+    ∙ (append_assoc h.0 (h.1 ++ (h.2 ++ h.3)) x
+    ∙ ap (λ (z : List ℕ). h.0 ++ z) (append_assoc h.1 (h.2 ++ h.3) x))
     in
     ap next_part e ∙ (lex_gap h.0 (h.1 ++ y) h.6 k.0
     ∙ (ap (λ (z : Bool). behind_gap z (h.1 ++ y)) g ∙ (key_lexes h.1 y h.7 (value_halts h.2 h.3 x a.value h.9 r.0)

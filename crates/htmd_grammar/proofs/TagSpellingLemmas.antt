@@ -25,12 +25,15 @@ at_head b (c ∷ s) e = ap (λ (x : ℕ). x ∷ s) (same_byte c b e)
 abbrev pub Spelt : List ℕ → List ℕ → List ℕ → Type 0
 Spelt value body rest =
     ((value ≡ []) × (body ≡ []))
-    ⊎ ((eq : List ℕ) × (q : ℕ) × (value ≡ eq ++ (q ∷ (body ++ q ∷ []))) × IsEqualsSign eq × ((q ≡ 34) ⊎ (q ≡ 39))
+    ⊎ ((eq : List ℕ) × (q : ℕ) × (value ≡ eq ++ (q ∷ (body ++ q ∷ []))) × IsEqualsSign eq
+    × ((q ≡ 34) ⊎ (q ≡ 39))
     × (lacks q body ≡ true))
-    ⊎ ((eq : List ℕ) × (value ≡ eq ++ body) × IsEqualsSign eq × (body ≢ []) × (list_all is_unquoted_byte body ≡ true)
+    ⊎ ((eq : List ℕ) × (value ≡ eq ++ body) × IsEqualsSign eq × (body ≢ [])
+    × (list_all is_unquoted_byte body ≡ true)
     × (halts is_unquoted_byte rest ≡ true))
 
-more_same : (k b r k2 b2 r2 : List ℕ) → attribute k b r ≡ attribute k2 b2 r2 → (k ≡ k2) × (b ≡ b2) × (r ≡ r2)
+more_same : (k b r k2 b2 r2 : List ℕ) → attribute k b r ≡ attribute k2 b2 r2
+    → (k ≡ k2) × (b ≡ b2) × (r ≡ r2)
 more_same k b r k2 b2 r2 e = (cc, cc, cc)
 
 not_empty : (s : List ℕ) → is_empty s ≡ false → s ≢ []
@@ -109,7 +112,8 @@ valued_spelled key s t key2 body rest eq e q h =
         let b = quoted_spelled m key (drop 1 t) key2 body rest z in
         let f : t ≡ m ∷ (body ++ (m ∷ rest)) = at_head m t a ∙ ap (λ (y : List ℕ). m ∷ y) b.1 in
         let g : s ≡ (eq ++ (m ∷ (body ++ m ∷ []))) ++ rest =
-        e ∙ (ap (λ (y : List ℕ). eq ++ y) (f ∙ ap (λ (y : List ℕ). m ∷ y) (sym (append_assoc body (m ∷ []) rest)))
+        e ∙ (ap (λ (y : List ℕ). eq ++ y)
+        (f ∙ ap (λ (y : List ℕ). m ∷ y) (sym (append_assoc body (m ∷ []) rest)))
         ∙ sym (append_assoc eq (m ∷ (body ++ m ∷ [])) rest)) in
         (b.0, eq ++ (m ∷ (body ++ m ∷ [])), g, inr (inl (eq, m, refl, q, k, b.2)))
 
@@ -170,11 +174,14 @@ gap_attribute white (b ∷ t) key body rest e =
       | inr w ↦ elim (if_then (b == 47) (behind_slash t) (KeyCase white (b ∷ t)) (attribute key body rest) w.1) [
         | inl u ↦ absurd (slashed_no t key body rest u.1)
         | inr u ↦ elim (if_then (white && is_attribute_name (leading_run is_attribute_name_byte (b ∷ t)))
-            (behind_attribute_name (leading_run is_attribute_name_byte (b ∷ t)) (behind_run is_attribute_name_byte (b ∷ t)))
+            (behind_attribute_name (leading_run is_attribute_name_byte (b ∷ t))
+            (behind_run is_attribute_name_byte (b ∷ t)))
             malformed (attribute key body rest) u.1) [
               | inl v ↦
                   let k = and_true white (is_attribute_name (leading_run is_attribute_name_byte (b ∷ t))) v.0 in
-                  let m = key_spelled (leading_run is_attribute_name_byte (b ∷ t)) (behind_run is_attribute_name_byte (b ∷ t))
+                  let m =
+                  key_spelled (leading_run is_attribute_name_byte (b ∷ t))
+                  (behind_run is_attribute_name_byte (b ∷ t))
                   key body rest v.1 in (
                     k.0,
                     subst (λ (y : List ℕ). is_attribute_name y ≡ true) m.0 k.1,
@@ -192,7 +199,8 @@ gap_attribute white (b ∷ t) key body rest e =
 not_made : (s : List ℕ) → not (is_empty s) ≡ true → s ≢ []
 not_made s e = not_empty s (not_true (is_empty s) e)
 
-pub lex_attribute : (s key body rest : List ℕ) → next_part s ≡ attribute key body rest → Attribute s key body rest
+pub lex_attribute : (s key body rest : List ℕ) → next_part s ≡ attribute key body rest
+    → Attribute s key body rest
 lex_attribute s key body rest e =
     let g = gap_attribute (not (is_empty (leading_run is_ascii_white_space s))) (behind_run is_ascii_white_space s) key
     body rest e in (
@@ -225,7 +233,8 @@ key_no_end key s x b e = test (first_is 61 (behind_run is_ascii_white_space s)) 
     valued_no key (behind_run is_ascii_white_space (drop 1 (behind_run is_ascii_white_space s))) x b w) (λ p. let w =
     rw p at e in cc)
 
-slash_end : (t x : List ℕ) (slash : Bool) → behind_slash t ≡ tag_end slash x → (t ≡ 62 ∷ x) × (slash ≡ true)
+slash_end : (t x : List ℕ) (slash : Bool) → behind_slash t ≡ tag_end slash x
+    → (t ≡ 62 ∷ x) × (slash ≡ true)
 slash_end [] x slash e = absurd (cc)
 slash_end (c ∷ t) x slash e = test (c == 62)
     (λ p. let w = rw p at e in let m = done_same true slash t x w in (rw (same_byte c 62 p, m.1) refl, sym m.0))
@@ -239,9 +248,11 @@ gap_ending white (b ∷ t) x slash e =
     (tag_end slash x) e) [
       | inl w ↦ let m = done_same false slash t x w.1 in rw (← m.0, same_byte b 62 w.0, m.1) refl
       | inr w ↦ elim (if_then (b == 47) (behind_slash t) (KeyCase white (b ∷ t)) (tag_end slash x) w.1) [
-        | inl u ↦ let z = slash_end t x slash u.1 in rw (z.1, same_byte b 47 u.0) (ap (λ (y : List ℕ). 47 ∷ y) z.0)
+        | inl u ↦ let z =
+            slash_end t x slash u.1 in rw (z.1, same_byte b 47 u.0) (ap (λ (y : List ℕ). 47 ∷ y) z.0)
         | inr u ↦ elim (if_then (white && is_attribute_name (leading_run is_attribute_name_byte (b ∷ t)))
-            (behind_attribute_name (leading_run is_attribute_name_byte (b ∷ t)) (behind_run is_attribute_name_byte (b ∷ t)))
+            (behind_attribute_name (leading_run is_attribute_name_byte (b ∷ t))
+            (behind_run is_attribute_name_byte (b ∷ t)))
             malformed (tag_end slash x) u.1) [
               | inl v ↦ absurd (key_no_end (leading_run is_attribute_name_byte (b ∷ t))
                   (behind_run is_attribute_name_byte (b ∷ t)) x slash v.1)
@@ -270,11 +281,13 @@ with_attribute_form : (key body x : List ℕ) (t : TagForm) (attributes : List A
     × (attributes ≡ record { name = map to_ascii_lowercase key; value = body } ∷ others)
 with_attribute_form key body x no_form attributes slash e = absurd (cc)
 with_attribute_form key body x (form others present s) attributes slash e =
-    let m = form_same (record { name = map to_ascii_lowercase key; value = body } ∷ others) attributes present slash s x
+    let m =
+    form_same (record { name = map to_ascii_lowercase key; value = body } ∷ others) attributes present slash s x
     e in
     (others, rw (m.1, m.2) refl, sym m.0)
 
-value_of : (value spelled rest r y : List ℕ) → Spelt value spelled rest → rest ≡ r ++ y → IsValue value r spelled
+value_of : (value spelled rest r y : List ℕ) → Spelt value spelled rest → rest ≡ r ++ y
+    → IsValue value r spelled
 value_of value spelled rest r y (inl h) q = inl h
 value_of value spelled rest r y (inr (inl h)) q = inr (inl h)
 value_of value spelled rest r y (inr (inr h)) q =
@@ -307,7 +320,8 @@ tag_spelled (suc k) s x attributes slash e =
         let m = with_attribute_form key body x (form_within k rest) attributes slash h in
         let i = ih rest m.0 m.1 in
         let a = lex_attribute s key body rest q in
-        let e : s ≡ (a.0 ++ (key ++ (a.1 ++ i.0))) ++ x = a.2 ∙ (ap (λ (y : List ℕ). a.0 ++ (key ++ (a.1 ++ y))) i.1
+        let e : s ≡ (a.0 ++ (key ++ (a.1 ++ i.0))) ++ x =
+        a.2 ∙ (ap (λ (y : List ℕ). a.0 ++ (key ++ (a.1 ++ y))) i.1
         ∙ simp append_assoc) in (
           a.0 ++ (key ++ (a.1 ++ i.0)),
           e,

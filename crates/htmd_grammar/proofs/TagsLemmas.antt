@@ -88,7 +88,8 @@ module _ (names : Names) where
       let i = refers_split before (value ++ (34 ∷ others)) x (subst (λ (y : List ℕ). RefersToLineFeeds y x) e r) in
       let j = refers_split value (34 ∷ others) i.1 i.4 in
       let l = refers_split (34 ∷ []) others j.1 j.4 in
-      let b : i.0 ≡ before = refers_plain before i.0 (lacks-append 10 a.name (61 ∷ 34 ∷ []) (key_lacks a.name k.0) refl)
+      let b : i.0 ≡ before =
+      refers_plain before i.0 (lacks-append 10 a.name (61 ∷ 34 ∷ []) (key_lacks a.name k.0) refl)
       i.3 in
       let c : l.0 ≡ 34 ∷ [] = refers_plain (34 ∷ []) l.0 refl l.3 in
       let v = value_back names has a.value j.0 q.0 j.3 in
@@ -96,10 +97,12 @@ module _ (names : Names) where
     where
       put_together : (i0 i1 j0 j1 l0 l1 : List ℕ) → x ≡ i0 ++ i1 → i1 ≡ j0 ++ j1 → j1 ≡ l0 ++ l1
           → i0 ≡ 32 ∷ (a.name ++ (61 ∷ 34 ∷ [])) → l0 ≡ 34 ∷ []
-          → decode names 0 j0 ≡ Some a.value → lacks 34 j0 ≡ true → Spells attributes l1 → Spells (a ∷ attributes) x
+          → decode names 0 j0 ≡ Some a.value → lacks 34 j0 ≡ true → Spells attributes l1
+          → Spells (a ∷ attributes) x
       put_together i0 i1 j0 j1 l0 l1 e1 e2 e3 b c d n rest =
           let spelled : x ≡ (32 ∷ []) ++ (a.name ++ ((61 ∷ (34 ∷ (j0 ++ 34 ∷ []))) ++ l1)) =
-          e1 ∙ (ap (λ (y : List ℕ). i0 ++ y) (e2 ∙ ap (λ (y : List ℕ). j0 ++ y) (e3 ∙ ap (λ (y : List ℕ). y ++ l1) c))
+          e1 ∙ (ap (λ (y : List ℕ). i0 ++ y)
+          (e2 ∙ ap (λ (y : List ℕ). j0 ++ y) (e3 ∙ ap (λ (y : List ℕ). y ++ l1) c))
           ∙ (ap (λ (y : List ℕ). y ++ (j0 ++ (34 ∷ l1))) b ∙ around a.name j0 l1)) in (
             record { name = a.name; value = j0 } ∷ rest.0,
             (

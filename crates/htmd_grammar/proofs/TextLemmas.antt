@@ -59,7 +59,8 @@ no_end_yet n b [] t l e = rw (and_false (b == 60)) refl
 no_end_yet n b (c ∷ s) t l e = test ((b == 60) && (c == 47)) (λ q. let w = rw q at e in rw q (no_end_name n s t l w))
     (λ q. rw q refl)
 
-no_markup_yet : (b : ℕ) (s t : List ℕ) → begins_markup (b ∷ s) ≡ false → begins_markup (b ∷ (s ++ (60 ∷ t))) ≡ false
+no_markup_yet : (b : ℕ) (s t : List ℕ) → begins_markup (b ∷ s) ≡ false
+    → begins_markup (b ∷ (s ++ (60 ∷ t))) ≡ false
 no_markup_yet b [] t e = and_false (b == 60)
 no_markup_yet b (c ∷ s) t e = e
 
@@ -67,7 +68,8 @@ title_lacks : (z : Bool) (n : List ℕ) → holds_text_alone z n ≡ true → la
 title_lacks z n e = text_alone_passes (lacks 60) z n e refl
 
 -- a text doesn't end earlier for what follows it
-pub stops_not : (z : Bool) (n : List ℕ) (b : ℕ) (s after : List ℕ) → Stops z n after → ends_text z n (b ∷ s) ≡ false
+pub stops_not : (z : Bool) (n : List ℕ) (b : ℕ) (s after : List ℕ) → Stops z n after
+    → ends_text z n (b ∷ s) ≡ false
     → ends_text z n (b ∷ (s ++ after)) ≡ false
 stops_not z n b s after (inl w) e = rw (w, Rattle.std.proofs.lemmas.List.append-nil s) e
 stops_not z n b s after (inr w) e =
@@ -83,7 +85,8 @@ run_head stop b s e = elim (if_then (stop (b ∷ s)) [] (b ∷ up_to stop s) (b 
   | inr w ↦ (w.0, let z = w.1 in cc)
 ]
 
-pub run_stops : (stop : List ℕ → Bool) (s : List ℕ) → stop s ≡ true → (up_to stop s ≡ []) × (onward stop s ≡ s)
+pub run_stops : (stop : List ℕ → Bool) (s : List ℕ) → stop s ≡ true
+    → (up_to stop s ≡ []) × (onward stop s ≡ s)
 run_stops stop [] e = (refl, refl)
 run_stops stop (b ∷ s) e = (rw e refl, rw e refl)
 
@@ -171,12 +174,15 @@ begins_name-lower (b ∷ name) r = rw (self (to_ascii_lowercase b)) (begins_name
     self : (b : ℕ) → (b == b) ≡ true
     self b = grind (arith, nat_tests)
 
-gap_ends : (gap x : List ℕ) → list_all is_ascii_white_space gap ≡ true → goes_on_with_name [] (gap ++ (62 ∷ x)) ≡ true
+gap_ends : (gap x : List ℕ) → list_all is_ascii_white_space gap ≡ true
+    → goes_on_with_name [] (gap ++ (62 ∷ x)) ≡ true
 gap_ends [] x l = refl
-gap_ends (b ∷ gap) x l = let k = and_true (is_ascii_white_space b) (list_all is_ascii_white_space gap) l in rw k.0 refl
+gap_ends (b ∷ gap) x l = let k =
+    and_true (is_ascii_white_space b) (list_all is_ascii_white_space gap) l in rw k.0 refl
 
 pub end_stops : (z : Bool) (n name gap x : List ℕ) → map to_ascii_lowercase name ≡ n
-    → list_all is_ascii_white_space gap ≡ true → ends_text z n (60 ∷ 47 ∷ (name ++ (gap ++ (62 ∷ x)))) ≡ true
+    → list_all is_ascii_white_space gap ≡ true
+    → ends_text z n (60 ∷ 47 ∷ (name ++ (gap ++ (62 ∷ x)))) ≡ true
 end_stops z n name gap x d l =
     test (holds_text_alone z n) (λ t. rw (t, ← d) (begins_name-lower name (gap ++ (62 ∷ x)) ∙ gap_ends gap x l))
     (λ t. rw t refl)
@@ -184,7 +190,8 @@ end_stops z n name gap x d l =
 pub white_no_name : (b : ℕ) → is_ascii_white_space b ≡ true → is_tag_name_byte b ≡ false
 white_no_name b e = grind (arith, nat_tests)
 
-pub gap_no_name : (gap x : List ℕ) → list_all is_ascii_white_space gap ≡ true → halts is_tag_name_byte (gap ++ (62 ∷ x))
+pub gap_no_name : (gap x : List ℕ) → list_all is_ascii_white_space gap ≡ true
+    → halts is_tag_name_byte (gap ++ (62 ∷ x))
     ≡ true
 gap_no_name [] x l = refl
 gap_no_name (b ∷ gap) x l = let k = and_true (is_ascii_white_space b) (list_all is_ascii_white_space gap) l in

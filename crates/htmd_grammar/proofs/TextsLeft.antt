@@ -72,7 +72,8 @@ doctype_left s r e = elim (if_then (begins_in_any_case (codes "<!doctype") s) _ 
 prelude_end : (s : List ℕ) → IsEndOf (body_text s) s
 prelude_end s = go (behind_doctype (behind_mark s)) refl
   where
-    go : (o : Option (List ℕ)) → behind_doctype (behind_mark s) ≡ o → IsEndOf (behind_prelude o (behind_mark s)) s
+    go : (o : Option (List ℕ)) → behind_doctype (behind_mark s) ≡ o
+        → IsEndOf (behind_prelude o (behind_mark s)) s
     go None e = mark_end s
     go (Some r) e = end_of_end r (behind_mark s) s (doctype_left (behind_mark s) r e) (mark_end s)
 

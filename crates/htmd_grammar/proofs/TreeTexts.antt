@@ -57,7 +57,8 @@ module _ (rules : Rules) where
       )
       go (inr w) = let q = row_is_no_tbody n b in absurd (cc)
 
-  pub start_tag_begins : (tag n : List ℕ) (attributes : List AttributePair) → IsStartTag rules.names tag n attributes
+  pub start_tag_begins : (tag n : List ℕ) (attributes : List AttributePair)
+      → IsStartTag rules.names tag n attributes
       → begins_markup tag ≡ true
   start_tag_begins tag n attributes t =
       let k = name_head (t.2).0 (t.2).3 in
@@ -78,7 +79,8 @@ module _ (rules : Rules) where
           rw w.2 (markup-append w.0 w.1 (rw r.3 (markup-append r.0 r.1 (start_tag_begins r.0 (codes "tr") r.2 r.4))))
 
   -- and doesn't stand in a `title`
-  pub node_no_title : (p : List ℕ) (t : ValueTree) (c : Context) (last : Bool) (s : List ℕ) → IsTextTree t ≡ false
+  pub node_no_title : (p : List ℕ) (t : ValueTree) (c : Context) (last : Bool) (s : List ℕ)
+      → IsTextTree t ≡ false
       → ReadsTree rules (p ∷ c) last t s → holds_text_alone rules.scripting p ≡ false
   node_no_title p (document ks) c last s e h = absurd h
   node_no_title p doctype c last s e h = absurd h
@@ -87,7 +89,8 @@ module _ (rules : Rules) where
   node_no_title p (element n attributes ks) c last s e h = no_text_alone rules.scripting p c n h.0
 
   pub stops_after : (p : List ℕ) (t : ValueTree) (ts : ValueForest) (c : Context) (last : Bool) (s after : List ℕ)
-      → Apart t ts → ReadsForest rules (p ∷ c) last ts s → Stops rules.scripting p after → IsTextTree t ≡ true
+      → Apart t ts → ReadsForest rules (p ∷ c) last ts s → Stops rules.scripting p after
+      → IsTextTree t ≡ true
       → Stops rules.scripting p (s ++ after)
   stops_after p t none c last s after a h st e = rw h st
   stops_after p (document ks) (more (text v) ts) c last s after a h st e = absurd (cc)

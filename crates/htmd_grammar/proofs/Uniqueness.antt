@@ -44,7 +44,8 @@ bar_ends : (z : Bool) (p : List ℕ) → is_table p ≡ true → ends_rows (bar 
 bar_ends z p e = let q = one_name (codes "table") p e in rw (q, and_false z) refl
 
 module _ (rules : Rules) where
-  pub same_end : (outer : Context) (a b c : State) (x y : FaultKind) → Reaches rules outer a b → Reaches rules outer a c
+  pub same_end : (outer : Context) (a b c : State) (x y : FaultKind) → Reaches rules outer a b
+      → Reaches rules outer a c
       → step rules outer b ≡ Err x → step rules outer c ≡ Err y → b ≡ c
   same_end outer a b c x y here here e f = refl
   same_end outer a b c x y here (via p q) e f = absurd (cc)
@@ -86,6 +87,7 @@ module _ (rules : Rules) where
       (reached p c s ts h) (reached p c s us k) (bar_stuck c _ [] refl) (bar_stuck c _ [] refl) in
       ap (λ (st : State). top_children (st.stack)) q
 
-  pub unique_document : (s : List ℕ) (t u : ValueTree) → ReadsDocument rules s t → ReadsDocument rules s u → t ≡ u
+  pub unique_document : (s : List ℕ) (t u : ValueTree) → ReadsDocument rules s t → ReadsDocument rules s u
+      → t ≡ u
   unique_document s t u h k =
       h.2 ∙ (ap (document_tree s) (unique_in (codes "body") above_body (body_text s) h.1 k.1 h.3 k.3) ∙ sym k.2)

@@ -41,7 +41,8 @@ doctype_name s = if begins_in_any_case (codes "html") s then doctype_end (behind
 
 abbrev pub white_space_and_name : List ℕ → Option (List ℕ)
 white_space_and_name [] = None
-white_space_and_name (b ∷ s) = if is_ascii_white_space b then doctype_name (behind_run is_ascii_white_space s) else None
+white_space_and_name (b ∷ s) = if is_ascii_white_space b then doctype_name (behind_run is_ascii_white_space s)
+    else None
 
 -- what stands behind the doctype with which the text begins
 abbrev pub behind_doctype : List ℕ → Option (List ℕ)

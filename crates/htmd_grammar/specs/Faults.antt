@@ -129,17 +129,20 @@ module _ (rules : Rules) (fs : List OpenElement) (s : List ℕ) where
       ⊎ ((begins_with (codes "<!") s ≡ true) × (begins_with (codes "<!--") s ≡ false)))
   Says UnknownReference =
       (IsTextWithReferences × HasPiece rules.names s (wrong UnknownReference))
-      ⊎ (IsMarkup × (n : List ℕ) × (spelled : List AttributePair) × (present : Bool) × HasTagForm s n spelled present
+      ⊎ (IsMarkup × (n : List ℕ) × (spelled : List AttributePair) × (present : Bool)
+      × HasTagForm s n spelled present
       × (list_any (λ a. has_unknown_reference rules.names a.value) spelled ≡ true))
   Says BadNumber =
       (IsTextWithReferences × HasPiece rules.names s (wrong BadNumber))
-      ⊎ (IsMarkup × (n : List ℕ) × (spelled : List AttributePair) × (present : Bool) × HasTagForm s n spelled present
+      ⊎ (IsMarkup × (n : List ℕ) × (spelled : List AttributePair) × (present : Bool)
+      × HasTagForm s n spelled present
       × (list_any (λ a. has_bad_number rules.names a.value) spelled ≡ true))
   Says DuplicateAttribute =
       IsMarkup × (n : List ℕ) × (spelled : List AttributePair) × (present : Bool) × HasTagForm s n spelled present
       × (are_distinct (attribute_names spelled) ≡ false)
   Says SelfClosing =
-      IsMarkup × (n : List ℕ) × (spelled : List AttributePair) × HasTagForm s n spelled true × (is_void n ≡ false)
+      IsMarkup × (n : List ℕ) × (spelled : List AttributePair) × HasTagForm s n spelled true
+      × (is_void n ≡ false)
   Says TagOutside =
       IsMarkup × (n : List ℕ) × (is_outside n ≡ true)
       × (((spelled : List AttributePair) × (present : Bool) × HasTagForm s n spelled present) ⊎ HasEndTag s n)
@@ -148,7 +151,8 @@ module _ (rules : Rules) (fs : List OpenElement) (s : List ℕ) where
       × (is_allowed rules.scripting (context_for n) n ≡ false)
   Says StrayEndTag = IsMarkup × (n : List ℕ) × HasEndTag s n × ((parent ≢ n) ⊎ (length fs ≤ 1))
   Says StrayText =
-      IsTextWithReferences × (holds_parts parent ≡ true) × (more_bytes : ℕ) × (v : List ℕ) × HasPiece rules.names s
+      IsTextWithReferences × (holds_parts parent ≡ true) × (more_bytes : ℕ) × (v : List ℕ)
+      × HasPiece rules.names s
       (stands more_bytes v)
       × (list_all is_ascii_white_space v ≡ false)
   Says Unclosed = (s ≡ []) × (1 < length fs)
@@ -157,7 +161,8 @@ module _ (rules : Rules) (fs : List OpenElement) (s : List ℕ) where
       × (raw_text_of parent (up_to (ends_text rules.scripting parent) s) ≡ None)
   Says TooDeep =
       ((rules.depth < length here) × (IsText ⊎ (IsMarkup × HasComment s)))
-      ⊎ (IsMarkup × (n : List ℕ) × (spelled : List AttributePair) × (present : Bool) × HasTagForm s n spelled present
+      ⊎ (IsMarkup × (n : List ℕ) × (spelled : List AttributePair) × (present : Bool)
+      × HasTagForm s n spelled present
       × (rules.depth < length (context_for n)))
 
 -- ---- a refusal
@@ -180,7 +185,8 @@ pub record IsPieceFault (rules : Rules) (text : List ℕ) (place : ℕ) (kind : 
   pub place_is : place + length behind ≡ length text
   pub front_is_good : IsGoodFront rules innermost opened before behind
   pub says : Says rules (innermost ∷ opened) behind kind
-  pub no_lower : (lower : FaultKind) → number_of lower < number_of kind → Says rules (innermost ∷ opened) behind lower
+  pub no_lower : (lower : FaultKind) → number_of lower < number_of kind
+      → Says rules (innermost ∷ opened) behind lower
       → ⊥
 
 -- The refusal is right.

@@ -57,11 +57,12 @@ end_tags (f ∷ []) = []
 end_tags (f ∷ g ∷ fs) = end_tag f.name ++ end_tags (g ∷ fs)
 
 -- The beginning of the content of a document is whole pieces of it, and its end tags make a text of the grammar of it.
-pub record IsGoodFront (rules : Rules) (f : OpenElement) (fs : List OpenElement) (before behind : List ℕ) : Type 0 where
-  pub pieces : IsFront rules above_body (ends_rows behind) (f ∷ fs) before
-  -- an implied `tbody` that ends there is closed
-  pub no_more_rows : (f.implied && ends_rows behind) ≡ false
-  -- a line feed that is dropped stands before the place
-  pub dropped : f.children ≡ none
-      → IsKept f.name (content_so_far rules above_body f fs (ends_rows behind) before pieces) behind
-  pub complete : (ts : ValueForest) × reads rules below_body (before ++ end_tags (f ∷ fs)) ts
+pub record IsGoodFront (rules : Rules) (f : OpenElement) (fs : List OpenElement) (before behind : List ℕ) : Type 0
+  where
+    pub pieces : IsFront rules above_body (ends_rows behind) (f ∷ fs) before
+    -- an implied `tbody` that ends there is closed
+    pub no_more_rows : (f.implied && ends_rows behind) ≡ false
+    -- a line feed that is dropped stands before the place
+    pub dropped : f.children ≡ none
+        → IsKept f.name (content_so_far rules above_body f fs (ends_rows behind) before pieces) behind
+    pub complete : (ts : ValueForest) × reads rules below_body (before ++ end_tags (f ∷ fs)) ts

@@ -53,7 +53,8 @@ module _ (rules : Rules) where
     ReadsTree c last (text u) s =
         (u ≢ []) × (up_to (ends_text rules.scripting (parent_name c)) s ≡ s)
         × (text_of rules (parent_name c) s ≡ Some u)
-        × (holds_parts (parent_name c) ≡ true → list_all is_ascii_white_space u ≡ true) × (length c ≤ rules.depth)
+        × (holds_parts (parent_name c) ≡ true → list_all is_ascii_white_space u ≡ true)
+        × (length c ≤ rules.depth)
     ReadsTree c last (comment u) s =
         IsComment s u × (holds_text_alone rules.scripting (parent_name c) ≡ false) × (length c ≤ rules.depth)
     -- a start tag, and unless the element is void its content and end tag; or an implied `tbody`, whose end tag may be

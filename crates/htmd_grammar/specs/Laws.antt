@@ -20,13 +20,15 @@ AtMostOneForest rules =
 
 -- A text denotes at most one document.
 abbrev pub AtMostOneDocument : Rules → Type 0
-AtMostOneDocument rules = (s : List ℕ) (t u : ValueTree) → ReadsDocument rules s t → ReadsDocument rules s u → t ≡ u
+AtMostOneDocument rules = (s : List ℕ) (t u : ValueTree) → ReadsDocument rules s t → ReadsDocument rules s u
+    → t ≡ u
 
 -- ---- more names and a greater depth
 
 -- fewer names, which stand for the same, and a smaller depth
 pub record AreFewer (less more : Rules) : Type 0 where
-  pub names : (n : List ℕ) (c : ℕ) → character_named less.names n ≡ Some c → character_named more.names n ≡ Some c
+  pub names : (n : List ℕ) (c : ℕ) → character_named less.names n ≡ Some c
+      → character_named more.names n ≡ Some c
   pub depth : less.depth ≤ more.depth
   pub scripting : less.scripting ≡ more.scripting
 
@@ -93,4 +95,5 @@ FaultsRefuseDocuments rules =
 -- what is left at a state is an end of the text
 abbrev pub RestIsAnEnd : Rules → Type 0
 RestIsAnEnd rules =
-    (s : List ℕ) (st : State) → Reaches rules above_body (started s) st → (taken : List ℕ) × (s ≡ taken ++ st.rest)
+    (s : List ℕ) (st : State) → Reaches rules above_body (started s) st
+    → (taken : List ℕ) × (s ≡ taken ++ st.rest)

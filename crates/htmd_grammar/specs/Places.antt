@@ -33,17 +33,22 @@ is_outside n =
 -- what doesn't stand under an open `p`
 abbrev pub closes_paragraph : List ℕ → Bool
 closes_paragraph n =
-    is_among (codes "address" ∷ codes "article" ∷ codes "aside" ∷ codes "blockquote" ∷ codes "center" ∷ codes "dd"
-    ∷ codes "details" ∷ codes "dialog" ∷ codes "dir" ∷ codes "div" ∷ codes "dl" ∷ codes "dt" ∷ codes "fieldset"
-    ∷ codes "figcaption" ∷ codes "figure" ∷ codes "footer" ∷ codes "form" ∷ codes "h1" ∷ codes "h2" ∷ codes "h3"
-    ∷ codes "h4" ∷ codes "h5" ∷ codes "h6" ∷ codes "header" ∷ codes "hgroup" ∷ codes "hr" ∷ codes "li" ∷ codes "main"
+    is_among (codes "address" ∷ codes "article" ∷ codes "aside" ∷ codes "blockquote" ∷ codes "center"
+    ∷ codes "dd"
+    ∷ codes "details" ∷ codes "dialog" ∷ codes "dir" ∷ codes "div" ∷ codes "dl" ∷ codes "dt"
+    ∷ codes "fieldset"
+    ∷ codes "figcaption" ∷ codes "figure" ∷ codes "footer" ∷ codes "form" ∷ codes "h1" ∷ codes "h2"
+    ∷ codes "h3"
+    ∷ codes "h4" ∷ codes "h5" ∷ codes "h6" ∷ codes "header" ∷ codes "hgroup" ∷ codes "hr" ∷ codes "li"
+    ∷ codes "main"
     ∷ codes "menu" ∷ codes "nav" ∷ codes "ol" ∷ codes "p" ∷ codes "pre" ∷ codes "search" ∷ codes "section"
     ∷ codes "summary" ∷ codes "table" ∷ codes "ul" ∷ codes "xmp" ∷ []) n
 
 -- what doesn't stand under an element of its own name
 abbrev pub excludes_itself : List ℕ → Bool
 excludes_itself n =
-    is_among (codes "a" ∷ codes "button" ∷ codes "form" ∷ codes "nobr" ∷ codes "select" ∷ codes "option" ∷ []) n
+    is_among (codes "a" ∷ codes "button" ∷ codes "form" ∷ codes "nobr" ∷ codes "select" ∷ codes "option"
+    ∷ []) n
 
 abbrev pub is_heading : List ℕ → Bool
 is_heading n = is_among (codes "h1" ∷ codes "h2" ∷ codes "h3" ∷ codes "h4" ∷ codes "h5" ∷ codes "h6" ∷ []) n
@@ -93,7 +98,8 @@ holds_rows n = is_among (codes "thead" ∷ codes "tbody" ∷ codes "tfoot" ∷ [
 -- between the parts of a table stand only these parts, comments and ASCII white space
 abbrev pub holds_parts : List ℕ → Bool
 holds_parts n =
-    is_among (codes "table" ∷ codes "thead" ∷ codes "tbody" ∷ codes "tfoot" ∷ codes "tr" ∷ codes "colgroup" ∷ []) n
+    is_among (codes "table" ∷ codes "thead" ∷ codes "tbody" ∷ codes "tfoot" ∷ codes "tr" ∷ codes "colgroup"
+    ∷ []) n
 
 abbrev pub fits_table : List ℕ → List ℕ → Bool
 fits_table parent n =

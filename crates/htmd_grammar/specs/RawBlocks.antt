@@ -66,7 +66,8 @@ raw_html cs = raw_html_from false cs
 pub data RefersToLineFeeds : List ℕ → List ℕ → Type 0 where
   nothing : RefersToLineFeeds [] []
   same : {s t : List ℕ} (c : ℕ) → RefersToLineFeeds s t → RefersToLineFeeds (c ∷ s) (c ∷ t)
-  reference : {s t : List ℕ} → RefersToLineFeeds s t → RefersToLineFeeds (line_feed ∷ s) (line_feed_reference ++ t)
+  reference : {s t : List ℕ} → RefersToLineFeeds s t
+      → RefersToLineFeeds (line_feed ∷ s) (line_feed_reference ++ t)
 
 -- What the block of a text without CR is: the text, with no blank line in it, since references stand in place of some
 -- of its line feeds.

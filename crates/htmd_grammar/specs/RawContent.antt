@@ -12,7 +12,8 @@ use Rattle.htmd_grammar.specs.References.{decode, after_line_feed}
 -- text without references; `noscript` where scripting is on
 abbrev pub holds_raw_text : Bool → List ℕ → Bool
 holds_raw_text scripting n =
-    is_among (codes "script" ∷ codes "style" ∷ codes "iframe" ∷ codes "noembed" ∷ codes "noframes" ∷ codes "xmp" ∷ []) n
+    is_among (codes "script" ∷ codes "style" ∷ codes "iframe" ∷ codes "noembed" ∷ codes "noframes"
+    ∷ codes "xmp" ∷ []) n
     || (scripting && is_among (codes "noscript" ∷ []) n)
 
 -- text alone, with references or without

@@ -41,8 +41,10 @@ escaped_html byte (b ∷ c ∷ s) =
 -- the void elements, which have no end tag
 abbrev pub void_elements : List (List ℕ)
 void_elements =
-    codes "area" ∷ codes "base" ∷ codes "basefont" ∷ codes "bgsound" ∷ codes "br" ∷ codes "col" ∷ codes "embed" ∷
-    codes "frame" ∷ codes "hr" ∷ codes "img" ∷ codes "input" ∷ codes "keygen" ∷ codes "link" ∷ codes "meta" ∷
+    codes "area" ∷ codes "base" ∷ codes "basefont" ∷ codes "bgsound" ∷ codes "br" ∷ codes "col"
+    ∷ codes "embed" ∷
+    codes "frame" ∷ codes "hr" ∷ codes "img" ∷ codes "input" ∷ codes "keygen" ∷ codes "link" ∷ codes "meta"
+    ∷
     codes "param" ∷ codes "source" ∷ codes "track" ∷ codes "wbr" ∷ []
 
 -- the elements whose texts are written as they are

@@ -103,10 +103,12 @@ module _ (rules : Rules) (outer : Context) where
   abbrev pub place_step : List OpenElement → List ℕ → List AttributePair → List ℕ → Step
   place_step fs n attributes rest =
       if is_row n && bytes_eq (innermost fs) (codes "table")
-      then (if is_too_deep fs then fault TooDeep else open_step (fresh (codes "tbody") [] true ∷ fs) n attributes rest)
+      then (if is_too_deep fs then fault TooDeep
+      else open_step (fresh (codes "tbody") [] true ∷ fs) n attributes rest)
       else open_step fs n attributes rest
 
-  abbrev pub values_step : List OpenElement → List ℕ → List AttributePair → Bool → List ℕ → Option (List AttributePair)
+  abbrev pub values_step : List OpenElement → List ℕ → List AttributePair → Bool → List ℕ
+      → Option (List AttributePair)
       → Step
   values_step fs n spelled present rest None = fault BadNumber
   values_step fs n spelled present rest (Some attributes) =

@@ -55,7 +55,8 @@ behind_gap white (b ∷ s) =
     if b == greater_than_sign then tag_end false s
     else if b == slash then behind_slash s
     else if white && is_attribute_name (leading_run is_attribute_name_byte (b ∷ s))
-    then behind_attribute_name (leading_run is_attribute_name_byte (b ∷ s)) (behind_run is_attribute_name_byte (b ∷ s))
+    then behind_attribute_name (leading_run is_attribute_name_byte (b ∷ s))
+    (behind_run is_attribute_name_byte (b ∷ s))
     else malformed
 
 -- the next attribute, or the end of the tag

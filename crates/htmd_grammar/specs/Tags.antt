@@ -22,7 +22,8 @@ IsEqualsSign s =
 abbrev pub IsValue : List ℕ → List ℕ → List ℕ → Type 0
 IsValue s rest v =
     ((s ≡ []) × (v ≡ []))
-    ⊎ ((equals : List ℕ) × (quote : ℕ) × (s ≡ equals ++ (quote ∷ (v ++ quote ∷ []))) × IsEqualsSign equals
+    ⊎ ((equals : List ℕ) × (quote : ℕ) × (s ≡ equals ++ (quote ∷ (v ++ quote ∷ [])))
+    × IsEqualsSign equals
     × ((quote ≡ quotation_mark) ⊎ (quote ≡ apostrophe)) × (lacks quote v ≡ true))
     ⊎ ((equals : List ℕ) × (s ≡ equals ++ v) × IsEqualsSign equals × (v ≢ [])
     × (leading_run is_unquoted_byte (v ++ rest) ≡ v))
@@ -73,4 +74,5 @@ IsStartTag names tag n attributes =
 abbrev pub IsEndTag : List ℕ → List ℕ → Type 0
 IsEndTag tag n =
     (name gap : List ℕ) × (tag ≡ less_than_sign ∷ slash ∷ (name ++ (gap ++ greater_than_sign ∷ [])))
-    × (is_tag_name name ≡ true) × (list_all is_ascii_white_space gap ≡ true) × (map to_ascii_lowercase name ≡ n)
+    × (is_tag_name name ≡ true) × (list_all is_ascii_white_space gap ≡ true)
+    × (map to_ascii_lowercase name ≡ n)

@@ -27,9 +27,11 @@ same_byte : (b c : ℕ) → (b == c) ≡ true → b ≡ c
 same_byte b c e = grind (arith, nat_tests)
 
 -- what stands for a byte, case by case
-pub by_cases : (P : List ℕ → Type 0) (b : ℕ) → (b ≡ line_feed → P (space ∷ [])) → (b ≡ carriage_return → P [])
+pub by_cases : (P : List ℕ → Type 0) (b : ℕ) → (b ≡ line_feed → P (space ∷ []))
+    → (b ≡ carriage_return → P [])
     → (b ≡ vertical_bar → P (codes "&#124;"))
-    → ((b == line_feed) ≡ false → (b == carriage_return) ≡ false → (b == vertical_bar) ≡ false → P (b ∷ []))
+    → ((b == line_feed) ≡ false → (b == carriage_return) ≡ false → (b == vertical_bar) ≡ false
+    → P (b ∷ []))
     → P (in_cell b)
 by_cases P b at_line_feed at_return at_bar else_case =
     ⊎_elim
@@ -71,7 +73,8 @@ fails_on : (passes : ℕ → Bool) (s t : List ℕ) → Fails passes s → Begin
 fails_on passes [] t fails = absurd fails
 fails_on passes (b ∷ s) t fails = fails
 
-begins_in : (f : ℕ → List ℕ) (passes : ℕ → Bool) → ((b : ℕ) → passes b ≡ false → Fails passes (f b)) → (s : List ℕ)
+begins_in : (f : ℕ → List ℕ) (passes : ℕ → Bool) → ((b : ℕ) → passes b ≡ false → Fails passes (f b))
+    → (s : List ℕ)
     → Begins passes s → Begins passes (flat_map f s)
 begins_in f passes fails [] begins = tt
 begins_in f passes fails (b ∷ s) begins = fails_on passes (f b) (flat_map f s) (fails b begins)
@@ -92,7 +95,8 @@ bare_last b bare =
     (λ is. refl)
     (λ f r v. bare)
 
-reverse-flat_map : (f : ℕ → List ℕ) (s : List ℕ) → reverse (flat_map f s) ≡ flat_map (λ b. reverse (f b)) (reverse s)
+reverse-flat_map : (f : ℕ → List ℕ) (s : List ℕ)
+    → reverse (flat_map f s) ≡ flat_map (λ b. reverse (f b)) (reverse s)
 reverse-flat_map f [] = refl
 reverse-flat_map f (b ∷ s) =
     reverse-append (f b) (flat_map f s)
@@ -136,16 +140,19 @@ all_in_cells passes each (b ∷ s) =
     ∙ all_in_cells passes each s
 
 no_bar : (b : ℕ) → lacks vertical_bar (in_cell b) ≡ true
-no_bar b = by_cases (λ l. lacks vertical_bar l ≡ true) b (λ is. refl) (λ is. refl) (λ is. refl) (λ f r v. rw v refl)
+no_bar b =
+    by_cases (λ l. lacks vertical_bar l ≡ true) b (λ is. refl) (λ is. refl) (λ is. refl) (λ f r v. rw v refl)
 
 no_line_feed : (b : ℕ) → lacks line_feed (in_cell b) ≡ true
-no_line_feed b = by_cases (λ l. lacks line_feed l ≡ true) b (λ is. refl) (λ is. refl) (λ is. refl) (λ f r v. rw f refl)
+no_line_feed b =
+    by_cases (λ l. lacks line_feed l ≡ true) b (λ is. refl) (λ is. refl) (λ is. refl) (λ f r v. rw f refl)
 
 -- ---- a normalised cell is a text
 
 high_stays : (b : ℕ) → 128 ≤ b → in_cell b ≡ b ∷ []
 high_stays b high =
-    by_cases (λ l. l ≡ b ∷ []) b (λ is. absurd (omega arith)) (λ is. absurd (omega arith)) (λ is. absurd (omega arith))
+    by_cases (λ l. l ≡ b ∷ []) b (λ is. absurd (omega arith)) (λ is. absurd (omega arith))
+    (λ is. absurd (omega arith))
     (λ f r v. refl)
 
 high_in_cells : (s : List ℕ) → ((k : ℕ) → k < length s → 128 ≤ get_or s k 0) → flat_map in_cell s ≡ s

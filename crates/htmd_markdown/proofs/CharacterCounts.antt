@@ -56,7 +56,8 @@ character_is_one : (c : ℕ) → characters (encode_utf8 c) ≡ 1
 unfolding encode
 character_is_one c =
     ⊎_elim
-    (λ (yes : nat_lt c 128 ≡ true). let low : c < 128 = grind (arith, nat_tests) in rw yes (one c (begins_low c low)))
+    (λ (yes : nat_lt c 128 ≡ true). let low : c < 128 =
+    grind (arith, nat_tests) in rw yes (one c (begins_low c low)))
     (λ (no : nat_lt c 128 ≡ false).
     ⊎_elim
     (λ (yes : nat_lt c 2048 ≡ true). rw (no, yes)

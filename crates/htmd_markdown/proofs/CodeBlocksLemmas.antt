@@ -30,7 +30,8 @@ ends_apart (b ∷ c ∷ s) some =
 ends_in_line_feed : (s : List ℕ) → slice_index s (length s - 1) ≡ line_feed
     → s ≡ take (length s - 1) s ++ line_feed ∷ []
 ends_in_line_feed [] e = cc
-ends_in_line_feed (b ∷ s) e = ends_apart (b ∷ s) (omega arith) ∙ ap (λ x. take (length (b ∷ s) - 1) (b ∷ s) ++ x ∷ []) e
+ends_in_line_feed (b ∷ s) e =
+    ends_apart (b ∷ s) (omega arith) ∙ ap (λ x. take (length (b ∷ s) - 1) (b ∷ s) ++ x ∷ []) e
 
 code_of-kept : (s : List ℕ) → ((front : List ℕ) → s ≢ front ++ line_feed ∷ []) → code_of s ≡ s
 code_of-kept s other = by_case (slice_index s (length s - 1) == line_feed) refl

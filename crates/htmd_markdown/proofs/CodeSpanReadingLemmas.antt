@@ -41,13 +41,15 @@ before_run-found zero behind s some lacks e = absurd (omega arith)
 before_run-found (suc n) behind [] some lacks e =
     let run : prefix_len is_backquote (replicate (suc n) grave_accent) ≡ suc n =
     prefix_len-replicate is_backquote (suc n) grave_accent refl in
-    let here : (prefix_len is_backquote (replicate (suc n) grave_accent) == suc n) ≡ true = grind (arith, nat_tests) in
+    let here : (prefix_len is_backquote (replicate (suc n) grave_accent) == suc n) ≡ true =
+    grind (arith, nat_tests) in
     rw (e, here) refl
 before_run-found (suc n) behind (b ∷ s) some lacks e =
     let over = run_over behind b s (replicate (suc n) grave_accent) e in
     let both =
     passed_over behind (prefix_len is_backquote (b ∷ s) == suc n) (lacks_run (suc n) (is_backquote b) s) lacks in
-    let here : (not behind && (prefix_len is_backquote (b ∷ (s ++ replicate (suc n) grave_accent)) == suc n)) ≡ false =
+    let here : (not behind && (prefix_len is_backquote (b ∷ (s ++ replicate (suc n) grave_accent)) == suc n))
+    ≡ false =
     ap (λ m. not behind && (m == suc n)) over ∙ both.0 in
     rw here (ap (λ found. option_map (λ front. b ∷ front) found)
     (before_run-found (suc n) (is_backquote b) s some both.1 e))
@@ -64,7 +66,8 @@ behind_run zero s = refl
 behind_run (suc n) s = behind_run n s
 
 -- a text between two runs of n backquotes, in which there is no such run, is what the span holds
-pub read_span-between : (n b : ℕ) (s : List ℕ) → 0 < n → is_backquote b ≡ false → lacks_run n false (b ∷ s) ≡ true
+pub read_span-between : (n b : ℕ) (s : List ℕ) → 0 < n → is_backquote b ≡ false
+    → lacks_run n false (b ∷ s) ≡ true
     → ends_behind false (b ∷ s) ≡ false
     → read_span (replicate n grave_accent ++ ((b ∷ s) ++ replicate n grave_accent)) ≡ Some
     (without_padding (line_ends_as_spaces (b ∷ s)))
@@ -88,7 +91,8 @@ one_more true x long short e = e
 one_more false x long short e = ap (λ l. x ∷ l) e
 
 -- a space behind a text is no part of a line end
-pub line_ends-push_space : (s : List ℕ) → line_ends_as_spaces (s ++ space ∷ []) ≡ line_ends_as_spaces s ++ space ∷ []
+pub line_ends-push_space : (s : List ℕ)
+    → line_ends_as_spaces (s ++ space ∷ []) ≡ line_ends_as_spaces s ++ space ∷ []
 line_ends-push_space [] = refl
 line_ends-push_space (b ∷ []) =
     one_more ((b == carriage_return) && false) (cond ((b == carriage_return) || (b == line_feed)) space b)
@@ -113,9 +117,11 @@ pub without_padding-both : (b : ℕ) (s : List ℕ) → (b == space) ≡ false
 without_padding-both b s other =
     let size : length ((b ∷ s) ++ space ∷ []) ≡ length (b ∷ s) + 1 = length_push (b ∷ s) space in
     let place : length (space ∷ ((b ∷ s) ++ space ∷ [])) - 1 ≡ suc (length (b ∷ s)) = omega (arith, size) in
-    let last : slice_index (space ∷ ((b ∷ s) ++ space ∷ [])) (length (space ∷ ((b ∷ s) ++ space ∷ [])) - 1) ≡ space =
+    let last : slice_index (space ∷ ((b ∷ s) ++ space ∷ [])) (length (space ∷ ((b ∷ s) ++ space ∷ [])) - 1)
+    ≡ space =
     ap (λ k. slice_index (space ∷ ((b ∷ s) ++ space ∷ [])) k) place ∙ last_space (b ∷ s) in
     let kept : length (space ∷ ((b ∷ s) ++ space ∷ [])) - 2 ≡ length (b ∷ s) = omega (arith, size) in
     rw (ap (λ x. x == space) last, other)
-    (ap (λ k. take k ((b ∷ s) ++ space ∷ [])) kept ∙ take-append-le (length (b ∷ s)) (b ∷ s) (space ∷ []) (omega arith)
+    (ap (λ k. take k ((b ∷ s) ++ space ∷ [])) kept
+    ∙ take-append-le (length (b ∷ s)) (b ∷ s) (space ∷ []) (omega arith)
     ∙ take_all (length (b ∷ s)) (b ∷ s) (omega arith))

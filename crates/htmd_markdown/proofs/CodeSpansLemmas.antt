@@ -28,7 +28,8 @@ any_of_both false y e = (refl, e)
 none_of_runs : (n : ℕ) (rs : List (List ℕ)) → 0 < n → list_any (λ run. length run == n) rs ≡ false
     → ((length (first_run rs) == n) ≡ false) × (list_any (λ run. length run == n) (other_runs rs) ≡ false)
 none_of_runs n [] some none = (grind (arith, nat_tests), refl)
-none_of_runs n (run ∷ others) some none = any_of_both (length run == n) (list_any (λ run. length run == n) others) none
+none_of_runs n (run ∷ others) some none =
+    any_of_both (length run == n) (list_any (λ run. length run == n) others) none
 
 -- the runs lack a length, but for the first one behind a backquote
 abbrev Lacks : ℕ → Bool → List ℕ → Type 0
@@ -43,11 +44,15 @@ lacks_here false same rest e r = rw (e refl) r
 
 lacks_next : (n b : ℕ) (s : List ℕ) (t : Bool) → (b == grave_accent) ≡ t → 0 < n
     → (list_any (λ run. length run == n) (other_runs (runs grave_accent (b ∷ s))) ≡ false) → Lacks n t s
-lacks_next n b s true same some none =
-    (λ e. cc, ap (λ rs. list_any (λ run. length run == n) rs) (sym (other_runs-cons_yes grave_accent b s same)) ∙ none)
+lacks_next n b s true same some none = (
+  λ e. cc,
+  ap (λ rs. list_any (λ run. length run == n) rs) (sym (other_runs-cons_yes grave_accent b s same))
+      ∙ none,
+)
 lacks_next n b s false other some none =
     let all : list_any (λ run. length run == n) (runs grave_accent s) ≡ false =
-    ap (λ rs. list_any (λ run. length run == n) (other_runs rs)) (sym (runs-cons_no grave_accent b s other)) ∙ none in
+    ap (λ rs. list_any (λ run. length run == n) (other_runs rs)) (sym (runs-cons_no grave_accent b s other))
+    ∙ none in
     let both = none_of_runs n (runs grave_accent s) some all in
     (λ e. ap (λ m. m == n) (sym (first_run-prefix_len grave_accent s)) ∙ both.0, both.1)
 
@@ -136,13 +141,15 @@ delimiter-unused s = free (meets_delimiter s)
     taken : ℕ
     taken = position_or_len (λ m. not (has_run grave_accent m s)) (range_with_len 1 (longest_run grave_accent s))
 
-    free : (t : Bool) → has_run grave_accent (cond t (longest_run grave_accent s + 1) (smallest_unused_len s)) s ≡ false
+    free : (t : Bool) → has_run grave_accent (cond t (longest_run grave_accent s + 1) (smallest_unused_len s)) s
+        ≡ false
     free true = no_run_so_long grave_accent (longest_run grave_accent s + 1) s (omega arith)
     free false = unused s (longest_run grave_accent s) taken refl refl (cases_lt taken (longest_run grave_accent s))
 
 -- ---- what was trimmed begins with no document white space
 
-first_stops : (passes : ℕ → Bool) (s : List ℕ) (b : ℕ) (t : List ℕ) → drop (prefix_len passes s) s ≡ b ∷ t
+first_stops : (passes : ℕ → Bool) (s : List ℕ) (b : ℕ) (t : List ℕ)
+    → drop (prefix_len passes s) s ≡ b ∷ t
     → passes b ≡ false
 first_stops passes [] b t e = cc
 first_stops passes (c ∷ s) b t e = at_first (passes c) refl e (λ f. first_stops passes s b t f)
@@ -154,12 +161,14 @@ first_stops passes (c ∷ s) b t e = at_first (passes c) refl e (λ f. first_sto
         rest (ap (λ n. drop n (c ∷ s)) more ∙ f)
     at_first false here f rest = let same : c ≡ b = cc in ap passes (sym same) ∙ here
 
-first_taken : (n : ℕ) (s : List ℕ) (b : ℕ) (t : List ℕ) → take n s ≡ b ∷ t → (v : List ℕ) × (s ≡ b ∷ v)
+first_taken : (n : ℕ) (s : List ℕ) (b : ℕ) (t : List ℕ) → take n s ≡ b ∷ t
+    → (v : List ℕ) × (s ≡ b ∷ v)
 first_taken zero s b t e = cc
 first_taken (suc n) [] b t e = cc
 first_taken (suc n) (c ∷ s) b t e = (s, cc)
 
-trimmed_stops : (passes : ℕ → Bool) (s : List ℕ) (b : ℕ) (t : List ℕ) → trimmed_text passes s ≡ b ∷ t → passes b ≡ false
+trimmed_stops : (passes : ℕ → Bool) (s : List ℕ) (b : ℕ) (t : List ℕ) → trimmed_text passes s ≡ b ∷ t
+    → passes b ≡ false
 trimmed_stops passes s b t e =
     let rest =
     first_taken (length (drop (prefix_len passes s) s) - suffix_len passes (drop (prefix_len passes s) s))
@@ -175,8 +184,10 @@ padded_regrouped d t = simp append_assoc
 bare_regrouped : (d : List ℕ) (t : List ℕ) → (((d ++ []) ++ t) ++ []) ++ d ≡ d ++ (t ++ d)
 bare_regrouped d t = simp (append-nil, append_assoc)
 
-delimited_back : (m : Bool) (b : ℕ) (s : List ℕ) → meets_delimiter (b ∷ s) ≡ m → is_document_white_space b ≡ false
-    → read_span (delimited_text (m || false) (delimiter_len (b ∷ s)) (b ∷ s)) ≡ Some (line_ends_as_spaces (b ∷ s))
+delimited_back : (m : Bool) (b : ℕ) (s : List ℕ) → meets_delimiter (b ∷ s) ≡ m
+    → is_document_white_space b ≡ false
+    → read_span (delimited_text (m || false) (delimiter_len (b ∷ s)) (b ∷ s))
+    ≡ Some (line_ends_as_spaces (b ∷ s))
 delimited_back true b s meets inside =
     let t : List ℕ = b ∷ s in
     let n : ℕ = delimiter_len t in

@@ -29,7 +29,8 @@ pub widening_none : (old more : List ℕ) → Widening old more old 0
 widening_none old more = record { within = omega arith; whole = refl }
 
 pub widening_set : (old more ws : List ℕ) (i w : ℕ) → i < length ws → i < length more
-    → w ≡ max (get_or ws i 0) (get_or more i 0) → Widening old more ws i → Widening old more (set ws i w) (i + 1)
+    → w ≡ max (get_or ws i 0) (get_or more i 0) → Widening old more ws i
+    → Widening old more (set ws i w) (i + 1)
 widening_set old more ws i w lt within is was = record {
   within = omega (arith, length-set ws i w);
   whole =
@@ -46,7 +47,8 @@ widening_set old more ws i w lt within is was = record {
       ∙ was.whole;
 }
 
-pub widening_push : (old more ws : List ℕ) (i w : ℕ) → length ws ≤ i → i < length more → w ≡ get_or more i 0
+pub widening_push : (old more ws : List ℕ) (i w : ℕ) → length ws ≤ i → i < length more
+    → w ≡ get_or more i 0
     → Widening old more ws i → Widening old more (ws ++ w ∷ []) (i + 1)
 widening_push old more ws i w past within is was = record {
   within = omega (arith, length_push ws w, was.within);
@@ -65,7 +67,8 @@ widening_push old more ws i w past within is was = record {
       ∙ was.whole;
 }
 
-pub widening_all : (old more ws : List ℕ) (i : ℕ) → length more ≤ i → Widening old more ws i → ws ≡ spec.wider old more
+pub widening_all : (old more ws : List ℕ) (i : ℕ) → length more ≤ i → Widening old more ws i
+    → ws ≡ spec.wider old more
 widening_all old more ws i past was =
     sym (take-append-drop i ws)
     ∙ ap (λ l. take i ws ++ l) (sym (wider_none (drop i ws)))
@@ -81,9 +84,11 @@ held_wider : (ws vs : List ℕ) → map held (spec.wider ws vs) ≡ spec.wider (
 held_wider [] vs = refl
 held_wider (w ∷ ws) [] = refl
 held_wider (w ∷ ws) (v ∷ vs) =
-    ap (λ x. x ∷ map held (spec.wider ws vs)) (held_max w v) ∙ ap (λ l. max (held w) (held v) ∷ l) (held_wider ws vs)
+    ap (λ x. x ∷ map held (spec.wider ws vs)) (held_max w v)
+    ∙ ap (λ l. max (held w) (held v) ∷ l) (held_wider ws vs)
 
-held_lines : (start : List ℕ) (lines : List (List (List ℕ))) → fold spec.wider (map held start) (map held_widths lines)
+held_lines : (start : List ℕ) (lines : List (List (List ℕ)))
+    → fold spec.wider (map held start) (map held_widths lines)
     ≡ map held (fold spec.wider start (map (map spec.cell_width) lines))
 held_lines start [] = refl
 held_lines start (cells ∷ lines) =
@@ -92,7 +97,8 @@ held_lines start (cells ∷ lines) =
 
 -- the widths as the code has them
 pub held_columns : (headers : List (List ℕ)) (rows : List (List (List ℕ)))
-    → fold spec.wider (held_widths headers) (map held_widths rows) ≡ map held (spec.column_widths (headers ∷ rows))
+    → fold spec.wider (held_widths headers) (map held_widths rows)
+    ≡ map held (spec.column_widths (headers ∷ rows))
 held_columns headers rows = held_lines [] (headers ∷ rows)
 
 small : (w : ℕ) → held w < 0xFFFF_FFFF_FFFF_FFFF → held w ≡ w
@@ -121,7 +127,8 @@ held_same (cell ∷ cells) (w ∷ ws) are le fits =
     let size = length-append (spec.padded_cell cell (held w)) (vertical_bar ∷ rest) in
     let long = padded_long cell (held w) are.0.text in
     let one = small w (omega (arith, size, long, fits)) in
-    ap (λ x. x ∷ map held ws) one ∙ ap (λ l. w ∷ l) (held_same cells ws are.1 (omega arith) (omega (arith, size, fits)))
+    ap (λ x. x ∷ map held ws) one
+    ∙ ap (λ l. w ∷ l) (held_same cells ws are.1 (omega arith) (omega (arith, size, fits)))
 
 -- ---- each cell fits its column
 
@@ -188,7 +195,8 @@ wider-length (w ∷ ws) [] = omega arith
 wider-length (w ∷ ws) (v ∷ vs) = omega (arith, wider-length ws vs)
 
 count_from : (ws : List ℕ) (lines : List (List (List ℕ)))
-    → length (fold spec.wider ws (map (map spec.cell_width) lines)) ≡ fold (λ count cells. max count (length cells))
+    → length (fold spec.wider ws (map (map spec.cell_width) lines))
+    ≡ fold (λ count cells. max count (length cells))
     (length ws) lines
 count_from ws [] = refl
 count_from ws (cells ∷ lines) =

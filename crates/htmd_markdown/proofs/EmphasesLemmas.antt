@@ -30,7 +30,8 @@ some_length (b ∷ s) filled = omega arith
 
 -- without white space at its end, the beginning of a text that begins with none is tight
 tight : (rest middle after : List ℕ) → IsUtf8 middle → middle ≢ [] → middle ++ after ≡ rest
-    → ((more : List ℕ) × EmptyOrStartsWithPassing is_not_whitespace rest more) → IsTrimEnd rest middle → IsTight middle
+    → ((more : List ℕ) × EmptyOrStartsWithPassing is_not_whitespace rest more) → IsTrimEnd rest middle
+    → IsTight middle
 tight rest middle after text filled whole (more, begins) end =
     let some : 0 < length rest = omega (arith, some_length middle filled, ap length whole, length-append middle after)
     in
@@ -43,7 +44,8 @@ tight rest middle after text filled whole (more, begins) end =
     }
 
 -- the marks around what the two trims leave
-pub marks_inside : (mark s rest middle before after out : List ℕ) → IsUtf8 middle → middle ≢ [] → IsTrimStart s rest
+pub marks_inside : (mark s rest middle before after out : List ℕ) → IsUtf8 middle → middle ≢ []
+    → IsTrimStart s rest
     → IsTrimEnd rest middle → before ≡ take (length s - length rest) s → after ≡ drop (length middle) rest
     → out ≡ (((before ++ mark) ++ middle) ++ mark) ++ after → AreMarksInside mark s out
 marks_inside mark s rest middle before after out text filled start end b a e =

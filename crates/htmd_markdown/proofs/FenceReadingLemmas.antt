@@ -20,7 +20,8 @@ pub symbols_before : (c n : ℕ) (s : List ℕ) → (c == c) ≡ true
 symbols_before c zero s same = omega arith
 symbols_before c (suc n) s same = rw same (omega (arith, symbols_before c n s same))
 
-none_at_start : (c : ℕ) (s : List ℕ) (x : ℕ) (after : List ℕ) → list_any (λ b. b == c) s ≡ false → (x == c) ≡ false
+none_at_start : (c : ℕ) (s : List ℕ) (x : ℕ) (after : List ℕ) → list_any (λ b. b == c) s ≡ false
+    → (x == c) ≡ false
     → symbols_at_start c (s ++ x ∷ after) ≡ 0
 none_at_start c [] x after none other = rw other refl
 none_at_start c (b ∷ s) x after none other =
@@ -63,13 +64,15 @@ line_within (b ∷ s) after = at_first (is_line_end b) (line_within s after)
     at_first true rest = refl
     at_first false rest =
         let one : (n : ℕ) → 1 + n ≡ suc n = λ n. omega arith in
-        ap (λ n. take n (b ∷ (s ++ line_feed ∷ after))) (one (position_or_len is_line_end (s ++ line_feed ∷ after)))
+        ap (λ n. take n (b ∷ (s ++ line_feed ∷ after)))
+        (one (position_or_len is_line_end (s ++ line_feed ∷ after)))
         ∙ ap (λ l. b ∷ l) rest
         ∙ ap (λ n. take n (b ∷ s)) (sym (one (position_or_len is_line_end s)))
 
 -- ---- the closing line
 
-symbols_of_part : (c k n : ℕ) (s : List ℕ) → symbols_at_start c (drop k (take n s)) ≤ symbols_at_start c (drop k s)
+symbols_of_part : (c k n : ℕ) (s : List ℕ)
+    → symbols_at_start c (drop k (take n s)) ≤ symbols_at_start c (drop k s)
 symbols_of_part c zero zero s = omega arith
 symbols_of_part c (suc k) zero s = omega arith
 symbols_of_part c zero (suc n) [] = omega arith
@@ -154,7 +157,8 @@ before_closing-found c (suc n) begins (b ∷ s) makes some below =
     let line : is_closing c (suc n) (first_line ((b ∷ s) ++ line_feed ∷ replicate (suc n) c)) ≡ false =
     ap (is_closing c (suc n)) (line_within (b ∷ s) (replicate (suc n) c))
     ∙ no_closing c (suc n) (position_or_len is_line_end (b ∷ s)) (b ∷ s) below in
-    let here : (begins && is_closing c (suc n) (first_line ((b ∷ s) ++ line_feed ∷ replicate (suc n) c))) ≡ false =
+    let here : (begins && is_closing c (suc n) (first_line ((b ∷ s) ++ line_feed ∷ replicate (suc n) c)))
+    ≡ false =
     and_false begins (is_closing c (suc n) (first_line ((b ∷ s) ++ line_feed ∷ replicate (suc n) c))) line in
     rw here (ap (λ found. option_map (λ front. b ∷ front) found)
     (before_closing-found c (suc n) (is_line_end b) s makes some (λ k. below (suc k))))
@@ -193,16 +197,19 @@ read_fence-between c (suc n) info code makes some opens no_end no_symbol below =
     let front : List ℕ = replicate (suc n) c ++ info in
     let rest : List ℕ = code ++ line_feed ∷ replicate (suc n) c in
     let place = opening_line c (suc n) info code makes no_end in
-    let line : first_line text ≡ front = ap (λ k. take k text) place ∙ take-append_seam front (line_feed ∷ rest) in
+    let line : first_line text ≡ front =
+    ap (λ k. take k text) place ∙ take-append_seam front (line_feed ∷ rest) in
     let behind : behind_first_line text ≡ rest =
-    ap (λ k. behind_line_end (drop k text)) place ∙ ap behind_line_end (drop-append_seam front (line_feed ∷ rest)) in
+    ap (λ k. behind_line_end (drop k text)) place
+    ∙ ap behind_line_end (drop-append_seam front (line_feed ∷ rest)) in
     let found = before_closing-found c (suc n) true code makes some below in
     let size : length (code ++ line_feed ∷ []) - 1 ≡ length code = omega (arith, length_push code line_feed) in
     ap (λ l. cond (is_opening l)
     (option_map (λ front. take (length front - 1) front)
     (before_closing c (symbols_at_start c text) true (behind_first_line text))) None) line
     ∙ rw opens refl
-    ∙ ap (λ k. option_map (λ front. take (length front - 1) front) (before_closing c k true (behind_first_line text)))
+    ∙ ap (λ k. option_map (λ front. take (length front - 1) front)
+    (before_closing c k true (behind_first_line text)))
     (symbols_of_block c (suc n) info code makes no_symbol)
     ∙ ap (λ l. option_map (λ front. take (length front - 1) front) (before_closing c (suc n) true l)) behind
     ∙ ap (λ o. option_map (λ front. take (length front - 1) front) o) found
@@ -224,7 +231,8 @@ none_alone c (b ∷ s) none = at_first (b == c) (list_any (λ b. b == c) s) none
     at_first true y e = cc
     at_first false y e = refl
 
-pub opens_with_backquotes : (n : ℕ) (info : List ℕ) → 3 ≤ n → list_any (λ b. b == grave_accent) info ≡ false
+pub opens_with_backquotes : (n : ℕ) (info : List ℕ) → 3 ≤ n
+    → list_any (λ b. b == grave_accent) info ≡ false
     → is_opening (replicate n grave_accent ++ info) ≡ true
 opens_with_backquotes n info le none =
     let line : List ℕ = replicate n grave_accent ++ info in

@@ -31,13 +31,15 @@ fits_parts c (b ∷ info) fits =
     let rest = fits_parts c info first.2 in
     (rw first.0 rest.0, rw first.1 rest.1)
   where
-    each : (x y z w : Bool) → not (((x || y) || z) || w) ≡ true → ((x || y) ≡ false) × (z ≡ false) × (not w ≡ true)
+    each : (x y z w : Bool) → not (((x || y) || z) || w) ≡ true → ((x || y) ≡ false) × (z ≡ false)
+        × (not w ≡ true)
     each true y z w e = (cc, cc, cc)
     each false true z w e = (cc, cc, cc)
     each false false true w e = (cc, cc, cc)
     each false false false w e = (refl, refl, e)
 
-opens : (fence : CodeBlockFence) (n : ℕ) (info : List ℕ) → 3 ≤ n → list_any (λ b. b == symbol_of fence) info ≡ false
+opens : (fence : CodeBlockFence) (n : ℕ) (info : List ℕ) → 3 ≤ n
+    → list_any (λ b. b == symbol_of fence) info ≡ false
     → is_opening (replicate n (symbol_of fence) ++ info) ≡ true
 opens Tildes n info le none = opens_with_tildes n info le
 opens Backticks n info le none = opens_with_backquotes n info le none
@@ -70,7 +72,8 @@ run_push c zero (b ∷ s) other = ap (λ n. cond (b == c) (1 + n) 0) (run_push c
 run_push c (suc k) (b ∷ s) other = run_push c k s other
 
 run_of_content : (c k : ℕ) (s : List ℕ) → (line_feed == c) ≡ false → (s ≡ code_of s)
-    ⊎ (s ≡ code_of s ++ line_feed ∷ []) → symbols_at_start c (drop k s) ≡ symbols_at_start c (drop k (code_of s))
+    ⊎ (s ≡ code_of s ++ line_feed ∷ [])
+    → symbols_at_start c (drop k s) ≡ symbols_at_start c (drop k (code_of s))
 run_of_content c k s other (inl same) = ap (λ l. symbols_at_start c (drop k l)) same
 run_of_content c k s other (inr more) = ap (λ l. symbols_at_start c (drop k l)) more ∙ run_push c k (code_of s) other
 

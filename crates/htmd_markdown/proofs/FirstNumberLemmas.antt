@@ -61,7 +61,8 @@ negative_counts : (n : ℕ) → above_zero (neg_ℤ (pos n)) ≡ 1
 negative_counts zero = refl
 negative_counts (suc n) = refl
 
-minus_counts : {E : Type 0} (P : Type 0) (n : ℕ) (r : Result ℤ E) → OkIff r P (neg_ℤ (pos n)) → counted r ≡ 1
+minus_counts : {E : Type 0} (P : Type 0) (n : ℕ) (r : Result ℤ E) → OkIff r P (neg_ℤ (pos n))
+    → counted r ≡ 1
 minus_counts P n (Ok z) h = rw h.1 (negative_counts n)
 minus_counts P n (Err e) h = refl
 

@@ -9,7 +9,8 @@ use Rattle.htmd_markdown.specs.Links.{white_space_behind, inline_link, inline_li
 regrouped : (a b c d : List ℕ) → a ++ (b ++ c ++ d) ≡ (a ++ b) ++ c ++ d
 regrouped a b c d = simp append_assoc
 
-pub image-parts : (address : List ℕ) (alt title : Option (List ℕ)) → image address alt title ≡ image_start address alt
+pub image-parts : (address : List ℕ) (alt title : Option (List ℕ))
+    → image address alt title ≡ image_start address alt
     ++ escaped_address address ++ resource_end address title
 image-parts address alt title = regrouped (codes "!" ++ in_brackets (description alt)) (resource_start address)
     (escaped_address address) (resource_end address title)

@@ -27,7 +27,8 @@ use Rattle.htmd_markdown.proofs.ListsLemmas.{numbered-append, item_count-append}
 
 -- ---- what stands at the end of two texts
 
-prefix_stops : (p : ℕ → Bool) (xs ys : List ℕ) → prefix_len p ys ≡ 0 → prefix_len p (xs ++ ys) ≡ prefix_len p xs
+prefix_stops : (p : ℕ → Bool) (xs ys : List ℕ) → prefix_len p ys ≡ 0
+    → prefix_len p (xs ++ ys) ≡ prefix_len p xs
 prefix_stops p [] ys none = none
 prefix_stops p (x ∷ xs) ys none = ap (λ n. cond (p x) (1 + n) 0) (prefix_stops p xs ys none)
 
@@ -35,15 +36,18 @@ none_first : (test : Bool) (n k : ℕ) → cond test (1 + n) 0 ≡ 0 → cond te
 none_first true n k e = absurd (omega arith)
 none_first false n k e = refl
 
-prefix_none : (p : ℕ → Bool) (xs ys : List ℕ) → 0 < length xs → prefix_len p xs ≡ 0 → prefix_len p (xs ++ ys) ≡ 0
+prefix_none : (p : ℕ → Bool) (xs ys : List ℕ) → 0 < length xs → prefix_len p xs ≡ 0
+    → prefix_len p (xs ++ ys) ≡ 0
 prefix_none p [] ys some none = absurd (omega arith)
 prefix_none p (x ∷ xs) ys some none = none_first (p x) (prefix_len p xs) (prefix_len p (xs ++ ys)) none
 
-suffix_len-append : (p : ℕ → Bool) (xs ys : List ℕ) → suffix_len p xs ≡ 0 → suffix_len p (xs ++ ys) ≡ suffix_len p ys
+suffix_len-append : (p : ℕ → Bool) (xs ys : List ℕ) → suffix_len p xs ≡ 0
+    → suffix_len p (xs ++ ys) ≡ suffix_len p ys
 suffix_len-append p xs ys none = ap (prefix_len p) (reverse-append xs ys)
     ∙ prefix_stops p (reverse ys) (reverse xs) none
 
-suffix_none : (p : ℕ → Bool) (xs ys : List ℕ) → 0 < length ys → suffix_len p ys ≡ 0 → suffix_len p (xs ++ ys) ≡ 0
+suffix_none : (p : ℕ → Bool) (xs ys : List ℕ) → 0 < length ys → suffix_len p ys ≡ 0
+    → suffix_len p (xs ++ ys) ≡ 0
 suffix_none p xs ys some none =
     ap (prefix_len p) (reverse-append xs ys)
     ∙ prefix_none p (reverse ys) (reverse xs) (omega (arith, length-reverse ys)) none
@@ -90,7 +94,8 @@ pub record BeginsLine (line text : List ℕ) : Type 0 where
   pub before : List ℕ
   pub is : text ≡ (before ++ line_feed ∷ []) ++ line
 
-one_line_feed : (m : ℕ) (line : List ℕ) → is_line_feed m ≡ false → prefix_len is_line_feed (line_feed ∷ m ∷ line) ≡ 1
+one_line_feed : (m : ℕ) (line : List ℕ) → is_line_feed m ≡ false
+    → prefix_len is_line_feed (line_feed ∷ m ∷ line) ≡ 1
 one_line_feed m line other = ap (λ t. 1 + cond t (1 + prefix_len is_line_feed line) 0) other
 
 line_joined : (out line : List ℕ) → 0 < length line → is_line_feed (get_or line 0 0) ≡ false
@@ -104,7 +109,8 @@ line_joined out (m ∷ line) some other =
     record {
       before = trimmed_end is_line_feed out ++ replicate (count - 1) line_feed;
       is =
-          ap (λ n. (trimmed_end is_line_feed out ++ replicate count line_feed) ++ drop n (line_feed ∷ m ∷ line)) front
+          ap (λ n. (trimmed_end is_line_feed out ++ replicate count line_feed) ++ drop n (line_feed ∷ m ∷ line))
+          front
           ∙ ap (λ l. (trimmed_end is_line_feed out ++ l) ++ m ∷ line) separator
           ∙ ap (λ l. l ++ m ∷ line)
           (sym (append_assoc (trimmed_end is_line_feed out) (replicate (count - 1) line_feed) (line_feed ∷ [])));
@@ -112,7 +118,8 @@ line_joined out (m ∷ line) some other =
 
 -- ---- the marker and the content behind it
 
-trimmed_at : (p : ℕ → Bool) (s : List ℕ) (n : ℕ) → n ≡ length s - suffix_len p s → suffix_len p (take n s) ≡ 0
+trimmed_at : (p : ℕ → Bool) (s : List ℕ) (n : ℕ) → n ≡ length s - suffix_len p s
+    → suffix_len p (take n s) ≡ 0
 trimmed_at p s zero e = refl
 trimmed_at p s (suc n) e =
     let stops = prefix_len_stops p (reverse s) 0 (omega (arith, length-reverse s)) in
@@ -140,7 +147,8 @@ item_stands column marker content out later some first end width =
     let parts : trimmed_end is_line_feed content ++ cut_end is_line_feed content ≡ content =
     take-append-drop (length content - suffix_len is_line_feed content) content in
     let whole : join_block out (line_feed ∷ line) ≡ start ++ cut_end is_line_feed content =
-    begun.is ∙ ap (λ l. front ++ (marker ++ l)) (sym parts) ∙ regrouped front marker (trimmed_end is_line_feed content)
+    begun.is ∙ ap (λ l. front ++ (marker ++ l)) (sym parts)
+    ∙ regrouped front marker (trimmed_end is_line_feed content)
     (cut_end is_line_feed content) in
     let none = suffix_len-append is_line_feed (front ++ marker) (trimmed_end is_line_feed content)
     (suffix_none is_line_feed front marker some end) ∙ trimmed_none is_line_feed content in
@@ -200,7 +208,8 @@ spaces_none (suc k) =
     sym (replicate_more k space ∙ ap (λ n. replicate n space) (add-one k)) in
     ap (suffix_len is_line_feed) last ∙ suffix_len-push is_line_feed (replicate k space) space refl
 
-number_marker-end : (spacing highest number : ℕ) → suffix_len is_line_feed (number_marker spacing highest number) ≡ 0
+number_marker-end : (spacing highest number : ℕ)
+    → suffix_len is_line_feed (number_marker spacing highest number) ≡ 0
 number_marker-end spacing highest number =
     let spaces = replicate (spacing + (digits highest - digits number)) space in
     ap (suffix_len is_line_feed) (sym (append_assoc (decimal number) (full_stop ∷ []) spaces))

@@ -36,7 +36,8 @@ pub numbered-append : (spacing highest number : ℕ) (xs ys : List Block)
 numbered-append spacing highest number [] ys = ap (λ n. numbered_blocks spacing highest n ys) (omega arith)
 numbered-append spacing highest number (item content ∷ xs) ys =
     ap (λ l. numbered_item spacing highest number content ∷ l) (numbered-append spacing highest (suc number) xs ys
-    ∙ ap (λ n. numbered_blocks spacing highest (suc number) xs ++ numbered_blocks spacing highest n ys) (omega arith))
+    ∙ ap (λ n. numbered_blocks spacing highest (suc number) xs ++ numbered_blocks spacing highest n ys)
+    (omega arith))
 numbered-append spacing highest number (other text ∷ xs) ys =
     ap (λ l. text ∷ l) (numbered-append spacing highest number xs ys)
 

@@ -34,18 +34,22 @@ joined_onto b [] = refl
 joined_onto b (y ∷ ys) = refl
 
 pub joined_lines : (s : List ℕ)
-    → joined_texts (space ∷ []) (slice_split (λ b. b == line_feed) s) ≡ map (λ b. cond (is_line_feed b) space b) s
+    → joined_texts (space ∷ []) (slice_split (λ b. b == line_feed) s)
+    ≡ map (λ b. cond (is_line_feed b) space b) s
 joined_lines [] = refl
 joined_lines (b ∷ s) = one_more (is_line_feed b) refl (joined_lines s)
   where
     one_more : (t : Bool) → is_line_feed b ≡ t
-        → joined_texts (space ∷ []) (slice_split (λ b. b == line_feed) s) ≡ map (λ b. cond (is_line_feed b) space b) s
+        → joined_texts (space ∷ []) (slice_split (λ b. b == line_feed) s)
+        ≡ map (λ b. cond (is_line_feed b) space b) s
         → joined_texts (space ∷ []) (slice_split (λ b. b == line_feed) (b ∷ s)) ≡ map
         (λ b. cond (is_line_feed b) space b) (b ∷ s)
     one_more true here rest =
         let size = length-slice_split (λ b. b == line_feed) s in
-        rw here (joined_behind (slice_split (λ b. b == line_feed) s) (omega (arith, size)) ∙ ap (λ l. space ∷ l) rest)
-    one_more false here rest = rw here (joined_onto b (slice_split (λ b. b == line_feed) s) ∙ ap (λ l. b ∷ l) rest)
+        rw here (joined_behind (slice_split (λ b. b == line_feed) s) (omega (arith, size))
+        ∙ ap (λ l. space ∷ l) rest)
+    one_more false here rest =
+        rw here (joined_onto b (slice_split (λ b. b == line_feed) s) ∙ ap (λ l. b ∷ l) rest)
 
 -- ---- its backquotes
 
@@ -65,7 +69,8 @@ runs_spaced : (s : List ℕ) → runs grave_accent (map spaced_character s) ≡ 
 runs_spaced [] = refl
 runs_spaced (b ∷ s) = by_case (b == grave_accent) refl (runs_spaced s)
   where
-    by_case : (t : Bool) → (b == grave_accent) ≡ t → runs grave_accent (map spaced_character s) ≡ runs grave_accent s
+    by_case : (t : Bool) → (b == grave_accent) ≡ t
+        → runs grave_accent (map spaced_character s) ≡ runs grave_accent s
         → runs grave_accent (spaced_character b ∷ map spaced_character s) ≡ runs grave_accent (b ∷ s)
     by_case true same rest =
         runs-cons_yes grave_accent (spaced_character b) (map spaced_character s) (spaced_backquote b ∙ same)

@@ -12,7 +12,8 @@ use Rattle.htmd_markdown.specs.Quotes.{quoted_line, quoted_lines}
 abbrev pub marker : Bool → List ℕ
 marker is_first = if is_first then codes "> " else codes "\n> "
 
-pushed : (zs : List (List ℕ)) (x : List ℕ) → quoted_lines (zs ++ x ∷ []) ≡ (quoted_lines zs ++ marker (length zs == 0))
+pushed : (zs : List (List ℕ)) (x : List ℕ)
+    → quoted_lines (zs ++ x ∷ []) ≡ (quoted_lines zs ++ marker (length zs == 0))
     ++ x
 pushed [] x = append-nil (quoted_line x)
 pushed (y ∷ ys) x =
@@ -30,7 +31,8 @@ one_more start ls n x out is_first here begun was =
     let size : length (take n ls) ≡ n = length-take-le n ls (omega (arith, here.0)) in
     let more : take (n + 1) ls ≡ take n ls ++ x ∷ [] = take_more ls n x here.0
     ∙ ap (λ y. take n ls ++ y ∷ []) (sym here.1) in
-    let first : marker is_first ≡ marker (length (take n ls) == 0) = ap marker (begun ∙ ap (λ k. k == 0) (sym size)) in
+    let first : marker is_first ≡ marker (length (take n ls) == 0) =
+    ap marker (begun ∙ ap (λ k. k == 0) (sym size)) in
     ap (λ l. (l ++ marker is_first) ++ x) was
     ∙ ap (λ l. ((start ++ quoted_lines (take n ls)) ++ l) ++ x) first
     ∙ ap (λ l. l ++ x) (append_assoc start (quoted_lines (take n ls)) (marker (length (take n ls) == 0)))

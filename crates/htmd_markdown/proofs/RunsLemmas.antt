@@ -33,7 +33,8 @@ runs-cons_yes c b s same = slice_split-cons_no (λ b. not (b == c)) b s (ap not 
 pub runs-cons_no : (c b : ℕ) (s : List ℕ) → (b == c) ≡ false → runs c (b ∷ s) ≡ [] ∷ runs c s
 runs-cons_no c b s other = slice_split-cons_yes (λ b. not (b == c)) b s (ap not other)
 
-pub other_runs-cons_yes : (c b : ℕ) (s : List ℕ) → (b == c) ≡ true → other_runs (runs c (b ∷ s)) ≡ other_runs (runs c s)
+pub other_runs-cons_yes : (c b : ℕ) (s : List ℕ) → (b == c) ≡ true
+    → other_runs (runs c (b ∷ s)) ≡ other_runs (runs c s)
 other_runs-cons_yes c b s same = ap other_runs (runs-cons_yes c b s same) ∙ other_runs-onto_first b (runs c s)
 
 first_run_len : (c b : ℕ) (s : List ℕ) (t : Bool) → (b == c) ≡ t
@@ -64,13 +65,15 @@ longest-cons_yes : (c b : ℕ) (s : List ℕ) → (b == c) ≡ true
     → longest_run c (b ∷ s) ≡ max (suc (length (first_run (runs c s)))) (longest (other_runs (runs c s)))
 longest-cons_yes c b s same =
     ap longest (runs-cons_yes c b s same) ∙ longest_parts (onto_first b (runs c s))
-    ∙ ap (λ run. max (length run) (longest (other_runs (onto_first b (runs c s))))) (first_run-onto_first b (runs c s))
+    ∙ ap (λ run. max (length run) (longest (other_runs (onto_first b (runs c s)))))
+    (first_run-onto_first b (runs c s))
     ∙ ap (λ rs. max (suc (length (first_run (runs c s)))) (longest rs)) (other_runs-onto_first b (runs c s))
 
 longest-cons_no : (c b : ℕ) (s : List ℕ) → (b == c) ≡ false → longest_run c (b ∷ s) ≡ longest_run c s
 longest-cons_no c b s other = ap longest (runs-cons_no c b s other)
 
-longest_grows : (c b : ℕ) (s : List ℕ) (t : Bool) → (b == c) ≡ t → (longest_run c s ≤ longest_run c (b ∷ s))
+longest_grows : (c b : ℕ) (s : List ℕ) (t : Bool) → (b == c) ≡ t
+    → (longest_run c s ≤ longest_run c (b ∷ s))
     × (longest_run c (b ∷ s) ≤ suc (longest_run c s))
 longest_grows c b s true same = (
   omega (arith, longest-cons_yes c b s same, longest_parts (runs c s)),

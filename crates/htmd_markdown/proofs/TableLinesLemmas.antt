@@ -92,7 +92,8 @@ bar_text : IsUtf8 bar
 unfolding encode
 bar_text = (bar, (refl, refl))
 
-barred_text : (cells : List (List ℕ)) (widths : List ℕ) → AreCells cells → IsUtf8 (spec.barred_cells cells widths)
+barred_text : (cells : List (List ℕ)) (widths : List ℕ) → AreCells cells
+    → IsUtf8 (spec.barred_cells cells widths)
 barred_text [] widths are = IsUtf8-nil
 barred_text (cell ∷ cells) [] are = IsUtf8-nil
 barred_text (cell ∷ cells) (width ∷ widths) are =
@@ -114,7 +115,8 @@ barred_lacks (cell ∷ cells) (width ∷ widths) are =
     (padded_lacks cell width line_feed refl are.0.line_feeds)
     ∙ barred_lacks cells widths are.1
 
-line_lacks : (cells : List (List ℕ)) (widths : List ℕ) → AreCells cells → lacks line_feed (spec.line cells widths)
+line_lacks : (cells : List (List ℕ)) (widths : List ℕ) → AreCells cells
+    → lacks line_feed (spec.line cells widths)
     ≡ true
 line_lacks cells widths are = barred_lacks cells widths are
 
@@ -146,7 +148,8 @@ abbrev pub AreWhole : List (List ℕ) → Type 0
 AreWhole [] = Unit {0}
 AreWhole (l ∷ ls) = IsWhole l × AreWhole ls
 
-split_lines : (ls : List (List ℕ)) → AreWhole ls → slice_split (λ b. b == line_feed) (joined_lines ls) ≡ ls ++ [] ∷ []
+split_lines : (ls : List (List ℕ)) → AreWhole ls
+    → slice_split (λ b. b == line_feed) (joined_lines ls) ≡ ls ++ [] ∷ []
 split_lines [] are = refl
 split_lines (l ∷ ls) are =
     ap (slice_split (λ b. b == line_feed)) (append_assoc l (line_feed ∷ []) (joined_lines ls))

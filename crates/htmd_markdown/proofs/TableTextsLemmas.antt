@@ -39,7 +39,8 @@ dashes_lack : (w c : ℕ) → (hyphen == c) ≡ false → lacks c (spec.dashes w
 dashes_lack zero c other = refl
 dashes_lack (suc w) c other = ap (λ first. not first && lacks c (spec.dashes w)) other ∙ dashes_lack w c other
 
-bare_begins : (s : List ℕ) → list_all (λ b. not (is_document_white_space b)) s ≡ true → Begins is_document_white_space s
+bare_begins : (s : List ℕ) → list_all (λ b. not (is_document_white_space b)) s ≡ true
+    → Begins is_document_white_space s
 bare_begins [] all = tt
 bare_begins (b ∷ s) all =
     not_passed (is_document_white_space b)
@@ -50,7 +51,8 @@ dashes_cell w = record {
   text = IsUtf8-from_ascii (spec.dashes w) (dashes_ascii w);
   bare = record {
     front = bare_begins (spec.dashes w) (dashes_bare w);
-    back = bare_begins (reverse (spec.dashes w)) (reversed_passes (λ b. not (is_document_white_space b)) (spec.dashes w)
+    back =
+        bare_begins (reverse (spec.dashes w)) (reversed_passes (λ b. not (is_document_white_space b)) (spec.dashes w)
         (dashes_bare w));
   };
   bars = dashes_lack w vertical_bar refl;
@@ -88,7 +90,8 @@ all_lines ws [] rows = row_lines ws rows
 all_lines ws (header ∷ headers) rows = spec.line_cells (length ws) (header ∷ headers) ∷ map spec.dashes ws
     ∷ row_lines ws rows
 
-rows_joined : (ws : List ℕ) (rows : List (List (List ℕ))) → flat_map (λ cells. spec.row cells ws) rows ≡ joined_lines
+rows_joined : (ws : List ℕ) (rows : List (List (List ℕ)))
+    → flat_map (λ cells. spec.row cells ws) rows ≡ joined_lines
     (map (λ cells. spec.line cells ws) (row_lines ws rows))
 rows_joined ws [] = refl
 rows_joined ws (cells ∷ rows) = ap (λ l. spec.row cells ws ++ l) (rows_joined ws rows)
@@ -115,7 +118,8 @@ row_line ws cells covers = record {
 }
 
 rows_lines : {Z Y : Type 0} (ws : List ℕ) (rows : List (Vec (String Z) Y))
-    → CoversAll (map (map spec.cell_width) (map row_texts rows)) ws → AreLines ws (row_lines ws (map row_texts rows))
+    → CoversAll (map (map spec.cell_width) (map row_texts rows)) ws
+    → AreLines ws (row_lines ws (map row_texts rows))
 rows_lines ws [] covers = tt
 rows_lines ws (cells ∷ rows) covers = (row_line ws cells.items covers.0, rows_lines ws rows covers.1)
 

@@ -39,11 +39,13 @@ padded_pushed out cell pad =
 abbrev pub left : List (List ℕ) → List ℕ → ℕ → List ℕ
 left cells widths i = barred_cells (drop i cells) (drop i widths) ++ line_feed ∷ []
 
-pub line_begun : (out : List ℕ) (cells : List (List ℕ)) (widths : List ℕ) → (out ++ bar) ++ left cells widths 0 ≡ out
+pub line_begun : (out : List ℕ) (cells : List (List ℕ)) (widths : List ℕ)
+    → (out ++ bar) ++ left cells widths 0 ≡ out
     ++ (line cells widths ++ line_feed ∷ [])
 line_begun out cells widths = append_assoc out bar (left cells widths 0)
 
-pub line_more : (out : List ℕ) (cells : List (List ℕ)) (widths : List ℕ) (i : ℕ) → i < length cells → i < length widths
+pub line_more : (out : List ℕ) (cells : List (List ℕ)) (widths : List ℕ) (i : ℕ) → i < length cells
+    → i < length widths
     → ((out ++ padded_cell (get_or cells i []) (get_or widths i 0)) ++ bar) ++ left cells widths (i + 1) ≡ out
     ++ left cells widths i
 line_more out cells widths i within lt =

@@ -92,7 +92,8 @@ tidying_first ls before out is_first n x here some first was =
 pub tidying_later : (ls : List (List ℕ)) (before out : List ℕ) (is_first : Bool) (n : ℕ) (x : List ℕ)
     → (n < length ls) × (x ≡ get_or ls n x) → (length (trimmed_text is_document_white_space x) == 0) ≡ false
     → is_first ≡ false → Tidying ls before out is_first n
-    → Tidying ls before ((out ++ line_feed ∷ []) ++ escaped_line (trimmed_text is_document_white_space x)) false (n + 1)
+    → Tidying ls before ((out ++ line_feed ∷ []) ++ escaped_line (trimmed_text is_document_white_space x)) false
+    (n + 1)
 tidying_later ls before out is_first n x here some later was =
     let t = trimmed_text is_document_white_space x in
     let more : filled_lines_of ls (n + 1) ≡ filled_lines_of ls n ++ t ∷ [] = filled_more ls n x here

@@ -67,12 +67,14 @@ rest_begins passes (b ∷ s) =
     ap (λ k. drop k (b ∷ s)) (cond-true (passes b) (1 + n) 0 yes ∙ one_more n) in
     subst (λ (l : List ℕ). Begins passes l) (sym here) (rest_begins passes s))
     (λ no.
-    let here : trimmed_start passes (b ∷ s) ≡ b ∷ s = ap (λ k. drop k (b ∷ s)) (cond-false (passes b) (1 + n) 0 no) in
+    let here : trimmed_start passes (b ∷ s) ≡ b ∷ s =
+    ap (λ k. drop k (b ∷ s)) (cond-false (passes b) (1 + n) 0 no) in
     subst (λ (l : List ℕ). Begins passes l) (sym here) no)
     (cases_Bool (passes b))
 
 -- what is left of the end is what is left of the start of the reverse
-end_reversed : (passes : ℕ → Bool) (s : List ℕ) → trimmed_end passes s ≡ reverse (trimmed_start passes (reverse s))
+end_reversed : (passes : ℕ → Bool) (s : List ℕ)
+    → trimmed_end passes s ≡ reverse (trimmed_start passes (reverse s))
 end_reversed passes s =
     let n = suffix_len passes s in
     let cut = take n (reverse s) in
@@ -96,7 +98,8 @@ cut_reversed passes s =
     length-reverse rest ∙ length-drop n (reverse s) ∙ ap (λ k. k - n) (length-reverse s) in
     ap (λ l. drop (length s - n) l) turned ∙ drop_at (reverse rest) (reverse cut) (length s - n) size
 
-pub reversed_passes : (passes : ℕ → Bool) (s : List ℕ) → list_all passes s ≡ true → list_all passes (reverse s) ≡ true
+pub reversed_passes : (passes : ℕ → Bool) (s : List ℕ) → list_all passes s ≡ true
+    → list_all passes (reverse s) ≡ true
 reversed_passes passes [] all = refl
 reversed_passes passes (b ∷ s) all =
     let parts = and_parts (passes b) (list_all passes s) all in
@@ -111,7 +114,8 @@ begins_taken passes [] (suc n) begins = tt
 begins_taken passes (b ∷ s) (suc n) begins = begins
 
 -- what passes at the ends is cut, and a bare text stays
-pub trimmed_is : (passes : ℕ → Bool) (s middle : List ℕ) → IsBetween passes s middle → trimmed_text passes s ≡ middle
+pub trimmed_is : (passes : ℕ → Bool) (s middle : List ℕ) → IsBetween passes s middle
+    → trimmed_text passes s ≡ middle
 trimmed_is passes s [] here =
     let rest : trimmed_start passes s ≡ [] =
     ap (trimmed_start passes) (here.whole)
@@ -146,7 +150,8 @@ trimmed_between passes s =
           (sym (take-append-drop kept rest));
       cut = front_passes passes s;
       cut_behind = ap (list_all passes) (cut_reversed passes rest)
-          ∙ reversed_passes passes (take (suffix_len passes rest) (reverse rest)) (front_passes passes (reverse rest));
+          ∙ reversed_passes passes (take (suffix_len passes rest) (reverse rest))
+          (front_passes passes (reverse rest));
       bare = record {
         front = begins_taken passes rest kept (rest_begins passes s);
         back = subst (λ (l : List ℕ). Begins passes l) (sym back) (rest_begins passes (reverse rest));

@@ -49,7 +49,8 @@ block_of_length name n e = among_length block_names name ∙ ap (λ k. is_among 
 abbrev pub is_other_length : ℕ → Bool
 is_other_length n = list_all (λ m. not (m == n)) (1 ∷ 2 ∷ 3 ∷ 4 ∷ 5 ∷ 6 ∷ 7 ∷ 8 ∷ 10 ∷ [])
 
-other_among : (names : List (List ℕ)) (name : List ℕ) → list_any (λ other. is_other_length (length other)) names ≡ false
+other_among : (names : List (List ℕ)) (name : List ℕ)
+    → list_any (λ other. is_other_length (length other)) names ≡ false
     → is_other_length (length name) ≡ true → is_among names name ≡ false
 other_among [] name none long = refl
 other_among (other ∷ names) name none long =

@@ -18,7 +18,8 @@ use Rattle.htmd_text.specs.declared.escape.Marks.TheVariants.{Html, Markdown}
 use Rattle.htmd_text.specs.Marks.{is_marked_by, is_special, is_plain}
 
 rest_marked : (marked : ℕ → Bool) (s : List ℕ) (i : ℕ) → i < length s → marked i ≡ true
-    → with_backslashes marked i (drop i s) ≡ backslash ∷ get_or s i 0 ∷ with_backslashes marked (i + 1) (drop (i + 1) s)
+    → with_backslashes marked i (drop i s) ≡ backslash ∷ get_or s i 0
+    ∷ with_backslashes marked (i + 1) (drop (i + 1) s)
 rest_marked marked s i lt here = rw (drop_more s i 0 lt, here, add-one) refl
 
 rest_plain : (marked : ℕ → Bool) (s : List ℕ) (i : ℕ) → i < length s → marked i ≡ false
@@ -73,7 +74,8 @@ writing_plain marked s out from i lt plain was = record {
       let piece = between_more s from i 0 was.in_order lt in
       let grown : between from (i + 1) s ++ rest ≡ between from i s ++ get_or s i 0 ∷ rest =
       ap (λ l. l ++ rest) piece ∙ append_assoc (between from i s) (get_or s i 0 ∷ []) rest in
-      ap (λ l. out ++ l) (grown ∙ ap (λ l. between from i s ++ l) (sym (rest_plain marked s i lt plain))) ∙ was.whole;
+      ap (λ l. out ++ l) (grown ∙ ap (λ l. between from i s ++ l) (sym (rest_plain marked s i lt plain)))
+      ∙ was.whole;
   not_begun = was.not_begun;
   not_needed = was.not_needed;
 }
@@ -98,15 +100,18 @@ writing_marked marked s out from i lt here ascii was = record {
       rw (piece, append_assoc, append_assoc)
       (ap (λ l. out ++ (between from i s ++ l)) (sym (rest_marked marked s i lt here)) ∙ was.whole);
   not_begun = λ e. absurd (not_nil (out ++ between from i s) backslash e);
-  not_needed = λ same. absurd (omega (arith, grows marked 0 s i lt (ap marked (omega arith) ∙ here), ap length same));
+  not_needed =
+      λ same. absurd (omega (arith, grows marked 0 s i lt (ap marked (omega arith) ∙ here), ap length same));
 }
 
-pub writing_all : (marked : ℕ → Bool) (s out : List ℕ) (from i : ℕ) → length s ≤ i → Writing marked s out from i
+pub writing_all : (marked : ℕ → Bool) (s out : List ℕ) (from i : ℕ) → length s ≤ i
+    → Writing marked s out from i
     → out ++ between from (length s) s ≡ with_backslashes marked 0 s
 writing_all marked s out from i past was =
     let piece : between from (length s) s ≡ between from i s = between_to_end s from (length s) (omega arith)
     ∙ sym (between_to_end s from i past) in
-    let ended : with_backslashes marked i (drop i s) ≡ [] = ap (λ l. with_backslashes marked i l) (drop_all i s past) in
+    let ended : with_backslashes marked i (drop i s) ≡ [] =
+    ap (λ l. with_backslashes marked i l) (drop_all i s past) in
     rw piece (ap (λ l. out ++ l) (sym (append-nil (between from i s)) ∙ ap (λ l. between from i s ++ l) (sym ended))
     ∙ was.whole)
 
@@ -133,7 +138,8 @@ no_place : (o : Option ℕ) (k : ℕ) → is_none o ≡ true → is_place o k �
 no_place None k e = refl
 no_place (Some place) k e = cc
 
-plain_unmarked : (marks : Marks) (s : List ℕ) (k : ℕ) → is_plain marks s ≡ true → is_marked_by marks s k ≡ false
+plain_unmarked : (marks : Marks) (s : List ℕ) (k : ℕ) → is_plain marks s ≡ true
+    → is_marked_by marks s k ≡ false
 plain_unmarked Html s k plain =
     let other = or_parts (is_always_marked (slice_index s k)) (slice_index s k == less_than_sign)
     (special_at s k (false_from_not _ plain)) in
@@ -151,6 +157,7 @@ unmarked_stays : (marked : ℕ → Bool) (k : ℕ) (s : List ℕ) → ((i : ℕ)
 unmarked_stays marked k [] none = refl
 unmarked_stays marked k (b ∷ s) none = rw (none k) (ap (λ l. b ∷ l) (unmarked_stays marked (suc k) s none))
 
-pub plain_stays : (marks : Marks) (s : List ℕ) → is_plain marks s ≡ true → with_backslashes (is_marked_by marks s) 0 s
+pub plain_stays : (marks : Marks) (s : List ℕ) → is_plain marks s ≡ true
+    → with_backslashes (is_marked_by marks s) 0 s
     ≡ s
 plain_stays marks s plain = unmarked_stays (is_marked_by marks s) 0 s (λ k. plain_unmarked marks s k plain)

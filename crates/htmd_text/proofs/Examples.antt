@@ -24,7 +24,8 @@ tag = refl
 pub escaped_cdata : escaped_markdown (codes "<!\\[CDATA\\[x") ≡ codes "\\<!\\\\\\[CDATA\\\\\\[x"
 escaped_cdata = refl
 
-pub html : escaped_angle_brackets (codes "<!\\[CDATA\\[x<!--</a<?<a< b") ≡ codes "<!\\[CDATA\\[x\\<!--\\</a\\<?\\<a< b"
+pub html : escaped_angle_brackets (codes "<!\\[CDATA\\[x<!--</a<?<a< b")
+    ≡ codes "<!\\[CDATA\\[x\\<!--\\</a\\<?\\<a< b"
 html = refl
 
 pub fence : escaped_pre_text (codes "```") ≡ codes "\\```"

@@ -14,7 +14,8 @@ indented_push : (indent : ℕ) (zs : List (List ℕ)) (x : List ℕ) → 0 < len
 indented_push indent [] x some = absurd (omega arith)
 indented_push indent (y ∷ ys) x some = sym (flat_map_more (next_line indent) y ys x)
 
-mapped_more : (f : List ℕ → List ℕ) (ls : List (List ℕ)) (n : ℕ) (x : List ℕ) → (n < length ls) × (x ≡ get_or ls n x)
+mapped_more : (f : List ℕ → List ℕ) (ls : List (List ℕ)) (n : ℕ) (x : List ℕ)
+    → (n < length ls) × (x ≡ get_or ls n x)
     → map f (take (n + 1) ls) ≡ map f (take n ls) ++ f x ∷ []
 mapped_more f ls n x here =
     ap (map f) (take_more ls n x here.0 ∙ ap (λ y. take n ls ++ y ∷ []) (sym here.1)) ∙ map_push f (take n ls) x

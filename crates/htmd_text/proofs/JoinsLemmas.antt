@@ -36,8 +36,10 @@ abbrev pub Loop : {S A : Type 0} → Ghosts S A → (List A → Type 0) → S �
 Loop it P s t = Ran it.can_next (EndsFrom it.remaining) (items_left it.remaining) it.next_gives P s t
 
 -- the invariant behind the first item
-pub Loop-first : {S A : Type 0} (it : Ghosts S A) {P : List A → Type 0} {s t : S} {x : A} → it.next_gives s (Some x) t
-    → MakesProgress it.can_next it.remaining s (Some x) t → IsFinite (it.remaining s) → P (x ∷ []) → Loop it P s t
+pub Loop-first : {S A : Type 0} (it : Ghosts S A) {P : List A → Type 0} {s t : S} {x : A}
+    → it.next_gives s (Some x) t
+    → MakesProgress it.can_next it.remaining s (Some x) t → IsFinite (it.remaining s) → P (x ∷ [])
+    → Loop it P s t
 Loop-first it {t = t} {x = x} gave goes finite here =
     let ready = goes.on finite in
     record {
@@ -60,7 +62,8 @@ some_more xs y = omega (arith, length_push xs y)
 
 -- one more item
 pub item_joined : {A : Type 0} (text : A → List ℕ) (separator : List ℕ) (xs : List A) (y : A) → 0 < length xs
-    → joined_texts separator (map text (xs ++ y ∷ [])) ≡ joined_texts separator (map text xs) ++ (separator ++ text y)
+    → joined_texts separator (map text (xs ++ y ∷ [])) ≡ joined_texts separator (map text xs)
+    ++ (separator ++ text y)
 item_joined text separator [] y some = absurd (omega arith)
 item_joined text separator (x ∷ xs) y some =
     ap (λ l. text x ++ flat_map (λ next. separator ++ next) l) (map_push text xs y)

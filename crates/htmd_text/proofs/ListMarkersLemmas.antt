@@ -37,7 +37,8 @@ taken_more cs n c here =
 taken_le : (cs : List ℕ) (n : ℕ) → taken cs n ≤ length (encode_utf8_all cs)
 taken_le cs n =
     let whole = ap (λ l. length (encode_utf8_all l)) (take-append-drop n cs) in
-    let parts : length (encode_utf8_all (take n cs ++ drop n cs)) ≡ taken cs n + length (encode_utf8_all (drop n cs)) =
+    let parts : length (encode_utf8_all (take n cs ++ drop n cs)) ≡ taken cs n
+    + length (encode_utf8_all (drop n cs)) =
     ap length (encodes-append (take n cs) (drop n cs)) ∙ length-append (encode_utf8_all (take n cs))
     (encode_utf8_all (drop n cs)) in
     omega arith
@@ -50,7 +51,8 @@ pub record NumericTo (cs : List ℕ) (n len : ℕ) : Type 0 where
   pub size : len ≡ taken cs n
   pub numeric : n + prefix_len is_numeric (drop n cs) ≡ prefix_len is_numeric cs
 
-pub numeric_more : (cs : List ℕ) (n c len : ℕ) → (n < length cs) × (c ≡ get_or cs n c) → is_numeric c ≡ true
+pub numeric_more : (cs : List ℕ) (n c len : ℕ) → (n < length cs) × (c ≡ get_or cs n c)
+    → is_numeric c ≡ true
     → NumericTo cs n len → NumericTo cs (n + 1) (len + len_utf8 c)
 numeric_more cs n c len here passing was =
     let passes = ap is_numeric (sym here.1) ∙ passing in
@@ -65,7 +67,8 @@ numeric_stop s n c len here failing was =
     let stops : n ≡ prefix_len is_numeric (chars s) = omega (arith, was.numeric) in
     was.size ∙ ap (taken (chars s)) stops
 
-pub numeric_end : (s : List ℕ) (n len : ℕ) → length (chars s) ≤ n → NumericTo (chars s) n len → len ≡ numerals_len s
+pub numeric_end : (s : List ℕ) (n len : ℕ) → length (chars s) ≤ n → NumericTo (chars s) n len
+    → len ≡ numerals_len s
 numeric_end s n len past was =
     let step = prefix_len-drop_all is_numeric (chars s) n past in
     let stops : n ≡ prefix_len is_numeric (chars s) = omega (arith, was.numeric) in

@@ -14,7 +14,8 @@ use Rattle.htmd_text.specs.EscapeMarks.{is_place}
 use Rattle.htmd_text.specs.Marks.{AreAscii}
 use Rattle.htmd_text.specs.declared.escape.Marks.TheVariants.{Markdown}
 
-some_if : (b : Bool) (place k : ℕ) → is_place (cond b (Some place) None) k ≡ true → (b ≡ true) × (k ≡ place)
+some_if : (b : Bool) (place k : ℕ) → is_place (cond b (Some place) None) k ≡ true
+    → (b ≡ true) × (k ≡ place)
 some_if true place k e = (refl, grind (arith, nat_tests))
 some_if false place k e = (cc, cc)
 
@@ -39,7 +40,8 @@ heading_first : (s : List ℕ) → is_atx_heading s ≡ true → is_ascii_punctu
 heading_first [] e = cc
 heading_first (b ∷ s) e = grind (arith, nat_tests, and_parts)
 
-sign_is_punctuation : (b next : ℕ) → (is_one_of (codes "=~>") b || (is_one_of (codes "-+") b && (next == space))) ≡ true
+sign_is_punctuation : (b next : ℕ)
+    → (is_one_of (codes "=~>") b || (is_one_of (codes "-+") b && (next == space))) ≡ true
     → is_ascii_punctuation b ≡ true
 sign_is_punctuation b next e = grind (arith, nat_tests)
 
@@ -53,7 +55,8 @@ block_first (b ∷ s) e =
 special_is_punctuation : (b : ℕ) → is_always_marked b ≡ true → is_ascii_punctuation b ≡ true
 special_is_punctuation b e = grind (arith, nat_tests)
 
-html_is_punctuation : (b : ℕ) (opens : Bool) → ((b == less_than_sign) && opens) ≡ true → is_ascii_punctuation b ≡ true
+html_is_punctuation : (b : ℕ) (opens : Bool) → ((b == less_than_sign) && opens) ≡ true
+    → is_ascii_punctuation b ≡ true
 html_is_punctuation b opens e = let first = (and_parts (b == less_than_sign) opens e).0 in grind (arith, nat_tests)
 
 numbered_dot : (s : List ℕ) (k : ℕ) → is_place (numbered_item_dot s) k ≡ true
@@ -61,14 +64,16 @@ numbered_dot : (s : List ℕ) (k : ℕ) → is_place (numbered_item_dot s) k ≡
 numbered_dot s k e = let dot = dot_at s k (place_if (is_ascii_digit (slice_index s 0)) (ordered_item_dot s) k e) in
     rw dot refl
 
-begins_at : (s : List ℕ) (k : ℕ) → ((k == 0) && begins_block s) ≡ true → is_ascii_punctuation (slice_index s k) ≡ true
+begins_at : (s : List ℕ) (k : ℕ) → ((k == 0) && begins_block s) ≡ true
+    → is_ascii_punctuation (slice_index s k) ≡ true
 begins_at s k e =
     let parts = and_parts (k == 0) (begins_block s) e in
     let start : k ≡ 0 = grind (arith, nat_tests) in
     rw start (block_first s parts.1)
 
 -- what gets a backslash is ASCII punctuation
-pub marked_is_punctuation : (s : List ℕ) (k : ℕ) → is_marked s k ≡ true → is_ascii_punctuation (slice_index s k) ≡ true
+pub marked_is_punctuation : (s : List ℕ) (k : ℕ) → is_marked s k ≡ true
+    → is_ascii_punctuation (slice_index s k) ≡ true
 marked_is_punctuation s k e =
     let special = is_always_marked (slice_index s k) in
     let html = is_html_mark s k in
@@ -89,7 +94,8 @@ pub marks_are_ascii : (s : List ℕ) → AreAscii (Markdown (begins_block s) (nu
 marks_are_ascii s k lt e = punctuation_is_ascii (slice_index s k) (marked_is_punctuation s k e)
 
 -- a backslash always gets one
-pub unmarked_is_no_backslash : (s : List ℕ) (k : ℕ) → is_marked s k ≡ false → (slice_index s k == backslash) ≡ false
+pub unmarked_is_no_backslash : (s : List ℕ) (k : ℕ) → is_marked s k ≡ false
+    → (slice_index s k == backslash) ≡ false
 unmarked_is_no_backslash s k e =
     let special = is_always_marked (slice_index s k) in
     let html = is_html_mark s k in

@@ -24,7 +24,8 @@ use Rattle.htmd_text.specs.ListMarkers.{is_numeric, number_signs, is_atx_heading
 use Rattle.htmd_text.specs.ListMarkers.{ordered_item_dot}
 use Rattle.htmd_text.proofs.ListMarkersLemmas.{numeric-ascii}
 
-bare_first : (passes : List ℕ → Bool) (b : ℕ) (t : List ℕ) → (b == backslash) ≡ false → passes (b ∷ t) ≡ true
+bare_first : (passes : List ℕ → Bool) (b : ℕ) (t : List ℕ) → (b == backslash) ≡ false
+    → passes (b ∷ t) ≡ true
     → each_bare passes t ≡ true → each_bare passes (b ∷ t) ≡ true
 bare_first passes b [] other here rest = here
 bare_first passes b (c ∷ t) other here rest = rw (other, here) rest
@@ -33,13 +34,16 @@ escaped_first : (passes : List ℕ → Bool) (b : ℕ) (t : List ℕ) → is_asc
     → each_bare passes t ≡ true → each_bare passes (backslash ∷ b ∷ t) ≡ true
 escaped_first passes b t here rest = rw here rest
 
-one_more : (passes : List ℕ → Bool) (m : Bool) (b : ℕ) (t : List ℕ) → (m ≡ true → is_ascii_punctuation b ≡ true)
-    → (m ≡ false → (b == backslash) ≡ false) → (m ≡ false → passes (b ∷ t) ≡ true) → each_bare passes t ≡ true
+one_more : (passes : List ℕ → Bool) (m : Bool) (b : ℕ) (t : List ℕ)
+    → (m ≡ true → is_ascii_punctuation b ≡ true)
+    → (m ≡ false → (b == backslash) ≡ false) → (m ≡ false → passes (b ∷ t) ≡ true)
+    → each_bare passes t ≡ true
     → each_bare passes (cond m (backslash ∷ b ∷ t) (b ∷ t)) ≡ true
 one_more passes true b t marked plain here rest = escaped_first passes b t (marked refl) rest
 one_more passes false b t marked plain here rest = bare_first passes b t (plain refl) (here refl) rest
 
-pub tail_part : (w : List ℕ) (k b : ℕ) (s : List ℕ) → b ∷ s ≡ drop k w → (s ≡ drop (suc k) w) × (b ≡ get_or w k 0)
+pub tail_part : (w : List ℕ) (k b : ℕ) (s : List ℕ) → b ∷ s ≡ drop k w
+    → (s ≡ drop (suc k) w) × (b ≡ get_or w k 0)
 tail_part [] zero b s e = absurd (cc)
 tail_part [] (suc k) b s e = absurd (cc)
 tail_part (x ∷ w) zero b s e = (cc, cc)
@@ -90,7 +94,8 @@ no_letter marked k [] other = refl
 no_letter marked k (c ∷ t) other = letter_first (marked k) c (with_backslashes marked (suc k) t) other
 
 cdata_marked : (marked : ℕ → Bool) (k : ℕ) (r : List ℕ) → marked k ≡ true → marked (suc k) ≡ false
-    → marked (suc (suc k)) ≡ false → marked (suc (suc (suc k))) ≡ false → marked (suc (suc (suc (suc k)))) ≡ false
+    → marked (suc (suc k)) ≡ false → marked (suc (suc (suc k))) ≡ false
+    → marked (suc (suc (suc (suc k)))) ≡ false
     → marked (suc (suc (suc (suc (suc k))))) ≡ false → marked (suc (suc (suc (suc (suc (suc k)))))) ≡ true
     → starts_with nat_eq (with_backslashes marked k (codes "[CDATA[" ++ r)) (codes "\\[CDATA\\[") ≡ true
 cdata_marked marked k r m0 m1 m2 m3 m4 m5 m6 = rw (m0, m1, m2, m3, m4, m5, m6) refl
@@ -98,9 +103,11 @@ cdata_marked marked k r m0 m1 m2 m3 m4 m5 m6 = rw (m0, m1, m2, m3, m4, m5, m6) r
 bracket_marked : (w : List ℕ) (k : ℕ) → get_or w k 0 ≡ 0x5B → is_marked w k ≡ true
 bracket_marked w k here = rw here refl
 
-pub letter_unmarked : (w : List ℕ) (k c : ℕ) → c ≡ get_or w k 0 → is_ascii_punctuation c ≡ false → is_marked w k ≡ false
+pub letter_unmarked : (w : List ℕ) (k c : ℕ) → c ≡ get_or w k 0 → is_ascii_punctuation c ≡ false
+    → is_marked w k ≡ false
 letter_unmarked w k c here other =
-    ⊎_elim (λ m. absurd (false≢true (sym other ∙ ap is_ascii_punctuation here ∙ marked_is_punctuation w k m))) (λ m. m)
+    ⊎_elim (λ m. absurd (false≢true (sym other ∙ ap is_ascii_punctuation here ∙ marked_is_punctuation w k m)))
+    (λ m. m)
     (cases_Bool (is_marked w k))
 
 cdata_escaped : (w : List ℕ) (k : ℕ) (r : List ℕ) → codes "[CDATA[" ++ r ≡ drop k w
@@ -117,13 +124,15 @@ cdata_escaped w k r part =
     (letter_unmarked w _ _ p2.1 refl) (letter_unmarked w _ _ p3.1 refl) (letter_unmarked w _ _ p4.1 refl)
     (letter_unmarked w _ _ p5.1 refl) (bracket_marked w _ (sym p6.1))
 
-cdata_stays : (w : List ℕ) (k : ℕ) (t : List ℕ) → t ≡ drop k w → starts_with nat_eq t (codes "[CDATA[") ≡ true
+cdata_stays : (w : List ℕ) (k : ℕ) (t : List ℕ) → t ≡ drop k w
+    → starts_with nat_eq t (codes "[CDATA[") ≡ true
     → starts_with nat_eq (with_backslashes (is_marked w) k t) (codes "\\[CDATA\\[") ≡ true
 cdata_stays w k t part begins =
     let whole = (starts_is Decides-eqb t (codes "[CDATA[") true (sym begins)).0 refl in
     rw whole (cdata_escaped w k (drop (length (codes "[CDATA[")) t) (sym whole ∙ part))
 
-no_html_first : (w : List ℕ) (k c : ℕ) (t : List ℕ) (m : Bool) → t ≡ drop (suc k) w → opens_html (c ∷ t) ≡ false
+no_html_first : (w : List ℕ) (k c : ℕ) (t : List ℕ) (m : Bool) → t ≡ drop (suc k) w
+    → opens_html (c ∷ t) ≡ false
     → follows_no_html (cond m (backslash ∷ c ∷ with_backslashes (is_marked w) (suc k) t)
     (c ∷ with_backslashes (is_marked w) (suc k) t)) ≡ true
 no_html_first w k c t true part closed = refl
@@ -164,13 +173,16 @@ no_html w = each_bare-escaped begins_no_html w 0 w refl (bare_less w)
 
 -- ---- where nothing below n is marked, the byte at n stays or a backslash stands there
 
-first_or_backslash : (m : Bool) (b : ℕ) (t : List ℕ) → (get_or (cond m (backslash ∷ b ∷ t) (b ∷ t)) 0 0 ≡ b)
+first_or_backslash : (m : Bool) (b : ℕ) (t : List ℕ)
+    → (get_or (cond m (backslash ∷ b ∷ t) (b ∷ t)) 0 0 ≡ b)
     ⊎ (get_or (cond m (backslash ∷ b ∷ t) (b ∷ t)) 0 0 ≡ backslash)
 first_or_backslash true b t = inr refl
 first_or_backslash false b t = inl refl
 
-pub stays_or_backslash : (marked : ℕ → Bool) (k : ℕ) (s : List ℕ) (n : ℕ) → ((i : ℕ) → i < n → marked (k + i) ≡ false)
-    → (get_or (with_backslashes marked k s) n 0 ≡ get_or s n 0) ⊎ (get_or (with_backslashes marked k s) n 0 ≡ backslash)
+pub stays_or_backslash : (marked : ℕ → Bool) (k : ℕ) (s : List ℕ) (n : ℕ)
+    → ((i : ℕ) → i < n → marked (k + i) ≡ false)
+    → (get_or (with_backslashes marked k s) n 0 ≡ get_or s n 0)
+    ⊎ (get_or (with_backslashes marked k s) n 0 ≡ backslash)
 stays_or_backslash marked k [] n plain = inl refl
 stays_or_backslash marked k (b ∷ s) zero plain = first_or_backslash (marked k) b (with_backslashes marked (suc k) s)
 stays_or_backslash marked k (b ∷ s) (suc n) plain =
@@ -179,8 +191,10 @@ stays_or_backslash marked k (b ∷ s) (suc n) plain =
 
 -- ---- a run whose characters are never marked stays
 
-front_head : (p : ℕ → Bool) (m : Bool) (b : ℕ) (t s : List ℕ) → p backslash ≡ false → (p b ≡ true → m ≡ false)
-    → prefix_len p t ≡ prefix_len p s → prefix_len p (cond m (backslash ∷ b ∷ t) (b ∷ t)) ≡ prefix_len p (b ∷ s)
+front_head : (p : ℕ → Bool) (m : Bool) (b : ℕ) (t s : List ℕ) → p backslash ≡ false
+    → (p b ≡ true → m ≡ false)
+    → prefix_len p t ≡ prefix_len p s
+    → prefix_len p (cond m (backslash ∷ b ∷ t) (b ∷ t)) ≡ prefix_len p (b ∷ s)
 front_head p true b t s other plain rest =
     let stops : p b ≡ false = ⊎_elim (λ e. absurd (cc (plain e))) (λ e. e) (cases_Bool (p b)) in
     rw (other, stops) refl
@@ -210,19 +224,22 @@ at_start w e =
     (or_parts (special || html) (begins_block w)
     (or_parts (special || html || begins_block w) (is_place (numbered_item_dot w) 0) e).0).1
 
-sign_unmarked : (w : List ℕ) (i : ℕ) → 0 < i → (get_or w i 0 == number_sign) ≡ true → is_marked w i ≡ false
+sign_unmarked : (w : List ℕ) (i : ℕ) → 0 < i → (get_or w i 0 == number_sign) ≡ true
+    → is_marked w i ≡ false
 sign_unmarked w i later sign =
     let here : get_or w i 0 ≡ number_sign = grind (arith, nat_tests) in
     let special : is_always_marked (slice_index w i) ≡ false = rw here refl in
     let html : is_html_mark w i ≡ false = rw here refl in
-    let begins : ((i == 0) && begins_block w) ≡ false = and_left (i == 0) (begins_block w) (grind (arith, nat_tests)) in
+    let begins : ((i == 0) && begins_block w) ≡ false =
+    and_left (i == 0) (begins_block w) (grind (arith, nat_tests)) in
     let dot : is_place (numbered_item_dot w) i ≡ false =
     false_from_ne_true (is_place (numbered_item_dot w) i)
     (λ e. let stop = dot_at w i (place_if (is_ascii_digit (slice_index w 0)) (ordered_item_dot w) i e) in
     omega arith) in
     or_from _ _ (or_from _ _ (or_from _ _ special html) begins) dot
 
-sign_at : (w : List ℕ) → is_marked w 0 ≡ false → (i : ℕ) → (get_or w i 0 == number_sign) ≡ true → is_marked w i ≡ false
+sign_at : (w : List ℕ) → is_marked w 0 ≡ false → (i : ℕ) → (get_or w i 0 == number_sign) ≡ true
+    → is_marked w i ≡ false
 sign_at w start zero sign = start
 sign_at w start (suc i) sign = sign_unmarked w (suc i) (omega arith) sign
 
@@ -248,7 +265,8 @@ no_heading_of (b ∷ s) plain =
     (or_parts (is_one_of (codes "=~>") b || (is_one_of (codes "-+") b && (slice_index s 0 == space)))
     (is_atx_heading (b ∷ s)) plain).1
 
-no_block_first : (w : List ℕ) (b : ℕ) (s : List ℕ) → is_atx_heading (b ∷ with_backslashes (is_marked w) 1 s) ≡ false
+no_block_first : (w : List ℕ) (b : ℕ) (s : List ℕ)
+    → is_atx_heading (b ∷ with_backslashes (is_marked w) 1 s) ≡ false
     → begins_block (b ∷ s) ≡ false → begins_block (b ∷ with_backslashes (is_marked w) 1 s) ≡ false
 no_block_first w b s closed plain =
     let always = is_one_of (codes "=~>") b in
@@ -267,7 +285,8 @@ no_block_of w (b ∷ s) whole =
     (λ here. rw here refl)
     (λ start.
     let plain = at_start w start in
-    let same : escaped_markdown w ≡ b ∷ with_backslashes (is_marked w) 1 s = ap (with_backslashes (is_marked w) 0) whole
+    let same : escaped_markdown w ≡ b ∷ with_backslashes (is_marked w) 1 s =
+    ap (with_backslashes (is_marked w) 0) whole
     ∙ rw start refl in
     let heading : is_atx_heading w ≡ false = no_heading_of w plain in
     let closed = ap is_atx_heading (sym same) ∙ no_heading w start heading in
@@ -287,7 +306,8 @@ chars_ascii b (c ∷ s) small = let test : nat_lt b 128 ≡ true = grind (arith,
 digit_is_numeric : (b : ℕ) → is_ascii_digit b ≡ true → is_numeric b ≡ true
 digit_is_numeric b e = let small : b < 128 = grind (arith, nat_tests) in numeric-ascii b small ∙ e
 
-numerals_more : (b : ℕ) (s : List ℕ) → is_ascii_digit b ≡ true → numerals_len (b ∷ s) ≡ suc (numerals_len s)
+numerals_more : (b : ℕ) (s : List ℕ) → is_ascii_digit b ≡ true
+    → numerals_len (b ∷ s) ≡ suc (numerals_len s)
 numerals_more b s e =
     let small : b < 128 = grind (arith, nat_tests) in
     let first : take_while is_numeric (b ∷ chars s) ≡ b ∷ take_while is_numeric (chars s) =
@@ -300,7 +320,8 @@ numerals_none : (b : ℕ) (s : List ℕ) → b ≡ full_stop → numerals_len (b
 numerals_none b s e =
     let none : is_numeric b ≡ false = ap is_numeric e ∙ numeric-ascii full_stop (lit< tt) in
     ap (λ cs. length (encode_utf8_all (take_while is_numeric cs))) (chars_ascii b s (omega arith))
-    ∙ ap (λ l. length (encode_utf8_all l)) (take_while-cons is_numeric b (chars s) ∙ cond-false (is_numeric b) _ _ none)
+    ∙ ap (λ l. length (encode_utf8_all l))
+    (take_while-cons is_numeric b (chars s) ∙ cond-false (is_numeric b) _ _ none)
 
 -- as many numerals as digits, where a dot stands behind the digits
 numerals_run : (s : List ℕ) → get_or s (prefix_len is_ascii_digit s) 0 ≡ full_stop
@@ -311,7 +332,8 @@ numerals_run (b ∷ s) e =
     (λ digit.
     let len : prefix_len is_ascii_digit (b ∷ s) ≡ suc (prefix_len is_ascii_digit s) =
     cond-true (is_ascii_digit b) _ _ digit ∙ omega arith in
-    let rest : get_or s (prefix_len is_ascii_digit s) 0 ≡ full_stop = ap (λ n. get_or (b ∷ s) n 0) (sym len) ∙ e in
+    let rest : get_or s (prefix_len is_ascii_digit s) 0 ≡ full_stop = ap (λ n. get_or (b ∷ s) n 0) (sym len)
+    ∙ e in
     numerals_more b s digit ∙ ap suc (numerals_run s rest) ∙ sym len)
     (λ other.
     let len : prefix_len is_ascii_digit (b ∷ s) ≡ 0 = cond-false (is_ascii_digit b) _ _ other in
@@ -320,7 +342,8 @@ numerals_run (b ∷ s) e =
     (cases_Bool (is_ascii_digit b))
 
 marked_shows : (marked : ℕ → Bool) (k : ℕ) (s : List ℕ) (n : ℕ) → n < length s
-    → ((i : ℕ) → i < n → marked (k + i) ≡ false) → marked (k + n) ≡ true → get_or (with_backslashes marked k s) n 0
+    → ((i : ℕ) → i < n → marked (k + i) ≡ false) → marked (k + n) ≡ true
+    → get_or (with_backslashes marked k s) n 0
     ≡ backslash
 marked_shows marked k [] n lt plain here = absurd (omega arith)
 marked_shows marked k (b ∷ s) zero lt plain here =
@@ -344,7 +367,8 @@ one_dot w d within here next =
     (λ _. ap p (at 1 ∙ next))
 
 -- digits, a dot and a space: the dot is marked
-item_marked : (w : List ℕ) (d : ℕ) → d ≡ prefix_len is_ascii_digit w → 0 < d → d < length w → get_or w d 0 ≡ full_stop
+item_marked : (w : List ℕ) (d : ℕ) → d ≡ prefix_len is_ascii_digit w → 0 < d → d < length w
+    → get_or w d 0 ≡ full_stop
     → get_or w (d + 1) 0 ≡ space → is_marked w d ≡ true
 item_marked w d e some within here next =
     let run : numerals_len w ≡ d = numerals_run w (ap (λ n. get_or w n 0) (sym e) ∙ here) ∙ sym e in

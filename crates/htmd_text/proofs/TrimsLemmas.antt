@@ -21,7 +21,8 @@ OfAscii passes = (b : ℕ) → passes b ≡ true → b < 128
 pub document_of_ascii : OfAscii is_document_white_space
 document_of_ascii b e = grind (arith, nat_tests)
 
-start_at : (passes : ℕ → Bool) (s : List ℕ) (n : ℕ) → IsUtf8 s → OfAscii passes → n ≡ prefix_len passes s
+start_at : (passes : ℕ → Bool) (s : List ℕ) (n : ℕ) → IsUtf8 s → OfAscii passes
+    → n ≡ prefix_len passes s
     → IsCharBoundary s n
 start_at passes s zero text ascii e = IsCharBoundary-start s text
 start_at passes s (suc n) text ascii e =
@@ -48,11 +49,13 @@ end_at passes s (suc n) ascii e =
     IsCharBoundary-before_ascii s (length s - suc n) (omega arith)
     (ascii (get_or s (length s - suc n) 0) (ap passes (sym same) ∙ passed))
 
-pub end_boundary : (passes : ℕ → Bool) (s : List ℕ) → OfAscii passes → IsCharBoundary s (length s - suffix_len passes s)
+pub end_boundary : (passes : ℕ → Bool) (s : List ℕ) → OfAscii passes
+    → IsCharBoundary s (length s - suffix_len passes s)
 end_boundary passes s ascii = end_at passes s (suffix_len passes s) ascii refl
 
 -- a loop that goes down from the end stops where the last byte does not pass, or at the start
-pub end_stops : (passes : ℕ → Bool) (s : List ℕ) (n : ℕ) → n ≤ length s → (0 < n → passes (get_or s (n - 1) 0) ≡ false)
+pub end_stops : (passes : ℕ → Bool) (s : List ℕ) (n : ℕ) → n ≤ length s
+    → (0 < n → passes (get_or s (n - 1) 0) ≡ false)
     → n + suffix_len passes s ≡ length s + suffix_len passes (take n s) → n ≡ length s - suffix_len passes s
 end_stops passes s zero le stops e =
     let within = suffix_len-le-length passes s in
@@ -71,7 +74,8 @@ rest_boundary s r n text le e =
     let same : r ≡ drop (length s - length r) s = e ∙ sym (drop_min n s) ∙ ap (λ k. drop k s) (sym place) in
     IsCharBoundary-from_drop s (length s - length r) (omega arith) (subst (λ (l : List ℕ). IsUtf8 l) same text)
 
-pub front_boundary : (s r : List ℕ) (n : ℕ) → IsUtf8 s → IsUtf8 r → n ≤ length s → length r ≡ n → r ≡ take n s
+pub front_boundary : (s r : List ℕ) (n : ℕ) → IsUtf8 s → IsUtf8 r → n ≤ length s → length r ≡ n
+    → r ≡ take n s
     → IsCharBoundary s (length r)
 front_boundary s r n whole text le size e =
     subst (λ (k : ℕ). IsCharBoundary s k) (sym size)
@@ -94,7 +98,8 @@ start_may_cut s n text e =
     may_cut s n (subst (λ (k : ℕ). IsCharBoundary s k) (sym e) here)
 
 -- in front of what passes at the end
-pub end_may_cut : (passes : ℕ → Bool) (s : List ℕ) (n : ℕ) → OfAscii passes → n ≡ length s - suffix_len passes s
+pub end_may_cut : (passes : ℕ → Bool) (s : List ℕ) (n : ℕ) → OfAscii passes
+    → n ≡ length s - suffix_len passes s
     → IsSplitPoint s n
 end_may_cut passes s n ascii e =
     may_cut s n (subst (λ (k : ℕ). IsCharBoundary s k) (sym e) (end_boundary passes s ascii))

@@ -12,11 +12,13 @@ unescape_other : (b : ℕ) (t : List ℕ) → (b == backslash) ≡ false → une
 unescape_other b [] other = refl
 unescape_other b (c ∷ t) other = rw other refl
 
-unescape_escaped : (b : ℕ) (t : List ℕ) → is_ascii_punctuation b ≡ true → unescape (backslash ∷ b ∷ t) ≡ b ∷ unescape t
+unescape_escaped : (b : ℕ) (t : List ℕ) → is_ascii_punctuation b ≡ true
+    → unescape (backslash ∷ b ∷ t) ≡ b ∷ unescape t
 unescape_escaped b t here = rw here refl
 
 one_more : (m : Bool) (b : ℕ) (s t : List ℕ) → (m ≡ true → is_ascii_punctuation b ≡ true)
-    → (m ≡ false → (b == backslash) ≡ false) → unescape t ≡ s → unescape (cond m (backslash ∷ b ∷ t) (b ∷ t)) ≡ b ∷ s
+    → (m ≡ false → (b == backslash) ≡ false) → unescape t ≡ s
+    → unescape (cond m (backslash ∷ b ∷ t) (b ∷ t)) ≡ b ∷ s
 one_more true b s t marked plain rest = unescape_escaped b t (marked refl) ∙ ap (λ l. b ∷ l) rest
 one_more false b s t marked plain rest = unescape_other b t (plain refl) ∙ ap (λ l. b ∷ l) rest
 

@@ -23,7 +23,8 @@ shorter false v b s rest le = omega (arith, le)
 -- no text becomes longer
 pub squeezed_le : (s : List ℕ) → length (squeezed_text s) ≤ length s
 squeezed_le [] = omega arith
-squeezed_le (b ∷ s) = shorter (is_ascii_white_space b) (begins_with_white_space s) b s (squeezed_text s) (squeezed_le s)
+squeezed_le (b ∷ s) =
+    shorter (is_ascii_white_space b) (begins_with_white_space s) b s (squeezed_text s) (squeezed_le s)
 
 same_rest : (w v : Bool) (b : ℕ) (s rest : List ℕ) → length rest ≤ length s
     → cond w (cond v rest (space ∷ rest)) (b ∷ rest) ≡ b ∷ s → rest ≡ s
@@ -44,16 +45,19 @@ inner_replaced b s white more =
     record { white = white; whole = whole }
 
 -- the last white space of a run becomes a space
-pub last_replaced : (b : ℕ) (s : List ℕ) → is_ascii_white_space b ≡ true → begins_with_white_space s ≡ false → b ≢ space
+pub last_replaced : (b : ℕ) (s : List ℕ) → is_ascii_white_space b ≡ true → begins_with_white_space s ≡ false
+    → b ≢ space
     → IsReplaced (b ∷ s) (space ∷ [])
 last_replaced b s white last other =
     let whole : squeezed_text (b ∷ s) ≡ space ∷ squeezed_text s = rw (white, last) refl in
     record { white = white; whole = whole }
 
-pub space_stays : (s : List ℕ) → begins_with_white_space s ≡ false → squeezed_text (space ∷ s) ≡ space ∷ squeezed_text s
+pub space_stays : (s : List ℕ) → begins_with_white_space s ≡ false
+    → squeezed_text (space ∷ s) ≡ space ∷ squeezed_text s
 space_stays s last = rw last refl
 
-pub other_stays : (b : ℕ) (s : List ℕ) → is_ascii_white_space b ≡ false → squeezed_text (b ∷ s) ≡ b ∷ squeezed_text s
+pub other_stays : (b : ℕ) (s : List ℕ) → is_ascii_white_space b ≡ false
+    → squeezed_text (b ∷ s) ≡ b ∷ squeezed_text s
 other_stays b s other = rw other refl
 
 -- What was written, the piece that waits, and what the rest becomes, are the whole.
@@ -72,7 +76,8 @@ squeezing_none s out text none = record {
 rest_of : (s : List ℕ) (i : ℕ) → drop 1 (drop i s) ≡ drop (i + 1) s
 rest_of s i = drop-drop 1 i s
 
-pub squeezing_stays : (s out : List ℕ) (from i : ℕ) → i < length s → squeezed_text (drop i s) ≡ take 1 (drop i s)
+pub squeezing_stays : (s out : List ℕ) (from i : ℕ) → i < length s
+    → squeezed_text (drop i s) ≡ take 1 (drop i s)
     ++ squeezed_text (drop 1 (drop i s)) → Squeezing s out from i → Squeezing s out from (i + 1)
 squeezing_stays s out from i lt stays was = record {
   in_order = omega (arith, was.in_order);
@@ -90,7 +95,8 @@ squeezing_stays s out from i lt stays was = record {
 white_is_ascii : (b : ℕ) → is_ascii_white_space b ≡ true → b < 128
 white_is_ascii b white = grind (arith, nat_tests)
 
-pub squeezing_replaced : (s out instead : List ℕ) (from i : ℕ) → IsUtf8 s → i < length s → IsReplaced (drop i s) instead
+pub squeezing_replaced : (s out instead : List ℕ) (from i : ℕ) → IsUtf8 s → i < length s
+    → IsReplaced (drop i s) instead
     → Squeezing s out from i → Squeezing s ((out ++ between from i s) ++ instead) (i + 1) (i + 1)
 squeezing_replaced s out instead from i text lt here was = record {
   in_order = omega arith;
@@ -123,13 +129,15 @@ no_white_behind (b ∷ s) e =
     false_from_ne_true _ (λ white. let front = (and_parts _ (is_squeezed (is_ascii_white_space b) s) e).0 in
     absurd (false≢true (rw white at front)))
 
-space_here : (white after_white : Bool) (b : ℕ) → white ≡ true → (not white || (not after_white && (b == space))) ≡ true
+space_here : (white after_white : Bool) (b : ℕ) → white ≡ true
+    → (not white || (not after_white && (b == space))) ≡ true
     → b ≡ space
 space_here false after_white b e front = absurd (false≢true e)
 space_here true after_white b e front = let test = (and_parts (not after_white) (b == space) front).1 in
     grind (arith, nat_tests)
 
-pub squeezed_stays : (s : List ℕ) (after_white : Bool) → is_squeezed after_white s ≡ true → squeezed_text s ≡ s
+pub squeezed_stays : (s : List ℕ) (after_white : Bool) → is_squeezed after_white s ≡ true
+    → squeezed_text s ≡ s
 squeezed_stays [] after_white e = refl
 squeezed_stays (b ∷ s) after_white e =
     let alone = not after_white && (b == space) in
@@ -147,12 +155,15 @@ squeezed_stays (b ∷ s) after_white e =
 -- a text without white space in front may stand behind some
 behind_white : (s : List ℕ) → begins_with_white_space s ≡ false → is_squeezed true s ≡ is_squeezed false s
 behind_white [] last = refl
-behind_white (b ∷ s) last = ap (λ w. (not w || (false && (b == space))) && is_squeezed (is_ascii_white_space b) s) last
+behind_white (b ∷ s) last =
+    ap (λ w. (not w || (false && (b == space))) && is_squeezed (is_ascii_white_space b) s) last
     ∙ sym (ap (λ w. (not w || (true && (b == space))) && is_squeezed (is_ascii_white_space b) s) last)
 
 -- a text that squeezing leaves as it is has each white space alone
-stays_squeezed : (w v : Bool) (b : ℕ) (s rest : List ℕ) → is_ascii_white_space b ≡ w → begins_with_white_space s ≡ v
-    → length rest ≤ length s → cond w (cond v rest (space ∷ rest)) (b ∷ rest) ≡ b ∷ s → is_squeezed false s ≡ true
+stays_squeezed : (w v : Bool) (b : ℕ) (s rest : List ℕ) → is_ascii_white_space b ≡ w
+    → begins_with_white_space s ≡ v
+    → length rest ≤ length s → cond w (cond v rest (space ∷ rest)) (b ∷ rest) ≡ b ∷ s
+    → is_squeezed false s ≡ true
     → is_squeezed false (b ∷ s) ≡ true
 stays_squeezed true true b s rest white more le same alone = absurd (omega (arith, le, ap length same))
 stays_squeezed true false b s rest white last le same alone =
@@ -170,7 +181,8 @@ same_is_squeezed (b ∷ s) same =
     (squeezed_le s) same (same_is_squeezed s (squeezed_tail b s same))
 
 -- a text that the test finds not to be squeezed changes
-pub changes : (s bytes : List ℕ) (found : Bool) → bytes ≡ s → found ≡ is_squeezed false bytes → found ≡ false
+pub changes : (s bytes : List ℕ) (found : Bool) → bytes ≡ s → found ≡ is_squeezed false bytes
+    → found ≡ false
     → squeezed_text s ≡ s → ⊥
 changes s bytes found bytes_are is_found none same =
     false≢true (sym none ∙ is_found ∙ ap (is_squeezed false) bytes_are ∙ same_is_squeezed s same)

@@ -18,7 +18,8 @@ is_marked_by (Markdown begins_block item_dot) s k =
 
 -- what gets a backslash is an ASCII character
 abbrev pub AreAscii : Marks → List ℕ → Type 0
-AreAscii marks s = (k : ℕ) → k < length s → is_marked_by marks s k ≡ true → is_ascii (slice_index s k) ≡ true
+AreAscii marks s = (k : ℕ) → k < length s → is_marked_by marks s k ≡ true
+    → is_ascii (slice_index s k) ≡ true
 
 -- the character may get a backslash wherever it stands
 abbrev pub is_special : ℕ → Bool

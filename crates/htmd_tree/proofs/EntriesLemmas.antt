@@ -19,7 +19,8 @@ pub items_of-set : (entries : List Entry) (p : ℕ) (old new : Entry) → old �
 items_of-set entries p old new here same = map-set_same item_of entries p new old (same ∙ ap item_of here)
 
 -- the parent's entry is written with the children that it had
-pub IsStored-kept : (entries : List Entry) (p : ℕ) (old new : Entry) → p < length entries → old ≡ get_or entries p old
+pub IsStored-kept : (entries : List Entry) (p : ℕ) (old new : Entry) → p < length entries
+    → old ≡ get_or entries p old
     → item_of new ≡ item_of old → new.children.items ≡ old.children.items → IsStored entries
     → IsStored (set entries p new)
 IsStored-kept entries p old new l here same kids t = record {
@@ -31,26 +32,31 @@ IsStored-kept entries p old new l here same kids t = record {
     at_parent : (d : Entry) → (get_or (set entries p new) p d).children.items ≡ children_of (items_of entries) p
     at_parent d =
         ap (λ (x : Entry). x.children.items) (get_or-set_same entries p new d l)
-        ∙ (kids ∙ (ap (λ (x : Entry). x.children.items) (here ∙ get_or_default entries p old d l) ∙ t.children p d l))
+        ∙ (kids ∙ (ap (λ (x : Entry). x.children.items) (here ∙ get_or_default entries p old d l)
+        ∙ t.children p d l))
 
-    each : (k : ℕ) (d : Entry) → k < length entries → (get_or (set entries p new) k d).children.items ≡ children_of
+    each : (k : ℕ) (d : Entry) → k < length entries
+        → (get_or (set entries p new) k d).children.items ≡ children_of
         (items_of entries) k
     each k d m = elim (cases_eq k p) [
-      | inl e ↦ subst (λ j. (get_or (set entries p new) j d).children.items ≡ children_of (items_of entries) j) (sym e)
+      | inl e ↦ subst (λ j. (get_or (set entries p new) j d).children.items ≡ children_of (items_of entries) j)
+          (sym e)
           (at_parent d)
       | inr n ↦ ap (λ (x : Entry). x.children.items) (get_or-set_other entries p k new d n) ∙ t.children k d m
     ]
 
 -- the items after an addition
 pub items_of-added : (entries : List Entry) (p : ℕ) (old new last : Entry) → old ≡ get_or entries p old
-    → item_of new ≡ item_of old → items_of (set entries p new ++ last ∷ []) ≡ items_of entries ++ item_of last ∷ []
+    → item_of new ≡ item_of old
+    → items_of (set entries p new ++ last ∷ []) ≡ items_of entries ++ item_of last ∷ []
 items_of-added entries p old new last here same =
     map_push item_of (set entries p new) last ∙ ap (λ (y : List Item). y ++ item_of last ∷ [])
     (items_of-set entries p old new here same)
 
 -- the parent's entry gets a child more, and the child's entry comes last
 pub IsStored-added : (entries : List Entry) (p : ℕ) (old new last : Entry) → p < length entries
-    → old ≡ get_or entries p old → item_of new ≡ item_of old → new.children.items ≡ old.children.items ++ length entries
+    → old ≡ get_or entries p old → item_of new ≡ item_of old
+    → new.children.items ≡ old.children.items ++ length entries
     ∷ []
     → item_of last ≡ new_item (items_of entries) p (data_of last.data) → last.children.items ≡ []
     → holds_children (data_at (items_of entries) p) ≡ true → depth_at (items_of entries) p < greatest_depth
@@ -73,7 +79,8 @@ IsStored-added entries p old new last l here same kids this no_kids holds shallo
     items : items_of (written ++ last ∷ []) ≡ items_of entries ++ item_of last ∷ []
     items = items_of-added entries p old new last here same
 
-    all : (k : ℕ) → children_of (items_of (written ++ last ∷ [])) k ≡ children_of (items_of entries) k ++ cond (eqb p k)
+    all : (k : ℕ) → children_of (items_of (written ++ last ∷ [])) k ≡ children_of (items_of entries) k
+        ++ cond (eqb p k)
         (length entries ∷ []) []
     all k =
         ap (λ (y : List Item). children_of y k) items
@@ -86,7 +93,8 @@ IsStored-added entries p old new last l here same kids this no_kids holds shallo
     at_old : (k : ℕ) (d : Entry) → k < length entries → get_or (written ++ last ∷ []) k d ≡ get_or written k d
     at_old k d m = get_or_append_left written (last ∷ []) d k (omega (arith, same_length))
 
-    at_parent : (d : Entry) → (get_or (written ++ last ∷ []) p d).children.items ≡ children_of (items_of entries) p
+    at_parent : (d : Entry) → (get_or (written ++ last ∷ []) p d).children.items
+        ≡ children_of (items_of entries) p
         ++ length entries ∷ []
     at_parent d =
         ap (λ (x : Entry). x.children.items) (at_old p d l ∙ get_or-set_same entries p new d l)
@@ -94,13 +102,15 @@ IsStored-added entries p old new last l here same kids this no_kids holds shallo
         (ap (λ (x : Entry). x.children.items) (here ∙ get_or_default entries p old d l) ∙ t.children p d l))
 
     at_last : (d : Entry) → (get_or (written ++ last ∷ []) (length entries) d).children.items ≡ []
-    at_last d = ap (λ (x : Entry). x.children.items) (get_or_push written last d (length entries) same_length) ∙ no_kids
+    at_last d = ap (λ (x : Entry). x.children.items) (get_or_push written last d (length entries) same_length)
+        ∙ no_kids
 
     none_yet : children_of (items_of entries) (length entries) ≡ []
     none_yet = children_from-none 0 (items_of entries) (length entries)
         (λ k m. is_child-before (items_of entries) k (length entries) t.tree m (omega (arith, count)))
 
-    each : (k : ℕ) (d : Entry) → k < length (written ++ last ∷ []) → (get_or (written ++ last ∷ []) k d).children.items
+    each : (k : ℕ) (d : Entry) → k < length (written ++ last ∷ [])
+        → (get_or (written ++ last ∷ []) k d).children.items
         ≡ children_of (items_of entries) k ++ cond (eqb p k) (length entries ∷ []) []
     each k d m = elim (cases_eq k p) [
       | inl e ↦ subst (λ j. (get_or (written ++ last ∷ []) j d).children.items ≡ children_of (items_of entries) j

@@ -31,7 +31,8 @@ children_from-none b (item ∷ items) p h =
     let first : is_child p item.parent ≡ false = h 0 (omega arith) in
     rw (first, others) refl
 
-not_before : (o : Option ℕ) (k p : ℕ) → k ≤ p → ((q : ℕ) → o ≡ Some q → q < k) → is_child p o ≡ false
+not_before : (o : Option ℕ) (k p : ℕ) → k ≤ p → ((q : ℕ) → o ≡ Some q → q < k)
+    → is_child p o ≡ false
 not_before None k p l h = refl
 not_before (Some q) k p l h = let before : q < k = h q refl in grind (arith, nat_tests)
 
@@ -72,14 +73,16 @@ module _ (items : List Item) (p : ℕ) (node_data : Data) where
   same_parent q r e = (cc)
 
   -- an old node or the new one
-  each : (P : ℕ → Type 0) → ((k : ℕ) → k < length items → P k) → P (length items) → (k : ℕ) → k < length grown → P k
+  each : (P : ℕ → Type 0) → ((k : ℕ) → k < length items → P k) → P (length items) → (k : ℕ)
+      → k < length grown → P k
   each P old new k l = elim (cases_lt k (length items)) [
     | inl before ↦ old k before
     | inr last ↦ subst P (let e : length items ≡ k = omega (arith, count) in e) new
   ]
 
   -- a tree with a new child is a tree
-  pub IsTree-added : p < length items → holds_children (data_at items p) ≡ true → depth_at items p < greatest_depth
+  pub IsTree-added : p < length items → holds_children (data_at items p) ≡ true
+      → depth_at items p < greatest_depth
       → IsTree items → IsTree grown
   IsTree-added within holds shallow t = record {
     not_empty = omega (arith, count);
@@ -110,7 +113,8 @@ some_child p None e = (cc)
 some_child p (Some q) e = ap Some (eqb-true q p e)
 
 -- what is known of the children among the items behind one, with that one before them
-with_first : (b : ℕ) (item : Item) (items : List Item) (p d : ℕ) → ((k : ℕ) → k < length (children_from (suc b) items p)
+with_first : (b : ℕ) (item : Item) (items : List Item) (p d : ℕ)
+    → ((k : ℕ) → k < length (children_from (suc b) items p)
     → IsAmong (suc b) items p (get_or (children_from (suc b) items p) k d))
     → (k : ℕ) → k < length (children_from b (item ∷ items) p)
     → IsAmong b (item ∷ items) p (get_or (children_from b (item ∷ items) p) k d)
@@ -145,7 +149,8 @@ children_from-read b (item ∷ items) p d k l = with_first b item items p d (chi
 
 -- a child stands behind its parent, and names it
 pub child_read : (items : List Item) (node : ℕ) (ids : List ℕ) (k id : ℕ) → IsTree items → node < length items
-    → ids ≡ children_of items node → k < length ids → id ≡ get_or ids k id → (node < id) × (id < length items)
+    → ids ≡ children_of items node → k < length ids → id ≡ get_or ids k id
+    → (node < id) × (id < length items)
     × (parent_at items id ≡ Some node)
 child_read items node ids k id t l same m here =
     let r = children_from-read 0 items node id k (subst (λ (x : List ℕ). k < length x) same m) in

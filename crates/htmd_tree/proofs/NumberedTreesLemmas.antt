@@ -40,9 +40,11 @@ module _ (items : List Item) (t : IsTree items) where
       before : (k : ℕ) → k < length (front ++ item ∷ []) → (front ++ item ∷ []) ++ rest ≡ items
           → is_child (length front) (parent_at (front ++ item ∷ []) k) ≡ false
       before k l longer =
-          let here : item_at items k ≡ item_at (front ++ item ∷ []) k = ap (λ (x : List Item). item_at x k) (sym longer)
+          let here : item_at items k ≡ item_at (front ++ item ∷ []) k =
+          ap (λ (x : List Item). item_at x k) (sym longer)
           ∙ get_or_append_left (front ++ item ∷ []) rest document_item k l in
-          let within : k < length items = omega (arith, l, ap length longer, length-append (front ++ item ∷ []) rest) in
+          let within : k < length items =
+          omega (arith, l, ap length longer, length-append (front ++ item ∷ []) rest) in
           ap (λ (x : Item). is_child (length front) x.parent) (sym here)
           ∙ is_child-before items k (length front) t within (omega (arith, length_push front item))
 
@@ -59,9 +61,11 @@ module _ (items : List Item) (t : IsTree items) where
       ∙ get_or_at front item rest document_item (length front) refl in
       let this : with_children (length front) item.node_data (forest_from (suc (length front)) rest (length front))
       ≡ tree_of items (length front) =
-      ap (λ (x : Item). with_children (length front) x.node_data (forest_from (suc (length front)) rest (length front)))
+      ap (λ (x : Item). with_children (length front) x.node_data
+      (forest_from (suc (length front)) rest (length front)))
       (sym here)
-      ∙ ap (with_children (length front) (data_at items (length front))) (sym (forest_from-behind front rest item e)) in
+      ∙ ap (with_children (length front) (data_at items (length front)))
+      (sym (forest_from-behind front rest item e)) in
       test (is_child p item.parent) (λ y. rw (y, this, others) refl) (λ n. rw (n, others) refl)
 
 -- a node's value tree is made of those of its children
@@ -98,7 +102,8 @@ taller id (element_node name attributes) children h = omega arith
 abbrev pub IsLower : List Item → ℕ → ℕ → Type 0
 IsLower items id d = (id < d) × (d < length items) × (height (tree_of items d) < height (tree_of items id))
 
-pub lower_child : (items : List Item) (id k : ℕ) → IsTree items → id < length items → k < length (children_of items id)
+pub lower_child : (items : List Item) (id k : ℕ) → IsTree items → id < length items
+    → k < length (children_of items id)
     → IsLower items id (get_or (children_of items id) k 0)
 lower_child items id k t l m =
     let c = child_read items id (children_of items id) k (get_or (children_of items id) k 0) t l refl m
@@ -111,7 +116,8 @@ lower_child items id k t l m =
     (t.under _ id c.1 c.2).holds in
     (c.0, c.1, omega (arith, whole, part, above))
 
-lower_contained : (items : List Item) (id d : ℕ) → IsTree items → id < length items → Contains (children_of items id) d
+lower_contained : (items : List Item) (id d : ℕ) → IsTree items → id < length items
+    → Contains (children_of items id) d
     → IsLower items id d
 lower_contained items id d t l h = subst (λ x. IsLower items id x) (get_or_default (children_of items id) h.0 0 d h.1
     ∙ h.2) (lower_child items id h.0 t l h.1)

@@ -7,7 +7,8 @@ use Rattle.htmd_tree.specs.NumberedTrees.{value_tree, value_forest, NumberedTree
 use Rattle.htmd_grammar.specs.Serialisation.{markup_of, all_markup_of}
 use Rattle.htmd_tree.proofs.NumberedTreesLemmas.{tree-open}
 
-pub OnOk-pushed : {T E : Type 0} (r : Result T E) (new out piece : List ℕ) → new ≡ cond (is_ok r) (out ++ piece) out
+pub OnOk-pushed : {T E : Type 0} (r : Result T E) (new out piece : List ℕ)
+    → new ≡ cond (is_ok r) (out ++ piece) out
     → OnOk r (new ≡ out ++ piece)
 OnOk-pushed (Ok x) new out piece e = e
 OnOk-pushed (Err y) new out piece e = tt
@@ -23,7 +24,8 @@ OnOk-third (Err y) out one two new start inner end_ e f g = tt
 -- ---- nodes
 
 -- a node is written by what it is
-pub markup_of-node : (items : List Item) (node : ℕ) (node_data : Data) (raw : Bool) → IsTree items → node < length items
+pub markup_of-node : (items : List Item) (node : ℕ) (node_data : Data) (raw : Bool) → IsTree items
+    → node < length items
     → node_data ≡ data_at items node
     → markup_of raw (value_tree (tree_of items node)) ≡ markup_of raw
     (value_tree (with_children node node_data (forest_of (tree_of items) (children_of items node))))

@@ -12,5 +12,6 @@ items_of entries = map item_of entries
 
 pub record IsStored (entries : List Entry) : Type 0 where
   pub tree : IsTree (items_of entries)
-  pub children : (k : ℕ) (d : Entry) → k < length entries → (slice_index_or entries k d).children.items ≡ children_of
+  pub children : (k : ℕ) (d : Entry) → k < length entries
+      → (slice_index_or entries k d).children.items ≡ children_of
       (items_of entries) k

@@ -11,7 +11,8 @@ mutual
     doctype : (id : ℕ) → NumberedTree
     text : (id : ℕ) (s : List ℕ) → NumberedTree
     comment : (id : ℕ) (s : List ℕ) → NumberedTree
-    element : (id : ℕ) (name : List ℕ) (attributes : List AttributePair) (children : NumberedForest) → NumberedTree
+    element : (id : ℕ) (name : List ℕ) (attributes : List AttributePair) (children : NumberedForest)
+        → NumberedTree
 
   pub data NumberedForest : Type 0 where
     none : NumberedForest

@@ -14,7 +14,8 @@ returns-clause-fence c =
     let s = c.args.content.now in
     let character : ℕ = symbol_of c.args.symbol in
     let code =
-    ap (λ l. between_fences (replicate (fence_len character l) character) c.unwrap_or.result.now l) c.code_of.ensures in
+    ap (λ l. between_fences (replicate (fence_len character l) character) c.unwrap_or.result.now l)
+    c.code_of.ensures in
     let info =
     ap (λ l. between_fences (replicate (fence_len character (code_of s)) character) l (code_of s))
     (ap (λ x. x.now) c.unwrap_or.ensures ∙ info_given c.args.language _ refl) in

@@ -15,7 +15,8 @@ returns-in-Ok c =
     let same = to_z-of_z w32 c.in-Ok.number (subst (FitsSigned w32) (sym told.1) told.0.1) in
     let value = positive c.in-Ok.number (rw same at c.if-number-gt0.true) ∙ sym (ap unsigned_abs same) in
     c.unsigned_abs.ensures.value
-    ∙ sym (ap (λ start. first_number (option_copied start)) c.in-Some.is ∙ read ∙ ap counted c.in-Ok.is ∙ value)
+    ∙ sym (ap (λ start. first_number (option_copied start)) c.in-Some.is ∙ read ∙ ap counted c.in-Ok.is
+    ∙ value)
 
 pub returns-in-Err : goal.returns-in-Err
 returns-in-Err c =

@@ -48,7 +48,8 @@ overflow_add-number-in-Item c =
 pub loop-block-preserved-in-Item : goal.loop-block-preserved-in-Item
 loop-block-preserved-in-Item c =
     let before = map block_of c.loop-block.yielded in
-    let more : map block_of (c.loop-block.yielded ++ c.in-Some.block ∷ []) ≡ before ++ block_of c.in-Some.block ∷ [] =
+    let more : map block_of (c.loop-block.yielded ++ c.in-Some.block ∷ []) ≡ before ++ block_of c.in-Some.block
+    ∷ [] =
     map_push block_of c.loop-block.yielded c.in-Some.block in
     let count = ap item_count more ∙ item_count-append before (block_of c.in-Some.block ∷ []) in
     let one = ap (λ block. item_count (block_of block ∷ [])) c.in-Item.is in
@@ -58,7 +59,8 @@ loop-block-preserved-in-Item c =
     in
     let text : numbers c.loop-block.number (block_of c.in-Some.block ∷ [])
     ≡ string_bytes c.in_ok-write_numbered_item-in-Item.field-0 ∷ [] =
-    ap (λ block. numbers c.loop-block.number (block_of block ∷ [])) c.in-Item.is ∙ ap (λ l. l ∷ []) (sym content) in
+    ap (λ block. numbers c.loop-block.number (block_of block ∷ [])) c.in-Item.is
+    ∙ ap (λ l. l ∷ []) (sym content) in
     record {
       texts =
           ap (map bytes_of) c.in_ok-push-in-Item.ensures.items
@@ -73,7 +75,8 @@ loop-block-preserved-in-Item c =
 pub loop-block-preserved : goal.loop-block-preserved
 loop-block-preserved c =
     let before = map block_of c.loop-block.yielded in
-    let more : map block_of (c.loop-block.yielded ++ c.in-Some.block ∷ []) ≡ before ++ block_of c.in-Some.block ∷ [] =
+    let more : map block_of (c.loop-block.yielded ++ c.in-Some.block ∷ []) ≡ before ++ block_of c.in-Some.block
+    ∷ [] =
     map_push block_of c.loop-block.yielded c.in-Some.block in
     let count = ap item_count more ∙ item_count-append before (block_of c.in-Some.block ∷ []) in
     let none = ap (λ block. item_count (block_of block ∷ [])) c.in-Other.is in

@@ -28,7 +28,8 @@ loop-line-preserved c =
     let size = length_push c.loop-line.yielded c.in-Some.line in
     record {
       written = rw size (c.in_ok-push_str-2.ensures.bytes
-          ∙ ap (λ l. l ++ c.in-Some.line.now) (c.in_ok-push_str.ensures.bytes ∙ ap (λ l. before ++ l) marked) ∙ more);
+          ∙ ap (λ l. l ++ c.in-Some.line.now) (c.in_ok-push_str.ensures.bytes ∙ ap (λ l. before ++ l) marked)
+          ∙ more);
       begun = grind (arith, nat_tests);
     }
 

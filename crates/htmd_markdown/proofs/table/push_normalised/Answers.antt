@@ -31,7 +31,8 @@ loop-i-preserved c =
           cc (w.in_ok-push_str.ensures.bytes, w.range.ensures.value) in
           let written : string_bytes c.match-replacement.text ≡ (out ++ between c.loop-i.from i s)
           ++ w.in-Some.instead.now =
-          ap string_bytes w.text-is ∙ w.in_ok-push_str-2.ensures.bytes ∙ ap (λ l. l ++ w.in-Some.instead.now) piece in
+          ap string_bytes w.text-is ∙ w.in_ok-push_str-2.ensures.bytes
+          ∙ ap (λ l. l ++ w.in-Some.instead.now) piece in
           rw (written, w.from-is) step
       | in_default w ↦
           let stays = subst (λ (b : ℕ). in_cell b ≡ b ∷ []) same w.in_default.ensures in

@@ -18,7 +18,8 @@ loop-width-preserved c =
     c.in_ok-push_str-3.ensures.bytes
     ∙ ap (λ l. l ++ codes " |") (c.in_ok-push_repeated.ensures.ok
     ∙ ap (λ l. l ++ dashes w) c.in_ok-push_str-2.ensures.bytes) in
-    ap (λ l. l ++ left cells widths (i + 1)) (written ∙ dashes_pushed out w ∙ ap (λ l. (out ++ padded_cell l w) ++ bar)
+    ap (λ l. l ++ left cells widths (i + 1))
+    (written ∙ dashes_pushed out w ∙ ap (λ l. (out ++ padded_cell l w) ++ bar)
     (sym (get_or-map dashes widths i 0 [] c.loop-width-test.true)))
     ∙ line_more out cells widths i within c.loop-width-test.true
     ∙ c.loop-width.invariant

@@ -31,14 +31,16 @@ loop-i-preserved c =
           let lt : i < length ws = omega arith in
           let is : w.max.result ≡ max (get_or ws i 0) (get_or more i 0) =
           w.max.ensures
-          ∙ ap (λ n. max n c.cell_width-width.result) (w.index.ensures ∙ get_or_default ws i w.index.result.now 0 lt)
+          ∙ ap (λ n. max n c.cell_width-width.result)
+          (w.index.ensures ∙ get_or_default ws i w.index.result.now 0 lt)
           ∙ ap (λ n. max (get_or ws i 0) n) width in
           let items : c.if-i-len.widths.items ≡ set ws i w.max.result = ap (λ v. v.items) w.widths-is in
           subst (λ (l : List ℕ). Widening old more l (i + 1)) (sym items)
           (widening_set old more ws i w.max.result lt within is c.loop-i.invariant)
       | else-i-len+in_ok-push w ↦
           let past : length ws ≤ i = omega arith in
-          let items : c.if-i-len.widths.items ≡ ws ++ c.cell_width-width.result ∷ [] = ap (λ v. v.items) w.widths-is
+          let items : c.if-i-len.widths.items ≡ ws ++ c.cell_width-width.result ∷ [] =
+          ap (λ v. v.items) w.widths-is
           ∙ w.in_ok-push.ensures.items in
           subst (λ (l : List ℕ). Widening old more l (i + 1)) (sym items)
           (widening_push old more ws i c.cell_width-width.result past within width c.loop-i.invariant)

@@ -32,4 +32,5 @@ returns-clause-bars c =
       length-map c.args.cells.now (λ cell. string_bytes cell),
       c.requires,
     ) in
-    ap bars text ∙ row_bars (line_cells (length widths) texts) widths size (row_cells (length widths) c.args.cells.now)
+    ap bars text ∙ row_bars (line_cells (length widths) texts) widths size
+    (row_cells (length widths) c.args.cells.now)

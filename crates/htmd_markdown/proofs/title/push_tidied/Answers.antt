@@ -23,10 +23,12 @@ loop-line-preserved-then-not-is_empty c =
     _ c.in-Some.line c.in-Some.is c.next.ensures.steps in
     let line = c.trim_document_whitespace-line.ensures in
     let some = ap (λ l. length l == 0) (sym line) ∙ sym c.is_empty.ensures ∙ c.if-not-is_empty.true in
-    let written = c.in_ok-push_escaped.ensures ∙ ap (λ l. string_bytes c.if-not-is_first.out ++ escaped_line l) line in
+    let written =
+    c.in_ok-push_escaped.ensures ∙ ap (λ l. string_bytes c.if-not-is_first.out ++ escaped_line l) line in
     elim c.if-not-is_first.branch [
       | then-not-is_first+in_ok-push w ↦
-          let mark = ap string_bytes w.out-is ∙ w.in_ok-push.ensures.bytes ∙ ap (λ l. string_bytes c.loop-line.out ++ l)
+          let mark = ap string_bytes w.out-is ∙ w.in_ok-push.ensures.bytes
+          ∙ ap (λ l. string_bytes c.loop-line.out ++ l)
           (w.in_ok-push.ensures.ascii (lit< tt)) in
           let step = tidying_later (lines c.args.text.now) (string_bytes c.args.out.now) (string_bytes c.loop-line.out)
           c.loop-line.is_first (length c.loop-line.yielded) c.in-Some.line.now turn some w.if-not-is_first.true

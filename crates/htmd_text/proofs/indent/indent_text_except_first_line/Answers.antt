@@ -34,7 +34,8 @@ loop-line-preserved c =
     (string_bytes c.loop-line.indented) turn some c.loop-line.invariant.written in
     record {
       written = rw (length_push c.loop-line.yielded c.in-Some.line) (c.in_ok-push_line.ensures
-          ∙ ap (λ l. string_bytes c.loop-line.indented ++ next_line c.args.indent l) c.line_text-line.ensures ∙ more);
+          ∙ ap (λ l. string_bytes c.loop-line.indented ++ next_line c.args.indent l) c.line_text-line.ensures
+          ∙ more);
       begun = pushed_some c.loop-line.yielded c.in-Some.line;
     }
 

@@ -47,7 +47,8 @@ returns c =
     ∙ ap (λ n. drop n block) behind in
     let some : 0 < length block = grind (arith, nat_tests) in
     c.in_ok-push_str-2.ensures.bytes
-    ∙ ap (λ l. l ++ c.range_from.result.now) (c.in_ok-push_str.ensures.bytes ∙ ap (λ l. l ++ c.range.result.now) front)
+    ∙ ap (λ l. l ++ c.range_from.result.now)
+    (c.in_ok-push_str.ensures.bytes ∙ ap (λ l. l ++ c.range.result.now) front)
     ∙ ap (λ l. (trimmed_end is_line_feed out ++ l) ++ c.range_from.result.now) between
     ∙ ap (λ l. (trimmed_end is_line_feed out ++ block_separator out block) ++ l) back
     ∙ sym (block_joined out block some)

@@ -10,7 +10,8 @@ pub returns-else-is_document_white_space-clause-cut : goal.returns-else-is_docum
 returns-else-is_document_white_space-clause-cut c =
     let s = c.args.text.now in
     let here : c.loop-end.end ≡ length s - suffix_len is_document_white_space s =
-    end_stops is_document_white_space s c.loop-end.end c.loop-end.invariant.within (λ _. cc) c.loop-end.invariant.passed
+    end_stops is_document_white_space s c.loop-end.end c.loop-end.invariant.within (λ _. cc)
+    c.loop-end.invariant.passed
     in
     subst (λ (k : ℕ). IsCharBoundary s k) (sym here) (end_boundary is_document_white_space s document_of_ascii)
 

@@ -12,7 +12,8 @@ returns-then-not-is_document_white_space-clause-value c =
 
 pub returns-then-not-is_document_white_space-clause-cut : goal.returns-then-not-is_document_white_space-clause-cut
 returns-then-not-is_document_white_space-clause-cut c =
-    subst (λ (k : ℕ). IsCharBoundary c.args.text.now k) (sym (returns-then-not-is_document_white_space-clause-value c))
+    subst (λ (k : ℕ). IsCharBoundary c.args.text.now k)
+    (sym (returns-then-not-is_document_white_space-clause-value c))
     (start_boundary is_document_white_space c.args.text.now c.utf8.text document_of_ascii)
 
 pub returns-clause-value : goal.returns-clause-value

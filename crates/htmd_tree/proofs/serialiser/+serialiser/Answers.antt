@@ -74,7 +74,8 @@ push_node-returns-in_ok-push_children-in-Element t c =
     c.in_ok-push_start_tag-in-Element.ensures.ok
     ∙ (ap (λ x. string_bytes c.args.out.now ++ start_tag x (pairs_of c.as_slice.result.now))
     c.as_str-in-Element.ensures.value
-    ∙ ap (λ (x : List Attribute). string_bytes c.args.out.now ++ start_tag name (pairs_of x)) c.as_slice.ensures.value)
+    ∙ ap (λ (x : List Attribute). string_bytes c.args.out.now ++ start_tag name (pairs_of x))
+    c.as_slice.ensures.value)
     in
     let inner : string_bytes c.push_children-in-Element.new.out ≡ string_bytes c.push_start_tag.new.out
     ++ all_markup_of (is_raw_text name) children =
