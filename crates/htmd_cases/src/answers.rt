@@ -3,7 +3,7 @@ use crate::encoding::push_encoded;
 use crate::faults::LineFault;
 use crate::settings::{Question, Settings};
 use htmd::options::{Options, TranslationMode};
-use htmd::{ConvertError, FaultKind, HtmlToMarkdown, HtmlToMarkdownBuilder};
+use htmd::{ConvertError, FaultKind, HtmlToMarkdownBuilder};
 use htmd_cli::{Input, Mode, Output, RunError, run};
 use htmd_tree::{ReadError, read_html, serialize};
 use std::alloc::{AllocError, Global};
@@ -68,26 +68,25 @@ fn push_conversion(
     settings: Settings,
     text: &str,
 ) -> Result<(), LineFault> {
-    let converter = converter_of(alloc, settings)?;
-    match converter.convert(alloc, text) {
+    match page_markdown(alloc, settings, text) {
         Ok(markdown) => push_text(answers, &markdown),
         Err(ConvertError::Refused { place, kind }) => push_refusal(alloc, answers, place, kind),
         Err(ConvertError::Memory) => Err(LineFault::Memory),
     }
 }
 
-/// The converter that the settings ask for.
-fn converter_of(alloc: Global, settings: Settings) -> Result<HtmlToMarkdown, LineFault> {
+/// The Markdown of a page, by the converter that the settings ask for.
+fn page_markdown(alloc: Global, settings: Settings, text: &str) -> Result<String, ConvertError> {
     let builder = HtmlToMarkdownBuilder::new(alloc)?
         .options(settings.options)
         .scripting_enabled(settings.scripting);
     let tags = texts_of(alloc, &settings.skipped)?;
     if tags.is_empty() {
-        return Ok(builder.build());
+        return builder.build().convert(alloc, text);
     }
     match builder.skip_tags(tags.as_slice()) {
-        Ok(builder) => Ok(builder.build()),
-        Err(_) => Err(LineFault::Memory),
+        Ok(builder) => builder.build().convert(alloc, text),
+        Err(_) => Err(ConvertError::Memory),
     }
 }
 
