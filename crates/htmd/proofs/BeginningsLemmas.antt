@@ -40,7 +40,8 @@ pub beginning-to : {a b c : List (List ℕ)} → IsBeginning a b → b ≡ c →
 beginning-to p e = record { rest = p.rest; is = sym e ∙ p.is }
 
 -- where the last of three steps broke off, or the first, or one between
-pub begins-wider : {a b c d e : List (List ℕ)} → IsBeginning a b → Begins b c d → IsBeginning d e → Begins a c e
+pub begins-wider : {a b c d e : List (List ℕ)} → IsBeginning a b → Begins b c d → IsBeginning d e
+    → Begins a c e
 begins-wider p h q = record { kept = beginning-trans p h.kept; begun = beginning-trans h.begun q }
 
 pub begins-start : {a b : List (List ℕ)} → IsBeginning a b → Begins a a b
@@ -60,12 +61,14 @@ abbrev pub Grows : Writes → Type 0
 Grows write = (tree : NumberedTree) (context : Context) (out : Output)
     → IsBeginning out.definitions (write tree context out).definitions
 
-grows-if : (b : Bool) (a : List (List ℕ)) (x y : Output) → IsBeginning a x.definitions → IsBeginning a y.definitions
+grows-if : (b : Bool) (a : List (List ℕ)) (x y : Output) → IsBeginning a x.definitions
+    → IsBeginning a y.definitions
     → IsBeginning a (cond b x y).definitions
 grows-if true a x y p q = p
 grows-if false a x y p q = q
 
-grows-either : (b : Bool) (a : List (List ℕ)) (x y : Answer) → IsBeginning a x.definitions → IsBeginning a y.definitions
+grows-either : (b : Bool) (a : List (List ℕ)) (x y : Answer) → IsBeginning a x.definitions
+    → IsBeginning a y.definitions
     → IsBeginning a (cond b x y).definitions
 grows-either true a x y p q = p
 grows-either false a x y p q = q
@@ -76,7 +79,8 @@ grows-before : (b : Bool) (out : Output) → IsBeginning out.definitions (before
 grows-before true out = beginning-refl out.definitions
 grows-before false out = beginning-refl out.definitions
 
-pub grows-children : (write : Writes) → Grows write → (inside : List Ancestor) (trees : NumberedForest) (trim : Bool)
+pub grows-children : (write : Writes) → Grows write
+    → (inside : List Ancestor) (trees : NumberedForest) (trim : Bool)
     (out : Output) → IsBeginning out.definitions (write_children write inside trees trim out).definitions
 grows-children write g inside none trim out = beginning-refl out.definitions
 grows-children write g inside (more tree trees) trim out =
@@ -86,14 +90,16 @@ grows-children write g inside (more tree trees) trim out =
     (beginning-trans (g tree (context_of inside (pre inside) trim) before)
     (grows-children write g inside trees (trim_after (is_block_tree tree) before after trim) after))
 
-pub grows-groups : (write : Writes) → Grows write → (inside : List Ancestor) (children : NumberedForest) (out : Output)
+pub grows-groups : (write : Writes) → Grows write
+    → (inside : List Ancestor) (children : NumberedForest) (out : Output)
     → IsBeginning out.definitions (write_groups write inside children out).definitions
 grows-groups write g inside children out = grows-children write g inside (groups_of children) (trims_first inside) out
 
 -- ---- an element
 
 module _ (at : Occurrence) (g : Grows at.write) where
-  pub grows-content : (definitions : List (List ℕ)) → IsBeginning definitions (content_of at definitions).definitions
+  pub grows-content : (definitions : List (List ℕ))
+      → IsBeginning definitions (content_of at definitions).definitions
   grows-content definitions = grows-groups at.write g at.inside at.children _
 
   pub grows-alone : (tree : NumberedTree) (d : ℕ) (definitions : List (List ℕ))
@@ -126,7 +132,8 @@ module _ (at : Occurrence) (g : Grows at.write) where
       (grows-contents ds (content_alone at.write at.conversion tree d definitions).definitions)
 
   pub grows-fallback : (handler : HandlerMeaning) (view : ElementView) (r : Option ResultView)
-      (definitions : List (List ℕ)) → IsBeginning definitions (after_fallback handler view r definitions).definitions
+      (definitions : List (List ℕ))
+      → IsBeginning definitions (after_fallback handler view r definitions).definitions
   grows-fallback handler view None definitions = beginning-refl definitions
   grows-fallback handler view (Some r) definitions = beginning-more definitions _
 
@@ -193,7 +200,8 @@ grows-within (suc n) conversion tree context out = grows-node (written_within n 
 
 -- ---- where an element's answer breaks off
 
-module _ (at : Occurrence) (g : Grows at.write) (tag : List ℕ) (skipped : ℕ) (definitions : List (List ℕ)) (index : ℕ)
+module _ (at : Occurrence) (g : Grows at.write) (tag : List ℕ) (skipped : ℕ) (definitions : List (List ℕ))
+    (index : ℕ)
     (found : Some index ≡ slice_get (indexes tag at.conversion.config.registered) skipped) where
   abbrev handler : HandlerMeaning
   handler = handler_at at.conversion.config.handlers index
@@ -212,7 +220,8 @@ module _ (at : Occurrence) (g : Grows at.write) (tag : List ℕ) (skipped : ℕ)
 
   -- while the handler finished
   pub finish-broken : (p : PlanView) (before new : List (List ℕ)) (f : Finish) → p ≡ handler.plan at.view
-      → IsBeginning definitions before → finish_answer f before ≡ answer_to p → Begins before new (before ++ f.added)
+      → IsBeginning definitions before → finish_answer f before ≡ answer_to p
+      → Begins before new (before ++ f.added)
       → Begins definitions new (answer_after skipped tag at definitions).definitions
   finish-broken p before new f h k e b =
       begins-wider k b (beginning-to (beginning-refl (before ++ f.added))

@@ -50,7 +50,8 @@ pub within-all : (items : List Item) (node : ℕ) (ids : List ℕ) → All (IsCh
     → All (λ id. id < length items) ids
 within-all items node ids h = All-weaker (IsChild items node) (λ id. id < length items) (λ id c. c.within) ids h
 
-pub child-first : (items : List Item) (node child : ℕ) (ids : List ℕ) → 0 < length ids → child ≡ get_or ids 0 child
+pub child-first : (items : List Item) (node child : ℕ) (ids : List ℕ) → 0 < length ids
+    → child ≡ get_or ids 0 child
     → All (IsChild items node) ids → IsChild items node child
 child-first items node child ids l e h =
     subst (IsChild items node) (sym e) (All-get_or (IsChild items node) ids 0 child l h)
@@ -70,7 +71,8 @@ has_text-put id (text_node s) ks h = cc
 has_text-put id (comment_node s) ks h = cc
 has_text-put id (element_node name attributes) ks h = h
 
-pub first-has_text : (items : List Item) (ids : List ℕ) (child : ℕ) (s : List ℕ) → IsTree items → child < length items
+pub first-has_text : (items : List Item) (ids : List ℕ) (child : ℕ) (s : List ℕ) → IsTree items
+    → child < length items
     → 0 < length ids → child ≡ get_or ids 0 child
     → Some s ≡ group_text (tree_of items) (take (group_length (tree_of items) ids) ids)
     → IsSome (only_text (children_at items child))
@@ -92,7 +94,8 @@ is_block-with s (text i t) = refl
 is_block-with s (comment i t) = refl
 is_block-with s (element i n a c) = refl
 
-is_block-group : (joined : Option (List ℕ)) (t : NumberedTree) → is_block_tree (group_tree joined t) ≡ is_block_tree t
+is_block-group : (joined : Option (List ℕ)) (t : NumberedTree)
+    → is_block_tree (group_tree joined t) ≡ is_block_tree t
 is_block-group None t = refl
 is_block-group (Some s) t = is_block-with s t
 
@@ -135,7 +138,8 @@ module _ (config : Config) (items : List Item) (id child : ℕ) (ids : List ℕ)
       (cut ∙ ap (λ b. before_child b out) block-here)
 
   -- one group more
-  pub group_written : (after : Output) (next : Bool) → after ≡ there → next ≡ trim_after is_block before after trim
+  pub group_written : (after : Output) (next : Bool) → after ≡ there
+      → next ≡ trim_after is_block before after trim
       → rest next after ≡ write_children (written_within n (conversion_of config items)) (inside_of items id)
       (groups_of (forest_of (tree_of items) ids)) trim out
   group_written after next p turned =

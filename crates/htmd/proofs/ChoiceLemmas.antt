@@ -7,7 +7,8 @@ use Rattle.std.proofs.lemmas.List.{append_assoc, append-nil}
 use Rattle.std.proofs.lemmas.List.Elements.{All-append, All-weaker}
 use Rattle.htmd.specs.Choice.{TagIndex, indexes, tags_at}
 
-pub indexes-append : (tag : List ℕ) (ms ns : List TagIndex) → indexes tag (ms ++ ns) ≡ indexes tag ns ++ indexes tag ms
+pub indexes-append : (tag : List ℕ) (ms ns : List TagIndex)
+    → indexes tag (ms ++ ns) ≡ indexes tag ns ++ indexes tag ms
 indexes-append tag [] ns = sym (append-nil (indexes tag ns))
 indexes-append tag (m ∷ ms) ns =
     ap (λ x. x ++ cond (bytes_eq m.tag tag) (m.index ∷ []) []) (indexes-append tag ms ns)
@@ -21,7 +22,8 @@ tags-within [] count more l k d h = absurd (omega arith)
 tags-within (t ∷ ts) count more l zero d h = l
 tags-within (t ∷ ts) count more l (suc k) d h = tags-within ts count more l k d (omega arith)
 
-pub within-grown : (old : List TagIndex) (tags : List (List ℕ)) (index count more : ℕ) → count ≤ more → index < more
+pub within-grown : (old : List TagIndex) (tags : List (List ℕ)) (index count more : ℕ) → count ≤ more
+    → index < more
     → All (λ r. r.index < count) old → All (λ r. r.index < more) (old ++ tags_at index tags)
 within-grown old tags index count more l m a =
     All-append (λ r. r.index < more) old (tags_at index tags)

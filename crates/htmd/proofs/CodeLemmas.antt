@@ -9,13 +9,15 @@ use Rattle.htmd_tree.specs.Views.{pairs_of}
 use Rattle.htmd.proofs.Steps.{stepped}
 use Rattle.htmd.specs.Code.{language_of_class, first_language, classes_of, language_of}
 
-pub language-here : (all : List (List ℕ)) (k : ℕ) (class language : List ℕ) → k < length all → class ≡ get_or all k class
+pub language-here : (all : List (List ℕ)) (k : ℕ) (class language : List ℕ) → k < length all
+    → class ≡ get_or all k class
     → Some language ≡ language_of_class class → first_language (drop k all) ≡ Some language
 language-here all k class language l here found =
     stepped first_language all k class l here
     ∙ ap (λ x. option_or x (first_language (drop (k + 1) all))) (sym found)
 
-pub language-later : (all : List (List ℕ)) (k : ℕ) (class : List ℕ) → k < length all → class ≡ get_or all k class
+pub language-later : (all : List (List ℕ)) (k : ℕ) (class : List ℕ) → k < length all
+    → class ≡ get_or all k class
     → None ≡ language_of_class class → first_language (drop k all) ≡ first_language (drop (k + 1) all)
 language-later all k class l here found =
     stepped first_language all k class l here

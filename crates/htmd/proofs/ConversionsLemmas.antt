@@ -17,7 +17,8 @@ pub read_before : {T U : Type 0} (r : Result T ConvertError) (x : Result U ReadE
     (place : ℕ) (kind : FaultKind) → x ≡ Err e → IsErrAnd r (λ error. error ≡ conversion_error e)
     → r ≡ Err (convert.Refused place kind) → x ≡ Err (read.Refused place kind)
 read_before r x e place kind was given q =
-    was ∙ ap Err (refused_reading e place kind (subst (λ y. IsErrAnd y (λ error. error ≡ conversion_error e)) q given))
+    was ∙ ap Err (refused_reading e place kind
+    (subst (λ y. IsErrAnd y (λ error. error ≡ conversion_error e)) q given))
 
 pub refused_before : {T U : Type 0} (r : Result T ConvertError) (x : Result U ConvertError) (e : ConvertError)
     (place : ℕ) (kind : FaultKind) → x ≡ Err e → IsErrAnd r (λ error. error ≡ e)

@@ -62,7 +62,8 @@ pub is_joinable-with : (s : List ℕ) (t u : NumberedTree) → is_joinable t (wi
 is_joinable-with s t u = ap (both_join (joint_of t)) (joint_of-with s u)
     ∙ both_join-replaced s (joint_of t) (joint_of u)
 
-joint_text-replaced : (s : List ℕ) (x y : Option Joint) → both_join x y ≡ true → joint_text (joint_replaced s y) ≡ s
+joint_text-replaced : (s : List ℕ) (x y : Option Joint) → both_join x y ≡ true
+    → joint_text (joint_replaced s y) ≡ s
 joint_text-replaced s None y e = cc
 joint_text-replaced s (Some x) None e = cc
 joint_text-replaced s (Some x) (Some y) e = refl
@@ -99,33 +100,35 @@ group_text-some tree (i ∷ j ∷ is) h = refl
 
 -- ---- the first group
 
-module _ (tree : ℕ → NumberedTree) (i j : ℕ) (is : List ℕ) (rest : ℕ) (s : List ℕ) (behind : NumberedForest) where
-  abbrev front : Bool → List ℕ → NumberedForest
-  front b z =
-      cond b (more (with_text (text_of (tree i) ++ z) (tree i)) behind)
-      (more (tree i) (more (with_text s (tree j)) behind))
+module _ (tree : ℕ → NumberedTree) (i j : ℕ) (is : List ℕ) (rest : ℕ) (s : List ℕ) (behind : NumberedForest)
+  where
+    abbrev front : Bool → List ℕ → NumberedForest
+    front b z =
+        cond b (more (with_text (text_of (tree i) ++ z) (tree i)) behind)
+        (more (tree i) (more (with_text s (tree j)) behind))
 
-  abbrev first_and_rest : Bool → NumberedForest
-  first_and_rest b =
-      more (with_text (texts_of tree (take (cond b (suc rest) 1) (i ∷ j ∷ is))) (tree i))
-      (groups_of (forest_of tree (drop (cond b (suc rest) 1) (i ∷ j ∷ is))))
+    abbrev first_and_rest : Bool → NumberedForest
+    first_and_rest b =
+        more (with_text (texts_of tree (take (cond b (suc rest) 1) (i ∷ j ∷ is))) (tree i))
+        (groups_of (forest_of tree (drop (cond b (suc rest) 1) (i ∷ j ∷ is))))
 
-  one_more : (b : Bool) → is_joinable (tree i) (tree j) ≡ b → s ≡ texts_of tree (take rest (j ∷ is))
-      → behind ≡ groups_of (forest_of tree (drop rest (j ∷ is)))
-      → groups_of (forest_of tree (j ∷ is)) ≡ more (with_text s (tree j)) behind
-      → in_front (tree i) (more (with_text s (tree j)) behind) ≡ first_and_rest b
-  one_more true e p q h =
-      ap (λ b. front b (text_of (with_text s (tree j)))) (is_joinable-with s (tree i) (tree j) ∙ e)
-      ∙ ap (λ z. more (with_text (text_of (tree i) ++ z) (tree i)) behind) (text_of-with s (tree i) (tree j) e ∙ p)
-      ∙ ap (more (with_text (text_of (tree i) ++ texts_of tree (take rest (j ∷ is))) (tree i))) q
-  one_more false e p q h =
-      ap (λ b. front b (text_of (with_text s (tree j)))) (is_joinable-with s (tree i) (tree j) ∙ e)
-      ∙ ap (more (tree i)) (sym h)
-      ∙ ap (λ t. more t (groups_of (forest_of tree (j ∷ is)))) (sym (alone-same tree i))
+    one_more : (b : Bool) → is_joinable (tree i) (tree j) ≡ b → s ≡ texts_of tree (take rest (j ∷ is))
+        → behind ≡ groups_of (forest_of tree (drop rest (j ∷ is)))
+        → groups_of (forest_of tree (j ∷ is)) ≡ more (with_text s (tree j)) behind
+        → in_front (tree i) (more (with_text s (tree j)) behind) ≡ first_and_rest b
+    one_more true e p q h =
+        ap (λ b. front b (text_of (with_text s (tree j)))) (is_joinable-with s (tree i) (tree j) ∙ e)
+        ∙ ap (λ z. more (with_text (text_of (tree i) ++ z) (tree i)) behind) (text_of-with s (tree i) (tree j) e ∙ p)
+        ∙ ap (more (with_text (text_of (tree i) ++ texts_of tree (take rest (j ∷ is))) (tree i))) q
+    one_more false e p q h =
+        ap (λ b. front b (text_of (with_text s (tree j)))) (is_joinable-with s (tree i) (tree j) ∙ e)
+        ∙ ap (more (tree i)) (sym h)
+        ∙ ap (λ t. more t (groups_of (forest_of tree (j ∷ is)))) (sym (alone-same tree i))
 
 -- the first group, and the groups behind it
 pub groups_of-first : (tree : ℕ → NumberedTree) (i : ℕ) (is : List ℕ)
-    → groups_of (forest_of tree (i ∷ is)) ≡ more (with_text (texts_of tree (take (group_length tree (i ∷ is)) (i ∷ is)))
+    → groups_of (forest_of tree (i ∷ is))
+    ≡ more (with_text (texts_of tree (take (group_length tree (i ∷ is)) (i ∷ is)))
     (tree i)) (groups_of (forest_of tree (drop (group_length tree (i ∷ is)) (i ∷ is))))
 groups_of-first tree i [] = ap (λ (t : NumberedTree). more t none) (sym (alone-same tree i))
 groups_of-first tree i (j ∷ is) =
@@ -136,7 +139,8 @@ groups_of-first tree i (j ∷ is) =
     ∙ one_more tree i j is rest s behind (is_joinable (tree i) (tree j)) refl refl refl (groups_of-first tree j is)
 
 -- a group of one shows what its node does
-group_tree-some : (tree : ℕ → NumberedTree) (i : ℕ) (is : List ℕ) → group_tree (group_text tree (i ∷ is)) (tree i)
+group_tree-some : (tree : ℕ → NumberedTree) (i : ℕ) (is : List ℕ)
+    → group_tree (group_text tree (i ∷ is)) (tree i)
     ≡ with_text (texts_of tree (i ∷ is)) (tree i)
 group_tree-some tree i [] = sym (alone-same tree i)
 group_tree-some tree i (j ∷ is) = refl
@@ -151,10 +155,12 @@ group_tree-first : (tree : ℕ → NumberedTree) (i : ℕ) (is : List ℕ)
     → group_tree (group_text tree (take (group_length tree (i ∷ is)) (i ∷ is))) (tree i) ≡ with_text
     (texts_of tree (take (group_length tree (i ∷ is)) (i ∷ is))) (tree i)
 group_tree-first tree i [] = group_tree-some tree i []
-group_tree-first tree i (j ∷ is) = by_length tree i j is (group_length tree (j ∷ is)) (is_joinable (tree i) (tree j))
+group_tree-first tree i (j ∷ is) =
+    by_length tree i j is (group_length tree (j ∷ is)) (is_joinable (tree i) (tree j))
 
 -- the first group of what is left, as the walk shows it
-pub first_group : (tree : ℕ → NumberedTree) (ids : List ℕ) (child : ℕ) → 0 < length ids → child ≡ get_or ids 0 child
+pub first_group : (tree : ℕ → NumberedTree) (ids : List ℕ) (child : ℕ) → 0 < length ids
+    → child ≡ get_or ids 0 child
     → groups_of (forest_of tree ids) ≡ more (group_tree (group_text tree (take (group_length tree ids) ids))
     (tree child)) (groups_of (forest_of tree (drop (group_length tree ids) ids)))
 first_group tree [] child l e = absurd (omega arith)
@@ -215,7 +221,8 @@ joint-none id (Comment s) children h = refl
 joint-none id (Element name attributes) children h = absurd (h name attributes refl)
 
 module _ (items : List Item) (t : IsTree items) (id : ℕ) (l : id < length items) where
-  joint-open : (c : Data) → c ≡ data_at items id → joint_of (with_children id c (children_at items id)) ≡ joint_of
+  joint-open : (c : Data) → c ≡ data_at items id
+      → joint_of (with_children id c (children_at items id)) ≡ joint_of
       (tree_of items id)
   joint-open c e = ap (λ x. joint_of (with_children id x (children_at items id))) e
       ∙ sym (ap joint_of (tree-open items id t l))
@@ -224,7 +231,8 @@ module _ (items : List Item) (t : IsTree items) (id : ℕ) (l : id < length item
   pub joint-element : (name : List ℕ) (attributes : List AttributePair) (s : Option (List ℕ))
       → element_node name attributes ≡ data_at items id → s ≡ only_text (children_at items id)
       → joint_with name attributes s ≡ joint_of (tree_of items id)
-  joint-element name attributes s e h = ap (joint_with name attributes) h ∙ joint-open (element_node name attributes) e
+  joint-element name attributes s e h =
+      ap (joint_with name attributes) h ∙ joint-open (element_node name attributes) e
 
   pub joint-other : (n : NodeData) → data_of n ≡ data_at items id
       → ((name : String Global) (attributes : Vec Attribute Global) → n ≡ Element name attributes → ⊥)

@@ -61,7 +61,8 @@ module _ (P : List (List ℕ) → Type 0) where
       keeps-children write g inside trees (trim_after (is_block_tree tree) before after trim) after
       (g tree (context_of inside (pre inside) trim) before (keeps-before (is_block_tree tree) out p))
 
-  keeps-groups : (write : Writes) → Keeps write → (inside : List Ancestor) (children : NumberedForest) (out : Output)
+  keeps-groups : (write : Writes) → Keeps write
+      → (inside : List Ancestor) (children : NumberedForest) (out : Output)
       → P out.definitions → P (write_groups write inside children out).definitions
   keeps-groups write g inside children out p =
       keeps-children write g inside (groups_of children) (trims_first inside) out p

@@ -34,7 +34,8 @@ behind tag r rs None false e h =
 behind tag r rs None true e h = record {
   within = omega arith;
   tagged = λ d. e;
-  first = λ d. ap (λ x. x ++ cond (bytes_eq r.tag tag) (r.index ∷ []) []) h ∙ ap (λ b. cond b (r.index ∷ []) []) e;
+  first = λ d. ap (λ x. x ++ cond (bytes_eq r.tag tag) (r.index ∷ []) []) h
+      ∙ ap (λ b. cond b (r.index ∷ []) []) e;
 }
 behind tag r rs (Some place) b e h =
     let l = h.within in record {
@@ -73,7 +74,8 @@ pub record Searching (tag : List ℕ) (rs : List TagIndex) (skipped left : ℕ) 
   pub place_is : place ≡ latest tag (take count rs)
   pub same : slice_get (indexes tag (take count rs)) left ≡ slice_get (indexes tag rs) skipped
 
-pub search_begins : (tag : List ℕ) (rs : List TagIndex) (skipped : ℕ) (place : Option ℕ) → place ≡ latest tag rs
+pub search_begins : (tag : List ℕ) (rs : List TagIndex) (skipped : ℕ) (place : Option ℕ)
+    → place ≡ latest tag rs
     → Searching tag rs skipped skipped place
 search_begins tag rs skipped place e =
     let whole = sym (take_all (length rs) rs (omega arith)) in record {
@@ -85,7 +87,8 @@ search_begins tag rs skipped place e =
 pub search_fails : (tag : List ℕ) (rs : List TagIndex) (skipped left : ℕ) (place : Option ℕ) → place ≡ None
     → Searching tag rs skipped left place → None ≡ slice_get (indexes tag rs) skipped
 search_fails tag rs skipped left place e s =
-    let none = subst (λ o. IsLatest tag (take s.count rs) o) (sym s.place_is ∙ e) (latest_is tag (take s.count rs)) in
+    let none =
+    subst (λ o. IsLatest tag (take s.count rs) o) (sym s.place_is ∙ e) (latest_is tag (take s.count rs)) in
     ap (λ xs. slice_get xs left) (sym none) ∙ s.same
 
 -- what stands at the place of a search
@@ -95,10 +98,12 @@ pub record Found (tag : List ℕ) (rs : List TagIndex) (skipped left at : ℕ) :
   pub same : (d : TagIndex) → slice_get ((get_or rs at d).index ∷ indexes tag (take at rs)) left
       ≡ slice_get (indexes tag rs) skipped
 
-pub search_finds : (tag : List ℕ) (rs : List TagIndex) (skipped left at : ℕ) (place : Option ℕ) → place ≡ Some at
+pub search_finds : (tag : List ℕ) (rs : List TagIndex) (skipped left at : ℕ) (place : Option ℕ)
+    → place ≡ Some at
     → Searching tag rs skipped left place → Found tag rs skipped left at
 search_finds tag rs skipped left at place e s =
-    let here = subst (λ o. IsLatest tag (take s.count rs) o) (sym s.place_is ∙ e) (latest_is tag (take s.count rs)) in
+    let here =
+    subst (λ o. IsLatest tag (take s.count rs) o) (sym s.place_is ∙ e) (latest_is tag (take s.count rs)) in
     let shorter = here.within in
     let l : at < s.count = omega (arith, length-take s.count rs) in
     let k : at ≤ s.count = omega arith in
@@ -114,11 +119,13 @@ search_finds tag rs skipped left at place e s =
     }
 
 pub search_ends : (tag : List ℕ) (rs : List TagIndex) (skipped left at : ℕ) (d : TagIndex)
-    → Found tag rs skipped left at → left ≡ 0 → Some (get_or rs at d).index ≡ slice_get (indexes tag rs) skipped
+    → Found tag rs skipped left at → left ≡ 0
+    → Some (get_or rs at d).index ≡ slice_get (indexes tag rs) skipped
 search_ends tag rs skipped left at d f e =
     ap (slice_get ((get_or rs at d).index ∷ indexes tag (take at rs))) (sym e) ∙ f.same d
 
-pub search_goes_on : (tag : List ℕ) (rs : List TagIndex) (skipped left less at : ℕ) (d : TagIndex) (older : Option ℕ)
+pub search_goes_on : (tag : List ℕ) (rs : List TagIndex) (skipped left less at : ℕ) (d : TagIndex)
+    (older : Option ℕ)
     → Found tag rs skipped left at → suc less ≡ left → older ≡ latest (get_or rs at d).tag (take at rs)
     → Searching tag rs skipped less older
 search_goes_on tag rs skipped left less at d older f e o = record {
@@ -136,7 +143,8 @@ bound_of_latest : (tag : List ℕ) (rs : List TagIndex) (o : Option ℕ) → IsL
 bound_of_latest tag rs None h = omega arith
 bound_of_latest tag rs (Some place) h = let l = h.within in omega arith
 
-pub bound_begins : (tag : List ℕ) (rs : List TagIndex) (o : Option ℕ) → o ≡ latest tag rs → bound o ≤ length rs
+pub bound_begins : (tag : List ℕ) (rs : List TagIndex) (o : Option ℕ) → o ≡ latest tag rs
+    → bound o ≤ length rs
 bound_begins tag rs o e = bound_of_latest tag rs o (subst (λ x. IsLatest tag rs x) (sym e) (latest_is tag rs))
 
 pub bound_falls : (tag : List ℕ) (rs : List TagIndex) (at : ℕ) (o : Option ℕ) → o ≡ latest tag (take at rs)
@@ -161,7 +169,8 @@ newest-push old new rs r place was is e q =
 chained_at : (x y : Registration) (before after : List TagIndex) → x ≡ y → before ≡ after
     → y.older ≡ latest (string_bytes y.tag) after → x.older ≡ latest (string_bytes x.tag) before
 chained_at x y before after e f h =
-    ap (λ (z : Registration). z.older) e ∙ h ∙ sym (ap (λ (z : Registration). latest (string_bytes z.tag) after) e)
+    ap (λ (z : Registration). z.older) e ∙ h
+    ∙ sym (ap (λ (z : Registration). latest (string_bytes z.tag) after) e)
     ∙ sym (ap (latest (string_bytes x.tag)) f)
 
 pub chained-push : (rs : List Registration) (r : Registration) → IsChained rs
@@ -187,7 +196,8 @@ pub registered_at : (rs : List Registration) (at : ℕ) (r : Registration) → r
 registered_at rs at r e = ap tag_index e ∙ sym (get_or-map tag_index rs at r)
 
 pub older_at : (rs : List Registration) (at : ℕ) (r : Registration) → r ≡ get_or rs at r → IsChained rs
-    → at < length rs → r.older ≡ latest (get_or (map tag_index rs) at (tag_index r)).tag (take at (map tag_index rs))
+    → at < length rs → r.older
+    ≡ latest (get_or (map tag_index rs) at (tag_index r)).tag (take at (map tag_index rs))
 older_at rs at r e h l =
     ap (λ (x : Registration). x.older) e ∙ h at r l
     ∙ ap (λ (x : Registration). latest (string_bytes x.tag) (take at (map tag_index rs))) (sym e)
@@ -201,17 +211,20 @@ found_first : {K X : Type 0} (test : K → Bool) (e : K × X) (es : List (K × X
 found_first test e es true p h = inr (e.0, p)
 found_first test e es false p h = h
 
-found : {K X : Type 0} (test : K → Bool) (es : List (K × X)) → (lookup test es ≡ None) ⊎ ((k : K) × (test k ≡ true))
+found : {K X : Type 0} (test : K → Bool) (es : List (K × X))
+    → (lookup test es ≡ None) ⊎ ((k : K) × (test k ≡ true))
 found test [] = inl refl
 found test (e ∷ es) = found_first test e es (test e.0) refl (found test es)
 
-at_key : {Y X S : Type 0} (m n : HashMap (String Y) X S) → ((k : String Y) → get string_eq n k ≡ get string_eq m k)
+at_key : {Y X S : Type 0} (m n : HashMap (String Y) X S)
+    → ((k : String Y) → get string_eq n k ≡ get string_eq m k)
     → (s : List ℕ) (k : String Y) → bytes_eq s (string_bytes k) ≡ true → get_by_text n s ≡ get_by_text m s
 at_key m n h s k p =
     let e = (bytes_eq-Decides s (string_bytes k)).0 p in
     ap (get_by_text n) e ∙ h k ∙ sym (ap (get_by_text m) e)
 
-pub same_text : {Y X S : Type 0} (m n : HashMap (String Y) X S) → ((k : String Y) → get string_eq n k ≡ get string_eq m k)
+pub same_text : {Y X S : Type 0} (m n : HashMap (String Y) X S)
+    → ((k : String Y) → get string_eq n k ≡ get string_eq m k)
     → (s : List ℕ) → get_by_text n s ≡ get_by_text m s
 same_text m n h s =
     ⊎_elim (λ none. ⊎_elim (λ other. other ∙ sym none) (λ w. at_key m n h s w.0 w.1)

@@ -16,13 +16,15 @@ pub among_names : (names : List (Bor (List ℕ))) (name : List ℕ)
 among_names [] name = refl
 among_names (n ∷ names) name = ap (λ b. bytes_eq n.now name || b) (among_names names name)
 
-last-here : (names : List (List ℕ)) (pairs : List AttributePair) (a : AttributePair) → is_among names a.name ≡ true
+last-here : (names : List (List ℕ)) (pairs : List AttributePair) (a : AttributePair)
+    → is_among names a.name ≡ true
     → last_value names (pairs ++ a ∷ []) ≡ Some a.value
 last-here names [] a h = ap (λ (b : Bool). option_or None (cond b (Some a.value) None)) h
 last-here names (p ∷ pairs) a h =
     ap (λ o. option_or o (cond (is_among names p.name) (Some p.value) None)) (last-here names pairs a h)
 
-last-other : (names : List (List ℕ)) (pairs : List AttributePair) (a : AttributePair) → is_among names a.name ≡ false
+last-other : (names : List (List ℕ)) (pairs : List AttributePair) (a : AttributePair)
+    → is_among names a.name ≡ false
     → last_value names (pairs ++ a ∷ []) ≡ last_value names pairs
 last-other names [] a h = ap (λ (b : Bool). option_or None (cond b (Some a.value) None)) h
 last-other names (p ∷ pairs) a h =

@@ -18,7 +18,8 @@ use Rattle.htmd.specs.Images.{image_attributes, image_address, alternative_text,
 use Rattle.htmd.specs.Anchors.{anchor_address, finish_at, link_finish}
 use Rattle.htmd.specs.LinkLaws.{ImagesHoldAddresses, InlineLinkHolds, LinkHolds, LinksHoldAddresses}
 
-written-image : (raw : Bool) (found : Option (List ℕ)) (view : ElementView) (address : List ℕ) (written : ResultView)
+written-image : (raw : Bool) (found : Option (List ℕ)) (view : ElementView) (address : List ℕ)
+    (written : ResultView)
     → found ≡ Some address → cond raw raw_html (image_at found view) ≡ this_result written
     → written.content ≡ image address (alternative_text view) (title_of view)
 written-image true found view address written is e = cc
@@ -52,7 +53,8 @@ either-holds false view content address none = inr (inline-holds view content ad
 
 link-holds : (style : LinkStyle) (view : ElementView) (content address : List ℕ) (definitions : List (List ℕ))
     → holds_backslash address ≡ false
-    → LinkHolds style view content address (length definitions + 1) (link_finish style view content address definitions)
+    → LinkHolds style view content address (length definitions + 1)
+    (link_finish style view content address definitions)
 link-holds Inlined view content address definitions none = inline-holds view content address none
 link-holds InlinedPreferAutolinks view content address definitions none =
     either-holds (bytes_eq content (escaped_address address)) view content address none

@@ -38,7 +38,8 @@ found_before (x ∷ xs) y z zero e = inl e
 found_before (x ∷ xs) y z (suc i) e =
     ⊎_elim (λ before. inl before) (λ last. inr (omega (arith, last.0), last.1)) (found_before xs y z i e)
 
-numbered_more : (lines : List (List ℕ)) (line : List ℕ) → DefinesNumber (length lines + 1) line → AreNumbered lines
+numbered_more : (lines : List (List ℕ)) (line : List ℕ) → DefinesNumber (length lines + 1) line
+    → AreNumbered lines
     → AreNumbered (lines ++ line ∷ [])
 numbered_more lines line defines numbered i l e =
     ⊎_elim (numbered i l)
@@ -55,7 +56,8 @@ abbrev AreKnown : List HandlerMeaning → Type 0
 AreKnown [] = Unit {0}
 AreKnown (handler ∷ handlers) = IsKnown handler × AreKnown handlers
 
-known_append : (front behind : List HandlerMeaning) → AreKnown front → AreKnown behind → AreKnown (front ++ behind)
+known_append : (front behind : List HandlerMeaning) → AreKnown front → AreKnown behind
+    → AreKnown (front ++ behind)
 known_append [] behind p q = q
 known_append (handler ∷ front) behind p q = (p.0, known_append front behind p.1 q)
 
@@ -93,7 +95,8 @@ known_rows (r ∷ rows) config p q =
 adds_none : (handler : HandlerMeaning)
     → ((view : ElementView) (content : ResultView) (definitions : List (List ℕ))
     → (handler.finish view content definitions).added ≡ [])
-    → ((view : ElementView) (contents : List ResultView) (children : Option ResultView) (definitions : List (List ℕ))
+    → ((view : ElementView) (contents : List ResultView) (children : Option ResultView)
+    (definitions : List (List ℕ))
     → (handler.finish_each view contents children definitions).added ≡ []) → IsKnown handler
 adds_none handler p q = inr (record { finish = p; finish_each = q })
 
@@ -114,7 +117,8 @@ registry_known (with_these options before) = registry_known before
 
 -- ---- a conversion
 
-none-keeps : (view : ElementView) (handler : HandlerMeaning) → AddsNone handler → HandlerKeeps AreNumbered view handler
+none-keeps : (view : ElementView) (handler : HandlerMeaning) → AddsNone handler
+    → HandlerKeeps AreNumbered view handler
 none-keeps view handler adds = record {
   finish = λ content definitions numbered. subst AreNumbered (sym (ap (λ l. definitions ++ l)
       (adds.finish view content definitions) ∙ append-nil definitions)) numbered;
@@ -147,7 +151,8 @@ finish-numbers None view content definitions full numbered = nothing_more defini
 finish-numbers (Some address) view content definitions full numbered =
     link-numbers view.options.link_style view content.content address definitions full numbered
 
-anchors-keep : (view : ElementView) → view.options.link_reference_style ≡ Full → HandlerKeeps AreNumbered view anchors
+anchors-keep : (view : ElementView) → view.options.link_reference_style ≡ Full
+    → HandlerKeeps AreNumbered view anchors
 anchors-keep view full = record {
   finish = λ content definitions numbered. finish-numbers (anchor_address view) view content definitions full numbered;
   finish_each = λ contents children definitions numbered. nothing_more definitions numbered;
@@ -167,6 +172,7 @@ references_are_numbered config registry =
           let keeps : HandlersKeep AreNumbered (conversion_of config items) =
           λ index view same. known-keeps view (handler_at config.handlers index)
           (ap (λ o. o.link_reference_style) same ∙ full) (known_at config.handlers index known) in
-          keeps-within AreNumbered (height (tree_of items start)) (conversion_of config items) keeps (tree_of items start) _ _
+          keeps-within AreNumbered (height (tree_of items start)) (conversion_of config items) keeps
+          (tree_of items start) _ _
           numbered_none),
     )

@@ -68,7 +68,8 @@ module _ (at : Occurrence) (name : List ℕ) (attributes : List AttributePair) (
       ∙ ap put (append-nil out.definitions)
 
   by_span : (b : Bool) → IsPlain handlers b (has_math_class attributes)
-      → data_at at.view.items at.view.node ≡ element_node name attributes → is_pure at.conversion.config.options ≡ true
+      → data_at at.view.items at.view.node ≡ element_node name attributes
+      → is_pure at.conversion.config.options ≡ true
       → is_pure at.view.options ≡ true → answer_after 0 name at definitions ≡ passed_result b
       (pre (ancestors_of at.view)) out
   by_span true h d p q = plain_span h.0 h.1 d q
@@ -76,7 +77,8 @@ module _ (at : Occurrence) (name : List ℕ) (attributes : List AttributePair) (
 
   pub passed_answer : IsPassed at.conversion.config (element_node name attributes)
       → data_at at.view.items at.view.node ≡ element_node name attributes
-      → at.view.options ≡ at.conversion.config.options → passed_result (is_span name) (pre (ancestors_of at.view)) out
+      → at.view.options ≡ at.conversion.config.options
+      → passed_result (is_span name) (pre (ancestors_of at.view)) out
       ≡ answer_after 0 name at definitions
   passed_answer h d o = sym (by_span (is_span name) h.1 d h.0 (ap is_pure o ∙ h.0))
 
@@ -104,7 +106,8 @@ passed-unhandled config name attributes d e p h s =
 
 pub passed-span : (config : Config) (name : List ℕ) (attributes : List AttributePair) (d : Data) (index : ℕ)
     → d ≡ element_node name attributes → is_pure config.options ≡ true
-    → Some index ≡ slice_get (indexes name config.registered) 0 → None ≡ slice_get (indexes name config.registered) 1
+    → Some index ≡ slice_get (indexes name config.registered) 0
+    → None ≡ slice_get (indexes name config.registered) 1
     → is_span name ≡ true → handler_at config.handlers index ≡ spans → has_math_class attributes ≡ false
     → IsPassed config d
 passed-span config name attributes d index e p h k s m a =

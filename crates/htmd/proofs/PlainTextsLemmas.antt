@@ -37,8 +37,10 @@ is_the_space : (b : ℕ) → (b == space) ≡ true → space ≡ b
 is_the_space b e = grind (arith, nat_tests)
 
 -- one byte more: whether it is plain, whether it is a space, and whether a space stands before it
-squeezed_more : (after p m w rest : Bool) → (p ≡ true → (w ≡ false) × (m ≡ false)) → (m ≡ true → w ≡ true)
-    → (p || (not after && m)) && rest ≡ true → (m ≡ w) × ((not w || (not after && m)) ≡ true) × (rest ≡ true)
+squeezed_more : (after p m w rest : Bool) → (p ≡ true → (w ≡ false) × (m ≡ false))
+    → (m ≡ true → w ≡ true)
+    → (p || (not after && m)) && rest ≡ true → (m ≡ w) × ((not w || (not after && m)) ≡ true)
+    × (rest ≡ true)
 squeezed_more after true m w rest plain white h =
     let e = plain refl in
     (e.1 ∙ sym e.0, ap (λ x. not x || (not after && m)) e.0, h)
@@ -110,7 +112,8 @@ start_at true false false b s e f h = h
 start_at false w true b s e f h = subst (λ (x : ℕ). not (may_begin x) ≡ true) (is_the_space b e) refl
 start_at false w false b s e f h = h
 
-start_of_rest : (goes : Bool) (s : List ℕ) → begins_plain s ≡ true → starts_plain (without_first_space goes s) ≡ true
+start_of_rest : (goes : Bool) (s : List ℕ) → begins_plain s ≡ true
+    → starts_plain (without_first_space goes s) ≡ true
 start_of_rest true [] e = refl
 start_of_rest false [] e = refl
 start_of_rest goes (b ∷ s) e =

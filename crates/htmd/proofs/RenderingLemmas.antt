@@ -39,7 +39,8 @@ group-text : (joined : Option (List ℕ)) (id : ℕ) (t : List ℕ) → group_tr
 group-text None id t = refl
 group-text (Some s) id t = refl
 
-group-comment : (joined : Option (List ℕ)) (id : ℕ) (t : List ℕ) → group_tree joined (comment id t) ≡ comment id t
+group-comment : (joined : Option (List ℕ)) (id : ℕ) (t : List ℕ)
+    → group_tree joined (comment id t) ≡ comment id t
 group-comment None id t = refl
 group-comment (Some s) id t = refl
 
@@ -95,14 +96,16 @@ module _ (config : Config) (items : List Item) (joined : Option (List ℕ)) (t :
       ap (end_of_document out.markdown_translated)
       (k m h ∙ ap (λ c. write_groups (written_within m conversion) (ancestor_of c ∷ ancestors_of items id)
       (children_at items id) out) e)
-      ∙ sym (level m document_node (document id (children_at items id)) (context_of (ancestors_of items id) p trim) out
+      ∙ sym (level m document_node (document id (children_at items id)) (context_of (ancestors_of items id) p trim)
+      out
       e (group-document joined id (children_at items id)))
 
   pub element_written : (n : ℕ) (p trim : Bool) (out : Output) (name : List ℕ) (attributes : List AttributePair)
       (a : Answer) → height (tree_of items id) ≤ n → data_at items id ≡ element_node name attributes
       → ((m : ℕ) → height (tree_of items id) ≤ suc m
       → a ≡ answer_after 0 name (occurrence_at (written_within m conversion) conversion id (inside_of items id)
-      (group_children joined (children_at items id))) out.definitions) → with_answer out (pre (ancestors_of items id)) a
+      (group_children joined (children_at items id))) out.definitions)
+      → with_answer out (pre (ancestors_of items id)) a
       ≡ there n (context_of (ancestors_of items id) p trim) out
   element_written zero p trim out name attributes a h e k = let q = height_pos (tree_of items id) in
       absurd (omega arith)
@@ -116,7 +119,8 @@ module _ (config : Config) (items : List Item) (joined : Option (List ℕ)) (t :
       (group-element joined id name attributes (children_at items id)))
 
   -- where the children broke off
-  pub document_broken : (n : ℕ) (p trim : Bool) (out : Output) (new : List (List ℕ)) → height (tree_of items id) ≤ n
+  pub document_broken : (n : ℕ) (p trim : Bool) (out : Output) (new : List (List ℕ))
+      → height (tree_of items id) ≤ n
       → data_at items id ≡ document_node
       → ((m : ℕ) → height (tree_of items id) ≤ suc m
       → Begins out.definitions new (write_groups (written_within m conversion) (inside_of items id)
@@ -189,7 +193,8 @@ module _ (config : Config) (items : List Item) (t : IsTree items) (id : ℕ) (l 
 -- the cut before a child, as the walk makes it
 pub cut_before : (b : Bool) (out : Output) (s : List ℕ) (markdown_translated : Bool)
     → s ≡ cond b (trimmed_end is_space out.text) out.text → markdown_translated ≡ out.markdown_translated
-    → ◌≡◌ {A = Output} (record { text = s; markdown_translated = markdown_translated; definitions = out.definitions })
+    → ◌≡◌ {A =
+    Output} (record { text = s; markdown_translated = markdown_translated; definitions = out.definitions })
     (before_child b out)
 cut_before true out s markdown_translated e f = let g : Bool → Output =
     λ x. record { text = s; markdown_translated = x; definitions = out.definitions } in ap g f
@@ -201,6 +206,7 @@ cut_before false out s markdown_translated e f = let g : Bool → Output =
 IsLower-prop : (items : List Item) (id d : ℕ) → IsProp (IsLower items id d)
 IsLower-prop items id d = hlevel props
 
-pub proper_lower : (items : List Item) (id d : ℕ) → IsTree items → id < length items → ∥ IsBelow items id d ∥₁
+pub proper_lower : (items : List Item) (id d : ℕ) → IsTree items → id < length items
+    → ∥ IsBelow items id d ∥₁
     → IsLower items id d
 proper_lower items id d t l h = ∥∥₁_elim h (IsLower-prop items id d) (lower_below items id d t l)

@@ -68,11 +68,13 @@ module _ (items : List Item) (t : IsTree items) where
   below-open id l = ap has_header_below (tree-open items id t l)
       ∙ below-put id (data_at items id) (children_at items id) (none_among id l)
 
-  explicit_any : (ids : List ℕ) → has_explicit_headers (forest_of (tree_of items) ids) ≡ list_any (shows_header items) ids
+  explicit_any : (ids : List ℕ)
+      → has_explicit_headers (forest_of (tree_of items) ids) ≡ list_any (shows_header items) ids
   explicit_any [] = refl
   explicit_any (id ∷ ids) = ap (λ b. shows_header items id || b) (explicit_any ids)
 
-  among_any : (ids : List ℕ) → has_header_among (forest_of (tree_of items) ids) ≡ list_any (shows_header_deeper items) ids
+  among_any : (ids : List ℕ)
+      → has_header_among (forest_of (tree_of items) ids) ≡ list_any (shows_header_deeper items) ids
   among_any [] = refl
   among_any (id ∷ ids) = ap (λ b. shows_header_deeper items id || b) (among_any ids)
 
@@ -86,7 +88,8 @@ module _ (items : List Item) (t : IsTree items) where
       ∙ ap (list_any (shows_header_deeper items)) (sym e)
 
   -- what the tests of the code say of a child
-  pub shown : (id : ℕ) → id < length items → has_tag header_tags items id ≡ true → shows_header items id ≡ true
+  pub shown : (id : ℕ) → id < length items → has_tag header_tags items id ≡ true
+      → shows_header items id ≡ true
   shown id l h = ap (λ b. b || has_header_below (tree_of items id))
       (ap (is_tag_among header_tags) (tree_tag id l) ∙ h)
 

@@ -20,7 +20,8 @@ use Rattle.htmd.proofs.ChildListsLemmas.{children_proper}
 
 -- what holds of the first state and is kept by each step holds of the last
 pub fold_keeps : {A B : Type 0} (P : B → Type 0) (Q : A → Type 0) (f : B → A → B)
-    → ((b : B) (a : A) → P b → Q a → P (f b a)) → (b : B) (xs : List A) → P b → All Q xs → P (fold f b xs)
+    → ((b : B) (a : A) → P b → Q a → P (f b a)) → (b : B) (xs : List A) → P b → All Q xs
+    → P (fold f b xs)
 fold_keeps P Q f step b [] p q = p
 fold_keeps P Q f step b (x ∷ xs) p q =
     fold_keeps P Q f step (f b x) xs (step b x p (q 0 x (omega arith))) (λ i d l. q (suc i) d (omega arith))
@@ -44,7 +45,8 @@ module _ (items : List Item) (table : ℕ) where
 
   children_below : (d : ℕ) → Below d → All Below (children_of items d)
   children_below d h = All-from_get_or Below (children_of items d) 0
-      (λ i l. ∥∥₁_elim h (Below-prop (get_or (children_of items d) i 0)) (λ b. ∣ deeper b (Contains-get_or (children_of items d) i 0 l) ∣₁))
+      (λ i l. ∥∥₁_elim h (Below-prop (get_or (children_of items d) i 0))
+      (λ b. ∣ deeper b (Contains-get_or (children_of items d) i 0 l) ∣₁))
 
   tagged_below : (tag : List ℕ) (d : ℕ) → Below d → All Below (tagged_children tag items d)
   tagged_below tag d h = All-filter (has_tag (tag ∷ []) items) Below (children_of items d) (children_below d h)
@@ -64,7 +66,8 @@ module _ (items : List Item) (table : ℕ) where
       subst (All Below) (sym (flat_map-append (λ (x : Part). x.nodes) parts (part kind ds ∷ [])
       ∙ ap (λ zs. nodes_of parts ++ zs) (append-nil ds))) (All-append Below (nodes_of parts) ds p q)
 
-  with_cells-proper : (ds : List ℕ) (layout : Layout) → Proper layout → All Below ds → Proper (with_cells ds layout)
+  with_cells-proper : (ds : List ℕ) (layout : Layout) → Proper layout → All Below ds
+      → Proper (with_cells ds layout)
   with_cells-proper [] layout p q = p
   with_cells-proper (d ∷ ds) layout p q = more-below layout.parts Row (d ∷ ds) p q
 
@@ -81,13 +84,16 @@ module _ (items : List Item) (table : ℕ) where
   either true x y p q = p
   either false x y p q = q
 
-  section_row-proper : (layout : Layout) (d : ℕ) → Proper layout → Below d → Proper (with_section_row items layout d)
+  section_row-proper : (layout : Layout) (d : ℕ) → Proper layout → Below d
+      → Proper (with_section_row items layout d)
   section_row-proper layout d p h = either (is_headless layout)
-      (with_headers_or (tagged_children (codes "th") items d) (with_row items d layout) layout) (with_row items d layout)
+      (with_headers_or (tagged_children (codes "th") items d) (with_row items d layout) layout)
+      (with_row items d layout)
       (with_headers_or-proper (tagged_children (codes "th") items d) (with_row items d layout) layout
       (with_row-proper d layout p h) p (tagged_below (codes "th") d h)) (with_row-proper d layout p h)
 
-  table_row-proper : (layout : Layout) (d : ℕ) → Proper layout → Below d → Proper (with_table_row items d layout)
+  table_row-proper : (layout : Layout) (d : ℕ) → Proper layout → Below d
+      → Proper (with_table_row items d layout)
   table_row-proper layout d p h = either (is_headless layout)
       (with_headers_or (header_cells items d) layout layout) (with_row items d layout)
       (with_headers_or-proper (header_cells items d) layout layout p p (header_cells-below d h))

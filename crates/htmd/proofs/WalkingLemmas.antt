@@ -40,7 +40,8 @@ pub contents_more : (at : Occurrence) (ids : List ℕ) (k d : ℕ) (results : Li
     → following (results ++ result_of out ∷ []) (contents_alone at (drop (k + 1) ids) out.definitions)
     ≡ following results (contents_alone at (drop k ids) definitions)
 contents_more at ids k d results out definitions l e h =
-    let one : drop k ids ≡ d ∷ drop (k + 1) ids = drop_more ids k d l ∙ ap (λ x. x ∷ drop (k + 1) ids) (sym e) in
+    let one : drop k ids ≡ d ∷ drop (k + 1) ids =
+    drop_more ids k d l ∙ ap (λ x. x ∷ drop (k + 1) ids) (sym e) in
     let rest : Output → Contents = λ o. contents_alone at (drop (k + 1) ids) o.definitions in
     ap (λ (xs : List ResultView). record { results = xs; definitions = (rest out).definitions })
     (append_assoc results (result_of out ∷ []) (rest out).results)
@@ -49,12 +50,14 @@ contents_more at ids k d results out definitions l e h =
     ∙ sym (ap (λ xs. following results (contents_alone at xs definitions)) one)
 
 -- what follows a node adds to what it leaves
-pub contents_first : (at : Occurrence) → Grows at.write → (ids : List ℕ) (k d : ℕ) (definitions : List (List ℕ))
+pub contents_first : (at : Occurrence) → Grows at.write
+    → (ids : List ℕ) (k d : ℕ) (definitions : List (List ℕ))
     → k < length ids → d ≡ get_or ids k d
     → IsBeginning (content_alone at.write at.conversion (descendant_tree at.conversion.items at.view.text d) d
     definitions).definitions (contents_alone at (drop k ids) definitions).definitions
 contents_first at g ids k d definitions l e =
-    let one : drop k ids ≡ d ∷ drop (k + 1) ids = drop_more ids k d l ∙ ap (λ x. x ∷ drop (k + 1) ids) (sym e) in
+    let one : drop k ids ≡ d ∷ drop (k + 1) ids =
+    drop_more ids k d l ∙ ap (λ x. x ∷ drop (k + 1) ids) (sym e) in
     beginning-to (grows-contents at g (drop (k + 1) ids) _) (ap (λ xs. (contents_alone at xs definitions).definitions)
     (sym one))
 
@@ -111,7 +114,8 @@ pub occurrence-same : (write : Writes) (conversion : Conversion) (id : ℕ) (ins
     → ◌≡◌ {A = Occurrence} (record {
       write = write;
       conversion = conversion;
-      view = record { items = conversion.items; node = id; text = shown; options = options; markdown_translated = true };
+      view =
+          record { items = conversion.items; node = id; text = shown; options = options; markdown_translated = true };
       inside = inside;
       children = children;
     }) (occurrence_at write conversion id inside children)
@@ -162,7 +166,8 @@ has_levels (Some s) (more tree trees) h = omega (arith, height_pos tree)
 pub two_levels : (items : List Item) (t : IsTree items) (id : ℕ) → id < length items
     → (name : List ℕ) (attributes : List AttributePair) (joined : Option (List ℕ)) (s : List ℕ) (n : ℕ)
     → data_at items id ≡ element_node name attributes
-    → Some s ≡ only_text (group_children joined (children_at items id)) → height (tree_of items id) ≤ suc n → 1 ≤ n
+    → Some s ≡ only_text (group_children joined (children_at items id)) → height (tree_of items id) ≤ suc n
+    → 1 ≤ n
 two_levels items t id l name attributes joined s n e h k =
     let tall = has_levels joined (children_at items id) (ap is_some (sym h)) in
     let levels : height (tree_of items id) ≡ suc (tallest (children_at items id)) =
@@ -170,7 +175,8 @@ two_levels items t id l name attributes joined s n e h k =
     omega (arith, tall, levels, k)
 
 -- the content of an element that shows a text
-pub text_inside : (n : ℕ) (conversion : Conversion) (inside : List Ancestor) (children : NumberedForest) (s : List ℕ)
+pub text_inside : (n : ℕ) (conversion : Conversion) (inside : List Ancestor) (children : NumberedForest)
+    (s : List ℕ)
     (definitions : List (List ℕ)) → Some s ≡ only_text children → 1 ≤ n
     → write_text s (context_of inside (pre inside) (trims_first inside)) (empty_output definitions) ≡ content_inside
     (written_within n conversion) inside children definitions

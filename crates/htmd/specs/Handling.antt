@@ -56,7 +56,8 @@ abbrev pub without_definitions : Option ResultView → Finish
 without_definitions result = record { result = result; added = [] }
 
 -- a handler that asks by this plan, and finishes by this function of what it is shown and of the content
-abbrev pub of_plan : (ElementView → PlanView) → (ElementView → ResultView → Option ResultView) → HandlerMeaning
+abbrev pub of_plan : (ElementView → PlanView) → (ElementView → ResultView → Option ResultView)
+    → HandlerMeaning
 of_plan plan finish = record {
   plan = plan;
   finish = λ view content definitions. without_definitions (finish view content);
@@ -66,7 +67,8 @@ of_plan plan finish = record {
 
 -- a handler that knows nothing of definitions
 abbrev pub of_functions :
-    (ElementView → PlanView) → (ElementView → ResultView → Option ResultView) → Option (List ℕ) → HandlerMeaning
+    (ElementView → PlanView) → (ElementView → ResultView → Option ResultView) → Option (List ℕ)
+    → HandlerMeaning
 of_functions plan finish append = record {
   plan = plan;
   finish = λ view content definitions. without_definitions (finish view content);

@@ -8,7 +8,8 @@ use Rattle.htmd.specs.Choice.{Config}
 use Rattle.htmd.specs.TagIndexes.{tag_index}
 use Rattle.htmd.specs.HandlerMeanings.{handler_meaning}
 
-abbrev pub config_of : {X : Type 0} {F : X → Type 0} → (DynBox X Global F → HandlerMeaning) → ElementHandlers X F
+abbrev pub config_of : {X : Type 0} {F : X → Type 0} → (DynBox X Global F → HandlerMeaning)
+    → ElementHandlers X F
     → Config
 config_of of_box registry = record {
   options = registry.options;

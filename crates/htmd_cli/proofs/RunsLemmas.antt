@@ -42,4 +42,5 @@ pub conversion_before : {T U : Type 0} (r : Result T RunError) (x : Result U Con
     (place : ℕ) (kind : FaultKind) → x ≡ Err e → IsErrAnd r (λ error. error ≡ run_error e)
     → r ≡ Err (run.Refused place kind) → x ≡ Err (conversion.Refused place kind)
 conversion_before r x e place kind was given q =
-    was ∙ ap Err (refused_conversion e place kind (subst (λ y. IsErrAnd y (λ error. error ≡ run_error e)) q given))
+    was ∙ ap Err (refused_conversion e place kind
+    (subst (λ y. IsErrAnd y (λ error. error ≡ run_error e)) q given))

@@ -15,7 +15,8 @@ use Rattle.htmd_text.proofs.EscapeMarksLemmas.{Writing, writing_none, writing_pl
 use Rattle.htmd_text.proofs.UnescapeLemmas.{reads_back}
 use Rattle.htmd_markdown.specs.Addresses.{parentheses, escaped_address, holds_backslash, HoldsAddress}
 
-among_ascii : (characters : List ℕ) (b : ℕ) → list_all is_ascii characters ≡ true → is_one_of characters b ≡ true
+among_ascii : (characters : List ℕ) (b : ℕ) → list_all is_ascii characters ≡ true
+    → is_one_of characters b ≡ true
     → is_ascii b ≡ true
 among_ascii [] b all e = cc
 among_ascii (c ∷ characters) b all e =
@@ -36,7 +37,8 @@ escaping_none marked s before text = record {
   writing = writing_none marked s [] text refl;
 }
 
-pub escaping_plain : (marked : ℕ → Bool) (s before out : List ℕ) (from i : ℕ) → i < length s → marked i ≡ false
+pub escaping_plain : (marked : ℕ → Bool) (s before out : List ℕ) (from i : ℕ) → i < length s
+    → marked i ≡ false
     → Escaping marked s before out from i → Escaping marked s before out from (i + 1)
 escaping_plain marked s before out from i lt plain was = record {
   written = was.written;
@@ -44,7 +46,8 @@ escaping_plain marked s before out from i lt plain was = record {
   writing = writing_plain marked s was.written from i lt plain was.writing;
 }
 
-pub escaping_marked : (marked : ℕ → Bool) (s before out : List ℕ) (from i : ℕ) → i < length s → marked i ≡ true
+pub escaping_marked : (marked : ℕ → Bool) (s before out : List ℕ) (from i : ℕ) → i < length s
+    → marked i ≡ true
     → is_ascii (get_or s i 0) ≡ true → Escaping marked s before out from i
     → Escaping marked s before ((out ++ between from i s) ++ backslash ∷ []) i (i + 1)
 escaping_marked marked s before out from i lt here ascii was = record {
@@ -54,7 +57,8 @@ escaping_marked marked s before out from i lt here ascii was = record {
 }
 
 pub escaping_all : (marked : ℕ → Bool) (s before out : List ℕ) (from i : ℕ) → length s ≤ i
-    → Escaping marked s before out from i → out ++ between from (length s) s ≡ before ++ with_backslashes marked 0 s
+    → Escaping marked s before out from i
+    → out ++ between from (length s) s ≡ before ++ with_backslashes marked 0 s
 escaping_all marked s before out from i past was =
     ap (λ l. l ++ between from (length s) s) was.out_is
     ∙ append_assoc before was.written (between from (length s) s)

@@ -34,7 +34,8 @@ IsTop reader o =
     → o ≡ open_node reader.scripting has_doctype f fs
 
 pub holds_kept : (reader other : Reader) (has_doctype : Bool) (fs : List OpenElement) → other.tree ≡ reader.tree
-    → other.stack.items ≡ reader.stack.items → other.scripting ≡ reader.scripting → Holds reader has_doctype fs
+    → other.stack.items ≡ reader.stack.items → other.scripting ≡ reader.scripting
+    → Holds reader has_doctype fs
     → Holds other has_doctype fs
 holds_kept reader other has_doctype fs tree stack scripting h = record {
   tree_is = tree ∙ h.tree_is;
@@ -138,7 +139,8 @@ leaf_follows old middle new has_doctype (f ∷ gs) x id rest h l a tree stack le
     } in
     rw a.shallow (record { holds = holds; run = refl; rest = left; scripting = scripting })
 
-same_node : (o : OpenNode) (id : ℕ) (implied : Bool) (p : Place) → o.id ≡ id → o.implied ≡ implied → o.place ≡ p
+same_node : (o : OpenNode) (id : ℕ) (implied : Bool) (p : Place) → o.id ≡ id → o.implied ≡ implied
+    → o.place ≡ p
     → ◌≡◌ {A = OpenNode} o (record { id = id; implied = implied; place = p })
 same_node o id implied p i j k =
     let by_id : ℕ → OpenNode = λ n. record { id = n; implied = o.implied; place = o.place } in
@@ -175,7 +177,8 @@ opened_follows old middle new has_doctype (f ∷ gs) n attributes implied o h m 
       tree_is = tree ∙ (a.tree ∙ stack_items-opened has_doctype f gs n attributes implied old.tree h.tree_is);
       stack_is =
           stack ∙ (ap (λ y. old.stack.items ++ y ∷ []) last
-          ∙ (ap (λ y. y ++ open_node old.scripting has_doctype (fresh n attributes implied) (f ∷ gs) ∷ []) h.stack_is
+          ∙ (ap (λ y. y ++ open_node old.scripting has_doctype (fresh n attributes implied) (f ∷ gs) ∷ [])
+          h.stack_is
           ∙ ap (λ b. open_nodes b has_doctype (fresh n attributes implied ∷ f ∷ gs)) (sym scripting)));
       are_open = (m, h.are_open);
     } in
@@ -183,7 +186,8 @@ opened_follows old middle new has_doctype (f ∷ gs) n attributes implied o h m 
 
 pub reading_kept : (reader other : Reader) → other.tree ≡ reader.tree → other.stack.items ≡ reader.stack.items
     → other.scripting ≡ reader.scripting → IsReading reader → IsReading other
-reading_kept reader other tree stack scripting r = (r.0, r.1, r.2, holds_kept reader other (r.0) (r.1 ∷ r.2) tree stack scripting (r.3))
+reading_kept reader other tree stack scripting r =
+    (r.0, r.1, r.2, holds_kept reader other (r.0) (r.1 ∷ r.2) tree stack scripting (r.3))
 
 -- ---- steps
 

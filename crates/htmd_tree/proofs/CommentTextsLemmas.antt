@@ -34,7 +34,8 @@ three (b ∷ c ∷ d ∷ s) e =
 
 pub no_comment_end : (s : List ℕ) → length (ends s) ≡ length s → before_comment_end s ≡ None
 no_comment_end [] e = refl
-no_comment_end (b ∷ s) e = test (begins_with (codes "-->") (b ∷ s)) (λ q. let m = rw q at e in absurd (omega arith))
+no_comment_end (b ∷ s) e =
+    test (begins_with (codes "-->") (b ∷ s)) (λ q. let m = rw q at e in absurd (omega arith))
     (λ q. let m = rw q at e in rw (q, no_comment_end s (omega arith)) refl)
 
 found : (s : List ℕ) → length (ends s) < length s
@@ -83,7 +84,8 @@ abbrev Cut : Type 0
 Cut = List ℕ × List ℕ
 
 -- what follows a comment is no longer than what held it
-pub comment_within : (s body rest : List ℕ) → Some (body, rest) ≡ before_comment_end s → length rest ≤ length s
+pub comment_within : (s body rest : List ℕ) → Some (body, rest) ≡ before_comment_end s
+    → length rest ≤ length s
 comment_within s body rest e =
     ⊎_elim
     (λ q. absurd (let f : Some (body, rest) ≡ None = e ∙ no_comment_end s q in cc))

@@ -27,7 +27,8 @@ abbrev is_line_feed : List ℕ → Bool
 is_line_feed v = bytes_eq v (line_feed ∷ [])
 
 named_other : (names : List NamedCharacter) (n : List ℕ) (c : ℕ)
-    → list_all (λ e. not (is_line_feed (encode_utf8 e.character))) names ≡ true → character_named names n ≡ Some c
+    → list_all (λ e. not (is_line_feed (encode_utf8 e.character))) names ≡ true
+    → character_named names n ≡ Some c
     → is_line_feed (encode_utf8 c) ≡ false
 named_other [] n c a e = absurd (cc)
 named_other (x ∷ names) n c a e =
@@ -48,10 +49,12 @@ names_pass : list_all (λ e. not (is_line_feed (encode_utf8 e.character))) named
 unfolding encode_utf8
 names_pass = refl
 
-same_named : (n b : ℕ) (s name : List ℕ) → less_line_feed (named n (character_named named_characters name)) b s ≡ b ∷ s
+same_named : (n b : ℕ) (s name : List ℕ)
+    → less_line_feed (named n (character_named named_characters name)) b s ≡ b ∷ s
 same_named n b s name = by_character (character_named named_characters name) refl
   where
-    by_character : (o : Option ℕ) → character_named named_characters name ≡ o → less_line_feed (named n o) b s ≡ b ∷ s
+    by_character : (o : Option ℕ) → character_named named_characters name ≡ o
+        → less_line_feed (named n o) b s ≡ b ∷ s
     by_character None e = refl
     by_character (Some c) e = rw (named_other named_characters name c names_pass e) refl
 
@@ -64,19 +67,22 @@ same_ampersand b s =
     (leading_run is_ascii_alphanumeric s)))
     (λ f. rw (e, f) refl))
 
-same_less : (b : ℕ) (s : List ℕ) → less_line_feed (piece_at named_characters b s) b s ≡ after_line_feed [] (b ∷ s)
+same_less : (b : ℕ) (s : List ℕ)
+    → less_line_feed (piece_at named_characters b s) b s ≡ after_line_feed [] (b ∷ s)
 same_less b s = test (eqb b 38) (λ e. rw e (same_ampersand b s)) (λ e. rw e refl)
 
 -- ---- what is left
 
-line_feed_dropped : (b n c : ℕ) (s : List ℕ) → stands n (encode_utf8 c) ≡ piece_at named_characters b s → c ≡ 10
+line_feed_dropped : (b n c : ℕ) (s : List ℕ) → stands n (encode_utf8 c) ≡ piece_at named_characters b s
+    → c ≡ 10
     → drop n s ≡ after_line_feed [] (b ∷ s)
 line_feed_dropped b n c s e k =
     let v : encode_utf8 c ≡ 10 ∷ [] = ap encode_utf8 k ∙ encode_ascii 10 (omega arith) in
     let p : stands n (10 ∷ []) ≡ piece_at named_characters b s = ap (λ (x : List ℕ). stands n x) (sym v) ∙ e in
     ap (λ (x : Piece). less_line_feed x b s) p ∙ same_less b s
 
-nothing_dropped : (b n c : ℕ) (s : List ℕ) → stands n (encode_utf8 c) ≡ piece_at named_characters b s → (c ≡ 10 → ⊥)
+nothing_dropped : (b n c : ℕ) (s : List ℕ) → stands n (encode_utf8 c) ≡ piece_at named_characters b s
+    → (c ≡ 10 → ⊥)
     → b ∷ s ≡ after_line_feed [] (b ∷ s)
 nothing_dropped b n c s e k =
     let f : is_line_feed (encode_utf8 c) ≡ false = other c k in
@@ -111,7 +117,8 @@ cut_at_end s (suc n) u h =
     subst (λ (m : ℕ). IsCharBoundary s m) k (IsCharBoundary-after_ascii s n u (omega arith) b)
 
 pub content_cut : (text bytes tail : List ℕ) (n : ℕ) → bytes ≡ text
-    → IsPieceEnd (take (length bytes - 1) (drop 1 bytes)) n → tail ≡ drop 1 text → IsUtf8 tail → IsCharBoundary tail n
+    → IsPieceEnd (take (length bytes - 1) (drop 1 bytes)) n → tail ≡ drop 1 text → IsUtf8 tail
+    → IsCharBoundary tail n
 content_cut text bytes tail n q e t u =
     let d = length-drop 1 bytes in
     let w : take (length bytes - 1) (drop 1 bytes) ≡ drop 1 bytes =
@@ -120,7 +127,8 @@ content_cut text bytes tail n q e t u =
     cut_at_end tail n u (subst (λ (x : List ℕ). IsPieceEnd x n) g e)
 
 pub content_dropped : (text bytes tail rest : List ℕ) (n c : ℕ) → bytes ≡ text → 1 ≤ length bytes
-    → stands n (encode_utf8 c) ≡ piece_at named_characters (get_or bytes 0 0) (take (length bytes - 1) (drop 1 bytes))
+    → stands n (encode_utf8 c)
+    ≡ piece_at named_characters (get_or bytes 0 0) (take (length bytes - 1) (drop 1 bytes))
     → c ≡ 10 → tail ≡ drop 1 text → rest ≡ drop n tail → rest ≡ after_line_feed [] text
 content_dropped text bytes tail rest n c q l e k t d =
     let f = first_piece text bytes (stands n (encode_utf8 c)) q l e in
@@ -128,7 +136,8 @@ content_dropped text bytes tail rest n c q l e k t d =
     ∙ (line_feed_dropped f.0 n c f.1 f.3 k ∙ ap (after_line_feed []) (sym f.2)))
 
 pub content_other : (text bytes : List ℕ) (n c : ℕ) → bytes ≡ text → 1 ≤ length bytes
-    → stands n (encode_utf8 c) ≡ piece_at named_characters (get_or bytes 0 0) (take (length bytes - 1) (drop 1 bytes))
+    → stands n (encode_utf8 c)
+    ≡ piece_at named_characters (get_or bytes 0 0) (take (length bytes - 1) (drop 1 bytes))
     → (c ≡ 10 → ⊥) → text ≡ after_line_feed [] text
 content_other text bytes n c q l e k =
     let f = first_piece text bytes (stands n (encode_utf8 c)) q l e in
@@ -139,4 +148,5 @@ pub content_wrong : (text bytes : List ℕ) (kind : FaultKind) → bytes ≡ tex
     → text ≡ after_line_feed [] text
 content_wrong text bytes kind q l e =
     let f = first_piece text bytes (wrong kind) q l e in
-    f.2 ∙ (ap (λ (x : Piece). less_line_feed x f.0 f.1) f.3 ∙ (same_less f.0 f.1 ∙ ap (after_line_feed []) (sym f.2)))
+    f.2 ∙ (ap (λ (x : Piece). less_line_feed x f.0 f.1) f.3
+    ∙ (same_less f.0 f.1 ∙ ap (after_line_feed []) (sym f.2)))

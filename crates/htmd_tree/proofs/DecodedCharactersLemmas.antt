@@ -73,7 +73,8 @@ may_out : (n : ℕ) → OutOfScalarRange n → may_be_numbered n ≡ false
 unfolding may_be_numbered
 may_out n e = grind (arith, nat_tests)
 
-may_in : (n : ℕ) → (n ≡ 0 → ⊥) → is_between 0x80 0x9F n ≡ false → InScalarRange n → may_be_numbered n ≡ true
+may_in : (n : ℕ) → (n ≡ 0 → ⊥) → is_between 0x80 0x9F n ≡ false → InScalarRange n
+    → may_be_numbered n ≡ true
 unfolding may_be_numbered
 may_in n z e i = grind (arith, nat_tests)
 
@@ -121,11 +122,13 @@ some_numbered k n m v e q = go (below_limit n)
     same : v ≡ m
     same = let r = rw on at q in cc
 
-    go : (min n limit ≡ n) ⊎ ((min n limit ≡ limit) × (limit ≤ n)) → stands k (encode_utf8 v) ≡ numbered k n
+    go : (min n limit ≡ n) ⊎ ((min n limit ≡ limit) × (limit ≤ n))
+        → stands k (encode_utf8 v) ≡ numbered k n
     go (inl r) =
         let f : may_be_numbered n ≡ true = ap may_be_numbered (sym (e ∙ r)) ∙ on in
         rw f (ap (λ c. stands k (encode_utf8 c)) (same ∙ e ∙ r))
-    go (inr r) = let f : may_be_numbered m ≡ false = ap may_be_numbered (e ∙ r.0) ∙ may_limit limit (omega arith) in
+    go (inr r) = let f : may_be_numbered m ≡ false =
+        ap may_be_numbered (e ∙ r.0) ∙ may_limit limit (omega arith) in
         let z = rw f at on in absurd (cc)
 
 -- ---- what stands before `;`
@@ -173,14 +176,16 @@ module _ (p : ℕ → Bool) (base from len : ℕ) (s : List ℕ) (off : p 59 ≡
   pub number_open : first_is 59 (take (length s - (from + len)) (drop (from + len) s)) ≡ false
       → wrong BadNumber ≡ number_at p base from (drop from s)
   number_open z =
-      let q : first_is 59 (behind_run p (drop from s)) ≡ false = ap (first_is 59) (sym (tail_of p s from len run)) ∙ z in
+      let q : first_is 59 (behind_run p (drop from s)) ≡ false = ap (first_is 59) (sym (tail_of p s from len run))
+      ∙ z in
       rw q refl
 
   closed : (len ≡ 0 → ⊥) → first_is 59 (take (length s - (from + len)) (drop (from + len) s)) ≡ true
       → number_at p base from (drop from s)
       ≡ numbered (from + len + 1) (number base 0 (take (from + len - from) (drop from s)))
   closed z e =
-      let q : first_is 59 (behind_run p (drop from s)) ≡ true = ap (first_is 59) (sym (tail_of p s from len run)) ∙ e in
+      let q : first_is 59 (behind_run p (drop from s)) ≡ true = ap (first_is 59) (sym (tail_of p s from len run))
+      ∙ e in
       let r = ends_run p (drop from s) off (omega arith) q in
       let k : suc (from + length (leading_run p (drop from s))) ≡ from + len + 1 = omega arith in
       rw r (ap (λ n. numbered n (number base 0 (leading_run p (drop from s)))) k
@@ -205,12 +210,14 @@ module _ (p : ℕ → Bool) (base from len : ℕ) (s : List ℕ) (off : p 59 ≡
 -- ---- a reference by a name
 
 -- one more name that it isn't
-pub name_more : (names : List (Bor (List ℕ) × ℕ)) (n : List ℕ) (i : ℕ) (d : Bor (List ℕ) × ℕ) → i < length names
+pub name_more : (names : List (Bor (List ℕ) × ℕ)) (n : List ℕ) (i : ℕ) (d : Bor (List ℕ) × ℕ)
+    → i < length names
     → bytes_eq n (get_or names i d).0.now ≡ false
     → character_named (map entry (drop i names)) n ≡ character_named (map entry (drop (i + 1) names)) n
 name_more names n i d l e = rw (drop_more names i d l) (rw e refl)
 
-pub name_found : (names : List (Bor (List ℕ) × ℕ)) (n : List ℕ) (i : ℕ) (d : Bor (List ℕ) × ℕ) → i < length names
+pub name_found : (names : List (Bor (List ℕ) × ℕ)) (n : List ℕ) (i : ℕ) (d : Bor (List ℕ) × ℕ)
+    → i < length names
     → bytes_eq n (get_or names i d).0.now ≡ true
     → character_named (map entry (drop i names)) n ≡ Some (get_or names i d).1
 name_found names n i d l e = rw (drop_more names i d l) (rw e refl)
@@ -223,7 +230,8 @@ head_is (b ∷ s) e = (omega arith, same b e)
     same x h = grind (arith, nat_tests)
 
 -- a piece may end behind `;`
-pub behind_semicolon : (s : List ℕ) (n : ℕ) → n ≤ length s → first_is 59 (take (length s - n) (drop n s)) ≡ true
+pub behind_semicolon : (s : List ℕ) (n : ℕ) → n ≤ length s
+    → first_is 59 (take (length s - n) (drop n s)) ≡ true
     → IsPieceEnd s (n + 1)
 behind_semicolon s n l e =
     let h = head_is (drop n s) (ap (first_is 59) (sym (between_to_end s n (length s) (omega arith))) ∙ e) in

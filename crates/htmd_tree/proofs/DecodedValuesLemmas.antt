@@ -34,7 +34,8 @@ decode_passes (suc n) (b ∷ s) = decode_passes n s
 itself : (b : ℕ) → is_itself b ≡ true → ((b == 38) ≡ false) × ((b == 13) ≡ false)
 itself b e = (grind (arith, nat_tests), grind (arith, nat_tests))
 
-itself_piece : (b : ℕ) (s : List ℕ) → is_itself b ≡ true → piece_at named_characters b s ≡ stands 0 (b ∷ [])
+itself_piece : (b : ℕ) (s : List ℕ) → is_itself b ≡ true
+    → piece_at named_characters b s ≡ stands 0 (b ∷ [])
 itself_piece b s e = let k = itself b e in rw (k.0, k.1) refl
 
 literal : (s : List ℕ) → behind (leading_run is_itself s) (decode named_characters 0 (behind_run is_itself s))

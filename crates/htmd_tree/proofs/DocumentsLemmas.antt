@@ -31,7 +31,8 @@ use Rattle.htmd_tree.specs.declared.reader.ReadError.TheVariants.{Refused as Ref
 
 -- a document is laid out as the items of `body`, which is open
 pub laid_out : (o : Option (List ℕ)) (content : ValueForest)
-    → stack_items (is_some o) (with_children body content ∷ []) ≡ document_items (with_doctype o (skeleton content))
+    → stack_items (is_some o) (with_children body content ∷ [])
+    ≡ document_items (with_doctype o (skeleton content))
 laid_out None content =
     let items : List Item = forest_items 3 3 4 content in
     ap (λ (y : List Item). stack_items false (body ∷ []) ++ y) (sym (append-nil (items ++ []) ∙ append-nil items))
@@ -42,7 +43,8 @@ laid_out (Some rest) content =
 -- the document that was read
 abbrev pub IsRead : Bool → List ℕ → List Item → Type 0
 IsRead scripting s items =
-    (children : ValueForest) × (items ≡ document_items children) × ReadsDocument (project scripting) s (document children)
+    (children : ValueForest) × (items ≡ document_items children)
+    × ReadsDocument (project scripting) s (document children)
 
 pub read_rightly : (old new : Reader) (scripting : Bool) (s : List ℕ) → StepsReadRightly (project scripting)
     → lacks null s ≡ true → old.rest.now ≡ body_text s → old.scripting ≡ scripting
@@ -65,7 +67,8 @@ and_right false y e = absurd (cc)
 abbrev is_null : ℕ → Bool
 is_null b = b == null
 
-nul_behind : (b : ℕ) (s : List ℕ) (n : ℕ) → (b == null) ≡ false → IsFirstNul s n → IsFirstNul (b ∷ s) (1 + n)
+nul_behind : (b : ℕ) (s : List ℕ) (n : ℕ) → (b == null) ≡ false → IsFirstNul s n
+    → IsFirstNul (b ∷ s) (1 + n)
 nul_behind b s n e f = record {
   before = b ∷ f.before;
   behind = f.behind;
@@ -101,7 +104,8 @@ first_null_is s o e = subst (λ x. MatchOption x (lacks null s ≡ true) (λ pla
 
 pub nul_refuses : (scripting : Bool) (s : List ℕ) (place : ℕ) → IsFirstNul s place → (t : ValueTree)
     → ReadsDocument (project scripting) s t → ⊥
-nul_refuses scripting s place n t r = absurd (no_lack n.before n.behind (subst (λ x. lacks null x ≡ true) n.text_is (r.0)))
+nul_refuses scripting s place n t r =
+    absurd (no_lack n.before n.behind (subst (λ x. lacks null x ≡ true) n.text_is (r.0)))
   where
     no_lack : (before behind : List ℕ) → lacks null (before ++ (null ∷ behind)) ≡ true → ⊥
     no_lack [] behind e = (cc)
@@ -136,7 +140,8 @@ module _ (old new : Reader) (scripting : Bool) (s : List ℕ) (left : ℕ) (kind
       → ReadsDocument (project scripting) s t → ⊥
   fault_refuses law t r = law s (e.0) kind fault_reached fault_found (e.3) t r
 
-pub null_found : (s : List ℕ) (o : Option ℕ) (place : ℕ) → o ≡ position is_null s → o ≡ Some place → IsFirstNul s place
+pub null_found : (s : List ℕ) (o : Option ℕ) (place : ℕ) → o ≡ position is_null s → o ≡ Some place
+    → IsFirstNul s place
 null_found s o place e f =
     subst (λ x. MatchOption x (lacks null s ≡ true) (λ k. IsFirstNul s k)) f (first_null_is s o e)
 

@@ -17,7 +17,8 @@ module _ (d p b : ℕ) (node_data : Data) (rest : List Item) where
   own_first = let same : eqb p p ≡ true = grind (arith, nat_tests) in rw same refl
 
   -- a child of another node gives none
-  pub other_first : (q : ℕ) → p ≢ q → forest_from b (item_under d p node_data ∷ rest) q ≡ forest_from (suc b) rest q
+  pub other_first : (q : ℕ) → p ≢ q
+      → forest_from b (item_under d p node_data ∷ rest) q ≡ forest_from (suc b) rest q
   unfolding forest_from
   other_first q apart = let other : eqb p q ≡ false = grind (arith, nat_tests) in rw other refl
 
@@ -42,7 +43,8 @@ mutual
       other_first d p b (element_node name attributes) (forest_items (suc d) b (suc b) children ++ rest) q apart
       ∙ forest_items-skip children (suc d) b (suc b) n q rest (omega arith) (omega arith) (omega arith)
 
-  pub forest_items-skip : (ts : ValueForest) (d p b n q : ℕ) (rest : List Item) → n ≡ b + sizes ts → p ≢ q → q < b
+  pub forest_items-skip : (ts : ValueForest) (d p b n q : ℕ) (rest : List Item) → n ≡ b + sizes ts → p ≢ q
+      → q < b
       → forest_from b (forest_items d p b ts ++ rest) q ≡ forest_from n rest q
   forest_items-skip none d p b n q rest e apart l = renumbered b n q rest (omega arith)
   forest_items-skip (more t ts) d p b n q rest e apart l =
@@ -97,4 +99,5 @@ pub document_items-denotes : LayoutDenotes
 unfolding forest_from tree_of
 document_items-denotes children =
     ap (λ x. document (value_forest (forest_from 1 x 0))) (sym (append-nil (forest_items 1 0 1 children)))
-    ∙ ap document (forest_items-denotes children 1 0 1 (1 + sizes children) [] refl (omega arith) (λ q m k. refl) refl)
+    ∙ ap document (forest_items-denotes children 1 0 1 (1 + sizes children) [] refl (omega arith) (λ q m k. refl)
+    refl)

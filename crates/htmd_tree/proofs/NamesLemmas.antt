@@ -17,7 +17,8 @@ use Rattle.htmd_tree.specs.Views.{pair_of, pairs_of}
 
 -- the set has these names
 abbrev pub HasNames : BTreeSet (Bor (List ℕ)) → List (List ℕ) → Type 0
-HasNames set names = (q : Bor (List ℕ)) → contains (λ x y. slice_cmp nat_cmp x.now y.now) set q ≡ is_among names q.now
+HasNames set names = (q : Bor (List ℕ))
+    → contains (λ x y. slice_cmp nat_cmp x.now y.now) set q ≡ is_among names q.now
 
 bytes_eq-swapped : (n m : List ℕ) → bytes_eq n m ≡ bytes_eq m n
 bytes_eq-swapped [] [] = refl
@@ -41,7 +42,8 @@ name_added set new name names u h q =
     either false y = refl
 
 -- what has a name twice at its end, has it twice
-pub twice_behind : (before behind : List (List ℕ)) → are_distinct behind ≡ false → are_distinct (before ++ behind) ≡ false
+pub twice_behind : (before behind : List (List ℕ)) → are_distinct behind ≡ false
+    → are_distinct (before ++ behind) ≡ false
 twice_behind [] behind e = e
 twice_behind (n ∷ before) behind e =
     test (is_among (before ++ behind) n) (λ f. rw f refl) (λ f. rw (f, twice_behind before behind e) refl)
@@ -56,7 +58,8 @@ names_of-append xs ys =
     ap attribute_names (map-append pair_of xs ys) ∙ map-append (λ a. a.name) (map pair_of xs) (map pair_of ys)
 
 -- the last attribute and those behind it
-last_split : (attributes rest behind : List Attribute) (x : Attribute) → attributes ≡ rest ++ behind → 1 ≤ length rest
+last_split : (attributes rest behind : List Attribute) (x : Attribute) → attributes ≡ rest ++ behind
+    → 1 ≤ length rest
     → x ≡ get_or rest (length rest - 1) x → attributes ≡ take (length rest - 1) rest ++ (x ∷ behind)
 last_split attributes rest behind x e l g =
     let k : length rest - 1 + 1 ≡ length rest = omega arith in
@@ -68,9 +71,11 @@ last_split attributes rest behind x e l g =
     e ∙ (ap (λ (y : List Attribute). y ++ behind) w ∙ append_assoc (take (length rest - 1) rest) (x ∷ []) behind)
 
 pub met_again : (attributes rest behind : List Attribute) (x : Attribute) (set : BTreeSet (Bor (List ℕ)))
-    (key : Bor (List ℕ)) → attributes ≡ rest ++ behind → 1 ≤ length rest → x ≡ get_or rest (length rest - 1) x
+    (key : Bor (List ℕ)) → attributes ≡ rest ++ behind → 1 ≤ length rest
+    → x ≡ get_or rest (length rest - 1) x
     → key.now ≡ string_bytes x.name → HasNames set (names_of behind)
-    → contains (λ x y. slice_cmp nat_cmp x.now y.now) set key ≡ true → false ≡ are_distinct (names_of attributes)
+    → contains (λ x y. slice_cmp nat_cmp x.now y.now) set key ≡ true
+    → false ≡ are_distinct (names_of attributes)
 met_again attributes rest behind x set key e l g n h m =
     let s = last_split attributes rest behind x e l g in
     let a : is_among (names_of behind) (string_bytes x.name) ≡ true =
@@ -81,7 +86,8 @@ met_again attributes rest behind x set key e l g n h m =
     ∙ twice_behind (names_of (take (length rest - 1) rest)) (names_of (x ∷ behind)) d))
 
 pub met_first : (attributes rest behind : List Attribute) (x : Attribute) (set new : BTreeSet (Bor (List ℕ)))
-    (key : Bor (List ℕ)) → attributes ≡ rest ++ behind → 1 ≤ length rest → x ≡ get_or rest (length rest - 1) x
+    (key : Bor (List ℕ)) → attributes ≡ rest ++ behind → 1 ≤ length rest
+    → x ≡ get_or rest (length rest - 1) x
     → key.now ≡ string_bytes x.name → are_distinct (names_of behind) ≡ true → HasNames set (names_of behind)
     → contains (λ x y. slice_cmp nat_cmp x.now y.now) set key ≡ false
     → Updates (λ x y. slice_cmp nat_cmp x.now y.now) set new key true

@@ -144,7 +144,8 @@ pub top_number : (reader : Reader) (has_doctype : Bool) (f : OpenElement) (fs : 
     → (o.id < length reader.tree) × (holds_children (data_at reader.tree o.id) ≡ true)
 top_number reader has_doctype f fs o h e =
     let k : o.id ≡ length (stack_items has_doctype fs) = ap (λ (y : OpenNode). y.id) e in
-    let P : List Item → ℕ → Type 0 = λ items n. (n < length items) × (holds_children (data_at items n) ≡ true) in
+    let P : List Item → ℕ → Type 0 =
+    λ items n. (n < length items) × (holds_children (data_at items n) ≡ true) in
     subst (λ (n : ℕ). P reader.tree n) (sym k) (subst (λ (y : List Item). P y (length (stack_items has_doctype fs)))
     (sym h.tree_is) (top_within has_doctype f fs, ap holds_children (top_data has_doctype f fs)))
 

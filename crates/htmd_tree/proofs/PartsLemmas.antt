@@ -67,7 +67,8 @@ mutual
       other_first d p b (element_node name attributes) (forest_items (suc d) b (suc b) children ++ rest) q (omega arith)
       ∙ forest_items-behind children (suc d) b (suc b) n q rest (omega arith) (omega arith) m
 
-  forest_items-behind : (ts : ValueForest) (d p b n q : ℕ) (rest : List Item) → n ≡ b + sizes ts → p < b → n ≤ q
+  forest_items-behind : (ts : ValueForest) (d p b n q : ℕ) (rest : List Item) → n ≡ b + sizes ts → p < b
+      → n ≤ q
       → forest_from b (forest_items d p b ts ++ rest) q ≡ forest_from n rest q
   forest_items-behind none d p b n q rest e l m = renumbered b n q rest (omega arith)
   forest_items-behind (more t ts) d p b n q rest e l m =
@@ -117,7 +118,8 @@ module _ (items : List Item) where
     unfolding tree_of
     value_is = ap (λ (i : Item). value_tree (numbered.with_children k i.node_data (forest_from 0 items k))) at
 
-    below_is : (n : List ℕ) (attributes : List AttributePair) (c : Context) → x ≡ element_node n attributes → IsAbove d p c
+    below_is : (n : List ℕ) (attributes : List AttributePair) (c : Context) → x ≡ element_node n attributes
+        → IsAbove d p c
         → IsAbove (suc d) k (n ∷ c)
     unfolding ancestors_up
     below_is n attributes c e a =
@@ -138,7 +140,8 @@ module _ (items : List Item) where
       × (value_at items k ≡ value_tree (numbered.with_children k x (forest_from 0 items k)))
   leaf_part d p b k c x at a l m =
       let e : b ≡ k = omega arith in
-      let here : item_at items k ≡ item_under (suc d) p x = subst (λ j. item_at items j ≡ item_under (suc d) p x) e at in
+      let here : item_at items k ≡ item_under (suc d) p x =
+      subst (λ j. item_at items j ≡ item_under (suc d) p x) e at in
       (names_at d p k x here c a, value_is d p k x here)
 
   element_value : (d p b : ℕ) (n : List ℕ) (attributes : List AttributePair) (children : ValueForest)
@@ -163,7 +166,8 @@ module _ (items : List Item) where
 
   mutual
     tree_parts : (t : ValueTree) (d p b k : ℕ) (c : Context) (before rest : List Item)
-        → items ≡ before ++ (tree_items (suc d) p b t ++ rest) → length before ≡ b → StandBefore before → p < b
+        → items ≡ before ++ (tree_items (suc d) p b t ++ rest) → length before ≡ b → StandBefore before
+        → p < b
         → HasNoChildren b (b + size t) rest → IsAbove d p c → is_content t ≡ true → b ≤ k → k < b + size t
         → IsIn c t (ancestor_names items k) (value_at items k)
     tree_parts (document children) d p b k c before rest e n h l none_there a i m j = absurd (cc)
@@ -193,8 +197,10 @@ module _ (items : List Item) where
         ]
 
     pub forest_parts : (ts : ValueForest) (d p b k : ℕ) (c : Context) (before rest : List Item)
-        → items ≡ before ++ (forest_items (suc d) p b ts ++ rest) → length before ≡ b → StandBefore before → p < b
-        → HasNoChildren b (b + sizes ts) rest → IsAbove d p c → are_content ts ≡ true → b ≤ k → k < b + sizes ts
+        → items ≡ before ++ (forest_items (suc d) p b ts ++ rest) → length before ≡ b → StandBefore before
+        → p < b
+        → HasNoChildren b (b + sizes ts) rest → IsAbove d p c → are_content ts ≡ true → b ≤ k
+        → k < b + sizes ts
         → AreIn c ts (ancestor_names items k) (value_at items k)
     forest_parts none d p b k c before rest e n h l none_there a i m j = absurd (omega arith)
     forest_parts (more t ts) d p b k c before rest e n h l none_there a i m j =
@@ -231,7 +237,8 @@ abbrev html_item : Item
 html_item = item_under 1 0 (element_node (codes "html") [])
 
 body_above : (has_doctype : Bool) (content : ValueForest)
-    → IsAbove (stack_items has_doctype (with_children body content ∷ [])) 2 (length (items_above has_doctype)) below_body
+    → IsAbove (stack_items has_doctype (with_children body content ∷ [])) 2 (length (items_above has_doctype))
+    below_body
 unfolding ancestors_up
 body_above false content = record { depth = refl; names = refl }
 body_above true content = record { depth = refl; names = refl }

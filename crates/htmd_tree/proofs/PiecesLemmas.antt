@@ -46,7 +46,8 @@ module _ (rules : Rules) (fs : List OpenElement) (s : List ℕ) where
   unfolding step
   markup_is r e = rw (r, e) refl
 
-  pub raw_text_is : (is_implied fs && ends_rows s) ≡ false → ends_text rules.scripting (innermost_name fs) s ≡ false
+  pub raw_text_is : (is_implied fs && ends_rows s) ≡ false
+      → ends_text rules.scripting (innermost_name fs) s ≡ false
       → is_empty s ≡ false → holds_raw_text rules.scripting (innermost_name fs) ≡ true
       → step rules above_body (place fs s) ≡ raw_text_step rules above_body fs
       (text_of rules (innermost_name fs) (up_to (ends_text rules.scripting (innermost_name fs)) s))
@@ -150,7 +151,8 @@ implied_is_inner reader o r t i = each (r.2) (r.3)
 
 pub joined : (old middle new : Reader) (has_doctype : Bool) (fs gs : List OpenElement) (r : Answer)
     → Reaches (rules_of old) above_body (place fs old.rest.now) (place gs middle.rest.now)
-    → middle.scripting ≡ old.scripting → Advances middle new has_doctype gs r → Advances old new has_doctype fs r
+    → middle.scripting ≡ old.scripting → Advances middle new has_doctype gs r
+    → Advances old new has_doctype fs r
 joined old middle new has_doctype fs gs (Ok x) p e a = (
   a.0,
   record { holds = a.1.holds; run = a.1.run; rest = a.1.rest; scripting = a.1.scripting ∙ e },
@@ -203,7 +205,8 @@ module _ (old middle new : Reader) (has_doctype : Bool) (fs : List OpenElement) 
 
   pub text_advances : ends_text middle.scripting (innermost_name s.opened) middle.rest.now ≡ false
       → holds_raw_text middle.scripting (innermost_name s.opened) ≡ false
-      → (IsAtText middle s.opened → Advances middle new has_doctype s.opened r) → Advances old new has_doctype fs r
+      → (IsAtText middle s.opened → Advances middle new has_doctype s.opened r)
+      → Advances old new has_doctype fs r
   text_advances e h f =
       joined old middle new has_doctype fs s.opened r reached s.scripting (f (record {
         more_text = ap is_empty same ∙ left_over;
@@ -213,7 +216,8 @@ module _ (old middle new : Reader) (has_doctype : Bool) (fs : List OpenElement) 
       }))
 
 -- what ends a text begins with `<`
-pub markup_begins : (scripting : Bool) (n s : List ℕ) → ends_text scripting n s ≡ true → first_is less_than_sign s ≡ true
+pub markup_begins : (scripting : Bool) (n s : List ℕ) → ends_text scripting n s ≡ true
+    → first_is less_than_sign s ≡ true
 markup_begins scripting n [] e = let k = no_markup_at_end scripting n in (cc)
 markup_begins scripting n (b ∷ []) e = test (holds_text_alone scripting n) (λ h. let k = rw h at e in (cc))
     (λ h. let k = rw h at e in (cc))
@@ -233,8 +237,10 @@ onward_shorter : (stop : List ℕ → Bool) (s : List ℕ) → stop s ≡ false 
 onward_shorter stop [] e n = absurd (cc)
 onward_shorter stop (b ∷ s) e n = rw e (let l = length-onward stop s in omega arith)
 
-raw_text_rest : (old new : Reader) (has_doctype : Bool) (fs : List OpenElement) (o : Option (List ℕ)) (rest : List ℕ)
-    → Follows old new has_doctype (Ok tt) (raw_text_step (rules_of old) above_body fs o rest) → new.rest.now ≡ rest
+raw_text_rest : (old new : Reader) (has_doctype : Bool) (fs : List OpenElement) (o : Option (List ℕ))
+    (rest : List ℕ)
+    → Follows old new has_doctype (Ok tt) (raw_text_step (rules_of old) above_body fs o rest)
+    → new.rest.now ≡ rest
 raw_text_rest old new has_doctype fs None rest f = absurd f
 raw_text_rest old new has_doctype fs (Some u) rest f = by_test (is_too_deep (rules_of old) above_body fs) f
   where

@@ -33,7 +33,8 @@ begins_within (c ∷ p) [] e = absurd (cc)
 begins_within (c ∷ p) (b ∷ s) e =
     let h = begins_within p s ((both_hold (to_ascii_lowercase b == c) (begins_in_any_case p s) e).1) in omega arith
 
-last_ascii : (p s : List ℕ) (n : ℕ) → begins_in_any_case p s ≡ true → all_ascii p ≡ true → length p ≡ suc n
+last_ascii : (p s : List ℕ) (n : ℕ) → begins_in_any_case p s ≡ true → all_ascii p ≡ true
+    → length p ≡ suc n
     → get_or s n 0 < 128
 last_ascii [] s n e a l = absurd (omega arith)
 last_ascii (c ∷ p) [] n e a l = absurd (cc)
@@ -44,7 +45,8 @@ last_ascii (c ∷ p) (b ∷ s) (suc n) e a l =
     last_ascii p s n ((both_hold (to_ascii_lowercase b == c) (begins_in_any_case p s) e).1)
     ((both_hold (nat_lt c 128) (all_ascii p) a).1) (omega arith)
 
-pub lead_behind : (p s : List ℕ) → IsUtf8 s → begins_in_any_case p s ≡ true → all_ascii p ≡ true → 0 < length p
+pub lead_behind : (p s : List ℕ) → IsUtf8 s → begins_in_any_case p s ≡ true → all_ascii p ≡ true
+    → 0 < length p
     → length p < length s → 128 ≤ get_or s (length p) 0 → 192 ≤ get_or s (length p) 0
 lead_behind [] s u e a l = absurd (omega arith)
 lead_behind (c ∷ p) s u e a l =
@@ -58,7 +60,8 @@ pub stripped_is : (r : Option (Bor (List ℕ))) (b : Bool) (v : List ℕ)
 stripped_is None b v h = rw h refl
 stripped_is (Some x) b v h = rw (h.0) (ap Some (h.1))
 
-pub white_and_name : (t : List ℕ) → white_space_and_name t ≡ cond (is_empty (leading_run is_ascii_white_space t)) None
+pub white_and_name : (t : List ℕ)
+    → white_space_and_name t ≡ cond (is_empty (leading_run is_ascii_white_space t)) None
     (doctype_name (behind_run is_ascii_white_space t))
 white_and_name [] = refl
 white_and_name (b ∷ t) = test (is_ascii_white_space b) (λ e. rw e refl) (λ e. rw e refl)
@@ -67,12 +70,14 @@ filled : (s : List ℕ) → (length s == 0) ≡ false → is_empty s ≡ false
 filled [] e = absurd (cc)
 filled (b ∷ s) e = refl
 
-stripped : (b : Bool) (t u : List ℕ) → ◌≡◌ {A = Option (List ℕ)} (Some t) (cond b (Some u) None) → (b ≡ true) × (t ≡ u)
+stripped : (b : Bool) (t u : List ℕ) → ◌≡◌ {A = Option (List ℕ)} (Some t) (cond b (Some u) None)
+    → (b ≡ true) × (t ≡ u)
 stripped true t u e = (refl, cc)
 stripped false t u e = absurd (cc)
 
 pub doctype_read : (s t white name : List ℕ) (r : Option (List ℕ))
-    → ◌≡◌ {A = Option (List ℕ)} (Some t) (cond (begins_in_any_case (codes "<!doctype") s) (Some (drop 9 s)) None)
+    → ◌≡◌ {A = Option (List ℕ)} (Some t)
+    (cond (begins_in_any_case (codes "<!doctype") s) (Some (drop 9 s)) None)
     → white ≡ leading_run is_ascii_white_space t → name ≡ behind_run is_ascii_white_space t
     → (length white == 0) ≡ false → r ≡ doctype_name name → r ≡ behind_doctype s
 doctype_read s t white name r e w n f d =

@@ -75,7 +75,8 @@ node_is_part o content children a e items same id l m =
 
 pub block_reads_back : (scripting : Bool) → RawBlockReadsBack (project scripting)
     → (s : List ℕ) (children : ValueForest) (items : List Item) → items ≡ document_items children
-    → ReadsDocument (project scripting) s (document children) → (id : ℕ) → 2 < depth_at items id → id < length items
+    → ReadsDocument (project scripting) s (document children) → (id : ℕ) → 2 < depth_at items id
+    → id < length items
     → (n : List ℕ) (attributes : List AttributePair) → data_at items id ≡ element_node n attributes
     → is_plain (value_at items id) ≡ true → IsUtf8 (serialisation (value_at items id))
     → (x : List ℕ) → raw_block (serialisation (value_at items id)) ≡ with_blank_lines x

@@ -47,11 +47,13 @@ stop_at p (b ∷ s) l =
     test (p b) (λ e. let k = rw e at l in rw e (stop_at p s (omega arith))) (λ e. rw e e)
 
 -- the last character of a run
-last_of : (p : ℕ → Bool) (s : List ℕ) (n : ℕ) → length (leading_run p s) ≡ suc n → p (get_or s n 0) ≡ true
+last_of : (p : ℕ → Bool) (s : List ℕ) (n : ℕ) → length (leading_run p s) ≡ suc n
+    → p (get_or s n 0) ≡ true
 last_of p [] n q = absurd (omega arith)
 last_of p (b ∷ s) zero q = test (p b) (λ e. e) (λ e. let k = rw e at q in absurd (omega arith))
 last_of p (b ∷ s) (suc n) q =
-    test (p b) (λ e. let k = rw e at q in last_of p s n (omega arith)) (λ e. let k = rw e at q in absurd (omega arith))
+    test (p b) (λ e. let k = rw e at q in last_of p s n (omega arith))
+    (λ e. let k = rw e at q in absurd (omega arith))
 
 -- ---- where a text may be cut
 

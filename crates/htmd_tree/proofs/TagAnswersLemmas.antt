@@ -47,7 +47,8 @@ left_within old new has_doctype n (Err kind) at w = absurd at
 
 -- what is left is shorter
 pub shorter_follows : (old new : Reader) (r : Answer) (s : List OpenElement → Step) (n : ℕ) → IsReading old
-    → ((has_doctype : Bool) (fs : List OpenElement) → Holds old has_doctype fs → Follows old new has_doctype r (s fs))
+    → ((has_doctype : Bool) (fs : List OpenElement) → Holds old has_doctype fs
+    → Follows old new has_doctype r (s fs))
     → ((fs : List OpenElement) → Within n (s fs)) → n < length old.rest.now
     → OnOk r (length new.rest.now < length old.rest.now)
 shorter_follows old new (Err stop) s n reading h w l = tt
@@ -58,7 +59,8 @@ shorter_follows old new (Ok x) s n reading h w l =
 
 -- the innermost element is closed
 pub closed_follows : (old new : Reader) (has_doctype : Bool) (fs : List OpenElement) (inner n rest : List ℕ)
-    → Holds old has_doctype fs → 2 ≤ length old.stack.items → inner ≡ innermost_name fs → bytes_eq inner n ≡ true
+    → Holds old has_doctype fs → 2 ≤ length old.stack.items → inner ≡ innermost_name fs
+    → bytes_eq inner n ≡ true
     → ((has_doctype : Bool) (f g : OpenElement) (fs : List OpenElement) → Holds old has_doctype (f ∷ g ∷ fs)
     → Holds new has_doctype (with_tree (g ∷ fs) (closed f)))
     → new.rest.now ≡ rest → new.scripting ≡ old.scripting
@@ -90,5 +92,6 @@ implied_follows old middle new has_doctype fs r n attributes rest t m go =
     opened at =
         later_follows old middle new has_doctype r (open_step (rules_of old) above_body inside n attributes rest)
         at.rest at.scripting
-        (subst (λ (b : Bool). Follows middle new has_doctype r (open_step (project b) above_body inside n attributes rest))
+        (subst (λ (b : Bool). Follows middle new has_doctype r
+        (open_step (project b) above_body inside n attributes rest))
         at.scripting (go has_doctype inside at.holds))

@@ -43,7 +43,8 @@ empty_length [] = refl
 empty_length (b ∷ s) = grind (arith, nat_tests)
 
 -- what ends a run of other characters
-quote_behind : (q : ℕ) (s : List ℕ) → first_is q (behind_run (is_other q) s) ≡ not (is_empty (behind_run (is_other q) s))
+quote_behind : (q : ℕ) (s : List ℕ)
+    → first_is q (behind_run (is_other q) s) ≡ not (is_empty (behind_run (is_other q) s))
 quote_behind q [] = refl
 quote_behind q (b ∷ s) = test (eqb b q) (λ e. rw (e, e) refl) (λ e. rw e (quote_behind q s))
 
@@ -55,7 +56,8 @@ pub not_true : (x : Bool) → not x ≡ true → x ≡ false
 not_true true e = sym e
 not_true false e = refl
 
-pub quote_lacks : (q : ℕ) (name s behind : List ℕ) → behind ≡ behind_run (is_other q) s → first_is q behind ≡ false
+pub quote_lacks : (q : ℕ) (name s behind : List ℕ) → behind ≡ behind_run (is_other q) s
+    → first_is q behind ≡ false
     → malformed ≡ quoted_value q name s
 quote_lacks q name s behind e f =
     let k : not (is_empty (behind_run (is_other q) s)) ≡ false = sym (quote_behind q s) ∙ rw e at f in
@@ -123,7 +125,8 @@ name_size name s =
     let v = value_size name (behind_run is_ascii_white_space (drop 1 sign)) in
     test (first_is 61 sign) (λ e. rw e (omega arith)) (λ e. rw e (omega arith))
 
-run_behind : (p : ℕ → Bool) (s : List ℕ) → is_empty (leading_run p s) ≡ false → length (behind_run p s) < length s
+run_behind : (p : ℕ → Bool) (s : List ℕ) → is_empty (leading_run p s) ≡ false
+    → length (behind_run p s) < length s
 run_behind p [] e = absurd (cc)
 run_behind p (b ∷ s) e =
     test (p b) (λ f. let k = behind_within p s in rw f (omega arith)) (λ f. let g = rw f at e in absurd (cc))
@@ -136,7 +139,8 @@ attribute_size s =
     (λ e. let l = run_behind is_attribute_name_byte s e in
     test (is_attribute_name name) (λ f. rw f (omega arith)) (λ f. rw f (omega arith)))
 
-choice_size : (b : Bool) (p q : TagPart) (n : ℕ) → size_of p ≤ n → size_of q ≤ n → size_of (if b then p else q) ≤ n
+choice_size : (b : Bool) (p q : TagPart) (n : ℕ) → size_of p ≤ n → size_of q ≤ n
+    → size_of (if b then p else q) ≤ n
 choice_size true p q n h k = h
 choice_size false p q n h k = k
 
@@ -162,7 +166,8 @@ part_size s =
     let c = behind_within is_ascii_white_space s in
     omega arith
 
-pub part_shorter : (s name value rest : List ℕ) → attribute name value rest ≡ next_part s → length rest < length s
+pub part_shorter : (s name value rest : List ℕ) → attribute name value rest ≡ next_part s
+    → length rest < length s
 part_shorter s name value rest e =
     let a : suc (length rest) ≡ size_of (next_part s) = ap size_of e in
     let b = part_size s in
@@ -203,7 +208,8 @@ form_more s name value rest spelled whole e h =
     sym (ap (λ (p : TagPart). form_behind p (form_within (length s))) e) in
     let f : form_within (suc (length rest)) rest ≡ form_within (length s) rest =
     form_same (suc (length rest)) (length s) rest (omega arith) l in
-    with_one_more spelled name value _ ∙ (ap (λ (x : TagForm). with_attributes spelled (with_attribute name value x)) f
+    with_one_more spelled name value _
+    ∙ (ap (λ (x : TagForm). with_attributes spelled (with_attribute name value x)) f
     ∙ (ap (with_attributes spelled) (sym g) ∙ h))
 
 -- what follows a tag
@@ -220,7 +226,8 @@ pub form_size : (k : ℕ) (s : List ℕ) → size_of_rest (form_within k s) ≤ 
 form_size zero s = omega arith
 form_size (suc k) s = by_part (next_part s) (part_size s) (λ rest. form_size k rest)
   where
-    by_part : (p : TagPart) → size_of p ≤ length s → ((rest : List ℕ) → size_of_rest (form_within k rest) ≤ length rest)
+    by_part : (p : TagPart) → size_of p ≤ length s
+        → ((rest : List ℕ) → size_of_rest (form_within k rest) ≤ length rest)
         → size_of_rest (form_behind p (form_within k)) ≤ length s
     by_part malformed l go = omega arith
     by_part (tag_end present t) l go = omega arith

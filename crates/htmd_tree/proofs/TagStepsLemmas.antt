@@ -80,7 +80,8 @@ module _ (scripting : Bool) (outer : Context) (fs : List OpenElement) where
       (attributes : Result (List AttributePair) FaultKind)
       → is_tag_name (leading_run is_tag_name_byte s) ≡ true
       → name ≡ leading_run is_tag_name_byte s → behind ≡ behind_run is_tag_name_byte s
-      → form_within (suc (length behind)) behind ≡ form spelled present rest → lowered ≡ map to_ascii_lowercase name
+      → form_within (suc (length behind)) behind ≡ form spelled present rest
+      → lowered ≡ map to_ascii_lowercase name
       → read_attributes spelled ≡ attributes
       → start_tag_step (project scripting) outer fs s ≡ attributes_step lowered present rest attributes
   start_read s name lowered behind spelled present rest attributes e n b g w r =
@@ -135,7 +136,8 @@ content_within n s =
     let k = after_within s in test (drops_line_feed n) (λ e. rw e k) (λ e. rw e (omega arith))
 
 module _ (rules : Rules) (outer : Context) where
-  pub add_within : (fs : List OpenElement) (t : ValueTree) (rest : List ℕ) → Within (length rest) (add rules outer fs t rest)
+  pub add_within : (fs : List OpenElement) (t : ValueTree) (rest : List ℕ)
+      → Within (length rest) (add rules outer fs t rest)
   add_within fs t rest =
       cond_within (length rest) (is_too_deep rules outer fs) _ (between (with_tree fs t) rest) tt (omega arith)
 
@@ -154,7 +156,8 @@ module _ (rules : Rules) (outer : Context) where
       (cond_within (length rest) (is_too_deep rules outer fs) _ _ tt
       (open_within (fresh (codes "tbody") [] true ∷ fs) n attributes rest)) (open_within fs n attributes rest)
 
-  pub close_within : (fs : List OpenElement) (n rest : List ℕ) → Within (length rest) (close_step rules outer fs n rest)
+  pub close_within : (fs : List OpenElement) (n rest : List ℕ)
+      → Within (length rest) (close_step rules outer fs n rest)
   close_within [] n rest = tt
   close_within (f ∷ []) n rest = tt
   close_within (f ∷ g ∷ fs) n rest = cond_within (length rest) (bytes_eq f.name n) _ _ (omega arith) tt

@@ -41,11 +41,13 @@ run_within : (p : ℕ → Bool) (s : List ℕ) → length (leading_run p s) ≤ 
 run_within p [] = omega arith
 run_within p (b ∷ s) = let h = run_within p s in test (p b) (λ q. rw q (omega arith)) (λ q. rw q (omega arith))
 
-last_of : (p : ℕ → Bool) (s : List ℕ) (n : ℕ) → length (leading_run p s) ≡ suc n → p (get_or s n 0) ≡ true
+last_of : (p : ℕ → Bool) (s : List ℕ) (n : ℕ) → length (leading_run p s) ≡ suc n
+    → p (get_or s n 0) ≡ true
 last_of p [] n q = absurd (omega arith)
 last_of p (b ∷ s) zero q = test (p b) (λ e. e) (λ e. let k = rw e at q in absurd (omega arith))
 last_of p (b ∷ s) (suc n) q =
-    test (p b) (λ e. let k = rw e at q in last_of p s n (omega arith)) (λ e. let k = rw e at q in absurd (omega arith))
+    test (p b) (λ e. let k = rw e at q in last_of p s n (omega arith))
+    (λ e. let k = rw e at q in absurd (omega arith))
 
 pub before_others : (p : ℕ → Bool) (s : List ℕ) → ((b : ℕ) → p b ≡ false → b < 128)
     → IsCharBoundary s (length (leading_run p s))
@@ -79,10 +81,12 @@ plain_cut false s n u e = subst (IsCharBoundary s) (sym e) (before_others (is_pl
 
 -- ---- plain characters
 
-white_is_other : (b : ℕ) → is_plain true b ≡ true → ((b == 60) ≡ false) × ((b == 38) ≡ false) × ((b == 13) ≡ false)
+white_is_other : (b : ℕ) → is_plain true b ≡ true → ((b == 60) ≡ false) × ((b == 38) ≡ false)
+    × ((b == 13) ≡ false)
 white_is_other b e = (grind (arith, nat_tests), grind (arith, nat_tests), grind (arith, nat_tests))
 
-plain_is_other : (b : ℕ) → is_plain false b ≡ true → ((b == 60) ≡ false) × ((b == 38) ≡ false) × ((b == 13) ≡ false)
+plain_is_other : (b : ℕ) → is_plain false b ≡ true → ((b == 60) ≡ false) × ((b == 38) ≡ false)
+    × ((b == 13) ≡ false)
 plain_is_other b e = (grind (arith, nat_tests), grind (arith, nat_tests), grind (arith, nat_tests))
 
 other : (parts : Bool) (b : ℕ) → is_plain parts b ≡ true
@@ -186,25 +190,29 @@ module _ (scripting : Bool) (place : TextPlace) (n : List ℕ) (fs : List OpenEl
   no_fault : (b : ℕ) → is_plain place.parts b ≡ true → fault_of place.parts (stands 0 (b ∷ [])) ≡ None
   no_fault b p = rw (plain_white place.parts b p) refl
 
-  plain_step : (run : List ℕ) (b : ℕ) (s : List ℕ) → place.too_deep ≡ false → is_plain place.parts b ≡ true
+  plain_step : (run : List ℕ) (b : ℕ) (s : List ℕ) → place.too_deep ≡ false
+      → is_plain place.parts b ≡ true
       → step (project scripting) above_body (in_run fs run (b ∷ s)) ≡ Ok (in_run fs (run ++ b ∷ []) s)
   plain_step run b s d p =
       let e = plain_piece place.parts b s p in
       is_step run b s (plain_goes_on place.alone place.parts n b s p)
-      ∙ right_piece run s (b ∷ []) 0 (piece_at named_characters b s) d e (ap (fault_of place.parts) e ∙ no_fault b p)
+      ∙ right_piece run s (b ∷ []) 0 (piece_at named_characters b s) d e
+      (ap (fault_of place.parts) e ∙ no_fault b p)
 
   plain_reaches : (s run : List ℕ) → place.too_deep ≡ false
       → Reaches (project scripting) above_body (in_run fs run s)
       (in_run fs (run ++ leading_run (is_plain place.parts) s) (behind_run (is_plain place.parts) s))
   plain_reaches [] run d =
-      subst (λ r. Reaches (project scripting) above_body (in_run fs run []) (in_run fs r [])) (sym (append-nil run)) here
+      subst (λ r. Reaches (project scripting) above_body (in_run fs run []) (in_run fs r [])) (sym (append-nil run))
+      here
   plain_reaches (b ∷ s) run d =
       test (is_plain place.parts b)
       (λ q. rw q (via (plain_step run b s d q)
       (subst (λ r. Reaches (project scripting) above_body (in_run fs (run ++ b ∷ []) s)
       (in_run fs r (behind_run (is_plain place.parts) s)))
       (append_assoc run (b ∷ []) (leading_run (is_plain place.parts) s)) (plain_reaches s (run ++ b ∷ []) d))))
-      (λ q. rw q (subst (λ r. Reaches (project scripting) above_body (in_run fs run (b ∷ s)) (in_run fs r (b ∷ s)))
+      (λ q. rw q (subst (λ r. Reaches (project scripting) above_body (in_run fs run (b ∷ s))
+      (in_run fs r (b ∷ s)))
       (sym (append-nil run)) here))
 
   pub plain_pushed : (run s front rest after : List ℕ) (len : ℕ) → place.too_deep ≡ false
@@ -226,7 +234,8 @@ module _ (scripting : Bool) (place : TextPlace) (n : List ℕ) (fs : List OpenEl
       test (is_plain place.parts b)
       (λ p. let e = plain_piece place.parts b s p in
       is_step run b s (plain_goes_on place.alone place.parts n b s p)
-      ∙ deep_piece run s (b ∷ []) 0 (piece_at named_characters b s) d e (ap (fault_of place.parts) e ∙ no_fault b p))
+      ∙ deep_piece run s (b ∷ []) 0 (piece_at named_characters b s) d e
+      (ap (fault_of place.parts) e ∙ no_fault b p))
       (λ p. let m = rw p at l in absurd (omega arith))
 
   -- ---- other characters
@@ -277,7 +286,8 @@ white_character : (c : ℕ) → list_all is_ascii_white_space (encode_utf8 c) �
 white_character c = ⊎_elim low high (cases_lt c 128)
   where
     low : c < 128 → list_all is_ascii_white_space (encode_utf8 c) ≡ is_ascii_whitespace c
-    low l = ap (list_all is_ascii_white_space) (encode_ascii c l) ∙ one (is_ascii_white_space c) ∙ sym (same_white c)
+    low l = ap (list_all is_ascii_white_space) (encode_ascii c l) ∙ one (is_ascii_white_space c)
+        ∙ sym (same_white c)
       where
         one : (x : Bool) → (x && true) ≡ x
         one true = refl
@@ -309,7 +319,8 @@ high_not_white : (b : ℕ) → 128 ≤ b → is_ascii_white_space b ≡ false
 high_not_white b h = grind (arith, nat_tests)
 
 -- a byte of a character outside ASCII
-pub stray_byte : (parts : Bool) (s : List ℕ) → is_plain parts (slice_index s 0) ≡ false → 128 ≤ slice_index s 0
+pub stray_byte : (parts : Bool) (s : List ℕ) → is_plain parts (slice_index s 0) ≡ false
+    → 128 ≤ slice_index s 0
     → IsFaultIn parts s StrayText
 stray_byte true s p h =
     ap (fault_of true) (high_piece (slice_index s 0) (drop 1 s) h)
@@ -348,7 +359,8 @@ right_character parts s x character e p w d l = record {
     fine false h = refl
 
 -- the text may be cut behind its first character
-pub first_cut : (s : List ℕ) (n : ℕ) → IsUtf8 s → 0 < length s → slice_index s 0 < 128 → IsPieceEnd (drop 1 s) n
+pub first_cut : (s : List ℕ) (n : ℕ) → IsUtf8 s → 0 < length s → slice_index s 0 < 128
+    → IsPieceEnd (drop 1 s) n
     → IsCharBoundary s (1 + n)
 first_cut s n u l ascii end = subst (IsCharBoundary s) k
     (IsCharBoundary-after_ascii s n u (omega (arith, end.0, length-drop 1 s)) low)

@@ -63,7 +63,8 @@ text_place_is reader has_doctype (f ∷ gs) o deep t h i e =
 
 -- ---- a text and its end
 
-run_goes_on : (scripting : Bool) (p : TextPlace) (n s : List ℕ) (fs : List OpenElement) → IsTextPlace scripting p n fs
+run_goes_on : (scripting : Bool) (p : TextPlace) (n s : List ℕ) (fs : List OpenElement)
+    → IsTextPlace scripting p n fs
     → is_empty s ≡ false → ends_text scripting (parent_name (names_of above_body fs)) s ≡ false
     → is_run_end p.alone n s ≡ false
 run_goes_on scripting p n [] fs t e f = absurd (cc)
@@ -123,8 +124,10 @@ text_stops old new has_doctype fs (Refused left kind) w = w
 
 -- ---- text without references
 
-raw_is_alone : (scripting : Bool) (n : List ℕ) → holds_raw_text scripting n ≡ true → holds_text_alone scripting n ≡ true
-raw_is_alone scripting n e = or_right (is_among (codes "title" ∷ codes "textarea" ∷ []) n) (holds_raw_text scripting n) e
+raw_is_alone : (scripting : Bool) (n : List ℕ) → holds_raw_text scripting n ≡ true
+    → holds_text_alone scripting n ≡ true
+raw_is_alone scripting n e =
+    or_right (is_among (codes "title" ∷ codes "textarea" ∷ []) n) (holds_raw_text scripting n) e
 
 raw_front : (scripting : Bool) (n s : List ℕ) → holds_raw_text scripting n ≡ true
     → up_to (begins_own_end n) s ≡ up_to (ends_text scripting n) s
@@ -175,7 +178,8 @@ module _ (scripting : Bool) (fs : List OpenElement) (s content rest : List ℕ) 
       → fault ScriptEscape ≡ RawStep
   raw_text_escapes e = (rw e refl) ∙ moved
 
-pub script_with : (n content : List ℕ) (h : Bool) → bytes_eq n (codes "script") ≡ true → has_script_escape content ≡ h
+pub script_with : (n content : List ℕ) (h : Bool) → bytes_eq n (codes "script") ≡ true
+    → has_script_escape content ≡ h
     → (is_among (codes "script" ∷ []) n && has_script_escape content) ≡ h
 script_with n content h e f = rw e f
 

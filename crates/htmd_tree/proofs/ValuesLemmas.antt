@@ -22,7 +22,8 @@ nothing_behind None = refl
 nothing_behind (Some more) = refl
 
 one_behind : (before : List AttributePair) (n v : List ℕ) (o : Option (List AttributePair))
-    → behind_attributes (before ++ (record { name = n; value = v } ∷ [])) o ≡ behind_attributes before (with_value n (Some v) o)
+    → behind_attributes (before ++ (record { name = n; value = v } ∷ [])) o
+    ≡ behind_attributes before (with_value n (Some v) o)
 one_behind before n v None = refl
 one_behind before n v (Some more) = ap (λ (x : List AttributePair). Some x) (append_assoc before _ more)
 
@@ -30,11 +31,13 @@ one_behind before n v (Some more) = ap (λ (x : List AttributePair). Some x) (ap
 pub value_more : (before : List AttributePair) (a : AttributePair) (spelled : List AttributePair) (v : List ℕ)
     (whole : Option (List AttributePair)) → decode named_characters 0 a.value ≡ Some v
     → behind_attributes before (decode_values named_characters (a ∷ spelled)) ≡ whole
-    → behind_attributes (before ++ (record { name = a.name; value = v } ∷ [])) (decode_values named_characters spelled)
+    → behind_attributes (before ++ (record { name = a.name; value = v } ∷ []))
+    (decode_values named_characters spelled)
     ≡ whole
 value_more before a spelled v whole e h =
     one_behind before a.name v (decode_values named_characters spelled)
-    ∙ (ap (λ (x : Option (List ℕ)). behind_attributes before (with_value a.name x (decode_values named_characters spelled)))
+    ∙ (ap (λ (x : Option (List ℕ)). behind_attributes before
+    (with_value a.name x (decode_values named_characters spelled)))
     (sym e) ∙ h)
 
 -- a value that isn't right
@@ -45,9 +48,11 @@ value_wrong before a spelled whole e h = rw e at h
 
 -- ---- attributes whose values have been decoded
 
-first_value : (n : List ℕ) (o : Option (List ℕ)) (more : Option (List AttributePair)) (attributes : List AttributePair)
+first_value : (n : List ℕ) (o : Option (List ℕ)) (more : Option (List AttributePair))
+    (attributes : List AttributePair)
     → with_value n o more ≡ Some attributes
-    → (rest : List AttributePair) × (more ≡ Some rest) × (attribute_names attributes ≡ n ∷ attribute_names rest)
+    → (rest : List AttributePair) × (more ≡ Some rest)
+    × (attribute_names attributes ≡ n ∷ attribute_names rest)
 first_value n None more attributes e = absurd (cc)
 first_value n (Some v) None attributes e = absurd (cc)
 first_value n (Some v) (Some rest) attributes e =
@@ -58,13 +63,16 @@ names_kept : (spelled attributes : List AttributePair) → decode_values named_c
     → attribute_names attributes ≡ attribute_names spelled
 names_kept [] attributes e = let k : [] ≡ attributes = cc in ap attribute_names (sym k)
 names_kept (a ∷ spelled) attributes e =
-    let f = first_value a.name (decode named_characters 0 a.value) (decode_values named_characters spelled) attributes e in
+    let f =
+    first_value a.name (decode named_characters 0 a.value) (decode_values named_characters spelled) attributes e in
     f.2 ∙ ap (λ (x : List (List ℕ)). a.name ∷ x) (names_kept spelled f.0 f.1)
 
 pub attributes_distinct : (spelled attributes : List AttributePair) (answer : Bool)
     → list_any (λ a. has_unknown_reference named_characters a.value) spelled ≡ false
-    → decode_values named_characters spelled ≡ Some attributes → are_distinct (attribute_names attributes) ≡ answer
+    → decode_values named_characters spelled ≡ Some attributes
+    → are_distinct (attribute_names attributes) ≡ answer
     → read_attributes spelled ≡ cond answer (Ok attributes) (Err DuplicateAttribute)
 attributes_distinct spelled attributes answer e d a =
-    let k : are_distinct (attribute_names spelled) ≡ answer = ap are_distinct (sym (names_kept spelled attributes d)) ∙ a in
+    let k : are_distinct (attribute_names spelled) ≡ answer = ap are_distinct (sym (names_kept spelled attributes d))
+    ∙ a in
     rw (e, d, k) refl

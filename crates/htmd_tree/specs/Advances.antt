@@ -57,7 +57,8 @@ Ends old new has_doctype fs (Ok x) =
 Ends old new has_doctype fs (Err Memory) = ⊤
 Ends old new has_doctype fs (Err (Refused left kind)) =
     (st : State) × Reaches (rules_of old) above_body (place fs old.rest.now) st
-    × (step (rules_of old) above_body st ≡ Err kind) × (st.rest ≡ [] → 1 < length st.stack) × (left ≡ length st.rest)
+    × (step (rules_of old) above_body st ≡ Err kind) × (st.rest ≡ [] → 1 < length st.stack)
+    × (left ≡ length st.rest)
 
 -- a node without children
 abbrev pub leaf : Data → ValueTree

@@ -12,7 +12,8 @@ use Rattle.htmd_tree.specs.declared.reader.Reader.{Reader}
 -- what stands before `body`: the Document, a Doctype where there is one, `html` and its empty `head`
 abbrev pub items_above : Bool → List Item
 items_above false =
-    document_item ∷ item_under 1 0 (element_node (codes "html") []) ∷ item_under 2 1 (element_node (codes "head") [])
+    document_item ∷ item_under 1 0 (element_node (codes "html") [])
+    ∷ item_under 2 1 (element_node (codes "head") [])
     ∷ []
 items_above true =
     document_item ∷ item_under 1 0 doctype_node ∷ item_under 1 0 (element_node (codes "html") [])
@@ -29,7 +30,8 @@ abbrev mutual
   stack_items has_doctype [] = items_above has_doctype
   stack_items has_doctype (f ∷ fs) =
       stack_items has_doctype fs
-      ++ (item_under (length (names_of above_body fs)) (innermost_number has_doctype fs) (element_node f.name f.attributes)
+      ++ (item_under (length (names_of above_body fs)) (innermost_number has_doctype fs)
+      (element_node f.name f.attributes)
       ∷ forest_items (suc (length (names_of above_body fs))) (length (stack_items has_doctype fs))
       (suc (length (stack_items has_doctype fs))) f.children)
 
@@ -50,7 +52,8 @@ open_node scripting has_doctype f fs =
 -- what is kept of the open elements, outermost first
 abbrev pub open_nodes : Bool → Bool → List OpenElement → List OpenNode
 open_nodes scripting has_doctype [] = []
-open_nodes scripting has_doctype (f ∷ fs) = open_nodes scripting has_doctype fs ++ open_node scripting has_doctype f fs ∷ []
+open_nodes scripting has_doctype (f ∷ fs) =
+    open_nodes scripting has_doctype fs ++ open_node scripting has_doctype f fs ∷ []
 
 -- the name of the innermost open element
 abbrev pub innermost_name : List OpenElement → List ℕ
@@ -75,4 +78,5 @@ pub record Holds (reader : Reader) (has_doctype : Bool) (fs : List OpenElement) 
 
 -- the reader is where some elements are open
 abbrev pub IsReading : Reader → Type 0
-IsReading reader = (has_doctype : Bool) × (f : OpenElement) × (fs : List OpenElement) × Holds reader has_doctype (f ∷ fs)
+IsReading reader = (has_doctype : Bool) × (f : OpenElement) × (fs : List OpenElement)
+    × Holds reader has_doctype (f ∷ fs)

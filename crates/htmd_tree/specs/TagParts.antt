@@ -44,7 +44,8 @@ attribute_part s =
 
 -- ---- attributes of which the form has been read
 
-abbrev pub distinct_attributes : List AttributePair → Option (List AttributePair) → Result (List AttributePair) FaultKind
+abbrev pub distinct_attributes : List AttributePair → Option (List AttributePair)
+    → Result (List AttributePair) FaultKind
 distinct_attributes spelled None = Err BadNumber
 distinct_attributes spelled (Some attributes) =
     if are_distinct (attribute_names spelled) then Ok attributes else Err DuplicateAttribute

@@ -66,7 +66,8 @@ IsFaultIn parts s kind = fault_of parts (first_piece s) ≡ Some kind
 -- ---- runs
 
 -- what stood there was put behind the run, or a fault stands there
-abbrev pub Pushes : Bool → List OpenElement → List ℕ → List ℕ → List ℕ → Result (Bor (List ℕ)) Stop → Type 0
+abbrev pub Pushes : Bool → List OpenElement → List ℕ → List ℕ → List ℕ → Result (Bor (List ℕ)) Stop
+    → Type 0
 Pushes scripting fs before s after (Ok rest) =
     Reaches (project scripting) above_body (in_run fs before s) (in_run fs after rest.now)
 Pushes scripting fs before s after (Err Memory) = ⊤
@@ -78,7 +79,8 @@ abbrev pub StopsRun : Bool → List OpenElement → List ℕ → Stop → Type 0
 StopsRun scripting fs s Memory = ⊤
 StopsRun scripting fs s (Refused left kind) =
     (st : State) × Reaches (project scripting) above_body (in_run fs [] s) st
-    × (step (project scripting) above_body st ≡ Err kind) × (is_empty st.rest ≡ false) × (left ≡ length st.rest)
+    × (step (project scripting) above_body st ≡ Err kind) × (is_empty st.rest ≡ false)
+    × (left ≡ length st.rest)
 
 -- the steps lead to the end of the run, or to a fault in it
 abbrev pub ReadsRun : {A : Type 0} → Bool → List OpenElement → TextPlace → List ℕ → List ℕ

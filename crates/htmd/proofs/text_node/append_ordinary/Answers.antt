@@ -10,7 +10,8 @@ use Rattle.htmd.specs.OrdinaryText.{without_first_space}
 use Rattle.htmd.proofs.text_node.append_ordinary.Goals as goal
 use Rattle.htmd.proofs.text_node.append_ordinary.Goals.{then-trim, else-trim}
 
-pushed : {T E : Type 0} (r : Result T E) (new long short : List ℕ) {whole : List ℕ} → new ≡ cond (is_ok r) long short
+pushed : {T E : Type 0} (r : Result T E) (new long short : List ℕ) {whole : List ℕ}
+    → new ≡ cond (is_ok r) long short
     → long ≡ whole → OnOk r (new ≡ whole)
 pushed (Ok x) new long short e f = e ∙ f
 pushed (Err x) new long short e f = tt

@@ -9,7 +9,8 @@ use Rattle.htmd_cli.specs.Conversion.{options_of}
 use Rattle.htmd_cli.proofs.page.page_to_markdown.Goals as goal
 
 -- the Markdown by equal handlers, with scripting on
-same_page : (config wanted : Config) (scripting : Bool) (html text : List ℕ) → config ≡ wanted → scripting ≡ true
+same_page : (config wanted : Config) (scripting : Bool) (html text : List ℕ) → config ≡ wanted
+    → scripting ≡ true
     → IsMarkdownOf config scripting html text → IsMarkdownOf wanted true html text
 same_page config wanted scripting html text c s m =
     subst (λ k. IsMarkdownOf k true html text) c (subst (λ b. IsMarkdownOf config b html text) s m)

@@ -10,7 +10,8 @@ use Rattle.htmd_cli.specs.Conversion.{paragraph, options_of, paragraph_markdown}
 use Rattle.htmd_cli.proofs.paragraph.paragraph_to_markdown.Goals as goal
 
 -- the Markdown of equal trees by equal handlers
-same_markdown : (config wanted : Config) (items tree : List Item) (start root : ℕ) → config ≡ wanted → items ≡ tree
+same_markdown : (config wanted : Config) (items tree : List Item) (start root : ℕ) → config ≡ wanted
+    → items ≡ tree
     → start ≡ root → markdown config items start ≡ markdown wanted tree root
 same_markdown config wanted items tree start root c i s =
     ap (λ x. markdown x items start) c ∙ ap (λ x. markdown wanted x start) i ∙ ap (markdown wanted tree) s

@@ -152,11 +152,15 @@ walk_element-returns-in_err-content-clause-err = contents.walk_element-returns-i
 pub walk_element-returns-clause-ok : goal.walk_element-returns-clause-ok
 walk_element-returns-clause-ok = contents.walk_element-returns-clause-ok
 
-pub walk_node-returns-in_ok-walk_children-in-Document-clause-ok : goal.walk_node-returns-in_ok-walk_children-in-Document-clause-ok
-walk_node-returns-in_ok-walk_children-in-Document-clause-ok = nodes.walk_node-returns-in_ok-walk_children-in-Document-clause-ok
+pub walk_node-returns-in_ok-walk_children-in-Document-clause-ok :
+    goal.walk_node-returns-in_ok-walk_children-in-Document-clause-ok
+walk_node-returns-in_ok-walk_children-in-Document-clause-ok =
+    nodes.walk_node-returns-in_ok-walk_children-in-Document-clause-ok
 
-pub walk_node-returns-in_err-walk_children-in-Document-clause-err : goal.walk_node-returns-in_err-walk_children-in-Document-clause-err
-walk_node-returns-in_err-walk_children-in-Document-clause-err = nodes.walk_node-returns-in_err-walk_children-in-Document-clause-err
+pub walk_node-returns-in_err-walk_children-in-Document-clause-err :
+    goal.walk_node-returns-in_err-walk_children-in-Document-clause-err
+walk_node-returns-in_err-walk_children-in-Document-clause-err =
+    nodes.walk_node-returns-in_err-walk_children-in-Document-clause-err
 
 pub walk_node-returns-in-Doctype-clause-ok : goal.walk_node-returns-in-Doctype-clause-ok
 walk_node-returns-in-Doctype-clause-ok = nodes.walk_node-returns-in-Doctype-clause-ok
@@ -182,8 +186,12 @@ walk_node-returns-in-None-clause-ok = nodes.walk_node-returns-in-None-clause-ok
 pub walk_node-returns-after-out-clause-ok : goal.walk_node-returns-after-out-clause-ok
 walk_node-returns-after-out-clause-ok = nodes.walk_node-returns-after-out-clause-ok
 
-pub walk_node-returns-in_err-walk_element-in-Element-clause-err : goal.walk_node-returns-in_err-walk_element-in-Element-clause-err
-walk_node-returns-in_err-walk_element-in-Element-clause-err = nodes.walk_node-returns-in_err-walk_element-in-Element-clause-err
+pub walk_node-returns-in_err-walk_element-in-Element-clause-err :
+    goal.walk_node-returns-in_err-walk_element-in-Element-clause-err
+walk_node-returns-in_err-walk_element-in-Element-clause-err =
+    nodes.walk_node-returns-in_err-walk_element-in-Element-clause-err
 
-pub walk_node-returns-in_err-append_normalized_content-in-Some-clause-err : goal.walk_node-returns-in_err-append_normalized_content-in-Some-clause-err
-walk_node-returns-in_err-append_normalized_content-in-Some-clause-err = nodes.walk_node-returns-in_err-append_normalized_content-in-Some-clause-err
+pub walk_node-returns-in_err-append_normalized_content-in-Some-clause-err :
+    goal.walk_node-returns-in_err-append_normalized_content-in-Some-clause-err
+walk_node-returns-in_err-append_normalized_content-in-Some-clause-err =
+    nodes.walk_node-returns-in_err-append_normalized_content-in-Some-clause-err

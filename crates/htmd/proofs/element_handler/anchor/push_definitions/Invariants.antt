@@ -7,4 +7,5 @@ use Rattle.htmd.proofs.element_handler.anchor.push_definitions.Given as goal
 
 abbrev pub invariant-loop-line : goal.invariant-loop-line
 invariant-loop-line l =
-    string_bytes l.out ≡ (string_bytes l.fn.out ++ line_feed ∷ []) ++ flat_map on_its_line (take l.line-index l.line-items)
+    string_bytes l.out ≡ (string_bytes l.fn.out ++ line_feed ∷ [])
+    ++ flat_map on_its_line (take l.line-index l.line-items)

@@ -44,7 +44,8 @@ loop-child-preserved-then-has_tag t c =
     ids.ensures.tree c.requires ids.ensures.value c.loop-child-test.true c.child-item.is in
     none_more (shows_header_deeper items) ids.result.now c.loop-child.child-index c.child-item.result
     c.loop-child-test.true c.child-item.is c.loop-child.invariant (table_shown items ids.ensures.tree
-    c.child-item.result w (sym c.is_header.ensures ∙ c.if-is_header.false) (sym c.has_tag.ensures ∙ c.if-has_tag.true))
+    c.child-item.result w (sym c.is_header.ensures ∙ c.if-is_header.false)
+    (sym c.has_tag.ensures ∙ c.if-has_tag.true))
 
 pub returns-then-has_header_below : goal.returns-then-has_header_below
 returns-then-has_header_below t c =
@@ -66,7 +67,8 @@ loop-child-preserved t c =
     ids.ensures.tree c.requires ids.ensures.value c.loop-child-test.true c.child-item.is in
     none_more (shows_header_deeper items) ids.result.now c.loop-child.child-index c.child-item.result
     c.loop-child-test.true c.child-item.is c.loop-child.invariant (other_shown items ids.ensures.tree
-    c.child-item.result w (sym c.is_header.ensures ∙ c.if-is_header.false) (sym c.has_tag.ensures ∙ c.if-has_tag.false)
+    c.child-item.result w (sym c.is_header.ensures ∙ c.if-is_header.false)
+    (sym c.has_tag.ensures ∙ c.if-has_tag.false)
     ∙ sym c.has_header_below.ensures ∙ c.if-has_header_below.false)
 
 pub returns : goal.returns

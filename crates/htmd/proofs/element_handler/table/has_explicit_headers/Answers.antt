@@ -23,7 +23,8 @@ returns-then-is_header c =
     ids.ensures.tree c.requires ids.ensures.value c.loop-child-test.true c.child-item.is) in
     sym (explicit_headers-any items ids.ensures.tree c.args.table ids.result.now ids.ensures.value
     ∙ any_here (shows_header items) ids.result.now c.loop-child.child-index c.child-item.result c.loop-child-test.true
-    c.child-item.is (shown items ids.ensures.tree c.child-item.result w (sym c.is_header.ensures ∙ c.if-is_header.true)))
+    c.child-item.is (shown items ids.ensures.tree c.child-item.result w
+    (sym c.is_header.ensures ∙ c.if-is_header.true)))
 
 pub returns-then-has_header_below : goal.returns-then-has_header_below
 returns-then-has_header_below c =
@@ -44,7 +45,8 @@ loop-child-preserved c =
     ids.ensures.tree c.requires ids.ensures.value c.loop-child-test.true c.child-item.is) in
     none_more (shows_header items) ids.result.now c.loop-child.child-index c.child-item.result c.loop-child-test.true
     c.child-item.is c.loop-child.invariant (not_shown items ids.ensures.tree c.child-item.result w
-    (sym c.is_header.ensures ∙ c.if-is_header.false) ∙ sym c.has_header_below.ensures ∙ c.if-has_header_below.false)
+    (sym c.is_header.ensures ∙ c.if-is_header.false) ∙ sym c.has_header_below.ensures
+    ∙ c.if-has_header_below.false)
 
 pub returns : goal.returns
 returns c =

@@ -7,7 +7,8 @@ use Rattle.htmd_tree.proofs.reader.Reader.add_node.Goals as goal
 
 pub returns-in-Ok-clause-ok : goal.returns-in-Ok-clause-ok
 returns-in-Ok-clause-ok c = λ has_doctype fs h.
-    added_at c.args.self.now _ has_doctype fs c.top-parent.result (data_of c.args.node) c.in-Ok.id c.top-parent.ensures.top h
+    added_at c.args.self.now _ has_doctype fs c.top-parent.result (data_of c.args.node) c.in-Ok.id
+    c.top-parent.ensures.top h
     c.in-Ok.ensures.id c.in-Ok.ensures.ok (λ d. let w = c.in-Ok.ensures.too_deep.1 d in cc)
 
 pub returns-in-Err-TooDeep-clause-err : goal.returns-in-Err-TooDeep-clause-err

@@ -23,7 +23,8 @@ returns-then-is_at_markup-clause-advances c = λ has_doctype fs h.
 pub returns-then-top-clause-advances : goal.returns-then-top-clause-advances
 returns-then-top-clause-advances c = λ has_doctype fs h.
     let s = c.close_implied_body.ensures.settled has_doctype fs h in
-    let raw = sym (raw_text_at c.close_implied_body.new.self has_doctype s.opened c.top.result c.top.ensures.top s.holds)
+    let raw =
+    sym (raw_text_at c.close_implied_body.new.self has_doctype s.opened c.top.result c.top.ensures.top s.holds)
     ∙ c.if-top.true in
     raw_text_advances c.args.self.now c.close_implied_body.new.self c.read_raw_text.new.self has_doctype fs
     c.read_raw_text.result s c.close_implied_body.ensures.rest c.requires.more

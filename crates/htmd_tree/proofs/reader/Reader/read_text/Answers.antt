@@ -18,7 +18,8 @@ returns-in_err-run-clause-advances c = λ has_doctype fs holds there.
     let p = err_from_is_err_and c.from_residual.result c.from_residual.ensures.1 in
     let name : c.as_bytes-name.result.now ≡ innermost_name fs =
     c.as_bytes-name.ensures.value ∙ c.innermost_name.ensures has_doctype fs holds in
-    let place = subst (λ (n : List ℕ). IsTextPlace c.args.self.now.scripting c.text_place-place.result n fs) (sym name)
+    let place =
+    subst (λ (n : List ℕ). IsTextPlace c.args.self.now.scripting c.text_place-place.result n fs) (sym name)
     (c.text_place-place.ensures has_doctype fs holds there) in
     rw (p.1, p.2) (text_stops c.args.self.now c.args.self.now has_doctype fs c.in_err-run.field-0.0
     (c.in_err-run.ensures.steps c.args.self.now.scripting fs place
@@ -28,7 +29,8 @@ pub returns-clause-advances : goal.returns-clause-advances
 returns-clause-advances c = λ has_doctype fs holds there.
     let name : c.as_bytes-name.result.now ≡ innermost_name fs =
     c.as_bytes-name.ensures.value ∙ c.innermost_name.ensures has_doctype fs holds in
-    let place = subst (λ (n : List ℕ). IsTextPlace c.args.self.now.scripting c.text_place-place.result n fs) (sym name)
+    let place =
+    subst (λ (n : List ℕ). IsTextPlace c.args.self.now.scripting c.text_place-place.result n fs) (sym name)
     (c.text_place-place.ensures has_doctype fs holds there) in
     let read = c.in_ok-run.ensures.steps c.args.self.now.scripting fs place
     (text_goes_on c.args.self.now c.text_place-place.result c.as_bytes-name.result.now fs place there) in

@@ -10,7 +10,8 @@ use Rattle.htmd_tree.proofs.reader.attribute_values.attributes_of.Goals as goal
 
 pub returns-then-not-branch : goal.returns-then-not-branch
 returns-then-not-branch c =
-    let d : decode_values named_characters (all_spelled_of c.args.spelled.now) ≡ Some (pairs_of c.in-Some.attributes.items) =
+    let d : decode_values named_characters (all_spelled_of c.args.spelled.now)
+    ≡ Some (pairs_of c.in-Some.attributes.items) =
     rw c.in-Some.is at (sym c.in_ok-attributes.ensures) in
     let a : are_distinct (attribute_names (pairs_of c.in-Some.attributes.items)) ≡ false =
     rw c.as_slice.ensures.value at (sym c.in_ok-are_distinct.ensures ∙ c.if-not-branch.true) in
@@ -19,7 +20,8 @@ returns-then-not-branch c =
 
 pub returns : goal.returns
 returns c =
-    let d : decode_values named_characters (all_spelled_of c.args.spelled.now) ≡ Some (pairs_of c.in-Some.attributes.items) =
+    let d : decode_values named_characters (all_spelled_of c.args.spelled.now)
+    ≡ Some (pairs_of c.in-Some.attributes.items) =
     rw c.in-Some.is at (sym c.in_ok-attributes.ensures) in
     let a : are_distinct (attribute_names (pairs_of c.in-Some.attributes.items)) ≡ true =
     rw c.as_slice.ensures.value at (sym c.in_ok-are_distinct.ensures ∙ c.if-not-branch.false) in

@@ -10,7 +10,8 @@ use Rattle.htmd_tree.proofs.reader.attributes.are_distinct.Given as goal
 abbrev pub invariant-loop-rest : goal.invariant-loop-rest
 invariant-loop-rest l =
     (behind : List Attribute) × (l.attributes ≡ l.rest ++ behind)
-    × (are_distinct (attribute_names (pairs_of behind)) ≡ true) × HasNames l.names (attribute_names (pairs_of behind))
+    × (are_distinct (attribute_names (pairs_of behind)) ≡ true)
+    × HasNames l.names (attribute_names (pairs_of behind))
 
 abbrev pub decreases-loop-rest : goal.decreases-loop-rest
 decreases-loop-rest l = length l.rest

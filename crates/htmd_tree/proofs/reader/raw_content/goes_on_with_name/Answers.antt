@@ -7,5 +7,6 @@ use Rattle.htmd_tree.proofs.reader.raw_content.goes_on_with_name.Goals as goal
 pub returns-in_default : goal.returns-in_default
 returns-in_default c =
     let rest = drop c.loop-character.character-index c.args.name.now in
-    sym (goes_on_no_further rest c.loop-character.rest.now (omega (arith, length-drop {A = ℕ})) c.in_default.len_below)
+    sym (goes_on_no_further rest c.loop-character.rest.now (omega (arith, length-drop {A = ℕ}))
+    c.in_default.len_below)
     ∙ c.loop-character.invariant

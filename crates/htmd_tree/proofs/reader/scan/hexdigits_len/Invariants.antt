@@ -7,7 +7,8 @@ use Rattle.htmd_tree.proofs.reader.scan.hexdigits_len.Given as goal
 abbrev pub invariant-loop-len : goal.invariant-loop-len
 invariant-loop-len l = record {
   within : l.len ≤ length l.bytes;
-  passed : l.len + length (leading_run is_ascii_hexdigit (drop l.len l.bytes)) ≡ length (leading_run is_ascii_hexdigit l.bytes);
+  passed : l.len + length (leading_run is_ascii_hexdigit (drop l.len l.bytes))
+      ≡ length (leading_run is_ascii_hexdigit l.bytes);
 }
 
 abbrev pub decreases-loop-len : goal.decreases-loop-len

@@ -32,7 +32,8 @@ walk_children-loop-rest-init g t c =
     let v = conversion_of (g.R.Registry.config c.args.self.now.registry.now) c.args.self.now.tree.now in
     record {
       kept = beginning-refl c.args.links.now;
-      children = subst (λ xs. All (IsChild c.args.self.now.tree.now c.args.node) xs) (sym c.children-rest.ensures.value)
+      children =
+          subst (λ xs. All (IsChild c.args.self.now.tree.now c.args.node) xs) (sym c.children-rest.ensures.value)
           (children-all c.args.self.now.tree.now c.args.node c.children-rest.ensures.tree c.requires.within);
       rest = λ n h.
           ap (λ xs. write_children (written_within n v) (inside_of c.args.self.now.tree.now c.args.node)

@@ -87,7 +87,8 @@ content-returns-in-Some-clause-ok g t c =
     let e = c.args.element.now in
     let at : ℕ → Occurrence = λ n. occurrence_of n v e in
     let inside = inside_of c.args.self.now.tree.now c.args.element.now.node in
-    let element = (subst (λ (x : List Item). data_at x c.args.element.now.node ≡ element_node c.args.element.now.tag.now
+    let element =
+    (subst (λ (x : List Item). data_at x c.args.element.now.node ≡ element_node c.args.element.now.tag.now
     (pairs_of c.args.element.now.attrs.now)) c.requires.tree c.args.element.now.is_element) in
     let shows : Some c.in-Some.text.now ≡ only_text (element_children e) = sym (ap option_copied c.in-Some.is)
     ∙ c.args.element.now.shows in
@@ -97,7 +98,8 @@ content-returns-in-Some-clause-ok g t c =
     (children_at x c.args.element.now.node))) c.requires.tree in
     let in_pre : bytes_eq c.args.element.now.tag.now (codes "pre") ≡ parent_is_pre inside =
     sym (ap (λ x. bytes_eq (ancestor_of x).tag (codes "pre")) element) in
-    let text : Bool → Bool → Bool → List ℕ → List ℕ = λ p q b s. s ++ cond p (preformatted_text q c.in-Some.text.now)
+    let text : Bool → Bool → Bool → List ℕ → List ℕ =
+    λ p q b s. s ++ cond p (preformatted_text q c.in-Some.text.now)
     (ordinary_text b s c.in-Some.text.now) in
     let put : List ℕ → Bool → Output =
     λ s b. record { text = s; markdown_translated = b; definitions = c.args.links.now } in

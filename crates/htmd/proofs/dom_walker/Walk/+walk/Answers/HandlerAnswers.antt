@@ -327,7 +327,8 @@ handle-returns-in-Some-2-clause-ok g t c =
     (finish_answer ((handler_at v.config.handlers c.in-Some.index).finish (element_view e)
     (result_view c.in-Some-2.content) c.handle.new.links) c.handle.new.links)
     (λ o. answer_after c.args.skipped c.args.element.now.tag.now o c.args.links.now) c.finish-in-Some-2.result
-    (λ n l. ap (λ (a : Answer). after_fallback (handler_at v.config.handlers c.in-Some.index) (element_view e) a.result
+    (λ n l. ap (λ (a : Answer). after_fallback (handler_at v.config.handlers c.in-Some.index) (element_view e)
+    a.result
     a.definitions) (ap (λ x. answer_view x c.handle.new.links) (sym c.in-Some-2.is)
     ∙ c.in_ok-handle-in-Fallback.ensures.ok n l)
     ∙ sym (answer-some c.args.element.now.tag.now (at n) c.args.skipped c.args.links.now c.in-Some.index

@@ -32,7 +32,8 @@ use Rattle.htmd.proofs.WalkingLemmas.{occurrence-same}
 use Rattle.htmd.proofs.dom_walker.Walk.+walk.Goals as goal
 use Rattle.htmd.proofs.dom_walker.Walk.+walk.Goals.{walk_node-then-out, walk_node-else-out}
 
-pub walk_node-returns-in_ok-walk_children-in-Document-clause-ok : goal.walk_node-returns-in_ok-walk_children-in-Document-clause-ok
+pub walk_node-returns-in_ok-walk_children-in-Document-clause-ok :
+    goal.walk_node-returns-in_ok-walk_children-in-Document-clause-ok
 walk_node-returns-in_ok-walk_children-in-Document-clause-ok g t c =
     let v = conversion_of (g.R.Registry.config c.args.self.now.registry.now) c.args.self.now.tree.now in
     λ n h.
@@ -48,7 +49,8 @@ walk_node-returns-in_ok-walk_children-in-Document-clause-ok g t c =
     (output_view c.walk_children.new.out c.walk_children.new.links) h (sym c.data.ensures.value
     ∙ ap data_of c.in-Document.is) c.in_ok-walk_children-in-Document.ensures.ok
 
-pub walk_node-returns-in_err-walk_children-in-Document-clause-err : goal.walk_node-returns-in_err-walk_children-in-Document-clause-err
+pub walk_node-returns-in_err-walk_children-in-Document-clause-err :
+    goal.walk_node-returns-in_err-walk_children-in-Document-clause-err
 walk_node-returns-in_err-walk_children-in-Document-clause-err g t c =
     let v = conversion_of (g.R.Registry.config c.args.self.now.registry.now) c.args.self.now.tree.now in
     on_err_always {P = AtNode v c.args.node (λ write. Begins c.args.links.now c.walk_children.new.links
@@ -118,7 +120,8 @@ walk_node-returns-in-Faithful-clause-err g t c =
 pub walk_node-returns-in-Text-clause-ok : goal.walk_node-returns-in-Text-clause-ok
 walk_node-returns-in-Text-clause-ok g t c =
     let v = conversion_of (g.R.Registry.config c.args.self.now.registry.now) c.args.self.now.tree.now in
-    let text : Bool → List ℕ → List ℕ = λ q s. string_bytes c.args.out.now.content ++ cond c.args.context.preformatted
+    let text : Bool → List ℕ → List ℕ =
+    λ q s. string_bytes c.args.out.now.content ++ cond c.args.context.preformatted
     (preformatted_text q s) (ordinary_text c.args.context.trim (string_bytes c.args.out.now.content) s) in
     on_ok_weaker c.append_text.result (λ p n h.
     ap (λ s. record {
@@ -244,7 +247,8 @@ walk_node-returns-after-out-clause-ok g t c =
     (λ m k. sym (ap (λ r. answer_view r c.walk_element.new.links) c.in-Some.is)
     ∙ c.in_ok-walk_element-in-Element.ensures.ok m k ∙ occurrence m k)
 
-pub walk_node-returns-in_err-walk_element-in-Element-clause-err : goal.walk_node-returns-in_err-walk_element-in-Element-clause-err
+pub walk_node-returns-in_err-walk_element-in-Element-clause-err :
+    goal.walk_node-returns-in_err-walk_element-in-Element-clause-err
 walk_node-returns-in_err-walk_element-in-Element-clause-err g t c =
     let v = conversion_of (g.R.Registry.config c.args.self.now.registry.now) c.args.self.now.tree.now in
     let occurrence : (m : ℕ) → height (tree_of c.args.self.now.tree.now c.args.node) ≤ suc m
@@ -288,7 +292,8 @@ walk_node-returns-in_err-walk_element-in-Element-clause-err g t c =
     (λ m k. begins-to (c.in_err-walk_element-in-Element.ensures.err m k)
     (ap (λ (a : Answer). a.definitions) (occurrence m k))))
 
-pub walk_node-returns-in_err-append_normalized_content-in-Some-clause-err : goal.walk_node-returns-in_err-append_normalized_content-in-Some-clause-err
+pub walk_node-returns-in_err-append_normalized_content-in-Some-clause-err :
+    goal.walk_node-returns-in_err-append_normalized_content-in-Some-clause-err
 walk_node-returns-in_err-append_normalized_content-in-Some-clause-err g t c =
     let v = conversion_of (g.R.Registry.config c.args.self.now.registry.now) c.args.self.now.tree.now in
     let occurrence : (m : ℕ) → height (tree_of c.args.self.now.tree.now c.args.node) ≤ suc m

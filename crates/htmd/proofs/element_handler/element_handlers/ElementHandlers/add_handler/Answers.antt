@@ -14,6 +14,9 @@ invariant_of-self-2 g c =
     let kept : count ≤ more = first_of (omega arith, search rules, grind (arith, common_steps)) in
     let within : c.len-index.result < more = first_of (omega arith, search rules, grind (arith, common_steps)) in
     record {
-      within = subst (λ xs. All (λ r. r.index < more) xs) (sym (clause_of_ok c.add.result c.is_err-2.result c.is_err-2.ensures.value c.if-is_err-2.false c.add.ensures.ok))
+      within =
+          subst (λ xs. All (λ r. r.index < more) xs)
+          (sym (clause_of_ok c.add.result c.is_err-2.result c.is_err-2.ensures.value c.if-is_err-2.false
+          c.add.ensures.ok))
           (within-grown old tags c.len-index.result count more kept within c.args.self.now.within);
     }

@@ -26,7 +26,8 @@ returns-then-left-eq0-clause-value c =
     let found = search_finds c.args.tag.now (map tag_index items) c.args.skipped c.loop-place.left c.in-Some.at
     c.loop-place.place c.in-Some.is c.loop-place.invariant.search in
     ap (λ (x : TagIndex). Some x.index) (registered_at items c.in-Some.at r c.index-registration.ensures)
-    ∙ search_ends c.args.tag.now (map tag_index items) c.args.skipped c.loop-place.left c.in-Some.at (tag_index r) found
+    ∙ search_ends c.args.tag.now (map tag_index items) c.args.skipped c.loop-place.left c.in-Some.at (tag_index r)
+    found
     c.if-left-eq0.true
 
 pub returns-then-left-eq0-clause-within : goal.returns-then-left-eq0-clause-within

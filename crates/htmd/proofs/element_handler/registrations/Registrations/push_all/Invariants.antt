@@ -10,7 +10,8 @@ invariant-loop-key l = record {
   places : vec_len l.names ≤ spare l.self.newest;
   room : vec_len l.self.all + vec_len l.names ≤ vec_capacity l.self.all;
   whole : map tag_index l.self.all.items ++ tags_at l.index (map (λ p. string_bytes p.1) (reverse l.names.items))
-      ≡ map tag_index l.fn.self.all.items ++ tags_at l.index (map (λ p. string_bytes p.1) (reverse l.fn.names.items));
+      ≡ map tag_index l.fn.self.all.items
+      ++ tags_at l.index (map (λ p. string_bytes p.1) (reverse l.fn.names.items));
 }
 
 abbrev pub decreases-loop-key : goal.decreases-loop-key

@@ -29,10 +29,12 @@ returns c = λ above e.
     (ap (λ (x : Place). x.open_select) e))
     (with_flag c.opens-7.result (is_among (codes "option" ∷ []) n) p.open_option q.open_option c.opens-7.ensures
     (ap (λ (x : Place). x.open_option) e))
-    (with_flag c.opens_options.result (is_among (codes "optgroup" ∷ codes "option" ∷ []) n) p.open_options q.open_options
+    (with_flag c.opens_options.result (is_among (codes "optgroup" ∷ codes "option" ∷ []) n) p.open_options
+    q.open_options
     c.opens_options.ensures (ap (λ (x : Place). x.open_options) e))
     (with_bound c.opens_item.result (is_among (codes "li" ∷ []) n)
-    (not (is_among (codes "ul" ∷ codes "ol" ∷ codes "menu" ∷ codes "dir" ∷ []) n)) p.item q.item c.opens_item.ensures
+    (not (is_among (codes "ul" ∷ codes "ol" ∷ codes "menu" ∷ codes "dir" ∷ []) n)) p.item q.item
+    c.opens_item.ensures
     (ap (λ (x : Place). x.item) e))
     (with_bound c.opens_description.result (is_among (codes "dd" ∷ codes "dt" ∷ []) n)
     (not (is_among (codes "dl" ∷ []) n)) p.description q.description c.opens_description.ensures
