@@ -23,11 +23,7 @@ fn strings(alloc: Global, words: &[&str]) -> Result<Vec<String>, AllocError> {
 #[test]
 fn answers_words(rt: HostRuntime) -> Result<(), Fail> {
     let unknown = "htmd: unknown word\n";
-    let table: [(&[&str], &[u8], &str, &str, u8); 16] = [
-        (&[], b"<p>a <b>b</b></p>", "a **b**\n", "", 0),
-        (&[], b"<p>a", "", "htmd: refused at byte 4: Unclosed\n", 1),
-        (&[], b"a<!--b-->", "a\n", "", 0),
-        (&["--faithful"], b"a<!--b-->", "a<!--b-->\n", "", 0),
+    let table: [(&[&str], &[u8], &str, &str, u8); 12] = [
         (&["--text"], b"a b", "a b\n", "", 0),
         (
             &["--text", "--faithful"],
