@@ -238,7 +238,8 @@ impl<'a> Reader<'a> {
         requires reading { IsReading self.old }
         requires inner { 1 < length self.old.stack.items }
         ensures holds { (has_doctype : Bool) (f g : OpenElement) (fs : List OpenElement)
-            → Holds self.old has_doctype (f ∷ g ∷ fs) → Holds self.new has_doctype (with_tree (g ∷ fs) (closed f)) }
+            → Holds self.old has_doctype (f ∷ g ∷ fs)
+            → Holds self.new has_doctype (with_tree (g ∷ fs) (closed f)) }
         ensures rest { self.new.rest.now ≡ rest.now }
         ensures scripting { self.new.scripting ≡ self.old.scripting }
         ensures reading { IsReading self.new }

@@ -15,7 +15,8 @@ use std::alloc::{AllocError, Global};
 
 /// Whether a reference by an unknown name stands in a value.
 fn has_unknown_reference(spelled: &[SpelledAttribute<'_>]) -> bool
-    ensures { result ≡ list_any (λ a. steps.has_unknown_reference named_characters a.value) (all_spelled_of spelled.now) }
+    ensures { result
+        ≡ list_any (λ a. steps.has_unknown_reference named_characters a.value) (all_spelled_of spelled.now) }
 {
     for attribute in spelled {
         if values::has_unknown_reference(attribute.value) {

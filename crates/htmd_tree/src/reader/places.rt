@@ -247,7 +247,8 @@ impl Place {
 
     /// What is kept of an element of this name in an element of which this is kept.
     pub(crate) fn inner(self, name: &str, scripting: bool) -> Place
-        ensures { (c : spec.Context) → self ≡ place_of scripting c → result ≡ place_of scripting (name.now ∷ c) }
+        ensures { (c : spec.Context) → self ≡ place_of scripting c
+            → result ≡ place_of scripting (name.now ∷ c) }
     {
         Place {
             text_alone: holds_text_alone(name, scripting),
