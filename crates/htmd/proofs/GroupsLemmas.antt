@@ -118,7 +118,8 @@ module _ (tree : ℕ → NumberedTree) (i j : ℕ) (is : List ℕ) (rest : ℕ) 
         → in_front (tree i) (more (with_text s (tree j)) behind) ≡ first_and_rest b
     one_more true e p q h =
         ap (λ b. front b (text_of (with_text s (tree j)))) (is_joinable-with s (tree i) (tree j) ∙ e)
-        ∙ ap (λ z. more (with_text (text_of (tree i) ++ z) (tree i)) behind) (text_of-with s (tree i) (tree j) e ∙ p)
+        ∙ ap (λ z. more (with_text (text_of (tree i) ++ z) (tree i)) behind)
+        (text_of-with s (tree i) (tree j) e ∙ p)
         ∙ ap (more (with_text (text_of (tree i) ++ texts_of tree (take rest (j ∷ is))) (tree i))) q
     one_more false e p q h =
         ap (λ b. front b (text_of (with_text s (tree j)))) (is_joinable-with s (tree i) (tree j) ∙ e)

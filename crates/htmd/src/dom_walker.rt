@@ -419,7 +419,8 @@ impl<'a, R: Registry> Walk<'a, R> {
         requires behind { element.now.node < below }
         requires within { below < length self.now.tree.now }
         ensures ok { let conversion = conversion_of (R.config self.now.registry.now) self.now.tree.now in
-            IfOk result (λ r. AtNode conversion below (λ write. output_view r links.new ≡ content_alone write conversion
+            IfOk result (λ r. AtNode conversion below (λ write. output_view r links.new
+            ≡ content_alone write conversion
             (descendant_tree self.now.tree.now (option_copied element.now.text) below) below links.old)) }
         ensures err { let conversion = conversion_of (R.config self.now.registry.now) self.now.tree.now in
             OnErr result (AtNode conversion below (λ write. Begins links.old links.new (content_alone write conversion

@@ -69,7 +69,8 @@ fn begins_plain(bytes: &[u8]) -> bool
 
 /// Whether a text is written as it is, with the space at its start or without it.
 fn is_plain(text: &str) -> bool
-    ensures { IsTrue result → (goes : Bool) → escaped_markdown (spec.without_first_space goes (squeezed_text text.now))
+    ensures { IsTrue result → (goes : Bool)
+        → escaped_markdown (spec.without_first_space goes (squeezed_text text.now))
         ≡ spec.without_first_space goes text.now }
 {
     begins_plain(text.as_bytes()) && stays_plain(text.as_bytes())

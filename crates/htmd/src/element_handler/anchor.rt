@@ -58,7 +58,8 @@ fn refer(
     ensures reference { IfOk result (λ s. string_bytes s
         ≡ piece.reference style (length links.old + 1) content.now) }
     ensures definition { OnOk result (links.new ≡ links.old
-        ++ piece.definition style (length links.old + 1) content.now target.entry.address.now (option_copied target.entry.title)
+        ++ piece.definition style (length links.old + 1) content.now target.entry.address.now
+        (option_copied target.entry.title)
         ∷ []) }
     ensures err { OnErr result (links.new ≡ links.old) }
 {

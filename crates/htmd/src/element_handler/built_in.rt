@@ -113,7 +113,8 @@ impl BuiltIn {
         ensures ok { IfOk result (λ r. answer_view r links.new ≡ finish_answer
             ((meaning_of self).finish (element_view element.now) (result_view content) links.old) links.old) }
         ensures err { OnErr result (Begins links.old links.new
-            (links.old ++ ((meaning_of self).finish (element_view element.now) (result_view content) links.old).added)) }
+            (links.old
+            ++ ((meaning_of self).finish (element_view element.now) (result_view content) links.old).added)) }
     {
         match self {
             BuiltIn::Image => Ok(None),

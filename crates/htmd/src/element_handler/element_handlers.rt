@@ -145,7 +145,8 @@ impl ElementHandlers {
     /// Asks a built-in handler first for these tags from now on.
     fn add_built_in(&mut self, tags: &[&str], handler: BuiltIn) -> Result<(), AllocError>
         ensures ok { let config = ⟦<ElementHandlers as Registry>⟧.config in
-            OnOk result (config self.new ≡ with_handler (config self.old) (map (λ t. t.now) tags.now) (meaning_of handler)) }
+            OnOk result (config self.new
+            ≡ with_handler (config self.old) (map (λ t. t.now) tags.now) (meaning_of handler)) }
         ensures err { let config = ⟦<ElementHandlers as Registry>⟧.config in
             OnErr result (config self.new ≡ config self.old) }
     {
