@@ -19,6 +19,7 @@ pub mod AnchorsLemmas
 pub mod LinkLawsLemmas
 pub mod KeepingLemmas
 pub mod NumbersLemmas
+pub mod ListLawsLemmas
 pub mod ConversionsLemmas
 pub mod LawsLemmas
 pub mod GroupCuts

@@ -27,6 +27,7 @@ pub mod BuiltIn
 pub mod GroupLaws
 pub mod EmphasisLaws
 pub mod LinkLaws
+pub mod ListLaws
 pub mod Beginnings
 pub mod Views
 pub mod HandlerMeanings

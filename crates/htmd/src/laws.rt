@@ -6,7 +6,10 @@ ghost use Rattle.htmd.specs.GroupLaws.{ChildrenAreCut};
 ghost use Rattle.htmd.specs.EmphasisLaws.{MarksStandInside};
 ghost use Rattle.htmd.specs.LinkLaws.{AnchorsTakeTheNextNumber, ReferencesAreNumbered};
 ghost use Rattle.htmd.specs.LinkLaws.{ImagesHoldAddresses, LinksHoldAddresses};
+ghost use Rattle.htmd.specs.ListLaws.{ItemsBeginInOneColumn};
+ghost use Rattle.htmd.specs.Views.{element_view};
 
+use crate::element_handler::Element;
 pub use htmd_markdown::{Emphasis, write_fence, write_row, write_span, write_table};
 
 /// The content of a node, before anything is put after it, neither begins nor ends with a line feed.
@@ -53,3 +56,12 @@ pub fn images_hold_addresses()
 pub fn links_hold_addresses()
     ensures { LinksHoldAddresses }
 {}
+
+/// Where what the built-in handler of `ol` gives is Markdown, the content of each item begins in its line after
+/// `ol_number_spacing`, the digits of the highest number and one character more. A list or quote around it may
+/// indent it then.
+pub fn items_begin_in_one_column(element: &Element)
+    ensures { ItemsBeginInOneColumn (element_view element.now) }
+{
+    let _children = element.tree.children(element.node);
+}
