@@ -25,8 +25,8 @@ pub fn command<R: Source, W: Sink, E: Sink>(
 ) -> u8
     requires source { R.has_failed source.old ≡ false }
     requires sink { W.has_failed sink.old ≡ false }
-    ensures success { result ≡ 0 →
-        Converts (is_text words.now) (is_faithful words.now) (R.remaining source.old) (W.contents sink.old) (W.contents sink.new) }
+    ensures success { result ≡ 0 → Converts (is_text words.now) (is_faithful words.now)
+        (R.remaining source.old) (W.contents sink.old) (W.contents sink.new) }
     ensures end { result ≡ 0 → IsAtEnd (R.remaining source.new) }
     ensures no_failure { result ≡ 0 →
         (R.has_failed source.new ≡ false) × (W.has_failed sink.new ≡ false) }

@@ -1,5 +1,6 @@
 //! What no clause says: the program's lines and statuses, and that runs succeed and fail as they should.
 mod doubles;
+mod pages;
 
 use crate::{Failed, Input, Mode, Output, RunError, Sink, Source, command, run};
 use doubles::{Dripping, Full, Interrupted, Narrow, Unflushed};

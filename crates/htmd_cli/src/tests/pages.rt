@@ -1,0 +1,113 @@
+//! Runs on pages of HTML.
+use super::doubles::{Dripping, Narrow};
+use crate::{Mode, RunError, Sink, Source, command, run};
+use htmd::FaultKind;
+use std::alloc::{AllocError, Global};
+use std::test::Fail;
+
+const PAGE: Mode = Mode {
+    text: false,
+    faithful: false,
+};
+
+const HTML: &[u8] = b"<p>a <b>b</b></p>";
+
+const MARKDOWN: &[u8] = b"a **b**\n";
+
+// The words that a text has, one a line.
+fn words_of(alloc: Global, lines: &str) -> Result<Vec<String>, AllocError> {
+    let mut words = Vec::new(alloc);
+    for word in lines.lines() {
+        words.push(String::from_str(alloc, word)?)?;
+    }
+    Ok(words)
+}
+
+#[test]
+fn answers_words(rt: HostRuntime) -> Result<(), Fail> {
+    let refused = "htmd: refused at byte 3: NotAllowedHere\n";
+    let table: [(&str, &[u8], &str, &str, u8); 7] = [
+        ("", HTML, "a **b**\n", "", 0),
+        ("", b"<p><div>", "", refused, 1),
+        ("--faithful", b"<p><div>", "", refused, 1),
+        ("", b"<h1>Hi</h1>", "# Hi\n", "", 0),
+        ("", b"", "\n", "", 0),
+        ("--faithful", b"<hr bar>", "<hr bar=\"\">\n", "", 0),
+        ("", b"<p>\xff", "", "htmd: not UTF-8\n", 1),
+    ];
+    for (lines, stdin, stdout, stderr, status) in table {
+        let words = words_of(rt.alloc(), lines)?;
+        let mut source = Dripping::new(stdin, 100);
+        let mut sink = Narrow::new(rt.alloc(), 100);
+        let mut errors = Narrow::new(rt.alloc(), 100);
+        let answer = command(
+            rt.alloc(),
+            words.as_slice(),
+            &mut source,
+            &mut sink,
+            &mut errors,
+        );
+        assert_eq!(rt; answer, status, "{stdout:?} {stderr:?}");
+        assert_eq!(rt; sink.bytes(), stdout.as_bytes());
+        assert_eq!(rt; errors.bytes(), stderr.as_bytes());
+        assert!(rt; source.rest().is_empty());
+    }
+    Ok(())
+}
+
+// A page of 17 bytes is read in 18 reads, the last one at its end. Each of them fails in turn.
+#[test]
+fn answers_each_failed_read(rt: HostRuntime) -> Result<(), Fail> {
+    for reads in 0..20 {
+        let mut source = Dripping::new(HTML, reads);
+        let mut sink = Narrow::new(rt.alloc(), 100);
+        let result = run(rt.alloc(), &mut source, &mut sink, PAGE);
+        let (answer, written) = if reads < 18 {
+            (Err(RunError::Read), b"".as_slice())
+        } else {
+            (Ok(()), MARKDOWN)
+        };
+        assert_eq!(rt; result, answer, "{reads}");
+        assert_eq!(rt; sink.bytes(), written, "{reads}");
+        assert_eq!(rt; source.failed(), reads < 18);
+    }
+    Ok(())
+}
+
+// Its 8 bytes of Markdown are written one by one, and flushed. Each of these calls fails in turn.
+#[test]
+fn answers_each_failed_write(rt: HostRuntime) -> Result<(), Fail> {
+    for calls in 0..11 {
+        let mut source = Dripping::new(HTML, 100);
+        let mut sink = Narrow::new(rt.alloc(), calls);
+        let result = run(rt.alloc(), &mut source, &mut sink, PAGE);
+        let answer = if calls < 9 {
+            Err(RunError::Write)
+        } else {
+            Ok(())
+        };
+        assert_eq!(rt; result, answer, "{calls}");
+        assert_eq!(rt; sink.bytes(), MARKDOWN.get(..calls).unwrap_or(MARKDOWN));
+        assert_eq!(rt; sink.failed(), calls < 9);
+    }
+    Ok(())
+}
+
+// What is refused leaves nothing written, and what is refused last is read to its end too.
+#[test]
+fn writes_nothing_of_what_is_refused(rt: HostRuntime) -> Result<(), Fail> {
+    let table: [(&[u8], usize, FaultKind); 3] = [
+        (b"<p><div>", 3, FaultKind::NotAllowedHere),
+        (b"<p>a</p><p>b", 12, FaultKind::Unclosed),
+        (b"<p>a</p>\0<p>", 8, FaultKind::Nul),
+    ];
+    for (html, place, kind) in table {
+        let mut source = Dripping::new(html, 100);
+        let mut sink = Narrow::new(rt.alloc(), 100);
+        let result = run(rt.alloc(), &mut source, &mut sink, PAGE);
+        assert_eq!(rt; result, Err(RunError::Refused { place, kind }));
+        assert!(rt; sink.bytes().is_empty());
+        assert!(rt; source.rest().is_empty());
+    }
+    Ok(())
+}
