@@ -24,6 +24,11 @@ pub mod ConversionsLemmas
 pub mod LawsLemmas
 pub mod GroupCuts
 pub mod EmphasisLawsLemmas
+pub mod TextEnds
+pub mod ShownTexts
+pub mod ParagraphTexts
+pub mod ParagraphSeams
+pub mod ParagraphLawsLemmas
 pub mod ChildListsLemmas
 pub mod TableNodesLemmas
 pub mod TableHeadersLemmas

@@ -28,6 +28,7 @@ pub mod GroupLaws
 pub mod EmphasisLaws
 pub mod LinkLaws
 pub mod ListLaws
+pub mod ParagraphLaws
 pub mod Beginnings
 pub mod Views
 pub mod HandlerMeanings

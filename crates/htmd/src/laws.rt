@@ -7,6 +7,7 @@ ghost use Rattle.htmd.specs.EmphasisLaws.{MarksStandInside};
 ghost use Rattle.htmd.specs.LinkLaws.{AnchorsTakeTheNextNumber, ReferencesAreNumbered};
 ghost use Rattle.htmd.specs.LinkLaws.{ImagesHoldAddresses, LinksHoldAddresses};
 ghost use Rattle.htmd.specs.ListLaws.{ItemsBeginInOneColumn};
+ghost use Rattle.htmd.specs.ParagraphLaws.{ParagraphsReadBack};
 ghost use Rattle.htmd.specs.Views.{element_view};
 
 use crate::element_handler::Element;
@@ -65,3 +66,10 @@ pub fn items_begin_in_one_column(element: &Element)
 {
     let _children = element.tree.children(element.node);
 }
+
+/// Where the Document's children are `p` without attributes, each holding at most one text, and all handlers are built
+/// in, the Markdown of the whole tree reads back: cut at its blank lines, without the backslashes that escape, it is
+/// the texts, squeezed and without leading space, empty ones passed over, the last one without its final space.
+pub fn paragraphs_read_back()
+    ensures { ParagraphsReadBack }
+{}
