@@ -12,6 +12,7 @@ use Rattle.htmd_tree.specs.Serialisation.{comment_of}
 use Rattle.htmd.specs.Beginnings.{IsBeginning, Begins}
 use Rattle.htmd.specs.Handling.{ElementView, ResultView, PlanView, nothing, this_result, raw_html, content_of_children}
 use Rattle.htmd.specs.Handling.{content_of_descendant, content_of_fallback, contents_of_each, Finish, HandlerMeaning}
+use Rattle.htmd.specs.Handling.{OutcomeView, final_result, children_too}
 use Rattle.htmd.specs.OrdinaryText.{pre}
 use Rattle.htmd.specs.Choice.{indexes, handler_at, handlers_at}
 use Rattle.htmd.specs.Groups.{groups_of}
@@ -20,7 +21,7 @@ use Rattle.htmd.specs.Children.{is_block_tree, before_child, trim_after, write_c
 use Rattle.htmd.specs.Children.{content_alone, descendant_tree}
 use Rattle.htmd.specs.Elements.{Occurrence, Answer, content_of, raw_element, raw_answer, finish_answer, after_fallback}
 use Rattle.htmd.specs.Elements.{Contents}
-use Rattle.htmd.specs.Elements.{contents_alone, content_if, plan_answer, first_answer, answer_after}
+use Rattle.htmd.specs.Elements.{contents_alone, outcome_answer, plan_answer, first_answer, answer_after}
 use Rattle.htmd.specs.Elements.{occurrence_at}
 use Rattle.htmd.specs.Elements.{each_answer}
 use Rattle.htmd.specs.Rendering.{with_result, write_node, written_within}
@@ -118,11 +119,6 @@ module _ (at : Occurrence) (g : Grows at.write) where
   pub grows-raw : (definitions : List (List ℕ)) → IsBeginning definitions (raw_answer at definitions).definitions
   grows-raw definitions = grows-raw_element (data_at at.conversion.items at.view.node) definitions
 
-  pub grows-content_if : (asks : Bool) (definitions : List (List ℕ))
-      → IsBeginning definitions (content_if asks at definitions).definitions
-  grows-content_if true definitions = grows-content definitions
-  grows-content_if false definitions = beginning-refl definitions
-
   pub grows-contents : (nodes : List ℕ) (definitions : List (List ℕ))
       → IsBeginning definitions (contents_alone at nodes definitions).definitions
   grows-contents [] definitions = beginning-refl definitions
@@ -137,9 +133,15 @@ module _ (at : Occurrence) (g : Grows at.write) where
   grows-fallback handler view None definitions = beginning-refl definitions
   grows-fallback handler view (Some r) definitions = beginning-more definitions _
 
-  pub grows-each : (handler : HandlerMeaning) (asks : Bool) (contents : Contents)
-      → IsBeginning contents.definitions (each_answer handler at asks contents).definitions
-  grows-each handler asks contents = beginning-trans (grows-content_if asks contents.definitions) (beginning-more _ _)
+  grows-outcome : (handler : HandlerMeaning) (outcome : OutcomeView) (definitions : List (List ℕ))
+      → IsBeginning definitions (outcome_answer handler at definitions outcome).definitions
+  grows-outcome handler (final_result result) definitions = beginning-refl definitions
+  grows-outcome handler children_too definitions = beginning-trans (grows-content definitions) (beginning-more _ _)
+
+  pub grows-each : (handler : HandlerMeaning) (contents : Contents)
+      → IsBeginning contents.definitions (each_answer handler at contents).definitions
+  grows-each handler contents =
+      grows-outcome handler (handler.finish_each at.view contents.results) contents.definitions
 
   grows-plan : (handler : HandlerMeaning) (definitions : List (List ℕ)) (p : PlanView) (rest : Answer)
       → IsBeginning definitions rest.definitions
@@ -154,8 +156,8 @@ module _ (at : Occurrence) (g : Grows at.write) where
       (beginning-more _ _)
   grows-plan handler definitions content_of_fallback rest h =
       beginning-trans h (grows-fallback handler at.view rest.result rest.definitions)
-  grows-plan handler definitions (contents_of_each nodes asks) rest h =
-      beginning-trans (grows-contents nodes definitions) (grows-each handler asks (contents_alone at nodes definitions))
+  grows-plan handler definitions (contents_of_each nodes) rest h =
+      beginning-trans (grows-contents nodes definitions) (grows-each handler (contents_alone at nodes definitions))
 
   grows-first : (handlers : List HandlerMeaning) (definitions : List (List ℕ))
       → IsBeginning definitions (first_answer handlers at definitions).definitions

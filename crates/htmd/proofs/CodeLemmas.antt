@@ -1,6 +1,6 @@
 -- The language of a code block, one class or one attribute after another.
-use Rattle.std.proofs.Common.{◌≡◌, ℕ, suc, ◌+◌, ◌<◌, Bool, List, ◌∷◌, length, get_or, drop, Some, None}
-use Rattle.std.proofs.Common.{true, false, cond, sym, ap, ◌∙◌, string_bytes, add-one, codes, ◌&&◌}
+use Rattle.std.proofs.Common.{◌≡◌, ℕ, ◌+◌, ◌<◌, Bool, List, length, get_or, drop, Some, None}
+use Rattle.std.proofs.Common.{true, false, cond, sym, ap, ◌∙◌, string_bytes, codes, ◌&&◌}
 use Rattle.std.specs.List.{list_all}
 use Rattle.std.specs.Option.{option_or}
 use Rattle.std.specs.Str.{bytes_eq}

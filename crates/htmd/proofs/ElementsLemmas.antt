@@ -2,12 +2,12 @@
 use Rattle.std.proofs.Common.{◌≡◌, ℕ, zero, suc, ◌+◌, List, [], ◌∷◌, drop, Some, None, slice_get, refl, sym, ap}
 use Rattle.std.proofs.Common.{◌∙◌}
 use Rattle.std.proofs.Common.{true, false, cond, add-one}
-use Rattle.htmd.specs.Handling.{PlanView}
+use Rattle.htmd.specs.Handling.{PlanView, contents_of_each, OutcomeView}
 use Rattle.htmd.specs.Choice.{indexes, handler_at, handlers_at}
 use Rattle.htmd.specs.Outputs.{is_pure}
 use Rattle.htmd.specs.Elements.{Occurrence, Answer, plan_answer, first_answer, answer_after, without_handler}
-use Rattle.htmd.specs.Elements.{raw_answer}
-use Rattle.htmd.specs.Elements.{content_if}
+use Rattle.htmd.specs.Elements.{raw_answer, content_of, answer_of, Contents, contents_alone, outcome_answer}
+use Rattle.htmd.specs.Elements.{each_answer}
 
 pub drop_at_some : (xs : List ℕ) (k x : ℕ) → Some x ≡ slice_get xs k → drop k xs ≡ x ∷ drop (k + 1) xs
 drop_at_some [] zero x e = cc
@@ -34,14 +34,14 @@ module _ (tag : List ℕ) (at : Occurrence) (skipped : ℕ) (definitions : List 
   answer-none e = ap left (drop_at_none registered skipped e)
 
   pub answer-none-pure : None ≡ slice_get registered skipped → is_pure at.conversion.config.options ≡ true
-      → content_if true at definitions ≡ answer_after skipped tag at definitions
+      → answer_of (content_of at definitions) ≡ answer_after skipped tag at definitions
   answer-none-pure e p = sym (answer-none e
-      ∙ ap (λ b. cond b (content_if true at definitions) (raw_answer at definitions)) p)
+      ∙ ap (λ b. cond b (answer_of (content_of at definitions)) (raw_answer at definitions)) p)
 
   pub answer-none-faithful : None ≡ slice_get registered skipped → is_pure at.conversion.config.options ≡ false
       → raw_answer at definitions ≡ answer_after skipped tag at definitions
   answer-none-faithful e p =
-      sym (answer-none e ∙ ap (λ b. cond b (content_if true at definitions) (raw_answer at definitions)) p)
+      sym (answer-none e ∙ ap (λ b. cond b (answer_of (content_of at definitions)) (raw_answer at definitions)) p)
 
   -- with a handler at an index, by what it asks for
   pub answer-some : (index : ℕ) (p : PlanView) → Some index ≡ slice_get registered skipped
@@ -52,3 +52,16 @@ module _ (tag : List ℕ) (at : Occurrence) (skipped : ℕ) (definitions : List 
       ap left (drop_at_some registered skipped index e)
       ∙ ap (λ q. plan_answer (handler_at at.conversion.config.handlers index) at definitions q
       (answer_after (skipped + 1) tag at definitions)) (sym h)
+
+  -- where it asks for nodes, by what it makes of their contents
+  pub answer-each : (index : ℕ) (nodes : List ℕ) (contents : Contents) (outcome : OutcomeView)
+      → Some index ≡ slice_get registered skipped
+      → contents_of_each nodes ≡ (handler_at at.conversion.config.handlers index).plan at.view
+      → contents ≡ contents_alone at nodes definitions
+      → outcome ≡ (handler_at at.conversion.config.handlers index).finish_each at.view contents.results
+      → outcome_answer (handler_at at.conversion.config.handlers index) at contents.definitions outcome
+      ≡ answer_after skipped tag at definitions
+  answer-each index nodes contents outcome e h is made =
+      ap (outcome_answer (handler_at at.conversion.config.handlers index) at contents.definitions) made
+      ∙ ap (each_answer (handler_at at.conversion.config.handlers index) at) is
+      ∙ sym (answer-some index (contents_of_each nodes) e h)

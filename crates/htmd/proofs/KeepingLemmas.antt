@@ -8,25 +8,24 @@ use Rattle.htmd_tree.specs.NumberedTrees.{more}
 use Rattle.htmd_tree.specs.Ancestors.{Ancestor}
 use Rattle.htmd_tree.specs.Serialisation.{comment_of}
 use Rattle.htmd.specs.Handling.{ElementView, ResultView, PlanView, nothing, this_result, raw_html, content_of_children}
-use Rattle.htmd.specs.Handling.{content_of_descendant, content_of_fallback, contents_of_each, HandlerMeaning}
+use Rattle.htmd.specs.Handling.{content_of_descendant, content_of_fallback, contents_of_each, OutcomeView}
+use Rattle.htmd.specs.Handling.{final_result, children_too, HandlerMeaning}
 use Rattle.htmd.specs.OrdinaryText.{pre}
 use Rattle.htmd.specs.Choice.{indexes, handler_at, handlers_at}
 use Rattle.htmd.specs.Groups.{groups_of}
 use Rattle.htmd.specs.Outputs.{Conversion, Output, push_text, Context, context_of, Writes, is_pure}
 use Rattle.htmd.specs.Children.{is_block_tree, before_child, trim_after, write_children, write_groups, trims_first}
 use Rattle.htmd.specs.Children.{content_alone, descendant_tree}
-use Rattle.htmd.specs.Elements.{Occurrence, Answer, Contents, content_of, raw_element, raw_answer, after_fallback}
-use Rattle.htmd.specs.Elements.{contents_alone, content_if, each_answer, plan_answer, first_answer, answer_after}
+use Rattle.htmd.specs.Elements.{Occurrence, Answer, content_of, raw_element, raw_answer, after_fallback}
+use Rattle.htmd.specs.Elements.{contents_alone, outcome_answer, plan_answer, first_answer, answer_after}
 use Rattle.htmd.specs.Elements.{occurrence_at}
 use Rattle.htmd.specs.Rendering.{write_node, written_within}
 use Rattle.htmd.proofs.BeginningsLemmas.{result-definitions}
 
 -- what a handler adds keeps it, for elements that are shown like this
-pub record HandlerKeeps (P : List (List ℕ) → Type 0) (view : ElementView) (handler : HandlerMeaning) : Type 0 where
-  pub finish : (content : ResultView) (definitions : List (List ℕ)) → P definitions
-      → P (definitions ++ (handler.finish view content definitions).added)
-  pub finish_each : (contents : List ResultView) (children : Option ResultView) (definitions : List (List ℕ))
-      → P definitions → P (definitions ++ (handler.finish_each view contents children definitions).added)
+abbrev pub HandlerKeeps : (List (List ℕ) → Type 0) → ElementView → HandlerMeaning → Type 0
+HandlerKeeps P view handler = (content : ResultView) (definitions : List (List ℕ)) → P definitions
+    → P (definitions ++ (handler.finish view content definitions).added)
 
 abbrev pub HandlersKeep : (List (List ℕ) → Type 0) → Conversion → Type 0
 HandlersKeep P conversion =
@@ -89,11 +88,6 @@ module _ (P : List (List ℕ) → Type 0) where
     keeps-raw : (definitions : List (List ℕ)) → P definitions → P (raw_answer at definitions).definitions
     keeps-raw definitions p = keeps-raw_element (data_at at.conversion.items at.view.node) definitions p
 
-    keeps-content_if : (asks : Bool) (definitions : List (List ℕ)) → P definitions
-        → P (content_if asks at definitions).definitions
-    keeps-content_if true definitions p = keeps-content definitions p
-    keeps-content_if false definitions p = p
-
     keeps-contents : (nodes : List ℕ) (definitions : List (List ℕ)) → P definitions
         → P (contents_alone at nodes definitions).definitions
     keeps-contents [] definitions p = p
@@ -106,7 +100,13 @@ module _ (P : List (List ℕ) → Type 0) where
         (definitions : List (List ℕ)) → P definitions
         → P (after_fallback handler at.view r definitions).definitions
     keeps-fallback handler k None definitions p = p
-    keeps-fallback handler k (Some r) definitions p = k.finish r definitions p
+    keeps-fallback handler k (Some r) definitions p = k r definitions p
+
+    keeps-outcome : (handler : HandlerMeaning) → HandlerKeeps P at.view handler → (outcome : OutcomeView)
+        (definitions : List (List ℕ)) → P definitions
+        → P (outcome_answer handler at definitions outcome).definitions
+    keeps-outcome handler k (final_result result) definitions p = p
+    keeps-outcome handler k children_too definitions p = k _ _ (keeps-content definitions p)
 
     keeps-plan : (handler : HandlerMeaning) → HandlerKeeps P at.view handler → (definitions : List (List ℕ))
         (plan : PlanView) (rest : Answer) → P definitions → P rest.definitions
@@ -114,13 +114,14 @@ module _ (P : List (List ℕ) → Type 0) where
     keeps-plan handler k definitions nothing rest p q = p
     keeps-plan handler k definitions (this_result r) rest p q = p
     keeps-plan handler k definitions raw_html rest p q = keeps-raw definitions p
-    keeps-plan handler k definitions content_of_children rest p q = k.finish _ _ (keeps-content definitions p)
+    keeps-plan handler k definitions content_of_children rest p q = k _ _ (keeps-content definitions p)
     keeps-plan handler k definitions (content_of_descendant d) rest p q =
-        k.finish _ _ (keeps-alone (descendant_tree at.conversion.items at.view.text d) d definitions p)
+        k _ _ (keeps-alone (descendant_tree at.conversion.items at.view.text d) d definitions p)
     keeps-plan handler k definitions content_of_fallback rest p q =
         keeps-fallback handler k rest.result rest.definitions q
-    keeps-plan handler k definitions (contents_of_each nodes asks) rest p q =
-        k.finish_each _ _ _ (keeps-content_if asks _ (keeps-contents nodes definitions p))
+    keeps-plan handler k definitions (contents_of_each nodes) rest p q =
+        keeps-outcome handler k (handler.finish_each at.view (contents_alone at nodes definitions).results) _
+        (keeps-contents nodes definitions p)
 
     module _ (keeps : HandlersKeep P at.conversion) (same : at.view.options ≡ at.conversion.config.options) where
       keeps-first : (places : List ℕ) (definitions : List (List ℕ)) → P definitions

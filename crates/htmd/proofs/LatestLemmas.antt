@@ -1,5 +1,5 @@
 -- From a tag's newest registration to the older ones, and one registration more.
-use Rattle.std.proofs.Common.{◌≡◌, ℕ, zero, suc, ◌+◌, ◌<◌, ◌≤◌, Bool, true, false, cond, List, [], ◌∷◌, ◌++◌, length, map}
+use Rattle.std.proofs.Common.{◌≡◌, ℕ, suc, ◌<◌, ◌≤◌, Bool, true, false, cond, List, [], ◌∷◌, ◌++◌, length, map}
 use Rattle.std.proofs.Common.{get_or, take, Option, Some, None, refl, sym, ap, ◌∙◌, arith, subst, slice_get, string_bytes}
 use Rattle.std.proofs.Common.{⊎_elim}
 use Rattle.std.specs.Str.{bytes_eq}

@@ -1,6 +1,6 @@
 -- The attributes of a link or an image, one after another.
 use Rattle.std.proofs.Common.{◌≡◌, ℕ, ◌+◌, ◌<◌, Bool, true, false, cond, not, ◌||◌, List, [], ◌∷◌, ◌++◌, length, get_or}
-use Rattle.std.proofs.Common.{take, drop, map, Option, Some, None, refl, sym, ap, ◌∙◌, string_bytes, Bor}
+use Rattle.std.proofs.Common.{take, drop, map, Some, None, refl, sym, ap, ◌∙◌, string_bytes, Bor}
 use Rattle.std.proofs.lemmas.List.{take_more, map-append}
 use Rattle.std.specs.List.{list_any}
 use Rattle.std.specs.Option.{option_or}

@@ -1,5 +1,5 @@
 -- The laws of addresses.
-use Rattle.std.proofs.Common.{◌≡◌, ◌⊎◌, ℕ, ◌+◌, Bool, true, false, cond, List, [], ◌∷◌, ◌++◌, length, Option, Some, None}
+use Rattle.std.proofs.Common.{◌≡◌, ◌⊎◌, ℕ, ◌+◌, Bool, true, false, cond, List, ◌++◌, length, Option, Some, None}
 use Rattle.std.proofs.Common.{refl, sym, ap, ◌∙◌, subst, codes, inl, inr}
 use Rattle.std.specs.Option.{unwrap_or}
 use Rattle.std.specs.Str.{bytes_eq}
@@ -9,13 +9,12 @@ use Rattle.htmd_markdown.specs.Links.{definition_start, definition}
 use Rattle.htmd_markdown.specs.Titles.{title_text}
 use Rattle.htmd_markdown.proofs.AddressesLemmas.{holds_address}
 use Rattle.htmd_markdown.proofs.LinksLemmas.{image-parts, inline_link-parts}
-use Rattle.std.proofs.lemmas.List.{append_assoc}
 use Rattle.htmd.specs.declared.options.LinkStyle.{LinkStyle}
 use Rattle.htmd.specs.declared.options.LinkStyle.TheVariants.{Inlined, InlinedPreferAutolinks, Referenced}
-use Rattle.htmd.specs.Handling.{ElementView, ResultView, PlanView, this_result, raw_html}
+use Rattle.htmd.specs.Handling.{ElementView, ResultView, this_result, raw_html}
 use Rattle.htmd.specs.LinkAttributes.{title_of, is_raw_unless_among}
 use Rattle.htmd.specs.Images.{image_attributes, image_address, alternative_text, image_at}
-use Rattle.htmd.specs.Anchors.{anchor_address, finish_at, link_finish}
+use Rattle.htmd.specs.Anchors.{finish_at, link_finish}
 use Rattle.htmd.specs.LinkLaws.{ImagesHoldAddresses, InlineLinkHolds, LinkHolds, LinksHoldAddresses}
 
 written-image : (raw : Bool) (found : Option (List ℕ)) (view : ElementView) (address : List ℕ)

@@ -1,23 +1,19 @@
 -- The laws of the numbers of references.
-use Rattle.std.proofs.Common.{◌≡◌, ℕ, zero, suc, ◌+◌, ◌<◌, List, [], ◌∷◌, ◌++◌, length, Option, Some, None, slice_get}
+use Rattle.std.proofs.Common.{◌≡◌, ℕ, zero, suc, ◌+◌, List, [], ◌∷◌, ◌++◌, length, Option, Some, None, slice_get}
 use Rattle.std.proofs.Common.{refl, sym, ap, ◌∙◌, subst, ◌⊎◌, inl, inr, ⊎_elim, arith}
 use Rattle.std.proofs.lemmas.List.{append-nil}
-use Rattle.htmd_markdown.specs.Links.{definition, reference}
-use Rattle.htmd_markdown.specs.declared.link.LinkReferenceStyle.{LinkReferenceStyle}
+use Rattle.htmd_markdown.specs.Links.{definition}
 use Rattle.htmd_markdown.specs.declared.link.LinkReferenceStyle.TheVariants.{Full}
-use Rattle.htmd_tree.specs.Items.{Item}
 use Rattle.htmd_tree.specs.NumberedTrees.{tree_of, height}
 use Rattle.htmd.specs.declared.options.LinkStyle.{LinkStyle}
 use Rattle.htmd.specs.declared.options.LinkStyle.TheVariants.{Inlined, InlinedPreferAutolinks, Referenced}
-use Rattle.htmd.specs.Handling.{ElementView, ResultView, PlanView, Finish, HandlerMeaning, of_functions}
-use Rattle.htmd.specs.Choice.{Config, handler_at, with_handler, with_options, no_handler}
+use Rattle.htmd.specs.Handling.{ElementView, ResultView, PlanView, HandlerMeaning, of_functions}
+use Rattle.htmd.specs.Choice.{Config, handler_at, with_handler, no_handler}
 use Rattle.htmd.specs.LinkAttributes.{title_of}
 use Rattle.htmd.specs.Anchors.{anchors, anchor_address, finish_at, link_finish}
-use Rattle.htmd.specs.Sections.{markdown_result}
 use Rattle.htmd.specs.Outputs.{conversion_of}
 use Rattle.htmd.specs.BuiltIn.{Row, with_rows, built_in_rows, empty_config}
-use Rattle.htmd.specs.Markdown.{walked_node}
-use Rattle.htmd.specs.LinkLaws.{AnchorsTakeTheNextNumber, IsRegistry, of_built_in, with_added, with_skipped, with_these}
+use Rattle.htmd.specs.LinkLaws.{IsRegistry, of_built_in, with_added, with_skipped, with_these}
 use Rattle.htmd.specs.LinkLaws.{AddsNone, DefinesNumber, AreNumbered, ReferencesAreNumbered}
 use Rattle.htmd.proofs.KeepingLemmas.{HandlerKeeps, HandlersKeep, keeps-within}
 
@@ -63,16 +59,10 @@ known_append (handler ∷ front) behind p q = (p.0, known_append front behind p.
 
 of_functions_known : (plan : ElementView → PlanView) (finish : ElementView → ResultView → Option ResultView)
     (append : Option (List ℕ)) → IsKnown (of_functions plan finish append)
-of_functions_known plan finish append = inr (record {
-  finish = λ view content definitions. refl;
-  finish_each = λ view contents children definitions. refl;
-})
+of_functions_known plan finish append = inr (λ view content definitions. refl)
 
 none_known : IsKnown no_handler
-none_known = inr (record {
-  finish = λ view content definitions. refl;
-  finish_each = λ view contents children definitions. refl;
-})
+none_known = inr (λ view content definitions. refl)
 
 known_at : (handlers : List HandlerMeaning) (index : ℕ) → AreKnown handlers → IsKnown (handler_at handlers index)
 known_at [] index known = none_known
@@ -94,11 +84,8 @@ known_rows (r ∷ rows) config p q =
 
 adds_none : (handler : HandlerMeaning)
     → ((view : ElementView) (content : ResultView) (definitions : List (List ℕ))
-    → (handler.finish view content definitions).added ≡ [])
-    → ((view : ElementView) (contents : List ResultView) (children : Option ResultView)
-    (definitions : List (List ℕ))
-    → (handler.finish_each view contents children definitions).added ≡ []) → IsKnown handler
-adds_none handler p q = inr (record { finish = p; finish_each = q })
+    → (handler.finish view content definitions).added ≡ []) → IsKnown handler
+adds_none handler p = inr p
 
 anchors_known : IsKnown anchors
 anchors_known = inl refl
@@ -119,12 +106,8 @@ registry_known (with_these options before) = registry_known before
 
 none-keeps : (view : ElementView) (handler : HandlerMeaning) → AddsNone handler
     → HandlerKeeps AreNumbered view handler
-none-keeps view handler adds = record {
-  finish = λ content definitions numbered. subst AreNumbered (sym (ap (λ l. definitions ++ l)
-      (adds.finish view content definitions) ∙ append-nil definitions)) numbered;
-  finish_each = λ contents children definitions numbered. subst AreNumbered (sym (ap (λ l. definitions ++ l)
-      (adds.finish_each view contents children definitions) ∙ append-nil definitions)) numbered;
-}
+none-keeps view handler adds = λ content definitions numbered. subst AreNumbered (sym (ap (λ l. definitions ++ l)
+    (adds view content definitions) ∙ append-nil definitions)) numbered
 
 nothing_more : (lines : List (List ℕ)) → AreNumbered lines → AreNumbered (lines ++ [])
 nothing_more lines numbered = subst AreNumbered (sym (append-nil lines)) numbered
@@ -153,10 +136,8 @@ finish-numbers (Some address) view content definitions full numbered =
 
 anchors-keep : (view : ElementView) → view.options.link_reference_style ≡ Full
     → HandlerKeeps AreNumbered view anchors
-anchors-keep view full = record {
-  finish = λ content definitions numbered. finish-numbers (anchor_address view) view content definitions full numbered;
-  finish_each = λ contents children definitions numbered. nothing_more definitions numbered;
-}
+anchors-keep view full = λ content definitions numbered.
+    finish-numbers (anchor_address view) view content definitions full numbered
 
 known-keeps : (view : ElementView) (handler : HandlerMeaning) → view.options.link_reference_style ≡ Full
     → IsKnown handler → HandlerKeeps AreNumbered view handler

@@ -17,7 +17,7 @@ use Rattle.htmd.proofs.ElementsLemmas.{drop_at_some, drop_at_none}
 use Rattle.htmd.specs.OrdinaryText.{pre}
 use Rattle.htmd.specs.Outputs.{Output, is_pure}
 use Rattle.htmd.specs.ElementViews.{ancestors_of}
-use Rattle.htmd.specs.Elements.{Occurrence, Answer, content_of, first_answer, answer_after, plan_answer, content_if}
+use Rattle.htmd.specs.Elements.{Occurrence, Answer, content_of, first_answer, answer_after, plan_answer, answer_of}
 use Rattle.htmd.specs.Elements.{raw_answer}
 use Rattle.htmd.specs.Spans.{is_span, formula_mark, has_math_class, formula_plan, spans}
 use Rattle.htmd.specs.Passing.{IsPlain, IsPassed}
@@ -51,7 +51,7 @@ module _ (at : Occurrence) (name : List ℕ) (attributes : List AttributePair) (
       → answer_after 0 name at definitions ≡ passed_result false (pre (ancestors_of at.view)) out
   unhandled e p =
       ap (λ hs. first_answer hs at definitions) e
-      ∙ ap (λ b. cond b (content_if true at definitions) (raw_answer at definitions)) p
+      ∙ ap (λ b. cond b (answer_of (content_of at definitions)) (raw_answer at definitions)) p
 
   plain_span : handlers ≡ spans ∷ [] → has_math_class attributes ≡ false
       → data_at at.view.items at.view.node ≡ element_node name attributes → is_pure at.view.options ≡ true

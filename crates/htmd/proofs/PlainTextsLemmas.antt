@@ -12,7 +12,7 @@ use Rattle.htmd_text.specs.Replacement.{is_squeezed}
 use Rattle.htmd_text.specs.Trims.{is_space}
 use Rattle.htmd_text.specs.Marks.{is_special}
 use Rattle.htmd_text.specs.EscapeMarks.{begins_block, numbered_item_dot, escaped_markdown, is_marked, is_place}
-use Rattle.htmd_text.specs.EscapeMarks.{is_always_marked, is_html_mark, with_backslashes, opens_html}
+use Rattle.htmd_text.specs.EscapeMarks.{is_always_marked, with_backslashes, opens_html}
 use Rattle.htmd_text.proofs.WhiteSpaceLemmas.{squeezed_stays}
 use Rattle.htmd.specs.Seams.{begins_with_space}
 use Rattle.htmd.specs.OrdinaryText.{without_first_space}

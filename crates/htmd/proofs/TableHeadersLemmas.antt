@@ -1,6 +1,6 @@
 -- Explicit headers and cells above, as loops find them.
-use Rattle.std.proofs.Common.{◌≡◌, ℕ, ◌<◌, List, [], ◌∷◌, length, get_or, refl, sym, ap, ◌∙◌, arith, Bool, true, false}
-use Rattle.std.proofs.Common.{not, ◌&&◌, ◌||◌, Some, None, codes, subst}
+use Rattle.std.proofs.Common.{◌≡◌, ℕ, ◌<◌, List, [], ◌∷◌, length, refl, sym, ap, ◌∙◌, arith, Bool, true, false}
+use Rattle.std.proofs.Common.{not, ◌&&◌, ◌||◌, Some, None, codes}
 use Rattle.std.specs.List.{list_any}
 use Rattle.htmd_tree.specs.Items.{Item, Data, document_node, doctype_node, text_node, comment_node, element_node}
 use Rattle.htmd_tree.specs.Items.{IsTree, data_at, parent_at, children_of, holds_children, tag_of}

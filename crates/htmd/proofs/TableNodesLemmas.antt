@@ -1,7 +1,6 @@
 -- The nodes that a table asks for stand below it.
-use Rattle.std.proofs.Common.{◌≡◌, ℕ, zero, suc, ◌<◌, List, [], ◌∷◌, ◌++◌, length, get_or, refl, sym, ap, ◌∙◌, arith, All}
-use Rattle.std.proofs.Common.{Bool, true, false, cond, codes, subst, filter, fold}
-use Rattle.std.specs.List.{flat_map}
+use Rattle.std.proofs.Common.{ℕ, zero, suc, ◌<◌, List, [], ◌∷◌, ◌++◌, get_or, sym, ap, ◌∙◌, arith, All}
+use Rattle.std.proofs.Common.{Bool, true, false, cond, codes, subst, fold}
 use Rattle.std.proofs.Props.{props}
 use Rattle.std.proofs.Math.Logic.{∥∥₁_elim}
 use Rattle.std.proofs.lemmas.Grind.{flat_map-append}
@@ -13,8 +12,8 @@ use Rattle.htmd.specs.declared.element_handler.table_layout.PartKind.TheVariants
 use Rattle.htmd.specs.declared.element_handler.table_layout.TableChild.{TableChild}
 use Rattle.htmd.specs.declared.element_handler.table_layout.TableChild.TheVariants.{TableCaption, TableHead}
 use Rattle.htmd.specs.declared.element_handler.table_layout.TableChild.TheVariants.{TableSection, DirectRow, OtherChild}
-use Rattle.htmd.specs.TableElements.{Part, Layout, part, has_tag, tagged_children, if_none, header_cells, with_caption}
-use Rattle.htmd.specs.TableElements.{with_headers, with_cells, with_row, with_headers_or, is_headless, with_section_row}
+use Rattle.htmd.specs.TableElements.{Part, Layout, part, has_tag, tagged_children, if_none, header_cells}
+use Rattle.htmd.specs.TableElements.{with_cells, with_row, with_headers_or, is_headless, with_section_row}
 use Rattle.htmd.specs.TableElements.{with_table_row, head_row, with_head, table_child, with_table_child, with_child, empty_layout, layout_of, nodes_of}
 use Rattle.htmd.proofs.ChildListsLemmas.{children_proper}
 

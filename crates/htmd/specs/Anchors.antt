@@ -8,7 +8,7 @@ use Rattle.htmd_markdown.specs.Links.{inline_link, autolink, reference, definiti
 use Rattle.htmd.specs.declared.options.LinkStyle.{LinkStyle}
 use Rattle.htmd.specs.declared.options.LinkStyle.TheVariants.{Inlined, InlinedPreferAutolinks, Referenced}
 use Rattle.htmd.specs.Handling.{ElementView, ResultView, PlanView, raw_html, content_of_children, Finish, HandlerMeaning}
-use Rattle.htmd.specs.Handling.{without_definitions}
+use Rattle.htmd.specs.Handling.{final_result, without_definitions}
 use Rattle.htmd.specs.ElementViews.{attributes_of}
 use Rattle.htmd.specs.LinkAttributes.{last_value, is_raw_unless_among, title_of}
 use Rattle.htmd.specs.Sections.{markdown_result}
@@ -58,6 +58,6 @@ abbrev pub anchors : HandlerMeaning
 anchors = record {
   plan = anchor_plan;
   finish = anchor_finish;
-  finish_each = λ view contents children definitions. without_definitions None;
+  finish_each = λ view contents. final_result None;
   append = definitions_block;
 }

@@ -8,7 +8,7 @@ use Rattle.htmd_tree.specs.Serialisation.{serialisation, start_tag, end_tag, is_
 use Rattle.htmd_tree.specs.RawBlocks.{raw_block}
 use Rattle.htmd.specs.Handling.{ElementView, ResultView, PlanView, nothing, this_result, raw_html}
 use Rattle.htmd.specs.Handling.{content_of_children, content_of_descendant, content_of_fallback, contents_of_each}
-use Rattle.htmd.specs.Handling.{Finish, HandlerMeaning}
+use Rattle.htmd.specs.Handling.{OutcomeView, final_result, children_too, Finish, HandlerMeaning}
 use Rattle.htmd.specs.Choice.{indexes, handlers_at}
 use Rattle.htmd.specs.Groups.{only_text}
 use Rattle.htmd.specs.Outputs.{Conversion, Output, Writes, result_of, is_pure}
@@ -92,18 +92,14 @@ contents_alone at (d ∷ ds) definitions =
     let rest = contents_alone at ds out.definitions in
     record { results = result_of out ∷ rest.results; definitions = rest.definitions }
 
--- and the children's content, where it is asked for too
-abbrev pub content_if : Bool → Occurrence → List (List ℕ) → Answer
-content_if true at definitions = answer_of (content_of at definitions)
-content_if false at definitions = without_result definitions
+-- what is made of them, or then of the children's content
+abbrev pub outcome_answer : HandlerMeaning → Occurrence → List (List ℕ) → OutcomeView → Answer
+outcome_answer handler at definitions (final_result result) = record { result = result; definitions = definitions }
+outcome_answer handler at definitions children_too = with_finish handler at.view (content_of at definitions)
 
-abbrev pub with_finish_each : HandlerMeaning → ElementView → List ResultView → Answer → Answer
-with_finish_each handler view results children =
-    finish_answer (handler.finish_each view results children.result children.definitions) children.definitions
-
-abbrev pub each_answer : HandlerMeaning → Occurrence → Bool → Contents → Answer
-each_answer handler at asks contents =
-    with_finish_each handler at.view contents.results (content_if asks at contents.definitions)
+abbrev pub each_answer : HandlerMeaning → Occurrence → Contents → Answer
+each_answer handler at contents =
+    outcome_answer handler at contents.definitions (handler.finish_each at.view contents.results)
 
 -- one handler's answer, given that of the rest of the list
 abbrev pub plan_answer : HandlerMeaning → Occurrence → List (List ℕ) → PlanView → Answer → Answer
@@ -117,8 +113,8 @@ plan_answer handler at definitions (content_of_descendant d) rest =
     with_finish handler at.view (content_alone at.write at.conversion tree d definitions)
 plan_answer handler at definitions content_of_fallback rest =
     after_fallback handler at.view rest.result rest.definitions
-plan_answer handler at definitions (contents_of_each nodes asks) rest =
-    each_answer handler at asks (contents_alone at nodes definitions)
+plan_answer handler at definitions (contents_of_each nodes) rest =
+    each_answer handler at (contents_alone at nodes definitions)
 
 -- with no handler left: the children's content, or raw HTML
 abbrev pub without_handler : Occurrence → List (List ℕ) → Answer

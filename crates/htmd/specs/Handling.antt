@@ -26,8 +26,8 @@ pub data PlanView : Type 0 where
   content_of_children : PlanView
   content_of_descendant : (node : ℕ) → PlanView
   content_of_fallback : PlanView
-  -- each of these nodes by itself, in order, and then the children's content where it is asked for
-  contents_of_each : (nodes : List ℕ) (children : Bool) → PlanView
+  -- each of these nodes by itself, in order
+  contents_of_each : (nodes : List ℕ) → PlanView
 
 -- a descendant that is asked for is a proper one
 abbrev pub IsProper : List Item → ℕ → PlanView → Type 0
@@ -37,18 +37,24 @@ IsProper items node raw_html = Unit {0}
 IsProper items node content_of_children = Unit {0}
 IsProper items node (content_of_descendant d) = ∥ IsBelow items node d ∥₁
 IsProper items node content_of_fallback = Unit {0}
-IsProper items node (contents_of_each nodes children) = All (λ d. ∥ IsBelow items node d ∥₁) nodes
+IsProper items node (contents_of_each nodes) = All (λ d. ∥ IsBelow items node d ∥₁) nodes
 
 -- what a handler makes of what it asked for: a result or nothing, and the definitions that it adds
 pub record Finish : Type 0 where
   pub result : Option ResultView
   pub added : List (List ℕ)
 
+-- what a handler makes of the contents of nodes: a result or nothing; or it asks for the children's content
+-- too, and finishes with that
+pub data OutcomeView : Type 0 where
+  final_result : (result : Option ResultView) → OutcomeView
+  children_too : OutcomeView
+
 -- a handler; what it finishes with may look at the definitions so far
 pub record HandlerMeaning : Type 0 where
   pub plan : ElementView → PlanView
   pub finish : ElementView → ResultView → List (List ℕ) → Finish
-  pub finish_each : ElementView → List ResultView → Option ResultView → List (List ℕ) → Finish
+  pub finish_each : ElementView → List ResultView → OutcomeView
   pub append : List (List ℕ) → Option (List ℕ)
 
 -- a result or nothing, and no definition
@@ -61,7 +67,7 @@ abbrev pub of_plan : (ElementView → PlanView) → (ElementView → ResultView 
 of_plan plan finish = record {
   plan = plan;
   finish = λ view content definitions. without_definitions (finish view content);
-  finish_each = λ view contents children definitions. without_definitions None;
+  finish_each = λ view contents. final_result None;
   append = λ definitions. None;
 }
 
@@ -72,6 +78,6 @@ abbrev pub of_functions :
 of_functions plan finish append = record {
   plan = plan;
   finish = λ view content definitions. without_definitions (finish view content);
-  finish_each = λ view contents children definitions. without_definitions None;
+  finish_each = λ view contents. final_result None;
   append = λ definitions. append;
 }

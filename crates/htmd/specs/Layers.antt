@@ -1,6 +1,6 @@
 -- A handler that stands in the place of another.
 use Rattle.std.specs.Prelude.{ℕ, Option, None, set}
-use Rattle.htmd.specs.Handling.{ElementView, ResultView, PlanView, HandlerMeaning, without_definitions}
+use Rattle.htmd.specs.Handling.{ElementView, ResultView, PlanView, HandlerMeaning, final_result, without_definitions}
 use Rattle.htmd.specs.Choice.{Config, handler_at}
 
 -- the handler plans and finishes by these functions, and puts after a conversion what it did
@@ -10,7 +10,7 @@ abbrev pub with_functions :
 with_functions handler plan finish = record {
   plan = plan;
   finish = λ view content definitions. without_definitions (finish view content);
-  finish_each = λ view contents children definitions. without_definitions None;
+  finish_each = λ view contents. final_result None;
   append = handler.append;
 }
 

@@ -78,11 +78,9 @@ pub data IsRegistry : Config → Type 0 where
       → IsRegistry (with_handler config tags no_handler)
   with_these : {config : Config} (options : Options) → IsRegistry config → IsRegistry (with_options config options)
 
-pub record AddsNone (handler : HandlerMeaning) : Type 0 where
-  pub finish : (view : ElementView) (content : ResultView) (definitions : List (List ℕ))
-      → (handler.finish view content definitions).added ≡ []
-  pub finish_each : (view : ElementView) (contents : List ResultView) (children : Option ResultView)
-      (definitions : List (List ℕ)) → (handler.finish_each view contents children definitions).added ≡ []
+abbrev pub AddsNone : HandlerMeaning → Type 0
+AddsNone handler = (view : ElementView) (content : ResultView) (definitions : List (List ℕ))
+    → (handler.finish view content definitions).added ≡ []
 
 -- the line defines this number
 pub record DefinesNumber (number : ℕ) (line : List ℕ) : Type 0 where

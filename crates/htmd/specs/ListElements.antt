@@ -1,5 +1,5 @@
 -- The handlers of ol, ul and li.
-use Rattle.std.specs.Prelude.{ℕ, Bool, true, false, not, ◌&&◌, ◌||◌, if◌then◌else◌, List, [], ◌∷◌, length, map}
+use Rattle.std.specs.Prelude.{ℕ, Bool, false, not, ◌&&◌, ◌||◌, if◌then◌else◌, List, [], ◌∷◌, map}
 use Rattle.std.specs.Prelude.{Option, Some, None, codes}
 use Rattle.std.specs.List.{list_any, zip}
 use Rattle.std.specs.Str.{bytes_eq}
@@ -9,7 +9,7 @@ use Rattle.htmd_tree.specs.ValueTrees.{AttributePair}
 use Rattle.htmd_tree.specs.Items.{Item, data_at, children_of}
 use Rattle.htmd_tree.specs.Items as tree
 use Rattle.htmd.specs.Handling.{ElementView, ResultView, PlanView, raw_html, content_of_children, contents_of_each}
-use Rattle.htmd.specs.Handling.{HandlerMeaning, without_definitions, of_plan}
+use Rattle.htmd.specs.Handling.{final_result, HandlerMeaning, without_definitions, of_plan}
 use Rattle.htmd.specs.Outputs.{is_pure}
 use Rattle.htmd.specs.ElementViews.{tag_of, attributes_of, parent_tag, is_tag_among, is_raw_html_due, plain_plan}
 use Rattle.htmd.specs.ElementViews.{value_of_first, are_markdown, raw_block_result}
@@ -45,7 +45,7 @@ is_ordered view = bytes_eq (tag_of view) (codes "ol")
 abbrev pub list_plan : ElementView → PlanView
 list_plan view =
     if is_raw_list view then raw_html
-    else (if is_ordered view then contents_of_each (children_of view.items view.node) false else content_of_children)
+    else (if is_ordered view then contents_of_each (children_of view.items view.node) else content_of_children)
 
 abbrev pub is_in_item : ElementView → Bool
 is_in_item view = is_tag_among (codes "li" ∷ []) (parent_tag view)
@@ -86,7 +86,7 @@ abbrev pub lists : HandlerMeaning
 lists = record {
   plan = list_plan;
   finish = λ view content definitions. without_definitions (list_result view content);
-  finish_each = λ view contents children definitions. without_definitions (ordered_result view contents);
+  finish_each = λ view contents. final_result (ordered_result view contents);
   append = λ definitions. None;
 }
 

@@ -1,5 +1,5 @@
 -- The handlers of table and its parts.
-use Rattle.std.specs.Prelude.{ℕ, Bool, true, false, not, ◌&&◌, ◌||◌, ◌==◌, if◌then◌else◌, nat_lt, List, [], ◌∷◌, ◌++◌}
+use Rattle.std.specs.Prelude.{ℕ, Bool, true, false, not, ◌&&◌, ◌||◌, if◌then◌else◌, nat_lt, List, [], ◌∷◌, ◌++◌}
 use Rattle.std.specs.Prelude.{length, map, filter, fold, take, drop, Option, Some, None, codes}
 use Rattle.std.specs.List.{list_any, flat_map}
 use Rattle.std.specs.Option.{option_map}
@@ -20,13 +20,13 @@ use Rattle.htmd.specs.declared.element_handler.table_layout.TableChild.{TableChi
 use Rattle.htmd.specs.declared.element_handler.table_layout.TableChild.TheVariants.{TableCaption, TableHead}
 use Rattle.htmd.specs.declared.element_handler.table_layout.TableChild.TheVariants.{TableSection, DirectRow, OtherChild}
 use Rattle.htmd.specs.Handling.{ElementView, ResultView, PlanView, raw_html, content_of_fallback, contents_of_each}
-use Rattle.htmd.specs.Handling.{HandlerMeaning, without_definitions, of_plan}
+use Rattle.htmd.specs.Handling.{OutcomeView, final_result, children_too, HandlerMeaning, without_definitions, of_plan}
 use Rattle.htmd.specs.Groups.{children_at}
 use Rattle.htmd.specs.Children.{is_block_tree}
 use Rattle.htmd.specs.Outputs.{is_pure}
-use Rattle.htmd.specs.ElementViews.{attributes_of, ancestors_of, is_tag_among, unless_attributes, plan_under}
+use Rattle.htmd.specs.ElementViews.{ancestors_of, is_tag_among, unless_attributes, plan_under}
 use Rattle.htmd.specs.ElementViews.{are_markdown, raw_block_result}
-use Rattle.htmd.specs.Sections.{wrapped_result}
+use Rattle.htmd.specs.Sections.{markdown_result, wrapped_result}
 use Rattle.htmd.specs.Inline.{optional_markdown}
 
 -- ---- which nodes of a table are rendered
@@ -216,12 +216,12 @@ is_left_out view =
     is_pure view.options
     && (not (has_explicit_headers (children_at view.items view.node)) || list_any is_cell (ancestors_of view))
 
--- the captions and cells, and where there are neither headers nor rows the content too
+-- the captions and cells, each by itself
 abbrev pub table_plan : ElementView → PlanView
 table_plan view =
     unless_attributes view
     (if is_left_out view then content_of_fallback
-    else contents_of_each (nodes_of (layout_at view).parts) (not (has_lines (layout_at view))))
+    else contents_of_each (nodes_of (layout_at view).parts))
 
 -- ---- what a table gives
 
@@ -274,25 +274,26 @@ abbrev pub table_text : TableTexts → List ℕ
 table_text texts =
     (blank_line ++ flat_map in_line texts.captions) ++ in_line (table texts.headers texts.rows)
 
--- without headers and rows the children's content, which is asked for there alone
-abbrev pub table_block : TableTexts → Option ResultView → Option (List ℕ)
-table_block texts None = Some (table_text texts)
-table_block texts (Some content) = option_map with_blank_lines (some_text (trimmed_text is_line_feed content.content))
-
--- in Faithful a table with a cell that isn't Markdown is raw HTML
-abbrev pub table_result : ElementView → List ResultView → Option ResultView → Option ResultView
-table_result view contents children =
+-- in Faithful a table with a cell that isn't Markdown is raw HTML; without headers and rows the children's
+-- content is asked for
+abbrev pub table_outcome : ElementView → List ResultView → OutcomeView
+table_outcome view contents =
     let texts = with_parts no_texts (layout_at view).parts contents in
     if is_pure view.options || texts.markdown_translated
-    then optional_markdown (table_block texts children)
-    else Some (raw_block_result view)
+    then (if has_lines (layout_at view) then final_result (markdown_result (table_text texts)) else children_too)
+    else final_result (Some (raw_block_result view))
 
--- what the next handler gives stays as it is
+-- what the next handler gives stays as it is; the children's content stands between blank lines
+abbrev pub table_result : ElementView → ResultView → Option ResultView
+table_result view content =
+    if is_left_out view then Some content
+    else optional_markdown (option_map with_blank_lines (some_text (trimmed_text is_line_feed content.content)))
+
 abbrev pub tables : HandlerMeaning
 tables = record {
   plan = table_plan;
-  finish = λ view content definitions. without_definitions (Some content);
-  finish_each = λ view contents children definitions. without_definitions (table_result view contents children);
+  finish = λ view content definitions. without_definitions (table_result view content);
+  finish_each = table_outcome;
   append = λ definitions. None;
 }
 

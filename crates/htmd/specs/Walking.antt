@@ -4,15 +4,21 @@ use Rattle.htmd_tree.specs.NumberedTrees.{tree_of, height}
 use Rattle.htmd.specs.declared.element_handler.Element.{Element}
 use Rattle.htmd.specs.declared.element_handler.registry.Request.{Request}
 use Rattle.htmd.specs.declared.element_handler.registry.Request.TheVariants.{OfPlan, Each}
-use Rattle.htmd.specs.Handling.{PlanView, contents_of_each}
+use Rattle.htmd.specs.declared.element_handler.registry.Outcome.{Outcome}
+use Rattle.htmd.specs.declared.element_handler.registry.Outcome.TheVariants.{Final, ChildrenToo}
+use Rattle.htmd.specs.Handling.{PlanView, contents_of_each, OutcomeView, final_result, children_too}
 use Rattle.htmd.specs.Outputs.{Conversion, Writes}
 use Rattle.htmd.specs.Elements.{Occurrence}
 use Rattle.htmd.specs.Rendering.{written_within, inside_of}
-use Rattle.htmd.specs.Views.{plan_view, element_view, element_children}
+use Rattle.htmd.specs.Views.{plan_view, element_view, element_children, optional_result}
 
 abbrev pub request_view : Request → PlanView
 request_view (OfPlan plan) = plan_view plan
-request_view (Each nodes children) = contents_of_each nodes.items children
+request_view (Each nodes) = contents_of_each nodes.items
+
+abbrev pub outcome_view : Outcome → OutcomeView
+outcome_view (Final result) = final_result (optional_result result)
+outcome_view ChildrenToo = children_too
 
 -- an element as the walk comes to it
 abbrev pub occurrence_of : ℕ → Conversion → Element → Occurrence

@@ -13,7 +13,7 @@ ghost use Rattle.htmd.specs.OrdinaryText.{pre, preformatted_text, ordinary_text}
 ghost use Rattle.htmd.specs.Groups.{only_text, group_tree, group_children, children_at};
 ghost use Rattle.htmd.specs.Outputs.{conversion_of, context_of};
 ghost use Rattle.htmd.specs.Children.{write_groups, content_alone, descendant_tree};
-ghost use Rattle.htmd.specs.Elements.{content_of, content_if, contents_alone, answer_after, raw_answer, raw_result, end_of_element};
+ghost use Rattle.htmd.specs.Elements.{content_of, contents_alone, answer_after, raw_answer, raw_result, end_of_element};
 ghost use Rattle.htmd.specs.Rendering.{is_text, inside_of};
 ghost use Rattle.htmd.specs.Markdown.{markdown};
 ghost use Rattle.htmd.specs.Handled.{IsElement, handled};
@@ -21,7 +21,7 @@ ghost use Rattle.htmd.specs.Beginnings.{Begins};
 ghost use Rattle.htmd.specs.Views.{optional_text, output_view, answer_view, contents_view, result_view};
 ghost use Rattle.htmd.specs.Walking.{AtElement, AtNode, InNode};
 
-use crate::element_handler::registry::{Contents, Registry, Request};
+use crate::element_handler::registry::{Outcome, Registry, Request};
 use crate::element_handler::{Element, HandlerResult, Links, Plan};
 use crate::group::{group_length, joined_text};
 use crate::node_util::{
@@ -178,7 +178,7 @@ impl<'a, R: Registry> Walk<'a, R> {
     {
         let Some(index) = self.registry.find(element.tag, skipped) else {
             return match self.registry.options().translation_mode {
-                TranslationMode::Pure => self.content_if(element, inside_pre, true, links),
+                TranslationMode::Pure => Ok(Some(self.content(element, inside_pre, links)?)),
                 TranslationMode::Faithful => self.raw_html(element, inside_pre, links),
             };
         };
@@ -208,12 +208,19 @@ impl<'a, R: Registry> Walk<'a, R> {
                     }
                 }
             },
-            Request::Each { nodes, children } => {
-                let results = self.walk_each(element, nodes.as_slice(), links)?;
-                let children = self.content_if(element, inside_pre, children, links)?;
-                let contents = Contents { results, children };
-                self.registry
-                    .finish_each(self.alloc, index, element, contents, links)
+            Request::Each(nodes) => {
+                let contents = self.walk_each(element, nodes.as_slice(), links)?;
+                match self
+                    .registry
+                    .finish_each(self.alloc, index, element, contents)?
+                {
+                    Outcome::Final(result) => Ok(result),
+                    Outcome::ChildrenToo => {
+                        let content = self.content(element, inside_pre, links)?;
+                        self.registry
+                            .finish(self.alloc, index, element, content, links)
+                    }
+                }
             }
         }
     }
@@ -288,7 +295,7 @@ impl<'a, R: Registry> Walk<'a, R> {
     ) -> Result<Vec<HandlerResult>, AllocError>
         requires ready { R.ready self.now.registry.now }
         requires tree { element.now.tree.now ≡ self.now.tree.now }
-        requires proper { IsProper self.now.tree.now element.now.node (contents_of_each nodes.now false) }
+        requires proper { IsProper self.now.tree.now element.now.node (contents_of_each nodes.now) }
         ensures ok { let conversion = conversion_of (R.config self.now.registry.now) self.now.tree.now in
             IfOk result (λ r. AtElement conversion element.now (λ at.
             contents_view r.items links.new ≡ contents_alone at nodes.now links.old)) }
@@ -302,31 +309,6 @@ impl<'a, R: Registry> Walk<'a, R> {
             results.push(result)?;
         }
         Ok(results)
-    }
-
-    /// The content of an element's children, where it is asked for.
-    #[cycle(walk)]
-    fn content_if(
-        &self,
-        element: &Element,
-        inside_pre: bool,
-        asked: bool,
-        links: &mut Links,
-    ) -> Result<Option<HandlerResult>, AllocError>
-        requires ready { R.ready self.now.registry.now }
-        requires tree { element.now.tree.now ≡ self.now.tree.now }
-        requires inside { inside_pre ≡ pre (inside_of self.now.tree.now element.now.node) }
-        ensures ok { let conversion = conversion_of (R.config self.now.registry.now) self.now.tree.now in
-            IfOk result (λ r. AtElement conversion element.now (λ at.
-            answer_view r links.new ≡ content_if asked at links.old)) }
-        ensures err { let conversion = conversion_of (R.config self.now.registry.now) self.now.tree.now in
-            OnErr result (AtElement conversion element.now (λ at.
-            Begins links.old links.new (content_if asked at links.old).definitions)) }
-    {
-        if asked {
-            return Ok(Some(self.content(element, inside_pre, links)?));
-        }
-        Ok(None)
     }
 
     /// The content of an element's children, or of the one text that it shows.

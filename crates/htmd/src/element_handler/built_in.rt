@@ -7,10 +7,10 @@ ghost use Rattle.htmd.specs.Elements.{finish_answer};
 ghost use Rattle.htmd.specs.BuiltIn.{meaning_of};
 ghost use Rattle.htmd.specs.Markdown.{append_text};
 ghost use Rattle.htmd.specs.Views.{result_view, optional_result, results_view, answer_view, element_view};
-ghost use Rattle.htmd.specs.Walking.{request_view};
+ghost use Rattle.htmd.specs.Walking.{request_view, outcome_view};
 
 use super::blocks::TAGS;
-use super::registry::{Contents, Request};
+use super::registry::{Outcome, Request};
 use super::{
     Element, HandlerResult, Links, Plan, anchor, br, code, emphasis, headings, hr, img, list,
     list_item, page, plans, pre, quote, span, table, table_cell, table_part,
@@ -128,7 +128,7 @@ impl BuiltIn {
             BuiltIn::Heading => headings::finish(alloc, element, content),
             BuiltIn::LineBreak => Ok(None),
             BuiltIn::ThematicBreak => Ok(None),
-            BuiltIn::Table => Ok(Some(content)),
+            BuiltIn::Table => table::finish(element, content),
             BuiltIn::TableCell => plans::wrap(alloc, element, content),
             BuiltIn::TableRow => table_part::finish(alloc, element, content),
             BuiltIn::TablePart => table_part::finish(alloc, element, content),
@@ -141,43 +141,22 @@ impl BuiltIn {
         }
     }
 
-    /// What it makes of the contents that it asked for.
+    /// What it makes of the contents of nodes that it asked for.
     pub(crate) fn finish_each(
         self,
         alloc: Global,
         element: &Element,
-        contents: Contents,
-        _links: &mut Links,
-    ) -> Result<Option<HandlerResult>, AllocError>
-        ensures ok { IfOk result (λ r. answer_view r _links.new ≡ finish_answer
-            ((meaning_of self).finish_each (element_view element.now) (results_view contents.results.items)
-            (optional_result contents.children) _links.old) _links.old) }
-        ensures err { OnErr result (Begins _links.old _links.new (_links.old
-            ++ ((meaning_of self).finish_each (element_view element.now) (results_view contents.results.items)
-            (optional_result contents.children) _links.old).added)) }
+        contents: Vec<HandlerResult>,
+    ) -> Result<Outcome, AllocError>
+        ensures { IfOk result (λ outcome. outcome_view outcome
+            ≡ (meaning_of self).finish_each (element_view element.now) (results_view contents.items)) }
     {
         match self {
-            BuiltIn::Image => Ok(None),
-            BuiltIn::Anchor => Ok(None),
-            BuiltIn::ListElement => list::finish_ordered(alloc, element, contents.results),
-            BuiltIn::ListItem => Ok(None),
-            BuiltIn::BlockQuote => Ok(None),
-            BuiltIn::Code => Ok(None),
-            BuiltIn::Strong => Ok(None),
-            BuiltIn::Emphasis => Ok(None),
-            BuiltIn::Heading => Ok(None),
-            BuiltIn::LineBreak => Ok(None),
-            BuiltIn::ThematicBreak => Ok(None),
-            BuiltIn::Table => table::finish(alloc, element, contents),
-            BuiltIn::TableCell => Ok(None),
-            BuiltIn::TableRow => Ok(None),
-            BuiltIn::TablePart => Ok(None),
-            BuiltIn::Paragraph => Ok(None),
-            BuiltIn::Preformatted => Ok(None),
-            BuiltIn::HeadOrBody => Ok(None),
-            BuiltIn::Html => Ok(None),
-            BuiltIn::Span => Ok(None),
-            BuiltIn::OtherBlock => Ok(None),
+            BuiltIn::ListElement => Ok(Outcome::Final(list::finish_ordered(
+                alloc, element, contents,
+            )?)),
+            BuiltIn::Table => table::finish_each(alloc, element, contents.as_slice()),
+            _ => Ok(Outcome::Final(None)),
         }
     }
 

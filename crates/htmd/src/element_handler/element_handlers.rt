@@ -12,7 +12,7 @@ ghost use Rattle.htmd.specs.Spans.{spans};
 use super::built_in::{BuiltIn, HANDLERS_AND_TAGS};
 use super::plans::is_pure;
 use super::registrations::Registrations;
-use super::registry::{Contents, Registry, Request};
+use super::registry::{Outcome, Registry, Request};
 use super::span::formula_mark;
 use super::{Element, ElementHandler, HandlerResult, Links, Plan};
 use crate::dom_walker::handle_element;
@@ -327,13 +327,12 @@ impl Registry for ElementHandlers {
         alloc: Global,
         index: usize,
         element: &Element,
-        contents: Contents,
-        links: &mut Links,
-    ) -> Result<Option<HandlerResult>, AllocError> {
+        contents: Vec<HandlerResult>,
+    ) -> Result<Outcome, AllocError> {
         match &self.handlers[index] {
-            Handler::BuiltIn(handler) => handler.finish_each(alloc, element, contents, links),
-            Handler::Skipping => Ok(None),
-            Handler::Custom(_) => Ok(None),
+            Handler::BuiltIn(handler) => handler.finish_each(alloc, element, contents),
+            Handler::Skipping => Ok(Outcome::Final(None)),
+            Handler::Custom(_) => Ok(Outcome::Final(None)),
         }
     }
 

@@ -5,7 +5,7 @@ ghost use Rattle.htmd.specs.Layers.{put_at};
 
 use super::fn_handler::Answering;
 use super::registrar::Registrar;
-use super::registry::{Contents, Registry, Request};
+use super::registry::{Outcome, Registry, Request};
 use super::{Element, HandlerResult, Links};
 use crate::options::Options;
 use htmd_tree::{NodeId, Tree};
@@ -78,14 +78,12 @@ impl<R: Registry, H: Answering> Registry for Layered<R, H> {
         alloc: Global,
         index: usize,
         element: &Element,
-        contents: Contents,
-        links: &mut Links,
-    ) -> Result<Option<HandlerResult>, AllocError> {
+        contents: Vec<HandlerResult>,
+    ) -> Result<Outcome, AllocError> {
         if index == self.index {
-            return Ok(None);
+            return Ok(Outcome::Final(None));
         }
-        self.rest
-            .finish_each(alloc, index, element, contents, links)
+        self.rest.finish_each(alloc, index, element, contents)
     }
 
     fn append(&self, alloc: Global, links: &Links) -> Result<String, AllocError> {

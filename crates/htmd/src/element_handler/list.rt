@@ -77,10 +77,7 @@ pub(crate) fn plan(alloc: Global, element: &Element) -> Result<Request, AllocErr
         return Ok(Request::OfPlan(Plan::Children));
     }
     let nodes = Vec::from_slice(alloc, element.tree.children(element.node))?;
-    Ok(Request::Each {
-        nodes,
-        children: false,
-    })
+    Ok(Request::Each(nodes))
 }
 
 /// A list among the blocks around it, or its raw HTML where not all of it is Markdown.

@@ -9,8 +9,8 @@ ghost use Rattle.htmd.specs.Beginnings.{Begins};
 ghost use Rattle.htmd.specs.Elements.{finish_answer};
 ghost use Rattle.htmd.specs.Markdown.{append_texts};
 ghost use Rattle.htmd.specs.Passing.{IsPassed};
-ghost use Rattle.htmd.specs.Views.{result_view, optional_result, results_view, answer_view, element_view};
-ghost use Rattle.htmd.specs.Walking.{request_view};
+ghost use Rattle.htmd.specs.Views.{result_view, results_view, answer_view, element_view};
+ghost use Rattle.htmd.specs.Walking.{request_view, outcome_view};
 
 use super::{Element, HandlerResult, Links, Plan};
 use crate::options::Options;
@@ -21,15 +21,16 @@ use std::alloc::{AllocError, Global};
 #[derive(Drop)]
 pub enum Request {
     OfPlan(Plan),
-    /// Each of these nodes by itself, in order, and then the children's content where it is asked for.
-    Each { nodes: Vec<NodeId>, children: bool },
+    /// Each of these nodes by itself, in order.
+    Each(Vec<NodeId>),
 }
 
-/// What was asked for by `Request::Each`.
+/// What a handler makes of the contents of nodes.
 #[derive(Drop)]
-pub struct Contents {
-    pub results: Vec<HandlerResult>,
-    pub children: Option<HandlerResult>,
+pub enum Outcome {
+    Final(Option<HandlerResult>),
+    /// The children's content is asked for too, and then finished.
+    ChildrenToo,
 }
 
 /// The handlers that a walk goes by.
@@ -82,23 +83,19 @@ pub trait Registry {
             OnErr result (Begins links.old links.new
             (links.old ++ (handler.finish (element_view element.now) (result_view content) links.old).added)) };
 
-    /// What the handler at an index makes of the contents that it asked for.
+    /// What the handler at an index makes of the contents of nodes that it asked for.
     fn finish_each(
         &self,
         alloc: Global,
         index: usize,
         element: &Element,
-        contents: Contents,
-        links: &mut Links,
-    ) -> Result<Option<HandlerResult>, AllocError>
+        contents: Vec<HandlerResult>,
+    ) -> Result<Outcome, AllocError>
         requires within { index < length (config self.now).handlers }
         requires ready { ready self.now }
-        ensures ok { let handler = handler_at (config self.now).handlers index in
-            IfOk result (λ r. answer_view r links.new ≡ finish_answer (handler.finish_each (element_view element.now)
-            (results_view contents.results.items) (optional_result contents.children) links.old) links.old) }
-        ensures err { let handler = handler_at (config self.now).handlers index in
-            OnErr result (Begins links.old links.new (links.old ++ (handler.finish_each (element_view element.now)
-            (results_view contents.results.items) (optional_result contents.children) links.old).added)) };
+        ensures { IfOk result (λ outcome. outcome_view outcome
+            ≡ (handler_at (config self.now).handlers index).finish_each (element_view element.now)
+            (results_view contents.items)) };
 
     /// What the handlers put after a conversion with these link definitions, in order of registration.
     fn append(&self, alloc: Global, links: &Links) -> Result<String, AllocError>

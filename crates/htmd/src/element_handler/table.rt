@@ -13,10 +13,10 @@ ghost use Rattle.htmd.specs.Handling.{IsProper};
 ghost use Rattle.htmd.specs.TableElements as spec;
 ghost use Rattle.htmd.specs.TableLayouts.{parts_view, texts_view};
 ghost use Rattle.htmd.specs.Views.{element_view, result_view, results_view, optional_result};
-ghost use Rattle.htmd.specs.Walking.{request_view};
+ghost use Rattle.htmd.specs.Walking.{request_view, outcome_view};
 
 use super::plans::{are_markdown, is_plain, is_pure, raw_block_result};
-use super::registry::{Contents, Request};
+use super::registry::{Outcome, Request};
 use super::table_layout::{Part, PartKind, has_tag, layout_of, nodes_of};
 use super::{Element, HandlerResult, Plan};
 use htmd_markdown::write_table;
@@ -109,8 +109,7 @@ fn is_left_out(element: &Element) -> bool
     !has_explicit_headers(element.tree, element.node) || is_in_cell(element.tree, element.node)
 }
 
-/// The captions and cells of a table, each by itself, and the children's content where there are
-/// neither headers nor rows.
+/// The captions and cells of a table, each by itself.
 pub(crate) fn plan(alloc: Global, element: &Element) -> Result<Request, AllocError>
     ensures plan { IfOk result (λ p. request_view p ≡ spec.table_plan (element_view element.now)) }
     ensures proper { IfOk result (λ p. IsProper element.now.tree.now element.now.node (request_view p)) }
@@ -122,11 +121,7 @@ pub(crate) fn plan(alloc: Global, element: &Element) -> Result<Request, AllocErr
         return Ok(Request::OfPlan(Plan::Fallback));
     }
     let layout = layout_of(alloc, element.tree, element.node)?;
-    let nodes = nodes_of(alloc, &layout.parts)?;
-    Ok(Request::Each {
-        nodes,
-        children: !layout.has_lines(),
-    })
+    Ok(Request::Each(nodes_of(alloc, &layout.parts)?))
 }
 
 /// The content without document white space at its ends.
@@ -231,51 +226,45 @@ fn write_texts(alloc: Global, texts: &TableTexts) -> Result<String, AllocError>
     Ok(text)
 }
 
-/// The text without line feeds at its ends, with blank lines around; nothing where it is empty.
-fn surrounded(mut text: String) -> Result<Option<String>, AllocError>
-    ensures { IfOk result (λ block. option_map string_bytes block
-        ≡ option_map with_blank_lines (some_text (trimmed_text is_line_feed (string_bytes text)))) }
+/// What the next handler gave, as it is; or the children's content with blank lines around.
+pub(crate) fn finish(
+    element: &Element,
+    content: HandlerResult,
+) -> Result<Option<HandlerResult>, AllocError>
+    ensures { IfOk result (λ r. optional_result r
+        ≡ spec.table_result (element_view element.now) (result_view content)) }
 {
+    if is_left_out(element) {
+        return Ok(Some(content));
+    }
+    let mut text = content.content;
     trim_newlines(&mut text);
     if text.is_empty() {
         return Ok(None);
     }
     surround_with_blank_lines(&mut text)?;
-    Ok(Some(text))
+    Ok(Some(HandlerResult::from_string(text)))
 }
 
-/// The table; without headers and rows the children's content, which is asked for there alone.
-fn table_block(
-    alloc: Global,
-    texts: &TableTexts,
-    children: Option<HandlerResult>,
-) -> Result<Option<String>, AllocError>
-    ensures { IfOk result (λ block. option_map string_bytes block
-        ≡ spec.table_block (texts_view texts.now) (optional_result children)) }
-{
-    match children {
-        Some(content) => surrounded(content.content),
-        None => Ok(Some(write_texts(alloc, texts)?)),
-    }
-}
-
-/// The table, or its raw HTML where a cell is no Markdown.
-pub(crate) fn finish(
+/// The table, or its raw HTML where a cell is no Markdown. Without headers and rows the children's
+/// content is asked for.
+pub(crate) fn finish_each(
     alloc: Global,
     element: &Element,
-    contents: Contents,
-) -> Result<Option<HandlerResult>, AllocError>
-    ensures { IfOk result (λ r. optional_result r ≡ spec.table_result (element_view element.now)
-        (results_view contents.results.items) (optional_result contents.children)) }
+    contents: &[HandlerResult],
+) -> Result<Outcome, AllocError>
+    ensures { IfOk result (λ outcome. outcome_view outcome
+        ≡ spec.table_outcome (element_view element.now) (results_view contents.now)) }
 {
     let layout = layout_of(alloc, element.tree, element.node)?;
-    let Contents { results, children } = contents;
-    let texts = texts_of_parts(alloc, &layout.parts, &results)?;
+    let texts = texts_of_parts(alloc, &layout.parts, contents)?;
     if !is_pure(element.options) && !texts.markdown_translated {
-        return Ok(Some(raw_block_result(alloc, element)?));
+        let raw = raw_block_result(alloc, element)?;
+        return Ok(Outcome::Final(Some(raw)));
     }
-    match table_block(alloc, &texts, children)? {
-        Some(text) => Ok(Some(HandlerResult::from_string(text))),
-        None => Ok(None),
+    if !layout.has_lines() {
+        return Ok(Outcome::ChildrenToo);
     }
+    let text = write_texts(alloc, &texts)?;
+    Ok(Outcome::Final(Some(HandlerResult::from_string(text))))
 }

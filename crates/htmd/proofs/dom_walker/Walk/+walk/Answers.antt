@@ -11,11 +11,13 @@ use Rattle.htmd.proofs.dom_walker.Walk.+walk.Answers.ChildrenAnswers as children
 use Rattle.htmd.proofs.dom_walker.Walk.+walk.Answers.NodeAnswers as nodes
 use Rattle.htmd.proofs.dom_walker.Walk.+walk.Goals as goal
 
-pub handle-returns-in-Pure-clause-ok : goal.handle-returns-in-Pure-clause-ok
-handle-returns-in-Pure-clause-ok = handlers.handle-returns-in-Pure-clause-ok
+pub handle-returns-in_err-content-in-Pure-clause-err :
+    goal.handle-returns-in_err-content-in-Pure-clause-err
+handle-returns-in_err-content-in-Pure-clause-err = handlers.handle-returns-in_err-content-in-Pure-clause-err
 
-pub handle-returns-in-Pure-clause-err : goal.handle-returns-in-Pure-clause-err
-handle-returns-in-Pure-clause-err = handlers.handle-returns-in-Pure-clause-err
+pub handle-returns-in_ok-content-in-Pure-clause-ok :
+    goal.handle-returns-in_ok-content-in-Pure-clause-ok
+handle-returns-in_ok-content-in-Pure-clause-ok = handlers.handle-returns-in_ok-content-in-Pure-clause-ok
 
 pub handle-returns-in-Faithful-clause-ok : goal.handle-returns-in-Faithful-clause-ok
 handle-returns-in-Faithful-clause-ok = handlers.handle-returns-in-Faithful-clause-ok
@@ -38,12 +40,6 @@ handle-returns-in_err-content-in-Descendant-clause-err = handlers.handle-returns
 pub handle-returns-in_err-handle-in-Fallback-clause-err : goal.handle-returns-in_err-handle-in-Fallback-clause-err
 handle-returns-in_err-handle-in-Fallback-clause-err = handlers.handle-returns-in_err-handle-in-Fallback-clause-err
 
-pub handle-returns-in_err-results-in-Each-clause-err : goal.handle-returns-in_err-results-in-Each-clause-err
-handle-returns-in_err-results-in-Each-clause-err = handlers.handle-returns-in_err-results-in-Each-clause-err
-
-pub handle-returns-in_err-children-in-Each-clause-err : goal.handle-returns-in_err-children-in-Each-clause-err
-handle-returns-in_err-children-in-Each-clause-err = handlers.handle-returns-in_err-children-in-Each-clause-err
-
 pub handle-returns-in-Skip-clause-ok : goal.handle-returns-in-Skip-clause-ok
 handle-returns-in-Skip-clause-ok = handlers.handle-returns-in-Skip-clause-ok
 
@@ -56,41 +52,57 @@ handle-returns-in-RawHtml-clause-ok = handlers.handle-returns-in-RawHtml-clause-
 pub handle-returns-in-RawHtml-clause-err : goal.handle-returns-in-RawHtml-clause-err
 handle-returns-in-RawHtml-clause-err = handlers.handle-returns-in-RawHtml-clause-err
 
-pub handle-returns-in_ok-content-in-Children-clause-ok : goal.handle-returns-in_ok-content-in-Children-clause-ok
-handle-returns-in_ok-content-in-Children-clause-ok = handlers.handle-returns-in_ok-content-in-Children-clause-ok
+pub handle-returns-in-Children-clause-ok : goal.handle-returns-in-Children-clause-ok
+handle-returns-in-Children-clause-ok = handlers.handle-returns-in-Children-clause-ok
 
-pub handle-returns-in_ok-content-in-Children-clause-err : goal.handle-returns-in_ok-content-in-Children-clause-err
-handle-returns-in_ok-content-in-Children-clause-err = handlers.handle-returns-in_ok-content-in-Children-clause-err
+pub handle-returns-in-Children-clause-err : goal.handle-returns-in-Children-clause-err
+handle-returns-in-Children-clause-err = handlers.handle-returns-in-Children-clause-err
 
-pub handle-returns-in_ok-content-in-Descendant-clause-ok : goal.handle-returns-in_ok-content-in-Descendant-clause-ok
-handle-returns-in_ok-content-in-Descendant-clause-ok = handlers.handle-returns-in_ok-content-in-Descendant-clause-ok
+pub handle-returns-in-Descendant-clause-ok : goal.handle-returns-in-Descendant-clause-ok
+handle-returns-in-Descendant-clause-ok = handlers.handle-returns-in-Descendant-clause-ok
 
-pub handle-returns-in_ok-content-in-Descendant-clause-err : goal.handle-returns-in_ok-content-in-Descendant-clause-err
-handle-returns-in_ok-content-in-Descendant-clause-err = handlers.handle-returns-in_ok-content-in-Descendant-clause-err
+pub handle-returns-in-Descendant-clause-err : goal.handle-returns-in-Descendant-clause-err
+handle-returns-in-Descendant-clause-err = handlers.handle-returns-in-Descendant-clause-err
 
 pub handle-returns-in-None-clause-ok : goal.handle-returns-in-None-clause-ok
 handle-returns-in-None-clause-ok = handlers.handle-returns-in-None-clause-ok
 
-pub handle-returns-in-Some-2-clause-ok : goal.handle-returns-in-Some-2-clause-ok
-handle-returns-in-Some-2-clause-ok = handlers.handle-returns-in-Some-2-clause-ok
+pub handle-returns-in-OfPlan-clause-ok : goal.handle-returns-in-OfPlan-clause-ok
+handle-returns-in-OfPlan-clause-ok = handlers.handle-returns-in-OfPlan-clause-ok
 
-pub handle-returns-in-Some-2-clause-err : goal.handle-returns-in-Some-2-clause-err
-handle-returns-in-Some-2-clause-err = handlers.handle-returns-in-Some-2-clause-err
+pub handle-returns-in-OfPlan-clause-err : goal.handle-returns-in-OfPlan-clause-err
+handle-returns-in-OfPlan-clause-err = handlers.handle-returns-in-OfPlan-clause-err
 
-pub handle-returns-in_ok-children-in-Each-clause-ok : goal.handle-returns-in_ok-children-in-Each-clause-ok
-handle-returns-in_ok-children-in-Each-clause-ok = handlers.handle-returns-in_ok-children-in-Each-clause-ok
+pub handle-returns-in_err-contents-in-Each-clause-err :
+    goal.handle-returns-in_err-contents-in-Each-clause-err
+handle-returns-in_err-contents-in-Each-clause-err = handlers.handle-returns-in_err-contents-in-Each-clause-err
 
-pub handle-returns-in_ok-children-in-Each-clause-err : goal.handle-returns-in_ok-children-in-Each-clause-err
-handle-returns-in_ok-children-in-Each-clause-err = handlers.handle-returns-in_ok-children-in-Each-clause-err
+pub handle-returns-in_err-result-in-Each-clause-err :
+    goal.handle-returns-in_err-result-in-Each-clause-err
+handle-returns-in_err-result-in-Each-clause-err = handlers.handle-returns-in_err-result-in-Each-clause-err
+
+pub handle-returns-in-Final-clause-ok :
+    goal.handle-returns-in-Final-clause-ok
+handle-returns-in-Final-clause-ok = handlers.handle-returns-in-Final-clause-ok
+
+pub handle-returns-in_err-content-in-ChildrenToo-clause-err :
+    goal.handle-returns-in_err-content-in-ChildrenToo-clause-err
+handle-returns-in_err-content-in-ChildrenToo-clause-err =
+    handlers.handle-returns-in_err-content-in-ChildrenToo-clause-err
+
+pub handle-returns-clause-ok :
+    goal.handle-returns-clause-ok
+handle-returns-clause-ok = handlers.handle-returns-clause-ok
+
+pub handle-returns-clause-err :
+    goal.handle-returns-clause-err
+handle-returns-clause-err = handlers.handle-returns-clause-err
 
 pub raw_html-returns-in_err-content-clause-err : goal.raw_html-returns-in_err-content-clause-err
 raw_html-returns-in_err-content-clause-err = contents.raw_html-returns-in_err-content-clause-err
 
 pub raw_html-returns-in_err-raw-clause-err : goal.raw_html-returns-in_err-raw-clause-err
 raw_html-returns-in_err-raw-clause-err = contents.raw_html-returns-in_err-raw-clause-err
-
-pub content_if-returns-in_err-content-clause-err : goal.content_if-returns-in_err-content-clause-err
-content_if-returns-in_err-content-clause-err = contents.content_if-returns-in_err-content-clause-err
 
 pub content-returns-in_err-append_text-clause-err : goal.content-returns-in_err-append_text-clause-err
 content-returns-in_err-append_text-clause-err = contents.content-returns-in_err-append_text-clause-err

@@ -39,10 +39,6 @@ abbrev pub decreases-raw_html : goal.decreases-raw_html
 decreases-raw_html g l =
     behind (length l.self.now.tree.now) (l.element.now.node + 1) (g.R.Registry.config l.self.now.registry.now) + 3
 
-abbrev pub decreases-content_if : goal.decreases-content_if
-decreases-content_if g l =
-    behind (length l.self.now.tree.now) (l.element.now.node + 1) (g.R.Registry.config l.self.now.registry.now) + 3
-
 abbrev pub decreases-walk_each : goal.decreases-walk_each
 decreases-walk_each g l =
     behind (length l.self.now.tree.now) (l.element.now.node + 1) (g.R.Registry.config l.self.now.registry.now) + 3

@@ -1,6 +1,5 @@
 use Rattle.std.proofs.Common.{◌≡◌, false, take}
 use Rattle.std.specs.List.{list_any}
-use Rattle.htmd_tree.specs.Items.{children_of}
 use Rattle.htmd.specs.ListElements.{is_other_element}
 use Rattle.htmd.proofs.element_handler.list.has_other_elements.Given as goal
 

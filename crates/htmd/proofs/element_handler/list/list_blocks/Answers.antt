@@ -1,7 +1,5 @@
-use Rattle.std.proofs.Common.{rules, ◌≡◌, ◌<◌, ◌∷◌, [], ◌++◌, List, ℕ, sym, ap, ◌∙◌, map, length, All}
+use Rattle.std.proofs.Common.{rules, ◌<◌, ◌∷◌, [], ◌++◌, ℕ, sym, ap, ◌∙◌, map, length}
 use Rattle.std.specs.Borrow.{Bor}
-use Rattle.std.specs.List.{zip}
-use Rattle.std.specs.String.{string_bytes}
 use Rattle.std.proofs.lemmas.List.{map_push}
 use Rattle.std.proofs.lemmas.Iterator.{YieldsList-from_slice, YieldsList-from_zip}
 use Rattle.std.proofs.lemmas.Iterator.Adapters.{YieldsList-from_vec}

@@ -1,5 +1,5 @@
-use Rattle.std.proofs.Common.{◌≡◌, sym, ap, ◌∙◌, subst, List, ℕ, Bool, All, ◌<◌, length, map}
-use Rattle.htmd_markdown.specs.Lists.{Block, block_of, ordered_list}
+use Rattle.std.proofs.Common.{sym, ap, ◌∙◌, subst, List, ℕ, Bool, All, ◌<◌, length}
+use Rattle.htmd_markdown.specs.Lists.{Block, ordered_list}
 use Rattle.htmd.specs.Handling.{ResultView}
 use Rattle.htmd.specs.ElementViews.{are_markdown}
 use Rattle.htmd.specs.ListElements.{blocks_of_list, blocks_of, first_number_of}

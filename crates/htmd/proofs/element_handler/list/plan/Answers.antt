@@ -1,4 +1,4 @@
-use Rattle.std.proofs.Common.{sym, ◌∙◌, subst, List, ℕ, All}
+use Rattle.std.proofs.Common.{sym, ◌∙◌, subst, All}
 use Rattle.htmd_tree.specs.Items.{IsBelow}
 use Rattle.htmd.proofs.ChildListsLemmas.{children_proper}
 use Rattle.htmd.proofs.element_handler.list.plan.Goals as goal

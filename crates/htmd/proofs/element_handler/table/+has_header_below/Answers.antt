@@ -1,4 +1,4 @@
-use Rattle.std.proofs.Common.{rules, ◌<◌, length, sym, ◌∙◌, arith}
+use Rattle.std.proofs.Common.{rules, ◌<◌, length, sym, ◌∙◌}
 use Rattle.htmd_tree.proofs.ItemsLemmas.{child_read}
 use Rattle.htmd.proofs.ChildListsLemmas.{any_here, none_more, none_all, child_within}
 use Rattle.htmd.proofs.TableHeadersLemmas.{shows_header_deeper, header_below-any, shown_deeper, table_shown, other_shown}

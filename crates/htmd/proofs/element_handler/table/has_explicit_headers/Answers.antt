@@ -1,4 +1,4 @@
-use Rattle.std.proofs.Common.{sym, ap, ◌∙◌}
+use Rattle.std.proofs.Common.{sym, ◌∙◌}
 use Rattle.htmd.proofs.ChildListsLemmas.{any_here, none_more, none_all, child_within}
 use Rattle.htmd.proofs.TableHeadersLemmas.{shows_header, explicit_headers-any, shown, not_shown}
 use Rattle.htmd.proofs.element_handler.table.has_explicit_headers.Goals as goal

@@ -1,4 +1,4 @@
-use Rattle.std.proofs.Common.{sym, ap, ◌∙◌, subst, List, ℕ, All}
+use Rattle.std.proofs.Common.{sym, ap, ◌∙◌, subst, All}
 use Rattle.htmd_tree.specs.Items.{IsBelow}
 use Rattle.htmd.specs.TableElements.{Layout, nodes_of}
 use Rattle.htmd.specs.TableLayouts.{parts_view}
@@ -9,6 +9,6 @@ pub returns-clause-proper : goal.returns-clause-proper
 returns-clause-proper c =
     let items = c.args.element.now.tree.now in
     let node = c.args.element.now.node in
-    subst (All (λ d. ∥ IsBelow items node d ∥₁)) (sym (c.in_ok-nodes.ensures
+    subst (All (λ d. ∥ IsBelow items node d ∥₁)) (sym (c.in_ok-nodes_of.ensures
     ∙ ap (λ ps. nodes_of (parts_view ps)) c.deref.ensures.value
     ∙ ap (λ (l : Layout). nodes_of l.parts) c.in_ok-layout.ensures)) (layout-proper items node)

@@ -1,4 +1,4 @@
-use Rattle.std.proofs.Common.{◌≡◌, List, ℕ, sym, ap, ◌∙◌, ◌++◌, ◌∷◌, [], map, take}
+use Rattle.std.proofs.Common.{List, ℕ, sym, ap, ◌∙◌, ◌++◌, ◌∷◌, [], map, take}
 use Rattle.std.specs.Prelude.{String}
 use Rattle.std.specs.Global.{Global}
 use Rattle.std.specs.String.{string_bytes}

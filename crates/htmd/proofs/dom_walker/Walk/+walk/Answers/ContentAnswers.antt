@@ -13,7 +13,7 @@ use Rattle.htmd.specs.OrdinaryText.{pre, parent_is_pre, preformatted_text, ordin
 use Rattle.htmd.specs.Groups.{only_text, group_children, children_at}
 use Rattle.htmd.specs.Outputs.{Output, conversion_of, empty_output}
 use Rattle.htmd.specs.Children.{write_groups, trims_first}
-use Rattle.htmd.specs.Elements.{Occurrence, Answer, answer_after, content_if, content_of}
+use Rattle.htmd.specs.Elements.{Occurrence, Answer, answer_after, content_of}
 use Rattle.htmd.specs.Elements.{raw_answer}
 use Rattle.htmd.specs.Rendering.{inside_of}
 use Rattle.htmd.specs.Beginnings.{Begins}
@@ -62,16 +62,6 @@ raw_html-returns-in_err-raw-clause-err g t c =
     (subst (λ (x : List Item). data_at x c.args.element.now.node ≡ element_node c.args.element.now.tag.now
     (pairs_of c.args.element.now.attrs.now)) c.requires.tree c.args.element.now.is_element)
     (sym c.is_block_element.ensures ∙ c.if-is_block_element.false))))
-
-pub content_if-returns-in_err-content-clause-err : goal.content_if-returns-in_err-content-clause-err
-content_if-returns-in_err-content-clause-err g t c =
-    let v = conversion_of (g.R.Registry.config c.args.self.now.registry.now) c.args.self.now.tree.now in
-    let e = c.args.element.now in
-    let at : ℕ → Occurrence = λ n. occurrence_of n v e in
-    exit-err v e (λ o. Begins c.args.links.now c.content.new.links
-    (content_if c.args.asked o c.args.links.now).definitions) _ (λ n l.
-    begins-to (c.in_err-content.ensures.err n l) (ap (λ b. (content_if b (at n) c.args.links.now).definitions)
-    (sym c.if-asked.true)))
 
 pub content-returns-in_err-append_text-clause-err : goal.content-returns-in_err-append_text-clause-err
 content-returns-in_err-append_text-clause-err g t c =

@@ -1,55 +1,42 @@
 -- What the handlers of an element make of it, one arm of their plans after another.
-use Rattle.std.proofs.Common.{rules, ◌+◌, ◌++◌, ◌∙◌, ℕ}
-use Rattle.std.proofs.Common.{true}
-use Rattle.std.proofs.Common.{sym, ap, arith}
+use Rattle.std.proofs.Common.{◌≡◌, rules, ◌+◌, ◌++◌, ◌∙◌, ℕ, sym, ap, arith}
 use Rattle.htmd.specs.Handling.{nothing, this_result, raw_html, content_of_children, content_of_descendant}
-use Rattle.htmd.specs.Handling.{content_of_fallback, contents_of_each}
+use Rattle.htmd.specs.Handling.{content_of_fallback, contents_of_each, final_result, children_too}
 use Rattle.htmd.specs.Choice.{handler_at}
 use Rattle.htmd.specs.Outputs.{Output, conversion_of, is_pure, is_pure_mode}
 use Rattle.htmd.specs.Children.{content_alone, descendant_tree}
-use Rattle.htmd.specs.Elements.{Occurrence, Answer, Contents, answer_after, content_if, content_of, contents_alone}
-use Rattle.htmd.specs.Elements.{raw_answer}
-use Rattle.htmd.specs.Elements.{finish_answer, with_finish, with_finish_each, each_answer, after_fallback}
-use Rattle.htmd.specs.Beginnings.{Begins}
-use Rattle.htmd.specs.Views.{answer_view, result_view, results_view, optional_result}
-use Rattle.htmd.specs.Views.{plan_view}
-use Rattle.htmd.specs.Views.{element_view}
-use Rattle.htmd.specs.Walking.{occurrence_of, request_view}
-use Rattle.htmd.proofs.ElementsLemmas.{answer-none-pure, answer-none-faithful, answer-some}
-use Rattle.htmd.proofs.BeginningsLemmas.{beginning-refl, beginning-more, beginning-trans, beginning-to}
-use Rattle.htmd.proofs.BeginningsLemmas.{begins-wider}
-use Rattle.htmd.proofs.BeginningsLemmas.{begins-start, begins-to, grows-content}
-use Rattle.htmd.proofs.BeginningsLemmas.{grows-alone}
-use Rattle.htmd.proofs.BeginningsLemmas.{grows-contents, grows-content_if, grows-fallback, grows-each, grows-answer}
-use Rattle.htmd.proofs.BeginningsLemmas.{grows-within}
+use Rattle.htmd.specs.Elements.{Occurrence, Answer, Contents, answer_after, answer_of, content_of, contents_alone}
+use Rattle.htmd.specs.Elements.{raw_answer, finish_answer, with_finish, after_fallback}
+use Rattle.htmd.specs.Beginnings.{IsBeginning, Begins}
+use Rattle.htmd.specs.Views.{answer_view, result_view, optional_result, contents_view, plan_view, element_view}
+use Rattle.htmd.specs.Walking.{AtElement, occurrence_of, request_view, outcome_view}
+use Rattle.htmd.proofs.ElementsLemmas.{answer-none-pure, answer-none-faithful, answer-some, answer-each}
+use Rattle.htmd.proofs.BeginningsLemmas.{beginning-refl, beginning-more, beginning-trans, beginning-to, begins-wider}
+use Rattle.htmd.proofs.BeginningsLemmas.{begins-start, begins-after, begins-to, grows-content, grows-alone}
+use Rattle.htmd.proofs.BeginningsLemmas.{grows-contents, grows-fallback, grows-each, grows-answer, grows-within}
 use Rattle.htmd.proofs.BeginningsLemmas.{content-broken, finish-broken}
-use Rattle.htmd.proofs.WalkingLemmas.{at-ok, now-ok, at-err}
-use Rattle.htmd.proofs.WalkingLemmas.{now-err}
-use Rattle.htmd.proofs.WalkingLemmas.{exit-err, asked_lower}
+use Rattle.htmd.proofs.WalkingLemmas.{at-ok, now-ok, at-err, now-err, exit-err, asked_lower}
 use Rattle.htmd.proofs.dom_walker.Walk.+walk.Goals as goal
 
-pub handle-returns-in-Pure-clause-ok : goal.handle-returns-in-Pure-clause-ok
-handle-returns-in-Pure-clause-ok g t c =
+pub handle-returns-in_err-content-in-Pure-clause-err : goal.handle-returns-in_err-content-in-Pure-clause-err
+handle-returns-in_err-content-in-Pure-clause-err g t c =
     let v = conversion_of (g.R.Registry.config c.args.self.now.registry.now) c.args.self.now.tree.now in
     let e = c.args.element.now in
     let at : ℕ → Occurrence = λ n. occurrence_of n v e in
-    at-ok (λ r. answer_view r c.content_if.new.links) v e (λ o. content_if true o c.args.links.now)
-    (λ o. answer_after c.args.skipped c.args.element.now.tag.now o c.args.links.now) c.content_if.result
-    (λ n l. answer-none-pure c.args.element.now.tag.now (at n) c.args.skipped c.args.links.now
-    c.in_default.ensures.value (ap is_pure (sym c.options.ensures) ∙ ap is_pure_mode c.in-Pure.is))
-    c.content_if.ensures.ok
-
-pub handle-returns-in-Pure-clause-err : goal.handle-returns-in-Pure-clause-err
-handle-returns-in-Pure-clause-err g t c =
-    let v = conversion_of (g.R.Registry.config c.args.self.now.registry.now) c.args.self.now.tree.now in
-    let e = c.args.element.now in
-    let at : ℕ → Occurrence = λ n. occurrence_of n v e in
-    at-err v e (λ o. Begins c.args.links.now c.content_if.new.links (content_if true o c.args.links.now).definitions)
-    (λ o. Begins c.args.links.now c.content_if.new.links
-    (answer_after c.args.skipped c.args.element.now.tag.now o c.args.links.now).definitions) c.content_if.result
-    (λ n l b. begins-to b (ap (λ (a : Answer). a.definitions)
+    exit-err v e (λ o. Begins c.args.links.now c.content.new.links
+    (answer_after c.args.skipped c.args.element.now.tag.now o c.args.links.now).definitions) _
+    (λ n l. begins-to (c.in_err-content-in-Pure.ensures.err n l) (ap (λ (a : Answer). a.definitions)
     (answer-none-pure c.args.element.now.tag.now (at n) c.args.skipped c.args.links.now c.in_default.ensures.value
-    (ap is_pure (sym c.options.ensures) ∙ ap is_pure_mode c.in-Pure.is)))) c.content_if.ensures.err
+    (ap is_pure (sym c.options.ensures) ∙ ap is_pure_mode c.in-Pure.is))))
+
+pub handle-returns-in_ok-content-in-Pure-clause-ok : goal.handle-returns-in_ok-content-in-Pure-clause-ok
+handle-returns-in_ok-content-in-Pure-clause-ok g t c =
+    let v = conversion_of (g.R.Registry.config c.args.self.now.registry.now) c.args.self.now.tree.now in
+    let e = c.args.element.now in
+    let at : ℕ → Occurrence = λ n. occurrence_of n v e in
+    λ n l. ap answer_of (c.in_ok-content-in-Pure.ensures.ok n l)
+    ∙ answer-none-pure c.args.element.now.tag.now (at n) c.args.skipped c.args.links.now c.in_default.ensures.value
+    (ap is_pure (sym c.options.ensures) ∙ ap is_pure_mode c.in-Pure.is)
 
 pub handle-returns-in-Faithful-clause-ok : goal.handle-returns-in-Faithful-clause-ok
 handle-returns-in-Faithful-clause-ok g t c =
@@ -90,10 +77,11 @@ handle-returns-in_err-content-in-Children-clause-err g t c =
     let v = conversion_of (g.R.Registry.config c.args.self.now.registry.now) c.args.self.now.tree.now in
     let e = c.args.element.now in
     let at : ℕ → Occurrence = λ n. occurrence_of n v e in
-    exit-err v e (λ o. Begins c.args.links.now c.content.new.links
+    exit-err v e (λ o. Begins c.args.links.now c.content-in-Children.new.links
     (answer_after c.args.skipped c.args.element.now.tag.now o c.args.links.now).definitions) _ (λ n l.
     content-broken (at n) (grows-within n v) c.args.element.now.tag.now c.args.skipped c.args.links.now c.in-Some.index
-    c.in-Some.ensures.value content_of_children (content_of (at n) c.args.links.now).definitions c.content.new.links
+    c.in-Some.ensures.value content_of_children (content_of (at n) c.args.links.now).definitions
+    c.content-in-Children.new.links
     (sym (ap request_view c.in-OfPlan.is ∙ ap plan_view c.in-Children.is) ∙ c.in_ok-plan.ensures.plan)
     (beginning-more _ _) (c.in_err-content-in-Children.ensures.err n l))
 
@@ -139,46 +127,6 @@ handle-returns-in_err-handle-in-Fallback-clause-err g t c =
     (answer_after (c.args.skipped + 1) c.args.element.now.tag.now (at n) c.args.links.now).definitions)
     (c.in_err-handle-in-Fallback.ensures.err n l))
 
-pub handle-returns-in_err-results-in-Each-clause-err : goal.handle-returns-in_err-results-in-Each-clause-err
-handle-returns-in_err-results-in-Each-clause-err g t c =
-    let v = conversion_of (g.R.Registry.config c.args.self.now.registry.now) c.args.self.now.tree.now in
-    let e = c.args.element.now in
-    let at : ℕ → Occurrence = λ n. occurrence_of n v e in
-    exit-err v e (λ o. Begins c.args.links.now c.walk_each.new.links
-    (answer_after c.args.skipped c.args.element.now.tag.now o c.args.links.now).definitions) _ (λ n l.
-    content-broken (at n) (grows-within n v) c.args.element.now.tag.now c.args.skipped c.args.links.now c.in-Some.index
-    c.in-Some.ensures.value (contents_of_each c.in-Each.nodes.items c.in-Each.children)
-    (contents_alone (at n) c.in-Each.nodes.items c.args.links.now).definitions c.walk_each.new.links
-    (sym (ap request_view c.in-Each.is) ∙ c.in_ok-plan.ensures.plan)
-    (grows-each (at n) (grows-within n v) (handler_at v.config.handlers c.in-Some.index) c.in-Each.children
-    (contents_alone (at n) c.in-Each.nodes.items c.args.links.now))
-    (begins-to (c.in_err-results-in-Each.ensures.err n l)
-    (ap (λ (x : Contents). x.definitions)
-    (ap (λ xs. contents_alone (at n) xs c.args.links.now) c.as_slice.ensures.value))))
-
-pub handle-returns-in_err-children-in-Each-clause-err : goal.handle-returns-in_err-children-in-Each-clause-err
-handle-returns-in_err-children-in-Each-clause-err g t c =
-    let v = conversion_of (g.R.Registry.config c.args.self.now.registry.now) c.args.self.now.tree.now in
-    let e = c.args.element.now in
-    let at : ℕ → Occurrence = λ n. occurrence_of n v e in
-    exit-err v e (λ o. Begins c.args.links.now c.content_if-in-Each.new.links
-    (answer_after c.args.skipped c.args.element.now.tag.now o c.args.links.now).definitions) _ (λ n l.
-    content-broken (at n) (grows-within n v) c.args.element.now.tag.now c.args.skipped c.args.links.now c.in-Some.index
-    c.in-Some.ensures.value (contents_of_each c.in-Each.nodes.items c.in-Each.children)
-    (content_if c.in-Each.children (at n)
-    (contents_alone (at n) c.in-Each.nodes.items c.args.links.now).definitions).definitions
-    c.content_if-in-Each.new.links (sym (ap request_view c.in-Each.is) ∙ c.in_ok-plan.ensures.plan)
-    (beginning-more _ _)
-    (begins-wider (beginning-to (grows-contents (at n) (grows-within n v) c.in-Each.nodes.items c.args.links.now)
-    (ap (λ (x : Contents). x.definitions)
-    (sym (c.in_ok-results-in-Each.ensures.ok n l
-    ∙ (ap (λ xs. contents_alone (at n) xs c.args.links.now) c.as_slice.ensures.value)))))
-    (c.in_err-children-in-Each.ensures.err n l)
-    (beginning-to (beginning-refl _)
-    (ap (λ (x : Contents). (content_if c.in-Each.children (at n) x.definitions).definitions)
-    (c.in_ok-results-in-Each.ensures.ok n l
-    ∙ (ap (λ xs. contents_alone (at n) xs c.args.links.now) c.as_slice.ensures.value))))))
-
 pub handle-returns-in-Skip-clause-ok : goal.handle-returns-in-Skip-clause-ok
 handle-returns-in-Skip-clause-ok g t c =
     let v = conversion_of (g.R.Registry.config c.args.self.now.registry.now) c.args.self.now.tree.now in
@@ -222,14 +170,14 @@ handle-returns-in-RawHtml-clause-err g t c =
     c.in-Some.ensures.value (sym (ap request_view c.in-OfPlan.is ∙ ap plan_view c.in-RawHtml.is)
     ∙ c.in_ok-plan.ensures.plan))))) c.raw_html-in-RawHtml.ensures.err
 
-pub handle-returns-in_ok-content-in-Children-clause-ok : goal.handle-returns-in_ok-content-in-Children-clause-ok
-handle-returns-in_ok-content-in-Children-clause-ok g t c =
+pub handle-returns-in-Children-clause-ok : goal.handle-returns-in-Children-clause-ok
+handle-returns-in-Children-clause-ok g t c =
     let v = conversion_of (g.R.Registry.config c.args.self.now.registry.now) c.args.self.now.tree.now in
     let e = c.args.element.now in
     let at : ℕ → Occurrence = λ n. occurrence_of n v e in
     now-ok (λ r. answer_view r c.finish.new.links) v e
     (finish_answer ((handler_at v.config.handlers c.in-Some.index).finish (element_view e)
-    (result_view c.in_ok-content-in-Children.content) c.content.new.links) c.content.new.links)
+    (result_view c.in_ok-content-in-Children.content) c.content-in-Children.new.links) c.content-in-Children.new.links)
     (λ o. answer_after c.args.skipped c.args.element.now.tag.now o c.args.links.now) c.finish.result
     (λ n l. ap (with_finish (handler_at v.config.handlers c.in-Some.index) (element_view e))
     (c.in_ok-content-in-Children.ensures.ok n l)
@@ -238,28 +186,28 @@ handle-returns-in_ok-content-in-Children-clause-ok g t c =
     (sym (ap request_view c.in-OfPlan.is ∙ ap plan_view c.in-Children.is) ∙ c.in_ok-plan.ensures.plan)))
     c.finish.ensures.ok
 
-pub handle-returns-in_ok-content-in-Children-clause-err : goal.handle-returns-in_ok-content-in-Children-clause-err
-handle-returns-in_ok-content-in-Children-clause-err g t c =
+pub handle-returns-in-Children-clause-err : goal.handle-returns-in-Children-clause-err
+handle-returns-in-Children-clause-err g t c =
     let v = conversion_of (g.R.Registry.config c.args.self.now.registry.now) c.args.self.now.tree.now in
     let e = c.args.element.now in
     let at : ℕ → Occurrence = λ n. occurrence_of n v e in
-    now-err v e (Begins c.content.new.links c.finish.new.links
-    (c.content.new.links ++ ((handler_at v.config.handlers c.in-Some.index).finish (element_view e)
-    (result_view c.in_ok-content-in-Children.content) c.content.new.links).added))
+    now-err v e (Begins c.content-in-Children.new.links c.finish.new.links
+    (c.content-in-Children.new.links ++ ((handler_at v.config.handlers c.in-Some.index).finish (element_view e)
+    (result_view c.in_ok-content-in-Children.content) c.content-in-Children.new.links).added))
     (λ o. Begins c.args.links.now c.finish.new.links
     (answer_after c.args.skipped c.args.element.now.tag.now o c.args.links.now).definitions) c.finish.result
     (λ n l b. finish-broken (at n) (grows-within n v) c.args.element.now.tag.now c.args.skipped c.args.links.now
-    c.in-Some.index c.in-Some.ensures.value content_of_children c.content.new.links c.finish.new.links
+    c.in-Some.index c.in-Some.ensures.value content_of_children c.content-in-Children.new.links c.finish.new.links
     ((handler_at v.config.handlers c.in-Some.index).finish (element_view e)
-    (result_view c.in_ok-content-in-Children.content) c.content.new.links)
+    (result_view c.in_ok-content-in-Children.content) c.content-in-Children.new.links)
     (sym (ap request_view c.in-OfPlan.is ∙ ap plan_view c.in-Children.is) ∙ c.in_ok-plan.ensures.plan)
     (beginning-to (grows-content (at n) (grows-within n v) c.args.links.now)
     (ap (λ (o : Output). o.definitions) (sym (c.in_ok-content-in-Children.ensures.ok n l))))
     (ap (with_finish (handler_at v.config.handlers c.in-Some.index) (element_view e))
     (c.in_ok-content-in-Children.ensures.ok n l)) b) c.finish.ensures.err
 
-pub handle-returns-in_ok-content-in-Descendant-clause-ok : goal.handle-returns-in_ok-content-in-Descendant-clause-ok
-handle-returns-in_ok-content-in-Descendant-clause-ok g t c =
+pub handle-returns-in-Descendant-clause-ok : goal.handle-returns-in-Descendant-clause-ok
+handle-returns-in-Descendant-clause-ok g t c =
     let v = conversion_of (g.R.Registry.config c.args.self.now.registry.now) c.args.self.now.tree.now in
     let e = c.args.element.now in
     let at : ℕ → Occurrence = λ n. occurrence_of n v e in
@@ -278,8 +226,8 @@ handle-returns-in_ok-content-in-Descendant-clause-ok g t c =
     (sym (ap request_view c.in-OfPlan.is ∙ ap plan_view c.in-Descendant.is) ∙ c.in_ok-plan.ensures.plan)))
     c.finish-in-Descendant.ensures.ok
 
-pub handle-returns-in_ok-content-in-Descendant-clause-err : goal.handle-returns-in_ok-content-in-Descendant-clause-err
-handle-returns-in_ok-content-in-Descendant-clause-err g t c =
+pub handle-returns-in-Descendant-clause-err : goal.handle-returns-in-Descendant-clause-err
+handle-returns-in-Descendant-clause-err g t c =
     let v = conversion_of (g.R.Registry.config c.args.self.now.registry.now) c.args.self.now.tree.now in
     let e = c.args.element.now in
     let at : ℕ → Occurrence = λ n. occurrence_of n v e in
@@ -318,8 +266,8 @@ handle-returns-in-None-clause-ok g t c =
     content_of_fallback c.in-Some.ensures.value
     (sym (ap request_view c.in-OfPlan.is ∙ ap plan_view c.in-Fallback.is) ∙ c.in_ok-plan.ensures.plan))
 
-pub handle-returns-in-Some-2-clause-ok : goal.handle-returns-in-Some-2-clause-ok
-handle-returns-in-Some-2-clause-ok g t c =
+pub handle-returns-in-OfPlan-clause-ok : goal.handle-returns-in-OfPlan-clause-ok
+handle-returns-in-OfPlan-clause-ok g t c =
     let v = conversion_of (g.R.Registry.config c.args.self.now.registry.now) c.args.self.now.tree.now in
     let e = c.args.element.now in
     let at : ℕ → Occurrence = λ n. occurrence_of n v e in
@@ -336,8 +284,8 @@ handle-returns-in-Some-2-clause-ok g t c =
     (sym (ap request_view c.in-OfPlan.is ∙ ap plan_view c.in-Fallback.is) ∙ c.in_ok-plan.ensures.plan)))
     c.finish-in-Some-2.ensures.ok
 
-pub handle-returns-in-Some-2-clause-err : goal.handle-returns-in-Some-2-clause-err
-handle-returns-in-Some-2-clause-err g t c =
+pub handle-returns-in-OfPlan-clause-err : goal.handle-returns-in-OfPlan-clause-err
+handle-returns-in-OfPlan-clause-err g t c =
     let v = conversion_of (g.R.Registry.config c.args.self.now.registry.now) c.args.self.now.tree.now in
     let e = c.args.element.now in
     let at : ℕ → Occurrence = λ n. occurrence_of n v e in
@@ -360,49 +308,144 @@ handle-returns-in-Some-2-clause-err g t c =
     a.definitions) (ap (λ x. answer_view x c.handle.new.links) (sym c.in-Some-2.is)
     ∙ c.in_ok-handle-in-Fallback.ensures.ok n l)) b) c.finish-in-Some-2.ensures.err
 
-pub handle-returns-in_ok-children-in-Each-clause-ok : goal.handle-returns-in_ok-children-in-Each-clause-ok
-handle-returns-in_ok-children-in-Each-clause-ok g t c =
+pub handle-returns-in_err-contents-in-Each-clause-err : goal.handle-returns-in_err-contents-in-Each-clause-err
+handle-returns-in_err-contents-in-Each-clause-err g t c =
     let v = conversion_of (g.R.Registry.config c.args.self.now.registry.now) c.args.self.now.tree.now in
     let e = c.args.element.now in
     let at : ℕ → Occurrence = λ n. occurrence_of n v e in
-    now-ok (λ r. answer_view r c.finish_each.new.links) v e
-    (finish_answer ((handler_at v.config.handlers c.in-Some.index).finish_each (element_view e)
-    (results_view c.in_ok-results-in-Each.results.items) (optional_result c.in_ok-children-in-Each.children)
-    c.content_if-in-Each.new.links) c.content_if-in-Each.new.links)
-    (λ o. answer_after c.args.skipped c.args.element.now.tag.now o c.args.links.now) c.finish_each.result
-    (λ n l. ap (with_finish_each (handler_at v.config.handlers c.in-Some.index) (element_view e)
-    (results_view c.in_ok-results-in-Each.results.items)) (c.in_ok-children-in-Each.ensures.ok n l)
-    ∙ ap (each_answer (handler_at v.config.handlers c.in-Some.index) (at n) c.in-Each.children)
-    (c.in_ok-results-in-Each.ensures.ok n l
-    ∙ (ap (λ xs. contents_alone (at n) xs c.args.links.now) c.as_slice.ensures.value))
-    ∙ sym (answer-some c.args.element.now.tag.now (at n) c.args.skipped c.args.links.now c.in-Some.index
-    (contents_of_each c.in-Each.nodes.items c.in-Each.children) c.in-Some.ensures.value
-    (sym (ap request_view c.in-Each.is) ∙ c.in_ok-plan.ensures.plan))) c.finish_each.ensures.ok
-
-pub handle-returns-in_ok-children-in-Each-clause-err : goal.handle-returns-in_ok-children-in-Each-clause-err
-handle-returns-in_ok-children-in-Each-clause-err g t c =
-    let v = conversion_of (g.R.Registry.config c.args.self.now.registry.now) c.args.self.now.tree.now in
-    let e = c.args.element.now in
-    let at : ℕ → Occurrence = λ n. occurrence_of n v e in
-    now-err v e (Begins c.content_if-in-Each.new.links c.finish_each.new.links
-    (c.content_if-in-Each.new.links ++ ((handler_at v.config.handlers c.in-Some.index).finish_each (element_view e)
-    (results_view c.in_ok-results-in-Each.results.items) (optional_result c.in_ok-children-in-Each.children)
-    c.content_if-in-Each.new.links).added)) (λ o. Begins c.args.links.now c.finish_each.new.links
-    (answer_after c.args.skipped c.args.element.now.tag.now o c.args.links.now).definitions) c.finish_each.result
-    (λ n l b. finish-broken (at n) (grows-within n v) c.args.element.now.tag.now c.args.skipped c.args.links.now
-    c.in-Some.index c.in-Some.ensures.value (contents_of_each c.in-Each.nodes.items c.in-Each.children)
-    c.content_if-in-Each.new.links c.finish_each.new.links
-    ((handler_at v.config.handlers c.in-Some.index).finish_each (element_view e)
-    (results_view c.in_ok-results-in-Each.results.items) (optional_result c.in_ok-children-in-Each.children)
-    c.content_if-in-Each.new.links) (sym (ap request_view c.in-Each.is) ∙ c.in_ok-plan.ensures.plan)
-    (beginning-trans (beginning-to (grows-contents (at n) (grows-within n v) c.in-Each.nodes.items c.args.links.now)
+    exit-err v e (λ o. Begins c.args.links.now c.walk_each.new.links
+    (answer_after c.args.skipped c.args.element.now.tag.now o c.args.links.now).definitions) _ (λ n l.
+    content-broken (at n) (grows-within n v) c.args.element.now.tag.now c.args.skipped c.args.links.now c.in-Some.index
+    c.in-Some.ensures.value (contents_of_each c.in-Each.nodes.items)
+    (contents_alone (at n) c.in-Each.nodes.items c.args.links.now).definitions c.walk_each.new.links
+    (sym (ap request_view c.in-Each.is) ∙ c.in_ok-plan.ensures.plan)
+    (grows-each (at n) (grows-within n v) (handler_at v.config.handlers c.in-Some.index)
+    (contents_alone (at n) c.in-Each.nodes.items c.args.links.now))
+    (begins-to (c.in_err-contents-in-Each.ensures.err n l)
     (ap (λ (x : Contents). x.definitions)
-    (sym (c.in_ok-results-in-Each.ensures.ok n l
-    ∙ (ap (λ xs. contents_alone (at n) xs c.args.links.now) c.as_slice.ensures.value)))))
-    (beginning-to (grows-content_if (at n) (grows-within n v) c.in-Each.children c.walk_each.new.links)
-    (ap (λ (a : Answer). a.definitions) (sym (c.in_ok-children-in-Each.ensures.ok n l)))))
-    (ap (with_finish_each (handler_at v.config.handlers c.in-Some.index) (element_view e)
-    (results_view c.in_ok-results-in-Each.results.items)) (c.in_ok-children-in-Each.ensures.ok n l)
-    ∙ ap (each_answer (handler_at v.config.handlers c.in-Some.index) (at n) c.in-Each.children)
-    (c.in_ok-results-in-Each.ensures.ok n l
-    ∙ (ap (λ xs. contents_alone (at n) xs c.args.links.now) c.as_slice.ensures.value))) b) c.finish_each.ensures.err
+    (ap (λ xs. contents_alone (at n) xs c.args.links.now) c.as_slice.ensures.value))))
+
+pub handle-returns-in_err-result-in-Each-clause-err : goal.handle-returns-in_err-result-in-Each-clause-err
+handle-returns-in_err-result-in-Each-clause-err g t c =
+    let v = conversion_of (g.R.Registry.config c.args.self.now.registry.now) c.args.self.now.tree.now in
+    let e = c.args.element.now in
+    let at : ℕ → Occurrence = λ n. occurrence_of n v e in
+    let nodes = c.in-Each.nodes.items in
+    let links = c.walk_each.new.links in
+    let handler = handler_at v.config.handlers c.in-Some.index in
+    let contents = contents_view c.in_ok-contents-in-Each.contents.items links in
+    let plan = sym (ap request_view c.in-Each.is) ∙ c.in_ok-plan.ensures.plan in
+    let same : AtElement v e (λ o. contents ≡ contents_alone o nodes c.args.links.now) =
+    λ n l. c.in_ok-contents-in-Each.ensures.ok n l
+    ∙ ap (λ xs. contents_alone (at n) xs c.args.links.now) c.as_slice.ensures.value in
+    let grown : AtElement v e (λ o. IsBeginning c.args.links.now links) =
+    λ n l. beginning-to (grows-contents (at n) (grows-within n v) nodes c.args.links.now)
+    (ap (λ (x : Contents). x.definitions) (sym (same n l))) in
+    exit-err v e (λ o. Begins c.args.links.now links
+    (answer_after c.args.skipped c.args.element.now.tag.now o c.args.links.now).definitions) _ (λ n l.
+    content-broken (at n) (grows-within n v) c.args.element.now.tag.now c.args.skipped c.args.links.now c.in-Some.index
+    c.in-Some.ensures.value (contents_of_each nodes) (contents_alone (at n) nodes c.args.links.now).definitions links
+    plan (grows-each (at n) (grows-within n v) handler (contents_alone (at n) nodes c.args.links.now))
+    (begins-after (grown n l) (ap (λ (x : Contents). x.definitions) (same n l))))
+
+pub handle-returns-in-Final-clause-ok : goal.handle-returns-in-Final-clause-ok
+handle-returns-in-Final-clause-ok g t c =
+    let v = conversion_of (g.R.Registry.config c.args.self.now.registry.now) c.args.self.now.tree.now in
+    let e = c.args.element.now in
+    let at : ℕ → Occurrence = λ n. occurrence_of n v e in
+    let nodes = c.in-Each.nodes.items in
+    let links = c.walk_each.new.links in
+    let handler = handler_at v.config.handlers c.in-Some.index in
+    let contents = contents_view c.in_ok-contents-in-Each.contents.items links in
+    let plan = sym (ap request_view c.in-Each.is) ∙ c.in_ok-plan.ensures.plan in
+    let same : AtElement v e (λ o. contents ≡ contents_alone o nodes c.args.links.now) =
+    λ n l. c.in_ok-contents-in-Each.ensures.ok n l
+    ∙ ap (λ xs. contents_alone (at n) xs c.args.links.now) c.as_slice.ensures.value in
+    λ n l. answer-each c.args.element.now.tag.now (at n) c.args.skipped c.args.links.now c.in-Some.index nodes contents
+    (final_result (optional_result c.in-Final.result)) c.in-Some.ensures.value plan (same n l)
+    (sym (ap outcome_view c.in-Final.is) ∙ c.in_ok-result-in-Each.ensures)
+
+pub handle-returns-in_err-content-in-ChildrenToo-clause-err :
+    goal.handle-returns-in_err-content-in-ChildrenToo-clause-err
+handle-returns-in_err-content-in-ChildrenToo-clause-err g t c =
+    let v = conversion_of (g.R.Registry.config c.args.self.now.registry.now) c.args.self.now.tree.now in
+    let e = c.args.element.now in
+    let at : ℕ → Occurrence = λ n. occurrence_of n v e in
+    let nodes = c.in-Each.nodes.items in
+    let links = c.walk_each.new.links in
+    let handler = handler_at v.config.handlers c.in-Some.index in
+    let contents = contents_view c.in_ok-contents-in-Each.contents.items links in
+    let plan = sym (ap request_view c.in-Each.is) ∙ c.in_ok-plan.ensures.plan in
+    let same : AtElement v e (λ o. contents ≡ contents_alone o nodes c.args.links.now) =
+    λ n l. c.in_ok-contents-in-Each.ensures.ok n l
+    ∙ ap (λ xs. contents_alone (at n) xs c.args.links.now) c.as_slice.ensures.value in
+    let grown : AtElement v e (λ o. IsBeginning c.args.links.now links) =
+    λ n l. beginning-to (grows-contents (at n) (grows-within n v) nodes c.args.links.now)
+    (ap (λ (x : Contents). x.definitions) (sym (same n l))) in
+    let asks : AtElement v e (λ o. with_finish handler o.view (content_of o links)
+    ≡ answer_after c.args.skipped c.args.element.now.tag.now o c.args.links.now) =
+    λ n l. answer-each c.args.element.now.tag.now (at n) c.args.skipped c.args.links.now c.in-Some.index nodes contents
+    children_too c.in-Some.ensures.value plan (same n l)
+    (sym (ap outcome_view c.in-ChildrenToo.is) ∙ c.in_ok-result-in-Each.ensures) in
+    exit-err v e (λ o. Begins c.args.links.now c.content-in-ChildrenToo.new.links
+    (answer_after c.args.skipped c.args.element.now.tag.now o c.args.links.now).definitions) _ (λ n l.
+    begins-wider (grown n l) (c.in_err-content-in-ChildrenToo.ensures.err n l)
+    (beginning-to (beginning-more _ _) (ap (λ (a : Answer). a.definitions) (asks n l))))
+
+pub handle-returns-clause-ok : goal.handle-returns-clause-ok
+handle-returns-clause-ok g t c =
+    let v = conversion_of (g.R.Registry.config c.args.self.now.registry.now) c.args.self.now.tree.now in
+    let e = c.args.element.now in
+    let at : ℕ → Occurrence = λ n. occurrence_of n v e in
+    let nodes = c.in-Each.nodes.items in
+    let links = c.walk_each.new.links in
+    let handler = handler_at v.config.handlers c.in-Some.index in
+    let contents = contents_view c.in_ok-contents-in-Each.contents.items links in
+    let plan = sym (ap request_view c.in-Each.is) ∙ c.in_ok-plan.ensures.plan in
+    let same : AtElement v e (λ o. contents ≡ contents_alone o nodes c.args.links.now) =
+    λ n l. c.in_ok-contents-in-Each.ensures.ok n l
+    ∙ ap (λ xs. contents_alone (at n) xs c.args.links.now) c.as_slice.ensures.value in
+    let asks : AtElement v e (λ o. with_finish handler o.view (content_of o links)
+    ≡ answer_after c.args.skipped c.args.element.now.tag.now o c.args.links.now) =
+    λ n l. answer-each c.args.element.now.tag.now (at n) c.args.skipped c.args.links.now c.in-Some.index nodes contents
+    children_too c.in-Some.ensures.value plan (same n l)
+    (sym (ap outcome_view c.in-ChildrenToo.is) ∙ c.in_ok-result-in-Each.ensures) in
+    now-ok (λ r. answer_view r c.finish-in-ChildrenToo.new.links) v e
+    (finish_answer (handler.finish (element_view e) (result_view c.in_ok-content-in-ChildrenToo.content)
+    c.content-in-ChildrenToo.new.links) c.content-in-ChildrenToo.new.links)
+    (λ o. answer_after c.args.skipped c.args.element.now.tag.now o c.args.links.now) c.finish-in-ChildrenToo.result
+    (λ n l. ap (with_finish handler (element_view e)) (c.in_ok-content-in-ChildrenToo.ensures.ok n l) ∙ asks n l)
+    c.finish-in-ChildrenToo.ensures.ok
+
+pub handle-returns-clause-err : goal.handle-returns-clause-err
+handle-returns-clause-err g t c =
+    let v = conversion_of (g.R.Registry.config c.args.self.now.registry.now) c.args.self.now.tree.now in
+    let e = c.args.element.now in
+    let at : ℕ → Occurrence = λ n. occurrence_of n v e in
+    let nodes = c.in-Each.nodes.items in
+    let links = c.walk_each.new.links in
+    let handler = handler_at v.config.handlers c.in-Some.index in
+    let contents = contents_view c.in_ok-contents-in-Each.contents.items links in
+    let plan = sym (ap request_view c.in-Each.is) ∙ c.in_ok-plan.ensures.plan in
+    let same : AtElement v e (λ o. contents ≡ contents_alone o nodes c.args.links.now) =
+    λ n l. c.in_ok-contents-in-Each.ensures.ok n l
+    ∙ ap (λ xs. contents_alone (at n) xs c.args.links.now) c.as_slice.ensures.value in
+    let grown : AtElement v e (λ o. IsBeginning c.args.links.now links) =
+    λ n l. beginning-to (grows-contents (at n) (grows-within n v) nodes c.args.links.now)
+    (ap (λ (x : Contents). x.definitions) (sym (same n l))) in
+    let asks : AtElement v e (λ o. with_finish handler o.view (content_of o links)
+    ≡ answer_after c.args.skipped c.args.element.now.tag.now o c.args.links.now) =
+    λ n l. answer-each c.args.element.now.tag.now (at n) c.args.skipped c.args.links.now c.in-Some.index nodes contents
+    children_too c.in-Some.ensures.value plan (same n l)
+    (sym (ap outcome_view c.in-ChildrenToo.is) ∙ c.in_ok-result-in-Each.ensures) in
+    now-err v e (Begins c.content-in-ChildrenToo.new.links c.finish-in-ChildrenToo.new.links
+    (c.content-in-ChildrenToo.new.links ++ (handler.finish (element_view e)
+    (result_view c.in_ok-content-in-ChildrenToo.content) c.content-in-ChildrenToo.new.links).added))
+    (λ o. Begins c.args.links.now c.finish-in-ChildrenToo.new.links
+    (answer_after c.args.skipped c.args.element.now.tag.now o c.args.links.now).definitions)
+    c.finish-in-ChildrenToo.result
+    (λ n l b. begins-wider (beginning-trans (grown n l) (beginning-to (grows-content (at n) (grows-within n v) links)
+    (ap (λ (o : Output). o.definitions) (sym (c.in_ok-content-in-ChildrenToo.ensures.ok n l))))) b
+    (beginning-to (beginning-refl _) (ap (λ (a : Answer). a.definitions)
+    (ap (with_finish handler (element_view e)) (c.in_ok-content-in-ChildrenToo.ensures.ok n l) ∙ asks n l))))
+    c.finish-in-ChildrenToo.ensures.err
