@@ -1,2 +1,2 @@
--- What the program makes of a text.
+-- How large the answers are that the program tells.
 pub mod Work

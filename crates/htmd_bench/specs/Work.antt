@@ -1,12 +1,24 @@
--- What the program makes of the text that it reads.
-use Rattle.std.specs.Prelude.{ℕ, List}
+-- How large the answers to an input are.
+use Rattle.std.specs.Prelude.{◌≡◌, ℕ, List, true, length}
 use Rattle.htmd_text.specs.EscapeMarks.{escaped_markdown}
 use Rattle.htmd_text.specs.WhiteSpace.{squeezed_text}
-use Rattle.htmd_bench.specs.declared.Work.{Work}
-use Rattle.htmd_bench.specs.declared.Work.TheVariants.{Copy, Escape, Squeeze}
+use Rattle.htmd_tree.specs.Items.{Item, children_of}
+use Rattle.htmd.specs.BuiltIn.{built_in}
+use Rattle.htmd.specs.Conversions.{IsTreeOf, IsMarkdownOf}
+use Rattle.htmd.specs.Defaults.{default_options}
+use Rattle.htmd_bench.specs.declared.work.Work.{Work}
+use Rattle.htmd_bench.specs.declared.work.Work.TheVariants.{Copy, Escape, Squeeze, Read, Walk, Convert}
 
--- the answer to a text
-abbrev pub answer_of : Work → List ℕ → List ℕ
-answer_of Copy s = s
-answer_of Escape s = escaped_markdown s
-answer_of Squeeze s = squeezed_text s
+-- the Markdown of the page has this length
+abbrev pub HasMarkdownLength : List ℕ → ℕ → Type 0
+HasMarkdownLength page len =
+    (text : List ℕ) × IsMarkdownOf (built_in default_options) true page text × (len ≡ length text)
+
+-- this is the length of the answer: in bytes, and of a tree how many nodes stand right under the Document
+abbrev pub HasLength : Work → List ℕ → ℕ → Type 0
+HasLength Copy s len = len ≡ length s
+HasLength Escape s len = len ≡ length (escaped_markdown s)
+HasLength Squeeze s len = len ≡ length (squeezed_text s)
+HasLength Read s len = (tree : List Item) × IsTreeOf true s tree × (len ≡ length (children_of tree 0))
+HasLength Walk s len = HasMarkdownLength s len
+HasLength Convert s len = HasMarkdownLength s len

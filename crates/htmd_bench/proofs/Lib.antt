@@ -1,0 +1,2 @@
+-- Lemmas about the lengths of answers.
+mod WorkLemmas
