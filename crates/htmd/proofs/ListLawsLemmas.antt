@@ -1,9 +1,9 @@
--- The columns of an ordered list stay where they are among the blocks around it.
+-- The columns of an ordered list stay where they are among the blocks around it, and each item takes a number.
 use Rattle.std.proofs.Common.{◌≡◌, ◌⊎◌, ℕ, zero, suc, ◌+◌, ◌-◌, ◌^◌, ◌<◌, ◌≤◌, Bool, true, false, cond, List, [], ◌∷◌}
 use Rattle.std.proofs.Common.{◌++◌, length, get_or, take, drop, refl, sym, ap, ◌∙◌, arith, subst, inl, inr, ⊎_elim}
 use Rattle.std.proofs.Common.{append_assoc, length-append, add-one, Option, Some, None, IfSome, nat_lt}
 use Rattle.std.specs.Prelude.{replicate, reverse, ◌&&◌, ◌||◌, codes}
-use Rattle.std.specs.List.{prefix_len, suffix_len, zip}
+use Rattle.std.specs.List.{prefix_len, suffix_len, zip, filter}
 use Rattle.std.specs.Option.{option_map}
 use Rattle.std.specs.Fmt.{decimal}
 use Rattle.std.specs.Str.{all_ascii_digits}
@@ -22,18 +22,20 @@ use Rattle.htmd_text.specs.Digits.{digits}
 use Rattle.htmd_text.specs.Trims.{trimmed_start, trimmed_end, trimmed_text, some_text, is_line_feed}
 use Rattle.htmd_text.specs.Indents.{indented_text}
 use Rattle.htmd_markdown.specs.ListItems.{number_marker}
-use Rattle.htmd_markdown.specs.Lists.{Block, item, item_count, highest_number, first_number, ordered_list, list_block}
-use Rattle.htmd_markdown.specs.Lists.{between_line_feeds}
+use Rattle.htmd_markdown.specs.Lists.{Block, item, other, item_count, highest_number, first_number, ordered_list}
+use Rattle.htmd_markdown.specs.Lists.{list_block, between_line_feeds}
 use Rattle.htmd_markdown.specs.ListColumns.{item_content, StandsInColumn, HasEqualColumns}
 use Rattle.htmd_markdown.proofs.ListsLemmas.{items_in, item_count-append}
 use Rattle.htmd_markdown.proofs.ListColumnsLemmas.{columns_equal}
-use Rattle.htmd_tree.specs.Items.{children_of, tag_of, data_at}
+use Rattle.htmd_tree.specs.Items.{Item, children_of, tag_of, data_at}
 use Rattle.htmd.specs.Handling.{ElementView, ResultView}
 use Rattle.htmd.specs.Outputs.{is_pure}
+use Rattle.htmd.specs.Children.{content_alone, descendant_tree}
+use Rattle.htmd.specs.Elements.{Occurrence, contents_alone}
 use Rattle.htmd.specs.ElementViews.{raw_block_result, are_markdown, attributes_of, value_of_first}
 use Rattle.htmd.specs.Inline.{optional_markdown}
-use Rattle.htmd.specs.ListElements.{block_of_child, blocks_of, first_number_of, is_in_item}
-use Rattle.htmd.specs.ListLaws.{ItemsBeginInOneColumn}
+use Rattle.htmd.specs.ListElements.{block_of_child, blocks_of_list, blocks_of, first_number_of, is_in_item}
+use Rattle.htmd.specs.ListLaws.{ItemsBeginInOneColumn, is_item, HasItemBehind, EachItemTakesANumber}
 
 -- ---- line feeds are cut behind a text
 
@@ -42,20 +44,20 @@ record Ends (s : List ℕ) : Type 0 where
   pub before : List ℕ
   pub last : ℕ
   pub is : s ≡ before ++ last ∷ []
-  pub other : is_line_feed last ≡ false
+  pub differs : is_line_feed last ≡ false
 
 ends_behind : (front s : List ℕ) → Ends s → Ends (front ++ s)
 ends_behind front s ends = record {
   before = front ++ ends.before;
   last = ends.last;
   is = ap (λ l. front ++ l) ends.is ∙ sym (append_assoc front ends.before (ends.last ∷ []));
-  other = ends.other;
+  differs = ends.differs;
 }
 
 prefix_stops : (xs ys : List ℕ) (b : ℕ) → is_line_feed b ≡ false
     → prefix_len is_line_feed (xs ++ b ∷ ys) ≡ prefix_len is_line_feed xs
-prefix_stops [] ys b other = cond-false (is_line_feed b) (1 + prefix_len is_line_feed ys) 0 other
-prefix_stops (x ∷ xs) ys b other = ap (λ n. cond (is_line_feed x) (1 + n) 0) (prefix_stops xs ys b other)
+prefix_stops [] ys b differs = cond-false (is_line_feed b) (1 + prefix_len is_line_feed ys) 0 differs
+prefix_stops (x ∷ xs) ys b differs = ap (λ n. cond (is_line_feed x) (1 + n) 0) (prefix_stops xs ys b differs)
 
 end_kept : (s rest : List ℕ) → Ends s
     → trimmed_end is_line_feed (s ++ rest) ≡ s ++ trimmed_end is_line_feed rest
@@ -63,7 +65,7 @@ end_kept s rest ends =
     let turned = ap reverse ends.is ∙ reverse-append ends.before (ends.last ∷ []) in
     let same : suffix_len is_line_feed (s ++ rest) ≡ suffix_len is_line_feed rest =
     ap (prefix_len is_line_feed) (reverse-append s rest ∙ ap (λ l. reverse rest ++ l) turned)
-    ∙ prefix_stops (reverse rest) (reverse ends.before) ends.last ends.other in
+    ∙ prefix_stops (reverse rest) (reverse ends.before) ends.last ends.differs in
     let size : length (s ++ rest) - suffix_len is_line_feed (s ++ rest)
     ≡ length s + (length rest - suffix_len is_line_feed rest) =
     omega (arith, length-append s rest, same, suffix_len-le-length is_line_feed rest) in
@@ -81,7 +83,7 @@ cut_at s (suc n) e =
       before = take n s;
       last = get_or s n 0;
       is = ap (λ k. take k s) (sym (add-one n)) ∙ take_more s n 0 (omega arith);
-      other = ap is_line_feed (sym same) ∙ stops;
+      differs = ap is_line_feed (sym same) ∙ stops;
     })
 
 -- ---- line feeds are cut before a text
@@ -102,7 +104,7 @@ one_more : (n : ℕ) → 1 + n ≡ suc n
 one_more n = omega arith
 
 stays : (b : ℕ) (s : List ℕ) → is_line_feed b ≡ false → trimmed_start is_line_feed (b ∷ s) ≡ b ∷ s
-stays b s other = ap (λ n. drop n (b ∷ s)) (cond-false (is_line_feed b) (1 + prefix_len is_line_feed s) 0 other)
+stays b s differs = ap (λ n. drop n (b ∷ s)) (cond-false (is_line_feed b) (1 + prefix_len is_line_feed s) 0 differs)
 
 passed : (b : ℕ) (s : List ℕ) → is_line_feed b ≡ true
     → trimmed_start is_line_feed (b ∷ s) ≡ trimmed_start is_line_feed s
@@ -127,10 +129,10 @@ cut_before (b ∷ before) line begins =
       is = passed b text is ∙ cut.is;
       line_end = cut.line_end;
     })
-    (λ other. record {
+    (λ differs. record {
       front = (b ∷ before) ++ line_feed ∷ [];
       before = line_feed ∷ b ∷ before;
-      is = stays b text other;
+      is = stays b text differs;
       line_end = refl;
     })
     (cases_Bool (is_line_feed b))
@@ -138,12 +140,12 @@ cut_before (b ∷ before) line begins =
 -- ---- the marker of an item
 
 spaces_end : (count : ℕ) → Ends (full_stop ∷ replicate count space)
-spaces_end zero = record { before = []; last = full_stop; is = refl; other = refl }
+spaces_end zero = record { before = []; last = full_stop; is = refl; differs = refl }
 spaces_end (suc count) = record {
   before = full_stop ∷ replicate count space;
   last = space;
   is = ap (λ l. full_stop ∷ l) (sym (replicate_more count space ∙ ap (λ n. replicate n space) (add-one count)));
-  other = refl;
+  differs = refl;
 }
 
 marker_ends : (spacing highest number : ℕ) → Ends (number_marker spacing highest number)
@@ -155,8 +157,8 @@ digit_other b le = grind (arith, nat_tests)
 
 begins_behind : (s rest : List ℕ) → 0 < length s → is_line_feed (get_or s 0 0) ≡ false → Begins (s ++ rest)
 unfolding Begins
-begins_behind [] rest some other = absurd (omega arith)
-begins_behind (b ∷ s) rest some other = other
+begins_behind [] rest some differs = absurd (omega arith)
+begins_behind (b ∷ s) rest some differs = differs
 
 marker_begins : (spacing highest number : ℕ) (content behind : List ℕ) → number < 2 ^ 64
     → Begins ((number_marker spacing highest number ++ content) ++ behind)
@@ -305,3 +307,57 @@ items_begin view few results =
     (block_holds (HasEqualColumns first spacing blocks) (between_line_feeds (cond (is_in_item view) 1 2))
     (trimmed_text is_line_feed (ordered_list first spacing blocks))
     (equal_between (is_in_item view) first spacing blocks small))
+
+-- ---- each item takes a number
+
+contents_length : (at : Occurrence) (nodes : List ℕ) (definitions : List (List ℕ))
+    → length (contents_alone at nodes definitions).results ≡ length nodes
+contents_length at [] definitions = refl
+contents_length at (node ∷ nodes) definitions =
+    let tree = descendant_tree at.conversion.items at.view.text node in
+    ap suc (contents_length at nodes (content_alone at.write at.conversion tree node definitions).definitions)
+
+behind_child : (is_li : Bool) (child : ℕ) (before : List ℕ) (content : List ℕ) (blocks : List Block)
+    → HasItemBehind (length before) blocks
+    → HasItemBehind (length (cond is_li (child ∷ before) before)) (cond is_li (item content) (other content) ∷ blocks)
+behind_child true child before content blocks has = record {
+  earlier = item content ∷ has.earlier;
+  later = has.later;
+  content = has.content;
+  whole = ap (λ l. item content ∷ l) has.whole;
+  counted = ap suc has.counted;
+}
+behind_child false child before content blocks has = record {
+  earlier = other content ∷ has.earlier;
+  later = has.later;
+  content = has.content;
+  whole = ap (λ l. other content ∷ l) has.whole;
+  counted = has.counted;
+}
+
+item_among : (items : List Item) (earlier later : List ℕ) (child : ℕ) (results : List ResultView)
+    → length results ≡ length (earlier ++ child ∷ later) → is_item items child ≡ true
+    → HasItemBehind (length (filter (is_item items) earlier))
+    (blocks_of_list items (earlier ++ child ∷ later) results)
+item_among items [] later child [] size is = absurd (omega (arith, size))
+item_among items (e ∷ earlier) later child [] size is = absurd (omega (arith, size))
+item_among items [] later child (r ∷ results) size is = record {
+  earlier = [];
+  later = blocks_of_list items later results;
+  content = r.content;
+  whole = ap (λ b. cond b (item r.content) (other r.content) ∷ blocks_of_list items later results) is;
+  counted = refl;
+}
+item_among items (e ∷ earlier) later child (r ∷ results) size is =
+    behind_child (is_item items e) e (filter (is_item items) earlier) r.content
+    (blocks_of_list items (earlier ++ child ∷ later) results)
+    (item_among items earlier later child results (omega (arith, size)) is)
+
+pub each_item : EachItemTakesANumber
+each_item at definitions earlier later child split is =
+    let items = at.view.items in
+    let children = children_of items at.view.node in
+    let results = (contents_alone at children definitions).results in
+    subst (λ (l : List ℕ). HasItemBehind (length (filter (is_item items) earlier)) (blocks_of_list items l results))
+    (sym split)
+    (item_among items earlier later child results (contents_length at children definitions ∙ ap length split) is)

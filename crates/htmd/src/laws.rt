@@ -6,7 +6,7 @@ ghost use Rattle.htmd.specs.GroupLaws.{ChildrenAreCut};
 ghost use Rattle.htmd.specs.EmphasisLaws.{MarksStandInside};
 ghost use Rattle.htmd.specs.LinkLaws.{AnchorsTakeTheNextNumber, ReferencesAreNumbered};
 ghost use Rattle.htmd.specs.LinkLaws.{ImagesHoldAddresses, LinksHoldAddresses};
-ghost use Rattle.htmd.specs.ListLaws.{ItemsBeginInOneColumn};
+ghost use Rattle.htmd.specs.ListLaws.{EachItemTakesANumber, ItemsBeginInOneColumn};
 ghost use Rattle.htmd.specs.ParagraphLaws.{ParagraphsReadBack};
 ghost use Rattle.htmd.specs.Views.{element_view};
 
@@ -66,6 +66,11 @@ pub fn items_begin_in_one_column(element: &Element)
 {
     let _children = element.tree.children(element.node);
 }
+
+/// Each `li` among the children of `ol` takes the next number, one that gives nothing too, as where `li` is skipped.
+pub fn each_item_takes_a_number()
+    ensures { EachItemTakesANumber }
+{}
 
 /// Where the Document's children are `p` without attributes, each holding at most one text, and all handlers are built
 /// in, the Markdown of the whole tree reads back: cut at its blank lines, without the backslashes that escape, it is
