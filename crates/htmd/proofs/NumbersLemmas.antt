@@ -1,6 +1,6 @@
 -- The laws of the numbers of references.
 use Rattle.std.proofs.Common.{◌≡◌, ℕ, zero, suc, ◌+◌, List, [], ◌∷◌, ◌++◌, length, Option, Some, None, slice_get}
-use Rattle.std.proofs.Common.{refl, sym, ap, ◌∙◌, subst, ◌⊎◌, inl, inr, ⊎_elim, arith}
+use Rattle.std.proofs.Common.{set, refl, sym, ap, ◌∙◌, subst, ◌⊎◌, inl, inr, ⊎_elim, arith}
 use Rattle.std.proofs.lemmas.List.{append-nil}
 use Rattle.htmd_markdown.specs.Links.{definition}
 use Rattle.htmd_markdown.specs.declared.link.LinkReferenceStyle.TheVariants.{Full}
@@ -9,11 +9,12 @@ use Rattle.htmd.specs.declared.options.LinkStyle.{LinkStyle}
 use Rattle.htmd.specs.declared.options.LinkStyle.TheVariants.{Inlined, InlinedPreferAutolinks, Referenced}
 use Rattle.htmd.specs.Handling.{ElementView, ResultView, PlanView, HandlerMeaning, of_functions}
 use Rattle.htmd.specs.Choice.{Config, handler_at, with_handler, no_handler}
+use Rattle.htmd.specs.Layers.{with_functions}
 use Rattle.htmd.specs.LinkAttributes.{title_of}
 use Rattle.htmd.specs.Anchors.{anchors, anchor_address, finish_at, link_finish}
 use Rattle.htmd.specs.Outputs.{conversion_of}
 use Rattle.htmd.specs.BuiltIn.{Row, with_rows, built_in_rows, empty_config}
-use Rattle.htmd.specs.LinkLaws.{IsRegistry, of_built_in, with_added, with_skipped, with_these}
+use Rattle.htmd.specs.LinkLaws.{IsRegistry, of_built_in, with_added, with_skipped, with_closures, with_these}
 use Rattle.htmd.specs.LinkLaws.{AddsNone, DefinesNumber, AreNumbered, ReferencesAreNumbered}
 use Rattle.htmd.proofs.KeepingLemmas.{HandlerKeeps, HandlersKeep, keeps-within}
 
@@ -69,6 +70,12 @@ known_at [] index known = none_known
 known_at (handler ∷ handlers) zero known = known.0
 known_at (handler ∷ handlers) (suc index) known = known_at handlers index known.1
 
+known_put : (handlers : List HandlerMeaning) (index : ℕ) (handler : HandlerMeaning) → AreKnown handlers
+    → IsKnown handler → AreKnown (set handlers index handler)
+known_put [] index handler known new = tt
+known_put (old ∷ handlers) zero handler known new = (new, known.1)
+known_put (old ∷ handlers) (suc index) handler known new = (known.0, known_put handlers index handler known.1 new)
+
 -- ---- the built-in handlers
 
 abbrev AreRowsKnown : List Row → Type 0
@@ -100,6 +107,9 @@ registry_known (with_added {config} tags plan finish append before) =
     (of_functions_known plan finish append, tt)
 registry_known (with_skipped {config} tags before) =
     known_append config.handlers (no_handler ∷ []) (registry_known before) (none_known, tt)
+registry_known (with_closures {config} index plan finish before) =
+    known_put config.handlers index (with_functions (handler_at config.handlers index) plan finish)
+    (registry_known before) (inr (λ view content definitions. refl))
 registry_known (with_these options before) = registry_known before
 
 -- ---- a conversion

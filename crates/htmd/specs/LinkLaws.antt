@@ -12,6 +12,7 @@ use Rattle.htmd.specs.declared.options.LinkStyle.TheVariants.{Inlined, InlinedPr
 use Rattle.htmd.specs.declared.options.Options.{Options}
 use Rattle.htmd.specs.Handling.{ElementView, ResultView, PlanView, this_result, Finish, HandlerMeaning, of_functions}
 use Rattle.htmd.specs.Choice.{Config, handler_at, with_handler, with_options, no_handler}
+use Rattle.htmd.specs.Layers.{put_at}
 use Rattle.htmd.specs.LinkAttributes.{title_of}
 use Rattle.htmd.specs.Images.{images, image_address, alternative_text}
 use Rattle.htmd.specs.Anchors.{anchors, anchor_address}
@@ -68,7 +69,8 @@ AnchorsTakeTheNextNumber =
       added = definition Full number content.content address (title_of view) ∷ [];
     }
 
--- a registry as the calls make it: the built-in handlers, and then those that are added or skip tags
+-- a registry as the calls make it: the built-in handlers, and then those that are added or skip tags; closures take the
+-- place of one that skips tags
 pub data IsRegistry : Config → Type 0 where
   of_built_in : (options : Options) → IsRegistry (built_in options)
   with_added : {config : Config} (tags : List (List ℕ)) (plan : ElementView → PlanView)
@@ -76,6 +78,9 @@ pub data IsRegistry : Config → Type 0 where
       → IsRegistry (with_handler config tags (of_functions plan finish append))
   with_skipped : {config : Config} (tags : List (List ℕ)) → IsRegistry config
       → IsRegistry (with_handler config tags no_handler)
+  with_closures : {config : Config} (index : ℕ) (plan : ElementView → PlanView)
+      (finish : ElementView → ResultView → Option ResultView) → IsRegistry config
+      → IsRegistry (put_at config index plan finish)
   with_these : {config : Config} (options : Options) → IsRegistry config → IsRegistry (with_options config options)
 
 abbrev pub AddsNone : HandlerMeaning → Type 0

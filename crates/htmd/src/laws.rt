@@ -43,7 +43,8 @@ pub fn anchors_take_the_next_number()
     ensures { AnchorsTakeTheNextNumber }
 {}
 
-/// In style Full the i-th line of a conversion defines the number i, and anchors alone add lines.
+/// In style Full the i-th line of a conversion defines the number i, and anchors alone add lines, whatever handlers
+/// are added, boxed or of closures.
 pub fn references_are_numbered()
     ensures { ReferencesAreNumbered }
 {}
