@@ -1,6 +1,12 @@
 -- What Markdown a tree becomes, in reading order: what a handler is and answers, which handlers a tag has, how texts
 -- are put together, what an element and a node give by them, what a whole conversion gives, and its laws; then the
 -- built-in handlers and the registry; last what private contracts alone speak of.
+pub use Rattle.htmd_text.specs.Characters
+pub use Rattle.htmd_text.specs.Blocks
+pub use Rattle.htmd_tree.specs.Items
+pub use Rattle.htmd_tree.specs.NumberedTrees
+pub use Rattle.htmd_tree.specs.Ancestors
+pub use Rattle.htmd_grammar.specs.declared.fault.FaultKind
 pub mod Handling
 pub mod Choice
 pub mod Seams

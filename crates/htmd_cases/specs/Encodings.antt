@@ -3,7 +3,7 @@ use Rattle.std.specs.Prelude.{ℕ, ◌==◌, if◌then◌else◌, List, codes}
 use Rattle.std.specs.Char.{encode_utf8}
 use Rattle.std.specs.List.{flat_map}
 use Rattle.std.specs.Str.{chars}
-use Rattle.htmd_text.specs.Characters.{null, tab, line_feed, carriage_return, backslash}
+use Rattle.htmd.specs.Characters.{null, tab, line_feed, carriage_return, backslash}
 
 -- one character
 abbrev pub encoded_char : ℕ → List ℕ

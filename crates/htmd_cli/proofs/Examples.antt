@@ -1,8 +1,8 @@
 -- Worked examples of what the program writes.
 use Rattle.std.proofs.Common.{◌≡◌, ℕ, List, [], ◌∷◌, true, false, codes, refl}
-use Rattle.htmd_text.specs.Blocks.{is_block}
-use Rattle.htmd_tree.specs.NumberedTrees.{tree_of, forest_from}
-use Rattle.htmd_tree.specs.Ancestors.{ancestors_of, ancestors_up}
+use Rattle.htmd.specs.Blocks.{is_block}
+use Rattle.htmd.specs.NumberedTrees.{tree_of, forest_from}
+use Rattle.htmd.specs.Ancestors.{ancestors_of, ancestors_up}
 use Rattle.htmd.specs.Rendering.{written_within}
 use Rattle.htmd.specs.Markdown.{markdown}
 use Rattle.htmd_cli.specs.Conversion.{paragraph_markdown, paragraph_output}

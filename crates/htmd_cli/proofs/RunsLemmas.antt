@@ -2,8 +2,8 @@
 use Rattle.std.proofs.Common.{◌≡◌, ◌∙◌, sym, ap, subst, ℕ, Bool, List, [], ◌∷◌, ◌++◌, Option, Some, None}
 use Rattle.std.proofs.Common.{Result, Err, IsErrAnd, IsUtf8, append-nil}
 use Rattle.std.specs.Io.KnownBytes.{Appends, Consumes, IsAtEnd}
-use Rattle.htmd_text.specs.Characters.{line_feed}
-use Rattle.htmd_grammar.specs.declared.fault.FaultKind.{FaultKind}
+use Rattle.htmd.specs.Characters.{line_feed}
+use Rattle.htmd.specs.FaultKind.{FaultKind}
 use Rattle.htmd.specs.declared.conversion.ConvertError.{ConvertError}
 use Rattle.htmd.specs.declared.conversion.ConvertError.TheVariants as conversion
 use Rattle.htmd_cli.specs.declared.faults.RunError.{RunError}

@@ -1,7 +1,7 @@
 -- The Markdown of an input, and what the program writes for it.
 use Rattle.std.specs.Prelude.{◌≡◌, ℕ, Bool, true, false, if◌then◌else◌, List, [], ◌∷◌, ◌++◌, codes}
-use Rattle.htmd_text.specs.Characters.{line_feed}
-use Rattle.htmd_tree.specs.Items.{Item, document_item, new_item, element_node, text_node}
+use Rattle.htmd.specs.Characters.{line_feed}
+use Rattle.htmd.specs.Items.{Item, document_item, new_item, element_node, text_node}
 use Rattle.htmd.specs.declared.options.Options.{Options}
 use Rattle.htmd.specs.declared.options.TranslationMode.TheVariants.{Pure, Faithful}
 use Rattle.htmd.specs.Defaults.{default_options}

@@ -1,7 +1,7 @@
 -- What a run reads and writes, where the bytes of its source and sink are known.
 use Rattle.std.specs.Prelude.{ℕ, Bool, List, [], ◌∷◌, ◌++◌, Option, IfSome, IsUtf8}
 use Rattle.std.specs.Io.KnownBytes.{Appends}
-use Rattle.htmd_text.specs.Characters.{line_feed}
+use Rattle.htmd.specs.Characters.{line_feed}
 use Rattle.htmd_cli.specs.Conversion.{HasMarkdown}
 
 -- the bytes are UTF-8, and their Markdown and a line feed were written

@@ -2,7 +2,7 @@
 ghost use Rattle.std.specs.Prelude.{◌≡◌, ℕ, true, Err, IfOk, string_bytes};
 ghost use Rattle.htmd.specs.BuiltIn.{built_in};
 ghost use Rattle.htmd.specs.Conversions.{IsMarkdownOf, IsRefused};
-ghost use Rattle.htmd_grammar.specs.declared.fault.FaultKind.{FaultKind};
+ghost use Rattle.htmd.specs.FaultKind.{FaultKind};
 ghost use Rattle.htmd_cli.specs.Conversion.{options_of};
 
 use crate::paragraph::options_of;

@@ -2,8 +2,8 @@
 ghost use Rattle.std.specs.Prelude.{◌≡◌, ◌≢◌, ◌↔◌, ℕ, [], ◌∷◌, ◌++◌, true, false, IsTrue, Err, IsUtf8, string_bytes};
 ghost use Rattle.std.specs.Prelude.{OnOk, OnErr, IfOk, IfErr, IfSome, IsErrOf};
 ghost use Rattle.std.specs.Io.KnownBytes.{Appends, Consumes, IsAtEnd, Keeps};
-ghost use Rattle.htmd_text.specs.Characters.{line_feed};
-ghost use Rattle.htmd_grammar.specs.declared.fault.FaultKind.{FaultKind};
+ghost use Rattle.htmd.specs.Characters.{line_feed};
+ghost use Rattle.htmd.specs.FaultKind.{FaultKind};
 ghost use Rattle.htmd.specs.Conversions.{IsRefused};
 ghost use Rattle.htmd_cli.specs.Conversion.{HasMarkdown};
 ghost use Rattle.htmd_cli.specs.Failures.{FailsAtErr};

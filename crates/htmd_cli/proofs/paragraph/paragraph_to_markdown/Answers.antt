@@ -1,7 +1,7 @@
 -- What is left to prove of `paragraph_to_markdown`.
 use Rattle.std.proofs.Common.{◌≡◌, ◌∙◌, ap, ℕ, List, string_bytes}
 use Rattle.std.proofs.lemmas.Result.{IfOk-weaker}
-use Rattle.htmd_tree.specs.Items.{Item}
+use Rattle.htmd.specs.Items.{Item}
 use Rattle.htmd.specs.Choice.{Config, with_options}
 use Rattle.htmd.specs.Defaults.{default_options}
 use Rattle.htmd.specs.BuiltIn.{built_in}
