@@ -1,4 +1,5 @@
 -- What is written part by part, and worked rows.
 pub mod AppendsLemmas
 pub mod RunsLemmas
+pub mod ParagraphLawsLemmas
 mod Examples

@@ -3,3 +3,4 @@ pub mod Failures
 pub mod Conversion
 pub mod Runs
 pub mod Words
+pub mod ParagraphLaws

@@ -7,6 +7,7 @@
 #![tactic(auto)]
 
 mod faults;
+pub mod laws;
 mod page;
 mod paragraph;
 mod pipeline;
