@@ -1,3 +1,4 @@
+pub use Rattle.htmd_tree.proofs.ItemsLemmas
 pub mod Cuts
 pub mod SeamsLemmas
 pub mod PlainTextsLemmas

@@ -3,6 +3,7 @@
 -- built-in handlers and the registry; last what private contracts alone speak of.
 pub use Rattle.htmd_text.specs.Characters
 pub use Rattle.htmd_text.specs.Blocks
+pub use Rattle.htmd_tree.specs.ValueTrees
 pub use Rattle.htmd_tree.specs.Items
 pub use Rattle.htmd_tree.specs.NumberedTrees
 pub use Rattle.htmd_tree.specs.Ancestors

@@ -1,10 +1,10 @@
 -- The Markdown of one paragraph reads back.
 use Rattle.std.proofs.Common.{◌≡◌, ◌<◌, ◌≤◌, ℕ, zero, suc, List, [], ◌∷◌, Some, None, Option, codes, refl, arith}
-use Rattle.htmd_tree.specs.ValueTrees.{document}
-use Rattle.htmd_tree.specs.Items.{document_item, element_node, text_node, parent_at, depth_at, greatest_depth, IsUnder}
-use Rattle.htmd_tree.specs.Items.{IsTree}
-use Rattle.htmd_tree.specs.NumberedTrees.{tree_of, forest_from, value_tree}
-use Rattle.htmd_tree.proofs.ItemsLemmas.{IsTree-added}
+use Rattle.htmd.specs.ValueTrees.{document}
+use Rattle.htmd.specs.Items.{document_item, element_node, text_node, parent_at, depth_at, greatest_depth, IsUnder}
+use Rattle.htmd.specs.Items.{IsTree}
+use Rattle.htmd.specs.NumberedTrees.{tree_of, forest_from, value_tree}
+use Rattle.htmd.proofs.ItemsLemmas.{IsTree-added}
 use Rattle.htmd.specs.ParagraphLaws.{paragraphs}
 use Rattle.htmd.proofs.ParagraphLawsLemmas.{paragraphs_read_back}
 use Rattle.htmd_cli.specs.Conversion.{paragraph, empty_paragraph, paragraph_markdown, options_of}
