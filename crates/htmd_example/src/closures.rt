@@ -4,7 +4,7 @@ ghost use Rattle.htmd.specs.Handling.{ElementView, ResultView, PlanView, content
 ghost use Rattle.htmd.specs.Views.{optional_result};
 
 use htmd::element_handler::{Element, FnHandler, HandlerResult, HandlerRule, Plan};
-use htmd::{HtmlToMarkdown, Tree, TreeError};
+use htmd::{ConvertError, HtmlToMarkdown};
 use std::alloc::{AllocError, Global};
 
 /// Names what the closures mean: the content, and behind it an exclamation mark.
@@ -21,10 +21,7 @@ impl HandlerRule for Louder {
 }
 
 /// The Markdown of `<b>Stop</b>`.
-pub(crate) fn shouted(alloc: Global) -> Result<String, TreeError> {
-    let mut tree = Tree::new(alloc)?;
-    let strong = tree.add_element(tree.root(), "b", Vec::new(alloc))?;
-    tree.add_text(strong, "Stop")?;
+pub(crate) fn shouted(alloc: Global) -> Result<String, ConvertError> {
     let mark = String::from_str(alloc, "!")?;
     let handler = FnHandler::new(
         Louder,
@@ -44,7 +41,7 @@ pub(crate) fn shouted(alloc: Global) -> Result<String, TreeError> {
         },
     );
     let Ok(builder) = HtmlToMarkdown::builder(alloc)?.add_fn_handler(&["b"], handler) else {
-        return Err(TreeError::Memory);
+        return Err(ConvertError::Memory);
     };
-    Ok(builder.build().tree_to_markdown(alloc, &tree, tree.root())?)
+    builder.build().convert(alloc, "<b>Stop</b>")
 }

@@ -1,16 +1,13 @@
 //! Tags that are skipped.
-use htmd::{HtmlToMarkdown, Tree, TreeError};
+use htmd::{ConvertError, HtmlToMarkdown};
 use std::alloc::Global;
 
-/// The Markdown of `<p>Kept</p><aside>left out</aside>` without what stands in `aside` and `nav`.
-pub(crate) fn without_asides(alloc: Global) -> Result<String, TreeError> {
-    let mut tree = Tree::new(alloc)?;
-    let paragraph = tree.add_element(tree.root(), "p", Vec::new(alloc))?;
-    tree.add_text(paragraph, "Kept")?;
-    let aside = tree.add_element(tree.root(), "aside", Vec::new(alloc))?;
-    tree.add_text(aside, "left out")?;
+/// The Markdown of a page without what stands in `aside` and `nav`.
+pub(crate) fn without_asides(alloc: Global) -> Result<String, ConvertError> {
     let Ok(builder) = HtmlToMarkdown::builder(alloc)?.skip_tags(&["aside", "nav"]) else {
-        return Err(TreeError::Memory);
+        return Err(ConvertError::Memory);
     };
-    Ok(builder.build().tree_to_markdown(alloc, &tree, tree.root())?)
+    builder
+        .build()
+        .convert(alloc, "<p>Kept</p><aside>left out</aside>")
 }
