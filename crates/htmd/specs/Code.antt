@@ -11,16 +11,12 @@ use Rattle.htmd_markdown.specs.IndentedCode.{indented_code_block}
 use Rattle.htmd_tree.specs.ValueTrees.{AttributePair}
 use Rattle.htmd_tree.specs.Items.{Item, data_at, parent_at, children_of}
 use Rattle.htmd_tree.specs.Ancestors.{ancestor_of}
-use Rattle.htmd_tree.specs.NumberedTrees.{tree_of, value_tree}
-use Rattle.htmd_tree.specs.Serialisation.{serialisation}
-use Rattle.htmd_tree.specs.RawBlocks.{raw_block}
 use Rattle.htmd.specs.declared.options.CodeBlockStyle.{CodeBlockStyle}
 use Rattle.htmd.specs.declared.options.CodeBlockStyle.TheVariants.{Indented, Fenced}
 use Rattle.htmd.specs.Handling.{ElementView, ResultView, PlanView, raw_html, content_of_children, HandlerMeaning, of_plan}
 use Rattle.htmd.specs.Outputs.{is_pure}
 use Rattle.htmd.specs.ElementViews.{attributes_of, tag_at, parent_tag, is_tag_among, is_raw_html_due, unless_attributes}
-use Rattle.htmd.specs.ElementViews.{plan_if}
-use Rattle.htmd.specs.Elements.{raw_result}
+use Rattle.htmd.specs.ElementViews.{plan_if, raw_block_result}
 use Rattle.htmd.specs.Rendering.{is_text}
 use Rattle.htmd.specs.Sections.{markdown_result, wrapped_result}
 
@@ -107,14 +103,10 @@ preformatted_plan view =
     unless_attributes view
     (plan_if (view.markdown_translated && is_code_alone view.items (children_of view.items view.node)) view)
 
-abbrev pub raw_block_result : ElementView → Option ResultView
-raw_block_result view =
-    Some (raw_result (raw_block (serialisation (value_tree (tree_of view.items view.node)))))
-
 abbrev pub preformatted_result : ElementView → ResultView → Option ResultView
 preformatted_result view content =
     if is_pure view.options || content.markdown_translated then wrapped_result view content
-    else raw_block_result view
+    else Some (raw_block_result view)
 
 abbrev pub preformatted_texts : HandlerMeaning
 preformatted_texts = of_plan preformatted_plan preformatted_result

@@ -5,9 +5,8 @@ ghost use Rattle.htmd_tree.specs.Items.{children_of};
 ghost use Rattle.htmd.specs.Code as spec;
 ghost use Rattle.htmd.specs.Views.{plan_view, element_view, result_view, optional_result};
 
-use super::plans::{is_plain, is_pure, plan_if, wrap};
+use super::plans::{is_plain, is_pure, plan_if, raw_block_result, wrap};
 use super::{Element, HandlerResult, Plan};
-use htmd_tree::raw_block;
 use std::alloc::{AllocError, Global};
 
 /// Whether the only child is `code`.
@@ -46,9 +45,5 @@ pub(crate) fn finish(
     if is_pure(element.options) || content.markdown_translated {
         return wrap(alloc, element, content);
     }
-    let raw = raw_block(alloc, element.tree, element.node)?;
-    Ok(Some(HandlerResult {
-        content: raw,
-        markdown_translated: false,
-    }))
+    Ok(Some(raw_block_result(alloc, element)?))
 }
