@@ -3,7 +3,8 @@ use Rattle.std.proofs.Common.{◌≡◌, ℕ, ◌+◌, ◌-◌, ◌<◌, ◌≤�
 use Rattle.std.proofs.Common.{refl, sym, ap, ◌∙◌, subst, arith, Ok, Err, Result, is_some, inl, ◌&&◌, ◌==◌, not}
 use Rattle.std.proofs.Common.{eqb-true}
 use Rattle.std.specs.Prelude.{nat_lt}
-use Rattle.std.specs.List.{position, position_or_len}
+use Rattle.std.specs.List.{list_any, position, position_or_len}
+use Rattle.std.proofs.lemmas.Bool.{or_parts}
 use Rattle.std.specs.Option.{MatchOption}
 use Rattle.std.proofs.lemmas.Bool.Decides.{nat_tests}
 use Rattle.htmd_text.proofs.Cases.{test}
@@ -144,6 +145,19 @@ pub null_found : (s : List ℕ) (o : Option ℕ) (place : ℕ) → o ≡ positio
     → IsFirstNul s place
 null_found s o place e f =
     subst (λ x. MatchOption x (lacks null s ≡ true) (λ k. IsFirstNul s k)) f (first_null_is s o e)
+
+no_null_before : (s : List ℕ) → list_any is_null s ≡ false → position_or_len is_null s ≡ length s
+no_null_before [] e = refl
+no_null_before (b ∷ s) e =
+    let parts = or_parts (b == null) (list_any is_null s) e in
+    let more = no_null_before s parts.1 in
+    rw parts.0 (omega (arith, more))
+
+-- where no byte is U+0000 it stands nowhere
+pub null_nowhere : (s : List ℕ) → list_any is_null s ≡ false → position is_null s ≡ None
+null_nowhere s e =
+    let past : nat_lt (length s) (length s) ≡ false = grind (arith, nat_tests) in
+    rw (no_null_before s e, past) refl
 
 pub null_lacks : (s : List ℕ) (o : Option ℕ) → o ≡ position is_null s → o ≡ None → lacks null s ≡ true
 null_lacks s o e f = subst (λ x. MatchOption x (lacks null s ≡ true) (λ k. IsFirstNul s k)) f (first_null_is s o e)

@@ -1,7 +1,8 @@
 -- How the parts of a start tag follow from the runs that are found.
 use Rattle.std.proofs.Common.{◌≡◌, ℕ, zero, suc, ◌<◌, ◌≤◌, Bool, true, false, not, ◌&&◌, List, [], ◌∷◌, ◌++◌, length, map}
 use Rattle.std.proofs.Common.{drop, get_or, refl, sym, ◌∙◌, ap, arith, eqb, append_assoc, length-drop}
-use Rattle.std.specs.Prelude.{if◌then◌else◌}
+use Rattle.std.specs.Prelude.{◌==◌, if◌then◌else◌}
+use Rattle.std.proofs.lemmas.Bool.{and_parts, eqb-true}
 use Rattle.std.proofs.lemmas.Bool.Decides.{nat_tests}
 use Rattle.std.specs.List.{list_all}
 use Rattle.std.specs.Char.{is_ascii_alphabetic, to_ascii_lowercase}
@@ -35,6 +36,15 @@ pub name_lacks_letter : (s : List ℕ) → is_ascii_alphabetic (get_or s 0 0) �
     → is_tag_name (leading_run is_tag_name_byte s) ≡ false
 name_lacks_letter [] e = refl
 name_lacks_letter (b ∷ s) e = test (is_tag_name_byte b) (λ k. rw (k, e) refl) (λ k. rw k refl)
+
+-- lower case changes nothing of a name that is in lower case
+pub lower_case_stays : (s : List ℕ) → list_all (λ b. to_ascii_lowercase b == b) s ≡ true
+    → map to_ascii_lowercase s ≡ s
+lower_case_stays [] all = refl
+lower_case_stays (b ∷ s) all =
+    let parts = and_parts (to_ascii_lowercase b == b) (list_all (λ c. to_ascii_lowercase c == c) s) all in
+    let same : to_ascii_lowercase b ≡ b = eqb-true (to_ascii_lowercase b) b parts.0 in
+    rw (same, lower_case_stays s parts.1) refl
 
 -- ---- values
 

@@ -17,7 +17,7 @@ ghost use Rattle.htmd_grammar.specs.declared.fault.FaultKind.{FaultKind};
 ghost use Rattle.htmd_grammar.specs.declared.fault.FaultKind.TheVariants.{TooDeep};
 ghost use Rattle.htmd_text.specs.Characters.{null};
 ghost use Rattle.htmd_tree.specs.Layout.{document_items};
-ghost use Rattle.std.specs.List.{position};
+ghost use Rattle.std.specs.List.{list_any, position};
 ghost use Rattle.htmd_tree.specs.Views.{data_of, pairs_of};
 ghost use Rattle.htmd_tree.specs.Items.{holds_children, data_at};
 ghost use Rattle.htmd_tree.specs.OpenNodes.{Holds, IsReading, MayOpen, innermost_name, open_node};
@@ -249,10 +249,25 @@ impl<'a> Reader<'a> {
     }
 }
 
+/// Whether U+0000 is among the bytes. All are looked at, so that a processor can compare many at once.
+fn holds_null(bytes: &[u8]) -> bool
+    ensures { result ≡ list_any (λ b. b == null) bytes.now }
+{
+    let mut holds = false;
+    for byte in bytes {
+        holds |= *byte == 0;
+    }
+    holds
+}
+
+#[tactic(auto, using(crate::proofs::DocumentsLemmas::null_nowhere))]
 /// Where the first U+0000 stands.
 fn first_null(text: &str) -> Option<usize>
     ensures { result ≡ position (λ b. b == null) text.now }
 {
+    if !holds_null(text.as_bytes()) {
+        return None;
+    }
     text.as_bytes().iter().position(|b| *b == 0)
 }
 

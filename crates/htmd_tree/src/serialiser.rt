@@ -62,32 +62,22 @@ fn push_value(out: &mut String, value: &str) -> Result<(), AllocError>
     Ok(())
 }
 
-/// Whether an element of this name, in lower case, is written without an end tag (HTML Standard, 13.3).
+/// Whether an element of this name, in lower case, is written without an end tag (HTML Standard, 13.3). It is compared
+/// with the names of its own length alone.
 #[tactic(auto, unfolding(htmd_grammar::specs::Serialisation::is_void))]
 pub fn is_void(name: &str) -> bool
     ensures { result ≡ spec.is_void name.now }
 {
-    matches!(
-        name,
-        "area"
-            | "base"
-            | "basefont"
-            | "bgsound"
-            | "br"
-            | "col"
-            | "embed"
-            | "frame"
-            | "hr"
-            | "img"
-            | "input"
-            | "keygen"
-            | "link"
-            | "meta"
-            | "param"
-            | "source"
-            | "track"
-            | "wbr"
-    )
+    match name.len() {
+        2 => matches!(name, "br" | "hr"),
+        3 => matches!(name, "col" | "img" | "wbr"),
+        4 => matches!(name, "area" | "base" | "link" | "meta"),
+        5 => matches!(name, "embed" | "frame" | "input" | "param" | "track"),
+        6 => matches!(name, "keygen" | "source"),
+        7 => name == "bgsound",
+        8 => name == "basefont",
+        _ => false,
+    }
 }
 
 /// Whether the texts of an element are written as they are.

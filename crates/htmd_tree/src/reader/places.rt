@@ -55,10 +55,13 @@ pub(crate) struct Place {
     pub(crate) description: bool,
 }
 
-/// Whether a tag of this name has no place at all.
+/// Whether a tag of this name has no place at all. No such name is as short as most names are.
 pub(crate) fn is_outside(name: &str) -> bool
     ensures { result ≡ spec.is_outside name.now }
 {
+    if name.len() < 4 {
+        return false;
+    }
     matches!(
         name,
         "html"
@@ -142,7 +145,7 @@ fn closes_paragraph(name: &str) -> bool
 fn is_heading(name: &str) -> bool
     ensures { result ≡ spec.is_heading name.now }
 {
-    matches!(name, "h1" | "h2" | "h3" | "h4" | "h5" | "h6")
+    matches!(name.as_bytes(), [b'h', b'1'..=b'6'])
 }
 
 /// Whether an element of this name stands in a `table` only.
@@ -318,21 +321,23 @@ impl Place {
         }
     }
 
+    #[tactic(auto, using(htmd_grammar::proofs::BooleanLemmas::and_false))]
     /// Whether an element of this name may stand here as the open elements go.
     fn fits_open_elements(self, name: &str) -> bool
         ensures { result ≡ flags.flags_fit_open_elements self name.now }
     {
-        !(closes_paragraph(name) && self.open_p)
+        !(self.open_p && closes_paragraph(name))
             && !self.is_open(name)
-            && !(is_named(name, "optgroup") && self.open_options)
-            && !(is_heading(name) && self.heading)
+            && !(self.open_options && is_named(name, "optgroup"))
+            && !(self.heading && is_heading(name))
     }
 
+    #[tactic(auto, using(htmd_grammar::proofs::BooleanLemmas::and_false))]
     /// Whether an element of this name may stand here as lists go.
     fn fits_lists(self, name: &str) -> bool
         ensures { result ≡ flags.flags_fit_lists self name.now }
     {
-        !(is_named(name, "li") && self.item) && !(matches!(name, "dd" | "dt") && self.description)
+        !(self.item && is_named(name, "li")) && !(self.description && matches!(name, "dd" | "dt"))
     }
 
     /// Whether all that is kept lets an element of this name stand here.

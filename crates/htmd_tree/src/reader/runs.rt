@@ -23,9 +23,10 @@ fn is_of(byte: u8, class: Class) -> bool
         }
         Class::WhiteSpace => byte.is_ascii_whitespace(),
         Class::AttributeName => {
-            !(byte.is_ascii_whitespace()
-                || byte.is_ascii_control()
-                || matches!(byte, b'"' | b'\'' | b'<' | b'/' | b'>' | b'='))
+            byte.is_ascii_alphabetic()
+                || !(byte.is_ascii_whitespace()
+                    || byte.is_ascii_control()
+                    || matches!(byte, b'"' | b'\'' | b'<' | b'/' | b'>' | b'='))
         }
         Class::UnquotedValue => {
             !(byte.is_ascii_whitespace() || matches!(byte, b'"' | b'\'' | b'<' | b'>' | b'`'))

@@ -17,7 +17,7 @@ use crate::reader::attributes::tag_form;
 use crate::reader::contents::content_of;
 use crate::reader::places::is_outside;
 use crate::reader::runs::{Class, behind_first, split_run, strip_byte};
-use crate::reader::tag_names::split_name;
+use crate::reader::tag_names::{in_lower_case, split_name};
 use crate::reader::{Reader, Stop};
 use crate::serialiser::is_void;
 use crate::tree::{Attribute, NodeData};
@@ -150,7 +150,7 @@ impl<'a> Reader<'a> {
         let Some(rest) = strip_byte(end, b'>') else {
             return Err(self.refused(FaultKind::MalformedTag));
         };
-        let name = spelled.to_ascii_lowercase(self.alloc)?;
+        let name = in_lower_case(self.alloc, spelled)?;
         if is_outside(name.as_str()) {
             return Err(self.refused(FaultKind::TagOutside));
         }
