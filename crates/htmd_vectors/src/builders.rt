@@ -1,25 +1,21 @@
-//! Builders of converters.
-use crate::rows::{Row, built};
+//! Options and builders of converters.
+use htmd::HtmlToMarkdownBuilder;
 use htmd::element_handler::ElementHandler;
-use htmd::options::{Options, TranslationMode};
-use htmd::{HtmlToMarkdown, HtmlToMarkdownBuilder};
-use std::alloc::Global;
+use htmd::options::{LinkStyle, Options, TranslationMode};
 use std::test::Fail;
-
-/// The Markdown of the tree of a row.
-pub(crate) fn markdown_of(
-    alloc: Global,
-    converter: &HtmlToMarkdown,
-    row: Row,
-) -> Result<String, Fail> {
-    let tree = built(alloc, row)?;
-    Ok(converter.tree_to_markdown(alloc, &tree, tree.root())?)
-}
 
 /// The default options, but Faithful.
 pub(crate) fn faithful() -> Options {
     Options {
         translation_mode: TranslationMode::Faithful,
+        ..Options::default()
+    }
+}
+
+/// The default options, but links are references.
+pub(crate) fn referenced() -> Options {
+    Options {
+        link_style: LinkStyle::Referenced,
         ..Options::default()
     }
 }
@@ -31,6 +27,20 @@ pub(crate) fn with_handler(
     handler: Box<dyn ElementHandler>,
 ) -> Result<HtmlToMarkdownBuilder, Fail> {
     match builder.add_handler(&[tag], handler) {
+        Ok(builder) => Ok(builder),
+        Err(_) => Err(Fail::from("there is memory")),
+    }
+}
+
+/// The builder, where these tags are skipped.
+pub(crate) fn skipping(
+    builder: HtmlToMarkdownBuilder,
+    tags: &[&str],
+) -> Result<HtmlToMarkdownBuilder, Fail> {
+    if tags.is_empty() {
+        return Err(Fail::from("there is a tag"));
+    }
+    match builder.skip_tags(tags) {
         Ok(builder) => Ok(builder),
         Err(_) => Err(Fail::from("there is memory")),
     }

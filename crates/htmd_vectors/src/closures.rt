@@ -3,7 +3,6 @@ ghost use Rattle.std.specs.Prelude.{◌≡◌, ◌++◌, Some, None, IfOk, true,
 ghost use Rattle.htmd.specs.Handling.{nothing, content_of_children, content_of_fallback};
 ghost use Rattle.htmd.specs.Views.{optional_result};
 
-use crate::rows::built;
 use htmd::HtmlToMarkdown;
 use htmd::element_handler::{Element, FnHandler, HandlerResult, HandlerRule, Plan};
 use std::alloc::{AllocError, Global};
@@ -67,9 +66,10 @@ fn keeps_a_text(rt: HostRuntime) -> Result<(), Fail> {
         return Err(Fail::from("there is memory"));
     };
     let converter = builder.build();
-    let tree = built(rt.alloc(), &[(0, "p", ""), (1, "", "a"), (0, "", "b")])?;
-    let answer = converter.tree_to_markdown(rt.alloc(), &tree, tree.root())?;
-    assert_eq!(rt; answer.as_str(), "a!b");
+    for (html, markdown) in [("<p>a</p>", "a!"), ("<p>a</p>b", "a!b")] {
+        let answer = converter.convert(rt.alloc(), html)?;
+        assert_eq!(rt; answer.as_str(), markdown);
+    }
     Ok(())
 }
 
@@ -106,18 +106,7 @@ fn asks_the_newest_first(rt: HostRuntime) -> Result<(), Fail> {
         return Err(Fail::from("there is memory"));
     };
     let converter = builder.build();
-    let tree = built(
-        rt.alloc(),
-        &[
-            (0, "b", ""),
-            (1, "", "a"),
-            (0, "i", ""),
-            (3, "", "gone"),
-            (0, "u", ""),
-            (5, "", " c"),
-        ],
-    )?;
-    let answer = converter.tree_to_markdown(rt.alloc(), &tree, tree.root())?;
+    let answer = converter.convert(rt.alloc(), "<b>a</b><i>gone</i><u> c</u>")?;
     assert_eq!(rt; answer.as_str(), "a! c");
     Ok(())
 }
@@ -137,11 +126,7 @@ fn passes_over(rt: HostRuntime) -> Result<(), Fail> {
         return Err(Fail::from("there is memory"));
     };
     let converter = builder.build();
-    let tree = built(
-        rt.alloc(),
-        &[(0, "", "a"), (0, "hr", ""), (0, "b", ""), (3, "", "c")],
-    )?;
-    let answer = converter.tree_to_markdown(rt.alloc(), &tree, tree.root())?;
+    let answer = converter.convert(rt.alloc(), "a<hr><b>c</b>")?;
     assert_eq!(rt; answer.as_str(), "a**c**");
     Ok(())
 }

@@ -1,23 +1,24 @@
 //! Handlers of one's own: what they are shown, what they may ask for, and in what order they are asked.
-use crate::builders::{faithful, markdown_of, with_handler};
+use crate::builders::{faithful, referenced, skipping, with_handler};
 use crate::handlers::{
-    AsRawHtml, GivesNothing, NeedsAttributes, PassesOn, Says, TellsFlag, TextAlone,
+    AsRawHtml, FirstChild, GivesNothing, NeedsId, PassesOn, Says, TellsDue, TellsFlag, TextAlone,
 };
-use crate::rows::Row;
+use crate::pages::page_by;
 use htmd::HtmlToMarkdown;
 use htmd::element_handler::ElementHandler;
+use htmd::options::Options;
 use std::alloc::Global;
 use std::test::Fail;
 
-// The Markdown of a row with one handler, for a tag.
+// The Markdown of a page with one handler, for a tag.
 fn with_one(
     alloc: Global,
     tag: &str,
     handler: Box<dyn ElementHandler>,
-    row: Row,
+    html: &str,
 ) -> Result<String, Fail> {
     let builder = with_handler(HtmlToMarkdown::builder(alloc)?, tag, handler)?;
-    markdown_of(alloc, &builder.build(), row)
+    page_by(alloc, &builder.build(), html)
 }
 
 fn says(alloc: Global, text: &str, markdown_translated: bool) -> Result<Says, Fail> {
@@ -32,61 +33,49 @@ fn says(alloc: Global, text: &str, markdown_translated: bool) -> Result<Says, Fa
 // carriage return; a block of blank lines is put on by the seam.
 #[test]
 fn takes_texts(rt: HostRuntime) -> Result<(), Fail> {
-    let row: Row = &[
-        (0, "p", ""),
-        (1, "", "a "),
-        (1, "x", ""),
-        (3, "", "gone"),
-        (1, "", " b"),
+    let page = "<p>a <x>gone</x> b</p>";
+    let table: [(&str, &str, &str, &str); 8] = [
+        ("x", "[Svg Image]", page, "a [Svg Image] b"),
+        ("x", "", page, "a b"),
+        ("x", "\n\n\n", page, "a \n\n b"),
+        ("x", "\r", page, "a \r b"),
+        ("x", "\n- c\n", page, "a \n- c\n b"),
+        ("x", " ", page, "a b"),
+        ("svg", "[Svg Image]", "<svg></svg>", "[Svg Image]"),
+        ("span", "[s]", "<p><span>x</span></p>", "[s]"),
     ];
-    let table: [(&str, &str); 6] = [
-        ("[Svg Image]", "a [Svg Image] b"),
-        ("", "a b"),
-        ("\n\n\n", "a \n\n b"),
-        ("\r", "a \r b"),
-        ("\n- c\n", "a \n- c\n b"),
-        (" ", "a b"),
-    ];
-    for (text, markdown) in table {
+    for (tag, text, html, markdown) in table {
         let handler: Box<dyn ElementHandler> = Box::new(rt.alloc(), says(rt.alloc(), text, true)?)?;
-        let answer = with_one(rt.alloc(), "x", handler, row)?;
+        let answer = with_one(rt.alloc(), tag, handler, html)?;
         assert_eq!(rt; answer.as_str(), markdown, "{text:?}");
     }
-    let image: Box<dyn ElementHandler> = Box::new(
-        rt.alloc(),
-        says(rt.alloc(), "[Svg Image]", true)?,
-    )?;
-    let answer = with_one(rt.alloc(), "svg", image, &[(0, "svg", "")])?;
-    assert_eq!(rt; answer.as_str(), "[Svg Image]");
-    let span: Box<dyn ElementHandler> = Box::new(rt.alloc(), says(rt.alloc(), "[s]", true)?)?;
-    let row: Row = &[(0, "p", ""), (1, "span", ""), (2, "", "x")];
-    let answer = with_one(rt.alloc(), "span", span, row)?;
-    assert_eq!(rt; answer.as_str(), "[s]");
     Ok(())
 }
 
-// The flag of a result is told to those above, also in Pure, and also past elements without handlers.
+// The flag of a result is told to those above, also in Pure, and also past elements without handlers;
+// a list hides it.
 #[test]
 fn tells_flags(rt: HostRuntime) -> Result<(), Fail> {
-    let table: [(Row, &str); 4] = [
-        (&[(0, "p", ""), (1, "span", ""), (2, "x", "")], "F"),
-        (&[(0, "p", ""), (1, "mark", ""), (2, "x", "")], "F"),
-        (&[(0, "p", ""), (1, "span", ""), (2, "", "a")], "T"),
-        (&[(0, "p", ""), (1, "div", ""), (2, "x", "")], "T"),
+    let table: [(&str, &str, &str); 5] = [
+        ("p", "<p><span><x></x></span></p>", "F"),
+        ("p", "<p><mark><x></x></mark></p>", "F"),
+        ("p", "<p><span>a</span></p>", "T"),
+        ("div", "<div><ul><x></x></ul></div>", "T"),
+        ("section", "<section><div><x></x></div></section>", "T"),
     ];
-    for (row, markdown) in table {
+    for (tag, html, markdown) in table {
         let raw: Box<dyn ElementHandler> = Box::new(rt.alloc(), AsRawHtml)?;
         let flag: Box<dyn ElementHandler> = Box::new(rt.alloc(), TellsFlag)?;
         let builder = with_handler(HtmlToMarkdown::builder(rt.alloc())?, "x", raw)?;
-        let converter = with_handler(builder, "p", flag)?.build();
-        let answer = markdown_of(rt.alloc(), &converter, row)?;
-        assert_eq!(rt; answer.as_str(), markdown);
+        let converter = with_handler(builder, tag, flag)?.build();
+        let answer = page_by(rt.alloc(), &converter, html)?;
+        assert_eq!(rt; answer.as_str(), markdown, "{html:?}");
     }
     let unsure: Box<dyn ElementHandler> = Box::new(rt.alloc(), says(rt.alloc(), "x", false)?)?;
     let flag: Box<dyn ElementHandler> = Box::new(rt.alloc(), TellsFlag)?;
     let builder = with_handler(HtmlToMarkdown::builder(rt.alloc())?, "x", unsure)?;
     let converter = with_handler(builder, "p", flag)?.build();
-    let answer = markdown_of(rt.alloc(), &converter, &[(0, "p", ""), (1, "x", "")])?;
+    let answer = page_by(rt.alloc(), &converter, "<p><x></x></p>")?;
     assert_eq!(rt; answer.as_str(), "F");
     Ok(())
 }
@@ -94,72 +83,92 @@ fn tells_flags(rt: HostRuntime) -> Result<(), Fail> {
 // Raw HTML of an element without a block name shows its content, and a group its joined text.
 #[test]
 fn gives_raw_html(rt: HostRuntime) -> Result<(), Fail> {
-    let table: [(Row, &str); 3] = [
-        (&[(0, "x", ""), (1, "b", ""), (2, "", "y")], "<x>**y**</x>"),
+    let table: [(&str, &str); 3] = [
+        ("<x><b>y</b></x>", "<x>**y**</x>"),
+        ("<x a=1>y</x><x a=1>z</x>", "<x a=\"1\">yz</x>"),
         (
-            &[(0, "x", "a=1"), (1, "", "y"), (0, "x", "a=1"), (3, "", "z")],
-            "<x a=\"1\">yz</x>",
-        ),
-        (
-            &[(0, "x", "a=1"), (1, "", "y"), (0, "x", "a=2"), (3, "", "z")],
+            "<x a=1>y</x><x a=2>z</x>",
             "<x a=\"1\">y</x><x a=\"2\">z</x>",
         ),
     ];
-    for (row, markdown) in table {
+    for (html, markdown) in table {
         let raw: Box<dyn ElementHandler> = Box::new(rt.alloc(), AsRawHtml)?;
-        let answer = with_one(rt.alloc(), "x", raw, row)?;
-        assert_eq!(rt; answer.as_str(), markdown);
+        let answer = with_one(rt.alloc(), "x", raw, html)?;
+        assert_eq!(rt; answer.as_str(), markdown, "{html:?}");
     }
     Ok(())
 }
 
-// A group shows its joined text.
+// A group shows its joined text, and an element with other children none.
 #[test]
 fn shows_texts(rt: HostRuntime) -> Result<(), Fail> {
-    let table: [(Row, &str); 4] = [
-        (
-            &[(0, "i", ""), (1, "", "a"), (0, "em", ""), (3, "", "b")],
-            "ab",
-        ),
-        (&[(0, "i", ""), (1, "", " * ")], " *"),
-        (&[(0, "i", ""), (1, "", "a"), (1, "", "b")], ""),
-        (&[(0, "i", "")], ""),
+    let table: [(&str, &str); 4] = [
+        ("<i>a</i><em>b</em>", "ab"),
+        ("<i> * </i>", " *"),
+        ("<i>a<b>b</b></i>", ""),
+        ("<i></i>", ""),
     ];
-    for (row, markdown) in table {
+    for (html, markdown) in table {
         let handler: Box<dyn ElementHandler> = Box::new(rt.alloc(), TextAlone)?;
-        let answer = with_one(rt.alloc(), "i", handler, row)?;
-        assert_eq!(rt; answer.as_str(), markdown);
+        let answer = with_one(rt.alloc(), "i", handler, html)?;
+        assert_eq!(rt; answer.as_str(), markdown, "{html:?}");
     }
     Ok(())
 }
 
-// What a handler finishes with may be nothing; a fallback past the last handler is the content.
+// A descendant is handed over by itself: below `pre` its white space is kept, and a text is ordinary.
+#[test]
+fn asks_for_descendants(rt: HostRuntime) -> Result<(), Fail> {
+    let table: [(&str, &str); 3] = [
+        (
+            "<pre><delegate><mark>  *literal*  \nsecond</mark></delegate></pre>",
+            "  *literal*  \nsecond",
+        ),
+        ("<p>a<delegate>  *b*</delegate></p>", "a\\*b\\*"),
+        ("<p>a<delegate></delegate></p>", "a"),
+    ];
+    for (html, markdown) in table {
+        let handler: Box<dyn ElementHandler> = Box::new(rt.alloc(), FirstChild)?;
+        let answer = with_one(rt.alloc(), "delegate", handler, html)?;
+        assert_eq!(rt; answer.as_str(), markdown, "{html:?}");
+    }
+    Ok(())
+}
+
+// What a handler finishes with may be nothing.
 #[test]
 fn finishes(rt: HostRuntime) -> Result<(), Fail> {
     let nothing: Box<dyn ElementHandler> = Box::new(rt.alloc(), GivesNothing)?;
-    let row: Row = &[(0, "p", ""), (1, "", "a"), (0, "", "b")];
-    let answer = with_one(rt.alloc(), "p", nothing, row)?;
+    let answer = with_one(rt.alloc(), "p", nothing, "<p>a</p>b")?;
     assert_eq!(rt; answer.as_str(), "b");
-    let table: [(&str, Row, &str); 5] = [
-        ("b", &[(0, "b", "id=i"), (1, "", "x")], "**x**"),
-        ("b", &[(0, "b", ""), (1, "", "x")], ""),
-        ("u", &[(0, "u", "id=i"), (1, "", "x*")], "x\\*"),
-        (
-            "x-y",
-            &[(0, "x-y", "id=i"), (1, "p", ""), (2, "", "x")],
-            "x",
-        ),
-        (
-            "br",
-            &[(0, "", "a"), (0, "br", "id=i"), (0, "", "b")],
-            "a  \nb",
-        ),
+    Ok(())
+}
+
+// A fallback goes to the handler before; past the last one it is the content.
+#[test]
+fn falls_back(rt: HostRuntime) -> Result<(), Fail> {
+    let table: [(&str, &str, &str); 7] = [
+        ("img", "<img src=\"/x\" id=\"i\"/>", "![](/x)"),
+        ("img", "<img src=\"/x\"/>", ""),
+        ("b", "<b id=i>x</b>", "**x**"),
+        ("b", "<b>x</b>", ""),
+        ("u", "<u id=i>x*</u>", "x\\*"),
+        ("x-y", "<x-y id=i><p>x</p></x-y>", "x"),
+        ("br", "a<br id=i>b", "a  \nb"),
     ];
-    for (tag, row, markdown) in table {
-        let handler: Box<dyn ElementHandler> = Box::new(rt.alloc(), NeedsAttributes)?;
-        let answer = with_one(rt.alloc(), tag, handler, row)?;
-        assert_eq!(rt; answer.as_str(), markdown);
+    for (tag, html, markdown) in table {
+        let handler: Box<dyn ElementHandler> = Box::new(rt.alloc(), NeedsId)?;
+        let answer = with_one(rt.alloc(), tag, handler, html)?;
+        assert_eq!(rt; answer.as_str(), markdown, "{html:?}");
     }
+    let html =
+        "<pre><code><span>sudo apt update\n</span><span>sudo apt install curl\n</span></code></pre>";
+    let handler: Box<dyn ElementHandler> = Box::new(rt.alloc(), PassesOn { appended: None })?;
+    let answer = with_one(rt.alloc(), "span", handler, html)?;
+    assert_eq!(rt;
+        answer.as_str(),
+        "```\nsudo apt update\nsudo apt install curl\n```"
+    );
     Ok(())
 }
 
@@ -168,24 +177,31 @@ fn passes_on(alloc: Global, appended: &str) -> Result<PassesOn, Fail> {
     Ok(PassesOn { appended })
 }
 
-// The texts after a conversion stand in order of registration, the final line feeds cut once in all.
+// The texts after a conversion stand in order of registration, the final line feeds cut once in all, and
+// those of definitions before all others.
 #[test]
 fn puts_texts_after_a_conversion(rt: HostRuntime) -> Result<(), Fail> {
-    let table: [(&str, &str, &str); 5] = [
-        ("\n\nA\n", "\n\nB\n\n", "t\n\nA\n\n\nB"),
-        ("", "", "t"),
-        ("\n\n", "\n", "t"),
-        ("", "\n\nB", "t\n\nB"),
-        ("\n\nA\n", "\n\n", "t\n\nA"),
+    let link = "<a href=\"/x\">t</a>";
+    let table: [(&str, &str, &str, &str); 6] = [
+        ("\n\nA\n", "\n\nB\n\n", "<p>t</p>", "t\n\nA\n\n\nB"),
+        ("", "", "<p>t</p>", "t"),
+        ("\n\n", "\n", "<p>t</p>", "t"),
+        ("", "\n\nB", "<p>t</p>", "t\n\nB"),
+        ("\n\nA\n", "\n\n", "<p>t</p>", "t\n\nA"),
+        (
+            "\n\nA\n",
+            "\n\nB\n\n",
+            link,
+            "[t][1]\n\n[1]: /x\n\n\n\nA\n\n\nB",
+        ),
     ];
-    for (first, second, markdown) in table {
-        let builder = HtmlToMarkdown::builder(rt.alloc())?;
+    for (first, second, html, markdown) in table {
+        let builder = HtmlToMarkdown::builder(rt.alloc())?.options(referenced());
         let first: Box<dyn ElementHandler> = Box::new(rt.alloc(), passes_on(rt.alloc(), first)?)?;
         let second: Box<dyn ElementHandler> = Box::new(rt.alloc(), passes_on(rt.alloc(), second)?)?;
         let builder = with_handler(builder, "q", first)?;
         let builder = with_handler(builder, "r", second)?;
-        let row: Row = &[(0, "p", ""), (1, "", "t")];
-        let answer = markdown_of(rt.alloc(), &builder.build(), row)?;
+        let answer = page_by(rt.alloc(), &builder.build(), html)?;
         assert_eq!(rt; answer.as_str(), markdown);
     }
     Ok(())
@@ -195,41 +211,56 @@ fn puts_texts_after_a_conversion(rt: HostRuntime) -> Result<(), Fail> {
 #[test]
 fn registers_twice(rt: HostRuntime) -> Result<(), Fail> {
     let handler: Box<dyn ElementHandler> = Box::new(rt.alloc(), PassesOn { appended: None })?;
-    let builder = match HtmlToMarkdown::builder(rt.alloc())?.add_handler(&["b", "b"], handler) {
-        Ok(builder) => builder,
-        Err(_) => return Err(Fail::from("there is memory")),
+    let Ok(builder) = HtmlToMarkdown::builder(rt.alloc())?.add_handler(&["b", "b"], handler) else {
+        return Err(Fail::from("there is memory"));
     };
-    let row: Row = &[(0, "b", ""), (1, "", "x")];
-    let answer = markdown_of(rt.alloc(), &builder.build(), row)?;
+    let answer = page_by(rt.alloc(), &builder.build(), "<b>x</b>")?;
     assert_eq!(rt; answer.as_str(), "**x**");
     Ok(())
 }
 
 #[test]
 fn skips_tags(rt: HostRuntime) -> Result<(), Fail> {
-    let builder = match HtmlToMarkdown::builder(rt.alloc())?.skip_tags(&["script", "style"]) {
-        Ok(builder) => builder,
-        Err(_) => return Err(Fail::from("there is memory")),
-    };
-    let row: Row = &[
-        (0, "script", ""),
-        (1, "", "let x = 0;"),
-        (0, "p", ""),
-        (3, "", "a"),
-        (3, "style", ""),
-        (5, "", "p {}"),
+    let builder = HtmlToMarkdown::builder(rt.alloc())?;
+    let converter = skipping(builder, &["script", "style"])?.build();
+    let table: [(&str, &str); 2] = [
+        ("<script>let x = 0;</script>", ""),
+        (
+            "<script>let x = 0;</script><p>a<style>p {}</style></p>",
+            "a",
+        ),
     ];
-    let answer = markdown_of(rt.alloc(), &builder.build(), row)?;
+    for (html, markdown) in table {
+        let answer = page_by(rt.alloc(), &converter, html)?;
+        assert_eq!(rt; answer.as_str(), markdown, "{html:?}");
+    }
+    let builder = HtmlToMarkdown::builder(rt.alloc())?.options(faithful());
+    let converter = skipping(builder, &["x"])?.build();
+    let answer = page_by(rt.alloc(), &converter, "a<x a=1>b</x>")?;
     assert_eq!(rt; answer.as_str(), "a");
-    let builder = match HtmlToMarkdown::builder(rt.alloc())?
-        .options(faithful())
-        .skip_tags(&["x"])
-    {
-        Ok(builder) => builder,
-        Err(_) => return Err(Fail::from("there is memory")),
-    };
-    let row: Row = &[(0, "", "a"), (0, "x", "a=1"), (2, "", "b")];
-    let answer = markdown_of(rt.alloc(), &builder.build(), row)?;
-    assert_eq!(rt; answer.as_str(), "a");
+    Ok(())
+}
+
+// Raw HTML is due in Faithful alone, where there are more attributes than are allowed, which may be fewer
+// than none.
+#[test]
+fn asks_whether_raw_html_is_due(rt: HostRuntime) -> Result<(), Fail> {
+    let table: [(i64, &str, &str); 6] = [
+        (-1, "<x></x>", "T"),
+        (0, "<x></x>", "F"),
+        (0, "<x a></x>", "T"),
+        (1, "<x a></x>", "F"),
+        (1, "<x a b></x>", "T"),
+        (i64::MIN, "<x></x>", "T"),
+    ];
+    for (allowed, html, markdown) in table {
+        for (options, wanted) in [(faithful(), markdown), (Options::default(), "F")] {
+            let handler: Box<dyn ElementHandler> = Box::new(rt.alloc(), TellsDue { allowed })?;
+            let builder = HtmlToMarkdown::builder(rt.alloc())?.options(options);
+            let converter = with_handler(builder, "x", handler)?.build();
+            let answer = page_by(rt.alloc(), &converter, html)?;
+            assert_eq!(rt; answer.as_str(), wanted, "{html:?} {allowed}");
+        }
+    }
     Ok(())
 }

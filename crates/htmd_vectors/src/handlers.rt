@@ -1,10 +1,17 @@
 //! Handlers of one's own, of each kind.
-ghost use Rattle.std.specs.Prelude.{Some, None, if◌then◌else◌, true, codes, string_bytes};
+ghost use Rattle.std.specs.Option.{option_copied};
+ghost use Rattle.std.specs.Prelude.{◌≡◌, ◌&&◌, Some, None, if◌then◌else◌, length, not, true};
+ghost use Rattle.std.specs.Prelude.{codes, string_bytes};
+ghost use Rattle.htmd_tree.specs.Items.{children_of};
+ghost use Rattle.htmd_tree.specs.Views.{pairs_of};
+ghost use Rattle.htmd.specs.ElementViews.{attributes_of, is_more_than, value_of_first};
 ghost use Rattle.htmd.specs.Handling.{nothing, this_result, raw_html, content_of_children, content_of_fallback};
+ghost use Rattle.htmd.specs.Outputs.{is_pure};
 ghost use Rattle.htmd.specs.Views.{optional_text};
-ghost use Rattle.htmd_vectors.specs.Plans.{plan_of_text, plan_with_attributes};
+ghost use Rattle.htmd_vectors.specs.Plans.{plan_of_text, plan_of_first, plan_with_id};
 
-use htmd::element_handler::{Element, ElementHandler, HandlerResult, Plan};
+use htmd::Attribute;
+use htmd::element_handler::{Element, ElementHandler, HandlerResult, Plan, is_raw_html_due};
 use std::alloc::{AllocError, Global};
 
 /// Gives this text with this flag.
@@ -206,12 +213,12 @@ impl ElementHandler for TellsFlag {
     }
 }
 
-/// Gives what the handler before gives, where the element has attributes.
+/// Gives the content of the first child, which is handed over by itself.
 #[derive(Drop)]
-pub(crate) struct NeedsAttributes;
+pub(crate) struct FirstChild;
 
-impl ElementHandler for NeedsAttributes {
-    ghost plan_of = { λ _ view. plan_with_attributes view };
+impl ElementHandler for FirstChild {
+    ghost plan_of = { λ _ view. plan_of_first (children_of view.items view.node) };
 
     ghost finish_of = { λ _ _ given. Some given };
 
@@ -222,10 +229,10 @@ impl ElementHandler for NeedsAttributes {
     }
 
     fn plan(&self, _alloc: Global, element: &Element) -> Result<Plan, AllocError> {
-        if element.attrs.is_empty() {
-            return Ok(Plan::Skip);
+        match element.tree().children(element.node).first() {
+            Some(child) => Ok(Plan::Descendant(*child)),
+            None => Ok(Plan::Skip),
         }
-        Ok(Plan::Fallback)
     }
 
     fn finish(
@@ -235,5 +242,86 @@ impl ElementHandler for NeedsAttributes {
         content: HandlerResult,
     ) -> Result<Option<HandlerResult>, AllocError> {
         Ok(Some(content))
+    }
+}
+
+// The value of the first attribute of this name.
+fn value_of<'e>(attrs: &'e [Attribute], name: &str) -> Option<&'e str>
+    ensures { option_copied result ≡ value_of_first name.now (pairs_of attrs.now) }
+{
+    for attribute in attrs {
+        if attribute.name.as_str() == name {
+            return Some(attribute.value.as_str());
+        }
+    }
+    None
+}
+
+/// Gives what the handler before gives, where the element has the attribute `id`.
+#[derive(Drop)]
+pub(crate) struct NeedsId;
+
+impl ElementHandler for NeedsId {
+    ghost plan_of = { λ _ view. plan_with_id view };
+
+    ghost finish_of = { λ _ _ given. Some given };
+
+    ghost append_of = { λ _. None };
+
+    fn append(&self, _alloc: Global) -> Result<Option<String>, AllocError> {
+        Ok(None)
+    }
+
+    fn plan(&self, _alloc: Global, element: &Element) -> Result<Plan, AllocError> {
+        match value_of(element.attrs, "id") {
+            Some(_) => Ok(Plan::Fallback),
+            None => Ok(Plan::Skip),
+        }
+    }
+
+    fn finish(
+        &self,
+        _alloc: Global,
+        _element: &Element,
+        content: HandlerResult,
+    ) -> Result<Option<HandlerResult>, AllocError> {
+        Ok(Some(content))
+    }
+}
+
+/// Gives `T` where raw HTML is due for more attributes than these, else `F`.
+#[derive(Drop)]
+pub(crate) struct TellsDue {
+    pub(crate) allowed: i64,
+}
+
+impl ElementHandler for TellsDue {
+    ghost plan_of = { λ h view. this_result (record {
+      content = if not (is_pure view.options) && is_more_than h.allowed (length (attributes_of view))
+          then codes "T" else codes "F";
+      markdown_translated = true;
+    }) };
+
+    ghost finish_of = { λ _ _ _. None };
+
+    ghost append_of = { λ _. None };
+
+    fn append(&self, _alloc: Global) -> Result<Option<String>, AllocError> {
+        Ok(None)
+    }
+
+    fn plan(&self, alloc: Global, element: &Element) -> Result<Plan, AllocError> {
+        let is_due = is_raw_html_due(element.options(), element, self.allowed);
+        let answer = if is_due { "T" } else { "F" };
+        Ok(Plan::Text(HandlerResult::from_text(alloc, answer)?))
+    }
+
+    fn finish(
+        &self,
+        _alloc: Global,
+        _element: &Element,
+        _content: HandlerResult,
+    ) -> Result<Option<HandlerResult>, AllocError> {
+        Ok(None)
     }
 }

@@ -1,7 +1,9 @@
-//! Worked examples of the whole, from a tree or from bytes to Markdown. What is expected is written by
-//! hand from the rules, and never taken from the program's own output.
+//! Worked examples of the whole: from a page of HTML, a tree that is built by calls, or bytes, to Markdown or to a
+//! refusal. What is expected is written by hand from the rules, and never taken from the program's own output.
 #![tactic(auto)]
 
+#[cfg(test)]
+mod blocks;
 #[cfg(test)]
 mod builders;
 #[cfg(test)]
@@ -11,15 +13,29 @@ mod code;
 #[cfg(test)]
 mod custom;
 #[cfg(test)]
+mod depth;
+#[cfg(test)]
+mod formats;
+#[cfg(test)]
 mod handlers;
 #[cfg(test)]
 mod links;
 #[cfg(test)]
 mod lists;
 #[cfg(test)]
+mod memory;
+#[cfg(test)]
 mod modes;
 #[cfg(test)]
+mod nodes;
+#[cfg(test)]
+mod pages;
+#[cfg(test)]
 mod program;
+#[cfg(test)]
+mod reader;
+#[cfg(test)]
+mod references;
 #[cfg(test)]
 mod registry;
 #[cfg(test)]
@@ -28,3 +44,5 @@ mod rows;
 mod tables;
 #[cfg(test)]
 mod trees;
+#[cfg(test)]
+mod truncations;

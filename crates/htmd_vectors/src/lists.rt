@@ -1,113 +1,33 @@
-//! Lists of trees that are built by calls.
-use crate::rows::{Row, built, converted};
+//! Lists.
+use crate::builders::{faithful, skipping};
+use crate::pages::{converted_page, page_by};
 use htmd::HtmlToMarkdown;
-use htmd::options::{BulletListMarker, Options, TranslationMode};
+use htmd::options::Options;
 use std::test::Fail;
-
-const ONE_ITEM: [(usize, &str, &str); 3] = [(0, "ol", ""), (1, "li", ""), (2, "", "a")];
 
 #[test]
 fn converts_lists(rt: HostRuntime) -> Result<(), Fail> {
-    let table: [(Row, &str); 10] = [
+    let table: [(&str, &str); 10] = [
         (
-            &[
-                (0, "ol", "start=9"),
-                (1, "li", ""),
-                (2, "", "a"),
-                (1, "li", ""),
-                (4, "", "b"),
-            ],
+            "<ol start=\"9\"><li>a</li><li>b</li></ol>",
             "9.   a\n10.  b",
         ),
+        ("<ul><li>a<ul><li>b</li></ul></li></ul>", "*   a\n    *   b"),
+        ("<ol><li>a</li>x<li>b</li></ol>", "1.  ax\n2.  b"),
+        ("<ol start=\"+5\"><li>a</li></ol>", "5.  a"),
+        ("<ol start=\" 5\"><li>a</li></ol>", "1.  a"),
+        ("<ol start=\"-3\"><li>a</li></ol>", "1.  a"),
         (
-            &[
-                (0, "ol", ""),
-                (1, "li", ""),
-                (2, "", "a"),
-                (1, "", "x"),
-                (1, "li", ""),
-                (5, "", "b"),
-            ],
-            "1.  ax\n2.  b",
-        ),
-        (
-            &[(0, "ol", "start=+5"), (1, "li", ""), (2, "", "a")],
-            "5.  a",
-        ),
-        (
-            &[(0, "ol", "start= 5"), (1, "li", ""), (2, "", "a")],
-            "1.  a",
-        ),
-        (
-            &[(0, "ol", "start=-3"), (1, "li", ""), (2, "", "a")],
-            "1.  a",
-        ),
-        (
-            &[
-                (0, "ol", "start=2147483647"),
-                (1, "li", ""),
-                (2, "", "a"),
-                (1, "li", ""),
-                (4, "", "b"),
-            ],
+            "<ol start=\"2147483647\"><li>a</li><li>b</li></ol>",
             "2147483647.  a\n2147483648.  b",
         ),
-        (
-            &[
-                (0, "ul", ""),
-                (1, "li", ""),
-                (2, "p", ""),
-                (3, "", "a"),
-                (2, "p", ""),
-                (5, "", "b"),
-            ],
-            "*   a\n\n    b",
-        ),
-        (
-            &[
-                (0, "ul", ""),
-                (1, "li", ""),
-                (2, "", "a"),
-                (2, "ul", ""),
-                (4, "li", ""),
-                (5, "", "b"),
-            ],
-            "*   a\n    *   b",
-        ),
-        (&[(0, "", "a"), (0, "ol", ""), (0, "", "b")], "ab"),
-        (&[(0, "", "a"), (0, "ul", ""), (2, "li", "")], "a\n\n*"),
+        ("<ul><li><p>a</p><p>b</p></li></ul>", "*   a\n\n    b"),
+        ("a<ol></ol>b", "ab"),
+        ("a<ul><li></li></ul>", "a\n\n*"),
     ];
-    for (row, markdown) in table {
-        let answer = converted(rt.alloc(), Options::default(), row)?;
-        assert_eq!(rt; answer.as_str(), markdown);
-    }
-    Ok(())
-}
-
-#[test]
-fn spaces_by_options(rt: HostRuntime) -> Result<(), Fail> {
-    let table: [(Row, &str); 2] = [
-        (
-            &[
-                (0, "ol", "start=99999999"),
-                (1, "li", ""),
-                (2, "", "a"),
-                (1, "li", ""),
-                (4, "", "b"),
-            ],
-            "99999999. a\n100000000.b",
-        ),
-        (&[(0, "ul", ""), (1, "li", ""), (2, "", "a")], "- a"),
-    ];
-    for (row, markdown) in table {
-        let options = Options {
-            ol_number_spacing: 0,
-            ul_bullet_spacing: 1,
-            bullet_list_marker: BulletListMarker::Dash,
-            ..Options::default()
-        };
-        let answer = converted(rt.alloc(), options, row)?;
-        assert_eq!(rt; answer.as_str(), markdown);
+    for (html, markdown) in table {
+        let answer = converted_page(rt.alloc(), Options::default(), html)?;
+        assert_eq!(rt; answer.as_str(), markdown, "{html:?}");
     }
     Ok(())
 }
@@ -115,44 +35,27 @@ fn spaces_by_options(rt: HostRuntime) -> Result<(), Fail> {
 // An item that is passed over takes a number.
 #[test]
 fn counts_skipped_items(rt: HostRuntime) -> Result<(), Fail> {
-    let Ok(builder) = HtmlToMarkdown::builder(rt.alloc())?.skip_tags(&["li"]) else {
-        return Err(Fail::from("there is memory"));
-    };
-    let converter = builder.build();
-    let tree = built(rt.alloc(), &ONE_ITEM)?;
-    let answer = converter.tree_to_markdown(rt.alloc(), &tree, tree.root())?;
+    let converter = skipping(HtmlToMarkdown::builder(rt.alloc())?, &["li"])?.build();
+    let answer = page_by(rt.alloc(), &converter, "<ol><li>a</li></ol>")?;
     assert_eq!(rt; answer.as_str(), "1.");
     Ok(())
 }
 
 #[test]
 fn keeps_other_lists_as_html(rt: HostRuntime) -> Result<(), Fail> {
-    let table: [(Row, &str); 5] = [
-        (&ONE_ITEM, "1.  a"),
+    let table: [(&str, &str); 5] = [
+        ("<ol><li>a</li></ol>", "1.  a"),
+        ("<ol><li foo>b</li></ol>", "<ol><li foo=\"\">b</li></ol>"),
+        ("<ul><p>b</p></ul>", "<ul><p>b</p></ul>"),
+        ("<ul start=\"2\"><li>b</li></ul>", "*   b"),
         (
-            &[(0, "ol", ""), (1, "li", "foo="), (2, "", "b")],
-            "<ol><li foo=\"\">b</li></ol>",
-        ),
-        (
-            &[(0, "ul", ""), (1, "p", ""), (2, "", "b")],
-            "<ul><p>b</p></ul>",
-        ),
-        (
-            &[(0, "ul", "start=2"), (1, "li", ""), (2, "", "b")],
-            "*   b",
-        ),
-        (
-            &[(0, "ul", "class=x"), (1, "li", ""), (2, "", "b")],
+            "<ul class=\"x\"><li>b</li></ul>",
             "<ul class=\"x\"><li>b</li></ul>",
         ),
     ];
-    for (row, markdown) in table {
-        let options = Options {
-            translation_mode: TranslationMode::Faithful,
-            ..Options::default()
-        };
-        let answer = converted(rt.alloc(), options, row)?;
-        assert_eq!(rt; answer.as_str(), markdown);
+    for (html, markdown) in table {
+        let answer = converted_page(rt.alloc(), faithful(), html)?;
+        assert_eq!(rt; answer.as_str(), markdown, "{html:?}");
     }
     Ok(())
 }

@@ -14,7 +14,7 @@ fn strings(alloc: Global, words: &[&str]) -> Result<Vec<String>, AllocError> {
 #[test]
 fn answers_bytes(rt: HostRuntime) -> Result<(), Fail> {
     let unknown = "htmd: unknown word\n";
-    let table: [(&[&str], &[u8], &str, &str, u8); 10] = [
+    let table: [(&[&str], &[u8], &str, &str, u8); 11] = [
         (&["--text"], b"1. a\n", "1\\. a\n", "", 0),
         (&["--text"], b"a\n\n  b *c*\n", "a b \\*c\\*\n", "", 0),
         (&["--text"], b"1.. x", "1.\\. x\n", "", 0),
@@ -31,6 +31,13 @@ fn answers_bytes(rt: HostRuntime) -> Result<(), Fail> {
         (&["--bogus"], b"x", "", unknown, 2),
         (&["--text", ""], b"x", "", unknown, 2),
         (&["--text"], b"", "\n", "", 0),
+        (
+            &["--text", "--text", "--faithful"],
+            b"a<b",
+            "a\\<b\n",
+            "",
+            0,
+        ),
     ];
     for (words, stdin, stdout, stderr, status) in table {
         let words = strings(rt.alloc(), words)?;

@@ -1,197 +1,63 @@
-//! Tables of trees that are built by calls.
-use crate::rows::{Row, converted};
-use htmd::options::{Options, TranslationMode};
+//! Tables.
+use crate::builders::faithful;
+use crate::pages::converted_page;
+use htmd::options::Options;
 use std::test::Fail;
-
-const WITHOUT_HEADERS: [(usize, &str, &str); 7] = [
-    (0, "table", ""),
-    (1, "tbody", ""),
-    (2, "tr", ""),
-    (3, "td", ""),
-    (4, "", "A"),
-    (3, "td", ""),
-    (6, "", "B"),
-];
 
 #[test]
 fn converts_tables(rt: HostRuntime) -> Result<(), Fail> {
-    let table: [(Row, &str); 10] = [
+    let table: [(&str, &str); 9] = [
         (
-            &[
-                (0, "table", ""),
-                (1, "thead", ""),
-                (2, "tr", ""),
-                (3, "th", ""),
-                (4, "", "A"),
-                (1, "tbody", ""),
-                (6, "tr", ""),
-                (7, "td", ""),
-                (8, "", "b|c"),
-                (7, "td", ""),
-                (10, "", "d"),
-            ],
+            "<table><thead><tr><th>A</th></tr></thead><tbody><tr><td>b|c</td><td>d</td></tr></tbody></table>",
             "| A        |   |\n| -------- | - |\n| b&#124;c | d |",
         ),
+        ("<table><tr><td>A</td><td>B</td></tr></table>", "A\n\nB"),
         (
-            &[
-                (0, "table", ""),
-                (1, "thead", ""),
-                (2, "tr", ""),
-                (3, "th", ""),
-                (4, "", "A"),
-                (3, "td", ""),
-                (6, "", "x"),
-                (1, "tbody", ""),
-                (8, "tr", ""),
-                (9, "th", ""),
-                (10, "", "h"),
-                (9, "td", ""),
-                (12, "", "b"),
-            ],
+            "<table><thead><tr><th>A</th><td>x</td></tr></thead><tbody><tr><th>h</th><td>b</td></tr></tbody></table>",
             "| A |\n| - |\n| b |",
         ),
         (
-            &[
-                (0, "table", ""),
-                (1, "thead", ""),
-                (2, "tr", ""),
-                (3, "th", ""),
-                (4, "", "H"),
-                (1, "tbody", ""),
-                (6, "tr", ""),
-                (7, "td", ""),
-                (8, "table", ""),
-                (9, "tbody", ""),
-                (10, "tr", ""),
-                (11, "td", ""),
-                (12, "", "1"),
-                (11, "td", ""),
-                (14, "", "2"),
-            ],
+            "<table><thead><tr><th>H</th></tr></thead>\
+             <tbody><tr><td><table><tr><td>1</td><td>2</td></tr></table></td></tr></tbody></table>",
             "| H    |\n| ---- |\n| 1  2 |",
         ),
+        ("<table><tr><th></th></tr></table>", "|  |\n|  |"),
         (
-            &[
-                (0, "table", ""),
-                (1, "tbody", ""),
-                (2, "tr", ""),
-                (3, "th", ""),
-            ],
-            "|  |\n|  |",
-        ),
-        (
-            &[
-                (0, "table", ""),
-                (1, "tbody", ""),
-                (2, "tr", ""),
-                (3, "th", ""),
-                (4, "", "a"),
-                (1, "caption", ""),
-                (6, "", " S "),
-            ],
+            "<table><caption>S</caption><tr><th>a</th></tr></table>",
             "S\n| a |\n| - |",
         ),
-        (&WITHOUT_HEADERS, "A\n\nB"),
         (
-            &[
-                (0, "table", ""),
-                (1, "tr", ""),
-                (2, "th", ""),
-                (3, "", "a"),
-                (1, "tr", ""),
-                (5, "td", ""),
-                (6, "", "b"),
-            ],
-            "| a |\n| - |\n| b |",
+            "<table><thead><tr><th>Language</th></tr></thead><tbody><tr><td>Rust</td></tr></tbody></table>",
+            "| Language |\n| -------- |\n| Rust     |",
         ),
         (
-            &[
-                (0, "table", ""),
-                (1, "tr", ""),
-                (2, "td", ""),
-                (3, "table", ""),
-                (4, "tr", ""),
-                (5, "th", ""),
-                (6, "", "a"),
-            ],
-            "a",
+            "<table><tr><th><code>a&#13;b</code></th></tr></table>",
+            "| `ab` |\n| ---- |",
         ),
         (
-            &[
-                (0, "table", ""),
-                (1, "table", ""),
-                (2, "tr", ""),
-                (3, "th", ""),
-                (4, "", "a"),
-            ],
-            "| a |\n| - |",
-        ),
-        (
-            &[
-                (0, "table", ""),
-                (1, "thead", ""),
-                (2, "th", ""),
-                (3, "", "a"),
-                (1, "thead", ""),
-                (1, "tfoot", ""),
-                (6, "tr", ""),
-                (7, "td", ""),
-                (8, "", "b"),
-            ],
-            "| b |",
+            "<table><tr><th>a</th></tr><caption> S </caption></table>",
+            "S\n| a |\n| - |",
         ),
     ];
-    for (row, markdown) in table {
-        let answer = converted(rt.alloc(), Options::default(), row)?;
-        assert_eq!(rt; answer.as_str(), markdown);
+    for (html, markdown) in table {
+        let answer = converted_page(rt.alloc(), Options::default(), html)?;
+        assert_eq!(rt; answer.as_str(), markdown, "{html:?}");
     }
     Ok(())
 }
 
 #[test]
 fn keeps_other_tables_as_html(rt: HostRuntime) -> Result<(), Fail> {
-    let table: [(Row, &str); 5] = [
-        (&WITHOUT_HEADERS, "| A | B |"),
+    let table: [(&str, &str); 2] = [
+        ("<table><tr><td>A</td><td>B</td></tr></table>", "| A | B |"),
         (
-            &[
-                (0, "table", ""),
-                (1, "tbody", ""),
-                (2, "tr", ""),
-                (3, "td", "x="),
-                (4, "", "A"),
-            ],
+            "<table><tr><td x>A</td></tr></table>",
             "<table><tbody><tr><td x=\"\">A</td></tr></tbody></table>",
         ),
-        (
-            &[
-                (0, "table", ""),
-                (1, "tr", ""),
-                (2, "td", ""),
-                (3, "p", ""),
-                (4, "", "A"),
-            ],
-            "<table><tr><td><p>A</p></td></tr></table>",
-        ),
-        (
-            &[
-                (0, "table", ""),
-                (1, "caption", "x="),
-                (2, "", "S"),
-                (1, "tr", ""),
-                (4, "td", ""),
-                (5, "", "A"),
-            ],
-            "<caption x=\"\">S</caption>\n| A |\n| - |",
-        ),
-        (&[(0, "table", ""), (1, "tbody", ""), (1, "", "x")], "x"),
     ];
-    for (row, markdown) in table {
-        let options = Options {
-            translation_mode: TranslationMode::Faithful,
-            ..Options::default()
-        };
-        let answer = converted(rt.alloc(), options, row)?;
-        assert_eq!(rt; answer.as_str(), markdown);
+    for (html, markdown) in table {
+        let answer = converted_page(rt.alloc(), faithful(), html)?;
+        assert_eq!(rt; answer.as_str(), markdown, "{html:?}");
     }
     Ok(())
 }

@@ -1,0 +1,75 @@
+//! Paragraphs, headings, sections and what stands in a line.
+use crate::pages::converted_page;
+use htmd::options::Options;
+use std::test::Fail;
+
+#[test]
+fn converts_paragraphs(rt: HostRuntime) -> Result<(), Fail> {
+    let table: [(&str, &str); 14] = [
+        ("", ""),
+        ("<h1>Hello</h1>", "# Hello"),
+        (
+            "<p>1. a</p><p># b</p><p>* c_d</p>",
+            "1\\. a\n\n\\# b\n\n\\* c\\_d",
+        ),
+        ("<p>\n- x</p>", "\\- x"),
+        ("<p>&lt;pre &lt;123> a &lt;</p>", "\\<pre <123> a <"),
+        ("<p>&amp;lt;b></p>", "&lt;b>"),
+        ("<p> - x</p>", "\\- x"),
+        ("<p>1.\na</p>", "1\\. a"),
+        ("<p>-\tx</p>", "\\- x"),
+        ("<p>a<i>b</i> - x</p>", "a*b* - x"),
+        ("<p><b>a </b> - x</p>", "**a** \\- x"),
+        (
+            "<p>2½. a</p><p>3™. b</p><p>## über</p>",
+            "2½\\. a\n\n3™. b\n\n\\## über",
+        ),
+        ("a  <p> b</p>c ", "a\n\nb\n\nc"),
+        ("<p>a <u> b</u></p>", "a b"),
+    ];
+    for (html, markdown) in table {
+        let answer = converted_page(rt.alloc(), Options::default(), html)?;
+        assert_eq!(rt; answer.as_str(), markdown, "{html:?}");
+    }
+    Ok(())
+}
+
+#[test]
+fn sets_blocks_apart(rt: HostRuntime) -> Result<(), Fail> {
+    let table: [(&str, &str); 6] = [
+        ("Hi<br>there<br><br>!", "Hi  \nthere  \n  \n!"),
+        ("<div>a</div>b<hr>c", "a\n\nb\n\n* * *\n\nc"),
+        ("<blockquote><p>a</p><p>b</p></blockquote>", "> a\n> \n> b"),
+        (
+            "<div>\n<div>Hi</div>\n<div></div>\n<div>there</div>\n</div>",
+            "Hi\n\nthere",
+        ),
+        ("<h3> a </h3><p>b</p>", "### a\n\nb"),
+        ("<h6>six</h6>", "###### six"),
+    ];
+    for (html, markdown) in table {
+        let answer = converted_page(rt.alloc(), Options::default(), html)?;
+        assert_eq!(rt; answer.as_str(), markdown, "{html:?}");
+    }
+    Ok(())
+}
+
+// Neighbours that join stand as one, and emphasis has its marks inside white space.
+#[test]
+fn joins_neighbours(rt: HostRuntime) -> Result<(), Fail> {
+    let table: [(&str, &str); 8] = [
+        ("<i>a</i><em>b</em><i>c</i>", "*abc*"),
+        ("a<b> </b>b", "ab"),
+        ("<b>C </b>", "**C**"),
+        ("<i>-</i><em> x</em>", "*\\- x*"),
+        ("<u x=\"1\">-</u><u x=\"2\"> y</u>", "- y"),
+        ("<span class=\"math math-inline\">a_b</span>", "$a_b$"),
+        ("<span class=\"math math-display\">a*b</span>", "$$a*b$$"),
+        ("<u><mark>~x</mark></u>", "\\~x"),
+    ];
+    for (html, markdown) in table {
+        let answer = converted_page(rt.alloc(), Options::default(), html)?;
+        assert_eq!(rt; answer.as_str(), markdown, "{html:?}");
+    }
+    Ok(())
+}

@@ -1,0 +1,46 @@
+//! Pages of elements within elements.
+use crate::pages::{converted_page, refusal};
+use htmd::FaultKind;
+use htmd::options::Options;
+use std::alloc::{AllocError, Global};
+use std::test::Fail;
+
+// So many start tags, and so many end tags behind them.
+fn nested(alloc: Global, starts: usize, ends: usize) -> Result<String, AllocError> {
+    let mut html = String::new(alloc);
+    for _ in 0..starts {
+        html.push_str("<div>")?;
+    }
+    for _ in 0..ends {
+        html.push_str("</div>")?;
+    }
+    Ok(html)
+}
+
+// The deepest element that the grammar has is one of 1,022 below the body.
+#[test]
+fn converts_deep_pages(rt: HostRuntime) -> Result<(), Fail> {
+    for count in [510, 1022] {
+        let html = nested(rt.alloc(), count, count)?;
+        let answer = converted_page(rt.alloc(), Options::default(), html.as_str())?;
+        assert_eq!(rt; answer.as_str(), "");
+    }
+    Ok(())
+}
+
+// The row of a table implies a body of it, which would stand too deep here.
+#[test]
+fn refuses_deeper_pages(rt: HostRuntime) -> Result<(), Fail> {
+    let html = nested(rt.alloc(), 1023, 1023)?;
+    assert_eq!(rt;
+        refusal(rt.alloc(), html.as_str())?,
+        (5110, FaultKind::TooDeep)
+    );
+    let mut html = nested(rt.alloc(), 1020, 0)?;
+    html.push_str("<table><tr>")?;
+    assert_eq!(rt;
+        refusal(rt.alloc(), html.as_str())?,
+        (5107, FaultKind::TooDeep)
+    );
+    Ok(())
+}

@@ -1,0 +1,115 @@
+//! The trees of pages, node by node.
+use htmd::{HtmlToMarkdown, NodeData, NodeId, Tree};
+use std::alloc::Global;
+use std::test::Fail;
+
+// The nodes of a tree of at most 100 nodes in document order.
+fn nodes(alloc: Global, tree: &Tree) -> Result<Vec<NodeId>, Fail> {
+    let mut all = Vec::new(alloc);
+    let mut waiting = Vec::new(alloc);
+    waiting.push(tree.root())?;
+    for _ in 0..100 {
+        let Some(node) = waiting.pop() else {
+            break;
+        };
+        if !tree.contains(node) {
+            return Err(Fail::from("a child is in the tree"));
+        }
+        for child in tree.children(node).iter().rev() {
+            waiting.push(*child)?;
+        }
+        all.push(node)?;
+    }
+    Ok(all)
+}
+
+// The first node of this name; `#text` is a text's.
+fn first_of(alloc: Global, tree: &Tree, name: &str) -> Result<NodeId, Fail> {
+    for node in nodes(alloc, tree)? {
+        if !tree.contains(node) {
+            return Err(Fail::from("a node is in the tree"));
+        }
+        let is_found = match tree.data(node) {
+            NodeData::Element { name: tag, .. } => tag.as_str() == name,
+            NodeData::Text(_) => name == "#text",
+            _ => false,
+        };
+        if is_found {
+            return Ok(node);
+        }
+    }
+    Err(Fail::from("there is such a node"))
+}
+
+// A line for each node in document order: a full stop for each node above it, and what it is.
+fn outline(alloc: Global, tree: &Tree) -> Result<String, Fail> {
+    let mut lines = String::new(alloc);
+    for node in nodes(alloc, tree)? {
+        if !tree.contains(node) {
+            return Err(Fail::from("a node is in the tree"));
+        }
+        for _ in 0..tree.depth(node) {
+            lines.push('.')?;
+        }
+        match tree.data(node) {
+            NodeData::Document => lines.push_str("document")?,
+            NodeData::Doctype => lines.push_str("doctype")?,
+            NodeData::Text(text) => {
+                lines.push('"')?;
+                lines.push_str(text.as_str())?;
+            }
+            NodeData::Comment(text) => {
+                lines.push('!')?;
+                lines.push_str(text.as_str())?;
+            }
+            NodeData::Element { name, .. } => lines.push_str(name.as_str())?,
+        }
+        lines.push('\n')?;
+    }
+    Ok(lines)
+}
+
+#[test]
+fn reads_trees(rt: HostRuntime) -> Result<(), Fail> {
+    let table: [(&str, &str); 3] = [
+        (
+            " <!--c--><title>t</title><script>s</script>x",
+            "document\n.html\n..head\n..body\n...\" \n...!c\n...title\n....\"t\n...script\n....\"s\n...\"x\n",
+        ),
+        ("a&amp;b", "document\n.html\n..head\n..body\n...\"a&b\n"),
+        (
+            "<!DOCTYPE html><p>a</p>",
+            "document\n.doctype\n.html\n..head\n..body\n...p\n....\"a\n",
+        ),
+    ];
+    let converter = HtmlToMarkdown::new(rt.alloc())?;
+    for (html, lines) in table {
+        let tree = converter.html_to_tree(rt.alloc(), html)?;
+        assert_eq!(rt; outline(rt.alloc(), &tree)?.as_str(), lines, "{html:?}");
+    }
+    Ok(())
+}
+
+// A subtree that starts below `pre` keeps its white space; a text that is handed over is ordinary.
+#[test]
+fn starts_anywhere(rt: HostRuntime) -> Result<(), Fail> {
+    let literal = "<pre><span>  *literal*  \nsecond</span></pre>";
+    let marked = "<pre><mark>  *l*</mark></pre>";
+    let table: [(&str, &str, &str); 4] = [
+        (literal, "span", "  *literal*  \nsecond"),
+        (literal, "#text", "\\*literal\\* second"),
+        (marked, "mark", "  *l*"),
+        (marked, "#text", "\\*l\\*"),
+    ];
+    let converter = HtmlToMarkdown::new(rt.alloc())?;
+    for (html, start, markdown) in table {
+        let tree = converter.html_to_tree(rt.alloc(), html)?;
+        let node = first_of(rt.alloc(), &tree, start)?;
+        if !tree.contains(node) {
+            return Err(Fail::from("a node is in the tree"));
+        }
+        let answer = converter.tree_to_markdown(rt.alloc(), &tree, node)?;
+        assert_eq!(rt; answer.as_str(), markdown, "{html:?} from {start}");
+    }
+    Ok(())
+}

@@ -1,0 +1,35 @@
+//! Pages of HTML: what a converter gives of them, or where and how they are refused.
+use htmd::options::Options;
+use htmd::{ConvertError, FaultKind, HtmlToMarkdown, convert};
+use std::alloc::Global;
+use std::test::Fail;
+
+/// What a converter gives of a page. It gives the same of the page's tree.
+pub(crate) fn page_by(
+    alloc: Global,
+    converter: &HtmlToMarkdown,
+    html: &str,
+) -> Result<String, Fail> {
+    let markdown = converter.convert(alloc, html)?;
+    let tree = converter.html_to_tree(alloc, html)?;
+    let again = converter.tree_to_markdown(alloc, &tree, tree.root())?;
+    if markdown.as_str() != again.as_str() {
+        return Err(Fail::from("a page and its tree give the same"));
+    }
+    Ok(again)
+}
+
+/// The Markdown of a page, with these options.
+pub(crate) fn converted_page(alloc: Global, options: Options, html: &str) -> Result<String, Fail> {
+    let converter = HtmlToMarkdown::builder(alloc)?.options(options).build();
+    page_by(alloc, &converter, html)
+}
+
+/// Where and how a page is refused.
+pub(crate) fn refusal(alloc: Global, html: &str) -> Result<(usize, FaultKind), Fail> {
+    match convert(alloc, html) {
+        Ok(_) => Err(Fail::from("the page is outside the grammar")),
+        Err(ConvertError::Refused { place, kind }) => Ok((place, kind)),
+        Err(ConvertError::Memory) => Err(Fail::from("there is memory")),
+    }
+}

@@ -1,0 +1,130 @@
+//! Pages that are cut short, or lack a character.
+use crate::builders::referenced;
+use crate::pages::{converted_page, refusal};
+use htmd::options::{Options, TranslationMode};
+use htmd::{ConvertError, FaultKind, HtmlToMarkdown};
+use std::alloc::Global;
+use std::test::Fail;
+
+// The page whose beginnings, and whose texts less one character, are converted.
+const PAGE: &str = "\
+<!DOCTYPE html>\n\
+<!-- The plan -- of one summer -->\n\
+<title>Été &amp; mer &mdash; plan</title>\n\
+<style>h1 > em { color: #c00; }</style>\n\
+<script>if (days < 7 && n > 0) { say(\"<p>\"); }</script>\n\
+<h1 id=top>Un été à la <em>mer</em></h1>\n\
+<h2 class=\"sub title\">1. What to take</h2>\n\
+<p title='it&#39;s long' lang=en>Some <b>bold </b>and <i>slanted</i><em> words</em>,\n\
+a <a href=\"/x?a=1&amp;b=2\" title=\"the &quot;way&quot;\">link (there)</a>,<br/>\n\
+<code>x &lt; y `z`</code>, AT&T, 5 &pound; &#x2014; &hellip; &frac12; &copy; 漢字.</p>\n\
+<ul><li>one<ul><li>inner *star*</li></ul></li><li><p>two</p><p>more</p></li></ul>\n\
+<ol start=\"9\"><li>nine</li><li>ten<br>and more</li></ol>\n\
+<table class=t><caption>Days | weeks</caption>\n\
+<thead><tr><th>A</th><th>B</th></tr></thead>\n\
+<tbody><tr><td>1|2</td><td>漢</td></tr><tr><td>3</td></tr></tbody>\n\
+<tfoot><tr><td colspan=2>end</td></tr></tfoot></table>\n\
+<table><tr><td><table><tr><th>in</th></tr></table></td></tr></table>\n\
+<pre><code class=\"language-c-sharp\">\n\
+if (a < b) {\r\n\
+  ```\n\
+}</code></pre>\n\
+<pre>\n\
+~ line one\n\
+  line two</pre>\n\
+<blockquote><p>quoted <i>text</i></p><hr><p>- second</p></blockquote>\n\
+<dl><dt>term</dt><dd>meaning</dd></dl>\n\
+<form action=\"/go\"><input type=\"text\" name='q' disabled><textarea>\n\
+kept &gt;</textarea><select><optgroup label=\"g\"><option value=1>1</option></optgroup></select>\n\
+<button>Go</button></form>\n\
+<details><summary>Why\n\n?</summary>Because</details>\n\
+<noscript><p>no &amp; no</p></noscript><img src=/i.png alt=\"a\n\nb\" width=1>\n\
+<p><span class=\"math math-inline\">a_b</span>, <span class=\"math math-display\">c*d</span>,\n\
+<span lang=de>Grüße</span> and <mark>é</mark> <u>1. x</u> <kbd>Ctrl</kbd></p>\n\
+<section><article><h3>Last <a href=#top>up</a></h3><p>\\ and _ and &nbsp; #</p></article></section>\n\
+<p>2. Trains &lt;b> and # ships</p><p>+ planes</p><p>&gt; roads = 1</p>\n\
+<p><a href=https://example.com>https://example.com</a> <a>no</a> <img alt=none></p>";
+
+#[test]
+fn refuses_beginnings(rt: HostRuntime) -> Result<(), Fail> {
+    let table: [(&str, usize, FaultKind); 22] = [
+        ("<p", 0, FaultKind::MalformedTag),
+        ("<p>", 3, FaultKind::Unclosed),
+        ("<p>a", 4, FaultKind::Unclosed),
+        ("<p>a<", 5, FaultKind::Unclosed),
+        ("<p>a<b", 4, FaultKind::MalformedTag),
+        ("<p>a<b ", 4, FaultKind::MalformedTag),
+        ("<p>a<b c", 4, FaultKind::MalformedTag),
+        ("<p>a<b c=", 4, FaultKind::MalformedTag),
+        ("<p>a<b c=\"", 4, FaultKind::MalformedTag),
+        ("<p>a<b c=\"d", 4, FaultKind::MalformedTag),
+        ("<p>a<b c=\"d\"", 4, FaultKind::MalformedTag),
+        ("<p>a<b c=\"d\">", 13, FaultKind::Unclosed),
+        ("<p>a<b c=\"d\">e", 14, FaultKind::Unclosed),
+        ("<p>a<b c=\"d\">e<", 15, FaultKind::Unclosed),
+        ("<p>a<b c=\"d\">e</", 14, FaultKind::MalformedTag),
+        ("<p>a<b c=\"d\">e</b", 14, FaultKind::MalformedTag),
+        ("<p>a<b c=\"d\">e</b>", 18, FaultKind::Unclosed),
+        ("<p>a<b c=\"d\">e</b><", 19, FaultKind::Unclosed),
+        ("<p>a<b c=\"d\">e</b></", 18, FaultKind::MalformedTag),
+        ("<p>a<b c=\"d\">e</b></p", 18, FaultKind::MalformedTag),
+        ("<div>a", 6, FaultKind::Unclosed),
+        ("<a href=\"x", 0, FaultKind::MalformedTag),
+    ];
+    for (html, place, kind) in table {
+        assert_eq!(rt; refusal(rt.alloc(), html)?, (place, kind), "{html:?}");
+    }
+    Ok(())
+}
+
+#[test]
+fn converts_what_is_whole(rt: HostRuntime) -> Result<(), Fail> {
+    let table: [(&str, &str); 3] = [("", ""), ("<", "<"), ("<p>a<b c=\"d\">e</b></p>", "a**e**")];
+    for (html, markdown) in table {
+        let answer = converted_page(rt.alloc(), Options::default(), html)?;
+        assert_eq!(rt; answer.as_str(), markdown, "{html:?}");
+    }
+    Ok(())
+}
+
+// Whether a page is converted, or refused at a place of it.
+fn is_answered(alloc: Global, converter: &HtmlToMarkdown, html: &str) -> bool {
+    match converter.convert(alloc, html) {
+        Ok(_) => true,
+        Err(ConvertError::Refused { place, .. }) => place <= html.len(),
+        Err(ConvertError::Memory) => false,
+    }
+}
+
+#[test]
+fn answers_beginnings(rt: HostRuntime) -> Result<(), Fail> {
+    let converter = HtmlToMarkdown::new(rt.alloc())?;
+    let mut beginning = String::new(rt.alloc());
+    for c in PAGE.chars() {
+        assert!(rt; is_answered(rt.alloc(), &converter, beginning.as_str()));
+        beginning.push(c)?;
+    }
+    assert!(rt; converter.convert(rt.alloc(), beginning.as_str()).is_ok());
+    Ok(())
+}
+
+// The page less each of its characters.
+#[test]
+fn answers_lacks(rt: HostRuntime) -> Result<(), Fail> {
+    let options = Options {
+        translation_mode: TranslationMode::Faithful,
+        ..referenced()
+    };
+    let builder = HtmlToMarkdown::builder(rt.alloc())?.options(options);
+    let converter = builder.scripting_enabled(false).build();
+    let mut beginning = String::new(rt.alloc());
+    let mut rest = PAGE.chars();
+    while let Some(c) = rest.next() {
+        let mut less = String::from_str(rt.alloc(), beginning.as_str())?;
+        less.push_str(rest.as_str())?;
+        assert!(rt; is_answered(rt.alloc(), &converter, less.as_str()));
+        beginning.push(c)?;
+    }
+    assert!(rt; converter.convert(rt.alloc(), PAGE).is_ok());
+    Ok(())
+}
