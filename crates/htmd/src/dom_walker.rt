@@ -573,3 +573,6 @@ pub(crate) fn handle_element<R: Registry>(
     let walk = Walk::new(registry, alloc, tree);
     walk.handle(&element, inside_pre, skipped, links)
 }
+
+#[cfg(test)]
+mod tests;
