@@ -35,7 +35,7 @@ fn is_plain(byte: u8, parts: bool) -> bool
     if parts {
         byte.is_ascii_whitespace() && byte != b'\r'
     } else {
-        byte > b'<' || (byte != b'<' && byte != b'&' && byte != b'\r')
+        byte != b'<' && byte != b'&' && byte != b'\r'
     }
 }
 
