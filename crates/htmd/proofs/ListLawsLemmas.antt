@@ -72,7 +72,8 @@ end_kept s rest ends =
     ap (λ n. take n (s ++ rest)) size ∙ take-append-add s rest (length rest - suffix_len is_line_feed rest)
 
 -- what is left of a text is empty or ends in another byte
-cut_at : (s : List ℕ) (n : ℕ) → n ≡ length s - suffix_len is_line_feed s → (take n s ≡ []) ⊎ Ends (take n s)
+cut_at : (s : List ℕ) (n : ℕ) → n ≡ length s - suffix_len is_line_feed s
+    → (take n s ≡ []) ⊎ Ends (take n s)
 cut_at s zero e = inl refl
 cut_at s (suc n) e =
     let stops = prefix_len_stops is_line_feed (reverse s) 0 (omega (arith, length-reverse s)) in
@@ -265,7 +266,8 @@ block_holds P between (b ∷ text) h = h
 
 markdown_holds : (P : List ℕ → Type 0) (markdown : Bool) (block : Option (List ℕ)) (raw : ResultView)
     → raw.markdown_translated ≡ false → IfSome block P
-    → IfSome (cond markdown (optional_markdown block) (Some raw)) (λ r. r.markdown_translated ≡ true → P r.content)
+    → IfSome (cond markdown (optional_markdown block) (Some raw)) (λ r. r.markdown_translated ≡ true
+    → P r.content)
 markdown_holds P true None raw e h = tt
 markdown_holds P true (Some s) raw e h = λ is. h
 markdown_holds P false block raw e h = λ is. absurd (cc)
@@ -319,7 +321,8 @@ contents_length at (node ∷ nodes) definitions =
 
 behind_child : (is_li : Bool) (child : ℕ) (before : List ℕ) (content : List ℕ) (blocks : List Block)
     → HasItemBehind (length before) blocks
-    → HasItemBehind (length (cond is_li (child ∷ before) before)) (cond is_li (item content) (other content) ∷ blocks)
+    → HasItemBehind (length (cond is_li (child ∷ before) before))
+    (cond is_li (item content) (other content) ∷ blocks)
 behind_child true child before content blocks has = record {
   earlier = item content ∷ has.earlier;
   later = has.later;

@@ -44,7 +44,8 @@ Holds : NumberedForest → Option (List ℕ) → Type 0
 Holds kids None = kids ≡ none
 Holds kids (Some s) = (id : ℕ) × (kids ≡ more (text id s) none)
 
-holds : (kids : NumberedForest) (held : Option (List ℕ)) → value_forest kids ≡ law.text_alone held → Holds kids held
+holds : (kids : NumberedForest) (held : Option (List ℕ)) → value_forest kids ≡ law.text_alone held
+    → Holds kids held
 unfolding Holds
 holds none None e = refl
 holds none (Some s) e = cc
@@ -66,7 +67,8 @@ record IsParagraph (items : List Item) (held : Option (List ℕ)) (tree : Number
   is : tree ≡ element id (codes "p") [] kids
   holds : Holds kids held
 
-made : (items : List Item) (id : ℕ) (d : Data) (kids : NumberedForest) (held : Option (List ℕ)) → data_at items id ≡ d
+made : (items : List Item) (id : ℕ) (d : Data) (kids : NumberedForest) (held : Option (List ℕ))
+    → data_at items id ≡ d
     → value_tree (with_children id d kids) ≡ law.paragraph held → IsParagraph items held (with_children id d kids)
 made items id document_node kids held here e = cc
 made items id doctype_node kids held here e = cc
@@ -84,7 +86,8 @@ made items id (element_node name attributes) kids held here e =
       holds = holds kids held inside;
     }
 
-made_of : (items : List Item) (id : ℕ) (held : Option (List ℕ)) → value_tree (tree_of items id) ≡ law.paragraph held
+made_of : (items : List Item) (id : ℕ) (held : Option (List ℕ)) → value_tree (tree_of items id)
+    ≡ law.paragraph held
     → IsParagraph items held (tree_of items id)
 unfolding tree_of
 made_of items id held e = made items id (data_at items id) (forest_from 0 items id) held refl e
@@ -192,7 +195,8 @@ module _ (options : Options) (items : List Item) where
   element_is : (n id : ℕ) (kids : NumberedForest) (held : Option (List ℕ)) (trim : Bool) (out : List ℕ)
       → data_at items id ≡ element_node (codes "p") [] → Holds kids held
       → height (element id (codes "p") [] kids) ≤ n
-      → written_within n conversion (element id (codes "p") [] kids) (context_of (root ∷ []) false trim) (so_far out)
+      → written_within n conversion (element id (codes "p") [] kids) (context_of (root ∷ []) false trim)
+      (so_far out)
       ≡ so_far (joined_at_seam out
       (with_blank_lines (trimmed_text is_line_feed (escaped_markdown (text_shown (read_of held))))) false)
   unfolding written_within
@@ -205,7 +209,8 @@ module _ (options : Options) (items : List Item) where
   -- one paragraph more
   first_is : (n : ℕ) (held : Option (List ℕ)) (tree : NumberedTree) (trees : NumberedForest) (trim : Bool)
       (out : List ℕ) → IsParagraph items held tree → height tree ≤ n
-      → (next : Bool) × (write_children (written_within n conversion) (root ∷ []) (more tree trees) trim (so_far out)
+      → (next : Bool) × (write_children (written_within n conversion) (root ∷ []) (more tree trees) trim
+      (so_far out)
       ≡ write_children (written_within n conversion) (root ∷ []) trees next
       (so_far (put_behind out (text_shown (read_of held)))))
   unfolding is_block

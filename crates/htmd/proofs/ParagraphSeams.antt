@@ -114,7 +114,8 @@ some_of texts = filter (λ s. nat_lt 0 (length s)) texts
 abbrev pub IsShownIfSome : List ℕ → Type 0
 IsShownIfSome s = 0 < length s → IsShown s
 
-some_first : (b : ℕ) (s : List ℕ) (texts : List (List ℕ)) → some_of ((b ∷ s) ∷ texts) ≡ (b ∷ s) ∷ some_of texts
+some_first : (b : ℕ) (s : List ℕ) (texts : List (List ℕ)) → some_of ((b ∷ s) ∷ texts)
+    ≡ (b ∷ s) ∷ some_of texts
 some_first b s texts =
     cond-true (nat_lt 0 (length (b ∷ s))) ((b ∷ s) ∷ some_of texts) (some_of texts)
     (lt-ltb 0 (length (b ∷ s)) (omega arith))

@@ -104,7 +104,8 @@ all_trimmed lead [] cut all =
     let none : trimmed_end is_document_white_space (lead ++ []) ≡ [] =
     ap (trimmed_end is_document_white_space) (append-nil lead)
     ∙ end_cut is_document_white_space [] lead (λ some. absurd (omega arith))
-    (All-weaker (λ b. is_line_feed b ≡ true) (λ b. is_document_white_space b ≡ true) line_feed_is_white lead cut) in
+    (All-weaker (λ b. is_line_feed b ≡ true) (λ b. is_document_white_space b ≡ true)
+    line_feed_is_white lead cut) in
     ap (trimmed_text is_line_feed) none
 all_trimmed lead (s ∷ texts) cut all =
     let is = all_written s texts all in

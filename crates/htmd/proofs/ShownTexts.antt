@@ -50,7 +50,8 @@ none_first (b ∷ s) e = ap (prefix_len is_space) (other_stays b s e) ∙ no_spa
 
 few_by : (white more : Bool) (b : ℕ) (s : List ℕ) → is_ascii_white_space b ≡ white
     → begins_with_white_space s ≡ more → prefix_len is_space (squeezed_text s) ≤ 1
-    → prefix_len is_space (cond white (cond more (squeezed_text s) (space ∷ squeezed_text s)) (b ∷ squeezed_text s))
+    → prefix_len is_space (cond white (cond more (squeezed_text s) (space ∷ squeezed_text s))
+    (b ∷ squeezed_text s))
     ≤ 1
 few_by true true b s e f h = h
 few_by true false b s e f h = let none = none_first s f in omega arith
@@ -139,7 +140,8 @@ backslashes_behind marked k (b ∷ s) t =
     (with_backslashes marked (k + suc (length s)) t) rest
   where
     put_by : (m : Bool) (b : ℕ) (whole front behind : List ℕ) → whole ≡ front ++ behind
-        → cond m (backslash ∷ b ∷ whole) (b ∷ whole) ≡ cond m (backslash ∷ b ∷ front) (b ∷ front) ++ behind
+        → cond m (backslash ∷ b ∷ whole) (b ∷ whole)
+        ≡ cond m (backslash ∷ b ∷ front) (b ∷ front) ++ behind
     put_by true b whole front behind e = ap (λ l. backslash ∷ b ∷ l) e
     put_by false b whole front behind e = ap (λ l. b ∷ l) e
 
@@ -148,7 +150,8 @@ backslashes_none : (marked : ℕ → Bool) (k : ℕ) (s : List ℕ)
 backslashes_none marked k [] none = refl
 backslashes_none marked k (b ∷ s) none =
     let here : marked k ≡ false = ap marked (omega arith) ∙ none 0 (omega arith) in
-    ap (λ c. cond c (backslash ∷ b ∷ with_backslashes marked (suc k) s) (b ∷ with_backslashes marked (suc k) s)) here
+    ap (λ c. cond c (backslash ∷ b ∷ with_backslashes marked (suc k) s)
+    (b ∷ with_backslashes marked (suc k) s)) here
     ∙ ap (λ l. b ∷ l) (backslashes_none marked (suc k) s (λ i below.
     ap marked (omega arith) ∙ none (suc i) (omega arith)))
 
@@ -160,7 +163,8 @@ each_written P marked k (b ∷ s) here all =
     by (marked k) (each_written P marked (suc k) s here (All-tail P b s all))
   where
     by : (m : Bool) → All P (with_backslashes marked (suc k) s)
-        → All P (cond m (backslash ∷ b ∷ with_backslashes marked (suc k) s) (b ∷ with_backslashes marked (suc k) s))
+        → All P (cond m (backslash ∷ b ∷ with_backslashes marked (suc k) s)
+        (b ∷ with_backslashes marked (suc k) s))
     by true rest = All-cons P backslash (b ∷ with_backslashes marked (suc k) s) here
         (All-cons P b (with_backslashes marked (suc k) s) (All-head P b s all) rest)
     by false rest = All-cons P b (with_backslashes marked (suc k) s) (All-head P b s all) rest
@@ -178,7 +182,8 @@ grows_not marked k b s = by (marked k)
     by true = omega arith
     by false = omega arith
 
-ends_rest : (passes : ℕ → Bool) (b c : ℕ) (s : List ℕ) → EndsBare passes (b ∷ c ∷ s) → EndsBare passes (c ∷ s)
+ends_rest : (passes : ℕ → Bool) (b c : ℕ) (s : List ℕ) → EndsBare passes (b ∷ c ∷ s)
+    → EndsBare passes (c ∷ s)
 ends_rest passes b c s bare some =
     let here : length (c ∷ s) - 1 ≡ length s = omega arith in
     let there : suc (length s) ≡ length (b ∷ c ∷ s) - 1 = omega arith in

@@ -10,7 +10,8 @@ use Rattle.htmd.proofs.ParagraphLawsLemmas.{paragraphs_read_back}
 use Rattle.htmd_cli.specs.Conversion.{paragraph, empty_paragraph, paragraph_markdown, options_of}
 use Rattle.htmd_cli.specs.ParagraphLaws.{ParagraphReadsBack}
 
-none_under : (k p : ℕ) → k < 1 → parent_at (document_item ∷ []) k ≡ Some p → IsUnder (document_item ∷ []) p k
+none_under : (k p : ℕ) → k < 1 → parent_at (document_item ∷ []) k ≡ Some p
+    → IsUnder (document_item ∷ []) p k
 none_under zero p l e = cc
 none_under (suc k) p l e = absurd (omega arith)
 
@@ -40,7 +41,8 @@ held_in : List ℕ → Option (List ℕ)
 held_in [] = None
 held_in (b ∷ s) = Some (b ∷ s)
 
-is_paragraph : (text : List ℕ) → value_tree (tree_of (paragraph text) 0) ≡ document (paragraphs (held_in text ∷ []))
+is_paragraph : (text : List ℕ) → value_tree (tree_of (paragraph text) 0)
+    ≡ document (paragraphs (held_in text ∷ []))
 unfolding tree_of forest_from held_in
 is_paragraph [] = refl
 is_paragraph (b ∷ s) = refl
@@ -50,5 +52,6 @@ unfolding paragraph_markdown held_in
 paragraph_reads_back faithful [] =
     paragraphs_read_back (options_of faithful) (paragraph []) (None ∷ []) (paragraph_is_tree []) (is_paragraph [])
 paragraph_reads_back faithful (b ∷ s) =
-    paragraphs_read_back (options_of faithful) (paragraph (b ∷ s)) (Some (b ∷ s) ∷ []) (paragraph_is_tree (b ∷ s))
+    paragraphs_read_back (options_of faithful) (paragraph (b ∷ s)) (Some (b ∷ s) ∷ [])
+    (paragraph_is_tree (b ∷ s))
     (is_paragraph (b ∷ s))

@@ -49,7 +49,7 @@ fn run_len(bytes: &[u8], class: Class) -> usize
 }
 
 /// The run at the front of a text, and what stands behind it.
-#[tactic(auto, using(crate::proofs::RunsLemmas::take_run, crate::proofs::RunsLemmas::drop_run, crate::proofs::RunsLemmas::run_cut))]
+#[tactic(auto)]
 pub(crate) fn split_run(text: &str, class: Class) -> (&str, &str)
     requires { is_ascii class ≡ true }
     ensures run { result.0.now ≡ leading_run (is_in class) text.now }
