@@ -1,3 +1,4 @@
+-- The lemmas of the conversion, each module over those before it; and of the items of a tree, for crates above.
 pub use Rattle.htmd_tree.proofs.ItemsLemmas
 pub mod Cuts
 pub mod SeamsLemmas
