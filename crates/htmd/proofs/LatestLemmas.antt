@@ -15,20 +15,20 @@ use Rattle.std.proofs.lemmas.Slice.Eq.{bytes_eq-Decides}
 use Rattle.htmd.specs.declared.element_handler.registrations.Registration.{Registration}
 use Rattle.htmd.specs.Choice.{TagIndex, indexes}
 use Rattle.htmd.specs.TagIndexes.{tag_index}
-use Rattle.htmd.specs.Latest.{place_behind, latest, IsChained}
+use Rattle.htmd.specs.Latest.{position_behind, latest, IsChained}
 
--- the registration at a place is the newest one of a tag
-pub record IsNewest (tag : List ℕ) (rs : List TagIndex) (place : ℕ) : Type 0 where
-  pub within : place < length rs
-  pub tagged : (d : TagIndex) → bytes_eq (get_or rs place d).tag tag ≡ true
-  pub first : (d : TagIndex) → indexes tag rs ≡ (get_or rs place d).index ∷ indexes tag (take place rs)
+-- the registration at a position is the newest one of a tag
+pub record IsNewest (tag : List ℕ) (rs : List TagIndex) (position : ℕ) : Type 0 where
+  pub within : position < length rs
+  pub tagged : (d : TagIndex) → bytes_eq (get_or rs position d).tag tag ≡ true
+  pub first : (d : TagIndex) → indexes tag rs ≡ (get_or rs position d).index ∷ indexes tag (take position rs)
 
 abbrev pub IsLatest : List ℕ → List TagIndex → Option ℕ → Type 0
 IsLatest tag rs None = indexes tag rs ≡ []
-IsLatest tag rs (Some place) = IsNewest tag rs place
+IsLatest tag rs (Some position) = IsNewest tag rs position
 
 behind : (tag : List ℕ) (r : TagIndex) (rs : List TagIndex) (o : Option ℕ) (b : Bool) → bytes_eq r.tag tag ≡ b
-    → IsLatest tag rs o → IsLatest tag (r ∷ rs) (place_behind o b)
+    → IsLatest tag rs o → IsLatest tag (r ∷ rs) (position_behind o b)
 behind tag r rs None false e h =
     ap (λ x. x ++ cond (bytes_eq r.tag tag) (r.index ∷ []) []) h ∙ ap (λ b. cond b (r.index ∷ []) []) e
 behind tag r rs None true e h = record {
@@ -37,7 +37,7 @@ behind tag r rs None true e h = record {
   first = λ d. ap (λ x. x ++ cond (bytes_eq r.tag tag) (r.index ∷ []) []) h
       ∙ ap (λ b. cond b (r.index ∷ []) []) e;
 }
-behind tag r rs (Some place) b e h =
+behind tag r rs (Some position) b e h =
     let l = h.within in record {
       within = omega arith;
       tagged = λ d. h.tagged d;
@@ -50,12 +50,12 @@ latest_is tag (r ∷ rs) = behind tag r rs (latest tag rs) (bytes_eq r.tag tag) 
 
 -- ---- one registration more
 
-at_start : (b : Bool) → place_behind None b ≡ cond b (Some 0) None
+at_start : (b : Bool) → position_behind None b ≡ cond b (Some 0) None
 at_start true = refl
 at_start false = refl
 
-further : (b : Bool) (n : ℕ) (o : Option ℕ) (c : Bool) → place_behind (cond b (Some n) o) c
-    ≡ cond b (Some (suc n)) (place_behind o c)
+further : (b : Bool) (n : ℕ) (o : Option ℕ) (c : Bool) → position_behind (cond b (Some n) o) c
+    ≡ cond b (Some (suc n)) (position_behind o c)
 further true n o c = refl
 further false n o c = refl
 
@@ -63,47 +63,48 @@ pub latest-push : (tag : List ℕ) (rs : List TagIndex) (r : TagIndex) → lates
     ≡ cond (bytes_eq r.tag tag) (Some (length rs)) (latest tag rs)
 latest-push tag [] r = at_start (bytes_eq r.tag tag)
 latest-push tag (x ∷ rs) r =
-    ap (λ o. place_behind o (bytes_eq x.tag tag)) (latest-push tag rs r)
+    ap (λ o. position_behind o (bytes_eq x.tag tag)) (latest-push tag rs r)
     ∙ further (bytes_eq r.tag tag) (length rs) (latest tag rs) (bytes_eq x.tag tag)
 
 -- ---- a search
 
--- a search that passed some registrations: the indexes that are left begin at this place
-pub record Searching (tag : List ℕ) (rs : List TagIndex) (skipped left : ℕ) (place : Option ℕ) : Type 0 where
+-- a search that passed some registrations: the indexes that are left begin at this position
+pub record Searching (tag : List ℕ) (rs : List TagIndex) (skipped left : ℕ) (position : Option ℕ) : Type 0 where
   pub count : ℕ
-  pub place_is : place ≡ latest tag (take count rs)
+  pub position_is : position ≡ latest tag (take count rs)
   pub same : slice_get (indexes tag (take count rs)) left ≡ slice_get (indexes tag rs) skipped
 
-pub search_begins : (tag : List ℕ) (rs : List TagIndex) (skipped : ℕ) (place : Option ℕ)
-    → place ≡ latest tag rs
-    → Searching tag rs skipped skipped place
-search_begins tag rs skipped place e =
+pub search_begins : (tag : List ℕ) (rs : List TagIndex) (skipped : ℕ) (position : Option ℕ)
+    → position ≡ latest tag rs
+    → Searching tag rs skipped skipped position
+search_begins tag rs skipped position e =
     let whole = sym (take_all (length rs) rs (omega arith)) in record {
       count = length rs;
-      place_is = e ∙ ap (latest tag) whole;
+      position_is = e ∙ ap (latest tag) whole;
       same = ap (λ xs. slice_get (indexes tag xs) skipped) (sym whole);
     }
 
-pub search_fails : (tag : List ℕ) (rs : List TagIndex) (skipped left : ℕ) (place : Option ℕ) → place ≡ None
-    → Searching tag rs skipped left place → None ≡ slice_get (indexes tag rs) skipped
-search_fails tag rs skipped left place e s =
+pub search_fails : (tag : List ℕ) (rs : List TagIndex) (skipped left : ℕ) (position : Option ℕ)
+    → position ≡ None
+    → Searching tag rs skipped left position → None ≡ slice_get (indexes tag rs) skipped
+search_fails tag rs skipped left position e s =
     let none =
-    subst (λ o. IsLatest tag (take s.count rs) o) (sym s.place_is ∙ e) (latest_is tag (take s.count rs)) in
+    subst (λ o. IsLatest tag (take s.count rs) o) (sym s.position_is ∙ e) (latest_is tag (take s.count rs)) in
     ap (λ xs. slice_get xs left) (sym none) ∙ s.same
 
--- what stands at the place of a search
+-- what stands at the position of a search
 pub record Found (tag : List ℕ) (rs : List TagIndex) (skipped left at : ℕ) : Type 0 where
   pub within : at < length rs
   pub tagged : (d : TagIndex) → (get_or rs at d).tag ≡ tag
   pub same : (d : TagIndex) → slice_get ((get_or rs at d).index ∷ indexes tag (take at rs)) left
       ≡ slice_get (indexes tag rs) skipped
 
-pub search_finds : (tag : List ℕ) (rs : List TagIndex) (skipped left at : ℕ) (place : Option ℕ)
-    → place ≡ Some at
-    → Searching tag rs skipped left place → Found tag rs skipped left at
-search_finds tag rs skipped left at place e s =
+pub search_finds : (tag : List ℕ) (rs : List TagIndex) (skipped left at : ℕ) (position : Option ℕ)
+    → position ≡ Some at
+    → Searching tag rs skipped left position → Found tag rs skipped left at
+search_finds tag rs skipped left at position e s =
     let here =
-    subst (λ o. IsLatest tag (take s.count rs) o) (sym s.place_is ∙ e) (latest_is tag (take s.count rs)) in
+    subst (λ o. IsLatest tag (take s.count rs) o) (sym s.position_is ∙ e) (latest_is tag (take s.count rs)) in
     let shorter = here.within in
     let l : at < s.count = omega (arith, length-take s.count rs) in
     let k : at ≤ s.count = omega arith in
@@ -130,18 +131,18 @@ pub search_goes_on : (tag : List ℕ) (rs : List TagIndex) (skipped left less at
     → Searching tag rs skipped less older
 search_goes_on tag rs skipped left less at d older f e o = record {
   count = at;
-  place_is = o ∙ ap (λ t. latest t (take at rs)) (f.tagged d);
+  position_is = o ∙ ap (λ t. latest t (take at rs)) (f.tagged d);
   same = ap (slice_get ((get_or rs at d).index ∷ indexes tag (take at rs))) e ∙ f.same d;
 }
 
 -- how far a search has still to go at most
 abbrev pub bound : Option ℕ → ℕ
 bound None = 0
-bound (Some place) = suc place
+bound (Some position) = suc position
 
 bound_of_latest : (tag : List ℕ) (rs : List TagIndex) (o : Option ℕ) → IsLatest tag rs o → bound o ≤ length rs
 bound_of_latest tag rs None h = omega arith
-bound_of_latest tag rs (Some place) h = let l = h.within in omega arith
+bound_of_latest tag rs (Some position) h = let l = h.within in omega arith
 
 pub bound_begins : (tag : List ℕ) (rs : List TagIndex) (o : Option ℕ) → o ≡ latest tag rs
     → bound o ≤ length rs
@@ -155,13 +156,14 @@ bound_falls tag rs at o e =
 
 -- ---- what the registry keeps, with one registration more
 
-pub newest-push : (old new : List ℕ → Option ℕ) (rs : List Registration) (r : Registration) (place : ℕ)
+pub newest-push : (old new : List ℕ → Option ℕ) (rs : List Registration) (r : Registration) (position : ℕ)
     → ((q : List ℕ) → old q ≡ latest q (map tag_index rs))
-    → ((q : List ℕ) → new q ≡ update bytes_eq old (string_bytes r.tag) (Some place) q) → place ≡ length rs
+    → ((q : List ℕ) → new q ≡ update bytes_eq old (string_bytes r.tag) (Some position) q)
+    → position ≡ length rs
     → (q : List ℕ) → new q ≡ latest q (map tag_index (rs ++ r ∷ []))
-newest-push old new rs r place was is e q =
+newest-push old new rs r position was is e q =
     let here = bytes_eq (string_bytes r.tag) q in
-    is q ∙ ap (λ o. cond here (Some place) o) (was q)
+    is q ∙ ap (λ o. cond here (Some position) o) (was q)
     ∙ ap (λ (k : ℕ). cond here (Some k) (latest q (map tag_index rs))) (e ∙ sym (length-map rs tag_index))
     ∙ sym (latest-push q (map tag_index rs) (tag_index r))
     ∙ sym (ap (latest q) (map-append tag_index rs (r ∷ [])))

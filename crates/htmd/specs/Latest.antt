@@ -6,18 +6,18 @@ use Rattle.htmd.specs.declared.element_handler.registrations.Registration.{Regis
 use Rattle.htmd.specs.Choice.{TagIndex}
 use Rattle.htmd.specs.TagIndexes.{tag_index}
 
--- one place further; the first place, where nothing behind it was found
-abbrev pub place_behind : Option ℕ → Bool → Option ℕ
-place_behind None false = None
-place_behind None true = Some 0
-place_behind (Some place) here = Some (suc place)
+-- one position further; the first position, where nothing behind it was found
+abbrev pub position_behind : Option ℕ → Bool → Option ℕ
+position_behind None false = None
+position_behind None true = Some 0
+position_behind (Some position) here = Some (suc position)
 
--- the place of the last registration for a tag
+-- the position of the last registration for a tag
 abbrev pub latest : List ℕ → List TagIndex → Option ℕ
 latest tag [] = None
-latest tag (r ∷ rs) = place_behind (latest tag rs) (bytes_eq r.tag tag)
+latest tag (r ∷ rs) = position_behind (latest tag rs) (bytes_eq r.tag tag)
 
--- each registration knows the place of the one before it for its tag
+-- each registration knows the position of the one before it for its tag
 abbrev pub IsChained : List Registration → Type 0
 IsChained rs =
     (k : ℕ) (d : Registration) → k < length rs → (slice_index_or rs k d).older

@@ -1,4 +1,4 @@
-//! The registrations of handlers for tags, with the place of each tag's newest one at hand.
+//! The registrations of handlers for tags, with the position of each tag's newest one at hand.
 
 ghost use Rattle.std.specs.Prelude.{◌≡◌, ◌<◌, ◌+◌, ◌^◌, ◌++◌, ◌∷◌, [], ℕ, List, All, IfOk, IfSome, OnOk, OnErr, length, map, reverse, take, slice_get, slice_index_or, string_bytes, vec_len, vec_capacity, ◌≤◌};
 ghost use Rattle.std.specs.HashMap.{get_by_text, spare};
@@ -14,7 +14,7 @@ use std::collections::HashMap;
 pub(crate) struct Registration {
     tag: String,
     index: usize,
-    /// The place of the registration for this tag before this one.
+    /// The position of the registration for this tag before this one.
     older: Option<usize>,
 }
 
@@ -22,7 +22,7 @@ pub(crate) struct Registration {
 #[derive(Drop)]
 pub(crate) struct Registrations {
     all: Vec<Registration>,
-    /// The place of the newest registration for each tag.
+    /// The position of the newest registration for each tag.
     newest: HashMap<String, usize>,
     ghost newest_is: { (tag : List ℕ) → get_by_text newest tag ≡ latest tag (map tag_index all.items) },
     ghost older_is: { IsChained all.items },
@@ -76,7 +76,7 @@ impl Registrations {
     /// A registration more for each name, from the last one on, whose room is made.
     fn push_all(&mut self, mut names: Vec<(String, String)>, index: usize)
         requires same { All (λ p. string_bytes p.0 ≡ string_bytes p.1) names.items }
-        requires places { vec_len names ≤ spare self.old.newest }
+        requires positions { vec_len names ≤ spare self.old.newest }
         requires room { vec_len self.old.all + vec_len names ≤ vec_capacity self.old.all }
         ensures { map tag_index self.new.all.items ≡ map tag_index self.old.all.items
             ++ tags_at index (map (λ p. string_bytes p.1) (reverse names.items)) }
@@ -89,16 +89,16 @@ impl Registrations {
     /// One registration more, whose room is made.
     fn push(&mut self, key: String, tag: String, index: usize)
         requires same { string_bytes key ≡ string_bytes tag }
-        requires place { 0 < spare self.old.newest }
+        requires position { 0 < spare self.old.newest }
         requires room { vec_len self.old.all < vec_capacity self.old.all }
         ensures all { map tag_index self.new.all.items
             ≡ map tag_index self.old.all.items ++ tag_at index (string_bytes tag) ∷ [] }
-        ensures place { spare self.old.newest ≤ spare self.new.newest + 1 }
+        ensures position { spare self.old.newest ≤ spare self.new.newest + 1 }
         ensures len { vec_len self.new.all ≡ vec_len self.old.all + 1 }
         ensures room { vec_capacity self.new.all ≡ vec_capacity self.old.all }
     {
-        let place = self.all.len();
-        let Ok(older) = self.newest.insert(key, place) else {
+        let position = self.all.len();
+        let Ok(older) = self.newest.insert(key, position) else {
             unreachable!();
         };
         self.all.push_reserved(Registration { tag, index, older });
@@ -112,15 +112,15 @@ impl Registrations {
         ensures within { (n : ℕ) → All (λ r. r.index < n) (map tag_index self.now.all.items)
             → IfSome result (λ index. index < n) }
     {
-        let mut place = self.newest.get(tag).copied();
+        let mut position = self.newest.get(tag).copied();
         let mut left = skipped;
-        while let Some(at) = place {
+        while let Some(at) = position {
             let registration = &self.all[at];
             if left == 0 {
                 return Some(registration.index);
             }
             left -= 1;
-            place = registration.older;
+            position = registration.older;
         }
         None
     }

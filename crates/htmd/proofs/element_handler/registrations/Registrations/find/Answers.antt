@@ -8,14 +8,14 @@ use Rattle.htmd.proofs.LatestLemmas.{search_begins, search_finds, search_ends, s
 use Rattle.htmd.proofs.LatestLemmas.{bound_begins, bound_falls, registered_at, older_at}
 use Rattle.htmd.proofs.element_handler.registrations.Registrations.find.Goals as goal
 
-pub loop-place-init : goal.loop-place-init
-loop-place-init c =
+pub loop-position-init : goal.loop-position-init
+loop-position-init c =
     let items = c.args.self.now.all.items in
     let rs = map tag_index items in
-    let e = c.copied-place.ensures ∙ c.get.ensures.value ∙ c.args.self.now.newest_is c.args.tag.now in
-    let b = bound_begins c.args.tag.now rs c.copied-place.result e in
+    let e = c.copied-position.ensures ∙ c.get.ensures.value ∙ c.args.self.now.newest_is c.args.tag.now in
+    let b = bound_begins c.args.tag.now rs c.copied-position.result e in
     record {
-      search = search_begins c.args.tag.now rs c.args.skipped c.copied-place.result e;
+      search = search_begins c.args.tag.now rs c.args.skipped c.copied-position.result e;
       passed = omega (arith, length-map items tag_index);
     }
 
@@ -23,10 +23,10 @@ pub returns-then-left-eq0-clause-value : goal.returns-then-left-eq0-clause-value
 returns-then-left-eq0-clause-value c =
     let items = c.args.self.now.all.items in
     let r = c.index-registration.result.now in
-    let found = search_finds c.args.tag.now (map tag_index items) c.args.skipped c.loop-place.left c.in-Some.at
-    c.loop-place.place c.in-Some.is c.loop-place.invariant.search in
+    let found = search_finds c.args.tag.now (map tag_index items) c.args.skipped c.loop-position.left c.in-Some.at
+    c.loop-position.position c.in-Some.is c.loop-position.invariant.search in
     ap (λ (x : TagIndex). Some x.index) (registered_at items c.in-Some.at r c.index-registration.ensures)
-    ∙ search_ends c.args.tag.now (map tag_index items) c.args.skipped c.loop-place.left c.in-Some.at (tag_index r)
+    ∙ search_ends c.args.tag.now (map tag_index items) c.args.skipped c.loop-position.left c.in-Some.at (tag_index r)
     found
     c.if-left-eq0.true
 
@@ -34,54 +34,55 @@ pub returns-then-left-eq0-clause-within : goal.returns-then-left-eq0-clause-with
 returns-then-left-eq0-clause-within c = λ n all.
     let items = c.args.self.now.all.items in
     let r = c.index-registration.result.now in
-    let found = search_finds c.args.tag.now (map tag_index items) c.args.skipped c.loop-place.left c.in-Some.at
-    c.loop-place.place c.in-Some.is c.loop-place.invariant.search in
+    let found = search_finds c.args.tag.now (map tag_index items) c.args.skipped c.loop-position.left c.in-Some.at
+    c.loop-position.position c.in-Some.is c.loop-position.invariant.search in
     subst (λ (x : TagIndex). x.index < n) (sym (registered_at items c.in-Some.at r c.index-registration.ensures))
     (all c.in-Some.at (tag_index r) found.within)
 
 pub index-registration-requires : goal.index-registration-requires
 index-registration-requires c =
     let items = c.args.self.now.all.items in
-    let found = search_finds c.args.tag.now (map tag_index items) c.args.skipped c.loop-place.left c.in-Some.at
-    c.loop-place.place c.in-Some.is c.loop-place.invariant.search in
+    let found = search_finds c.args.tag.now (map tag_index items) c.args.skipped c.loop-position.left c.in-Some.at
+    c.loop-position.position c.in-Some.is c.loop-position.invariant.search in
     let l : c.in-Some.at < length (map tag_index items) = found.within in
     let m : c.in-Some.at < length items = omega (arith, length-map items tag_index) in
     first_of (omega arith, search (rules, m))
 
-pub loop-place-smaller : goal.loop-place-smaller
-loop-place-smaller c =
+pub loop-position-smaller : goal.loop-position-smaller
+loop-position-smaller c =
     let items = c.args.self.now.all.items in
     let r = c.index-registration.result.now in
-    let found = search_finds c.args.tag.now (map tag_index items) c.args.skipped c.loop-place.left c.in-Some.at
-    c.loop-place.place c.in-Some.is c.loop-place.invariant.search in
+    let found = search_finds c.args.tag.now (map tag_index items) c.args.skipped c.loop-position.left c.in-Some.at
+    c.loop-position.position c.in-Some.is c.loop-position.invariant.search in
     let l : c.in-Some.at < length (map tag_index items) = found.within in
     let m : c.in-Some.at < length items = omega (arith, length-map items tag_index) in
     let older = older_at items c.in-Some.at r c.index-registration.ensures c.args.self.now.older_is m in
     let falls = bound_falls (get_or (map tag_index items) c.in-Some.at (tag_index r)).tag (map tag_index items)
     c.in-Some.at r.older older in
-    let b : bound c.loop-place.place ≡ suc c.in-Some.at = ap bound c.in-Some.is in
+    let b : bound c.loop-position.position ≡ suc c.in-Some.at = ap bound c.in-Some.is in
     omega arith
 
-pub loop-place-preserved : goal.loop-place-preserved
-loop-place-preserved c =
+pub loop-position-preserved : goal.loop-position-preserved
+loop-position-preserved c =
     let items = c.args.self.now.all.items in
     let rs = map tag_index items in
     let r = c.index-registration.result.now in
-    let found = search_finds c.args.tag.now rs c.args.skipped c.loop-place.left c.in-Some.at c.loop-place.place
-    c.in-Some.is c.loop-place.invariant.search in
+    let found = search_finds c.args.tag.now rs c.args.skipped c.loop-position.left c.in-Some.at c.loop-position.position
+    c.in-Some.is c.loop-position.invariant.search in
     let l : c.in-Some.at < length rs = found.within in
     let m : c.in-Some.at < length items = omega (arith, length-map items tag_index) in
     let older = older_at items c.in-Some.at r c.index-registration.ensures c.args.self.now.older_is m in
     let falls = bound_falls (get_or rs c.in-Some.at (tag_index r)).tag rs c.in-Some.at r.older older in
-    let b : bound c.loop-place.place ≡ suc c.in-Some.at = ap bound c.in-Some.is in
-    let less : suc (c.loop-place.left - 1) ≡ c.loop-place.left = omega arith in
+    let b : bound c.loop-position.position ≡ suc c.in-Some.at = ap bound c.in-Some.is in
+    let less : suc (c.loop-position.left - 1) ≡ c.loop-position.left = omega arith in
     record {
-      search = search_goes_on c.args.tag.now rs c.args.skipped c.loop-place.left (c.loop-place.left - 1) c.in-Some.at
+      search = search_goes_on c.args.tag.now rs c.args.skipped c.loop-position.left
+          (c.loop-position.left - 1) c.in-Some.at
           (tag_index r) r.older found less older;
       passed = omega arith;
     }
 
 pub returns-clause-value : goal.returns-clause-value
 returns-clause-value c =
-    search_fails c.args.tag.now (map tag_index c.args.self.now.all.items) c.args.skipped c.loop-place.left
-    c.loop-place.place (none_of c.loop-place.place c.in_default.not-Some) c.loop-place.invariant.search
+    search_fails c.args.tag.now (map tag_index c.args.self.now.all.items) c.args.skipped c.loop-position.left
+    c.loop-position.position (none_of c.loop-position.position c.in_default.not-Some) c.loop-position.invariant.search

@@ -7,7 +7,7 @@ use Rattle.htmd.proofs.element_handler.registrations.Registrations.push_all.Give
 abbrev pub invariant-loop-key : goal.invariant-loop-key
 invariant-loop-key l = record {
   same : All (λ p. string_bytes p.0 ≡ string_bytes p.1) l.names.items;
-  places : vec_len l.names ≤ spare l.self.newest;
+  positions : vec_len l.names ≤ spare l.self.newest;
   room : vec_len l.self.all + vec_len l.names ≤ vec_capacity l.self.all;
   whole : map tag_index l.self.all.items ++ tags_at l.index (map (λ p. string_bytes p.1) (reverse l.names.items))
       ≡ map tag_index l.fn.self.all.items
