@@ -55,5 +55,12 @@ pub fn is_block_element(name: &str) -> bool
 fn is_among(name: &str, names: &[&str]) -> bool
     ensures { result ≡ list_any (λ other. bytes_eq other.now name.now) names.now }
 {
-    names.contains(&name)
+    names.iter().any(|other| is_same(other, name))
+}
+
+/// Whether the two texts are the same. Most that differ do so in their first byte.
+fn is_same(a: &str, b: &str) -> bool
+    ensures { result ≡ bytes_eq a.now b.now }
+{
+    a.as_bytes().first() == b.as_bytes().first() && a == b
 }
