@@ -4,10 +4,21 @@ use Rattle.std.specs.Borrow.{Bor}
 use Rattle.std.specs.declared.alloc.AllocError.{AllocError}
 use Rattle.std.specs.declared.alloc.Global.{Global}
 use Rattle.htmd.specs.declared.element_handler.Element.{Element}
+use Rattle.htmd.specs.declared.element_handler.fn_handler.FnHandler.{FnHandler}
 use Rattle.htmd.specs.declared.element_handler.HandlerResult.{HandlerResult}
 use Rattle.htmd.specs.declared.element_handler.Plan.{Plan}
 use Rattle.htmd.specs.Handling.{ElementView, ResultView, PlanView, IsProper}
 use Rattle.htmd.specs.Views.{plan_view, element_view, result_view, optional_result}
+
+-- the rule of a handler of closures, the closure that plans, and the one that finishes
+abbrev pub rule_of : {M P F : Type 0} → FnHandler M P F → M
+rule_of handler = handler.rule
+
+abbrev pub planner_of : {M P F : Type 0} → FnHandler M P F → P
+planner_of handler = handler.plan
+
+abbrev pub finisher_of : {M P F : Type 0} → FnHandler M P F → F
+finisher_of handler = handler.finish
 
 -- what a call of a closure that plans may give
 abbrev pub PlanCalls : Type 1

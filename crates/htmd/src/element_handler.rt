@@ -60,16 +60,18 @@ pub struct Element<'a> {
 }
 
 impl<'a> Element<'a> {
+    ghost use Rattle.htmd.specs.Views.{element_view};
+
     /// The tree as it was handed in.
     pub fn tree(&self) -> &Tree
-        ensures { result.now ≡ self.now.tree.now }
+        ensures { result.now ≡ (element_view self.now).items }
     {
         self.tree
     }
 
     /// The options of the conversion.
     pub fn options(&self) -> &Options
-        ensures { result.now ≡ self.now.options.now }
+        ensures { result.now ≡ (element_view self.now).options }
     {
         self.options
     }
@@ -77,7 +79,7 @@ impl<'a> Element<'a> {
     /// The text of the only child, joined for a group; nothing where the element hasn't exactly one
     /// child that is a text.
     pub fn text(&self) -> Option<&str>
-        ensures { option_copied result ≡ option_copied self.now.text }
+        ensures { option_copied result ≡ (element_view self.now).text }
     {
         self.text
     }
@@ -184,7 +186,7 @@ pub trait ElementHandler: Drop {
     /// What it asks for. What ends at once gives its result; for content `finish` is called.
     fn plan(&self, alloc: Global, element: &Element) -> Result<Plan, AllocError>
         ensures plan { IfOk result (λ p. plan_view p ≡ plan_of self.now (element_view element.now)) }
-        ensures proper { IfOk result (λ p. IsProper element.now.tree.now element.now.node (plan_view p)) };
+        ensures proper { IfOk result (λ p. IsProper (element_view element.now).items element.now.node (plan_view p)) };
 
     /// The result of the content that was asked for, or nothing.
     fn finish(

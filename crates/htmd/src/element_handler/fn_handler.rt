@@ -2,7 +2,7 @@
 
 ghost use Rattle.std.specs.Prelude.{◌≡◌, Option, IfOk};
 ghost use Rattle.htmd.specs.Handling.{ElementView, ResultView, PlanView, IsProper};
-ghost use Rattle.htmd.specs.Closures.{PlansAs, PlansBelow, FinishesAs};
+ghost use Rattle.htmd.specs.Closures.{PlansAs, PlansBelow, FinishesAs, rule_of, planner_of, finisher_of};
 ghost use Rattle.htmd.specs.Views.{plan_view, element_view, result_view, optional_result};
 
 use super::{Element, HandlerResult, Plan};
@@ -30,9 +30,9 @@ pub struct FnHandler<M, P, F> {
 impl<M, P, F> FnHandler<M, P, F> {
     /// The handler of these closures. What they answer is asked where it is registered.
     pub fn new(rule: M, plan: P, finish: F) -> Self
-        ensures rule { result.rule ≡ rule }
-        ensures plan { result.plan ≡ plan }
-        ensures finish { result.finish ≡ finish }
+        ensures rule { rule_of result ≡ rule }
+        ensures plan { planner_of result ≡ plan }
+        ensures finish { finisher_of result ≡ finish }
     {
         FnHandler { rule, plan, finish }
     }
@@ -53,7 +53,7 @@ pub trait Answering {
     fn plan(&self, alloc: Global, element: &Element) -> Result<Plan, AllocError>
         requires { keeps self.now }
         ensures plan { IfOk result (λ p. plan_view p ≡ plan_named self.now (element_view element.now)) }
-        ensures proper { IfOk result (λ p. IsProper element.now.tree.now element.now.node (plan_view p)) };
+        ensures proper { IfOk result (λ p. IsProper (element_view element.now).items element.now.node (plan_view p)) };
 
     /// The result of the content that was asked for, or nothing.
     fn finish(
@@ -72,15 +72,15 @@ impl<
     P: Fn(Global, &Element) -> Result<Plan, AllocError>,
     F: Fn(Global, &Element, HandlerResult) -> Result<Option<HandlerResult>, AllocError>,
 > Answering for FnHandler<M, P, F> {
-    ghost plan_named = { λ h. M.rule_plan h.rule };
+    ghost plan_named = { λ h. M.rule_plan (rule_of h) };
 
-    ghost finish_named = { λ h. M.rule_finish h.rule };
+    ghost finish_named = { λ h. M.rule_finish (rule_of h) };
 
-    ghost keeps = { λ h. P.IsAlwaysCallable h.plan
-        × F.IsAlwaysCallable h.finish
-        × PlansAs (M.rule_plan h.rule) (P.post h.plan)
-        × PlansBelow (P.post h.plan)
-        × FinishesAs (M.rule_finish h.rule) (F.post h.finish) };
+    ghost keeps = { λ h. P.IsAlwaysCallable (planner_of h)
+        × F.IsAlwaysCallable (finisher_of h)
+        × PlansAs (M.rule_plan (rule_of h)) (P.post (planner_of h))
+        × PlansBelow (P.post (planner_of h))
+        × FinishesAs (M.rule_finish (rule_of h)) (F.post (finisher_of h)) };
 
     fn plan(&self, alloc: Global, element: &Element) -> Result<Plan, AllocError> {
         (self.plan)(alloc, element)
