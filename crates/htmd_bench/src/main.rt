@@ -1,6 +1,7 @@
 //! How fast texts are made and pages are converted. The program reads standard input whole and tells
-//! how large each answer is; with the word `--time` also how long it took, the best of several rounds.
-//! Where works are named, only those are done.
+//! how large each answer is; with the word `--time` also how long it took, the best of several rounds,
+//! and with `--once` of a single one. With `--registered=N` the time of `tree_to_markdown` is that by a
+//! converter with so many registrations of tags that no page has. Where works are named, only those are done.
 #![tactic(auto)]
 
 mod speed;
@@ -19,22 +20,29 @@ const WORKS: [Work; 6] = [
     Work::Convert,
 ];
 
+/// How often a work is done while the time is taken.
+const ROUNDS: u32 = 10;
+
 fn main(rt: HostRuntime) -> anyhow::Result<()> {
     let input = io::read_to_string(rt.alloc(), rt.stdin())?;
     let is_timed = has_word(&rt, "--time")?;
+    let rounds = if has_word(&rt, "--once")? { 1 } else { ROUNDS };
+    let registered = registered(&rt)?;
     let takes_all = env::args(&rt)?
         .skip(1)
-        .all(|word| word.as_str() == "--time");
+        .all(|word| word.as_str().starts_with("--"));
     for work in WORKS {
         if !takes_all && !has_word(&rt, work.name())? {
             continue;
         }
         let name = work.name();
-        let len = answer_len(rt.alloc(), work, &input)?;
         if is_timed {
-            let speed = speed_of(&rt, work, &input)?;
+            // Before the length is found, so that of the first work the first round is done in new memory.
+            let speed = speed_of(&rt, work, &input, registered, rounds)?;
+            let len = answer_len(rt.alloc(), work, &input)?;
             println!(rt; "{name}: {len}, {speed}")?;
         } else {
+            let len = answer_len(rt.alloc(), work, &input)?;
             println!(rt; "{name}: {len}")?;
         }
     }
@@ -44,4 +52,14 @@ fn main(rt: HostRuntime) -> anyhow::Result<()> {
 /// Whether the word is among those that the program was called with.
 fn has_word(rt: &HostRuntime, word: &str) -> io::Result<bool> {
     Ok(env::args(rt)?.skip(1).any(|each| each.as_str() == word))
+}
+
+/// How many registrations the program was asked for.
+fn registered(rt: &HostRuntime) -> anyhow::Result<usize> {
+    for word in env::args(rt)?.skip(1) {
+        if let Some(count) = word.as_str().strip_prefix("--registered=") {
+            return Ok(count.parse::<usize>()?);
+        }
+    }
+    Ok(0)
 }

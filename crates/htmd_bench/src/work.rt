@@ -6,11 +6,8 @@ use crate::speed::Speed;
 use htmd::{HtmlToMarkdown, convert};
 use htmd_text::{compress_whitespace, escape_if_needed};
 use htmd_tree::read_html;
-use std::alloc::Global;
+use std::alloc::{AllocError, Global};
 use std::time::{Duration, Instant};
-
-/// How often a work is done while the time is taken.
-const ROUNDS: u32 = 10;
 
 /// What is done with the input: the first three take a text, the others a page.
 #[derive(Clone, Copy)]
@@ -58,21 +55,37 @@ pub(crate) fn answer_len(alloc: Global, work: Work, input: &str) -> anyhow::Resu
     }
 }
 
+/// How long the walk takes once by a converter with so many registrations of tags that no page has.
+fn walk_time(rt: &HostRuntime, input: &str, registered: usize) -> anyhow::Result<Duration> {
+    let mut builder = HtmlToMarkdown::builder(rt.alloc())?;
+    for number in 0..registered {
+        let tag = format!(in rt.alloc(); "other-{number}")?;
+        let Ok(with_tag) = builder.skip_tags(&[tag.as_str()]) else {
+            return Err(AllocError.into());
+        };
+        builder = with_tag;
+    }
+    let converter = builder.build();
+    let tree = converter.html_to_tree(rt.alloc(), input)?;
+    let start = Instant::now(rt)?;
+    converter.tree_to_markdown(rt.alloc(), &tree, tree.root())?;
+    Ok(start.elapsed(rt)?)
+}
+
 /// How long the work takes once. Of a tree, the time to free it isn't counted.
-fn time_of(rt: &HostRuntime, work: Work, input: &str) -> anyhow::Result<Duration> {
+fn time_of(
+    rt: &HostRuntime,
+    work: Work,
+    input: &str,
+    registered: usize,
+) -> anyhow::Result<Duration> {
     match work {
         Work::Read => {
             let start = Instant::now(rt)?;
             let _tree = read_html(rt.alloc(), input, true)?;
             Ok(start.elapsed(rt)?)
         }
-        Work::Walk => {
-            let converter = HtmlToMarkdown::new(rt.alloc())?;
-            let tree = converter.html_to_tree(rt.alloc(), input)?;
-            let start = Instant::now(rt)?;
-            converter.tree_to_markdown(rt.alloc(), &tree, tree.root())?;
-            Ok(start.elapsed(rt)?)
-        }
+        Work::Walk => walk_time(rt, input, registered),
         _ => {
             let start = Instant::now(rt)?;
             answer_len(rt.alloc(), work, input)?;
@@ -81,11 +94,17 @@ fn time_of(rt: &HostRuntime, work: Work, input: &str) -> anyhow::Result<Duration
     }
 }
 
-/// The speed of the fastest of several rounds.
-pub(crate) fn speed_of(rt: &HostRuntime, work: Work, input: &str) -> anyhow::Result<Speed> {
-    let mut best = time_of(rt, work, input)?;
-    for _ in 1..ROUNDS {
-        best = best.min(time_of(rt, work, input)?);
+/// The speed of the fastest of these rounds.
+pub(crate) fn speed_of(
+    rt: &HostRuntime,
+    work: Work,
+    input: &str,
+    registered: usize,
+    rounds: u32,
+) -> anyhow::Result<Speed> {
+    let mut best = time_of(rt, work, input, registered)?;
+    for _ in 1..rounds {
+        best = best.min(time_of(rt, work, input, registered)?);
     }
     Ok(Speed::new(input.len(), best))
 }
