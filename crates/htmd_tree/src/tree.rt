@@ -103,6 +103,22 @@ impl Model for Tree {
     ghost invariant = { λ t. IsStored t.entries.items };
 }
 
+/// The room of the first list of children: 24 bytes, the least that malloc gives.
+const FIRST_CHILDREN: usize = 3;
+
+/// A new last child among children.
+fn push_child(children: &mut Vec<NodeId>, id: NodeId) -> Result<(), TreeError>
+    ensures ok { OnOk result (children.new.items ≡ children.old.items ++ id ∷ []) }
+    ensures err { OnErr result (children.new.items ≡ children.old.items) }
+    ensures memory { IsOkUnless result TreeError.Memory }
+{
+    if children.is_empty() {
+        children.reserve_exact(FIRST_CHILDREN)?;
+    }
+    children.push(id)?;
+    Ok(())
+}
+
 impl Tree {
     /// A tree of the Document alone. An `Err` is `Memory`.
     pub fn new(alloc: Global) -> Result<Tree, TreeError>
@@ -218,7 +234,7 @@ impl Tree {
             children: Vec::new(self.alloc),
         };
         self.entries.reserve(1)?;
-        self.entries[parent.index].children.push(id)?;
+        push_child(&mut self.entries[parent.index].children, id)?;
         self.entries.push(entry)?;
         Ok(id)
     }

@@ -9,25 +9,25 @@ use Rattle.htmd_tree.specs.Entries.{item_of, items_of, IsStored}
 use Rattle.htmd_tree.proofs.EntriesLemmas.{items_of-set, items_of-added, IsStored-kept, IsStored-added, last_item}
 use Rattle.htmd_tree.proofs.tree.Tree.add.Goals as goal
 
-pub invariant_of-self-in_err-push : goal.invariant_of-self-in_err-push
-invariant_of-self-in_err-push c =
+pub invariant_of-self-in_err-push_child : goal.invariant_of-self-in_err-push_child
+invariant_of-self-in_err-push_child c =
     let entries : List Entry = c.reserve.new.self.items in
     let i : ℕ = c.parent.inside.index in
     let old : Entry = c.index_mut.result.now in
-    let new : Entry = record { «data» = old.data; parent = old.parent; depth = old.depth; children = c.push.new.self }
+    let new : Entry = record { «data» = old.data; parent = old.parent; depth = old.depth; children = c.push_child.new.children }
     in
     let items : items_of entries ≡ c.args.self.now = ap items_of c.reserve.ensures.items ∙ c.self.view_is in
     let stored : IsStored entries = subst IsStored (sym c.reserve.ensures.items) c.self.invariant in
     let at : i ≡ c.args.parent = c.parent.view_is in
     let within : i < length entries = omega (arith, length-map entries item_of, ap length items, c.requires.within) in
-    IsStored-kept entries i old new within c.index_mut.ensures.value refl c.in_err-push.ensures.items stored
+    IsStored-kept entries i old new within c.index_mut.ensures.value refl c.in_err-push_child.ensures.err stored
 
-pub returns-in_err-push-clause-err : goal.returns-in_err-push-clause-err
-returns-in_err-push-clause-err c =
+pub returns-in_err-push_child-clause-err : goal.returns-in_err-push_child-clause-err
+returns-in_err-push_child-clause-err c =
     let entries : List Entry = c.reserve.new.self.items in
     let i : ℕ = c.parent.inside.index in
     let old : Entry = c.index_mut.result.now in
-    let new : Entry = record { «data» = old.data; parent = old.parent; depth = old.depth; children = c.push.new.self }
+    let new : Entry = record { «data» = old.data; parent = old.parent; depth = old.depth; children = c.push_child.new.children }
     in
     let items : items_of entries ≡ c.args.self.now = ap items_of c.reserve.ensures.items ∙ c.self.view_is in
     let stored : IsStored entries = subst IsStored (sym c.reserve.ensures.items) c.self.invariant in
@@ -42,7 +42,7 @@ invariant_of-self-2 c =
     let entries : List Entry = c.reserve.new.self.items in
     let i : ℕ = c.parent.inside.index in
     let old : Entry = c.index_mut.result.now in
-    let new : Entry = record { «data» = old.data; parent = old.parent; depth = old.depth; children = c.push.new.self }
+    let new : Entry = record { «data» = old.data; parent = old.parent; depth = old.depth; children = c.push_child.new.children }
     in
     let items : items_of entries ≡ c.args.self.now = ap items_of c.reserve.ensures.items ∙ c.self.view_is in
     let stored : IsStored entries = subst IsStored (sym c.reserve.ensures.items) c.self.invariant in
@@ -60,8 +60,8 @@ invariant_of-self-2 c =
     let this : item_of last ≡ new_item (items_of entries) i (data_of c.args.node_data) =
     last_item entries i c.args.parent c.index.result.now (data_of c.args.node_data) within read at in
     let number : c.len.result ≡ length entries = c.len.ensures ∙ search rules in
-    subst IsStored (sym c.in_ok-push-2.ensures.items)
-    (IsStored-added entries i old new last within c.index_mut.ensures.value refl (c.in_ok-push.ensures.items
+    subst IsStored (sym c.in_ok-push.ensures.items)
+    (IsStored-added entries i old new last within c.index_mut.ensures.value refl (c.in_ok-push_child.ensures.ok
     ∙ ap (λ n. old.children.items ++ n ∷ []) number)
     this c.new.ensures.items (rw (items, at) c.requires.holds) (rw (items, at) c.requires.shallow) stored)
 
@@ -70,7 +70,7 @@ returns-clause-ok c =
     let entries : List Entry = c.reserve.new.self.items in
     let i : ℕ = c.parent.inside.index in
     let old : Entry = c.index_mut.result.now in
-    let new : Entry = record { «data» = old.data; parent = old.parent; depth = old.depth; children = c.push.new.self }
+    let new : Entry = record { «data» = old.data; parent = old.parent; depth = old.depth; children = c.push_child.new.children }
     in
     let items : items_of entries ≡ c.args.self.now = ap items_of c.reserve.ensures.items ∙ c.self.view_is in
     let stored : IsStored entries = subst IsStored (sym c.reserve.ensures.items) c.self.invariant in
@@ -87,6 +87,6 @@ returns-clause-ok c =
     ∙ ap (λ (x : List Entry). get_or x i c.index.result.now) (sym c.reserve.ensures.items) in
     let this : item_of last ≡ new_item (items_of entries) i (data_of c.args.node_data) =
     last_item entries i c.args.parent c.index.result.now (data_of c.args.node_data) within read at in
-    ap items_of c.in_ok-push-2.ensures.items
+    ap items_of c.in_ok-push.ensures.items
     ∙ (items_of-added entries i old new last c.index_mut.ensures.value refl
     ∙ (ap (λ (x : Item). items_of entries ++ x ∷ []) this ∙ rw (items, at) refl))
