@@ -1,11 +1,15 @@
 -- How a tree lies in memory: each entry keeps the numbers of its children.
-use Rattle.std.specs.Prelude.{◌≡◌, ℕ, ◌<◌, List, length, map, slice_index_or}
+use Rattle.std.specs.Prelude.{◌≡◌, ◌==◌, ℕ, ◌<◌, List, length, map, slice_index_or, Option, Some, None, if◌then◌else◌}
 use Rattle.htmd_tree.specs.declared.tree.Entry.{Entry}
 use Rattle.htmd_tree.specs.Items.{Item, children_of, IsTree}
 use Rattle.htmd_tree.specs.Views.{data_of}
 
+-- the parent of an entry: the Document, alone at depth 0, has none
+abbrev pub parent_of : Entry → Option ℕ
+parent_of e = if e.depth == 0 then None else Some e.parent
+
 abbrev pub item_of : Entry → Item
-item_of e = record { parent = e.parent; depth = e.depth; node_data = data_of e.data }
+item_of e = record { parent = parent_of e; depth = e.depth; node_data = data_of e.data }
 
 abbrev pub items_of : List Entry → List Item
 items_of entries = map item_of entries

@@ -75,10 +75,11 @@ impl<T: Drop> From<AllocFailed<T>> for TreeError {
     }
 }
 
+/// A node as it is kept. The Document, alone at depth 0, stands under itself here.
 #[derive(Drop)]
 struct Entry {
     data: NodeData,
-    parent: Option<NodeId>,
+    parent: NodeId,
     depth: usize,
     children: Vec<NodeId>,
 }
@@ -128,7 +129,7 @@ impl Tree {
         let mut entries = Vec::new(alloc);
         entries.push(Entry {
             data: NodeData::Document,
-            parent: None,
+            parent: NodeId { index: 0 },
             depth: 0,
             children: Vec::new(alloc),
         })?;
@@ -167,7 +168,12 @@ impl Tree {
         ensures value { result ≡ parent_at self.now id }
         ensures tree { IsTree self.now }
     {
-        self.entries[id.index].parent
+        let entry = &self.entries[id.index];
+        if entry.depth == 0 {
+            None
+        } else {
+            Some(entry.parent)
+        }
     }
 
     /// The nodes right under a node of the tree, in order.
@@ -229,7 +235,7 @@ impl Tree {
         };
         let entry = Entry {
             data: node_data,
-            parent: Some(parent),
+            parent,
             depth: self.entries[parent.index].depth + 1,
             children: Vec::new(self.alloc),
         };
