@@ -290,8 +290,10 @@ pub fn read_html(alloc: Global, text: &str, scripting: bool) -> Result<Tree, Rea
             kind: FaultKind::Nul,
         });
     }
-    let Ok(mut reader) = Reader::new(alloc, text, scripting) else {
-        return Err(ReadError::Memory);
+    let mut reader = match Reader::new(alloc, text, scripting) {
+        Ok(reader) => reader,
+        Err(TreeError::Memory) => return Err(ReadError::Memory),
+        Err(TreeError::TooDeep) => unreachable!(),
     };
     match reader.read_content() {
         Ok(()) => Ok(reader.tree),

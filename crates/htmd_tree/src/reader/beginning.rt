@@ -1,5 +1,5 @@
 //! A document before its content: a Doctype where there is one, `html` with its `head`, and `body`, which is open.
-ghost use Rattle.std.specs.Prelude.{◌≡◌, ◌∷◌, [], length, IfOk, is_some};
+ghost use Rattle.std.specs.Prelude.{◌≡◌, ◌≢◌, ◌∷◌, [], length, IfOk, IfErr, is_some};
 ghost use Rattle.htmd_grammar.specs.Comments as comments;
 ghost use Rattle.htmd_grammar.specs.Documents.{behind_mark, body_text};
 ghost use Rattle.htmd_grammar.specs.Steps.{body};
@@ -13,8 +13,9 @@ use std::alloc::Global;
 
 /// A tree of a document with an empty `body`, and its `body`.
 fn empty_document(alloc: Global, has_doctype: bool) -> Result<(Tree, NodeId), TreeError>
-    ensures { IfOk result (λ made. (made.0 ≡ stack_items has_doctype (body ∷ []))
+    ensures ok { IfOk result (λ made. (made.0 ≡ stack_items has_doctype (body ∷ []))
         × (made.1 ≡ length (stack_items has_doctype []))) }
+    ensures err { IfErr result (λ error. error ≢ TreeError.TooDeep) }
 {
     let mut tree = Tree::new(alloc)?;
     let root = tree.root();
@@ -28,15 +29,16 @@ fn empty_document(alloc: Global, has_doctype: bool) -> Result<(Tree, NodeId), Tr
 }
 
 impl<'a> Reader<'a> {
-    /// A reader before the content of a document. An `Err` is want of memory.
+    /// A reader before the content of a document. An `Err` is `Memory`.
     pub(super) fn new(
         alloc: Global,
         text: &'a str,
         scripting: bool,
     ) -> Result<Reader<'a>, TreeError>
-        ensures { IfOk result (λ reader.
+        ensures ok { IfOk result (λ reader.
             Holds reader (is_some (comments.behind_doctype (behind_mark text.now))) (body ∷ [])
             × (reader.rest.now ≡ body_text text.now) × (reader.scripting ≡ scripting)) }
+        ensures err { IfErr result (λ error. error ≢ TreeError.TooDeep) }
     {
         let marked = behind_mark(text);
         let content = behind_doctype(marked);

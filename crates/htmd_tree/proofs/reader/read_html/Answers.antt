@@ -24,7 +24,7 @@ returns-in-Some-clause-right c = λ place kind e.
 pub returns-in-Ok-read_content-clause-ok : goal.returns-in-Ok-read_content-clause-ok
 returns-in-Ok-read_content-clause-ok c =
     let s = c.args.text.now in
-    let n = c.in-Ok.ensures in
+    let n = c.in-Ok.ensures.ok in
     read_rightly c.in-Ok.reader c.read_content.new.self c.args.scripting s
     (c.steps_read_the_grammar.ensures.sound (project c.args.scripting))
     (null_lacks s c.first_null.result c.first_null.ensures c.in_default.is) (n.1) (n.2)
@@ -33,7 +33,7 @@ returns-in-Ok-read_content-clause-ok c =
 pub overflow_sub-result : goal.overflow_sub-result
 overflow_sub-result c =
     let s = c.args.text.now in
-    let n = c.in-Ok.ensures in
+    let n = c.in-Ok.ensures.ok in
     let has_doctype = is_some (behind_doctype (behind_mark s)) in
     left_within c.in-Ok.reader c.read_content.new.self c.args.scripting s c.in-Err-Refused.left
     c.in-Err-Refused.kind (n.1) (n.2)
@@ -44,7 +44,7 @@ overflow_sub-result c =
 pub returns-clause-refused : goal.returns-clause-refused
 returns-clause-refused c = λ place kind e t r.
     let s = c.args.text.now in
-    let n = c.in-Ok.ensures in
+    let n = c.in-Ok.ensures.ok in
     let has_doctype = is_some (behind_doctype (behind_mark s)) in
     fault_refuses c.in-Ok.reader c.read_content.new.self c.args.scripting s c.in-Err-Refused.left
     c.in-Err-Refused.kind (n.1) (n.2)
@@ -55,7 +55,7 @@ returns-clause-refused c = λ place kind e t r.
 pub returns-clause-right : goal.returns-clause-right
 returns-clause-right c = λ place kind e.
     let s = c.args.text.now in
-    let n = c.in-Ok.ensures in
+    let n = c.in-Ok.ensures.ok in
     let has_doctype = is_some (behind_doctype (behind_mark s)) in
     let q = same_refusal (length s - c.in-Err-Refused.left) place c.in-Err-Refused.kind kind e in
     subst (λ k. IsFault (project c.args.scripting) s place k) (q.1)
