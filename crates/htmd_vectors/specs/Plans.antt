@@ -1,5 +1,6 @@
 -- What the handlers of the tests ask for.
-use Rattle.std.specs.Prelude.{ℕ, true, List, [], ◌∷◌, Option, Some, None, codes}
+use Rattle.std.specs.Prelude.{ℕ, zero, suc, true, ◌==◌, if◌then◌else◌, List, [], ◌∷◌, Option, Some, None, codes}
+use Rattle.htmd_tree.specs.Items.{Item, children_of}
 use Rattle.htmd.specs.Handling.{ElementView, PlanView, nothing, this_result, content_of_descendant, content_of_fallback}
 use Rattle.htmd.specs.ElementViews.{attributes_of, value_of_first}
 
@@ -12,6 +13,20 @@ plan_of_text (Some s) = this_result (record { content = s; markdown_translated =
 abbrev pub plan_of_first : List ℕ → PlanView
 plan_of_first [] = nothing
 plan_of_first (d ∷ nodes) = content_of_descendant d
+
+-- the first of these nodes, and this one where there are none
+abbrev pub first_or : List ℕ → ℕ → ℕ
+first_or [] node = node
+first_or (d ∷ nodes) node = d
+
+-- where so many steps to a first child lead; a node without children is not left
+abbrev pub down : List Item → ℕ → ℕ → ℕ
+down items zero node = node
+down items (suc n) node = down items n (first_or (children_of items node) node)
+
+-- the content of a node below another, if it isn't that one
+abbrev pub plan_of_below : ℕ → ℕ → PlanView
+plan_of_below node d = if d == node then nothing else content_of_descendant d
 
 -- what the handler before gives, if there is a value
 abbrev pub plan_of_value : Option (List ℕ) → PlanView

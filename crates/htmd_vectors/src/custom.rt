@@ -1,7 +1,8 @@
 //! Handlers of one's own: what they are shown, what they may ask for, and in what order they are asked.
 use crate::builders::{faithful, referenced, skipping, with_handler};
 use crate::handlers::{
-    AsRawHtml, FirstChild, GivesNothing, NeedsId, PassesOn, Says, TellsDue, TellsFlag, TextAlone,
+    AsRawHtml, FirstBelow, FirstChild, GivesNothing, NeedsId, PassesOn, Says, TellsDue, TellsFlag,
+    TextAlone,
 };
 use crate::pages::page_by;
 use htmd::HtmlToMarkdown;
@@ -131,6 +132,31 @@ fn asks_for_descendants(rt: HostRuntime) -> Result<(), Fail> {
         let handler: Box<dyn ElementHandler> = Box::new(rt.alloc(), FirstChild)?;
         let answer = with_one(rt.alloc(), "delegate", handler, html)?;
         assert_eq!(rt; answer.as_str(), markdown, "{html:?}");
+    }
+    Ok(())
+}
+
+// The deepest node that a tree has, a text at level 1,024, stands 1,021 levels below a child of the body.
+#[test]
+fn asks_for_the_deepest_node(rt: HostRuntime) -> Result<(), Fail> {
+    let mut html = String::from_str(rt.alloc(), "a <delegate>")?;
+    for _ in 0..1020 {
+        html.push_str("<i>")?;
+    }
+    html.push_str("*b*")?;
+    for _ in 0..1020 {
+        html.push_str("</i>")?;
+    }
+    html.push_str("</delegate> c")?;
+    for (levels, markdown) in [
+        (1021, "a \\*b\\* c"),
+        (2000, "a \\*b\\* c"),
+        (1020, "a *\\*b\\** c"),
+        (0, "a c"),
+    ] {
+        let handler: Box<dyn ElementHandler> = Box::new(rt.alloc(), FirstBelow { levels })?;
+        let answer = with_one(rt.alloc(), "delegate", handler, html.as_str())?;
+        assert_eq!(rt; answer.as_str(), markdown, "{levels}");
     }
     Ok(())
 }

@@ -1,6 +1,6 @@
 //! Handlers of one's own, of each kind.
 ghost use Rattle.std.specs.Option.{option_copied};
-ghost use Rattle.std.specs.Prelude.{◌≡◌, ◌&&◌, Some, None, if◌then◌else◌, length, not, true};
+ghost use Rattle.std.specs.Prelude.{◌≡◌, ◌<◌, ◌&&◌, Some, None, if◌then◌else◌, length, not, true};
 ghost use Rattle.std.specs.Prelude.{codes, string_bytes};
 ghost use Rattle.htmd_tree.specs.Items.{children_of};
 ghost use Rattle.htmd_tree.specs.Views.{pairs_of};
@@ -8,10 +8,10 @@ ghost use Rattle.htmd.specs.ElementViews.{attributes_of, is_more_than, value_of_
 ghost use Rattle.htmd.specs.Handling.{nothing, this_result, raw_html, content_of_children, content_of_fallback};
 ghost use Rattle.htmd.specs.Outputs.{is_pure};
 ghost use Rattle.htmd.specs.Views.{optional_text};
-ghost use Rattle.htmd_vectors.specs.Plans.{plan_of_text, plan_of_first, plan_with_id};
+ghost use Rattle.htmd_vectors.specs.Plans.{plan_of_text, plan_of_first, plan_of_below, first_or, down, plan_with_id};
 
-use htmd::Attribute;
 use htmd::element_handler::{Element, ElementHandler, HandlerResult, Plan, is_raw_html_due};
+use htmd::{Attribute, NodeId, Tree};
 use std::alloc::{AllocError, Global};
 
 /// Gives this text with this flag.
@@ -233,6 +233,65 @@ impl ElementHandler for FirstChild {
             Some(child) => Ok(Plan::Descendant(*child)),
             None => Ok(Plan::Skip),
         }
+    }
+
+    fn finish(
+        &self,
+        _alloc: Global,
+        _element: &Element,
+        content: HandlerResult,
+    ) -> Result<Option<HandlerResult>, AllocError> {
+        Ok(Some(content))
+    }
+}
+
+// The first child of a node, or the node itself where it has none.
+fn first_child_or(tree: &Tree, node: NodeId) -> NodeId
+    requires { node < length tree.now }
+    ensures first { result ≡ first_or (children_of tree.now node) node }
+    ensures within { result < length tree.now }
+{
+    match tree.children(node).first() {
+        Some(child) => *child,
+        None => node,
+    }
+}
+
+// Where so many steps to a first child lead.
+fn node_below(tree: &Tree, node: NodeId, levels: usize) -> NodeId
+    requires { node < length tree.now }
+    ensures { result ≡ down tree.now levels node }
+{
+    let mut below = node;
+    for _ in 0..levels {
+        below = first_child_or(tree, below);
+    }
+    below
+}
+
+/// Gives the content of the node that so many steps to a first child lead to, which is handed over by itself.
+#[derive(Drop)]
+pub(crate) struct FirstBelow {
+    pub(crate) levels: usize,
+}
+
+impl ElementHandler for FirstBelow {
+    ghost plan_of = { λ h view. plan_of_below view.node (down view.items h.levels view.node) };
+
+    ghost finish_of = { λ _ _ given. Some given };
+
+    ghost append_of = { λ _. None };
+
+    fn append(&self, _alloc: Global) -> Result<Option<String>, AllocError> {
+        Ok(None)
+    }
+
+    fn plan(&self, _alloc: Global, element: &Element) -> Result<Plan, AllocError> {
+        let below = node_below(element.tree(), element.node, self.levels);
+        if below == element.node {
+            return Ok(Plan::Skip);
+        }
+        Ok(Plan::Descendant(below))
     }
 
     fn finish(
