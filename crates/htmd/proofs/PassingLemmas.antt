@@ -17,18 +17,19 @@ use Rattle.htmd.proofs.ElementsLemmas.{drop_at_some, drop_at_none}
 use Rattle.htmd.specs.OrdinaryText.{pre}
 use Rattle.htmd.specs.Outputs.{Output, is_pure}
 use Rattle.htmd.specs.ElementViews.{ancestors_of}
-use Rattle.htmd.specs.Elements.{Occurrence, Answer, content_of, first_answer, answer_after, plan_answer}
+use Rattle.htmd.specs.Elements.{Occurrence, Answer, content_of, first_answer, answer_after, plan_answer, answer_of}
+use Rattle.htmd.specs.Elements.{raw_answer}
 use Rattle.htmd.specs.Spans.{is_span, formula_mark, has_math_class, formula_plan, spans}
-use Rattle.htmd.specs.Passing.{IsPassed}
+use Rattle.htmd.specs.Passing.{IsPlain, IsPassed}
 
--- the text of a span's content, in preformatted text or not
-abbrev pub passed_text : Bool → List ℕ → List ℕ
-passed_text preformatted s = cond preformatted s (trimmed_text is_line_feed s)
+-- the text of a content: that of a span, in preformatted text or not
+abbrev pub passed_text : Bool → Bool → List ℕ → List ℕ
+passed_text is_span preformatted s = cond is_span (cond preformatted s (trimmed_text is_line_feed s)) s
 
-abbrev pub passed_result : Bool → Output → Answer
-passed_result preformatted out = record {
+abbrev pub passed_result : Bool → Bool → Output → Answer
+passed_result is_span preformatted out = record {
   result = Some (record {
-    content = passed_text preformatted out.text;
+    content = passed_text is_span preformatted out.text;
     markdown_translated =
         out.markdown_translated;
   });
@@ -46,25 +47,40 @@ module _ (at : Occurrence) (name : List ℕ) (attributes : List AttributePair) (
   abbrev out : Output
   out = content_of at definitions
 
+  unhandled : handlers ≡ [] → is_pure at.conversion.config.options ≡ true
+      → answer_after 0 name at definitions ≡ passed_result false (pre (ancestors_of at.view)) out
+  unhandled e p =
+      ap (λ hs. first_answer hs at definitions) e
+      ∙ ap (λ b. cond b (answer_of (content_of at definitions)) (raw_answer at definitions)) p
+
   plain_span : handlers ≡ spans ∷ [] → has_math_class attributes ≡ false
       → data_at at.view.items at.view.node ≡ element_node name attributes → is_pure at.view.options ≡ true
-      → answer_after 0 name at definitions ≡ passed_result (pre (ancestors_of at.view)) out
+      → answer_after 0 name at definitions ≡ passed_result true (pre (ancestors_of at.view)) out
   plain_span e m d p =
       let plan : spans.plan at.view ≡ content_of_children =
       ap (λ c. formula_plan at.view (formula_mark (ancestor_of c).attributes) at.view.text) d
       ∙ ap (λ o. formula_plan at.view o at.view.text) (no_mark (formula_mark attributes) m)
       ∙ ap (λ b. cond (b || false) content_of_children raw_html) p in
       let put : List (List ℕ) → Answer =
-      λ ds. record { result = (passed_result (pre (ancestors_of at.view)) out).result; definitions = ds } in
+      λ ds. record { result = (passed_result true (pre (ancestors_of at.view)) out).result; definitions = ds } in
       ap (λ hs. first_answer hs at definitions) e
       ∙ ap (λ q. plan_answer spans at definitions q (first_answer [] at definitions)) plan
       ∙ ap put (append-nil out.definitions)
 
+  by_span : (b : Bool) → IsPlain handlers b (has_math_class attributes)
+      → data_at at.view.items at.view.node ≡ element_node name attributes
+      → is_pure at.conversion.config.options ≡ true
+      → is_pure at.view.options ≡ true → answer_after 0 name at definitions ≡ passed_result b
+      (pre (ancestors_of at.view)) out
+  by_span true h d p q = plain_span h.0 h.1 d q
+  by_span false h d p q = unhandled h p
+
   pub passed_answer : IsPassed at.conversion.config (element_node name attributes)
       → data_at at.view.items at.view.node ≡ element_node name attributes
       → at.view.options ≡ at.conversion.config.options
-      → passed_result (pre (ancestors_of at.view)) out ≡ answer_after 0 name at definitions
-  passed_answer h d o = sym (plain_span h.2 h.3 d (ap is_pure o ∙ h.0))
+      → passed_result (is_span name) (pre (ancestors_of at.view)) out
+      ≡ answer_after 0 name at definitions
+  passed_answer h d o = sym (by_span (is_span name) h.1 d h.0 (ap is_pure o ∙ h.0))
 
 -- a span is neither pre nor code
 span_tag : (tag : List ℕ) → is_span tag ≡ true → tag ≡ codes "span"
@@ -77,6 +93,17 @@ span-inside tag attributes above e = ap (λ t. pre (record { tag = t; attributes
 
 -- ---- how the registry finds it out
 
+pub passed-unhandled : (config : Config) (name : List ℕ) (attributes : List AttributePair) (d : Data)
+    → d ≡ element_node name attributes → is_pure config.options ≡ true
+    → None ≡ slice_get (indexes name config.registered) 0 → is_span name ≡ false → IsPassed config d
+passed-unhandled config name attributes d e p h s =
+    subst (IsPassed config) (sym e) (
+      p,
+      subst (λ b. IsPlain (handlers_at config.handlers (indexes name config.registered)) b
+          (has_math_class attributes)) (sym s)
+          (ap (handlers_at config.handlers) (drop_at_none (indexes name config.registered) 0 h)),
+    )
+
 pub passed-span : (config : Config) (name : List ℕ) (attributes : List AttributePair) (d : Data) (index : ℕ)
     → d ≡ element_node name attributes → is_pure config.options ≡ true
     → Some index ≡ slice_get (indexes name config.registered) 0
@@ -86,11 +113,13 @@ pub passed-span : (config : Config) (name : List ℕ) (attributes : List Attribu
 passed-span config name attributes d index e p h k s m a =
     subst (IsPassed config) (sym e) (
       p,
-      s,
-      ap (handlers_at config.handlers) (drop_at_some (indexes name config.registered) 0 index h
-          ∙ ap (λ x. index ∷ x) (drop_at_none (indexes name config.registered) 1 k))
-          ∙ ap (λ x. x ∷ []) m,
-      a,
+      subst (λ b. IsPlain (handlers_at config.handlers (indexes name config.registered)) b
+          (has_math_class attributes)) (sym s) (
+            ap (handlers_at config.handlers) (drop_at_some (indexes name config.registered) 0 index h
+                ∙ ap (λ x. index ∷ x) (drop_at_none (indexes name config.registered) 1 k))
+                ∙ ap (λ x. x ∷ []) m,
+            a,
+          ),
     )
 
 pub none_after : {A : Type 0} (o : Option A) → is_some o ≡ false → None ≡ o
@@ -103,6 +132,10 @@ pub append_texts-push : (hs : List HandlerMeaning) (h : HandlerMeaning) (ds : Li
 append_texts-push [] h ds = append-nil (append_text (h.append ds))
 append_texts-push (x ∷ hs) h ds = ap (λ s. append_text (x.append ds) ++ s) (append_texts-push hs h ds)
     ∙ sym (append_assoc (append_text (x.append ds)) (append_texts hs ds) (append_text (h.append ds)))
+
+pub not-true : {b : Bool} → not b ≡ true → b ≡ false
+not-true {b = true} e = cc
+not-true {b = false} e = refl
 
 pub not-false : {b : Bool} → not b ≡ false → b ≡ true
 not-false {b = true} e = refl

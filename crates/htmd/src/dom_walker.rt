@@ -225,7 +225,7 @@ impl<'a, R: Registry> Walk<'a, R> {
         }
     }
 
-    /// What an element gives. Of a `span` whose handler needn't be asked it is the content, trimmed of line feeds.
+    /// What an element gives: where its handlers needn't be asked, its content.
     #[cycle(walk)]
     fn walk_element(
         &self,
@@ -248,7 +248,7 @@ impl<'a, R: Registry> Walk<'a, R> {
             return self.handle(element, inside_pre, 0, links);
         }
         let mut content = self.content(element, inside_pre, links)?;
-        if !inside_pre {
+        if element.tag == "span" && !inside_pre {
             trim_newlines(&mut content.content);
         }
         Ok(Some(content))

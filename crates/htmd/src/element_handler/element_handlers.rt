@@ -274,21 +274,20 @@ impl Registry for ElementHandlers {
         self.registered.find(tag, skipped)
     }
 
-    // Where a tag has no handlers, looking them up costs as much as asking here; so this is of `span` alone.
     fn goes_past(&self, tree: &Tree, node: NodeId) -> bool {
         let NodeData::Element { name, attrs } = tree.data(node) else {
             return false;
         };
-        let tag = name.as_str();
-        if tag != "span" {
-            return false;
-        }
         if !is_pure(&self.options) {
             return false;
         }
+        let tag = name.as_str();
         let Some(index) = self.find(tag, 0) else {
-            return false;
+            return tag != "span";
         };
+        if tag != "span" {
+            return false;
+        }
         if self.find(tag, 1).is_some() {
             return false;
         }

@@ -52,7 +52,7 @@ pub trait Registry {
         ensures fits { IfSome result (λ _. skipped + 1 < 2 ^ 64) }
         ensures within { IfSome result (λ index. index < length (config self.now).handlers) };
 
-    /// Whether an element is a `span` that gives its content, without asking its handlers.
+    /// Whether the content of an element stands for what its handlers would give.
     fn goes_past(&self, tree: &Tree, node: NodeId) -> bool
         requires { node < length tree.now }
         ensures { IsTrue result → IsPassed (config self.now) (data_at tree.now node) };

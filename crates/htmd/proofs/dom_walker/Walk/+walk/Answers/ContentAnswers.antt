@@ -1,6 +1,6 @@
 -- The content of an element, with its handlers passed over, as raw HTML or where it is asked for.
 use Rattle.std.proofs.Common.{◌≡◌, ◌<◌, ◌++◌, ◌∙◌, ℕ, List, [], ◌∷◌, Bool}
-use Rattle.std.proofs.Common.{cond}
+use Rattle.std.proofs.Common.{true, false, cond}
 use Rattle.std.proofs.Common.{Some, sym, ap, subst, length, codes}
 use Rattle.std.proofs.Common.{string_bytes}
 use Rattle.std.specs.Option.{option_copied}
@@ -26,10 +26,12 @@ use Rattle.htmd.proofs.BeginningsLemmas.{grows-within}
 use Rattle.htmd.proofs.WalkingLemmas.{exit-err, two_levels, text_inside}
 use Rattle.htmd.proofs.WalkingLemmas.{raw_inline, none_of}
 use Rattle.htmd.specs.Passing.{IsPassed}
+use Rattle.htmd.specs.Spans.{is_span}
 use Rattle.htmd.proofs.PassingLemmas.{passed_answer, passed_text, passed_result, span-inside}
 use Rattle.htmd.proofs.dom_walker.Walk.+walk.Goals as goal
-use Rattle.htmd.proofs.dom_walker.Walk.+walk.Goals.{walk_element-then-not-inside_pre}
-use Rattle.htmd.proofs.dom_walker.Walk.+walk.Goals.{walk_element-else-not-inside_pre}
+use Rattle.htmd.proofs.dom_walker.Walk.+walk.Goals.{walk_element-then-eq+then-not-inside_pre, walk_element-else-eq}
+use Rattle.htmd.proofs.dom_walker.Walk.+walk.Goals.{walk_element-else-eq-via-then-eq+else-not-inside_pre}
+use Rattle.htmd.proofs.dom_walker.Walk.+walk.Goals.{walk_element-else-eq-via-else-eq}
 
 pub raw_html-returns-in_err-content-clause-err : goal.raw_html-returns-in_err-content-clause-err
 raw_html-returns-in_err-content-clause-err g t c =
@@ -152,27 +154,43 @@ walk_element-returns-clause-ok g t c =
     ∙ c.args.element.now.is_element) (c.goes_past.ensures c.if-not-goes_past.false) in
     let text = string_bytes c.in_ok-content.content.content in
     let above = c.args.element.now.tree.now in
-    let inside : c.args.inside_pre ≡ pre (ancestors_of c.args.element.now.tree.now c.args.element.now.node) =
+    let inside : is_span c.args.element.now.tag.now ≡ true
+    → c.args.inside_pre ≡ pre (ancestors_of c.args.element.now.tree.now c.args.element.now.node) = λ tag.
     c.requires.inside ∙ ap (λ (x : List Item). pre (inside_of x c.args.element.now.node)) (sym c.requires.tree)
     ∙ ap (λ x. pre (ancestor_of x ∷ ancestors_of c.args.element.now.tree.now c.args.element.now.node))
     c.args.element.now.is_element
     ∙ span-inside c.args.element.now.tag.now (pairs_of c.args.element.now.attrs.now)
-    (ancestors_of c.args.element.now.tree.now c.args.element.now.node) passed.1 in
+    (ancestors_of c.args.element.now.tree.now c.args.element.now.node) tag in
     let kept : List ℕ → Bool → Answer = λ s b. record {
       result = Some (record { content = s; markdown_translated = b });
       definitions = c.content.new.links;
     } in
-    let made : answer_view (Some c.if-not-inside_pre.content) c.content.new.links
-    ≡ kept (passed_text (pre (ancestors_of c.args.element.now.tree.now c.args.element.now.node)) text)
-    c.in_ok-content.content.markdown_translated = elim c.if-not-inside_pre.branch [
-      | walk_element-then-not-inside_pre w ↦ ap (λ r. answer_view (Some r) c.content.new.links) w.content-is
+    let made : answer_view (Some c.if-eq.content) c.content.new.links
+    ≡ kept (passed_text (is_span c.args.element.now.tag.now)
+    (pre (ancestors_of c.args.element.now.tree.now c.args.element.now.node)) text)
+    c.in_ok-content.content.markdown_translated = elim c.if-eq.branch [
+      | walk_element-then-eq+then-not-inside_pre w ↦
+          (let span : is_span c.args.element.now.tag.now ≡ true = sym c.eq.ensures ∙ w.if-eq.true in
+          let outside : pre (ancestors_of c.args.element.now.tree.now c.args.element.now.node) ≡ false =
+          sym (inside span) ∙ w.if-not-inside_pre.true in
+          ap (λ r. answer_view (Some r) c.content.new.links) w.content-is
           ∙ ap (λ s. kept s c.in_ok-content.content.markdown_translated) (w.trim_newlines.ensures
-          ∙ sym (ap (λ p. passed_text p text) (sym inside ∙ w.if-not-inside_pre.true)))
-      | walk_element-else-not-inside_pre w ↦ ap (λ r. answer_view (Some r) c.content.new.links) w.content-is
+          ∙ sym (ap (λ b. passed_text b (pre (ancestors_of c.args.element.now.tree.now c.args.element.now.node))
+          text) span ∙ ap (λ p. passed_text true p text) outside)))
+      | walk_element-else-eq w ↦ ap (λ r. answer_view (Some r) c.content.new.links) w.content-is
           ∙ ap (λ s. kept s c.in_ok-content.content.markdown_translated)
-          (sym (ap (λ p. passed_text p text) (sym inside ∙ w.if-not-inside_pre.false)))
+          (sym (elim w.else-eq.branch as (λ _. passed_text (is_span c.args.element.now.tag.now)
+          (pre (ancestors_of c.args.element.now.tree.now c.args.element.now.node)) text ≡ text) [
+            | walk_element-else-eq-via-then-eq+else-not-inside_pre w' ↦
+                (let span : is_span c.args.element.now.tag.now ≡ true = sym c.eq.ensures ∙ w'.if-eq.true in
+                ap (λ b. passed_text b (pre (ancestors_of c.args.element.now.tree.now c.args.element.now.node)) text)
+                span ∙ ap (λ p. passed_text true p text) (sym (inside span) ∙ w'.if-not-inside_pre.false))
+            | walk_element-else-eq-via-else-eq w' ↦
+                ap (λ b. passed_text b (pre (ancestors_of c.args.element.now.tree.now c.args.element.now.node)) text)
+                (sym c.eq.ensures ∙ w'.if-eq.false)
+          ]))
     ] in
-    λ n l. made ∙ ap (λ (o : Output). passed_result
+    λ n l. made ∙ ap (λ (o : Output). passed_result (is_span c.args.element.now.tag.now)
     (pre (ancestors_of c.args.element.now.tree.now c.args.element.now.node)) o) (c.in_ok-content.ensures.ok n l)
     ∙ (passed_answer (at n) c.args.element.now.tag.now (pairs_of c.args.element.now.attrs.now) c.args.links.now
     passed c.args.element.now.is_element c.requires.options)
