@@ -1,11 +1,13 @@
 -- What is kept of an element's place tells what may stand there.
-use Rattle.std.proofs.Common.{◌≡◌, ℕ, Bool, true, false, ◌&&◌, ◌||◌, List, [], ◌∷◌, refl, sym, ap, ◌∙◌, subst, codes}
+use Rattle.std.proofs.Common.{◌≡◌, ℕ, Bool, true, false, ◌&&◌, ◌||◌, List, [], ◌∷◌, ◌++◌, refl, sym, ap, ◌∙◌}
+use Rattle.std.proofs.Common.{subst, codes}
 use Rattle.std.specs.Str.{bytes_eq}
 use Rattle.std.proofs.lemmas.Slice.Eq.{bytes_eq-Decides}
+use Rattle.std.proofs.lemmas.List.Folds.{list_any-append}
 use Rattle.htmd_text.proofs.Cases.{test}
 use Rattle.htmd_grammar.specs.CharacterClasses.{is_among}
-use Rattle.htmd_grammar.specs.Places.{Context, is_open, excludes_itself, is_allowed}
-use Rattle.htmd_tree.specs.PlaceFlags.{place_of, own_flag, flags_allow}
+use Rattle.htmd_grammar.specs.Places.{Context, is_open, excludes_itself, is_allowed, closes_paragraph}
+use Rattle.htmd_tree.specs.PlaceFlags.{place_of, own_flag, flags_allow, closer_a_to_d, closer_f_to_h, closer_l_to_x}
 use Rattle.htmd_tree.specs.declared.reader.places.Place.{Place}
 
 -- a place is what its flags are
@@ -126,3 +128,10 @@ module _ (scripting : Bool) (c : Context) where
   pub flags_allow-is : (place : Place) (n : List ℕ) → place ≡ place_of scripting c
       → flags_allow place n ≡ is_allowed scripting c n
   flags_allow-is place n e = ap (λ (p : Place). flags_allow p n) e ∙ allowed_there n
+
+-- the names that don't stand under an open p are those of the three parts
+pub closers : (n : List ℕ) → closes_paragraph n
+    ≡ (is_among closer_a_to_d n || (is_among closer_f_to_h n || is_among closer_l_to_x n))
+closers n =
+    list_any-append (bytes_eq n) closer_a_to_d (closer_f_to_h ++ closer_l_to_x)
+    ∙ ap (λ b. is_among closer_a_to_d n || b) (list_any-append (bytes_eq n) closer_f_to_h closer_l_to_x)

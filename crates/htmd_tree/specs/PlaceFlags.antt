@@ -79,3 +79,21 @@ flags_allow place n =
     && flags_fit_select place n
     && flags_fit_open_elements place n
     && flags_fit_lists place n
+
+-- ---- the names that `closes_paragraph` has, in three parts
+
+abbrev pub closer_a_to_d : List (List ℕ)
+closer_a_to_d =
+    codes "address" ∷ codes "article" ∷ codes "aside" ∷ codes "blockquote" ∷ codes "center" ∷ codes "dd" ∷
+    codes "details" ∷ codes "dialog" ∷ codes "dir" ∷ codes "div" ∷ codes "dl" ∷ codes "dt" ∷ []
+
+abbrev pub closer_f_to_h : List (List ℕ)
+closer_f_to_h =
+    codes "fieldset" ∷ codes "figcaption" ∷ codes "figure" ∷ codes "footer" ∷ codes "form" ∷ codes "h1" ∷
+    codes "h2" ∷ codes "h3" ∷ codes "h4" ∷ codes "h5" ∷ codes "h6" ∷ codes "header" ∷ codes "hgroup" ∷
+    codes "hr" ∷ []
+
+abbrev pub closer_l_to_x : List (List ℕ)
+closer_l_to_x =
+    codes "li" ∷ codes "main" ∷ codes "menu" ∷ codes "nav" ∷ codes "ol" ∷ codes "p" ∷ codes "pre" ∷
+    codes "search" ∷ codes "section" ∷ codes "summary" ∷ codes "table" ∷ codes "ul" ∷ codes "xmp" ∷ []

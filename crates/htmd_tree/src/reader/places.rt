@@ -93,9 +93,9 @@ fn holds_text_alone(name: &str, scripting: bool) -> bool
     matches!(name, "title" | "textarea") || holds_raw_text(name, scripting)
 }
 
-/// Whether an element of this name doesn't stand under an open `p`.
-fn closes_paragraph(name: &str) -> bool
-    ensures { result ≡ spec.closes_paragraph name.now }
+/// Whether this is a name from `address` to `dt` that doesn't stand under an open `p`.
+fn is_closer_a_to_d(name: &str) -> bool
+    ensures { result ≡ is_among flags.closer_a_to_d name.now }
 {
     matches!(
         name,
@@ -111,7 +111,16 @@ fn closes_paragraph(name: &str) -> bool
             | "div"
             | "dl"
             | "dt"
-            | "fieldset"
+    )
+}
+
+/// Whether this is a name from `fieldset` to `hr` that doesn't stand under an open `p`.
+fn is_closer_f_to_h(name: &str) -> bool
+    ensures { result ≡ is_among flags.closer_f_to_h name.now }
+{
+    matches!(
+        name,
+        "fieldset"
             | "figcaption"
             | "figure"
             | "footer"
@@ -125,8 +134,16 @@ fn closes_paragraph(name: &str) -> bool
             | "header"
             | "hgroup"
             | "hr"
-            | "li"
-            | "main"
+    )
+}
+
+/// Whether this is a name from `li` to `xmp` that doesn't stand under an open `p`.
+fn is_closer_l_to_x(name: &str) -> bool
+    ensures { result ≡ is_among flags.closer_l_to_x name.now }
+{
+    matches!(
+        name,
+        "li" | "main"
             | "menu"
             | "nav"
             | "ol"
@@ -139,6 +156,15 @@ fn closes_paragraph(name: &str) -> bool
             | "ul"
             | "xmp"
     )
+}
+
+#[tactic(auto, using(crate::proofs::PlaceFlagsLemmas::closers))]
+/// Whether an element of this name doesn't stand under an open `p`. Each of the three parts is compiled to a test of
+/// the length first; were all names in one `match`, the last ones wouldn't be.
+fn closes_paragraph(name: &str) -> bool
+    ensures { result ≡ spec.closes_paragraph name.now }
+{
+    is_closer_a_to_d(name) || is_closer_f_to_h(name) || is_closer_l_to_x(name)
 }
 
 /// Whether this is the name of a heading.
