@@ -1,6 +1,5 @@
 -- What an addition does to a tree as it lies in memory.
-use Rattle.std.proofs.Common.{◌≡◌, ℕ, ◌+◌, ◌<◌, ◌/◌, true, false, cond, eqb, List, [], ◌∷◌, ◌++◌, length, Option, Some}
-use Rattle.std.proofs.Common.{get_or, set}
+use Rattle.std.proofs.Common.{◌≡◌, ℕ, ◌+◌, ◌<◌, true, false, cond, eqb, List, [], ◌∷◌, ◌++◌, length, Option, Some, get_or, set}
 use Rattle.std.proofs.Common.{refl, sym, ap, ◌∙◌, subst, arith, inl, inr, length-set, get_or-set_same, get_or-set_other}
 use Rattle.std.proofs.Math.Seq.{map-set_same}
 use Rattle.std.proofs.lemmas.Bool.{cases_eq, cases_lt}
@@ -11,7 +10,7 @@ use Rattle.htmd_tree.specs.declared.tree.Entry.{Entry}
 use Rattle.htmd_tree.specs.Items.{Item, document_item, is_child, children_of, holds_children, data_at, depth_at}
 use Rattle.htmd_tree.specs.Items.{new_item, greatest_depth, IsTree}
 use Rattle.htmd_tree.specs.Views.{data_of}
-use Rattle.htmd_tree.specs.Entries.{levels, depth_of, parent_of, item_of, items_of, IsStored}
+use Rattle.htmd_tree.specs.Entries.{parent_of, item_of, items_of, IsStored}
 use Rattle.htmd_tree.proofs.ItemsLemmas.{children_from-push, children_from-none, is_child-before, IsTree-added}
 
 -- an entry is replaced by one that is the same node
@@ -130,14 +129,13 @@ IsStored-added entries p old new last l here same kids this no_kids holds shallo
 
 -- the item of the entry that is added, from a read of its parent's entry
 pub last_item : (entries : List Entry) (i : ℕ) (read last : Entry) → i < length entries
-    → read ≡ get_or entries i read → last.place / levels ≡ i → depth_of last ≡ depth_of read + 1
+    → read ≡ get_or entries i read → last.parent ≡ i → last.depth ≡ read.depth + 1
     → item_of last ≡ new_item (items_of entries) i (data_of last.data)
 last_item entries i read last l here parent deeper =
-    let depth : depth_of read ≡ depth_at (items_of entries) i = ap depth_of here
+    let depth : read.depth ≡ depth_at (items_of entries) i = ap (λ (x : Entry). x.depth) here
     ∙ ap (λ (x : Item). x.depth) (sym (get_or-map item_of entries i read document_item l)) in
-    let inner : eqb (depth_of last) 0 ≡ false = grind (arith, nat_tests, deeper) in
+    let inner : eqb last.depth 0 ≡ false = grind (arith, nat_tests, deeper) in
     let named : parent_of last ≡ Some i = rw inner (ap Some parent) in
-    let by_parent : Option ℕ → Item = λ o. record { parent = o; depth = depth_of last; node_data = data_of last.data }
-    in
+    let by_parent : Option ℕ → Item = λ o. record { parent = o; depth = last.depth; node_data = data_of last.data } in
     let by_depth : ℕ → Item = λ n. record { parent = Some i; depth = n; node_data = data_of last.data } in
     ap by_parent named ∙ ap by_depth (deeper ∙ ap (λ n. n + 1) depth)

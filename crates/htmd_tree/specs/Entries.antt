@@ -1,24 +1,15 @@
 -- How a tree lies in memory: each entry keeps the numbers of its children.
-use Rattle.std.specs.Prelude.{◌≡◌, ◌==◌, ℕ, ◌<◌, ◌/◌, ◌%◌, List, length, map, slice_index_or, Option, Some, None}
-use Rattle.std.specs.Prelude.{if◌then◌else◌}
+use Rattle.std.specs.Prelude.{◌≡◌, ◌==◌, ℕ, ◌<◌, List, length, map, slice_index_or, Option, Some, None, if◌then◌else◌}
 use Rattle.htmd_tree.specs.declared.tree.Entry.{Entry}
 use Rattle.htmd_tree.specs.Items.{Item, children_of, IsTree}
 use Rattle.htmd_tree.specs.Views.{data_of}
 
--- a power of two above any depth
-abbrev pub levels : ℕ
-levels = 2048
-
--- the place of an entry is the number of its parent times the levels, and its depth
-abbrev pub depth_of : Entry → ℕ
-depth_of e = e.place % levels
-
--- the Document, alone at depth 0, has no parent
+-- the parent of an entry: the Document, alone at depth 0, has none
 abbrev pub parent_of : Entry → Option ℕ
-parent_of e = if depth_of e == 0 then None else Some (e.place / levels)
+parent_of e = if e.depth == 0 then None else Some e.parent
 
 abbrev pub item_of : Entry → Item
-item_of e = record { parent = parent_of e; depth = depth_of e; node_data = data_of e.data }
+item_of e = record { parent = parent_of e; depth = e.depth; node_data = data_of e.data }
 
 abbrev pub items_of : List Entry → List Item
 items_of entries = map item_of entries

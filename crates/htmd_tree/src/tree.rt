@@ -1,11 +1,10 @@
 //! A tree of nodes, to which nodes are only added.
-ghost use Rattle.std.specs.Prelude.{◌≡◌, ◌+◌, ◌<◌, ◌≤◌, ◌/◌, ◌%◌, ◌↔◌, [], ◌∷◌, ◌++◌, nat_lt, length, IsTrue, IfOk};
-ghost use Rattle.std.specs.Prelude.{OnOk, OnErr, IsErrOf, IsOkUnless, MatchResult};
+ghost use Rattle.std.specs.Prelude.{◌≡◌, ◌+◌, ◌<◌, ◌≤◌, ◌↔◌, [], ◌∷◌, ◌++◌, nat_lt, length, IsTrue, IfOk, OnOk, OnErr};
+ghost use Rattle.std.specs.Prelude.{IsErrOf, IsOkUnless, MatchResult};
 ghost use Rattle.std.specs.Option.{option_copied};
 ghost use Rattle.htmd_tree.specs.Items.{IsTree, data_at, parent_at, depth_at, children_of, holds_children, tag_of};
 ghost use Rattle.htmd_tree.specs.Items.{new_item, document_item, doctype_node, text_node, comment_node, element_node};
 ghost use Rattle.htmd_tree.specs.Items.{greatest_depth};
-ghost use Rattle.htmd_tree.specs.Entries.{levels, depth_of, parent_of};
 ghost use Rattle.htmd_tree.specs.Views.{data_of, pairs_of};
 ghost use Rattle.htmd_tree.specs.declared.tree.TreeError.TheVariants.{Memory};
 
@@ -76,49 +75,13 @@ impl<T: Drop> From<AllocFailed<T>> for TreeError {
     }
 }
 
-/// A power of two above any depth.
-const LEVELS: usize = 2048;
-
-/// A node as it is kept.
+/// A node as it is kept. The Document, alone at depth 0, stands under itself here.
 #[derive(Drop)]
 struct Entry {
     data: NodeData,
-    /// The number of the parent times `LEVELS`, and the depth. The Document, alone at depth 0, has no parent.
-    place: usize,
+    parent: NodeId,
+    depth: usize,
     children: Vec<NodeId>,
-}
-
-impl Entry {
-    fn depth(&self) -> usize
-        ensures { result ≡ depth_of self.now }
-    {
-        self.place % LEVELS
-    }
-
-    fn parent(&self) -> Option<NodeId>
-        ensures { result ≡ parent_of self.now }
-    {
-        if self.depth() == 0 {
-            None
-        } else {
-            Some(NodeId {
-                index: self.place / LEVELS,
-            })
-        }
-    }
-}
-
-/// The place of a node of this depth under a parent. No memory holds so many nodes that there is none.
-fn place_under(parent: NodeId, depth: usize) -> Result<usize, TreeError>
-    requires { depth < levels }
-    ensures parent { IfOk result (λ place. place / levels ≡ parent) }
-    ensures depth { IfOk result (λ place. place % levels ≡ depth) }
-    ensures memory { IsOkUnless result TreeError.Memory }
-{
-    if parent.index >= usize::MAX / LEVELS {
-        return Err(TreeError::Memory);
-    }
-    Ok(parent.index * LEVELS + depth)
 }
 
 /// A Document and the nodes below it.
@@ -166,7 +129,8 @@ impl Tree {
         let mut entries = Vec::new(alloc);
         entries.push(Entry {
             data: NodeData::Document,
-            place: 0,
+            parent: NodeId { index: 0 },
+            depth: 0,
             children: Vec::new(alloc),
         })?;
         Ok(Tree { entries, alloc })
@@ -204,7 +168,12 @@ impl Tree {
         ensures value { result ≡ parent_at self.now id }
         ensures tree { IsTree self.now }
     {
-        self.entries[id.index].parent()
+        let entry = &self.entries[id.index];
+        if entry.depth == 0 {
+            None
+        } else {
+            Some(entry.parent)
+        }
     }
 
     /// The nodes right under a node of the tree, in order.
@@ -235,7 +204,7 @@ impl Tree {
         ensures value { result ≡ depth_at self.now id }
         ensures tree { IsTree self.now }
     {
-        self.entries[id.index].depth()
+        self.entries[id.index].depth
     }
 
     /// Whether a node under this parent stands within the greatest depth.
@@ -244,7 +213,7 @@ impl Tree {
         ensures { MatchResult result (λ _. depth_at self.now parent < greatest_depth)
             (λ e. (e ≡ TreeError.TooDeep) × (greatest_depth ≤ depth_at self.now parent)) }
     {
-        if self.entries[parent.index].depth() >= MAX_DEPTH {
+        if self.entries[parent.index].depth >= MAX_DEPTH {
             return Err(TreeError::TooDeep);
         }
         Ok(())
@@ -266,7 +235,8 @@ impl Tree {
         };
         let entry = Entry {
             data: node_data,
-            place: place_under(parent, self.entries[parent.index].depth() + 1)?,
+            parent,
+            depth: self.entries[parent.index].depth + 1,
             children: Vec::new(self.alloc),
         };
         self.entries.reserve(1)?;
