@@ -1,8 +1,8 @@
 //! The program: its words, its statuses, and its lines on the sink for errors.
-ghost use Rattle.std.specs.Prelude.{◌≡◌, ◌≢◌, ◌≤◌, false, IfSome};
+ghost use Rattle.std.specs.Prelude.{◌≡◌, ◌≢◌, ◌≤◌, ◌↔◌, false, IfSome, is_some};
 ghost use Rattle.std.specs.Io.KnownBytes.{Appends, IsAtEnd, Keeps};
 ghost use Rattle.htmd_cli.specs.Runs.{Converts};
-ghost use Rattle.htmd_cli.specs.Words.{is_text, is_faithful};
+ghost use Rattle.htmd_cli.specs.Words.{is_text, is_faithful, are_known};
 
 use crate::faults::RunError;
 use crate::pipeline::{Mode, run};
@@ -32,6 +32,7 @@ pub fn command<R: Source, W: Sink, E: Sink>(
         (R.has_failed source.new ≡ false) × (W.has_failed sink.new ≡ false) }
     ensures nothing_written { result ≢ 0 → W.has_failed sink.new ≡ false →
         Keeps (W.contents sink.old) (W.contents sink.new) }
+    ensures unknown { result ≡ 2 ↔ are_known words.now ≡ false }
     ensures nothing_read { result ≡ 2 → Keeps (R.remaining source.old) (R.remaining source.new) }
     ensures status { result ≤ 2 }
 {
@@ -50,6 +51,7 @@ pub fn command<R: Source, W: Sink, E: Sink>(
 
 // The mode that the words ask for, if all are known.
 fn mode_of(words: &[String]) -> Option<Mode>
+    ensures known { is_some result ≡ are_known words.now }
     ensures text { IfSome result (λ mode. mode.text ≡ is_text words.now) }
     ensures faithful { IfSome result (λ mode. mode.faithful ≡ is_faithful words.now) }
 {

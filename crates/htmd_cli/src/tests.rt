@@ -1,4 +1,4 @@
-//! What no clause says: the program's lines and statuses, and that runs succeed and fail as they should.
+//! What no clause says: the program's lines, and that runs succeed and fail as they should.
 mod doubles;
 mod pages;
 
