@@ -1,8 +1,9 @@
-//! Pages that are cut short, or lack a character.
+//! Pages that are cut short, or lack a character or a byte.
 use crate::builders::referenced;
 use crate::pages::{converted_page, refusal};
 use htmd::options::{Options, TranslationMode};
 use htmd::{ConvertError, FaultKind, HtmlToMarkdown};
+use htmd_cli::{Input, Mode, Output, RunError, run};
 use std::alloc::Global;
 use std::test::Fail;
 
@@ -126,5 +127,54 @@ fn answers_lacks(rt: HostRuntime) -> Result<(), Fail> {
         beginning.push(c)?;
     }
     assert!(rt; converter.convert(rt.alloc(), PAGE).is_ok());
+    Ok(())
+}
+
+// Whether a run over these bytes writes an answer, or refuses them at a place of them and writes nothing: as a text that
+// is no UTF-8 just where it is none.
+fn is_run(alloc: Global, bytes: &[u8]) -> bool {
+    let mut written = Vec::new(alloc);
+    let mut source = Input::new(bytes);
+    let mut sink = Output::new(&mut written);
+    let mode = Mode {
+        text: false,
+        faithful: false,
+    };
+    let answer = run(alloc, &mut source, &mut sink, mode);
+    match answer {
+        Ok(()) => str::from_utf8(bytes).is_ok() && !written.is_empty(),
+        Err(RunError::Refused { place, .. }) => {
+            str::from_utf8(bytes).is_ok() && place <= bytes.len() && written.is_empty()
+        }
+        Err(RunError::NotUtf8) => str::from_utf8(bytes).is_err() && written.is_empty(),
+        Err(_) => false,
+    }
+}
+
+// The page cut after each of its bytes.
+#[test]
+fn runs_over_beginnings(rt: HostRuntime) -> Result<(), Fail> {
+    let mut beginning = Vec::new(rt.alloc());
+    for byte in PAGE.as_bytes() {
+        assert!(rt; is_run(rt.alloc(), beginning.as_slice()));
+        beginning.push(*byte)?;
+    }
+    assert!(rt; is_run(rt.alloc(), beginning.as_slice()));
+    Ok(())
+}
+
+// The page less each of its bytes.
+#[test]
+fn runs_over_lacks(rt: HostRuntime) -> Result<(), Fail> {
+    let bytes = PAGE.as_bytes();
+    for (place, _) in bytes.iter().enumerate() {
+        let mut less = Vec::new(rt.alloc());
+        for (other, byte) in bytes.iter().enumerate() {
+            if other != place {
+                less.push(*byte)?;
+            }
+        }
+        assert!(rt; is_run(rt.alloc(), less.as_slice()));
+    }
     Ok(())
 }
