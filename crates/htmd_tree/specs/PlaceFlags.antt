@@ -3,7 +3,8 @@ use Rattle.std.specs.Prelude.{ℕ, Bool, false, not, ◌&&◌, ◌||◌, if◌th
 use Rattle.htmd_grammar.specs.CharacterClasses.{is_among}
 use Rattle.htmd_grammar.specs.RawContent.{holds_raw_text, holds_text_alone}
 use Rattle.htmd_grammar.specs.Places.{Context, parent_name, is_open, is_met_before, is_heading, is_table, holds_rows}
-use Rattle.htmd_grammar.specs.Places.{is_row, holds_parts, is_optgroup, is_option, is_outside, is_table_part, closes_paragraph}
+use Rattle.htmd_grammar.specs.Places.{is_row, holds_parts, is_optgroup, is_option, is_outside, is_table_part}
+use Rattle.htmd_grammar.specs.Places.{closes_paragraph}
 use Rattle.htmd_tree.specs.declared.reader.places.Place.{Place}
 
 abbrev pub place_of : Bool → Context → Place

@@ -130,8 +130,8 @@ fn answers_lacks(rt: HostRuntime) -> Result<(), Fail> {
     Ok(())
 }
 
-// Whether a run over these bytes writes an answer, or refuses them at a place of them and writes nothing: as a text that
-// is no UTF-8 just where it is none.
+// Whether a run over these bytes writes an answer, or refuses them at a place of them and writes nothing: as no UTF-8
+// just where they are none.
 fn is_run(alloc: Global, bytes: &[u8]) -> bool {
     let mut written = Vec::new(alloc);
     let mut source = Input::new(bytes);

@@ -14,7 +14,8 @@ invariant_of-self-in_err-push_child c =
     let entries : List Entry = c.reserve.new.self.items in
     let i : ℕ = c.parent-2.inside.index in
     let old : Entry = c.index_mut.result.now in
-    let new : Entry = record { «data» = old.data; parent = old.parent; depth = old.depth; children = c.push_child.new.children }
+    let children = c.push_child.new.children in
+    let new : Entry = record { «data» = old.data; parent = old.parent; depth = old.depth; children = children }
     in
     let items : items_of entries ≡ c.args.self.now = ap items_of c.reserve.ensures.items ∙ c.self.view_is in
     let stored : IsStored entries = subst IsStored (sym c.reserve.ensures.items) c.self.invariant in
@@ -27,7 +28,8 @@ returns-in_err-push_child-clause-err c =
     let entries : List Entry = c.reserve.new.self.items in
     let i : ℕ = c.parent-2.inside.index in
     let old : Entry = c.index_mut.result.now in
-    let new : Entry = record { «data» = old.data; parent = old.parent; depth = old.depth; children = c.push_child.new.children }
+    let children = c.push_child.new.children in
+    let new : Entry = record { «data» = old.data; parent = old.parent; depth = old.depth; children = children }
     in
     let items : items_of entries ≡ c.args.self.now = ap items_of c.reserve.ensures.items ∙ c.self.view_is in
     let stored : IsStored entries = subst IsStored (sym c.reserve.ensures.items) c.self.invariant in
@@ -42,7 +44,8 @@ invariant_of-self-2 c =
     let entries : List Entry = c.reserve.new.self.items in
     let i : ℕ = c.parent-2.inside.index in
     let old : Entry = c.index_mut.result.now in
-    let new : Entry = record { «data» = old.data; parent = old.parent; depth = old.depth; children = c.push_child.new.children }
+    let children = c.push_child.new.children in
+    let new : Entry = record { «data» = old.data; parent = old.parent; depth = old.depth; children = children }
     in
     let items : items_of entries ≡ c.args.self.now = ap items_of c.reserve.ensures.items ∙ c.self.view_is in
     let stored : IsStored entries = subst IsStored (sym c.reserve.ensures.items) c.self.invariant in
@@ -71,7 +74,8 @@ returns-clause-ok c =
     let entries : List Entry = c.reserve.new.self.items in
     let i : ℕ = c.parent-2.inside.index in
     let old : Entry = c.index_mut.result.now in
-    let new : Entry = record { «data» = old.data; parent = old.parent; depth = old.depth; children = c.push_child.new.children }
+    let children = c.push_child.new.children in
+    let new : Entry = record { «data» = old.data; parent = old.parent; depth = old.depth; children = children }
     in
     let items : items_of entries ≡ c.args.self.now = ap items_of c.reserve.ensures.items ∙ c.self.view_is in
     let stored : IsStored entries = subst IsStored (sym c.reserve.ensures.items) c.self.invariant in

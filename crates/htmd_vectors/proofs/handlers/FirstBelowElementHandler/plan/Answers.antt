@@ -41,5 +41,6 @@ returns-clause-proper c =
     let levels = c.args.self.now.levels in
     let e : c.node_below-below.result ≡ down items levels node =
     c.node_below-below.ensures ∙ ap (λ (t : List Item). down t levels node) c.tree.ensures in
+    let other = sym c.eq.ensures ∙ c.if-eq.false in
     ∣ subst (λ d. IsBelow items node d) (sym e)
-    (down_below items levels node (λ same. eqb-false c.node_below-below.result node (sym c.eq.ensures ∙ c.if-eq.false) (e ∙ same))) ∣₁
+    (down_below items levels node (λ same. eqb-false c.node_below-below.result node other (e ∙ same))) ∣₁
