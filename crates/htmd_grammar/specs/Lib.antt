@@ -18,5 +18,6 @@ pub mod OpenElements
 pub mod Steps
 pub mod Fronts
 pub mod Faults
+pub mod FaultNames
 pub mod Laws
 pub mod SerialiserSteps

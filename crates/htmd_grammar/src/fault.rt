@@ -1,4 +1,7 @@
 //! What is wrong at a place of a text.
+ghost use Rattle.std.specs.Prelude.{Some};
+ghost use Rattle.htmd_grammar.specs.FaultNames.{fault_name};
+
 use std::fmt;
 
 /// The kind of a refusal: what stands at its place. Where two fit the same piece, it is the earlier one here.
@@ -38,6 +41,8 @@ pub enum FaultKind {
 
 /// The name of the kind.
 impl fmt::Display for FaultKind {
+    ghost output = { λ kind. Some (fault_name kind) };
+
     fn fmt<W: fmt::Write>(&self, f: &mut fmt::Formatter<W>) -> fmt::Result {
         f.write_str(match self {
             FaultKind::Nul => "Nul",
