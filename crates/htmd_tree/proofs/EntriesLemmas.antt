@@ -137,6 +137,7 @@ last_item entries i read last l here parent deeper =
     ∙ ap (λ (x : Item). x.depth) (sym (get_or-map item_of entries i read document_item l)) in
     let inner : eqb last.depth 0 ≡ false = grind (arith, nat_tests, deeper) in
     let named : parent_of last ≡ Some i = rw inner (ap Some parent) in
-    let by_parent : Option ℕ → Item = λ o. record { parent = o; depth = last.depth; node_data = data_of last.data } in
+    let by_parent : Option ℕ → Item =
+    λ o. record { parent = o; depth = last.depth; node_data = data_of last.data } in
     let by_depth : ℕ → Item = λ n. record { parent = Some i; depth = n; node_data = data_of last.data } in
     ap by_parent named ∙ ap by_depth (deeper ∙ ap (λ n. n + 1) depth)

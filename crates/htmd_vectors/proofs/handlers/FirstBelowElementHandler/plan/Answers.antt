@@ -10,13 +10,14 @@ first_contained : (x : ℕ) (xs : List ℕ) → Contains (x ∷ xs) x
 first_contained x xs = (0, omega arith, refl)
 
 -- a step from below leads below
-stepped_below : (items : List Item) (node d : ℕ) (ids : List ℕ) → ids ≡ children_of items d → IsBelow items node d
-    → IsBelow items node (first_or ids d)
+stepped_below : (items : List Item) (node d : ℕ) (ids : List ℕ) → ids ≡ children_of items d
+    → IsBelow items node d → IsBelow items node (first_or ids d)
 stepped_below items node d [] e below = below
 stepped_below items node d (x ∷ ids) e below =
     deeper {p = d} below (subst (λ xs. Contains xs x) e (first_contained x ids))
 
-steps_below : (items : List Item) (node n d : ℕ) → IsBelow items node d → IsBelow items node (down items n d)
+steps_below : (items : List Item) (node n d : ℕ) → IsBelow items node d
+    → IsBelow items node (down items n d)
 steps_below items node zero d below = below
 steps_below items node (suc n) d below = steps_below items node n (first_or (children_of items d) d)
     (stepped_below items node d (children_of items d) refl below)
@@ -29,7 +30,8 @@ first_below items n node [] e behind other = behind other
 first_below items n node (x ∷ ids) e behind other =
     steps_below items node n x (child {d = x} (subst (λ xs. Contains xs x) e (first_contained x ids)))
 
-down_below : (items : List Item) (n node : ℕ) → down items n node ≢ node → IsBelow items node (down items n node)
+down_below : (items : List Item) (n node : ℕ) → down items n node ≢ node
+    → IsBelow items node (down items n node)
 down_below items zero node other = absurd (other refl)
 down_below items (suc n) node other =
     first_below items n node (children_of items node) refl (down_below items n node) other
