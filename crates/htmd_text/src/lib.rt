@@ -12,8 +12,6 @@ mod list_markers;
 mod numbers;
 mod repetition;
 pub mod runs;
-#[cfg(test)]
-mod tests;
 mod trim;
 mod white_space;
 

@@ -1,5 +1,5 @@
 //! What no clause says: that calls succeed where there is memory, and rows of the rules, written by hand.
-use super::*;
+use htmd_text::*;
 use std::alloc::{AllocError, Global};
 use std::borrow::CowStr;
 use std::test::Fail;
