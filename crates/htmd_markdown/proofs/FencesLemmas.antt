@@ -77,23 +77,13 @@ run_of_content : (c k : ℕ) (s : List ℕ) → (line_feed == c) ≡ false → (
 run_of_content c k s other (inl same) = ap (λ l. symbols_at_start c (drop k l)) same
 run_of_content c k s other (inr more) = ap (λ l. symbols_at_start c (drop k l)) more ∙ run_push c k (code_of s) other
 
-pub fence-longer : (s : List ℕ) (language : Option (List ℕ)) (fence : CodeBlockFence) (k : ℕ)
-    → symbols_at_start (symbol_of fence) (drop k s) < symbols_at_start (symbol_of fence)
-    (fenced_code_block s language fence)
-fence-longer s language fence k =
+pub fence-longer : (s : List ℕ) (fence : CodeBlockFence) (k : ℕ)
+    → symbols_at_start (symbol_of fence) (drop k s) < fence_len (symbol_of fence) (code_of s)
+fence-longer s fence k =
     let c : ℕ = symbol_of fence in
-    let n : ℕ = fence_len c (code_of s) in
-    let info : List ℕ = info_string language in
-    let makes = makes_fences fence in
-    let after : List ℕ = info ++ line_feed ∷ (code_of s ++ line_feed ∷ replicate n c) in
-    let fenced_at : symbols_at_start c (fenced_code_block s language fence) ≡ n + symbols_at_start c after =
-    ap (symbols_at_start c)
-    (regrouped (replicate n c) info (code_of s)
-    ∙ append_assoc (replicate n c) info (line_feed ∷ (code_of s ++ line_feed ∷ replicate n c)))
-    ∙ symbols_before c n after makes.itself in
-    let here = run_of_content c k s makes.no_line_feed (code_of-behind s) in
+    let here = run_of_content c k s (makes_fences fence).no_line_feed (code_of-behind s) in
     let run = run_at-le-longest c (code_of s) k in
-    omega (arith, fenced_at, here, run)
+    omega (arith, here, run)
 
 -- the language that the code hands on
 pub info_given : (language : Option (Bor (List ℕ))) (empty : Bor (List ℕ)) → empty.now ≡ []

@@ -1,5 +1,5 @@
 -- The items of bullet lists and of ordered lists (CommonMark 0.31.2, 5.2).
-use Rattle.std.specs.Prelude.{ℕ, ◌+◌, ◌-◌, true, List, [], ◌∷◌, ◌++◌, length, replicate}
+use Rattle.std.specs.Prelude.{ℕ, ◌+◌, ◌-◌, true, List, [], ◌∷◌, ◌++◌, length, replicate, min, max}
 use Rattle.std.specs.Fmt.{decimal}
 use Rattle.htmd_text.specs.Characters.{line_feed, space, asterisk, hyphen, full_stop}
 use Rattle.htmd_text.specs.WhiteSpace.{is_document_white_space}
@@ -41,3 +41,11 @@ number_marker spacing highest number =
 abbrev pub numbered_item : ℕ → ℕ → ℕ → List ℕ → List ℕ
 numbered_item spacing highest number content =
     list_item (number_marker spacing highest number) (trimmed_start is_line_feed content)
+
+-- The spaces behind a marker, as many as are asked for but at least 1 and at most 4: with none there is no item, and
+-- with more than 4 its content is indented code.
+abbrev pub guarded_spacing : ℕ → ℕ
+guarded_spacing spacing = max 1 (min spacing 4)
+
+abbrev pub guarded_bullet_item : BulletListMarker → ℕ → List ℕ → List ℕ
+guarded_bullet_item marker spacing content = bullet_item marker (guarded_spacing spacing) content

@@ -5,9 +5,10 @@ use Rattle.std.specs.Option.{option_map}
 use Rattle.std.specs.Str.{all_ascii_digits}
 use Rattle.std.specs.Str.Parse.{without_leading_plus, digits_value}
 use Rattle.htmd_text.specs.Characters.{line_feed}
+use Rattle.htmd_text.specs.Digits.{digits}
 use Rattle.htmd_text.specs.Trims.{trimmed_text, some_text, is_line_feed}
 use Rattle.htmd_text.specs.Joins.{joined_blocks}
-use Rattle.htmd_markdown.specs.ListItems.{numbered_item}
+use Rattle.htmd_markdown.specs.ListItems.{numbered_item, guarded_spacing}
 use Rattle.htmd_markdown.specs.declared.list.ListBlock.{ListBlock}
 use Rattle.htmd_markdown.specs.declared.list.ListBlock.TheVariants.{Item, Other}
 
@@ -50,6 +51,14 @@ numbered_blocks spacing highest number (other text ∷ blocks) = text ∷ number
 -- an ordered list
 abbrev pub ordered_list : ℕ → ℕ → List Block → List ℕ
 ordered_list first spacing blocks = joined_blocks (numbered_blocks spacing (highest_number first blocks) first blocks)
+
+-- No item's number has more than nine digits: where the highest one would, the list begins at 1.
+abbrev pub guarded_first_number : ℕ → ℕ → ℕ
+guarded_first_number first highest = if nat_lt 9 (digits highest) then 1 else first
+
+abbrev pub guarded_ordered_list : ℕ → ℕ → List Block → List ℕ
+guarded_ordered_list first spacing blocks =
+    ordered_list (guarded_first_number first (highest_number first blocks)) (guarded_spacing spacing) blocks
 
 -- so many line feeds on each side
 abbrev pub between_line_feeds : ℕ → List ℕ → List ℕ

@@ -31,9 +31,12 @@ normalised_cell cell = trimmed_text is_document_white_space (flat_map in_cell ce
 abbrev pub cell_width : List ℕ → ℕ
 cell_width cell = length (chars (normalised_cell cell))
 
--- the cells of a line of so many columns, as they are written; missing ones are empty
+-- the cells of a line of so many columns, each so written; missing ones are empty
+abbrev pub line_cells_by : (List ℕ → List ℕ) → ℕ → List (List ℕ) → List (List ℕ)
+line_cells_by written columns cells = map written cells ++ replicate (columns - length cells) []
+
 abbrev pub line_cells : ℕ → List (List ℕ) → List (List ℕ)
-line_cells columns cells = map normalised_cell cells ++ replicate (columns - length cells) []
+line_cells columns cells = line_cells_by normalised_cell columns cells
 
 -- a cell between spaces: one on each side, and behind the cell as many as are missing to the width
 abbrev pub padded_cell : List ℕ → ℕ → List ℕ
@@ -49,9 +52,12 @@ barred_cells (cell ∷ cells) (width ∷ widths) = padded_cell cell width ++ ver
 abbrev pub line : List (List ℕ) → List ℕ → List ℕ
 line cells widths = vertical_bar ∷ barred_cells cells widths
 
--- the line of a row, and the line's end
+-- the line of a row whose cells are so written, and the line's end
+abbrev pub row_by : (List ℕ → List ℕ) → List (List ℕ) → List ℕ → List ℕ
+row_by written cells widths = line (line_cells_by written (length widths) cells) widths ++ line_feed ∷ []
+
 abbrev pub row : List (List ℕ) → List ℕ → List ℕ
-row cells widths = line (line_cells (length widths) cells) widths ++ line_feed ∷ []
+row cells widths = row_by normalised_cell cells widths
 
 -- as many `-` as the column is wide
 abbrev pub dashes : ℕ → List ℕ
@@ -67,19 +73,29 @@ wider [] others = others
 wider (width ∷ widths) [] = width ∷ widths
 wider (width ∷ widths) (other ∷ others) = max width other ∷ wider widths others
 
--- the widths of a table's columns: the most characters of a cell of the column
+-- the widths of a table's columns: the greatest of a cell of the column, each of so many
+abbrev pub column_widths_by : (List ℕ → ℕ) → List (List (List ℕ)) → List ℕ
+column_widths_by width lines = fold wider [] (map (map width) lines)
+
 abbrev pub column_widths : List (List (List ℕ)) → List ℕ
-column_widths lines = fold wider [] (map (map cell_width) lines)
+column_widths lines = column_widths_by cell_width lines
 
 -- the headers and the separator, where there are headers
-abbrev pub head : List (List ℕ) → List ℕ → List ℕ
-head [] widths = []
-head (header ∷ headers) widths = row (header ∷ headers) widths ++ separator widths
+abbrev pub head_by : (List ℕ → List ℕ) → List (List ℕ) → List ℕ → List ℕ
+head_by written [] widths = []
+head_by written (header ∷ headers) widths = row_by written (header ∷ headers) widths ++ separator widths
 
 -- the lines of a table whose columns have these widths
-abbrev pub table_of_widths : List ℕ → List (List ℕ) → List (List (List ℕ)) → List ℕ
-table_of_widths widths headers rows = head headers widths ++ flat_map (λ cells. row cells widths) rows
+abbrev pub table_of_widths_by : (List ℕ → List ℕ) → List ℕ → List (List ℕ) → List (List (List ℕ))
+    → List ℕ
+table_of_widths_by written widths headers rows =
+    head_by written headers widths ++ flat_map (λ cells. row_by written cells widths) rows
 
--- the table, each column as wide as its widest cell
+-- the table whose cells are so written and take so many characters, each column as wide as its widest cell
+abbrev pub table_by : (List ℕ → List ℕ) → (List ℕ → ℕ) → List (List ℕ) → List (List (List ℕ))
+    → List ℕ
+table_by written width headers rows =
+    table_of_widths_by written (column_widths_by width (headers ∷ rows)) headers rows
+
 abbrev pub table : List (List ℕ) → List (List (List ℕ)) → List ℕ
-table headers rows = table_of_widths (column_widths (headers ∷ rows)) headers rows
+table headers rows = table_by normalised_cell cell_width headers rows

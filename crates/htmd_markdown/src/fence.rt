@@ -36,9 +36,8 @@ pub fn write_fence(
 ) -> Result<String, AllocError>
     ensures fence { IfOk result (λ s. string_bytes s
         ≡ spec.fenced_code_block content.now (option_copied language.entry) symbol) }
-    ensures longer { (k : ℕ) → IfOk result (λ s.
-        symbols_at_start (spec.symbol_of symbol) (drop k content.now)
-        < symbols_at_start (spec.symbol_of symbol) (string_bytes s)) }
+    ensures longer { (k : ℕ) → symbols_at_start (spec.symbol_of symbol) (drop k content.now)
+        < spec.fence_len (spec.symbol_of symbol) (code_of content.now) }
     ensures reads_back { spec.fits_fence (spec.symbol_of symbol)
         (spec.info_string (option_copied language.entry)) ≡ true
         → IfOk result (λ s. read_fence (string_bytes s) ≡ Some (code_of content.now)) }

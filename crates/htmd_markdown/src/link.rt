@@ -1,5 +1,6 @@
 //! Links, images, autolinks and link reference definitions (CommonMark 0.31.2, 6.3 to 6.5 and 4.7).
 ghost use Rattle.std.specs.Prelude.{◌≡◌, ◌++◌, false, IfOk, IfSome, OnOk, codes, string_bytes};
+ghost use Rattle.std.specs.Fmt.{decimal};
 ghost use Rattle.std.specs.Option.{option_copied, option_map};
 ghost use Rattle.htmd_markdown.specs.Addresses.{holds_backslash, HoldsAddress};
 ghost use Rattle.htmd_markdown.specs.Links as spec;
@@ -8,7 +9,6 @@ ghost use Rattle.htmd_markdown.specs.Titles.{title_text};
 use crate::address::{holds_space, is_written_address, push_address};
 use crate::title::{push_description, push_title};
 use htmd_text::StripWhitespace;
-use itoa::Buffer;
 use std::alloc::{AllocError, Global};
 
 /// How a link names the definition of its address.
@@ -100,7 +100,7 @@ pub fn write_reference(
     let mut link = String::with_capacity(alloc, content.len() + 24)?;
     push_in_brackets(&mut link, content)?;
     match style {
-        LinkReferenceStyle::Full => push_in_brackets(&mut link, Buffer::new().format(number))?,
+        LinkReferenceStyle::Full => push_number_in_brackets(&mut link, number)?,
         LinkReferenceStyle::Collapsed => link.push_str("[]")?,
         LinkReferenceStyle::Shortcut => {}
     }
@@ -124,7 +124,7 @@ pub fn write_definition(
 {
     let mut line = String::with_capacity(alloc, content.len() + 24)?;
     match style {
-        LinkReferenceStyle::Full => push_in_brackets(&mut line, Buffer::new().format(number))?,
+        LinkReferenceStyle::Full => push_number_in_brackets(&mut line, number)?,
         LinkReferenceStyle::Collapsed | LinkReferenceStyle::Shortcut => {
             push_in_brackets(&mut line, content)?
         }
@@ -135,13 +135,22 @@ pub fn write_definition(
     Ok(line)
 }
 
-fn push_in_brackets(out: &mut String, text: &str) -> Result<(), AllocError>
+/// Puts the text between brackets.
+pub(crate) fn push_in_brackets(out: &mut String, text: &str) -> Result<(), AllocError>
     ensures { OnOk result
         (string_bytes out.new ≡ string_bytes out.old ++ spec.in_brackets text.now) }
 {
     out.push('[')?;
     out.push_str(text)?;
     out.push(']')
+}
+
+/// Puts a number between brackets.
+pub(crate) fn push_number_in_brackets(out: &mut String, number: usize) -> Result<(), AllocError>
+    ensures { OnOk result
+        (string_bytes out.new ≡ string_bytes out.old ++ spec.in_brackets (decimal number)) }
+{
+    write!(out, "[{number}]")
 }
 
 /// Puts the address and the title in parentheses.

@@ -12,7 +12,6 @@ use htmd_text::{
     TrimDocumentWhitespace, digits, indent_text_except_first_line, join_blocks, push_repeated,
     trim_newlines,
 };
-use itoa::Buffer;
 use std::alloc::{AllocError, Global};
 
 /// What stands before the items of a bullet list.
@@ -62,6 +61,28 @@ pub fn write_bullet_item(
     push_repeated(&mut item, ' ', spacing as usize)?;
     push_content(alloc, &mut item, content)?;
     Ok(item)
+}
+
+/// An item of a bullet list with at least one space behind its marker and at most four: with none there is no item,
+/// and with more the content is indented code (CommonMark 0.31.2, 5.2).
+///
+/// Want of memory is the only error.
+pub fn write_guarded_bullet_item(
+    alloc: Global,
+    marker: BulletListMarker,
+    spacing: u8,
+    content: &str,
+) -> Result<String, AllocError>
+    ensures { IfOk result (λ t. string_bytes t ≡ items.guarded_bullet_item marker spacing content.now) }
+{
+    write_bullet_item(alloc, marker, guarded_spacing(spacing), content)
+}
+
+/// The spaces behind a marker: as many as are asked for, but at least 1 and at most 4.
+fn guarded_spacing(spacing: u8) -> u8
+    ensures { result ≡ items.guarded_spacing spacing }
+{
+    spacing.min(4).max(1)
 }
 
 fn bullet(marker: BulletListMarker) -> char
@@ -115,6 +136,34 @@ pub fn write_ordered_list(
     join_blocks(alloc, &texts)
 }
 
+/// The blocks of an ordered list with at least one space behind each dot and at most four, which begins at 1 where
+/// its highest number would have more than nine digits, since such a number is none (CommonMark 0.31.2, 5.2).
+///
+/// Want of memory is the only error.
+pub fn write_guarded_ordered_list(
+    alloc: Global,
+    first: u32,
+    spacing: u8,
+    blocks: Vec<ListBlock>,
+) -> Result<String, AllocError>
+    ensures text { IfOk result (λ t. string_bytes t
+        ≡ spec.guarded_ordered_list first spacing (map spec.block_of blocks.items)) }
+    ensures columns { IfOk result (λ t. HasEqualColumns
+        (spec.guarded_first_number first
+        (spec.highest_number first (map spec.block_of blocks.items)))
+        (items.guarded_spacing spacing) (map spec.block_of blocks.items) (string_bytes t)) }
+{
+    let highest = (first as usize + item_count(&blocks)).saturating_sub(1);
+    let first = guarded_first_number(first, highest);
+    write_ordered_list(alloc, first, guarded_spacing(spacing), blocks)
+}
+
+fn guarded_first_number(first: u32, highest: usize) -> u32
+    ensures { result ≡ spec.guarded_first_number first highest }
+{
+    if digits(highest) > 9 { 1 } else { first }
+}
+
 fn item_count(blocks: &[ListBlock]) -> usize
     ensures { result ≡ spec.item_count (map spec.block_of blocks.now) }
 {
@@ -144,7 +193,7 @@ fn write_numbered_item(
     let spaces = spacing as usize + digits(highest).saturating_sub(digits(number));
     let mut item = String::with_capacity(alloc, content.len() + spaces + 22)?;
     item.push('\n')?;
-    item.push_str(Buffer::new().format(number))?;
+    write!(item, "{number}")?;
     item.push('.')?;
     push_repeated(&mut item, ' ', spaces)?;
     push_content(alloc, &mut item, content)?;

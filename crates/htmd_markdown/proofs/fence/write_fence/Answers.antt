@@ -23,12 +23,7 @@ returns-clause-fence c =
     (code ∙ info) c.write_between_fences.ensures
 
 pub returns-clause-longer : goal.returns-clause-longer
-returns-clause-longer c = λ k.
-    of_answer (λ t. string_bytes t) c.write_between_fences.result
-    (fenced_code_block c.args.content.now (option_copied c.args.language) c.args.symbol)
-    (λ l. symbols_at_start (symbol_of c.args.symbol) (drop k c.args.content.now) < symbols_at_start
-    (symbol_of c.args.symbol) l)
-    (fence-longer c.args.content.now (option_copied c.args.language) c.args.symbol k) (returns-clause-fence c)
+returns-clause-longer c = λ k. fence-longer c.args.content.now c.args.symbol k
 
 pub returns-clause-reads_back : goal.returns-clause-reads_back
 returns-clause-reads_back c = λ fits.

@@ -1,0 +1,64 @@
+-- One more byte, with a backslash or without.
+use Rattle.std.proofs.Common.{◌≡◌, ◌++◌, ◌∷◌, [], true, false, length, lit<, ap, sym, ◌∙◌, arith}
+use Rattle.std.proofs.lemmas.Bool.Decides.{nat_tests}
+use Rattle.std.proofs.lemmas.Slice.{between_to_end}
+use Rattle.std.proofs.lemmas.Str.{IsCharBoundary-before_ascii}
+use Rattle.std.specs.String.{string_bytes}
+use Rattle.std.specs.List.{between}
+use Rattle.htmd_text.specs.Characters.{backslash}
+use Rattle.htmd_markdown.specs.GuardedAddresses.{is_guarded_mark}
+use Rattle.htmd_markdown.proofs.AddressesLemmas.{escaping_none, escaping_plain, escaping_marked, escaping_all}
+use Rattle.htmd_markdown.proofs.GuardedAddressesLemmas.{mark_is_ascii}
+use Rattle.htmd_markdown.proofs.guarded_address.push_guarded.Goals as goal
+use Rattle.htmd_markdown.proofs.guarded_address.push_guarded.Goals.{then-is_guarded_mark+in_ok-push_str+in_ok-push}
+use Rattle.htmd_markdown.proofs.guarded_address.push_guarded.Goals.{else-is_guarded_mark}
+
+pub loop-i-init : goal.loop-i-init
+loop-i-init c = escaping_none (is_guarded_mark c.args.characters.now c.args.text.now) c.args.text.now
+    (string_bytes c.args.out.now) c.utf8.text
+
+pub loop-i-preserved : goal.loop-i-preserved
+loop-i-preserved c =
+    let s = c.args.text.now in
+    let marked = is_guarded_mark c.args.characters.now s in
+    let test : c.is_guarded_mark.result ≡ marked c.loop-i.i = c.is_guarded_mark.ensures
+    ∙ ap (λ bytes. is_guarded_mark c.args.characters.now bytes c.loop-i.i) c.as_bytes-bytes.ensures.value in
+    elim c.if-is_guarded_mark.branch [
+      | then-is_guarded_mark+in_ok-push_str+in_ok-push w ↦
+          let here : marked c.loop-i.i ≡ true = sym test ∙ w.if-is_guarded_mark.true in
+          let ascii = mark_is_ascii c.args.characters.now s c.loop-i.i c.requires.ascii here in
+          let step = escaping_marked marked s (string_bytes c.args.out.now) (string_bytes c.loop-i.out) c.loop-i.from
+          c.loop-i.i (omega arith) here ascii c.loop-i.invariant in
+          let piece : string_bytes w.push_str.new.self ≡ string_bytes c.loop-i.out
+          ++ between c.loop-i.from c.loop-i.i s = cc (w.in_ok-push_str.ensures.bytes, w.range.ensures.value) in
+          let mark : string_bytes w.push.new.self ≡ string_bytes w.push_str.new.self ++ backslash ∷ [] =
+          w.in_ok-push.ensures.bytes ∙ ap (λ l. string_bytes w.push_str.new.self ++ l)
+          (w.in_ok-push.ensures.ascii (lit< tt)) in
+          let written : string_bytes c.if-is_guarded_mark.out
+          ≡ (string_bytes c.loop-i.out ++ between c.loop-i.from c.loop-i.i s) ++ backslash ∷ [] =
+          ap string_bytes w.out-is ∙ mark ∙ ap (λ l. l ++ backslash ∷ []) piece in
+          rw (written, w.from-is) step
+      | else-is_guarded_mark w ↦
+          let plain : marked c.loop-i.i ≡ false = sym test ∙ w.if-is_guarded_mark.false in
+          let step = escaping_plain marked s (string_bytes c.args.out.now) (string_bytes c.loop-i.out) c.loop-i.from
+          c.loop-i.i (omega arith) plain c.loop-i.invariant in
+          rw (w.out-is, w.from-is) step
+    ]
+
+pub returns : goal.returns
+returns c =
+    let s = c.args.text.now in
+    let marked = is_guarded_mark c.args.characters.now s in
+    let all = escaping_all marked s (string_bytes c.args.out.now) (string_bytes c.loop-i.out) c.loop-i.from c.loop-i.i
+    (omega (arith, ap length c.as_bytes-bytes.ensures.value)) c.loop-i.invariant in
+    let rest = c.range_from.ensures.value ∙ sym (between_to_end s c.loop-i.from (length s) (omega arith)) in
+    c.in_ok-push_str-2.ensures.bytes ∙ ap (λ l. string_bytes c.loop-i.out ++ l) rest ∙ all
+
+pub range-requires-clause-end_boundary : goal.range-requires-clause-end_boundary
+range-requires-clause-end_boundary c =
+    let test = c.is_guarded_mark.ensures
+    ∙ ap (λ bytes. is_guarded_mark c.args.characters.now bytes c.loop-i.i) c.as_bytes-bytes.ensures.value in
+    let ascii = mark_is_ascii c.args.characters.now c.args.text.now c.loop-i.i c.requires.ascii (sym test
+    ∙ c.if-is_guarded_mark.true) in
+    IsCharBoundary-before_ascii c.args.text.now c.loop-i.i (omega (arith, ap length c.as_bytes-bytes.ensures.value))
+    (grind (arith, nat_tests))

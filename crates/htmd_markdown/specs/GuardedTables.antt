@@ -1,0 +1,43 @@
+-- Tables as `Tables` has them, with a backslash before each bar of a cell, where tables have them as extensions of
+-- CommonMark do (GitHub Flavored Markdown 0.29, 4.10).
+use Rattle.std.specs.Prelude.{ℕ, Bool, false, not, ◌&&◌, ◌==◌, max, if◌then◌else◌, List, [], ◌∷◌, ◌++◌, length}
+use Rattle.std.specs.List.{flat_map}
+use Rattle.std.specs.Str.{chars}
+use Rattle.htmd_text.specs.Characters.{line_feed, carriage_return, space, vertical_bar, backslash}
+use Rattle.htmd_text.specs.Trims.{trimmed_text}
+use Rattle.htmd_text.specs.WhiteSpace.{is_document_white_space}
+use Rattle.htmd_markdown.specs.Tables.{row_by, table_by}
+
+-- what stands for a byte of a cell's line: a line feed becomes a space, and a carriage return goes
+abbrev pub in_line : ℕ → List ℕ
+in_line b = if b == line_feed then space ∷ [] else (if b == carriage_return then [] else b ∷ [])
+
+-- a cell without document white space at its ends, in one line
+abbrev pub cell_line : List ℕ → List ℕ
+cell_line cell = flat_map in_line (trimmed_text is_document_white_space cell)
+
+-- a backslash behind an even number of them escapes what follows
+abbrev pub is_escaping : Bool → ℕ → Bool
+is_escaping escaped b = (b == backslash) && not escaped
+
+-- The text with a backslash before each bar that stands behind an even number of them; it stands itself behind an odd
+-- number of backslashes, or not.
+abbrev pub escaped_bars : Bool → List ℕ → List ℕ
+escaped_bars escaped [] = []
+escaped_bars escaped (b ∷ s) =
+    (if (b == vertical_bar) && not escaped then backslash ∷ b ∷ [] else b ∷ [])
+    ++ escaped_bars (is_escaping escaped b) s
+
+-- a cell as it is written
+abbrev pub guarded_cell : List ℕ → List ℕ
+guarded_cell cell = escaped_bars false (cell_line cell)
+
+-- how many characters a cell takes, but at least 3: fewer dashes are no separator for each reader
+abbrev pub guarded_cell_width : List ℕ → ℕ
+guarded_cell_width cell = max (length (chars (guarded_cell cell))) 3
+
+abbrev pub guarded_row : List (List ℕ) → List ℕ → List ℕ
+guarded_row cells widths = row_by guarded_cell cells widths
+
+abbrev pub guarded_table : List (List ℕ) → List (List (List ℕ)) → List ℕ
+guarded_table headers rows = table_by guarded_cell guarded_cell_width headers rows

@@ -1,0 +1,77 @@
+//! The address of a link or image, so written that a reader finds it again (CommonMark 0.31.2, 6.3), and backslashes
+//! before some characters and before what looks like a character reference.
+ghost use Rattle.std.specs.Prelude.{◌≡◌, ◌<◌, ◌++◌, IsTrue, OnOk, length, string_bytes};
+ghost use Rattle.std.specs.Char.{is_ascii};
+ghost use Rattle.std.specs.List.{list_all};
+ghost use Rattle.htmd_markdown.specs.GuardedAddresses as spec;
+
+use crate::address::is_one_of;
+use crate::line_ends::with_line_ends_as;
+use crate::reference_like::is_reference_like;
+use std::alloc::{AllocError, Global};
+
+/// Puts the address without line ends, its delimiters behind backslashes; between `<` and `>` where it is empty or
+/// holds a space or a control.
+pub(crate) fn push_guarded_destination(
+    alloc: Global,
+    out: &mut String,
+    address: &str,
+) -> Result<(), AllocError>
+    ensures { OnOk result
+        (string_bytes out.new ≡ string_bytes out.old ++ spec.guarded_destination address.now) }
+{
+    let bare = with_line_ends_as(alloc, address, "")?;
+    let bare = bare.as_ref();
+    let is_apart = needs_brackets(bare);
+    out.push_str(if is_apart { "<" } else { "" })?;
+    push_guarded(out, bare, b"\\()<>")?;
+    out.push_str(if is_apart { ">" } else { "" })?;
+    Ok(())
+}
+
+/// Whether a destination stands between `<` and `>`.
+fn needs_brackets(address: &str) -> bool
+    ensures { result ≡ spec.needs_brackets address.now }
+{
+    address.is_empty() || address.as_bytes().iter().any(|b| is_space_or_control(*b))
+}
+
+/// Whether the byte is a space or a control.
+fn is_space_or_control(byte: u8) -> bool
+    ensures { result ≡ spec.is_space_or_control byte }
+{
+    matches!(byte, 0..=b' ' | 0x7F)
+}
+
+/// Puts the text with a backslash before each of these ASCII characters, and before each `&` that looks like a
+/// character reference.
+pub(crate) fn push_guarded(
+    out: &mut String,
+    text: &str,
+    characters: &[u8],
+) -> Result<(), AllocError>
+    requires ascii { IsTrue (list_all is_ascii characters.now) }
+    ensures { OnOk result
+        (string_bytes out.new ≡ string_bytes out.old ++ spec.guarded_among characters.now text.now) }
+{
+    let bytes = text.as_bytes();
+    let mut from = 0;
+    for i in 0..bytes.len() {
+        if is_guarded_mark(bytes, i, characters) {
+            out.push_str(&text[from..i])?;
+            out.push('\\')?;
+            from = i;
+        }
+    }
+    out.push_str(&text[from..])?;
+    Ok(())
+}
+
+/// Whether a backslash goes before this place.
+fn is_guarded_mark(bytes: &[u8], place: usize, characters: &[u8]) -> bool
+    requires { place < length bytes.now }
+    ensures { result ≡ spec.is_guarded_mark characters.now bytes.now place }
+{
+    let byte = bytes[place];
+    is_one_of(byte, characters) || byte == b'&' && is_reference_like(&bytes[place + 1..])
+}

@@ -1,0 +1,121 @@
+//! Code blocks, and each short text read back from its fenced one by a reader of its own.
+use htmd_markdown::{CodeBlockFence, write_fence, write_indented_code};
+use std::test::Fail;
+
+#[test]
+fn writes_fenced_code_blocks(rt: HostRuntime) -> Result<(), Fail> {
+    let rows = [
+        ("a", None, CodeBlockFence::Backticks, "```\na\n```"),
+        ("a\r", None, CodeBlockFence::Backticks, "```\na\r\n```"),
+        ("\n", None, CodeBlockFence::Backticks, "```\n\n```"),
+        ("", None, CodeBlockFence::Tildes, "~~~\n\n~~~"),
+        (
+            "a\n\n",
+            Some("rs"),
+            CodeBlockFence::Backticks,
+            "```rs\na\n\n```",
+        ),
+        ("a", Some(""), CodeBlockFence::Tildes, "~~~\na\n~~~"),
+        (
+            "~~~~~\nx",
+            None,
+            CodeBlockFence::Tildes,
+            "~~~~~~\n~~~~~\nx\n~~~~~~",
+        ),
+        (
+            "~~~~~\nx",
+            None,
+            CodeBlockFence::Backticks,
+            "```\n~~~~~\nx\n```",
+        ),
+        (
+            "a ``` ````",
+            None,
+            CodeBlockFence::Backticks,
+            "`````\na ``` ````\n`````",
+        ),
+        ("é\r\n", Some("c"), CodeBlockFence::Tildes, "~~~c\né\r\n~~~"),
+    ];
+    for (content, language, fence, want) in rows {
+        let block = write_fence(rt.alloc(), content, language, fence)?;
+        assert_eq!(rt; block.as_str(), want, "at {content}");
+    }
+    Ok(())
+}
+
+#[test]
+fn writes_indented_code_blocks(rt: HostRuntime) -> Result<(), Fail> {
+    let rows = [
+        ("a\n\nb\n", "    a\n    \n    b"),
+        ("a\n\n", "    a"),
+        ("  a\r\nb\r", "      a\n    b\r"),
+        ("\n", ""),
+        ("", ""),
+    ];
+    for (content, want) in rows {
+        let block = write_indented_code(rt.alloc(), content)?;
+        assert_eq!(rt; block.as_str(), want, "at {content}");
+    }
+    Ok(())
+}
+
+#[test]
+fn reads_back_fenced_code(rt: HostRuntime) -> Result<(), Fail> {
+    let rows = [
+        ("a\r", "a\r"),
+        ("\n", ""),
+        ("a\r\n", "a\r"),
+        ("\r\n```\r ~~~\t\r\n    ~~~", "\r\n```\r ~~~\t\r\n    ~~~"),
+        ("~~~ a\n\n", "~~~ a\n"),
+    ];
+    for (content, want) in rows {
+        for fence in [CodeBlockFence::Tildes, CodeBlockFence::Backticks] {
+            let block = write_fence(rt.alloc(), content, Some("a b"), fence)?;
+            assert_eq!(rt; read(block.as_str(), "a b"), Some(want), "at {content}");
+        }
+    }
+    Ok(())
+}
+
+#[test]
+fn reads_back_each_short_text(rt: HostRuntime) -> Result<(), Fail> {
+    let characters = ['`', '\\', '<', '!', '[', ' ', 'a'];
+    for (len, count) in [(0, 1), (1, 7), (2, 49), (3, 343), (4, 2401)] {
+        for number in 0..count {
+            let mut content = String::new(rt.alloc());
+            let mut rest: usize = number;
+            for _ in 0..len {
+                content.push(characters[rest % 7])?;
+                rest /= 7;
+            }
+            let block = write_fence(rt.alloc(), &content, None, CodeBlockFence::Backticks)?;
+            assert_eq!(rt; read(block.as_str(), ""), Some(content.as_str()));
+        }
+    }
+    Ok(())
+}
+
+/// The code of the fenced code block that a text is as a whole: its first line is a fence and the
+/// info string, its last line as long a fence, and no line between them closes the block.
+fn read<'a>(markdown: &'a str, info: &str) -> Option<&'a str> {
+    let (first, rest) = markdown.split_once('\n')?;
+    let fence = first.strip_suffix(info)?;
+    if fence.len() < 3 || !(is_all(fence, '`') || is_all(fence, '~')) {
+        return None;
+    }
+    let code = rest.strip_suffix(fence)?.strip_suffix('\n')?;
+    for line in code.split(['\n', '\r']) {
+        let text = line.trim_start_matches(' ');
+        let symbols = text.trim_end_matches([' ', '\t']);
+        let is_long = symbols.len() >= fence.len() && line.len() - text.len() <= 3;
+        if is_long && symbols.starts_with(fence) && (is_all(symbols, '`') || is_all(symbols, '~')) {
+            return None;
+        }
+    }
+    Some(code)
+}
+
+/// Whether the text has no other character.
+fn is_all(text: &str, character: char) -> bool {
+    text.trim_matches(character).is_empty()
+}

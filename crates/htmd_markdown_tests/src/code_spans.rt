@@ -1,0 +1,113 @@
+//! Rows of code spans, and each short text read back by a reader of its own.
+use htmd_markdown::write_span;
+use std::alloc::{AllocError, Global};
+use std::test::Fail;
+
+#[test]
+fn writes_code_spans(rt: HostRuntime) -> Result<(), Fail> {
+    let rows = [
+        ("a`", "`` a` ``"),
+        ("`a", "`` `a ``"),
+        ("``", "``` `` ```"),
+        ("a`b", "``a`b``"),
+        ("a``b", "`a``b`"),
+        ("a`b``c", "```a`b``c```"),
+        ("\t foo\nbar \r\n", "`foo\nbar`"),
+        ("é", "`é`"),
+        ("", "``"),
+        (" \n", "``"),
+    ];
+    for (content, want) in rows {
+        let span = write_span(rt.alloc(), content, false)?;
+        assert_eq!(rt; span.as_str(), want, "at {content}");
+    }
+    Ok(())
+}
+
+#[test]
+fn keeps_preformatted_code(rt: HostRuntime) -> Result<(), Fail> {
+    let rows = [
+        (" foo ", "`  foo  `"),
+        ("a\nb", "`a b`"),
+        ("\n a\n", "`   a  `"),
+        ("\n\na", "`   a`"),
+        ("a\r\n\n", "`a\r   `"),
+        ("\n\n", "`   `"),
+        ("  ", "`  `"),
+        (" a", "` a`"),
+        (" `", "``  ` ``"),
+        ("`\n", "`` `   ``"),
+        ("\n`", "``   ` ``"),
+        ("", "``"),
+    ];
+    for (content, want) in rows {
+        let span = write_span(rt.alloc(), content, true)?;
+        assert_eq!(rt; span.as_str(), want, "at {content}");
+    }
+    Ok(())
+}
+
+#[test]
+fn reads_back_line_ends_as_spaces(rt: HostRuntime) -> Result<(), Fail> {
+    let rows = [
+        ("a\r\nb", "a b"),
+        ("a\rb", "a b"),
+        ("a\n\rb", "a  b"),
+        ("`\r\n\r\n`", "`  `"),
+    ];
+    for (content, want) in rows {
+        let span = write_span(rt.alloc(), content, false)?;
+        let text = read(rt.alloc(), span.as_str())?;
+        assert_eq!(rt; text.as_deref(), Some(want), "at {content}");
+    }
+    Ok(())
+}
+
+#[test]
+fn reads_back_each_short_text(rt: HostRuntime) -> Result<(), Fail> {
+    let characters = ['`', '\\', '<', '!', '[', ' ', 'a'];
+    for (len, count) in [(0, 1), (1, 7), (2, 49), (3, 343), (4, 2401)] {
+        for number in 0..count {
+            let mut content = String::new(rt.alloc());
+            let mut rest: usize = number;
+            for _ in 0..len {
+                content.push(characters[rest % 7])?;
+                rest /= 7;
+            }
+            let span = write_span(rt.alloc(), &content, false)?;
+            let text = read(rt.alloc(), span.as_str())?;
+            let want = Some(content.trim()).filter(|text| !text.is_empty());
+            assert_eq!(rt; text.as_deref(), want);
+        }
+    }
+    Ok(())
+}
+
+/// The text of the code span that a text is as a whole: equal runs of backquotes stand at its ends
+/// and no such run between them.
+fn read(alloc: Global, markdown: &str) -> Result<Option<String>, AllocError> {
+    let inside = markdown.trim_matches('`');
+    let open = markdown.len() - markdown.trim_start_matches('`').len();
+    let close = markdown.len() - markdown.trim_end_matches('`').len();
+    if inside.is_empty() || open != close {
+        return Ok(None);
+    }
+    if inside.split(|c| c != '`').any(|run| run.len() == open) {
+        return Ok(None);
+    }
+    let line = inside.replace(alloc, "\r\n", " ")?;
+    let line = line.replace(alloc, "\n", " ")?;
+    let line = line.replace(alloc, "\r", " ")?;
+    Ok(Some(String::from_str(alloc, without_padding(line.as_str()))?))
+}
+
+/// The line without one space at each end, where there is more in it than spaces.
+fn without_padding(line: &str) -> &str {
+    if line.trim_matches(' ').is_empty() {
+        return line;
+    }
+    match line.strip_prefix(' ') {
+        Some(rest) => rest.strip_suffix(' ').unwrap_or(line),
+        None => line,
+    }
+}

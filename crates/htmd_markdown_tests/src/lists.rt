@@ -1,0 +1,130 @@
+//! List items and lists.
+
+use htmd_markdown::*;
+use std::alloc::{AllocError, Global};
+use std::test::Fail;
+
+#[test]
+fn reads_the_first_number(rt: HostRuntime) {
+    let cases = [
+        ("5", 5),
+        ("+5", 5),
+        ("-3", 1),
+        ("-0", 1),
+        ("0", 1),
+        ("007", 7),
+        (" 5", 1),
+        ("5 ", 1),
+        ("", 1),
+        ("+", 1),
+        ("-", 1),
+        ("++5", 1),
+        ("5.0", 1),
+        ("0x5", 1),
+        ("٥", 1),
+        ("2147483647", 2147483647),
+        ("+2147483647", 2147483647),
+        ("2147483648", 1),
+        ("-2147483648", 1),
+        ("-2147483649", 1),
+        ("99999999999999999999999", 1),
+    ];
+    for (start, want) in cases {
+        assert_eq!(rt; first_number(Some(start)), want, "at {start}");
+    }
+    assert_eq!(rt; first_number(None), 1);
+}
+
+#[test]
+fn writes_bullet_items(rt: HostRuntime) -> Result<(), Fail> {
+    let cases = [
+        (BulletListMarker::Asterisk, 3, "a", "\n*   a"),
+        (BulletListMarker::Dash, 0, "a", "\n-a"),
+        (BulletListMarker::Dash, 1, "", "\n- "),
+        (
+            BulletListMarker::Asterisk,
+            3,
+            " \r\n a \n\n b\t\r\n",
+            "\n*   a\n\n     b",
+        ),
+    ];
+    for (marker, spacing, content, want) in cases {
+        let item = write_bullet_item(rt.alloc(), marker, spacing, content)?;
+        assert_eq!(rt; item.as_str(), want, "at {content}");
+    }
+    let item = write_bullet_item(rt.alloc(), BulletListMarker::Dash, 255, "a\nb")?;
+    assert_eq!(rt; item.len(), 1 + 256 + 1 + 1 + 256 + 1);
+    let item = write_unnumbered_item(rt.alloc(), "\n\t a\n ")?;
+    assert_eq!(rt; item.as_str(), "\na\n \n");
+    Ok(())
+}
+
+/// A block that is an item, where the text begins with a line feed, or another one.
+fn block(alloc: Global, text: &str) -> Result<ListBlock, AllocError> {
+    let content = String::from_str(alloc, text)?;
+    if text.starts_with('\n') {
+        Ok(ListBlock::Item(content))
+    } else {
+        Ok(ListBlock::Other(content))
+    }
+}
+
+#[test]
+fn writes_ordered_lists(rt: HostRuntime) -> Result<(), Fail> {
+    let cases = [
+        (9, 2, ["\na\n", "\nb\n", "\n"], "\n9.   a\n10.  b\n11.  "),
+        (
+            99999999,
+            0,
+            ["\na\n", "\nb\n", ""],
+            "\n99999999. a\n100000000.b",
+        ),
+        (1, 2, ["\na\n", "x", "\nb\n"], "\n1.  ax\n2.  b"),
+        (
+            1,
+            1,
+            ["\na \n\n b\n", "\n", "y\n"],
+            "\n1. a\n\n    b\n2. y\n",
+        ),
+        (
+            2147483647,
+            2,
+            ["\na\n", "\nb\n", ""],
+            "\n2147483647.  a\n2147483648.  b",
+        ),
+        (0, 2, ["x", "", "y\n\n\n"], "xy\n\n\n"),
+    ];
+    for (first, spacing, texts, want) in cases {
+        let mut blocks = Vec::new(rt.alloc());
+        for text in texts {
+            blocks.push(block(rt.alloc(), text)?)?;
+        }
+        let list = write_ordered_list(rt.alloc(), first, spacing, blocks)?;
+        assert_eq!(rt; list.as_str(), want, "at {first}");
+    }
+    let mut blocks = Vec::new(rt.alloc());
+    blocks.push(block(rt.alloc(), "\na\nb\n")?)?;
+    let list = write_ordered_list(rt.alloc(), u32::MAX, 255, blocks)?;
+    assert_eq!(rt; list.len(), 1 + 10 + 1 + 255 + 1 + 1 + 266 + 1);
+    Ok(())
+}
+
+#[test]
+fn sets_lists_apart(rt: HostRuntime) -> Result<(), Fail> {
+    let cases = [
+        ("\n\n*   a\n", false, Some("\n\n*   a\n\n")),
+        ("\n*   a\n\n", true, Some("\n*   a\n")),
+        ("*", true, Some("\n*\n")),
+        ("\n\n\n", false, None),
+        ("", true, None),
+    ];
+    for (text, is_in_item, want) in cases {
+        let list = String::from_str(rt.alloc(), text)?;
+        match (write_list_block(rt.alloc(), list, is_in_item)?, want) {
+            (Some(block), Some(want)) => assert_eq!(rt; block.as_str(), want, "at {text}"),
+            (None, None) => {}
+            _ => panic!(rt; "at {text}"),
+        }
+    }
+    Ok(())
+}
