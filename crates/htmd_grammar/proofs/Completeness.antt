@@ -36,7 +36,8 @@ use Rattle.htmd_grammar.proofs.BooleanLemmas.{and_false, and_true, or_right, or_
 use Rattle.htmd_grammar.proofs.CommentsLemmas.{before_close-append}
 use Rattle.htmd_grammar.proofs.PlacesLemmas.{allowed_parts, bytes_same, no_text_alone, one_name, part_place, row_place}
 use Rattle.htmd_grammar.proofs.PlacesLemmas.{tbody_no_text_alone, tbody_not_table, tbody_place}
-use Rattle.htmd_grammar.proofs.ReferencesLemmas.{Fits, drop_over, known, piece_fits, piece_over, put_parts}
+use Rattle.htmd_grammar.proofs.ReferencesLemmas.{Fits, IsBound, drop_over, known, less_bounds, piece_bound}
+use Rattle.htmd_grammar.proofs.ReferencesLemmas.{piece_fits, piece_over, put_parts}
 use Rattle.htmd_grammar.proofs.TagReadingLemmas.{filled, form_read, halts_name, rest_halts, white_back}
 use Rattle.htmd_grammar.proofs.TagsLemmas.{values_parts}
 use Rattle.htmd_grammar.proofs.TextLemmas.{Stops, end_stops, gap_no_name, letter_not, name_cut, rows_go_on, rows_stop}
@@ -102,20 +103,25 @@ pub nothing_read : (u : List ℕ) → ◌≡◌ {A = Option (List ℕ)} (Some []
     → ◌≡◌ {A = List ℕ} [] u
 nothing_read u e = cc
 
--- the first piece of a text is the same before `<`
-pub content_over : (n s t : List ℕ) → content_of n (s ++ (60 ∷ t)) ≡ content_of n s ++ (60 ∷ t)
-content_over n s t = test (drops_line_feed n) (λ d. rw d (after s)) (λ d. rw d refl)
+-- the first piece of a text is the same before what is in no piece
+pub content_bound : (c : ℕ) → IsBound c → (n : List ℕ) (b : ℕ) (s t : List ℕ)
+    → content_of n (b ∷ (s ++ (c ∷ t))) ≡ content_of n (b ∷ s) ++ (c ∷ t)
+content_bound c k n b s t = test (drops_line_feed n) (λ d. rw d after) (λ d. rw d refl)
   where
-    less : (p : Piece) (b : ℕ) (s : List ℕ) → ((m : ℕ) (v : List ℕ) → p ≡ stands m v → Fits m s)
-        → less_line_feed p b (s ++ (60 ∷ t)) ≡ less_line_feed p b s ++ (60 ∷ t)
-    less (wrong k) b s h = refl
-    less (stands m v) b s h = test (bytes_eq v (10 ∷ [])) (λ q. rw q (drop_over m s (60 ∷ t) (h m v refl)))
+    less : (p : Piece) → ((m : ℕ) (v : List ℕ) → p ≡ stands m v → Fits m s)
+        → less_line_feed p b (s ++ (c ∷ t)) ≡ less_line_feed p b s ++ (c ∷ t)
+    less (wrong j) h = refl
+    less (stands m v) h = test (bytes_eq v (10 ∷ [])) (λ q. rw q (drop_over m s (c ∷ t) (h m v refl)))
         (λ q. rw q refl)
 
-    after : (s : List ℕ) → after_line_feed [] (s ++ (60 ∷ t)) ≡ after_line_feed [] s ++ (60 ∷ t)
-    after [] = refl
-    after (b ∷ s) = ap (λ (p : Piece). less_line_feed p b (s ++ (60 ∷ t))) (piece_over [] b s t)
-        ∙ less (piece_at [] b s) b s (λ m v e. piece_fits [] b s v m e)
+    after : after_line_feed [] (b ∷ (s ++ (c ∷ t))) ≡ after_line_feed [] (b ∷ s) ++ (c ∷ t)
+    after = ap (λ (p : Piece). less_line_feed p b (s ++ (c ∷ t))) (piece_bound c k [] b s t)
+        ∙ less (piece_at [] b s) (λ m v e. piece_fits [] b s v m e)
+
+-- and before `<`
+pub content_over : (n s t : List ℕ) → content_of n (s ++ (60 ∷ t)) ≡ content_of n s ++ (60 ∷ t)
+content_over n [] t = test (drops_line_feed n) (λ d. rw d refl) (λ d. rw d refl)
+content_over n (b ∷ s) t = content_bound 60 less_bounds n b s t
 
 module _ (rules : Rules) (outer : Context) where
   pub reaches_then : {a b c : State} → Reaches rules outer a b → Reaches rules outer b c → Reaches rules outer a c
@@ -159,11 +165,25 @@ module _ (rules : Rules) (outer : Context) where
   piece_is f gs run s v b m nm r t d p w =
       rw (t, and_false (not (is_empty run)), text_goes_on rules.scripting f (b ∷ s) nm t, r, p, w, d) refl
 
+  -- what follows leaves each piece of a text as it is
+  abbrev pub Goes : List ℕ → List ℕ → Type 0
+  Goes p after = (b : ℕ) (s v : List ℕ) (m : ℕ) → piece_at rules.names b s ≡ stands m v
+      → (holds_parts p ≡ true → list_all is_ascii_white_space v ≡ true)
+      → ends_text rules.scripting p (b ∷ s) ≡ false
+      → (piece_at rules.names b (s ++ after) ≡ stands m v)
+      × (ends_text rules.scripting p (b ∷ (s ++ after)) ≡ false)
+
+  stops_go : (p after : List ℕ) → Stops rules.scripting p after → Goes p after
+  stops_go p after st b s v m q w e = (
+    piece_before rules.names rules.scripting p b s after st ∙ q,
+    stops_not rules.scripting p b s after st e,
+  )
+
   -- the pieces of a text, after so many bytes
-  pieces_read : (f : OpenElement) (gs : List OpenElement) (x : List ℕ) (n : ℕ) (run after u : List ℕ)
+  pub pieces_read : (f : OpenElement) (gs : List OpenElement) (x : List ℕ) (n : ℕ) (run after u : List ℕ)
       → IsNamed f
       → holds_raw_text rules.scripting f.name ≡ false → is_too_deep rules outer (f ∷ gs) ≡ false
-      → Stops rules.scripting f.name after → up_to (ends_text rules.scripting f.name) x ≡ x
+      → Goes f.name after → up_to (ends_text rules.scripting f.name) x ≡ x
       → (holds_parts f.name ≡ true → list_all is_ascii_white_space u ≡ true)
       → decode rules.names n x ≡ Some u
       → Reaches rules outer (in_text (f ∷ gs) run (drop n x ++ after)) (in_text (f ∷ gs) (run ++ u) after)
@@ -176,10 +196,10 @@ module _ (rules : Rules) (outer : Context) where
   pieces_read f gs (b ∷ x) zero run after u nm r d st k w e =
       let h = run_head (ends_text rules.scripting f.name) b x k in
       let p = put_parts (piece_at rules.names b x) (λ n. decode rules.names n x) u e in
-      let q : piece_at rules.names b (x ++ after) ≡ stands p.0 p.1 =
-      piece_before rules.names rules.scripting f.name b x after st ∙ p.3 in
+      let q = st b x p.1 p.0 p.3
+      (λ t. (white_parts p.1 p.2 (ap (list_all is_ascii_white_space) (sym p.5) ∙ w t)).0) h.0 in
       let o = drop_over p.0 x after (piece_fits rules.names b x p.1 p.0 p.3) in
-      via (piece_is f gs run (x ++ after) p.1 b p.0 nm r (stops_not rules.scripting f.name b x after st h.0) d q
+      via (piece_is f gs run (x ++ after) p.1 b p.0 nm r q.1 d q.0
       (first p.1 p.2 p.5))
       (moved_text (f ∷ gs) (run ++ p.1) ((run ++ p.1) ++ p.2) (run ++ u) (drop p.0 (x ++ after))
       (drop p.0 x ++ after) after o (append_assoc run p.1 p.2 ∙ ap (λ (y : List ℕ). run ++ y) (sym p.5))
@@ -224,7 +244,7 @@ module _ (rules : Rules) (outer : Context) where
       (λ r. one_step (raw_is f gs s after u nm n r k d (not_deep (f ∷ gs) l) h))
       (λ r.
       let e : decode rules.names 0 s ≡ Some u = rw r at d in
-      reaches_then (pieces_read f gs s 0 [] after u nm r (not_deep (f ∷ gs) l) h k w e)
+      reaches_then (pieces_read f gs s 0 [] after u nm r (not_deep (f ∷ gs) l) (stops_go f.name after h) k w e)
       (one_step (flush_is f gs u after h n)))
 
   -- ---- comments
@@ -319,7 +339,7 @@ module _ (rules : Rules) (outer : Context) where
       → Stops rules.scripting f.name after → RowsEnd f last after → Leads f gs s after ts
 
   -- what a start tag does, by the name in the tree
-  abbrev opened : OpenElement → List OpenElement → List ℕ → List AttributePair → List ℕ → Step
+  abbrev pub opened : OpenElement → List OpenElement → List ℕ → List AttributePair → List ℕ → Step
   opened f gs n attributes x = if is_void n then between (with_tree (f ∷ gs) (element n attributes none)) x
       else between (fresh n attributes false ∷ f ∷ gs) (content_of n x)
 
@@ -344,7 +364,7 @@ module _ (rules : Rules) (outer : Context) where
         not_deep (f ∷ gs) l,
       ) refl
 
-  tag_opens : (f : OpenElement) (gs : List OpenElement) (n tag x : List ℕ) (attributes : List AttributePair)
+  pub tag_opens : (f : OpenElement) (gs : List OpenElement) (n tag x : List ℕ) (attributes : List AttributePair)
       → IsStartTag rules.names tag n attributes → IsNamed f
       → is_allowed rules.scripting (names_of outer (f ∷ gs)) n ≡ true
       → length (names_of outer (f ∷ gs)) ≤ rules.depth
@@ -392,11 +412,11 @@ module _ (rules : Rules) (outer : Context) where
       ap ends_rows e ∙ ap (λ (y : List ℕ). bytes_eq y (codes "table")) (ap (map to_ascii_lowercase) q.0
       ∙ (t.5 ∙ one_name (codes "table") n o))
 
-  along : (fs : List OpenElement) (s t : List ℕ) (b : State) → s ≡ t → Reaches rules outer (at_piece (fs) (t)) b
+  pub along : (fs : List OpenElement) (s t : List ℕ) (b : State) → s ≡ t → Reaches rules outer (at_piece (fs) (t)) b
       → Reaches rules outer (at_piece (fs) (s)) b
   along fs s t b e r = rw e r
 
-  abbrev opened_at : OpenElement → OpenElement → List OpenElement → List ℕ → Step
+  abbrev pub opened_at : OpenElement → OpenElement → List OpenElement → List ℕ → Step
   opened_at g f gs y = between (g ∷ f ∷ gs) y
 
   -- what is dropped is the same before the end tag
@@ -462,7 +482,7 @@ module _ (rules : Rules) (outer : Context) where
       ∙ (rw d (rw (q, k) refl) ∙ sym (start_step_is (fresh (codes "tbody") [] true ∷ f ∷ gs) (t.2).0
       (t.2).1 x t.0 attributes t.1 (and_false rules.scripting) (t.2).3 (t.2).5 t.3 t.4 v (rw d refl) (rw d refl))))
 
-  row_opens_in : (f : OpenElement) (gs : List OpenElement) (n tag x : List ℕ) (attributes : List AttributePair)
+  pub row_opens_in : (f : OpenElement) (gs : List OpenElement) (n tag x : List ℕ) (attributes : List AttributePair)
       → n ≡ codes "tbody" → IsStartTag rules.names tag (codes "tr") attributes
       → f.name ≡ codes "table" → is_too_deep rules outer (f ∷ gs) ≡ false
       → step rules outer (at_piece (f ∷ gs) (tag ++ x)) ≡ step rules outer
@@ -470,7 +490,7 @@ module _ (rules : Rules) (outer : Context) where
   row_opens_in f gs n tag x attributes q t e k = rw q (row_opens f gs tag x attributes t e k)
 
   -- what is reached by at least one step
-  moved : (a a' b : State) → Reaches rules outer a b → (a ≡ b → ⊥)
+  pub moved : (a a' b : State) → Reaches rules outer a b → (a ≡ b → ⊥)
       → step rules outer a' ≡ step rules outer a
       → Reaches rules outer a' b
   moved a a' b here n e = absurd (n refl)
@@ -549,7 +569,7 @@ module _ (rules : Rules) (outer : Context) where
       (ap (λ (y : List ℕ). y ++ after) h.2 ∙ append_assoc h.0 h.1 after)
       (reaches_then
       (one_t f gs (may_end_rows last ts h.1) h.0 (h.1 ++ after) h.4 nm
-      (stops_after rules f.name t ts (names_of outer gs) last h.1 after h.3 h.5 st)
+      (stops_after rules f.name t ts (names_of outer gs) last h.1 after h.3 h.5 (λ _. st))
       (λ m q. rows_follow rules f.name ts (names_of outer gs) last h.1 after h.5 m st (λ l. re l q)))
       (rw (← append_nodes_assoc f.children (more t none) ts)
       (all_ts (with_children f (more t none)) gs last h.1 after h.5 nm st re)))

@@ -3,8 +3,10 @@ use Rattle.std.proofs.Common.{Bool, List, None, Option, Some, [], ap, append_ass
 use Rattle.std.proofs.Common.{inl, inr, length, length-append, not, refl, subst, suc, sym, true, zero, ℕ, ◌&&◌, ◌++◌}
 use Rattle.std.proofs.Common.{◌+◌, ◌∙◌, ◌∷◌, ◌≡◌, ◌≤◌, ◌⊎◌}
 use Rattle.std.specs.Char.{is_ascii_alphanumeric, is_ascii_digit, is_ascii_hexdigit, to_ascii_lowercase}
+use Rattle.std.specs.List.{list_all}
 use Rattle.std.specs.Prelude.{◌==◌}
 use Rattle.std.specs.Str.{bytes_eq}
+use Rattle.htmd_text.specs.WhiteSpace.{is_ascii_white_space}
 use Rattle.htmd_grammar.specs.CharacterClasses.{begins_in_any_case, behind_run, first_is, leading_run}
 use Rattle.htmd_grammar.specs.Fronts.{IsKept}
 use Rattle.htmd_grammar.specs.RawContent.{content_of, drops_line_feed}
@@ -147,6 +149,25 @@ sharp_over : (s x z : List ℕ) → s ≡ x ++ z → first_is 35 s ≡ false →
 sharp_over s [] z e h = refl
 sharp_over s (b ∷ x) z e h = ap (first_is 35) (sym e) ∙ h
 
+-- a name and its `;` are the same, whatever follows
+name_same : (names : Names) (v : List ℕ) (m : ℕ) (s x : List ℕ) → first_is 35 s ≡ false
+    → first_is 59 (behind_run is_ascii_alphanumeric s) ≡ true
+    → first_is 59 s ≡ false
+    → (leading_run is_ascii_alphanumeric ((leading_run is_ascii_alphanumeric s ++ 59 ∷ []) ++ x)
+    ≡ leading_run is_ascii_alphanumeric s)
+    × (first_is 59 (behind_run is_ascii_alphanumeric ((leading_run is_ascii_alphanumeric s ++ 59 ∷ []) ++ x))
+    ≡ true) × (first_is 59 ((leading_run is_ascii_alphanumeric s ++ 59 ∷ []) ++ x) ≡ first_is 59 s)
+    → named (suc (length (leading_run is_ascii_alphanumeric s)))
+    (character_named names (leading_run is_ascii_alphanumeric s)) ≡ stands m v
+    → behind_ampersand names ((leading_run is_ascii_alphanumeric s ++ 59 ∷ []) ++ x) ≡ stands m v
+name_same names v m s x h a n c u = rw (c.0, c.1, c.2, n, no_sharp s x h a) u
+  where
+    no_sharp : (s x : List ℕ) → first_is 35 s ≡ false
+        → first_is 59 (behind_run is_ascii_alphanumeric s) ≡ true
+        → first_is 35 ((leading_run is_ascii_alphanumeric s ++ 59 ∷ []) ++ x) ≡ false
+    no_sharp [] x h a = absurd (cc)
+    no_sharp (b ∷ s) x h a = test (is_ascii_alphanumeric b) (λ q. rw q h) (λ q. rw q refl)
+
 and_cut : (names : Names) (s v : List ℕ) (m : ℕ) → behind_ampersand names s ≡ stands m v
     → Cuts (behind_ampersand names) m v s
 and_cut names s v m e = elim (if_then (first_is 35 s) (behind_number_sign (drop 1 s)) _ (stands m v) e) [
@@ -167,31 +188,13 @@ and_cut names s v m e = elim (if_then (first_is 35 s) (behind_number_sign (drop 
               drop 1 (behind_run is_ascii_alphanumeric s),
               c.0,
               (omega arith),
-              λ x z q. name_same s x w.0 a.0 n (c.1 x) u.1,
+              λ x z q. name_same names v m s x w.0 a.0 n (c.1 x) u.1,
             )
         | inr u ↦ (let g =
             stands_same 0 m (38 ∷ []) v u.1 in ([], s, refl, g.0, λ x z q. plain_same x z q w.0 u.0 u.1))
       ]
 ]
   where
-    name_same : (s x : List ℕ) → first_is 35 s ≡ false
-        → first_is 59 (behind_run is_ascii_alphanumeric s) ≡ true
-        → first_is 59 s ≡ false
-        → (leading_run is_ascii_alphanumeric ((leading_run is_ascii_alphanumeric s ++ 59 ∷ []) ++ x)
-        ≡ leading_run is_ascii_alphanumeric s)
-        × (first_is 59 (behind_run is_ascii_alphanumeric ((leading_run is_ascii_alphanumeric s ++ 59 ∷ []) ++ x))
-        ≡ true) × (first_is 59 ((leading_run is_ascii_alphanumeric s ++ 59 ∷ []) ++ x) ≡ first_is 59 s)
-        → named (suc (length (leading_run is_ascii_alphanumeric s)))
-        (character_named names (leading_run is_ascii_alphanumeric s)) ≡ stands m v
-        → behind_ampersand names ((leading_run is_ascii_alphanumeric s ++ 59 ∷ []) ++ x) ≡ stands m v
-    name_same s x h a n c u = rw (c.0, c.1, c.2, n, no_sharp s x h a) u
-      where
-        no_sharp : (s x : List ℕ) → first_is 35 s ≡ false
-            → first_is 59 (behind_run is_ascii_alphanumeric s) ≡ true
-            → first_is 35 ((leading_run is_ascii_alphanumeric s ++ 59 ∷ []) ++ x) ≡ false
-        no_sharp [] x h a = absurd (cc)
-        no_sharp (b ∷ s) x h a = test (is_ascii_alphanumeric b) (λ q. rw q h) (λ q. rw q refl)
-
     plain_same : (x z : List ℕ) → s ≡ x ++ z → first_is 35 s ≡ false
         → (first_is 59 (behind_run is_ascii_alphanumeric s) && not (first_is 59 s)) ≡ false
         → stands 0 (38 ∷ []) ≡ stands m v → behind_ampersand names x ≡ stands m v
@@ -220,6 +223,53 @@ piece_cut names b s v m e = elim (if_then (b == 38) (behind_ampersand names s) _
         → stands 0 (10 ∷ []) ≡ stands m v → piece_at names b x ≡ stands m v
     alone [] z h t q n u = rw (h, t) u
     alone (c ∷ x) z h t q n u = let k : (c == 10) ≡ false = ap (first_is 10) (sym q) ∙ n in rw (h, t, k) u
+
+-- ---- white space
+
+-- a reference that stands for white space is the same, whatever follows
+and_white : (names : Names) (s v after : List ℕ) (m : ℕ) → behind_ampersand names s ≡ stands m v
+    → list_all is_ascii_white_space v ≡ true → behind_ampersand names (s ++ after) ≡ stands m v
+and_white names s v after m e l = elim (if_then (first_is 35 s) (behind_number_sign (drop 1 s)) _ (stands m v) e) [
+  | inl w ↦
+      let c = sharp_cut (drop 1 s) v m w.1 in
+      let h : s ++ after ≡ 35 ∷ (c.0 ++ (c.1 ++ after)) =
+      ap (λ (y : List ℕ). y ++ after) (at_head 35 s w.0 ∙ ap (λ (y : List ℕ). 35 ∷ y) c.2)
+      ∙ ap (λ (y : List ℕ). 35 ∷ y) (append_assoc c.0 c.1 after) in
+      rw h (c.4 (c.1 ++ after))
+  | inr w ↦ elim (if_then (first_is 59 (behind_run is_ascii_alphanumeric s) && not (first_is 59 s))
+      (named (suc (length (leading_run is_ascii_alphanumeric s)))
+      (character_named names (leading_run is_ascii_alphanumeric s))) _ (stands m v) w.1) [
+        | inl u ↦
+            let a = and_true (first_is 59 (behind_run is_ascii_alphanumeric s)) (not (first_is 59 s)) u.0 in
+            let n = not_true (first_is 59 s) a.1 in
+            let c = ended is_ascii_alphanumeric s refl a.0 in
+            let x : List ℕ = drop 1 (behind_run is_ascii_alphanumeric s) ++ after in
+            ap (behind_ampersand names) (ap (λ (y : List ℕ). y ++ after) c.0
+            ∙ append_assoc (leading_run is_ascii_alphanumeric s ++ 59 ∷ [])
+            (drop 1 (behind_run is_ascii_alphanumeric s)) after)
+            ∙ name_same names v m s x w.0 a.0 n (c.1 x) u.1
+        | inr u ↦
+            let q = (stands_same 0 m (38 ∷ []) v u.1).1 in
+            absurd (let z = rw (sym q) at l in cc)
+      ]
+]
+
+pub piece_white : (names : Names) (b : ℕ) (s v after : List ℕ) (m : ℕ) → piece_at names b s ≡ stands m v
+    → list_all is_ascii_white_space v ≡ true → first_is 10 after ≡ false
+    → piece_at names b (s ++ after) ≡ stands m v
+piece_white names b s v after m e l n = elim (if_then (b == 38) (behind_ampersand names s) _ (stands m v) e) [
+  | inl w ↦ rw w.0 (and_white names s v after m w.1 l)
+  | inr w ↦ elim (if_then (b == 13) _ (stands 0 (b ∷ [])) (stands m v) w.1) [
+    | inl u ↦ return s w.0 u.0 u.1
+    | inr u ↦ rw (w.0, u.0) u.1
+  ]
+]
+  where
+    return : (s : List ℕ) → (b == 38) ≡ false → (b == 13) ≡ true
+        → cond (first_is 10 s) (stands 1 (10 ∷ [])) (stands 0 (10 ∷ [])) ≡ stands m v
+        → piece_at names b (s ++ after) ≡ stands m v
+    return [] h t q = rw (h, t, n) q
+    return (c ∷ s) h t q = rw (h, t) q
 
 -- ---- line feeds
 

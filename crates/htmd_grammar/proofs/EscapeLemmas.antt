@@ -1,4 +1,4 @@
--- An escaped_html text denotes the text, also with references in place of line feeds.
+-- A text escaped for HTML denotes the text, also with references in place of line feeds.
 use Rattle.std.proofs.Common.{List, Some, [], ap, codes, false, inl, inr, not, refl, subst, sym, true, ℕ, ◌++◌, ◌∙◌}
 use Rattle.std.proofs.Common.{◌∷◌, ◌≡◌}
 use Rattle.std.proofs.lemmas.List.{append-nil}
@@ -52,7 +52,7 @@ module _ (names : Names) (has : HasEscapes names) where
   byte_decodes : (b : ℕ) → (b == 38) ≡ false → (b == 13) ≡ false → Decodes (b ∷ []) (b ∷ [])
   byte_decodes b e f z u h = rw (e, f, h) refl
 
-  -- one byte that is markup_of as it is
+  -- one byte that is written as it is
   byte_back : (stop b : ℕ) (y : List ℕ) → (b == 38) ≡ false → (b == 13) ≡ false → (b == stop) ≡ false
       → lacks stop line_feed_reference ≡ true → RefersToLineFeeds (b ∷ []) y
       → Decodes y (b ∷ []) × (lacks stop y ≡ true)
@@ -68,7 +68,7 @@ module _ (names : Names) (has : HasEscapes names) where
         (subst (λ (n : ℕ). Decodes line_feed_reference (n ∷ [])) (sym w.1) line_feed_decodes, k)
   ]
 
-  -- one byte that is markup_of as a reference
+  -- one byte that is written as a reference
   escape_back : (stop b c : ℕ) (s y : List ℕ) → lacks 10 s ≡ true → lacks stop s ≡ true → b ≡ c
       → Decodes s (c ∷ [])
       → RefersToLineFeeds s y → Decodes y (b ∷ []) × (lacks stop y ≡ true)

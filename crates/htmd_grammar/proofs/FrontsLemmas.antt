@@ -147,14 +147,14 @@ module _ (rules : Rules) (outer : Context) where
       (λ y. node_no_title rules p t c m b y n)
 
   -- a part of the table that begins a text begins it with more behind
-  part_stays : (v : ValueTree) (vs : ValueForest) (p : List ℕ) (c : Context) (l : Bool) (s b : List ℕ)
+  pub part_stays : (v : ValueTree) (vs : ValueForest) (p : List ℕ) (c : Context) (l : Bool) (s b : List ℕ)
       → holds_text_alone rules.scripting p ≡ false → ReadsForest rules (p ∷ c) l (more v vs) s
       → is_table_part (tag_name_at s) ≡ true → is_table_part (tag_name_at (s ++ b)) ≡ true
   part_stays (document ks) vs p c l s b tf h q = absurd (h.4)
   part_stays doctype vs p c l s b tf h q = absurd (h.4)
   part_stays (text u) vs p c l s b tf h q =
       let st : Stops rules.scripting p (h.1) = subst (Stops rules.scripting p) (append-nil h.1)
-      (stops_after rules p (text u) vs c l h.1 [] h.3 h.5 (inl refl) refl) in
+      (stops_after rules p (text u) vs c l h.1 [] h.3 h.5 (λ _. inl refl) refl) in
       let m = run_not_stop rules.scripting p h.0 h.1 (decoded_full rules outer p h.0 u (h.4).2 (h.4).0) (h.4).1 st in
       let m2 : begins_markup (h.0 ++ h.1) ≡ false = rw tf at m in
       let k = no_tag (h.0 ++ h.1) m2 in
@@ -216,7 +216,7 @@ module _ (rules : Rules) (outer : Context) where
       → (ends_in_text f.children ≡ true → IsTextTree t ≡ false)
       → IsKept f.name (content_so_far rules outer f gs l s h) b
       → IsFront rules outer m (with_children f (more t none) ∷ gs) (s ++ b)
-  grows f [] t l m s b h n p e k = (h.0, snoc f.children t f.name outer l m s b h.1 n p e, h.2)
+  grows f [] t l m s b h n p e k = (h.0, snoc f.children t f.name outer l m s b h.1 n p e, h.2, h.3)
   grows f (g ∷ gs) t l m s b h n p e k = (
     h.0,
     h.1,
@@ -230,7 +230,7 @@ module _ (rules : Rules) (outer : Context) where
     λ i. row_same g.children f.name f.attributes f.children (f.children +++ more t none) (h.7 i),
   )
 
-  tbody_drops : (n : List ℕ) → is_tbody n ≡ true → drops_line_feed n ≡ false
+  pub tbody_drops : (n : List ℕ) → is_tbody n ≡ true → drops_line_feed n ≡ false
   tbody_drops n t = rw (one_name (codes "tbody") n t) refl
 
   table_drops : (n : List ℕ) → is_table n ≡ true → drops_line_feed n ≡ false
@@ -276,7 +276,7 @@ module _ (rules : Rules) (outer : Context) where
       go (inr w) (inl y) = inr (inner, e, rw w.1 refl, w.2, w.3, r w.0, plain w.2, inl y)
       go (inr w) (inr y) = inr (inner, e, rw w.1 refl, w.2, w.3, r w.0, plain w.2, inr (y.0, y.1))
 
-  ends_here : (c : Context) (f : OpenElement) (tag x : List ℕ) → Opens rules outer c f tag → ends_at f ≡ true
+  pub ends_here : (c : Context) (f : OpenElement) (tag x : List ℕ) → Opens rules outer c f tag → ends_at f ≡ true
       → is_table_part (tag_name_at (tag ++ x)) ≡ true
   ends_here c f tag x o e = go o.2
     where
@@ -303,7 +303,7 @@ module _ (rules : Rules) (outer : Context) where
 
   unfoldable pub front_weaker : (f : OpenElement) (gs : List OpenElement) (l m : Bool) (s : List ℕ)
       → (l ≡ true → m ≡ true) → IsFront rules outer l (f ∷ gs) s → IsFront rules outer m (f ∷ gs) s
-  front_weaker f [] l m s i h = (h.0, nodes_weaker (f.name ∷ outer) l m f.children s i h.1, h.2)
+  front_weaker f [] l m s i h = (h.0, nodes_weaker (f.name ∷ outer) l m f.children s i h.1, h.2, h.3)
   front_weaker f (g ∷ gs) l m s i h = (
     h.0,
     h.1,

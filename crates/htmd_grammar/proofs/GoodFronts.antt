@@ -58,6 +58,7 @@ module _ (rules : Rules) where
   front_between f [] s rest c e = record {
     pieces = front_weaker rules above_body f [] (flag rules above_body (f ∷ []) rest) (ends_rows rest) s
         (λ q. flag_rows rules above_body (f ∷ []) rest q) c.is_front;
+    rows = c.rows;
     no_more_rows = e;
     dropped = c.first;
     complete = closed_up f [] (flag rules above_body (f ∷ []) rest) s c.is_front c.rows;
@@ -65,6 +66,7 @@ module _ (rules : Rules) where
   front_between f (g ∷ gs) s rest c e = record {
     pieces = front_weaker rules above_body f (g ∷ gs) (flag rules above_body (f ∷ g ∷ gs) rest) (ends_rows rest) s
         (λ q. flag_rows rules above_body (f ∷ g ∷ gs) rest q) c.is_front;
+    rows = c.rows;
     no_more_rows = e;
     dropped = c.first;
     complete = closed_up f (g ∷ gs) (flag rules above_body (f ∷ g ∷ gs) rest) s c.is_front c.rows;
@@ -78,6 +80,7 @@ module _ (rules : Rules) where
   front_within f gs s w run rest c h e =
       let k = middle_front rules above_body f gs (ends_rows rest) s w run rest c h in record {
         pieces = k;
+        rows = λ i. row_append f.children (more (text run) none) (c.rows i);
         no_more_rows = e;
         dropped = λ q. absurd (not_none rules above_body f.children (text run) q);
         complete = closed_up (with_children f (more (text run) none)) gs (ends_rows rest) (s ++ w) k

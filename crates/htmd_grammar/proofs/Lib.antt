@@ -1,4 +1,4 @@
--- What is written for a character, and what a block of raw HTML is.
+-- The lemmas of the grammar: what is written and read back, the steps of a reader, fronts, faults, and worked examples.
 pub mod SerialisationLemmas
 pub mod RawBlocksLemmas
 mod Examples
@@ -9,8 +9,8 @@ mod EscapeLemmas
 mod TagNamesLemmas
 mod TagsLemmas
 mod ReadBackLemmas
-mod TagReadingLemmas
-mod TagSpellingLemmas
+pub mod TagReadingLemmas
+pub mod TagSpellingLemmas
 pub mod TextLemmas
 mod CommentsLemmas
 mod ReferencesLemmas
@@ -27,10 +27,12 @@ mod Soundness
 mod Readings
 mod GoodFronts
 mod ParameterLaw
-mod FaultPieces
+pub mod FaultPieces
 mod LowerFaults
 mod StepFaults
 mod RightFaults
+mod FrontsReached
+mod OneFault
 mod Runs
 mod FaultExamples
 mod TextsLeft

@@ -1,6 +1,6 @@
 -- When no row of a lower number says something of a place.
-use Rattle.std.proofs.Common.{Bool, List, None, [], ap, arith, codes, false, inl, inr, refl, subst, sym, true, ℕ, ◌<◌}
-use Rattle.std.proofs.Common.{◌∙◌, ◌∷◌, ◌≡◌, ◌≤◌, ◌⊎◌}
+use Rattle.std.proofs.Common.{Bool, List, None, [], ap, arith, codes, false, inl, inr, length, refl, subst, sym, true}
+use Rattle.std.proofs.Common.{ℕ, ◌<◌, ◌∙◌, ◌∷◌, ◌≡◌, ◌≤◌, ◌⊎◌}
 use Rattle.std.specs.Char.{is_ascii_alphabetic}
 use Rattle.std.specs.List.{list_all, list_any}
 use Rattle.htmd_text.specs.Characters.{exclamation_mark, less_than_sign, slash}
@@ -285,3 +285,104 @@ module _ (rules : Rules) (fs : List OpenElement) where
   none_below_nothing Unclosed l h = omega arith
   none_below_nothing ScriptEscape l h = omega arith
   none_below_nothing TooDeep l h = omega arith
+
+  -- ---- where no row says anything
+
+  none_at_all : (s : List ℕ) → NoneBelow 15 s → (Says rules fs s TooDeep → ⊥) → (k : FaultKind)
+      → Says rules fs s k → ⊥
+  none_at_all s n d Nul h = n Nul (omega arith) h
+  none_at_all s n d MalformedTag h = n MalformedTag (omega arith) h
+  none_at_all s n d MalformedComment h = n MalformedComment (omega arith) h
+  none_at_all s n d MalformedDeclaration h = n MalformedDeclaration (omega arith) h
+  none_at_all s n d UnknownReference h = n UnknownReference (omega arith) h
+  none_at_all s n d BadNumber h = n BadNumber (omega arith) h
+  none_at_all s n d DuplicateAttribute h = n DuplicateAttribute (omega arith) h
+  none_at_all s n d SelfClosing h = n SelfClosing (omega arith) h
+  none_at_all s n d TagOutside h = n TagOutside (omega arith) h
+  none_at_all s n d NotAllowedHere h = n NotAllowedHere (omega arith) h
+  none_at_all s n d StrayEndTag h = n StrayEndTag (omega arith) h
+  none_at_all s n d StrayText h = n StrayText (omega arith) h
+  none_at_all s n d Unclosed h = n Unclosed (omega arith) h
+  none_at_all s n d ScriptEscape h = n ScriptEscape (omega arith) h
+  none_at_all s n d TooDeep h = d h
+
+  pub none_of_text : (b : ℕ) (s : List ℕ) → TextPassed 15 b s → length (names_of above_body fs) ≤ rules.depth
+      → (k : FaultKind) → Says rules fs (b ∷ s) k → ⊥
+  none_of_text b s p l = none_at_all (b ∷ s) (none_below_text 15 b s p) deep
+    where
+      deep : Says rules fs (b ∷ s) TooDeep → ⊥
+      deep (inl h) = let d = h.0 in omega arith
+      deep (inr h) = not_both _ h.0 p.goes
+
+  pub none_of_comment : (w : List ℕ) → HasComment (less_than_sign ∷ exclamation_mark ∷ w)
+      → ends_text rules.scripting TheParent (less_than_sign ∷ exclamation_mark ∷ w) ≡ true
+      → length (names_of above_body fs) ≤ rules.depth
+      → (k : FaultKind) → Says rules fs (less_than_sign ∷ exclamation_mark ∷ w) k → ⊥
+  none_of_comment w c m l = none_at_all (less_than_sign ∷ exclamation_mark ∷ w)
+      (none_below_comment 15 w (omega arith) c m) deep
+    where
+      deep : Says rules fs (less_than_sign ∷ exclamation_mark ∷ w) TooDeep → ⊥
+      deep (inl h) = let d = h.0 in omega arith
+      deep (inr h) = exclamation_form w h.1 h.2 h.3 h.4
+
+  pub none_of_tag : (d : ℕ) (w n : List ℕ) (spelled : List AttributePair) (present : Bool)
+      → TagPassed 15 d w n spelled present → length (names_of above_body fs) ≤ rules.depth
+      → length (context_for rules fs (less_than_sign ∷ d ∷ w) n) ≤ rules.depth
+      → (k : FaultKind) → Says rules fs (less_than_sign ∷ d ∷ w) k → ⊥
+  none_of_tag d w n spelled present p l c = none_at_all (less_than_sign ∷ d ∷ w)
+      (none_below_tag 15 d w n spelled present p) deep
+    where
+      deep : Says rules fs (less_than_sign ∷ d ∷ w) TooDeep → ⊥
+      deep (inl h) = let d = h.0 in omega arith
+      deep (inr h) =
+          let u = p.only h.1 h.2 h.3 h.4 in
+          let q = subst (λ (y : List ℕ). rules.depth < length (context_for rules fs (less_than_sign ∷ d ∷ w) y))
+          u.0 h.5 in
+          omega arith
+
+  rows_of_end : (w n : List ℕ) → NoneBelow 11 (less_than_sign ∷ slash ∷ w)
+      → (Says rules fs (less_than_sign ∷ slash ∷ w) StrayEndTag → ⊥)
+      → ends_text rules.scripting TheParent (less_than_sign ∷ slash ∷ w) ≡ true
+      → NoneBelow 15 (less_than_sign ∷ slash ∷ w)
+  rows_of_end w n e t m StrayEndTag u h = t h
+  rows_of_end w n e t m StrayText u h = not_both _ m ((h.0).0).1
+  rows_of_end w n e t m Unclosed u h = more_left less_than_sign (slash ∷ w) h.0
+  rows_of_end w n e t m ScriptEscape u h = not_both _ m (h.0).1
+  rows_of_end w n e t m TooDeep u h = omega arith
+  rows_of_end w n e t m Nul u h = e Nul (omega arith) h
+  rows_of_end w n e t m MalformedTag u h = e MalformedTag (omega arith) h
+  rows_of_end w n e t m MalformedComment u h = e MalformedComment (omega arith) h
+  rows_of_end w n e t m MalformedDeclaration u h = e MalformedDeclaration (omega arith) h
+  rows_of_end w n e t m UnknownReference u h = e UnknownReference (omega arith) h
+  rows_of_end w n e t m BadNumber u h = e BadNumber (omega arith) h
+  rows_of_end w n e t m DuplicateAttribute u h = e DuplicateAttribute (omega arith) h
+  rows_of_end w n e t m SelfClosing u h = e SelfClosing (omega arith) h
+  rows_of_end w n e t m TagOutside u h = e TagOutside (omega arith) h
+  rows_of_end w n e t m NotAllowedHere u h = e NotAllowedHere (omega arith) h
+
+  stray_end : (w n : List ℕ) → TheParent ≡ n → 1 < length fs
+      → ends_text rules.scripting TheParent (less_than_sign ∷ slash ∷ w) ≡ true
+      → name_read w ≡ n → Says rules fs (less_than_sign ∷ slash ∷ w) StrayEndTag → ⊥
+  stray_end w n p l m r h = elim (h.3) [
+    | inl u ↦ u (p ∙ (sym r ∙ (end_is_read slash w h.1 h.2).3))
+    | inr u ↦ omega arith
+  ]
+
+  deep_end : (w : List ℕ) → ends_text rules.scripting TheParent (less_than_sign ∷ slash ∷ w) ≡ true
+      → Says rules fs (less_than_sign ∷ slash ∷ w) TooDeep → ⊥
+  deep_end w m (inl h) = elim (h.1) [
+    | inl u ↦ not_both _ m u.1
+    | inr u ↦ no_comment ((comment_is_read slash w u.1).0)
+  ]
+    where
+      no_comment : slash ≡ exclamation_mark → ⊥
+      no_comment q = cc
+  deep_end w m (inr h) = slash_form w h.1 h.2 h.3 h.4
+
+  pub none_of_end : (w n : List ℕ) → HasEndTag (less_than_sign ∷ slash ∷ w) n
+      → is_outside (name_read w) ≡ false
+      → ends_text rules.scripting TheParent (less_than_sign ∷ slash ∷ w) ≡ true → TheParent ≡ n → name_read w ≡ n
+      → 1 < length fs → (k : FaultKind) → Says rules fs (less_than_sign ∷ slash ∷ w) k → ⊥
+  none_of_end w n t o m p r l = none_at_all (less_than_sign ∷ slash ∷ w)
+      (rows_of_end w n (none_below_end 11 w n (omega arith) (λ _. t) (λ _. o) m) (stray_end w n p l m r) m)
+      (deep_end w m)

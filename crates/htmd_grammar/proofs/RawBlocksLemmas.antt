@@ -118,7 +118,7 @@ carriage_return-white : (after : Bool) (c : ℕ) → eqb c carriage_return ≡ t
 carriage_return-white after c e =
     subst (λ x. (after && is_whitespace x) ≡ after) (sym (eqb-true c carriage_return e)) (and-true after)
 
--- a text with no blank line is not without_blank_lines
+-- a text with no blank line is not changed
 without_blank_lines-same : (after : Bool) (cs : List ℕ) → has_blank_line_from after cs ≡ false
     → without_blank_lines after cs ≡ cs
 without_blank_lines-same after [] h = refl

@@ -31,7 +31,7 @@ use Rattle.htmd_grammar.proofs.Soundness.{sound_any, sound_raw, sound_settled, s
 use Rattle.htmd_grammar.proofs.TextLemmas.{Stops, stop_head}
 
 -- bytes other than `<` end no text
-clean_stops : (z : Bool) (n : List ℕ) (b : ℕ) (s : List ℕ) → (b == 60) ≡ false
+pub clean_stops : (z : Bool) (n : List ℕ) (b : ℕ) (s : List ℕ) → (b == 60) ≡ false
     → ends_text z n (b ∷ s) ≡ false
 clean_stops z n b s e = test (ends_text z n (b ∷ s))
     (λ t. absurd (let h = stop_head z n (b ∷ s) t in let k : b ≡ 60 = head h.1 in no k)) (λ t. t)
@@ -447,7 +447,7 @@ module _ (rules : Rules) (outer : Context) where
     [],
     refl,
     record {
-      is_front = (refl, refl, refl);
+      is_front = (refl, refl, refl, refl);
       rows = λ q. absurd (cc);
       texts = λ q. absurd (cc);
       first = λ _. refl;

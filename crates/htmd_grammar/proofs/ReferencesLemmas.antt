@@ -15,43 +15,77 @@ use Rattle.htmd_grammar.proofs.BooleanLemmas.{and_true, if_then, lacks-append, n
 use Rattle.htmd_grammar.proofs.TagReadingLemmas.{back_split}
 use Rattle.htmd_grammar.proofs.TagSpellingLemmas.{at_head}
 
-front_over : (p : ℕ → Bool) (s t : List ℕ) → p 60 ≡ false
-    → leading_run p (s ++ (60 ∷ t)) ≡ leading_run p s
-front_over p [] t e = rw e refl
-front_over p (b ∷ s) t e = rw (front_over p s t e) refl
+-- what is in no piece behind its first byte
+pub record IsBound (c : ℕ) : Type 0 where
+  no_letter : is_ascii_alphanumeric c ≡ false
+  no_digit : is_ascii_digit c ≡ false
+  no_hexdigit : is_ascii_hexdigit c ≡ false
+  no_x : (to_ascii_lowercase c == 120) ≡ false
+  no_semicolon : (c == 59) ≡ false
+  no_sharp : (c == 35) ≡ false
+  no_line_feed : (c == 10) ≡ false
 
-back_over : (p : ℕ → Bool) (s t : List ℕ) → p 60 ≡ false
-    → first_is 59 (behind_run p (s ++ (60 ∷ t))) ≡ first_is 59
-    (behind_run p s)
-back_over p [] t e = rw e refl
-back_over p (b ∷ s) t e = test (p b) (λ q. rw q (back_over p s t e)) (λ q. rw q refl)
+pub less_bounds : IsBound 60
+less_bounds = record {
+  no_letter = refl;
+  no_digit = refl;
+  no_hexdigit = refl;
+  no_x = refl;
+  no_semicolon = refl;
+  no_sharp = refl;
+  no_line_feed = refl;
+}
 
-semicolon_over : (s t : List ℕ) → first_is 59 (s ++ (60 ∷ t)) ≡ first_is 59 s
-semicolon_over [] t = refl
-semicolon_over (b ∷ s) t = refl
+pub and_bounds : IsBound 38
+and_bounds = record {
+  no_letter = refl;
+  no_digit = refl;
+  no_hexdigit = refl;
+  no_x = refl;
+  no_semicolon = refl;
+  no_sharp = refl;
+  no_line_feed = refl;
+}
 
-number_over : (p : ℕ → Bool) (base n : ℕ) (s t : List ℕ) → p 60 ≡ false
-    → number_at p base n (s ++ (60 ∷ t)) ≡ number_at p base n s
-number_over p base n s t e = rw (front_over p s t e, back_over p s t e, semicolon_over s t) refl
+module _ (c : ℕ) (k : IsBound c) where
+  front_over : (p : ℕ → Bool) (s t : List ℕ) → p c ≡ false → leading_run p (s ++ (c ∷ t)) ≡ leading_run p s
+  front_over p [] t e = rw e refl
+  front_over p (b ∷ s) t e = rw (front_over p s t e) refl
 
-sharp_over : (s t : List ℕ) → behind_number_sign (s ++ (60 ∷ t)) ≡ behind_number_sign s
-sharp_over [] t = refl
-sharp_over (b ∷ s) t =
-    rw (number_over is_ascii_hexdigit 16 2 s t refl, number_over is_ascii_digit 10 1 (b ∷ s) t refl)
-    refl
+  back_over : (p : ℕ → Bool) (s t : List ℕ) → p c ≡ false
+      → first_is 59 (behind_run p (s ++ (c ∷ t))) ≡ first_is 59 (behind_run p s)
+  back_over p [] t e = rw (e, k.no_semicolon) refl
+  back_over p (b ∷ s) t e = test (p b) (λ q. rw q (back_over p s t e)) (λ q. rw q refl)
 
-and_over : (names : Names) (s t : List ℕ) → behind_ampersand names (s ++ (60 ∷ t)) ≡ behind_ampersand names s
-and_over names [] t = refl
-and_over names (b ∷ s) t = rw (
-  sharp_over s t,
-  front_over is_ascii_alphanumeric (b ∷ s) t refl,
-  back_over is_ascii_alphanumeric (b ∷ s) t refl,
-) refl
+  semicolon_over : (s t : List ℕ) → first_is 59 (s ++ (c ∷ t)) ≡ first_is 59 s
+  semicolon_over [] t = k.no_semicolon
+  semicolon_over (b ∷ s) t = refl
+
+  number_over : (p : ℕ → Bool) (base n : ℕ) (s t : List ℕ) → p c ≡ false
+      → number_at p base n (s ++ (c ∷ t)) ≡ number_at p base n s
+  number_over p base n s t e = rw (front_over p s t e, back_over p s t e, semicolon_over s t) refl
+
+  sharp_over : (s t : List ℕ) → behind_number_sign (s ++ (c ∷ t)) ≡ behind_number_sign s
+  sharp_over [] t = rw (k.no_x, k.no_digit, k.no_semicolon) refl
+  sharp_over (b ∷ s) t =
+      rw (number_over is_ascii_hexdigit 16 2 s t k.no_hexdigit, number_over is_ascii_digit 10 1 (b ∷ s) t k.no_digit)
+      refl
+
+  and_over : (names : Names) (s t : List ℕ) → behind_ampersand names (s ++ (c ∷ t)) ≡ behind_ampersand names s
+  and_over names [] t = rw (k.no_sharp, k.no_letter, k.no_semicolon) refl
+  and_over names (b ∷ s) t = rw (
+    sharp_over s t,
+    front_over is_ascii_alphanumeric (b ∷ s) t k.no_letter,
+    back_over is_ascii_alphanumeric (b ∷ s) t k.no_letter,
+  ) refl
+
+  pub piece_bound : (names : Names) (b : ℕ) (s t : List ℕ) → piece_at names b (s ++ (c ∷ t)) ≡ piece_at names b s
+  piece_bound names b [] t = rw (and_over names [] t, k.no_line_feed) refl
+  piece_bound names b (d ∷ s) t = rw (and_over names (d ∷ s) t) refl
 
 pub piece_over : (names : Names) (b : ℕ) (s t : List ℕ)
     → piece_at names b (s ++ (60 ∷ t)) ≡ piece_at names b s
-piece_over names b [] t = rw (and_over names [] t) refl
-piece_over names b (c ∷ s) t = rw (and_over names (c ∷ s) t) refl
+piece_over names b s t = piece_bound 60 less_bounds names b s t
 
 stands_same : (n m : ℕ) (v w : List ℕ) → stands n v ≡ stands m w → (n ≡ m) × (v ≡ w)
 stands_same n m v w e = (cc, cc)

@@ -82,7 +82,7 @@ module _ (rules : Rules) where
             (flag rules above_body (f ∷ gs) rest) f.children (content_of f.name h.2) h.6 alone no_text
 
     -- with the text so far in the innermost element the rows say the same
-    says_with_text : (run rest : List ℕ) (k : FaultKind)
+    pub says_with_text : (run rest : List ℕ) (k : FaultKind)
         → (is_empty run ≡ false → holds_raw_text rules.scripting f.name ≡ false)
         → Says rules (f ∷ gs) rest k
         → Says rules (with_text f run ∷ gs) rest k
@@ -104,7 +104,7 @@ module _ (rules : Rules) where
         absurd (not_both (holds_raw_text rules.scripting f.name) h.2 (r refl))
     says_with_text (b ∷ run) rest TooDeep r h = h
 
-    says_without_text : (run rest : List ℕ) (k : FaultKind) → Says rules (with_text f run ∷ gs) rest k
+    pub says_without_text : (run rest : List ℕ) (k : FaultKind) → Says rules (with_text f run ∷ gs) rest k
         → Says rules (f ∷ gs) rest k
     says_without_text [] rest k h = h
     says_without_text (b ∷ run) rest Nul h = h
@@ -124,6 +124,17 @@ module _ (rules : Rules) where
         absurd (not_none rules above_body f.children (text (b ∷ run)) h.1)
     says_without_text (b ∷ run) rest TooDeep h = h
 
+    -- in an element that holds raw text stands nothing before it
+    pub childless : {before : List ℕ} (w run rest : List ℕ) → IsConf rules above_body (f ∷ gs) before (w ++ rest)
+        → ((w ≡ []) × (run ≡ [])) ⊎ Middle rules above_body (f ∷ gs) w run rest
+        → holds_raw_text rules.scripting f.name ≡ true → ends_text rules.scripting f.name rest ≡ false
+        → is_empty rest ≡ false → f.children ≡ none
+    childless {before = before} w run rest c (inl m) =
+        nothing_before before rest
+        (subst (λ (y : List ℕ). IsConf rules above_body (f ∷ gs) before (y ++ rest)) m.0
+        c)
+    childless w run rest c (inr m) = λ h _ _. absurd (not_both (holds_raw_text rules.scripting f.name) h m.mode)
+
     -- the fault of a step at a state that is reached
     piece_fault : (s run rest : List ℕ) (k : FaultKind) (place : ℕ)
         → Reaches rules above_body (started s) (in_text (f ∷ gs) run rest)
@@ -134,7 +145,7 @@ module _ (rules : Rules) where
         let i = kept rules above_body (started s) (in_text (f ∷ gs) run rest) [] r
         (conf_start rules above_body (body_text s)) in
         let a = i.2 in
-        let q = step_faulty rules f gs run rest k (childless a.1 a.3 a.4) o e in
+        let q = step_faulty rules f gs run rest k (childless a.1 run rest a.3 a.4) o e in
         record {
           innermost = with_text f run;
           opened = gs;
@@ -147,16 +158,6 @@ module _ (rules : Rules) where
           no_lower = λ lower l h. (q.0).1 lower l (says_without_text run rest lower h);
         }
       where
-        childless : {before : List ℕ} (w : List ℕ) → IsConf rules above_body (f ∷ gs) before (w ++ rest)
-            → ((w ≡ []) × (run ≡ [])) ⊎ Middle rules above_body (f ∷ gs) w run rest
-            → holds_raw_text rules.scripting f.name ≡ true → ends_text rules.scripting f.name rest ≡ false
-            → is_empty rest ≡ false → f.children ≡ none
-        childless {before = before} w c (inl m) =
-            nothing_before before rest
-            (subst (λ (y : List ℕ). IsConf rules above_body (f ∷ gs) before (y ++ rest)) m.0
-            c)
-        childless w c (inr m) = λ h _ _. absurd (not_both (holds_raw_text rules.scripting f.name) h m.mode)
-
         not_raw : (w : List ℕ) → ((w ≡ []) × (run ≡ [])) ⊎ Middle rules above_body (f ∷ gs) w run rest
             → is_empty run ≡ false → holds_raw_text rules.scripting f.name ≡ false
         not_raw w (inl m) n = absurd (not_both (is_empty run) (ap is_empty m.1) n)

@@ -76,7 +76,7 @@ module _ (rules : Rules) (outer : Context) where
   First [] l s rest h = ⊤
   First (f ∷ gs) l s rest h = f.children ≡ none → IsKept f.name (content_so_far rules outer f gs l s h) rest
 
-  -- what has been read is a leading_run, and what is left goes with it
+  -- what has been read is a viable prefix, and what is left goes with it
   pub record IsConf (fs : List OpenElement) (s rest : List ℕ) : Type 0 where
     pub is_front : IsFront rules outer (flag fs rest) fs s
     pub rows : is_implied fs ≡ true → begins_with_row (top_children fs) ≡ true
@@ -251,7 +251,7 @@ module _ (rules : Rules) (outer : Context) where
       ∙ (sym (append_assoc (content_of n x) (60 ∷ t) b)
       ∙ ap (λ (y : List ℕ). y ++ b) (sym (content_over n x t))))
 
-  kept_nodes : (n : List ℕ) (c : Context) (l : Bool) (ks : ValueForest) (i b z : List ℕ)
+  pub kept_nodes : (n : List ℕ) (c : Context) (l : Bool) (ks : ValueForest) (i b z : List ℕ)
       → ReadsForest rules (n ∷ c) l ks (content_of n i) → (ends_in_text ks ≡ true → ⊥)
       → (ks ≡ none → IsKept n i (b ++ z)) → IsKept n i b
   kept_nodes n c l none i b z h e k = kept_cut n i b z h (k refl)

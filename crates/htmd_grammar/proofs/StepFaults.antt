@@ -37,17 +37,16 @@ use Rattle.htmd_grammar.proofs.CommentsLemmas.{before_close-split, cut, cut_same
 use Rattle.htmd_grammar.proofs.FaultPieces.{IsWrongReference, comment_is_read, end_is_read, end_tag_there, form_is_read}
 use Rattle.htmd_grammar.proofs.FaultPieces.{form_letter, form_read_behind, name_read, piece_wrong, same_form, two_bytes}
 use Rattle.htmd_grammar.proofs.FaultPieces.{values_right, values_wrong}
-use Rattle.htmd_grammar.proofs.LowerFaults.{NoneBelow, TextPassed, none_below_comment, none_below_end, none_below_five}
+use Rattle.htmd_grammar.proofs.LowerFaults.{NoneBelow, TagPassed, TextPassed, none_below_comment, none_below_end}
+use Rattle.htmd_grammar.proofs.LowerFaults.{none_below_five, none_of_comment, none_of_end, none_of_tag, none_of_text}
 use Rattle.htmd_grammar.proofs.LowerFaults.{none_below_nothing, none_below_tag, none_below_text, not_both}
-use Rattle.htmd_grammar.proofs.PlacesLemmas.{bytes_same, one_name, row_fits}
+use Rattle.htmd_grammar.proofs.PlacesLemmas.{bytes_same, one_name, row_fits, same_bytes}
+use Rattle.htmd_grammar.proofs.Soundness.{shallow}
 use Rattle.htmd_grammar.proofs.TagReadingLemmas.{back_split}
 use Rattle.htmd_grammar.proofs.TagSpellingLemmas.{tag_spelled}
 use Rattle.htmd_grammar.specs.Steps as steps
 
 -- the fault of a step
-pub same_fault : (k l : FaultKind) → fault k ≡ Err l → k ≡ l
-same_fault k l e = cc
-
 no_fault : (st : State) (k : FaultKind) → ◌≡◌ {A = Step} (Ok st) (Err k) → ⊥
 no_fault st k e = cc
 
@@ -74,8 +73,17 @@ module _ (rules : Rules) (f : OpenElement) (gs : List OpenElement) where
   abbrev pub IsRight : List ℕ → FaultKind → Type 0
   IsRight s k = Says rules (f ∷ gs) s k × NoneBelow rules (f ∷ gs) (number_of k) s
 
-  right_of : (s : List ℕ) (k l : FaultKind) → fault k ≡ Err l → IsRight s k → IsRight s l
-  right_of s k l e h = subst (λ (x : FaultKind). IsRight s x) (same_fault k l e) h
+  -- what a step says of a text: its fault is right, or no row says something of the text
+  abbrev pub Tells : List ℕ → Step → Type 0
+  Tells s (Err k) = IsRight s k
+  Tells s (Ok st) = (k : FaultKind) → Says rules (f ∷ gs) s k → ⊥
+
+  right_of : (s : List ℕ) (k : FaultKind) (r : Step) → fault k ≡ r → IsRight s k → Tells s r
+  right_of s k r e h = subst (λ (x : Step). Tells s x) e h
+
+  none_of : (s : List ℕ) (st : State) (r : Step) → ◌≡◌ {A = Step} (Ok st) r
+      → ((k : FaultKind) → Says rules (f ∷ gs) s k → ⊥) → Tells s r
+  none_of s st r e h = subst (λ (x : Step). Tells s x) e h
 
   -- ---- text
 
@@ -97,13 +105,13 @@ module _ (rules : Rules) (f : OpenElement) (gs : List OpenElement) where
       stands_parts : (m n : ℕ) (v x : List ℕ) → stands m v ≡ stands n x → v ≡ x
       stands_parts m n v x e = cc
 
-  character_faulty : (b : ℕ) (s run : List ℕ) (k : FaultKind)
+  character_tells : (b : ℕ) (s run : List ℕ) (got : Step)
       → ends_text rules.scripting f.name (b ∷ s) ≡ false
       → holds_raw_text rules.scripting f.name ≡ false
       → (o : Piece) → piece_at rules.names b s ≡ o
-      → character_step rules above_body (f ∷ gs) run s o ≡ Err k
-      → IsRight (b ∷ s) k
-  character_faulty b s run k t r (wrong l) q e = right_of (b ∷ s) l k e (go (piece_wrong rules.names b s l q))
+      → character_step rules above_body (f ∷ gs) run s o ≡ got
+      → Tells (b ∷ s) got
+  character_tells b s run got t r (wrong l) q e = right_of (b ∷ s) l got e (go (piece_wrong rules.names b s l q))
     where
       text_here : IsTextWithReferences rules (f ∷ gs) (b ∷ s)
       text_here = (((λ z. let y = z in cc), t), r)
@@ -131,47 +139,48 @@ module _ (rules : Rules) (f : OpenElement) (gs : List OpenElement) where
           no_escape = λ z. absurd (omega arith);
         }),
       )
-  character_faulty b s run k t r (stands m v) q e =
-      elim (if_then (holds_parts f.name && not (list_all is_ascii_white_space v)) (fault StrayText) _ (Err k) e) [
+  character_tells b s run got t r (stands m v) q e =
+      elim (if_then (holds_parts f.name && not (list_all is_ascii_white_space v)) (fault StrayText) _ got e) [
         | inl w ↦
             let p = and_true (holds_parts f.name) (not (list_all is_ascii_white_space v)) w.0 in
-            right_of (b ∷ s) StrayText k w.1 (
+            right_of (b ∷ s) StrayText got w.1 (
               (text_here, p.0, m, v, (b, s, refl, q), not_true (list_all is_ascii_white_space v) p.1),
               none_below_text rules (f ∷ gs) 12 b s
                   (text_passed 12 b s v m (omega arith) t r q (λ z. absurd (omega arith))),
             )
         | inr w ↦ elim (if_then (is_too_deep rules above_body (f ∷ gs)) (fault TooDeep)
-            (Ok (record { stack = f ∷ gs; run = run ++ v; rest = drop m s })) (Err k) w.1) [
-              | inl u ↦ right_of (b ∷ s) TooDeep k u.1 (
+            (Ok (record { stack = f ∷ gs; run = run ++ v; rest = drop m s })) got w.1) [
+              | inl u ↦ right_of (b ∷ s) TooDeep got u.1 (
                 inl (deep_less rules.depth (length Here) u.0, inl (text_here.0)),
                 none_below_text rules (f ∷ gs) 15 b s (text_passed 15 b s v m (omega arith) t r q (λ _. w.0)),
               )
-              | inr u ↦ absurd (no_fault _ k u.1)
+              | inr u ↦ none_of (b ∷ s) _ got u.1 (none_of_text rules (f ∷ gs) b s
+                  (text_passed 15 b s v m (omega arith) t r q (λ _. w.0)) (shallow rules above_body (f ∷ gs) u.0))
             ]
       ]
     where
       text_here : IsTextWithReferences rules (f ∷ gs) (b ∷ s)
       text_here = (((λ z. let y = z in cc), t), r)
 
-  pub text_faulty : (run rest : List ℕ) (k : FaultKind) → is_empty rest ≡ false
+  text_tells : (run rest : List ℕ) (got : Step) → is_empty rest ≡ false
       → ends_text rules.scripting f.name rest ≡ false → holds_raw_text rules.scripting f.name ≡ false
-      → text_step rules above_body (f ∷ gs) run rest ≡ Err k → IsRight rest k
-  text_faulty run [] k n t r e = absurd (cc)
-  text_faulty run (b ∷ s) k n t r e = character_faulty b s run k t r (piece_at rules.names b s) refl e
+      → text_step rules above_body (f ∷ gs) run rest ≡ got → Tells rest got
+  text_tells run [] got n t r e = absurd (cc)
+  text_tells run (b ∷ s) got n t r e = character_tells b s run got t r (piece_at rules.names b s) refl e
 
   raw_is : (u : List ℕ) (o : Option (List ℕ)) → holds_raw_text rules.scripting f.name ≡ true
       → text_of rules f.name u ≡ o → raw_text_of f.name u ≡ o
   raw_is u o r q = rw r at q
 
   -- text without references
-  pub raw_faulty : (rest : List ℕ) (k : FaultKind) → is_empty rest ≡ false
+  raw_tells : (rest : List ℕ) (got : Step) → is_empty rest ≡ false
       → ends_text rules.scripting f.name rest ≡ false → holds_raw_text rules.scripting f.name ≡ true
       → f.children ≡ none
       → (o : Option (List ℕ)) → text_of rules f.name (up_to (ends_text rules.scripting f.name) rest) ≡ o
-      → raw_text_step rules above_body (f ∷ gs) o (onward (ends_text rules.scripting f.name) rest) ≡ Err k
-      → IsRight rest k
-  raw_faulty [] k n t r c o q e = absurd (cc)
-  raw_faulty (b ∷ s) k n t r c None q e = right_of (b ∷ s) ScriptEscape k e (
+      → raw_text_step rules above_body (f ∷ gs) o (onward (ends_text rules.scripting f.name) rest) ≡ got
+      → Tells rest got
+  raw_tells [] got n t r c o q e = absurd (cc)
+  raw_tells (b ∷ s) got n t r c None q e = right_of (b ∷ s) ScriptEscape got e (
     (((λ z. let y = z in cc), t), c, r, raw_is (up_to (ends_text rules.scripting f.name) (b ∷ s)) None r q),
     none_below_text rules (f ∷ gs) 14 b s (record {
       at_most = omega arith;
@@ -182,48 +191,53 @@ module _ (rules : Rules) (f : OpenElement) (gs : List OpenElement) where
       no_escape = λ z. absurd (omega arith);
     }),
   )
-  raw_faulty (b ∷ s) k n t r c (Some u) q e =
-      elim (if_then (is_too_deep rules above_body (f ∷ gs)) (fault TooDeep) _ (Err k) e) [
-        | inl w ↦ right_of (b ∷ s) TooDeep k w.1 (
+  raw_tells (b ∷ s) got n t r c (Some u) q e =
+      elim (if_then (is_too_deep rules above_body (f ∷ gs)) (fault TooDeep) _ got e) [
+        | inl w ↦ right_of (b ∷ s) TooDeep got w.1 (
           inl (deep_less rules.depth (length Here) w.0, inl ((λ z. let y = z in cc), t)),
-          none_below_text rules (f ∷ gs) 15 b s (record {
-            at_most = omega arith;
-            goes = t;
-            known = λ _ h _. let z = rw r at h in cc;
-            right_number = λ _ h _. let z = rw r at h in cc;
-            in_place = λ _ h _ _ _ _ _. let z = rw r at h in cc;
-            no_escape = λ _ _ z.
-                let x = sym (raw_is (up_to (ends_text rules.scripting f.name) (b ∷ s)) (Some u) r q) ∙ z in
-                cc;
-          }),
+          none_below_text rules (f ∷ gs) 15 b s escaped,
         )
-        | inr w ↦ absurd (no_fault _ k w.1)
+        | inr w ↦ none_of (b ∷ s) _ got w.1
+            (none_of_text rules (f ∷ gs) b s escaped (shallow rules above_body (f ∷ gs) w.0))
       ]
+    where
+      escaped : TextPassed rules (f ∷ gs) 15 b s
+      escaped = record {
+        at_most = omega arith;
+        goes = t;
+        known = λ _ h _. let z = rw r at h in cc;
+        right_number = λ _ h _. let z = rw r at h in cc;
+        in_place = λ _ h _ _ _ _ _. let z = rw r at h in cc;
+        no_escape = λ _ _ z.
+            let x = sym (raw_is (up_to (ends_text rules.scripting f.name) (b ∷ s)) (Some u) r q) ∙ z in
+            cc;
+      }
 
   -- ---- declarations and comments
 
-  comment_faulty : (w : List ℕ) (k : FaultKind)
+  comment_tells : (w : List ℕ) (got : Step)
       → ends_text rules.scripting f.name (less_than_sign ∷ exclamation_mark ∷ w) ≡ true
       → begins_with (codes "--") w ≡ true
       → (o : Option (List ℕ × List ℕ)) → before_comment_end (drop 2 w) ≡ o
       → comment_step rules above_body (f ∷ gs) o
-      ≡ Err k → IsRight (less_than_sign ∷ exclamation_mark ∷ w) k
-  comment_faulty w k m b None q e = right_of (less_than_sign ∷ exclamation_mark ∷ w) MalformedComment k e (
+      ≡ got → Tells (less_than_sign ∷ exclamation_mark ∷ w) got
+  comment_tells w got m b None q e = right_of (less_than_sign ∷ exclamation_mark ∷ w) MalformedComment got e (
     (m, b, λ h. let c = comment_is_read exclamation_mark w h in let z = sym q ∙ c.4 in cc),
     none_below_five rules (f ∷ gs) 3 (less_than_sign ∷ exclamation_mark ∷ w) (omega arith) (λ _. refl)
         (λ z. absurd (omega arith)),
   )
-  comment_faulty w k m b (Some p) q e =
+  comment_tells w got m b (Some p) q e =
       elim (if_then (is_comment_text p.0) (steps.add rules above_body (f ∷ gs) (comment (normalized p.0)) p.1)
-      (fault MalformedComment) (Err k) e) [
-        | inl u ↦ elim (if_then (is_too_deep rules above_body (f ∷ gs)) (fault TooDeep) _ (Err k) u.1) [
-          | inl y ↦ right_of (less_than_sign ∷ exclamation_mark ∷ w) TooDeep k y.1 (
+      (fault MalformedComment) got e) [
+        | inl u ↦ elim (if_then (is_too_deep rules above_body (f ∷ gs)) (fault TooDeep) _ got u.1) [
+          | inl y ↦ right_of (less_than_sign ∷ exclamation_mark ∷ w) TooDeep got y.1 (
             inl (deep_less rules.depth (length Here) y.0, inr (m, has u.0)),
             none_below_comment rules (f ∷ gs) 15 w (omega arith) (has u.0) m,
           )
-          | inr y ↦ absurd (no_fault _ k y.1)
+          | inr y ↦ none_of (less_than_sign ∷ exclamation_mark ∷ w) _ got y.1
+              (none_of_comment rules (f ∷ gs) w (has u.0) m (shallow rules above_body (f ∷ gs) y.0))
         ]
-        | inr u ↦ right_of (less_than_sign ∷ exclamation_mark ∷ w) MalformedComment k u.1 (
+        | inr u ↦ right_of (less_than_sign ∷ exclamation_mark ∷ w) MalformedComment got u.1 (
           (
             m,
             b,
@@ -248,27 +262,27 @@ module _ (rules : Rules) (f : OpenElement) (gs : List OpenElement) where
             (t.0, p.0, refl, t.2, i, refl),
           )
 
-  declaration_faulty : (w : List ℕ) (k : FaultKind)
+  declaration_tells : (w : List ℕ) (got : Step)
       → ends_text rules.scripting f.name (less_than_sign ∷ exclamation_mark ∷ w) ≡ true
-      → declaration_step rules above_body (f ∷ gs) w ≡ Err k
-      → IsRight (less_than_sign ∷ exclamation_mark ∷ w) k
-  declaration_faulty w k m e =
+      → declaration_step rules above_body (f ∷ gs) w ≡ got
+      → Tells (less_than_sign ∷ exclamation_mark ∷ w) got
+  declaration_tells w got m e =
       elim (if_then (begins_with (codes "--") w)
       (comment_step rules above_body (f ∷ gs) (before_comment_end (drop 2 w)))
-      (fault MalformedDeclaration) (Err k) e) [
-        | inl u ↦ comment_faulty w k m u.0 (before_comment_end (drop 2 w)) refl u.1
-        | inr u ↦ right_of (less_than_sign ∷ exclamation_mark ∷ w) MalformedDeclaration k u.1 (
+      (fault MalformedDeclaration) got e) [
+        | inl u ↦ comment_tells w got m u.0 (before_comment_end (drop 2 w)) refl u.1
+        | inr u ↦ right_of (less_than_sign ∷ exclamation_mark ∷ w) MalformedDeclaration got u.1 (
           (m, inr (refl, u.0)),
           none_below_five rules (f ∷ gs) 4 (less_than_sign ∷ exclamation_mark ∷ w) (omega arith) (λ _. refl)
               (λ _. u.0),
         )
       ]
 
-  question_faulty : (w : List ℕ) (k : FaultKind)
+  question_tells : (w : List ℕ) (got : Step)
       → ends_text rules.scripting f.name (less_than_sign ∷ question_mark ∷ w)
       ≡ true
-      → fault MalformedDeclaration ≡ Err k → IsRight (less_than_sign ∷ question_mark ∷ w) k
-  question_faulty w k m e = right_of (less_than_sign ∷ question_mark ∷ w) MalformedDeclaration k e (
+      → fault MalformedDeclaration ≡ got → Tells (less_than_sign ∷ question_mark ∷ w) got
+  question_tells w got m e = right_of (less_than_sign ∷ question_mark ∷ w) MalformedDeclaration got e (
     (m, inl refl),
     none_below_five rules (f ∷ gs) 4 (less_than_sign ∷ question_mark ∷ w) (omega arith) (λ _. refl)
         (λ _. refl),
@@ -276,49 +290,45 @@ module _ (rules : Rules) (f : OpenElement) (gs : List OpenElement) where
 
   -- ---- end tags
 
-  close_faulty : (w n x : List ℕ) (k : FaultKind)
+  close_tells : (w n x : List ℕ) (got : Step)
       → ends_text rules.scripting f.name (less_than_sign ∷ slash ∷ w) ≡ true
       → HasEndTag (less_than_sign ∷ slash ∷ w) n → is_outside n ≡ false → name_read w ≡ n
       → close_step rules above_body (f ∷ gs) n x
-      ≡ Err k → IsRight (less_than_sign ∷ slash ∷ w) k
-  close_faulty w n x k m h o r e = right_of (less_than_sign ∷ slash ∷ w) StrayEndTag k (stray gs e) (
-    (m, n, h, not_closed gs e),
-    none_below_end rules (f ∷ gs) 11 w n (omega arith) (λ _. h) (λ _. ap is_outside r ∙ o) m,
-  )
+      ≡ got → Tells (less_than_sign ∷ slash ∷ w) got
+  close_tells w n x got m h o r e = closing gs refl e
     where
-      stray : (hs : List OpenElement) → close_step rules above_body (f ∷ hs) n x ≡ Err k
-          → fault StrayEndTag ≡ Err k
-      stray [] e = e
-      stray (g ∷ hs) e = elim (if_then (bytes_eq f.name n) _ (fault StrayEndTag) (Err k) e) [
-        | inl u ↦
-            absurd (no_fault _ k u.1)
-        | inr u ↦ u.1
+      strays : (f.name ≢ n) ⊎ (length (f ∷ gs) ≤ 1) → fault StrayEndTag ≡ got
+          → Tells (less_than_sign ∷ slash ∷ w) got
+      strays q e = right_of (less_than_sign ∷ slash ∷ w) StrayEndTag got e (
+        (m, n, h, q),
+        none_below_end rules (f ∷ gs) 11 w n (omega arith) (λ _. h) (λ _. ap is_outside r ∙ o) m,
+      )
+
+      closing : (hs : List OpenElement) → gs ≡ hs → close_step rules above_body (f ∷ hs) n x ≡ got
+          → Tells (less_than_sign ∷ slash ∷ w) got
+      closing [] i e = strays (inr (rw i (omega arith))) e
+      closing (g ∷ hs) i e = elim (if_then (bytes_eq f.name n) _ (fault StrayEndTag) got e) [
+        | inl u ↦ none_of (less_than_sign ∷ slash ∷ w) _ got u.1 (none_of_end rules (f ∷ gs) w n h
+            (ap is_outside r ∙ o) m (same_bytes f.name n u.0) r (rw i (omega arith)))
+        | inr u ↦ strays (inl (λ q. not_both (bytes_eq f.name n) (rw q (bytes_same n)) u.0)) u.1
       ]
 
-      not_closed : (hs : List OpenElement) → close_step rules above_body (f ∷ hs) n x ≡ Err k
-          → (f.name ≢ n) ⊎ (length (f ∷ hs) ≤ 1)
-      not_closed [] e = inr (omega arith)
-      not_closed (g ∷ hs) e = elim (if_then (bytes_eq f.name n) _ (fault StrayEndTag) (Err k) e) [
-        | inl u ↦ absurd (no_fault _ k u.1)
-        | inr u ↦ inl (λ q. not_both (bytes_eq f.name n) (rw q (bytes_same n)) u.0)
-      ]
-
-  end_faulty : (w : List ℕ) (k : FaultKind)
+  end_tells : (w : List ℕ) (got : Step)
       → ends_text rules.scripting f.name (less_than_sign ∷ slash ∷ w) ≡ true
-      → end_tag_step rules above_body (f ∷ gs) w ≡ Err k → IsRight (less_than_sign ∷ slash ∷ w) k
-  end_faulty w k m e = elim (if_then (is_tag_name (leading_run is_tag_name_byte w))
+      → end_tag_step rules above_body (f ∷ gs) w ≡ got → Tells (less_than_sign ∷ slash ∷ w) got
+  end_tells w got m e = elim (if_then (is_tag_name (leading_run is_tag_name_byte w))
       (name_step rules above_body (f ∷ gs) (name_read w) (behind_run is_tag_name_byte w)) (fault MalformedTag)
-      (Err k) e) [
+      got e) [
         | inl u ↦ elim (if_then (first_is greater_than_sign
             (behind_run is_ascii_white_space (behind_run is_tag_name_byte w))) _
-            (fault MalformedTag) (Err k) u.1) [
+            (fault MalformedTag) got u.1) [
               | inl y ↦ ended u.0 y.0 (if_then (is_outside (name_read w)) (fault TagOutside)
                   (close_step rules above_body (f ∷ gs) (name_read w)
-                  (drop 1 (behind_run is_ascii_white_space (behind_run is_tag_name_byte w)))) (Err k) y.1)
-              | inr y ↦ right_of (less_than_sign ∷ slash ∷ w) MalformedTag k y.1
+                  (drop 1 (behind_run is_ascii_white_space (behind_run is_tag_name_byte w)))) got y.1)
+              | inr y ↦ right_of (less_than_sign ∷ slash ∷ w) MalformedTag got y.1
                   (malformed_here (λ n h. not_both _ (end_is_read slash w n h).2 y.0))
             ]
-        | inr u ↦ right_of (less_than_sign ∷ slash ∷ w) MalformedTag k u.1
+        | inr u ↦ right_of (less_than_sign ∷ slash ∷ w) MalformedTag got u.1
             (malformed_here (λ n h. not_both _ (end_is_read slash w n h).1 u.0))
       ]
     where
@@ -332,18 +342,19 @@ module _ (rules : Rules) (f : OpenElement) (gs : List OpenElement) where
 
       ended : is_tag_name (leading_run is_tag_name_byte w) ≡ true
           → first_is greater_than_sign (behind_run is_ascii_white_space (behind_run is_tag_name_byte w)) ≡ true
-          → ((is_outside (name_read w) ≡ true) × (fault TagOutside ≡ Err k))
+          → ((is_outside (name_read w) ≡ true) × (fault TagOutside ≡ got))
           ⊎ ((is_outside (name_read w) ≡ false)
           × (close_step rules above_body (f ∷ gs) (name_read w)
-          (drop 1 (behind_run is_ascii_white_space (behind_run is_tag_name_byte w))) ≡ Err k))
-          → IsRight (less_than_sign ∷ slash ∷ w) k
-      ended i j (inl z) = right_of (less_than_sign ∷ slash ∷ w) TagOutside k z.1 (
+          (drop 1 (behind_run is_ascii_white_space (behind_run is_tag_name_byte w))) ≡ got))
+          → Tells (less_than_sign ∷ slash ∷ w) got
+      ended i j (inl z) = right_of (less_than_sign ∷ slash ∷ w) TagOutside got z.1 (
         (m, name_read w, z.0, inr (end_tag_there w i j)),
         none_below_end rules (f ∷ gs) 9 w (name_read w) (omega arith) (λ _. end_tag_there w i j)
             (λ y. absurd (omega arith)) m,
       )
-      ended i j (inr z) = close_faulty w (name_read w)
-          (drop 1 (behind_run is_ascii_white_space (behind_run is_tag_name_byte w))) k m (end_tag_there w i j) z.0 refl
+      ended i j (inr z) = close_tells w (name_read w)
+          (drop 1 (behind_run is_ascii_white_space (behind_run is_tag_name_byte w))) got m (end_tag_there w i j) z.0
+          refl
           z.1
 
   -- ---- start tags
@@ -369,6 +380,32 @@ module _ (rules : Rules) (f : OpenElement) (gs : List OpenElement) where
         (name, i.0, refl, t.called, refl, i.2),
       )
 
+  tag_passed : (d : ℕ) (w x : List ℕ) (spelled : List AttributePair) (present : Bool) → TagThere d w x spelled present
+      → (k : ℕ) → k ≤ 15
+      → (5 < k → list_any (λ a. has_unknown_reference rules.names a.value) spelled ≡ false)
+      → (6 < k → list_any (λ a. has_bad_number rules.names a.value) spelled ≡ false)
+      → (7 < k → are_distinct (attribute_names spelled) ≡ true)
+      → (8 < k → present ≡ true → is_void (name_read (d ∷ w)) ≡ true)
+      → (9 < k → is_outside (name_read (d ∷ w)) ≡ false)
+      → (10 < k → is_allowed rules.scripting
+      (context_for rules (f ∷ gs) (less_than_sign ∷ d ∷ w) (name_read (d ∷ w)))
+      (name_read (d ∷ w)) ≡ true)
+      → TagPassed rules (f ∷ gs) k d w (name_read (d ∷ w)) spelled present
+  tag_passed d w x spelled present t k u a b c v o l = record {
+    at_most = u;
+    markup = t.markup;
+    letter = t.letter;
+    has = tag_has d w x spelled present t;
+    only = λ m others with_slash h.
+        same_form (d ∷ w) (name_read (d ∷ w)) x spelled present m others with_slash refl t.reads_so h;
+    known = a;
+    right_numbers = b;
+    distinct = c;
+    may_close = v;
+    inside = o;
+    allowed = l;
+  }
+
   passed : (d : ℕ) (w x : List ℕ) (spelled : List AttributePair) (present : Bool) → TagThere d w x spelled present
       → (k : ℕ) → k ≤ 15
       → (5 < k → list_any (λ a. has_unknown_reference rules.names a.value) spelled ≡ false)
@@ -381,20 +418,8 @@ module _ (rules : Rules) (f : OpenElement) (gs : List OpenElement) where
       (name_read (d ∷ w)) ≡ true)
       → NoneBelow rules (f ∷ gs) k (less_than_sign ∷ d ∷ w)
   passed d w x spelled present t k u a b c v o l =
-      none_below_tag rules (f ∷ gs) k d w (name_read (d ∷ w)) spelled present (record {
-        at_most = u;
-        markup = t.markup;
-        letter = t.letter;
-        has = tag_has d w x spelled present t;
-        only = λ m others with_slash h.
-            same_form (d ∷ w) (name_read (d ∷ w)) x spelled present m others with_slash refl t.reads_so h;
-        known = a;
-        right_numbers = b;
-        distinct = c;
-        may_close = v;
-        inside = o;
-        allowed = l;
-      })
+      none_below_tag rules (f ∷ gs) k d w (name_read (d ∷ w)) spelled present
+      (tag_passed d w x spelled present t k u a b c v o l)
 
   malformed_tag : (d : ℕ) (w : List ℕ) → ends_text rules.scripting f.name (less_than_sign ∷ d ∷ w) ≡ true
       → is_ascii_alphabetic d ≡ true
@@ -415,15 +440,16 @@ module _ (rules : Rules) (f : OpenElement) (gs : List OpenElement) where
     may_close : present ≡ true → is_void n ≡ true
     inside : is_outside n ≡ false
 
-  open_faulty : (d : ℕ) (w x : List ℕ) (spelled attributes : List AttributePair) (present : Bool) (k : FaultKind)
+  open_tells : (d : ℕ) (w x : List ℕ) (spelled attributes : List AttributePair) (present : Bool) (got : Step)
       (hs : List OpenElement) → TagThere d w x spelled present → TagRight (name_read (d ∷ w)) spelled present
       → context_for rules (f ∷ gs) (less_than_sign ∷ d ∷ w) (name_read (d ∷ w)) ≡ names_of above_body hs
-      → open_step rules above_body hs (name_read (d ∷ w)) attributes x ≡ Err k
-      → IsRight (less_than_sign ∷ d ∷ w) k
-  open_faulty d w x spelled attributes present k hs t r c e =
+      → length Here ≤ length (names_of above_body hs)
+      → open_step rules above_body hs (name_read (d ∷ w)) attributes x ≡ got
+      → Tells (less_than_sign ∷ d ∷ w) got
+  open_tells d w x spelled attributes present got hs t r c within e =
       elim (if_then (not (is_allowed rules.scripting (names_of above_body hs) (name_read (d ∷ w))))
-      (fault NotAllowedHere) _ (Err k) e) [
-        | inl u ↦ right_of (less_than_sign ∷ d ∷ w) NotAllowedHere k u.1 (
+      (fault NotAllowedHere) _ got e) [
+        | inl u ↦ right_of (less_than_sign ∷ d ∷ w) NotAllowedHere got u.1 (
           (
             t.markup,
             name_read (d ∷ w),
@@ -436,8 +462,8 @@ module _ (rules : Rules) (f : OpenElement) (gs : List OpenElement) where
           passed d w x spelled present t 10 (omega arith) (λ _. r.known) (λ _. r.right_numbers) (λ _. r.distinct)
               (λ _. r.may_close) (λ _. r.inside) (λ z. absurd (omega arith)),
         )
-        | inr u ↦ elim (if_then (is_too_deep rules above_body hs) (fault TooDeep) _ (Err k) u.1) [
-          | inl y ↦ right_of (less_than_sign ∷ d ∷ w) TooDeep k y.1 (
+        | inr u ↦ elim (if_then (is_too_deep rules above_body hs) (fault TooDeep) _ got u.1) [
+          | inl y ↦ right_of (less_than_sign ∷ d ∷ w) TooDeep got y.1 (
             inr (
               t.markup,
               name_read (d ∷ w),
@@ -452,26 +478,38 @@ module _ (rules : Rules) (f : OpenElement) (gs : List OpenElement) where
                 (λ _. ap (λ (z : Context). is_allowed rules.scripting z (name_read (d ∷ w))) c
                 ∙ twice (is_allowed rules.scripting (names_of above_body hs) (name_read (d ∷ w))) u.0),
           )
-          | inr y ↦ elim (if_then (is_void (name_read (d ∷ w))) _ _ (Err k) y.1) [
-            | inl z ↦ absurd (no_fault _ k z.1)
-            | inr z ↦ absurd (no_fault _ k z.1)
+          | inr y ↦ elim (if_then (is_void (name_read (d ∷ w))) _ _ got y.1) [
+            | inl z ↦ none_of (less_than_sign ∷ d ∷ w) _ got z.1 (opens u.0 y.0)
+            | inr z ↦ none_of (less_than_sign ∷ d ∷ w) _ got z.1 (opens u.0 y.0)
           ]
         ]
       ]
+    where
+      opens : not (is_allowed rules.scripting (names_of above_body hs) (name_read (d ∷ w))) ≡ false
+          → is_too_deep rules above_body hs ≡ false
+          → (k : FaultKind) → Says rules (f ∷ gs) (less_than_sign ∷ d ∷ w) k → ⊥
+      opens u y =
+          let a = shallow rules above_body hs y in
+          none_of_tag rules (f ∷ gs) d w (name_read (d ∷ w)) spelled present
+          (tag_passed d w x spelled present t 15 (omega arith) (λ _. r.known) (λ _. r.right_numbers)
+          (λ _. r.distinct) (λ _. r.may_close) (λ _. r.inside)
+          (λ _. ap (λ (z : Context). is_allowed rules.scripting z (name_read (d ∷ w))) c
+          ∙ twice (is_allowed rules.scripting (names_of above_body hs) (name_read (d ∷ w))) u))
+          (omega arith) (subst (λ (z : Context). length z ≤ rules.depth) (sym c) a)
 
-  place_faulty : (d : ℕ) (w x : List ℕ) (spelled attributes : List AttributePair) (present : Bool) (k : FaultKind)
+  place_tells : (d : ℕ) (w x : List ℕ) (spelled attributes : List AttributePair) (present : Bool) (got : Step)
       → TagThere d w x spelled present → TagRight (name_read (d ∷ w)) spelled present
-      → place_step rules above_body (f ∷ gs) (name_read (d ∷ w)) attributes x ≡ Err k
-      → IsRight (less_than_sign ∷ d ∷ w) k
-  place_faulty d w x spelled attributes present k t r e =
+      → place_step rules above_body (f ∷ gs) (name_read (d ∷ w)) attributes x ≡ got
+      → Tells (less_than_sign ∷ d ∷ w) got
+  place_tells d w x spelled attributes present got t r e =
       elim (if_then (is_row (name_read (d ∷ w)) && bytes_eq f.name (codes "table")) _
-      (open_step rules above_body (f ∷ gs) (name_read (d ∷ w)) attributes x) (Err k) e) [
+      (open_step rules above_body (f ∷ gs) (name_read (d ∷ w)) attributes x) got e) [
         | inl u ↦
             let p = and_true (is_row (name_read (d ∷ w))) (bytes_eq f.name (codes "table")) u.0 in
             elim (if_then (is_too_deep rules above_body (f ∷ gs)) (fault TooDeep)
             (open_step rules above_body (fresh (codes "tbody") [] true ∷ f ∷ gs) (name_read (d ∷ w)) attributes x)
-            (Err k) u.1) [
-              | inl y ↦ right_of (less_than_sign ∷ d ∷ w) TooDeep k y.1 (
+            got u.1) [
+              | inl y ↦ right_of (less_than_sign ∷ d ∷ w) TooDeep got y.1 (
                 inr (
                   t.markup,
                   name_read (d ∷ w),
@@ -489,11 +527,11 @@ module _ (rules : Rules) (f : OpenElement) (gs : List OpenElement) where
                     ∙ (ap (is_allowed rules.scripting (codes "tbody" ∷ Here))
                     (one_name (codes "tr") (name_read (d ∷ w)) p.0) ∙ row_fits rules.scripting Here)),
               )
-              | inr y ↦ open_faulty d w x spelled attributes present k (fresh (codes "tbody") [] true ∷ f ∷ gs) t
+              | inr y ↦ open_tells d w x spelled attributes present got (fresh (codes "tbody") [] true ∷ f ∷ gs) t
                   r
-                  (row_context p.0 p.1) y.1
+                  (row_context p.0 p.1) (omega arith) y.1
             ]
-        | inr u ↦ open_faulty d w x spelled attributes present k (f ∷ gs) t r (plain_context u.0) u.1
+        | inr u ↦ open_tells d w x spelled attributes present got (f ∷ gs) t r (plain_context u.0) (omega arith) u.1
       ]
     where
       row_context : is_row (name_read (d ∷ w)) ≡ true → bytes_eq f.name (codes "table") ≡ true
@@ -504,13 +542,13 @@ module _ (rules : Rules) (f : OpenElement) (gs : List OpenElement) where
           → context_for rules (f ∷ gs) (less_than_sign ∷ d ∷ w) (name_read (d ∷ w)) ≡ Here
       plain_context a = rw (or_right (bytes_eq f.name (codes "table")), a) refl
 
-  values_faulty : (d : ℕ) (w x : List ℕ) (spelled : List AttributePair) (present : Bool) (k : FaultKind)
+  values_tells : (d : ℕ) (w x : List ℕ) (spelled : List AttributePair) (present : Bool) (got : Step)
       → TagThere d w x spelled present
       → list_any (λ a. has_unknown_reference rules.names a.value) spelled ≡ false
       → (o : Option (List AttributePair)) → decode_values rules.names spelled ≡ o
-      → values_step rules above_body (f ∷ gs) (name_read (d ∷ w)) spelled present x o ≡ Err k
-      → IsRight (less_than_sign ∷ d ∷ w) k
-  values_faulty d w x spelled present k t a None q e = right_of (less_than_sign ∷ d ∷ w) BadNumber k e (
+      → values_step rules above_body (f ∷ gs) (name_read (d ∷ w)) spelled present x o ≡ got
+      → Tells (less_than_sign ∷ d ∷ w) got
+  values_tells d w x spelled present got t a None q e = right_of (less_than_sign ∷ d ∷ w) BadNumber got e (
     inr (
       t.markup,
       name_read (d ∷ w),
@@ -522,9 +560,9 @@ module _ (rules : Rules) (f : OpenElement) (gs : List OpenElement) where
     passed d w x spelled present t 6 (omega arith) (λ _. a) (λ z. absurd (omega arith)) (λ z. absurd (omega arith))
         (λ z. absurd (omega arith)) (λ z. absurd (omega arith)) (λ z. absurd (omega arith)),
   )
-  values_faulty d w x spelled present k t a (Some attributes) q e =
-      elim (if_then (not (are_distinct (attribute_names spelled))) (fault DuplicateAttribute) _ (Err k) e) [
-        | inl u ↦ right_of (less_than_sign ∷ d ∷ w) DuplicateAttribute k u.1 (
+  values_tells d w x spelled present got t a (Some attributes) q e =
+      elim (if_then (not (are_distinct (attribute_names spelled))) (fault DuplicateAttribute) _ got e) [
+        | inl u ↦ right_of (less_than_sign ∷ d ∷ w) DuplicateAttribute got u.1 (
           (
             t.markup,
             name_read (d ∷ w),
@@ -538,10 +576,10 @@ module _ (rules : Rules) (f : OpenElement) (gs : List OpenElement) where
         )
         | inr u ↦
             let c = twice (are_distinct (attribute_names spelled)) u.0 in
-            elim (if_then (present && not (is_void (name_read (d ∷ w)))) (fault SelfClosing) _ (Err k) u.1) [
+            elim (if_then (present && not (is_void (name_read (d ∷ w)))) (fault SelfClosing) _ got u.1) [
               | inl y ↦
                   let p = and_true present (not (is_void (name_read (d ∷ w)))) y.0 in
-                  right_of (less_than_sign ∷ d ∷ w) SelfClosing k y.1 (
+                  right_of (less_than_sign ∷ d ∷ w) SelfClosing got y.1 (
                     (
                       t.markup,
                       name_read (d ∷ w),
@@ -557,13 +595,13 @@ module _ (rules : Rules) (f : OpenElement) (gs : List OpenElement) where
               | inr y ↦
                   let v = slashed present (is_void (name_read (d ∷ w))) y.0 in
                   elim (if_then (is_outside (name_read (d ∷ w))) (fault TagOutside)
-                  (place_step rules above_body (f ∷ gs) (name_read (d ∷ w)) attributes x) (Err k) y.1) [
-                    | inl z ↦ right_of (less_than_sign ∷ d ∷ w) TagOutside k z.1 (
+                  (place_step rules above_body (f ∷ gs) (name_read (d ∷ w)) attributes x) got y.1) [
+                    | inl z ↦ right_of (less_than_sign ∷ d ∷ w) TagOutside got z.1 (
                       (t.markup, name_read (d ∷ w), z.0, inl (spelled, present, tag_has d w x spelled present t)),
                       passed d w x spelled present t 9 (omega arith) (λ _. a) (λ _. b) (λ _. c) (λ _. v)
                           (λ z. absurd (omega arith)) (λ z. absurd (omega arith)),
                     )
-                    | inr z ↦ place_faulty d w x spelled attributes present k t
+                    | inr z ↦ place_tells d w x spelled attributes present got t
                         (record { known = a; right_numbers = b; distinct = c; may_close = v; inside = z.0 }) z.1
                   ]
             ]
@@ -572,41 +610,41 @@ module _ (rules : Rules) (f : OpenElement) (gs : List OpenElement) where
       b : list_any (λ a. has_bad_number rules.names a.value) spelled ≡ false
       b = values_right rules.names spelled attributes q
 
-  form_faulty : (d : ℕ) (w : List ℕ) (k : FaultKind)
+  form_tells : (d : ℕ) (w : List ℕ) (got : Step)
       → ends_text rules.scripting f.name (less_than_sign ∷ d ∷ w) ≡ true
       → is_ascii_alphabetic d ≡ true → is_tag_name (leading_run is_tag_name_byte (d ∷ w)) ≡ true
       → (o : TagForm) → form_read_behind (d ∷ w) ≡ o
-      → form_step rules above_body (f ∷ gs) (name_read (d ∷ w)) o ≡ Err k
-      → IsRight (less_than_sign ∷ d ∷ w) k
-  form_faulty d w k m a i no_form q e =
-      right_of (less_than_sign ∷ d ∷ w) MalformedTag k e
+      → form_step rules above_body (f ∷ gs) (name_read (d ∷ w)) o ≡ got
+      → Tells (less_than_sign ∷ d ∷ w) got
+  form_tells d w got m a i no_form q e =
+      right_of (less_than_sign ∷ d ∷ w) MalformedTag got e
       (malformed_tag d w m a (λ n spelled present h. let z = sym q
       ∙ (form_is_read (d ∷ w) n spelled present h).3 in cc))
-  form_faulty d w k m a i (form spelled present x) q e =
+  form_tells d w got m a i (form spelled present x) q e =
       elim (if_then (list_any (λ a. has_unknown_reference rules.names a.value) spelled) (fault UnknownReference) _
-      (Err k) e) [
-        | inl u ↦ right_of (less_than_sign ∷ d ∷ w) UnknownReference k u.1 (
+      got e) [
+        | inl u ↦ right_of (less_than_sign ∷ d ∷ w) UnknownReference got u.1 (
           inr (m, name_read (d ∷ w), spelled, present, tag_has d w x spelled present there, u.0),
           passed d w x spelled present there 5 (omega arith) (λ z. absurd (omega arith)) (λ z. absurd (omega arith))
               (λ z. absurd (omega arith)) (λ z. absurd (omega arith)) (λ z. absurd (omega arith))
               (λ z. absurd (omega arith)),
         )
-        | inr u ↦ values_faulty d w x spelled present k there u.0 (decode_values rules.names spelled) refl u.1
+        | inr u ↦ values_tells d w x spelled present got there u.0 (decode_values rules.names spelled) refl u.1
       ]
     where
       there : TagThere d w x spelled present
       there = record { markup = m; letter = a; called = i; reads_so = q }
 
-  start_faulty : (d : ℕ) (w : List ℕ) (k : FaultKind)
+  start_tells : (d : ℕ) (w : List ℕ) (got : Step)
       → ends_text rules.scripting f.name (less_than_sign ∷ d ∷ w) ≡ true
-      → is_ascii_alphabetic d ≡ true → start_tag_step rules above_body (f ∷ gs) (d ∷ w) ≡ Err k
-      → IsRight (less_than_sign ∷ d ∷ w) k
-  start_faulty d w k m a e =
+      → is_ascii_alphabetic d ≡ true → start_tag_step rules above_body (f ∷ gs) (d ∷ w) ≡ got
+      → Tells (less_than_sign ∷ d ∷ w) got
+  start_tells d w got m a e =
       elim (if_then (is_tag_name (leading_run is_tag_name_byte (d ∷ w)))
       (form_step rules above_body (f ∷ gs) (name_read (d ∷ w)) (form_read_behind (d ∷ w))) (fault MalformedTag)
-      (Err k) e) [
-        | inl u ↦ form_faulty d w k m a u.0 (form_read_behind (d ∷ w)) refl u.1
-        | inr u ↦ right_of (less_than_sign ∷ d ∷ w) MalformedTag k u.1
+      got e) [
+        | inl u ↦ form_tells d w got m a u.0 (form_read_behind (d ∷ w)) refl u.1
+        | inr u ↦ right_of (less_than_sign ∷ d ∷ w) MalformedTag got u.1
             (malformed_tag d w m a (λ n spelled present h. not_both _ (form_is_read (d ∷ w) n spelled present h).0
             u.0))
       ]
@@ -623,41 +661,82 @@ module _ (rules : Rules) (f : OpenElement) (gs : List OpenElement) where
       only_letter true e = refl
       only_letter false e = absurd (cc)
 
-  markup_faulty_at : (d : ℕ) (w : List ℕ) (k : FaultKind)
+  markup_tells_at : (d : ℕ) (w : List ℕ) (got : Step)
       → ends_text rules.scripting f.name (less_than_sign ∷ d ∷ w)
       ≡ true
-      → markup_step rules above_body (f ∷ gs) (d ∷ w) ≡ Err k → IsRight (less_than_sign ∷ d ∷ w) k
-  markup_faulty_at d w k m e = elim (if_then (d == slash) (end_tag_step rules above_body (f ∷ gs) w) _ (Err k) e) [
-    | inl u ↦ (let i = same_byte d slash u.0 in subst (λ (y : ℕ). IsRight (less_than_sign ∷ y ∷ w) k) (sym i)
-        (end_faulty w k (subst (λ (y : ℕ). ends_text rules.scripting f.name (less_than_sign ∷ y ∷ w) ≡ true) i
+      → markup_step rules above_body (f ∷ gs) (d ∷ w) ≡ got → Tells (less_than_sign ∷ d ∷ w) got
+  markup_tells_at d w got m e = elim (if_then (d == slash) (end_tag_step rules above_body (f ∷ gs) w) _ got e) [
+    | inl u ↦ (let i = same_byte d slash u.0 in subst (λ (y : ℕ). Tells (less_than_sign ∷ y ∷ w) got) (sym i)
+        (end_tells w got (subst (λ (y : ℕ). ends_text rules.scripting f.name (less_than_sign ∷ y ∷ w) ≡ true) i
         m) u.1))
-    | inr u ↦ elim (if_then (d == exclamation_mark) (declaration_step rules above_body (f ∷ gs) w) _ (Err k) u.1) [
+    | inr u ↦ elim (if_then (d == exclamation_mark) (declaration_step rules above_body (f ∷ gs) w) _ got u.1) [
       | inl y ↦ (let i =
-          same_byte d exclamation_mark y.0 in subst (λ (z : ℕ). IsRight (less_than_sign ∷ z ∷ w) k)
+          same_byte d exclamation_mark y.0 in subst (λ (z : ℕ). Tells (less_than_sign ∷ z ∷ w) got)
           (sym i)
-          (declaration_faulty w k (subst
+          (declaration_tells w got (subst
           (λ (z : ℕ). ends_text rules.scripting f.name (less_than_sign ∷ z ∷ w) ≡ true) i
           m) y.1))
       | inr y ↦ elim (if_then (d == question_mark) (fault MalformedDeclaration)
           (start_tag_step rules above_body (f ∷ gs) (d ∷ w))
-          (Err k) y.1) [
+          got y.1) [
             | inl z ↦ (let i =
-                same_byte d question_mark z.0 in subst (λ (v : ℕ). IsRight (less_than_sign ∷ v ∷ w) k)
+                same_byte d question_mark z.0 in subst (λ (v : ℕ). Tells (less_than_sign ∷ v ∷ w) got)
                 (sym i)
-                (question_faulty w k (subst (λ (v : ℕ). ends_text rules.scripting f.name (less_than_sign ∷ v ∷ w)
+                (question_tells w got (subst (λ (v : ℕ). ends_text rules.scripting f.name (less_than_sign ∷ v ∷ w)
                 ≡ true) i m) z.1))
-            | inr z ↦ start_faulty d w k m (letter_here d w m u.0 y.0 z.0) z.1
+            | inr z ↦ start_tells d w got m (letter_here d w m u.0 y.0 z.0) z.1
           ]
     ]
   ]
 
-  markup_faulty : (rest : List ℕ) (k : FaultKind) → ends_text rules.scripting f.name rest ≡ true
-      → markup_step rules above_body (f ∷ gs) (drop 1 rest) ≡ Err k → IsRight rest k
-  markup_faulty rest k m e =
+  markup_tells : (rest : List ℕ) (got : Step) → ends_text rules.scripting f.name rest ≡ true
+      → markup_step rules above_body (f ∷ gs) (drop 1 rest) ≡ got → Tells rest got
+  markup_tells rest got m e =
       let h = two_bytes rules.scripting f.name rest m in
-      subst (λ (y : List ℕ). IsRight y k) (sym h.2)
-      (markup_faulty_at h.0 h.1 k (ap (ends_text rules.scripting f.name) (sym h.2) ∙ m)
+      subst (λ (y : List ℕ). Tells y got) (sym h.2)
+      (markup_tells_at h.0 h.1 got (ap (ends_text rules.scripting f.name) (sym h.2) ∙ m)
       (ap (λ (y : List ℕ). markup_step rules above_body (f ∷ gs) (drop 1 y)) (sym h.2) ∙ e))
+
+  -- where no text and no implied `tbody` ends
+  pub step_tells : (run rest : List ℕ) (got : Step)
+      → (holds_raw_text rules.scripting f.name ≡ true → ends_text rules.scripting f.name rest ≡ false
+      → is_empty rest ≡ false → f.children ≡ none) → (rest ≡ [] → 1 < length (f ∷ gs))
+      → (not (is_empty run) && is_text_end rules above_body (f ∷ gs) rest) ≡ false
+      → (f.implied && ends_rows rest) ≡ false
+      → step rules above_body (record { stack = f ∷ gs; run = run; rest = rest }) ≡ got
+      → Tells rest got
+  unfolding step
+  step_tells run rest got c o x y e = elim (if_then (ends_text rules.scripting f.name rest)
+      (markup_step rules above_body (f ∷ gs) (drop 1 rest)) _ got (rw (x, y) at e)) [
+        | inl u ↦ markup_tells rest got u.0 u.1
+        | inr u ↦ elim (if_then (is_empty rest) (fault Unclosed) _ got u.1) [
+          | inl v ↦ unclosed (empty_is rest v.0) v.1
+          | inr v ↦ elim (if_then (holds_raw_text rules.scripting f.name) _
+              (text_step rules above_body (f ∷ gs) run rest) got v.1) [
+                | inl r ↦ raw_tells rest got v.0 u.0 r.0 (c r.0 u.0 v.0)
+                    (text_of rules f.name (up_to (ends_text rules.scripting f.name) rest)) refl r.1
+                | inr r ↦ text_tells run rest got v.0 u.0 r.0 r.1
+              ]
+        ]
+      ]
+    where
+      unclosed : rest ≡ [] → fault Unclosed ≡ got → Tells rest got
+      unclosed n e = subst (λ (y : List ℕ). Tells y got) (sym n)
+          (right_of [] Unclosed got e ((refl, o n), none_below_nothing rules (f ∷ gs)))
+
+  nothing_ends : (run rest : List ℕ) (k : FaultKind)
+      → step rules above_body (record { stack = f ∷ gs; run = run; rest = rest }) ≡ Err k
+      → ((not (is_empty run) && is_text_end rules above_body (f ∷ gs) rest) ≡ false)
+      × ((f.implied && ends_rows rest) ≡ false)
+  unfolding step
+  nothing_ends run rest k e =
+      elim (if_then (not (is_empty run) && is_text_end rules above_body (f ∷ gs) rest) _ _ (Err k) e) [
+        | inl x ↦ absurd (no_fault _ k x.1)
+        | inr x ↦ elim (if_then (f.implied && ends_rows rest) _ _ (Err k) x.1) [
+          | inl y ↦ absurd (no_fault _ k y.1)
+          | inr y ↦ (x.0, y.0)
+        ]
+      ]
 
   -- what a step's fault says is right, and no implied `tbody` ends there
   pub step_faulty : (run rest : List ℕ) (k : FaultKind)
@@ -665,32 +744,5 @@ module _ (rules : Rules) (f : OpenElement) (gs : List OpenElement) where
       → is_empty rest ≡ false → f.children ≡ none) → (rest ≡ [] → 1 < length (f ∷ gs))
       → step rules above_body (record { stack = f ∷ gs; run = run; rest = rest }) ≡ Err k
       → IsRight rest k × ((f.implied && ends_rows rest) ≡ false)
-  unfolding step
-  step_faulty run rest k c o e =
-      elim (if_then (not (is_empty run) && is_text_end rules above_body (f ∷ gs) rest) _ _ (Err k) e) [
-        | inl x ↦ absurd (no_fault _ k x.1)
-        | inr x ↦ elim (if_then (f.implied && ends_rows rest) _ _ (Err k) x.1) [
-          | inl y ↦ absurd (no_fault _ k y.1)
-          | inr y ↦ (
-            elim (if_then (ends_text rules.scripting f.name rest)
-                (markup_step rules above_body (f ∷ gs) (drop 1 rest)) _
-                (Err k) y.1) [
-                  | inl u ↦ markup_faulty rest k u.0 u.1
-                  | inr u ↦ elim (if_then (is_empty rest) (fault Unclosed) _ (Err k) u.1) [
-                    | inl v ↦ unclosed (empty_is rest v.0) v.1
-                    | inr v ↦ elim (if_then (holds_raw_text rules.scripting f.name) _
-                        (text_step rules above_body (f ∷ gs) run rest) (Err k) v.1) [
-                          | inl r ↦ raw_faulty rest k v.0 u.0 r.0 (c r.0 u.0 v.0)
-                              (text_of rules f.name (up_to (ends_text rules.scripting f.name) rest)) refl r.1
-                          | inr r ↦ text_faulty run rest k v.0 u.0 r.0 r.1
-                        ]
-                  ]
-                ],
-            y.0,
-          )
-        ]
-      ]
-    where
-      unclosed : rest ≡ [] → fault Unclosed ≡ Err k → IsRight rest k
-      unclosed n e = subst (λ (y : List ℕ). IsRight y k) (sym n)
-          (right_of [] Unclosed k e ((refl, o n), none_below_nothing rules (f ∷ gs)))
+  step_faulty run rest k c o e = let p = nothing_ends run rest k e in
+      (step_tells run rest (Err k) c o p.0 p.1 e, p.1)

@@ -33,7 +33,7 @@ around : (k v r : List ℕ) → (32 ∷ (k ++ (61 ∷ 34 ∷ []))) ++ (v ++ (34 
     ++ (k ++ ((61 ∷ (34 ∷ (v ++ 34 ∷ []))) ++ r))
 around k v r = simp append_assoc
 
--- however a tag was markup_of
+-- however a tag was written
 pub tree_keys : (spelled : List AttributePair) (present : Bool) (s : List ℕ) → IsTagRest spelled present s
     → AreTreeKeys (attribute_names spelled)
 tree_keys [] present s h = tt

@@ -78,6 +78,39 @@ stops_not z n b s after (inr w) e =
     (λ t. let f = rw t at e in rw t (no_end_yet n b s h.0 (title_lacks z n t) f))
     (λ t. let f = rw t at e in rw t (no_markup_yet b s h.0 f)))
 
+-- nor for `&`
+no_end_name-and : (ps s t : List ℕ) → lacks 38 ps ≡ true → goes_on_with_name ps s ≡ false
+    → goes_on_with_name ps (s ++ (38 ∷ t)) ≡ false
+no_end_name-and [] [] t l e = refl
+no_end_name-and [] (b ∷ s) t l e = e
+no_end_name-and (p ∷ ps) [] t l e =
+    let k = and_true (not (p == 38)) (lacks 38 ps) l in
+    let q : (38 == p) ≡ false = other p (not_true (p == 38) k.0) in rw q refl
+  where
+    other : (p : ℕ) → (p == 38) ≡ false → (38 == p) ≡ false
+    other p e = grind (arith, nat_tests)
+no_end_name-and (p ∷ ps) (b ∷ s) t l e =
+    let k = and_true (not (p == 38)) (lacks 38 ps) l in
+    test (to_ascii_lowercase b == p) (λ q. let w = rw q at e in rw q (no_end_name-and ps s t k.1 w))
+    (λ q. rw q refl)
+
+no_end_yet-and : (n : List ℕ) (b : ℕ) (s t : List ℕ) → lacks 38 n ≡ true → begins_own_end n (b ∷ s) ≡ false
+    → begins_own_end n (b ∷ (s ++ (38 ∷ t))) ≡ false
+no_end_yet-and n b [] t l e = rw (and_false (b == 60)) refl
+no_end_yet-and n b (c ∷ s) t l e =
+    test ((b == 60) && (c == 47)) (λ q. let w = rw q at e in rw q (no_end_name-and n s t l w)) (λ q. rw q refl)
+
+no_markup_yet-and : (b : ℕ) (s t : List ℕ) → begins_markup (b ∷ s) ≡ false
+    → begins_markup (b ∷ (s ++ (38 ∷ t))) ≡ false
+no_markup_yet-and b [] t e = and_false (b == 60)
+no_markup_yet-and b (c ∷ s) t e = e
+
+pub stops_not-and : (z : Bool) (n : List ℕ) (b : ℕ) (s t : List ℕ) → ends_text z n (b ∷ s) ≡ false
+    → ends_text z n (b ∷ (s ++ (38 ∷ t))) ≡ false
+stops_not-and z n b s t e = test (holds_text_alone z n)
+    (λ q. let f = rw q at e in rw q (no_end_yet-and n b s t (text_alone_passes (lacks 38) z n q refl) f))
+    (λ q. let f = rw q at e in rw q (no_markup_yet-and b s t f))
+
 pub run_head : (stop : List ℕ → Bool) (b : ℕ) (s : List ℕ) → up_to stop (b ∷ s) ≡ b ∷ s
     → (stop (b ∷ s) ≡ false) × (up_to stop s ≡ s)
 run_head stop b s e = elim (if_then (stop (b ∷ s)) [] (b ∷ up_to stop s) (b ∷ s) e) [

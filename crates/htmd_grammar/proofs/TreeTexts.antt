@@ -89,10 +89,10 @@ module _ (rules : Rules) where
   node_no_title p (element n attributes ks) c last s e h = no_text_alone rules.scripting p c n h.0
 
   pub stops_after : (p : List ℕ) (t : ValueTree) (ts : ValueForest) (c : Context) (last : Bool) (s after : List ℕ)
-      → Apart t ts → ReadsForest rules (p ∷ c) last ts s → Stops rules.scripting p after
+      → Apart t ts → ReadsForest rules (p ∷ c) last ts s → (ts ≡ none → Stops rules.scripting p after)
       → IsTextTree t ≡ true
       → Stops rules.scripting p (s ++ after)
-  stops_after p t none c last s after a h st e = rw h st
+  stops_after p t none c last s after a h st e = rw h (st refl)
   stops_after p (document ks) (more (text v) ts) c last s after a h st e = absurd (cc)
   stops_after p doctype (more (text v) ts) c last s after a h st e = absurd (cc)
   stops_after p t (more (document ks) ts) c last s after a h st e = absurd (h.4)

@@ -1,4 +1,4 @@
--- In any context a text denotes at most one list of trees.
+-- In any context that is not empty a text denotes at most one list of trees.
 use Rattle.std.proofs.Common.{Bool, Err, List, Ok, [], ap, codes, false, inr, map, refl, subst, sym, true, ℕ, ◌++◌, ◌∙◌}
 use Rattle.std.proofs.Common.{◌∷◌, ◌≡◌}
 use Rattle.std.specs.Char.{to_ascii_lowercase}

@@ -1,4 +1,5 @@
--- A beginning of a text that is whole pieces, with the elements that are open at its end.
+-- A beginning of a text that reads as whole pieces by itself, with the elements that are open at its end. It may cut
+-- a character or reference of the text in two (`&am` is itself a text): no refusal stands there (`faults_are_one`).
 use Rattle.std.specs.Prelude.{◌≡◌, ◌⊎◌, ℕ, ◌≤◌, Bool, true, false, ◌&&◌, if◌then◌else◌, List, [], ◌∷◌, ◌++◌, length}
 use Rattle.std.specs.Prelude.{codes}
 use Rattle.htmd_grammar.specs.ValueTrees.{text, ValueForest, none, more}
@@ -29,7 +30,7 @@ module _ (rules : Rules) (outer : Context) where
   abbrev pub IsFront : Bool → List OpenElement → List ℕ → Type 0
   IsFront last [] s = ⊥
   IsFront last (f ∷ []) s = (f.implied ≡ false) × ReadsForest rules (f.name ∷ outer) last f.children s
-      × (f.name ≡ codes "body")
+      × (f.name ≡ codes "body") × (f.attributes ≡ [])
   IsFront last (f ∷ g ∷ fs) s =
       (before tag inner : List ℕ) × (s ≡ before ++ (tag ++ inner)) × IsFront (ends_at f) (g ∷ fs) before
       × Opens (names_of outer (g ∷ fs)) f tag
@@ -60,6 +61,8 @@ end_tags (f ∷ g ∷ fs) = end_tag f.name ++ end_tags (g ∷ fs)
 pub record IsGoodFront (rules : Rules) (f : OpenElement) (fs : List OpenElement) (before behind : List ℕ) : Type 0
   where
     pub pieces : IsFront rules above_body (ends_rows behind) (f ∷ fs) before
+    -- a row has begun an implied `tbody`
+    pub rows : f.implied ≡ true → begins_with_row f.children ≡ true
     -- an implied `tbody` that ends there is closed
     pub no_more_rows : (f.implied && ends_rows behind) ≡ false
     -- a line feed that is dropped stands before the place

@@ -97,3 +97,9 @@ abbrev pub RestIsAnEnd : Rules → Type 0
 RestIsAnEnd rules =
     (s : List ℕ) (st : State) → Reaches rules above_body (started s) st
     → (taken : List ℕ) × (s ≡ taken ++ st.rest)
+
+-- A text has at most one right place and kind of a refusal.
+abbrev pub FaultsAreOne : Rules → Type 0
+FaultsAreOne rules =
+    (s : List ℕ) (place other : ℕ) (kind another : FaultKind) → IsFault rules s place kind
+    → IsFault rules s other another → (place ≡ other) × (kind ≡ another)

@@ -1,5 +1,6 @@
 -- The strict grammar, in reading order: value trees and what they are written as; the rules; characters, references,
--- tags, comments, raw content, places, the relation, the document; last what no public clause cites.
+-- tags, comments, raw content, places, the relation, the document; what is read back; the steps of a reader and its
+-- open elements; fronts, faults and their names; the laws; last what the serialiser's own functions alone cite.
 pub mod ValueTrees
 pub mod Serialisation
 pub mod RawBlocks

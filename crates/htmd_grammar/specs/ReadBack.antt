@@ -1,5 +1,5 @@
--- What the serialiser writes of an element of a tree that was read, is read as that element, also with references in
--- place of some line feeds.
+-- What the serialiser writes of a plain element of a tree that was read is read as that element, also with references
+-- in place of some line feeds. Plain: without carriage returns, comments, `pre`, `textarea` and raw text elements.
 use Rattle.std.specs.Prelude.{◌≡◌, ◌⊎◌, ℕ, Bool, true, false, not, ◌&&◌, ◌||◌, List, [], ◌∷◌, codes}
 use Rattle.std.specs.List.{list_all}
 use Rattle.std.specs.Str.{IsUtf8}
@@ -16,7 +16,7 @@ use Rattle.htmd_grammar.specs.RawBlocks.{raw_block, RefersToLineFeeds}
 
 -- ---- which subtrees
 
--- the element's texts are markup_of as they are, or its first line feed is dropped
+-- the element's texts are written as they are, or its first line feed is dropped
 unfoldable pub is_special : List ℕ → Bool
 is_special name = is_raw_text name || is_among (codes "pre" ∷ codes "textarea" ∷ []) name
 
@@ -73,8 +73,7 @@ pub record IsPlainElement (c : Context) (ts : ValueForest) (d : Context) (t : Va
   pub plain : is_plain t ≡ true
 
 -- Of trees that were read in some context: the serialisation of a plain element, with references in place of some of
--- its
--- line feeds, denotes that element alone, in the context of its ancestors.
+-- its line feeds, denotes that element alone, in the context of its ancestors.
 abbrev pub ReadsBack : Rules → Type 0
 ReadsBack rules =
     (c : Context) (s : List ℕ) (ts : ValueForest) → reads rules c s ts

@@ -1,5 +1,4 @@
--- A start tag taken apart from left to right. This and what follows serves proofs and the reader, and is no part of the
--- grammar.
+-- A start tag taken apart from left to right, for the steps of a reader. It is no part of the grammar.
 use Rattle.std.specs.Prelude.{ℕ, zero, suc, Bool, true, false, not, ◌&&◌, ◌==◌, if◌then◌else◌, List, [], ◌∷◌, map, drop}
 use Rattle.std.specs.Char.{to_ascii_lowercase}
 use Rattle.htmd_text.specs.Characters.{quotation_mark, apostrophe, slash, equals_sign, greater_than_sign}

@@ -4,39 +4,52 @@ ghost use Rattle.htmd_grammar.specs.FaultNames.{fault_name};
 
 use std::fmt;
 
-/// The kind of a refusal: what stands at its place. Where two fit the same piece, it is the earlier one here.
+/// The kind of a refusal: what stands at its place. Of two that fit the same piece it is the one with
+/// the lower number.
 #[derive(Clone, Copy, Debug, PartialEq, Eq)]
 pub enum FaultKind {
     /// U+0000 stands in the text; the place is the first one.
-    Nul,
+    Nul = 1,
     /// `<` and a letter, or `</`, that begins no tag.
-    MalformedTag,
+    MalformedTag = 2,
     /// `<!--` that begins no comment.
-    MalformedComment,
+    MalformedComment = 3,
     /// Any other `<!` that is no doctype in its place, or `<?`.
-    MalformedDeclaration,
+    MalformedDeclaration = 4,
     /// A character reference by a name that isn't known; in a tag the place is the tag's `<`.
-    UnknownReference,
+    UnknownReference = 5,
     /// `&#` that begins no character reference; in a tag the place is the tag's `<`.
-    BadNumber,
+    BadNumber = 6,
     /// A start tag with one attribute name twice.
-    DuplicateAttribute,
+    DuplicateAttribute = 7,
     /// A start tag with `/`, of an element that isn't void.
-    SelfClosing,
+    SelfClosing = 8,
     /// A tag named `html`, `head`, `body`, `frameset`, `frame`, `template`, `plaintext`, `listing` or `image`.
-    TagOutside,
+    TagOutside = 9,
     /// A start tag of an element that may not stand there.
-    NotAllowedHere,
+    NotAllowedHere = 10,
     /// An end tag that closes no element.
-    StrayEndTag,
+    StrayEndTag = 11,
     /// Text other than white space between the parts of a table.
-    StrayText,
+    StrayText = 12,
     /// The text ends with an element open; the place is the text's length.
-    Unclosed,
+    Unclosed = 13,
     /// The content of a `script` that holds `<!--` and later `<script`; the place is its start.
-    ScriptEscape,
+    ScriptEscape = 14,
     /// A node too many levels below the Document.
-    TooDeep,
+    TooDeep = 15,
+}
+
+impl FaultKind {
+    ghost use Rattle.std.specs.Prelude.{◌≡◌};
+    ghost use Rattle.htmd_grammar.specs.Faults.{number_of};
+
+    /// The number of the kind, from 1.
+    pub fn number(self) -> u8
+        ensures { result ≡ number_of self }
+    {
+        self as u8
+    }
 }
 
 /// The name of the kind.
