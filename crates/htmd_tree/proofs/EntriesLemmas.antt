@@ -1,16 +1,22 @@
 -- What an addition does to a tree as it lies in memory.
-use Rattle.std.proofs.Common.{◌≡◌, ℕ, ◌+◌, ◌<◌, true, false, cond, eqb, List, [], ◌∷◌, ◌++◌, length}
-use Rattle.std.proofs.Common.{Option, Some, get_or, set}
+use Rattle.std.proofs.Common.{◌≡◌, ℕ, zero, suc, ◌+◌, ◌<◌, true, false, cond, eqb, List, [], ◌∷◌, ◌++◌, length}
+use Rattle.std.proofs.Common.{Option, Some, All, get_or, set}
 use Rattle.std.proofs.Common.{refl, sym, ap, ◌∙◌, subst, arith, inl, inr, length-set, get_or-set_same, get_or-set_other}
 use Rattle.std.proofs.Math.Seq.{map-set_same}
 use Rattle.std.proofs.lemmas.Bool.{cases_eq, cases_lt}
 use Rattle.std.proofs.lemmas.Bool.Decides.{nat_tests}
 use Rattle.std.proofs.lemmas.List.{get_or_default, get_or_append_left, get_or_push, length_push, length-map, get_or-map}
 use Rattle.std.proofs.lemmas.List.{map_push, append-nil}
+use Rattle.std.proofs.lemmas.Str.{IsUtf8-string_bytes}
+use Rattle.std.specs.Str.{IsUtf8}
+use Rattle.htmd_grammar.specs.ValueTrees.{AttributePair}
+use Rattle.htmd_tree.specs.declared.tree.Attribute.{Attribute}
 use Rattle.htmd_tree.specs.declared.tree.Entry.{Entry}
+use Rattle.htmd_tree.specs.declared.tree.NodeData.{NodeData}
+use Rattle.htmd_tree.specs.declared.tree.NodeData.TheVariants.{Document, Doctype, Text, Comment, Element}
 use Rattle.htmd_tree.specs.Items.{Item, document_item, is_child, children_of, holds_children, data_at, depth_at}
-use Rattle.htmd_tree.specs.Items.{new_item, greatest_depth, IsTree}
-use Rattle.htmd_tree.specs.Views.{data_of}
+use Rattle.htmd_tree.specs.Items.{new_item, greatest_depth, IsTree, HoldsText, HoldTexts}
+use Rattle.htmd_tree.specs.Views.{data_of, pairs_of}
 use Rattle.htmd_tree.specs.Entries.{parent_of, item_of, items_of, IsStored}
 use Rattle.htmd_tree.proofs.ItemsLemmas.{children_from-push, children_from-none, is_child-before, IsTree-added}
 
@@ -141,3 +147,22 @@ last_item entries i read last l here parent deeper =
     λ o. record { parent = o; depth = last.depth; node_data = data_of last.data } in
     let by_depth : ℕ → Item = λ n. record { parent = Some i; depth = n; node_data = data_of last.data } in
     ap by_parent named ∙ ap by_depth (deeper ∙ ap (λ n. n + 1) depth)
+
+-- ---- strings are text
+
+values_hold : (attributes : List Attribute) → All (λ (a : AttributePair). IsUtf8 a.value) (pairs_of attributes)
+values_hold [] k d l = absurd (omega arith)
+values_hold (a ∷ attributes) zero d l = IsUtf8-string_bytes a.value
+values_hold (a ∷ attributes) (suc k) d l = values_hold attributes k d (omega arith)
+
+node_holds : (node : NodeData) → HoldsText (data_of node)
+node_holds Document = tt
+node_holds Doctype = tt
+node_holds (Text s) = IsUtf8-string_bytes s
+node_holds (Comment s) = tt
+node_holds (Element name attributes) = values_hold attributes.items
+
+pub texts_hold : (entries : List Entry) → HoldTexts (items_of entries)
+texts_hold [] k d l = absurd (omega arith)
+texts_hold (e ∷ entries) zero d l = node_holds e.data
+texts_hold (e ∷ entries) (suc k) d l = texts_hold entries k d (omega arith)

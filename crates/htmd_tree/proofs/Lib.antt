@@ -1,5 +1,5 @@
 -- What an addition changes; how the value tree and the ancestors of a node are made of those of others; what a document
--- that is laid out denotes; how a node is written.
+-- that is laid out denotes; how a node is written; how the reader's calls take the grammar's steps; bodies and lines.
 pub mod ItemsLemmas
 pub mod EntriesLemmas
 pub mod NumberedTreesLemmas
@@ -29,4 +29,7 @@ pub mod TextRunsLemmas
 pub mod LineEndsLemmas
 pub mod DecodedValuesLemmas
 pub mod TextsLemmas
+pub mod BodiesLemmas
+pub mod BodyLawsLemmas
+pub mod LinesLemmas
 mod Examples

@@ -186,7 +186,7 @@ part_shorter s name value rest e =
 -- ---- the form of a tag
 
 -- the number of attributes that may be read doesn't matter, once it is no less than that of characters
-form_same : (j k : ℕ) (s : List ℕ) → length s < j → length s < k → form_within j s ≡ form_within k s
+pub form_same : (j k : ℕ) (s : List ℕ) → length s < j → length s < k → form_within j s ≡ form_within k s
 form_same zero k s a b = absurd (omega arith)
 form_same (suc j) zero s a b = absurd (omega arith)
 form_same (suc j) (suc k) s a b =

@@ -1,6 +1,7 @@
 -- A tree as its callers see it: its nodes in the order in which they were added, numbered from 0.
 use Rattle.std.specs.Prelude.{◌≡◌, ℕ, suc, ◌+◌, ◌<◌, ◌≤◌, Bool, true, false, ◌==◌, if◌then◌else◌, List, [], ◌∷◌, length}
-use Rattle.std.specs.Prelude.{Option, Some, None, IsSome, slice_index_or, Contains, codes}
+use Rattle.std.specs.Prelude.{Option, Some, None, IsSome, slice_index_or, Contains, All, codes}
+use Rattle.std.specs.Str.{IsUtf8}
 use Rattle.htmd_grammar.specs.ValueTrees.{AttributePair}
 
 -- what a node is, apart from where it stands
@@ -90,3 +91,14 @@ pub record IsTree (items : List Item) : Type 0 where
 pub data IsBelow (items : List Item) (node : ℕ) : ℕ → Type 0 where
   child : {d : ℕ} → Contains (children_of items node) d → IsBelow items node d
   deeper : {p d : ℕ} → IsBelow items node p → Contains (children_of items p) d → IsBelow items node d
+
+-- texts and the values of attributes are UTF-8, as all strings are
+abbrev pub HoldsText : Data → Type 0
+HoldsText document_node = Unit {0}
+HoldsText doctype_node = Unit {0}
+HoldsText (text_node s) = IsUtf8 s
+HoldsText (comment_node s) = Unit {0}
+HoldsText (element_node name attributes) = All (λ (a : AttributePair). IsUtf8 a.value) attributes
+
+abbrev pub HoldTexts : List Item → Type 0
+HoldTexts items = All (λ (item : Item). HoldsText item.node_data) items

@@ -9,6 +9,9 @@ pub mod NumberedTrees
 pub mod Ancestors
 pub mod Views
 pub mod Layout
+pub mod Bodies
+pub mod BodyLaws
+pub mod Lines
 pub mod Parts
 pub mod Entries
 pub mod DecodedCharacters

@@ -1,20 +1,18 @@
 //! Trees of HTML nodes. A tree is its nodes in order of addition; a node denotes a value tree and a
 //! list of ancestors, and nodes are only added, each as the last child of its parent. A node is
 //! written as HTML by the serialisation of its value tree, and as a block of raw HTML, where
-//! references stand for the line ends that would make blank lines.
+//! references stand for the line ends that would make blank lines. `body_of` takes the body from a whole
+//! page, and `line_and_column` says where a place stands.
 #![tactic(auto)]
 
 pub mod laws;
+mod lines;
 mod reader;
 mod serialiser;
 mod tree;
 
 pub use htmd_grammar::FaultKind;
-pub use reader::{ReadError, read_html};
+pub use lines::line_and_column;
+pub use reader::{ReadError, body_of, read_html};
 pub use serialiser::{is_void, push_end_tag, push_start_tag, raw_block, serialize};
 pub use tree::{Attribute, NodeData, NodeId, Tree, TreeError};
-
-#[cfg(test)]
-mod reader_tests;
-#[cfg(test)]
-mod tests;

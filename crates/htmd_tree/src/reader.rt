@@ -27,6 +27,7 @@ ghost use Rattle.htmd_tree.specs.declared.reader.Stop.TheVariants.{Memory, Refus
 mod attribute_values;
 mod attributes;
 mod beginning;
+mod body;
 mod comment_texts;
 mod comments;
 mod contents;
@@ -48,6 +49,7 @@ mod values;
 
 use crate::reader::places::Place;
 use crate::tree::{Attribute, MAX_DEPTH, NodeData, NodeId, Tree, TreeError};
+pub use body::body_of;
 use htmd_grammar::FaultKind;
 use htmd_grammar::laws::{faults_are_right, steps_read_the_grammar};
 use std::alloc::{AllocError, AllocFailed, Global};

@@ -4,7 +4,7 @@ ghost use Rattle.std.specs.Prelude.{IsErrOf, IsOkUnless, MatchResult};
 ghost use Rattle.std.specs.Option.{option_copied};
 ghost use Rattle.htmd_tree.specs.Items.{IsTree, data_at, parent_at, depth_at, children_of, holds_children, tag_of};
 ghost use Rattle.htmd_tree.specs.Items.{new_item, document_item, doctype_node, text_node, comment_node, element_node};
-ghost use Rattle.htmd_tree.specs.Items.{greatest_depth};
+ghost use Rattle.htmd_tree.specs.Items.{greatest_depth, HoldTexts};
 ghost use Rattle.htmd_tree.specs.Views.{data_of, pairs_of};
 ghost use Rattle.htmd_tree.specs.declared.tree.TreeError.TheVariants.{Memory};
 
@@ -16,7 +16,7 @@ use thiserror::Error;
 pub(crate) const MAX_DEPTH: usize = 1024;
 
 /// A node of a tree, by its number in order of addition.
-#[derive(Debug, Clone, Copy, PartialEq, Eq)]
+#[derive(Debug, Clone, Copy, PartialEq, Eq, PartialOrd, Ord)]
 pub struct NodeId {
     index: usize,
 }
@@ -144,10 +144,11 @@ impl Tree {
         id.index < self.entries.len()
     }
 
-    /// The Document.
+    /// The Document. All texts and values of the tree are UTF-8.
     pub fn root(&self) -> NodeId
         ensures value { result ≡ 0 }
         ensures tree { IsTree self.now }
+        ensures texts { HoldTexts self.now }
     {
         let _entries = &self.entries;
         NodeId { index: 0 }

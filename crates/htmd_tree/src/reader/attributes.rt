@@ -135,7 +135,7 @@ fn behind_slash(text: &str) -> Part<'_>
 }
 
 /// The next attribute, or the end of the tag.
-fn next_part(text: &str) -> Part<'_>
+pub(crate) fn next_part(text: &str) -> Part<'_>
     ensures { part_of result ≡ spec.next_part text.now }
 {
     let (gap, behind) = split_run(text, Class::WhiteSpace);
@@ -224,54 +224,4 @@ pub(crate) fn are_distinct(alloc: Global, attributes: &[Attribute]) -> Result<bo
         rest = others;
     }
     Ok(true)
-}
-
-#[cfg(test)]
-mod tests {
-    use super::*;
-    use std::test::Fail;
-
-    #[test]
-    fn forms(rt: HostRuntime) -> Result<(), Fail> {
-        for (text, count, slash, rest) in [
-            (">x", 0, false, "x"),
-            ("/>", 0, true, ""),
-            (" \n/>", 0, true, ""),
-            (" a>", 1, false, ""),
-            (" a b\tc >d", 3, false, "d"),
-            (" a='>' b=\">\">", 2, false, ""),
-            (" a = b/>c", 1, false, "c"),
-            (" a= 'b'/>", 1, true, ""),
-            (" é=é\u{2028}>", 1, false, ""),
-        ] {
-            let Some(form) = tag_form(rt.alloc(), text)? else {
-                return Err("no form".into());
-            };
-            assert_eq!(rt; form.attributes.len(), count);
-            assert_eq!(rt; form.slash, slash);
-            assert_eq!(rt; form.rest, rest);
-        }
-        Ok(())
-    }
-
-    #[test]
-    fn no_forms(rt: HostRuntime) -> Result<(), Fail> {
-        for text in [
-            "",
-            " ",
-            "a>",
-            "/ >",
-            " =>",
-            " a",
-            " a=>",
-            " a='b",
-            " a='b'c>",
-            " a=b\"c>",
-            " a\u{80}>",
-            " \"a\">",
-        ] {
-            assert!(rt; tag_form(rt.alloc(), text)?.is_none());
-        }
-        Ok(())
-    }
 }

@@ -13,7 +13,7 @@ fn is_tag_name_byte(byte: u8) -> bool
 }
 
 /// Whether the tag name that stands here is this one, which is in lower case.
-fn is_tag_name(bytes: &[u8], name: &[u8]) -> bool
+pub(super) fn is_tag_name(bytes: &[u8], name: &[u8]) -> bool
     ensures { result ≡ bytes_eq
         (map to_ascii_lowercase (classes.leading_run classes.is_tag_name_byte bytes.now)) name.now }
 {

@@ -1,7 +1,7 @@
 -- What the loop of `greatest_depth` keeps.
 use Rattle.std.proofs.Common.{◌<◌, length, IsTrue}
 use Rattle.htmd_tree.specs.Items.{data_at, holds_children}
-use Rattle.htmd_tree.proofs.tests.greatest_depth.Given as goal
+use Rattle.htmd_tree_tests.proofs.trees.greatest_depth.Given as goal
 
 -- the last node is there, and takes a child
 abbrev pub invariant-loop : goal.invariant-loop

@@ -1,5 +1,5 @@
 //! What no clause says: that calls succeed where there is memory, and small serialisations, written by hand.
-use super::*;
+use htmd_tree::*;
 use std::test::Fail;
 
 #[test]

@@ -1,5 +1,5 @@
 //! Small texts and what they denote, or where and how they are refused, written by hand.
-use super::*;
+use htmd_tree::*;
 use std::alloc::Global;
 use std::test::Fail;
 
@@ -82,6 +82,49 @@ fn accepted(rt: HostRuntime) -> Result<(), Fail> {
     ] {
         let want = format!(in alloc; "<html><head></head><body>{want}</body></html>")?;
         assert_eq!(rt; written(alloc, html)?.as_str(), want.as_str());
+    }
+    Ok(())
+}
+
+// What may stand behind a tag's name.
+#[test]
+fn tag_forms(rt: HostRuntime) -> Result<(), Fail> {
+    let alloc = rt.alloc();
+    for (html, want) in [
+        ("<br>x", "<br>x"),
+        ("<br \n/>", "<br>"),
+        ("<br a>", "<br a=\"\">"),
+        ("<br a b\tc >d", "<br a=\"\" b=\"\" c=\"\">d"),
+        ("<br a='>' b=\">\">", "<br a=\">\" b=\">\">"),
+        ("<br a = b/>c", "<br a=\"b/\">c"),
+        ("<br a= 'b'/>", "<br a=\"b\">"),
+        ("<br é=é\u{2028}>", "<br é=\"é\u{2028}\">"),
+    ] {
+        let want = format!(in alloc; "<html><head></head><body>{want}</body></html>")?;
+        assert_eq!(rt; written(alloc, html)?.as_str(), want.as_str());
+    }
+    Ok(())
+}
+
+// What may not stand there.
+#[test]
+fn malformed_tags(rt: HostRuntime) -> Result<(), Fail> {
+    for html in [
+        "<br",
+        "<br ",
+        "<br/ >",
+        "<br =>",
+        "<br a",
+        "<br a=>",
+        "<br a='b",
+        "<br a='b'c>",
+        "<br a=b\"c>",
+        "<br a\u{80}>",
+        "<br \"a\">",
+    ] {
+        let kind = FaultKind::MalformedTag;
+        let refusal = ReadError::Refused { place: 0, kind };
+        assert_eq!(rt; read_html(rt.alloc(), html, true).err(), Some(refusal));
     }
     Ok(())
 }
