@@ -16,7 +16,7 @@ use Rattle.htmd.specs.Handling.{OutcomeView, final_result, children_too}
 use Rattle.htmd.specs.OrdinaryText.{pre}
 use Rattle.htmd.specs.Choice.{indexes, handler_at, handlers_at}
 use Rattle.htmd.specs.Groups.{groups_of}
-use Rattle.htmd.specs.Outputs.{Conversion, Output, push_text, Context, context_of, Writes, is_pure}
+use Rattle.htmd.specs.Outputs.{Conversion, Output, push_text, Context, context_of, Writes, is_markdown_alone, is_guarded}
 use Rattle.htmd.specs.Children.{is_block_tree, before_child, trim_after, write_children, write_groups, trims_first}
 use Rattle.htmd.specs.Children.{content_alone, descendant_tree}
 use Rattle.htmd.specs.Elements.{Occurrence, Answer, content_of, raw_element, raw_answer, finish_answer, after_fallback}
@@ -159,10 +159,10 @@ module _ (at : Occurrence) (g : Grows at.write) where
   grows-plan handler definitions (contents_of_each nodes) rest h =
       beginning-trans (grows-contents nodes definitions) (grows-each handler (contents_alone at nodes definitions))
 
-  grows-first : (handlers : List HandlerMeaning) (definitions : List (List ℕ))
+  pub grows-first : (handlers : List HandlerMeaning) (definitions : List (List ℕ))
       → IsBeginning definitions (first_answer handlers at definitions).definitions
   grows-first [] definitions =
-      grows-either (is_pure at.conversion.config.options) definitions _ _ (grows-content definitions)
+      grows-either (is_markdown_alone at.conversion.config.options) definitions _ _ (grows-content definitions)
       (grows-raw definitions)
   grows-first (handler ∷ handlers) definitions =
       grows-plan handler definitions (handler.plan at.view) (first_answer handlers at definitions)
@@ -176,23 +176,24 @@ module _ (at : Occurrence) (g : Grows at.write) where
 
 -- ---- a node
 
-pub result-definitions : (out : Output) (whole : Bool) (r : Option ResultView) (definitions : List (List ℕ))
-    → (with_result out whole r definitions).definitions ≡ definitions
-result-definitions out whole None definitions = refl
-result-definitions out whole (Some r) definitions = refl
+pub result-definitions : (guarded : Bool) (out : Output) (whole : Bool) (r : Option ResultView)
+    (definitions : List (List ℕ)) → (with_result guarded out whole r definitions).definitions ≡ definitions
+result-definitions guarded out whole None definitions = refl
+result-definitions guarded out whole (Some r) definitions = refl
 
 grows-node : (write : Writes) → Grows write → (conversion : Conversion) → Grows (write_node write conversion)
 grows-node write g conversion (document id children) context out = grows-groups write g _ children out
 grows-node write g conversion (doctype id) context out = beginning-refl out.definitions
 grows-node write g conversion (text id s) context out = beginning-refl out.definitions
 grows-node write g conversion (comment id s) context out =
-    grows-if (is_pure conversion.config.options) out.definitions out (push_text out (comment_of s))
+    grows-if (is_markdown_alone conversion.config.options) out.definitions out (push_text out (comment_of s))
     (beginning-refl out.definitions) (beginning-refl out.definitions)
 grows-node write g conversion (element id name attributes children) context out =
     let at = occurrence_at write conversion id (record { tag = name; attributes = attributes } ∷ context.ancestors)
     children in
     beginning-to (grows-answer at g 0 name out.definitions)
-    (sym (result-definitions out (pre context.ancestors) (answer_after 0 name at out.definitions).result _))
+    (sym (result-definitions (is_guarded conversion.config.options) out (pre context.ancestors)
+    (answer_after 0 name at out.definitions).result _))
 
 pub grows-within : (n : ℕ) (conversion : Conversion) → Grows (written_within n conversion)
 unfolding written_within

@@ -1,13 +1,15 @@
 -- The language of a code block, one class or one attribute after another.
-use Rattle.std.proofs.Common.{◌≡◌, ℕ, ◌+◌, ◌<◌, Bool, List, length, get_or, drop, Some, None}
-use Rattle.std.proofs.Common.{true, false, cond, sym, ap, ◌∙◌, string_bytes, codes, ◌&&◌}
+use Rattle.std.proofs.Common.{◌≡◌, ℕ, ◌+◌, ◌<◌, Bool, List, ◌∷◌, length, get_or, drop, Option, Some, None}
+use Rattle.std.proofs.Common.{true, false, cond, if◌then◌else◌, refl, sym, ap, ◌∙◌, string_bytes, codes, ◌&&◌, []}
 use Rattle.std.specs.List.{list_all}
 use Rattle.std.specs.Option.{option_or}
 use Rattle.std.specs.Str.{bytes_eq}
 use Rattle.htmd_tree.specs.declared.tree.Attribute.{Attribute}
+use Rattle.htmd_tree.specs.Items.{Item}
 use Rattle.htmd_tree.specs.Views.{pairs_of}
 use Rattle.htmd.proofs.Steps.{stepped}
-use Rattle.htmd.specs.Code.{language_of_class, first_language, classes_of, language_of}
+use Rattle.htmd.specs.ElementViews.{is_tag_among, tag_at}
+use Rattle.htmd.specs.Code.{language_of_class, first_language, classes_of, language_of, language_at, language_of_pre}
 
 pub language-here : (all : List (List ℕ)) (k : ℕ) (class language : List ℕ) → k < length all
     → class ≡ get_or all k class
@@ -42,3 +44,14 @@ class-later all k a l here is =
 pub all-step : (test : ℕ → Bool) (all : List ℕ) (k x : ℕ) → k < length all → x ≡ get_or all k x
     → list_all test (drop k all) ≡ (test x && list_all test (drop (k + 1) all))
 all-step test all k x l here = stepped (list_all test) all k x l here
+
+-- the node that was seen, before the others
+abbrev pub seen_before : Option ℕ → List ℕ → List ℕ
+seen_before None nodes = nodes
+seen_before (Some node) nodes = node ∷ nodes
+
+-- the language that a node names where it is `pre`
+pub pre_language : (items : List Item) (node : Option ℕ) → language_of_pre items node
+    ≡ (if is_tag_among (codes "pre" ∷ []) (tag_at items node) then language_at items node else None)
+unfolding language_of_pre
+pre_language items node = refl

@@ -4,7 +4,7 @@ use Rattle.std.proofs.Common.{◌∙◌}
 use Rattle.std.proofs.Common.{true, false, cond, add-one}
 use Rattle.htmd.specs.Handling.{PlanView, contents_of_each, OutcomeView}
 use Rattle.htmd.specs.Choice.{indexes, handler_at, handlers_at}
-use Rattle.htmd.specs.Outputs.{is_pure}
+use Rattle.htmd.specs.Outputs.{is_markdown_alone}
 use Rattle.htmd.specs.Elements.{Occurrence, Answer, plan_answer, first_answer, answer_after, without_handler}
 use Rattle.htmd.specs.Elements.{raw_answer, content_of, answer_of, Contents, contents_alone, outcome_answer}
 use Rattle.htmd.specs.Elements.{each_answer}
@@ -33,12 +33,14 @@ module _ (tag : List ℕ) (at : Occurrence) (skipped : ℕ) (definitions : List 
       → answer_after skipped tag at definitions ≡ without_handler at definitions
   answer-none e = ap left (drop_at_none registered skipped e)
 
-  pub answer-none-pure : None ≡ slice_get registered skipped → is_pure at.conversion.config.options ≡ true
+  pub answer-none-pure : None ≡ slice_get registered skipped
+      → is_markdown_alone at.conversion.config.options ≡ true
       → answer_of (content_of at definitions) ≡ answer_after skipped tag at definitions
   answer-none-pure e p = sym (answer-none e
       ∙ ap (λ b. cond b (answer_of (content_of at definitions)) (raw_answer at definitions)) p)
 
-  pub answer-none-faithful : None ≡ slice_get registered skipped → is_pure at.conversion.config.options ≡ false
+  pub answer-none-faithful : None ≡ slice_get registered skipped
+      → is_markdown_alone at.conversion.config.options ≡ false
       → raw_answer at definitions ≡ answer_after skipped tag at definitions
   answer-none-faithful e p =
       sym (answer-none e ∙ ap (λ b. cond b (answer_of (content_of at definitions)) (raw_answer at definitions)) p)

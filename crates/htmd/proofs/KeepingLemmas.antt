@@ -13,7 +13,8 @@ use Rattle.htmd.specs.Handling.{final_result, children_too, HandlerMeaning}
 use Rattle.htmd.specs.OrdinaryText.{pre}
 use Rattle.htmd.specs.Choice.{indexes, handler_at, handlers_at}
 use Rattle.htmd.specs.Groups.{groups_of}
-use Rattle.htmd.specs.Outputs.{Conversion, Output, push_text, Context, context_of, Writes, is_pure}
+use Rattle.htmd.specs.Outputs.{Conversion, Output, push_text, Context, context_of, Writes, is_markdown_alone}
+use Rattle.htmd.specs.Outputs.{is_guarded}
 use Rattle.htmd.specs.Children.{is_block_tree, before_child, trim_after, write_children, write_groups, trims_first}
 use Rattle.htmd.specs.Children.{content_alone, descendant_tree}
 use Rattle.htmd.specs.Elements.{Occurrence, Answer, content_of, raw_element, raw_answer, after_fallback}
@@ -127,7 +128,7 @@ module _ (P : List (List ℕ) → Type 0) where
       keeps-first : (places : List ℕ) (definitions : List (List ℕ)) → P definitions
           → P (first_answer (handlers_at at.conversion.config.handlers places) at definitions).definitions
       keeps-first [] definitions p =
-          keeps-either (is_pure at.conversion.config.options) _ _ (keeps-content definitions p)
+          keeps-either (is_markdown_alone at.conversion.config.options) _ _ (keeps-content definitions p)
           (keeps-raw definitions p)
       keeps-first (place ∷ places) definitions p =
           let handler = handler_at at.conversion.config.handlers place in
@@ -147,11 +148,12 @@ module _ (P : List (List ℕ) → Type 0) where
   keeps-node write g conversion keeps (doctype id) context out p = p
   keeps-node write g conversion keeps (text id s) context out p = p
   keeps-node write g conversion keeps (comment id s) context out p =
-      keeps-if (is_pure conversion.config.options) out (push_text out (comment_of s)) p p
+      keeps-if (is_markdown_alone conversion.config.options) out (push_text out (comment_of s)) p p
   keeps-node write g conversion keeps (element id name attributes children) context out p =
       let at = occurrence_at write conversion id (record { tag = name; attributes = attributes } ∷ context.ancestors)
       children in
-      subst P (sym (result-definitions out (pre context.ancestors) (answer_after 0 name at out.definitions).result _))
+      subst P (sym (result-definitions (is_guarded conversion.config.options) out (pre context.ancestors)
+      (answer_after 0 name at out.definitions).result _))
       (keeps-answer at g keeps refl 0 name out.definitions p)
 
   pub keeps-within : (n : ℕ) (conversion : Conversion) → HandlersKeep P conversion

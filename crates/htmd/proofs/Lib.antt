@@ -9,9 +9,14 @@ pub mod LatestLemmas
 pub mod GroupsLemmas
 pub mod ElementsLemmas
 pub mod BeginningsLemmas
+pub mod StayingLemmas
+pub mod HandlersStayLemmas
 pub mod ChildrenLemmas
 pub mod RenderingLemmas
 pub mod WalkingLemmas
+pub mod RememberingLemmas
+pub mod OneLineLemmas
+pub mod AllTextLemmas
 pub mod PassingLemmas
 pub mod Steps
 pub mod CodeLemmas
@@ -31,8 +36,25 @@ pub mod ShownTexts
 pub mod ParagraphTexts
 pub mod ParagraphSeams
 pub mod ParagraphLawsLemmas
+pub mod GuardedEnds
+pub mod GuardedSeams
+pub mod TextTrees
+pub mod TextElements
+pub mod TextLawsLemmas
+pub mod LettersLemmas
+pub mod LettersOfTexts
+pub mod LettersOfLines
+pub mod LettersOfPieces
+pub mod LettersOfLinks
+pub mod LettersOfGuarded
+pub mod LettersOfHandlers
+pub mod LettersOfTables
+pub mod LettersOfElements
+pub mod LettersLawsLemmas
 pub mod ChildListsLemmas
 pub mod TableNodesLemmas
 pub mod TableHeadersLemmas
 pub mod TableTextsLemmas
 mod Examples
+mod GuardedExamples
+mod LettersExamples

@@ -21,15 +21,16 @@ use Rattle.htmd_text.specs.Characters.{line_feed, space, full_stop}
 use Rattle.htmd_text.specs.Digits.{digits}
 use Rattle.htmd_text.specs.Trims.{trimmed_start, trimmed_end, trimmed_text, some_text, is_line_feed}
 use Rattle.htmd_text.specs.Indents.{indented_text}
-use Rattle.htmd_markdown.specs.ListItems.{number_marker}
+use Rattle.htmd_markdown.specs.ListItems.{number_marker, guarded_spacing}
 use Rattle.htmd_markdown.specs.Lists.{Block, item, other, item_count, highest_number, first_number, ordered_list}
 use Rattle.htmd_markdown.specs.Lists.{list_block, between_line_feeds}
+use Rattle.htmd_markdown.specs.Lists.{guarded_ordered_list, guarded_first_number}
 use Rattle.htmd_markdown.specs.ListColumns.{item_content, StandsInColumn, HasEqualColumns}
 use Rattle.htmd_markdown.proofs.ListsLemmas.{items_in, item_count-append}
 use Rattle.htmd_markdown.proofs.ListColumnsLemmas.{columns_equal}
 use Rattle.htmd_tree.specs.Items.{Item, children_of, tag_of, data_at}
 use Rattle.htmd.specs.Handling.{ElementView, ResultView}
-use Rattle.htmd.specs.Outputs.{is_pure}
+use Rattle.htmd.specs.Outputs.{is_markdown_alone, is_guarded}
 use Rattle.htmd.specs.Children.{content_alone, descendant_tree}
 use Rattle.htmd.specs.Elements.{Occurrence, contents_alone}
 use Rattle.htmd.specs.ElementViews.{raw_block_result, are_markdown, attributes_of, value_of_first}
@@ -296,19 +297,45 @@ items_among view results =
       length-zip (children_of view.items view.node) results,
     )
 
+-- a list that begins at such a number, with such a spacing
+in_columns : (markdown inside : Bool) (first spacing : ℕ) (blocks : List Block) (raw : ResultView)
+    → raw.markdown_translated ≡ false → first + item_count blocks < 2 ^ 64
+    → IfSome (cond markdown (optional_markdown (list_block inside (ordered_list first spacing blocks))) (Some raw))
+    (λ list. list.markdown_translated ≡ true → HasEqualColumns first spacing blocks list.content)
+in_columns markdown inside first spacing blocks raw is_raw small =
+    markdown_holds (HasEqualColumns first spacing blocks) markdown
+    (list_block inside (ordered_list first spacing blocks)) raw is_raw
+    (block_holds (HasEqualColumns first spacing blocks) (between_line_feeds (cond inside 1 2))
+    (trimmed_text is_line_feed (ordered_list first spacing blocks))
+    (equal_between inside first spacing blocks small))
+
+one_below : (test : Bool) (first : ℕ) → first < 2 ^ 31 → cond test 1 first < 2 ^ 31
+one_below true first below = omega arith
+one_below false first below = below
+
+-- as the mode writes it
+in_columns_of : (guarded markdown inside : Bool) (first spacing : ℕ) (blocks : List Block) (raw : ResultView)
+    → raw.markdown_translated ≡ false → first < 2 ^ 31 → item_count blocks < 2 ^ 63
+    → IfSome (cond markdown
+    (optional_markdown (list_block inside ((cond guarded guarded_ordered_list ordered_list) first spacing blocks)))
+    (Some raw))
+    (λ list. list.markdown_translated ≡ true
+    → HasEqualColumns (cond guarded (guarded_first_number first (highest_number first blocks)) first)
+    (cond guarded (guarded_spacing spacing) spacing) blocks list.content)
+in_columns_of true markdown inside first spacing blocks raw is_raw below few =
+    let number = guarded_first_number first (highest_number first blocks) in
+    let small : number < 2 ^ 31 = one_below (nat_lt 9 (digits (highest_number first blocks))) first below in
+    in_columns markdown inside number (guarded_spacing spacing) blocks raw is_raw (omega (arith, few, small))
+in_columns_of false markdown inside first spacing blocks raw is_raw below few =
+    in_columns markdown inside first spacing blocks raw is_raw (omega (arith, few, below))
+
 pub items_begin : (view : ElementView) → length (children_of view.items view.node) < 2 ^ 63
     → ItemsBeginInOneColumn view
 items_begin view few results =
-    let first = first_number_of view in
-    let spacing = view.options.ol_number_spacing in
-    let blocks = blocks_of view results in
-    let small : first + item_count blocks < 2 ^ 64 =
-    omega (arith, few, items_among view results, first_below (value_of_first (codes "start") (attributes_of view))) in
-    markdown_holds (HasEqualColumns first spacing blocks) (is_pure view.options || are_markdown results)
-    (list_block (is_in_item view) (ordered_list first spacing blocks)) (raw_block_result view) refl
-    (block_holds (HasEqualColumns first spacing blocks) (between_line_feeds (cond (is_in_item view) 1 2))
-    (trimmed_text is_line_feed (ordered_list first spacing blocks))
-    (equal_between (is_in_item view) first spacing blocks small))
+    in_columns_of (is_guarded view.options) (is_markdown_alone view.options || are_markdown results) (is_in_item view)
+    (first_number_of view) view.options.ol_number_spacing (blocks_of view results) (raw_block_result view) refl
+    (first_below (value_of_first (codes "start") (attributes_of view)))
+    (omega (arith, few, items_among view results))
 
 -- ---- each item takes a number
 

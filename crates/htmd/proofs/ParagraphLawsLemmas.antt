@@ -23,7 +23,9 @@ use Rattle.htmd.specs.Choice.{indexes, handlers_at}
 use Rattle.htmd.specs.Seams.{joined_at_seam}
 use Rattle.htmd.specs.Groups.{Joint, joint_with, joint_of, both_join, is_joinable, only_text, with_text, text_of}
 use Rattle.htmd.specs.Groups.{in_front, groups_of}
-use Rattle.htmd.specs.Outputs.{Conversion, conversion_of, Output, context_of, empty_output, is_pure}
+use Rattle.htmd.specs.Outputs.{Conversion, conversion_of, Output, context_of, empty_output, is_markdown_alone}
+use Rattle.htmd.specs.Outputs.{is_guarded}
+use Rattle.htmd.specs.OrdinaryText.{written_text}
 use Rattle.htmd.specs.Children.{trim_after, write_children, content_inside}
 use Rattle.htmd.specs.ElementViews.{plain_plan}
 use Rattle.htmd.specs.Elements.{Occurrence, Answer, content_of, answer_after, first_answer, plan_answer, with_finish}
@@ -154,7 +156,14 @@ p_alone : (o : Options)
     → handlers_at (built_in o).handlers (drop 0 (indexes (codes "p") (built_in o).registered)) ≡ paragraphs ∷ []
 p_alone o = refl
 
-module _ (options : Options) (items : List Item) where
+-- what the handler of `p` gives, of what is in it
+abbrev wrapped : List ℕ → Answer
+wrapped s = record {
+  result = Some (record { content = with_blank_lines (trimmed_text is_line_feed s); markdown_translated = true });
+  definitions = [];
+}
+
+module _ (options : Options) (pure : is_guarded options ≡ false) (items : List Item) where
   abbrev conversion : Conversion
   conversion = conversion_of (built_in options) items
 
@@ -167,6 +176,7 @@ module _ (options : Options) (items : List Item) where
   content_is zero kids (Some s) h low = absurd (omega (arith, low, ap tallest h.1))
   content_is (suc n) kids (Some s) h low =
       ap (λ (f : NumberedForest). content_inside (written_within (suc n) conversion) inside f []) h.1
+      ∙ ap (λ b. so_far (written_text b false false true [] s)) pure
       ∙ ap (λ (l : List ℕ). so_far (escaped_markdown l)) (shown_is s)
 
   abbrev at : ℕ → ℕ → NumberedForest → Occurrence
@@ -175,17 +185,13 @@ module _ (options : Options) (items : List Item) where
   plan_is : (id : ℕ) (kids : NumberedForest) → data_at items id ≡ element_node (codes "p") []
       → plain_plan (view_at conversion id true kids) ≡ content_of_children
   plan_is id kids e =
-      ap (λ d. cond (not (is_pure options) && nat_lt 0 (length (ancestor_of d).attributes)) raw_html
+      ap (λ d. cond (not (is_markdown_alone options) && nat_lt 0 (length (ancestor_of d).attributes)) raw_html
       content_of_children) e
-      ∙ ap (λ b. cond b raw_html content_of_children) (and_right (not (is_pure options)) false refl)
+      ∙ ap (λ b. cond b raw_html content_of_children) (and_right (not (is_markdown_alone options)) false refl)
 
   answer_is : (n id : ℕ) (kids : NumberedForest) (e : List ℕ) → data_at items id ≡ element_node (codes "p") []
       → content_of (at n id kids) [] ≡ so_far e
-      → answer_after 0 (codes "p") (at n id kids) []
-      ≡ record {
-        result = Some (record { content = with_blank_lines (trimmed_text is_line_feed e); markdown_translated = true });
-        definitions = [];
-      }
+      → answer_after 0 (codes "p") (at n id kids) [] ≡ wrapped e
   answer_is n id kids e here content =
       ap (λ (hs : List HandlerMeaning). first_answer hs (at n id kids) []) (p_alone options)
       ∙ ap (λ (p : PlanView). plan_answer paragraphs (at n id kids) [] p (without_handler (at n id kids) []))
@@ -202,9 +208,10 @@ module _ (options : Options) (items : List Item) where
   unfolding written_within
   element_is zero id kids held trim out here h low = absurd (omega (arith, low))
   element_is (suc n) id kids held trim out here h low =
-      ap (λ (a : Answer). with_answer (so_far out) false a)
+      ap (λ (a : Answer). with_answer (is_guarded options) (so_far out) false a)
       (answer_is n id kids (escaped_markdown (text_shown (read_of held))) here
       (content_is n kids held h (omega (arith, low))))
+      ∙ ap (λ b. with_answer b (so_far out) false (wrapped (escaped_markdown (text_shown (read_of held))))) pure
 
   -- one paragraph more
   first_is : (n : ℕ) (held : Option (List ℕ)) (tree : NumberedTree) (trees : NumberedForest) (trim : Bool)
@@ -275,7 +282,7 @@ module _ (options : Options) (items : List Item) where
       ∙ append-nil (trimmed_text is_line_feed s)
 
 pub paragraphs_read_back : ParagraphsReadBack
-paragraphs_read_back options items texts t e =
+paragraphs_read_back options items texts pure t e =
     let trees = forest_of (tree_of items) (children_of items 0) in
     let is : tree_of items 0 ≡ document 0 trees =
     tree-open items 0 t t.not_empty ∙ ap (λ (i : Item). with_children 0 i.node_data trees) t.first in
@@ -283,8 +290,8 @@ paragraphs_read_back options items texts t e =
     ap value_tree (sym is) ∙ e in
     let values : value_forest trees ≡ law.paragraphs texts = cc in
     let are = all_made items (children_of items 0) texts values in
-    let walked = node_is options items texts (tree_of items 0) (ancestors_of items 0) trees is
-    (none_above options items t) are in
-    ap law.texts_read (markdown_is options items
+    let walked = node_is options pure items texts (tree_of items 0) (ancestors_of items 0) trees is
+    (none_above options pure items t) are in
+    ap law.texts_read (markdown_is options pure items
     (trimmed_end is_document_white_space (all_put [] (map text_shown (map read_of texts)))) walked)
     ∙ put_read (map read_of texts)

@@ -10,26 +10,30 @@ use Rattle.htmd_tree.specs.ValueTrees.{AttributePair}
 use Rattle.htmd_tree.specs.Items.{Data, element_node, data_at}
 use Rattle.std.proofs.lemmas.Slice.Eq.{bytes_eq-Decides}
 use Rattle.htmd_tree.specs.Ancestors.{Ancestor, ancestor_of}
-use Rattle.htmd.specs.Handling.{raw_html, content_of_children, HandlerMeaning}
+use Rattle.htmd.specs.Handling.{ElementView, raw_html, content_of_children, HandlerMeaning}
 use Rattle.htmd.specs.Choice.{Config, indexes, handler_at, handlers_at}
 use Rattle.htmd.specs.Markdown.{append_text, append_texts}
 use Rattle.htmd.proofs.ElementsLemmas.{drop_at_some, drop_at_none}
 use Rattle.htmd.specs.OrdinaryText.{pre}
-use Rattle.htmd.specs.Outputs.{Output, is_pure}
+use Rattle.htmd.specs.Outputs.{Output, is_markdown_alone, is_guarded}
 use Rattle.htmd.specs.ElementViews.{ancestors_of}
 use Rattle.htmd.specs.Elements.{Occurrence, Answer, content_of, first_answer, answer_after, plan_answer, answer_of}
 use Rattle.htmd.specs.Elements.{raw_answer}
 use Rattle.htmd.specs.Spans.{is_span, formula_mark, has_math_class, formula_plan, spans}
 use Rattle.htmd.specs.Passing.{IsPlain, IsPassed}
 
--- the text of a content: that of a span, in preformatted text or not
+-- the text of a content: that of a span, kept whole or not
 abbrev pub passed_text : Bool → Bool → List ℕ → List ℕ
-passed_text is_span preformatted s = cond is_span (cond preformatted s (trimmed_text is_line_feed s)) s
+passed_text is_span whole s = cond is_span (cond whole s (trimmed_text is_line_feed s)) s
+
+-- in Guarded and in preformatted text a span's content is kept whole
+abbrev pub is_whole : ElementView → Bool
+is_whole view = is_guarded view.options || pre (ancestors_of view)
 
 abbrev pub passed_result : Bool → Bool → Output → Answer
-passed_result is_span preformatted out = record {
+passed_result is_span whole out = record {
   result = Some (record {
-    content = passed_text is_span preformatted out.text;
+    content = passed_text is_span whole out.text;
     markdown_translated =
         out.markdown_translated;
   });
@@ -47,40 +51,41 @@ module _ (at : Occurrence) (name : List ℕ) (attributes : List AttributePair) (
   abbrev out : Output
   out = content_of at definitions
 
-  unhandled : handlers ≡ [] → is_pure at.conversion.config.options ≡ true
-      → answer_after 0 name at definitions ≡ passed_result false (pre (ancestors_of at.view)) out
+  unhandled : handlers ≡ [] → is_markdown_alone at.conversion.config.options ≡ true
+      → answer_after 0 name at definitions ≡ passed_result false (is_whole at.view) out
   unhandled e p =
       ap (λ hs. first_answer hs at definitions) e
       ∙ ap (λ b. cond b (answer_of (content_of at definitions)) (raw_answer at definitions)) p
 
   plain_span : handlers ≡ spans ∷ [] → has_math_class attributes ≡ false
-      → data_at at.view.items at.view.node ≡ element_node name attributes → is_pure at.view.options ≡ true
-      → answer_after 0 name at definitions ≡ passed_result true (pre (ancestors_of at.view)) out
+      → data_at at.view.items at.view.node ≡ element_node name attributes
+      → is_markdown_alone at.view.options ≡ true
+      → answer_after 0 name at definitions ≡ passed_result true (is_whole at.view) out
   plain_span e m d p =
       let plan : spans.plan at.view ≡ content_of_children =
       ap (λ c. formula_plan at.view (formula_mark (ancestor_of c).attributes) at.view.text) d
       ∙ ap (λ o. formula_plan at.view o at.view.text) (no_mark (formula_mark attributes) m)
       ∙ ap (λ b. cond (b || false) content_of_children raw_html) p in
       let put : List (List ℕ) → Answer =
-      λ ds. record { result = (passed_result true (pre (ancestors_of at.view)) out).result; definitions = ds } in
+      λ ds. record { result = (passed_result true (is_whole at.view) out).result; definitions = ds } in
       ap (λ hs. first_answer hs at definitions) e
       ∙ ap (λ q. plan_answer spans at definitions q (first_answer [] at definitions)) plan
       ∙ ap put (append-nil out.definitions)
 
   by_span : (b : Bool) → IsPlain handlers b (has_math_class attributes)
       → data_at at.view.items at.view.node ≡ element_node name attributes
-      → is_pure at.conversion.config.options ≡ true
-      → is_pure at.view.options ≡ true → answer_after 0 name at definitions ≡ passed_result b
-      (pre (ancestors_of at.view)) out
+      → is_markdown_alone at.conversion.config.options ≡ true
+      → is_markdown_alone at.view.options ≡ true
+      → answer_after 0 name at definitions ≡ passed_result b (is_whole at.view) out
   by_span true h d p q = plain_span h.0 h.1 d q
   by_span false h d p q = unhandled h p
 
   pub passed_answer : IsPassed at.conversion.config (element_node name attributes)
       → data_at at.view.items at.view.node ≡ element_node name attributes
       → at.view.options ≡ at.conversion.config.options
-      → passed_result (is_span name) (pre (ancestors_of at.view)) out
+      → passed_result (is_span name) (is_whole at.view) out
       ≡ answer_after 0 name at definitions
-  passed_answer h d o = sym (by_span (is_span name) h.1 d h.0 (ap is_pure o ∙ h.0))
+  passed_answer h d o = sym (by_span (is_span name) h.1 d h.0 (ap is_markdown_alone o ∙ h.0))
 
 -- a span is neither pre nor code
 span_tag : (tag : List ℕ) → is_span tag ≡ true → tag ≡ codes "span"
@@ -94,7 +99,7 @@ span-inside tag attributes above e = ap (λ t. pre (record { tag = t; attributes
 -- ---- how the registry finds it out
 
 pub passed-unhandled : (config : Config) (name : List ℕ) (attributes : List AttributePair) (d : Data)
-    → d ≡ element_node name attributes → is_pure config.options ≡ true
+    → d ≡ element_node name attributes → is_markdown_alone config.options ≡ true
     → None ≡ slice_get (indexes name config.registered) 0 → is_span name ≡ false → IsPassed config d
 passed-unhandled config name attributes d e p h s =
     subst (IsPassed config) (sym e) (
@@ -105,7 +110,7 @@ passed-unhandled config name attributes d e p h s =
     )
 
 pub passed-span : (config : Config) (name : List ℕ) (attributes : List AttributePair) (d : Data) (index : ℕ)
-    → d ≡ element_node name attributes → is_pure config.options ≡ true
+    → d ≡ element_node name attributes → is_markdown_alone config.options ≡ true
     → Some index ≡ slice_get (indexes name config.registered) 0
     → None ≡ slice_get (indexes name config.registered) 1
     → is_span name ≡ true → handler_at config.handlers index ≡ spans → has_math_class attributes ≡ false

@@ -17,7 +17,8 @@ use Rattle.htmd_tree.proofs.NumberedTreesLemmas.{tree-open, lower_below, height_
 use Rattle.htmd.specs.Choice.{Config}
 use Rattle.htmd.specs.OrdinaryText.{pre}
 use Rattle.htmd.specs.Groups.{group_tree, group_children, children_at}
-use Rattle.htmd.specs.Outputs.{Conversion, conversion_of, Output, replace_text, push_text, Context, context_of, is_pure}
+use Rattle.htmd.specs.Outputs.{Conversion, conversion_of, Output, replace_text, push_text, Context, context_of, is_markdown_alone}
+use Rattle.htmd.specs.Outputs.{is_guarded}
 use Rattle.htmd.specs.Children.{before_child, write_groups}
 use Rattle.htmd.specs.Elements.{Answer, answer_after, occurrence_at}
 use Rattle.htmd.specs.Beginnings.{Begins}
@@ -54,6 +55,9 @@ module _ (config : Config) (items : List Item) (joined : Option (List ℕ)) (t :
   abbrev conversion : Conversion
   conversion = conversion_of config items
 
+  abbrev guarded : Bool
+  guarded = is_guarded config.options
+
   abbrev there : ℕ → Context → Output → Output
   there n context out = written_within n conversion (group_tree joined (tree_of items id)) context out
 
@@ -67,7 +71,7 @@ module _ (config : Config) (items : List Item) (joined : Option (List ℕ)) (t :
       (ap (group_tree joined) (tree-open items id t l ∙ ap (λ x. with_children id x (children_at items id)) e) ∙ g)
 
   pub text_written : (n : ℕ) (s : List ℕ) (context : Context) (out : Output) → height (tree_of items id) ≤ n
-      → data_at items id ≡ text_node s → write_text s context out ≡ there n context out
+      → data_at items id ≡ text_node s → write_text guarded s context out ≡ there n context out
   text_written zero s context out h e = let p = height_pos (tree_of items id) in absurd (omega arith)
   text_written (suc m) s context out h e =
       sym (level m (text_node s) (text id s) context out e (group-text joined id s))
@@ -79,7 +83,8 @@ module _ (config : Config) (items : List Item) (joined : Option (List ℕ)) (t :
       sym (level m doctype_node (doctype id) context out e (group-doctype joined id))
 
   pub comment_written : (n : ℕ) (s : List ℕ) (pure : Bool) (context : Context) (out : Output)
-      → height (tree_of items id) ≤ n → data_at items id ≡ comment_node s → pure ≡ is_pure config.options
+      → height (tree_of items id) ≤ n → data_at items id ≡ comment_node s
+      → pure ≡ is_markdown_alone config.options
       → cond pure out (push_text out (comment_of s)) ≡ there n context out
   comment_written zero s pure context out h e q = let p = height_pos (tree_of items id) in absurd (omega arith)
   comment_written (suc m) s pure context out h e q =
@@ -105,12 +110,12 @@ module _ (config : Config) (items : List Item) (joined : Option (List ℕ)) (t :
       → ((m : ℕ) → height (tree_of items id) ≤ suc m
       → a ≡ answer_after 0 name (occurrence_at (written_within m conversion) conversion id (inside_of items id)
       (group_children joined (children_at items id))) out.definitions)
-      → with_answer out (pre (ancestors_of items id)) a
+      → with_answer guarded out (pre (ancestors_of items id)) a
       ≡ there n (context_of (ancestors_of items id) p trim) out
   element_written zero p trim out name attributes a h e k = let q = height_pos (tree_of items id) in
       absurd (omega arith)
   element_written (suc m) p trim out name attributes a h e k =
-      ap (with_answer out (pre (ancestors_of items id)))
+      ap (with_answer guarded out (pre (ancestors_of items id)))
       (k m h ∙ ap (λ c. answer_after 0 name (occurrence_at (written_within m conversion) conversion id
       (ancestor_of c ∷ ancestors_of items id) (group_children joined (children_at items id))) out.definitions) e)
       ∙ sym (level m (element_node name attributes)
@@ -153,7 +158,7 @@ module _ (config : Config) (items : List Item) (joined : Option (List ℕ)) (t :
       (answer_after 0 name (occurrence_at (written_within m conversion) conversion id
       (ancestor_of c ∷ ancestors_of items id) (group_children joined (children_at items id)))
       out.definitions).definitions) e
-      ∙ sym (result-definitions out (pre (ancestors_of items id)) answer.result answer.definitions)
+      ∙ sym (result-definitions guarded out (pre (ancestors_of items id)) answer.result answer.definitions)
       ∙ ap (λ (o : Output). o.definitions)
       (sym (level m (element_node name attributes)
       (element id name attributes (group_children joined (children_at items id)))

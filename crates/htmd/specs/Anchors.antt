@@ -1,15 +1,22 @@
 -- The handler of a, and the definitions that its references name.
-use Rattle.std.specs.Prelude.{ℕ, ◌+◌, if◌then◌else◌, List, [], ◌∷◌, length, Option, Some, None, codes}
+use Rattle.std.specs.Prelude.{ℕ, Bool, ◌+◌, ◌&&◌, if◌then◌else◌, List, [], ◌∷◌, length, Option, Some, None, codes}
 use Rattle.std.specs.Option.{unwrap_or}
+use Rattle.std.specs.Str.{bytes_eq}
 use Rattle.htmd_text.specs.Characters.{line_feed}
 use Rattle.htmd_text.specs.BlankLines.{with_blank_lines}
 use Rattle.htmd_text.specs.Joins.{joined_texts}
+use Rattle.htmd_text.specs.Trims.{trimmed_text}
+use Rattle.htmd_text.specs.WhiteSpace.{is_document_white_space}
 use Rattle.htmd_markdown.specs.Links.{inline_link, autolink, reference, definition}
+use Rattle.htmd_markdown.specs.GuardedLinks.{guarded_link, is_autolink_address, guarded_autolink, guarded_reference}
+use Rattle.htmd_markdown.specs.GuardedLinks.{guarded_definition}
 use Rattle.htmd.specs.declared.options.LinkStyle.{LinkStyle}
 use Rattle.htmd.specs.declared.options.LinkStyle.TheVariants.{Inlined, InlinedPreferAutolinks, Referenced}
 use Rattle.htmd.specs.Handling.{ElementView, ResultView, PlanView, raw_html, content_of_children, Finish, HandlerMeaning}
 use Rattle.htmd.specs.Handling.{final_result, without_definitions}
+use Rattle.htmd.specs.Outputs.{is_guarded}
 use Rattle.htmd.specs.ElementViews.{attributes_of}
+use Rattle.htmd.specs.AllText.{all_text_of}
 use Rattle.htmd.specs.LinkAttributes.{last_value, is_raw_unless_among, title_of}
 use Rattle.htmd.specs.Sections.{markdown_result}
 
@@ -40,11 +47,33 @@ link_finish InlinedPreferAutolinks view content address definitions =
     (unwrap_or (autolink content address) (inline_link content address (title_of view))))
 link_finish Referenced view content address definitions = reference_finish view content address definitions
 
+-- In Guarded an autolink stands where all text, without white space at its ends, is the address, and that is an
+-- absolute URI that is read as it stands.
+abbrev pub is_autolinked : ElementView → List ℕ → Bool
+is_autolinked view address =
+    bytes_eq (trimmed_text is_document_white_space (all_text_of view)) address && is_autolink_address address
+
+-- the links of Guarded: a reference always by its number
+abbrev pub guarded_link_finish : LinkStyle → ElementView → List ℕ → List ℕ → List (List ℕ) → Finish
+guarded_link_finish Inlined view content address definitions =
+    without_definitions (markdown_result (guarded_link content address (title_of view)))
+guarded_link_finish InlinedPreferAutolinks view content address definitions =
+    without_definitions (markdown_result
+    (if is_autolinked view address then guarded_autolink content address
+    else guarded_link content address (title_of view)))
+guarded_link_finish Referenced view content address definitions =
+    let number = length definitions + 1 in
+    record {
+      result = markdown_result (guarded_reference number content);
+      added = guarded_definition number address (title_of view) ∷ [];
+    }
+
 -- without an address there is no link
 abbrev pub finish_at : Option (List ℕ) → ElementView → ResultView → List (List ℕ) → Finish
 finish_at None view content definitions = without_definitions (Some content)
 finish_at (Some address) view content definitions =
-    link_finish view.options.link_style view content.content address definitions
+    (if is_guarded view.options then guarded_link_finish else link_finish)
+    view.options.link_style view content.content address definitions
 
 abbrev pub anchor_finish : ElementView → ResultView → List (List ℕ) → Finish
 anchor_finish view content definitions = finish_at (anchor_address view) view content definitions

@@ -1,6 +1,6 @@
 -- The handlers of code and pre.
-use Rattle.std.specs.Prelude.{ℕ, Bool, true, false, not, ◌&&◌, ◌||◌, ◌==◌, if◌then◌else◌, List, [], ◌∷◌, drop, Option}
-use Rattle.std.specs.Prelude.{Some, None, codes}
+use Rattle.std.specs.Prelude.{ℕ, Bool, true, false, not, ◌&&◌, ◌||◌, ◌==◌, if◌then◌else◌, List, [], ◌∷◌, drop}
+use Rattle.std.specs.Prelude.{filter, Option, Some, None, codes, option_and_then}
 use Rattle.std.specs.List.{list_all, slice_split, starts_with}
 use Rattle.std.specs.Option.{is_some, option_or}
 use Rattle.std.specs.Str.{bytes_eq}
@@ -9,14 +9,19 @@ use Rattle.htmd_markdown.specs.CodeSpans.{code_span}
 use Rattle.htmd_markdown.specs.Fences.{fenced_code_block}
 use Rattle.htmd_markdown.specs.IndentedCode.{indented_code_block}
 use Rattle.htmd_tree.specs.ValueTrees.{AttributePair}
-use Rattle.htmd_tree.specs.Items.{Item, data_at, parent_at, children_of}
+use Rattle.htmd_tree.specs.Items.{Item, Data, document_node, doctype_node, text_node, comment_node, element_node}
+use Rattle.htmd_tree.specs.Items.{data_at, parent_at, children_of}
 use Rattle.htmd_tree.specs.Ancestors.{ancestor_of}
 use Rattle.htmd.specs.declared.options.CodeBlockStyle.{CodeBlockStyle}
 use Rattle.htmd.specs.declared.options.CodeBlockStyle.TheVariants.{Indented, Fenced}
 use Rattle.htmd.specs.Handling.{ElementView, ResultView, PlanView, raw_html, content_of_children, HandlerMeaning, of_plan}
-use Rattle.htmd.specs.Outputs.{is_pure}
+use Rattle.htmd.specs.Outputs.{is_markdown_alone, is_guarded}
+use Rattle.htmd.specs.AllText.{all_text_of}
+use Rattle.htmd.specs.OneLineElements.{stands_in_line}
+use Rattle.htmd_markdown.specs.GuardedCode.{guarded_code, guarded_span_in_line, guarded_code_block}
+use Rattle.htmd_text.specs.BlankLines.{with_blank_lines}
 use Rattle.htmd.specs.ElementViews.{attributes_of, tag_at, parent_tag, is_tag_among, is_raw_html_due, unless_attributes}
-use Rattle.htmd.specs.ElementViews.{plan_if, raw_block_result}
+use Rattle.htmd.specs.ElementViews.{plan_if, raw_block_result, markdown_plan}
 use Rattle.htmd.specs.Rendering.{is_text}
 use Rattle.htmd.specs.Sections.{markdown_result, wrapped_result}
 
@@ -47,6 +52,11 @@ abbrev pub language_at : List Item → Option ℕ → Option (List ℕ)
 language_at items None = None
 language_at items (Some node) = language_of (ancestor_of (data_at items node)).attributes
 
+-- the language that a node names where it is `pre`
+unfoldable pub language_of_pre : List Item → Option ℕ → Option (List ℕ)
+language_of_pre items node =
+    if is_tag_among (codes "pre" ∷ []) (tag_at items node) then language_at items node else None
+
 -- the language that the element names, else its parent
 abbrev pub language : ElementView → Option (List ℕ)
 language view = option_or (language_of (attributes_of view)) (language_at view.items (parent_at view.items view.node))
@@ -72,11 +82,18 @@ holds_texts_alone view = list_all (λ child. is_text (data_at view.items child))
 -- in Faithful a child that isn't a text is more than code, and so are attributes that aren't shown
 abbrev pub is_raw_code : ElementView → Bool
 is_raw_code view =
-    (not (is_pure view.options) && not (holds_texts_alone view))
+    (not (is_markdown_alone view.options) && not (holds_texts_alone view))
     || is_raw_html_due view (if shows_language view then 1 else 0)
 
+-- in Guarded it is a code span of all text below it, whatever elements stand there
+abbrev pub guarded_code_plan : ElementView → PlanView
+guarded_code_plan view = markdown_plan (guarded_code (all_text_of view))
+
+abbrev pub content_plan : ElementView → PlanView
+content_plan view = if is_raw_code view then raw_html else content_of_children
+
 abbrev pub code_plan : ElementView → PlanView
-code_plan view = if is_raw_code view then raw_html else content_of_children
+code_plan view = if is_guarded view.options then guarded_code_plan view else content_plan view
 
 abbrev pub code_block : CodeBlockStyle → ElementView → List ℕ → List ℕ
 code_block Indented view s = indented_code_block s
@@ -97,15 +114,53 @@ is_code_alone items [] = false
 is_code_alone items (child ∷ []) = is_tag_among (codes "code" ∷ []) (tag_at items (Some child))
 is_code_alone items (child ∷ next ∷ children) = false
 
+abbrev pub is_no_comment : Data → Bool
+is_no_comment document_node = true
+is_no_comment doctype_node = true
+is_no_comment (text_node s) = true
+is_no_comment (comment_node s) = false
+is_no_comment (element_node name attributes) = true
+
+abbrev pub without_comments : List Item → List ℕ → List ℕ
+without_comments items nodes = filter (λ node. is_no_comment (data_at items node)) nodes
+
+abbrev pub only_node : List ℕ → Option ℕ
+only_node [] = None
+only_node (node ∷ []) = Some node
+only_node (node ∷ next ∷ nodes) = None
+
+-- the language that a node names where it is `code`
+abbrev pub language_of_code : List Item → ℕ → Option (List ℕ)
+language_of_code items node =
+    if is_tag_among (codes "code" ∷ []) (tag_at items (Some node)) then language_at items (Some node) else None
+
+-- in Guarded: the language of the only child, comments aside, where that is `code`, else the element's own
+abbrev pub guarded_language : ElementView → Option (List ℕ)
+guarded_language view =
+    let child = only_node (without_comments view.items (children_of view.items view.node)) in
+    option_or (option_and_then (language_of_code view.items) child) (language_of (attributes_of view))
+
+-- In Guarded it is a fenced code block of all text below it, with blank lines around; where it stands in one line, in
+-- which no block can, a code span.
+abbrev pub guarded_preformatted : ElementView → List ℕ
+guarded_preformatted view =
+    if stands_in_line view.items view.node then guarded_span_in_line (all_text_of view)
+    else with_blank_lines
+    (guarded_code_block (all_text_of view) (guarded_language view) view.options.code_block_fence)
+
 -- in Faithful it holds one code block, and all is Markdown
-abbrev pub preformatted_plan : ElementView → PlanView
-preformatted_plan view =
+abbrev pub block_plan : ElementView → PlanView
+block_plan view =
     unless_attributes view
     (plan_if (view.markdown_translated && is_code_alone view.items (children_of view.items view.node)) view)
 
+abbrev pub preformatted_plan : ElementView → PlanView
+preformatted_plan view =
+    if is_guarded view.options then markdown_plan (guarded_preformatted view) else block_plan view
+
 abbrev pub preformatted_result : ElementView → ResultView → Option ResultView
 preformatted_result view content =
-    if is_pure view.options || content.markdown_translated then wrapped_result view content
+    if is_markdown_alone view.options || content.markdown_translated then wrapped_result view content
     else Some (raw_block_result view)
 
 abbrev pub preformatted_texts : HandlerMeaning

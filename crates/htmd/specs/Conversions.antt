@@ -1,11 +1,12 @@
 -- What a text of HTML becomes.
-use Rattle.std.specs.Prelude.{◌≡◌, ℕ, Bool, List}
+use Rattle.std.specs.Prelude.{◌≡◌, ℕ, ◌+◌, Bool, List}
 use Rattle.htmd_grammar.specs.ValueTrees.{ValueTree, ValueForest, document}
 use Rattle.htmd_grammar.specs.Documents.{ReadsDocument}
 use Rattle.htmd_grammar.specs.Rules.{project}
 use Rattle.htmd_grammar.specs.Faults.{IsFault}
 use Rattle.htmd_grammar.specs.declared.fault.FaultKind.{FaultKind}
-use Rattle.htmd_tree.specs.Items.{Item}
+use Rattle.htmd_tree.specs.Items.{Item, HoldTexts}
+use Rattle.htmd_tree.specs.Bodies.{body_part, body_place}
 use Rattle.htmd_tree.specs.Layout.{document_items}
 use Rattle.htmd_tree.specs.declared.reader.ReadError.{ReadError}
 use Rattle.htmd_tree.specs.declared.reader.ReadError.TheVariants as read
@@ -34,7 +35,21 @@ abbrev pub IsMarkdownOf : Config → Bool → List ℕ → List ℕ → Type 0
 IsMarkdownOf config scripting html text =
     (tree : List Item) × IsTreeOf scripting html tree × (text ≡ markdown config tree 0)
 
+-- the same, and the texts of the document are UTF-8
+abbrev pub IsMarkdownOfTexts : Config → Bool → List ℕ → List ℕ → Type 0
+IsMarkdownOfTexts config scripting html text =
+    (tree : List Item) × IsTreeOf scripting html tree × HoldTexts tree × (text ≡ markdown config tree 0)
+
 -- why a text was not read is why it was not converted
 abbrev pub conversion_error : ReadError → ConvertError
 conversion_error (read.Refused place kind) = convert.Refused place kind
 conversion_error read.Memory = convert.Memory
+
+-- this is the Markdown of what stands between the tags of the page's body
+abbrev pub IsMarkdownOfPage : Config → Bool → List ℕ → List ℕ → Type 0
+IsMarkdownOfPage config scripting page text = IsMarkdownOf config scripting (body_part page) text
+
+-- what stands between the tags of the page's body denotes no document, and is refused at this place of the page
+abbrev pub IsPageRefused : Bool → List ℕ → ℕ → FaultKind → Type 0
+IsPageRefused scripting page place kind =
+    (within : ℕ) × (place ≡ body_place page + within) × IsRefused scripting (body_part page) within kind

@@ -9,8 +9,9 @@ use Rattle.htmd_tree.specs.Ancestors as above
 use Rattle.htmd_tree.specs.NumberedTrees.{tree_of, value_tree}
 use Rattle.htmd_tree.specs.Serialisation.{serialisation}
 use Rattle.htmd_tree.specs.RawBlocks.{raw_block}
-use Rattle.htmd.specs.Handling.{ElementView, ResultView, PlanView, raw_html, content_of_children}
-use Rattle.htmd.specs.Outputs.{is_pure}
+use Rattle.htmd.specs.Handling.{ElementView, ResultView, PlanView, this_result, raw_html}
+use Rattle.htmd.specs.Handling.{content_of_children}
+use Rattle.htmd.specs.Outputs.{is_markdown_alone}
 
 abbrev pub tag_of : ElementView → List ℕ
 tag_of view = (above.ancestor_of (tree.data_at view.items view.node)).tag
@@ -45,9 +46,13 @@ raw_block_result view = record {
   markdown_translated = false;
 }
 
+-- this text, as Markdown, whatever the children give
+abbrev pub markdown_plan : List ℕ → PlanView
+markdown_plan s = this_result (record { content = s; markdown_translated = true })
+
 -- in Faithful, and with more attributes than these
 abbrev pub is_raw_html_due : ElementView → ℕ → Bool
-is_raw_html_due view allowed = not (is_pure view.options) && nat_lt allowed (length (attributes_of view))
+is_raw_html_due view allowed = not (is_markdown_alone view.options) && nat_lt allowed (length (attributes_of view))
 
 -- more of them than this number, which may be below zero
 abbrev pub is_more_than : ℤ → ℕ → Bool
@@ -63,10 +68,10 @@ plain_plan view = unless_attributes view content_of_children
 
 -- the children's content in Pure, and where this holds
 abbrev pub plan_if : Bool → ElementView → PlanView
-plan_if holds view = if is_pure view.options || holds then content_of_children else raw_html
+plan_if holds view = if is_markdown_alone view.options || holds then content_of_children else raw_html
 
-abbrev pub pure_plan : ElementView → PlanView
-pure_plan view = plan_if false view
+abbrev pub unless_faithful : ElementView → PlanView
+unless_faithful view = plan_if false view
 
 abbrev pub is_tag_among : List (List ℕ) → Option (List ℕ) → Bool
 is_tag_among tags None = false

@@ -11,7 +11,7 @@ use Rattle.htmd.specs.Handling.{content_of_children, content_of_descendant, cont
 use Rattle.htmd.specs.Handling.{OutcomeView, final_result, children_too, Finish, HandlerMeaning}
 use Rattle.htmd.specs.Choice.{indexes, handlers_at}
 use Rattle.htmd.specs.Groups.{only_text}
-use Rattle.htmd.specs.Outputs.{Conversion, Output, Writes, result_of, is_pure}
+use Rattle.htmd.specs.Outputs.{Conversion, Output, Writes, result_of, is_markdown_alone}
 use Rattle.htmd.specs.Children.{content_inside, content_alone, descendant_tree}
 
 -- an element where it stands: how what is in it is written, what its handlers are shown, the ancestors
@@ -119,7 +119,8 @@ plan_answer handler at definitions (contents_of_each nodes) rest =
 -- with no handler left: the children's content, or raw HTML
 abbrev pub without_handler : Occurrence → List (List ℕ) → Answer
 without_handler at definitions =
-    if is_pure at.conversion.config.options then answer_of (content_of at definitions) else raw_answer at definitions
+    if is_markdown_alone at.conversion.config.options then answer_of (content_of at definitions)
+    else raw_answer at definitions
 
 -- the first handler of the list answers
 abbrev pub first_answer : List HandlerMeaning → Occurrence → List (List ℕ) → Answer

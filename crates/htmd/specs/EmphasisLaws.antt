@@ -1,9 +1,9 @@
 -- The law of the marks of emphasis.
-use Rattle.std.specs.Prelude.{◌≡◌, true, List, ℕ, codes, IfSome}
+use Rattle.std.specs.Prelude.{◌≡◌, List, ℕ, codes, IfSome}
 use Rattle.htmd_markdown.specs.declared.emphasis.Emphasis.{Emphasis}
 use Rattle.htmd_markdown.specs.declared.emphasis.Emphasis.TheVariants.{Regular, Strong}
 use Rattle.htmd_markdown.specs.Emphases.{mark, AreMarksInside}
-use Rattle.htmd.specs.Outputs.{is_pure}
+use Rattle.htmd.specs.declared.options.TranslationMode.TheVariants.{Pure}
 use Rattle.htmd.specs.Elements.{Occurrence, content_of, answer_after}
 use Rattle.htmd.specs.BuiltIn.{built_in}
 
@@ -20,7 +20,7 @@ long_tag Strong = codes "strong"
 abbrev pub MarksAreInside : Emphasis → List ℕ → List ℕ → Type 0
 MarksAreInside emphasis tag content =
     (at : Occurrence) (definitions : List (List ℕ)) → at.conversion.config ≡ built_in at.view.options
-    → is_pure at.view.options ≡ true → (content_of at definitions).text ≡ content
+    → at.view.options.translation_mode ≡ Pure → (content_of at definitions).text ≡ content
     → IfSome (answer_after 0 tag at definitions).result (λ r. AreMarksInside (mark emphasis) content r.content)
 
 abbrev pub MarksStandInside : Emphasis → List ℕ → Type 0

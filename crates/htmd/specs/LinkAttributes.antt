@@ -5,7 +5,7 @@ use Rattle.std.specs.Option.{option_or}
 use Rattle.std.specs.Str.{bytes_eq}
 use Rattle.htmd_tree.specs.ValueTrees.{AttributePair}
 use Rattle.htmd.specs.Handling.{ElementView}
-use Rattle.htmd.specs.Outputs.{is_pure}
+use Rattle.htmd.specs.Outputs.{is_markdown_alone}
 use Rattle.htmd.specs.ElementViews.{attributes_of}
 
 abbrev pub is_among : List (List ℕ) → List ℕ → Bool
@@ -23,7 +23,7 @@ has_others names attributes = list_any (λ a. not (is_among names a.name)) attri
 
 -- in Faithful an attribute that Markdown has no form for gives raw HTML
 abbrev pub is_raw_unless_among : List (List ℕ) → ElementView → Bool
-is_raw_unless_among names view = not (is_pure view.options) && has_others names (attributes_of view)
+is_raw_unless_among names view = not (is_markdown_alone view.options) && has_others names (attributes_of view)
 
 abbrev pub title_of : ElementView → Option (List ℕ)
 title_of view = last_value (codes "title" ∷ []) (attributes_of view)

@@ -1,16 +1,17 @@
 -- The handlers of ol, ul and li.
-use Rattle.std.specs.Prelude.{ℕ, Bool, false, not, ◌&&◌, ◌||◌, if◌then◌else◌, List, [], ◌∷◌, map}
+use Rattle.std.specs.Prelude.{ℕ, Bool, false, not, ◌&&◌, ◌||◌, if◌then◌else◌, List, [], ◌∷◌, ◌++◌, map}
 use Rattle.std.specs.Prelude.{Option, Some, None, codes}
 use Rattle.std.specs.List.{list_any, zip}
 use Rattle.std.specs.Str.{bytes_eq}
-use Rattle.htmd_markdown.specs.ListItems.{bullet_item, unnumbered_item}
-use Rattle.htmd_markdown.specs.Lists.{first_number, Block, item, other, ordered_list, list_block}
+use Rattle.htmd_text.specs.Characters.{line_feed}
+use Rattle.htmd_markdown.specs.ListItems.{bullet_item, guarded_bullet_item, unnumbered_item}
+use Rattle.htmd_markdown.specs.Lists.{first_number, Block, item, other, ordered_list, guarded_ordered_list, list_block}
 use Rattle.htmd_tree.specs.ValueTrees.{AttributePair}
 use Rattle.htmd_tree.specs.Items.{Item, data_at, children_of}
 use Rattle.htmd_tree.specs.Items as tree
 use Rattle.htmd.specs.Handling.{ElementView, ResultView, PlanView, raw_html, content_of_children, contents_of_each}
 use Rattle.htmd.specs.Handling.{final_result, HandlerMeaning, without_definitions, of_plan}
-use Rattle.htmd.specs.Outputs.{is_pure}
+use Rattle.htmd.specs.Outputs.{is_markdown_alone, is_guarded}
 use Rattle.htmd.specs.ElementViews.{tag_of, attributes_of, parent_tag, is_tag_among, is_raw_html_due, plain_plan}
 use Rattle.htmd.specs.ElementViews.{value_of_first, are_markdown, raw_block_result}
 use Rattle.htmd.specs.Sections.{markdown_result}
@@ -35,7 +36,7 @@ is_other_element items node = is_other_tag (tree.tag_of (data_at items node))
 abbrev pub is_raw_list : ElementView → Bool
 is_raw_list view =
     is_raw_html_due view (allowed_attributes (attributes_of view))
-    || (not (is_pure view.options)
+    || (not (is_markdown_alone view.options)
     && (not view.markdown_translated || list_any (is_other_element view.items) (children_of view.items view.node)))
 
 abbrev pub is_ordered : ElementView → Bool
@@ -53,7 +54,7 @@ is_in_item view = is_tag_among (codes "li" ∷ []) (parent_tag view)
 -- a list among the blocks around it; in Faithful a list that isn't Markdown throughout is raw HTML
 abbrev pub list_result : ElementView → ResultView → Option ResultView
 list_result view list =
-    if is_pure view.options || list.markdown_translated
+    if is_markdown_alone view.options || list.markdown_translated
     then optional_markdown (list_block (is_in_item view) list.content)
     else Some (raw_block_result view)
 
@@ -72,10 +73,15 @@ blocks_of view contents = blocks_of_list view.items (children_of view.items view
 abbrev pub first_number_of : ElementView → ℕ
 first_number_of view = first_number (value_of_first (codes "start") (attributes_of view))
 
--- the items behind their numbers, and the other children's contents
+-- the items behind their numbers, and the other children's contents, as the mode writes them
+abbrev pub ordered_text : ElementView → List Block → List ℕ
+ordered_text view blocks =
+    (if is_guarded view.options then guarded_ordered_list else ordered_list)
+    (first_number_of view) view.options.ol_number_spacing blocks
+
 abbrev pub numbered_list : ElementView → List ResultView → ResultView
 numbered_list view contents = record {
-  content = ordered_list (first_number_of view) view.options.ol_number_spacing (blocks_of view contents);
+  content = ordered_text view (blocks_of view contents);
   markdown_translated = are_markdown contents;
 }
 
@@ -95,11 +101,22 @@ lists = record {
 abbrev pub is_in_ordered : ElementView → Bool
 is_in_ordered view = is_tag_among (codes "ol" ∷ []) (parent_tag view)
 
+-- the elements whose children are items (HTML, 4.4.5 to 4.4.8, and the obsolete dir)
+abbrev pub list_tags : List (List ℕ)
+list_tags = codes "ul" ∷ codes "ol" ∷ codes "menu" ∷ codes "dir" ∷ []
+
+-- an item of a bullet list; in Guarded it ends its line where it stands in no list
+abbrev pub bullet_item_of : ElementView → List ℕ → List ℕ
+bullet_item_of view content =
+    if is_guarded view.options
+    then guarded_bullet_item view.options.bullet_list_marker view.options.ul_bullet_spacing content
+    ++ (if is_tag_among list_tags (parent_tag view) then [] else line_feed ∷ [])
+    else bullet_item view.options.bullet_list_marker view.options.ul_bullet_spacing content
+
 -- under ol the list puts the number before the item
 abbrev pub item_result : ElementView → ResultView → Option ResultView
 item_result view content = markdown_result
-    (if is_in_ordered view then unnumbered_item content.content
-    else bullet_item view.options.bullet_list_marker view.options.ul_bullet_spacing content.content)
+    (if is_in_ordered view then unnumbered_item content.content else bullet_item_of view content.content)
 
 abbrev pub list_items : HandlerMeaning
 list_items = of_plan plain_plan item_result

@@ -1,23 +1,36 @@
 -- The laws of ordered lists.
-use Rattle.std.specs.Prelude.{◌≡◌, ℕ, Bool, true, List, [], ◌∷◌, ◌++◌, length, codes, IfSome}
+use Rattle.std.specs.Prelude.{◌≡◌, ℕ, Bool, true, if◌then◌else◌, List, [], ◌∷◌, ◌++◌, length, codes, IfSome}
 use Rattle.std.specs.List.{filter}
-use Rattle.htmd_markdown.specs.Lists.{Block, item, item_count}
+use Rattle.htmd_markdown.specs.Lists.{Block, item, item_count, highest_number, guarded_first_number}
+use Rattle.htmd_markdown.specs.ListItems.{guarded_spacing}
 use Rattle.htmd_markdown.specs.ListColumns.{HasEqualColumns}
 use Rattle.htmd_tree.specs.Items.{Item, data_at, children_of, tag_of}
 use Rattle.htmd.specs.Handling.{ElementView, ResultView}
+use Rattle.htmd.specs.Outputs.{is_guarded}
 use Rattle.htmd.specs.ElementViews.{is_tag_among}
 use Rattle.htmd.specs.Elements.{Occurrence, contents_alone}
 use Rattle.htmd.specs.ListElements.{ordered_result, blocks_of, first_number_of}
 
 -- ---- columns
 
+-- the number of the first item and the spaces behind an item's dot, as the mode has them
+abbrev pub first_written : ElementView → List Block → ℕ
+first_written view blocks =
+    let first = first_number_of view in
+    if is_guarded view.options then guarded_first_number first (highest_number first blocks) else first
+
+abbrev pub spacing_written : ElementView → ℕ
+spacing_written view =
+    let spacing = view.options.ol_number_spacing in
+    if is_guarded view.options then guarded_spacing spacing else spacing
+
 -- What the handler of ol makes of any results of its children, if it is Markdown, has the content of each item in the
--- column behind `ol_number_spacing`, the digits of the highest number and one character more.
+-- column behind the spacing, the digits of the highest number and one character more.
 abbrev pub ItemsBeginInOneColumn : ElementView → Type 0
 ItemsBeginInOneColumn view =
-    (results : List ResultView) → IfSome (ordered_result view results)
+    (results : List ResultView) → let blocks = blocks_of view results in IfSome (ordered_result view results)
     (λ list. list.markdown_translated ≡ true
-    → HasEqualColumns (first_number_of view) view.options.ol_number_spacing (blocks_of view results) list.content)
+    → HasEqualColumns (first_written view blocks) (spacing_written view) blocks list.content)
 
 -- ---- numbers
 

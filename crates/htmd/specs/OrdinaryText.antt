@@ -5,6 +5,7 @@ use Rattle.std.specs.Str.{bytes_eq}
 use Rattle.htmd_text.specs.EscapeMarks.{escaped_markdown, escaped_pre_text}
 use Rattle.htmd_text.specs.WhiteSpace.{squeezed_text}
 use Rattle.htmd_tree.specs.Ancestors.{Ancestor}
+use Rattle.htmd_markdown.specs.GuardedText.{guarded_text, begins_line}
 use Rattle.htmd.specs.Seams.{begins_with_space, ends_with_space}
 
 abbrev pub is_pre_or_code : Ancestor → Bool
@@ -27,7 +28,19 @@ preformatted_text in_pre s = if in_pre then escaped_pre_text s else s
 abbrev pub without_first_space : Bool → List ℕ → List ℕ
 without_first_space goes s = if goes && begins_with_space s then drop 1 s else s
 
--- Ordinary text is squeezed_text, then loses the space at its start where the trim flag is set or where the
--- text so far ends with one, then is escaped_markdown.
+-- Ordinary text is squeezed, then loses the space at its start where the trim flag is set or where the
+-- text so far ends with one, then is escaped.
 abbrev pub ordinary_text : Bool → List ℕ → List ℕ → List ℕ
 ordinary_text trim out s = escaped_markdown (without_first_space (trim || ends_with_space out) (squeezed_text s))
+
+-- In Guarded it is escaped so that nothing of it is read as markup, whatever stands before and behind it.
+abbrev pub guarded_ordinary_text : Bool → List ℕ → List ℕ → List ℕ
+guarded_ordinary_text trim out s =
+    guarded_text (begins_line out) (without_first_space (trim || ends_with_space out) (squeezed_text s))
+
+-- The text of a node behind the text so far, by whether the mode is Guarded, the text preformatted, its parent `pre`,
+-- and by the trim flag. In Guarded no text is preformatted.
+abbrev pub written_text : Bool → Bool → Bool → Bool → List ℕ → List ℕ → List ℕ
+written_text guarded preformatted in_pre trim out s =
+    if guarded then guarded_ordinary_text trim out s
+    else (if preformatted then preformatted_text in_pre s else ordinary_text trim out s)

@@ -5,16 +5,27 @@ use Rattle.htmd_tree.specs.NumberedTrees.{NumberedTree}
 use Rattle.htmd_tree.specs.Ancestors.{Ancestor}
 use Rattle.htmd.specs.declared.options.Options.{Options}
 use Rattle.htmd.specs.declared.options.TranslationMode.{TranslationMode}
-use Rattle.htmd.specs.declared.options.TranslationMode.TheVariants.{Pure, Faithful}
+use Rattle.htmd.specs.declared.options.TranslationMode.TheVariants.{Pure, Faithful, Guarded}
 use Rattle.htmd.specs.Handling.{ResultView}
 use Rattle.htmd.specs.Choice.{Config}
 
-abbrev pub is_pure_mode : TranslationMode → Bool
-is_pure_mode Pure = true
-is_pure_mode Faithful = false
+-- in Faithful what Markdown has no form for is written as HTML
+abbrev pub is_markdown_alone_in : TranslationMode → Bool
+is_markdown_alone_in Pure = true
+is_markdown_alone_in Faithful = false
+is_markdown_alone_in Guarded = true
 
-abbrev pub is_pure : Options → Bool
-is_pure options = is_pure_mode options.translation_mode
+abbrev pub is_markdown_alone : Options → Bool
+is_markdown_alone options = is_markdown_alone_in options.translation_mode
+
+-- in Guarded a reader sees the page's text
+abbrev pub is_guarded_in : TranslationMode → Bool
+is_guarded_in Pure = false
+is_guarded_in Faithful = false
+is_guarded_in Guarded = true
+
+abbrev pub is_guarded : Options → Bool
+is_guarded options = is_guarded_in options.translation_mode
 
 -- what a conversion goes by: the tree as it was handed in, and what the registry means
 pub record Conversion : Type 0 where

@@ -1,5 +1,5 @@
 -- The law of paragraphs.
-use Rattle.std.specs.Prelude.{◌≡◌, ℕ, ◌&&◌, ◌==◌, if◌then◌else◌, nat_lt, List, [], ◌∷◌, length, map, codes}
+use Rattle.std.specs.Prelude.{◌≡◌, ℕ, false, ◌&&◌, ◌==◌, if◌then◌else◌, nat_lt, List, [], ◌∷◌, length, map, codes}
 use Rattle.std.specs.Prelude.{Option, Some, None}
 use Rattle.std.specs.List.{filter, onto_first}
 use Rattle.std.specs.Option.{unwrap_or}
@@ -13,6 +13,7 @@ use Rattle.htmd_tree.specs.NumberedTrees.{tree_of, value_tree}
 use Rattle.htmd.specs.declared.options.Options.{Options}
 use Rattle.htmd.specs.BuiltIn.{built_in}
 use Rattle.htmd.specs.Markdown.{markdown}
+use Rattle.htmd.specs.Outputs.{is_guarded}
 
 -- ---- documents of paragraphs
 
@@ -65,11 +66,13 @@ with_last_trimmed (s ∷ t ∷ texts) = s ∷ with_last_trimmed (t ∷ texts)
 abbrev pub texts_shown : List (List ℕ) → List (List ℕ)
 texts_shown texts = with_last_trimmed (filter (λ s. nat_lt 0 (length s)) (map text_shown texts))
 
--- Where the Document's children are `p` without attributes, each holding at most one text, and all handlers are built
--- in, the Markdown of the whole tree reads back as the texts as they are shown; no text counts as the empty one.
+-- In Pure and Faithful, where the Document's children are `p` without attributes, each holding at most one text, and
+-- all handlers are built in, the Markdown of the whole tree reads back as the texts as they are shown; no text counts
+-- as the empty one.
 abbrev pub ParagraphsReadBack : Type 0
 ParagraphsReadBack =
-    (options : Options) (items : List Item) (texts : List (Option (List ℕ))) → IsTree items
+    (options : Options) (items : List Item) (texts : List (Option (List ℕ))) → is_guarded options ≡ false
+    → IsTree items
     → value_tree (tree_of items 0) ≡ document (paragraphs texts)
     → texts_read (markdown (built_in options) items 0)
     ≡ texts_shown (map (λ held. unwrap_or held []) texts)

@@ -3,7 +3,7 @@ use Rattle.std.specs.Prelude.{◌≡◌, Bool, true, false, List, [], ◌∷◌}
 use Rattle.htmd_tree.specs.Items.{Data, document_node, doctype_node, text_node, comment_node, element_node}
 use Rattle.htmd.specs.Handling.{HandlerMeaning}
 use Rattle.htmd.specs.Choice.{Config, indexes, handlers_at}
-use Rattle.htmd.specs.Outputs.{is_pure}
+use Rattle.htmd.specs.Outputs.{is_markdown_alone}
 use Rattle.htmd.specs.Spans.{spans, is_span, has_math_class}
 
 -- a tag without handlers; or a `span` with the built-in one alone, whose attributes aren't those of a formula
@@ -13,7 +13,7 @@ IsPlain handlers false has_math_class = handlers ≡ []
 
 abbrev pub IsPassed : Config → Data → Type 0
 IsPassed config (element_node name attributes) =
-    (is_pure config.options ≡ true)
+    (is_markdown_alone config.options ≡ true)
     × IsPlain (handlers_at config.handlers (indexes name config.registered)) (is_span name) (has_math_class attributes)
 IsPassed config document_node = ⊥
 IsPassed config doctype_node = ⊥

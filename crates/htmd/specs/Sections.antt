@@ -1,13 +1,15 @@
 -- The handlers of sections and paragraphs: p, blockquote, html, head, body, and the block elements that
 -- have no other handler.
-use Rattle.std.specs.Prelude.{ℕ, Bool, true, false, List, [], ◌∷◌, Option, Some, None, codes}
+use Rattle.std.specs.Prelude.{ℕ, Bool, true, false, ◌&&◌, if◌then◌else◌, List, [], ◌∷◌, Option, Some, None}
+use Rattle.std.specs.Prelude.{codes}
 use Rattle.htmd_text.specs.Trims.{trimmed_text, is_line_feed}
 use Rattle.htmd_text.specs.BlankLines.{with_blank_lines}
 use Rattle.htmd_markdown.specs.Quotes.{quote}
 use Rattle.htmd_tree.specs.Items.{Item, Data, document_node, doctype_node, text_node, comment_node, element_node}
 use Rattle.htmd_tree.specs.Items.{data_at, parent_at}
-use Rattle.htmd.specs.Handling.{ElementView, ResultView, PlanView, HandlerMeaning, of_plan}
-use Rattle.htmd.specs.ElementViews.{plain_plan, pure_plan, plan_under, plan_if}
+use Rattle.htmd.specs.Handling.{ElementView, ResultView, PlanView, nothing, HandlerMeaning, of_plan}
+use Rattle.htmd.specs.ElementViews.{tag_of, is_tag_among, plain_plan, unless_faithful, plan_under, plan_if}
+use Rattle.htmd.specs.Outputs.{is_guarded}
 
 -- this text, as Markdown
 abbrev pub markdown_result : List ℕ → Option ResultView
@@ -48,6 +50,15 @@ page_plan view = plan_if (is_document_at view.items (parent_at view.items view.n
 abbrev pub pages : HandlerMeaning
 pages = of_plan page_plan wrapped_result
 
--- in Faithful they are raw HTML
+-- elements that a browser doesn't show
+abbrev pub hidden_tags : List (List ℕ)
+hidden_tags = codes "script" ∷ codes "style" ∷ codes "title" ∷ codes "iframe" ∷ codes "noframes" ∷ []
+
+-- in Faithful they are raw HTML; in Guarded those that a browser doesn't show give nothing
+abbrev pub other_block_plan : ElementView → PlanView
+other_block_plan view =
+    if is_guarded view.options && is_tag_among hidden_tags (Some (tag_of view)) then nothing
+    else unless_faithful view
+
 abbrev pub other_blocks : HandlerMeaning
-other_blocks = of_plan pure_plan wrapped_result
+other_blocks = of_plan other_block_plan wrapped_result

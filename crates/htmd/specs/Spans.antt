@@ -1,12 +1,15 @@
 -- The handler of span.
-use Rattle.std.specs.Prelude.{ℕ, Bool, true, if◌then◌else◌, List, [], ◌∷◌, ◌++◌, Option, Some, None, codes}
+use Rattle.std.specs.Prelude.{ℕ, Bool, ◌&&◌, ◌||◌, if◌then◌else◌, List, [], ◌∷◌, ◌++◌, Option, Some, None, codes}
+use Rattle.std.specs.List.{list_any}
 use Rattle.std.specs.Option.{is_some}
 use Rattle.std.specs.Str.{bytes_eq}
+use Rattle.htmd_text.specs.Characters.{is_one_of}
 use Rattle.htmd_text.specs.Trims.{trimmed_text, is_line_feed}
 use Rattle.htmd_tree.specs.ValueTrees.{AttributePair}
-use Rattle.htmd.specs.Handling.{ElementView, ResultView, PlanView, this_result, HandlerMeaning, of_plan}
+use Rattle.htmd.specs.Handling.{ElementView, ResultView, PlanView, content_of_children, HandlerMeaning, of_plan}
 use Rattle.htmd.specs.OrdinaryText.{pre}
-use Rattle.htmd.specs.ElementViews.{attributes_of, ancestors_of, pure_plan}
+use Rattle.htmd.specs.ElementViews.{attributes_of, ancestors_of, unless_faithful, markdown_plan}
+use Rattle.htmd.specs.Outputs.{is_guarded}
 
 abbrev pub is_span : List ℕ → Bool
 is_span name = bytes_eq name (codes "span")
@@ -26,17 +29,26 @@ formula_mark (a ∷ b ∷ attributes) = None
 abbrev pub has_math_class : List AttributePair → Bool
 has_math_class attributes = is_some (formula_mark attributes)
 
--- a formula is the text of the only child, unescaped, between its marks
-abbrev pub formula_plan : ElementView → Option (List ℕ) → Option (List ℕ) → PlanView
-formula_plan view None text = pure_plan view
-formula_plan view (Some mark) None = pure_plan view
-formula_plan view (Some mark) (Some text) =
-    this_result (record { content = (mark ++ text) ++ mark; markdown_translated = true })
+-- in the text stands a character that a reader takes for markup between dollar signs too
+abbrev pub is_read_in_formula : List ℕ → Bool
+is_read_in_formula text = list_any (is_one_of (codes "<&`[]\n")) text
 
--- else the content, without line feeds at its ends unless it is preformatted
+-- A formula is the text of the only child, unescaped, between its marks; in Guarded, where a reader takes nothing of
+-- the text for markup.
+abbrev pub formula_plan : ElementView → Option (List ℕ) → Option (List ℕ) → PlanView
+formula_plan view None text = unless_faithful view
+formula_plan view (Some mark) None = unless_faithful view
+formula_plan view (Some mark) (Some text) =
+    if is_guarded view.options && is_read_in_formula text then content_of_children
+    else markdown_plan ((mark ++ text) ++ mark)
+
+-- else the content, without line feeds at its ends unless it is preformatted; in Guarded with them, so that blocks in
+-- it stay apart from what follows
 abbrev pub span_result : ElementView → ResultView → Option ResultView
 span_result view content = Some (record {
-  content = if pre (ancestors_of view) then content.content else trimmed_text is_line_feed content.content;
+  content =
+      if is_guarded view.options || pre (ancestors_of view) then content.content
+      else trimmed_text is_line_feed content.content;
   markdown_translated = content.markdown_translated;
 })
 

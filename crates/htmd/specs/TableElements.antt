@@ -9,11 +9,13 @@ use Rattle.htmd_text.specs.WhiteSpace.{is_document_white_space}
 use Rattle.htmd_text.specs.Trims.{trimmed_text, some_text, is_line_feed}
 use Rattle.htmd_text.specs.BlankLines.{blank_line, with_blank_lines}
 use Rattle.htmd_markdown.specs.Tables.{table}
+use Rattle.htmd_markdown.specs.GuardedTables.{guarded_table}
 use Rattle.htmd_tree.specs.Items.{Item, data_at, children_of}
 use Rattle.htmd_tree.specs.Items as tree
 use Rattle.htmd_tree.specs.NumberedTrees.{NumberedTree, document, doctype, text, comment, element, tree_of}
 use Rattle.htmd_tree.specs.NumberedTrees.{NumberedForest, none, more}
 use Rattle.htmd_tree.specs.Ancestors.{Ancestor}
+use Rattle.htmd_tree.specs.Ancestors as above
 use Rattle.htmd.specs.declared.element_handler.table_layout.PartKind.{PartKind}
 use Rattle.htmd.specs.declared.element_handler.table_layout.PartKind.TheVariants.{Caption, Headers, Row}
 use Rattle.htmd.specs.declared.element_handler.table_layout.TableChild.{TableChild}
@@ -23,8 +25,8 @@ use Rattle.htmd.specs.Handling.{ElementView, ResultView, PlanView, raw_html, con
 use Rattle.htmd.specs.Handling.{OutcomeView, final_result, children_too, HandlerMeaning, without_definitions, of_plan}
 use Rattle.htmd.specs.Groups.{children_at}
 use Rattle.htmd.specs.Children.{is_block_tree}
-use Rattle.htmd.specs.Outputs.{is_pure}
-use Rattle.htmd.specs.ElementViews.{ancestors_of, is_tag_among, unless_attributes, plan_under}
+use Rattle.htmd.specs.Outputs.{is_markdown_alone, is_guarded}
+use Rattle.htmd.specs.ElementViews.{is_tag_among, unless_attributes, plan_under}
 use Rattle.htmd.specs.ElementViews.{are_markdown, raw_block_result}
 use Rattle.htmd.specs.Sections.{markdown_result, wrapped_result}
 use Rattle.htmd.specs.Inline.{optional_markdown}
@@ -210,11 +212,14 @@ cell_tags = codes "td" ∷ codes "th" ∷ []
 abbrev pub is_cell : Ancestor → Bool
 is_cell a = is_tag_among cell_tags (Some a.tag)
 
--- In Pure a table needs explicit headers, and stands in no cell of another one.
+-- the table has explicit headers, and stands in no cell of another one
+abbrev pub has_table_form : List Item → ℕ → Bool
+has_table_form items node =
+    has_explicit_headers (children_at items node) && not (list_any is_cell (above.ancestors_of items node))
+
+-- Where no HTML is written, a table without that form is no table.
 abbrev pub is_left_out : ElementView → Bool
-is_left_out view =
-    is_pure view.options
-    && (not (has_explicit_headers (children_at view.items view.node)) || list_any is_cell (ancestors_of view))
+is_left_out view = is_markdown_alone view.options && not (has_table_form view.items view.node)
 
 -- the captions and cells, each by itself
 abbrev pub table_plan : ElementView → PlanView
@@ -274,13 +279,30 @@ abbrev pub table_text : TableTexts → List ℕ
 table_text texts =
     (blank_line ++ flat_map in_line texts.captions) ++ in_line (table texts.headers texts.rows)
 
+-- the captions of Guarded: a blank line parts them from the table, which would be read as their paragraph
+abbrev pub guarded_captions : List (List ℕ) → List ℕ
+guarded_captions [] = []
+guarded_captions (caption ∷ captions) = in_line (flat_map in_line (caption ∷ captions))
+
+-- the headers of Guarded, an empty one where there are none: by the line of dashes below them a reader knows a table
+abbrev pub guarded_headers : List (List ℕ) → List (List ℕ)
+guarded_headers [] = [] ∷ []
+guarded_headers (header ∷ headers) = header ∷ headers
+
+abbrev pub guarded_table_text : TableTexts → List ℕ
+guarded_table_text texts =
+    (blank_line ++ guarded_captions texts.captions)
+    ++ in_line (guarded_table (guarded_headers texts.headers) texts.rows)
+
 -- in Faithful a table with a cell that isn't Markdown is raw HTML; without headers and rows the children's
 -- content is asked for
 abbrev pub table_outcome : ElementView → List ResultView → OutcomeView
 table_outcome view contents =
     let texts = with_parts no_texts (layout_at view).parts contents in
-    if is_pure view.options || texts.markdown_translated
-    then (if has_lines (layout_at view) then final_result (markdown_result (table_text texts)) else children_too)
+    if is_markdown_alone view.options || texts.markdown_translated
+    then (if has_lines (layout_at view)
+    then final_result (markdown_result ((if is_guarded view.options then guarded_table_text else table_text) texts))
+    else children_too)
     else final_result (Some (raw_block_result view))
 
 -- what the next handler gives stays as it is; the children's content stands between blank lines
@@ -305,7 +327,7 @@ is_block_node items node = is_block_tree (tree_of items node)
 -- in Faithful a cell has no attributes and no block elements in it, and stands in a row
 abbrev pub cell_plan : ElementView → PlanView
 cell_plan view =
-    if not (is_pure view.options) && list_any (is_block_node view.items) (children_of view.items view.node)
+    if not (is_markdown_alone view.options) && list_any (is_block_node view.items) (children_of view.items view.node)
     then raw_html
     else unless_attributes view (plan_under (codes "tr" ∷ []) view)
 

@@ -1,20 +1,25 @@
 -- The definitions that private clauses alone use: what the walk speaks of on its way.
-use Rattle.std.specs.Prelude.{ℕ, suc, ◌≤◌}
+use Rattle.std.specs.Prelude.{◌≡◌, ℕ, suc, ◌≤◌, List, Option, All}
+use Rattle.htmd_tree.specs.Items.{Item, data_at}
 use Rattle.htmd_tree.specs.NumberedTrees.{tree_of, height}
+use Rattle.htmd_tree.specs.Ancestors.{ancestor_of}
+use Rattle.htmd.specs.declared.dom_walker.Remembered.{Remembered}
 use Rattle.htmd.specs.declared.element_handler.Element.{Element}
 use Rattle.htmd.specs.declared.element_handler.registry.Request.{Request}
 use Rattle.htmd.specs.declared.element_handler.registry.Request.TheVariants.{OfPlan, Each}
 use Rattle.htmd.specs.declared.element_handler.registry.Outcome.{Outcome}
 use Rattle.htmd.specs.declared.element_handler.registry.Outcome.TheVariants.{Final, ChildrenToo}
-use Rattle.htmd.specs.Handling.{PlanView, contents_of_each, OutcomeView, final_result, children_too}
-use Rattle.htmd.specs.Outputs.{Conversion, Writes}
-use Rattle.htmd.specs.Elements.{Occurrence}
+use Rattle.htmd.specs.Handling.{ResultView, PlanView, contents_of_each, OutcomeView, final_result, children_too}
+use Rattle.htmd.specs.Groups.{children_at}
+use Rattle.htmd.specs.Choice.{Config}
+use Rattle.htmd.specs.Outputs.{Conversion, conversion_of, Writes}
+use Rattle.htmd.specs.Elements.{Occurrence, Answer, answer_after, occurrence_at}
 use Rattle.htmd.specs.Rendering.{written_within, inside_of}
 use Rattle.htmd.specs.Views.{plan_view, element_view, element_children, optional_result}
 
 abbrev pub request_view : Request → PlanView
 request_view (OfPlan plan) = plan_view plan
-request_view (Each nodes) = contents_of_each nodes.items
+request_view (Each nodes may_ask_children) = contents_of_each nodes.items
 
 abbrev pub outcome_view : Outcome → OutcomeView
 outcome_view (Final result) = final_result (optional_result result)
@@ -43,3 +48,21 @@ AtNode conversion id P = (n : ℕ) → height (tree_of conversion.items id) ≤ 
 abbrev pub InNode : Conversion → ℕ → (Writes → Type 0) → Type 0
 InNode conversion id P = (n : ℕ) → height (tree_of conversion.items id) ≤ suc n
     → P (written_within n conversion)
+
+-- what an element of the tree answers where it is in no group
+abbrev pub answer_at : Writes → Conversion → ℕ → List (List ℕ) → Answer
+answer_at write conversion id definitions =
+    answer_after 0 (ancestor_of (data_at conversion.items id)).tag
+    (occurrence_at write conversion id (inside_of conversion.items id) (children_at conversion.items id)) definitions
+
+-- it answers with this result and adds no definition, whatever the definitions so far
+abbrev pub AlwaysGives : Conversion → ℕ → Option ResultView → Type 0
+AlwaysGives conversion id result =
+    InNode conversion id (λ write. (definitions : List (List ℕ))
+    → answer_at write conversion id definitions ≡ record { result = result; definitions = definitions })
+
+abbrev pub IsRemembered : Conversion → Remembered → Type 0
+IsRemembered conversion r = AlwaysGives conversion r.node (optional_result r.result)
+
+abbrev pub AreRemembered : Config → List Item → List Remembered → Type 0
+AreRemembered config items = All (IsRemembered (conversion_of config items))

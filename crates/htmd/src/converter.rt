@@ -4,7 +4,8 @@ ghost use Rattle.std.specs.Prelude.{◌≡◌, ◌<◌, ℕ, true, None, Err, If
 ghost use Rattle.htmd_grammar.specs.declared.fault.FaultKind.{FaultKind};
 ghost use Rattle.htmd.specs.Handling.{of_functions};
 ghost use Rattle.htmd.specs.Choice.{no_handler, with_handler, with_options};
-ghost use Rattle.htmd.specs.Conversions.{IsRefused, IsMarkdownOf, IsTreeOf};
+ghost use Rattle.htmd.specs.Conversions.{IsRefused, IsMarkdownOf, IsMarkdownOfTexts, IsTreeOf, IsMarkdownOfPage};
+ghost use Rattle.htmd.specs.Conversions.{IsPageRefused};
 ghost use Rattle.htmd.specs.Defaults.{default_options};
 ghost use Rattle.htmd.specs.Markdown.{markdown};
 
@@ -16,7 +17,7 @@ use crate::element_handler::registrar::Registrar;
 use crate::element_handler::registry::Registry;
 use crate::element_handler::{ElementHandler, ElementHandlers};
 use crate::options::Options;
-use htmd_tree::{NodeId, Tree, read_html};
+use htmd_tree::{NodeId, Tree, body_of, read_html};
 use std::alloc::{AllocError, Global};
 
 /// Converts trees to Markdown, by handlers that are registered for tags.
@@ -91,16 +92,40 @@ impl<R: Registry> HtmlToMarkdown<R> {
         Ok(read_html(alloc, html, self.scripting)?)
     }
 
-    /// The Markdown of a text of HTML: of its tree, from the Document. It is refused as its tree is.
+    /// The Markdown of a text of HTML: of its tree, from the Document, all of whose texts are UTF-8. It is
+    /// refused as its tree is.
     pub fn convert(&self, alloc: Global, html: &str) -> Result<String, ConvertError>
         requires ready { R.ready (handlers_of self.now) }
         ensures ok { IfOk result (λ text. IsMarkdownOf (R.config (handlers_of self.now))
+            (scripting_of self.now) html.now (string_bytes text)) }
+        ensures texts { IfOk result (λ text. IsMarkdownOfTexts (R.config (handlers_of self.now))
             (scripting_of self.now) html.now (string_bytes text)) }
         ensures refused { (place : ℕ) (kind : FaultKind) → result ≡ Err (ConvertError.Refused place kind)
             → IsRefused (scripting_of self.now) html.now place kind }
     {
         let tree = self.html_to_tree(alloc, html)?;
         Ok(self.tree_to_markdown(alloc, &tree, tree.root())?)
+    }
+
+    /// The Markdown of a whole page: of what stands between the tags of its body, as `body_of` has it, or of the whole
+    /// text where no start tag of a body stands in it. It is refused as that text is; the place of a refusal counts in
+    /// the page. Where the body is cut at a wrong tag, as one in a comment or a script of its head, the right start tag
+    /// is refused at its place, if it stands in the part outside of comments and raw text (`body_of`).
+    pub fn convert_page(&self, alloc: Global, page: &str) -> Result<String, ConvertError>
+        requires ready { R.ready (handlers_of self.now) }
+        ensures ok { IfOk result (λ text. IsMarkdownOfPage (R.config (handlers_of self.now))
+            (scripting_of self.now) page.now (string_bytes text)) }
+        ensures refused { (place : ℕ) (kind : FaultKind) → result ≡ Err (ConvertError.Refused place kind)
+            → IsPageRefused (scripting_of self.now) page.now place kind }
+    {
+        let (body, start) = body_of(page);
+        match self.convert(alloc, body) {
+            Err(ConvertError::Refused { place, kind }) => Err(ConvertError::Refused {
+                place: start + place,
+                kind,
+            }),
+            other => other,
+        }
     }
 
     /// The Markdown of a node that is handed over by itself. It refuses for want of memory alone, and

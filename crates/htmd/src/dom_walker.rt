@@ -1,9 +1,10 @@
 //! The walk over a tree.
 
-ghost use Rattle.std.specs.Prelude.{◌≡◌, ◌<◌, true, false, IfOk, IfSome, IsSome, OnOk, OnErr, ◌++◌, nat_lt, if◌then◌else◌, length, string_bytes, []};
+ghost use Rattle.std.specs.Prelude.{◌≡◌, ◌<◌, ℕ, List, None, true, false, IfOk, IfSome, IsSome, IsTrue, OnOk};
+ghost use Rattle.std.specs.Prelude.{OnErr, ◌++◌, nat_lt, if◌then◌else◌, length, string_bytes, []};
 ghost use Rattle.std.specs.Option.{option_copied};
 ghost use Rattle.htmd_text.specs.Trims.{trimmed_end, is_space};
-ghost use Rattle.htmd_tree.specs.Items.{data_at, IsTree};
+ghost use Rattle.htmd_tree.specs.Items.{data_at, parent_at, IsTree};
 ghost use Rattle.htmd_tree.specs.NumberedTrees.{tree_of};
 ghost use Rattle.htmd_tree.specs.Views.{pairs_of};
 ghost use Rattle.htmd_tree.specs.Serialisation.{start_tag, comment_of};
@@ -11,23 +12,28 @@ ghost use Rattle.htmd_tree.specs.Ancestors.{ancestors_of};
 ghost use Rattle.htmd.specs.Handling.{IsProper, contents_of_each};
 ghost use Rattle.htmd.specs.OrdinaryText.{pre, preformatted_text, ordinary_text};
 ghost use Rattle.htmd.specs.Groups.{only_text, group_tree, group_children, children_at};
-ghost use Rattle.htmd.specs.Outputs.{conversion_of, context_of};
+ghost use Rattle.htmd.specs.Outputs.{conversion_of, context_of, empty_output, is_guarded};
 ghost use Rattle.htmd.specs.Children.{write_groups, content_alone, descendant_tree};
 ghost use Rattle.htmd.specs.Elements.{content_of, contents_alone, answer_after, raw_answer, raw_result, end_of_element};
-ghost use Rattle.htmd.specs.Rendering.{is_text, inside_of};
+ghost use Rattle.htmd.specs.Rendering.{is_text, inside_of, with_result};
 ghost use Rattle.htmd.specs.Markdown.{markdown};
 ghost use Rattle.htmd.specs.Handled.{IsElement, handled};
 ghost use Rattle.htmd.specs.Beginnings.{Begins};
-ghost use Rattle.htmd.specs.Views.{optional_text, output_view, answer_view, contents_view, result_view};
-ghost use Rattle.htmd.specs.Walking.{AtElement, AtNode, InNode};
+ghost use Rattle.htmd.specs.Views.{optional_text, optional_result, output_view, answer_view, contents_view};
+ghost use Rattle.htmd.specs.Views.{result_view};
+ghost use Rattle.htmd.specs.Walking.{AtElement, AtNode, InNode, AlwaysGives, AreRemembered};
+ghost use Rattle.htmd.specs.OneLineElements.{known_in_line, known_in_line_inside};
+ghost use Rattle.htmd.specs.Code.{language_of_pre};
 
+use crate::element_handler::code::{language_above, language_inside};
+use crate::element_handler::plans::{is_guarded, is_markdown_alone};
 use crate::element_handler::registry::{Outcome, Registry, Request};
 use crate::element_handler::{Element, HandlerResult, Links, Plan};
 use crate::group::{group_length, joined_text};
+use crate::line::{is_in_one_line, is_known_in_line};
 use crate::node_util::{
     is_block, is_inside_pre, is_parent_pre, is_pre_or_code, is_text, only_text, trims_first,
 };
-use crate::options::TranslationMode;
 use crate::seam::append_normalized_content;
 use crate::text_node::{Context, append_text};
 use htmd_text::{
@@ -39,13 +45,22 @@ use htmd_tree::{
 };
 use std::alloc::{AllocError, Global};
 
-/// A walk over a tree.
+/// What an element gave that added no definition: it gives the same wherever else it is reached.
 #[derive(Drop)]
-pub(crate) struct Walk<'a, R> {
+pub(crate) struct Remembered {
+    node: NodeId,
+    result: Option<HandlerResult>,
+}
+
+/// A walk over a tree, and what is remembered of nodes on the way.
+#[derive(Drop)]
+pub(crate) struct Walk<'a, R: Registry> {
     registry: &'a R,
     alloc: Global,
     tree: &'a Tree,
+    remembered: &'a [Remembered],
     ghost is_tree: { IsTree tree.now },
+    ghost are_right: { AreRemembered (R.config registry.now) tree.now remembered.now },
 }
 
 /// Before a block element the spaces at the end of the text go.
@@ -133,6 +148,54 @@ fn between_tags(
     Ok(out)
 }
 
+/// A copy of a result.
+fn copied(alloc: Global, given: &Option<HandlerResult>) -> Result<Option<HandlerResult>, AllocError>
+    ensures { IfOk result (λ r. optional_result r ≡ optional_result given.now) }
+{
+    match given {
+        None => Ok(None),
+        Some(given) => Ok(Some(HandlerResult {
+            content: String::from_str(alloc, given.content.as_str())?,
+            markdown_translated: given.markdown_translated,
+        })),
+    }
+}
+
+/// Puts what an element gives behind what is written so far.
+fn append_result(
+    out: &mut HandlerResult,
+    given: Option<HandlerResult>,
+    whole: bool,
+    is_guarded: bool,
+) -> Result<(), AllocError>
+    ensures { OnOk result ((definitions : List (List ℕ)) → output_view out.new definitions
+        ≡ with_result is_guarded (output_view out.old definitions) whole (optional_result given) definitions) }
+{
+    match given {
+        None => Ok(()),
+        Some(given) => {
+            append_normalized_content(&mut out.content, given.content, whole, is_guarded)?;
+            out.markdown_translated = out.markdown_translated && given.markdown_translated;
+            Ok(())
+        }
+    }
+}
+
+/// Puts a copy of what an element gives behind what is written so far.
+fn append_copy(
+    alloc: Global,
+    out: &mut HandlerResult,
+    given: &Option<HandlerResult>,
+    whole: bool,
+    is_guarded: bool,
+) -> Result<(), AllocError>
+    ensures { OnOk result ((definitions : List (List ℕ)) → output_view out.new definitions
+        ≡ with_result is_guarded (output_view out.old definitions) whole (optional_result given.now) definitions) }
+{
+    let given = copied(alloc, given)?;
+    append_result(out, given, whole, is_guarded)
+}
+
 /// Puts a comment behind a text.
 fn push_comment(out: &mut String, text: &str) -> Result<(), AllocError>
     ensures { OnOk result (string_bytes out.new ≡ string_bytes out.old ++ comment_of text.now) }
@@ -154,7 +217,105 @@ impl<'a, R: Registry> Walk<'a, R> {
             registry,
             alloc,
             tree,
+            remembered: &[],
         }
+    }
+
+    /// What is remembered of a node, where it doesn't stand for a group.
+    fn recall(&self, node: NodeId, joined: Option<&str>) -> Option<&Remembered>
+        ensures { IfSome result (λ known. (option_copied joined.entry ≡ None)
+            × AlwaysGives (conversion_of (R.config self.now.registry.now) self.now.tree.now) node
+            (optional_result known.now.result)) }
+    {
+        if joined.is_some() {
+            return None;
+        }
+        let Ok(at) = self
+            .remembered
+            .binary_search_by_key(&node, |known| known.node)
+        else {
+            return None;
+        };
+        let known = &self.remembered[at];
+        if known.node != node {
+            return None;
+        }
+        Some(known)
+    }
+
+    /// The content that an element gives by itself. Where that added no definition, it is remembered.
+    fn keep(
+        &self,
+        node: NodeId,
+        given: Option<HandlerResult>,
+        adds_none: bool,
+        whole: bool,
+        remembered: &mut Vec<Remembered>,
+    ) -> Result<HandlerResult, AllocError>
+        requires right { IsTrue adds_none
+            → AlwaysGives (conversion_of (R.config self.now.registry.now) self.now.tree.now) node
+            (optional_result given) }
+        requires remembered { AreRemembered (R.config self.now.registry.now) self.now.tree.now remembered.old.items }
+        ensures content { let guarded = is_guarded (R.config self.now.registry.now).options in
+            IfOk result (λ r. (definitions : List (List ℕ)) → output_view r definitions
+            ≡ with_result guarded (empty_output definitions) whole (optional_result given) definitions) }
+        ensures remembered { OnOk result
+            (AreRemembered (R.config self.now.registry.now) self.now.tree.now remembered.new.items) }
+    {
+        if adds_none {
+            let result = copied(self.alloc, &given)?;
+            remembered.push(Remembered { node, result })?;
+        }
+        let mut out = empty_result(self.alloc);
+        append_result(&mut out, given, whole, is_guarded(self.registry.options()))?;
+        Ok(out)
+    }
+
+    /// In Guarded, whether what stands below an element is written in one line.
+    fn is_line_inside(&self, element: &Element) -> Result<bool, AllocError>
+        requires tree { element.now.tree.now ≡ self.now.tree.now }
+        requires options { element.now.options.now ≡ (R.config self.now.registry.now).options }
+        ensures { IfOk result (λ inside. inside ≡ known_in_line_inside (R.config self.now.registry.now).options
+            self.now.tree.now element.now.node) }
+    {
+        if element.is_in_line {
+            return Ok(true);
+        }
+        if !is_guarded(element.options) {
+            return Ok(false);
+        }
+        is_in_one_line(self.alloc, self.tree, element.node)
+    }
+
+    /// In Guarded, whether a node stands in one line; it does where it is below the node of which it is known that what
+    /// stands below it does or does not.
+    fn is_line_below(
+        &self,
+        above: NodeId,
+        inside_line: bool,
+        node: NodeId,
+    ) -> Result<bool, AllocError>
+        requires above { above < length self.now.tree.now }
+        requires within { node < length self.now.tree.now }
+        requires line { inside_line ≡ known_in_line_inside (R.config self.now.registry.now).options
+            self.now.tree.now above }
+        ensures { IfOk result (λ below. below ≡ known_in_line (R.config self.now.registry.now).options
+            self.now.tree.now node) }
+    {
+        if !is_guarded(self.registry.options()) {
+            return Ok(false);
+        }
+        let mut at = node;
+        while let Some(parent) = self.tree.parent(at) {
+            if parent == above {
+                return Ok(inside_line);
+            }
+            if is_in_one_line(self.alloc, self.tree, parent)? {
+                return Ok(true);
+            }
+            at = parent;
+        }
+        Ok(false)
     }
 
     /// What the handlers of an element's tag make of it, from the one after so many newer ones on.
@@ -168,6 +329,7 @@ impl<'a, R: Registry> Walk<'a, R> {
     ) -> Result<Option<HandlerResult>, AllocError>
         requires ready { R.ready self.now.registry.now }
         requires tree { element.now.tree.now ≡ self.now.tree.now }
+        requires options { element.now.options.now ≡ (R.config self.now.registry.now).options }
         requires inside { inside_pre ≡ pre (inside_of self.now.tree.now element.now.node) }
         ensures ok { let conversion = conversion_of (R.config self.now.registry.now) self.now.tree.now in
             IfOk result (λ r. AtElement conversion element.now (λ at.
@@ -177,10 +339,10 @@ impl<'a, R: Registry> Walk<'a, R> {
             Begins links.old links.new (answer_after skipped element.now.tag.now at links.old).definitions)) }
     {
         let Some(index) = self.registry.find(element.tag, skipped) else {
-            return match self.registry.options().translation_mode {
-                TranslationMode::Pure => Ok(Some(self.content(element, inside_pre, links)?)),
-                TranslationMode::Faithful => self.raw_html(element, inside_pre, links),
-            };
+            if is_markdown_alone(self.registry.options()) {
+                return Ok(Some(self.content(element, inside_pre, links)?));
+            }
+            return self.raw_html(element, inside_pre, links);
         };
         match self.registry.plan(self.alloc, index, element)? {
             // A pattern in a pattern gets no proof here.
@@ -194,7 +356,8 @@ impl<'a, R: Registry> Walk<'a, R> {
                         .finish(self.alloc, index, element, content, links)
                 }
                 Plan::Descendant(below) => {
-                    let content = self.walk_descendant(element, below, links)?;
+                    let inside_line = self.is_line_inside(element)?;
+                    let content = self.walk_descendant(element, inside_line, below, links)?;
                     self.registry
                         .finish(self.alloc, index, element, content, links)
                 }
@@ -208,15 +371,31 @@ impl<'a, R: Registry> Walk<'a, R> {
                     }
                 }
             },
-            Request::Each(nodes) => {
-                let contents = self.walk_each(element, nodes.as_slice(), links)?;
+            Request::Each {
+                nodes,
+                may_ask_children,
+            } => {
+                let mut remembered = Vec::new(self.alloc);
+                let contents = self.walk_each(
+                    element,
+                    nodes.as_slice(),
+                    may_ask_children,
+                    &mut remembered,
+                    links,
+                )?;
                 match self
                     .registry
                     .finish_each(self.alloc, index, element, contents)?
                 {
                     Outcome::Final(result) => Ok(result),
                     Outcome::ChildrenToo => {
-                        let content = self.content(element, inside_pre, links)?;
+                        let knowing = Walk {
+                            registry: self.registry,
+                            alloc: self.alloc,
+                            tree: self.tree,
+                            remembered: remembered.as_slice(),
+                        };
+                        let content = knowing.content(element, inside_pre, links)?;
                         self.registry
                             .finish(self.alloc, index, element, content, links)
                     }
@@ -248,13 +427,14 @@ impl<'a, R: Registry> Walk<'a, R> {
             return self.handle(element, inside_pre, 0, links);
         }
         let mut content = self.content(element, inside_pre, links)?;
-        if element.tag == "span" && !inside_pre {
+        if element.tag == "span" && !inside_pre && !is_guarded(self.registry.options()) {
             trim_newlines(&mut content.content);
         }
         Ok(Some(content))
     }
 
     /// The raw HTML of an element.
+    #[inline(never)]
     #[cycle(walk)]
     fn raw_html(
         &self,
@@ -264,6 +444,7 @@ impl<'a, R: Registry> Walk<'a, R> {
     ) -> Result<Option<HandlerResult>, AllocError>
         requires ready { R.ready self.now.registry.now }
         requires tree { element.now.tree.now ≡ self.now.tree.now }
+        requires options { element.now.options.now ≡ (R.config self.now.registry.now).options }
         requires inside { inside_pre ≡ pre (inside_of self.now.tree.now element.now.node) }
         ensures ok { let conversion = conversion_of (R.config self.now.registry.now) self.now.tree.now in
             IfOk result (λ r. AtElement conversion element.now (λ at.
@@ -285,27 +466,35 @@ impl<'a, R: Registry> Walk<'a, R> {
         Ok(Some(raw_result(raw)))
     }
 
-    /// The contents of proper descendants, each handed over by itself.
+    /// The contents of proper descendants, each handed over by itself; what they give is remembered, if it may be.
+    #[inline(never)]
     #[cycle(walk)]
     fn walk_each(
         &self,
         element: &Element,
         nodes: &[NodeId],
+        may_keep: bool,
+        remembered: &mut Vec<Remembered>,
         links: &mut Links,
     ) -> Result<Vec<HandlerResult>, AllocError>
         requires ready { R.ready self.now.registry.now }
         requires tree { element.now.tree.now ≡ self.now.tree.now }
+        requires options { element.now.options.now ≡ (R.config self.now.registry.now).options }
         requires proper { IsProper self.now.tree.now element.now.node (contents_of_each nodes.now) }
+        requires remembered { AreRemembered (R.config self.now.registry.now) self.now.tree.now remembered.old.items }
         ensures ok { let conversion = conversion_of (R.config self.now.registry.now) self.now.tree.now in
             IfOk result (λ r. AtElement conversion element.now (λ at.
             contents_view r.items links.new ≡ contents_alone at nodes.now links.old)) }
+        ensures remembered { OnOk result
+            (AreRemembered (R.config self.now.registry.now) self.now.tree.now remembered.new.items) }
         ensures err { let conversion = conversion_of (R.config self.now.registry.now) self.now.tree.now in
             OnErr result (AtElement conversion element.now (λ at.
             Begins links.old links.new (contents_alone at nodes.now links.old).definitions)) }
     {
+        let inside_line = self.is_line_inside(element)?;
         let mut results = Vec::with_capacity(self.alloc, nodes.len())?;
         for node in nodes {
-            let result = self.walk_descendant(element, *node, links)?;
+            let result = self.walk_kept(element, inside_line, *node, may_keep, remembered, links)?;
             results.push(result)?;
         }
         Ok(results)
@@ -321,6 +510,7 @@ impl<'a, R: Registry> Walk<'a, R> {
     ) -> Result<HandlerResult, AllocError>
         requires ready { R.ready self.now.registry.now }
         requires tree { element.now.tree.now ≡ self.now.tree.now }
+        requires options { element.now.options.now ≡ (R.config self.now.registry.now).options }
         requires inside { inside_pre ≡ pre (inside_of self.now.tree.now element.now.node) }
         ensures ok { let conversion = conversion_of (R.config self.now.registry.now) self.now.tree.now in
             IfOk result (λ r. AtElement conversion element.now (λ at.
@@ -340,11 +530,13 @@ impl<'a, R: Registry> Walk<'a, R> {
                 text,
                 element.tag == "pre",
                 context,
+                is_guarded(self.registry.options()),
                 &mut out.content,
             )?;
             return Ok(out);
         }
-        self.walk_children(element.node, inside_pre, &mut out, links)?;
+        let inside_line = self.is_line_inside(element)?;
+        self.walk_children(element.node, inside_pre, inside_line, &mut out, links)?;
         Ok(out)
     }
 
@@ -354,12 +546,15 @@ impl<'a, R: Registry> Walk<'a, R> {
         &self,
         node: NodeId,
         inside_pre: bool,
+        inside_line: bool,
         out: &mut HandlerResult,
         links: &mut Links,
     ) -> Result<(), AllocError>
         requires ready { R.ready self.now.registry.now }
         requires within { node < length self.now.tree.now }
         requires inside { inside_pre ≡ pre (inside_of self.now.tree.now node) }
+        requires line { inside_line ≡ known_in_line_inside (R.config self.now.registry.now).options
+            self.now.tree.now node }
         ensures ok { let conversion = conversion_of (R.config self.now.registry.now) self.now.tree.now in
             OnOk result (InNode conversion node (λ write. output_view out.new links.new
             ≡ write_groups write (inside_of self.now.tree.now node) (children_at self.now.tree.now node)
@@ -371,6 +566,7 @@ impl<'a, R: Registry> Walk<'a, R> {
     {
         let mut trim = trims_first(self.tree, node, inside_pre);
         let mut rest = self.tree.children(node);
+        let pre_language = language_inside(self.tree, node);
         while !rest.is_empty() {
             let child = rest[0];
             let (group, behind) = rest.split_at(group_length(self.tree, rest));
@@ -382,7 +578,15 @@ impl<'a, R: Registry> Walk<'a, R> {
                 preformatted: inside_pre,
                 trim,
             };
-            self.walk_node(child, lent(&joined), context, out, links)?;
+            self.walk_node(
+                child,
+                lent(&joined),
+                context,
+                inside_line,
+                pre_language,
+                out,
+                links,
+            )?;
             trim = trim_after(before, out.content.as_str().len(), is_block, trim);
             rest = behind;
         }
@@ -390,14 +594,18 @@ impl<'a, R: Registry> Walk<'a, R> {
     }
 
     /// A proper descendant of an element, handed over by itself: the one text that it shows, if it does.
+    #[inline(never)]
     #[cycle(walk)]
     fn walk_descendant(
         &self,
         element: &Element,
+        inside_line: bool,
         below: NodeId,
         links: &mut Links,
     ) -> Result<HandlerResult, AllocError>
         requires ready { R.ready self.now.registry.now }
+        requires line { inside_line ≡ known_in_line_inside (R.config self.now.registry.now).options
+            self.now.tree.now element.now.node }
         requires behind { element.now.node < below }
         requires within { below < length self.now.tree.now }
         ensures ok { let conversion = conversion_of (R.config self.now.registry.now) self.now.tree.now in
@@ -409,15 +617,77 @@ impl<'a, R: Registry> Walk<'a, R> {
             (descendant_tree self.now.tree.now (option_copied element.now.text) below) below links.old).definitions)) }
     {
         let Some(text) = element.text else {
-            return self.walk_alone(below, links);
+            let is_in_line = self.is_line_below(element.node, inside_line, below)?;
+            return self.walk_alone(below, is_in_line, links);
         };
         let mut out = empty_result(self.alloc);
         let context = Context {
             preformatted: false,
             trim: true,
         };
-        append_text(self.alloc, text, false, context, &mut out.content)?;
+        let is_guarded = is_guarded(self.registry.options());
+        append_text(
+            self.alloc,
+            text,
+            false,
+            context,
+            is_guarded,
+            &mut out.content,
+        )?;
         Ok(out)
+    }
+
+    /// The same; what an element gives is remembered, if it may be.
+    #[inline(never)]
+    #[cycle(walk)]
+    fn walk_kept(
+        &self,
+        element: &Element,
+        inside_line: bool,
+        below: NodeId,
+        may_keep: bool,
+        remembered: &mut Vec<Remembered>,
+        links: &mut Links,
+    ) -> Result<HandlerResult, AllocError>
+        requires ready { R.ready self.now.registry.now }
+        requires line { inside_line ≡ known_in_line_inside (R.config self.now.registry.now).options
+            self.now.tree.now element.now.node }
+        requires behind { element.now.node < below }
+        requires within { below < length self.now.tree.now }
+        requires remembered { AreRemembered (R.config self.now.registry.now) self.now.tree.now remembered.old.items }
+        ensures ok { let conversion = conversion_of (R.config self.now.registry.now) self.now.tree.now in
+            IfOk result (λ r. AtNode conversion below (λ write. output_view r links.new
+            ≡ content_alone write conversion
+            (descendant_tree self.now.tree.now (option_copied element.now.text) below) below links.old)) }
+        ensures remembered { OnOk result
+            (AreRemembered (R.config self.now.registry.now) self.now.tree.now remembered.new.items) }
+        ensures err { let conversion = conversion_of (R.config self.now.registry.now) self.now.tree.now in
+            OnErr result (AtNode conversion below (λ write. Begins links.old links.new (content_alone write conversion
+            (descendant_tree self.now.tree.now (option_copied element.now.text) below) below links.old).definitions)) }
+    {
+        if !may_keep || element.text.is_some() {
+            return self.walk_descendant(element, inside_line, below, links);
+        }
+        let NodeData::Element { name, attrs } = self.tree.data(below) else {
+            return self.walk_descendant(element, inside_line, below, links);
+        };
+        let child = Element {
+            node: below,
+            tag: name.as_str(),
+            attrs: attrs.as_slice(),
+            markdown_translated: true,
+            tree: self.tree,
+            options: self.registry.options(),
+            text: text_shown(self.tree, below, None),
+            is_in_line: self.is_line_below(element.node, inside_line, below)?,
+            pre_language: language_above(self.tree, below),
+        };
+        let is_inside_pre = is_inside_pre(self.tree, below);
+        let inside_pre = is_inside_pre || is_pre_or_code(self.tree, below);
+        let before = links.lines.len();
+        let given = self.walk_element(&child, inside_pre, links)?;
+        let adds_none = links.lines.len() == before;
+        self.keep(below, given, adds_none, is_inside_pre, remembered)
     }
 
     /// The content of a node that is handed over by itself.
@@ -425,10 +695,12 @@ impl<'a, R: Registry> Walk<'a, R> {
     pub(crate) fn walk_alone(
         &self,
         node: NodeId,
+        is_in_line: bool,
         links: &mut Links,
     ) -> Result<HandlerResult, AllocError>
         requires ready { R.ready self.now.registry.now }
         requires within { node < length self.now.tree.now }
+        requires line { is_in_line ≡ known_in_line (R.config self.now.registry.now).options self.now.tree.now node }
         ensures ok { let conversion = conversion_of (R.config self.now.registry.now) self.now.tree.now in
             IfOk result (λ r. AtNode conversion node (λ write. output_view r links.new
             ≡ content_alone write conversion (tree_of self.now.tree.now node) node links.old)) }
@@ -442,7 +714,16 @@ impl<'a, R: Registry> Walk<'a, R> {
             preformatted: !is_text(self.tree, node) && is_inside_pre(self.tree, node),
             trim: true,
         };
-        self.walk_node(node, None, context, &mut out, links)?;
+        let pre_language = language_above(self.tree, node);
+        self.walk_node(
+            node,
+            None,
+            context,
+            is_in_line,
+            pre_language,
+            &mut out,
+            links,
+        )?;
         Ok(out)
     }
 
@@ -453,12 +734,17 @@ impl<'a, R: Registry> Walk<'a, R> {
         node: NodeId,
         joined: Option<&str>,
         context: Context,
+        is_in_line: bool,
+        pre_language: Option<&str>,
         out: &mut HandlerResult,
         links: &mut Links,
     ) -> Result<(), AllocError>
         requires ready { R.ready self.now.registry.now }
         requires within { node < length self.now.tree.now }
         requires group { IfSome joined (λ _. IsSome (only_text (children_at self.now.tree.now node))) }
+        requires line { is_in_line ≡ known_in_line (R.config self.now.registry.now).options self.now.tree.now node }
+        requires language { option_copied pre_language
+            ≡ language_of_pre self.now.tree.now (parent_at self.now.tree.now node) }
         requires context { is_text (data_at self.now.tree.now node) ≡ false
             → context.preformatted ≡ pre (ancestors_of self.now.tree.now node) }
         ensures ok { let conversion = conversion_of (R.config self.now.registry.now) self.now.tree.now in
@@ -475,21 +761,42 @@ impl<'a, R: Registry> Walk<'a, R> {
         match self.tree.data(node) {
             NodeData::Document => {
                 let markdown_translated = out.markdown_translated;
-                self.walk_children(node, context.preformatted, out, links)?;
+                self.walk_children(node, context.preformatted, is_in_line, out, links)?;
                 trim_end_document_white_space(&mut out.content);
                 out.markdown_translated = markdown_translated;
                 Ok(())
             }
             NodeData::Doctype => Ok(()),
-            NodeData::Comment(text) => match self.registry.options().translation_mode {
-                TranslationMode::Pure => Ok(()),
-                TranslationMode::Faithful => push_comment(&mut out.content, text.as_str()),
-            },
+            NodeData::Comment(text) => {
+                if is_markdown_alone(self.registry.options()) {
+                    return Ok(());
+                }
+                push_comment(&mut out.content, text.as_str())
+            }
             NodeData::Text(text) => {
                 let in_pre = is_parent_pre(self.tree, node);
-                append_text(self.alloc, text.as_str(), in_pre, context, &mut out.content)
+                let is_guarded = is_guarded(self.registry.options());
+                let text = text.as_str();
+                append_text(
+                    self.alloc,
+                    text,
+                    in_pre,
+                    context,
+                    is_guarded,
+                    &mut out.content,
+                )
             }
             NodeData::Element { name, attrs } => {
+                let is_guarded = is_guarded(self.registry.options());
+                if let Some(known) = self.recall(node, joined) {
+                    return append_copy(
+                        self.alloc,
+                        out,
+                        &known.result,
+                        context.preformatted,
+                        is_guarded,
+                    );
+                }
                 let inside_pre = context.preformatted || is_pre_or_code(self.tree, node);
                 let element = Element {
                     node,
@@ -499,20 +806,11 @@ impl<'a, R: Registry> Walk<'a, R> {
                     tree: self.tree,
                     options: self.registry.options(),
                     text: text_shown(self.tree, node, joined),
+                    is_in_line,
+                    pre_language,
                 };
-                match self.walk_element(&element, inside_pre, links)? {
-                    None => Ok(()),
-                    Some(result) => {
-                        append_normalized_content(
-                            &mut out.content,
-                            result.content,
-                            context.preformatted,
-                        )?;
-                        out.markdown_translated = out.markdown_translated
-                            && result.markdown_translated;
-                        Ok(())
-                    }
-                }
+                let given = self.walk_element(&element, inside_pre, links)?;
+                append_result(out, given, context.preformatted, is_guarded)
             }
         }
     }
@@ -531,7 +829,8 @@ pub(crate) fn tree_to_markdown<R: Registry>(
 {
     let walk = Walk::new(registry, alloc, tree);
     let mut links = Links::new(alloc);
-    let mut markdown = walk.walk_alone(node, &mut links)?.content;
+    let is_in_line = is_known_in_line(registry.options(), alloc, tree, node)?;
+    let mut markdown = walk.walk_alone(node, is_in_line, &mut links)?.content;
     trim_newlines(&mut markdown);
     let mut appended = registry.append(alloc, &links)?;
     trim_end_line_feeds(&mut appended);
@@ -568,11 +867,10 @@ pub(crate) fn handle_element<R: Registry>(
         tree,
         options: registry.options(),
         text: text_shown(tree, node, None),
+        is_in_line: is_known_in_line(registry.options(), alloc, tree, node)?,
+        pre_language: language_above(tree, node),
     };
     let inside_pre = is_inside_pre(tree, node) || is_pre_or_code(tree, node);
     let walk = Walk::new(registry, alloc, tree);
     walk.handle(&element, inside_pre, skipped, links)
 }
-
-#[cfg(test)]
-mod tests;

@@ -2,11 +2,14 @@
 
 ghost use Rattle.std.specs.Prelude.{◌≡◌, ◌<◌, ◌&&◌, [], ℕ, List, Option, IfOk, IfSome, map, length, not, string_bytes};
 ghost use Rattle.std.specs.Option.{option_copied};
-ghost use Rattle.htmd_tree.specs.Items.{data_at, element_node};
+ghost use Rattle.htmd_tree.specs.Items.{data_at, element_node, parent_at};
 ghost use Rattle.htmd_tree.specs.Views.{pairs_of};
 ghost use Rattle.htmd.specs.Handling.{ElementView, ResultView, PlanView, IsProper};
 ghost use Rattle.htmd.specs.Groups.{only_text, group_children, children_at};
+ghost use Rattle.htmd.specs.OneLineElements.{known_in_line};
+ghost use Rattle.htmd.specs.Code.{language_of_pre};
 
+use self::plans::find_value;
 use crate::options::Options;
 use htmd_tree::{Attribute, NodeId, Tree};
 use std::alloc::{AllocError, Global};
@@ -16,7 +19,7 @@ mod anchor;
 mod blocks;
 mod br;
 mod built_in;
-mod code;
+pub(crate) mod code;
 mod element_handlers;
 mod emphasis;
 pub(crate) mod fn_handler;
@@ -24,7 +27,7 @@ mod headings;
 mod hr;
 mod img;
 pub(crate) mod layered;
-mod link_attributes;
+pub(crate) mod link_attributes;
 mod list;
 mod list_item;
 mod page;
@@ -35,14 +38,17 @@ pub(crate) mod registrar;
 mod registrations;
 pub(crate) mod registry;
 mod span;
-mod table;
+pub(crate) mod table;
 mod table_cell;
-mod table_layout;
+pub(crate) mod table_layout;
 mod table_part;
 
 pub use element_handlers::{ElementHandlers, HandlerRefused};
-pub use fn_handler::{FnHandler, HandlerRule};
+pub use fn_handler::{Answering, FnHandler, HandlerRule};
+pub use layered::Layered;
 pub use plans::is_raw_html_due;
+pub use registrar::Registrar;
+pub use registry::Registry;
 
 /// What a handler is shown of an element.
 #[derive(Drop)]
@@ -54,13 +60,20 @@ pub struct Element<'a> {
     pub(crate) tree: &'a Tree,
     pub(crate) options: &'a Options,
     pub(crate) text: Option<&'a str>,
+    /// In Guarded, whether an ancestor is written in one line.
+    pub(crate) is_in_line: bool,
+    /// The language that the parent names, where it is `pre`.
+    pub(crate) pre_language: Option<&'a str>,
     ghost within: { node < length tree.now },
     ghost is_element: { data_at tree.now node ≡ element_node tag.now (pairs_of attrs.now) },
+    ghost in_line: { is_in_line ≡ known_in_line options.now tree.now node },
+    ghost language: { option_copied pre_language ≡ language_of_pre tree.now (parent_at tree.now node) },
     ghost shows: { option_copied text ≡ only_text (group_children (option_copied text) (children_at tree.now node)) },
 }
 
 impl<'a> Element<'a> {
     ghost use Rattle.htmd.specs.Views.{element_view};
+    ghost use Rattle.htmd.specs.ElementViews.{attributes_of, value_of_first};
 
     /// The tree as it was handed in.
     pub fn tree(&self) -> &Tree
@@ -82,6 +95,14 @@ impl<'a> Element<'a> {
         ensures { option_copied result ≡ (element_view self.now).text }
     {
         self.text
+    }
+
+    /// The value of the first attribute of this name, if there is one. Names as the reader gives them are in lower
+    /// case.
+    pub fn attribute(&self, name: &str) -> Option<&str>
+        ensures { option_copied result ≡ value_of_first name.now (attributes_of (element_view self.now)) }
+    {
+        find_value(self.attrs, name)
     }
 }
 

@@ -8,6 +8,8 @@ ghost use Rattle.htmd.specs.LinkLaws.{AnchorsTakeTheNextNumber, ReferencesAreNum
 ghost use Rattle.htmd.specs.LinkLaws.{ImagesHoldAddresses, LinksHoldAddresses};
 ghost use Rattle.htmd.specs.ListLaws.{EachItemTakesANumber, ItemsBeginInOneColumn};
 ghost use Rattle.htmd.specs.ParagraphLaws.{ParagraphsReadBack};
+ghost use Rattle.htmd.specs.Letters.{EveryLetterOnce};
+ghost use Rattle.htmd.specs.TextLaws.{TextStaysText};
 ghost use Rattle.htmd.specs.Views.{element_view};
 
 use crate::element_handler::Element;
@@ -38,7 +40,8 @@ pub fn marks_stand_inside(emphasis: Emphasis, content: &str)
     let _ = start.trim_end();
 }
 
-/// An anchor that is written as a reference in style Full takes the number behind the definitions so far.
+/// An anchor that is written as a reference in style Full, or in Guarded in any style, takes the number behind the
+/// definitions so far.
 pub fn anchors_take_the_next_number()
     ensures { AnchorsTakeTheNextNumber }
 {}
@@ -49,19 +52,20 @@ pub fn references_are_numbered()
     ensures { ReferencesAreNumbered }
 {}
 
-/// What is written for the address of an image reads back as the address, if that has no backslash.
+/// In Pure and Faithful, what is written for the address of an image reads back as the address, if that has no
+/// backslash.
 pub fn images_hold_addresses()
     ensures { ImagesHoldAddresses }
 {}
 
-/// What is written for the address of a link reads back as the address, if that has no backslash.
+/// In Pure and Faithful, what is written for the address of a link reads back as the address, if that has no backslash.
 pub fn links_hold_addresses()
     ensures { LinksHoldAddresses }
 {}
 
 /// Where what the built-in handler of `ol` gives is Markdown, the content of each item begins in its line after
-/// `ol_number_spacing`, the digits of the highest number and one character more. A list or quote around it may
-/// indent it then.
+/// `ol_number_spacing` (in Guarded at least 1 and at most 4), the digits of the highest number and one character more.
+/// A list or quote around it may indent it then.
 pub fn items_begin_in_one_column(element: &Element)
     ensures { ItemsBeginInOneColumn (element_view element.now) }
 {
@@ -73,9 +77,26 @@ pub fn each_item_takes_a_number()
     ensures { EachItemTakesANumber }
 {}
 
-/// Where the Document's children are `p` without attributes, each holding at most one text, and all handlers are built
-/// in, the Markdown of the whole tree reads back: cut at its blank lines, without the backslashes that escape, it is
-/// the texts, squeezed and without leading space, empty ones passed over, the last one without its final space.
+/// In Pure and Faithful, where the Document's children are `p` without attributes, each holding at most one text, and
+/// all handlers are built in, the Markdown of the whole tree reads back: cut at its blank lines, without the
+/// backslashes that escape, it is the texts, squeezed and without leading space, empty ones passed over, the last one
+/// without its final space.
 pub fn paragraphs_read_back()
     ensures { ParagraphsReadBack }
+{}
+
+/// In Guarded, where a node's tree holds texts alone, in elements that hand their content on or put it between blank
+/// lines, and all handlers are built in, nothing of its Markdown is read as markup: each character that could be stands
+/// behind a backslash, whatever elements part the text. So `&lt;<span>b></span>` gives `\<b>`.
+pub fn text_stays_text()
+    ensures { TextStaysText }
+{}
+
+/// In Pure and in Guarded, with the built-in handlers, the letters of the content are what the tree says, in order: none
+/// is lost, doubled, moved or made up. A letter is a character that is no white space, no ASCII punctuation and no ASCII
+/// digit. What a tree says is one rule for each element. Where links stand inline the content is the whole Markdown,
+/// and so it is of each text that is converted; the style that prefers autolinks is left out, for there the content
+/// decides whether a link says its address once or twice.
+pub fn every_letter_once()
+    ensures { EveryLetterOnce }
 {}

@@ -10,12 +10,14 @@
 //! `tree_to_markdown` converts trees that are built by calls.
 #![tactic(auto)]
 
+mod all_text;
 mod conversion;
 mod converter;
 mod dom_walker;
 pub mod element_handler;
 mod group;
 pub mod laws;
+mod line;
 mod node_util;
 pub mod options;
 mod seam;
@@ -23,4 +25,7 @@ mod text_node;
 
 pub use conversion::{ConvertError, convert};
 pub use converter::{AddFnRefused, AddRefused, HtmlToMarkdown, HtmlToMarkdownBuilder, SkipRefused};
-pub use htmd_tree::{Attribute, FaultKind, NodeData, NodeId, ReadError, Tree, TreeError};
+pub use element_handler::Element;
+pub use htmd_tree::{
+    Attribute, FaultKind, NodeData, NodeId, ReadError, Tree, TreeError, body_of, line_and_column,
+};

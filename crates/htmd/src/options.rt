@@ -26,13 +26,16 @@ pub enum CodeBlockStyle {
     Fenced,
 }
 
-/// What becomes of an element that Markdown has no form for.
+/// What becomes of an element that Markdown has no form for, and how much of a text is escaped.
 #[derive(Debug, Clone, Copy, PartialEq)]
 pub enum TranslationMode {
     /// Its content alone is written.
     Pure,
     /// It is written as HTML.
     Faithful,
+    /// Its content alone is written, and the page's text is escaped so that a CommonMark reader sees it as text;
+    /// `laws::text_stays_text` says of which pages that is proved.
+    Guarded,
 }
 
 /// What a conversion goes by.

@@ -1,11 +1,12 @@
 //! The text of a text node, put behind a text.
 
-ghost use Rattle.std.specs.Prelude.{◌≡◌, ◌++◌, Bool, false, IsTrue, OnOk, if◌then◌else◌, string_bytes};
+ghost use Rattle.std.specs.Prelude.{◌≡◌, ◌++◌, Bool, false, IsTrue, OnOk, string_bytes};
 ghost use Rattle.htmd_text.specs.EscapeMarks.{escaped_markdown};
 ghost use Rattle.htmd_text.specs.WhiteSpace.{squeezed_text};
 ghost use Rattle.htmd.specs.OrdinaryText as spec;
 ghost use Rattle.htmd.specs.PlainTexts.{is_plain_byte, stays_plain, may_begin, begins_plain};
 
+use htmd_markdown::{begins_line, push_guarded_text};
 use htmd_text::runs::{leading_len, trailing_len};
 use htmd_text::{compress_whitespace, escape_if_needed, escape_pre_text_if_needed};
 use std::alloc::{AllocError, Global};
@@ -113,18 +114,32 @@ fn append_preformatted(
     out.push_str(escaped.as_str())
 }
 
+/// Squeezed, without its first space where a space is not wanted, and escaped as Guarded does.
+fn append_guarded(alloc: Global, out: &mut String, text: &str, trim: bool) -> Result<(), AllocError>
+    ensures { OnOk result (string_bytes out.new
+        ≡ string_bytes out.old ++ spec.guarded_ordinary_text trim (string_bytes out.old) text.now) }
+{
+    let goes = trim || trailing_len(out.as_bytes(), b' ') > 0;
+    let begins = begins_line(out.as_str());
+    let squeezed = compress_whitespace(alloc, text)?;
+    push_guarded_text(out, without_first_space(squeezed.as_str(), goes), begins)
+}
+
 /// The text of a text node, put behind what is written so far.
 pub(crate) fn append_text(
     alloc: Global,
     text: &str,
     in_pre: bool,
     context: Context,
+    is_guarded: bool,
     out: &mut String,
 ) -> Result<(), AllocError>
     ensures { OnOk result (string_bytes out.new ≡ string_bytes out.old
-        ++ (if context.preformatted then spec.preformatted_text in_pre text.now
-        else spec.ordinary_text context.trim (string_bytes out.old) text.now)) }
+        ++ spec.written_text is_guarded context.preformatted in_pre context.trim (string_bytes out.old) text.now) }
 {
+    if is_guarded {
+        return append_guarded(alloc, out, text, context.trim);
+    }
     if context.preformatted {
         return append_preformatted(alloc, out, text, in_pre);
     }

@@ -1,5 +1,13 @@
 //! The block elements that have no other handler.
 
+ghost use Rattle.std.specs.Prelude.{◌≡◌, Some};
+ghost use Rattle.htmd.specs.ElementViews.{is_tag_among};
+ghost use Rattle.htmd.specs.Sections.{hidden_tags, other_blocks};
+ghost use Rattle.htmd.specs.Views.{plan_view, element_view};
+
+use super::plans::{is_guarded, unless_faithful};
+use super::{Element, Plan};
+
 /// The names of the block elements that have no other handler.
 pub(crate) const TAGS: [&str; 43] = [
     "address",
@@ -46,3 +54,20 @@ pub(crate) const TAGS: [&str; 43] = [
     "title",
     "track",
 ];
+
+/// Whether a browser doesn't show the elements of this name.
+fn is_hidden(tag: &str) -> bool
+    ensures { result ≡ is_tag_among hidden_tags (Some tag.now) }
+{
+    matches!(tag, "script" | "style" | "title" | "iframe" | "noframes")
+}
+
+/// The children's content but in Faithful; in Guarded nothing of the elements that a browser doesn't show.
+pub(crate) fn plan(element: &Element) -> Plan
+    ensures { plan_view result ≡ other_blocks.plan (element_view element.now) }
+{
+    if is_guarded(element.options) && is_hidden(element.tag) {
+        return Plan::Skip;
+    }
+    unless_faithful(element)
+}

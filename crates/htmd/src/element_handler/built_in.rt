@@ -12,8 +12,8 @@ ghost use Rattle.htmd.specs.Walking.{request_view, outcome_view};
 use super::blocks::TAGS;
 use super::registry::{Outcome, Request};
 use super::{
-    Element, HandlerResult, Links, Plan, anchor, br, code, emphasis, headings, hr, img, list,
-    list_item, page, plans, pre, quote, span, table, table_cell, table_part,
+    Element, HandlerResult, Links, Plan, anchor, blocks, br, code, emphasis, headings, hr, img,
+    list, list_item, page, plans, pre, quote, span, table, table_cell, table_part,
 };
 use htmd_markdown::Emphasis;
 use std::alloc::{AllocError, Global};
@@ -83,7 +83,7 @@ impl BuiltIn {
             BuiltIn::ListElement => list::plan(alloc, element),
             BuiltIn::ListItem => Ok(Request::OfPlan(plans::plain_plan(element))),
             BuiltIn::BlockQuote => Ok(Request::OfPlan(plans::plain_plan(element))),
-            BuiltIn::Code => Ok(Request::OfPlan(code::plan(element))),
+            BuiltIn::Code => Ok(Request::OfPlan(code::plan(alloc, element)?)),
             BuiltIn::Strong => Ok(Request::OfPlan(plans::plain_plan(element))),
             BuiltIn::Emphasis => Ok(Request::OfPlan(plans::plain_plan(element))),
             BuiltIn::Heading => Ok(Request::OfPlan(plans::plain_plan(element))),
@@ -94,11 +94,11 @@ impl BuiltIn {
             BuiltIn::TableRow => Ok(Request::OfPlan(table_part::plan_of_row(element))),
             BuiltIn::TablePart => Ok(Request::OfPlan(table_part::plan_of_part(element))),
             BuiltIn::Paragraph => Ok(Request::OfPlan(plans::plain_plan(element))),
-            BuiltIn::Preformatted => Ok(Request::OfPlan(pre::plan(element))),
+            BuiltIn::Preformatted => Ok(Request::OfPlan(pre::plan(alloc, element)?)),
             BuiltIn::HeadOrBody => Ok(Request::OfPlan(page::plan_of_part(element))),
             BuiltIn::Html => Ok(Request::OfPlan(page::plan(element))),
             BuiltIn::Span => Ok(Request::OfPlan(span::plan(alloc, element)?)),
-            BuiltIn::OtherBlock => Ok(Request::OfPlan(plans::pure_plan(element))),
+            BuiltIn::OtherBlock => Ok(Request::OfPlan(blocks::plan(element))),
         }
     }
 

@@ -1,18 +1,19 @@
 //! The handler of `code`.
 
-ghost use Rattle.std.specs.Prelude.{◌≡◌, IfOk};
+ghost use Rattle.std.specs.Prelude.{◌≡◌, ◌<◌, Some, IfOk, true, length};
 ghost use Rattle.std.specs.Option.{option_copied};
 ghost use Rattle.htmd_tree.specs.Items.{parent_at};
 ghost use Rattle.htmd_tree.specs.Views.{pairs_of};
 ghost use Rattle.htmd.specs.Code as spec;
 ghost use Rattle.htmd.specs.Views.{plan_view, element_view, result_view, optional_result};
 
-use super::plans::{has_attributes_beyond, is_pure, parent_tag};
+use super::plans::{has_attributes_beyond, is_guarded, is_markdown_alone, parent_tag};
 use super::{Element, HandlerResult, Plan};
+use crate::all_text::all_text;
 use crate::node_util::is_text;
 use crate::options::CodeBlockStyle;
-use htmd_markdown::{write_fence, write_indented_code, write_span};
-use htmd_tree::{Attribute, NodeData};
+use htmd_markdown::{write_fence, write_guarded_code, write_indented_code, write_span};
+use htmd_tree::{Attribute, NodeData, NodeId, Tree};
 use std::alloc::{AllocError, Global};
 
 /// The language that a class names.
@@ -23,7 +24,7 @@ fn language_of_class(class: &str) -> Option<&str>
 }
 
 /// The language that the first class attribute names.
-fn language_of(attrs: &[Attribute]) -> Option<&str>
+pub(super) fn language_of(attrs: &[Attribute]) -> Option<&str>
     ensures { option_copied result ≡ spec.language_of (pairs_of attrs.now) }
 {
     for attribute in attrs {
@@ -46,25 +47,45 @@ fn first_language(classes: &str) -> Option<&str>
     None
 }
 
-/// The language that the parent names.
-fn language_of_parent<'e>(element: &'e Element) -> Option<&'e str>
-    ensures { option_copied result
-        ≡ spec.language_at element.now.tree.now (parent_at element.now.tree.now element.now.node) }
+/// The language that a node names, where it is `pre`.
+#[tactic(auto, using(crate::proofs::CodeLemmas::pre_language))]
+pub(crate) fn language_inside(tree: &Tree, node: NodeId) -> Option<&str>
+    requires { node < length tree.now }
+    ensures { option_copied result ≡ spec.language_of_pre tree.now (Some node) }
 {
-    let parent = element.tree.parent(element.node)?;
-    match element.tree.data(parent) {
-        NodeData::Element { attrs, .. } => language_of(attrs.as_slice()),
+    match tree.data(node) {
+        NodeData::Element { name, attrs } => {
+            if name.as_str() == "pre" {
+                language_of(attrs.as_slice())
+            } else {
+                None
+            }
+        }
         _ => None,
     }
 }
 
-/// The language that the element names, else its parent.
+/// The language that the parent of a node names, where it is `pre`.
+#[tactic(auto, using(crate::proofs::CodeLemmas::pre_language))]
+pub(crate) fn language_above(tree: &Tree, node: NodeId) -> Option<&str>
+    requires { node < length tree.now }
+    ensures { option_copied result ≡ spec.language_of_pre tree.now (parent_at tree.now node) }
+{
+    match tree.parent(node) {
+        Some(parent) => language_inside(tree, parent),
+        None => None,
+    }
+}
+
+/// The language that a code block names, else its `pre`.
+#[tactic(auto, using(crate::proofs::CodeLemmas::pre_language))]
 fn language<'e>(element: &'e Element) -> Option<&'e str>
+    requires block { spec.is_code_block (element_view element.now) ≡ true }
     ensures { option_copied result ≡ spec.language (element_view element.now) }
 {
     match language_of(element.attrs) {
         Some(language) => Some(language),
-        None => language_of_parent(element),
+        None => element.pre_language,
     }
 }
 
@@ -106,11 +127,33 @@ fn shows_language(element: &Element) -> bool
         && language(element).is_some()
 }
 
-/// The children's content, unless the element holds or says more than code.
-pub(crate) fn plan(element: &Element) -> Plan
-    ensures { plan_view result ≡ spec.code.plan (element_view element.now) }
+/// In Guarded a code span of all text.
+fn guarded_plan(alloc: Global, element: &Element) -> Result<Plan, AllocError>
+    ensures { IfOk result (λ p. plan_view p ≡ spec.guarded_code_plan (element_view element.now)) }
 {
-    if !is_pure(element.options) && !holds_texts_alone(element) {
+    let text = all_text(alloc, element)?;
+    let code = write_guarded_code(alloc, text.as_str())?;
+    Ok(Plan::Text(HandlerResult::from_string(code)))
+}
+
+/// The children's content, unless the element holds or says more than code; in Guarded all its text.
+pub(crate) fn plan(alloc: Global, element: &Element) -> Result<Plan, AllocError>
+    ensures { IfOk result (λ p. plan_view p ≡ spec.code.plan (element_view element.now)) }
+{
+    if is_guarded(element.options) {
+        return guarded_plan(alloc, element);
+    }
+    Ok(content_plan(element))
+}
+
+/// The children's content, unless the element holds or says more than code.
+fn content_plan(element: &Element) -> Plan
+    ensures { plan_view result ≡ spec.content_plan (element_view element.now) }
+{
+    if is_markdown_alone(element.options) {
+        return Plan::Children;
+    }
+    if !holds_texts_alone(element) {
         return Plan::RawHtml;
     }
     let allowed = if shows_language(element) { 1 } else { 0 };

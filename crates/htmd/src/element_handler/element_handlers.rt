@@ -10,7 +10,7 @@ ghost use Rattle.htmd.specs.HandlerMeanings.{handler_meaning};
 ghost use Rattle.htmd.specs.Spans.{spans};
 
 use super::built_in::{BuiltIn, HANDLERS_AND_TAGS};
-use super::plans::is_pure;
+use super::plans::is_markdown_alone;
 use super::registrations::Registrations;
 use super::registry::{Outcome, Registry, Request};
 use super::span::formula_mark;
@@ -278,7 +278,7 @@ impl Registry for ElementHandlers {
         let NodeData::Element { name, attrs } = tree.data(node) else {
             return false;
         };
-        if !is_pure(&self.options) {
+        if !is_markdown_alone(&self.options) {
             return false;
         }
         let tag = name.as_str();

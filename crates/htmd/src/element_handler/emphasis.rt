@@ -4,20 +4,25 @@ ghost use Rattle.std.specs.Prelude.{◌≡◌, IfOk};
 ghost use Rattle.htmd.specs.Inline.{emphasis_result};
 ghost use Rattle.htmd.specs.Views.{element_view, result_view, optional_result};
 
+use super::plans::is_guarded;
 use super::{Element, HandlerResult};
-use htmd_markdown::{Emphasis, write_emphasis};
+use htmd_markdown::{Emphasis, write_emphasis, write_guarded_emphasis};
 use std::alloc::{AllocError, Global};
 
-/// The content between marks, or nothing where it is white space alone.
+/// The content between marks; where it is white space alone nothing, or in Guarded as it is.
 pub(crate) fn finish(
     alloc: Global,
     emphasis: Emphasis,
-    _element: &Element,
+    element: &Element,
     content: HandlerResult,
 ) -> Result<Option<HandlerResult>, AllocError>
     ensures { IfOk result
-        (λ r. optional_result r ≡ emphasis_result emphasis (element_view _element.now) (result_view content)) }
+        (λ r. optional_result r ≡ emphasis_result emphasis (element_view element.now) (result_view content)) }
 {
+    if is_guarded(element.options) {
+        let text = write_guarded_emphasis(alloc, emphasis, content.content)?;
+        return Ok(Some(HandlerResult::from_string(text)));
+    }
     match write_emphasis(alloc, emphasis, content.content.as_str())? {
         Some(text) => Ok(Some(HandlerResult::from_string(text))),
         None => Ok(None),

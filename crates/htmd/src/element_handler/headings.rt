@@ -4,8 +4,9 @@ ghost use Rattle.std.specs.Prelude.{◌≡◌, IfOk};
 ghost use Rattle.htmd.specs.Inline.{level_of, heading_result};
 ghost use Rattle.htmd.specs.Views.{element_view, result_view, optional_result};
 
+use super::plans::is_guarded;
 use super::{Element, HandlerResult};
-use htmd_markdown::write_heading;
+use htmd_markdown::{write_guarded_heading, write_heading};
 use std::alloc::{AllocError, Global};
 
 /// The level that a tag names.
@@ -32,11 +33,12 @@ pub(crate) fn finish(
         (λ r. optional_result r ≡ heading_result (element_view element.now) (result_view content)) }
 {
     let style = element.options.heading_style;
-    let text = write_heading(
-        alloc,
-        style,
-        level_of(element.tag),
-        content.content.as_str(),
-    )?;
+    let level = level_of(element.tag);
+    let content = content.content.as_str();
+    let text = if is_guarded(element.options) {
+        write_guarded_heading(alloc, style, level, content)?
+    } else {
+        write_heading(alloc, style, level, content)?
+    };
     Ok(Some(HandlerResult::from_string(text)))
 }

@@ -7,7 +7,7 @@ ghost use Rattle.htmd.specs.LinkAttributes as spec;
 ghost use Rattle.htmd.specs.Views.{element_view};
 
 use super::Element;
-use super::plans::is_pure;
+use super::plans::is_markdown_alone;
 use htmd_tree::Attribute;
 
 /// Whether the name is one of these.
@@ -46,5 +46,5 @@ fn has_others(attrs: &[Attribute], names: &[&str]) -> bool
 pub(crate) fn is_raw_unless_among(element: &Element, names: &[&str]) -> bool
     ensures { result ≡ spec.is_raw_unless_among (map (λ n. n.now) names.now) (element_view element.now) }
 {
-    !is_pure(element.options) && has_others(element.attrs, names)
+    !is_markdown_alone(element.options) && has_others(element.attrs, names)
 }

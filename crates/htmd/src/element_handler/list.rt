@@ -10,10 +10,14 @@ ghost use Rattle.htmd.specs.ListElements as spec;
 ghost use Rattle.htmd.specs.Views.{element_view, result_view, results_view, optional_result};
 ghost use Rattle.htmd.specs.Walking.{request_view};
 
-use super::plans::{are_markdown, find_value, is_pure, parent_tag, raw_block_result};
+use super::plans::{
+    are_markdown, find_value, is_guarded, is_markdown_alone, parent_tag, raw_block_result,
+};
 use super::registry::Request;
 use super::{Element, HandlerResult, Plan};
-use htmd_markdown::{ListBlock, first_number, write_list_block, write_ordered_list};
+use htmd_markdown::{
+    ListBlock, first_number, write_guarded_ordered_list, write_list_block, write_ordered_list,
+};
 use htmd_tree::{Attribute, NodeId, Tree};
 use std::alloc::{AllocError, Global};
 
@@ -56,7 +60,7 @@ fn has_other_elements(element: &Element) -> bool
 fn is_raw_list(element: &Element) -> bool
     ensures { result ≡ spec.is_raw_list (element_view element.now) }
 {
-    if is_pure(element.options) {
+    if is_markdown_alone(element.options) {
         return false;
     }
     if element.attrs.len() > allowed_attributes(element.attrs) || !element.markdown_translated {
@@ -77,7 +81,10 @@ pub(crate) fn plan(alloc: Global, element: &Element) -> Result<Request, AllocErr
         return Ok(Request::OfPlan(Plan::Children));
     }
     let nodes = Vec::from_slice(alloc, element.tree.children(element.node))?;
-    Ok(Request::Each(nodes))
+    Ok(Request::Each {
+        nodes,
+        may_ask_children: false,
+    })
 }
 
 /// A list among the blocks around it, or its raw HTML where not all of it is Markdown.
@@ -89,7 +96,7 @@ pub(crate) fn finish(
     ensures { IfOk result
         (λ r. optional_result r ≡ spec.list_result (element_view element.now) (result_view list)) }
 {
-    if !is_pure(element.options) && !list.markdown_translated {
+    if !is_markdown_alone(element.options) && !list.markdown_translated {
         return Ok(Some(raw_block_result(alloc, element)?));
     }
     let is_in_item = parent_tag(element) == Some("li");
@@ -136,6 +143,23 @@ fn number_of_first(element: &Element) -> u32
     first_number(find_value(element.attrs, "start"))
 }
 
+/// The items behind their numbers, and the other children's contents.
+fn write_numbered(
+    alloc: Global,
+    element: &Element,
+    blocks: Vec<ListBlock>,
+) -> Result<String, AllocError>
+    ensures { IfOk result (λ text. string_bytes text
+        ≡ spec.ordered_text (element_view element.now) (map block_of blocks.items)) }
+{
+    let spacing = element.options.ol_number_spacing;
+    let first = number_of_first(element);
+    if is_guarded(element.options) {
+        return write_guarded_ordered_list(alloc, first, spacing, blocks);
+    }
+    write_ordered_list(alloc, first, spacing, blocks)
+}
+
 /// The list of the contents of an ordered list's children.
 fn numbered_list(
     alloc: Global,
@@ -148,8 +172,7 @@ fn numbered_list(
     let markdown_translated = are_markdown(&contents);
     let children = element.tree.children(element.node);
     let blocks = list_blocks(alloc, element.tree, children, contents)?;
-    let spacing = element.options.ol_number_spacing;
-    let content = write_ordered_list(alloc, number_of_first(element), spacing, blocks)?;
+    let content = write_numbered(alloc, element, blocks)?;
     Ok(HandlerResult {
         content,
         markdown_translated,

@@ -1,13 +1,29 @@
 //! The handler of `li`.
 
-ghost use Rattle.std.specs.Prelude.{◌≡◌, IfOk};
-ghost use Rattle.htmd.specs.ListElements.{item_result};
+ghost use Rattle.std.specs.Prelude.{◌≡◌, IfOk, string_bytes};
+ghost use Rattle.htmd.specs.ListElements.{bullet_item_of, item_result};
 ghost use Rattle.htmd.specs.Views.{element_view, result_view, optional_result};
 
-use super::plans::parent_tag;
+use super::plans::{is_guarded, parent_tag};
 use super::{Element, HandlerResult};
-use htmd_markdown::{write_bullet_item, write_unnumbered_item};
+use htmd_markdown::{write_bullet_item, write_guarded_bullet_item, write_unnumbered_item};
 use std::alloc::{AllocError, Global};
+
+/// The content behind a bullet; in Guarded it ends its line where it stands in no list.
+fn bullet_item(alloc: Global, element: &Element, content: &str) -> Result<String, AllocError>
+    ensures { IfOk result (λ s. string_bytes s ≡ bullet_item_of (element_view element.now) content.now) }
+{
+    let marker = element.options.bullet_list_marker;
+    let spacing = element.options.ul_bullet_spacing;
+    if !is_guarded(element.options) {
+        return write_bullet_item(alloc, marker, spacing, content);
+    }
+    let mut item = write_guarded_bullet_item(alloc, marker, spacing, content)?;
+    if !matches!(parent_tag(element), Some("ul" | "ol" | "menu" | "dir")) {
+        item.push('\n')?;
+    }
+    Ok(item)
+}
 
 /// The content behind a bullet; under `ol` the list puts a number before it.
 pub(crate) fn finish(
@@ -22,8 +38,7 @@ pub(crate) fn finish(
     let text = if parent_tag(element) == Some("ol") {
         write_unnumbered_item(alloc, content)?
     } else {
-        let marker = element.options.bullet_list_marker;
-        write_bullet_item(alloc, marker, element.options.ul_bullet_spacing, content)?
+        bullet_item(alloc, element, content)?
     };
     Ok(Some(HandlerResult::from_string(text)))
 }

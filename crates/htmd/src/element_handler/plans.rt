@@ -4,7 +4,7 @@ ghost use Rattle.std.specs.Prelude.{◌≡◌, ◌&&◌, ◌||◌, not, IfOk, le
 ghost use Rattle.std.specs.Option.{option_copied};
 ghost use Rattle.htmd_tree.specs.Views.{pairs_of};
 ghost use Rattle.htmd.specs.ElementViews as spec;
-ghost use Rattle.htmd.specs.Outputs.{is_pure};
+ghost use Rattle.htmd.specs.Outputs.{is_markdown_alone, is_guarded};
 ghost use Rattle.htmd.specs.Sections.{wrapped_result};
 ghost use Rattle.htmd.specs.Views.{plan_view, element_view, result_view, results_view, optional_result};
 
@@ -15,22 +15,30 @@ use htmd_tree::{Attribute, raw_block};
 use std::alloc::{AllocError, Global};
 
 /// Whether Markdown alone is written.
-pub(crate) fn is_pure(options: &Options) -> bool
-    ensures { result ≡ is_pure options.now }
+pub(crate) fn is_markdown_alone(options: &Options) -> bool
+    ensures { result ≡ is_markdown_alone options.now }
 {
     match options.translation_mode {
         TranslationMode::Pure => true,
         TranslationMode::Faithful => false,
+        TranslationMode::Guarded => true,
     }
+}
+
+/// Whether a reader is to see the page's text.
+pub(crate) fn is_guarded(options: &Options) -> bool
+    ensures { result ≡ is_guarded options.now }
+{
+    matches!(options.translation_mode, TranslationMode::Guarded)
 }
 
 /// Whether raw HTML is due: in Faithful, where the element has more attributes than these, which say
 /// more than its Markdown would.
 pub fn is_raw_html_due(options: &Options, element: &Element, allowed: i64) -> bool
     ensures { let attributes = spec.attributes_of (element_view element.now) in
-        result ≡ (not (is_pure options.now) && spec.is_more_than allowed (length attributes)) }
+        result ≡ (not (is_markdown_alone options.now) && spec.is_more_than allowed (length attributes)) }
 {
-    if is_pure(options) {
+    if is_markdown_alone(options) {
         return false;
     }
     allowed < 0 || element.attrs.len() > allowed as usize
@@ -40,14 +48,14 @@ pub fn is_raw_html_due(options: &Options, element: &Element, allowed: i64) -> bo
 pub(crate) fn is_plain(element: &Element) -> bool
     ensures { result ≡ not (spec.is_raw_html_due (element_view element.now) 0) }
 {
-    is_pure(element.options) || element.attrs.is_empty()
+    is_markdown_alone(element.options) || element.attrs.is_empty()
 }
 
 /// Whether the element has more attributes than Markdown has a form for, where that matters.
 pub(crate) fn has_attributes_beyond(element: &Element, allowed: usize) -> bool
     ensures { result ≡ spec.is_raw_html_due (element_view element.now) allowed }
 {
-    !is_pure(element.options) && element.attrs.len() > allowed
+    !is_markdown_alone(element.options) && element.attrs.len() > allowed
 }
 
 /// The children's content, unless the element has attributes that Markdown has no form for.
@@ -65,7 +73,7 @@ pub(crate) fn plain_plan(element: &Element) -> Plan
 pub(crate) fn plan_if(holds: bool, element: &Element) -> Plan
     ensures { plan_view result ≡ spec.plan_if holds (element_view element.now) }
 {
-    if is_pure(element.options) || holds {
+    if is_markdown_alone(element.options) || holds {
         Plan::Children
     } else {
         Plan::RawHtml
@@ -73,8 +81,8 @@ pub(crate) fn plan_if(holds: bool, element: &Element) -> Plan
 }
 
 /// The children's content in Pure alone.
-pub(crate) fn pure_plan(element: &Element) -> Plan
-    ensures { plan_view result ≡ spec.pure_plan (element_view element.now) }
+pub(crate) fn unless_faithful(element: &Element) -> Plan
+    ensures { plan_view result ≡ spec.unless_faithful (element_view element.now) }
 {
     plan_if(false, element)
 }

@@ -9,6 +9,7 @@ ghost use Rattle.htmd.specs.Beginnings.{Begins};
 ghost use Rattle.htmd.specs.Elements.{finish_answer};
 ghost use Rattle.htmd.specs.Markdown.{append_texts};
 ghost use Rattle.htmd.specs.Passing.{IsPassed};
+ghost use Rattle.htmd.specs.Staying.{HandlersStay};
 ghost use Rattle.htmd.specs.Views.{result_view, results_view, answer_view, element_view};
 ghost use Rattle.htmd.specs.Walking.{request_view, outcome_view};
 
@@ -21,8 +22,11 @@ use std::alloc::{AllocError, Global};
 #[derive(Drop)]
 pub enum Request {
     OfPlan(Plan),
-    /// Each of these nodes by itself, in order.
-    Each(Vec<NodeId>),
+    /// Each of these nodes by itself, in order; then it may be that the children's content is asked for too.
+    Each {
+        nodes: Vec<NodeId>,
+        may_ask_children: bool,
+    },
 }
 
 /// What a handler makes of the contents of nodes.
@@ -33,7 +37,8 @@ pub enum Outcome {
     ChildrenToo,
 }
 
-/// The handlers that a walk goes by.
+/// The handlers that a walk goes by: the bound of what takes a converter of any handlers. Only the types of this crate
+/// have it: a handler of one's own is an `ElementHandler` or an `FnHandler`.
 pub trait Registry {
     /// The options, the handlers and the tags that they are registered for.
     ghost config: { Self → Config };
@@ -41,9 +46,10 @@ pub trait Registry {
     /// What is handed in keeps its interface.
     ghost ready: { Self → Type 0 };
 
-    /// The options.
+    /// The options. What a handler makes of a content without adding a definition doesn't depend on those so far.
     fn options(&self) -> &Options
-        ensures { result.now ≡ (config self.now).options };
+        ensures value { result.now ≡ (config self.now).options }
+        ensures stay { HandlersStay (config self.now) };
 
     /// The index of the handler that is asked for a tag after so many newer ones.
     fn find(&self, tag: &str, skipped: usize) -> Option<usize>

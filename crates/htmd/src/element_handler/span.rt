@@ -4,10 +4,10 @@ ghost use Rattle.std.specs.Prelude.{◌≡◌, IfOk};
 ghost use Rattle.std.specs.Option.{option_copied};
 ghost use Rattle.htmd_tree.specs.Views.{pairs_of};
 ghost use Rattle.htmd.specs.Handling.{without_definitions};
-ghost use Rattle.htmd.specs.Spans.{spans, formula_mark, mark_of_class, span_result};
+ghost use Rattle.htmd.specs.Spans.{spans, formula_mark, is_read_in_formula, mark_of_class, span_result};
 ghost use Rattle.htmd.specs.Views.{plan_view, element_view, result_view, optional_result};
 
-use super::plans::pure_plan;
+use super::plans::{is_guarded, unless_faithful};
 use super::{Element, HandlerResult, Plan};
 use crate::node_util::is_inside_pre;
 use htmd_text::trim_newlines;
@@ -35,16 +35,28 @@ pub(crate) fn formula_mark(attrs: &[Attribute]) -> Option<&'static str>
     mark_of_class(attrs[0].value.as_str())
 }
 
+/// Whether a reader takes something of the text for markup between dollar signs too.
+fn is_read_in_formula(text: &str) -> bool
+    ensures { result ≡ is_read_in_formula text.now }
+{
+    text.as_bytes()
+        .iter()
+        .any(|b| matches!(*b, b'<' | b'&' | b'`' | b'[' | b']' | b'\n'))
+}
+
 /// A formula between its marks, else the children's content in Pure alone.
 pub(crate) fn plan(alloc: Global, element: &Element) -> Result<Plan, AllocError>
     ensures { IfOk result (λ p. plan_view p ≡ spans.plan (element_view element.now)) }
 {
     let Some(text) = element.text else {
-        return Ok(pure_plan(element));
+        return Ok(unless_faithful(element));
     };
     let Some(mark) = formula_mark(element.attrs) else {
-        return Ok(pure_plan(element));
+        return Ok(unless_faithful(element));
     };
+    if is_guarded(element.options) && is_read_in_formula(text) {
+        return Ok(Plan::Children);
+    }
     let mut formula = String::with_capacity(alloc, text.len().saturating_add(2 * mark.len()))?;
     formula.push_str(mark)?;
     formula.push_str(text)?;
@@ -52,7 +64,7 @@ pub(crate) fn plan(alloc: Global, element: &Element) -> Result<Plan, AllocError>
     Ok(Plan::Text(HandlerResult::from_string(formula)))
 }
 
-/// The content, without line feeds at its ends unless it is preformatted.
+/// The content, without line feeds at its ends unless it is preformatted or the mode is Guarded.
 pub(crate) fn finish(
     _alloc: Global,
     element: &Element,
@@ -61,7 +73,7 @@ pub(crate) fn finish(
     ensures { IfOk result
         (λ r. optional_result r ≡ span_result (element_view element.now) (result_view content)) }
 {
-    if !is_inside_pre(element.tree, element.node) {
+    if !is_guarded(element.options) && !is_inside_pre(element.tree, element.node) {
         trim_newlines(&mut content.content);
     }
     Ok(Some(content))

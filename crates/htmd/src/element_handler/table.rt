@@ -10,16 +10,17 @@ ghost use Rattle.htmd_tree.specs.NumberedTrees.{tree_of};
 ghost use Rattle.htmd_tree.specs.Ancestors.{ancestors_of};
 ghost use Rattle.htmd.specs.Groups.{children_at};
 ghost use Rattle.htmd.specs.Handling.{IsProper};
+ghost use Rattle.htmd_markdown.specs.GuardedTables.{guarded_table};
 ghost use Rattle.htmd.specs.TableElements as spec;
 ghost use Rattle.htmd.specs.TableLayouts.{parts_view, texts_view};
 ghost use Rattle.htmd.specs.Views.{element_view, result_view, results_view, optional_result};
 ghost use Rattle.htmd.specs.Walking.{request_view, outcome_view};
 
-use super::plans::{are_markdown, is_plain, is_pure, raw_block_result};
+use super::plans::{are_markdown, is_guarded, is_markdown_alone, is_plain, raw_block_result};
 use super::registry::{Outcome, Request};
 use super::table_layout::{Part, PartKind, has_tag, layout_of, nodes_of};
 use super::{Element, HandlerResult, Plan};
-use htmd_markdown::write_table;
+use htmd_markdown::{write_guarded_table, write_table};
 use htmd_text::{TrimDocumentWhitespace, surround_with_blank_lines, trim_newlines};
 use htmd_tree::{NodeId, Tree};
 use std::alloc::{AllocError, Global};
@@ -99,14 +100,19 @@ fn is_in_cell(tree: &Tree, node: NodeId) -> bool
     false
 }
 
+/// Whether a table has explicit headers and stands in no cell of another one.
+pub(crate) fn has_table_form(tree: &Tree, table: NodeId) -> bool
+    requires { table < length tree.now }
+    ensures { result ≡ spec.has_table_form tree.now table }
+{
+    has_explicit_headers(tree, table) && !is_in_cell(tree, table)
+}
+
 /// Whether the next handler is asked.
 fn is_left_out(element: &Element) -> bool
     ensures { result ≡ spec.is_left_out (element_view element.now) }
 {
-    if !is_pure(element.options) {
-        return false;
-    }
-    !has_explicit_headers(element.tree, element.node) || is_in_cell(element.tree, element.node)
+    is_markdown_alone(element.options) && !has_table_form(element.tree, element.node)
 }
 
 /// The captions and cells of a table, each by itself.
@@ -121,7 +127,10 @@ pub(crate) fn plan(alloc: Global, element: &Element) -> Result<Request, AllocErr
         return Ok(Request::OfPlan(Plan::Fallback));
     }
     let layout = layout_of(alloc, element.tree, element.node)?;
-    Ok(Request::Each(nodes_of(alloc, &layout.parts)?))
+    Ok(Request::Each {
+        nodes: nodes_of(alloc, &layout.parts)?,
+        may_ask_children: !layout.has_lines(),
+    })
 }
 
 /// The content without document white space at its ends.
@@ -226,6 +235,33 @@ fn write_texts(alloc: Global, texts: &TableTexts) -> Result<String, AllocError>
     Ok(text)
 }
 
+/// The headers, empty ones where there are none, and the rows, as Guarded writes them.
+fn write_guarded_lines(alloc: Global, texts: &TableTexts) -> Result<String, AllocError>
+    ensures { IfOk result (λ text. string_bytes text ≡ guarded_table
+        (spec.guarded_headers (texts_view texts.now).headers) (texts_view texts.now).rows) }
+{
+    if !texts.headers.is_empty() {
+        return write_guarded_table(alloc, &texts.headers, &texts.rows);
+    }
+    let empty_header = [String::new(alloc)];
+    write_guarded_table(alloc, empty_header.as_slice(), &texts.rows)
+}
+
+/// The captions, a blank line where there are any, and then the headers and rows, as Guarded writes them.
+fn write_guarded_texts(alloc: Global, texts: &TableTexts) -> Result<String, AllocError>
+    ensures { IfOk result (λ text. string_bytes text ≡ spec.guarded_table_text (texts_view texts.now)) }
+{
+    let lines = write_guarded_lines(alloc, texts)?;
+    let mut out = String::with_capacity(alloc, lines.len().saturating_add(4))?;
+    out.push_str("\n\n")?;
+    push_captions(&mut out, &texts.captions)?;
+    if !texts.captions.is_empty() {
+        out.push_str("\n")?;
+    }
+    push_line(&mut out, lines.as_str())?;
+    Ok(out)
+}
+
 /// What the next handler gave, as it is; or the children's content with blank lines around.
 pub(crate) fn finish(
     element: &Element,
@@ -258,13 +294,17 @@ pub(crate) fn finish_each(
 {
     let layout = layout_of(alloc, element.tree, element.node)?;
     let texts = texts_of_parts(alloc, &layout.parts, contents)?;
-    if !is_pure(element.options) && !texts.markdown_translated {
+    if !is_markdown_alone(element.options) && !texts.markdown_translated {
         let raw = raw_block_result(alloc, element)?;
         return Ok(Outcome::Final(Some(raw)));
     }
     if !layout.has_lines() {
         return Ok(Outcome::ChildrenToo);
     }
-    let text = write_texts(alloc, &texts)?;
+    let text = if is_guarded(element.options) {
+        write_guarded_texts(alloc, &texts)?
+    } else {
+        write_texts(alloc, &texts)?
+    };
     Ok(Outcome::Final(Some(HandlerResult::from_string(text))))
 }

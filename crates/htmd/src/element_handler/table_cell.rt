@@ -6,7 +6,7 @@ ghost use Rattle.htmd_tree.specs.Items.{children_of};
 ghost use Rattle.htmd.specs.TableElements as spec;
 ghost use Rattle.htmd.specs.Views.{plan_view, element_view};
 
-use super::plans::{is_pure, parent_tag, plan_if};
+use super::plans::{is_markdown_alone, parent_tag, plan_if};
 use super::{Element, Plan};
 use crate::node_util::is_block;
 
@@ -27,7 +27,7 @@ fn has_blocks(element: &Element) -> bool
 pub(crate) fn plan(element: &Element) -> Plan
     ensures { plan_view result ≡ spec.cell_plan (element_view element.now) }
 {
-    if is_pure(element.options) {
+    if is_markdown_alone(element.options) {
         return Plan::Children;
     }
     if !element.attrs.is_empty() || has_blocks(element) {

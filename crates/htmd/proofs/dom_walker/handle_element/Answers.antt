@@ -13,7 +13,7 @@ use Rattle.htmd.specs.Elements.{Occurrence, Answer, answer_after, view_at}
 use Rattle.htmd.specs.Rendering.{written_within, inside_of}
 use Rattle.htmd.specs.Handled.{occurrence_in_tree, handled}
 use Rattle.htmd.specs.Views.{answer_view}
-use Rattle.htmd.proofs.BeginningsLemmas.{begins-to}
+use Rattle.htmd.proofs.BeginningsLemmas.{begins-to, begins-start, grows-answer, grows-within, on_err_always}
 use Rattle.htmd.proofs.WalkingLemmas.{shown-same}
 use Rattle.htmd.proofs.dom_walker.handle_element.Goals as goal
 
@@ -55,7 +55,7 @@ returns-clause-ok g c =
     ∙ ap (λ (t : List Item). answer c.as_str.result.now (walked config t)) c.new-walk.ensures.tree
     ∙ ap (answer c.as_str.result.now) (shown-same (written_within (height (tree_of items id)) v) v id
     (inside_of items id) (group_children text (children_at items id)) text c.options.result.now
-    c.args.markdown_translated c.text_shown.ensures.shows c.options.ensures)
+    c.args.markdown_translated c.text_shown.ensures.shows c.options.ensures.value)
     ∙ ap (λ ch. answer c.as_str.result.now (shown ch)) c.text_shown.ensures.children
     ∙ ap (λ t. answer t (occurrence_in_tree v id c.args.markdown_translated)) tag in
     IfOk-weaker c.handle.result _ (λ r. answer_view r c.handle.new.links
@@ -100,9 +100,18 @@ returns-clause-err g c =
     ∙ ap (λ (t : List Item). answer c.as_str.result.now (walked config t)) c.new-walk.ensures.tree
     ∙ ap (answer c.as_str.result.now) (shown-same (written_within (height (tree_of items id)) v) v id
     (inside_of items id) (group_children text (children_at items id)) text c.options.result.now
-    c.args.markdown_translated c.text_shown.ensures.shows c.options.ensures)
+    c.args.markdown_translated c.text_shown.ensures.shows c.options.ensures.value)
     ∙ ap (λ ch. answer c.as_str.result.now (shown ch)) c.text_shown.ensures.children
     ∙ ap (λ t. answer t (occurrence_in_tree v id c.args.markdown_translated)) tag in
     on_err_weaker c.handle.result
     (λ h. begins-to (h (height (tree_of c.new-walk.result.tree.now id)) (omega arith))
     (ap (λ (a : Answer). a.definitions) same)) c.handle.ensures.err
+
+pub returns-in_err-is_known_in_line-clause-err : goal.returns-in_err-is_known_in_line-clause-err
+unfolding handled
+returns-in_err-is_known_in_line-clause-err g c =
+    let v = conversion_of (g.R.Registry.config c.args.registry.now) c.args.tree.now in
+    let at = occurrence_in_tree v c.args.node c.args.markdown_translated in
+    on_err_always _ (begins-start (grows-answer at
+    (grows-within (height (tree_of c.args.tree.now c.args.node)) v) c.args.skipped
+    (ancestor_of (data_at c.args.tree.now c.args.node)).tag c.args.links.now))

@@ -11,19 +11,19 @@ use Rattle.htmd.proofs.dom_walker.Walk.+walk.Answers.ChildrenAnswers as children
 use Rattle.htmd.proofs.dom_walker.Walk.+walk.Answers.NodeAnswers as nodes
 use Rattle.htmd.proofs.dom_walker.Walk.+walk.Goals as goal
 
-pub handle-returns-in_err-content-in-Pure-clause-err :
-    goal.handle-returns-in_err-content-in-Pure-clause-err
-handle-returns-in_err-content-in-Pure-clause-err = handlers.handle-returns-in_err-content-in-Pure-clause-err
+pub handle-returns-in_err-content-clause-err :
+    goal.handle-returns-in_err-content-clause-err
+handle-returns-in_err-content-clause-err = handlers.handle-returns-in_err-content-clause-err
 
-pub handle-returns-in_ok-content-in-Pure-clause-ok :
-    goal.handle-returns-in_ok-content-in-Pure-clause-ok
-handle-returns-in_ok-content-in-Pure-clause-ok = handlers.handle-returns-in_ok-content-in-Pure-clause-ok
+pub handle-returns-then-is_markdown_alone-clause-ok :
+    goal.handle-returns-then-is_markdown_alone-clause-ok
+handle-returns-then-is_markdown_alone-clause-ok = handlers.handle-returns-then-is_markdown_alone-clause-ok
 
-pub handle-returns-in-Faithful-clause-ok : goal.handle-returns-in-Faithful-clause-ok
-handle-returns-in-Faithful-clause-ok = handlers.handle-returns-in-Faithful-clause-ok
+pub handle-returns-in_default-clause-ok : goal.handle-returns-in_default-clause-ok
+handle-returns-in_default-clause-ok = handlers.handle-returns-in_default-clause-ok
 
-pub handle-returns-in-Faithful-clause-err : goal.handle-returns-in-Faithful-clause-err
-handle-returns-in-Faithful-clause-err = handlers.handle-returns-in-Faithful-clause-err
+pub handle-returns-in_default-clause-err : goal.handle-returns-in_default-clause-err
+handle-returns-in_default-clause-err = handlers.handle-returns-in_default-clause-err
 
 pub handle-returns-in_err-plan-clause-err : goal.handle-returns-in_err-plan-clause-err
 handle-returns-in_err-plan-clause-err = handlers.handle-returns-in_err-plan-clause-err
@@ -33,6 +33,11 @@ handle-returns-in_err-content-in-Children-clause-err = handlers.handle-returns-i
 
 pub handle-walk_descendant-requires : goal.handle-walk_descendant-requires
 handle-walk_descendant-requires = handlers.handle-walk_descendant-requires
+
+pub handle-returns-in_err-inside_line-in-Descendant-clause-err :
+    goal.handle-returns-in_err-inside_line-in-Descendant-clause-err
+handle-returns-in_err-inside_line-in-Descendant-clause-err =
+    handlers.handle-returns-in_err-inside_line-in-Descendant-clause-err
 
 pub handle-returns-in_err-content-in-Descendant-clause-err : goal.handle-returns-in_err-content-in-Descendant-clause-err
 handle-returns-in_err-content-in-Descendant-clause-err = handlers.handle-returns-in_err-content-in-Descendant-clause-err
@@ -107,6 +112,11 @@ raw_html-returns-in_err-raw-clause-err = contents.raw_html-returns-in_err-raw-cl
 pub content-returns-in_err-append_text-clause-err : goal.content-returns-in_err-append_text-clause-err
 content-returns-in_err-append_text-clause-err = contents.content-returns-in_err-append_text-clause-err
 
+pub content-returns-in_err-inside_line-clause-err :
+    goal.content-returns-in_err-inside_line-clause-err
+content-returns-in_err-inside_line-clause-err =
+    contents.content-returns-in_err-inside_line-clause-err
+
 pub content-returns-in-Some-clause-ok : goal.content-returns-in-Some-clause-ok
 content-returns-in-Some-clause-ok = contents.content-returns-in-Some-clause-ok
 
@@ -121,6 +131,11 @@ walk_alone-returns-in_err-walk_node-clause-err = alone.walk_alone-returns-in_err
 
 pub walk_descendant-returns-in_err-append_text-clause-err : goal.walk_descendant-returns-in_err-append_text-clause-err
 walk_descendant-returns-in_err-append_text-clause-err = alone.walk_descendant-returns-in_err-append_text-clause-err
+
+pub walk_descendant-returns-in_err-is_in_line-clause-err :
+    goal.walk_descendant-returns-in_err-is_in_line-clause-err
+walk_descendant-returns-in_err-is_in_line-clause-err =
+    alone.walk_descendant-returns-in_err-is_in_line-clause-err
 
 pub walk_descendant-returns-clause-ok : goal.walk_descendant-returns-clause-ok
 walk_descendant-returns-clause-ok = alone.walk_descendant-returns-clause-ok
@@ -143,11 +158,16 @@ walk_children-loop-rest-preserved-in_ok-walk_node = children.walk_children-loop-
 pub walk_children-loop-rest-preserved : goal.walk_children-loop-rest-preserved
 walk_children-loop-rest-preserved = children.walk_children-loop-rest-preserved
 
+pub walk_each-returns-in_err-inside_line-clause-err :
+    goal.walk_each-returns-in_err-inside_line-clause-err
+walk_each-returns-in_err-inside_line-clause-err =
+    alone.walk_each-returns-in_err-inside_line-clause-err
+
 pub walk_each-returns-in_err-results-clause-err : goal.walk_each-returns-in_err-results-clause-err
 walk_each-returns-in_err-results-clause-err = alone.walk_each-returns-in_err-results-clause-err
 
-pub walk_each-walk_descendant-requires : goal.walk_each-walk_descendant-requires
-walk_each-walk_descendant-requires = alone.walk_each-walk_descendant-requires
+pub walk_each-walk_kept-requires : goal.walk_each-walk_kept-requires
+walk_each-walk_kept-requires = alone.walk_each-walk_kept-requires
 
 pub walk_each-returns-in_err-result-clause-err : goal.walk_each-returns-in_err-result-clause-err
 walk_each-returns-in_err-result-clause-err = alone.walk_each-returns-in_err-result-clause-err
@@ -174,17 +194,22 @@ pub walk_node-returns-in_err-walk_children-in-Document-clause-err :
 walk_node-returns-in_err-walk_children-in-Document-clause-err =
     nodes.walk_node-returns-in_err-walk_children-in-Document-clause-err
 
+pub walk_node-walk_children-requires :
+    goal.walk_node-walk_children-requires
+walk_node-walk_children-requires =
+    nodes.walk_node-walk_children-requires
+
 pub walk_node-returns-in-Doctype-clause-ok : goal.walk_node-returns-in-Doctype-clause-ok
 walk_node-returns-in-Doctype-clause-ok = nodes.walk_node-returns-in-Doctype-clause-ok
 
-pub walk_node-returns-in-Pure-clause-ok : goal.walk_node-returns-in-Pure-clause-ok
-walk_node-returns-in-Pure-clause-ok = nodes.walk_node-returns-in-Pure-clause-ok
+pub walk_node-returns-then-is_markdown_alone-clause-ok : goal.walk_node-returns-then-is_markdown_alone-clause-ok
+walk_node-returns-then-is_markdown_alone-clause-ok = nodes.walk_node-returns-then-is_markdown_alone-clause-ok
 
-pub walk_node-returns-in-Faithful-clause-ok : goal.walk_node-returns-in-Faithful-clause-ok
-walk_node-returns-in-Faithful-clause-ok = nodes.walk_node-returns-in-Faithful-clause-ok
+pub walk_node-returns-else-is_markdown_alone-clause-ok : goal.walk_node-returns-else-is_markdown_alone-clause-ok
+walk_node-returns-else-is_markdown_alone-clause-ok = nodes.walk_node-returns-else-is_markdown_alone-clause-ok
 
-pub walk_node-returns-in-Faithful-clause-err : goal.walk_node-returns-in-Faithful-clause-err
-walk_node-returns-in-Faithful-clause-err = nodes.walk_node-returns-in-Faithful-clause-err
+pub walk_node-returns-else-is_markdown_alone-clause-err : goal.walk_node-returns-else-is_markdown_alone-clause-err
+walk_node-returns-else-is_markdown_alone-clause-err = nodes.walk_node-returns-else-is_markdown_alone-clause-err
 
 pub walk_node-returns-in-Text-clause-ok : goal.walk_node-returns-in-Text-clause-ok
 walk_node-returns-in-Text-clause-ok = nodes.walk_node-returns-in-Text-clause-ok
@@ -192,18 +217,52 @@ walk_node-returns-in-Text-clause-ok = nodes.walk_node-returns-in-Text-clause-ok
 pub walk_node-returns-in-Text-clause-err : goal.walk_node-returns-in-Text-clause-err
 walk_node-returns-in-Text-clause-err = nodes.walk_node-returns-in-Text-clause-err
 
-pub walk_node-returns-in-None-clause-ok : goal.walk_node-returns-in-None-clause-ok
-walk_node-returns-in-None-clause-ok = nodes.walk_node-returns-in-None-clause-ok
+pub walk_kept-returns-in_err-is_line_below-clause-err :
+    goal.walk_kept-returns-in_err-is_line_below-clause-err
+walk_kept-returns-in_err-is_line_below-clause-err =
+    alone.walk_kept-returns-in_err-is_line_below-clause-err
 
-pub walk_node-returns-after-out-clause-ok : goal.walk_node-returns-after-out-clause-ok
-walk_node-returns-after-out-clause-ok = nodes.walk_node-returns-after-out-clause-ok
+pub walk_kept-returns-in_err-given-clause-err :
+    goal.walk_kept-returns-in_err-given-clause-err
+walk_kept-returns-in_err-given-clause-err =
+    alone.walk_kept-returns-in_err-given-clause-err
 
-pub walk_node-returns-in_err-walk_element-in-Element-clause-err :
-    goal.walk_node-returns-in_err-walk_element-in-Element-clause-err
-walk_node-returns-in_err-walk_element-in-Element-clause-err =
-    nodes.walk_node-returns-in_err-walk_element-in-Element-clause-err
+pub walk_kept-keep-requires-clause-right :
+    goal.walk_kept-keep-requires-clause-right
+walk_kept-keep-requires-clause-right =
+    alone.walk_kept-keep-requires-clause-right
 
-pub walk_node-returns-in_err-append_normalized_content-in-Some-clause-err :
-    goal.walk_node-returns-in_err-append_normalized_content-in-Some-clause-err
-walk_node-returns-in_err-append_normalized_content-in-Some-clause-err =
-    nodes.walk_node-returns-in_err-append_normalized_content-in-Some-clause-err
+pub walk_kept-returns-clause-ok :
+    goal.walk_kept-returns-clause-ok
+walk_kept-returns-clause-ok =
+    alone.walk_kept-returns-clause-ok
+
+pub walk_kept-returns-clause-err :
+    goal.walk_kept-returns-clause-err
+walk_kept-returns-clause-err =
+    alone.walk_kept-returns-clause-err
+
+pub walk_node-returns-in-Some-clause-ok :
+    goal.walk_node-returns-in-Some-clause-ok
+walk_node-returns-in-Some-clause-ok =
+    nodes.walk_node-returns-in-Some-clause-ok
+
+pub walk_node-returns-in-Some-clause-err :
+    goal.walk_node-returns-in-Some-clause-err
+walk_node-returns-in-Some-clause-err =
+    nodes.walk_node-returns-in-Some-clause-err
+
+pub walk_node-returns-in_err-given-in-Element-clause-err :
+    goal.walk_node-returns-in_err-given-in-Element-clause-err
+walk_node-returns-in_err-given-in-Element-clause-err =
+    nodes.walk_node-returns-in_err-given-in-Element-clause-err
+
+pub walk_node-returns-in_ok-given-in-Element-clause-ok :
+    goal.walk_node-returns-in_ok-given-in-Element-clause-ok
+walk_node-returns-in_ok-given-in-Element-clause-ok =
+    nodes.walk_node-returns-in_ok-given-in-Element-clause-ok
+
+pub walk_node-returns-in_ok-given-in-Element-clause-err :
+    goal.walk_node-returns-in_ok-given-in-Element-clause-err
+walk_node-returns-in_ok-given-in-Element-clause-err =
+    nodes.walk_node-returns-in_ok-given-in-Element-clause-err

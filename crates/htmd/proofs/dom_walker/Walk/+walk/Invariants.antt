@@ -8,14 +8,14 @@ use Rattle.htmd.specs.Children.{write_children, write_groups}
 use Rattle.htmd.specs.Elements.{contents_alone}
 use Rattle.htmd.specs.Rendering.{written_within, inside_of}
 use Rattle.htmd.specs.Views.{output_view, results_view}
-use Rattle.htmd.specs.Walking.{occurrence_of}
+use Rattle.htmd.specs.Walking.{occurrence_of, IsRemembered}
 use Rattle.htmd.proofs.WalkingLemmas.{following}
 use Rattle.htmd.proofs.ChildrenLemmas.{IsChild}
 use Rattle.htmd.proofs.dom_walker.Walk.+walk.Given as goal
 
 -- what lies behind a node counts most, and then the handlers that are left
 abbrev behind : ℕ → ℕ → Config → ℕ
-behind count node config = (count - node) * (length config.registered + 6)
+behind count node config = (count - node) * (length config.registered + 7)
 
 abbrev pub decreases-walk_node : goal.decreases-walk_node
 decreases-walk_node g l = behind (length l.self.now.tree.now) l.node (g.R.Registry.config l.self.now.registry.now)
@@ -39,18 +39,22 @@ abbrev pub decreases-raw_html : goal.decreases-raw_html
 decreases-raw_html g l =
     behind (length l.self.now.tree.now) (l.element.now.node + 1) (g.R.Registry.config l.self.now.registry.now) + 3
 
+abbrev pub decreases-walk_kept : goal.decreases-walk_kept
+decreases-walk_kept g l =
+    behind (length l.self.now.tree.now) (l.element.now.node + 1) (g.R.Registry.config l.self.now.registry.now) + 3
+
 abbrev pub decreases-walk_each : goal.decreases-walk_each
 decreases-walk_each g l =
-    behind (length l.self.now.tree.now) (l.element.now.node + 1) (g.R.Registry.config l.self.now.registry.now) + 3
+    behind (length l.self.now.tree.now) (l.element.now.node + 1) (g.R.Registry.config l.self.now.registry.now) + 4
 
 abbrev pub decreases-handle : goal.decreases-handle
 decreases-handle g l =
-    behind (length l.self.now.tree.now) (l.element.now.node + 1) (g.R.Registry.config l.self.now.registry.now) + 4
+    behind (length l.self.now.tree.now) (l.element.now.node + 1) (g.R.Registry.config l.self.now.registry.now) + 5
     + (length (g.R.Registry.config l.self.now.registry.now).registered - l.skipped)
 
 abbrev pub decreases-walk_element : goal.decreases-walk_element
 decreases-walk_element g l =
-    behind (length l.self.now.tree.now) (l.element.now.node + 1) (g.R.Registry.config l.self.now.registry.now) + 5
+    behind (length l.self.now.tree.now) (l.element.now.node + 1) (g.R.Registry.config l.self.now.registry.now) + 6
     + length (g.R.Registry.config l.self.now.registry.now).registered
 
 abbrev pub invariant-walk_children-loop-rest : goal.invariant-walk_children-loop-rest
@@ -75,6 +79,7 @@ invariant-walk_each-loop-node g l =
     let conversion = conversion_of (g.R.Registry.config l.self.registry.now) l.self.tree.now in
     record {
       kept : IsBeginning l.initial.links l.links;
+      remembered : All (IsRemembered conversion) l.remembered.items;
       rest : (n : ℕ) → height (tree_of l.self.tree.now l.element.node) ≤ suc n →
           following (results_view l.results.items) (contents_alone (occurrence_of n conversion l.element)
           (drop l.node-index l.nodes) l.links)

@@ -1,8 +1,7 @@
 use Rattle.std.proofs.Common.{sym, ap, ◌∙◌, subst, List, ℕ, Bool, All, ◌<◌, length}
-use Rattle.htmd_markdown.specs.Lists.{Block, ordered_list}
 use Rattle.htmd.specs.Handling.{ResultView}
 use Rattle.htmd.specs.ElementViews.{are_markdown}
-use Rattle.htmd.specs.ListElements.{blocks_of_list, blocks_of, first_number_of}
+use Rattle.htmd.specs.ListElements.{blocks_of_list, blocks_of, ordered_text}
 use Rattle.htmd.specs.Views.{results_view, element_view}
 use Rattle.htmd.proofs.ChildListsLemmas.{children_within}
 use Rattle.htmd.proofs.element_handler.list.numbered_list.Goals as goal
@@ -16,15 +15,12 @@ list_blocks-requires c =
 pub returns : goal.returns
 returns c =
     let view = element_view c.args.element.now in
-    let spacing = view.options.ol_number_spacing in
     let contents = results_view c.args.contents.items in
     let put : List ℕ → Bool → ResultView = λ s m. record { content = s; markdown_translated = m } in
     let flag = c.are_markdown-markdown_translated.ensures
     ∙ ap (λ rs. are_markdown (results_view rs)) c.deref.ensures.value in
     let blocks = c.in_ok-blocks.ensures
     ∙ ap (λ ids. blocks_of_list view.items ids contents) c.children-children.ensures.value in
-    let text = c.in_ok-content.ensures.text
-    ∙ ap (λ (bs : List Block). ordered_list c.number_of_first.result spacing bs) blocks
-    ∙ ap (λ n. ordered_list n spacing (blocks_of view contents)) c.number_of_first.ensures in
+    let text = c.in_ok-content.ensures ∙ ap (ordered_text view) blocks in
     ap (λ s. put s c.are_markdown-markdown_translated.result) text
-    ∙ ap (put (ordered_list (first_number_of view) spacing (blocks_of view contents))) flag
+    ∙ ap (put (ordered_text view (blocks_of view contents))) flag

@@ -1,22 +1,26 @@
 -- Nodes that are handed over by themselves.
 use Rattle.std.proofs.Common.{rules, ◌≡◌, ◌<◌, ◌≤◌, ◌+◌, ◌++◌, ◌∙◌, ℕ, List, [], ◌∷◌, Bool}
 use Rattle.std.proofs.Common.{true, false, not}
-use Rattle.std.proofs.Common.{refl, sym, ap, subst, arith, length, drop}
+use Rattle.std.proofs.Common.{refl, sym, ap, subst, arith, length, drop, suc, Option, Some, None}
 use Rattle.std.proofs.Common.{string_bytes}
-use Rattle.std.specs.Option.{option_copied}
-use Rattle.std.proofs.lemmas.List.{map-append}
-use Rattle.htmd_tree.specs.Items.{Item, IsBelow}
+use Rattle.std.specs.Option.{option_copied, is_some}
+use Rattle.std.proofs.lemmas.List.{map-append, length-map}
+use Rattle.std.proofs.lemmas.Bool.{eqb-true}
+use Rattle.std.proofs.lemmas.Result.{IfOk-weaker}
+use Rattle.htmd_tree.specs.Items.{Item, Data, IsBelow, data_at, element_node}
+use Rattle.htmd_tree.specs.Views.{data_of, pairs_of}
 use Rattle.htmd_tree.specs.NumberedTrees.{tree_of, height}
-use Rattle.htmd_tree.specs.Ancestors.{ancestors_of}
+use Rattle.htmd_tree.specs.Ancestors.{ancestor_of, ancestors_of}
 use Rattle.htmd_tree.proofs.NumberedTreesLemmas.{height_pos}
 use Rattle.htmd.specs.Handling.{ResultView}
-use Rattle.htmd.specs.OrdinaryText.{ordinary_text}
-use Rattle.htmd.specs.Outputs.{Output, conversion_of, context_of, empty_output}
+use Rattle.htmd.specs.OrdinaryText.{written_text}
+use Rattle.htmd.specs.Outputs.{Output, conversion_of, context_of, empty_output, is_guarded}
 use Rattle.htmd.specs.Children.{content_alone, descendant_tree}
-use Rattle.htmd.specs.Elements.{Occurrence, Contents, contents_alone}
-use Rattle.htmd.specs.Rendering.{written_within}
+use Rattle.htmd.specs.Groups.{children_at}
+use Rattle.htmd.specs.Elements.{Occurrence, Answer, answer_after, occurrence_at, Contents, contents_alone}
+use Rattle.htmd.specs.Rendering.{written_within, inside_of}
 use Rattle.htmd.specs.Beginnings.{Begins}
-use Rattle.htmd.specs.Views.{output_view, result_view, results_view}
+use Rattle.htmd.specs.Views.{output_view, answer_view, optional_result, result_view, results_view}
 use Rattle.htmd.specs.Walking.{occurrence_of, AtNode}
 use Rattle.htmd.proofs.BeginningsLemmas.{beginning-trans, beginning-to, beginning-from}
 use Rattle.htmd.proofs.BeginningsLemmas.{begins-wider}
@@ -25,7 +29,8 @@ use Rattle.htmd.proofs.BeginningsLemmas.{grows-alone}
 use Rattle.htmd.proofs.BeginningsLemmas.{grows-contents}
 use Rattle.htmd.proofs.BeginningsLemmas.{grows-within}
 use Rattle.htmd.proofs.BeginningsLemmas.{on_err_always}
-use Rattle.htmd.proofs.RenderingLemmas.{unpreformatted}
+use Rattle.htmd.proofs.RenderingLemmas.{unpreformatted, element_broken}
+use Rattle.htmd.proofs.RememberingLemmas.{given-always, shown-answer, result_put, result_broken}
 use Rattle.htmd.proofs.WalkingLemmas.{following, contents_more, contents_first}
 use Rattle.htmd.proofs.WalkingLemmas.{exit-err, text_alone, below_lower}
 use Rattle.htmd.proofs.dom_walker.Walk.+walk.Goals as goal
@@ -103,6 +108,17 @@ walk_descendant-returns-in_err-append_text-clause-err g t c =
     c.args.below) (context_of (ancestors_of c.args.self.now.tree.now c.args.below) false true)
     (empty_output c.args.links.now)))
 
+pub walk_descendant-returns-in_err-is_in_line-clause-err : goal.walk_descendant-returns-in_err-is_in_line-clause-err
+walk_descendant-returns-in_err-is_in_line-clause-err g t c =
+    let v = conversion_of (g.R.Registry.config c.args.self.now.registry.now) c.args.self.now.tree.now in
+    on_err_always {P = AtNode v c.args.below
+    (λ write. Begins c.args.links.now c.args.links.now
+    (content_alone write v (descendant_tree c.args.self.now.tree.now (option_copied c.args.element.now.text)
+    c.args.below) c.args.below c.args.links.now).definitions)} _ (λ n h.
+    begins-start (grows-within n v (descendant_tree c.args.self.now.tree.now (option_copied c.args.element.now.text)
+    c.args.below) (context_of (ancestors_of c.args.self.now.tree.now c.args.below) false true)
+    (empty_output c.args.links.now)))
+
 pub walk_descendant-returns-clause-ok : goal.walk_descendant-returns-clause-ok
 walk_descendant-returns-clause-ok g t c =
     let v = conversion_of (g.R.Registry.config c.args.self.now.registry.now) c.args.self.now.tree.now in
@@ -112,15 +128,29 @@ walk_descendant-returns-clause-ok g t c =
     ≡ empty_output c.args.links.now =
     ap (λ s. put s c.empty_result-out.result.markdown_translated) c.empty_result-out.ensures.content
     ∙ ap (put []) c.empty_result-out.ensures.markdown_translated in
+    let alike = is_guarded (g.R.Registry.config c.args.self.now.registry.now).options in
+    let guarded : c.is_guarded-is_guarded.result ≡ alike =
+    c.is_guarded-is_guarded.ensures ∙ ap is_guarded c.options.ensures.value in
+    let written : Bool → List ℕ → List ℕ = λ m s. s ++ written_text m false false true s c.in-Some.text.now in
     λ n h.
     ap (λ s. put s c.empty_result-out.result.markdown_translated) (c.in_ok-append_text.ensures
-    ∙ ap (λ s. s ++ ordinary_text true s c.in-Some.text.now) c.empty_result-out.ensures.content)
-    ∙ ap (put (ordinary_text true [] c.in-Some.text.now)) c.empty_result-out.ensures.markdown_translated
+    ∙ ap (λ m. written m (string_bytes c.empty_result-out.result.content)) guarded
+    ∙ ap (written alike) c.empty_result-out.ensures.content)
+    ∙ ap (put (written alike [])) c.empty_result-out.ensures.markdown_translated
     ∙ text_alone n v c.args.below c.in-Some.text.now
     (context_of (ancestors_of c.args.self.now.tree.now c.args.below) false true) c.args.links.now
     (let p = height_pos (tree_of c.args.self.now.tree.now c.args.below) in omega arith)
     ∙ (ap (λ j. content_alone (written_within n v) v (descendant_tree c.args.self.now.tree.now j c.args.below)
     c.args.below c.args.links.now) (sym (ap option_copied c.in-Some.is)))
+
+pub walk_each-returns-in_err-inside_line-clause-err : goal.walk_each-returns-in_err-inside_line-clause-err
+walk_each-returns-in_err-inside_line-clause-err g t c =
+    let v = conversion_of (g.R.Registry.config c.args.self.now.registry.now) c.args.self.now.tree.now in
+    let e = c.args.element.now in
+    let at : ℕ → Occurrence = λ n. occurrence_of n v e in
+    exit-err v e (λ o. Begins c.args.links.now c.args.links.now
+    (contents_alone o c.args.nodes.now c.args.links.now).definitions) _
+    (λ n l. begins-start (grows-contents (at n) (grows-within n v) c.args.nodes.now c.args.links.now))
 
 pub walk_each-returns-in_err-results-clause-err : goal.walk_each-returns-in_err-results-clause-err
 walk_each-returns-in_err-results-clause-err g t c =
@@ -131,14 +161,31 @@ walk_each-returns-in_err-results-clause-err g t c =
     (contents_alone o c.args.nodes.now c.args.links.now).definitions) _
     (λ n l. begins-start (grows-contents (at n) (grows-within n v) c.args.nodes.now c.args.links.now))
 
-pub walk_each-walk_descendant-requires : goal.walk_each-walk_descendant-requires
-walk_each-walk_descendant-requires g t c κs within =
+pub walk_each-walk_kept-requires : goal.walk_each-walk_kept-requires
+walk_each-walk_kept-requires g t c κs within =
     let low = below_lower c.args.self.now.tree.now c.args.self.now.tree.now c.args.element.now.node c.node-item.result
     c.args.self.now.is_tree refl (subst (λ (x : List Item). c.args.element.now.node < length x) c.requires.tree
     c.args.element.now.within)
     (subst (λ d. ∥ IsBelow c.args.self.now.tree.now c.args.element.now.node d ∥₁) (sym c.node-item.is)
-    (c.requires.proper c.loop-node.node-index c.node-item.result c.loop-node-test.true)) in
-    (search rules, (within, (search rules, (low.0, low.1))))
+    (c.requires.proper c.loop-node.node-index c.node-item.result c.loop-node-test.true)) in (
+      search rules,
+      (
+        within,
+        (
+          search rules,
+          (
+            c.in_ok-inside_line.ensures,
+            (
+              low.0,
+              (
+                low.1,
+                c.loop-node.invariant.remembered,
+              ),
+            ),
+          ),
+        ),
+      ),
+    )
 
 pub walk_each-returns-in_err-result-clause-err : goal.walk_each-returns-in_err-result-clause-err
 walk_each-returns-in_err-result-clause-err g t c =
@@ -150,7 +197,7 @@ walk_each-returns-in_err-result-clause-err g t c =
     c.args.element.now.within)
     (subst (λ d. ∥ IsBelow c.args.self.now.tree.now c.args.element.now.node d ∥₁) (sym c.node-item.is)
     (c.requires.proper c.loop-node.node-index c.node-item.result c.loop-node-test.true)) in
-    exit-err v e (λ o. Begins c.args.links.now c.walk_descendant.new.links
+    exit-err v e (λ o. Begins c.args.links.now c.walk_kept.new.links
     (contents_alone o c.args.nodes.now c.args.links.now).definitions) _ (λ n l.
     begins-wider c.loop-node.invariant.kept (c.in_err-result.ensures.err n (omega (arith, low.2, l)))
     (beginning-to (contents_first (at n) (grows-within n v) c.args.nodes.now c.loop-node.node-index
@@ -167,7 +214,7 @@ walk_each-returns-in_err-push-clause-err g t c =
     c.args.element.now.within)
     (subst (λ d. ∥ IsBelow c.args.self.now.tree.now c.args.element.now.node d ∥₁) (sym c.node-item.is)
     (c.requires.proper c.loop-node.node-index c.node-item.result c.loop-node-test.true)) in
-    exit-err v e (λ o. Begins c.args.links.now c.walk_descendant.new.links
+    exit-err v e (λ o. Begins c.args.links.now c.walk_kept.new.links
     (contents_alone o c.args.nodes.now c.args.links.now).definitions) _ (λ n l.
     let made = ap (λ (o : Output). o.definitions) (c.in_ok-result.ensures.ok n (omega (arith, low.2, l))) in
     record {
@@ -199,15 +246,156 @@ walk_each-loop-node-preserved g t c =
           (descendant_tree c.args.self.now.tree.now (option_copied c.args.element.now.text) c.node-item.result)
           (context_of (ancestors_of c.args.self.now.tree.now c.node-item.result) false true)
           (empty_output c.loop-node.links)) (sym (ap (λ (o : Output). o.definitions) made)));
+      remembered = c.in_ok-result.ensures.remembered;
       rest = λ n l.
           let rest : List ResultView → Contents =
           λ rs. following rs (contents_alone (at n) (drop (c.loop-node.node-index + 1) c.args.nodes.now)
-          c.walk_descendant.new.links) in
+          c.walk_kept.new.links) in
           ap rest (ap results_view c.in_ok-push.ensures.items ∙ map-append result_view c.loop-node.results.items
           (c.in_ok-result.result ∷ []))
           ∙ contents_more (at n) c.args.nodes.now c.loop-node.node-index c.node-item.result
-          (results_view c.loop-node.results.items) (output_view c.in_ok-result.result c.walk_descendant.new.links)
+          (results_view c.loop-node.results.items) (output_view c.in_ok-result.result c.walk_kept.new.links)
           c.loop-node.links c.loop-node-test.true c.node-item.is
           (c.in_ok-result.ensures.ok n (omega (arith, low.2, l)))
           ∙ c.loop-node.invariant.rest n l;
     }
+
+not_some : {A : Type 0} (o : Option A) → is_some o ≡ false → o ≡ None
+not_some None e = refl
+not_some (Some x) e = cc
+
+pub walk_kept-returns-in_err-is_line_below-clause-err : goal.walk_kept-returns-in_err-is_line_below-clause-err
+walk_kept-returns-in_err-is_line_below-clause-err g t c =
+    let v = conversion_of (g.R.Registry.config c.args.self.now.registry.now) c.args.self.now.tree.now in
+    on_err_always {P = AtNode v c.args.below
+    (λ write. Begins c.args.links.now c.args.links.now
+    (content_alone write v (descendant_tree c.args.self.now.tree.now (option_copied c.args.element.now.text)
+    c.args.below) c.args.below c.args.links.now).definitions)} _
+    (λ n h. begins-start (grows-within n v (descendant_tree c.args.self.now.tree.now
+    (option_copied c.args.element.now.text) c.args.below)
+    (context_of (ancestors_of c.args.self.now.tree.now c.args.below) false true) (empty_output c.args.links.now)))
+
+pub walk_kept-returns-in_err-given-clause-err : goal.walk_kept-returns-in_err-given-clause-err
+walk_kept-returns-in_err-given-clause-err g t c =
+    let v = conversion_of (g.R.Registry.config c.args.self.now.registry.now) c.args.self.now.tree.now in
+    let items = c.args.self.now.tree.now in
+    let name = c.as_str.result.now in
+    let attributes = pairs_of c.in-Element.attrs.items in
+    let old = c.args.links.now in
+    let new = c.walk_element.new.links in
+    let is : data_at items c.args.below ≡ element_node name attributes =
+    (sym c.data.ensures.value ∙ ap data_of c.in-Element.is)
+    ∙ ap (λ s. element_node s attributes) (sym c.as_str.ensures.value) in
+    let alone : tree_of items c.args.below
+    ≡ descendant_tree items (option_copied c.args.element.now.text) c.args.below =
+    sym (ap (λ j. descendant_tree items (option_copied j) c.args.below)
+    (not_some c.args.element.now.text (sym c.is_some.ensures ∙ c.if-is_some.false))) in
+    let answered : ℕ → Answer = λ m. answer_after 0 name (occurrence_at (written_within m v) v c.args.below
+    (inside_of items c.args.below) (children_at items c.args.below)) old in
+    on_err_always {P = AtNode v c.args.below
+    (λ write. Begins c.args.links.now new
+    (content_alone write v (descendant_tree c.args.self.now.tree.now (option_copied c.args.element.now.text)
+    c.args.below) c.args.below c.args.links.now).definitions)} _
+    (λ n h. begins-to
+    (element_broken (g.R.Registry.config c.args.self.now.registry.now) items None c.data.ensures.tree c.args.below
+    c.requires.within n false true (empty_output old) name attributes new h is
+    (λ m k. begins-to (c.in_err-given.ensures.err m k) (ap (λ (a : Answer). a.definitions)
+    (shown-answer v c.args.below None (option_copied c.text_shown.result) c.options.result.now name m old
+    c.text_shown.ensures.shows c.text_shown.ensures.children c.options.ensures.value))))
+    (ap (λ tree. (content_alone (written_within n v) v tree c.args.below old).definitions) alone))
+
+pub walk_kept-keep-requires-clause-right : goal.walk_kept-keep-requires-clause-right
+walk_kept-keep-requires-clause-right g t c as_many =
+    let v = conversion_of (g.R.Registry.config c.args.self.now.registry.now) c.args.self.now.tree.now in
+    let items = c.args.self.now.tree.now in
+    let name = c.as_str.result.now in
+    let attributes = pairs_of c.in-Element.attrs.items in
+    let old = c.args.links.now in
+    let new = c.walk_element.new.links in
+    let is : data_at items c.args.below ≡ element_node name attributes =
+    (sym c.data.ensures.value ∙ ap data_of c.in-Element.is)
+    ∙ ap (λ s. element_node s attributes) (sym c.as_str.ensures.value) in
+    let alone : tree_of items c.args.below
+    ≡ descendant_tree items (option_copied c.args.element.now.text) c.args.below =
+    sym (ap (λ j. descendant_tree items (option_copied j) c.args.below)
+    (not_some c.args.element.now.text (sym c.is_some.ensures ∙ c.if-is_some.false))) in
+    let answered : ℕ → Answer = λ m. answer_after 0 name (occurrence_at (written_within m v) v c.args.below
+    (inside_of items c.args.below) (children_at items c.args.below)) old in
+    let made : (m : ℕ) → height (tree_of items c.args.below) ≤ suc m
+    → answer_view c.in_ok-given.given new ≡ answered m = λ m k.
+    c.in_ok-given.ensures.ok m k
+    ∙ shown-answer v c.args.below None (option_copied c.text_shown.result) c.options.result.now name m old
+    c.text_shown.ensures.shows c.text_shown.ensures.children c.options.ensures.value in
+    let before : c.len-before.result ≡ length old =
+    c.len-before.ensures ∙ c.links.inside.lines.ok.0 ∙ sym (length-map c.links.inside.lines.items string_bytes)
+    ∙ ap length c.links.view_is in
+    let after : c.len.result ≡ length new =
+    c.len.ensures ∙ c.links-2.inside.lines.ok.0 ∙ sym (length-map c.links-2.inside.lines.items string_bytes)
+    ∙ ap length c.links-2.view_is in
+    given-always v c.options.ensures.stay c.args.below (optional_result c.in_ok-given.given) old new
+    (sym after ∙ eqb-true c.len.result c.len-before.result as_many ∙ before)
+    (λ m k. made m k
+    ∙ ap (λ (d : Data). answer_after 0 (ancestor_of d).tag (occurrence_at (written_within m v) v c.args.below
+    (inside_of items c.args.below) (children_at items c.args.below)) old) (sym is))
+
+pub walk_kept-returns-clause-ok : goal.walk_kept-returns-clause-ok
+walk_kept-returns-clause-ok g t c =
+    let v = conversion_of (g.R.Registry.config c.args.self.now.registry.now) c.args.self.now.tree.now in
+    let items = c.args.self.now.tree.now in
+    let name = c.as_str.result.now in
+    let attributes = pairs_of c.in-Element.attrs.items in
+    let old = c.args.links.now in
+    let new = c.walk_element.new.links in
+    let is : data_at items c.args.below ≡ element_node name attributes =
+    (sym c.data.ensures.value ∙ ap data_of c.in-Element.is)
+    ∙ ap (λ s. element_node s attributes) (sym c.as_str.ensures.value) in
+    let alone : tree_of items c.args.below
+    ≡ descendant_tree items (option_copied c.args.element.now.text) c.args.below =
+    sym (ap (λ j. descendant_tree items (option_copied j) c.args.below)
+    (not_some c.args.element.now.text (sym c.is_some.ensures ∙ c.if-is_some.false))) in
+    let answered : ℕ → Answer = λ m. answer_after 0 name (occurrence_at (written_within m v) v c.args.below
+    (inside_of items c.args.below) (children_at items c.args.below)) old in
+    let made : (m : ℕ) → height (tree_of items c.args.below) ≤ suc m
+    → answer_view c.in_ok-given.given new ≡ answered m = λ m k.
+    c.in_ok-given.ensures.ok m k
+    ∙ shown-answer v c.args.below None (option_copied c.text_shown.result) c.options.result.now name m old
+    c.text_shown.ensures.shows c.text_shown.ensures.children c.options.ensures.value in
+    IfOk-weaker c.keep.result _ (λ r. AtNode v c.args.below (λ write. output_view r new
+    ≡ content_alone write v (descendant_tree items (option_copied c.args.element.now.text) c.args.below) c.args.below
+    old)) (λ r p n h. p new
+    ∙ result_put (g.R.Registry.config c.args.self.now.registry.now) items None c.data.ensures.tree c.args.below
+    c.requires.within name attributes is (empty_output old) (optional_result c.in_ok-given.given) new made n false true
+    c.is_inside_pre-is_inside_pre.result h c.is_inside_pre-is_inside_pre.ensures
+    ∙ ap (λ tree. content_alone (written_within n v) v tree c.args.below old) alone) c.keep.ensures.content
+
+pub walk_kept-returns-clause-err : goal.walk_kept-returns-clause-err
+walk_kept-returns-clause-err g t c =
+    let v = conversion_of (g.R.Registry.config c.args.self.now.registry.now) c.args.self.now.tree.now in
+    let items = c.args.self.now.tree.now in
+    let name = c.as_str.result.now in
+    let attributes = pairs_of c.in-Element.attrs.items in
+    let old = c.args.links.now in
+    let new = c.walk_element.new.links in
+    let is : data_at items c.args.below ≡ element_node name attributes =
+    (sym c.data.ensures.value ∙ ap data_of c.in-Element.is)
+    ∙ ap (λ s. element_node s attributes) (sym c.as_str.ensures.value) in
+    let alone : tree_of items c.args.below
+    ≡ descendant_tree items (option_copied c.args.element.now.text) c.args.below =
+    sym (ap (λ j. descendant_tree items (option_copied j) c.args.below)
+    (not_some c.args.element.now.text (sym c.is_some.ensures ∙ c.if-is_some.false))) in
+    let answered : ℕ → Answer = λ m. answer_after 0 name (occurrence_at (written_within m v) v c.args.below
+    (inside_of items c.args.below) (children_at items c.args.below)) old in
+    let made : (m : ℕ) → height (tree_of items c.args.below) ≤ suc m
+    → answer_view c.in_ok-given.given new ≡ answered m = λ m k.
+    c.in_ok-given.ensures.ok m k
+    ∙ shown-answer v c.args.below None (option_copied c.text_shown.result) c.options.result.now name m old
+    c.text_shown.ensures.shows c.text_shown.ensures.children c.options.ensures.value in
+    on_err_always {P = AtNode v c.args.below
+    (λ write. Begins c.args.links.now new
+    (content_alone write v (descendant_tree c.args.self.now.tree.now (option_copied c.args.element.now.text)
+    c.args.below) c.args.below c.args.links.now).definitions)} _
+    (λ n h. begins-to
+    (result_broken (g.R.Registry.config c.args.self.now.registry.now) items None c.data.ensures.tree c.args.below
+    c.requires.within name attributes is (empty_output old) (optional_result c.in_ok-given.given) new made n false true
+    h)
+    (ap (λ tree. (content_alone (written_within n v) v tree c.args.below old).definitions) alone))

@@ -12,6 +12,7 @@ use Rattle.htmd.specs.OrdinaryText.{pre}
 use Rattle.htmd.specs.Groups.{groups_of, group_length, group_text, group_tree, children_at}
 use Rattle.htmd.specs.Outputs.{Output, conversion_of, context_of}
 use Rattle.htmd.specs.Children.{write_children, write_groups}
+use Rattle.htmd.specs.Code.{language_of_pre}
 use Rattle.htmd.specs.Rendering.{written_within, inside_of}
 use Rattle.htmd.specs.Beginnings.{Begins}
 use Rattle.htmd.specs.Views.{output_view}
@@ -25,6 +26,7 @@ use Rattle.htmd.proofs.ChildrenLemmas.{IsChild, children-all, child-first, insid
 use Rattle.htmd.proofs.ChildrenLemmas.{first-has_text}
 use Rattle.htmd.proofs.ChildrenLemmas.{group_written, group_grows}
 use Rattle.htmd.proofs.RenderingLemmas.{cut_before}
+use Rattle.htmd.proofs.OneLineLemmas.{known-child}
 use Rattle.htmd.proofs.dom_walker.Walk.+walk.Goals as goal
 
 pub walk_children-loop-rest-init : goal.walk_children-loop-rest-init
@@ -87,9 +89,18 @@ walk_children-walk_node-requires g t c κs within =
             inside,
             (
               group,
-              λ no_text. c.requires.inside
-                  ∙ sym (ap pre (inside-child c.args.self.now.tree.now c.args.node c.index-rest-0.result
-                  c.children-rest.ensures.tree child)),
+              (
+                c.requires.line
+                    ∙ known-child (g.R.Registry.config c.args.self.now.registry.now).options c.args.self.now.tree.now
+                    c.children-rest.ensures.tree c.index-rest-0.result c.args.node child.within child.parent,
+                (
+                  c.language_inside-pre_language.ensures
+                      ∙ ap (language_of_pre c.args.self.now.tree.now) (sym child.parent),
+                  λ no_text. c.requires.inside
+                      ∙ sym (ap pre (inside-child c.args.self.now.tree.now c.args.node c.index-rest-0.result
+                      c.children-rest.ensures.tree child)),
+                ),
+              ),
             ),
           ),
         ),

@@ -3,7 +3,7 @@ use Rattle.std.proofs.Common.{◌≡◌, rules, ◌+◌, ◌++◌, ◌∙◌, �
 use Rattle.htmd.specs.Handling.{nothing, this_result, raw_html, content_of_children, content_of_descendant}
 use Rattle.htmd.specs.Handling.{content_of_fallback, contents_of_each, final_result, children_too}
 use Rattle.htmd.specs.Choice.{handler_at}
-use Rattle.htmd.specs.Outputs.{Output, conversion_of, is_pure, is_pure_mode}
+use Rattle.htmd.specs.Outputs.{Output, conversion_of, is_markdown_alone}
 use Rattle.htmd.specs.Children.{content_alone, descendant_tree}
 use Rattle.htmd.specs.Elements.{Occurrence, Answer, Contents, answer_after, answer_of, content_of, contents_alone}
 use Rattle.htmd.specs.Elements.{raw_answer, finish_answer, with_finish, after_fallback}
@@ -18,39 +18,41 @@ use Rattle.htmd.proofs.BeginningsLemmas.{content-broken, finish-broken}
 use Rattle.htmd.proofs.WalkingLemmas.{at-ok, now-ok, at-err, now-err, exit-err, asked_lower}
 use Rattle.htmd.proofs.dom_walker.Walk.+walk.Goals as goal
 
-pub handle-returns-in_err-content-in-Pure-clause-err : goal.handle-returns-in_err-content-in-Pure-clause-err
-handle-returns-in_err-content-in-Pure-clause-err g t c =
+pub handle-returns-in_err-content-clause-err : goal.handle-returns-in_err-content-clause-err
+handle-returns-in_err-content-clause-err g t c =
     let v = conversion_of (g.R.Registry.config c.args.self.now.registry.now) c.args.self.now.tree.now in
     let e = c.args.element.now in
     let at : ℕ → Occurrence = λ n. occurrence_of n v e in
     exit-err v e (λ o. Begins c.args.links.now c.content.new.links
     (answer_after c.args.skipped c.args.element.now.tag.now o c.args.links.now).definitions) _
-    (λ n l. begins-to (c.in_err-content-in-Pure.ensures.err n l) (ap (λ (a : Answer). a.definitions)
+    (λ n l. begins-to (c.in_err-content.ensures.err n l) (ap (λ (a : Answer). a.definitions)
     (answer-none-pure c.args.element.now.tag.now (at n) c.args.skipped c.args.links.now c.in_default.ensures.value
-    (ap is_pure (sym c.options.ensures) ∙ ap is_pure_mode c.in-Pure.is))))
+    (ap is_markdown_alone (sym c.options.ensures.value) ∙ sym c.is_markdown_alone.ensures
+    ∙ c.if-is_markdown_alone.true))))
 
-pub handle-returns-in_ok-content-in-Pure-clause-ok : goal.handle-returns-in_ok-content-in-Pure-clause-ok
-handle-returns-in_ok-content-in-Pure-clause-ok g t c =
+pub handle-returns-then-is_markdown_alone-clause-ok : goal.handle-returns-then-is_markdown_alone-clause-ok
+handle-returns-then-is_markdown_alone-clause-ok g t c =
     let v = conversion_of (g.R.Registry.config c.args.self.now.registry.now) c.args.self.now.tree.now in
     let e = c.args.element.now in
     let at : ℕ → Occurrence = λ n. occurrence_of n v e in
-    λ n l. ap answer_of (c.in_ok-content-in-Pure.ensures.ok n l)
+    λ n l. ap answer_of (c.in_ok-content.ensures.ok n l)
     ∙ answer-none-pure c.args.element.now.tag.now (at n) c.args.skipped c.args.links.now c.in_default.ensures.value
-    (ap is_pure (sym c.options.ensures) ∙ ap is_pure_mode c.in-Pure.is)
+    (ap is_markdown_alone (sym c.options.ensures.value) ∙ sym c.is_markdown_alone.ensures ∙ c.if-is_markdown_alone.true)
 
-pub handle-returns-in-Faithful-clause-ok : goal.handle-returns-in-Faithful-clause-ok
-handle-returns-in-Faithful-clause-ok g t c =
+pub handle-returns-in_default-clause-ok : goal.handle-returns-in_default-clause-ok
+handle-returns-in_default-clause-ok g t c =
     let v = conversion_of (g.R.Registry.config c.args.self.now.registry.now) c.args.self.now.tree.now in
     let e = c.args.element.now in
     let at : ℕ → Occurrence = λ n. occurrence_of n v e in
     at-ok (λ r. answer_view r c.raw_html.new.links) v e (λ o. raw_answer o c.args.links.now)
     (λ o. answer_after c.args.skipped c.args.element.now.tag.now o c.args.links.now) c.raw_html.result
     (λ n l. answer-none-faithful c.args.element.now.tag.now (at n) c.args.skipped c.args.links.now
-    c.in_default.ensures.value (ap is_pure (sym c.options.ensures) ∙ ap is_pure_mode c.in-Faithful.is))
+    c.in_default.ensures.value (ap is_markdown_alone (sym c.options.ensures.value) ∙ sym c.is_markdown_alone.ensures
+    ∙ c.if-is_markdown_alone.false))
     c.raw_html.ensures.ok
 
-pub handle-returns-in-Faithful-clause-err : goal.handle-returns-in-Faithful-clause-err
-handle-returns-in-Faithful-clause-err g t c =
+pub handle-returns-in_default-clause-err : goal.handle-returns-in_default-clause-err
+handle-returns-in_default-clause-err g t c =
     let v = conversion_of (g.R.Registry.config c.args.self.now.registry.now) c.args.self.now.tree.now in
     let e = c.args.element.now in
     let at : ℕ → Occurrence = λ n. occurrence_of n v e in
@@ -59,7 +61,8 @@ handle-returns-in-Faithful-clause-err g t c =
     (answer_after c.args.skipped c.args.element.now.tag.now o c.args.links.now).definitions) c.raw_html.result
     (λ n l b. begins-to b (ap (λ (a : Answer). a.definitions)
     (answer-none-faithful c.args.element.now.tag.now (at n) c.args.skipped c.args.links.now
-    c.in_default.ensures.value (ap is_pure (sym c.options.ensures) ∙ ap is_pure_mode c.in-Faithful.is))))
+    c.in_default.ensures.value (ap is_markdown_alone (sym c.options.ensures.value) ∙ sym c.is_markdown_alone.ensures
+    ∙ c.if-is_markdown_alone.false))))
     c.raw_html.ensures.err
 
 pub handle-returns-in_err-plan-clause-err : goal.handle-returns-in_err-plan-clause-err
@@ -91,7 +94,18 @@ handle-walk_descendant-requires g t c κs within =
     c.in-Descendant.below (request_view c.in_ok-plan.field-0) c.args.self.now.is_tree c.requires.tree
     c.args.element.now.within c.in_ok-plan.ensures.proper (ap request_view c.in-OfPlan.is
     ∙ ap plan_view c.in-Descendant.is) in
-    (search rules, (within, (search rules, (low.0, low.1))))
+    (search rules, (within, (search rules, (c.in_ok-inside_line-in-Descendant.ensures, (low.0, low.1)))))
+
+pub handle-returns-in_err-inside_line-in-Descendant-clause-err :
+    goal.handle-returns-in_err-inside_line-in-Descendant-clause-err
+handle-returns-in_err-inside_line-in-Descendant-clause-err g t c =
+    let v = conversion_of (g.R.Registry.config c.args.self.now.registry.now) c.args.self.now.tree.now in
+    let e = c.args.element.now in
+    let at : ℕ → Occurrence = λ n. occurrence_of n v e in
+    exit-err v e (λ o. Begins c.args.links.now c.args.links.now
+    (answer_after c.args.skipped c.args.element.now.tag.now o c.args.links.now).definitions) _
+    (λ n l. begins-start (grows-answer (at n) (grows-within n v) c.args.skipped c.args.element.now.tag.now
+    c.args.links.now))
 
 pub handle-returns-in_err-content-in-Descendant-clause-err : goal.handle-returns-in_err-content-in-Descendant-clause-err
 handle-returns-in_err-content-in-Descendant-clause-err g t c =

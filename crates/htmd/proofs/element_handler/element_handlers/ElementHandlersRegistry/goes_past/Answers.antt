@@ -18,7 +18,7 @@ returns-in_default-find g c = λ t.
     ((goal.ElementHandler-dyn g (b.vtable, b.value)).append_of b.value)) c.args.self.now) c.as_str-tag.result.now
     (pairs_of c.in-Element.attrs.items) _ (sym c.data.ensures.value ∙ ap data_of c.in-Element.is
     ∙ ap (λ s. element_node s (pairs_of c.in-Element.attrs.items)) (sym c.as_str-tag.ensures.value))
-    (sym c.is_pure.ensures ∙ c.if-not-is_pure.false) c.in_default-find.ensures.value
+    (sym c.is_markdown_alone.ensures ∙ c.if-not-is_markdown_alone.false) c.in_default-find.ensures.value
     (not-true (sym c.ne.ensures ∙ t))
 
 pub returns : goal.returns
@@ -28,7 +28,7 @@ returns g c = λ t.
     ((goal.ElementHandler-dyn g (b.vtable, b.value)).append_of b.value)) c.args.self.now) c.as_str-tag.result.now
     (pairs_of c.in-Element.attrs.items) _ c.in-Some.index (sym c.data.ensures.value ∙ ap data_of c.in-Element.is
     ∙ ap (λ s. element_node s (pairs_of c.in-Element.attrs.items)) (sym c.as_str-tag.ensures.value))
-    (sym c.is_pure.ensures ∙ c.if-not-is_pure.false) c.in-Some.ensures.value
+    (sym c.is_markdown_alone.ensures ∙ c.if-not-is_markdown_alone.false) c.in-Some.ensures.value
     (none_after c.find-2.result (sym c.is_some.ensures ∙ c.if-is_some.false) ∙ c.find-2.ensures.value)
     (not-false (sym c.ne-2.ensures ∙ c.if-ne.false))
     (handler_at-map (handler_meaning

@@ -1,0 +1,458 @@
+-- In Pure and in Guarded every letter is said once.
+use Rattle.std.proofs.Common.{◌≡◌, ℕ, zero, suc, ◌+◌, ◌≤◌, Bool, true, false, List, [], ◌∷◌, ◌++◌, length, Option}
+use Rattle.std.proofs.Common.{Some, None, All, codes, refl, sym, ap, ◌∙◌, arith, subst, append_assoc, ⊎_elim}
+use Rattle.std.proofs.Common.{cond, Result, IfOk}
+use Rattle.std.specs.Prelude.{◌||◌}
+use Rattle.std.specs.Str.{IsUtf8, bytes_eq}
+use Rattle.std.proofs.lemmas.Bool.{cond_both, cases_lt}
+use Rattle.std.proofs.lemmas.List.{append-nil}
+use Rattle.std.proofs.lemmas.Result.{IfOk-weaker}
+use Rattle.std.proofs.lemmas.Str.{IsUtf8-append, IsUtf8-nil}
+use Rattle.htmd_text.specs.Characters.{line_feed}
+use Rattle.htmd_text.specs.Trims.{trimmed_end, is_line_feed, is_space}
+use Rattle.htmd_markdown.specs.GuardedText.{begins_line}
+use Rattle.htmd_text.specs.WhiteSpace.{is_document_white_space, squeezed_text}
+use Rattle.htmd_tree.specs.ValueTrees.{AttributePair}
+use Rattle.htmd_tree.specs.Items.{Data, document_node, doctype_node, text_node, comment_node, element_node, Item}
+use Rattle.htmd_tree.specs.Items.{document_item, item_at, data_at, is_child, children_of, HoldsText, HoldTexts}
+use Rattle.htmd_tree.specs.NumberedTrees.{NumberedTree, document, doctype, text, comment, element, NumberedForest, none}
+use Rattle.htmd_tree.specs.NumberedTrees.{more, with_children, forest_from, forest_of, tree_of, height}
+use Rattle.htmd_tree.specs.Ancestors.{Ancestor, ancestor_of, ancestors_of}
+use Rattle.htmd.specs.declared.options.Options.{Options}
+use Rattle.htmd.specs.Handling.{ElementView, ResultView, HandlerMeaning}
+use Rattle.htmd.specs.Choice.{handler_at, Config}
+use Rattle.htmd.specs.Conversions.{IsMarkdownOfTexts}
+use Rattle.htmd.specs.Defaults.{default_options}
+use Rattle.htmd.specs.declared.options.LinkStyle.{LinkStyle}
+use Rattle.htmd.specs.declared.options.LinkStyle.TheVariants.{Inlined, InlinedPreferAutolinks, Referenced}
+use Rattle.htmd.specs.Anchors.{anchors, anchor_address, finish_at, link_finish, guarded_link_finish}
+use Rattle.htmd.proofs.KeepingLemmas.{keeps-within}
+use Rattle.htmd.specs.OrdinaryText.{pre, parent_is_pre}
+use Rattle.htmd.specs.Seams.{ends_with_space}
+use Rattle.htmd.specs.Groups.{only_text, with_only_text, with_text, text_of, joint_text, joint_with, is_joinable}
+use Rattle.htmd.specs.Groups.{in_front}
+use Rattle.htmd.specs.Groups.{groups_of, children_at}
+use Rattle.htmd.specs.AllText.{all_text, all_text_among, text_or_all}
+use Rattle.htmd.specs.Outputs.{Conversion, conversion_of, Output, Context, context_of, empty_output, is_guarded}
+use Rattle.htmd.specs.Outputs.{is_markdown_alone}
+use Rattle.htmd.specs.Children.{is_block_tree, before_child, trim_after, write_children, write_groups, trims_first}
+use Rattle.htmd.specs.Children.{descendant_tree}
+use Rattle.htmd.specs.Elements.{answer_after, occurrence_at}
+use Rattle.htmd.specs.Rendering.{with_result, write_text, written_within}
+use Rattle.htmd.specs.BuiltIn.{built_in}
+use Rattle.htmd.specs.Markdown.{walked_node, walked_content, append_texts, markdown}
+use Rattle.htmd.specs.Letters.{letters, said_among, said_within, said, prefers_autolinks}
+use Rattle.htmd.specs.Letters.{LettersOfContent, LettersOfMarkdown, LettersOfConversion, EveryLetterOnce}
+use Rattle.htmd.specs.Letters.{SaysEveryLetterOf}
+use Rattle.htmd.proofs.LettersLemmas.{Says, says-own, says-nil, says-append, says-is, says-fillers}
+use Rattle.htmd.proofs.LettersOfTexts.{document_of_fillers, line_feed_of_fillers, space_of_fillers, says-trimmed_end}
+use Rattle.htmd.proofs.LettersOfTexts.{says-trimmed, says-squeezed, says-escaped, says-escaped_pre}
+use Rattle.htmd.proofs.LettersOfPieces.{says-first_space, says-seam}
+use Rattle.htmd.proofs.LettersOfGuarded.{says-guarded_text, says-guarded_seam}
+use Rattle.htmd.proofs.LettersOfLinks.{IsTextIfAny}
+use Rattle.htmd.proofs.LettersOfHandlers.{SaysResult, AreValues}
+use Rattle.htmd.proofs.LettersOfElements.{element_is_said}
+
+module _ (items : List Item) where
+  abbrev mutual
+    -- texts are text, and elements have their tags among the items
+    Fits : NumberedTree → Type 0
+    Fits (document id children) = AllFit children
+    Fits (doctype id) = Unit {0}
+    Fits (text id s) = IsUtf8 s
+    Fits (comment id s) = Unit {0}
+    Fits (element id name attributes children) =
+        ((ancestor_of (data_at items id)).tag ≡ name) × AllFit children
+
+    AllFit : NumberedForest → Type 0
+    AllFit none = Unit {0}
+    AllFit (more tree trees) = Fits tree × AllFit trees
+
+  -- ---- in groups
+
+  only_fits : (trees : NumberedForest) → AllFit trees → IsTextIfAny (only_text trees)
+  only_fits none fit = tt
+  only_fits (more (document i c) trees) fit = tt
+  only_fits (more (doctype i) trees) fit = tt
+  only_fits (more (text i s) none) fit = fit.0
+  only_fits (more (text i s) (more tree trees)) fit = tt
+  only_fits (more (comment i s) trees) fit = tt
+  only_fits (more (element i name attributes c) trees) fit = tt
+
+  with_only_fits : (s : List ℕ) (trees : NumberedForest) → IsUtf8 s → AllFit trees → AllFit (with_only_text s trees)
+  with_only_fits s none t fit = tt
+  with_only_fits s (more (document i c) trees) t fit = fit
+  with_only_fits s (more (doctype i) trees) t fit = fit
+  with_only_fits s (more (text i r) none) t fit = (t, tt)
+  with_only_fits s (more (text i r) (more tree trees)) t fit = fit
+  with_only_fits s (more (comment i r) trees) t fit = fit
+  with_only_fits s (more (element i name attributes c) trees) t fit = fit
+
+  with_text_fits : (s : List ℕ) (tree : NumberedTree) → IsUtf8 s → Fits tree → Fits (with_text s tree)
+  with_text_fits s (document i c) t fit = fit
+  with_text_fits s (doctype i) t fit = fit
+  with_text_fits s (text i r) t fit = fit
+  with_text_fits s (comment i r) t fit = fit
+  with_text_fits s (element i name attributes c) t fit = (fit.0, with_only_fits s c t fit.1)
+
+  joint_fits : (name : List ℕ) (attributes : List AttributePair) (s : Option (List ℕ)) → IsTextIfAny s
+      → IsUtf8 (joint_text (joint_with name attributes s))
+  joint_fits name attributes None t = IsUtf8-nil
+  joint_fits name attributes (Some s) t = t
+
+  text_fits : (tree : NumberedTree) → Fits tree → IsUtf8 (text_of tree)
+  text_fits (document i c) fit = IsUtf8-nil
+  text_fits (doctype i) fit = IsUtf8-nil
+  text_fits (text i s) fit = IsUtf8-nil
+  text_fits (comment i s) fit = IsUtf8-nil
+  text_fits (element i name attributes c) fit = joint_fits name attributes (only_text c) (only_fits c fit.1)
+
+  front_fits : (tree : NumberedTree) (trees : NumberedForest) → Fits tree → AllFit trees
+      → AllFit (in_front tree trees)
+  front_fits tree none fit all = (fit, tt)
+  front_fits tree (more first rest) fit all =
+      cond_both (is_joinable tree first) _ _ AllFit
+      (λ _. (
+        with_text_fits (text_of tree ++ text_of first) tree
+            (IsUtf8-append (text_of tree) (text_of first) (text_fits tree fit) (text_fits first all.0)) fit,
+        all.1,
+      ))
+      (λ _. (fit, all))
+
+  groups_fit : (trees : NumberedForest) → AllFit trees → AllFit (groups_of trees)
+  groups_fit none all = tt
+  groups_fit (more tree trees) all = front_fits tree (groups_of trees) all.0 (groups_fit trees all.1)
+
+  mutual
+    all_text_fits : (tree : NumberedTree) → Fits tree → IsUtf8 (all_text tree)
+    all_text_fits (document i c) fit = all_text_fits_among c fit
+    all_text_fits (doctype i) fit = IsUtf8-nil
+    all_text_fits (text i s) fit = fit
+    all_text_fits (comment i s) fit = IsUtf8-nil
+    all_text_fits (element i name attributes c) fit =
+        cond_both (bytes_eq name (codes "br")) _ _ IsUtf8 (λ _. (says-fillers (line_feed ∷ []) refl).utf8)
+        (λ _. all_text_fits_among c fit.1)
+
+    all_text_fits_among : (trees : NumberedForest) → AllFit trees → IsUtf8 (all_text_among trees)
+    all_text_fits_among none all = IsUtf8-nil
+    all_text_fits_among (more tree trees) all =
+        IsUtf8-append (all_text tree) (all_text_among trees) (all_text_fits tree all.0)
+        (all_text_fits_among trees all.1)
+
+  -- ---- among the items
+
+  module _ (plain : (id : ℕ) → HoldsText (data_at items id)) where
+    node_fits : (id : ℕ) (d : Data) (kids : NumberedForest) → data_at items id ≡ d → AllFit kids
+        → Fits (with_children id d kids)
+    node_fits id document_node kids here all = all
+    node_fits id doctype_node kids here all = tt
+    node_fits id (text_node s) kids here all = subst HoldsText here (plain id)
+    node_fits id (comment_node s) kids here all = tt
+    node_fits id (element_node name attributes) kids here all =
+        (ap (λ (d : Data). (ancestor_of d).tag) here, all)
+
+    forest_fits : (b : ℕ) (rest : List Item) (p : ℕ) → ((k : ℕ) → item_at items (b + k) ≡ item_at rest k)
+        → AllFit (forest_from b rest p)
+    unfolding forest_from
+    forest_fits b [] p here = tt
+    forest_fits b (item ∷ rest) p here =
+        let later : (k : ℕ) → item_at items (suc b + k) ≡ item_at rest k =
+        λ k. ap (item_at items) (omega arith) ∙ here (suc k) in
+        let first : data_at items b ≡ item.node_data =
+        ap (data_at items) (omega arith) ∙ ap (λ (i : Item). i.node_data) (here 0) in
+        cond_both (is_child p item.parent) _ _ AllFit
+        (λ _. (
+          node_fits b item.node_data (forest_from (suc b) rest b) first (forest_fits (suc b) rest b later),
+          forest_fits (suc b) rest p later,
+        ))
+        (λ _. forest_fits (suc b) rest p later)
+
+    tree_fits : (id : ℕ) → Fits (tree_of items id)
+    unfolding tree_of
+    tree_fits id =
+        node_fits id (data_at items id) (forest_from 0 items id) refl
+        (forest_fits 0 items id (λ k. ap (item_at items) (omega arith)))
+
+    -- ---- all text below a node
+
+    all_fit : (ids : List ℕ) → AllFit (forest_of (tree_of items) ids)
+    all_fit [] = tt
+    all_fit (id ∷ ids) = (tree_fits id, all_fit ids)
+
+    whole_fits : (shown : Option (List ℕ)) (id : ℕ) → IsTextIfAny shown
+        → IsUtf8 (text_or_all shown (children_at items id))
+    whole_fits None id t = all_text_fits_among (children_at items id) (all_fit (children_of items id))
+    whole_fits (Some s) id t = t
+
+    descendant_fits : (shown : Option (List ℕ)) (d : ℕ) → IsTextIfAny shown → Fits (descendant_tree items shown d)
+    descendant_fits None d t = tree_fits d
+    descendant_fits (Some s) d t = t
+
+values_of : (attributes : List AttributePair) → All (λ (a : AttributePair). IsUtf8 a.value) attributes
+    → AreValues attributes
+values_of [] all = tt
+values_of (a ∷ attributes) all =
+    (all 0 a (omega arith), values_of attributes (λ k d l. all (suc k) d (omega arith)))
+
+values_in : (d : Data) → HoldsText d → AreValues (ancestor_of d).attributes
+values_in document_node plain = tt
+values_in doctype_node plain = tt
+values_in (text_node s) plain = tt
+values_in (comment_node s) plain = tt
+values_in (element_node name attributes) plain = values_of attributes plain
+
+module _ (options : Options) (alone : is_markdown_alone options ≡ true)
+    (style : prefers_autolinks options.link_style ≡ false) (items : List Item)
+    (plain : (id : ℕ) → HoldsText (data_at items id)) where
+  abbrev conversion : Conversion
+  conversion = conversion_of (built_in options) items
+
+  abbrev says : ℕ → NumberedTree → List ℕ
+  says n = said_within n options items
+
+  -- so many levels say what stands in the tree
+  abbrev AreSaid : ℕ → Type 0
+  AreSaid n = (tree : NumberedTree) (context : Context) (out : Output) (l : List ℕ) → Fits items tree
+      → Says out.text l → Says (written_within n conversion tree context out).text (l ++ says n tree)
+
+  before_is_said : (block : Bool) (out : Output) {l : List ℕ} → Says out.text l → Says (before_child block out).text l
+  before_is_said true out p = says-trimmed_end is_space space_of_fillers out.text p
+  before_is_said false out p = p
+
+  children_are_said : (n : ℕ) → AreSaid n → (inside : List Ancestor) (trees : NumberedForest) (trim : Bool)
+      (out : Output) (l : List ℕ) → AllFit items trees → Says out.text l
+      → Says (write_children (written_within n conversion) inside trees trim out).text (l ++ said_among (says n) trees)
+  children_are_said n keeps inside none trim out l fit p = says-is (sym (append-nil l)) p
+  children_are_said n keeps inside (more tree trees) trim out l fit p =
+      let block = is_block_tree tree in
+      let before = before_child block out in
+      let after = written_within n conversion tree (context_of inside (pre inside) trim) before in
+      let first : Says after.text (l ++ says n tree) =
+      keeps tree (context_of inside (pre inside) trim) before l fit.0 (before_is_said block out p) in
+      says-is (append_assoc l (says n tree) (said_among (says n) trees))
+      (children_are_said n keeps inside trees (trim_after block before after trim) after (l ++ says n tree) fit.1 first)
+
+  groups_are_said : (n : ℕ) → AreSaid n → (inside : List Ancestor) (children : NumberedForest) (out : Output)
+      (l : List ℕ) → AllFit items children → Says out.text l
+      → Says (write_groups (written_within n conversion) inside children out).text
+      (l ++ said_among (says n) (groups_of children))
+  groups_are_said n keeps inside children out l fit p =
+      children_are_said n keeps inside (groups_of children) (trims_first inside) out l (groups_fit items children fit) p
+
+  result_is_said : (out : Output) (whole : Bool) (r : Option ResultView) (definitions : List (List ℕ)) (l m : List ℕ)
+      → Says out.text l → SaysResult r m
+      → Says (with_result (is_guarded options) out whole r definitions).text (l ++ m)
+  result_is_said out whole None definitions l m p q = says-is (sym (append-nil l) ∙ ap (λ z. l ++ z) (sym q)) p
+  result_is_said out whole (Some result) definitions l m p q =
+      cond_both (is_guarded options) _ _ (λ (t : List ℕ). Says t (l ++ m))
+      (λ _. says-guarded_seam out.text result.content p q) (λ _. says-seam out.text result.content whole p q)
+
+  text_is_said : (s : List ℕ) (context : Context) (out : Output) (l : List ℕ) → IsUtf8 s → Says out.text l
+      → Says (write_text (is_guarded options) s context out).text (l ++ letters s)
+  text_is_said s context out l t p =
+      let own = says-own s t in
+      let squeezed = says-first_space (context.trim || ends_with_space out.text) (squeezed_text s) (says-squeezed s
+      own) in
+      says-append p
+      (cond_both (is_guarded options) _ _ (λ (x : List ℕ). Says x (letters s))
+      (λ _. says-guarded_text (begins_line out.text) _ (letters s) squeezed)
+      (λ _. cond_both context.preformatted _ _ (λ (x : List ℕ). Says x (letters s))
+      (λ _. cond_both (parent_is_pre context.ancestors) _ _ (λ (x : List ℕ). Says x (letters s))
+      (λ _. says-escaped_pre s own) (λ _. own))
+      (λ _. says-escaped _ squeezed)))
+
+  within_is_said : (n : ℕ) → AreSaid n
+  unfolding written_within said_within
+  within_is_said zero tree context out l fit p = says-is (sym (append-nil l)) p
+  within_is_said (suc n) (document id children) context out l fit p =
+      says-trimmed_end is_document_white_space document_of_fillers _
+      (groups_are_said n (within_is_said n) (record { tag = codes "html"; attributes = [] } ∷ context.ancestors)
+      children out l fit p)
+  within_is_said (suc n) (doctype id) context out l fit p = says-is (sym (append-nil l)) p
+  within_is_said (suc n) (text id s) context out l fit p = text_is_said s context out l fit p
+  within_is_said (suc n) (comment id s) context out l fit p = rw alone (says-is (sym (append-nil l)) p)
+  within_is_said (suc n) (element id name attributes children) context out l fit p =
+      let write = written_within n conversion in
+      let inside : List Ancestor = record { tag = name; attributes = attributes } ∷ context.ancestors in
+      let answer = answer_after 0 name (occurrence_at write conversion id inside children) out.definitions in
+      let shown = only_fits items children fit.1 in
+      result_is_said out (pre context.ancestors) answer.result answer.definitions l _ p
+      (element_is_said options alone style items (λ i. values_in (data_at items i) (plain i)) write (says n) id inside
+      children out.definitions shown (whole_fits items plain (only_text children) id shown)
+      (λ before. groups_are_said n (within_is_said n) inside children (empty_output before) [] fit.1 says-nil)
+      (λ d before. within_is_said n (descendant_tree items (only_text children) d)
+      (context_of (ancestors_of items d) false true) (empty_output before) []
+      (descendant_fits items plain (only_text children) d shown) says-nil)
+      name fit.0)
+
+  content_is_said : (start : ℕ) → Says (walked_content (built_in options) items start) (said options items start)
+  content_is_said start =
+      let tree = tree_of items start in
+      says-trimmed is_line_feed line_feed_of_fillers _
+      (within_is_said (height tree) tree (context_of (ancestors_of items start) false true) (empty_output []) []
+      (tree_fits items plain start) says-nil)
+
+-- beyond the items stands the Document
+beyond : (items : List Item) (id : ℕ) → length items ≤ id → item_at items id ≡ document_item
+beyond [] id high = refl
+beyond (item ∷ items) zero high = absurd (omega arith)
+beyond (item ∷ items) (suc id) high = beyond items id (omega arith)
+
+plain_at : (items : List Item) → HoldTexts items → (id : ℕ) → HoldsText (data_at items id)
+plain_at items all id =
+    ⊎_elim (λ low. all id document_item low)
+    (λ high. subst (λ (item : Item). HoldsText item.node_data) (sym (beyond items id high)) tt)
+    (cases_lt id (length items))
+
+letters_of_content : LettersOfContent
+letters_of_content options items start alone style plain =
+    (content_is_said options alone style items (plain_at items plain) start).says
+
+-- ---- no definitions
+
+-- a handler that adds none
+abbrev IsQuiet : ElementView → HandlerMeaning → Type 0
+IsQuiet view handler =
+    (content : ResultView) (definitions : List (List ℕ)) → (handler.finish view content definitions).added ≡ []
+
+abbrev AreQuiet : ElementView → List HandlerMeaning → Type 0
+AreQuiet view [] = Unit {0}
+AreQuiet view (handler ∷ handlers) = IsQuiet view handler × AreQuiet view handlers
+
+quiet_at : (view : ElementView) (handlers : List HandlerMeaning) (index : ℕ) → AreQuiet view handlers
+    → IsQuiet view (handler_at handlers index)
+quiet_at view [] index quiet = λ content definitions. refl
+quiet_at view (handler ∷ handlers) zero quiet = quiet.0
+quiet_at view (handler ∷ handlers) (suc index) quiet = quiet_at view handlers index quiet.1
+
+inline_is_quiet : (view : ElementView) (content : ResultView) (definitions : List (List ℕ)) (guarded : Bool)
+    (style : LinkStyle) (address : List ℕ) → style ≡ Inlined
+    → ((cond guarded guarded_link_finish link_finish) style view content.content address definitions).added ≡ []
+inline_is_quiet view content definitions true Inlined address e = refl
+inline_is_quiet view content definitions false Inlined address e = refl
+inline_is_quiet view content definitions guarded InlinedPreferAutolinks address e = cc
+inline_is_quiet view content definitions guarded Referenced address e = cc
+
+link_is_quiet : (view : ElementView) → view.options.link_style ≡ Inlined → (address : Option (List ℕ))
+    (content : ResultView) (definitions : List (List ℕ)) → (finish_at address view content definitions).added ≡ []
+link_is_quiet view inlined None content definitions = refl
+link_is_quiet view inlined (Some address) content definitions =
+    inline_is_quiet view content definitions (is_guarded view.options) view.options.link_style address inlined
+
+anchors_quiet : (view : ElementView) → view.options.link_style ≡ Inlined → IsQuiet view anchors
+anchors_quiet view inlined = λ content definitions. link_is_quiet view inlined (anchor_address view) content definitions
+
+built_in_quiet : (options : Options) (view : ElementView) → view.options.link_style ≡ Inlined
+    → AreQuiet view (built_in options).handlers
+built_in_quiet options view inlined = (
+  λ content definitions. refl,
+  (
+    anchors_quiet view inlined,
+    (
+      λ content
+          definitions. refl,
+      (
+        λ content definitions. refl,
+        (
+          λ content definitions. refl,
+          (
+            λ content definitions. refl,
+            (
+              λ
+                  content definitions. refl,
+              (
+                λ content definitions. refl,
+                (
+                  λ content definitions. refl,
+                  (
+                    λ content definitions.
+                        refl,
+                    (
+                      λ content definitions. refl,
+                      (
+                        λ content definitions. refl,
+                        (
+                          λ content definitions. refl,
+                          (
+                            λ content
+                                definitions. refl,
+                            (
+                              λ content definitions. refl,
+                              (
+                                λ content definitions. refl,
+                                (
+                                  λ content definitions. refl,
+                                  (
+                                    λ
+                                        content definitions. refl,
+                                    (
+                                      λ content definitions. refl,
+                                      (
+                                        λ content definitions. refl,
+                                        (
+                                          λ content definitions.
+                                              refl,
+                                          (λ content definitions. refl, (λ content definitions. refl, tt)),
+                                        ),
+                                      ),
+                                    ),
+                                  ),
+                                ),
+                              ),
+                            ),
+                          ),
+                        ),
+                      ),
+                    ),
+                  ),
+                ),
+              ),
+            ),
+          ),
+        ),
+      ),
+    ),
+  ),
+)
+
+none_defined : (options : Options) (items : List Item) (start : ℕ) → options.link_style ≡ Inlined
+    → (walked_node (built_in options) items start).definitions ≡ []
+none_defined options items start inlined =
+    let handlers = (built_in options).handlers in
+    keeps-within (λ definitions. definitions ≡ []) (height (tree_of items start))
+    (conversion_of (built_in options) items)
+    (λ index view same content definitions none.
+    ap (λ (l : List (List ℕ)). l ++ ((handler_at handlers index).finish view content definitions).added) none
+    ∙ quiet_at view handlers index
+    (built_in_quiet options view (ap (λ (o : Options). o.link_style) same ∙ inlined)) content definitions)
+    (tree_of items start) _ _ refl
+
+markdown_is : (options : Options) (items : List Item) (start : ℕ) → options.link_style ≡ Inlined
+    → markdown (built_in options) items start ≡ walked_content (built_in options) items start
+unfolding markdown
+markdown_is options items start inlined =
+    ap (λ (l : List (List ℕ)). walked_content (built_in options) items start
+    ++ trimmed_end is_line_feed (append_texts (built_in options).handlers l)) (none_defined options items start inlined)
+    ∙ append-nil (walked_content (built_in options) items start)
+
+letters_of_markdown : LettersOfMarkdown
+letters_of_markdown options items start alone inlined plain =
+    ap letters (markdown_is options items start inlined)
+    ∙ letters_of_content options items start alone (ap prefers_autolinks inlined) plain
+
+letters_of_conversion : LettersOfConversion
+letters_of_conversion options scripting html s alone inlined (tree, is_tree, plain, e) =
+    (tree, is_tree, ap letters e ∙ letters_of_markdown options tree 0 alone inlined plain)
+
+-- as `convert` gives it
+pub said_by_default : {E T : Type 0} (config : Config) (scripting : Bool) (html : List ℕ) (written : T → List ℕ)
+    (r : Result T E) → config ≡ built_in default_options → scripting ≡ true
+    → IfOk r (λ s. IsMarkdownOfTexts config scripting html (written s))
+    → IfOk r (λ s. SaysEveryLetterOf default_options true html (written s))
+said_by_default config scripting html written r c on h =
+    IfOk-weaker r _ _ (λ s m. letters_of_conversion default_options true html (written s) refl refl
+    (subst (λ k. IsMarkdownOfTexts k true html (written s)) c
+    (subst (λ k. IsMarkdownOfTexts config k html (written s)) on m))) h
+
+pub every_letter_once : EveryLetterOnce
+every_letter_once = (letters_of_content, letters_of_markdown, letters_of_conversion)

@@ -1,0 +1,83 @@
+-- The law of texts in Guarded.
+use Rattle.std.specs.Prelude.{◌≡◌, ℕ, Bool, true, false, not, ◌&&◌, ◌||◌, ◌==◌, List, [], ◌∷◌, ◌++◌, length, codes}
+use Rattle.std.specs.Prelude.{Some}
+use Rattle.std.specs.Option.{is_some}
+use Rattle.std.specs.Str.{bytes_eq}
+use Rattle.htmd_text.specs.Blocks.{is_block}
+use Rattle.htmd_text.specs.Characters.{line_feed}
+use Rattle.htmd_tree.specs.ValueTrees.{AttributePair, ValueTree, document, doctype, text, comment, element}
+use Rattle.htmd_tree.specs.ValueTrees.{ValueForest, none, more}
+use Rattle.htmd_tree.specs.Items.{Item}
+use Rattle.htmd_tree.specs.NumberedTrees.{tree_of, value_tree}
+use Rattle.htmd_markdown.specs.GuardedText as reader
+use Rattle.htmd.specs.declared.options.Options.{Options}
+use Rattle.htmd.specs.Choice.{Config, indexes}
+use Rattle.htmd.specs.Outputs.{is_guarded}
+use Rattle.htmd.specs.ElementViews.{is_tag_among}
+use Rattle.htmd.specs.LinkAttributes.{last_value}
+use Rattle.htmd.specs.Sections.{hidden_tags}
+use Rattle.htmd.specs.Spans.{is_span, has_math_class}
+use Rattle.htmd.specs.BuiltIn.{other_block_tags, built_in}
+use Rattle.htmd.specs.Markdown.{markdown}
+
+-- ---- trees of texts
+
+-- elements with a handler that puts their content between blank lines, and does no more
+abbrev pub wrapped_tags : List (List ℕ)
+wrapped_tags =
+    codes "p" ∷ codes "html" ∷ codes "head" ∷ codes "body" ∷ codes "td" ∷ codes "th" ∷ codes "tr" ∷
+    codes "tbody" ∷ codes "thead" ∷ codes "caption" ∷ []
+
+-- These, and the other blocks that a browser shows. One that it doesn't show gives nothing where the spaces before it
+-- are cut, so that the texts around it meet: `AT& ` and `copy;`.
+abbrev pub is_wrapped : List ℕ → Bool
+is_wrapped name =
+    is_tag_among wrapped_tags (Some name)
+    || (is_tag_among other_block_tags (Some name) && not (is_tag_among hidden_tags (Some name)))
+
+-- a `span` that is no formula, and an `a` without an address
+abbrev pub is_plain_span : List ℕ → List AttributePair → Bool
+is_plain_span name attributes = is_span name && not (has_math_class attributes)
+
+abbrev pub is_plain_anchor : List ℕ → List AttributePair → Bool
+is_plain_anchor name attributes =
+    bytes_eq name (codes "a") && not (is_some (last_value (codes "href" ∷ []) attributes))
+
+-- no handler, and no block, before which spaces would be cut
+abbrev pub is_plain_inline : Config → List ℕ → Bool
+is_plain_inline config name = not (is_block name) && (length (indexes name config.registered) == 0)
+
+-- elements that give their content as it is
+abbrev pub is_passed_on : Config → List ℕ → List AttributePair → Bool
+is_passed_on config name attributes =
+    is_plain_span name attributes || is_plain_anchor name attributes || is_plain_inline config name
+
+abbrev mutual
+  -- a tree of texts and such elements alone; comments and a Doctype give nothing
+  pub holds_texts : Config → ValueTree → Bool
+  holds_texts config (document children) = false
+  holds_texts config doctype = true
+  holds_texts config (text s) = true
+  holds_texts config (comment s) = true
+  holds_texts config (element name attributes children) =
+      (is_wrapped name || is_passed_on config name attributes) && all_hold_texts config children
+
+  pub all_hold_texts : Config → ValueForest → Bool
+  all_hold_texts config none = true
+  all_hold_texts config (more tree trees) = holds_texts config tree && all_hold_texts config trees
+
+-- such a tree, or a Document of them
+abbrev pub is_page_of_texts : Config → ValueTree → Bool
+is_page_of_texts config (document children) = all_hold_texts config children
+is_page_of_texts config tree = holds_texts config tree
+
+-- ---- their Markdown
+
+-- In Guarded, where a node's tree holds texts and such elements alone and all handlers are built in, nothing of its
+-- Markdown, with the line feed that ends its last line, is markup save behind a backslash: no backslash, backquote,
+-- `*`, `_`, `[`, `]`, `<` or `~`, and no `&` of a character reference, whatever elements part the text.
+abbrev pub TextStaysText : Type 0
+TextStaysText =
+    (options : Options) (items : List Item) (start : ℕ) → is_guarded options ≡ true
+    → is_page_of_texts (built_in options) (value_tree (tree_of items start)) ≡ true
+    → reader.is_guarded (markdown (built_in options) items start ++ line_feed ∷ []) ≡ true
