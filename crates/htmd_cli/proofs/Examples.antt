@@ -5,17 +5,26 @@ use Rattle.htmd.specs.NumberedTrees.{tree_of, forest_from}
 use Rattle.htmd.specs.Ancestors.{ancestors_of, ancestors_up}
 use Rattle.htmd.specs.Rendering.{written_within}
 use Rattle.htmd.specs.Markdown.{markdown}
+use Rattle.htmd.specs.Choice.{Config}
+use Rattle.htmd.specs.BuiltIn.{built_in}
+use Rattle.htmd_cli.specs.Settings.{options_of}
 use Rattle.htmd_cli.specs.Conversion.{paragraph_markdown, paragraph_output}
 
+abbrev plain : Config
+plain = built_in (options_of false)
+
+abbrev faithful : Config
+faithful = built_in (options_of true)
+
 -- white space is squeezed, and emphasis escaped; nothing for nothing; `---` stays
-paragraphs : (paragraph_output false (codes "a\n\n  b *c*\n") ≡ codes "a b \\*c\\*\n")
-    × (paragraph_output false (codes "") ≡ codes "\n")
-    × (paragraph_output false (codes "--- a") ≡ codes "--- a\n")
+paragraphs : (paragraph_output plain (codes "a\n\n  b *c*\n") ≡ codes "a b \\*c\\*\n")
+    × (paragraph_output plain (codes "") ≡ codes "\n")
+    × (paragraph_output plain (codes "--- a") ≡ codes "--- a\n")
 unfolding paragraph_markdown markdown written_within tree_of forest_from ancestors_of ancestors_up is_block
 paragraphs = (refl, refl, refl)
 
 -- a text has nothing that Faithful would write otherwise
-faithful_paragraphs : (text : List ℕ) → paragraph_output true text ≡ paragraph_output false text
+faithful_paragraphs : (text : List ℕ) → paragraph_output faithful text ≡ paragraph_output plain text
 unfolding paragraph_markdown markdown written_within tree_of forest_from ancestors_of ancestors_up is_block
 faithful_paragraphs [] = refl
 faithful_paragraphs (b ∷ s) = refl

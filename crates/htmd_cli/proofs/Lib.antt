@@ -1,5 +1,6 @@
--- What is written part by part, and worked rows.
+-- Lemmas of runs, words, conversions and paragraphs, and worked rows.
 pub mod AppendsLemmas
+pub mod ConversionLemmas
 pub mod RunsLemmas
 pub mod WordsLemmas
 pub mod ParagraphLawsLemmas

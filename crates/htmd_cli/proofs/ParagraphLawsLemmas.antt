@@ -7,7 +7,7 @@ use Rattle.htmd.specs.NumberedTrees.{tree_of, forest_from, value_tree}
 use Rattle.htmd.proofs.ItemsLemmas.{IsTree-added}
 use Rattle.htmd.specs.ParagraphLaws.{paragraphs}
 use Rattle.htmd.proofs.ParagraphLawsLemmas.{paragraphs_read_back}
-use Rattle.htmd_cli.specs.Conversion.{paragraph, empty_paragraph, paragraph_markdown, options_of}
+use Rattle.htmd_cli.specs.Conversion.{paragraph, empty_paragraph, paragraph_markdown}
 use Rattle.htmd_cli.specs.ParagraphLaws.{ParagraphReadsBack}
 
 none_under : (k p : ℕ) → k < 1 → parent_at (document_item ∷ []) k ≡ Some p
@@ -49,9 +49,9 @@ is_paragraph (b ∷ s) = refl
 
 pub paragraph_reads_back : ParagraphReadsBack
 unfolding paragraph_markdown held_in
-paragraph_reads_back faithful [] =
-    paragraphs_read_back (options_of faithful) (paragraph []) (None ∷ []) (paragraph_is_tree []) (is_paragraph [])
-paragraph_reads_back faithful (b ∷ s) =
-    paragraphs_read_back (options_of faithful) (paragraph (b ∷ s)) (Some (b ∷ s) ∷ [])
+paragraph_reads_back options [] unguarded =
+    paragraphs_read_back options (paragraph []) (None ∷ []) unguarded (paragraph_is_tree []) (is_paragraph [])
+paragraph_reads_back options (b ∷ s) unguarded =
+    paragraphs_read_back options (paragraph (b ∷ s)) (Some (b ∷ s) ∷ []) unguarded
     (paragraph_is_tree (b ∷ s))
     (is_paragraph (b ∷ s))

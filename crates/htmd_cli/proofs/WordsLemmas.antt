@@ -1,18 +1,196 @@
--- What is neither word that the program knows.
-use Rattle.std.proofs.Common.{◌≡◌, false, ap, ◌∙◌, ◌||◌, codes, string_bytes, List, ℕ}
+-- Words, their values and what they ask for, step by step.
+use Rattle.std.proofs.Common.{◌≡◌, ℕ, suc, ◌+◌, ◌<◌, Bool, true, false, ◌&&◌, ◌||◌, List, [], ◌∷◌, ◌++◌}
+use Rattle.std.proofs.Common.{length, drop, map, get_or, eqb, refl, sym, ◌∙◌, ap, arith, append_assoc}
+use Rattle.std.proofs.Common.{Option, Some, None, MatchOption, string_bytes}
+use Rattle.std.specs.Borrow.{Bor}
+use Rattle.std.specs.Str.Pattern.{LacksTextAt, StripsPrefix, FindsTextPrefix}
+use Rattle.std.specs.List.{list_all, position_or_len, before_first, after_first}
 use Rattle.std.specs.declared.alloc.Global.{Global}
 use Rattle.std.specs.declared.string.String.{String}
-use Rattle.std.specs.Str.{bytes_eq}
-use Rattle.std.proofs.lemmas.Bool.{false_from_ne_true}
-use Rattle.std.proofs.lemmas.Slice.Eq.{bytes_eq-Decides}
-use Rattle.htmd_cli.specs.Words.{is_known}
+use Rattle.std.proofs.lemmas.List.{drop_more, map_push}
+use Rattle.std.proofs.lemmas.Bool.{eqb-true}
+use Rattle.std.proofs.lemmas.Bool.Decides.{nat_tests}
+use Rattle.htmd.specs.CharacterClasses.{begins_with}
+use Rattle.htmd_cli.specs.Words.{Asked, words, is_given, meaning, is_known, are_known, after, asked_behind, asked_by}
+use Rattle.htmd_cli.specs.Words.{nothing_asked}
+use Rattle.htmd_cli.specs.Words.{number, number_behind, with_digit, parts, is_filled}
+use Rattle.htmd_cli.specs.WordRows.{Row, word_of}
 
-differs : (a b : List ℕ) → (a ≡ b → ⊥) → bytes_eq a b ≡ false
-differs a b other = false_from_ne_true (bytes_eq a b) (λ e. other ((bytes_eq-Decides a b).0 e))
+-- either way, with what the test says
+test : {P : Type 0} (b : Bool) → (b ≡ true → P) → (b ≡ false → P) → P
+test true f g = f refl
+test false f g = g refl
 
-pub not_known : (word : String Global) → (string_bytes word ≡ codes "--text" → ⊥)
-    → (string_bytes word ≡ codes "--faithful" → ⊥) → is_known word ≡ false
-not_known word no_text not_faithful =
-    let bytes = string_bytes word in
-    ap (λ b. b || bytes_eq bytes (codes "--faithful")) (differs bytes (codes "--text") no_text)
-    ∙ differs bytes (codes "--faithful") not_faithful
+-- ---- numbers
+
+pub no_number : (s : List ℕ) → number_behind None s ≡ None
+no_number [] = refl
+no_number (b ∷ s) = no_number s
+
+pub number_begins : (s : List ℕ) → 0 < length s → number s ≡ number_behind (Some 0) s
+number_begins [] l = absurd (omega arith)
+number_begins (b ∷ s) l = refl
+
+-- one digit more
+pub number_goes_on : (n : ℕ) (s : List ℕ) (i : ℕ) (r : Option ℕ) → i < length s
+    → r ≡ with_digit n (get_or s i 0)
+    → number_behind (Some n) (drop i s) ≡ number_behind r (drop (i + 1) s)
+number_goes_on n s i r l e = rw (drop_more s i 0 l) (ap (λ o. number_behind o (drop (i + 1) s)) (sym e))
+
+-- ---- names
+
+-- with what stands before the first part, if it is filled
+abbrev pub are_filled : Bool → List (List ℕ) → Bool
+are_filled filled [] = true
+are_filled filled (part ∷ others) = (filled || is_filled part) && list_all is_filled others
+
+some_part : (s : List ℕ) → (part : List ℕ) × (others : List (List ℕ)) × (parts s ≡ part ∷ others)
+some_part [] = ([], [], refl)
+some_part (b ∷ s) =
+    let i = some_part s in
+    test (eqb b 44) (λ e. ([], parts s, rw e refl)) (λ e. (b ∷ i.0, i.1, rw (e, i.2) refl))
+
+or_second : (x : Bool) → (x || true) ≡ true
+or_second true = refl
+or_second false = refl
+
+or_neither : (x : Bool) → (x || false) ≡ x
+or_neither true = refl
+or_neither false = refl
+
+and_yes : (x : Bool) → (x && true) ≡ x
+and_yes true = refl
+and_yes false = refl
+
+pub all_filled : (s : List ℕ) → are_filled false (parts s) ≡ list_all is_filled (parts s)
+all_filled s = let i = some_part s in rw i.2 refl
+
+filled_letter : (f : Bool) (b : ℕ) (s : List ℕ) → eqb b 44 ≡ false
+    → are_filled f (parts (b ∷ s)) ≡ are_filled true (parts s)
+filled_letter f b s e = let i = some_part s in rw (e, i.2, or_second f) refl
+
+filled_comma : (f : Bool) (b : ℕ) (s : List ℕ) → eqb b 44 ≡ true
+    → are_filled f (parts (b ∷ s)) ≡ f && list_all is_filled (parts s)
+filled_comma f b s e = rw (e, or_neither f) refl
+
+pub letter_fills : (f : Bool) (s : List ℕ) (i : ℕ) → i < length s → eqb (get_or s i 0) 44 ≡ false
+    → are_filled f (parts (drop i s)) ≡ are_filled true (parts (drop (i + 1) s))
+letter_fills f s i l e = rw (drop_more s i 0 l) (filled_letter f (get_or s i 0) (drop (i + 1) s) e)
+
+pub comma_goes_on : (s : List ℕ) (i : ℕ) → i < length s → eqb (get_or s i 0) 44 ≡ true
+    → are_filled true (parts (drop i s)) ≡ are_filled false (parts (drop (i + 1) s))
+comma_goes_on s i l e =
+    rw (drop_more s i 0 l)
+    (filled_comma true (get_or s i 0) (drop (i + 1) s) e ∙ sym (all_filled (drop (i + 1) s)))
+
+pub comma_empties : (s : List ℕ) (i : ℕ) → i < length s → eqb (get_or s i 0) 44 ≡ true
+    → are_filled false (parts (drop i s)) ≡ false
+comma_empties s i l e = rw (drop_more s i 0 l) (filled_comma false (get_or s i 0) (drop (i + 1) s) e)
+
+pub filled_end : (f : Bool) (s : List ℕ) → s ≡ [] → are_filled f (parts s) ≡ f
+filled_end f s e = rw e (and_yes (f || false) ∙ or_neither f)
+
+pub one_part : (s : List ℕ) → position_or_len (λ b. eqb b 44) s ≡ length s → parts s ≡ s ∷ []
+one_part [] e = refl
+one_part (b ∷ s) e =
+    test (eqb b 44) (λ q. let z = rw q at e in absurd (omega arith))
+    (λ q. let z = rw q at e in rw (q, one_part s (omega arith)) refl)
+
+pub first_part : (s : List ℕ) → position_or_len (λ b. eqb b 44) s < length s
+    → parts s ≡ before_first (λ b. eqb b 44) s ∷ parts (after_first (λ b. eqb b 44) s)
+first_part [] l = absurd (omega arith)
+first_part (b ∷ s) l =
+    test (eqb b 44) (λ q. rw q refl)
+    (λ q.
+    let z = rw q at l in
+    let n : ℕ = position_or_len (λ b. eqb b 44) s in
+    let k : 1 + n ≡ suc n = omega arith in
+    let m : (1 + n) + 1 ≡ suc (n + 1) = omega arith in
+    rw q (rw (m, k, first_part s (omega arith)) refl))
+
+-- ---- the rows of the source's table
+
+begins_append : (n s : List ℕ) → begins_with n (n ++ s) ≡ true
+begins_append [] s = refl
+begins_append (b ∷ n) s = rw (same b) (begins_append n s)
+  where
+    same : (b : ℕ) → eqb b b ≡ true
+    same b = grind (arith, nat_tests)
+
+begins_split : (n s : List ℕ) → begins_with n s ≡ true → s ≡ n ++ drop (length n) s
+begins_split [] s e = refl
+begins_split (b ∷ n) [] e = absurd (cc)
+begins_split (b ∷ n) (c ∷ s) e =
+    test (eqb c b)
+    (λ q. let z = rw q at e in rw (eqb-true c b q) (ap (λ x. b ∷ x) (begins_split n s z)))
+    (λ q. let z = rw q at e in absurd (cc))
+
+pub value_behind : (n s : List ℕ) (takes : Bool) (r : Option (Bor (List ℕ))) → takes ≡ true
+    → MatchOption r (LacksTextAt n s 0) (λ x. StripsPrefix (FindsTextPrefix n) s x.now)
+    → MatchOption r (is_given n takes s ≡ false) (λ v. (is_given n takes s ≡ true) × (v.now
+    ≡ drop (length n) s))
+value_behind n s false r e h = absurd (cc)
+value_behind n s true None e h =
+    test (begins_with n s) (λ q. absurd (h (drop (length n) s) (begins_split n s q))) (λ q. q)
+value_behind n s true (Some x) e h =
+    (ap (begins_with n) h.1.1 ∙ begins_append n (drop h.0 s), h.2 ∙ ap (λ k. drop k s) h.1.0)
+
+-- a row that isn't given
+pub row_passed : (rows : List Row) (given : List ℕ) (i : ℕ) (d : Row) → i < length rows
+    → is_given (word_of (get_or rows i d)).name (word_of (get_or rows i d)).takes_value given ≡ false
+    → meaning (map word_of (drop i rows)) given ≡ meaning (map word_of (drop (i + 1) rows)) given
+row_passed rows given i d l e = rw (drop_more rows i d l, e) refl
+
+pub row_found : (rows : List Row) (given : List ℕ) (i : ℕ) (d : Row) → i < length rows
+    → is_given (word_of (get_or rows i d)).name (word_of (get_or rows i d)).takes_value given ≡ true
+    → meaning (map word_of (drop i rows)) given
+    ≡ (word_of (get_or rows i d)).effect (drop (length (word_of (get_or rows i d)).name) given)
+row_found rows given i d l e = rw (drop_more rows i d l, e) refl
+
+-- ---- all words
+
+pub word_known : (given : List (String Global)) (i : ℕ) (d : String Global) → i < length given
+    → are_known (drop i given) ≡ true
+    → (is_known (get_or given i d) ≡ true) × (are_known (drop (i + 1) given) ≡ true)
+word_known given i d l e =
+    let z : are_known (get_or given i d ∷ drop (i + 1) given) ≡ true = rw (drop_more given i d l) at e in
+    both (is_known (get_or given i d)) (are_known (drop (i + 1) given)) z
+  where
+    both : (x y : Bool) → (x && y) ≡ true → (x ≡ true) × (y ≡ true)
+    both true y e = (refl, e)
+    both false y e = (absurd (cc), absurd (cc))
+
+pub asked_more : (asked : Asked) (given : List (String Global)) (i : ℕ) (d : String Global) → i < length given
+    → asked_behind asked (drop i given)
+    ≡ asked_behind (after (meaning words (string_bytes (get_or given i d))) asked) (drop (i + 1) given)
+asked_more asked given i d l = rw (drop_more given i d l) refl
+
+pub asked_first : (asked : Asked) (given : List (String Global)) → asked ≡ nothing_asked
+    → asked_behind asked given ≡ asked_by given
+unfolding asked_by
+asked_first asked given e = ap (λ x. asked_behind x given) e
+
+-- ---- names that are put on
+
+abbrev texts : List (Bor (List ℕ)) → List (List ℕ)
+texts names = map (λ name. name.now) names
+
+-- one name more
+pub one_more_name : (names now : List (Bor (List ℕ))) (name : Bor (List ℕ)) (s behind : List ℕ)
+    → now ≡ names ++ (name ∷ [])
+    → (position_or_len (λ b. eqb b 44) s < length s) × (name.now ≡ before_first (λ b. eqb b 44) s)
+    × (behind ≡ after_first (λ b. eqb b 44) s)
+    → texts now ++ parts behind ≡ texts names ++ parts s
+one_more_name names now name s behind e f =
+    let p : parts s ≡ name.now ∷ parts behind =
+    first_part s f.0 ∙ (ap (λ x. x ∷ parts (after_first (λ b. eqb b 44) s)) (sym f.1)
+    ∙ ap (λ x. name.now ∷ parts x) (sym f.2)) in
+    ap (λ x. texts x ++ parts behind) e ∙ (ap (λ x. x ++ parts behind) (map_push (λ n. n.now) names name)
+    ∙ (append_assoc (texts names) (name.now ∷ []) (parts behind) ∙ ap (λ x. texts names ++ x) (sym p)))
+
+pub last_name : (names now : List (Bor (List ℕ))) (name : Bor (List ℕ)) (s : List ℕ)
+    → now ≡ names ++ (name ∷ [])
+    → name.now ≡ s → position_or_len (λ b. eqb b 44) s ≡ length s → texts now ≡ texts names ++ parts s
+last_name names now name s e n f =
+    ap texts e ∙ (map_push (λ n. n.now) names name
+    ∙ (ap (λ x. texts names ++ (x ∷ [])) n ∙ ap (λ x. texts names ++ x) (sym (one_part s f))))

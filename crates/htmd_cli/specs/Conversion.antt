@@ -1,13 +1,14 @@
--- The Markdown of an input, and what the program writes for it.
-use Rattle.std.specs.Prelude.{◌≡◌, ℕ, Bool, true, false, if◌then◌else◌, List, [], ◌∷◌, ◌++◌, codes}
+-- The Markdown of an input by what is chosen, and what a refusal of it says.
+use Rattle.std.specs.Prelude.{◌≡◌, ℕ, List, [], ◌∷◌, ◌++◌, codes, MatchBool}
 use Rattle.htmd.specs.Characters.{line_feed}
+use Rattle.htmd.specs.FaultKind.{FaultKind}
 use Rattle.htmd.specs.Items.{Item, document_item, new_item, element_node, text_node}
-use Rattle.htmd.specs.declared.options.Options.{Options}
-use Rattle.htmd.specs.declared.options.TranslationMode.TheVariants.{Pure, Faithful}
+use Rattle.htmd.specs.Choice.{Config, no_handler, with_handler, with_options}
 use Rattle.htmd.specs.Defaults.{default_options}
 use Rattle.htmd.specs.BuiltIn.{built_in}
 use Rattle.htmd.specs.Markdown.{markdown}
-use Rattle.htmd.specs.Conversions.{IsMarkdownOf}
+use Rattle.htmd.specs.Conversions.{IsMarkdownOf, IsMarkdownOfPage, IsRefused, IsPageRefused}
+use Rattle.htmd_cli.specs.Settings.{Chosen}
 
 -- the Document, and under it a `p`
 abbrev pub empty_paragraph : List Item
@@ -18,19 +19,32 @@ abbrev pub paragraph : List ℕ → List Item
 paragraph [] = empty_paragraph
 paragraph (b ∷ s) = empty_paragraph ++ new_item empty_paragraph 1 (text_node (b ∷ s)) ∷ []
 
--- the default options, but Faithful where that is asked for
-abbrev pub options_of : Bool → Options
-options_of faithful = record default_options { translation_mode = if faithful then Faithful else Pure }
+-- the handlers, but elements of these names give nothing
+abbrev pub skipping : List (List ℕ) → Config → Config
+skipping [] config = config
+skipping (name ∷ names) config = with_handler config (name ∷ names) no_handler
 
--- the Markdown of a text that is one paragraph, by the built-in handlers
-unfoldable pub paragraph_markdown : Bool → List ℕ → List ℕ
-paragraph_markdown faithful text = markdown (built_in (options_of faithful)) (paragraph text) 0
+-- the built-in handlers by these options, and what is skipped
+abbrev pub config_of : Chosen → Config
+config_of chosen = skipping chosen.skipped (with_options (built_in default_options) chosen.options)
 
--- the Markdown of one paragraph, and a line feed
-abbrev pub paragraph_output : Bool → List ℕ → List ℕ
-paragraph_output faithful text = paragraph_markdown faithful text ++ line_feed ∷ []
+-- the Markdown of a text that is one paragraph
+unfoldable pub paragraph_markdown : Config → List ℕ → List ℕ
+paragraph_markdown config text = markdown config (paragraph text) 0
 
--- this is the Markdown of an input, of one paragraph where it is taken for a text, else of a page
-abbrev pub HasMarkdown : Bool → Bool → List ℕ → List ℕ → Type 0
-HasMarkdown true faithful input text = text ≡ paragraph_markdown faithful input
-HasMarkdown false faithful input text = IsMarkdownOf (built_in (options_of faithful)) true input text
+-- the Markdown of one paragraph by the built-in handlers, and a line feed
+abbrev pub paragraph_output : Config → List ℕ → List ℕ
+paragraph_output config text = paragraph_markdown config text ++ line_feed ∷ []
+
+-- this is the Markdown of an input: of one paragraph where it is taken for a text, else of a page's body or of all
+abbrev pub HasMarkdown : Chosen → List ℕ → List ℕ → Type 0
+HasMarkdown chosen input text =
+    MatchBool chosen.text (text ≡ paragraph_markdown (config_of chosen) input)
+    (MatchBool chosen.body (IsMarkdownOfPage (config_of chosen) chosen.scripting input text)
+    (IsMarkdownOf (config_of chosen) chosen.scripting input text))
+
+-- the input, or its body, is outside the grammar, and this place of the input and this kind are right
+abbrev pub IsInputRefused : Chosen → List ℕ → ℕ → FaultKind → Type 0
+IsInputRefused chosen input place kind =
+    MatchBool chosen.body (IsPageRefused chosen.scripting input place kind)
+    (IsRefused chosen.scripting input place kind)

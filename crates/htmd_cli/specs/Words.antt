@@ -1,21 +1,174 @@
--- The program's words.
-use Rattle.std.specs.Prelude.{Bool, ◌||◌, List, codes, string_bytes}
-use Rattle.std.specs.List.{list_all, list_any}
+-- The program's words, and what they ask for.
+use Rattle.std.specs.Prelude.{ℕ, ◌+◌, ◌-◌, ◌*◌, Bool, true, false, ◌&&◌, ◌==◌, nat_lt, if◌then◌else◌}
+use Rattle.std.specs.Prelude.{List, [], ◌∷◌, ◌++◌, length, drop, Option, Some, None, is_some, option_map}
+use Rattle.std.specs.Prelude.{option_and_then, codes}
+use Rattle.std.specs.Prelude.{string_bytes}
+use Rattle.std.specs.List.{list_all}
+use Rattle.std.specs.Char.{is_ascii_digit}
 use Rattle.std.specs.Str.{bytes_eq}
 use Rattle.std.specs.declared.alloc.Global.{Global}
 use Rattle.std.specs.declared.string.String.{String}
+use Rattle.htmd.specs.Characters.{comma, digit_zero}
+use Rattle.htmd.specs.CharacterClasses.{begins_with}
+use Rattle.htmd.specs.HeadingStyle.TheVariants as heading
+use Rattle.htmd.specs.HrStyle.TheVariants as rule
+use Rattle.htmd.specs.BrStyle.TheVariants as line_break
+use Rattle.htmd.specs.LinkReferenceStyle.TheVariants as reference
+use Rattle.htmd.specs.CodeBlockFence.TheVariants as fence
+use Rattle.htmd.specs.BulletListMarker.TheVariants as marker
+use Rattle.htmd.specs.declared.options.LinkStyle.TheVariants as link
+use Rattle.htmd.specs.declared.options.CodeBlockStyle.TheVariants as code_block
+use Rattle.htmd.specs.declared.options.TranslationMode.TheVariants as translation
+use Rattle.htmd.specs.declared.options.Options.{Options}
+use Rattle.htmd_cli.specs.Settings.{Chosen, nothing_chosen}
 
--- the input is the text of one paragraph
-abbrev pub is_text : List (String Global) → Bool
-is_text words = list_any (λ word. bytes_eq (string_bytes word) (codes "--text")) words
+-- what the words ask for: what is chosen, and whether the help or the version is shown in place of a conversion
+pub record Asked : Type 0 where
+  pub chosen : Chosen
+  pub shows : Bool
 
--- Faithful is asked for
-abbrev pub is_faithful : List (String Global) → Bool
-is_faithful words = list_any (λ word. bytes_eq (string_bytes word) (codes "--faithful")) words
+abbrev pub nothing_asked : Asked
+nothing_asked = record { chosen = nothing_chosen; shows = false }
 
--- a word that the program has a meaning for
+-- ---- values
+
+-- a number with a further decimal digit behind it, as far as a byte goes
+abbrev pub with_digit : ℕ → ℕ → Option ℕ
+with_digit n b =
+    if is_ascii_digit b && nat_lt (n * 10 + (b - digit_zero)) 256 then Some (n * 10 + (b - digit_zero)) else None
+
+abbrev pub number_behind : Option ℕ → List ℕ → Option ℕ
+number_behind n [] = n
+number_behind n (b ∷ s) = number_behind (option_and_then (λ m. with_digit m b) n) s
+
+-- the number from 0 to 255 that decimal digits write
+abbrev pub number : List ℕ → Option ℕ
+number [] = None
+number (b ∷ s) = number_behind (Some 0) (b ∷ s)
+
+abbrev pub before_parts : ℕ → List (List ℕ) → List (List ℕ)
+before_parts b [] = []
+before_parts b (part ∷ parts) = (b ∷ part) ∷ parts
+
+-- the parts of a text between its commas
+abbrev pub parts : List ℕ → List (List ℕ)
+parts [] = [] ∷ []
+parts (b ∷ s) = if b == comma then [] ∷ parts s else before_parts b (parts s)
+
+abbrev pub is_filled : List ℕ → Bool
+is_filled [] = false
+is_filled (b ∷ s) = true
+
+-- ---- what a word does to what is asked so far
+
+abbrev pub chooses : (Chosen → Chosen) → Asked → Asked
+chooses change asked = record asked { chosen = change asked.chosen }
+
+abbrev pub sets : (Options → Options) → Asked → Asked
+sets change = chooses (λ chosen. record chosen { options = change chosen.options })
+
+abbrev pub shows_instead : Asked → Asked
+shows_instead asked = record asked { shows = true }
+
+abbrev pub skips : List (List ℕ) → Asked → Asked
+skips names = chooses (λ chosen. record chosen { skipped = chosen.skipped ++ names })
+
+-- ---- the words
+
+-- a word: all of it, or where it takes a value what stands before that; and what it does
+pub record Word : Type 0 where
+  pub name : List ℕ
+  pub takes_value : Bool
+  pub effect : List ℕ → Option (Asked → Asked)
+
+-- a word that is known as a whole
+abbrev pub plain : List ℕ → (Asked → Asked) → Word
+plain name effect = record { name = name; takes_value = false; effect = λ value. Some effect }
+
+-- a word that ends with a number from 0 to 255
+abbrev pub numbered : List ℕ → (ℕ → Asked → Asked) → Word
+numbered name effect = record { name = name; takes_value = true; effect = λ value. option_map effect (number value) }
+
+-- a word that ends with names between commas, none of them empty
+abbrev pub named : List ℕ → (List (List ℕ) → Asked → Asked) → Word
+named name effect = record {
+  name = name;
+  takes_value = true;
+  effect = λ value. if list_all is_filled (parts value) then Some (effect (parts value)) else None;
+}
+
+abbrev pub words : List Word
+words =
+    plain (codes "--text") (chooses (λ chosen. record chosen { text = true }))
+    ∷ plain (codes "--body") (chooses (λ chosen. record chosen { body = true }))
+    ∷ plain (codes "--faithful") (sets (λ options. record options { translation_mode = translation.Faithful }))
+    ∷ plain (codes "--guarded") (sets (λ options. record options { translation_mode = translation.Guarded }))
+    ∷ plain (codes "--no-scripting") (chooses (λ chosen. record chosen { scripting = false }))
+    ∷ named (codes "--skip=") skips
+    ∷ plain (codes "--heading-style=atx") (sets (λ options. record options { heading_style = heading.Atx }))
+    ∷ plain (codes "--heading-style=setext") (sets (λ options. record options { heading_style = heading.Setex }))
+    ∷ plain (codes "--hr-style=dashes") (sets (λ options. record options { hr_style = rule.Dashes }))
+    ∷ plain (codes "--hr-style=asterisks") (sets (λ options. record options { hr_style = rule.Asterisks }))
+    ∷ plain (codes "--hr-style=underscores") (sets (λ options. record options { hr_style = rule.Underscores }))
+    ∷ plain (codes "--br-style=two-spaces") (sets (λ options. record options { br_style = line_break.TwoSpaces }))
+    ∷ plain (codes "--br-style=backslash") (sets (λ options. record options { br_style = line_break.Backslash }))
+    ∷ plain (codes "--link-style=inlined") (sets (λ options. record options { link_style = link.Inlined }))
+    ∷ plain (codes "--link-style=inlined-prefer-autolinks")
+    (sets (λ options. record options { link_style = link.InlinedPreferAutolinks }))
+    ∷ plain (codes "--link-style=referenced") (sets (λ options. record options { link_style = link.Referenced }))
+    ∷ plain (codes "--link-reference-style=full")
+    (sets (λ options. record options { link_reference_style = reference.Full }))
+    ∷ plain (codes "--link-reference-style=collapsed")
+    (sets (λ options. record options { link_reference_style = reference.Collapsed }))
+    ∷ plain (codes "--link-reference-style=shortcut")
+    (sets (λ options. record options { link_reference_style = reference.Shortcut }))
+    ∷ plain (codes "--code-block-style=indented")
+    (sets (λ options. record options { code_block_style = code_block.Indented }))
+    ∷ plain (codes "--code-block-style=fenced")
+    (sets (λ options. record options { code_block_style = code_block.Fenced }))
+    ∷ plain (codes "--code-block-fence=tildes")
+    (sets (λ options. record options { code_block_fence = fence.Tildes }))
+    ∷ plain (codes "--code-block-fence=backticks")
+    (sets (λ options. record options { code_block_fence = fence.Backticks }))
+    ∷ plain (codes "--bullet-list-marker=asterisk")
+    (sets (λ options. record options { bullet_list_marker = marker.Asterisk }))
+    ∷ plain (codes "--bullet-list-marker=dash")
+    (sets (λ options. record options { bullet_list_marker = marker.Dash }))
+    ∷ numbered (codes "--ul-bullet-spacing=")
+    (λ n. sets (λ options. record options { ul_bullet_spacing = n }))
+    ∷ numbered (codes "--ol-number-spacing=") (λ n. sets (λ options. record options { ol_number_spacing = n }))
+    ∷ plain (codes "--preformatted-code") (sets (λ options. record options { preformatted_code = true }))
+    ∷ plain (codes "--explain") (λ asked. asked)
+    ∷ plain (codes "--help") shows_instead
+    ∷ plain (codes "--version") shows_instead
+    ∷ []
+
+-- the word is given: this name, or where it takes a value, this name and more
+abbrev pub is_given : List ℕ → Bool → List ℕ → Bool
+is_given name takes given = if takes then begins_with name given else bytes_eq given name
+
+-- what a given word does, if it is known
+abbrev pub meaning : List Word → List ℕ → Option (Asked → Asked)
+meaning [] given = None
+meaning (word ∷ others) given =
+    if is_given word.name word.takes_value given
+    then word.effect (drop (length word.name) given) else meaning others given
+
 abbrev pub is_known : String Global → Bool
-is_known word = bytes_eq (string_bytes word) (codes "--text") || bytes_eq (string_bytes word) (codes "--faithful")
+is_known given = is_some (meaning words (string_bytes given))
 
 abbrev pub are_known : List (String Global) → Bool
-are_known words = list_all is_known words
+are_known given = list_all is_known given
+
+abbrev pub after : Option (Asked → Asked) → Asked → Asked
+after None asked = asked
+after (Some effect) asked = effect asked
+
+-- what is asked behind further words: of two for one field the last one counts
+abbrev pub asked_behind : Asked → List (String Global) → Asked
+asked_behind asked [] = asked
+asked_behind asked (given ∷ more) = asked_behind (after (meaning words (string_bytes given)) asked) more
+
+-- what the words ask for
+unfoldable pub asked_by : List (String Global) → Asked
+asked_by given = asked_behind nothing_asked given

@@ -1,8 +1,9 @@
 //! The law of the program's word `--text`.
 ghost use Rattle.htmd_cli.specs.ParagraphLaws.{ParagraphReadsBack};
 
-/// What a run writes for the text of one paragraph, less its final line feed, reads back: without the backslashes that
-/// escape, it is the text, its white space squeezed and cut at both ends. It is nothing where that is empty.
+/// In Pure and Faithful, what a run writes for the text of one paragraph, less its final line feed, reads back: without
+/// the backslashes that escape, it is the text, its white space squeezed and cut at both ends. It is nothing where that
+/// is empty.
 pub fn paragraph_reads_back()
     ensures { ParagraphReadsBack }
 {}

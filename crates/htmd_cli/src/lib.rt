@@ -3,21 +3,28 @@
 //! what was read, and nothing is written before the conversion has succeeded.
 //!
 //! `Source` and `Sink` are the two ends of a run, `Input` and `Output` make them of std's readers and
-//! writers, `run` converts, and `command` is the whole program with its words and exit statuses.
+//! writers, `run` converts by a mode and `run_with` by settings, and `command` is the whole program with
+//! its words and exit statuses.
 #![tactic(auto)]
 
+mod conversion;
+mod explanations;
 mod faults;
+mod help;
 pub mod laws;
-mod page;
 mod paragraph;
 mod pipeline;
 mod program;
+mod settings;
 mod sinks;
 mod sources;
+mod values;
+mod words;
 
 pub use faults::{Failed, RunError};
-pub use pipeline::{Mode, run};
+pub use pipeline::{run, run_with};
 pub use program::command;
+pub use settings::{Mode, Settings};
 pub use sinks::{Output, Sink};
 pub use sources::{Input, Source};
 

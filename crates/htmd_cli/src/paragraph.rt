@@ -1,13 +1,12 @@
-//! The conversion of a text that is one paragraph.
-ghost use Rattle.std.specs.Prelude.{◌≡◌, ◌≢◌, IfOk, IfErr, string_bytes};
-ghost use Rattle.htmd_cli.specs.Conversion.{paragraph, options_of, paragraph_markdown};
+//! The tree of a text that is one paragraph.
+ghost use Rattle.std.specs.Prelude.{◌≡◌, ◌≢◌, IfOk, IfErr};
+ghost use Rattle.htmd_cli.specs.Conversion.{paragraph};
 
-use htmd::options::{Options, TranslationMode};
-use htmd::{HtmlToMarkdown, Tree, TreeError};
+use htmd::{Tree, TreeError};
 use std::alloc::{AllocError, Global};
 
 // The tree of the paragraph that has this text.
-fn paragraph(alloc: Global, text: &str) -> Result<Tree, TreeError>
+fn tree_of(alloc: Global, text: &str) -> Result<Tree, TreeError>
     ensures ok { IfOk result (λ tree. tree ≡ paragraph text.now) }
     ensures err { IfErr result (λ error. error ≢ TreeError.TooDeep) }
 {
@@ -20,36 +19,13 @@ fn paragraph(alloc: Global, text: &str) -> Result<Tree, TreeError>
     Ok(tree)
 }
 
-// The default options, but Faithful where that is asked for.
-pub(crate) fn options_of(faithful: bool) -> Options
-    ensures { result ≡ options_of faithful }
+// The same; an `Err` is want of memory.
+pub(crate) fn paragraph(alloc: Global, text: &str) -> Result<Tree, AllocError>
+    ensures { IfOk result (λ tree. tree ≡ paragraph text.now) }
 {
-    let translation_mode = if faithful {
-        TranslationMode::Faithful
-    } else {
-        TranslationMode::Pure
-    };
-    Options {
-        translation_mode,
-        ..Options::default()
-    }
-}
-
-// The Markdown of the paragraph that has this text.
-pub(crate) fn paragraph_to_markdown(
-    alloc: Global,
-    text: &str,
-    faithful: bool,
-) -> Result<String, AllocError>
-    ensures { IfOk result (λ markdown. string_bytes markdown ≡ paragraph_markdown faithful text.now) }
-{
-    let tree = match paragraph(alloc, text) {
-        Ok(tree) => tree,
-        Err(TreeError::Memory) => return Err(AllocError),
+    match tree_of(alloc, text) {
+        Ok(tree) => Ok(tree),
+        Err(TreeError::Memory) => Err(AllocError),
         Err(TreeError::TooDeep) => unreachable!(),
-    };
-    let converter = HtmlToMarkdown::builder(alloc)?
-        .options(options_of(faithful))
-        .build();
-    converter.tree_to_markdown(alloc, &tree, tree.root())
+    }
 }

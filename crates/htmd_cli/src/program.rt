@@ -1,21 +1,29 @@
 //! The program: its words, its statuses, and its lines on the sink for errors.
-ghost use Rattle.std.specs.Prelude.{◌≡◌, ◌≢◌, ◌≤◌, ◌↔◌, false, IfSome, is_some};
+ghost use Rattle.std.specs.Prelude.{◌≡◌, ◌≢◌, ◌≤◌, ◌↔◌, false, true};
 ghost use Rattle.std.specs.Io.KnownBytes.{Appends, IsAtEnd, Keeps};
+ghost use Rattle.htmd_cli.specs.Failures.{FailsAtErr};
 ghost use Rattle.htmd_cli.specs.Runs.{Converts};
-ghost use Rattle.htmd_cli.specs.Words.{is_text, is_faithful, are_known};
+ghost use Rattle.htmd_cli.specs.WordRows.{asked_in};
+ghost use Rattle.htmd_cli.specs.Words.{are_known, asked_by};
 
-use crate::faults::RunError;
-use crate::pipeline::{Mode, run};
+use crate::explanations::explain;
+use crate::faults::{Failed, RunError};
+use crate::help::{write_help, write_version};
+use crate::pipeline::run_over;
+use crate::settings::Settings;
 use crate::sinks::{Sink, write_all};
 use crate::sources::Source;
+use crate::words::{Notice, Request, are_known, request_of};
 use std::alloc::Global;
 use std::fmt;
 use std::fmt::Write;
 
 /// The program: reads its words, converts the source into the sink, and answers the exit status. 0 is
-/// success, 1 a run that did not succeed and 2 a word that is not known. What went wrong is a line on
-/// the sink for errors, whose own faults are passed over. The source and the sink must not have
-/// failed before.
+/// success, 1 a run that did not succeed and 2 a word that is not known. Where the words ask for the help
+/// or the version, that is written to the sink in place of the Markdown, and nothing is read. What went
+/// wrong is a line on the sink for errors, and where `--explain` is given, of an input that is refused or
+/// isn't UTF-8 also where and why; faults of that sink are passed over. The source and the sink must not
+/// have failed before.
 pub fn command<R: Source, W: Sink, E: Sink>(
     alloc: Global,
     words: &[String],
@@ -25,46 +33,87 @@ pub fn command<R: Source, W: Sink, E: Sink>(
 ) -> u8
     requires source { R.has_failed source.old ≡ false }
     requires sink { W.has_failed sink.old ≡ false }
-    ensures success { result ≡ 0 → Converts (is_text words.now) (is_faithful words.now)
+    ensures success { result ≡ 0 → (asked_by words.now).shows ≡ false → Converts (asked_by words.now).chosen
+        (R.remaining source.old) (W.contents sink.old) (W.contents sink.new) }
+    ensures end { result ≡ 0 → (asked_by words.now).shows ≡ false → IsAtEnd (R.remaining source.new) }
+    ensures no_failure { result ≡ 0 →
+        (R.has_failed source.new ≡ false) × (W.has_failed sink.new ≡ false) }
+    ensures nothing_written { result ≢ 0 → W.has_failed sink.new ≡ false → sink.new ≡ sink.old }
+    ensures unknown { result ≡ 2 ↔ are_known words.now ≡ false }
+    ensures nothing_read { result ≡ 2 → Keeps (R.remaining source.old) (R.remaining source.new) }
+    ensures shown { (asked_by words.now).shows ≡ true → Keeps (R.remaining source.old) (R.remaining source.new) }
+    ensures status { result ≤ 2 }
+{
+    if !are_known(words) {
+        let _ = writeln!(Lines { sink: errors }, "htmd: unknown word");
+        return 2;
+    }
+    let request = match request_of(alloc, words) {
+        Ok(request) => request,
+        Err(_) => return failed(errors, &RunError::Memory),
+    };
+    match request.shows {
+        Some(notice) => match show(sink, notice) {
+            Ok(()) => 0,
+            Err(_) => failed(errors, &RunError::Write),
+        },
+        None => convert(alloc, request, source, sink, errors),
+    }
+}
+
+// Says what went wrong, and answers the status.
+fn failed<E: Sink>(errors: &mut E, error: &RunError) -> u8
+    ensures { result ≡ 1 }
+{
+    let _ = writeln!(Lines { sink: errors }, "htmd: {error}");
+    1
+}
+
+fn show<W: Sink>(sink: &mut W, notice: Notice) -> Result<(), Failed>
+    ensures { FailsAtErr result (W.has_failed sink.old) (W.has_failed sink.new) }
+{
+    match notice {
+        Notice::Help => write_help(sink),
+        Notice::Version => write_version(sink),
+    }
+}
+
+// Converts the source into the sink, and answers the status.
+fn convert<R: Source, W: Sink, E: Sink>(
+    alloc: Global,
+    request: Request<'_>,
+    source: &mut R,
+    sink: &mut W,
+    errors: &mut E,
+) -> u8
+    requires source { R.has_failed source.old ≡ false }
+    requires sink { W.has_failed sink.old ≡ false }
+    ensures success { result ≡ 0 → Converts (asked_in request.entry).chosen
         (R.remaining source.old) (W.contents sink.old) (W.contents sink.new) }
     ensures end { result ≡ 0 → IsAtEnd (R.remaining source.new) }
     ensures no_failure { result ≡ 0 →
         (R.has_failed source.new ≡ false) × (W.has_failed sink.new ≡ false) }
-    ensures nothing_written { result ≢ 0 → W.has_failed sink.new ≡ false →
-        Keeps (W.contents sink.old) (W.contents sink.new) }
-    ensures unknown { result ≡ 2 ↔ are_known words.now ≡ false }
-    ensures nothing_read { result ≡ 2 → Keeps (R.remaining source.old) (R.remaining source.new) }
-    ensures status { result ≤ 2 }
+    ensures nothing_written { result ≢ 0 → W.has_failed sink.new ≡ false → sink.new ≡ sink.old }
+    ensures status { result ≤ 1 }
 {
-    let Some(mode) = mode_of(words) else {
-        let _ = writeln!(Lines { sink: errors }, "htmd: unknown word");
-        return 2;
+    let settings = Settings {
+        text: request.text,
+        body: request.body,
+        scripting: request.scripting,
+        options: request.options,
+        skipped: request.skipped.as_slice(),
     };
-    match run(alloc, source, sink, mode) {
+    let mut input = Vec::new(alloc);
+    match run_over(alloc, source, sink, settings, &mut input) {
         Ok(()) => 0,
         Err(error) => {
-            let _ = writeln!(Lines { sink: errors }, "htmd: {error}");
-            1
+            let status = failed(errors, &error);
+            if request.explains {
+                let _ = explain(&mut Lines { sink: errors }, &error, input.as_slice());
+            }
+            status
         }
     }
-}
-
-// The mode that the words ask for, if all are known.
-fn mode_of(words: &[String]) -> Option<Mode>
-    ensures known { is_some result ≡ are_known words.now }
-    ensures text { IfSome result (λ mode. mode.text ≡ is_text words.now) }
-    ensures faithful { IfSome result (λ mode. mode.faithful ≡ is_faithful words.now) }
-{
-    let mut text = false;
-    let mut faithful = false;
-    for word in words {
-        match word.as_str() {
-            "--text" => text = true,
-            "--faithful" => faithful = true,
-            _ => return None,
-        }
-    }
-    Some(Mode { text, faithful })
 }
 
 // A sink as a formatter's writer.

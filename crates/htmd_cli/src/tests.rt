@@ -1,6 +1,8 @@
 //! What no clause says: the program's lines, and that runs succeed and fail as they should.
 mod doubles;
+mod explanations;
 mod pages;
+mod words;
 
 use crate::{Failed, Input, Mode, Output, RunError, Sink, Source, command, run};
 use doubles::{Dripping, Full, Interrupted, Narrow, Unflushed};
@@ -19,6 +21,29 @@ fn strings(alloc: Global, words: &[&str]) -> Result<Vec<String>, AllocError> {
         all.push(String::from_str(alloc, word)?)?;
     }
     Ok(all)
+}
+
+/// What a call of `command` leaves.
+#[derive(Drop)]
+struct Outcome {
+    status: u8,
+    stdout: String,
+    stderr: String,
+    unread: usize,
+}
+
+fn called(alloc: Global, words: &[&str], stdin: &[u8]) -> Result<Outcome, Fail> {
+    let words = strings(alloc, words)?;
+    let mut source = Dripping::new(stdin, 100_000);
+    let mut sink = Narrow::new(alloc, 100_000);
+    let mut errors = Narrow::new(alloc, 100_000);
+    let status = command(alloc, words.as_slice(), &mut source, &mut sink, &mut errors);
+    Ok(Outcome {
+        status,
+        stdout: String::from_str(alloc, str::from_utf8(sink.bytes())?)?,
+        stderr: String::from_str(alloc, str::from_utf8(errors.bytes())?)?,
+        unread: source.rest().len(),
+    })
 }
 
 #[test]

@@ -1,4 +1,5 @@
 //! Runs on pages of HTML.
+use super::called;
 use super::doubles::{Dripping, Narrow};
 use crate::{Mode, RunError, Sink, Source, command, run};
 use htmd::FaultKind;
@@ -108,6 +109,54 @@ fn writes_nothing_of_what_is_refused(rt: HostRuntime) -> Result<(), Fail> {
         assert_eq!(rt; result, Err(RunError::Refused { place, kind }));
         assert!(rt; sink.bytes().is_empty());
         assert!(rt; source.rest().is_empty());
+    }
+    Ok(())
+}
+
+// A page with `--body` answers as its body by itself, and is refused as far behind as its body begins.
+#[test]
+fn converts_bodies(rt: HostRuntime) -> Result<(), Fail> {
+    let alloc = rt.alloc();
+    let long = format!(in alloc; "<head><title>{:9000}</title></head><body\n>", "t")?;
+    for (front, behind) in [
+        ("<body>", "</body>"),
+        (
+            "</body><BODY CLASS='a>b' id=\"<body>\">",
+            "</bOdY\t></html>",
+        ),
+        (
+            "\u{feff}<?xml version=\"1.0\"?>\r\n<!DOCTYPE html PUBLIC \"x\">\r\n<html>\r\n<body>",
+            "</body>\r\n</html>\r\n",
+        ),
+        (long.as_str(), "</body>"),
+    ] {
+        for body in [
+            "",
+            "<h1>a</h1>\r\n<p>b</p>\r\n",
+            "é<!-- <body> -->",
+            "a<br>b",
+        ] {
+            let page = format!(in alloc; "{front}{body}{behind}")?;
+            let alone = called(alloc, &[], body.as_bytes())?;
+            let answer = called(alloc, &["--body"], page.as_bytes())?;
+            assert_eq!(rt; answer.status, 0, "{page}");
+            assert_eq!(rt; answer.stdout.as_str(), alone.stdout.as_str(), "{page}");
+        }
+        for (body, place, kind) in [
+            ("<p>é<div></p>", 5, FaultKind::NotAllowedHere),
+            ("a<body>b", 1, FaultKind::TagOutside),
+            ("a</body>b", 1, FaultKind::TagOutside),
+            ("<p>a", 4, FaultKind::Unclosed),
+            ("a\0", 1, FaultKind::Nul),
+        ] {
+            let page = format!(in alloc; "{front}{body}{behind}")?;
+            let place = front.len() + place;
+            let want = format!(in alloc; "htmd: refused at byte {place}: {kind}\n")?;
+            let answer = called(alloc, &["--body"], page.as_bytes())?;
+            assert_eq!(rt; answer.status, 1, "{page}");
+            assert_eq!(rt; answer.stderr.as_str(), want.as_str(), "{page}");
+            assert_eq!(rt; answer.stdout.as_str(), "");
+        }
     }
     Ok(())
 }

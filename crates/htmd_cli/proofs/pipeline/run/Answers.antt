@@ -1,11 +1,11 @@
--- What is left to prove of `run`.
-use Rattle.std.proofs.Common.{string_bytes}
-use Rattle.htmd_cli.proofs.RunsLemmas.{converted_run}
+-- The settings of a mode convert the whole input, with scripting on.
+use Rattle.std.proofs.Common.{subst, IfSome}
+use Rattle.htmd_cli.specs.Conversion.{IsInputRefused}
 use Rattle.htmd_cli.proofs.pipeline.run.Goals as goal
 
-pub returns-in-Ok-clause-ok : goal.returns-in-Ok-clause-ok
-returns-in-Ok-clause-ok g c =
-    converted_run c.args.mode.text c.args.mode.faithful _ _ c.in_ok-input.input.items c.as_slice.result.now
-    (string_bytes c.in_ok-markdown.markdown) c.as_str.result.now _ _ c.in_ok-input.ensures.bytes
-    c.in_ok-input.ensures.end c.as_slice.ensures.value c.in_ok-markdown.ensures.ok c.as_str.ensures.value
-    c.in-Ok.ensures.bytes
+pub returns-clause-refused : goal.returns-clause-refused
+returns-clause-refused g c place kind q =
+    subst (λ chosen. IfSome (g.R.Source.remaining c.args.source.now)
+    (λ input. IsInputRefused chosen input place kind))
+    c.settings_of.ensures
+    (c.run_with.ensures.refused place kind q)

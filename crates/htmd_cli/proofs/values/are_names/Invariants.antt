@@ -1,0 +1,10 @@
+-- What is left, behind what of a name stands before it.
+use Rattle.std.proofs.Common.{◌≡◌, drop}
+use Rattle.std.specs.List.{list_all}
+use Rattle.htmd_cli.specs.Words.{parts, is_filled}
+use Rattle.htmd_cli.proofs.WordsLemmas.{are_filled}
+use Rattle.htmd_cli.proofs.values.are_names.Given as goal
+
+abbrev pub invariant-loop-byte : goal.invariant-loop-byte
+invariant-loop-byte l =
+    are_filled l.is_filled (parts (drop l.byte-index l.text)) ≡ list_all is_filled (parts l.text)

@@ -1,0 +1,154 @@
+//! What the program says of a refused input, beside the line that it always writes.
+use crate::faults::RunError;
+use htmd::{FaultKind, line_and_column};
+use std::fmt;
+use std::fmt::Write;
+use unicode::width::UnicodeWidthChar;
+
+/// A line is shown in so many columns of a terminal.
+const COLUMNS: usize = 100;
+
+/// What stands at the place of a fault, and what the grammar wants.
+fn sentence(kind: FaultKind) -> &'static str {
+    match kind {
+        FaultKind::Nul => "U+0000 stands here; no text of the grammar holds it.",
+        FaultKind::MalformedTag => {
+            "a tag begins here that is not of a tag's form; a < of a text is written &lt;."
+        }
+        FaultKind::MalformedComment => {
+            "a comment begins here that no --> ends, or that holds --!>; it is wanted as <!-- text -->."
+        }
+        FaultKind::MalformedDeclaration => {
+            "a declaration begins here; only a comment may, and <!DOCTYPE html> at the very beginning."
+        }
+        FaultKind::UnknownReference => {
+            "an unknown &name; stands here, or in the tag that begins here; write the character, or &amp; for the &."
+        }
+        FaultKind::BadNumber => {
+            "an &# stands here, or in the tag that begins here, with a number that no character has or no ; ends."
+        }
+        FaultKind::DuplicateAttribute => {
+            "a tag stands here with two attributes of one name; each name may stand once."
+        }
+        FaultKind::SelfClosing => {
+            "a tag with a / stands here; only elements without content, such as br, may have it."
+        }
+        FaultKind::TagOutside => {
+            "a tag stands here that has no place in a text; --body converts the body of a whole page."
+        }
+        FaultKind::NotAllowedHere => {
+            "an element begins here that may not stand in those that are open; close them first."
+        }
+        FaultKind::StrayEndTag => {
+            "an end tag stands here that does not fit the innermost open element."
+        }
+        FaultKind::StrayText => {
+            "text stands here between the parts of a table; it may stand in a cell or in the caption."
+        }
+        FaultKind::Unclosed =>
+            "the input ends here, and an element is open; its end tag is wanted.",
+        FaultKind::ScriptEscape => {
+            "a script begins here that holds <!-- and later <script; one of them has to go."
+        }
+        FaultKind::TooDeep => "what begins here stands more than 1024 levels deep.",
+    }
+}
+
+/// A character as it is shown, and its columns: a control is one space.
+fn shown(character: char) -> (char, usize) {
+    if character.is_control() {
+        return (' ', 1);
+    }
+    (character, character.width().unwrap_or(1))
+}
+
+fn columns(text: &str) -> usize {
+    let mut sum: usize = 0;
+    for character in text.chars() {
+        sum = sum.saturating_add(shown(character).1);
+    }
+    sum
+}
+
+/// The end of a text, less as much of its front as lets no more than so many columns stand.
+fn last_columns(text: &str, most: usize) -> &str {
+    let mut left = columns(text);
+    let mut rest = text.chars();
+    while left > most {
+        let Some(character) = rest.next() else {
+            break;
+        };
+        left = left.saturating_sub(shown(character).1);
+    }
+    rest.as_str()
+}
+
+/// The line in which a place stands: what of it stands before the place, and what behind.
+fn line_at(input: &str, place: usize) -> (&str, &str) {
+    let Some((before, behind)) = input.split_at_checked(place) else {
+        return ("", input);
+    };
+    let is_line_end = |c: char| c == '\n' || c == '\r';
+    let front = match before.rfind(is_line_end) {
+        Some(end) => before.get(end + 1..).unwrap_or(""),
+        None => before,
+    };
+    let rest = match behind.find(is_line_end) {
+        Some(end) => behind.get(..end).unwrap_or(""),
+        None => behind,
+    };
+    (front, rest)
+}
+
+/// Writes so many columns of a text.
+fn write_columns<W: Write>(out: &mut W, text: &str, most: usize) -> fmt::Result {
+    let mut left = most;
+    for character in text.chars() {
+        let (character, width) = shown(character);
+        if width > left {
+            break;
+        }
+        left -= width;
+        out.write_char(character)?;
+    }
+    out.write_char('\n')
+}
+
+/// Writes the line of a place, and a mark under the place.
+fn write_mark<W: Write>(out: &mut W, input: &str, place: usize) -> fmt::Result {
+    let (front, rest) = line_at(input, place);
+    let front = if columns(front) < COLUMNS {
+        front
+    } else {
+        last_columns(front, COLUMNS / 2)
+    };
+    let before = columns(front);
+    write_front(out, front)?;
+    write_columns(out, rest, COLUMNS.saturating_sub(before))?;
+    for _ in 0..before {
+        out.write_char(' ')?;
+    }
+    out.write_str("^\n")
+}
+
+fn write_front<W: Write>(out: &mut W, front: &str) -> fmt::Result {
+    for character in front.chars() {
+        out.write_char(shown(character).0)?;
+    }
+    Ok(())
+}
+
+/// Writes where and why an input is refused, or where it is no UTF-8, and nothing of any other error.
+pub(crate) fn explain<W: Write>(out: &mut W, error: &RunError, input: &[u8]) -> fmt::Result {
+    match (error, str::from_utf8(input)) {
+        (RunError::Refused { place, kind }, Ok(text)) => {
+            let (line, column) = line_and_column(text, *place);
+            writeln!(out, "line {line}, column {column}: {}", sentence(*kind))?;
+            write_mark(out, text, *place)
+        }
+        (RunError::NotUtf8, Err(fault)) => {
+            writeln!(out, "the first bad byte is byte {}", fault.valid_up_to())
+        }
+        _ => Ok(()),
+    }
+}

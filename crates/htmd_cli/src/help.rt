@@ -1,0 +1,52 @@
+//! What is written in place of a conversion: the help and the version.
+ghost use Rattle.std.specs.Prelude.{◌≡◌};
+ghost use Rattle.htmd_cli.specs.Failures.{FailsAtErr};
+
+use crate::faults::Failed;
+use crate::sinks::{Sink, write_all};
+use crate::words::{WORDS, Word};
+
+const USAGE: &str = "\
+Usage: htmd [WORD..] < page.html > page.md
+
+Converts the page on standard input into Markdown on standard output. The name of a file is no word.
+Of two words for one thing the last one counts.
+
+";
+
+/// The crate that is ported, and its version.
+const VERSION: &str = "htmd 0.5.6, ported to Rattle\n";
+
+/// Each line of the help begins with a word, in a column of so many characters.
+const COLUMN: &str = "                                        ";
+
+// Writes the usage, and each word with its line.
+pub(crate) fn write_help<W: Sink>(sink: &mut W) -> Result<(), Failed>
+    ensures { FailsAtErr result (W.has_failed sink.old) (W.has_failed sink.new) }
+{
+    write_all(sink, USAGE.as_bytes())?;
+    for word in &WORDS {
+        write_word(sink, word)?;
+    }
+    sink.flush()
+}
+
+// Writes a word with its line.
+fn write_word<W: Sink>(sink: &mut W, word: &Word) -> Result<(), Failed>
+    ensures { FailsAtErr result (W.has_failed sink.old) (W.has_failed sink.new) }
+{
+    let (name, value, _, line) = word;
+    let space = COLUMN.get(name.len() + value.len()..).unwrap_or(" ");
+    write_all(sink, name.as_bytes())?;
+    write_all(sink, value.as_bytes())?;
+    write_all(sink, space.as_bytes())?;
+    write_all(sink, line.as_bytes())?;
+    write_all(sink, b"\n")
+}
+
+pub(crate) fn write_version<W: Sink>(sink: &mut W) -> Result<(), Failed>
+    ensures { FailsAtErr result (W.has_failed sink.old) (W.has_failed sink.new) }
+{
+    write_all(sink, VERSION.as_bytes())?;
+    sink.flush()
+}

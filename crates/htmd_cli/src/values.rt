@@ -1,0 +1,64 @@
+//! The values of words: numbers, and names between commas.
+ghost use Rattle.std.specs.Prelude.{◌≡◌, ◌++◌, map, IfSome, OnOk, MatchOption, None, Some, option_map};
+ghost use Rattle.std.specs.List.{list_all};
+ghost use Rattle.htmd_cli.specs.Words as spec;
+
+use std::alloc::AllocError;
+
+/// The number that decimal digits write, from 0 to 255.
+pub(crate) fn number(text: &str) -> Option<u8>
+    ensures { result ≡ spec.number text.now }
+{
+    if text.is_empty() {
+        return None;
+    }
+    let mut number = 0;
+    for byte in text.as_bytes() {
+        let Some(next) = with_digit(number, *byte) else {
+            return None;
+        };
+        number = next;
+    }
+    Some(number)
+}
+
+/// The number with a further digit behind it.
+fn with_digit(number: u8, byte: u8) -> Option<u8>
+    ensures { result ≡ spec.with_digit number byte }
+{
+    if !byte.is_ascii_digit() {
+        return None;
+    }
+    number.checked_mul(10)?.checked_add(byte - b'0')
+}
+
+/// Whether names stand between the commas of a text, none of them empty.
+pub(crate) fn are_names(text: &str) -> bool
+    ensures { result ≡ list_all spec.is_filled (spec.parts text.now) }
+{
+    let mut is_filled = false;
+    for byte in text.as_bytes() {
+        if *byte != b',' {
+            is_filled = true;
+        } else if is_filled {
+            is_filled = false;
+        } else {
+            return false;
+        }
+    }
+    is_filled
+}
+
+/// Puts on the parts between the commas of a text.
+pub(crate) fn push_names<'a>(names: &mut Vec<&'a str>, text: &'a str) -> Result<(), AllocError>
+    ensures { OnOk result (map (λ name. name.now) names.new.items
+        ≡ map (λ name. name.now) names.old.items ++ spec.parts text.now) }
+{
+    let mut rest = text;
+    while let Some((name, behind)) = rest.split_once(',') {
+        names.push(name)?;
+        rest = behind;
+    }
+    names.push(rest)?;
+    Ok(())
+}
