@@ -1,14 +1,22 @@
 //! Uses of the library: texts of HTML and trees that are built by calls are converted, and their Markdown is printed.
 #![tactic(auto)]
 
+mod abbreviations;
+mod clauses;
 mod closures;
+mod either;
 mod highlight;
+mod pages;
 mod settings;
 mod skipping;
 
+use abbreviations::spelled_out_page;
+use clauses::{as_file, is_html, with_every_letter};
 use closures::shouted;
+use either::site_heading;
 use highlight::highlighted;
-use htmd::{ConvertError, HtmlToMarkdown, Tree, TreeError, convert};
+use htmd::{ConvertError, Tree, TreeError, convert};
+use pages::three_pages;
 use settings::{faithful, underlined};
 use skipping::without_asides;
 use std::alloc::Global;
@@ -29,8 +37,7 @@ fn built(alloc: Global) -> Result<String, TreeError> {
     let mut tree = Tree::new(alloc)?;
     let heading = tree.add_element(tree.root(), "h1", Vec::new(alloc))?;
     tree.add_text(heading, "Hello, *world*")?;
-    let converter = HtmlToMarkdown::new(alloc)?;
-    Ok(converter.tree_to_markdown(alloc, &tree, tree.root())?)
+    Ok(with_every_letter(alloc, &tree)?)
 }
 
 fn main(rt: HostRuntime) -> io::Result<()> {
@@ -42,6 +49,10 @@ fn main(rt: HostRuntime) -> io::Result<()> {
         faithful(alloc),
         without_asides(alloc),
         shouted(alloc),
+        as_file(alloc, "<p>A file</p>"),
+        three_pages(alloc),
+        spelled_out_page(alloc),
+        site_heading(alloc),
     ] {
         match answer {
             Ok(markdown) => println!(rt; "{markdown}")?,
@@ -51,6 +62,12 @@ fn main(rt: HostRuntime) -> io::Result<()> {
     for answer in [built(alloc), highlighted(alloc)] {
         match answer {
             Ok(markdown) => println!(rt; "{markdown}")?,
+            Err(error) => eprintln!(rt; "{error}")?,
+        }
+    }
+    for html in ["<p>closed</p>", "<p>open"] {
+        match is_html(alloc, html) {
+            Ok(is_html) => println!(rt; "{html} {is_html}")?,
             Err(error) => eprintln!(rt; "{error}")?,
         }
     }

@@ -1,4 +1,5 @@
 //! Paragraphs, headings, sections and what stands in a line.
+use crate::builders::faithful;
 use crate::pages::converted_page;
 use htmd::options::Options;
 use std::test::Fail;
@@ -69,6 +70,38 @@ fn joins_neighbours(rt: HostRuntime) -> Result<(), Fail> {
     ];
     for (html, markdown) in table {
         let answer = converted_page(rt.alloc(), Options::default(), html)?;
+        assert_eq!(rt; answer.as_str(), markdown, "{html:?}");
+    }
+    Ok(())
+}
+
+// An attribute that Markdown has no place for makes an element HTML in Faithful.
+#[test]
+fn keeps_attributes_as_html(rt: HostRuntime) -> Result<(), Fail> {
+    let table: [(&str, &str); 14] = [
+        ("<h1 id=\"i\">a</h1>", "<h1 id=\"i\">a</h1>"),
+        ("<h2 id=\"i\">a</h2>", "<h2 id=\"i\">a</h2>"),
+        ("<h3 id=\"i\">a</h3>", "<h3 id=\"i\">a</h3>"),
+        ("<h4 id=\"i\">a</h4>", "<h4 id=\"i\">a</h4>"),
+        ("<h5 id=\"i\">a</h5>", "<h5 id=\"i\">a</h5>"),
+        ("<h6 id=\"i\">a</h6>", "<h6 id=\"i\">a</h6>"),
+        (
+            "<blockquote cite=\"/x\"><p>a</p></blockquote>",
+            "<blockquote cite=\"/x\"><p>a</p></blockquote>",
+        ),
+        (
+            "<blockquote><p id=\"i\">a</p></blockquote>",
+            "> <p id=\"i\">a</p>",
+        ),
+        ("<p id=\"i\"><i>a</i></p>", "<p id=\"i\"><i>a</i></p>"),
+        ("a<p id=\"i\">b</p>c", "a\n\n<p id=\"i\">b</p>\n\nc"),
+        ("a<br class=\"x\">b", "a<br class=\"x\">b"),
+        ("<h1>a<br class=\"x\">b</h1>", "# a<br class=\"x\">b"),
+        ("<h2>a</h2><blockquote>b</blockquote>", "## a\n\n> b"),
+        ("<p>a<br>b</p>", "a  \nb"),
+    ];
+    for (html, markdown) in table {
+        let answer = converted_page(rt.alloc(), faithful(), html)?;
         assert_eq!(rt; answer.as_str(), markdown, "{html:?}");
     }
     Ok(())

@@ -6,7 +6,7 @@ ghost use Rattle.htmd_tree.specs.Items.{children_of};
 ghost use Rattle.htmd_tree.specs.Views.{pairs_of};
 ghost use Rattle.htmd.specs.ElementViews.{attributes_of, is_more_than, value_of_first};
 ghost use Rattle.htmd.specs.Handling.{nothing, this_result, raw_html, content_of_children, content_of_fallback};
-ghost use Rattle.htmd.specs.Outputs.{is_pure};
+ghost use Rattle.htmd.specs.Outputs.{is_markdown_alone};
 ghost use Rattle.htmd.specs.Views.{optional_text};
 ghost use Rattle.htmd_vectors.specs.Plans.{plan_of_text, plan_of_first, plan_of_below, first_or, down, plan_with_id};
 
@@ -356,7 +356,7 @@ pub(crate) struct TellsDue {
 
 impl ElementHandler for TellsDue {
     ghost plan_of = { λ h view. this_result (record {
-      content = if not (is_pure view.options) && is_more_than h.allowed (length (attributes_of view))
+      content = if not (is_markdown_alone view.options) && is_more_than h.allowed (length (attributes_of view))
           then codes "T" else codes "F";
       markdown_translated = true;
     }) };

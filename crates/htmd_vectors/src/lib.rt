@@ -7,6 +7,8 @@ mod blocks;
 #[cfg(test)]
 mod builders;
 #[cfg(test)]
+mod captions;
+#[cfg(test)]
 mod closures;
 #[cfg(test)]
 mod code;
@@ -15,9 +17,19 @@ mod custom;
 #[cfg(test)]
 mod depth;
 #[cfg(test)]
+mod ends;
+#[cfg(test)]
+mod errors;
+#[cfg(test)]
 mod formats;
 #[cfg(test)]
+mod guarded;
+#[cfg(test)]
+mod guarded_parts;
+#[cfg(test)]
 mod handlers;
+#[cfg(test)]
+mod inline_reader;
 #[cfg(test)]
 mod links;
 #[cfg(test)]
@@ -31,18 +43,28 @@ mod nodes;
 #[cfg(test)]
 mod pages;
 #[cfg(test)]
+mod passing;
+#[cfg(test)]
 mod program;
 #[cfg(test)]
 mod reader;
 #[cfg(test)]
 mod references;
 #[cfg(test)]
+mod refusals;
+#[cfg(test)]
 mod registry;
 #[cfg(test)]
 mod rows;
 #[cfg(test)]
+mod surface;
+#[cfg(test)]
 mod tables;
+#[cfg(test)]
+mod texts;
 #[cfg(test)]
 mod trees;
 #[cfg(test)]
 mod truncations;
+#[cfg(test)]
+mod writers;

@@ -161,3 +161,88 @@ fn keeps_other_tables_as_html(rt: HostRuntime) -> Result<(), Fail> {
     }
     Ok(())
 }
+
+// What isn't in its place, or has an attribute, is written as HTML in Faithful. In Pure the content stands alone.
+#[test]
+fn keeps_parts_of_tables_as_html(rt: HostRuntime) -> Result<(), Fail> {
+    let table: [(Row, &str); 10] = [
+        (
+            &[
+                (0, "table", ""),
+                (1, "tbody", ""),
+                (2, "tr", "x=1"),
+                (3, "", "a"),
+            ],
+            "<tr x=\"1\">a</tr>",
+        ),
+        (
+            &[(0, "table", ""), (1, "tr", ""), (2, "", "a")],
+            "<tr>a</tr>",
+        ),
+        (&[(0, "tr", ""), (1, "", "a")], "<tr>a</tr>"),
+        (
+            &[(0, "table", ""), (1, "tbody", "x=1"), (2, "", "a")],
+            "<tbody x=\"1\">a</tbody>",
+        ),
+        (&[(0, "tbody", ""), (1, "", "a")], "<tbody>a</tbody>"),
+        (
+            &[(0, "table", ""), (1, "thead", "x=1"), (2, "", "a")],
+            "<thead x=\"1\">a</thead>",
+        ),
+        (&[(0, "thead", ""), (1, "", "a")], "<thead>a</thead>"),
+        (
+            &[(0, "table", ""), (1, "caption", "x=1"), (2, "", "a")],
+            "<caption x=\"1\">a</caption>",
+        ),
+        (&[(0, "caption", ""), (1, "", "a")], "<caption>a</caption>"),
+        (
+            &[
+                (0, "table", ""),
+                (1, "thead", ""),
+                (2, "tr", ""),
+                (3, "", "a"),
+            ],
+            "a",
+        ),
+    ];
+    for (row, markdown) in table {
+        let answer = converted(rt.alloc(), faithful(), row)?;
+        assert_eq!(rt; answer.as_str(), markdown);
+        let answer = converted(rt.alloc(), Options::default(), row)?;
+        assert_eq!(rt; answer.as_str(), "a");
+    }
+    Ok(())
+}
+
+// `head` and `body` stand in `html` or the Document, `html` in the Document alone. Their attributes don't count.
+#[test]
+fn keeps_other_parts_of_pages_as_html(rt: HostRuntime) -> Result<(), Fail> {
+    let table: [(Row, &str); 9] = [
+        (&[(0, "head", "x=1"), (1, "", "a")], "a"),
+        (&[(0, "body", "x=1"), (1, "", "a")], "a"),
+        (&[(0, "html", "x=1"), (1, "", "a")], "a"),
+        (&[(0, "html", ""), (1, "head", ""), (2, "", "a")], "a"),
+        (&[(0, "html", ""), (1, "body", ""), (2, "", "a")], "a"),
+        (
+            &[(0, "body", ""), (1, "head", ""), (2, "", "a")],
+            "<head>a</head>",
+        ),
+        (
+            &[(0, "blockquote", ""), (1, "body", "x=1"), (2, "", "a")],
+            "> <body x=\"1\">a</body>",
+        ),
+        (
+            &[(0, "html", ""), (1, "html", "x=1"), (2, "", "a")],
+            "<html x=\"1\">a</html>",
+        ),
+        (
+            &[(0, "body", ""), (1, "html", ""), (2, "", "a")],
+            "<html>a</html>",
+        ),
+    ];
+    for (row, markdown) in table {
+        let answer = converted(rt.alloc(), faithful(), row)?;
+        assert_eq!(rt; answer.as_str(), markdown);
+    }
+    Ok(())
+}

@@ -1,0 +1,1 @@
+-- No lemmas: clauses of two callers alone ask for a proof.

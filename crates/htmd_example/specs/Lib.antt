@@ -1,0 +1,2 @@
+-- What the handlers of the examples mean.
+pub mod Abbreviations

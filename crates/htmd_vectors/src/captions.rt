@@ -1,0 +1,64 @@
+//! Pages that are converted in the time that their length and depth ask for, though what stands in a table without
+//! lines is asked for twice.
+use crate::builders::{faithful, guarded};
+use crate::pages::converted_page;
+use htmd::options::Options;
+use std::alloc::{AllocError, Global};
+use std::test::Fail;
+
+// A text between so many start tags and as many end tags.
+fn nested(
+    alloc: Global,
+    count: usize,
+    start: &str,
+    text: &str,
+    end: &str,
+) -> Result<String, AllocError> {
+    let mut html = String::new(alloc);
+    for _ in 0..count {
+        html.push_str(start)?;
+    }
+    html.push_str(text)?;
+    for _ in 0..count {
+        html.push_str(end)?;
+    }
+    Ok(html)
+}
+
+// A table in the caption of a table, and so on: each has a head without cells, so it is no table but what its caption
+// gives, between blank lines.
+#[test]
+fn converts_captions_in_captions(rt: HostRuntime) -> Result<(), Fail> {
+    let table: [(&str, &str); 2] = [("x", "x"), ("<a href=\"/x\">C</a>", "[C](/x)")];
+    for (text, markdown) in table {
+        for count in [1, 2, 300, 400] {
+            let start = "<table><caption>";
+            let end = "</caption><thead></thead></table>";
+            let html = nested(rt.alloc(), count, start, text, end)?;
+            for options in [Options::default(), faithful(), guarded()] {
+                let answer = converted_page(rt.alloc(), options, html.as_str())?;
+                assert_eq!(rt; answer.as_str(), markdown, "{count}");
+            }
+        }
+    }
+    Ok(())
+}
+
+// A table in the header of a table, and so on, where a later head without cells takes the headers away: strong text in
+// strong text. In Guarded a content with a blank line is in no marks.
+#[test]
+fn converts_headers_in_headers(rt: HostRuntime) -> Result<(), Fail> {
+    for count in [1, 2, 100, 200] {
+        let start = "<table><thead><tr><th><b>";
+        let end = "</b></th></tr></thead><thead></thead></table>";
+        let html = nested(rt.alloc(), count, start, "x", end)?;
+        let marked = nested(rt.alloc(), count, "**", "x", "**")?;
+        for options in [Options::default(), faithful()] {
+            let answer = converted_page(rt.alloc(), options, html.as_str())?;
+            assert_eq!(rt; answer.as_str(), marked.as_str(), "{count}");
+        }
+        let answer = converted_page(rt.alloc(), guarded(), html.as_str())?;
+        assert_eq!(rt; answer.as_str(), "**x**", "{count}");
+    }
+    Ok(())
+}
