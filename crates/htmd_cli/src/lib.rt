@@ -27,6 +27,3 @@ pub use program::command;
 pub use settings::{Mode, Settings};
 pub use sinks::{Output, Sink};
 pub use sources::{Input, Source};
-
-#[cfg(test)]
-mod tests;

@@ -1,8 +1,8 @@
 //! Runs on pages of HTML.
-use super::called;
-use super::doubles::{Dripping, Narrow};
-use crate::{Mode, RunError, Sink, Source, command, run};
+use crate::calls::called;
+use crate::doubles::{Dripping, Narrow};
 use htmd::FaultKind;
+use htmd_cli::{Mode, RunError, Sink, Source, command, run};
 use std::alloc::{AllocError, Global};
 use std::test::Fail;
 

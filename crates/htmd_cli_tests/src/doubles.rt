@@ -1,7 +1,7 @@
 //! Sources, sinks, readers and writers that fail where they are told to.
 ghost use Rattle.std.specs.Prelude.{◌≡◌, Some, None, true, false, if◌then◌else◌};
 
-use crate::{Failed, Sink, Source};
+use htmd_cli::{Failed, Sink, Source};
 use std::alloc::Global;
 use std::io;
 use std::io::{ErrorKind, Read, Write};

@@ -1,5 +1,5 @@
 //! What the program says of an input that is refused.
-use super::called;
+use crate::calls::called;
 use std::alloc::{AllocError, Global};
 use std::test::Fail;
 

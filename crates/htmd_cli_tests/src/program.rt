@@ -1,12 +1,7 @@
-//! What no clause says: the program's lines, and that runs succeed and fail as they should.
-mod doubles;
-mod explanations;
-mod pages;
-mod words;
-
-use crate::{Failed, Input, Mode, Output, RunError, Sink, Source, command, run};
-use doubles::{Dripping, Full, Interrupted, Narrow, Unflushed};
-use std::alloc::{AllocError, Global};
+//! The program's lines, and that runs succeed and fail as they should.
+use crate::calls::strings;
+use crate::doubles::{Dripping, Full, Interrupted, Narrow, Unflushed};
+use htmd_cli::{Failed, Input, Mode, Output, RunError, Sink, Source, command, run};
 use std::io::ErrorKind;
 use std::test::Fail;
 
@@ -14,37 +9,6 @@ const PARAGRAPH: Mode = Mode {
     text: true,
     faithful: false,
 };
-
-fn strings(alloc: Global, words: &[&str]) -> Result<Vec<String>, AllocError> {
-    let mut all = Vec::new(alloc);
-    for word in words {
-        all.push(String::from_str(alloc, word)?)?;
-    }
-    Ok(all)
-}
-
-/// What a call of `command` leaves.
-#[derive(Drop)]
-struct Outcome {
-    status: u8,
-    stdout: String,
-    stderr: String,
-    unread: usize,
-}
-
-fn called(alloc: Global, words: &[&str], stdin: &[u8]) -> Result<Outcome, Fail> {
-    let words = strings(alloc, words)?;
-    let mut source = Dripping::new(stdin, 100_000);
-    let mut sink = Narrow::new(alloc, 100_000);
-    let mut errors = Narrow::new(alloc, 100_000);
-    let status = command(alloc, words.as_slice(), &mut source, &mut sink, &mut errors);
-    Ok(Outcome {
-        status,
-        stdout: String::from_str(alloc, str::from_utf8(sink.bytes())?)?,
-        stderr: String::from_str(alloc, str::from_utf8(errors.bytes())?)?,
-        unread: source.rest().len(),
-    })
-}
 
 #[test]
 fn answers_words(rt: HostRuntime) -> Result<(), Fail> {

@@ -1,7 +1,7 @@
 //! Each word with each value, and what the words say together.
-use super::doubles::{Dripping, Narrow};
-use super::{called, strings};
-use crate::{Sink, Source, command};
+use crate::calls::{called, strings};
+use crate::doubles::{Dripping, Narrow};
+use htmd_cli::{Sink, Source, command};
 use std::alloc::Global;
 use std::test::Fail;
 

@@ -1,0 +1,36 @@
+//! Calls of the program on words and bytes, and what they leave.
+use crate::doubles::{Dripping, Narrow};
+use htmd_cli::command;
+use std::alloc::{AllocError, Global};
+use std::test::Fail;
+
+pub fn strings(alloc: Global, words: &[&str]) -> Result<Vec<String>, AllocError> {
+    let mut all = Vec::new(alloc);
+    for word in words {
+        all.push(String::from_str(alloc, word)?)?;
+    }
+    Ok(all)
+}
+
+/// What a call of `command` leaves.
+#[derive(Drop)]
+pub struct Outcome {
+    pub status: u8,
+    pub stdout: String,
+    pub stderr: String,
+    pub unread: usize,
+}
+
+pub fn called(alloc: Global, words: &[&str], stdin: &[u8]) -> Result<Outcome, Fail> {
+    let words = strings(alloc, words)?;
+    let mut source = Dripping::new(stdin, 100_000);
+    let mut sink = Narrow::new(alloc, 100_000);
+    let mut errors = Narrow::new(alloc, 100_000);
+    let status = command(alloc, words.as_slice(), &mut source, &mut sink, &mut errors);
+    Ok(Outcome {
+        status,
+        stdout: String::from_str(alloc, str::from_utf8(sink.bytes())?)?,
+        stderr: String::from_str(alloc, str::from_utf8(errors.bytes())?)?,
+        unread: source.rest().len(),
+    })
+}
