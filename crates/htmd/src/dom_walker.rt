@@ -1,26 +1,24 @@
 //! The walk over a tree.
 
-ghost use Rattle.std.specs.Prelude.{◌≡◌, ◌<◌, ℕ, List, None, true, false, IfOk, IfSome, IsSome, IsTrue, OnOk};
-ghost use Rattle.std.specs.Prelude.{OnErr, ◌++◌, nat_lt, if◌then◌else◌, length, string_bytes, []};
+mod results;
+
+ghost use Rattle.std.specs.Prelude.{◌≡◌, ◌<◌, ℕ, List, None, false, IfOk, IfSome, IsSome, IsTrue, OnOk, OnErr};
+ghost use Rattle.std.specs.Prelude.{length, string_bytes};
 ghost use Rattle.std.specs.Option.{option_copied};
-ghost use Rattle.htmd_text.specs.Trims.{trimmed_end, is_space};
 ghost use Rattle.htmd_tree.specs.Items.{data_at, parent_at, IsTree};
 ghost use Rattle.htmd_tree.specs.NumberedTrees.{tree_of};
-ghost use Rattle.htmd_tree.specs.Views.{pairs_of};
-ghost use Rattle.htmd_tree.specs.Serialisation.{start_tag, comment_of};
 ghost use Rattle.htmd_tree.specs.Ancestors.{ancestors_of};
 ghost use Rattle.htmd.specs.Handling.{IsProper, contents_of_each};
-ghost use Rattle.htmd.specs.OrdinaryText.{pre, preformatted_text, ordinary_text};
-ghost use Rattle.htmd.specs.Groups.{only_text, group_tree, group_children, children_at};
+ghost use Rattle.htmd.specs.OrdinaryText.{pre};
+ghost use Rattle.htmd.specs.Groups.{only_text, group_tree, children_at};
 ghost use Rattle.htmd.specs.Outputs.{conversion_of, context_of, empty_output, is_guarded};
 ghost use Rattle.htmd.specs.Children.{write_groups, content_alone, descendant_tree};
-ghost use Rattle.htmd.specs.Elements.{content_of, contents_alone, answer_after, raw_answer, raw_result, end_of_element};
+ghost use Rattle.htmd.specs.Elements.{content_of, contents_alone, answer_after, raw_answer};
 ghost use Rattle.htmd.specs.Rendering.{is_text, inside_of, with_result};
 ghost use Rattle.htmd.specs.Markdown.{markdown};
 ghost use Rattle.htmd.specs.Handled.{IsElement, handled};
 ghost use Rattle.htmd.specs.Beginnings.{Begins};
-ghost use Rattle.htmd.specs.Views.{optional_text, optional_result, output_view, answer_view, contents_view};
-ghost use Rattle.htmd.specs.Views.{result_view};
+ghost use Rattle.htmd.specs.Views.{optional_result, output_view, answer_view, contents_view};
 ghost use Rattle.htmd.specs.Walking.{AtElement, AtNode, InNode, AlwaysGives, AreRemembered};
 ghost use Rattle.htmd.specs.OneLineElements.{known_in_line, known_in_line_inside};
 ghost use Rattle.htmd.specs.Code.{language_of_pre};
@@ -32,16 +30,16 @@ use crate::element_handler::{Element, HandlerResult, Links, Plan};
 use crate::group::{group_length, joined_text};
 use crate::line::{is_in_one_line, is_known_in_line};
 use crate::node_util::{
-    is_block, is_inside_pre, is_parent_pre, is_pre_or_code, is_text, only_text, trims_first,
+    is_block, is_inside_pre, is_parent_pre, is_pre_or_code, is_text, trims_first,
 };
-use crate::seam::append_normalized_content;
 use crate::text_node::{Context, append_text};
 use htmd_text::{
-    is_block_element, trim_end_document_white_space, trim_end_line_feeds, trim_end_spaces,
-    trim_newlines,
+    is_block_element, trim_end_document_white_space, trim_end_line_feeds, trim_newlines,
 };
-use htmd_tree::{
-    Attribute, NodeData, NodeId, Tree, is_void, push_end_tag, push_start_tag, raw_block,
+use htmd_tree::{NodeData, NodeId, Tree, raw_block};
+use results::{
+    append_copy, append_result, between_tags, copied, cut_before_child, empty_result, lent,
+    push_comment, raw_result, text_shown, trim_after,
 };
 use std::alloc::{AllocError, Global};
 
@@ -61,149 +59,6 @@ pub(crate) struct Walk<'a, R: Registry> {
     remembered: &'a [Remembered],
     ghost is_tree: { IsTree tree.now },
     ghost are_right: { AreRemembered (R.config registry.now) tree.now remembered.now },
-}
-
-/// Before a block element the spaces at the end of the text go.
-fn cut_before_child(out: &mut HandlerResult, is_block: bool)
-    ensures text { string_bytes out.new.content
-        ≡ (if is_block then trimmed_end is_space (string_bytes out.old.content) else string_bytes out.old.content) }
-    ensures markdown_translated { out.new.markdown_translated ≡ out.old.markdown_translated }
-{
-    if is_block {
-        trim_end_spaces(&mut out.content);
-    }
-}
-
-/// A child that made the text longer sets the trim flag where it is a block element, else clears it.
-fn trim_after(before: usize, after: usize, is_block: bool, trim: bool) -> bool
-    ensures { result ≡ (if nat_lt before after then is_block else trim) }
-{
-    if before < after { is_block } else { trim }
-}
-
-/// A text that may be there, lent.
-fn lent(text: &Option<String>) -> Option<&str>
-    ensures { option_copied result ≡ optional_text text.now }
-{
-    match text {
-        Some(text) => Some(text.as_str()),
-        None => None,
-    }
-}
-
-/// Nothing is written yet, of a text of its own.
-fn empty_result(alloc: Global) -> HandlerResult
-    ensures content { string_bytes result.content ≡ [] }
-    ensures markdown_translated { result.markdown_translated ≡ true }
-{
-    HandlerResult {
-        content: String::new(alloc),
-        markdown_translated: true,
-    }
-}
-
-/// The joined text of a group, else the text of the only child.
-fn text_shown<'t>(tree: &'t Tree, node: NodeId, joined: Option<&'t str>) -> Option<&'t str>
-    requires within { node < length tree.now }
-    requires group { IfSome joined (λ _. IsSome (only_text (children_at tree.now node))) }
-    ensures children { group_children (option_copied result) (children_at tree.now node)
-        ≡ group_children (option_copied joined.entry) (children_at tree.now node) }
-    ensures text { option_copied result
-        ≡ only_text (group_children (option_copied joined.entry) (children_at tree.now node)) }
-    ensures shows { option_copied result
-        ≡ only_text (group_children (option_copied result) (children_at tree.now node)) }
-{
-    match joined {
-        Some(text) => Some(text),
-        None => only_text(tree, node),
-    }
-}
-
-/// A text that isn't Markdown.
-fn raw_result(content: String) -> HandlerResult
-    ensures { result_view result ≡ raw_result (string_bytes content) }
-{
-    HandlerResult {
-        content,
-        markdown_translated: false,
-    }
-}
-
-/// A content between the tags of its element.
-fn between_tags(
-    alloc: Global,
-    tag: &str,
-    attrs: &[Attribute],
-    content: &str,
-) -> Result<String, AllocError>
-    ensures { IfOk result (λ s. string_bytes s
-        ≡ (start_tag tag.now (pairs_of attrs.now) ++ content.now) ++ end_of_element tag.now) }
-{
-    let mut out = String::new(alloc);
-    push_start_tag(&mut out, tag, attrs)?;
-    out.push_str(content)?;
-    if !is_void(tag) {
-        push_end_tag(&mut out, tag)?;
-    }
-    Ok(out)
-}
-
-/// A copy of a result.
-fn copied(alloc: Global, given: &Option<HandlerResult>) -> Result<Option<HandlerResult>, AllocError>
-    ensures { IfOk result (λ r. optional_result r ≡ optional_result given.now) }
-{
-    match given {
-        None => Ok(None),
-        Some(given) => Ok(Some(HandlerResult {
-            content: String::from_str(alloc, given.content.as_str())?,
-            markdown_translated: given.markdown_translated,
-        })),
-    }
-}
-
-/// Puts what an element gives behind what is written so far.
-fn append_result(
-    out: &mut HandlerResult,
-    given: Option<HandlerResult>,
-    whole: bool,
-    is_guarded: bool,
-) -> Result<(), AllocError>
-    ensures { OnOk result ((definitions : List (List ℕ)) → output_view out.new definitions
-        ≡ with_result is_guarded (output_view out.old definitions) whole (optional_result given) definitions) }
-{
-    match given {
-        None => Ok(()),
-        Some(given) => {
-            append_normalized_content(&mut out.content, given.content, whole, is_guarded)?;
-            out.markdown_translated = out.markdown_translated && given.markdown_translated;
-            Ok(())
-        }
-    }
-}
-
-/// Puts a copy of what an element gives behind what is written so far.
-fn append_copy(
-    alloc: Global,
-    out: &mut HandlerResult,
-    given: &Option<HandlerResult>,
-    whole: bool,
-    is_guarded: bool,
-) -> Result<(), AllocError>
-    ensures { OnOk result ((definitions : List (List ℕ)) → output_view out.new definitions
-        ≡ with_result is_guarded (output_view out.old definitions) whole (optional_result given.now) definitions) }
-{
-    let given = copied(alloc, given)?;
-    append_result(out, given, whole, is_guarded)
-}
-
-/// Puts a comment behind a text.
-fn push_comment(out: &mut String, text: &str) -> Result<(), AllocError>
-    ensures { OnOk result (string_bytes out.new ≡ string_bytes out.old ++ comment_of text.now) }
-{
-    out.push_str("<!--")?;
-    out.push_str(text)?;
-    out.push_str("-->")?;
-    Ok(())
 }
 
 impl<'a, R: Registry> Walk<'a, R> {
