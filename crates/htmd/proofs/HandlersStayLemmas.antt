@@ -24,7 +24,8 @@ use Rattle.htmd.specs.BuiltIn.{meaning_of}
 use Rattle.htmd.specs.HandlerMeanings.{handler_meaning}
 use Rattle.htmd.specs.Staying.{HandlerStays, HandlersStay}
 
-link-stays : (style : LinkStyle) (view : ElementView) (content address : List ℕ) (definitions others : List (List ℕ))
+link-stays : (style : LinkStyle) (view : ElementView) (content address : List ℕ)
+    (definitions others : List (List ℕ))
     → (link_finish style view content address definitions).added ≡ []
     → link_finish style view content address others ≡ link_finish style view content address definitions
 link-stays Inlined view content address definitions others e = refl

@@ -67,7 +67,8 @@ captions_come_first = refl
 -- of two heads the later one is written, and a `th` in a row behind it is not
 later_headers_stay :
     PageSays (tag (codes "table") (tag (codes "thead") (tag (codes "tr") (leaf (codes "th") (codes "g") ∷ []) ∷ [])
-    ∷ tag (codes "thead") (tag (codes "tr") (leaf (codes "th") (codes "h") ∷ []) ∷ []) ∷ tag (codes "tbody") (tag
+    ∷ tag (codes "thead") (tag (codes "tr") (leaf (codes "th") (codes "h") ∷ []) ∷ []) ∷
+    tag (codes "tbody") (tag
     (codes "tr") (leaf (codes "th") (codes "x") ∷ leaf (codes "td") (codes "y") ∷ []) ∷ []) ∷ []) ∷ [])
     (codes "hy")
 unfolding said_within tree_of forest_from ancestors_of ancestors_up is_block chars
@@ -84,7 +85,8 @@ rows_alone_say_all = refl
 -- neighbours that join say their language once
 language_is_said_once :
     PageSays (tag (codes "pre") (tag_with (codes "code") (pair (codes "class") (codes "language-rs") ∷ []) (say
-    (codes "a") ∷ []) ∷ tag_with (codes "code") (pair (codes "class") (codes "language-rs") ∷ []) (say (codes "b") ∷
+    (codes "a") ∷ []) ∷ tag_with (codes "code") (pair (codes "class") (codes "language-rs") ∷ [])
+    (say (codes "b") ∷
     []) ∷ []) ∷ [])
     (codes "rsab")
 unfolding said_within tree_of forest_from ancestors_of ancestors_up is_block chars
@@ -122,15 +124,16 @@ link_says_address = refl
 
 -- without an address it is no link
 anchor_says_text :
-    PageSays (tag (codes "p") (tag_with (codes "a") (pair (codes "title") (codes "z") ∷ []) (say (codes "x") ∷ []) ∷
-    []) ∷ [])
+    PageSays (tag (codes "p") (tag_with (codes "a") (pair (codes "title") (codes "z") ∷ []) (say (codes "x") ∷ [])
+    ∷ []) ∷ [])
     (codes "x")
 unfolding said_within tree_of forest_from ancestors_of ancestors_up is_block chars
 anchor_says_text = refl
 
 -- line breaks and thematic breaks say nothing, and what stands behind them stays
 breaks_say_nothing :
-    PageSays (say (codes "a") ∷ tag (codes "br") [] ∷ say (codes "b") ∷ tag (codes "hr") [] ∷ say (codes "c") ∷ [])
+    PageSays (say (codes "a") ∷ tag (codes "br") [] ∷ say (codes "b") ∷ tag (codes "hr") [] ∷
+    say (codes "c") ∷ [])
     (codes "abc")
 unfolding said_within tree_of forest_from ancestors_of ancestors_up is_block chars
 breaks_say_nothing = refl
@@ -143,8 +146,8 @@ GuardedPageSays trees letters = said guarded (document_items (forest trees)) 0 �
 -- a code block says its language, and all text below it, without what elements there would say
 guarded_code_says_text :
     GuardedPageSays (tag (codes "pre") (tag_with (codes "code") (pair (codes "class") (codes "language-rs") ∷ [])
-    (say (codes "a") ∷ tag_with (codes "a") (pair (codes "href") (codes "y") ∷ []) (say (codes "b") ∷ []) ∷ []) ∷
-    []) ∷ [])
+    (say (codes "a") ∷ tag_with (codes "a") (pair (codes "href") (codes "y") ∷ []) (say (codes "b") ∷ [])
+    ∷ []) ∷ []) ∷ [])
     (codes "rsab")
 unfolding said_within tree_of forest_from ancestors_of ancestors_up is_block chars stands_in_line in_line_up guarded
 guarded_code_says_text = refl

@@ -79,7 +79,8 @@ module _ (items : List Item) where
   only_fits (more (comment i s) trees) fit = tt
   only_fits (more (element i name attributes c) trees) fit = tt
 
-  with_only_fits : (s : List ℕ) (trees : NumberedForest) → IsUtf8 s → AllFit trees → AllFit (with_only_text s trees)
+  with_only_fits : (s : List ℕ) (trees : NumberedForest) → IsUtf8 s → AllFit trees
+      → AllFit (with_only_text s trees)
   with_only_fits s none t fit = tt
   with_only_fits s (more (document i c) trees) t fit = fit
   with_only_fits s (more (doctype i) trees) t fit = fit
@@ -184,7 +185,8 @@ module _ (items : List Item) where
     whole_fits None id t = all_text_fits_among (children_at items id) (all_fit (children_of items id))
     whole_fits (Some s) id t = t
 
-    descendant_fits : (shown : Option (List ℕ)) (d : ℕ) → IsTextIfAny shown → Fits (descendant_tree items shown d)
+    descendant_fits : (shown : Option (List ℕ)) (d : ℕ) → IsTextIfAny shown
+        → Fits (descendant_tree items shown d)
     descendant_fits None d t = tree_fits d
     descendant_fits (Some s) d t = t
 
@@ -215,13 +217,15 @@ module _ (options : Options) (alone : is_markdown_alone options ≡ true)
   AreSaid n = (tree : NumberedTree) (context : Context) (out : Output) (l : List ℕ) → Fits items tree
       → Says out.text l → Says (written_within n conversion tree context out).text (l ++ says n tree)
 
-  before_is_said : (block : Bool) (out : Output) {l : List ℕ} → Says out.text l → Says (before_child block out).text l
+  before_is_said : (block : Bool) (out : Output) {l : List ℕ} → Says out.text l
+      → Says (before_child block out).text l
   before_is_said true out p = says-trimmed_end is_space space_of_fillers out.text p
   before_is_said false out p = p
 
   children_are_said : (n : ℕ) → AreSaid n → (inside : List Ancestor) (trees : NumberedForest) (trim : Bool)
       (out : Output) (l : List ℕ) → AllFit items trees → Says out.text l
-      → Says (write_children (written_within n conversion) inside trees trim out).text (l ++ said_among (says n) trees)
+      → Says (write_children (written_within n conversion) inside trees trim out).text
+      (l ++ said_among (says n) trees)
   children_are_said n keeps inside none trim out l fit p = says-is (sym (append-nil l)) p
   children_are_said n keeps inside (more tree trees) trim out l fit p =
       let block = is_block_tree tree in
@@ -239,7 +243,8 @@ module _ (options : Options) (alone : is_markdown_alone options ≡ true)
   groups_are_said n keeps inside children out l fit p =
       children_are_said n keeps inside (groups_of children) (trims_first inside) out l (groups_fit items children fit) p
 
-  result_is_said : (out : Output) (whole : Bool) (r : Option ResultView) (definitions : List (List ℕ)) (l m : List ℕ)
+  result_is_said : (out : Output) (whole : Bool) (r : Option ResultView) (definitions : List (List ℕ))
+      (l m : List ℕ)
       → Says out.text l → SaysResult r m
       → Says (with_result (is_guarded options) out whole r definitions).text (l ++ m)
   result_is_said out whole None definitions l m p q = says-is (sym (append-nil l) ∙ ap (λ z. l ++ z) (sym q)) p
@@ -340,7 +345,8 @@ link_is_quiet view inlined (Some address) content definitions =
     inline_is_quiet view content definitions (is_guarded view.options) view.options.link_style address inlined
 
 anchors_quiet : (view : ElementView) → view.options.link_style ≡ Inlined → IsQuiet view anchors
-anchors_quiet view inlined = λ content definitions. link_is_quiet view inlined (anchor_address view) content definitions
+anchors_quiet view inlined = λ content definitions. link_is_quiet view inlined (anchor_address view) content
+    definitions
 
 built_in_quiet : (options : Options) (view : ElementView) → view.options.link_style ≡ Inlined
     → AreQuiet view (built_in options).handlers

@@ -97,11 +97,11 @@ among P (tag ∷ tags) name all e =
 -- the tags of the built-in handlers but those of other blocks, in order of registration
 abbrev first_tags : List (List ℕ)
 first_tags =
-    codes "img" ∷ codes "a" ∷ codes "ol" ∷ codes "ul" ∷ codes "li" ∷ codes "blockquote" ∷ codes "code" ∷ codes
-    "strong" ∷ codes "b" ∷ codes "i" ∷ codes "em" ∷ codes "h1" ∷ codes "h2" ∷ codes "h3" ∷ codes "h4" ∷ codes "h5" ∷
-    codes "h6" ∷ codes "br" ∷ codes "hr" ∷ codes "table" ∷ codes "td" ∷ codes "th" ∷ codes "tr" ∷ codes "tbody" ∷
-    codes "thead" ∷ codes "caption" ∷ codes "p" ∷ codes "pre" ∷ codes "head" ∷ codes "body" ∷ codes "html" ∷ codes
-    "span" ∷ []
+    codes "img" ∷ codes "a" ∷ codes "ol" ∷ codes "ul" ∷ codes "li" ∷ codes "blockquote" ∷
+    codes "code" ∷ codes "strong" ∷ codes "b" ∷ codes "i" ∷ codes "em" ∷ codes "h1" ∷ codes "h2" ∷
+    codes "h3" ∷ codes "h4" ∷ codes "h5" ∷ codes "h6" ∷ codes "br" ∷ codes "hr" ∷ codes "table" ∷
+    codes "td" ∷ codes "th" ∷ codes "tr" ∷ codes "tbody" ∷ codes "thead" ∷ codes "caption" ∷
+    codes "p" ∷ codes "pre" ∷ codes "head" ∷ codes "body" ∷ codes "html" ∷ codes "span" ∷ []
 
 -- a tag that nothing is registered for
 not_registered : (name : List ℕ) (registered : List TagIndex)
@@ -117,7 +117,8 @@ registered_tags : (options : Options) (name : List ℕ)
 registered_tags options name = refl
 
 -- names apart
-differ : (p : List ℕ → Bool) (name t : List ℕ) (b : Bool) → p name ≡ b → p t ≡ not b → bytes_eq name t ≡ false
+differ : (p : List ℕ → Bool) (name t : List ℕ) (b : Bool) → p name ≡ b → p t ≡ not b
+    → bytes_eq name t ≡ false
 differ p name t b e f =
     false_from_ne_true (bytes_eq name t)
     (λ same. apart b (sym e ∙ ap p ((bytes_eq-Decides name t).0 same) ∙ f))
@@ -139,8 +140,10 @@ record IsPlain (name : List ℕ) : Type 0 where
   table : bytes_eq name (codes "table") ≡ false
 
 plain_by : (p : List ℕ → Bool) (name : List ℕ) (b : Bool) → p name ≡ b → p (codes "br") ≡ not b
-    → p (codes "hr") ≡ not b → p (codes "img") ≡ not b → p (codes "a") ≡ not b → p (codes "code") ≡ not b
-    → p (codes "pre") ≡ not b → p (codes "span") ≡ not b → p (codes "ol") ≡ not b → p (codes "table") ≡ not b
+    → p (codes "hr") ≡ not b → p (codes "img") ≡ not b → p (codes "a") ≡ not b
+    → p (codes "code") ≡ not b
+    → p (codes "pre") ≡ not b → p (codes "span") ≡ not b → p (codes "ol") ≡ not b
+    → p (codes "table") ≡ not b
     → IsPlain name
 plain_by p name b e br hr img a code pre span ol table = record {
   br = differ p name (codes "br") b e br;
@@ -198,7 +201,8 @@ module _ (options : Options) (alone : is_markdown_alone options ≡ true)
         → SaysResult (answer_after 0 tag at definitions).result
         (said_of_element tag at.view (said_inside says tag at.view children))
 
-    planned_is_said : (tag : List ℕ) (handler : HandlerMeaning) (plan : PlanView) (l : List ℕ) → IsOnly options tag
+    planned_is_said : (tag : List ℕ) (handler : HandlerMeaning) (plan : PlanView) (l : List ℕ)
+        → IsOnly options tag
         handler
         → handler.plan at.view ≡ plan
         → SaysResult (plan_answer handler at definitions plan (without_handler at definitions)).result l
@@ -219,7 +223,8 @@ module _ (options : Options) (alone : is_markdown_alone options ≡ true)
         planned_is_said tag handler content_of_children
         (said_of_element tag at.view (said_inside says tag at.view children)) only
         (keeps.planned at.view alone here)
-        (subst (λ (l : List ℕ). SaysResult (handler.finish at.view (result_of out) out.definitions).result l) (sym same)
+        (subst (λ (l : List ℕ). SaysResult (handler.finish at.view (result_of out) out.definitions).result l)
+        (sym same)
         (keeps.finished at.view (result_of out) out.definitions (said_among says (groups_of children)) alone
         (within definitions)))
 
@@ -227,7 +232,8 @@ module _ (options : Options) (alone : is_markdown_alone options ≡ true)
     either_is_said : (handler : HandlerMeaning) (b : Bool) (first second : PlanView) (l m : List ℕ)
         → SaysResult (plan_answer handler at definitions first (without_handler at definitions)).result l
         → SaysResult (plan_answer handler at definitions second (without_handler at definitions)).result m
-        → SaysResult (plan_answer handler at definitions (cond b first second) (without_handler at definitions)).result
+        → SaysResult (plan_answer handler at definitions (cond b first second)
+        (without_handler at definitions)).result
         (cond b l m)
     either_is_said handler true first second l m p q = p
     either_is_said handler false first second l m p q = q
@@ -318,7 +324,8 @@ module _ (options : Options) (alone : is_markdown_alone options ≡ true)
         in_line_or (stands_in_line items id) _ _ _ _ (says-guarded_span s (letters s) said)
         (says-blank_lines _ (says-guarded_block s (guarded_language at.view) options.code_block_fence said text))
       where
-        in_line_or : (b : Bool) (x y l m : List ℕ) → Says x m → Says y (l ++ m) → Says (cond b x y) (cond b [] l ++ m)
+        in_line_or : (b : Bool) (x y l m : List ℕ) → Says x m → Says y (l ++ m)
+            → Says (cond b x y) (cond b [] l ++ m)
         in_line_or true x y l m p q = p
         in_line_or false x y l m p q = q
 
@@ -340,7 +347,8 @@ module _ (options : Options) (alone : is_markdown_alone options ≡ true)
         (λ (t : List ℕ). Says t (said_among says (groups_of children))) (λ _. within definitions)
         (λ _. says-trimmed _ line_feed_of_fillers out.text (within definitions))
 
-    span_gives : (mark shown : Option (List ℕ)) → ((m : List ℕ) → mark ≡ Some m → list_all is_filler m ≡ true)
+    span_gives : (mark shown : Option (List ℕ))
+        → ((m : List ℕ) → mark ≡ Some m → list_all is_filler m ≡ true)
         → IsTextIfAny shown
         → SaysResult (plan_answer spans at definitions (formula_plan at.view mark shown)
         (without_handler at definitions)).result
@@ -396,7 +404,8 @@ module _ (options : Options) (alone : is_markdown_alone options ≡ true)
     abbrev said_here : ℕ → List ℕ
     said_here d = says (descendant_tree items (only_text children) d)
 
-    each_gives : (ds : List ℕ) (before : List (List ℕ)) → SayEach said_here ds (contents_alone at ds before).results
+    each_gives : (ds : List ℕ) (before : List (List ℕ))
+        → SayEach said_here ds (contents_alone at ds before).results
     each_gives [] before = tt
     each_gives (d ∷ ds) before =
         let out = content_alone write conversion (descendant_tree items (only_text children) d) d before in
@@ -702,7 +711,8 @@ module _ (options : Options) (alone : is_markdown_alone options ≡ true)
         (either_is_said other_blocks hides nothing (unless_faithful at.view) [] inside refl
         (rw alone (wrapped out.text inside (within definitions)))))
 
-    unhandled_is_said : (name : List ℕ) → is_named first_tags name ≡ false → is_named other_block_tags name ≡ false
+    unhandled_is_said : (name : List ℕ) → is_named first_tags name ≡ false
+        → is_named other_block_tags name ≡ false
         → IsSaid name
     unhandled_is_said name e f here =
         let out = content_of at definitions in

@@ -52,20 +52,24 @@ says-guarded_text begins s l p =
     says-marked (is_guarded_mark begins s) s
     (λ i m e. punctuation_low (slice_index s i) (mark_is_punctuation begins s i e)) p
 
-says-guarded_among : (characters : List ℕ) → list_all is_ascii characters ≡ true → Keeps (guarded_among characters)
+says-guarded_among : (characters : List ℕ) → list_all is_ascii characters ≡ true
+    → Keeps (guarded_among characters)
 says-guarded_among characters ascii s l p =
     says-marked (address.is_guarded_mark characters s) s
     (λ i m e. ltb-true (slice_index s i) 128 (mark_is_ascii characters s i ascii e)) p
 
 -- one character of a text at its end goes
-says-last_cut : (c : ℕ) → is_filler c ≡ true → (s : List ℕ) {l : List ℕ} → ends_with c s ≡ true → Says s l
+says-last_cut : (c : ℕ) → is_filler c ≡ true → (s : List ℕ) {l : List ℕ} → ends_with c s ≡ true
+    → Says s l
     → Says (take (length s - 1) s) l
 says-last_cut c fills s e p =
-    says-cut_last s (subst (λ (x : ℕ). is_filler x ≡ true) (sym (eqb-true (slice_index s (length s - 1)) c e)) fills) p
+    says-cut_last s (subst (λ (x : ℕ). is_filler x ≡ true) (sym (eqb-true (slice_index s (length s - 1)) c e))
+    fills) p
 
 says-before_content : (out content : List ℕ) {l : List ℕ} → Says out l → Says (before_content out content) l
 says-before_content out content {l} p =
-    cond_both (ends_with exclamation_mark out && begins_with left_square_bracket content) _ _ (λ (t : List ℕ). Says t l)
+    cond_both (ends_with exclamation_mark out && begins_with left_square_bracket content) _ _
+    (λ (t : List ℕ). Says t l)
     (λ e. says-before (codes "\\!") refl (says-last_cut exclamation_mark refl out (and_parts _ _ e).0 p))
     (λ _. cond_both (ends_with grave_accent out && begins_with grave_accent content) _ _ (λ (t : List ℕ). Says t l)
     (λ _. says-before (codes " ") refl p) (λ _. p))
@@ -149,13 +153,15 @@ says-guarded_resource address title text titled =
 says-link_text : (s : List ℕ) {l : List ℕ} → Says s l → Says (guarded_link_text s) l
 says-link_text s {l} p = says-append (spaces_if _) (says-in_brackets (one_line s) (says-in_one_line s l p))
 
-pub says-guarded_link : (s address : List ℕ) (title : Option (List ℕ)) {l : List ℕ} → Says s l → IsUtf8 address
+pub says-guarded_link : (s address : List ℕ) (title : Option (List ℕ)) {l : List ℕ} → Says s l
+    → IsUtf8 address
     → IsTextIfAny title → Says (guarded_link s address title) (l ++ (letters address ++ letters_if_any title))
 says-guarded_link s address title {l} p text titled =
     says-is (append-nil (l ++ (letters address ++ letters_if_any title)))
     (says-append (says-append (says-link_text s p) (says-guarded_resource address title text titled)) (spaces_if _))
 
-pub says-guarded_reference : (number : ℕ) (s : List ℕ) {l : List ℕ} → Says s l → Says (guarded_reference number s) l
+pub says-guarded_reference : (number : ℕ) (s : List ℕ) {l : List ℕ} → Says s l
+    → Says (guarded_reference number s) l
 says-guarded_reference number s {l} p =
     says-is (append-nil (l ++ []) ∙ append-nil l)
     (says-append
@@ -224,7 +230,8 @@ fitting_is_text None text = tt
 fitting_is_text (Some s) text =
     cond_both (fits_each_fence s) (Some s) None IsTextIfAny (λ _. text) (λ _. tt)
 
-pub says-guarded_block : (s : List ℕ) (language : Option (List ℕ)) (fence : CodeBlockFence) {l : List ℕ} → Says s l
+pub says-guarded_block : (s : List ℕ) (language : Option (List ℕ)) (fence : CodeBlockFence) {l : List ℕ}
+    → Says s l
     → IsTextIfAny language
     → Says (guarded_code_block s language fence) (letters_if_any (fitting_language language) ++ l)
 says-guarded_block s language fence {l} p text =

@@ -108,7 +108,8 @@ first_is_text (class ∷ classes) texts =
     either_text (language_of_class class) (first_language classes) (class_is_text class texts.0)
     (first_is_text classes texts.1)
 
-pub language_is_text : (attributes : List AttributePair) → AreValues attributes → IsTextIfAny (language_of attributes)
+pub language_is_text : (attributes : List AttributePair) → AreValues attributes
+    → IsTextIfAny (language_of attributes)
 language_is_text [] values = tt
 language_is_text (a ∷ attributes) values =
     cond_both (bytes_eq a.name (codes "class")) _ _ IsTextIfAny
@@ -255,7 +256,8 @@ code_is_said view s l p text style e false here = rw here (says-code_span view.o
 pub link_is_said : (view : ElementView) (content : ResultView) (definitions : List (List ℕ)) (l : List ℕ)
     → Says content.content l → (style : LinkStyle)
     → view.options.link_style ≡ style → prefers_autolinks style ≡ false
-    → (address : Option (List ℕ)) → anchor_address view ≡ address → IsTextIfAny address → IsTextIfAny (title_of view)
+    → (address : Option (List ℕ)) → anchor_address view ≡ address → IsTextIfAny address
+    → IsTextIfAny (title_of view)
     → SaysResult (finish_at address view content definitions).result (l ++ said_of_address style address view)
 link_is_said view content definitions l p Inlined e f None here text titled = says-is (sym (append-nil l)) p
 link_is_said view content definitions l p Referenced e f None here text titled = says-is (sym (append-nil l)) p
@@ -283,10 +285,12 @@ marks_fill : (s mark : List ℕ) → mark_of_class s ≡ Some mark → list_all 
 marks_fill s mark =
     cond_both (bytes_eq s (codes "math math-inline")) _ _ (λ o. o ≡ Some mark → list_all is_filler mark ≡ true)
     (λ _ e. dollar (codes "$") refl e)
-    (λ _. cond_both (bytes_eq s (codes "math math-display")) _ _ (λ o. o ≡ Some mark → list_all is_filler mark ≡ true)
+    (λ _. cond_both (bytes_eq s (codes "math math-display")) _ _ (λ o. o ≡ Some mark
+    → list_all is_filler mark ≡ true)
     (λ _ e. dollar (codes "$$") refl e) (λ _ e. cc))
   where
-    dollar : (m : List ℕ) → list_all is_filler m ≡ true → Some m ≡ Some mark → list_all is_filler mark ≡ true
+    dollar : (m : List ℕ) → list_all is_filler m ≡ true → Some m ≡ Some mark
+        → list_all is_filler mark ≡ true
     dollar m fills e = let same : m ≡ mark = cc in subst (λ (x : List ℕ). list_all is_filler x ≡ true) same fills
 
 pub formula_marks_fill : (attributes : List AttributePair) (mark : List ℕ) → formula_mark attributes ≡ Some mark

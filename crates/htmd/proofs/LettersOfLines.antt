@@ -75,7 +75,8 @@ says-flat f keeps (s ∷ ss) p =
     (says-append (keeps s (letters s) (says-own s p.texts.0))
     (says-flat f keeps ss (record { texts = p.texts.1; say = refl })))
 
-pub says-joined : (separator : List ℕ) → list_all is_filler separator ≡ true → (ss : List (List ℕ)) {l : List ℕ}
+pub says-joined : (separator : List ℕ) → list_all is_filler separator ≡ true
+    → (ss : List (List ℕ)) {l : List ℕ}
     → SayAll ss l → Says (joined_texts separator ss) l
 says-joined separator e [] p = says-is p.say says-nil
 says-joined separator e (s ∷ ss) p =
@@ -98,7 +99,8 @@ module _ (passes : ℕ → Bool) where
   split_behind (b ∷ x) r plain =
       rw (plain 0 (omega arith)) (ap (onto_first b) (split_behind x r (λ k l. plain (suc k) (omega arith))))
 
-  some_part : (s : List ℕ) → (first : List ℕ) × (rest : List (List ℕ)) × (slice_split passes s ≡ first ∷ rest)
+  some_part : (s : List ℕ) → (first : List ℕ) × (rest : List (List ℕ)) ×
+      (slice_split passes s ≡ first ∷ rest)
   some_part [] = ([], [], refl)
   some_part (b ∷ s) =
       let more = some_part s in
@@ -116,7 +118,8 @@ says-character c scalar =
     record {
       utf8 = text;
       says = ap (filter is_letter)
-          (chars_past_char (encode_utf8 c) [] c text (sym (append-nil (encode_utf8 c))) ∙ ap (λ z. c ∷ z) chars-nil);
+          (chars_past_char (encode_utf8 c) [] c text (sym (append-nil (encode_utf8 c)))
+          ∙ ap (λ z. c ∷ z) chars-nil);
     }
 
 longer_part : (c : ℕ) (first : List ℕ) (more : List (List ℕ)) (cs : List ℕ) → IsScalar c
@@ -229,7 +232,8 @@ says-next_line : (indent : ℕ) → Keeps (next_line indent)
 says-next_line indent [] l p = says-behind (line_feed ∷ []) refl p
 says-next_line indent (b ∷ s) l p = says-behind (line_feed ∷ []) refl (says-append (says-many indent space refl) p)
 
-says-lines_behind : (indent : ℕ) (ss : List (List ℕ)) {l : List ℕ} → SayAll ss l → Says (indented_lines indent ss) l
+says-lines_behind : (indent : ℕ) (ss : List (List ℕ)) {l : List ℕ} → SayAll ss l
+    → Says (indented_lines indent ss) l
 says-lines_behind indent [] p = says-is p.say says-nil
 says-lines_behind indent (s ∷ ss) p =
     says-is p.say
@@ -245,7 +249,8 @@ says-indented s indent trim_line_end {l} p =
 
 -- ---- blocks
 
-says-block : (out block : List ℕ) {l m : List ℕ} → Says out l → Says block m → Says (join_block out block) (l ++ m)
+says-block : (out block : List ℕ) {l m : List ℕ} → Says out l → Says block m
+    → Says (join_block out block) (l ++ m)
 says-block out [] {l} {m} p q =
     says-is (sym (append-nil l) ∙ ap (λ z. l ++ z) (sym says-nil.says ∙ q.says)) p
 says-block out (b ∷ block) p q =

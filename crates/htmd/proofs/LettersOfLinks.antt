@@ -55,7 +55,8 @@ pub says-decimal : (n : ℕ) → Says (decimal n) []
 unfolding digits
 says-decimal n = says-fillers (decimal n) (digits_fill 64 n [] refl)
 
-says-item : (marker content : List ℕ) {l : List ℕ} → Says marker [] → Says content l → Says (list_item marker content) l
+says-item : (marker content : List ℕ) {l : List ℕ} → Says marker [] → Says content l
+    → Says (list_item marker content) l
 says-item marker content m p =
     says-behind (line_feed ∷ []) refl (says-append m (says-indented content (length marker) true p))
 
@@ -86,7 +87,8 @@ abbrev pub text_of_block : Block → List ℕ
 text_of_block (item content) = content
 text_of_block (other text) = text
 
-say-numbered : (spacing highest number : ℕ) (blocks : List Block) {l : List ℕ} → SayAll (map text_of_block blocks) l
+say-numbered : (spacing highest number : ℕ) (blocks : List Block) {l : List ℕ}
+    → SayAll (map text_of_block blocks) l
     → SayAll (numbered_blocks spacing highest number blocks) l
 say-numbered spacing highest number [] p = p
 say-numbered spacing highest number (item content ∷ blocks) p =
@@ -165,11 +167,13 @@ says-title (Some s) text =
 
 says-opening : (address : List ℕ) → Says (opening_bracket address) []
 says-opening address =
-    cond_both (holds_space address) _ _ (λ (t : List ℕ). Says t []) (λ _. says-fillers (codes "<") refl) (λ _. says-nil)
+    cond_both (holds_space address) _ _ (λ (t : List ℕ). Says t []) (λ _. says-fillers (codes "<") refl)
+    (λ _. says-nil)
 
 says-closing : (address : List ℕ) → Says (closing_bracket address) []
 says-closing address =
-    cond_both (holds_space address) _ _ (λ (t : List ℕ). Says t []) (λ _. says-fillers (codes ">") refl) (λ _. says-nil)
+    cond_both (holds_space address) _ _ (λ (t : List ℕ). Says t []) (λ _. says-fillers (codes ">") refl)
+    (λ _. says-nil)
 
 says-resource : (address : List ℕ) (title : Option (List ℕ)) → IsUtf8 address → IsTextIfAny title
     → Says (resource address title) (letters address ++ letters_if_any title)

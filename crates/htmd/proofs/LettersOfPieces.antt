@@ -268,7 +268,8 @@ says-span_content : (preformatted_code : Bool) (s : List ℕ) {l : List ℕ} →
 says-span_content true s p = says-one_line s p
 says-span_content false s p = says-trimmed is_document_white_space document_of_fillers s p
 
-says-delimited : (padded : Bool) (n : ℕ) (s : List ℕ) {l : List ℕ} → Says s l → Says (delimited_text padded n s) l
+says-delimited : (padded : Bool) (n : ℕ) (s : List ℕ) {l : List ℕ} → Says s l
+    → Says (delimited_text padded n s) l
 says-delimited padded n s {l} p =
     says-is (append-nil (l ++ []) ∙ append-nil l)
     (says-append (says-append (says-append (says-append (says-many n grave_accent refl) (spaces_if padded)) p)

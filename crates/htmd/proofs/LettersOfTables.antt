@@ -86,7 +86,8 @@ says-guarded_cell s l p =
 
 -- ---- lines
 
-pub say-append : (ss rs : List (List ℕ)) {l m : List ℕ} → SayAll ss l → SayAll rs m → SayAll (ss ++ rs) (l ++ m)
+pub say-append : (ss rs : List (List ℕ)) {l m : List ℕ} → SayAll ss l → SayAll rs m
+    → SayAll (ss ++ rs) (l ++ m)
 say-append [] rs {l} {m} p q = say-is (ap (λ z. z ++ m) p.say) q
 say-append (s ∷ ss) rs {l} {m} p q =
     say-is (sym (append_assoc (letters s) (letters_of_all ss) m) ∙ ap (λ z. z ++ m) p.say)
@@ -112,11 +113,13 @@ says-barred (cell ∷ cells) (width ∷ widths) fit p =
     (says-behind (vertical_bar ∷ []) refl
     (says-barred cells widths (omega (arith, fit)) (record { texts = p.texts.1; say = refl }))))
 
-says-line : (cells : List (List ℕ)) (widths : List ℕ) {l : List ℕ} → length cells ≤ length widths → SayAll cells l
+says-line : (cells : List (List ℕ)) (widths : List ℕ) {l : List ℕ} → length cells ≤ length widths
+    → SayAll cells l
     → Says (line cells widths) l
 says-line cells widths fit p = says-behind (vertical_bar ∷ []) refl (says-barred cells widths fit p)
 
-says-row : (written : List ℕ → List ℕ) → Keeps written → (cells : List (List ℕ)) (widths : List ℕ) {l : List ℕ}
+says-row : (written : List ℕ → List ℕ) → Keeps written
+    → (cells : List (List ℕ)) (widths : List ℕ) {l : List ℕ}
     → length cells ≤ length widths → SayAll cells l → Says (row_by written cells widths) l
 says-row written keeps cells widths {l} fit p =
     let missing = length widths - length cells in
@@ -184,7 +187,8 @@ pub record SayRows (rows : List (List (List ℕ))) (l : List ℕ) : Type 0 where
   pub texts : AreRows rows
   pub say : letters_of_rows rows ≡ l
 
-rows-push : (rows : List (List (List ℕ))) (cells : List (List ℕ)) {l m : List ℕ} → SayRows rows l → SayAll cells m
+rows-push : (rows : List (List (List ℕ))) (cells : List (List ℕ)) {l m : List ℕ} → SayRows rows l
+    → SayAll cells m
     → SayRows (rows ++ cells ∷ []) (l ++ m)
 rows-push [] cells {l} {m} p q = record {
   texts = (q.texts, tt);
@@ -198,7 +202,8 @@ rows-push (first ∷ rows) cells {l} {m} p q =
           ∙ sym (append_assoc (letters_of_all first) (letters_of_rows rows) m) ∙ ap (λ z. z ++ m) p.say;
     }
 
-says-rows : (written : List ℕ → List ℕ) → Keeps written → (rows : List (List (List ℕ))) (widths : List ℕ) {l : List ℕ}
+says-rows : (written : List ℕ → List ℕ) → Keeps written
+    → (rows : List (List (List ℕ))) (widths : List ℕ) {l : List ℕ}
     → FitIn (length widths) rows → SayRows rows l → Says (flat_map (λ cells. row_by written cells widths) rows) l
 says-rows written keeps [] widths fit p = says-is p.say says-nil
 says-rows written keeps (cells ∷ rows) widths fit p =
@@ -206,14 +211,16 @@ says-rows written keeps (cells ∷ rows) widths fit p =
     (says-append (says-row written keeps cells widths fit.0 (record { texts = p.texts.0; say = refl }))
     (says-rows written keeps rows widths fit.1 (record { texts = p.texts.1; say = refl })))
 
-says-head : (written : List ℕ → List ℕ) → Keeps written → (headers : List (List ℕ)) (widths : List ℕ) {l : List ℕ}
+says-head : (written : List ℕ → List ℕ) → Keeps written
+    → (headers : List (List ℕ)) (widths : List ℕ) {l : List ℕ}
     → length headers ≤ length widths → SayAll headers l → Says (head_by written headers widths) l
 says-head written keeps [] widths fit p = says-is p.say says-nil
 says-head written keeps (header ∷ headers) widths {l} fit p =
     says-is (append-nil l)
     (says-append (says-row written keeps (header ∷ headers) widths fit p) (says-separator widths))
 
-pub says-table : (written : List ℕ → List ℕ) → Keeps written → (width : List ℕ → ℕ) (headers : List (List ℕ))
+pub says-table : (written : List ℕ → List ℕ) → Keeps written
+    → (width : List ℕ → ℕ) (headers : List (List ℕ))
     (rows : List (List (List ℕ))) {l m : List ℕ} → SayAll headers l → SayRows rows m
     → Says (table_by written width headers rows) (l ++ m)
 says-table written keeps width headers rows p q =
@@ -318,7 +325,8 @@ module _ (f : ℕ → List ℕ) where
 
   -- all parts of a table
   table_says : (parts : List Part) (rs : List ResultView) → SayEach (nodes_of parts) rs
-      → SayTexts (with_parts no_texts parts rs) (all_of (nodes_of_kind Caption parts)) (all_of (last_headers [] parts))
+      → SayTexts (with_parts no_texts parts rs) (all_of (nodes_of_kind Caption parts))
+      (all_of (last_headers [] parts))
       (all_of (nodes_of_kind Row parts))
   table_says parts rs e =
       parts_say parts rs no_texts [] [] [] e
@@ -349,7 +357,8 @@ module _ (f : ℕ → List ℕ) where
       (says-in_line (table texts.headers texts.rows) _
       (says-table normalised_cell says-normalised cell_width texts.headers texts.rows all.in_headers all.in_rows)))
 
-  says-captions : (captions : List (List ℕ)) {l : List ℕ} → SayAll captions l → Says (guarded_captions captions) l
+  says-captions : (captions : List (List ℕ)) {l : List ℕ} → SayAll captions l
+      → Says (guarded_captions captions) l
   says-captions [] p = says-is p.say says-nil
   says-captions (caption ∷ captions) {l} p =
       says-in_line (flat_map in_line (caption ∷ captions)) l (says-flat in_line says-in_line (caption ∷ captions) p)

@@ -130,7 +130,8 @@ low_edit c x low edit =
     ))
     (λ other. (other.1, other.2)) edit
 
-edited : (cs t : List ℕ) → all_scalars cs ≡ true → Edited (encode_utf8_all cs) t → Says t (filter is_letter cs)
+edited : (cs t : List ℕ) → all_scalars cs ≡ true → Edited (encode_utf8_all cs) t
+    → Says t (filter is_letter cs)
 edited [] t scalars e = says-as (sym e) says-nil
 edited (c ∷ cs) t scalars e =
     let parts = and_parts _ (all_scalars cs) scalars in
@@ -169,7 +170,8 @@ pub same_edit : (b : ℕ) → IsEdit b (b ∷ [])
 same_edit b = inl refl
 
 -- ASCII characters that are no letters, for such a character
-pub silent_edit : (b : ℕ) (x : List ℕ) → is_filler b ≡ true → IsAscii x → filter is_letter x ≡ [] → IsEdit b x
+pub silent_edit : (b : ℕ) (x : List ℕ) → is_filler b ≡ true → IsAscii x → filter is_letter x ≡ []
+    → IsEdit b x
 silent_edit b x e ascii none =
     inr (filler_ascii b e, ascii, none ∙ sym (cond-false (is_letter b) (b ∷ []) [] (filler_silent b e)))
 
@@ -212,7 +214,13 @@ marked_edits marked k (b ∷ s) low =
     let rest = with_backslashes marked (suc k) s in
     let more = marked_edits marked (suc k) s (λ i l e. low (suc i) (omega arith) (ap marked (omega arith) ∙ e)) in
     cond_both (marked k) _ _ (Edited (b ∷ s))
-    (λ e. (backslash ∷ b ∷ [], rest, backslash_edit b (low 0 (omega arith) (ap marked (omega arith) ∙ e)), refl, more))
+    (λ e. (
+      backslash ∷ b ∷ [],
+      rest,
+      backslash_edit b (low 0 (omega arith) (ap marked (omega arith) ∙ e)),
+      refl,
+      more,
+    ))
     (λ e. (b ∷ [], rest, same_edit b, refl, more))
 
 pub says-marked : (marked : ℕ → Bool) (s : List ℕ) {l : List ℕ}
@@ -230,4 +238,5 @@ says-escaped s p = says-marked (is_marked s) s (λ i l e. punctuation_low (slice
     i e)) p
 
 pub says-escaped_pre : (s : List ℕ) {l : List ℕ} → Says s l → Says (escaped_pre_text s) l
-says-escaped_pre s {l} p = cond_both _ (backslash ∷ s) s (λ t. Says t l) (λ _. says-behind (codes "\\") refl p) (λ _. p)
+says-escaped_pre s {l} p = cond_both _ (backslash ∷ s) s (λ t. Says t l) (λ _. says-behind (codes "\\") refl p)
+    (λ _. p)

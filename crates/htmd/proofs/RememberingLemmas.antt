@@ -35,12 +35,14 @@ unlengthened {a} {b} p e =
 -- what an element gave, where the definitions are as many as before
 pub given-always : (v : Conversion) → HandlersStay v.config → (id : ℕ) (r : Option ResultView)
     (old new : List (List ℕ)) → length new ≡ length old
-    → InNode v id (λ write. ◌≡◌ {A = Answer} (record { result = r; definitions = new }) (answer_at write v id old))
+    → InNode v id (λ write. ◌≡◌ {A = Answer} (record { result = r; definitions = new })
+    (answer_at write v id old))
     → AlwaysGives v id r
 given-always v stay id r old new e given = λ n h definitions.
     let at = occurrence_at (written_within n v) v id (inside_of v.items id) (children_at v.items id) in
     let tag = (ancestor_of (data_at v.items id)).tag in
-    let left : (answer_after 0 tag at old).definitions ≡ new = ap (λ (a : Answer). a.definitions) (sym (given n h)) in
+    let left : (answer_after 0 tag at old).definitions ≡ new =
+    ap (λ (a : Answer). a.definitions) (sym (given n h)) in
     let same : new ≡ old = unlengthened (beginning-to (grows-answer at (grows-within n v) 0 tag old) left) e in
     stays-answer at (grows-within n v) (stays-within n v stay) stay 0 tag old definitions (left ∙ same)
     ∙ ap (answer_with definitions) (sym (given n h))
@@ -113,7 +115,8 @@ module _ (config : Config) (items : List Item) (joined : Option (List ℕ)) (t :
       (record { result = r; definitions = new }) h is made
 
   pub result_broken : (n : ℕ) (p trim : Bool) → height (tree_of items id) ≤ n
-      → Begins out.definitions new (written_within n (conversion_of config items) (group_tree joined (tree_of items id))
+      → Begins out.definitions new (written_within n (conversion_of config items)
+      (group_tree joined (tree_of items id))
       (context_of (ancestors_of items id) p trim) out).definitions
   result_broken n p trim h =
       element_broken config items joined t id l n p trim out name attributes new h is (λ m k.

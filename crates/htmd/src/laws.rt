@@ -92,11 +92,11 @@ pub fn text_stays_text()
     ensures { TextStaysText }
 {}
 
-/// In Pure and in Guarded, with the built-in handlers, the letters of the content are what the tree says, in order: none
-/// is lost, doubled, moved or made up. A letter is a character that is no white space, no ASCII punctuation and no ASCII
-/// digit. What a tree says is one rule for each element. Where links stand inline the content is the whole Markdown,
-/// and so it is of each text that is converted; the style that prefers autolinks is left out, for there the content
-/// decides whether a link says its address once or twice.
+/// In Pure and in Guarded, with the built-in handlers, the letters of the content are what the tree says, in order:
+/// none is lost, doubled, moved or made up. A letter is a character that is no white space, no ASCII punctuation and no
+/// ASCII digit. What a tree says is one rule for each element. Where links stand inline the content is the whole
+/// Markdown, and so it is of each text that is converted; the style that prefers autolinks is left out, for there the
+/// content decides whether a link says its address once or twice.
 pub fn every_letter_once()
     ensures { EveryLetterOnce }
 {}

@@ -412,7 +412,8 @@ module _ (rules : Rules) (outer : Context) where
       ap ends_rows e ∙ ap (λ (y : List ℕ). bytes_eq y (codes "table")) (ap (map to_ascii_lowercase) q.0
       ∙ (t.5 ∙ one_name (codes "table") n o))
 
-  pub along : (fs : List OpenElement) (s t : List ℕ) (b : State) → s ≡ t → Reaches rules outer (at_piece (fs) (t)) b
+  pub along : (fs : List OpenElement) (s t : List ℕ) (b : State) → s ≡ t
+      → Reaches rules outer (at_piece (fs) (t)) b
       → Reaches rules outer (at_piece (fs) (s)) b
   along fs s t b e r = rw e r
 

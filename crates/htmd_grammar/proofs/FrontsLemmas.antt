@@ -276,7 +276,8 @@ module _ (rules : Rules) (outer : Context) where
       go (inr w) (inl y) = inr (inner, e, rw w.1 refl, w.2, w.3, r w.0, plain w.2, inl y)
       go (inr w) (inr y) = inr (inner, e, rw w.1 refl, w.2, w.3, r w.0, plain w.2, inr (y.0, y.1))
 
-  pub ends_here : (c : Context) (f : OpenElement) (tag x : List ℕ) → Opens rules outer c f tag → ends_at f ≡ true
+  pub ends_here : (c : Context) (f : OpenElement) (tag x : List ℕ) → Opens rules outer c f tag
+      → ends_at f ≡ true
       → is_table_part (tag_name_at (tag ++ x)) ≡ true
   ends_here c f tag x o e = go o.2
     where

@@ -241,7 +241,8 @@ module _ (rules : Rules) where
       let e = entered g gs (ends_at f) h.0 y h.4
       (kept_opened rules above_body g gs f (content_so_far rules above_body g gs (ends_at f) h.0 h.4) h.1
       (h.2 ++ after) o)
-      (λ i x z. outer_row g gs f h.1 h.2 after (names_of above_body (g ∷ gs)) (ends_at f) g.children x o z (h.7 i)) in
+      (λ i x z. outer_row g gs f h.1 h.2 after (names_of above_body (g ∷ gs)) (ends_at f) g.children x o z (h.7 i))
+      in
       let m : begins_markup y ≡ true = behind_begins g gs f h.1 h.2 after o row in
       let a : holds_text_alone rules.scripting g.name ≡ false =
       no_text_alone rules.scripting g.name (names_of above_body gs) f.name o.0 in
@@ -262,7 +263,8 @@ module _ (rules : Rules) where
       tbody_row i = elim (h.5).2 [
         | inl w ↦ absurd (let z = w.0 in cc)
         | inr w ↦
-            let q : content_of f.name h.2 ≡ h.2 = content_plain f.name h.2 (tbody_drops rules above_body f.name w.2) in
+            let q : content_of f.name h.2 ≡ h.2 = content_plain f.name h.2 (tbody_drops rules above_body f.name w.2)
+            in
             subst (λ (x : List ℕ). RowTag rules (x ++ after)) q (r i (content_of f.name h.2) h.6)
       ]
 

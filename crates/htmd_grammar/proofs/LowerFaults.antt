@@ -381,7 +381,8 @@ module _ (rules : Rules) (fs : List OpenElement) where
 
   pub none_of_end : (w n : List ℕ) → HasEndTag (less_than_sign ∷ slash ∷ w) n
       → is_outside (name_read w) ≡ false
-      → ends_text rules.scripting TheParent (less_than_sign ∷ slash ∷ w) ≡ true → TheParent ≡ n → name_read w ≡ n
+      → ends_text rules.scripting TheParent (less_than_sign ∷ slash ∷ w) ≡ true → TheParent ≡ n
+      → name_read w ≡ n
       → 1 < length fs → (k : FaultKind) → Says rules fs (less_than_sign ∷ slash ∷ w) k → ⊥
   none_of_end w n t o m p r l = none_at_all (less_than_sign ∷ slash ∷ w)
       (rows_of_end w n (none_below_end 11 w n (omega arith) (λ _. t) (λ _. o) m) (stray_end w n p l m r) m)

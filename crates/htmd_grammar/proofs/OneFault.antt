@@ -81,7 +81,8 @@ neither_less : (n m : ℕ) → nat_lt n m ≡ false → nat_lt m n ≡ false →
 neither_less n m e f = grind (arith, nat_tests)
 
 -- of two kinds neither has the lower number
-no_lower_kind : (k l : FaultKind) → (number_of k < number_of l → ⊥) → (number_of l < number_of k → ⊥) → k ≡ l
+no_lower_kind : (k l : FaultKind) → (number_of k < number_of l → ⊥) → (number_of l < number_of k → ⊥)
+    → k ≡ l
 no_lower_kind k l a b =
     test (nat_lt (number_of k) (number_of l)) (λ t. absurd (a (less_than (number_of k) (number_of l) t)))
     (λ t. test (nat_lt (number_of l) (number_of k)) (λ u. absurd (b (less_than (number_of l) (number_of k) u)))
@@ -96,7 +97,8 @@ holds_it : (b : ℕ) (x y : List ℕ) → lacks b (x ++ (b ∷ y)) ≡ true → 
 holds_it b [] y e = let w = rw (itself b) at e in cc
 holds_it b (c ∷ x) y e = holds_it b x y (and_true (not (c == b)) (lacks b (x ++ (b ∷ y))) e).1
 
-one_first : (b : ℕ) (x y v w : List ℕ) → x ++ (b ∷ y) ≡ v ++ (b ∷ w) → lacks b x ≡ true → lacks b v ≡ true
+one_first : (b : ℕ) (x y v w : List ℕ) → x ++ (b ∷ y) ≡ v ++ (b ∷ w) → lacks b x ≡ true
+    → lacks b v ≡ true
     → length x ≡ length v
 one_first b [] y [] w q e f = refl
 one_first b [] y (c ∷ v) w q e f =
@@ -187,7 +189,8 @@ module _ (rules : Rules) where
           feed : (h.0 == 10) ≡ true → ⊥
           feed q =
               let a = same_byte h.0 10 q in
-              let z : 10 ∷ [] ≡ v = stands_parts 0 m (10 ∷ []) v (sym (ap (λ (b : ℕ). piece_at rules.names b h.1) a)
+              let z : 10 ∷ [] ≡ v = stands_parts 0 m (10 ∷ []) v
+              (sym (ap (λ (b : ℕ). piece_at rules.names b h.1) a)
               ∙ h.3) in
               let w = rw (sym z) at n in cc
 
@@ -200,7 +203,8 @@ module _ (rules : Rules) where
           less : (b == 60) ≡ true → ⊥
           less z =
               let a = same_byte b 60 z in
-              let y : 60 ∷ [] ≡ u = stands_parts 0 j (60 ∷ []) u (sym (ap (λ (b : ℕ). piece_at rules.names b s) a) ∙ q)
+              let y : 60 ∷ [] ≡ u = stands_parts 0 j (60 ∷ []) u
+              (sym (ap (λ (b : ℕ). piece_at rules.names b s) a) ∙ q)
               in
               let x = w p in
               let i = rw (sym y) at x in cc
@@ -230,7 +234,8 @@ module _ (rules : Rules) where
 
   -- a text stands where it may, and isn't empty
   text_there : (p : List ℕ) (c : Context) (l : Bool) (ts : ValueForest) (s : List ℕ)
-      → ReadsForest rules (p ∷ c) l ts s → ends_in_text ts ≡ true → (length (p ∷ c) ≤ rules.depth) × (s ≢ [])
+      → ReadsForest rules (p ∷ c) l ts s → ends_in_text ts ≡ true
+      → (length (p ∷ c) ≤ rules.depth) × (s ≢ [])
   text_there p c l none s h e = absurd (cc)
   text_there p c l (more (text u) ts) s h e = (
     (h.4).4,
@@ -315,7 +320,8 @@ module _ (rules : Rules) where
       → (f.implied && ends_rows behind) ≡ false
       → (is_empty run ≡ false → holds_raw_text rules.scripting f.name ≡ false)
       → Says rules (with_text f run ∷ gs) behind k
-      → ((lower : FaultKind) → number_of lower < number_of k → Says rules (with_text f run ∷ gs) behind lower → ⊥)
+      → ((lower : FaultKind) → number_of lower < number_of k → Says rules (with_text f run ∷ gs) behind lower
+      → ⊥)
       → step rules above_body (in_text (f ∷ gs) run behind) ≡ Err k
   finds f gs run behind s k r x y m h n =
       let i = kept rules above_body (started s) (in_text (f ∷ gs) run behind) [] r
@@ -329,7 +335,8 @@ module _ (rules : Rules) where
       says : Says rules (f ∷ gs) behind k
       says = says_without_text rules f gs run behind k h
 
-      go : (got : Step) → step rules above_body (in_text (f ∷ gs) run behind) ≡ got → Tells rules f gs behind got
+      go : (got : Step) → step rules above_body (in_text (f ∷ gs) run behind) ≡ got
+          → Tells rules f gs behind got
           → step rules above_body (in_text (f ∷ gs) run behind) ≡ Err k
       go (Ok st) e t = absurd (t k says)
       go (Err l) e t = e ∙ ap (λ (z : FaultKind). Err z) (no_lower_kind l k

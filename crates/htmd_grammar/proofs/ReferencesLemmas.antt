@@ -48,7 +48,8 @@ and_bounds = record {
 }
 
 module _ (c : ℕ) (k : IsBound c) where
-  front_over : (p : ℕ → Bool) (s t : List ℕ) → p c ≡ false → leading_run p (s ++ (c ∷ t)) ≡ leading_run p s
+  front_over : (p : ℕ → Bool) (s t : List ℕ) → p c ≡ false
+      → leading_run p (s ++ (c ∷ t)) ≡ leading_run p s
   front_over p [] t e = rw e refl
   front_over p (b ∷ s) t e = rw (front_over p s t e) refl
 
@@ -79,7 +80,8 @@ module _ (c : ℕ) (k : IsBound c) where
     back_over is_ascii_alphanumeric (b ∷ s) t k.no_letter,
   ) refl
 
-  pub piece_bound : (names : Names) (b : ℕ) (s t : List ℕ) → piece_at names b (s ++ (c ∷ t)) ≡ piece_at names b s
+  pub piece_bound : (names : Names) (b : ℕ) (s t : List ℕ)
+      → piece_at names b (s ++ (c ∷ t)) ≡ piece_at names b s
   piece_bound names b [] t = rw (and_over names [] t, k.no_line_feed) refl
   piece_bound names b (d ∷ s) t = rw (and_over names (d ∷ s) t) refl
 

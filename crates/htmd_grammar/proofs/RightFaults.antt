@@ -125,7 +125,8 @@ module _ (rules : Rules) where
     says_without_text (b ∷ run) rest TooDeep h = h
 
     -- in an element that holds raw text stands nothing before it
-    pub childless : {before : List ℕ} (w run rest : List ℕ) → IsConf rules above_body (f ∷ gs) before (w ++ rest)
+    pub childless : {before : List ℕ} (w run rest : List ℕ)
+        → IsConf rules above_body (f ∷ gs) before (w ++ rest)
         → ((w ≡ []) × (run ≡ [])) ⊎ Middle rules above_body (f ∷ gs) w run rest
         → holds_raw_text rules.scripting f.name ≡ true → ends_text rules.scripting f.name rest ≡ false
         → is_empty rest ≡ false → f.children ≡ none

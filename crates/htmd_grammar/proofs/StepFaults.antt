@@ -380,7 +380,8 @@ module _ (rules : Rules) (f : OpenElement) (gs : List OpenElement) where
         (name, i.0, refl, t.called, refl, i.2),
       )
 
-  tag_passed : (d : ℕ) (w x : List ℕ) (spelled : List AttributePair) (present : Bool) → TagThere d w x spelled present
+  tag_passed : (d : ℕ) (w x : List ℕ) (spelled : List AttributePair) (present : Bool)
+      → TagThere d w x spelled present
       → (k : ℕ) → k ≤ 15
       → (5 < k → list_any (λ a. has_unknown_reference rules.names a.value) spelled ≡ false)
       → (6 < k → list_any (λ a. has_bad_number rules.names a.value) spelled ≡ false)
@@ -682,7 +683,8 @@ module _ (rules : Rules) (f : OpenElement) (gs : List OpenElement) where
             | inl z ↦ (let i =
                 same_byte d question_mark z.0 in subst (λ (v : ℕ). Tells (less_than_sign ∷ v ∷ w) got)
                 (sym i)
-                (question_tells w got (subst (λ (v : ℕ). ends_text rules.scripting f.name (less_than_sign ∷ v ∷ w)
+                (question_tells w got (subst (λ (v : ℕ). ends_text rules.scripting f.name
+                (less_than_sign ∷ v ∷ w)
                 ≡ true) i m) z.1))
             | inr z ↦ start_tells d w got m (letter_here d w m u.0 y.0 z.0) z.1
           ]

@@ -94,7 +94,8 @@ no_end_name-and (p ∷ ps) (b ∷ s) t l e =
     test (to_ascii_lowercase b == p) (λ q. let w = rw q at e in rw q (no_end_name-and ps s t k.1 w))
     (λ q. rw q refl)
 
-no_end_yet-and : (n : List ℕ) (b : ℕ) (s t : List ℕ) → lacks 38 n ≡ true → begins_own_end n (b ∷ s) ≡ false
+no_end_yet-and : (n : List ℕ) (b : ℕ) (s t : List ℕ) → lacks 38 n ≡ true
+    → begins_own_end n (b ∷ s) ≡ false
     → begins_own_end n (b ∷ (s ++ (38 ∷ t))) ≡ false
 no_end_yet-and n b [] t l e = rw (and_false (b == 60)) refl
 no_end_yet-and n b (c ∷ s) t l e =

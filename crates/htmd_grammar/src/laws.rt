@@ -11,8 +11,8 @@ pub fn at_most_one_tree()
 {}
 
 /// Of trees that were read: what the serialiser writes of an element without carriage returns, comments, `pre`,
-/// `textarea` and raw text elements is read as that element alone, in the context of its ancestors, also with references
-/// in place of some line feeds; and so is the block of its raw HTML.
+/// `textarea` and raw text elements is read as that element alone, in the context of its ancestors, also with
+/// references in place of some line feeds; and so is the block of its raw HTML.
 pub fn raw_html_reads_back()
     ensures serialisation { (scripting : Bool) → ReadsBack (project scripting) }
     ensures block { (scripting : Bool) → RawBlockReadsBack (project scripting) }

@@ -37,7 +37,8 @@ handle-returns-then-is_markdown_alone-clause-ok g t c =
     let at : ℕ → Occurrence = λ n. occurrence_of n v e in
     λ n l. ap answer_of (c.in_ok-content.ensures.ok n l)
     ∙ answer-none-pure c.args.element.now.tag.now (at n) c.args.skipped c.args.links.now c.in_default.ensures.value
-    (ap is_markdown_alone (sym c.options.ensures.value) ∙ sym c.is_markdown_alone.ensures ∙ c.if-is_markdown_alone.true)
+    (ap is_markdown_alone (sym c.options.ensures.value) ∙ sym c.is_markdown_alone.ensures
+    ∙ c.if-is_markdown_alone.true)
 
 pub handle-returns-in_default-clause-ok : goal.handle-returns-in_default-clause-ok
 handle-returns-in_default-clause-ok g t c =

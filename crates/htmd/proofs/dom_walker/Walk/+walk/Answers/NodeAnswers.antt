@@ -173,7 +173,8 @@ walk_node-returns-in-Some-clause-ok g t c =
     let old = c.args.links.now in
     let is : data_at items c.args.node ≡ element_node name attributes =
     sym c.data.ensures.value ∙ ap data_of c.in-Element.is in
-    let answered : ℕ → List ℕ → Answer = λ m tag. answer_after 0 tag (occurrence_at (written_within m v) v c.args.node
+    let answered : ℕ → List ℕ → Answer = λ m tag. answer_after 0 tag
+    (occurrence_at (written_within m v) v c.args.node
     (inside_of items c.args.node) (group_children joined (children_at items c.args.node))) old in
     let guarded : c.is_guarded-is_guarded-in-Element.result
     ≡ is_guarded (g.R.Registry.config c.args.self.now.registry.now).options =
@@ -200,7 +201,8 @@ walk_node-returns-in-Some-clause-err g t c =
     let old = c.args.links.now in
     let is : data_at items c.args.node ≡ element_node name attributes =
     sym c.data.ensures.value ∙ ap data_of c.in-Element.is in
-    let answered : ℕ → List ℕ → Answer = λ m tag. answer_after 0 tag (occurrence_at (written_within m v) v c.args.node
+    let answered : ℕ → List ℕ → Answer = λ m tag. answer_after 0 tag
+    (occurrence_at (written_within m v) v c.args.node
     (inside_of items c.args.node) (group_children joined (children_at items c.args.node))) old in
     let known = optional_result c.in-Some.known.now.result in
     let made : (m : ℕ) → height (tree_of items c.args.node) ≤ suc m
@@ -225,7 +227,8 @@ walk_node-returns-in_err-given-in-Element-clause-err g t c =
     let old = c.args.links.now in
     let is : data_at items c.args.node ≡ element_node name attributes =
     sym c.data.ensures.value ∙ ap data_of c.in-Element.is in
-    let answered : ℕ → List ℕ → Answer = λ m tag. answer_after 0 tag (occurrence_at (written_within m v) v c.args.node
+    let answered : ℕ → List ℕ → Answer = λ m tag. answer_after 0 tag
+    (occurrence_at (written_within m v) v c.args.node
     (inside_of items c.args.node) (group_children joined (children_at items c.args.node))) old in
     on_err_always {P = AtNode v c.args.node (λ write. Begins c.args.links.now c.walk_element.new.links
     (write (group_tree (option_copied c.args.joined) (tree_of c.args.self.now.tree.now c.args.node))
@@ -251,7 +254,8 @@ walk_node-returns-in_ok-given-in-Element-clause-ok g t c =
     let old = c.args.links.now in
     let is : data_at items c.args.node ≡ element_node name attributes =
     sym c.data.ensures.value ∙ ap data_of c.in-Element.is in
-    let answered : ℕ → List ℕ → Answer = λ m tag. answer_after 0 tag (occurrence_at (written_within m v) v c.args.node
+    let answered : ℕ → List ℕ → Answer = λ m tag. answer_after 0 tag
+    (occurrence_at (written_within m v) v c.args.node
     (inside_of items c.args.node) (group_children joined (children_at items c.args.node))) old in
     let guarded : c.is_guarded-is_guarded-in-Element.result
     ≡ is_guarded (g.R.Registry.config c.args.self.now.registry.now).options =
@@ -283,7 +287,8 @@ walk_node-returns-in_ok-given-in-Element-clause-err g t c =
     let old = c.args.links.now in
     let is : data_at items c.args.node ≡ element_node name attributes =
     sym c.data.ensures.value ∙ ap data_of c.in-Element.is in
-    let answered : ℕ → List ℕ → Answer = λ m tag. answer_after 0 tag (occurrence_at (written_within m v) v c.args.node
+    let answered : ℕ → List ℕ → Answer = λ m tag. answer_after 0 tag
+    (occurrence_at (written_within m v) v c.args.node
     (inside_of items c.args.node) (group_children joined (children_at items c.args.node))) old in
     let new = c.walk_element.new.links in
     let given = optional_result c.in_ok-given-in-Element.given in
