@@ -4,9 +4,11 @@
 //! converter with so many registrations of tags that no page has. Where works are named, only those are done.
 #![tactic(auto)]
 
+mod faults;
 mod speed;
 mod work;
 
+use crate::faults::Fault;
 use crate::work::{Work, answer_len, speed_of};
 use std::{env, io};
 
@@ -23,7 +25,7 @@ const WORKS: [Work; 6] = [
 /// How often a work is done while the time is taken.
 const ROUNDS: u32 = 10;
 
-fn main(rt: HostRuntime) -> anyhow::Result<()> {
+fn main(rt: HostRuntime) -> Result<(), Fault> {
     let input = io::read_to_string(rt.alloc(), rt.stdin())?;
     let is_timed = has_word(&rt, "--time")?;
     let rounds = if has_word(&rt, "--once")? { 1 } else { ROUNDS };
@@ -55,7 +57,7 @@ fn has_word(rt: &HostRuntime, word: &str) -> io::Result<bool> {
 }
 
 /// How many registrations the program was asked for.
-fn registered(rt: &HostRuntime) -> anyhow::Result<usize> {
+fn registered(rt: &HostRuntime) -> Result<usize, Fault> {
     for word in env::args(rt)?.skip(1) {
         if let Some(count) = word.as_str().strip_prefix("--registered=") {
             return Ok(count.parse::<usize>()?);

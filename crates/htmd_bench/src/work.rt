@@ -2,6 +2,7 @@
 ghost use Rattle.std.specs.Prelude.{IfOk};
 ghost use Rattle.htmd_bench.specs.Work.{HasLength};
 
+use crate::faults::Fault;
 use crate::speed::Speed;
 use htmd::{HtmlToMarkdown, convert};
 use htmd_text::{compress_whitespace, escape_if_needed};
@@ -34,7 +35,7 @@ impl Work {
 }
 
 /// Does the work, and tells how long the answer is: its bytes, or how many nodes stand right under the Document.
-pub(crate) fn answer_len(alloc: Global, work: Work, input: &str) -> anyhow::Result<usize>
+pub(crate) fn answer_len(alloc: Global, work: Work, input: &str) -> Result<usize, Fault>
     ensures { IfOk result (HasLength work input.now) }
 {
     match work {
@@ -56,7 +57,7 @@ pub(crate) fn answer_len(alloc: Global, work: Work, input: &str) -> anyhow::Resu
 }
 
 /// How long the walk takes once by a converter with so many registrations of tags that no page has.
-fn walk_time(rt: &HostRuntime, input: &str, registered: usize) -> anyhow::Result<Duration> {
+fn walk_time(rt: &HostRuntime, input: &str, registered: usize) -> Result<Duration, Fault> {
     let mut builder = HtmlToMarkdown::builder(rt.alloc())?;
     for number in 0..registered {
         let tag = format!(in rt.alloc(); "other-{number}")?;
@@ -78,7 +79,7 @@ fn time_of(
     work: Work,
     input: &str,
     registered: usize,
-) -> anyhow::Result<Duration> {
+) -> Result<Duration, Fault> {
     match work {
         Work::Read => {
             let start = Instant::now(rt)?;
@@ -101,7 +102,7 @@ pub(crate) fn speed_of(
     input: &str,
     registered: usize,
     rounds: u32,
-) -> anyhow::Result<Speed> {
+) -> Result<Speed, Fault> {
     let mut best = time_of(rt, work, input, registered)?;
     for _ in 1..rounds {
         best = best.min(time_of(rt, work, input, registered)?);
