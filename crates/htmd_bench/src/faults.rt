@@ -1,6 +1,7 @@
 //! Why a run has no figures.
 
 use htmd::ConvertError;
+use htmd_cli::RowFault;
 use htmd_tree::ReadError;
 use std::alloc::AllocError;
 use std::io;
@@ -18,6 +19,8 @@ pub(crate) enum Fault {
     Read(#[from] ReadError),
     #[error("{0}")]
     Convert(#[from] ConvertError),
+    #[error("{0}")]
+    Rows(#[from] RowFault),
     #[error("a number of registrations: {0}")]
     Registrations(#[from] ParseIntError),
 }

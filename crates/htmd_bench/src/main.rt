@@ -2,13 +2,16 @@
 //! how large each answer is; with the word `--time` also how long it took, the best of several rounds,
 //! and with `--once` of a single one. With `--registered=N` the time of `tree_to_markdown` is that by a
 //! converter with so many registrations of tags that no page has. Where works are named, only those are done.
+//! With `--rows` the input is rows of a page each, and it tells how long they take as a batch and alone.
 #![tactic(auto)]
 
 mod faults;
+mod rows;
 mod speed;
 mod work;
 
 use crate::faults::Fault;
+use crate::rows::tell_rows;
 use crate::work::{Work, answer_len, speed_of};
 use std::{env, io};
 
@@ -29,6 +32,9 @@ fn main(rt: HostRuntime) -> Result<(), Fault> {
     let input = io::read_to_string(rt.alloc(), rt.stdin())?;
     let is_timed = has_word(&rt, "--time")?;
     let rounds = if has_word(&rt, "--once")? { 1 } else { ROUNDS };
+    if has_word(&rt, "--rows")? {
+        return tell_rows(&rt, &input, rounds);
+    }
     let registered = registered(&rt)?;
     let takes_all = env::args(&rt)?
         .skip(1)

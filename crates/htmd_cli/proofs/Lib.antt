@@ -4,4 +4,8 @@ pub mod ConversionLemmas
 pub mod RunsLemmas
 pub mod WordsLemmas
 pub mod ParagraphLawsLemmas
+pub mod LinesLemmas
+pub mod FieldsLemmas
+pub mod RowsLemmas
+pub mod BatchesLemmas
 mod Examples

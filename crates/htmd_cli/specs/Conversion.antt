@@ -1,5 +1,5 @@
 -- The Markdown of an input by what is chosen, and what a refusal of it says.
-use Rattle.std.specs.Prelude.{◌≡◌, ℕ, List, [], ◌∷◌, ◌++◌, codes, MatchBool}
+use Rattle.std.specs.Prelude.{◌≡◌, ℕ, Bool, List, [], ◌∷◌, ◌++◌, codes, MatchBool}
 use Rattle.htmd.specs.Characters.{line_feed}
 use Rattle.htmd.specs.FaultKind.{FaultKind}
 use Rattle.htmd.specs.Items.{Item, document_item, new_item, element_node, text_node}
@@ -8,6 +8,8 @@ use Rattle.htmd.specs.Defaults.{default_options}
 use Rattle.htmd.specs.BuiltIn.{built_in}
 use Rattle.htmd.specs.Markdown.{markdown}
 use Rattle.htmd.specs.Conversions.{IsMarkdownOf, IsMarkdownOfPage, IsRefused, IsPageRefused}
+use Rattle.htmd.specs.Converters.{handlers_of, scripting_of}
+use Rattle.htmd_cli.specs.declared.conversion.Conversion.{Conversion}
 use Rattle.htmd_cli.specs.Settings.{Chosen}
 
 -- the Document, and under it a `p`
@@ -36,15 +38,46 @@ paragraph_markdown config text = markdown config (paragraph text) 0
 abbrev pub paragraph_output : Config → List ℕ → List ℕ
 paragraph_output config text = paragraph_markdown config text ++ line_feed ∷ []
 
+-- what an input is taken for, and the handlers, with their options, that it is converted by
+pub record Way : Type 0 where
+  pub text : Bool
+  pub body : Bool
+  pub scripting : Bool
+  pub config : Config
+
+abbrev pub way_of : Chosen → Way
+way_of chosen = record {
+  text = chosen.text;
+  body = chosen.body;
+  scripting = chosen.scripting;
+  config = config_of chosen;
+}
+
 -- this is the Markdown of an input: of one paragraph where it is taken for a text, else of a page's body or of all
+abbrev pub IsMarkdownBy : Way → List ℕ → List ℕ → Type 0
+IsMarkdownBy way input text =
+    MatchBool way.text (text ≡ paragraph_markdown way.config input)
+    (MatchBool way.body (IsMarkdownOfPage way.config way.scripting input text)
+    (IsMarkdownOf way.config way.scripting input text))
+
+-- the same by what is chosen
 abbrev pub HasMarkdown : Chosen → List ℕ → List ℕ → Type 0
-HasMarkdown chosen input text =
-    MatchBool chosen.text (text ≡ paragraph_markdown (config_of chosen) input)
-    (MatchBool chosen.body (IsMarkdownOfPage (config_of chosen) chosen.scripting input text)
-    (IsMarkdownOf (config_of chosen) chosen.scripting input text))
+HasMarkdown chosen = IsMarkdownBy (way_of chosen)
 
 -- the input, or its body, is outside the grammar, and this place of the input and this kind are right
+abbrev pub IsRefusedBy : Way → List ℕ → ℕ → FaultKind → Type 0
+IsRefusedBy way input place kind =
+    MatchBool way.body (IsPageRefused way.scripting input place kind) (IsRefused way.scripting input place kind)
+
+-- the same by what is chosen
 abbrev pub IsInputRefused : Chosen → List ℕ → ℕ → FaultKind → Type 0
-IsInputRefused chosen input place kind =
-    MatchBool chosen.body (IsPageRefused chosen.scripting input place kind)
-    (IsRefused chosen.scripting input place kind)
+IsInputRefused chosen = IsRefusedBy (way_of chosen)
+
+-- what a conversion goes by
+abbrev pub way_by : {H : Type 0} → (H → Config) → Conversion H → Way
+way_by config conversion = record {
+  text = conversion.text;
+  body = conversion.body;
+  scripting = scripting_of conversion.converter.now;
+  config = config (handlers_of conversion.converter.now);
+}

@@ -1,8 +1,12 @@
--- The definitions that the contracts cite, in reading order; the last is cited by private functions alone.
+-- The definitions that the contracts cite, in reading order; the last two are cited by private functions alone.
 pub mod Failures
 pub mod Settings
 pub mod Conversion
 pub mod Runs
+pub mod Lines
+pub mod Fields
 pub mod Words
+pub mod Rows
 pub mod ParagraphLaws
 pub mod WordRows
+pub mod Batches

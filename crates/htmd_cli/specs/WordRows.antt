@@ -7,7 +7,8 @@ use Rattle.htmd.specs.declared.options.Options.{Options}
 use Rattle.htmd_cli.specs.declared.words.Setting.{Setting}
 use Rattle.htmd_cli.specs.declared.words.Setting.TheVariants as setting
 use Rattle.htmd_cli.specs.declared.words.Request.{Request}
-use Rattle.htmd_cli.specs.Words.{Asked, Word, chooses, sets, skips, shows_instead, number, parts, is_filled}
+use Rattle.htmd_cli.specs.Words.{Asked, Word, chooses, sets, skips, takes_rows, shows_instead, number}
+use Rattle.htmd_cli.specs.Words.{parts, is_filled}
 
 -- the setting is told by a value
 abbrev pub takes_value : Setting → Bool
@@ -38,6 +39,7 @@ option_after _ value options = options
 abbrev pub effect_of : Setting → List ℕ → Option (Asked → Asked)
 effect_of setting.Text value = Some (chooses (λ chosen. record chosen { text = true }))
 effect_of setting.Body value = Some (chooses (λ chosen. record chosen { body = true }))
+effect_of setting.Rows value = Some takes_rows
 effect_of setting.NoScripting value = Some (chooses (λ chosen. record chosen { scripting = false }))
 effect_of (setting.Translation mode) value = Some (sets (λ options. record options { translation_mode = mode }))
 effect_of (setting.Heading style) value = Some (sets (λ options. record options { heading_style = style }))
@@ -74,5 +76,6 @@ asked_in request = record {
     options = request.options;
     skipped = map (λ name. name.now) request.skipped.items;
   };
+  rows = request.rows;
   shows = is_some request.shows;
 }

@@ -22,13 +22,15 @@ use Rattle.htmd.specs.declared.options.TranslationMode.TheVariants as translatio
 use Rattle.htmd.specs.declared.options.Options.{Options}
 use Rattle.htmd_cli.specs.Settings.{Chosen, nothing_chosen}
 
--- what the words ask for: what is chosen, and whether the help or the version is shown in place of a conversion
+-- what the words ask for: what is chosen, whether the source is rows with a page each, and whether the help or the version
+-- is shown in place of a conversion
 pub record Asked : Type 0 where
   pub chosen : Chosen
+  pub rows : Bool
   pub shows : Bool
 
 abbrev pub nothing_asked : Asked
-nothing_asked = record { chosen = nothing_chosen; shows = false }
+nothing_asked = record { chosen = nothing_chosen; rows = false; shows = false }
 
 -- ---- values
 
@@ -70,6 +72,9 @@ sets change = chooses (λ chosen. record chosen { options = change chosen.option
 abbrev pub shows_instead : Asked → Asked
 shows_instead asked = record asked { shows = true }
 
+abbrev pub takes_rows : Asked → Asked
+takes_rows asked = record asked { rows = true }
+
 abbrev pub skips : List (List ℕ) → Asked → Asked
 skips names = chooses (λ chosen. record chosen { skipped = chosen.skipped ++ names })
 
@@ -101,6 +106,7 @@ abbrev pub words : List Word
 words =
     plain (codes "--text") (chooses (λ chosen. record chosen { text = true }))
     ∷ plain (codes "--body") (chooses (λ chosen. record chosen { body = true }))
+    ∷ plain (codes "--rows") takes_rows
     ∷ plain (codes "--faithful") (sets (λ options. record options { translation_mode = translation.Faithful }))
     ∷ plain (codes "--guarded") (sets (λ options. record options { translation_mode = translation.Guarded }))
     ∷ plain (codes "--no-scripting") (chooses (λ chosen. record chosen { scripting = false }))

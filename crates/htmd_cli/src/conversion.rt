@@ -1,15 +1,76 @@
 //! The conversion of an input by settings.
-ghost use Rattle.std.specs.Prelude.{◌≡◌, ℕ, false, Err, IfOk, string_bytes};
+ghost use Rattle.std.specs.Prelude.{◌≡◌, ℕ, false, map, Err, IfOk, string_bytes};
+ghost use Rattle.htmd.specs.Choice.{with_options};
+ghost use Rattle.htmd.specs.Converters.{handlers_of, handlers_built, scripting_of};
 ghost use Rattle.htmd.specs.FaultKind.{FaultKind};
-ghost use Rattle.htmd_cli.specs.Conversion.{HasMarkdown, IsInputRefused};
+ghost use Rattle.htmd_cli.specs.Conversion.{HasMarkdown, IsInputRefused, IsMarkdownBy, IsRefusedBy, skipping, way_by};
 ghost use Rattle.htmd_cli.specs.Settings.{chosen_by};
 
 use crate::paragraph::paragraph;
 use crate::settings::Settings;
-use htmd::{ConvertError, HtmlToMarkdown};
-use std::alloc::Global;
+use htmd::element_handler::{Registrar, Registry};
+use htmd::options::Options;
+use htmd::{ConvertError, HtmlToMarkdown, HtmlToMarkdownBuilder};
+use std::alloc::{AllocError, Global};
 
-// The Markdown of an input.
+/// What an input is taken for, and what converts it.
+#[derive(Drop)]
+pub(crate) struct Conversion<'a, H> {
+    pub(crate) text: bool,
+    pub(crate) body: bool,
+    pub(crate) converter: &'a HtmlToMarkdown<H>,
+}
+
+/// The converter that a builder makes. An `Err` is want of memory.
+pub(crate) fn converter_of<H: Registrar + Drop>(
+    builder: HtmlToMarkdownBuilder<H>,
+    scripting: bool,
+    options: Options,
+    skipped: &[&str],
+) -> Result<HtmlToMarkdown<H>, AllocError>
+    requires ready { H.ready (handlers_built builder) }
+    ensures ready { IfOk result (λ converter. H.ready (handlers_of converter)) }
+    ensures config { IfOk result (λ converter. H.config (handlers_of converter)
+        ≡ skipping (map (λ t. t.now) skipped.now) (with_options (H.config (handlers_built builder)) options)) }
+    ensures scripting { IfOk result (λ converter. scripting_of converter ≡ scripting) }
+{
+    let mut builder = builder.options(options).scripting_enabled(scripting);
+    if !skipped.is_empty() {
+        builder = match builder.skip_tags(skipped) {
+            Ok(builder) => builder,
+            Err(_) => return Err(AllocError),
+        };
+    }
+    let converter = builder.build();
+    Ok(converter)
+}
+
+/// The Markdown of an input.
+pub(crate) fn markdown_by<H: Registry>(
+    alloc: Global,
+    conversion: &Conversion<'_, H>,
+    input: &str,
+) -> Result<String, ConvertError>
+    requires ready { H.ready (handlers_of conversion.now.converter.now) }
+    ensures ok { IfOk result
+        (λ markdown. IsMarkdownBy (way_by H.config conversion.now) input.now (string_bytes markdown)) }
+    ensures refused_html { (place : ℕ) (kind : FaultKind) → result ≡ Err (ConvertError.Refused place kind)
+        → conversion.now.text ≡ false }
+    ensures refused { (place : ℕ) (kind : FaultKind) → result ≡ Err (ConvertError.Refused place kind)
+        → IsRefusedBy (way_by H.config conversion.now) input.now place kind }
+{
+    let converter = conversion.converter;
+    if conversion.text {
+        let tree = paragraph(alloc, input)?;
+        return Ok(converter.tree_to_markdown(alloc, &tree, tree.root())?);
+    }
+    if conversion.body {
+        return converter.convert_page(alloc, input);
+    }
+    converter.convert(alloc, input)
+}
+
+// The Markdown of an input by settings.
 pub(crate) fn markdown_of(
     alloc: Global,
     input: &str,
@@ -22,22 +83,16 @@ pub(crate) fn markdown_of(
     ensures refused { (place : ℕ) (kind : FaultKind) → result ≡ Err (ConvertError.Refused place kind)
         → IsInputRefused (chosen_by settings.entry) input.now place kind }
 {
-    let mut builder = HtmlToMarkdown::builder(alloc)?
-        .options(settings.options)
-        .scripting_enabled(settings.scripting);
-    if !settings.skipped.is_empty() {
-        builder = match builder.skip_tags(settings.skipped) {
-            Ok(builder) => builder,
-            Err(_) => return Err(ConvertError::Memory),
-        };
-    }
-    let converter = builder.build();
-    if settings.text {
-        let tree = paragraph(alloc, input)?;
-        return Ok(converter.tree_to_markdown(alloc, &tree, tree.root())?);
-    }
-    if settings.body {
-        return converter.convert_page(alloc, input);
-    }
-    converter.convert(alloc, input)
+    let converter = converter_of(
+        HtmlToMarkdown::builder(alloc)?,
+        settings.scripting,
+        settings.options,
+        settings.skipped,
+    )?;
+    let conversion = Conversion {
+        text: settings.text,
+        body: settings.body,
+        converter: &converter,
+    };
+    markdown_by(alloc, &conversion, input)
 }

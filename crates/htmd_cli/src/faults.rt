@@ -31,6 +31,14 @@ pub enum RunError {
     Write,
 }
 
+/// Why a batch did not succeed, and the number of the row at which it ended, from 1.
+#[derive(Debug, PartialEq, Eq, Drop, Error)]
+#[error("row {row}: {error}")]
+pub struct RowFault {
+    pub row: u64,
+    pub error: RunError,
+}
+
 impl From<AllocError> for RunError {
     ghost from_gives = { λ _ error. error ≡ Memory };
 

@@ -1,4 +1,5 @@
-//! The law of the program's word `--text`.
+//! The laws of the program's words `--text` and `--rows`.
+ghost use Rattle.htmd_cli.specs.Fields.{FieldsReadBack};
 ghost use Rattle.htmd_cli.specs.ParagraphLaws.{ParagraphReadsBack};
 
 /// In Pure and Faithful, what a run writes for the text of one paragraph, less its final line feed, reads back: without
@@ -6,4 +7,9 @@ ghost use Rattle.htmd_cli.specs.ParagraphLaws.{ParagraphReadsBack};
 /// is empty.
 pub fn paragraph_reads_back()
     ensures { ParagraphReadsBack }
+{}
+
+/// A text that is written as a field of a row is read as that text.
+pub fn fields_read_back()
+    ensures { FieldsReadBack }
 {}

@@ -7,23 +7,30 @@
 //! its words and exit statuses.
 #![tactic(auto)]
 
+mod answers;
 mod conversion;
 mod explanations;
 mod faults;
+mod fields;
 mod help;
 pub mod laws;
+mod lines;
 mod paragraph;
 mod pipeline;
 mod program;
+mod reports;
+mod rows;
 mod settings;
 mod sinks;
 mod sources;
 mod values;
 mod words;
 
-pub use faults::{Failed, RunError};
+pub use faults::{Failed, RowFault, RunError};
+pub use fields::{read_field, write_field};
 pub use pipeline::{run, run_with};
 pub use program::command;
+pub use rows::run_rows;
 pub use settings::{Mode, Settings};
 pub use sinks::{Output, Sink};
 pub use sources::{Input, Source};

@@ -1,8 +1,11 @@
 //! The program: its words, its statuses, and its lines on the sink for errors.
 ghost use Rattle.std.specs.Prelude.{◌≡◌, ◌≢◌, ◌≤◌, ◌↔◌, false, true};
-ghost use Rattle.std.specs.Io.KnownBytes.{Appends, IsAtEnd, Keeps};
+ghost use Rattle.std.specs.Io.KnownBytes.{IsAtEnd, Keeps};
 ghost use Rattle.htmd_cli.specs.Failures.{FailsAtErr};
+ghost use Rattle.htmd_cli.specs.Conversion.{way_of};
+ghost use Rattle.htmd_cli.specs.Rows.{AnswersFirst, AnswersSome, ConvertsRows, Succeeds};
 ghost use Rattle.htmd_cli.specs.Runs.{Converts};
+ghost use Rattle.htmd_cli.specs.Settings.{chosen_by};
 ghost use Rattle.htmd_cli.specs.WordRows.{asked_in};
 ghost use Rattle.htmd_cli.specs.Words.{are_known, asked_by};
 
@@ -10,12 +13,13 @@ use crate::explanations::explain;
 use crate::faults::{Failed, RunError};
 use crate::help::{write_help, write_version};
 use crate::pipeline::run_over;
+use crate::reports::Lines;
+use crate::rows::run_rows;
 use crate::settings::Settings;
-use crate::sinks::{Sink, write_all};
+use crate::sinks::Sink;
 use crate::sources::Source;
 use crate::words::{Notice, Request, are_known, request_of};
 use std::alloc::Global;
-use std::fmt;
 use std::fmt::Write;
 
 /// The program: reads its words, converts the source into the sink, and answers the exit status. 0 is
@@ -33,12 +37,16 @@ pub fn command<R: Source, W: Sink, E: Sink>(
 ) -> u8
     requires source { R.has_failed source.old ≡ false }
     requires sink { W.has_failed sink.old ≡ false }
-    ensures success { result ≡ 0 → (asked_by words.now).shows ≡ false → Converts (asked_by words.now).chosen
+    ensures success { result ≡ 0 → (asked_by words.now).shows ≡ false → Succeeds (asked_by words.now)
         (R.remaining source.old) (W.contents sink.old) (W.contents sink.new) }
-    ensures end { result ≡ 0 → (asked_by words.now).shows ≡ false → IsAtEnd (R.remaining source.new) }
+    ensures end { result ≡ 0 → (asked_by words.now).shows ≡ false → (asked_by words.now).rows ≡ false
+        → IsAtEnd (R.remaining source.new) }
     ensures no_failure { result ≡ 0 →
         (R.has_failed source.new ≡ false) × (W.has_failed sink.new ≡ false) }
-    ensures nothing_written { result ≢ 0 → W.has_failed sink.new ≡ false → sink.new ≡ sink.old }
+    ensures nothing_written { result ≢ 0 → (asked_by words.now).rows ≡ false → W.has_failed sink.new ≡ false
+        → sink.new ≡ sink.old }
+    ensures rows_written { result ≢ 0 → (asked_by words.now).rows ≡ true → W.has_failed sink.new ≡ false
+        → AnswersSome (asked_by words.now) (R.remaining source.old) (W.contents sink.old) (W.contents sink.new) }
     ensures unknown { result ≡ 2 ↔ are_known words.now ≡ false }
     ensures nothing_read { result ≡ 2 → Keeps (R.remaining source.old) (R.remaining source.new) }
     ensures shown { (asked_by words.now).shows ≡ true → Keeps (R.remaining source.old) (R.remaining source.new) }
@@ -88,12 +96,15 @@ fn convert<R: Source, W: Sink, E: Sink>(
 ) -> u8
     requires source { R.has_failed source.old ≡ false }
     requires sink { W.has_failed sink.old ≡ false }
-    ensures success { result ≡ 0 → Converts (asked_in request.entry).chosen
+    ensures success { result ≡ 0 → Succeeds (asked_in request.entry)
         (R.remaining source.old) (W.contents sink.old) (W.contents sink.new) }
-    ensures end { result ≡ 0 → IsAtEnd (R.remaining source.new) }
+    ensures end { result ≡ 0 → request.entry.rows ≡ false → IsAtEnd (R.remaining source.new) }
     ensures no_failure { result ≡ 0 →
         (R.has_failed source.new ≡ false) × (W.has_failed sink.new ≡ false) }
-    ensures nothing_written { result ≢ 0 → W.has_failed sink.new ≡ false → sink.new ≡ sink.old }
+    ensures nothing_written { result ≢ 0 → request.entry.rows ≡ false → W.has_failed sink.new ≡ false
+        → sink.new ≡ sink.old }
+    ensures rows_written { result ≢ 0 → request.entry.rows ≡ true → W.has_failed sink.new ≡ false
+        → AnswersSome (asked_in request.entry) (R.remaining source.old) (W.contents sink.old) (W.contents sink.new) }
     ensures status { result ≤ 1 }
 {
     let settings = Settings {
@@ -103,12 +114,37 @@ fn convert<R: Source, W: Sink, E: Sink>(
         options: request.options,
         skipped: request.skipped.as_slice(),
     };
+    if request.rows {
+        return convert_rows(alloc, source, sink, errors, settings, request.explains);
+    }
+    convert_page(alloc, source, sink, errors, settings, request.explains)
+}
+
+// The same for a page.
+fn convert_page<R: Source, W: Sink, E: Sink>(
+    alloc: Global,
+    source: &mut R,
+    sink: &mut W,
+    errors: &mut E,
+    settings: Settings<'_>,
+    explains: bool,
+) -> u8
+    requires source { R.has_failed source.old ≡ false }
+    requires sink { W.has_failed sink.old ≡ false }
+    ensures success { result ≡ 0 → Converts (chosen_by settings.entry)
+        (R.remaining source.old) (W.contents sink.old) (W.contents sink.new) }
+    ensures end { result ≡ 0 → IsAtEnd (R.remaining source.new) }
+    ensures no_failure { result ≡ 0 →
+        (R.has_failed source.new ≡ false) × (W.has_failed sink.new ≡ false) }
+    ensures nothing_written { result ≢ 0 → W.has_failed sink.new ≡ false → sink.new ≡ sink.old }
+    ensures status { result ≤ 1 }
+{
     let mut input = Vec::new(alloc);
     match run_over(alloc, source, sink, settings, &mut input) {
         Ok(()) => 0,
         Err(error) => {
             let status = failed(errors, &error);
-            if request.explains {
+            if explains {
                 let _ = explain(&mut Lines { sink: errors }, &error, input.as_slice());
             }
             status
@@ -116,20 +152,31 @@ fn convert<R: Source, W: Sink, E: Sink>(
     }
 }
 
-// A sink as a formatter's writer.
-#[derive(Drop)]
-struct Lines<'a, E> {
-    sink: &'a mut E,
-}
-
-impl<E: Sink> Write for Lines<'_, E> {
-    ghost write_str_gives = { λ s bytes t. (t.sink.ghost_name ≡ s.sink.ghost_name)
-        × Appends (E.contents s.sink.now) (E.contents t.sink.now) bytes };
-
-    fn write_str(&mut self, text: &str) -> fmt::Result {
-        match write_all(self.sink, text.as_bytes()) {
-            Ok(()) => Ok(()),
-            Err(_) => Err(fmt::Error),
+// The same for the rows of a batch.
+fn convert_rows<R: Source, W: Sink, E: Sink>(
+    alloc: Global,
+    source: &mut R,
+    sink: &mut W,
+    errors: &mut E,
+    settings: Settings<'_>,
+    explains: bool,
+) -> u8
+    requires source { R.has_failed source.old ≡ false }
+    requires sink { W.has_failed sink.old ≡ false }
+    ensures success { result ≡ 0 → ConvertsRows (way_of (chosen_by settings.entry))
+        (R.remaining source.old) (W.contents sink.old) (W.contents sink.new) }
+    ensures no_failure { result ≡ 0 →
+        (R.has_failed source.new ≡ false) × (W.has_failed sink.new ≡ false) }
+    ensures rows_written { result ≢ 0 → W.has_failed sink.new ≡ false
+        → AnswersFirst (way_of (chosen_by settings.entry))
+        (R.remaining source.old) (W.contents sink.old) (W.contents sink.new) }
+    ensures status { result ≤ 1 }
+{
+    match run_rows(alloc, source, sink, errors, settings, explains) {
+        Ok(()) => 0,
+        Err(fault) => {
+            let _ = writeln!(Lines { sink: errors }, "htmd: {fault}");
+            1
         }
     }
 }

@@ -1,8 +1,8 @@
 //! Where a run writes to.
-ghost use Rattle.std.specs.Prelude.{◌≡◌, ℕ, List, Bool, Option, None, false, ◌<◌, length, IfOk, OnOk};
+ghost use Rattle.std.specs.Prelude.{◌≡◌, ℕ, List, Bool, Option, None, false, ◌<◌, length, IfOk, OnOk, OnErr};
 ghost use Rattle.std.specs.Io.{WritesAtMost};
 ghost use Rattle.std.specs.Io.KnownBytes.{Appends, Keeps, WriteAppends};
-ghost use Rattle.htmd_cli.specs.Failures.{FailsAtErr};
+ghost use Rattle.htmd_cli.specs.Failures.{AppendsSome, FailsAtErr};
 
 use crate::faults::Failed;
 use std::io::{ErrorKind, Write};
@@ -99,6 +99,7 @@ fn write_uninterrupted<W: Write>(writer: &mut W, bytes: &[u8]) -> Result<usize, 
 // Writes all the bytes.
 pub(crate) fn write_all<W: Sink>(sink: &mut W, bytes: &[u8]) -> Result<(), Failed>
     ensures bytes { OnOk result (Appends (W.contents sink.old) (W.contents sink.new) bytes.now) }
+    ensures part { OnErr result (AppendsSome (W.contents sink.old) (W.contents sink.new) bytes.now) }
     ensures failure { FailsAtErr result (W.has_failed sink.old) (W.has_failed sink.new) }
 {
     let mut rest = bytes;

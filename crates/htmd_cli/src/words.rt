@@ -22,6 +22,7 @@ pub(crate) enum Notice {
 pub(crate) enum Setting {
     Text,
     Body,
+    Rows,
     NoScripting,
     Translation(TranslationMode),
     Heading(HeadingStyle),
@@ -44,7 +45,7 @@ pub(crate) enum Setting {
 pub(crate) type Word = (&'static str, &'static str, Setting, &'static str);
 
 /// The words that are known.
-pub(crate) const WORDS: [Word; 31] = [
+pub(crate) const WORDS: [Word; 32] = [
     (
         "--text",
         "",
@@ -56,6 +57,12 @@ pub(crate) const WORDS: [Word; 31] = [
         "",
         Setting::Body,
         "the input is a whole page: what stands between the tags of its body is converted",
+    ),
+    (
+        "--rows",
+        "",
+        Setting::Rows,
+        "lines with fields between tabs are read and written, the last field being the page",
     ),
     (
         "--faithful",
@@ -238,6 +245,7 @@ pub(crate) const WORDS: [Word; 31] = [
 pub(crate) struct Request<'a> {
     pub(crate) text: bool,
     pub(crate) body: bool,
+    pub(crate) rows: bool,
     pub(crate) scripting: bool,
     pub(crate) options: Options,
     pub(crate) skipped: Vec<&'a str>,
@@ -356,6 +364,7 @@ impl<'a> Request<'a> {
         Request {
             text: false,
             body: false,
+            rows: false,
             scripting: true,
             options: Options::default(),
             skipped: Vec::new(alloc),
@@ -372,6 +381,7 @@ impl<'a> Request<'a> {
         match setting {
             Setting::Text => self.text = true,
             Setting::Body => self.body = true,
+            Setting::Rows => self.rows = true,
             Setting::NoScripting => self.scripting = false,
             Setting::Explain => self.explains = true,
             Setting::Show(notice) => self.shows = Some(notice),

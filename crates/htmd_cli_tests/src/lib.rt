@@ -13,4 +13,6 @@ mod pages;
 #[cfg(test)]
 mod program;
 #[cfg(test)]
+mod rows;
+#[cfg(test)]
 mod words;

@@ -221,7 +221,7 @@ fn shows_the_help(rt: HostRuntime) -> Result<(), Fail> {
             assert!(rt; line.contains(" "), "{line}");
         }
     }
-    assert_eq!(rt; lines, 31);
+    assert_eq!(rt; lines, 32);
     for line in [
         "--skip=TAG[,TAG..]                      elements of these names, in lower case, give nothing\n",
         "--link-style=inlined-prefer-autolinks   the same, but an address as its own text is an autolink\n",

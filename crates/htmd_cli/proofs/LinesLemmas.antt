@@ -1,0 +1,115 @@
+-- Lines, and the fields of a line, from where a byte was found.
+use Rattle.std.proofs.Common.{◌≡◌, ◌∙◌, sym, ap, refl, ℕ, zero, suc, ◌+◌, ◌-◌, ◌<◌, ◌≤◌, ◌==◌, Bool, true, false, if◌then◌else◌}
+use Rattle.std.proofs.Common.{List, [], ◌∷◌, ◌++◌, length, take, drop, get_or, arith, append_assoc, take-append-drop}
+use Rattle.std.proofs.lemmas.List.{drop_more, take_all, take_more, take_rest}
+use Rattle.std.proofs.lemmas.Bool.{eqb-true, false_from_ne_true}
+use Rattle.std.specs.Str.{bytes_eq}
+use Rattle.htmd.specs.Characters.{line_feed, tab}
+use Rattle.htmd_cli.specs.Lines.{lacks, lines, before_lines, rows, before_end, end_mark, other_fields, last_field}
+
+-- ---- where a byte doesn't stand
+
+-- where a test fails, what stands behind it
+pub unless : {A : Type 0} (t x : Bool) (here there goal : A) → (if t then false else x) ≡ true
+    → (x ≡ true → there ≡ goal) → (if t then here else there) ≡ goal
+unless true x here there goal p f = absurd (cc)
+unless false x here there goal p f = f p
+
+pub lacks-append : (b : ℕ) (s t : List ℕ) → lacks b s ≡ true → lacks b t ≡ true → lacks b (s ++ t) ≡ true
+lacks-append b [] t p q = q
+lacks-append b (c ∷ s) t p q =
+    unless (c == b) (lacks b s) false (lacks b (s ++ t)) true p (λ e. lacks-append b s t e q)
+
+pub lacks-before : (b : ℕ) (l : List ℕ) (n : ℕ)
+    → ((k : ℕ) → 0 ≤ k → k < n → ¬ ((get_or l k 0 == b) ≡ true)) → lacks b (take n l) ≡ true
+lacks-before b l zero h = refl
+lacks-before b [] (suc n) h = refl
+lacks-before b (x ∷ xs) (suc n) h =
+    rw (false_from_ne_true (x == b) (h 0 (omega arith) (omega arith)))
+    (lacks-before b xs n (λ k low high. h (suc k) (omega arith) (omega arith)))
+
+pub lacks-whole : (b : ℕ) (l : List ℕ)
+    → ((k : ℕ) → 0 ≤ k → k < length l → ¬ ((get_or l k 0 == b) ≡ true)) → lacks b l ≡ true
+lacks-whole b l h = ap (lacks b) (sym (take_all (length l) l (omega arith))) ∙ lacks-before b l (length l) h
+
+-- the same behind a place
+pub lacks-behind : (b : ℕ) (l : List ℕ) (n : ℕ)
+    → ((k : ℕ) → n ≤ k → k < length l → ¬ ((get_or l k 0 == b) ≡ true)) → lacks b (drop n l) ≡ true
+lacks-behind b l zero h = lacks-whole b l h
+lacks-behind b [] (suc n) h = refl
+lacks-behind b (x ∷ xs) (suc n) h = lacks-behind b xs n (λ k low high. h (suc k) (omega arith) (omega arith))
+
+-- a text, around a byte that it holds
+pub around : (l : List ℕ) (at b : ℕ) → at < length l → (get_or l at 0 == b) ≡ true
+    → l ≡ take at l ++ b ∷ drop (at + 1) l
+around l at b lt e =
+    sym (take-append-drop at l)
+    ∙ ap (λ t. take at l ++ t) (drop_more l at 0 lt ∙ ap (λ x. x ∷ drop (at + 1) l) (eqb-true _ _ e))
+
+-- ---- lines
+
+lines-line : (l s : List ℕ) → lacks line_feed l ≡ true → lines (l ++ line_feed ∷ s) ≡ l ∷ lines s
+lines-line [] s p = refl
+lines-line (c ∷ l) s p =
+    unless (c == line_feed) (lacks line_feed l) _ _ _ p (λ e. ap (before_lines c) (lines-line l s e))
+
+pub lines-open : (b : ℕ) (l : List ℕ) → lacks line_feed (b ∷ l) ≡ true → lines (b ∷ l) ≡ (b ∷ l) ∷ []
+lines-open b [] p = unless (b == line_feed) true _ _ _ p (λ e. refl)
+lines-open b (c ∷ l) p =
+    unless (b == line_feed) (lacks line_feed (c ∷ l)) _ _ _ p (λ e. ap (before_lines b) (lines-open c l e))
+
+-- a line that isn't the end mark is a row
+pub rows-line : (l s : List ℕ) → lacks line_feed l ≡ true → bytes_eq l end_mark ≡ false
+    → rows (l ++ line_feed ∷ s) ≡ l ∷ rows s
+rows-line l s p e = rw (lines-line l s p, e) refl
+
+-- the end mark ends the rows
+pub rows-end : (l s : List ℕ) → lacks line_feed l ≡ true → bytes_eq l end_mark ≡ true
+    → rows (l ++ line_feed ∷ s) ≡ []
+rows-end l s p e = rw (lines-line l s p, e) refl
+
+-- a last line without a line feed is as with one
+pub rows-open : (l : List ℕ) → 0 < length l → lacks line_feed l ≡ true → rows (l ++ line_feed ∷ []) ≡ rows l
+rows-open [] some p = absurd (omega arith)
+rows-open (b ∷ l) some p = ap before_end (lines-line (b ∷ l) [] p ∙ sym (lines-open b l p))
+
+-- ---- fields
+
+lacks-not : (a f : List ℕ) → lacks tab (a ++ tab ∷ f) ≡ false
+lacks-not [] f = refl
+lacks-not (c ∷ a) f = rw (lacks-not a f) (either (c == tab))
+  where
+    either : (t : Bool) → (if t then false else false) ≡ false
+    either true = refl
+    either false = refl
+
+pub other_fields-none : (f : List ℕ) → lacks tab f ≡ true → other_fields f ≡ []
+other_fields-none [] p = refl
+other_fields-none (b ∷ s) p = rw p refl
+
+other_fields-split : (a f : List ℕ) → lacks tab f ≡ true → other_fields (a ++ tab ∷ f) ≡ a ++ tab ∷ []
+other_fields-split [] f p = ap (λ t. tab ∷ t) (other_fields-none f p)
+other_fields-split (c ∷ a) f p = rw (lacks-not (c ∷ a) f) (ap (λ t. c ∷ t) (other_fields-split a f p))
+
+pub last_field-whole : (f : List ℕ) → lacks tab f ≡ true → last_field f ≡ f
+last_field-whole [] p = refl
+last_field-whole (b ∷ s) p = rw p refl
+
+last_field-split : (a f : List ℕ) → lacks tab f ≡ true → last_field (a ++ tab ∷ f) ≡ f
+last_field-split [] f p = last_field-whole f p
+last_field-split (c ∷ a) f p = rw (lacks-not (c ∷ a) f) (last_field-split a f p)
+
+-- the fields before the last tab, and the field behind it
+pub others-at : (row : List ℕ) (place : ℕ) → place < length row → (get_or row place 0 == tab) ≡ true
+    → lacks tab (drop (place + 1) row) ≡ true → take (place + 1) row ≡ other_fields row
+others-at row place l e p =
+    take_more row place 0 l
+    ∙ (ap (λ x. take place row ++ x ∷ []) (eqb-true _ _ e)
+    ∙ sym (ap other_fields (around row place tab l e) ∙ other_fields-split (take place row) (drop (place + 1) row) p))
+
+pub last-at : (row : List ℕ) (place : ℕ) → place < length row → (get_or row place 0 == tab) ≡ true
+    → lacks tab (drop (place + 1) row) ≡ true
+    → take (length row - (place + 1)) (drop (place + 1) row) ≡ last_field row
+last-at row place l e p =
+    take_rest row (place + 1)
+    ∙ sym (ap last_field (around row place tab l e) ∙ last_field-split (take place row) (drop (place + 1) row) p)

@@ -1,0 +1,102 @@
+//! What is written for a row.
+ghost use Rattle.std.specs.Prelude.{◌≡◌, ◌++◌, [], List, ℕ, OnOk, IfOk, IfErr, string_bytes};
+ghost use Rattle.htmd.specs.Converters.{handlers_of};
+ghost use Rattle.htmd_cli.specs.Conversion.{way_by};
+ghost use Rattle.htmd_cli.specs.Fields.{null, written_field};
+ghost use Rattle.htmd_cli.specs.Rows.{IsFieldAnswer, IsPageAnswer, IsRowAnswer};
+
+use crate::conversion::{Conversion, markdown_by};
+use crate::faults::RunError;
+use crate::fields::{NULL, read_field, write_field};
+use crate::lines::fields_of;
+use htmd::ConvertError;
+use htmd::element_handler::Registry;
+use std::alloc::{AllocError, Global};
+
+/// Puts what is written for a row at the end of an answer, and the page of its last field at the end of
+/// an empty page. It is `Some` where that is refused.
+pub(crate) fn answer_row<H: Registry>(
+    alloc: Global,
+    conversion: &Conversion<'_, H>,
+    row: &[u8],
+    page: &mut Vec<u8>,
+    answer: &mut Vec<u8>,
+) -> Result<Option<RunError>, AllocError>
+    requires ready { H.ready (handlers_of conversion.now.converter.now) }
+    requires page { page.old.items ≡ [] }
+    requires answer { answer.old.items ≡ [] }
+    ensures { OnOk result (IsRowAnswer (way_by H.config conversion.now) row.now answer.new.items) }
+{
+    let (others, last) = fields_of(row);
+    answer.extend_from_slice(others)?;
+    let refused = answer_field(alloc, conversion, last, page, answer)?;
+    answer.push(b'\n')?;
+    Ok(refused)
+}
+
+// The same for a field.
+fn answer_field<H: Registry>(
+    alloc: Global,
+    conversion: &Conversion<'_, H>,
+    field: &[u8],
+    page: &mut Vec<u8>,
+    answer: &mut Vec<u8>,
+) -> Result<Option<RunError>, AllocError>
+    requires ready { H.ready (handlers_of conversion.now.converter.now) }
+    requires page { page.old.items ≡ [] }
+    ensures { OnOk result ((written : List ℕ) × IsFieldAnswer (way_by H.config conversion.now) field.now written
+        × (answer.new.items ≡ answer.old.items ++ written)) }
+{
+    if field == NULL {
+        answer.extend_from_slice(NULL)?;
+        return Ok(None);
+    }
+    read_field(field, page)?;
+    answer_page(alloc, conversion, page.as_slice(), answer)
+}
+
+// The same for a page.
+fn answer_page<H: Registry>(
+    alloc: Global,
+    conversion: &Conversion<'_, H>,
+    page: &[u8],
+    answer: &mut Vec<u8>,
+) -> Result<Option<RunError>, AllocError>
+    requires ready { H.ready (handlers_of conversion.now.converter.now) }
+    ensures { OnOk result ((written : List ℕ) × IsPageAnswer (way_by H.config conversion.now) page.now written
+        × (answer.new.items ≡ answer.old.items ++ written)) }
+{
+    let outcome = page_markdown(alloc, conversion, page)?;
+    match outcome {
+        Ok(markdown) => {
+            write_field(markdown.as_bytes(), answer)?;
+            Ok(None)
+        }
+        Err(error) => {
+            answer.extend_from_slice(NULL)?;
+            Ok(Some(error))
+        }
+    }
+}
+
+// The Markdown of a page, or why it is refused. An `Err` is want of memory.
+fn page_markdown<H: Registry>(
+    alloc: Global,
+    conversion: &Conversion<'_, H>,
+    page: &[u8],
+) -> Result<Result<String, RunError>, AllocError>
+    requires ready { H.ready (handlers_of conversion.now.converter.now) }
+    ensures ok { IfOk result (λ outcome. IfOk outcome (λ markdown. IsPageAnswer
+        (way_by H.config conversion.now) page.now (written_field (string_bytes markdown)))) }
+    ensures refused { IfOk result (λ outcome. IfErr outcome
+        (λ _. IsPageAnswer (way_by H.config conversion.now) page.now null)) }
+{
+    let Ok(text) = str::from_utf8(page) else {
+        return Ok(Err(RunError::NotUtf8));
+    };
+    match markdown_by(alloc, conversion, text) {
+        Ok(markdown) => Ok(Ok(markdown)),
+        Err(ConvertError::Refused { place, kind }) => Ok(Err(RunError::Refused { place, kind })),
+        Err(ConvertError::Memory) => Err(AllocError),
+    }
+}

@@ -1,0 +1,42 @@
+//! Lines on the sink for errors.
+ghost use Rattle.std.specs.Prelude.{◌≡◌};
+ghost use Rattle.std.specs.Io.KnownBytes.{Appends};
+
+use crate::explanations::explain;
+use crate::faults::RunError;
+use crate::sinks::{Sink, write_all};
+use std::fmt;
+use std::fmt::Write;
+
+/// A sink as a formatter's writer.
+#[derive(Drop)]
+pub(crate) struct Lines<'a, E> {
+    pub(crate) sink: &'a mut E,
+}
+
+impl<E: Sink> Write for Lines<'_, E> {
+    ghost write_str_gives = { λ s bytes t. (t.sink.ghost_name ≡ s.sink.ghost_name)
+        × Appends (E.contents s.sink.now) (E.contents t.sink.now) bytes };
+
+    fn write_str(&mut self, text: &str) -> fmt::Result {
+        match write_all(self.sink, text.as_bytes()) {
+            Ok(()) => Ok(()),
+            Err(_) => Err(fmt::Error),
+        }
+    }
+}
+
+/// Says which page of a batch is refused, and if it is wanted where and why.
+pub(crate) fn report<E: Sink>(
+    errors: &mut E,
+    row: u64,
+    error: &RunError,
+    page: &[u8],
+    explains: bool,
+) {
+    let mut lines = Lines { sink: errors };
+    let _ = writeln!(lines, "htmd: row {row}: {error}");
+    if explains {
+        let _ = explain(&mut lines, error, page);
+    }
+}

@@ -1,0 +1,328 @@
+//! A batch: rows with a page each, which are answered as they come in.
+ghost use Rattle.std.specs.Prelude.{◌≡◌, ◌≢◌, ◌↔◌, ◌+◌, ◌<◌, ◌++◌, [], ℕ, List, length, true, false, IsTrue};
+ghost use Rattle.std.specs.Prelude.{IfOk, IfErr, OnOk, OnErr, IsErrAnd};
+ghost use Rattle.std.specs.Io.KnownBytes.{Appends};
+ghost use Rattle.htmd.specs.Characters.{line_feed};
+ghost use Rattle.htmd.specs.Converters.{handlers_of};
+ghost use Rattle.htmd_cli.specs.Batches.{Answers, followed, rows_from, rows_left};
+ghost use Rattle.htmd_cli.specs.Conversion.{way_by, way_of};
+ghost use Rattle.htmd_cli.specs.Failures.{AppendsSome, FailsAtErr, IsRowFault};
+ghost use Rattle.htmd_cli.specs.Lines.{lacks, rows};
+ghost use Rattle.htmd_cli.specs.Rows.{ConvertsRows, IsRowAnswer, StopsAtRow, StopsInRows, counted};
+ghost use Rattle.htmd_cli.specs.Settings.{chosen_by};
+
+use crate::answers::answer_row;
+use crate::conversion::{Conversion, converter_of};
+use crate::faults::{Failed, RowFault, RunError};
+use crate::lines::parted;
+use crate::reports::report;
+use crate::settings::Settings;
+use crate::sinks::{Sink, write_all};
+use crate::sources::Source;
+use htmd::HtmlToMarkdown;
+use htmd::element_handler::Registry;
+use std::alloc::{AllocError, Global};
+
+const BUFFER_SIZE: usize = 65536;
+
+/// The line that ends the data.
+const END_MARK: &[u8] = b"\\.";
+
+/// Reads rows, and writes each again with the Markdown of its last field in that field's place. Rows go
+/// out before the next read, and of a row that isn't answered nothing is written. A page that is refused
+/// is a line on the sink for errors, and the row's last field is then null; with `explains` there is more
+/// of it there. An `Err` has the number of the row at which the run ended, from 1: the first one that
+/// isn't answered, and after `Write` the last one that is.
+pub fn run_rows<R: Source, W: Sink, E: Sink>(
+    alloc: Global,
+    source: &mut R,
+    sink: &mut W,
+    errors: &mut E,
+    settings: Settings<'_>,
+    explains: bool,
+) -> Result<(), RowFault>
+    requires source { R.has_failed source.old ≡ false }
+    requires sink { W.has_failed sink.old ≡ false }
+    ensures ok { OnOk result (ConvertsRows (way_of (chosen_by settings.entry))
+        (R.remaining source.old) (W.contents sink.old) (W.contents sink.new)) }
+    ensures stops { IfErr result (λ fault. fault.error ≢ RunError.Write
+        → StopsAtRow (way_of (chosen_by settings.entry)) fault.row
+        (R.remaining source.old) (W.contents sink.old) (W.contents sink.new)) }
+    ensures write { IfErr result (λ fault. fault.error ≡ RunError.Write
+        → StopsInRows (way_of (chosen_by settings.entry)) fault.row
+        (R.remaining source.old) (W.contents sink.old) (W.contents sink.new)) }
+    ensures faults { IfErr result (λ fault. IsRowFault fault.error) }
+    ensures read_failed { IsErrAnd result (λ fault. fault.error ≡ RunError.Read) ↔ IsTrue (R.has_failed source.new) }
+    ensures write_failed { IsErrAnd result (λ fault. fault.error ≡ RunError.Write) ↔ IsTrue (W.has_failed sink.new) }
+{
+    let Ok(builder) = HtmlToMarkdown::builder(alloc) else {
+        return Err(first_row_fault());
+    };
+    let Ok(converter) = converter_of(
+        builder,
+        settings.scripting,
+        settings.options,
+        settings.skipped,
+    ) else {
+        return Err(first_row_fault());
+    };
+    let conversion = Conversion {
+        text: settings.text,
+        body: settings.body,
+        converter: &converter,
+    };
+    answer_all(alloc, &conversion, source, sink, errors, explains)
+}
+
+// Want of memory before the first row.
+fn first_row_fault() -> RowFault
+    ensures row { result.row ≡ 1 }
+    ensures error { result.error ≡ RunError.Memory }
+{
+    RowFault {
+        row: 1,
+        error: RunError::Memory,
+    }
+}
+
+// The fault where the answers to so many rows can't be written.
+fn write_fault(answered: u64) -> RowFault
+    ensures row { result.row ≡ counted answered }
+    ensures error { result.error ≡ RunError.Write }
+{
+    RowFault {
+        row: answered,
+        error: RunError::Write,
+    }
+}
+
+// The same by a converter.
+fn answer_all<H: Registry, R: Source, W: Sink, E: Sink>(
+    alloc: Global,
+    conversion: &Conversion<'_, H>,
+    source: &mut R,
+    sink: &mut W,
+    errors: &mut E,
+    explains: bool,
+) -> Result<(), RowFault>
+    requires ready { H.ready (handlers_of conversion.now.converter.now) }
+    requires source { R.has_failed source.old ≡ false }
+    requires sink { W.has_failed sink.old ≡ false }
+    ensures ok { OnOk result (ConvertsRows (way_by H.config conversion.now)
+        (R.remaining source.old) (W.contents sink.old) (W.contents sink.new)) }
+    ensures stops { IfErr result (λ fault. fault.error ≢ RunError.Write
+        → StopsAtRow (way_by H.config conversion.now) fault.row
+        (R.remaining source.old) (W.contents sink.old) (W.contents sink.new)) }
+    ensures write { IfErr result (λ fault. fault.error ≡ RunError.Write
+        → StopsInRows (way_by H.config conversion.now) fault.row
+        (R.remaining source.old) (W.contents sink.old) (W.contents sink.new)) }
+    ensures faults { IfErr result (λ fault. IsRowFault fault.error) }
+    ensures read_failed { IsErrAnd result (λ fault. fault.error ≡ RunError.Read) ↔ IsTrue (R.has_failed source.new) }
+    ensures write_failed { IsErrAnd result (λ fault. fault.error ≡ RunError.Write) ↔ IsTrue (W.has_failed sink.new) }
+{
+    let mut batch = Batch::new(alloc);
+    let mut buffer = [0u8; BUFFER_SIZE];
+    for _ in 0..u64::MAX {
+        let Ok(count) = source.read(&mut buffer) else {
+            return Err(batch.fault(RunError::Read));
+        };
+        let outcome = batch.take_read(alloc, conversion, &buffer[..count], errors, explains);
+        match batch.hand_on(sink) {
+            Ok(()) => {}
+            Err(_) => return Err(write_fault(batch.answered)),
+        }
+        match outcome {
+            Ok(true) => {}
+            Ok(false) => return Ok(()),
+            Err(AllocError) => return Err(batch.fault(RunError::Memory)),
+        }
+    }
+    // No source is read so often.
+    Err(batch.fault(RunError::Memory))
+}
+
+/// The row that comes in, and the answers that wait.
+#[derive(Drop)]
+struct Batch {
+    // What was read of the row that isn't answered.
+    begun: Vec<u8>,
+    // The page of the last row, and what was written of its answer.
+    page: Vec<u8>,
+    answer: Vec<u8>,
+    // The answers that are to be written.
+    answers: Vec<u8>,
+    // How many rows were answered.
+    answered: u64,
+}
+
+impl Batch {
+    fn new(alloc: Global) -> Batch
+        ensures begun { result.begun.items ≡ [] }
+        ensures answers { result.answers.items ≡ [] }
+        ensures answered { result.answered ≡ 0 }
+    {
+        Batch {
+            begun: Vec::new(alloc),
+            page: Vec::new(alloc),
+            answer: Vec::new(alloc),
+            answers: Vec::new(alloc),
+            answered: 0,
+        }
+    }
+
+    // The fault at the row that isn't answered.
+    fn fault(&self, error: RunError) -> RowFault
+        ensures row { result.row ≡ counted (self.now.answered + 1) }
+        ensures error { result.error ≡ error }
+    {
+        RowFault {
+            row: self.answered.saturating_add(1),
+            error,
+        }
+    }
+
+    // Takes what was read; none is the end. It is false where no row follows.
+    fn take_read<H: Registry, E: Sink>(
+        &mut self,
+        alloc: Global,
+        conversion: &Conversion<'_, H>,
+        bytes: &[u8],
+        errors: &mut E,
+        explains: bool,
+    ) -> Result<bool, AllocError>
+        requires ready { H.ready (handlers_of conversion.now.converter.now) }
+        requires begun { lacks line_feed self.old.begun.items ≡ true }
+        ensures ok { IfOk result (λ goes_on. Answers (way_by H.config conversion.now)
+            (λ tail. rows_from self.old.begun.items (followed bytes.now tail))
+            (rows_left goes_on self.new.begun.items)
+            self.old.answers.items self.new.answers.items self.old.answered self.new.answered) }
+        ensures err { OnErr result ((rest : List ℕ → List (List ℕ)) × Answers (way_by H.config conversion.now)
+            (λ tail. rows_from self.old.begun.items (followed bytes.now tail)) rest
+            self.old.answers.items self.new.answers.items self.old.answered self.new.answered) }
+        ensures begun { IfOk result (λ goes_on. goes_on ≡ true → lacks line_feed self.new.begun.items ≡ true) }
+        ensures end { IfOk result (λ goes_on. goes_on ≡ true → 0 < length bytes.now) }
+    {
+        if bytes.is_empty() {
+            self.take_end(alloc, conversion, errors, explains)?;
+            return Ok(false);
+        }
+        self.take(alloc, conversion, bytes, errors, explains)
+    }
+
+    // Answers the row that is open at the end, if there is one.
+    fn take_end<H: Registry, E: Sink>(
+        &mut self,
+        alloc: Global,
+        conversion: &Conversion<'_, H>,
+        errors: &mut E,
+        explains: bool,
+    ) -> Result<(), AllocError>
+        requires ready { H.ready (handlers_of conversion.now.converter.now) }
+        requires begun { lacks line_feed self.old.begun.items ≡ true }
+        ensures ok { OnOk result (Answers (way_by H.config conversion.now)
+            (λ _. rows self.old.begun.items) (λ _. [])
+            self.old.answers.items self.new.answers.items self.old.answered self.new.answered) }
+        ensures err { OnErr result ((rest : List ℕ → List (List ℕ)) × Answers (way_by H.config conversion.now)
+            (λ _. rows self.old.begun.items) rest
+            self.old.answers.items self.new.answers.items self.old.answered self.new.answered) }
+    {
+        if self.begun.is_empty() {
+            return Ok(());
+        }
+        if self.begun.as_slice() == END_MARK {
+            return Ok(());
+        }
+        self.answer_open(alloc, conversion, errors, explains)
+    }
+
+    // Answers each row that ends in these bytes, and keeps what stands behind. It is false where the data ends.
+    fn take<H: Registry, E: Sink>(
+        &mut self,
+        alloc: Global,
+        conversion: &Conversion<'_, H>,
+        bytes: &[u8],
+        errors: &mut E,
+        explains: bool,
+    ) -> Result<bool, AllocError>
+        requires ready { H.ready (handlers_of conversion.now.converter.now) }
+        requires begun { lacks line_feed self.old.begun.items ≡ true }
+        ensures ok { IfOk result (λ goes_on. Answers (way_by H.config conversion.now)
+            (λ tail. rows_from self.old.begun.items (bytes.now ++ tail))
+            (rows_left goes_on self.new.begun.items)
+            self.old.answers.items self.new.answers.items self.old.answered self.new.answered) }
+        ensures err { OnErr result ((rest : List ℕ → List (List ℕ)) × Answers (way_by H.config conversion.now)
+            (λ tail. rows_from self.old.begun.items (bytes.now ++ tail)) rest
+            self.old.answers.items self.new.answers.items self.old.answered self.new.answered) }
+        ensures begun { OnOk result (lacks line_feed self.new.begun.items ≡ true) }
+    {
+        let mut rest = bytes;
+        while let Some((front, behind)) = parted(rest, b'\n') {
+            self.begun.extend_from_slice(front)?;
+            if self.begun.as_slice() == END_MARK {
+                return Ok(false);
+            }
+            self.answer_open(alloc, conversion, errors, explains)?;
+            rest = behind;
+        }
+        self.begun.extend_from_slice(rest)?;
+        Ok(true)
+    }
+
+    // Answers the row that is open, and opens the next one.
+    fn answer_open<H: Registry, E: Sink>(
+        &mut self,
+        alloc: Global,
+        conversion: &Conversion<'_, H>,
+        errors: &mut E,
+        explains: bool,
+    ) -> Result<(), AllocError>
+        requires ready { H.ready (handlers_of conversion.now.converter.now) }
+        ensures ok { OnOk result ((written : List ℕ) × IsRowAnswer (way_by H.config conversion.now)
+            self.old.begun.items written × (self.new.answers.items ≡ self.old.answers.items ++ written)) }
+        ensures next { OnOk result (self.new.begun.items ≡ []) }
+        ensures answered { OnOk result (self.new.answered ≡ counted (self.old.answered + 1)) }
+        ensures err { OnErr result (self.new.answers.items ≡ self.old.answers.items) }
+        ensures err_answered { OnErr result (self.new.answered ≡ self.old.answered) }
+    {
+        self.page.clear();
+        self.answer.clear();
+        let refused = answer_row(
+            alloc,
+            conversion,
+            self.begun.as_slice(),
+            &mut self.page,
+            &mut self.answer,
+        )?;
+        self.answers.extend_from_slice(self.answer.as_slice())?;
+        self.answered = self.answered.saturating_add(1);
+        self.begun.clear();
+        if let Some(error) = refused {
+            report(
+                errors,
+                self.answered,
+                &error,
+                self.page.as_slice(),
+                explains,
+            );
+        }
+        Ok(())
+    }
+
+    // Writes the answers that wait, and flushes them.
+    fn hand_on<W: Sink>(&mut self, sink: &mut W) -> Result<(), Failed>
+        ensures bytes { OnOk result (Appends (W.contents sink.old) (W.contents sink.new) self.old.answers.items) }
+        ensures empty { OnOk result (self.new.answers.items ≡ []) }
+        ensures part { OnErr result (AppendsSome (W.contents sink.old) (W.contents sink.new) self.old.answers.items) }
+        ensures begun { self.new.begun.items ≡ self.old.begun.items }
+        ensures answered { self.new.answered ≡ self.old.answered }
+        ensures failure { FailsAtErr result (W.has_failed sink.old) (W.has_failed sink.new) }
+    {
+        if self.answers.is_empty() {
+            return Ok(());
+        }
+        write_all(sink, self.answers.as_slice())?;
+        sink.flush()?;
+        self.answers.clear();
+        Ok(())
+    }
+}
