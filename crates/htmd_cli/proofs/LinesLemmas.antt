@@ -1,8 +1,9 @@
 -- Lines, and the fields of a line, from where a byte was found.
-use Rattle.std.proofs.Common.{◌≡◌, ◌∙◌, sym, ap, refl, ℕ, zero, suc, ◌+◌, ◌-◌, ◌<◌, ◌≤◌, ◌==◌, Bool, true, false, if◌then◌else◌}
-use Rattle.std.proofs.Common.{List, [], ◌∷◌, ◌++◌, length, take, drop, get_or, arith, append_assoc, take-append-drop}
+use Rattle.std.proofs.Common.{◌≡◌, ◌≢◌, ◌∙◌, sym, ap, refl, ℕ, zero, suc, ◌+◌, ◌-◌, ◌<◌, ◌≤◌, ◌==◌, Bool, true, false, if◌then◌else◌}
+use Rattle.std.proofs.Common.{List, [], ◌∷◌, ◌++◌, length, take, drop, get_or, All, arith, append_assoc, take-append-drop}
 use Rattle.std.proofs.lemmas.List.{drop_more, take_all, take_more, take_rest}
-use Rattle.std.proofs.lemmas.Bool.{eqb-true, false_from_ne_true}
+use Rattle.std.proofs.lemmas.Bool.{ne_eqb}
+use Rattle.std.proofs.lemmas.List.Elements.{All-head, All-tail}
 use Rattle.std.specs.Str.{bytes_eq}
 use Rattle.htmd.specs.Characters.{line_feed, tab}
 use Rattle.htmd_cli.specs.Lines.{lacks, lines, before_lines, rows, before_end, end_mark, other_fields, last_field}
@@ -20,31 +21,38 @@ lacks-append b [] t p q = q
 lacks-append b (c ∷ s) t p q =
     unless (c == b) (lacks b s) false (lacks b (s ++ t)) true p (λ e. lacks-append b s t e q)
 
-pub lacks-before : (b : ℕ) (l : List ℕ) (n : ℕ)
-    → ((k : ℕ) → 0 ≤ k → k < n → ¬ ((get_or l k 0 == b) ≡ true)) → lacks b (take n l) ≡ true
+-- the byte is another one
+abbrev pub IsNot : ℕ → ℕ → Type 0
+IsNot b c = c ≢ b
+
+pub lacks-all : (b : ℕ) (l : List ℕ) → All (IsNot b) l → lacks b l ≡ true
+lacks-all b [] none = refl
+lacks-all b (c ∷ l) none =
+    rw (ne_eqb c b (All-head (IsNot b) c l none)) (lacks-all b l (All-tail (IsNot b) c l none))
+
+pub lacks-before : (b : ℕ) (l : List ℕ) (n : ℕ) → ((k : ℕ) → k < n → get_or l k 0 ≢ b)
+    → lacks b (take n l) ≡ true
 lacks-before b l zero h = refl
 lacks-before b [] (suc n) h = refl
-lacks-before b (x ∷ xs) (suc n) h =
-    rw (false_from_ne_true (x == b) (h 0 (omega arith) (omega arith)))
-    (lacks-before b xs n (λ k low high. h (suc k) (omega arith) (omega arith)))
-
-pub lacks-whole : (b : ℕ) (l : List ℕ)
-    → ((k : ℕ) → 0 ≤ k → k < length l → ¬ ((get_or l k 0 == b) ≡ true)) → lacks b l ≡ true
-lacks-whole b l h = ap (lacks b) (sym (take_all (length l) l (omega arith))) ∙ lacks-before b l (length l) h
+lacks-before b (c ∷ l) (suc n) h =
+    rw (ne_eqb c b (h 0 (omega arith))) (lacks-before b l n (λ k low. h (suc k) (omega arith)))
 
 -- the same behind a place
 pub lacks-behind : (b : ℕ) (l : List ℕ) (n : ℕ)
-    → ((k : ℕ) → n ≤ k → k < length l → ¬ ((get_or l k 0 == b) ≡ true)) → lacks b (drop n l) ≡ true
-lacks-behind b l zero h = lacks-whole b l h
+    → ((k : ℕ) → n ≤ k → k < length l → get_or l k 0 ≢ b) → lacks b (drop n l) ≡ true
+lacks-behind b [] zero h = refl
+lacks-behind b (c ∷ l) zero h =
+    rw (ne_eqb c b (h 0 (omega arith) (omega arith)))
+    (lacks-behind b l zero (λ k low high. h (suc k) (omega arith) (omega arith)))
 lacks-behind b [] (suc n) h = refl
-lacks-behind b (x ∷ xs) (suc n) h = lacks-behind b xs n (λ k low high. h (suc k) (omega arith) (omega arith))
+lacks-behind b (c ∷ l) (suc n) h = lacks-behind b l n (λ k low high. h (suc k) (omega arith) (omega arith))
 
 -- a text, around a byte that it holds
-pub around : (l : List ℕ) (at b : ℕ) → at < length l → (get_or l at 0 == b) ≡ true
+pub around : (l : List ℕ) (at b : ℕ) → at < length l → get_or l at 0 ≡ b
     → l ≡ take at l ++ b ∷ drop (at + 1) l
 around l at b lt e =
     sym (take-append-drop at l)
-    ∙ ap (λ t. take at l ++ t) (drop_more l at 0 lt ∙ ap (λ x. x ∷ drop (at + 1) l) (eqb-true _ _ e))
+    ∙ ap (λ t. take at l ++ t) (drop_more l at 0 lt ∙ ap (λ x. x ∷ drop (at + 1) l) e)
 
 -- ---- lines
 
@@ -100,14 +108,14 @@ last_field-split [] f p = last_field-whole f p
 last_field-split (c ∷ a) f p = rw (lacks-not (c ∷ a) f) (last_field-split a f p)
 
 -- the fields before the last tab, and the field behind it
-pub others-at : (row : List ℕ) (place : ℕ) → place < length row → (get_or row place 0 == tab) ≡ true
+pub others-at : (row : List ℕ) (place : ℕ) → place < length row → get_or row place 0 ≡ tab
     → lacks tab (drop (place + 1) row) ≡ true → take (place + 1) row ≡ other_fields row
 others-at row place l e p =
     take_more row place 0 l
-    ∙ (ap (λ x. take place row ++ x ∷ []) (eqb-true _ _ e)
+    ∙ (ap (λ x. take place row ++ x ∷ []) e
     ∙ sym (ap other_fields (around row place tab l e) ∙ other_fields-split (take place row) (drop (place + 1) row) p))
 
-pub last-at : (row : List ℕ) (place : ℕ) → place < length row → (get_or row place 0 == tab) ≡ true
+pub last-at : (row : List ℕ) (place : ℕ) → place < length row → get_or row place 0 ≡ tab
     → lacks tab (drop (place + 1) row) ≡ true
     → take (length row - (place + 1)) (drop (place + 1) row) ≡ last_field row
 last-at row place l e p =

@@ -7,7 +7,7 @@ pub(crate) fn parted(bytes: &[u8], byte: u8) -> Option<(&[u8], &[u8])>
     ensures { MatchOption result (lacks byte bytes.now ≡ true)
         (λ parts. (lacks byte parts.0.now ≡ true) × (bytes.now ≡ parts.0.now ++ byte ∷ parts.1.now)) }
 {
-    let Some(place) = bytes.iter().position(|b| *b == byte) else {
+    let Some(place) = bytes.iter().position(|&b| b == byte) else {
         return None;
     };
     Some((&bytes[..place], &bytes[place + 1..]))
@@ -18,7 +18,7 @@ pub(crate) fn fields_of(row: &[u8]) -> (&[u8], &[u8])
     ensures others { result.0.now ≡ other_fields row.now }
     ensures last { result.1.now ≡ last_field row.now }
 {
-    match row.iter().rposition(|b| *b == b'\t') {
+    match row.iter().rposition(|&b| b == b'\t') {
         Some(place) => (&row[..place + 1], &row[place + 1..]),
         None => (&[], row),
     }
