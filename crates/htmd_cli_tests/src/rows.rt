@@ -156,7 +156,8 @@ fn answers_many_fields(rt: HostRuntime) -> Result<(), Fail> {
     for _ in 0..39 {
         row.extend_from_slice(b"<p>\\N\xff\t")?;
     }
-    let count = row.len();
+    let mut wanted = row.clone()?;
+    wanted.extend_from_slice(b"*a*\n")?;
     row.extend_from_slice(b"<i>a</i>\n")?;
     let mut source = Dripping::new(row.as_slice(), 1000);
     let mut sink = Narrow::new(rt.alloc(), 1000);
@@ -170,9 +171,7 @@ fn answers_many_fields(rt: HostRuntime) -> Result<(), Fail> {
         &mut errors,
     );
     assert_eq!(rt; status, 0);
-    let (others, last) = sink.bytes().split_at(count);
-    assert_eq!(rt; others, row.as_slice().split_at(count).0);
-    assert_eq!(rt; last, b"*a*\n".as_slice());
+    assert_eq!(rt; sink.bytes(), wanted.as_slice());
     Ok(())
 }
 
