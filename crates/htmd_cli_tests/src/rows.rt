@@ -2,7 +2,7 @@
 use crate::calls::{called, strings};
 use crate::doubles::{Dripping, Narrow};
 use htmd_cli::{Input, Sink, Source, command, read_field, write_field};
-use std::alloc::Global;
+use std::alloc::{AllocError, Global};
 use std::test::Fail;
 
 #[test]
@@ -65,60 +65,59 @@ fn reads_what_it_writes(rt: HostRuntime) -> Result<(), Fail> {
 
 #[test]
 fn answers_rows(rt: HostRuntime) -> Result<(), Fail> {
-    let table: [(&[&str], &[u8], &str, &str); 17] = [
-        (&[], b"", "", ""),
-        (&[], b"\n", "\n", ""),
-        (&[], b"\n\n", "\n\n", ""),
-        (&[], b"<p>a <b>b</b></p>\n", "a **b**\n", ""),
-        (&[], b"1\t<p>a</p>\n2\t<p>b</p>", "1\ta\n2\tb\n", ""),
-        (&[], b"\t\t\n", "\t\t\n", ""),
-        (&[], b"1\t\\N\n\\N\n\\N\t", "1\t\\N\n\\N\n\\N\t\n", ""),
-        (&[], b"\\x41\\q\t\\x41\n", "\\x41\\q\tA\n", ""),
+    let table: [(&str, &[u8], &str, &str); 17] = [
+        ("", b"", "", ""),
+        ("", b"\n", "\n", ""),
+        ("", b"\n\n", "\n\n", ""),
+        ("", b"<p>a <b>b</b></p>\n", "a **b**\n", ""),
+        ("", b"1\t<p>a</p>\n2\t<p>b</p>", "1\ta\n2\tb\n", ""),
+        ("", b"\t\t\n", "\t\t\n", ""),
+        ("", b"1\t\\N\n\\N\n\\N\t", "1\t\\N\n\\N\n\\N\t\n", ""),
+        ("", b"\\x41\\q\t\\x41\n", "\\x41\\q\tA\n", ""),
         (
-            &[],
+            "",
             b"1\t<p>a<br>b</p><p>c</p>\r\n",
             "1\ta  \\nb\\n\\nc\n",
             "",
         ),
-        (&["--text"], b"a\\tb \\\\ <c>", "a b \\\\\\\\ \\\\<c>\n", ""),
+        ("--text", b"a\\tb \\\\ <c>", "a b \\\\\\\\ \\\\<c>\n", ""),
         (
-            &["--body", "--br-style=backslash"],
+            "--body\n--br-style=backslash",
             b"7\t<!doctype html><html><body><p>a<br>b</p></body></html>\n",
             "7\ta\\\\\\nb\n",
             "",
         ),
         (
-            &[],
+            "",
             b"1\ta\n2\t<p><div>\n3\tb\n4\t\\377\n5\t\xff\n6\tc\n",
             "1\ta\n2\t\\N\n3\tb\n4\t\\N\n5\t\\N\n6\tc\n",
             "htmd: row 2: refused at byte 3: NotAllowedHere\nhtmd: row 4: not UTF-8\nhtmd: row 5: not UTF-8\n",
         ),
         (
-            &[],
+            "",
             b"\\x3cp\\x3e\\n<div>",
             "\\N\n",
             "htmd: row 1: refused at byte 4: NotAllowedHere\n",
         ),
-        (&[], b"a\n\\.\nb\n", "a\n", ""),
-        (&[], b"a\n\\.", "a\n", ""),
-        (&[], b"1\t\\.\n\\.x\n\\.\n", "1\t.\n.x\n", ""),
+        ("", b"a\n\\.\nb\n", "a\n", ""),
+        ("", b"a\n\\.", "a\n", ""),
+        ("", b"1\t\\.\n\\.x\n\\.\n", "1\t.\n.x\n", ""),
         (
-            &["--explain"],
+            "--explain",
             b"<p>\n",
             "\\N\n",
             "htmd: row 1: refused at byte 3: Unclosed\nline 1, column 4: the input ends here, and an element is open; \
 its end tag is wanted.\n<p>\n   ^\n",
         ),
     ];
-    for (words, stdin, stdout, stderr) in table {
-        let mut all = strings(rt.alloc(), words)?;
-        all.push(String::from_str(rt.alloc(), "--rows")?)?;
-        let mut source = Dripping::new(stdin, 1000);
+    for (lines, stdin, stdout, stderr) in table {
+        let words = rows_words(rt.alloc(), lines)?;
         let mut sink = Narrow::new(rt.alloc(), 1000);
         let mut errors = Narrow::new(rt.alloc(), 1000);
+        let mut source = Dripping::new(stdin, 1000);
         let status = command(
             rt.alloc(),
-            all.as_slice(),
+            words.as_slice(),
             &mut source,
             &mut sink,
             &mut errors,
@@ -126,19 +125,32 @@ its end tag is wanted.\n<p>\n   ^\n",
         assert_eq!(rt; sink.bytes(), stdout.as_bytes(), "{stdin:?}");
         assert_eq!(rt; errors.bytes(), stderr.as_bytes());
         assert_eq!(rt; status, 0);
-        let mut source = Input::new(stdin);
-        let mut sink = Narrow::new(rt.alloc(), 1000);
-        let status = command(
-            rt.alloc(),
-            all.as_slice(),
-            &mut source,
-            &mut sink,
-            &mut errors,
-        );
-        assert_eq!(rt; sink.bytes(), stdout.as_bytes(), "{stdin:?}");
-        assert_eq!(rt; status, 0);
+        let at_once = answered_at_once(rt.alloc(), words.as_slice(), stdin)?;
+        assert_eq!(rt; at_once.as_str(), stdout, "{stdin:?}");
     }
     Ok(())
+}
+
+// The words that a text has, one a line, and behind them the one for rows.
+fn rows_words(alloc: Global, lines: &str) -> Result<Vec<String>, AllocError> {
+    let mut words = Vec::new(alloc);
+    for word in lines.lines() {
+        words.push(String::from_str(alloc, word)?)?;
+    }
+    words.push(String::from_str(alloc, "--rows")?)?;
+    Ok(words)
+}
+
+// What is written where one read gives all.
+fn answered_at_once(alloc: Global, words: &[String], stdin: &[u8]) -> Result<String, Fail> {
+    let mut source = Input::new(stdin);
+    let mut sink = Narrow::new(alloc, 1000);
+    let mut errors = Narrow::new(alloc, 1000);
+    let status = command(alloc, words, &mut source, &mut sink, &mut errors);
+    if status != 0 {
+        return Err(Fail::from("all rows are answered"));
+    }
+    Ok(String::from_str(alloc, str::from_utf8(sink.bytes())?)?)
 }
 
 // What stands behind the end of the data is not read, but for what the last read gave.
