@@ -1,9 +1,10 @@
 -- Definitions only grow, and what is left of them where an element's answer breaks off.
 use Rattle.std.proofs.Common.{◌≡◌, ℕ, zero, suc, ◌+◌, List, [], ◌∷◌, ◌++◌, Option, Some, None, slice_get, drop, refl}
 use Rattle.std.proofs.Common.{sym, ap, ◌∙◌}
-use Rattle.std.proofs.Common.{Bool, true, false, cond, Result, Ok, Err, OnErr}
+use Rattle.std.proofs.Common.{Bool, true, false, cond}
 use Rattle.std.proofs.lemmas.List.{append_assoc, append-nil}
 use Rattle.htmd_text.specs.Blocks.{is_block}
+use Rattle.htmd_text.proofs.Cases.{OnErr-always}
 use Rattle.htmd_tree.specs.Items.{Data, document_node, doctype_node, text_node, comment_node, element_node, data_at}
 use Rattle.htmd_tree.specs.NumberedTrees.{NumberedTree, document, doctype, text, comment, element, NumberedForest, none}
 use Rattle.htmd_tree.specs.NumberedTrees.{more}
@@ -16,7 +17,8 @@ use Rattle.htmd.specs.Handling.{OutcomeView, final_result, children_too}
 use Rattle.htmd.specs.OrdinaryText.{pre}
 use Rattle.htmd.specs.Choice.{indexes, handler_at, handlers_at}
 use Rattle.htmd.specs.Groups.{groups_of}
-use Rattle.htmd.specs.Outputs.{Conversion, Output, push_text, Context, context_of, Writes, is_markdown_alone, is_guarded}
+use Rattle.htmd.specs.Outputs.{Conversion, Output, push_text, Context, context_of, Writes, is_markdown_alone}
+use Rattle.htmd.specs.Outputs.{is_guarded}
 use Rattle.htmd.specs.Children.{is_block_tree, before_child, trim_after, write_children, write_groups, trims_first}
 use Rattle.htmd.specs.Children.{content_alone, descendant_tree}
 use Rattle.htmd.specs.Elements.{Occurrence, Answer, content_of, raw_element, raw_answer, finish_answer, after_fallback}
@@ -76,7 +78,7 @@ grows-either false a x y p q = q
 
 -- ---- the children of a node
 
-grows-before : (b : Bool) (out : Output) → IsBeginning out.definitions (before_child b out).definitions
+pub grows-before : (b : Bool) (out : Output) → IsBeginning out.definitions (before_child b out).definitions
 grows-before true out = beginning-refl out.definitions
 grows-before false out = beginning-refl out.definitions
 
@@ -229,7 +231,3 @@ module _ (at : Occurrence) (g : Grows at.write) (tag : List ℕ) (skipped : ℕ)
   finish-broken p before new f h k e b =
       begins-wider k b (beginning-to (beginning-refl (before ++ f.added))
       (ap (λ (a : Answer). a.definitions) (e ∙ sym (answer-some tag at skipped definitions index p found h))))
-
-pub on_err_always : {T E P : Type 0} (r : Result T E) → P → OnErr r P
-on_err_always (Ok x) p = tt
-on_err_always (Err e) p = p

@@ -14,6 +14,7 @@ use Rattle.htmd_text.specs.Characters.{ampersand, backslash, line_feed, number_s
 use Rattle.htmd_text.specs.PlainText.{each_bare}
 use Rattle.htmd_text.specs.Trims.{trimmed_end}
 use Rattle.htmd_text.specs.WhiteSpace.{is_document_white_space}
+use Rattle.htmd_text.proofs.PlainTextLemmas.{bare_first}
 use Rattle.htmd_markdown.specs.ReferenceLike.{is_reference_like, behind_number, ends_reference}
 use Rattle.htmd_markdown.specs.GuardedText.{is_always_guarded, begins_no_markup, is_guarded}
 use Rattle.htmd.proofs.TextEnds.{Passes, end_parts, end_passes}
@@ -83,12 +84,6 @@ passes_in : (first second : List ℕ) → IsSafer first second → (b : ℕ) (s 
     → begins_no_markup (b ∷ (s ++ first)) ≡ true → begins_no_markup (b ∷ (s ++ second)) ≡ true
 passes_in first second safer b s e =
     passes_by b (is_reference_like (s ++ first)) (is_reference_like (s ++ second)) (like_in first second safer s) e
-
-bare_first : (passes : List ℕ → Bool) (b : ℕ) (t : List ℕ) → (b == backslash) ≡ false
-    → passes (b ∷ t) ≡ true
-    → each_bare passes t ≡ true → each_bare passes (b ∷ t) ≡ true
-bare_first passes b [] other here rest = here
-bare_first passes b (c ∷ t) other here rest = rw (other, here) rest
 
 each_in : (first second : List ℕ) → IsSafer first second → (s : List ℕ) → is_guarded second ≡ true
     → is_guarded (s ++ first) ≡ true → is_guarded (s ++ second) ≡ true

@@ -31,7 +31,7 @@ lines_behind : (s : List ℕ) (n : ℕ) → 0 < n → IsLine s → is_guarded (s
 lines_behind s zero some line = absurd (omega arith)
 lines_behind s (suc n) some line = line-append s (replicate n line_feed) line (feeds n)
 
-feed_is_white : (b : ℕ) → is_line_feed b ≡ true → is_document_white_space b ≡ true
+pub feed_is_white : (b : ℕ) → is_line_feed b ≡ true → is_document_white_space b ≡ true
 feed_is_white b e = grind (arith, nat_tests)
 
 feed_is_no_backslash : (b : ℕ) → is_line_feed b ≡ true → (b == backslash) ≡ false

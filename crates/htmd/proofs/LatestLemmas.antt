@@ -1,6 +1,7 @@
 -- From a tag's newest registration to the older ones, and one registration more.
 use Rattle.std.proofs.Common.{◌≡◌, ℕ, suc, ◌<◌, ◌≤◌, Bool, true, false, cond, List, [], ◌∷◌, ◌++◌, length, map}
-use Rattle.std.proofs.Common.{get_or, take, Option, Some, None, refl, sym, ap, ◌∙◌, arith, subst, slice_get, string_bytes}
+use Rattle.std.proofs.Common.{get_or, take, Option, Some, None, refl, sym, ap, ◌∙◌, arith, subst, slice_get}
+use Rattle.std.proofs.Common.{string_bytes}
 use Rattle.std.proofs.Common.{⊎_elim}
 use Rattle.std.specs.Str.{bytes_eq}
 use Rattle.std.proofs.Common.{◌⊎◌, inl, inr, String}
@@ -10,7 +11,8 @@ use Rattle.std.specs.HashMap.{HashMap, get, get_by_text}
 use Rattle.std.proofs.Math.ListN.{get_or-append, get_or-map}
 use Rattle.std.proofs.Math.Seq.{get_or-append_seam}
 use Rattle.std.proofs.lemmas.Bool.{cases_lt}
-use Rattle.std.proofs.lemmas.List.{take-take, take_all, length-take, get_or-take, length-map, map-append, take-append-le, length-append}
+use Rattle.std.proofs.lemmas.List.{take-take, take_all, length-take, get_or-take, length-map, map-append}
+use Rattle.std.proofs.lemmas.List.{take-append-le, length-append}
 use Rattle.std.proofs.lemmas.Slice.Eq.{bytes_eq-Decides}
 use Rattle.htmd.specs.declared.element_handler.registrations.Registration.{Registration}
 use Rattle.htmd.specs.Choice.{TagIndex, indexes}

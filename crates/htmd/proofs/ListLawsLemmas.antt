@@ -27,7 +27,8 @@ use Rattle.htmd_markdown.specs.Lists.{list_block, between_line_feeds}
 use Rattle.htmd_markdown.specs.Lists.{guarded_ordered_list, guarded_first_number}
 use Rattle.htmd_markdown.specs.ListColumns.{item_content, StandsInColumn, HasEqualColumns}
 use Rattle.htmd_markdown.proofs.ListsLemmas.{items_in, item_count-append}
-use Rattle.htmd_markdown.proofs.ListColumnsLemmas.{columns_equal}
+use Rattle.htmd_markdown.proofs.ListColumnsLemmas.{columns_equal, digit_first}
+use Rattle.htmd_markdown.proofs.SpacedSpansLemmas.{one_more}
 use Rattle.htmd_tree.specs.Items.{Item, children_of, tag_of, data_at}
 use Rattle.htmd.specs.Handling.{ElementView, ResultView}
 use Rattle.htmd.specs.Outputs.{is_markdown_alone, is_guarded}
@@ -102,9 +103,6 @@ record Cut (line text : List ℕ) : Type 0 where
   pub is : trimmed_start is_line_feed text ≡ front ++ line
   pub line_end : line_feed ∷ front ≡ before ++ line_feed ∷ []
 
-one_more : (n : ℕ) → 1 + n ≡ suc n
-one_more n = omega arith
-
 stays : (b : ℕ) (s : List ℕ) → is_line_feed b ≡ false → trimmed_start is_line_feed (b ∷ s) ≡ b ∷ s
 stays b s differs = ap (λ n. drop n (b ∷ s)) (cond-false (is_line_feed b) (1 + prefix_len is_line_feed s) 0 differs)
 
@@ -154,9 +152,6 @@ marker_ends : (spacing highest number : ℕ) → Ends (number_marker spacing hig
 marker_ends spacing highest number =
     ends_behind (decimal number) _ (spaces_end (spacing + (digits highest - digits number)))
 
-digit_other : (b : ℕ) → 48 ≤ b → is_line_feed b ≡ false
-digit_other b le = grind (arith, nat_tests)
-
 begins_behind : (s rest : List ℕ) → 0 < length s → is_line_feed (get_or s 0 0) ≡ false → Begins (s ++ rest)
 unfolding Begins
 begins_behind [] rest some differs = absurd (omega arith)
@@ -170,7 +165,7 @@ marker_begins spacing highest number content behind small =
     let spaces = full_stop ∷ replicate (spacing + (digits highest - digits number)) space in
     subst Begins (regrouped (decimal number) spaces content behind)
     (begins_behind (decimal number) (spaces ++ (content ++ behind)) numeral.0
-    (digit_other (get_or (decimal number) 0 0) digit.0))
+    (digit_first (get_or (decimal number) 0 0) digit.0))
   where
     regrouped : (a b c d : List ℕ) → a ++ (b ++ (c ++ d)) ≡ ((a ++ b) ++ c) ++ d
     regrouped a b c d = simp append_assoc

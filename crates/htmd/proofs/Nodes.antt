@@ -15,6 +15,7 @@ use Rattle.htmd_tree.specs.declared.tree.NodeData.{NodeData}
 use Rattle.htmd_tree.specs.declared.tree.NodeData.TheVariants.{Document, Doctype, Text, Comment, Element}
 use Rattle.std.specs.Prelude.{String, Vec}
 use Rattle.std.specs.Global.{Global}
+use Rattle.std.proofs.Math.Bool.{and-false, and-true}
 use Rattle.htmd_tree.proofs.NumberedTreesLemmas.{tree-open}
 use Rattle.htmd_tree.proofs.AncestorsLemmas.{ancestors-open}
 use Rattle.htmd.specs.OrdinaryText.{is_pre_or_code, pre, parent_is_pre}
@@ -159,21 +160,13 @@ not_text (Text s) h = absurd (h s refl)
 not_text (Comment s) h = refl
 not_text (Element name attributes) h = refl
 
-and_false : (b : Bool) → (b && false) ≡ false
-and_false true = refl
-and_false false = refl
-
-and_true : (b : Bool) → (b && true) ≡ b
-and_true true = refl
-and_true false = refl
-
 -- the trim flag at the start of a node's content
 pub no_trim : (items : List Item) (id : ℕ) → pre (inside_of items id) ≡ true
     → trims_first (inside_of items id) ≡ false
 no_trim items id e = ap (λ t. is_block (ancestor_of (data_at items id)).tag && not t) e
-    ∙ and_false (is_block (ancestor_of (data_at items id)).tag)
+    ∙ and-false (is_block (ancestor_of (data_at items id)).tag)
 
 pub trims_by : (items : List Item) (id : ℕ) → pre (inside_of items id) ≡ false
     → trims_first (inside_of items id) ≡ is_block (ancestor_of (data_at items id)).tag
 trims_by items id e = ap (λ t. is_block (ancestor_of (data_at items id)).tag && not t) e
-    ∙ and_true (is_block (ancestor_of (data_at items id)).tag)
+    ∙ and-true (is_block (ancestor_of (data_at items id)).tag)

@@ -1,20 +1,14 @@
 -- Whether a node stands in one line is known from its parent.
-use Rattle.std.proofs.Common.{◌≡◌, ℕ, zero, suc, ◌<◌, length, Option, Some, None, IsSome, refl, sym, ap, ◌∙◌, subst}
+use Rattle.std.proofs.Common.{◌≡◌, ℕ, suc, ◌<◌, length, Option, Some, None, refl, sym, ap, ◌∙◌}
 use Rattle.std.proofs.Common.{Bool, true, false, ◌||◌, ◌&&◌, arith}
-use Rattle.std.proofs.lemmas.Bool.{false≢true}
 use Rattle.std.specs.Prelude.{List}
 use Rattle.htmd_tree.specs.Items.{Item, document_node, data_at, parent_at, depth_at, IsTree}
 use Rattle.htmd_tree.specs.Ancestors.{ancestor_of}
+use Rattle.htmd_tree.proofs.AncestorsLemmas.{no_parent}
 use Rattle.htmd.specs.declared.options.Options.{Options}
 use Rattle.htmd.specs.Outputs.{is_guarded}
 use Rattle.htmd.specs.OneLineElements.{is_in_one_line, parent_in_line, in_line_up, stands_in_line, known_in_line}
 use Rattle.htmd.specs.OneLineElements.{is_one_line_tag, known_in_line_inside}
-
-no_parent : (items : List Item) (id : ℕ) → IsTree items → id < length items → parent_at items id ≡ None
-    → depth_at items id ≡ 0
-no_parent items zero t l e = ap (λ (x : Item). x.depth) t.first
-no_parent items (suc id) t l e =
-    absurd (false≢true (subst (λ (x : Option ℕ). IsSome x) e (t.has_parent (suc id) (omega arith) l)))
 
 module _ (items : List Item) (t : IsTree items) where
   -- a node stands in one line where its parent is written in one line, or stands in one

@@ -19,6 +19,7 @@ use Rattle.htmd.proofs.TextEnds.{EndsBare, Passes, end_cut, end_stays, ends_behi
 use Rattle.htmd.proofs.ShownTexts.{IsShown, front_of, cut_of, escaped_parts, front_reads_back, IsNoLineFeed}
 use Rattle.htmd.proofs.ShownTexts.{escaped_without, front_without, some_front, some_escaped, written_ends_bare}
 use Rattle.htmd.proofs.ShownTexts.{left_ends_bare, end_cut_of}
+use Rattle.htmd.proofs.GuardedSeams.{feed_is_white}
 
 -- each text with a blank line behind it
 abbrev pub blocks : List (List ℕ) → List ℕ
@@ -46,11 +47,8 @@ none_first [] t some all = absurd (omega arith)
 none_first (b ∷ s) t some all =
     cond-false (is_line_feed b) (1 + prefix_len is_line_feed (s ++ t)) 0 (All-head IsNoLineFeed b s all)
 
-space_is_white : (b : ℕ) → is_space b ≡ true → is_document_white_space b ≡ true
+pub space_is_white : (b : ℕ) → is_space b ≡ true → is_document_white_space b ≡ true
 space_is_white b e = grind (arith, nat_tests)
-
-line_feed_is_white : (b : ℕ) → is_line_feed b ≡ true → is_document_white_space b ≡ true
-line_feed_is_white b e = grind (arith, nat_tests)
 
 blank_line_is_white : Passes is_document_white_space blank_line
 blank_line_is_white =
@@ -95,7 +93,7 @@ all_written s (t ∷ texts) all =
 -- fewer bytes pass
 fewer_pass : (s : List ℕ) → EndsBare is_document_white_space s → EndsBare is_line_feed s
 fewer_pass s bare some =
-    false_from_ne_true _ (λ e. false≢true (sym (bare some) ∙ line_feed_is_white (get_or s (length s - 1) 0) e))
+    false_from_ne_true _ (λ e. false≢true (sym (bare some) ∙ feed_is_white (get_or s (length s - 1) 0) e))
 
 -- behind line feeds, the texts are what is left between the white space at the ends
 pub all_trimmed : (lead : List ℕ) (texts : List (List ℕ)) → Passes is_line_feed lead → All IsShown texts
@@ -105,7 +103,7 @@ all_trimmed lead [] cut all =
     ap (trimmed_end is_document_white_space) (append-nil lead)
     ∙ end_cut is_document_white_space [] lead (λ some. absurd (omega arith))
     (All-weaker (λ b. is_line_feed b ≡ true) (λ b. is_document_white_space b ≡ true)
-    line_feed_is_white lead cut) in
+    feed_is_white lead cut) in
     ap (trimmed_text is_line_feed) none
 all_trimmed lead (s ∷ texts) cut all =
     let is = all_written s texts all in

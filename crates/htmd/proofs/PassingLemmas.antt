@@ -40,7 +40,7 @@ passed_result is_span whole out = record {
   definitions = out.definitions;
 }
 
-no_mark : (o : Option (List ℕ)) → is_some o ≡ false → o ≡ None
+pub no_mark : (o : Option (List ℕ)) → is_some o ≡ false → o ≡ None
 no_mark None e = refl
 no_mark (Some s) e = cc
 

@@ -1,10 +1,10 @@
 -- A text that passes the test is written as it is, without its first space or with it.
 use Rattle.std.proofs.Common.{◌≡◌, ℕ, Bool, true, false, cond, List, [], ◌∷◌, refl, sym, ap, ◌∙◌, arith, None, drop}
-use Rattle.std.proofs.Common.{zero, suc, ◌+◌, subst, ◌||◌, ◌&&◌, not, nat_lt, codes}
+use Rattle.std.proofs.Common.{◌+◌, subst, ◌||◌, ◌&&◌, not, nat_lt, codes}
 use Rattle.std.specs.Prelude.{◌==◌, slice_index}
 use Rattle.std.specs.List.{list_any, prefix_len}
 use Rattle.std.specs.Char.{is_ascii_digit}
-use Rattle.std.proofs.lemmas.Bool.{or_parts, or_from, and_parts, and_from, and_left, and_right}
+use Rattle.std.proofs.lemmas.Bool.{or_parts, or_from, and_parts, and_from, and_left, and_right, not-true}
 use Rattle.std.proofs.lemmas.Bool.Decides.{nat_tests}
 use Rattle.htmd_text.specs.Characters.{space, less_than_sign, is_one_of}
 use Rattle.htmd_text.specs.WhiteSpace.{is_ascii_white_space, squeezed_text}
@@ -12,15 +12,12 @@ use Rattle.htmd_text.specs.Replacement.{is_squeezed}
 use Rattle.htmd_text.specs.Trims.{is_space}
 use Rattle.htmd_text.specs.Marks.{is_special}
 use Rattle.htmd_text.specs.EscapeMarks.{begins_block, numbered_item_dot, escaped_markdown, is_marked, is_place}
-use Rattle.htmd_text.specs.EscapeMarks.{is_always_marked, with_backslashes, opens_html}
+use Rattle.htmd_text.specs.EscapeMarks.{is_always_marked, opens_html}
 use Rattle.htmd_text.proofs.WhiteSpaceLemmas.{squeezed_stays}
+use Rattle.htmd_text.proofs.EscapeMarksLemmas.{special_at, unmarked_stays}
 use Rattle.htmd.specs.Seams.{begins_with_space}
 use Rattle.htmd.specs.OrdinaryText.{without_first_space}
 use Rattle.htmd.specs.PlainTexts.{is_plain_byte, stays_plain, may_begin, starts_plain, begins_plain}
-
-false_from_not : (b : Bool) → not b ≡ true → b ≡ false
-false_from_not true e = cc
-false_from_not false e = refl
 
 -- ---- the bytes of the text
 
@@ -31,7 +28,7 @@ plain_no_space : (b : ℕ) → is_plain_byte b ≡ true → (b == space) ≡ fal
 plain_no_space b e = grind (arith, nat_tests)
 
 plain_no_mark : (b : ℕ) → is_plain_byte b ≡ true → is_special b ≡ false
-plain_no_mark b e = false_from_not (is_special b) (and_parts (nat_lt space b) (not (is_special b)) e).1
+plain_no_mark b e = not-true (is_special b) (and_parts (nat_lt space b) (not (is_special b)) e).1
 
 is_the_space : (b : ℕ) → (b == space) ≡ true → space ≡ b
 is_the_space b e = grind (arith, nat_tests)
@@ -93,11 +90,11 @@ numbers_nothing b s e = rw (or_parts (is_one_of (codes "=~>-+#") b) (is_ascii_di
 
 start_block : (s : List ℕ) → starts_plain s ≡ true → begins_block s ≡ false
 start_block [] e = refl
-start_block (b ∷ s) e = begins_nothing b s (false_from_not (may_begin b) e)
+start_block (b ∷ s) e = begins_nothing b s (not-true (may_begin b) e)
 
 start_dot : (s : List ℕ) → starts_plain s ≡ true → numbered_item_dot s ≡ None
 start_dot [] e = refl
-start_dot (b ∷ s) e = numbers_nothing b s (false_from_not (may_begin b) e)
+start_dot (b ∷ s) e = numbers_nothing b s (not-true (may_begin b) e)
 
 counted : (m : Bool) (n : ℕ) → nat_lt 0 (cond m (1 + n) 0) ≡ m
 counted true n = grind (arith, nat_tests)
@@ -127,11 +124,6 @@ rest_unmarked false s e = e
 
 -- ---- what gets no backslash
 
-special_at : (s : List ℕ) (k : ℕ) → list_any is_special s ≡ false → is_special (slice_index s k) ≡ false
-special_at [] k none = refl
-special_at (b ∷ s) zero none = (or_parts (is_special b) (list_any is_special s) none).0
-special_at (b ∷ s) (suc k) none = special_at s k (or_parts (is_special b) (list_any is_special s) none).1
-
 unmarked_at : (s : List ℕ) (k : ℕ) → begins_block s ≡ false → numbered_item_dot s ≡ None
     → list_any is_special s ≡ false → is_marked s k ≡ false
 unmarked_at s k begins dot none =
@@ -139,11 +131,6 @@ unmarked_at s k begins dot none =
     (special_at s k none) in
     or_from _ _ (or_from _ _ (or_from _ _ other.0 (and_left _ (opens_html (drop (k + 1) s)) other.1))
     (and_right (k == 0) (begins_block s) begins)) (ap (λ o. is_place o k) dot)
-
-unmarked_stays : (marked : ℕ → Bool) (k : ℕ) (s : List ℕ) → ((i : ℕ) → marked i ≡ false)
-    → with_backslashes marked k s ≡ s
-unmarked_stays marked k [] none = refl
-unmarked_stays marked k (b ∷ s) none = rw (none k) (ap (λ l. b ∷ l) (unmarked_stays marked (suc k) s none))
 
 -- ---- the whole
 

@@ -17,7 +17,8 @@ use Rattle.htmd_tree.proofs.NumberedTreesLemmas.{tree-open, lower_below, height_
 use Rattle.htmd.specs.Choice.{Config}
 use Rattle.htmd.specs.OrdinaryText.{pre}
 use Rattle.htmd.specs.Groups.{group_tree, group_children, children_at}
-use Rattle.htmd.specs.Outputs.{Conversion, conversion_of, Output, replace_text, push_text, Context, context_of, is_markdown_alone}
+use Rattle.htmd.specs.Outputs.{Conversion, conversion_of, Output, replace_text, push_text, Context, context_of}
+use Rattle.htmd.specs.Outputs.{is_markdown_alone}
 use Rattle.htmd.specs.Outputs.{is_guarded}
 use Rattle.htmd.specs.Children.{before_child, write_groups}
 use Rattle.htmd.specs.Elements.{Answer, answer_after, occurrence_at}

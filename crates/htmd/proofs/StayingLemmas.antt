@@ -27,7 +27,7 @@ use Rattle.htmd.specs.Rendering.{with_result, with_answer, end_of_document, writ
 use Rattle.htmd.specs.Staying.{HandlerStays, HandlersStay}
 use Rattle.htmd.proofs.BeginningsLemmas.{Grows, beginning-more, grows-children, grows-content, grows-alone}
 use Rattle.htmd.proofs.BeginningsLemmas.{grows-contents, grows-fallback, grows-each, grows-first, grows-within}
-use Rattle.htmd.proofs.BeginningsLemmas.{result-definitions}
+use Rattle.htmd.proofs.BeginningsLemmas.{result-definitions, grows-before}
 
 -- the same, with these definitions
 abbrev pub with_definitions : List (List ℕ) → Output → Output
@@ -67,7 +67,7 @@ Stays write = (tree : NumberedTree) (context : Context) (out : Output) (others :
     → (write tree context out).definitions ≡ out.definitions
     → write tree context (with_definitions others out) ≡ with_definitions others (write tree context out)
 
-before-definitions : (b : Bool) (out : Output) → (before_child b out).definitions ≡ out.definitions
+pub before-definitions : (b : Bool) (out : Output) → (before_child b out).definitions ≡ out.definitions
 before-definitions true out = refl
 before-definitions false out = refl
 
@@ -75,10 +75,6 @@ before-with : (b : Bool) (out : Output) (others : List (List ℕ))
     → before_child b (with_definitions others out) ≡ with_definitions others (before_child b out)
 before-with true out others = refl
 before-with false out others = refl
-
-before-begins : (b : Bool) (out : Output) → IsBeginning out.definitions (before_child b out).definitions
-before-begins true out = record { rest = []; is = sym (append-nil out.definitions) }
-before-begins false out = record { rest = []; is = sym (append-nil out.definitions) }
 
 pub stays-children : (write : Writes) → Grows write → Stays write
     → (inside : List Ancestor) (trees : NumberedForest) (trim : Bool) (out : Output) (others : List (List ℕ))

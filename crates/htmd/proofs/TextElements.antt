@@ -33,6 +33,7 @@ use Rattle.htmd.specs.Anchors.{anchors, finish_at}
 use Rattle.htmd.specs.TableElements.{cells, table_rows, table_parts}
 use Rattle.htmd.specs.BuiltIn.{other_block_tags, built_in}
 use Rattle.htmd.specs.TextLaws.{wrapped_tags, is_wrapped, is_plain_span, is_plain_anchor, is_passed_on}
+use Rattle.htmd.proofs.PassingLemmas.{no_mark}
 
 -- ---- in Guarded everything is Markdown
 
@@ -246,10 +247,6 @@ wrapped_is_handled options name attributes e =
     })
     (or_cases (is_tag_among wrapped_tags (Some name)) _ e)
 
-none_there : (o : Option (List ℕ)) → is_some o ≡ false → o ≡ None
-none_there None e = refl
-none_there (Some s) e = absurd (false≢true (sym e))
-
 no_items : {X : Type 0} (xs : List X) → (length xs == 0) ≡ true → xs ≡ []
 no_items [] e = refl
 no_items (x ∷ xs) e = let none : length (x ∷ xs) ≡ 0 = eqb-true (length (x ∷ xs)) 0 e in absurd (omega arith)
@@ -320,7 +317,7 @@ module _ (options : Options) (guarded : is_guarded options ≡ true) (items : Li
     span_gives is here =
         let parts = and_parts (is_span name) (not (has_math_class attributes)) is in
         tagged_gives (codes "span") spans ((bytes_eq-Decides name (codes "span")).0 parts.0) refl
-        (makes_spans (codes "span") attributes (none_there (formula_mark attributes) (not-true _ parts.1))) here
+        (makes_spans (codes "span") attributes (no_mark (formula_mark attributes) (not-true _ parts.1))) here
 
     anchor_gives : is_plain_anchor name attributes ≡ true → data_at items id ≡ element_node name attributes
         → Gives (answer_after 0 name at definitions) content kept
@@ -328,7 +325,7 @@ module _ (options : Options) (guarded : is_guarded options ≡ true) (items : Li
         let address = last_value (codes "href" ∷ []) attributes in
         let parts = and_parts (bytes_eq name (codes "a")) (not (is_some address)) is in
         tagged_gives (codes "a") anchors ((bytes_eq-Decides name (codes "a")).0 parts.0) refl
-        (makes_anchors (codes "a") attributes (none_there address (not-true _ parts.1))) here
+        (makes_anchors (codes "a") attributes (no_mark address (not-true _ parts.1))) here
 
     pub passed_gives : is_passed_on (built_in options) name attributes ≡ true
         → data_at items id ≡ element_node name attributes

@@ -4,7 +4,6 @@ use Rattle.std.proofs.Common.{codes, refl, ap, ◌∙◌, subst, arith, ⊎_elim
 use Rattle.std.specs.Prelude.{◌||◌}
 use Rattle.std.proofs.lemmas.Bool.{or_cases, cond-true}
 use Rattle.std.proofs.lemmas.List.{append-nil}
-use Rattle.std.proofs.lemmas.Bool.Decides.{nat_tests}
 use Rattle.htmd_text.specs.BlankLines.{with_blank_lines}
 use Rattle.htmd_text.specs.Blocks.{is_block}
 use Rattle.htmd_text.specs.Characters.{line_feed}
@@ -37,6 +36,8 @@ use Rattle.htmd.proofs.GuardedEnds.{IsLine, guarded-append, guarded-line, trimme
 use Rattle.htmd.proofs.GuardedSeams.{seam-guarded, wrapped-seam, trimmed-line}
 use Rattle.htmd.proofs.TextTrees.{IsPart, Fits, AllFit, AreTexts, fits-groups, node-fits, children-fit}
 use Rattle.htmd.proofs.TextElements.{Gives, wrapped_gives, passed_gives, passed_is_no_block, alone_in}
+use Rattle.htmd.proofs.ParagraphTexts.{space_is_white}
+use Rattle.htmd.proofs.StayingLemmas.{before-definitions}
 
 -- ---- what stands before a child
 
@@ -49,17 +50,10 @@ fine-line : (block : Bool) (s : List ℕ) → IsFine block s → IsLine s
 fine-line true s fine = fine
 fine-line false s fine = guarded-line s fine
 
-space_is_white : (b : ℕ) → is_space b ≡ true → is_document_white_space b ≡ true
-space_is_white b e = grind (arith, nat_tests)
-
 fine-before : (block : Bool) (out : Output) → reader.is_guarded out.text ≡ true
     → IsFine block (before_child block out).text
 fine-before true out e = trimmed_end-line is_space space_is_white out.text (guarded-line out.text e)
 fine-before false out e = e
-
-before-same : (block : Bool) (out : Output) → (before_child block out).definitions ≡ out.definitions
-before-same true out = refl
-before-same false out = refl
 
 -- ---- a result at its seam
 
@@ -108,7 +102,7 @@ module _ (options : Options) (guarded : is_guarded options ≡ true) (items : Li
       let first : IsKept after before =
       keeps tree (context_of inside (pre inside) trim) before fit.0 (fine-before block out e) in
       let rest = keeps-children n keeps inside trees (trim_after block before after trim) after fit.1 first.guarded in
-      record { guarded = rest.guarded; same = rest.same ∙ first.same ∙ before-same block out }
+      record { guarded = rest.guarded; same = rest.same ∙ first.same ∙ before-definitions block out }
 
   keeps-groups : (n : ℕ) → Keeps n → (inside : List Ancestor) (children : NumberedForest) (out : Output)
       → AllFit config items n children → reader.is_guarded out.text ≡ true

@@ -12,7 +12,8 @@ use Rattle.htmd_markdown.specs.GuardedLinks.{guarded_link, is_autolink_address, 
 use Rattle.htmd_markdown.specs.GuardedLinks.{guarded_definition}
 use Rattle.htmd.specs.declared.options.LinkStyle.{LinkStyle}
 use Rattle.htmd.specs.declared.options.LinkStyle.TheVariants.{Inlined, InlinedPreferAutolinks, Referenced}
-use Rattle.htmd.specs.Handling.{ElementView, ResultView, PlanView, raw_html, content_of_children, Finish, HandlerMeaning}
+use Rattle.htmd.specs.Handling.{ElementView, ResultView, PlanView, raw_html, content_of_children, Finish}
+use Rattle.htmd.specs.Handling.{HandlerMeaning}
 use Rattle.htmd.specs.Handling.{final_result, without_definitions}
 use Rattle.htmd.specs.Outputs.{is_guarded}
 use Rattle.htmd.specs.ElementViews.{attributes_of}

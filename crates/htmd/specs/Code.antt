@@ -14,7 +14,8 @@ use Rattle.htmd_tree.specs.Items.{data_at, parent_at, children_of}
 use Rattle.htmd_tree.specs.Ancestors.{ancestor_of}
 use Rattle.htmd.specs.declared.options.CodeBlockStyle.{CodeBlockStyle}
 use Rattle.htmd.specs.declared.options.CodeBlockStyle.TheVariants.{Indented, Fenced}
-use Rattle.htmd.specs.Handling.{ElementView, ResultView, PlanView, raw_html, content_of_children, HandlerMeaning, of_plan}
+use Rattle.htmd.specs.Handling.{ElementView, ResultView, PlanView, raw_html, content_of_children, HandlerMeaning}
+use Rattle.htmd.specs.Handling.{of_plan}
 use Rattle.htmd.specs.Outputs.{is_markdown_alone, is_guarded}
 use Rattle.htmd.specs.AllText.{all_text_of}
 use Rattle.htmd.specs.OneLineElements.{stands_in_line}

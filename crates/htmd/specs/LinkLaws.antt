@@ -1,5 +1,6 @@
 -- The laws of links, images and references.
-use Rattle.std.specs.Prelude.{◌≡◌, Bool, true, ◌⊎◌, ℕ, ◌+◌, ◌<◌, false, List, [], ◌∷◌, length, slice_get, Option, Some, codes}
+use Rattle.std.specs.Prelude.{◌≡◌, Bool, true, ◌⊎◌, ℕ, ◌+◌, ◌<◌, false, List, [], ◌∷◌, length, slice_get, Option, Some}
+use Rattle.std.specs.Prelude.{codes}
 use Rattle.std.specs.Option.{IsSomeAnd}
 use Rattle.htmd_markdown.specs.Addresses.{holds_backslash, HoldsAddress}
 use Rattle.htmd_markdown.specs.Links.{image_start, resource_end, inline_link_start, inline_link_end, reference}

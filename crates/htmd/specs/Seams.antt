@@ -1,5 +1,6 @@
 -- How a text is put behind another one.
-use Rattle.std.specs.Prelude.{ℕ, ◌+◌, min, max, Bool, false, ◌&&◌, ◌||◌, ◌==◌, nat_lt, if◌then◌else◌, List, ◌++◌, length}
+use Rattle.std.specs.Prelude.{ℕ, ◌+◌, min, max, Bool, false, ◌&&◌, ◌||◌, ◌==◌, nat_lt, if◌then◌else◌, List, ◌++◌}
+use Rattle.std.specs.Prelude.{length}
 use Rattle.std.specs.Prelude.{drop, replicate, ◌-◌, take, codes}
 use Rattle.std.specs.List.{prefix_len, suffix_len}
 use Rattle.htmd_text.specs.Characters.{line_feed, exclamation_mark, left_square_bracket, grave_accent}

@@ -10,6 +10,7 @@ use Rattle.std.specs.declared.string.String.{String}
 use Rattle.std.proofs.lemmas.List.{drop_more, map_push}
 use Rattle.std.proofs.lemmas.Bool.{eqb-true}
 use Rattle.std.proofs.lemmas.Bool.Decides.{nat_tests}
+use Rattle.std.proofs.Math.Bool.{or-true, or-false, and-true}
 use Rattle.htmd.specs.CharacterClasses.{begins_with}
 use Rattle.htmd_cli.specs.Words.{Asked, words, is_given, meaning, is_known, are_known, after, asked_behind, asked_by}
 use Rattle.htmd_cli.specs.Words.{nothing_asked}
@@ -50,28 +51,16 @@ some_part (b ∷ s) =
     let i = some_part s in
     test (eqb b 44) (λ e. ([], parts s, rw e refl)) (λ e. (b ∷ i.0, i.1, rw (e, i.2) refl))
 
-or_second : (x : Bool) → (x || true) ≡ true
-or_second true = refl
-or_second false = refl
-
-or_neither : (x : Bool) → (x || false) ≡ x
-or_neither true = refl
-or_neither false = refl
-
-and_yes : (x : Bool) → (x && true) ≡ x
-and_yes true = refl
-and_yes false = refl
-
 pub all_filled : (s : List ℕ) → are_filled false (parts s) ≡ list_all is_filled (parts s)
 all_filled s = let i = some_part s in rw i.2 refl
 
 filled_letter : (f : Bool) (b : ℕ) (s : List ℕ) → eqb b 44 ≡ false
     → are_filled f (parts (b ∷ s)) ≡ are_filled true (parts s)
-filled_letter f b s e = let i = some_part s in rw (e, i.2, or_second f) refl
+filled_letter f b s e = let i = some_part s in rw (e, i.2, or-true f) refl
 
 filled_comma : (f : Bool) (b : ℕ) (s : List ℕ) → eqb b 44 ≡ true
     → are_filled f (parts (b ∷ s)) ≡ f && list_all is_filled (parts s)
-filled_comma f b s e = rw (e, or_neither f) refl
+filled_comma f b s e = rw (e, or-false f) refl
 
 pub letter_fills : (f : Bool) (s : List ℕ) (i : ℕ) → i < length s → eqb (get_or s i 0) 44 ≡ false
     → are_filled f (parts (drop i s)) ≡ are_filled true (parts (drop (i + 1) s))
@@ -88,7 +77,7 @@ pub comma_empties : (s : List ℕ) (i : ℕ) → i < length s → eqb (get_or s 
 comma_empties s i l e = rw (drop_more s i 0 l) (filled_comma false (get_or s i 0) (drop (i + 1) s) e)
 
 pub filled_end : (f : Bool) (s : List ℕ) → s ≡ [] → are_filled f (parts s) ≡ f
-filled_end f s e = rw e (and_yes (f || false) ∙ or_neither f)
+filled_end f s e = rw e (and-true (f || false) ∙ or-false f)
 
 pub one_part : (s : List ℕ) → position_or_len (λ b. eqb b 44) s ≡ length s → parts s ≡ s ∷ []
 one_part [] e = refl

@@ -22,8 +22,8 @@ use Rattle.htmd.specs.declared.options.TranslationMode.TheVariants as translatio
 use Rattle.htmd.specs.declared.options.Options.{Options}
 use Rattle.htmd_cli.specs.Settings.{Chosen, nothing_chosen}
 
--- what the words ask for: what is chosen, whether the source is rows with a page each, and whether the help or the version
--- is shown in place of a conversion
+-- what the words ask for: what is chosen, whether the source is rows with a page each, and whether the help or the
+-- version is shown in place of a conversion
 pub record Asked : Type 0 where
   pub chosen : Chosen
   pub rows : Bool

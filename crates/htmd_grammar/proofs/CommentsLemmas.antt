@@ -3,9 +3,10 @@ use Rattle.std.proofs.Common.{List, None, Option, Some, [], ap, arith, codes, dr
 use Rattle.std.proofs.Common.{◌&&◌, ◌++◌, ◌∙◌, ◌∷◌, ◌≡◌, ◌⊎◌}
 use Rattle.std.proofs.lemmas.Bool.Decides.{nat_tests}
 use Rattle.std.specs.Prelude.{option_map, ◌==◌}
+use Rattle.std.proofs.lemmas.Bool.{and_parts}
 use Rattle.htmd_grammar.specs.CharacterClasses.{begins_with}
 use Rattle.htmd_grammar.specs.Comments.{before_comment_end}
-use Rattle.htmd_grammar.proofs.BooleanLemmas.{and_false, and_true, if_then}
+use Rattle.htmd_grammar.proofs.BooleanLemmas.{and_false, if_then}
 
 pub map_some : {A B : Type 0} (f : A → B) (o : Option A) (y : B) → option_map f o ≡ Some y
     → (x : A) × (o ≡ Some x) × (f x ≡ y)
@@ -89,8 +90,8 @@ pub dashes : (x : List ℕ) → begins_with (codes "--") x ≡ true → x ≡ 45
 dashes [] e = absurd (cc)
 dashes (b ∷ []) e = let q = rw (and_false (b == 45)) at e in absurd (cc)
 dashes (b ∷ c ∷ x) e =
-    let p = and_true (b == 45) ((c == 45) && true) e in
-    let q = and_true (c == 45) true p.1 in
+    let p = and_parts (b == 45) ((c == 45) && true) e in
+    let q = and_parts (c == 45) true p.1 in
     let i : b ≡ 45 = grind (arith, nat_tests) in
     let j : c ≡ 45 = grind (arith, nat_tests) in
     rw (i, j) refl

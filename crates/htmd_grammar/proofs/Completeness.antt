@@ -9,7 +9,10 @@ use Rattle.std.specs.Char.{is_ascii_alphabetic, to_ascii_lowercase}
 use Rattle.std.specs.List.{list_all, list_any}
 use Rattle.std.specs.Prelude.{if◌then◌else◌}
 use Rattle.std.specs.Str.{bytes_eq}
+use Rattle.std.proofs.Math.Bool.{or-true, or-false}
+use Rattle.std.proofs.lemmas.Bool.{and_parts}
 use Rattle.htmd_text.specs.WhiteSpace.{is_ascii_white_space}
+use Rattle.htmd_text.proofs.Cases.{test}
 use Rattle.htmd_grammar.specs.CharacterClasses.{are_distinct, behind_run, is_among, is_empty, is_tag_name}
 use Rattle.htmd_grammar.specs.CharacterClasses.{is_tag_name_byte, leading_run, up_to}
 use Rattle.htmd_grammar.specs.Comments.{before_comment_end, is_comment_text, normalized}
@@ -32,7 +35,7 @@ use Rattle.htmd_grammar.specs.TagReading.{form_within}
 use Rattle.htmd_grammar.specs.Tags.{IsEndTag, IsStartTag, IsTagRest, attribute_names, decode_values}
 use Rattle.htmd_grammar.specs.ValueTrees.{AttributePair, ValueForest, ValueTree, comment, doctype, document, element}
 use Rattle.htmd_grammar.specs.ValueTrees.{more, none, text}
-use Rattle.htmd_grammar.proofs.BooleanLemmas.{and_false, and_true, or_right, or_true, test}
+use Rattle.htmd_grammar.proofs.BooleanLemmas.{and_false}
 use Rattle.htmd_grammar.proofs.CommentsLemmas.{before_close-append}
 use Rattle.htmd_grammar.proofs.PlacesLemmas.{allowed_parts, bytes_same, no_text_alone, one_name, part_place, row_place}
 use Rattle.htmd_grammar.proofs.PlacesLemmas.{tbody_no_text_alone, tbody_not_table, tbody_place}
@@ -85,7 +88,7 @@ all_known names (a ∷ spelled) attributes e =
 pub white_parts : (v w : List ℕ) → list_all is_ascii_white_space (v ++ w) ≡ true
     → (list_all is_ascii_white_space v ≡ true) × (list_all is_ascii_white_space w ≡ true)
 white_parts [] w e = (refl, e)
-white_parts (b ∷ v) w e = let p = and_true (is_ascii_white_space b) (list_all is_ascii_white_space (v ++ w)) e in
+white_parts (b ∷ v) w e = let p = and_parts (is_ascii_white_space b) (list_all is_ascii_white_space (v ++ w)) e in
     let i = white_parts v w p.1 in (rw (p.0, i.0) refl, i.1)
 
 pub piece_before : (names : Names) (z : Bool) (n : List ℕ) (b : ℕ) (s after : List ℕ) → Stops z n after
@@ -218,7 +221,7 @@ module _ (rules : Rules) (outer : Context) where
   flush_is f gs u after st n = rw (filled u n, ended st) refl
     where
       ended : Stops rules.scripting f.name after → is_text_end rules outer (f ∷ gs) after ≡ true
-      ended (inl q) = rw q (or_true (ends_text rules.scripting f.name []))
+      ended (inl q) = rw q (or-true (ends_text rules.scripting f.name []))
       ended (inr q) = rw q refl
 
   -- text without references
@@ -273,7 +276,7 @@ module _ (rules : Rules) (outer : Context) where
   unfolding step
   start_reads fs b s name r t l f k e i =
       let n = letter_not b l in
-      rw (f, k, l, n.0, n.1, n.3, or_right (is_table_part (map to_ascii_lowercase name)), i, t, e) refl
+      rw (f, k, l, n.0, n.1, n.3, or-false (is_table_part (map to_ascii_lowercase name)), i, t, e) refl
 
   -- a start tag, where no implied `tbody` ends
   pub start_step_is : (fs : List OpenElement) (name r x : List ℕ) (spelled attributes : List AttributePair)
@@ -288,7 +291,7 @@ module _ (rules : Rules) (outer : Context) where
       (map to_ascii_lowercase name) attributes x
   start_step_is fs [] r x spelled attributes present t e h d u v o i = absurd (cc)
   start_step_is fs (b ∷ name) r x spelled attributes present t e h d u v o i =
-      let l = and_true (is_ascii_alphabetic b) (list_all is_tag_name_byte name) e in
+      let l = and_parts (is_ascii_alphabetic b) (list_all is_tag_name_byte name) e in
       let q = name_cut (b ∷ name) (r ++ x) e (halts_name (r ++ x) (rest_halts spelled present r x h).0) in
       start_reads fs b (name ++ (r ++ x)) (b ∷ name) (r ++ x) t l.0 q.0 q.1 e i
       ∙ (ap (form_step rules outer fs (map to_ascii_lowercase (b ∷ name))) (form_read spelled present r x h)

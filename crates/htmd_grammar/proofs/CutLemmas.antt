@@ -1,12 +1,14 @@
 -- A piece is the same where the text is cut off behind it, and a line feed is one whatever follows it.
-use Rattle.std.proofs.Common.{Bool, List, None, Option, Some, [], ap, append_assoc, arith, codes, cond, drop, false}
+use Rattle.std.proofs.Common.{Bool, List, [], ap, append_assoc, arith, codes, cond, drop, false}
 use Rattle.std.proofs.Common.{inl, inr, length, length-append, not, refl, subst, suc, sym, true, zero, ℕ, ◌&&◌, ◌++◌}
 use Rattle.std.proofs.Common.{◌+◌, ◌∙◌, ◌∷◌, ◌≡◌, ◌≤◌, ◌⊎◌}
 use Rattle.std.specs.Char.{is_ascii_alphanumeric, is_ascii_digit, is_ascii_hexdigit, to_ascii_lowercase}
 use Rattle.std.specs.List.{list_all}
 use Rattle.std.specs.Prelude.{◌==◌}
 use Rattle.std.specs.Str.{bytes_eq}
+use Rattle.std.proofs.lemmas.Bool.{not-true, and_parts}
 use Rattle.htmd_text.specs.WhiteSpace.{is_ascii_white_space}
+use Rattle.htmd_text.proofs.Cases.{test}
 use Rattle.htmd_grammar.specs.CharacterClasses.{begins_in_any_case, behind_run, first_is, leading_run}
 use Rattle.htmd_grammar.specs.Fronts.{IsKept}
 use Rattle.htmd_grammar.specs.RawContent.{content_of, drops_line_feed}
@@ -15,14 +17,11 @@ use Rattle.htmd_grammar.specs.References.{less_line_feed, may_be_numbered, named
 use Rattle.htmd_grammar.specs.References.{stands, wrong}
 use Rattle.htmd_grammar.specs.Rules.{character_named}
 use Rattle.htmd_grammar.specs.declared.fault.FaultKind.TheVariants.{BadNumber}
-use Rattle.htmd_grammar.proofs.BooleanLemmas.{and_true, if_then, not_true, test}
+use Rattle.htmd_grammar.proofs.BooleanLemmas.{if_then}
 use Rattle.htmd_grammar.proofs.PlacesLemmas.{same_bytes}
-use Rattle.htmd_grammar.proofs.ReferencesLemmas.{Fits, drop_cut, piece_fits}
+use Rattle.htmd_grammar.proofs.ReferencesLemmas.{Fits, drop_cut, piece_fits, stands_same, named_fits}
 use Rattle.htmd_grammar.proofs.TagReadingLemmas.{back_split, front_all, front_cut}
 use Rattle.htmd_grammar.proofs.TagSpellingLemmas.{at_head}
-
-stands_same : (n m : ℕ) (v w : List ℕ) → stands n v ≡ stands m w → (n ≡ m) × (v ≡ w)
-stands_same n m v w e = (cc, cc)
 
 -- a run that `;` ends, and what stands behind it
 abbrev Ended : (ℕ → Bool) → List ℕ → Type 0
@@ -61,8 +60,8 @@ number_cut p base k m s v e h =
     elim (if_then (first_is 59 (behind_run p s) && not (first_is 59 s))
     (numbered (suc (k + length (leading_run p s))) (number base 0 (leading_run p s))) _ (stands m v) h) [
       | inl w ↦
-          let a = and_true (first_is 59 (behind_run p s)) (not (first_is 59 s)) w.0 in
-          let n = not_true (first_is 59 s) a.1 in
+          let a = and_parts (first_is 59 (behind_run p s)) (not (first_is 59 s)) w.0 in
+          let n = not-true (first_is 59 s) a.1 in
           let c = ended p s e a.0 in (
             a.0,
             n,
@@ -128,10 +127,6 @@ sharp_cut (b ∷ s) v m e =
             → behind_number_sign (b ∷ y) ≡ number_at is_ascii_digit 10 1 (b ∷ y)
         plain b y t = rw t refl
 
-named_size : (n m : ℕ) (o : Option ℕ) (v : List ℕ) → named n o ≡ stands m v → n ≡ m
-named_size n m None v e = absurd (cc)
-named_size n m (Some c) v e = (stands_same n m _ v e).0
-
 -- a run that nothing ends is ended by nothing where it is cut off
 no_end : (p : ℕ → Bool) (x z : List ℕ)
     → (first_is 59 (behind_run p (x ++ z)) && not (first_is 59 (x ++ z))) ≡ false
@@ -178,11 +173,11 @@ and_cut names s v m e = elim (if_then (first_is 35 s) (behind_number_sign (drop 
       (named (suc (length (leading_run is_ascii_alphanumeric s)))
       (character_named names (leading_run is_ascii_alphanumeric s))) _ (stands m v) w.1) [
         | inl u ↦
-            let a = and_true (first_is 59 (behind_run is_ascii_alphanumeric s)) (not (first_is 59 s)) u.0 in
-            let n = not_true (first_is 59 s) a.1 in
+            let a = and_parts (first_is 59 (behind_run is_ascii_alphanumeric s)) (not (first_is 59 s)) u.0 in
+            let n = not-true (first_is 59 s) a.1 in
             let c = ended is_ascii_alphanumeric s refl a.0 in
             let k = length-append (leading_run is_ascii_alphanumeric s) (59 ∷ []) in
-            let g = named_size (suc (length (leading_run is_ascii_alphanumeric s))) m
+            let g = named_fits (suc (length (leading_run is_ascii_alphanumeric s))) m
             (character_named names (leading_run is_ascii_alphanumeric s)) v u.1 in (
               leading_run is_ascii_alphanumeric s ++ 59 ∷ [],
               drop 1 (behind_run is_ascii_alphanumeric s),
@@ -240,8 +235,8 @@ and_white names s v after m e l = elim (if_then (first_is 35 s) (behind_number_s
       (named (suc (length (leading_run is_ascii_alphanumeric s)))
       (character_named names (leading_run is_ascii_alphanumeric s))) _ (stands m v) w.1) [
         | inl u ↦
-            let a = and_true (first_is 59 (behind_run is_ascii_alphanumeric s)) (not (first_is 59 s)) u.0 in
-            let n = not_true (first_is 59 s) a.1 in
+            let a = and_parts (first_is 59 (behind_run is_ascii_alphanumeric s)) (not (first_is 59 s)) u.0 in
+            let n = not-true (first_is 59 s) a.1 in
             let c = ended is_ascii_alphanumeric s refl a.0 in
             let x : List ℕ = drop 1 (behind_run is_ascii_alphanumeric s) ++ after in
             ap (behind_ampersand names) (ap (λ (y : List ℕ). y ++ after) c.0

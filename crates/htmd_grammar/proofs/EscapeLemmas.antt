@@ -3,14 +3,16 @@ use Rattle.std.proofs.Common.{List, Some, [], ap, codes, false, inl, inr, not, r
 use Rattle.std.proofs.Common.{◌∷◌, ◌≡◌}
 use Rattle.std.proofs.lemmas.List.{append-nil}
 use Rattle.std.specs.Prelude.{◌==◌}
+use Rattle.std.proofs.lemmas.Bool.{not-true, and_parts, eqb-true}
 use lib.Utf8.{encode}
 use Rattle.htmd_grammar.specs.CharacterClasses.{lacks}
 use Rattle.htmd_grammar.specs.RawBlocks.{RefersToLineFeeds, line_feed_reference}
 use Rattle.htmd_grammar.specs.References.{Names, decode, may_be_numbered}
 use Rattle.htmd_grammar.specs.Rules.{character_named}
 use Rattle.htmd_grammar.specs.Serialisation.{escaped_html, is_no_break_space, text_byte, value_byte}
-use Rattle.htmd_grammar.proofs.BooleanLemmas.{and_true, lacks-append, not_true, same_byte, test}
+use Rattle.htmd_grammar.proofs.BooleanLemmas.{lacks-append}
 use Rattle.htmd_grammar.proofs.ReferencedLineFeeds.{refers_first, refers_nothing, refers_plain, refers_split}
+use Rattle.htmd_text.proofs.Cases.{test}
 
 -- the names that the serialiser writes
 pub record HasEscapes (names : Names) : Type 0 where
@@ -79,20 +81,20 @@ module _ (names : Names) (has : HasEscapes names) where
   text_byte_back : (b : ℕ) (y : List ℕ) → (b == 13) ≡ false → RefersToLineFeeds (text_byte b) y
       → Decodes y (b ∷ []) × (lacks 60 y ≡ true)
   text_byte_back b y f r =
-      test (b == 38) (λ t. escape_back 60 b 38 (codes "&amp;") y refl refl (same_byte b 38 t) amp_decodes (rw t at r))
+      test (b == 38) (λ t. escape_back 60 b 38 (codes "&amp;") y refl refl (eqb-true b 38 t) amp_decodes (rw t at r))
       (λ t.
-      test (b == 60) (λ p. escape_back 60 b 60 (codes "&lt;") y refl refl (same_byte b 60 p) lt_decodes
+      test (b == 60) (λ p. escape_back 60 b 60 (codes "&lt;") y refl refl (eqb-true b 60 p) lt_decodes
       (rw (t, p) at r)) (λ p.
-      test (b == 62) (λ q. escape_back 60 b 62 (codes "&gt;") y refl refl (same_byte b 62 q) gt_decodes
+      test (b == 62) (λ q. escape_back 60 b 62 (codes "&gt;") y refl refl (eqb-true b 62 q) gt_decodes
       (rw (t, p, q) at r)) (λ q.
       byte_back 60 b y t f p refl (rw (t, p, q) at r))))
 
   value_byte_back : (b : ℕ) (y : List ℕ) → (b == 13) ≡ false → RefersToLineFeeds (value_byte b) y
       → Decodes y (b ∷ []) × (lacks 34 y ≡ true)
   value_byte_back b y f r =
-      test (b == 38) (λ t. escape_back 34 b 38 (codes "&amp;") y refl refl (same_byte b 38 t) amp_decodes (rw t at r))
+      test (b == 38) (λ t. escape_back 34 b 38 (codes "&amp;") y refl refl (eqb-true b 38 t) amp_decodes (rw t at r))
       (λ t.
-      test (b == 34) (λ p. escape_back 34 b 34 (codes "&quot;") y refl refl (same_byte b 34 p) quot_decodes
+      test (b == 34) (λ p. escape_back 34 b 34 (codes "&quot;") y refl refl (eqb-true b 34 p) quot_decodes
       (rw (t, p) at r)) (λ p.
       byte_back 34 b y t f p refl (rw (t, p) at r)))
 
@@ -110,24 +112,24 @@ module _ (names : Names) (has : HasEscapes names) where
     escaped_back : (s x : List ℕ) → lacks 13 s ≡ true → RefersToLineFeeds (escaped_html byte s) x → Back x s
     escaped_back [] x l r = rw (refers_nothing x r) (refl, refl)
     escaped_back (b ∷ []) x l r =
-        let p = and_true (not (b == 13)) true l in
-        let o = byte_ok b x (not_true (b == 13) p.0) r in
+        let p = and_parts (not (b == 13)) true l in
+        let o = byte_ok b x (not-true (b == 13) p.0) r in
         joined x x [] (b ∷ []) [] (sym (append-nil x)) o.0 o.1 (refl, refl)
     escaped_back (b ∷ c ∷ s) x l r =
-        let p = and_true (not (b == 13)) (lacks 13 (c ∷ s)) l in
-        let q = and_true (not (c == 13)) (lacks 13 s) p.1 in
+        let p = and_parts (not (b == 13)) (lacks 13 (c ∷ s)) l in
+        let q = and_parts (not (c == 13)) (lacks 13 s) p.1 in
         test (is_no_break_space b c)
         (λ t.
         let i = refers_split (codes "&nbsp;") (escaped_html byte s) x (rw t at r) in
         let k : i.0 ≡ codes "&nbsp;" = refers_plain (codes "&nbsp;") i.0 refl i.3 in
-        let m = and_true (b == 0xC2) (c == 0xA0) t in
-        subst (λ (v : List ℕ). Back x (v ++ s)) (two b c (same_byte b 0xC2 m.0) (same_byte c 0xA0 m.1))
+        let m = and_parts (b == 0xC2) (c == 0xA0) t in
+        subst (λ (v : List ℕ). Back x (v ++ s)) (two b c (eqb-true b 0xC2 m.0) (eqb-true c 0xA0 m.1))
         (joined x (codes "&nbsp;") i.1 (0xC2 ∷ 0xA0 ∷ []) s (i.2 ∙ ap (λ (y : List ℕ). y ++ i.1) k)
         nbsp_decodes clean
         (escaped_back s i.1 q.1 i.4)))
         (λ t.
         let i = refers_split (byte b) (escaped_html byte (c ∷ s)) x (rw t at r) in
-        let o = byte_ok b i.0 (not_true (b == 13) p.0) i.3 in
+        let o = byte_ok b i.0 (not-true (b == 13) p.0) i.3 in
         joined x i.0 i.1 (b ∷ []) (c ∷ s) i.2 o.0 o.1 (escaped_back (c ∷ s) i.1 p.1 i.4))
       where
         two : (b c : ℕ) → b ≡ 0xC2 → c ≡ 0xA0

@@ -5,9 +5,12 @@ use Rattle.std.proofs.Common.{◌∷◌, ◌≡◌, ◌⊎◌}
 use Rattle.std.specs.Char.{is_ascii_alphabetic, is_ascii_alphanumeric, is_ascii_digit, is_ascii_hexdigit}
 use Rattle.std.specs.Char.{to_ascii_lowercase}
 use Rattle.std.specs.List.{list_any}
+use Rattle.std.proofs.lemmas.Bool.{not-true, and_parts, or_parts}
+use Rattle.std.proofs.Math.Bool.{or-true}
 use Rattle.htmd_text.specs.Characters.{ampersand, carriage_return, exclamation_mark, greater_than_sign, hyphen}
 use Rattle.htmd_text.specs.Characters.{less_than_sign, line_feed, number_sign, semicolon, slash}
 use Rattle.htmd_text.specs.WhiteSpace.{is_ascii_white_space}
+use Rattle.htmd_text.proofs.Cases.{test}
 use Rattle.htmd_grammar.specs.CharacterClasses.{begins_in_any_case, begins_with, behind_run, first_is, is_tag_name}
 use Rattle.htmd_grammar.specs.CharacterClasses.{is_tag_name_byte, lacks, leading_run}
 use Rattle.htmd_grammar.specs.Comments.{before_comment_end, is_comment_text}
@@ -23,7 +26,7 @@ use Rattle.htmd_grammar.specs.Tags.{decode_values, with_value}
 use Rattle.htmd_grammar.specs.ValueTrees.{AttributePair}
 use Rattle.htmd_grammar.specs.declared.fault.FaultKind.{FaultKind}
 use Rattle.htmd_grammar.specs.declared.fault.FaultKind.TheVariants.{BadNumber, UnknownReference}
-use Rattle.htmd_grammar.proofs.BooleanLemmas.{and_true, if_then, not_true, or_false, or_true, test}
+use Rattle.htmd_grammar.proofs.BooleanLemmas.{if_then}
 use Rattle.htmd_grammar.proofs.CommentsLemmas.{before_close-append, cut}
 use Rattle.htmd_grammar.proofs.ReferencesLemmas.{Skips, piece_fits, put_parts, skips_fit}
 use Rattle.htmd_grammar.proofs.Soundness.{end_tag_at}
@@ -48,8 +51,8 @@ numbers_right_from names (b ∷ s) zero u d k =
     let p = put_parts (piece_at names b s) (λ n. decode names n s) u d in
     rw (p.3, numbers_right_from names s p.0 p.2 p.4 (skips_fit p.0 s (piece_fits names b s p.1 p.0 p.3))) refl
 numbers_right_from names (b ∷ s) (suc n) u d k =
-    let q = and_true (not (b == ampersand)) (lacks ampersand (take n s)) k in
-    rw (no_number names b s (not_true (b == ampersand) q.0), numbers_right_from names s n u d q.1) refl
+    let q = and_parts (not (b == ampersand)) (lacks ampersand (take n s)) k in
+    rw (no_number names b s (not-true (b == ampersand) q.0), numbers_right_from names s n u d q.1) refl
 
 -- what is decoded has no wrong number
 pub numbers_right : (names : Names) (s u : List ℕ) → decode names 0 s ≡ Some u
@@ -115,10 +118,10 @@ wrong_from : (names : Names) (s : List ℕ) (n : ℕ) → decode names n s ≡ N
     → has_bad_number names s ≡ true
 wrong_from names [] n d k = absurd (cc)
 wrong_from names (b ∷ s) (suc n) d k =
-    let q = or_false (is_unknown (piece_at names b s)) (has_unknown_reference names s) k in
-    rw (wrong_from names s n d q.1) (or_true (is_bad_number (piece_at names b s)))
+    let q = or_parts (is_unknown (piece_at names b s)) (has_unknown_reference names s) k in
+    rw (wrong_from names s n d q.1) (or-true (is_bad_number (piece_at names b s)))
 wrong_from names (b ∷ s) zero d k =
-    let q = or_false (is_unknown (piece_at names b s)) (has_unknown_reference names s) k in
+    let q = or_parts (is_unknown (piece_at names b s)) (has_unknown_reference names s) k in
     go (piece_at names b s) refl d q.0 (λ m j. wrong_from names s m j q.1)
   where
     nothing_behind : (v : List ℕ) (o : Option (List ℕ)) → behind v o ≡ None → o ≡ None
@@ -149,7 +152,7 @@ pub values_wrong : (names : Names) (spelled : List AttributePair) → decode_val
 values_wrong names [] d k = absurd (cc)
 values_wrong names (a ∷ spelled) d k =
     let q =
-    or_false (has_unknown_reference names a.value) (list_any (λ a. has_unknown_reference names a.value) spelled)
+    or_parts (has_unknown_reference names a.value) (list_any (λ a. has_unknown_reference names a.value) spelled)
     k in
     go (decode names 0 a.value) refl (decode_values names spelled) refl d q.0 (λ e. values_wrong names spelled e q.1)
   where
@@ -159,7 +162,7 @@ values_wrong names (a ∷ spelled) d k =
         → (decode_values names spelled ≡ None → list_any (λ a. has_bad_number names a.value) spelled ≡ true)
         → (has_bad_number names a.value || list_any (λ a. has_bad_number names a.value) spelled) ≡ true
     go None e r f w u ih = rw (wrong_from names a.value 0 e u) refl
-    go (Some v) e None f w u ih = rw (ih f) (or_true (has_bad_number names a.value))
+    go (Some v) e None f w u ih = rw (ih f) (or-true (has_bad_number names a.value))
     go (Some v) e (Some r) f w u ih = absurd (cc)
 
 -- ---- tags

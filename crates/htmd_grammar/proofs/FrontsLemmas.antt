@@ -14,12 +14,12 @@ use Rattle.htmd_grammar.specs.Steps.{OpenElement, closed, names_of, with_childre
 use Rattle.htmd_grammar.specs.Tags.{IsEndTag, IsStartTag, IsTagForm}
 use Rattle.htmd_grammar.specs.ValueTrees.{AttributePair, ValueForest, ValueTree, comment, doctype, document, element}
 use Rattle.htmd_grammar.specs.ValueTrees.{more, none, text}
-use Rattle.htmd_grammar.proofs.BooleanLemmas.{test}
 use Rattle.htmd_grammar.proofs.Completeness.{content_over, decoded_full}
 use Rattle.htmd_grammar.proofs.PlacesLemmas.{no_text_alone, one_name, tbody_place}
 use Rattle.htmd_grammar.proofs.TagReadingLemmas.{halts_name, rest_halts}
 use Rattle.htmd_grammar.proofs.TextLemmas.{Stops, name_cut, name_head, no_tag, run_not_stop}
 use Rattle.htmd_grammar.proofs.TreeTexts.{Inside, IsTextTree, node_no_title, row_start, stops_after}
+use Rattle.htmd_text.proofs.Cases.{test}
 
 -- a text comes last
 abbrev pub ends_in_text : ValueForest → Bool

@@ -12,7 +12,7 @@ use Rattle.htmd_grammar.specs.Steps.{OpenElement, Reaches, State, body, closed, 
 use Rattle.htmd_grammar.specs.Steps.{names_of, step, via, with_children, with_forest, ◌+++◌}
 use Rattle.htmd_grammar.specs.Tags.{IsStartTag}
 use Rattle.htmd_grammar.specs.ValueTrees.{ValueForest, ValueTree, comment, doctype, document, element, more, none, text}
-use Rattle.htmd_grammar.proofs.BooleanLemmas.{and_false, test}
+use Rattle.htmd_grammar.proofs.BooleanLemmas.{and_false}
 use Rattle.htmd_grammar.proofs.Completeness.{Goes, IsNamed, Leads, RowsEnd, along, append_nodes_assoc, append_none}
 use Rattle.htmd_grammar.proofs.Completeness.{at_piece, in_text, node_read, not_deep, opened_at, pieces_read}
 use Rattle.htmd_grammar.proofs.Completeness.{reaches_then, row_opens_in, tag_opens}
@@ -23,6 +23,7 @@ use Rattle.htmd_grammar.proofs.Readings.{named_front}
 use Rattle.htmd_grammar.proofs.TagReadingLemmas.{filled}
 use Rattle.htmd_grammar.proofs.TextLemmas.{Stops, markup-append}
 use Rattle.htmd_grammar.proofs.TreeTexts.{IsTextTree, RowTag, row_start, start_tag_begins, stops_after}
+use Rattle.htmd_text.proofs.Cases.{test}
 
 text_last : (t : ValueTree) → IsTextTree t ≡ true → ends_in_text (more t none) ≡ true
 text_last (document ks) e = absurd (cc)

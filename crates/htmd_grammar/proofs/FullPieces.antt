@@ -11,16 +11,15 @@ use Rattle.htmd_grammar.specs.References.{Names, Piece, behind, behind_ampersand
 use Rattle.htmd_grammar.specs.References.{may_be_numbered, named, number, number_at, numbered, piece_at, put, stands}
 use Rattle.htmd_grammar.specs.References.{wrong}
 use Rattle.htmd_grammar.specs.Rules.{character_named}
-use Rattle.htmd_grammar.proofs.BooleanLemmas.{and_false, if_then, test}
+use Rattle.htmd_grammar.proofs.BooleanLemmas.{and_false, if_then}
+use Rattle.htmd_grammar.proofs.ReferencesLemmas.{stands_same}
+use Rattle.htmd_text.proofs.Cases.{test}
 
 encode_full : (c : ℕ) → encode c ≢ []
 unfolding encode
 encode_full c e =
     test (ltb c 0x80) (λ a. let w = rw a at e in cc) (λ a. test (ltb c 0x800) (λ b. let w = rw (a, b) at e in cc)
     (λ b. test (ltb c 0x1_0000) (λ d. let w = rw (a, b, d) at e in cc) (λ d. let w = rw (a, b, d) at e in cc)))
-
-stands_same : (n m : ℕ) (v w : List ℕ) → stands n v ≡ stands m w → (n ≡ m) × (v ≡ w)
-stands_same n m v w e = (cc, cc)
 
 numbered_full : (n c m : ℕ) (v : List ℕ) → numbered n c ≡ stands m v → v ≢ []
 numbered_full n c m v e q = elim (if_then (may_be_numbered c) (stands n (encode c)) _ (stands m v) e) [

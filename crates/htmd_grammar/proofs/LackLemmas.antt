@@ -5,6 +5,7 @@ use Rattle.std.proofs.lemmas.Bool.Decides.{nat_tests}
 use Rattle.std.specs.Char.{is_ascii_alphabetic}
 use Rattle.std.specs.List.{flat_map, list_all}
 use Rattle.std.specs.Prelude.{nat_le, ◌==◌}
+use Rattle.std.proofs.lemmas.Bool.{and_parts}
 use Rattle.htmd_grammar.specs.CharacterClasses.{holds_control, is_attribute_name, is_attribute_name_byte, is_empty}
 use Rattle.htmd_grammar.specs.CharacterClasses.{is_tag_name, is_tag_name_byte, lacks}
 use Rattle.htmd_grammar.specs.Grammar.{ReadsForest, ReadsTree, may_end_rows}
@@ -18,10 +19,11 @@ use Rattle.htmd_grammar.specs.Serialisation.{value_byte}
 use Rattle.htmd_grammar.specs.Tags.{attribute_names}
 use Rattle.htmd_grammar.specs.ValueTrees.{AttributePair, ValueForest, ValueTree, comment, doctype, document, element}
 use Rattle.htmd_grammar.specs.ValueTrees.{more, none, text}
-use Rattle.htmd_grammar.proofs.BooleanLemmas.{all_pass, and_true, lacks-append, test}
+use Rattle.htmd_grammar.proofs.BooleanLemmas.{all_pass, lacks-append}
 use Rattle.htmd_grammar.proofs.PlacesLemmas.{one_name}
 use Rattle.htmd_grammar.proofs.TagsLemmas.{AreTreeKeys, IsTreeName, decoded_names, tree_keys, tree_name}
 use Rattle.htmd_grammar.proofs.TreeTexts.{Inside}
+use Rattle.htmd_text.proofs.Cases.{test}
 
 abbrev mutual
   -- the texts, comments and values of a tree lack the byte
@@ -43,7 +45,7 @@ module _ (k : ℕ) (low : k < 32) where
   name_high : (n : List ℕ) → is_tag_name n ≡ true → lacks k n ≡ true
   name_high [] e = absurd (cc)
   name_high (b ∷ n) e =
-      let p = and_true (is_ascii_alphabetic b) (list_all is_tag_name_byte n) e in
+      let p = and_parts (is_ascii_alphabetic b) (list_all is_tag_name_byte n) e in
       rw (letter_high b p.0, all_pass is_tag_name_byte (λ c. not (c == k)) n byte_high p.1) refl
     where
       letter_high : (b : ℕ) → is_ascii_alphabetic b ≡ true → (b == k) ≡ false
@@ -54,9 +56,9 @@ module _ (k : ℕ) (low : k < 32) where
 
   key_high : (n : List ℕ) → is_attribute_name n ≡ true → lacks k n ≡ true
   key_high n e =
-      let p = and_true (not (is_empty n) && list_all is_attribute_name_byte n) (not (holds_control n)) e in
+      let p = and_parts (not (is_empty n) && list_all is_attribute_name_byte n) (not (holds_control n)) e in
       all_pass is_attribute_name_byte (λ c. not (c == k)) n byte_high
-      (and_true (not (is_empty n)) (list_all is_attribute_name_byte n) p.0).1
+      (and_parts (not (is_empty n)) (list_all is_attribute_name_byte n) p.0).1
     where
       byte_high : (b : ℕ) → is_attribute_name_byte b ≡ true → not (b == k) ≡ true
       byte_high b e = grind (arith, nat_tests)
@@ -75,10 +77,10 @@ module _ (k : ℕ) (low : k < 32) where
       → (s : List ℕ)
       → lacks k s ≡ true → lacks k (escaped_html byte s) ≡ true
   escaped_lacks byte h [] e = refl
-  escaped_lacks byte h (b ∷ []) e = h b (and_true (not (b == k)) true e).0
+  escaped_lacks byte h (b ∷ []) e = h b (and_parts (not (b == k)) true e).0
   escaped_lacks byte h (b ∷ c ∷ s) e =
-      let p = and_true (not (b == k)) (lacks k (c ∷ s)) e in
-      let q = and_true (not (c == k)) (lacks k s) p.1 in
+      let p = and_parts (not (b == k)) (lacks k (c ∷ s)) e in
+      let q = and_parts (not (c == k)) (lacks k s) p.1 in
       test (is_no_break_space b c)
       (λ t. rw t (lacks-append k (codes "&nbsp;") (escaped_html byte s) (high (codes "&nbsp;") refl)
       (escaped_lacks byte h s q.1)))
@@ -89,7 +91,7 @@ module _ (k : ℕ) (low : k < 32) where
       → list_all (λ a. lacks k a.value) attributes ≡ true → lacks k (flat_map attribute_text attributes) ≡ true
   attributes_lack [] h e = refl
   attributes_lack (a ∷ attributes) h e =
-      let p = and_true (lacks k a.value) (list_all (λ a. lacks k a.value) attributes) e in
+      let p = and_parts (lacks k a.value) (list_all (λ a. lacks k a.value) attributes) e in
       let key : lacks k (codes " " ++ a.name) ≡ true = lacks-append k (codes " ") a.name (high (codes " ") refl)
       (key_high a.name h.0) in
       let eq : lacks k ((codes " " ++ a.name) ++ codes "=\"") ≡ true =
@@ -150,14 +152,14 @@ module _ (k : ℕ) (low : k < 32) where
       node_lacks (comment u) c l raw s h e = lacks-append k (60 ∷ 33 ∷ 45 ∷ 45 ∷ u) (codes "-->")
           (lacks-append k (codes "<!--") u (high (codes "<!--") refl) e) (high (codes "-->") refl)
       node_lacks (element n attributes ks) c l raw s h e =
-          let p = and_true (list_all (λ a. lacks k a.value) attributes) (all_lack k ks) e in
+          let p = and_parts (list_all (λ a. lacks k a.value) attributes) (all_lack k ks) e in
           element_lacks c l raw n attributes ks s (λ y g. nodes_lack ks (n ∷ c) true (is_raw_text n) y g p.1) h p.0
 
       pub nodes_lack : (ts : ValueForest) (c : Context) (l raw : Bool) (s : List ℕ) → ReadsForest rules c l ts s
           → all_lack k ts ≡ true → lacks k (all_markup_of raw ts) ≡ true
       nodes_lack none c l raw s h e = refl
       nodes_lack (more t ts) c l raw s h e =
-          let p = and_true (strings_lack k t) (all_lack k ts) e in
+          let p = and_parts (strings_lack k t) (all_lack k ts) e in
           lacks-append k (markup_of raw t) (all_markup_of raw ts)
           (node_lacks t c (may_end_rows l ts h.1) raw h.0 h.4 p.0) (nodes_lack ts c l raw h.1 h.5 p.1)
 
@@ -168,13 +170,13 @@ mutual
   plain_lacks (text u) e = e
   plain_lacks (comment u) e = absurd (cc)
   plain_lacks (element n attributes ks) e =
-      let p = and_true (not (is_special n) && list_all is_plain_attribute attributes) (all_plain ks) e in
-      let q = and_true (not (is_special n)) (list_all is_plain_attribute attributes) p.0 in
+      let p = and_parts (not (is_special n) && list_all is_plain_attribute attributes) (all_plain ks) e in
+      let q = and_parts (not (is_special n)) (list_all is_plain_attribute attributes) p.0 in
       rw (q.1, plains_lack ks p.1) refl
 
   pub plains_lack : (ts : ValueForest) → all_plain ts ≡ true → all_lack 13 ts ≡ true
   plains_lack none e = refl
-  plains_lack (more t ts) e = let p = and_true (is_plain t) (all_plain ts) e in
+  plains_lack (more t ts) e = let p = and_parts (is_plain t) (all_plain ts) e in
       rw (plain_lacks t p.0, plains_lack ts p.1) refl
 
 -- no carriage return in what the serialiser writes of a plain tree that was read

@@ -6,8 +6,10 @@ use Rattle.std.proofs.lemmas.Bool.Decides.{nat_tests}
 use Rattle.std.proofs.lemmas.List.{append-nil}
 use Rattle.std.specs.List.{list_all}
 use Rattle.std.specs.Prelude.{if◌then◌else◌}
+use Rattle.std.proofs.lemmas.Bool.{not-true, and_parts, eqb-true, ltb-true}
 use Rattle.htmd_text.specs.Characters.{null}
 use Rattle.htmd_text.specs.WhiteSpace.{is_ascii_white_space}
+use Rattle.htmd_text.proofs.Cases.{test}
 use Rattle.htmd_grammar.specs.CharacterClasses.{first_is, is_empty, lacks}
 use Rattle.htmd_grammar.specs.Documents.{above_body, body_text}
 use Rattle.htmd_grammar.specs.Faults.{HasPiece, IsFirstNul, IsPieceFault, IsTextWithReferences, Says}
@@ -28,7 +30,6 @@ use Rattle.htmd_grammar.specs.declared.fault.FaultKind.TheVariants.{MalformedDec
 use Rattle.htmd_grammar.specs.declared.fault.FaultKind.TheVariants.{Nul, ScriptEscape, SelfClosing, StrayEndTag}
 use Rattle.htmd_grammar.specs.declared.fault.FaultKind.TheVariants.{StrayText, TagOutside, TooDeep, Unclosed}
 use Rattle.htmd_grammar.specs.declared.fault.FaultKind.TheVariants.{UnknownReference}
-use Rattle.htmd_grammar.proofs.BooleanLemmas.{and_true, not_true, same_byte, test}
 use Rattle.htmd_grammar.proofs.Completeness.{Goes, at_piece, content_bound, content_over, decoded_full, in_text}
 use Rattle.htmd_grammar.proofs.CutLemmas.{piece_white}
 use Rattle.htmd_grammar.proofs.FrontsLemmas.{content_plain, ends_in_text}
@@ -74,9 +75,6 @@ kind_there TooDeep = refl
 same_kind : (k l : FaultKind) → number_of k ≡ number_of l → k ≡ l
 same_kind k l e = sym (kind_there k) ∙ (ap kind_at e ∙ kind_there l)
 
-less_than : (n m : ℕ) → nat_lt n m ≡ true → n < m
-less_than n m e = grind (arith, nat_tests)
-
 neither_less : (n m : ℕ) → nat_lt n m ≡ false → nat_lt m n ≡ false → n ≡ m
 neither_less n m e f = grind (arith, nat_tests)
 
@@ -84,8 +82,8 @@ neither_less n m e f = grind (arith, nat_tests)
 no_lower_kind : (k l : FaultKind) → (number_of k < number_of l → ⊥) → (number_of l < number_of k → ⊥)
     → k ≡ l
 no_lower_kind k l a b =
-    test (nat_lt (number_of k) (number_of l)) (λ t. absurd (a (less_than (number_of k) (number_of l) t)))
-    (λ t. test (nat_lt (number_of l) (number_of k)) (λ u. absurd (b (less_than (number_of l) (number_of k) u)))
+    test (nat_lt (number_of k) (number_of l)) (λ t. absurd (a (ltb-true (number_of k) (number_of l) t)))
+    (λ t. test (nat_lt (number_of l) (number_of k)) (λ u. absurd (b (ltb-true (number_of l) (number_of k) u)))
     (λ u. same_kind k l (neither_less (number_of k) (number_of l) t u)))
 
 -- ---- U+0000
@@ -95,7 +93,7 @@ itself b = grind (arith, nat_tests)
 
 holds_it : (b : ℕ) (x y : List ℕ) → lacks b (x ++ (b ∷ y)) ≡ true → ⊥
 holds_it b [] y e = let w = rw (itself b) at e in cc
-holds_it b (c ∷ x) y e = holds_it b x y (and_true (not (c == b)) (lacks b (x ++ (b ∷ y))) e).1
+holds_it b (c ∷ x) y e = holds_it b x y (and_parts (not (c == b)) (lacks b (x ++ (b ∷ y))) e).1
 
 one_first : (b : ℕ) (x y v w : List ℕ) → x ++ (b ∷ y) ≡ v ++ (b ∷ w) → lacks b x ≡ true
     → lacks b v ≡ true
@@ -107,8 +105,8 @@ one_first b (c ∷ x) y [] w q e f =
     absurd (let z : c ≡ b = cc in let u = rw z at e in let i = rw (itself b) at u in cc)
 one_first b (c ∷ x) y (d ∷ v) w q e f =
     let z : x ++ (b ∷ y) ≡ v ++ (b ∷ w) = cc in
-    let a = (and_true (not (c == b)) (lacks b x) e).1 in
-    let i = (and_true (not (d == b)) (lacks b v) f).1 in
+    let a = (and_parts (not (c == b)) (lacks b x) e).1 in
+    let i = (and_parts (not (d == b)) (lacks b v) f).1 in
     let n = one_first b x y v w z a i in
     omega arith
 
@@ -121,14 +119,14 @@ one_nul s p q a b =
 
 -- only `&` begins a reference that is wrong
 wrong_begins : (names : Names) (b : ℕ) (s : List ℕ) (k : FaultKind) → piece_at names b s ≡ wrong k → b ≡ 38
-wrong_begins names b s k e = test (b == 38) (λ t. same_byte b 38 t) (λ t. absurd (plain t))
+wrong_begins names b s k e = test (b == 38) (λ t. eqb-true b 38 t) (λ t. absurd (plain t))
   where
     plain : (b == 38) ≡ false → ⊥
     plain t = test (b == 13) (λ r. test (first_is 10 s) (λ q. let z = rw (t, r, q) at e in cc)
         (λ q. let z = rw (t, r, q) at e in cc)) (λ r. let z = rw (t, r) at e in cc)
 
 parts_drop_nothing : (n : List ℕ) → holds_parts n ≡ true → drops_line_feed n ≡ false
-parts_drop_nothing n h = not_true (drops_line_feed n)
+parts_drop_nothing n h = not-true (drops_line_feed n)
     (among_passes (λ p. not (drops_line_feed p)) (codes "table" ∷ codes "thead" ∷ codes "tbody" ∷ codes "tfoot"
     ∷ codes "tr" ∷ codes "colgroup" ∷ []) n h refl)
 
@@ -188,7 +186,7 @@ module _ (rules : Rules) where
         where
           feed : (h.0 == 10) ≡ true → ⊥
           feed q =
-              let a = same_byte h.0 10 q in
+              let a = eqb-true h.0 10 q in
               let z : 10 ∷ [] ≡ v = stands_parts 0 m (10 ∷ []) v
               (sym (ap (λ (b : ℕ). piece_at rules.names b h.1) a)
               ∙ h.3) in
@@ -202,7 +200,7 @@ module _ (rules : Rules) where
         where
           less : (b == 60) ≡ true → ⊥
           less z =
-              let a = same_byte b 60 z in
+              let a = eqb-true b 60 z in
               let y : 60 ∷ [] ≡ u = stands_parts 0 j (60 ∷ []) u
               (sym (ap (λ (b : ℕ). piece_at rules.names b s) a) ∙ q)
               in

@@ -15,10 +15,10 @@ use Rattle.htmd_grammar.specs.Serialisation.{is_void}
 use Rattle.htmd_grammar.specs.Tags.{decode_values}
 use Rattle.htmd_grammar.specs.ValueTrees.{AttributePair, ValueForest, ValueTree, comment, doctype, document, element}
 use Rattle.htmd_grammar.specs.ValueTrees.{more, none, text}
-use Rattle.htmd_grammar.proofs.BooleanLemmas.{test}
 use Rattle.htmd_grammar.proofs.ReferencesLemmas.{put_parts}
 use Rattle.htmd_grammar.proofs.TagsLemmas.{values_parts}
 use Rattle.htmd_grammar.proofs.TreeTexts.{Inside}
+use Rattle.htmd_text.proofs.Cases.{test}
 
 module _ (few many : Names) (has : (n : List ℕ) (c : ℕ) → character_named few n ≡ Some c
     → character_named many n ≡ Some c) where

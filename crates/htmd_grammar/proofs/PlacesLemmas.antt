@@ -4,12 +4,15 @@ use Rattle.std.proofs.Common.{◌⊎◌}
 use Rattle.std.proofs.lemmas.Slice.Eq.{bytes_eq-Decides}
 use Rattle.std.specs.List.{list_all}
 use Rattle.std.specs.Str.{bytes_eq}
+use Rattle.std.proofs.lemmas.Bool.{not-true, and_parts}
+use Rattle.std.proofs.Math.Bool.{or-false}
 use Rattle.htmd_grammar.specs.CharacterClasses.{is_among}
 use Rattle.htmd_grammar.specs.Places.{Context, fits_lists, fits_open_elements, fits_select, fits_table, is_allowed}
 use Rattle.htmd_grammar.specs.Places.{is_outside, is_row, is_table, is_table_part, is_tbody, parent_name}
 use Rattle.htmd_grammar.specs.RawContent.{holds_text_alone}
 use Rattle.htmd_grammar.specs.Serialisation.{is_void}
-use Rattle.htmd_grammar.proofs.BooleanLemmas.{and_false, and_true, not_true, or_right, test}
+use Rattle.htmd_grammar.proofs.BooleanLemmas.{and_false}
+use Rattle.htmd_text.proofs.Cases.{test}
 
 pub same_bytes : (n m : List ℕ) → bytes_eq n m ≡ true → n ≡ m
 same_bytes n m e = (bytes_eq-Decides n m).0 e
@@ -18,7 +21,7 @@ pub bytes_same : (n : List ℕ) → bytes_eq n n ≡ true
 bytes_same n = (bytes_eq-Decides n n).1 refl
 
 pub one_name : (m n : List ℕ) → is_among (m ∷ []) n ≡ true → n ≡ m
-one_name m n e = same_bytes n m (sym (or_right (bytes_eq n m)) ∙ e)
+one_name m n e = same_bytes n m (sym (or-false (bytes_eq n m)) ∙ e)
 
 pub two_names : (a b n : List ℕ) → is_among (a ∷ b ∷ []) n ≡ true → (n ≡ a) ⊎ (n ≡ b)
 two_names a b n e = test (bytes_eq n a) (λ t. inl (same_bytes n a t)) (λ t. let w = rw t at e in inr (one_name b n w))
@@ -28,7 +31,7 @@ pub among_passes : (P : List ℕ → Bool) (names : List (List ℕ)) (n : List �
     → list_all P names ≡ true → P n ≡ true
 among_passes P [] n e l = absurd (cc)
 among_passes P (m ∷ names) n e l =
-    let k = and_true (P m) (list_all P names) l in
+    let k = and_parts (P m) (list_all P names) l in
     test (bytes_eq n m) (λ t. ap P (same_bytes n m t) ∙ k.0)
     (λ t. let w = rw t at e in among_passes P names n w k.1)
 
@@ -64,16 +67,17 @@ pub allowed_parts : (z : Bool) (c : Context) (n : List ℕ) → is_allowed z c n
     × (fits_table (parent_name c) n ≡ true)
 unfolding is_allowed
 allowed_parts z c n a =
-    let e = and_true (not (is_outside n) && not (holds_text_alone z (parent_name c)) && fits_table (parent_name c) n
+    let e = and_parts (not (is_outside n) && not (holds_text_alone z (parent_name c)) && fits_table (parent_name c) n
     && fits_select (parent_name c) n && fits_open_elements c n) (fits_lists c n) a in
-    let f = and_true (not (is_outside n) && not (holds_text_alone z (parent_name c)) && fits_table (parent_name c) n
+    let f = and_parts (not (is_outside n) && not (holds_text_alone z (parent_name c)) && fits_table (parent_name c) n
     && fits_select (parent_name c) n) (fits_open_elements c n) e.0 in
-    let g = and_true (not (is_outside n) && not (holds_text_alone z (parent_name c)) && fits_table (parent_name c) n)
+    let g = and_parts (not (is_outside n) && not (holds_text_alone z (parent_name c)) && fits_table (parent_name c) n)
     (fits_select (parent_name c) n) f.0 in
-    let h = and_true (not (is_outside n) && not (holds_text_alone z (parent_name c))) (fits_table (parent_name c) n) g.0
+    let h =
+        and_parts (not (is_outside n) && not (holds_text_alone z (parent_name c))) (fits_table (parent_name c) n) g.0
     in
-    let i = and_true (not (is_outside n)) (not (holds_text_alone z (parent_name c))) h.0 in
-    (not_true (is_outside n) i.0, not_true (holds_text_alone z (parent_name c)) i.1, h.1)
+    let i = and_parts (not (is_outside n)) (not (holds_text_alone z (parent_name c))) h.0 in
+    (not-true (is_outside n) i.0, not-true (holds_text_alone z (parent_name c)) i.1, h.1)
 
 -- a row that stands in its place isn't right in a table
 pub row_place : (z : Bool) (p : List ℕ) (c : Context) (n : List ℕ) → is_allowed z (p ∷ c) n ≡ true

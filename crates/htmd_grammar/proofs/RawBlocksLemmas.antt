@@ -1,9 +1,9 @@
 -- Blocks of raw HTML: texts without CR, and blank lines.
-use Rattle.std.proofs.Common.{◌≡◌, ◌≢◌, ℕ, Bool, true, false, ◌&&◌, ◌||◌, eqb, List, [], ◌∷◌, ◌++◌, refl, sym, ap, ◌∙◌}
+use Rattle.std.proofs.Common.{◌≡◌, ◌≢◌, ℕ, Bool, true, false, ◌&&◌, eqb, List, [], ◌∷◌, ◌++◌, refl, sym, ap, ◌∙◌}
 use Rattle.std.proofs.Common.{subst, arith}
 use Rattle.std.proofs.Math.Bool.{and-true, and-false, or-true}
 use Rattle.std.proofs.lemmas.Bool.Decides.{nat_tests}
-use Rattle.std.proofs.lemmas.Bool.{false≢true, eqb-true}
+use Rattle.std.proofs.lemmas.Bool.{false≢true, eqb-true, and_parts, or_parts}
 use Rattle.std.proofs.lemmas.Str.{encodes-append, encodes-chars, chars_past_char}
 use Rattle.std.specs.Char.{is_whitespace}
 use Rattle.std.specs.List.{list_any, list_all}
@@ -19,16 +19,12 @@ use Rattle.htmd_text.proofs.Cases.{test}
 
 -- ---- texts without CR
 
-both_false : (x y : Bool) → (x || y) ≡ false → (x ≡ false) × (y ≡ false)
-both_false true y e = absurd (cc)
-both_false false y e = (refl, e)
-
 -- without CR, a text is rewritten to its raw text
 without_blank_lines-raw_html : (after : Bool) (cs : List ℕ) → list_any (λ c. eqb c carriage_return) cs ≡ false
     → without_blank_lines after cs ≡ raw_html_from after cs
 without_blank_lines-raw_html after [] h = refl
 without_blank_lines-raw_html after (c ∷ cs) h =
-    let parts = both_false (eqb c carriage_return) (list_any (λ c. eqb c carriage_return) cs) h in
+    let parts = or_parts (eqb c carriage_return) (list_any (λ c. eqb c carriage_return) cs) h in
     let other : eqb c carriage_return ≡ false = parts.0 in
     let escaped : without_blank_lines false cs ≡ raw_html_from false cs =
     without_blank_lines-raw_html false cs parts.1 in
@@ -49,16 +45,12 @@ raw_html_from-no_blank_line after (c ∷ cs) =
     (λ a. rw (y, a, y) (raw_html_from-no_blank_line true cs)))
     (λ n. rw (n, n) (raw_html_from-no_blank_line (after && is_whitespace c) cs))
 
-both_true : (x y : Bool) → (x && y) ≡ true → (x ≡ true) × (y ≡ true)
-both_true true y e = (refl, e)
-both_true false y e = absurd (false≢true e)
-
 -- a line feed behind white space behind a line feed is found
 found_behind : (between behind : List ℕ) → list_all is_whitespace between ≡ true
     → has_blank_line_from true (between ++ line_feed ∷ behind) ≡ true
 found_behind [] behind w = refl
 found_behind (c ∷ between) behind w =
-    let parts = both_true (is_whitespace c) (list_all is_whitespace between) w in
+    let parts = and_parts (is_whitespace c) (list_all is_whitespace between) w in
     let white : is_whitespace c ≡ true = parts.0 in
     test (eqb c line_feed) (λ y. rw y refl) (λ n. rw (n, white) (found_behind between behind parts.1))
 
@@ -101,7 +93,7 @@ none_afresh : (after : Bool) (cs : List ℕ) → has_blank_line_from after cs �
 none_afresh after [] h = refl
 none_afresh after (c ∷ cs) h =
     test (eqb c line_feed)
-    (λ y. rw y (both_false after (has_blank_line_from true cs) (rw y at h)).1)
+    (λ y. rw y (or_parts after (has_blank_line_from true cs) (rw y at h)).1)
     (λ n. rw n (none_afresh (after && is_whitespace c) cs (rw n at h)))
 
 -- a line feed would make a blank line behind white space
@@ -110,7 +102,7 @@ begins_none : (after : Bool) (cs : List ℕ) → has_blank_line_from after cs �
 begins_none after [] h = and-false after
 begins_none after (c ∷ cs) h =
     test (eqb c line_feed)
-    (λ y. rw (both_false after (has_blank_line_from true cs) (rw y at h)).0 refl)
+    (λ y. rw (or_parts after (has_blank_line_from true cs) (rw y at h)).0 refl)
     (λ n. rw n (and-false after))
 
 carriage_return-white : (after : Bool) (c : ℕ) → eqb c carriage_return ≡ true
@@ -125,7 +117,7 @@ without_blank_lines-same after [] h = refl
 without_blank_lines-same after (c ∷ cs) h =
     test (eqb c line_feed)
     (λ y.
-    let parts = both_false after (has_blank_line_from true cs) (rw y at h) in
+    let parts = or_parts after (has_blank_line_from true cs) (rw y at h) in
     rw (y, parts.0) (ap (λ x. c ∷ x) (without_blank_lines-same true cs parts.1)))
     (λ n.
     let none : has_blank_line_from (after && is_whitespace c) cs ≡ false = rw n at h in

@@ -1,15 +1,15 @@
 -- What stands between the blank lines of a block of raw HTML has references in place of some line feeds.
 use Rattle.std.proofs.Common.{List, [], ap, arith, codes, eqb, false, length, length-append, not, refl, subst, sym}
 use Rattle.std.proofs.Common.{true, ℕ, ◌++◌, ◌∙◌, ◌∷◌, ◌≡◌}
-use Rattle.std.proofs.lemmas.Bool.{eqb-true}
+use Rattle.std.proofs.lemmas.Bool.{eqb-true, and_parts}
 use Rattle.std.proofs.lemmas.Str.{encodes-chars}
 use Rattle.std.specs.List.{list_any}
 use Rattle.std.specs.Str.{IsUtf8, chars, encode_utf8_all}
 use lib.Utf8.{encode}
 use Rattle.htmd_text.specs.BlankLines.{with_blank_lines}
+use Rattle.htmd_text.proofs.Cases.{test}
 use Rattle.htmd_grammar.specs.CharacterClasses.{lacks}
 use Rattle.htmd_grammar.specs.RawBlocks.{RefersToLineFeeds, raw_block, raw_html}
-use Rattle.htmd_grammar.proofs.BooleanLemmas.{and_true, test}
 use Rattle.htmd_grammar.proofs.RawBlocksLemmas.{raw_block-raw_html}
 
 encode-carriage_return : encode 13 ≡ 13 ∷ []
@@ -28,7 +28,7 @@ no_carriage_return (c ∷ cs) e = test (eqb c 13)
   where
     lacks-behind : (b : ℕ) (s t : List ℕ) → lacks b (s ++ t) ≡ true → lacks b t ≡ true
     lacks-behind b [] t e = e
-    lacks-behind b (c ∷ s) t e = lacks-behind b s t (and_true (not (eqb c b)) (lacks b (s ++ t)) e).1
+    lacks-behind b (c ∷ s) t e = lacks-behind b s t (and_parts (not (eqb c b)) (lacks b (s ++ t)) e).1
 
 pub same_parts : (a c b d : List ℕ) → a ++ b ≡ c ++ d → length a ≡ length c → (a ≡ c) × (b ≡ d)
 same_parts [] [] b d e l = (refl, e)

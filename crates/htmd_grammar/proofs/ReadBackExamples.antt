@@ -1,8 +1,10 @@
 -- What is read back of a table with an implied `tbody`, attributes and line feeds is written out.
 use Rattle.std.proofs.Common.{Bool, List, [], codes, false, inl, inr, refl, subst, sym, true, ℕ, ◌++◌, ◌∷◌, ◌≡◌}
 use Rattle.std.specs.Prelude.{if◌then◌else◌, ◌==◌}
+use Rattle.std.proofs.lemmas.Bool.{eqb-true}
 use lib.Utf8.{encode}
 use Rattle.htmd_text.specs.Characters.{line_feed}
+use Rattle.htmd_text.proofs.Cases.{test}
 use Rattle.htmd_grammar.specs.Documents.{above_body, below_body}
 use Rattle.htmd_grammar.specs.Grammar.{reads}
 use Rattle.htmd_grammar.specs.Places.{is_allowed}
@@ -13,7 +15,6 @@ use Rattle.htmd_grammar.specs.Rules.{project}
 use Rattle.htmd_grammar.specs.Serialisation.{is_raw_text, is_void, serialisation}
 use Rattle.htmd_grammar.specs.Steps.{Reaches, State, finished, started, step}
 use Rattle.htmd_grammar.specs.ValueTrees.{AttributePair, ValueForest, ValueTree, element, more, none, text}
-use Rattle.htmd_grammar.proofs.BooleanLemmas.{same_byte, test}
 use Rattle.htmd_grammar.proofs.GoodFronts.{sound_end}
 use Rattle.htmd_grammar.proofs.ReferencedLineFeeds.{refers_same}
 use Rattle.htmd_grammar.proofs.Runs.{Denotes, denotes, steps, steps_reach}
@@ -32,7 +33,7 @@ referred_refers : (flags : List Bool) (s : List ℕ) → RefersToLineFeeds s (re
 referred_refers [] s = refers_same s
 referred_refers (f ∷ flags) [] = nothing
 referred_refers (f ∷ flags) (b ∷ s) = test (b == line_feed)
-    (λ t. test f (λ g. rw (t, g) (written (same_byte b line_feed t) (referred_refers flags s)))
+    (λ t. test f (λ g. rw (t, g) (written (eqb-true b line_feed t) (referred_refers flags s)))
     (λ g. rw (t, g) (same b (referred_refers flags s))))
     (λ t. rw t (same b (referred_refers (f ∷ flags) s)))
   where

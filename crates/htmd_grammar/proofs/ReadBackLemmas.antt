@@ -6,6 +6,7 @@ use Rattle.std.specs.Bool.{MatchBool}
 use Rattle.std.specs.List.{list_all}
 use Rattle.std.specs.Prelude.{◌==◌}
 use Rattle.std.specs.Str.{bytes_eq}
+use Rattle.std.proofs.lemmas.Bool.{not-true, and_parts, or_parts}
 use Rattle.htmd_grammar.specs.CharacterClasses.{lacks, up_to}
 use Rattle.htmd_grammar.specs.Grammar.{ReadsForest, ReadsTree, begins_with_row, may_end_rows}
 use Rattle.htmd_grammar.specs.Places.{Context, is_tbody, parent_name}
@@ -19,18 +20,19 @@ use Rattle.htmd_grammar.specs.Serialisation.{all_markup_of, end_tag, is_raw_text
 use Rattle.htmd_grammar.specs.Tags.{IsEndTag, IsStartTag}
 use Rattle.htmd_grammar.specs.ValueTrees.{AttributePair, ValueForest, ValueTree, comment, doctype, document, element}
 use Rattle.htmd_grammar.specs.ValueTrees.{more, none, text}
-use Rattle.htmd_grammar.proofs.BooleanLemmas.{and_false, and_true, not_true, or_false, test}
+use Rattle.htmd_grammar.proofs.BooleanLemmas.{and_false}
 use Rattle.htmd_grammar.proofs.EscapeLemmas.{HasEscapes, text_back}
 use Rattle.htmd_grammar.proofs.PlacesLemmas.{one_name, tbody_not_void}
 use Rattle.htmd_grammar.proofs.ReferencedLineFeeds.{refers_nothing, refers_split}
 use Rattle.htmd_grammar.proofs.TagsLemmas.{IsTreeName, end_tag_back, start_tag_back, tree_name}
+use Rattle.htmd_text.proofs.Cases.{test}
 
 -- without `<` there is no markup
-no_markup : (b : ℕ) (s : List ℕ) → (b == 60) ≡ false → begins_markup (b ∷ s) ≡ false
+pub no_markup : (b : ℕ) (s : List ℕ) → (b == 60) ≡ false → begins_markup (b ∷ s) ≡ false
 no_markup b [] e = refl
 no_markup b (c ∷ s) e = rw e refl
 
-no_end : (n : List ℕ) (b : ℕ) (s : List ℕ) → (b == 60) ≡ false → begins_own_end n (b ∷ s) ≡ false
+pub no_end : (n : List ℕ) (b : ℕ) (s : List ℕ) → (b == 60) ≡ false → begins_own_end n (b ∷ s) ≡ false
 no_end n b [] e = refl
 no_end n b (c ∷ s) e = rw e refl
 
@@ -38,32 +40,32 @@ no_end n b (c ∷ s) e = rw e refl
 pub lacking_run : (z : Bool) (n s : List ℕ) → lacks 60 s ≡ true → up_to (ends_text z n) s ≡ s
 lacking_run z n [] l = refl
 lacking_run z n (b ∷ s) l =
-    let p = and_true (not (b == 60)) (lacks 60 s) l in
-    let q = not_true (b == 60) p.0 in
+    let p = and_parts (not (b == 60)) (lacks 60 s) l in
+    let q = not-true (b == 60) p.0 in
     let f : ends_text z n (b ∷ s) ≡ false = test (holds_text_alone z n) (λ t. rw (t, no_end n b s q) refl)
     (λ t. rw (t, no_markup b s q) refl) in
     rw (f, lacking_run z n s p.1) refl
 
 not_raw : (n : List ℕ) → not (is_special n) ≡ true → is_raw_text n ≡ false
 unfolding is_special
-not_raw n e = (or_false (is_raw_text n) _ (not_true (is_special n) e)).0
+not_raw n e = (or_parts (is_raw_text n) _ (not-true (is_special n) e)).0
 
 -- what drops a line feed is special
 no_drop : (n : List ℕ) → not (is_special n) ≡ true → drops_line_feed n ≡ false
 unfolding is_special
-no_drop n e = (or_false (is_raw_text n) (drops_line_feed n) (not_true (is_special n) e)).1
+no_drop n e = (or_parts (is_raw_text n) (drops_line_feed n) (not-true (is_special n) e)).1
 
 raw_is_raw : (z : Bool) (n : List ℕ) → is_raw_text n ≡ false → holds_raw_text z n ≡ false
 unfolding is_raw_text
 raw_is_raw z n e =
-    let a = or_false (bytes_eq n (codes "style")) _ e in
-    let b = or_false (bytes_eq n (codes "script")) _ a.1 in
-    let c = or_false (bytes_eq n (codes "xmp")) _ b.1 in
-    let d = or_false (bytes_eq n (codes "iframe")) _ c.1 in
-    let f = or_false (bytes_eq n (codes "noembed")) _ d.1 in
-    let g = or_false (bytes_eq n (codes "noframes")) _ f.1 in
-    let h = or_false (bytes_eq n (codes "plaintext")) _ g.1 in
-    let i = or_false (bytes_eq n (codes "noscript")) false h.1 in
+    let a = or_parts (bytes_eq n (codes "style")) _ e in
+    let b = or_parts (bytes_eq n (codes "script")) _ a.1 in
+    let c = or_parts (bytes_eq n (codes "xmp")) _ b.1 in
+    let d = or_parts (bytes_eq n (codes "iframe")) _ c.1 in
+    let f = or_parts (bytes_eq n (codes "noembed")) _ d.1 in
+    let g = or_parts (bytes_eq n (codes "noframes")) _ f.1 in
+    let h = or_parts (bytes_eq n (codes "plaintext")) _ g.1 in
+    let i = or_parts (bytes_eq n (codes "noscript")) false h.1 in
     rw (a.0, b.0, c.0, d.0, f.0, g.0, i.0) (and_false z)
 
 -- what is raw here is raw to the serialiser
@@ -128,8 +130,8 @@ module _ (rules : Rules) (has : HasEscapes rules.names) where
     where
       q : (not (is_special n) ≡ true) × (list_all is_plain_attribute attributes ≡ true) × (all_plain ks ≡ true)
       q =
-          let a = and_true (not (is_special n) && list_all is_plain_attribute attributes) (all_plain ks) p in
-          let b = and_true (not (is_special n)) (list_all is_plain_attribute attributes) a.0 in (b.0, b.1, a.1)
+          let a = and_parts (not (is_special n) && list_all is_plain_attribute attributes) (all_plain ks) p in
+          let b = and_parts (not (is_special n)) (list_all is_plain_attribute attributes) a.0 in (b.0, b.1, a.1)
 
       raw : holds_raw_text rules.scripting n ≡ false
       raw = no_raw rules.scripting n q.0
@@ -197,7 +199,7 @@ module _ (rules : Rules) (has : HasEscapes rules.names) where
     pub nodes_back : (ts : ValueForest) → NodesBack ts
     nodes_back none c l m s x w h p r = refers_nothing x r
     nodes_back (more t ts) c l m s x w h p r =
-        let q = and_true (is_plain t) (all_plain ts) p in
+        let q = and_parts (is_plain t) (all_plain ts) p in
         let i = refers_split (markup_of false t) (all_markup_of false ts) x r in (
           i.0,
           i.1,

@@ -6,7 +6,9 @@ use Rattle.std.proofs.iter.runs.Made.{run}
 use Rattle.std.proofs.lemmas.List.{append-nil}
 use Rattle.std.specs.List.{list_all}
 use Rattle.std.specs.Prelude.{◌==◌}
+use Rattle.std.proofs.lemmas.Bool.{not-true, and_parts}
 use Rattle.htmd_text.specs.WhiteSpace.{is_ascii_white_space}
+use Rattle.htmd_text.proofs.Cases.{test}
 use Rattle.htmd_grammar.specs.CharacterClasses.{is_empty, lacks, onward, up_to}
 use Rattle.htmd_grammar.specs.Fronts.{IsFront}
 use Rattle.htmd_grammar.specs.Grammar.{ReadsForest, ReadsTree, reads}
@@ -19,7 +21,7 @@ use Rattle.htmd_grammar.specs.Steps.{here, is_text_end, is_too_deep, markup_step
 use Rattle.htmd_grammar.specs.Steps.{tbody_step, text_step, via, with_tree}
 use Rattle.htmd_grammar.specs.ValueTrees.{text}
 use Rattle.htmd_grammar.specs.declared.fault.FaultKind.TheVariants.{StrayText, TooDeep, Unclosed}
-use Rattle.htmd_grammar.proofs.BooleanLemmas.{and_true, if_then, not_true, test}
+use Rattle.htmd_grammar.proofs.BooleanLemmas.{if_then}
 use Rattle.htmd_grammar.proofs.Completeness.{IsNamed, at_piece, in_text, nothing_read, text_goes_on}
 use Rattle.htmd_grammar.proofs.CutLemmas.{piece_cut}
 use Rattle.htmd_grammar.proofs.FrontsLemmas.{grows, nodes_weaker}
@@ -45,8 +47,8 @@ clean_stops z n b s e = test (ends_text z n (b ∷ s))
 clean_run : (z : Bool) (n w r : List ℕ) → lacks 60 w ≡ true → up_to (ends_text z n) (w ++ r) ≡ w
     ++ up_to (ends_text z n) r
 clean_run z n [] r e = refl
-clean_run z n (b ∷ w) r e = let p = and_true (not (b == 60)) (lacks 60 w) e in
-    rw (clean_stops z n b (w ++ r) (not_true (b == 60) p.0), clean_run z n w r p.1) refl
+clean_run z n (b ∷ w) r e = let p = and_parts (not (b == 60)) (lacks 60 w) e in
+    rw (clean_stops z n b (w ++ r) (not-true (b == 60) p.0), clean_run z n w r p.1) refl
 
 decode_skip : (names : Names) (w z : List ℕ) (n : ℕ) → length w ≡ n
     → decode names n (w ++ z) ≡ decode names 0 z
@@ -57,21 +59,21 @@ behind_twice : (u v : List ℕ) (o : Option (List ℕ)) → behind u (behind v o
 behind_twice u v None = refl
 behind_twice u v (Some w) = ap (λ (y : List ℕ). Some y) (sym (append_assoc u v w))
 
-behind_nothing : (o : Option (List ℕ)) → behind [] o ≡ o
+pub behind_nothing : (o : Option (List ℕ)) → behind [] o ≡ o
 behind_nothing None = refl
 behind_nothing (Some w) = refl
 
 white_both : (u v : List ℕ) → list_all is_ascii_white_space u ≡ true → list_all is_ascii_white_space v ≡ true
     → list_all is_ascii_white_space (u ++ v) ≡ true
 white_both [] v e f = f
-white_both (b ∷ u) v e f = let p = and_true (is_ascii_white_space b) (list_all is_ascii_white_space u) e in
+white_both (b ∷ u) v e f = let p = and_parts (is_ascii_white_space b) (list_all is_ascii_white_space u) e in
     rw (p.0, white_both u v p.1 f) refl
 
 more_full : (u v : List ℕ) → v ≢ [] → u ++ v ≢ []
 more_full [] v n e = n e
 more_full (b ∷ u) v n e = cc
 
-empty_is : (s : List ℕ) → is_empty s ≡ true → s ≡ []
+pub empty_is : (s : List ℕ) → is_empty s ≡ true → s ≡ []
 empty_is [] e = refl
 empty_is (b ∷ s) e = absurd (cc)
 
@@ -342,9 +344,9 @@ module _ (rules : Rules) (outer : Context) where
       elim (if_then (not (is_empty run) && is_text_end rules outer (f ∷ gs) rest)
       (between (with_tree (f ∷ gs) (text run)) rest) _ (Ok st) e) [
         | inl y ↦
-            let p = and_true (not (is_empty run)) (is_text_end rules outer (f ∷ gs) rest) y.0 in
+            let p = and_parts (not (is_empty run)) (is_text_end rules outer (f ∷ gs) rest) y.0 in
             to_state s rest (at_piece (with_tree (f ∷ gs) (text run)) rest) st y.1
-            (ended h (not_true (is_empty run) p.0) (text_end f gs rest p.1))
+            (ended h (not-true (is_empty run) p.0) (text_end f gs rest p.1))
         | inr y ↦ others y.0 y.1
       ]
     where
@@ -392,7 +394,7 @@ module _ (rules : Rules) (outer : Context) where
           → Moves s rest st
       others n e = elim (if_then (f.implied && ends_rows rest) (tbody_step rules outer (f ∷ gs) rest) _ (Ok st) e) [
         | inl y ↦
-            let p = and_true f.implied (ends_rows rest) y.0 in
+            let p = and_parts f.implied (ends_rows rest) y.0 in
             let t : ends_text rules.scripting f.name rest ≡ true =
             test (ends_text rules.scripting f.name rest) (λ i. i)
             (λ i. absurd (let z = text_goes_on rules.scripting f rest nm i in let v = y.0 in cc)) in

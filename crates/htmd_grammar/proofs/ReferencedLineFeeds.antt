@@ -1,9 +1,9 @@
 -- References in place of line feeds, piece by piece.
 use Rattle.std.proofs.Common.{List, [], ap, inl, inr, not, refl, subst, sym, true, ℕ, ◌++◌, ◌∙◌, ◌∷◌, ◌≡◌, ◌⊎◌}
 use Rattle.std.specs.Prelude.{◌==◌}
+use Rattle.std.proofs.lemmas.Bool.{and_parts}
 use Rattle.htmd_grammar.specs.CharacterClasses.{lacks}
 use Rattle.htmd_grammar.specs.RawBlocks.{RefersToLineFeeds, line_feed_reference, nothing, reference, same}
-use Rattle.htmd_grammar.proofs.BooleanLemmas.{and_true}
 
 pub refers_same : (s : List ℕ) → RefersToLineFeeds s s
 refers_same [] = nothing
@@ -40,7 +40,7 @@ refers_split (c ∷ a) b x r = elim (refers_first c (a ++ b) x r) [
 pub refers_plain : (a x : List ℕ) → lacks 10 a ≡ true → RefersToLineFeeds a x → x ≡ a
 refers_plain [] x l r = refers_nothing x r
 refers_plain (c ∷ a) x l r =
-    let p = and_true (not (c == 10)) (lacks 10 a) l in
+    let p = and_parts (not (c == 10)) (lacks 10 a) l in
     elim (refers_first c a x r) [
       | inl w ↦ w.1 ∙ ap (λ (y : List ℕ). c ∷ y) (refers_plain a w.0 p.1 w.2)
       | inr w ↦ absurd (let q = rw w.1 at p.0 in cc)

@@ -5,15 +5,17 @@ use Rattle.std.proofs.Common.{◌∙◌, ◌∷◌, ◌≡◌}
 use Rattle.std.proofs.lemmas.Bool.Decides.{nat_tests}
 use Rattle.std.specs.Char.{is_ascii_alphanumeric, is_ascii_digit, is_ascii_hexdigit, to_ascii_lowercase}
 use Rattle.std.specs.Prelude.{◌==◌}
+use Rattle.std.proofs.lemmas.Bool.{not-true, and_parts, eqb-true}
 use Rattle.htmd_grammar.specs.CharacterClasses.{begins_in_any_case, behind_run, first_is, lacks, leading_run}
 use Rattle.htmd_grammar.specs.References.{Names, Piece, behind, behind_ampersand, behind_number_sign, decode}
 use Rattle.htmd_grammar.specs.References.{may_be_numbered, named, number, number_at, numbered, piece_at, put, stands}
 use Rattle.htmd_grammar.specs.References.{wrong}
 use Rattle.htmd_grammar.specs.Rules.{character_named}
 use Rattle.htmd_grammar.specs.Steps.{has_unknown_reference, is_unknown}
-use Rattle.htmd_grammar.proofs.BooleanLemmas.{and_true, if_then, lacks-append, not_true, same_byte, test}
+use Rattle.htmd_grammar.proofs.BooleanLemmas.{if_then, lacks-append}
 use Rattle.htmd_grammar.proofs.TagReadingLemmas.{back_split}
 use Rattle.htmd_grammar.proofs.TagSpellingLemmas.{at_head}
+use Rattle.htmd_text.proofs.Cases.{test}
 
 -- what is in no piece behind its first byte
 pub record IsBound (c : ℕ) : Type 0 where
@@ -89,7 +91,7 @@ pub piece_over : (names : Names) (b : ℕ) (s t : List ℕ)
     → piece_at names b (s ++ (60 ∷ t)) ≡ piece_at names b s
 piece_over names b s t = piece_bound 60 less_bounds names b s t
 
-stands_same : (n m : ℕ) (v w : List ℕ) → stands n v ≡ stands m w → (n ≡ m) × (v ≡ w)
+pub stands_same : (n m : ℕ) (v w : List ℕ) → stands n v ≡ stands m w → (n ≡ m) × (v ≡ w)
 stands_same n m v w e = (cc, cc)
 
 -- the bytes of the piece behind its first one
@@ -104,7 +106,7 @@ lacks_front c p [] e = refl
 lacks_front c p (b ∷ s) e = test (p b) (λ q. rw q (rw (other q, lacks_front c p s e) refl)) (λ q. rw q refl)
   where
     other : p b ≡ true → (b == c) ≡ false
-    other q = test (b == c) (λ t. absurd (let k = same_byte b c t in let w = rw k at q in cc)) (λ t. t)
+    other q = test (b == c) (λ t. absurd (let k = eqb-true b c t in let w = rw k at q in cc)) (λ t. t)
 
 fits_ended : (p : ℕ → Bool) (s : List ℕ) → p 60 ≡ false → p 38 ≡ false
     → first_is 59 (behind_run p s) ≡ true
@@ -141,7 +143,7 @@ number_fits p base k m s v e g h =
       | inl w ↦ elim (if_then (may_be_numbered (number base 0 (leading_run p s)))
           (stands (suc (k + length (leading_run p s))) _) _ (stands m v) w.1) [
             | inl u ↦ (
-              fits_ended p s e g (and_true (first_is 59 (behind_run p s)) (not (first_is 59 s)) w.0).0,
+              fits_ended p s e g (and_parts (first_is 59 (behind_run p s)) (not (first_is 59 s)) w.0).0,
               sym (stands_same (suc (k + length (leading_run p s))) m _ v u.1).0,
             )
             | inr u ↦ absurd (let z = u.1 in cc)
@@ -171,7 +173,7 @@ sharp_fits (b ∷ s) v m e =
         → ((b == 60) ≡ false) × ((b == 38) ≡ false)
     letter_x b e = (grind (arith, nat_tests), grind (arith, nat_tests))
 
-named_fits : (n m : ℕ) (o : Option ℕ) (v : List ℕ) → named n o ≡ stands m v → n ≡ m
+pub named_fits : (n m : ℕ) (o : Option ℕ) (v : List ℕ) → named n o ≡ stands m v → n ≡ m
 named_fits n m None v e = absurd (cc)
 named_fits n m (Some c) v e = (stands_same n m _ v e).0
 
@@ -186,7 +188,7 @@ and_fits names s v m e = elim (if_then (first_is 35 s) (behind_number_sign (drop
       (character_named names (leading_run is_ascii_alphanumeric s))) _ (stands m v) w.1) [
         | inl u ↦ subst (λ (k : ℕ). Fits k s) (named_fits (suc (length (leading_run is_ascii_alphanumeric s))) m
             (character_named names (leading_run is_ascii_alphanumeric s)) v u.1)
-            (fits_ended is_ascii_alphanumeric s refl refl (and_true (first_is 59 (behind_run is_ascii_alphanumeric s))
+            (fits_ended is_ascii_alphanumeric s refl refl (and_parts (first_is 59 (behind_run is_ascii_alphanumeric s))
             (not (first_is 59 s)) u.0).0)
         | inr u ↦ subst (λ (k : ℕ). Fits k s) (stands_same 0 m (38 ∷ []) v u.1).0 (none_fits s)
       ]
@@ -254,8 +256,8 @@ known_from names (b ∷ s) zero u d k =
     let p = put_parts (piece_at names b s) (λ n. decode names n s) u d in
     rw (p.3, known_from names s p.0 p.2 p.4 (skips_fit p.0 s (piece_fits names b s p.1 p.0 p.3))) refl
 known_from names (b ∷ s) (suc n) u d k =
-    let q = and_true (not (b == 38)) (lacks 38 (take n s)) k in
-    rw (no_reference names b s (not_true (b == 38) q.0), known_from names s n u d q.1) refl
+    let q = and_parts (not (b == 38)) (lacks 38 (take n s)) k in
+    rw (no_reference names b s (not-true (b == 38) q.0), known_from names s n u d q.1) refl
 
 -- what is decoded has no reference by an unknown name
 pub known : (names : Names) (s u : List ℕ) → decode names 0 s ≡ Some u → has_unknown_reference names s ≡ false

@@ -1,6 +1,7 @@
 -- A reader that goes by the steps refuses a text rightly.
 use Rattle.std.proofs.Common.{Bool, Err, List, [], ap, codes, false, inl, inr, length, refl, subst, true, ℕ, ◌++◌, ◌+◌}
 use Rattle.std.proofs.Common.{◌<◌, ◌∷◌, ◌≡◌, ◌⊎◌}
+use Rattle.std.proofs.Math.Bool.{or-true}
 use Rattle.htmd_grammar.specs.CharacterClasses.{is_among, is_empty}
 use Rattle.htmd_grammar.specs.Documents.{above_body, body_text}
 use Rattle.htmd_grammar.specs.Faults.{IsPieceFault, Says}
@@ -18,7 +19,6 @@ use Rattle.htmd_grammar.specs.declared.fault.FaultKind.TheVariants.{MalformedDec
 use Rattle.htmd_grammar.specs.declared.fault.FaultKind.TheVariants.{Nul, ScriptEscape, SelfClosing, StrayEndTag}
 use Rattle.htmd_grammar.specs.declared.fault.FaultKind.TheVariants.{StrayText, TagOutside, TooDeep, Unclosed}
 use Rattle.htmd_grammar.specs.declared.fault.FaultKind.TheVariants.{UnknownReference}
-use Rattle.htmd_grammar.proofs.BooleanLemmas.{or_true, test}
 use Rattle.htmd_grammar.proofs.Completeness.{in_text}
 use Rattle.htmd_grammar.proofs.FrontsLemmas.{ends_in_text}
 use Rattle.htmd_grammar.proofs.GoodFronts.{good_front}
@@ -27,6 +27,7 @@ use Rattle.htmd_grammar.proofs.Readings.{Middle, conf_start, kept}
 use Rattle.htmd_grammar.proofs.Soundness.{IsConf, flag, not_none, not_stops}
 use Rattle.htmd_grammar.proofs.StepFaults.{step_faulty}
 use Rattle.htmd_grammar.proofs.TreeTexts.{IsTextTree, node_no_title}
+use Rattle.htmd_text.proofs.Cases.{test}
 
 module _ (rules : Rules) where
   -- where elements could stand, a list of trees ends with something else than a text
@@ -67,7 +68,7 @@ module _ (rules : Rules) where
     nothing_before s rest c r t n = in_front gs c.is_front
       where
         alone : holds_text_alone rules.scripting f.name ≡ true
-        alone = rw r (or_true (is_among (codes "title" ∷ codes "textarea" ∷ []) f.name))
+        alone = rw r (or-true (is_among (codes "title" ∷ codes "textarea" ∷ []) f.name))
 
         no_text : ends_in_text f.children ≡ false
         no_text = test (ends_in_text f.children) (λ q. absurd (not_stops rules above_body f.name rest t n (c.texts q)))

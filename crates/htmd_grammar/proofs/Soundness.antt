@@ -8,7 +8,10 @@ use Rattle.std.specs.Char.{to_ascii_lowercase}
 use Rattle.std.specs.List.{list_all, list_any}
 use Rattle.std.specs.Prelude.{⊤, ◌==◌}
 use Rattle.std.specs.Str.{bytes_eq}
+use Rattle.std.proofs.lemmas.Bool.{not-true, and_parts, eqb-true}
+use Rattle.std.proofs.Math.Bool.{or-true, or-false}
 use Rattle.htmd_text.specs.WhiteSpace.{is_ascii_white_space}
+use Rattle.htmd_text.proofs.Cases.{test}
 use Rattle.htmd_grammar.specs.CharacterClasses.{are_distinct, begins_with, behind_run, first_is, is_among, is_empty}
 use Rattle.htmd_grammar.specs.CharacterClasses.{is_tag_name, is_tag_name_byte, leading_run, onward, up_to}
 use Rattle.htmd_grammar.specs.Comments.{before_comment_end, is_comment_text, normalized}
@@ -33,7 +36,7 @@ use Rattle.htmd_grammar.specs.ValueTrees.{more, none, text}
 use Rattle.htmd_grammar.specs.declared.fault.FaultKind.TheVariants.{DuplicateAttribute, MalformedComment}
 use Rattle.htmd_grammar.specs.declared.fault.FaultKind.TheVariants.{MalformedDeclaration, MalformedTag, SelfClosing}
 use Rattle.htmd_grammar.specs.declared.fault.FaultKind.TheVariants.{StrayEndTag, TagOutside, TooDeep, UnknownReference}
-use Rattle.htmd_grammar.proofs.BooleanLemmas.{and_true, if_then, not_true, or_right, or_true, same_byte, test}
+use Rattle.htmd_grammar.proofs.BooleanLemmas.{if_then}
 use Rattle.htmd_grammar.proofs.CommentsLemmas.{before_close-split, dashes}
 use Rattle.htmd_grammar.proofs.Completeness.{at_piece, content_over}
 use Rattle.htmd_grammar.proofs.CutLemmas.{kept_cut, piece_cut}
@@ -137,7 +140,7 @@ module _ (rules : Rules) (outer : Context) where
       let q = no_tag s k in rw (t, q.0, q.1) refl)
 
   pub flag_rows : (fs : List OpenElement) (s : List ℕ) → flag fs s ≡ true → ends_rows s ≡ true
-  flag_rows fs s e = (and_true (not (holds_text_alone rules.scripting (parent_name (names_of outer fs))))
+  flag_rows fs s e = (and_parts (not (holds_text_alone rules.scripting (parent_name (names_of outer fs))))
       (ends_rows s) e).1
 
   pub not_none : (ts : ValueForest) (t : ValueTree) → ts +++ more t none ≡ none → ⊥
@@ -272,8 +275,8 @@ module _ (rules : Rules) (outer : Context) where
       (c.is_front).2 b z (c.is_front).6 (λ q. n (c.texts q)) c.first
 
   raw_no_parts : (p : List ℕ) → holds_raw_text rules.scripting p ≡ true → holds_parts p ≡ false
-  raw_no_parts p r = not_true (holds_parts p) (text_alone_passes (λ n. not (holds_parts n)) rules.scripting p
-      (rw r (or_true (is_among (codes "title" ∷ codes "textarea" ∷ []) p))) refl)
+  raw_no_parts p r = not-true (holds_parts p) (text_alone_passes (λ n. not (holds_parts n)) rules.scripting p
+      (rw r (or-true (is_among (codes "title" ∷ codes "textarea" ∷ []) p))) refl)
 
   -- text without references
   pub sound_raw : (f : OpenElement) (gs : List OpenElement) (s rest : List ℕ) (st : State)
@@ -454,7 +457,7 @@ module _ (rules : Rules) (outer : Context) where
       let w : (is_table_part (tag_name_at (tag ++ x)) || bytes_eq [] (codes "table")) ≡ true =
       ap (λ (y : List ℕ). is_table_part (tag_name_at (tag ++ x)) || bytes_eq y (codes "table")) (sym u) ∙ h in
       ap is_table_part (sym (tag_starts rules outer tag n x attributes t))
-      ∙ (sym (or_right (is_table_part (tag_name_at (tag ++ x)))) ∙ w)
+      ∙ (sym (or-false (is_table_part (tag_name_at (tag ++ x)))) ∙ w)
 
   sound_opened : (f : OpenElement) (gs : List OpenElement) (n : List ℕ) (attributes : List AttributePair)
       (s tag rest : List ℕ) (st : State) → IsConf (f ∷ gs) s (tag ++ rest)
@@ -540,12 +543,12 @@ module _ (rules : Rules) (outer : Context) where
   sound_start f gs n attributes s tag x st c t e =
       elim (if_then (is_row n && bytes_eq f.name (codes "table")) _ _ (Ok st) e) [
         | inl w ↦
-            let p = and_true (is_row n) (bytes_eq f.name (codes "table")) w.0 in
+            let p = and_parts (is_row n) (bytes_eq f.name (codes "table")) w.0 in
             elim (if_then (is_too_deep rules outer (f ∷ gs)) (fault TooDeep)
             (open_step rules outer (fresh (codes "tbody") [] true ∷ f ∷ gs) n attributes x) (Ok st) w.1) [
               | inl v ↦ absurd (let z = v.1 in cc)
               | inr v ↦ sound_row f gs n attributes s tag x st c t p.0
-                  (or_right (bytes_eq f.name (codes "table")) ∙ p.1)
+                  (or-false (bytes_eq f.name (codes "table")) ∙ p.1)
                   (shallow (f ∷ gs) v.0) v.1
             ]
         | inr w ↦ sound_opened f gs n attributes s tag x st c t w.1
@@ -666,7 +669,7 @@ module _ (rules : Rules) (outer : Context) where
       → markup_step rules outer (f ∷ gs) (d ∷ x) ≡ Ok st → Takes s (60 ∷ d ∷ x) st
   sound_markup f gs s d x st c m e = elim (if_then (d == 47) _ _ (Ok st) e) [
     | inl w ↦
-        let i = same_byte d 47 w.0 in
+        let i = eqb-true d 47 w.0 in
         elim (if_then (is_tag_name (leading_run is_tag_name_byte x))
         (name_step rules outer (f ∷ gs) (map to_ascii_lowercase (leading_run is_tag_name_byte x))
         (behind_run is_tag_name_byte x)) (fault MalformedTag) (Ok st) w.1) [
@@ -680,7 +683,7 @@ module _ (rules : Rules) (outer : Context) where
         ]
     | inr w ↦ elim (if_then (d == 33) _ _ (Ok st) w.1) [
       | inl v ↦
-          let i = same_byte d 33 v.0 in
+          let i = eqb-true d 33 v.0 in
           elim (if_then (begins_with (codes "--") x)
           (comment_step rules outer (f ∷ gs) (before_comment_end (drop 2 x)))
           (fault MalformedDeclaration) (Ok st) v.1) [

@@ -1,14 +1,16 @@
 -- Each fault of a step is of the kind that stands there, and of no lower one.
 use Rattle.std.proofs.Common.{Bool, Err, List, None, Ok, Option, Some, [], ap, append_assoc, arith, codes, drop, false}
-use Rattle.std.proofs.Common.{inl, inr, length, nat_lt, not, refl, subst, suc, sym, true, ℕ, ◌&&◌, ◌++◌, ◌<◌, ◌==◌}
+use Rattle.std.proofs.Common.{inl, inr, length, not, refl, subst, suc, sym, true, ℕ, ◌&&◌, ◌++◌, ◌<◌, ◌==◌}
 use Rattle.std.proofs.Common.{◌||◌, ◌∙◌, ◌∷◌, ◌≡◌, ◌≢◌, ◌≤◌, ◌⊎◌}
-use Rattle.std.proofs.lemmas.Bool.Decides.{nat_tests}
 use Rattle.std.specs.Char.{is_ascii_alphabetic}
 use Rattle.std.specs.List.{list_all, list_any}
 use Rattle.std.specs.Str.{bytes_eq}
+use Rattle.std.proofs.lemmas.Bool.{not-true, not-false, and_parts, eqb-true, ltb-true}
+use Rattle.std.proofs.Math.Bool.{or-false}
 use Rattle.htmd_text.specs.Characters.{exclamation_mark, greater_than_sign, hyphen, less_than_sign, question_mark}
 use Rattle.htmd_text.specs.Characters.{slash}
 use Rattle.htmd_text.specs.WhiteSpace.{is_ascii_white_space}
+use Rattle.htmd_text.proofs.Cases.{test}
 use Rattle.htmd_grammar.specs.CharacterClasses.{are_distinct, begins_with, behind_run, first_is, is_empty, is_tag_name}
 use Rattle.htmd_grammar.specs.CharacterClasses.{is_tag_name_byte, leading_run, onward, up_to}
 use Rattle.htmd_grammar.specs.Comments.{before_comment_end, is_comment_text, normalized}
@@ -32,7 +34,7 @@ use Rattle.htmd_grammar.specs.declared.fault.FaultKind.TheVariants.{BadNumber, D
 use Rattle.htmd_grammar.specs.declared.fault.FaultKind.TheVariants.{MalformedDeclaration, MalformedTag, NotAllowedHere}
 use Rattle.htmd_grammar.specs.declared.fault.FaultKind.TheVariants.{ScriptEscape, SelfClosing, StrayEndTag, StrayText}
 use Rattle.htmd_grammar.specs.declared.fault.FaultKind.TheVariants.{TagOutside, TooDeep, Unclosed, UnknownReference}
-use Rattle.htmd_grammar.proofs.BooleanLemmas.{and_true, if_then, not_true, or_right, same_byte, test}
+use Rattle.htmd_grammar.proofs.BooleanLemmas.{if_then}
 use Rattle.htmd_grammar.proofs.CommentsLemmas.{before_close-split, cut, cut_same, dashes}
 use Rattle.htmd_grammar.proofs.FaultPieces.{IsWrongReference, comment_is_read, end_is_read, end_tag_there, form_is_read}
 use Rattle.htmd_grammar.proofs.FaultPieces.{form_letter, form_read_behind, name_read, piece_wrong, same_form, two_bytes}
@@ -45,25 +47,15 @@ use Rattle.htmd_grammar.proofs.Soundness.{shallow}
 use Rattle.htmd_grammar.proofs.TagReadingLemmas.{back_split}
 use Rattle.htmd_grammar.proofs.TagSpellingLemmas.{tag_spelled}
 use Rattle.htmd_grammar.specs.Steps as steps
+use Rattle.htmd_grammar.proofs.Readings.{empty_is}
 
 -- the fault of a step
 no_fault : (st : State) (k : FaultKind) → ◌≡◌ {A = Step} (Ok st) (Err k) → ⊥
 no_fault st k e = cc
 
-empty_is : (s : List ℕ) → is_empty s ≡ true → s ≡ []
-empty_is [] e = refl
-empty_is (b ∷ s) e = absurd (cc)
-
-twice : (b : Bool) → not b ≡ false → b ≡ true
-twice true e = refl
-twice false e = absurd (cc)
-
 slashed : (a b : Bool) → (a && not b) ≡ false → a ≡ true → b ≡ true
 slashed a true e i = refl
 slashed a false e i = absurd (let w = rw i at e in cc)
-
-deep_less : (n m : ℕ) → nat_lt n m ≡ true → n < m
-deep_less n m e = grind (arith, nat_tests)
 
 module _ (rules : Rules) (f : OpenElement) (gs : List OpenElement) where
   abbrev Here : Context
@@ -142,16 +134,16 @@ module _ (rules : Rules) (f : OpenElement) (gs : List OpenElement) where
   character_tells b s run got t r (stands m v) q e =
       elim (if_then (holds_parts f.name && not (list_all is_ascii_white_space v)) (fault StrayText) _ got e) [
         | inl w ↦
-            let p = and_true (holds_parts f.name) (not (list_all is_ascii_white_space v)) w.0 in
+            let p = and_parts (holds_parts f.name) (not (list_all is_ascii_white_space v)) w.0 in
             right_of (b ∷ s) StrayText got w.1 (
-              (text_here, p.0, m, v, (b, s, refl, q), not_true (list_all is_ascii_white_space v) p.1),
+              (text_here, p.0, m, v, (b, s, refl, q), not-true (list_all is_ascii_white_space v) p.1),
               none_below_text rules (f ∷ gs) 12 b s
                   (text_passed 12 b s v m (omega arith) t r q (λ z. absurd (omega arith))),
             )
         | inr w ↦ elim (if_then (is_too_deep rules above_body (f ∷ gs)) (fault TooDeep)
             (Ok (record { stack = f ∷ gs; run = run ++ v; rest = drop m s })) got w.1) [
               | inl u ↦ right_of (b ∷ s) TooDeep got u.1 (
-                inl (deep_less rules.depth (length Here) u.0, inl (text_here.0)),
+                inl (ltb-true rules.depth (length Here) u.0, inl (text_here.0)),
                 none_below_text rules (f ∷ gs) 15 b s (text_passed 15 b s v m (omega arith) t r q (λ _. w.0)),
               )
               | inr u ↦ none_of (b ∷ s) _ got u.1 (none_of_text rules (f ∷ gs) b s
@@ -194,7 +186,7 @@ module _ (rules : Rules) (f : OpenElement) (gs : List OpenElement) where
   raw_tells (b ∷ s) got n t r c (Some u) q e =
       elim (if_then (is_too_deep rules above_body (f ∷ gs)) (fault TooDeep) _ got e) [
         | inl w ↦ right_of (b ∷ s) TooDeep got w.1 (
-          inl (deep_less rules.depth (length Here) w.0, inl ((λ z. let y = z in cc), t)),
+          inl (ltb-true rules.depth (length Here) w.0, inl ((λ z. let y = z in cc), t)),
           none_below_text rules (f ∷ gs) 15 b s escaped,
         )
         | inr w ↦ none_of (b ∷ s) _ got w.1
@@ -231,7 +223,7 @@ module _ (rules : Rules) (f : OpenElement) (gs : List OpenElement) where
       (fault MalformedComment) got e) [
         | inl u ↦ elim (if_then (is_too_deep rules above_body (f ∷ gs)) (fault TooDeep) _ got u.1) [
           | inl y ↦ right_of (less_than_sign ∷ exclamation_mark ∷ w) TooDeep got y.1 (
-            inl (deep_less rules.depth (length Here) y.0, inr (m, has u.0)),
+            inl (ltb-true rules.depth (length Here) y.0, inr (m, has u.0)),
             none_below_comment rules (f ∷ gs) 15 w (omega arith) (has u.0) m,
           )
           | inr y ↦ none_of (less_than_sign ∷ exclamation_mark ∷ w) _ got y.1
@@ -458,7 +450,7 @@ module _ (rules : Rules) (f : OpenElement) (gs : List OpenElement) where
             present,
             tag_has d w x spelled present t,
             ap (λ (y : Context). is_allowed rules.scripting y (name_read (d ∷ w))) c
-                ∙ not_true (is_allowed rules.scripting (names_of above_body hs) (name_read (d ∷ w))) u.0,
+                ∙ not-true (is_allowed rules.scripting (names_of above_body hs) (name_read (d ∷ w))) u.0,
           ),
           passed d w x spelled present t 10 (omega arith) (λ _. r.known) (λ _. r.right_numbers) (λ _. r.distinct)
               (λ _. r.may_close) (λ _. r.inside) (λ z. absurd (omega arith)),
@@ -472,12 +464,12 @@ module _ (rules : Rules) (f : OpenElement) (gs : List OpenElement) where
               present,
               tag_has d w x spelled present t,
               subst (λ (z : Context). rules.depth < length z) (sym c)
-                  (deep_less rules.depth (length (names_of above_body hs)) y.0),
+                  (ltb-true rules.depth (length (names_of above_body hs)) y.0),
             ),
             passed d w x spelled present t 15 (omega arith) (λ _. r.known) (λ _. r.right_numbers) (λ _. r.distinct)
                 (λ _. r.may_close) (λ _. r.inside)
                 (λ _. ap (λ (z : Context). is_allowed rules.scripting z (name_read (d ∷ w))) c
-                ∙ twice (is_allowed rules.scripting (names_of above_body hs) (name_read (d ∷ w))) u.0),
+                ∙ not-false (is_allowed rules.scripting (names_of above_body hs) (name_read (d ∷ w))) u.0),
           )
           | inr y ↦ elim (if_then (is_void (name_read (d ∷ w))) _ _ got y.1) [
             | inl z ↦ none_of (less_than_sign ∷ d ∷ w) _ got z.1 (opens u.0 y.0)
@@ -495,7 +487,7 @@ module _ (rules : Rules) (f : OpenElement) (gs : List OpenElement) where
           (tag_passed d w x spelled present t 15 (omega arith) (λ _. r.known) (λ _. r.right_numbers)
           (λ _. r.distinct) (λ _. r.may_close) (λ _. r.inside)
           (λ _. ap (λ (z : Context). is_allowed rules.scripting z (name_read (d ∷ w))) c
-          ∙ twice (is_allowed rules.scripting (names_of above_body hs) (name_read (d ∷ w))) u))
+          ∙ not-false (is_allowed rules.scripting (names_of above_body hs) (name_read (d ∷ w))) u))
           (omega arith) (subst (λ (z : Context). length z ≤ rules.depth) (sym c) a)
 
   place_tells : (d : ℕ) (w x : List ℕ) (spelled attributes : List AttributePair) (present : Bool) (got : Step)
@@ -506,7 +498,7 @@ module _ (rules : Rules) (f : OpenElement) (gs : List OpenElement) where
       elim (if_then (is_row (name_read (d ∷ w)) && bytes_eq f.name (codes "table")) _
       (open_step rules above_body (f ∷ gs) (name_read (d ∷ w)) attributes x) got e) [
         | inl u ↦
-            let p = and_true (is_row (name_read (d ∷ w))) (bytes_eq f.name (codes "table")) u.0 in
+            let p = and_parts (is_row (name_read (d ∷ w))) (bytes_eq f.name (codes "table")) u.0 in
             elim (if_then (is_too_deep rules above_body (f ∷ gs)) (fault TooDeep)
             (open_step rules above_body (fresh (codes "tbody") [] true ∷ f ∷ gs) (name_read (d ∷ w)) attributes x)
             got u.1) [
@@ -518,7 +510,7 @@ module _ (rules : Rules) (f : OpenElement) (gs : List OpenElement) where
                   present,
                   tag_has d w x spelled present t,
                   subst (λ (z : Context). rules.depth < length z) (sym (row_context p.0 p.1))
-                      (let l = deep_less rules.depth (length Here) y.0 in omega arith),
+                      (let l = ltb-true rules.depth (length Here) y.0 in omega arith),
                 ),
                 passed d w x spelled present t 15 (omega arith) (λ _. r.known) (λ _. r.right_numbers)
                     (λ _. r.distinct)
@@ -541,7 +533,7 @@ module _ (rules : Rules) (f : OpenElement) (gs : List OpenElement) where
 
       plain_context : (is_row (name_read (d ∷ w)) && bytes_eq f.name (codes "table")) ≡ false
           → context_for rules (f ∷ gs) (less_than_sign ∷ d ∷ w) (name_read (d ∷ w)) ≡ Here
-      plain_context a = rw (or_right (bytes_eq f.name (codes "table")), a) refl
+      plain_context a = rw (or-false (bytes_eq f.name (codes "table")), a) refl
 
   values_tells : (d : ℕ) (w x : List ℕ) (spelled : List AttributePair) (present : Bool) (got : Step)
       → TagThere d w x spelled present
@@ -570,16 +562,16 @@ module _ (rules : Rules) (f : OpenElement) (gs : List OpenElement) where
             spelled,
             present,
             tag_has d w x spelled present t,
-            not_true (are_distinct (attribute_names spelled)) u.0,
+            not-true (are_distinct (attribute_names spelled)) u.0,
           ),
           passed d w x spelled present t 7 (omega arith) (λ _. a) (λ _. b) (λ z. absurd (omega arith))
               (λ z. absurd (omega arith)) (λ z. absurd (omega arith)) (λ z. absurd (omega arith)),
         )
         | inr u ↦
-            let c = twice (are_distinct (attribute_names spelled)) u.0 in
+            let c = not-false (are_distinct (attribute_names spelled)) u.0 in
             elim (if_then (present && not (is_void (name_read (d ∷ w)))) (fault SelfClosing) _ got u.1) [
               | inl y ↦
-                  let p = and_true present (not (is_void (name_read (d ∷ w)))) y.0 in
+                  let p = and_parts present (not (is_void (name_read (d ∷ w)))) y.0 in
                   right_of (less_than_sign ∷ d ∷ w) SelfClosing got y.1 (
                     (
                       t.markup,
@@ -587,7 +579,7 @@ module _ (rules : Rules) (f : OpenElement) (gs : List OpenElement) where
                       spelled,
                       subst (λ (z : Bool). HasTagForm (less_than_sign ∷ d ∷ w) (name_read (d ∷ w)) spelled z) p.0
                           (tag_has d w x spelled present t),
-                      not_true (is_void (name_read (d ∷ w))) p.1,
+                      not-true (is_void (name_read (d ∷ w))) p.1,
                     ),
                     passed d w x spelled present t 8 (omega arith) (λ _. a) (λ _. b) (λ _. c)
                         (λ z. absurd (omega arith))
@@ -667,12 +659,12 @@ module _ (rules : Rules) (f : OpenElement) (gs : List OpenElement) where
       ≡ true
       → markup_step rules above_body (f ∷ gs) (d ∷ w) ≡ got → Tells (less_than_sign ∷ d ∷ w) got
   markup_tells_at d w got m e = elim (if_then (d == slash) (end_tag_step rules above_body (f ∷ gs) w) _ got e) [
-    | inl u ↦ (let i = same_byte d slash u.0 in subst (λ (y : ℕ). Tells (less_than_sign ∷ y ∷ w) got) (sym i)
+    | inl u ↦ (let i = eqb-true d slash u.0 in subst (λ (y : ℕ). Tells (less_than_sign ∷ y ∷ w) got) (sym i)
         (end_tells w got (subst (λ (y : ℕ). ends_text rules.scripting f.name (less_than_sign ∷ y ∷ w) ≡ true) i
         m) u.1))
     | inr u ↦ elim (if_then (d == exclamation_mark) (declaration_step rules above_body (f ∷ gs) w) _ got u.1) [
       | inl y ↦ (let i =
-          same_byte d exclamation_mark y.0 in subst (λ (z : ℕ). Tells (less_than_sign ∷ z ∷ w) got)
+          eqb-true d exclamation_mark y.0 in subst (λ (z : ℕ). Tells (less_than_sign ∷ z ∷ w) got)
           (sym i)
           (declaration_tells w got (subst
           (λ (z : ℕ). ends_text rules.scripting f.name (less_than_sign ∷ z ∷ w) ≡ true) i
@@ -681,7 +673,7 @@ module _ (rules : Rules) (f : OpenElement) (gs : List OpenElement) where
           (start_tag_step rules above_body (f ∷ gs) (d ∷ w))
           got y.1) [
             | inl z ↦ (let i =
-                same_byte d question_mark z.0 in subst (λ (v : ℕ). Tells (less_than_sign ∷ v ∷ w) got)
+                eqb-true d question_mark z.0 in subst (λ (v : ℕ). Tells (less_than_sign ∷ v ∷ w) got)
                 (sym i)
                 (question_tells w got (subst (λ (v : ℕ). ends_text rules.scripting f.name
                 (less_than_sign ∷ v ∷ w)

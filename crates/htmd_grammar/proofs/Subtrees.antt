@@ -13,12 +13,12 @@ use Rattle.htmd_grammar.specs.Serialisation.{is_void, serialisation}
 use Rattle.htmd_grammar.specs.Tags.{IsEndTag, IsStartTag}
 use Rattle.htmd_grammar.specs.ValueTrees.{AttributePair, ValueForest, ValueTree, comment, doctype, document, element}
 use Rattle.htmd_grammar.specs.ValueTrees.{more, none, text}
-use Rattle.htmd_grammar.proofs.BooleanLemmas.{test}
 use Rattle.htmd_grammar.proofs.EscapeLemmas.{HasEscapes}
 use Rattle.htmd_grammar.proofs.LackLemmas.{ser_no_carriage_return}
 use Rattle.htmd_grammar.proofs.RawReadBack.{block_refers}
 use Rattle.htmd_grammar.proofs.ReadBackLemmas.{node_back}
 use Rattle.htmd_grammar.proofs.Uniqueness.{unique_in}
+use Rattle.htmd_text.proofs.Cases.{test}
 
 module _ (rules : Rules) (d : Context) (k : List ℕ) (attributes : List AttributePair) (us : ValueForest) where
   abbrev Sought : ValueTree

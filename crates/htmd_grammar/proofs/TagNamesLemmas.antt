@@ -4,9 +4,11 @@ use Rattle.std.proofs.lemmas.Bool.Decides.{nat_tests}
 use Rattle.std.specs.Char.{is_ascii_alphabetic, is_ascii_uppercase, to_ascii_lowercase}
 use Rattle.std.specs.List.{list_all}
 use Rattle.std.specs.Prelude.{nat_lt, ◌==◌}
+use Rattle.std.proofs.lemmas.Bool.{and_parts}
 use Rattle.htmd_grammar.specs.CharacterClasses.{holds_control, is_attribute_name, is_attribute_name_byte, is_empty}
 use Rattle.htmd_grammar.specs.CharacterClasses.{is_tag_name, is_tag_name_byte, lacks}
-use Rattle.htmd_grammar.proofs.BooleanLemmas.{all_pass, and_true, test}
+use Rattle.htmd_grammar.proofs.BooleanLemmas.{all_pass}
+use Rattle.htmd_text.proofs.Cases.{test}
 
 -- what is said of a byte in small letters is said for capital letters and for the others
 pub by_lower : (P : ℕ → ℕ → Type 0) (b : ℕ) → (is_ascii_uppercase b ≡ true → P b (b + 32))
@@ -35,12 +37,12 @@ all_lower : (p : ℕ → Bool) (w : List ℕ) → ((b : ℕ) → p b ≡ true �
     → list_all p w ≡ true
     → list_all p (map to_ascii_lowercase w) ≡ true
 all_lower p [] h e = refl
-all_lower p (b ∷ w) h e = let k = and_true (p b) (list_all p w) e in rw (h b k.0, all_lower p w h k.1) refl
+all_lower p (b ∷ w) h e = let k = and_parts (p b) (list_all p w) e in rw (h b k.0, all_lower p w h k.1) refl
 
 -- a name in small letters is a name
 pub is_name-lower : (w : List ℕ) → is_tag_name w ≡ true → is_tag_name (map to_ascii_lowercase w) ≡ true
 is_name-lower [] e = absurd (cc)
-is_name-lower (b ∷ w) e = let k = and_true (is_ascii_alphabetic b) (list_all is_tag_name_byte w) e in
+is_name-lower (b ∷ w) e = let k = and_parts (is_ascii_alphabetic b) (list_all is_tag_name_byte w) e in
     rw (letter_lower b k.0, all_lower is_tag_name_byte w name_byte_lower k.1) refl
 
 key_byte_lower : (b : ℕ) → is_attribute_name_byte b ≡ true
@@ -74,15 +76,15 @@ is_empty-lower (b ∷ w) = refl
 pub is_key-lower : (w : List ℕ) → is_attribute_name w ≡ true
     → is_attribute_name (map to_ascii_lowercase w) ≡ true
 is_key-lower w e =
-    let p = and_true (not (is_empty w) && list_all is_attribute_name_byte w) (not (holds_control w)) e in
-    let q = and_true (not (is_empty w)) (list_all is_attribute_name_byte w) p.0 in
+    let p = and_parts (not (is_empty w) && list_all is_attribute_name_byte w) (not (holds_control w)) e in
+    let q = and_parts (not (is_empty w)) (list_all is_attribute_name_byte w) p.0 in
     rw (is_empty-lower w, control_lower w, q.0, all_lower is_attribute_name_byte w key_byte_lower q.1, p.1) refl
 
 -- no line feed in a name
 pub name_lacks : (w : List ℕ) → is_tag_name w ≡ true → lacks 10 w ≡ true
 name_lacks [] e = absurd (cc)
 name_lacks (b ∷ w) e =
-    let k = and_true (is_ascii_alphabetic b) (list_all is_tag_name_byte w) e in
+    let k = and_parts (is_ascii_alphabetic b) (list_all is_tag_name_byte w) e in
     rw (letter_no b k.0) (all_pass is_tag_name_byte (λ c. not (c == 10)) w byte_no k.1)
   where
     letter_no : (b : ℕ) → is_ascii_alphabetic b ≡ true → (b == 10) ≡ false
@@ -93,9 +95,9 @@ name_lacks (b ∷ w) e =
 
 pub key_lacks : (w : List ℕ) → is_attribute_name w ≡ true → lacks 10 w ≡ true
 key_lacks w e =
-    let p = and_true (not (is_empty w) && list_all is_attribute_name_byte w) (not (holds_control w)) e in
+    let p = and_parts (not (is_empty w) && list_all is_attribute_name_byte w) (not (holds_control w)) e in
     all_pass is_attribute_name_byte (λ c. not (c == 10)) w byte_no
-    (and_true (not (is_empty w)) (list_all is_attribute_name_byte w) p.0).1
+    (and_parts (not (is_empty w)) (list_all is_attribute_name_byte w) p.0).1
   where
     byte_no : (b : ℕ) → is_attribute_name_byte b ≡ true → not (b == 10) ≡ true
     byte_no b e = grind (arith, nat_tests)

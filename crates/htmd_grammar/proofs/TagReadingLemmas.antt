@@ -4,7 +4,9 @@ use Rattle.std.proofs.Common.{refl, suc, sym, true, zero, ℕ, ◌&&◌, ◌++�
 use Rattle.std.proofs.lemmas.Bool.Decides.{nat_tests}
 use Rattle.std.specs.List.{list_all}
 use Rattle.std.specs.Prelude.{◌==◌}
+use Rattle.std.proofs.lemmas.Bool.{not-true, and_parts}
 use Rattle.htmd_text.specs.WhiteSpace.{is_ascii_white_space}
+use Rattle.htmd_text.proofs.Cases.{test}
 use Rattle.htmd_grammar.specs.CharacterClasses.{behind_run, first_is, is_attribute_name, is_attribute_name_byte}
 use Rattle.htmd_grammar.specs.CharacterClasses.{is_empty, is_tag_name_byte, is_unquoted_byte, lacks, leading_run}
 use Rattle.htmd_grammar.specs.Steps.{body}
@@ -12,7 +14,6 @@ use Rattle.htmd_grammar.specs.TagReading.{attribute, behind_attribute_name, behi
 use Rattle.htmd_grammar.specs.TagReading.{next_part, quoted_value, tag_end, value_part}
 use Rattle.htmd_grammar.specs.Tags.{IsTagRest, IsValue, optional_slash}
 use Rattle.htmd_grammar.specs.ValueTrees.{AttributePair}
-use Rattle.htmd_grammar.proofs.BooleanLemmas.{and_true, not_true, test}
 
 -- nothing follows that passes the test
 abbrev pub halts : (ℕ → Bool) → List ℕ → Bool
@@ -22,9 +23,9 @@ halts p (b ∷ s) = not (p b)
 pub front_cut : (p : ℕ → Bool) (w r : List ℕ) → list_all p w ≡ true → halts p r ≡ true
     → (leading_run p (w ++ r) ≡ w) × (behind_run p (w ++ r) ≡ r)
 front_cut p [] [] l h = (refl, refl)
-front_cut p [] (b ∷ r) l h = let q = not_true (p b) h in (rw q refl, rw q refl)
+front_cut p [] (b ∷ r) l h = let q = not-true (p b) h in (rw q refl, rw q refl)
 front_cut p (b ∷ w) r l h =
-    let k = and_true (p b) (list_all p w) l in
+    let k = and_parts (p b) (list_all p w) l in
     let i = front_cut p w r k.1 h in
     (rw (k.0, i.0) refl, rw (k.0, i.1) refl)
 
@@ -70,12 +71,12 @@ key_head : (key : List ℕ) → is_attribute_name key ≡ true → (b : ℕ) × 
     × (is_attribute_name_byte b ≡ true)
 key_head [] e = absurd (cc)
 key_head (b ∷ s) e =
-    let p = and_true (list_all is_attribute_name_byte (b ∷ s)) _ e in
-    (b, s, refl, (and_true (is_attribute_name_byte b) (list_all is_attribute_name_byte s) p.0).0)
+    let p = and_parts (list_all is_attribute_name_byte (b ∷ s)) _ e in
+    (b, s, refl, (and_parts (is_attribute_name_byte b) (list_all is_attribute_name_byte s) p.0).0)
 
 key_bytes : (key : List ℕ) → is_attribute_name key ≡ true → list_all is_attribute_name_byte key ≡ true
-key_bytes key e = let p = and_true (not (is_empty key) && list_all is_attribute_name_byte key) _ e in
-    (and_true (not (is_empty key)) (list_all is_attribute_name_byte key) p.0).1
+key_bytes key e = let p = and_parts (not (is_empty key) && list_all is_attribute_name_byte key) _ e in
+    (and_parts (not (is_empty key)) (list_all is_attribute_name_byte key) p.0).1
 
 key_no_white : (b : ℕ) → is_attribute_name_byte b ≡ true → is_ascii_white_space b ≡ false
 key_no_white b e = grind (arith, nat_tests)
@@ -96,7 +97,7 @@ bare_no_white b e = (grind (arith, nat_tests), grind (arith, nat_tests), grind (
 gap_halts : (gap r : List ℕ) → gap ≢ [] → list_all is_ascii_white_space gap ≡ true
     → (halts is_attribute_name_byte (gap ++ r) ≡ true)
 gap_halts [] r n l = absurd (n refl)
-gap_halts (b ∷ gap) r n l = let k = and_true (is_ascii_white_space b) (list_all is_ascii_white_space gap) l in
+gap_halts (b ∷ gap) r n l = let k = and_parts (is_ascii_white_space b) (list_all is_ascii_white_space gap) l in
     rw (white_no_key b k.0) refl
 
 -- white space, then `=` at once
@@ -104,7 +105,7 @@ eq_halts : (one r : List ℕ) → list_all is_ascii_white_space one ≡ true
     → halts is_attribute_name_byte (one ++ (61 ∷ r))
     ≡ true
 eq_halts [] r l = refl
-eq_halts (b ∷ one) r l = let k = and_true (is_ascii_white_space b) (list_all is_ascii_white_space one) l in
+eq_halts (b ∷ one) r l = let k = and_parts (is_ascii_white_space b) (list_all is_ascii_white_space one) l in
     rw (white_no_key b k.0) refl
 
 pub white_back : (gap r : List ℕ) → list_all is_ascii_white_space gap ≡ true
@@ -116,7 +117,7 @@ key_halts : (key r : List ℕ) → is_attribute_name key ≡ true → (halts is_
     × (first_is 61 (key ++ r) ≡ false)
 key_halts [] r e = absurd (cc)
 key_halts (b ∷ key) r e =
-    let k = and_true (is_attribute_name_byte b) (list_all is_attribute_name_byte key) (key_bytes (b ∷ key) e) in
+    let k = and_parts (is_attribute_name_byte b) (list_all is_attribute_name_byte key) (key_bytes (b ∷ key) e) in
     (rw (key_no_white b k.0) refl, (key_not b k.0).2)
 
 gap_and_rest : (gap r : List ℕ) → list_all is_ascii_white_space gap ≡ true
@@ -170,7 +171,7 @@ valued_bare : (key body r : List ℕ) → body ≢ [] → list_all is_unquoted_b
     × (value_part key (body ++ r) ≡ attribute key body r)
 valued_bare key [] r n l h = absurd (n refl)
 valued_bare key (b ∷ body) r n l h =
-    let k = and_true (is_unquoted_byte b) (list_all is_unquoted_byte body) l in
+    let k = and_parts (is_unquoted_byte b) (list_all is_unquoted_byte body) l in
     let w = bare_no_white b k.0 in
     let c = front_cut is_unquoted_byte (b ∷ body) r l h in
     (rw w.0 refl, rw (c.0, c.1, w.1, w.2) refl)
@@ -241,7 +242,7 @@ key_lexes : (key y : List ℕ) → is_attribute_name key ≡ true → halts is_a
     → behind_gap true (key ++ y) ≡ behind_attribute_name key y
 key_lexes [] y e h = absurd (cc)
 key_lexes (b ∷ key) y e h =
-    let k = and_true (is_attribute_name_byte b) (list_all is_attribute_name_byte key) (key_bytes (b ∷ key) e) in
+    let k = and_parts (is_attribute_name_byte b) (list_all is_attribute_name_byte key) (key_bytes (b ∷ key) e) in
     let n = key_not b k.0 in
     let c = front_cut is_attribute_name_byte (b ∷ key) y (key_bytes (b ∷ key) e) h in
     rw (c.0, c.1, e, n.0, n.1) refl
@@ -307,4 +308,4 @@ name_is_key b e = test (is_tag_name_byte b) (λ t. absurd (let k = yes b t in cc
 
 pub halts_name : (s : List ℕ) → halts is_attribute_name_byte s ≡ true → halts is_tag_name_byte s ≡ true
 halts_name [] h = refl
-halts_name (b ∷ s) h = ap not (name_is_key b (not_true (is_attribute_name_byte b) h))
+halts_name (b ∷ s) h = ap not (name_is_key b (not-true (is_attribute_name_byte b) h))

@@ -4,8 +4,10 @@ use Rattle.std.proofs.Common.{sym, true, zero, ℕ, ◌&&◌, ◌++◌, ◌∙�
 use Rattle.std.specs.Char.{to_ascii_lowercase}
 use Rattle.std.specs.List.{list_all}
 use Rattle.std.specs.Prelude.{◌==◌}
+use Rattle.std.proofs.lemmas.Bool.{not-true, and_parts, eqb-true}
 use Rattle.htmd_text.specs.Characters.{slash}
 use Rattle.htmd_text.specs.WhiteSpace.{is_ascii_white_space}
+use Rattle.htmd_text.proofs.Cases.{test}
 use Rattle.htmd_grammar.specs.CharacterClasses.{behind_run, first_is, is_attribute_name, is_attribute_name_byte}
 use Rattle.htmd_grammar.specs.CharacterClasses.{is_empty, is_unquoted_byte, lacks, leading_run}
 use Rattle.htmd_grammar.specs.Steps.{body}
@@ -14,12 +16,12 @@ use Rattle.htmd_grammar.specs.TagReading.{form, form_behind, form_within, is_oth
 use Rattle.htmd_grammar.specs.TagReading.{quoted_value, tag_end, unquoted_value, value_part, with_attribute}
 use Rattle.htmd_grammar.specs.Tags.{IsEqualsSign, IsTagRest, IsValue, optional_slash}
 use Rattle.htmd_grammar.specs.ValueTrees.{AttributePair}
-use Rattle.htmd_grammar.proofs.BooleanLemmas.{and_true, if_then, not_true, same_byte, test}
+use Rattle.htmd_grammar.proofs.BooleanLemmas.{if_then}
 use Rattle.htmd_grammar.proofs.TagReadingLemmas.{back_halts, back_split, front_all, front_cut, halts, halts_cut}
 
 pub at_head : (b : ℕ) (s : List ℕ) → first_is b s ≡ true → s ≡ b ∷ drop 1 s
 at_head b [] e = absurd (cc)
-at_head b (c ∷ s) e = ap (λ (x : ℕ). x ∷ s) (same_byte c b e)
+at_head b (c ∷ s) e = ap (λ (x : ℕ). x ∷ s) (eqb-true c b e)
 
 -- what is a value, whatever stands before the end of the tag
 abbrev pub Spelt : List ℕ → List ℕ → List ℕ → Type 0
@@ -178,7 +180,7 @@ gap_attribute white (b ∷ t) key body rest e =
             (behind_run is_attribute_name_byte (b ∷ t)))
             malformed (attribute key body rest) u.1) [
               | inl v ↦
-                  let k = and_true white (is_attribute_name (leading_run is_attribute_name_byte (b ∷ t))) v.0 in
+                  let k = and_parts white (is_attribute_name (leading_run is_attribute_name_byte (b ∷ t))) v.0 in
                   let m =
                   key_spelled (leading_run is_attribute_name_byte (b ∷ t))
                   (behind_run is_attribute_name_byte (b ∷ t))
@@ -197,7 +199,7 @@ gap_attribute white (b ∷ t) key body rest e =
     ]
 
 not_made : (s : List ℕ) → not (is_empty s) ≡ true → s ≢ []
-not_made s e = not_empty s (not_true (is_empty s) e)
+not_made s e = not_empty s (not-true (is_empty s) e)
 
 pub lex_attribute : (s key body rest : List ℕ) → next_part s ≡ attribute key body rest
     → Attribute s key body rest
@@ -237,7 +239,7 @@ slash_end : (t x : List ℕ) (slash : Bool) → behind_slash t ≡ tag_end slash
     → (t ≡ 62 ∷ x) × (slash ≡ true)
 slash_end [] x slash e = absurd (cc)
 slash_end (c ∷ t) x slash e = test (c == 62)
-    (λ p. let w = rw p at e in let m = done_same true slash t x w in (rw (same_byte c 62 p, m.1) refl, sym m.0))
+    (λ p. let w = rw p at e in let m = done_same true slash t x w in (rw (eqb-true c 62 p, m.1) refl, sym m.0))
     (λ p. let w = rw p at e in absurd (cc))
 
 gap_ending : (white : Bool) (t x : List ℕ) (slash : Bool) → behind_gap white t ≡ tag_end slash x
@@ -246,10 +248,10 @@ gap_ending white [] x slash e = absurd (cc)
 gap_ending white (b ∷ t) x slash e =
     elim (if_then (b == 62) (tag_end false t) (cond (b == 47) (behind_slash t) (KeyCase white (b ∷ t)))
     (tag_end slash x) e) [
-      | inl w ↦ let m = done_same false slash t x w.1 in rw (← m.0, same_byte b 62 w.0, m.1) refl
+      | inl w ↦ let m = done_same false slash t x w.1 in rw (← m.0, eqb-true b 62 w.0, m.1) refl
       | inr w ↦ elim (if_then (b == 47) (behind_slash t) (KeyCase white (b ∷ t)) (tag_end slash x) w.1) [
         | inl u ↦ let z =
-            slash_end t x slash u.1 in rw (z.1, same_byte b 47 u.0) (ap (λ (y : List ℕ). 47 ∷ y) z.0)
+            slash_end t x slash u.1 in rw (z.1, eqb-true b 47 u.0) (ap (λ (y : List ℕ). 47 ∷ y) z.0)
         | inr u ↦ elim (if_then (white && is_attribute_name (leading_run is_attribute_name_byte (b ∷ t)))
             (behind_attribute_name (leading_run is_attribute_name_byte (b ∷ t))
             (behind_run is_attribute_name_byte (b ∷ t)))

@@ -4,6 +4,7 @@ use Rattle.std.proofs.Common.{subst, sym, true, ℕ, ◌++◌, ◌∙◌, ◌∷
 use Rattle.std.specs.Char.{to_ascii_lowercase}
 use Rattle.std.specs.List.{flat_map, list_all}
 use Rattle.std.specs.Prelude.{⊤}
+use Rattle.std.proofs.lemmas.Bool.{and_parts}
 use Rattle.htmd_grammar.specs.CharacterClasses.{are_distinct, is_attribute_name, is_tag_name, lacks}
 use Rattle.htmd_grammar.specs.RawBlocks.{RefersToLineFeeds}
 use Rattle.htmd_grammar.specs.ReadBack.{is_plain_attribute}
@@ -12,7 +13,7 @@ use Rattle.htmd_grammar.specs.Serialisation.{attribute_text, end_tag, escaped_ht
 use Rattle.htmd_grammar.specs.Tags.{IsEndTag, IsStartTag, IsTagForm, IsTagRest, attribute_names, decode_values}
 use Rattle.htmd_grammar.specs.Tags.{with_value}
 use Rattle.htmd_grammar.specs.ValueTrees.{AttributePair}
-use Rattle.htmd_grammar.proofs.BooleanLemmas.{and_true, lacks-append}
+use Rattle.htmd_grammar.proofs.BooleanLemmas.{lacks-append}
 use Rattle.htmd_grammar.proofs.EscapeLemmas.{HasEscapes, value_back}
 use Rattle.htmd_grammar.proofs.ReferencedLineFeeds.{refers_plain, refers_split}
 use Rattle.htmd_grammar.proofs.TagNamesLemmas.{is_key-lower, is_name-lower, key_lacks, lower_name, name_lacks}
@@ -79,7 +80,7 @@ module _ (names : Names) where
       → RefersToLineFeeds (flat_map attribute_text attributes ++ codes ">") x → Spells attributes x
   attributes_back has [] x k p r = ([], ([], refers_plain (codes ">") x refl r, refl), refl)
   attributes_back has (a ∷ attributes) x k p r =
-      let q = and_true (is_plain_attribute a) (list_all is_plain_attribute attributes) p in
+      let q = and_parts (is_plain_attribute a) (list_all is_plain_attribute attributes) p in
       let before : List ℕ = 32 ∷ (a.name ++ (61 ∷ 34 ∷ [])) in
       let value : List ℕ = escaped_html value_byte a.value in
       let others : List ℕ = flat_map attribute_text attributes ++ codes ">" in

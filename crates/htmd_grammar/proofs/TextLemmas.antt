@@ -6,13 +6,15 @@ use Rattle.std.proofs.lemmas.List.{append-nil}
 use Rattle.std.specs.Char.{is_ascii_alphabetic, to_ascii_lowercase}
 use Rattle.std.specs.List.{list_all}
 use Rattle.std.specs.Prelude.{◌==◌}
+use Rattle.std.proofs.lemmas.Bool.{not-true, and_parts, or_parts, eqb-true}
 use Rattle.htmd_text.specs.WhiteSpace.{is_ascii_white_space}
+use Rattle.htmd_text.proofs.Cases.{test}
 use Rattle.htmd_grammar.specs.CharacterClasses.{behind_run, is_tag_name, is_tag_name_byte, lacks, leading_run, onward}
 use Rattle.htmd_grammar.specs.CharacterClasses.{up_to}
 use Rattle.htmd_grammar.specs.Grammar.{tag_name_at}
 use Rattle.htmd_grammar.specs.RawContent.{begins_markup, begins_own_end, ends_text, goes_on_with_name, holds_text_alone}
 use Rattle.htmd_grammar.specs.Steps.{end_tag_name_at, ends_rows}
-use Rattle.htmd_grammar.proofs.BooleanLemmas.{and_false, and_true, if_then, not_true, or_false, same_byte, test}
+use Rattle.htmd_grammar.proofs.BooleanLemmas.{and_false, if_then}
 use Rattle.htmd_grammar.proofs.PlacesLemmas.{text_alone_passes}
 use Rattle.htmd_grammar.proofs.TagReadingLemmas.{front_cut, halts}
 
@@ -23,16 +25,16 @@ Stops z n s = (s ≡ []) ⊎ (ends_text z n s ≡ true)
 pub markup_head : (s : List ℕ) → begins_markup s ≡ true → (t : List ℕ) × (s ≡ 60 ∷ t)
 markup_head [] e = absurd (cc)
 markup_head (b ∷ []) e = absurd (cc)
-markup_head (b ∷ c ∷ s) e = (c ∷ s, grind (arith, nat_tests, and_true))
+markup_head (b ∷ c ∷ s) e = (c ∷ s, grind (arith, nat_tests, and_parts))
 
 pub end_head : (n s : List ℕ) → begins_own_end n s ≡ true → (t : List ℕ) × (s ≡ 60 ∷ 47 ∷ t)
     × (goes_on_with_name n t ≡ true)
 end_head n [] e = absurd (cc)
 end_head n (b ∷ []) e = absurd (cc)
 end_head n (b ∷ c ∷ s) e =
-    let p = and_true ((b == 60) && (c == 47)) (goes_on_with_name n s) e in
-    let q = and_true (b == 60) (c == 47) p.0 in
-    (s, rw (same_byte b 60 q.0, same_byte c 47 q.1) refl, p.1)
+    let p = and_parts ((b == 60) && (c == 47)) (goes_on_with_name n s) e in
+    let q = and_parts (b == 60) (c == 47) p.0 in
+    (s, rw (eqb-true b 60 q.0, eqb-true c 47 q.1) refl, p.1)
 
 -- what ends a text begins with `<`
 pub stop_head : (z : Bool) (n s : List ℕ) → ends_text z n s ≡ true → (t : List ℕ) × (s ≡ 60 ∷ t)
@@ -44,13 +46,13 @@ no_end_name : (ps s t : List ℕ) → lacks 60 ps ≡ true → goes_on_with_name
     → goes_on_with_name ps (s ++ (60 ∷ t)) ≡ false
 no_end_name [] [] t l e = refl
 no_end_name [] (b ∷ s) t l e = e
-no_end_name (p ∷ ps) [] t l e = let k = and_true (not (p == 60)) (lacks 60 ps) l in let q : (60 == p) ≡ false =
-    other p (not_true (p == 60) k.0) in rw q refl
+no_end_name (p ∷ ps) [] t l e = let k = and_parts (not (p == 60)) (lacks 60 ps) l in let q : (60 == p) ≡ false =
+    other p (not-true (p == 60) k.0) in rw q refl
   where
     other : (p : ℕ) → (p == 60) ≡ false → (60 == p) ≡ false
     other p e = grind (arith, nat_tests)
 no_end_name (p ∷ ps) (b ∷ s) t l e =
-    let k = and_true (not (p == 60)) (lacks 60 ps) l in
+    let k = and_parts (not (p == 60)) (lacks 60 ps) l in
     test (to_ascii_lowercase b == p) (λ q. let w = rw q at e in rw q (no_end_name ps s t k.1 w)) (λ q. rw q refl)
 
 no_end_yet : (n : List ℕ) (b : ℕ) (s t : List ℕ) → lacks 60 n ≡ true → begins_own_end n (b ∷ s) ≡ false
@@ -84,13 +86,13 @@ no_end_name-and : (ps s t : List ℕ) → lacks 38 ps ≡ true → goes_on_with_
 no_end_name-and [] [] t l e = refl
 no_end_name-and [] (b ∷ s) t l e = e
 no_end_name-and (p ∷ ps) [] t l e =
-    let k = and_true (not (p == 38)) (lacks 38 ps) l in
-    let q : (38 == p) ≡ false = other p (not_true (p == 38) k.0) in rw q refl
+    let k = and_parts (not (p == 38)) (lacks 38 ps) l in
+    let q : (38 == p) ≡ false = other p (not-true (p == 38) k.0) in rw q refl
   where
     other : (p : ℕ) → (p == 38) ≡ false → (38 == p) ≡ false
     other p e = grind (arith, nat_tests)
 no_end_name-and (p ∷ ps) (b ∷ s) t l e =
-    let k = and_true (not (p == 38)) (lacks 38 ps) l in
+    let k = and_parts (not (p == 38)) (lacks 38 ps) l in
     test (to_ascii_lowercase b == p) (λ q. let w = rw q at e in rw q (no_end_name-and ps s t k.1 w))
     (λ q. rw q refl)
 
@@ -145,9 +147,9 @@ no_tag [] e = (refl, refl)
 no_tag (b ∷ []) e = (refl, refl)
 no_tag (b ∷ c ∷ s) e = test (b == 60)
     (λ q. let f = rw q at e in
-    let k = or_false (is_ascii_alphabetic c || (c == 47) || (c == 33)) (c == 63) f in
-    let g = or_false (is_ascii_alphabetic c || (c == 47)) (c == 33) k.0 in
-    let h = or_false (is_ascii_alphabetic c) (c == 47) g.0 in
+    let k = or_parts (is_ascii_alphabetic c || (c == 47) || (c == 33)) (c == 63) f in
+    let g = or_parts (is_ascii_alphabetic c || (c == 47)) (c == 33) k.0 in
+    let h = or_parts (is_ascii_alphabetic c) (c == 47) g.0 in
     (rw (q, h.0) refl, rw (q, h.1) refl))
     (λ q. (rw q refl, rw q refl))
 
@@ -170,11 +172,11 @@ letter_not b e = (
 pub name_head : (w : List ℕ) → is_tag_name w ≡ true → (b : ℕ) × (s : List ℕ) × (w ≡ b ∷ s)
     × (is_ascii_alphabetic b ≡ true)
 name_head [] e = absurd (cc)
-name_head (b ∷ s) e = (b, s, refl, (and_true (is_ascii_alphabetic b) (list_all is_tag_name_byte s) e).0)
+name_head (b ∷ s) e = (b, s, refl, (and_parts (is_ascii_alphabetic b) (list_all is_tag_name_byte s) e).0)
 
 pub name_bytes : (w : List ℕ) → is_tag_name w ≡ true → list_all is_tag_name_byte w ≡ true
 name_bytes [] e = absurd (cc)
-name_bytes (b ∷ s) e = let k = and_true (is_ascii_alphabetic b) (list_all is_tag_name_byte s) e in
+name_bytes (b ∷ s) e = let k = and_parts (is_ascii_alphabetic b) (list_all is_tag_name_byte s) e in
     rw ((letter_not b k.0).2, k.1) refl
 
 -- a name and what follows it
@@ -191,7 +193,7 @@ begins_name-append : (ps s x : List ℕ) → goes_on_with_name ps s ≡ true →
 begins_name-append [] [] x e = absurd (cc)
 begins_name-append [] (b ∷ s) x e = e
 begins_name-append (p ∷ ps) [] x e = absurd (cc)
-begins_name-append (p ∷ ps) (b ∷ s) x e = let k = and_true (to_ascii_lowercase b == p) (goes_on_with_name ps s) e in
+begins_name-append (p ∷ ps) (b ∷ s) x e = let k = and_parts (to_ascii_lowercase b == p) (goes_on_with_name ps s) e in
     rw (k.0, begins_name-append ps s x k.1) refl
 
 pub stops-append : (z : Bool) (n s x : List ℕ) → ends_text z n s ≡ true → ends_text z n (s ++ x) ≡ true
@@ -212,7 +214,7 @@ gap_ends : (gap x : List ℕ) → list_all is_ascii_white_space gap ≡ true
     → goes_on_with_name [] (gap ++ (62 ∷ x)) ≡ true
 gap_ends [] x l = refl
 gap_ends (b ∷ gap) x l = let k =
-    and_true (is_ascii_white_space b) (list_all is_ascii_white_space gap) l in rw k.0 refl
+    and_parts (is_ascii_white_space b) (list_all is_ascii_white_space gap) l in rw k.0 refl
 
 pub end_stops : (z : Bool) (n name gap x : List ℕ) → map to_ascii_lowercase name ≡ n
     → list_all is_ascii_white_space gap ≡ true
@@ -228,7 +230,7 @@ pub gap_no_name : (gap x : List ℕ) → list_all is_ascii_white_space gap ≡ t
     → halts is_tag_name_byte (gap ++ (62 ∷ x))
     ≡ true
 gap_no_name [] x l = refl
-gap_no_name (b ∷ gap) x l = let k = and_true (is_ascii_white_space b) (list_all is_ascii_white_space gap) l in
+gap_no_name (b ∷ gap) x l = let k = and_parts (is_ascii_white_space b) (list_all is_ascii_white_space gap) l in
     rw (white_no_name b k.0) refl
 
 pub front_stops : (z : Bool) (n s after : List ℕ) → Stops z n after → leading_run is_tag_name_byte (s ++ after)

@@ -3,6 +3,7 @@ use Rattle.std.proofs.Common.{Bool, List, None, Option, Some, [], ap, append_ass
 use Rattle.std.proofs.Common.{length, refl, subst, suc, sym, zero, ℕ, ◌++◌, ◌∙◌, ◌∷◌, ◌≡◌}
 use Rattle.htmd_text.specs.Characters.{greater_than_sign}
 use Rattle.htmd_text.specs.WhiteSpace.{is_ascii_white_space}
+use Rattle.htmd_text.proofs.Cases.{test}
 use Rattle.htmd_grammar.specs.CharacterClasses.{begins_in_any_case, begins_with, behind_run, first_is, leading_run}
 use Rattle.htmd_grammar.specs.Comments.{behind_doctype, doctype_end, doctype_name, white_space_and_name}
 use Rattle.htmd_grammar.specs.Documents.{above_body, behind_mark, behind_prelude, body_text, byte_order_mark}
@@ -10,7 +11,7 @@ use Rattle.htmd_grammar.specs.Laws.{FaultsRefuseDocuments, RestIsAnEnd}
 use Rattle.htmd_grammar.specs.Rules.{Rules}
 use Rattle.htmd_grammar.specs.Steps.{State, finished, started}
 use Rattle.htmd_grammar.specs.ValueTrees.{ValueForest}
-use Rattle.htmd_grammar.proofs.BooleanLemmas.{if_then, test}
+use Rattle.htmd_grammar.proofs.BooleanLemmas.{if_then}
 use Rattle.htmd_grammar.proofs.GoodFronts.{refused}
 use Rattle.htmd_grammar.proofs.Readings.{conf_start, kept}
 use Rattle.htmd_grammar.proofs.TagReadingLemmas.{back_split}

@@ -16,10 +16,11 @@ use Rattle.htmd_grammar.specs.Steps.{with_forest}
 use Rattle.htmd_grammar.specs.ValueTrees.{ValueForest, ValueTree}
 use Rattle.htmd_grammar.specs.declared.fault.FaultKind.{FaultKind}
 use Rattle.htmd_grammar.specs.declared.fault.FaultKind.TheVariants.{MalformedTag}
-use Rattle.htmd_grammar.proofs.BooleanLemmas.{and_false, test}
+use Rattle.htmd_grammar.proofs.BooleanLemmas.{and_false}
 use Rattle.htmd_grammar.proofs.Completeness.{at_piece, nodes_read}
 use Rattle.htmd_grammar.proofs.PlacesLemmas.{one_name, same_bytes, text_alone_passes}
 use Rattle.htmd_grammar.proofs.TextLemmas.{Stops, begins_name-lower, name_cut}
+use Rattle.htmd_text.proofs.Cases.{test}
 
 -- what ends any text there, and is no tag
 abbrev bar : Bool → List ℕ → List ℕ

@@ -6,7 +6,7 @@ use Rattle.std.specs.List.{flat_map, list_all}
 use Rattle.std.specs.Str.{IsUtf8, all_scalars, encode_utf8_all}
 use Rattle.std.specs.Char.{encode_utf8}
 use lib.Utf8.{encode, scalar, low_scalar}
-use Rattle.std.proofs.lemmas.Bool.{and_parts, cases_Bool, false≢true}
+use Rattle.std.proofs.lemmas.Bool.{and_parts, cases_Bool, false≢true, eqb-true}
 use Rattle.std.proofs.lemmas.Bool.Decides.{nat_tests}
 use Rattle.std.proofs.lemmas.List.{append-nil, reverse-append}
 use Rattle.std.proofs.lemmas.List.Folds.{list_all-append}
@@ -19,9 +19,6 @@ use Rattle.htmd_text.proofs.TrimsLemmas.{start_boundary, end_boundary, document_
 use Rattle.htmd_markdown.specs.Tables.{in_cell, normalised_cell}
 use Rattle.htmd_markdown.proofs.TrimmedTexts.{Begins, IsBare, trimmed_is, trimmed_between}
 
-pub same_byte : (b c : ℕ) → (b == c) ≡ true → b ≡ c
-same_byte b c e = grind (arith, nat_tests)
-
 -- what stands for a byte, case by case
 pub by_cases : (P : List ℕ → Type 0) (b : ℕ) → (b ≡ line_feed → P (space ∷ []))
     → (b ≡ carriage_return → P [])
@@ -31,13 +28,13 @@ pub by_cases : (P : List ℕ → Type 0) (b : ℕ) → (b ≡ line_feed → P (s
     → P (in_cell b)
 by_cases P b at_line_feed at_return at_bar else_case =
     ⊎_elim
-    (λ (yes : (b == line_feed) ≡ true). rw yes (at_line_feed (same_byte b line_feed yes)))
+    (λ (yes : (b == line_feed) ≡ true). rw yes (at_line_feed (eqb-true b line_feed yes)))
     (λ (no : (b == line_feed) ≡ false).
     ⊎_elim
-    (λ (yes : (b == carriage_return) ≡ true). rw (no, yes) (at_return (same_byte b carriage_return yes)))
+    (λ (yes : (b == carriage_return) ≡ true). rw (no, yes) (at_return (eqb-true b carriage_return yes)))
     (λ (no' : (b == carriage_return) ≡ false).
     ⊎_elim
-    (λ (yes : (b == vertical_bar) ≡ true). rw (no, no', yes) (at_bar (same_byte b vertical_bar yes)))
+    (λ (yes : (b == vertical_bar) ≡ true). rw (no, no', yes) (at_bar (eqb-true b vertical_bar yes)))
     (λ (no'' : (b == vertical_bar) ≡ false). rw (no, no', no'') (else_case no no' no''))
     (cases_Bool (b == vertical_bar)))
     (cases_Bool (b == carriage_return)))

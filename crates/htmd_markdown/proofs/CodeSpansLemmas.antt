@@ -3,7 +3,7 @@ use Rattle.std.proofs.Common.{◌≡◌, ◌≢◌, ◌⊎◌, inl, inr, ℕ, ze
 use Rattle.std.proofs.Common.{[], ◌∷◌, ◌++◌, length, get_or, take, drop, refl, sym, ap, ◌∙◌, arith, append_assoc}
 use Rattle.std.specs.Prelude.{not, ◌&&◌, ◌||◌, ◌==◌, replicate, slice_index, Some}
 use Rattle.std.specs.List.{list_any, position_or_len, prefix_len, suffix_len, range_with_len}
-use Rattle.std.proofs.lemmas.Bool.{cases_lt}
+use Rattle.std.proofs.lemmas.Bool.{cases_lt, not-true, or_parts}
 use Rattle.std.proofs.lemmas.Bool.Decides.{nat_tests}
 use Rattle.std.proofs.lemmas.List.{append-nil}
 use Rattle.std.proofs.lemmas.List.Sums.{passes_at_first, position_or_len_is}
@@ -21,15 +21,11 @@ use Rattle.htmd_markdown.proofs.CodeSpanReadingLemmas.{line_ends-cons, without_p
 
 -- ---- runs as the reader sees them
 
-any_of_both : (x y : Bool) → (x || y) ≡ false → (x ≡ false) × (y ≡ false)
-any_of_both true y e = (cc, cc)
-any_of_both false y e = (refl, e)
-
 none_of_runs : (n : ℕ) (rs : List (List ℕ)) → 0 < n → list_any (λ run. length run == n) rs ≡ false
     → ((length (first_run rs) == n) ≡ false) × (list_any (λ run. length run == n) (other_runs rs) ≡ false)
 none_of_runs n [] some none = (grind (arith, nat_tests), refl)
 none_of_runs n (run ∷ others) some none =
-    any_of_both (length run == n) (list_any (λ run. length run == n) others) none
+    or_parts (length run == n) (list_any (λ run. length run == n) others) none
 
 -- the runs lack a length, but for the first one behind a backquote
 abbrev Lacks : ℕ → Bool → List ℕ → Type 0
@@ -69,7 +65,7 @@ lacks_run-from_has_run n s some none =
     lacking n false s some (λ e. ap (λ m. m == n) (sym (first_run-prefix_len grave_accent s)) ∙ both.0, both.1)
 
 -- a space behind the text changes nothing
-run_push : (s : List ℕ) → prefix_len is_backquote (s ++ space ∷ []) ≡ prefix_len is_backquote s
+pub run_push : (s : List ℕ) → prefix_len is_backquote (s ++ space ∷ []) ≡ prefix_len is_backquote s
 run_push [] = refl
 run_push (b ∷ s) = ap (λ n. cond (is_backquote b) (1 + n) 0) (run_push s)
 
@@ -119,10 +115,6 @@ range_length : (a n : ℕ) → length (range_with_len a n) ≡ n
 range_length a zero = refl
 range_length a (suc n) = ap (λ k. suc k) (range_length (a + 1) n)
 
-not_true : (t : Bool) → not t ≡ true → t ≡ false
-not_true true e = cc
-not_true false e = refl
-
 unused : (s : List ℕ) (n k : ℕ) → n ≡ longest_run grave_accent s
     → k ≡ position_or_len (λ m. not (has_run grave_accent m s)) (range_with_len 1 n) → ((k < n) ⊎ (n ≤ k))
     → has_run grave_accent (1 + k) s ≡ false
@@ -132,7 +124,7 @@ unused s n k most first (inl lt) =
     let here : get_or (range_with_len 1 n)
     (position_or_len (λ m. not (has_run grave_accent m s)) (range_with_len 1 n)) 0 ≡ 1 + k =
     ap (λ i. get_or (range_with_len 1 n) i 0) (sym first) ∙ range_at 1 n k lt in
-    not_true (has_run grave_accent (1 + k) s) (ap (λ m. not (has_run grave_accent m s)) (sym here) ∙ free)
+    not-true (has_run grave_accent (1 + k) s) (ap (λ m. not (has_run grave_accent m s)) (sym here) ∙ free)
 unused s n k most first (inr le) = no_run_so_long grave_accent (1 + k) s (omega arith)
 
 pub delimiter-unused : (s : List ℕ) → has_run grave_accent (delimiter_len s) s ≡ false
@@ -215,7 +207,7 @@ delimited_back false b s meets inside =
     let no_space : (b == space) ≡ false = grind (arith, nat_tests) in
     let no_return : (b == carriage_return) ≡ false = grind (arith, nat_tests) in
     let no_feed : (b == line_feed) ≡ false = grind (arith, nat_tests) in
-    let ends = any_of_both (begins_with grave_accent t) (ends_with grave_accent t) meets in
+    let ends = or_parts (begins_with grave_accent t) (ends_with grave_accent t) meets in
     ap read_span (bare_regrouped (replicate n grave_accent) t)
     ∙ read_span-between n b s some ends.0 (lacks_run-from_has_run n t some (delimiter-unused t))
     (ends_last false b s ends.1)

@@ -37,22 +37,22 @@ filled_more cut parts n x here =
     ∙ ap (filter is_filled) (map_push cut (take n parts) x)
     ∙ filter-append is_filled (map cut (take n parts)) (cut x ∷ [])
 
-empty_is : (t : List ℕ) → (length t == 0) ≡ true → filter is_filled (t ∷ []) ≡ []
+pub empty_is : (t : List ℕ) → (length t == 0) ≡ true → filter is_filled (t ∷ []) ≡ []
 empty_is [] e = refl
 empty_is (b ∷ t) e = grind (arith, nat_tests)
 
-some_is : (t : List ℕ) → (length t == 0) ≡ false → filter is_filled (t ∷ []) ≡ t ∷ []
+pub some_is : (t : List ℕ) → (length t == 0) ≡ false → filter is_filled (t ∷ []) ≡ t ∷ []
 some_is [] e = cc
 some_is (b ∷ t) e = refl
 
-nil_if : (xs : List (List ℕ)) → (length xs == 0) ≡ true → xs ≡ []
+pub nil_if : (xs : List (List ℕ)) → (length xs == 0) ≡ true → xs ≡ []
 nil_if [] e = refl
 nil_if (x ∷ xs) e = grind (arith, nat_tests)
 
-some_if : (xs : List (List ℕ)) → (length xs == 0) ≡ false → 0 < length xs
+pub some_if : (xs : List (List ℕ)) → (length xs == 0) ≡ false → 0 < length xs
 some_if xs e = grind (arith, nat_tests)
 
-some_more : (xs : List (List ℕ)) (x : List ℕ) → false ≡ (length (xs ++ x ∷ []) == 0)
+pub some_more : (xs : List (List ℕ)) (x : List ℕ) → false ≡ (length (xs ++ x ∷ []) == 0)
 some_more xs x = let size = length_push xs x in grind (arith, nat_tests)
 
 pub joining_none : (cut : List ℕ → List ℕ) (parts : List (List ℕ)) (out : List ℕ)

@@ -1,5 +1,5 @@
 -- What stands behind backslashes is ASCII punctuation, reads back, and ends nothing.
-use Rattle.std.proofs.Common.{◌≡◌, ℕ, suc, ◌+◌, Bool, true, false, cond, List, [], ◌∷◌, ◌++◌, get_or}
+use Rattle.std.proofs.Common.{◌≡◌, ℕ, suc, ◌+◌, Bool, true, false, List, [], ◌∷◌, ◌++◌, get_or}
 use Rattle.std.proofs.Common.{refl, sym, ap, ◌∙◌, arith, ⊎_elim, drop, codes}
 use Rattle.std.specs.Prelude.{◌==◌, ◌&&◌, not, slice_index}
 use Rattle.std.specs.List.{list_all}
@@ -11,6 +11,7 @@ use Rattle.htmd_text.specs.EscapeMarks.{with_backslashes}
 use Rattle.htmd_text.specs.Unescape.{unescape}
 use Rattle.htmd_text.specs.PlainText.{each_bare}
 use Rattle.htmd_text.proofs.UnescapeLemmas.{reads_back}
+use Rattle.htmd_text.proofs.PlainTextLemmas.{one_more}
 use Rattle.htmd_markdown.specs.ReferenceLike.{is_reference_like}
 use Rattle.htmd_markdown.specs.GuardedAddresses.{is_guarded_mark, guarded_among, begins_with_none_of}
 use Rattle.htmd_markdown.specs.GuardedAddresses.{bare_address, delimiters, guarded_address, HoldsGuarded}
@@ -65,24 +66,6 @@ guarded-reads_back characters s punctuation among =
     (λ i _ m. none_if characters (get_or s i 0) among (unmarked characters s i (from_start i ∙ m)))
 
 -- ---- what stands behind no backslash
-
-bare_first : (passes : List ℕ → Bool) (b : ℕ) (t : List ℕ) → (b == backslash) ≡ false
-    → passes (b ∷ t) ≡ true
-    → each_bare passes t ≡ true → each_bare passes (b ∷ t) ≡ true
-bare_first passes b [] other here rest = here
-bare_first passes b (c ∷ t) other here rest = rw (other, here) rest
-
-escaped_first : (passes : List ℕ → Bool) (b : ℕ) (t : List ℕ) → is_ascii_punctuation b ≡ true
-    → each_bare passes t ≡ true → each_bare passes (backslash ∷ b ∷ t) ≡ true
-escaped_first passes b t here rest = rw here rest
-
-one_more : (passes : List ℕ → Bool) (m : Bool) (b : ℕ) (t : List ℕ) → (m ≡ true
-    → is_ascii_punctuation b ≡ true)
-    → (m ≡ false → (b == backslash) ≡ false) → (m ≡ false → passes (b ∷ t) ≡ true)
-    → each_bare passes t ≡ true
-    → each_bare passes (cond m (backslash ∷ b ∷ t) (b ∷ t)) ≡ true
-one_more passes true b t marked plain here rest = escaped_first passes b t (marked refl) rest
-one_more passes false b t marked plain here rest = bare_first passes b t (plain refl) (here refl) rest
 
 each_bare-marked : (passes : List ℕ → Bool) (marked : ℕ → Bool) (k : ℕ) (s : List ℕ)
     → ((i : ℕ) → marked (k + i) ≡ true → is_ascii_punctuation (get_or s i 0) ≡ true)

@@ -17,6 +17,7 @@ use Rattle.std.proofs.lemmas.Str.{encodes-append, encodes-chars, encodes_same, c
 use Rattle.std.proofs.lemmas.Str.{IsUtf8-take, IsCharBoundary-before_ascii}
 use Rattle.htmd_text.specs.Characters.{backslash, number_sign, space}
 use Rattle.htmd_text.specs.EscapeMarks.{with_backslashes}
+use Rattle.htmd_text.proofs.PlainTextLemmas.{chars_ascii}
 use Rattle.htmd_markdown.specs.GuardedText.{is_blank, first_place, number_end, is_block_sign, is_delimiter}
 use Rattle.htmd_markdown.specs.GuardedText.{ends_or_has_space, is_block_mark, is_guarded_mark, guarded_text}
 use Rattle.htmd_markdown.specs.GuardedText.{begins_heading, begins_block}
@@ -130,7 +131,6 @@ blank_bytes t text i lt =
     (λ large. large_is_no_backslash (get_or f i 0) large)
     (cases_lt (get_or f i 0) 128)
 
-chars_ascii : (b : ℕ) (s : List ℕ) → b < 128 → chars (b ∷ s) ≡ b ∷ chars s
 unfolding chars
 chars_ascii b [] small = let test : nat_lt b 128 ≡ true = grind (arith, nat_tests) in rw test refl
 chars_ascii b (c ∷ s) small = let test : nat_lt b 128 ≡ true = grind (arith, nat_tests) in rw test refl

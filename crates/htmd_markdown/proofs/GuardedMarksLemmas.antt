@@ -6,6 +6,7 @@ use Rattle.std.specs.Char.{is_ascii, is_ascii_punctuation}
 use Rattle.std.proofs.lemmas.Bool.{or_cases, or_parts, and_parts}
 use Rattle.std.proofs.lemmas.Bool.Decides.{nat_tests}
 use Rattle.htmd_text.specs.Characters.{ampersand, number_sign, backslash}
+use Rattle.htmd_text.proofs.MarksLemmas.{punctuation_is_ascii}
 use Rattle.htmd_markdown.specs.ReferenceLike.{is_reference_like}
 use Rattle.htmd_markdown.specs.GuardedText.{is_always_guarded, is_heading_mark, is_mark_anywhere, is_block_sign}
 use Rattle.htmd_markdown.specs.GuardedText.{is_delimiter, is_block_mark, is_guarded_mark, first_place, number_end}
@@ -56,9 +57,6 @@ mark_is_punctuation begins s k e =
     ⊎_elim (anywhere_is_punctuation s k)
     (λ x. at_block_is_punctuation s k (and_parts begins (is_block_mark s k) x).1)
     (or_cases (is_mark_anywhere s k) (begins && is_block_mark s k) e)
-
-punctuation_is_ascii : (b : ℕ) → is_ascii_punctuation b ≡ true → is_ascii b ≡ true
-punctuation_is_ascii b e = grind (arith, nat_tests)
 
 pub mark_is_ascii : (begins : Bool) (s : List ℕ) (k : ℕ) → is_guarded_mark begins s k ≡ true
     → is_ascii (get_or s k 0) ≡ true

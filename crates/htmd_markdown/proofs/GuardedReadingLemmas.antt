@@ -12,9 +12,9 @@ use Rattle.std.proofs.lemmas.Bool.Decides.{nat_tests}
 use Rattle.std.proofs.lemmas.List.{append-nil}
 use Rattle.htmd_text.specs.Characters.{ampersand, backslash, number_sign, semicolon, space, is_one_of}
 use Rattle.htmd_text.specs.EscapeMarks.{with_backslashes}
-use Rattle.htmd_text.specs.PlainText.{each_bare}
 use Rattle.htmd_text.specs.Unescape.{unescape}
-use Rattle.htmd_text.proofs.PlainTextLemmas.{tail_part}
+use Rattle.htmd_text.proofs.PlainTextLemmas.{tail_part, bare_first, escaped_first}
+use Rattle.htmd_text.proofs.UnescapeLemmas.{unescape_other, unescape_escaped}
 use Rattle.htmd_markdown.specs.ReferenceLike.{is_reference_like, behind_number, ends_reference}
 use Rattle.htmd_markdown.specs.GuardedText.{is_always_guarded, is_heading_mark, is_block_mark, is_guarded_mark}
 use Rattle.htmd_markdown.specs.GuardedText.{guarded_text, begins_no_markup, is_guarded}
@@ -22,19 +22,11 @@ use Rattle.htmd_markdown.proofs.GuardedMarksLemmas.{mark_is_punctuation, unmarke
 
 -- ---- the text reads back, whatever stands behind it
 
-read_other : (b : ℕ) (t : List ℕ) → (b == backslash) ≡ false → unescape (b ∷ t) ≡ b ∷ unescape t
-read_other b [] other = refl
-read_other b (c ∷ t) other = rw other refl
-
-read_escaped : (b : ℕ) (t : List ℕ) → is_ascii_punctuation b ≡ true
-    → unescape (backslash ∷ b ∷ t) ≡ b ∷ unescape t
-read_escaped b t here = rw here refl
-
 one_read : (m : Bool) (b : ℕ) (s t more : List ℕ) → (m ≡ true → is_ascii_punctuation b ≡ true)
     → (m ≡ false → (b == backslash) ≡ false) → unescape (t ++ more) ≡ s ++ unescape more
     → unescape (cond m (backslash ∷ b ∷ t) (b ∷ t) ++ more) ≡ b ∷ (s ++ unescape more)
-one_read true b s t more marked plain rest = read_escaped b (t ++ more) (marked refl) ∙ ap (λ l. b ∷ l) rest
-one_read false b s t more marked plain rest = read_other b (t ++ more) (plain refl) ∙ ap (λ l. b ∷ l) rest
+one_read true b s t more marked plain rest = unescape_escaped b (t ++ more) (marked refl) ∙ ap (λ l. b ∷ l) rest
+one_read false b s t more marked plain rest = unescape_other b (t ++ more) (plain refl) ∙ ap (λ l. b ∷ l) rest
 
 read_on : (begins : Bool) (w : List ℕ) (k : ℕ) (s more : List ℕ) → s ≡ drop k w
     → unescape (with_backslashes (is_guarded_mark begins w) k s ++ more) ≡ s ++ unescape more
@@ -233,16 +225,6 @@ like_on (b ∷ s) more e =
     (cases_Bool (b == number_sign))
 
 -- ---- no character is markup
-
-bare_first : (passes : List ℕ → Bool) (b : ℕ) (t : List ℕ) → (b == backslash) ≡ false
-    → passes (b ∷ t) ≡ true
-    → each_bare passes t ≡ true → each_bare passes (b ∷ t) ≡ true
-bare_first passes b [] other here rest = here
-bare_first passes b (c ∷ t) other here rest = rw (other, here) rest
-
-escaped_first : (passes : List ℕ → Bool) (b : ℕ) (t : List ℕ) → is_ascii_punctuation b ≡ true
-    → each_bare passes t ≡ true → each_bare passes (backslash ∷ b ∷ t) ≡ true
-escaped_first passes b t here rest = rw here rest
 
 bare_passes : (begins : Bool) (w : List ℕ) (k b : ℕ) (s more : List ℕ) → b ∷ s ≡ drop k w
     → is_guarded_mark begins w k ≡ false

@@ -5,7 +5,7 @@ use Rattle.std.proofs.Common.{take, drop, map, refl, sym, ap, ◌∙◌, subst, 
 use Rattle.std.specs.Prelude.{not, ◌&&◌, ◌==◌, replicate}
 use Rattle.std.specs.List.{onto_first}
 use Rattle.std.specs.Str.{chars}
-use Rattle.std.proofs.lemmas.Bool.{and_parts, cases_Bool}
+use Rattle.std.proofs.lemmas.Bool.{and_parts, cases_Bool, not-true, eqb-true}
 use Rattle.htmd_text.specs.Characters.{line_feed, space, vertical_bar, backslash}
 use Rattle.htmd_text.specs.Trims.{trimmed_text}
 use Rattle.htmd_text.specs.WhiteSpace.{is_document_white_space}
@@ -13,10 +13,9 @@ use Rattle.htmd_markdown.specs.Tables.{padded_cell, barred_cells, line, line_cel
 use Rattle.htmd_markdown.specs.GuardedTables.{cell_line, is_escaping, escaped_bars, guarded_cell, guarded_row}
 use Rattle.htmd_markdown.specs.GuardedTableReading.{parts_between, bars_read, read_guarded_row}
 use Rattle.htmd_markdown.specs.GuardedTableReading.{cutting_bars}
-use Rattle.htmd_markdown.proofs.CellsLemmas.{same_byte}
 use Rattle.htmd_markdown.proofs.PiecesLemmas.{guarded_is_bare}
 use Rattle.htmd_markdown.proofs.TrimmedTexts.{IsBare}
-use Rattle.htmd_markdown.proofs.TablesLemmas.{paddeds, not_passed, inner_of, padded_trimmed, line_cells-length}
+use Rattle.htmd_markdown.proofs.TablesLemmas.{paddeds, inner_of, padded_trimmed, line_cells-length}
 
 -- ---- where a text is cut
 
@@ -35,7 +34,7 @@ parts_at : (s rest : List ℕ) (escaped : Bool) → uncut escaped s ≡ true →
 parts_at [] rest escaped all ends = rw ends refl
 parts_at (b ∷ s) rest escaped all ends =
     let both = and_parts (not ((b == vertical_bar) && not escaped)) (uncut (is_escaping escaped b) s) all in
-    let here : ((b == vertical_bar) && not escaped) ≡ false = not_passed _ both.0 in
+    let here : ((b == vertical_bar) && not escaped) ≡ false = not-true _ both.0 in
     ap (λ t. cond t ([] ∷ parts_between false (s ++ vertical_bar ∷ rest))
     (onto_first b (parts_between (is_escaping escaped b) (s ++ vertical_bar ∷ rest)))) here
     ∙ ap (onto_first b) (parts_at s rest (is_escaping escaped b) both.1 ends)
@@ -170,7 +169,7 @@ one_uncut : (escaped : Bool) (b : ℕ) (s : List ℕ) → ((e : Bool) → uncut 
 one_uncut escaped b s rest =
     ⊎_elim
     (λ yes. subst (λ (x : ℕ). uncut escaped (escaped_bars escaped (x ∷ s)) ≡ true)
-    (sym (same_byte b vertical_bar yes)) (at_bar escaped s rest))
+    (sym (eqb-true b vertical_bar yes)) (at_bar escaped s rest))
     (λ (no : (b == vertical_bar) ≡ false). rw no (rw no (rest (is_escaping escaped b))))
     (cases_Bool (b == vertical_bar))
 
@@ -207,7 +206,7 @@ read_one : (b : ℕ) (s : List ℕ) → (b == backslash) ≡ false → bars_read
 read_one b s other rest =
     ⊎_elim
     (λ yes. subst (λ (x : ℕ). bars_read (escaped_bars false (x ∷ s)) ≡ bars_read (x ∷ s))
-    (sym (same_byte b vertical_bar yes))
+    (sym (eqb-true b vertical_bar yes))
     (ap (λ l. vertical_bar ∷ l) rest ∙ sym (read_other vertical_bar s refl)))
     (λ (no : (b == vertical_bar) ≡ false).
     let plain : escaped_bars false (b ∷ s) ≡ b ∷ escaped_bars false s = rw (no, other) refl in
@@ -222,7 +221,7 @@ escaped_read zero (b ∷ s) le = absurd (omega arith)
 escaped_read (suc n) (b ∷ s) le =
     ⊎_elim
     (λ yes. subst (λ (x : ℕ). bars_read (escaped_bars false (x ∷ s)) ≡ bars_read (x ∷ s))
-    (sym (same_byte b backslash yes)) (at_mark s (λ t lt. escaped_read n t (omega (arith, lt)))))
+    (sym (eqb-true b backslash yes)) (at_mark s (λ t lt. escaped_read n t (omega (arith, lt)))))
     (λ no. read_one b s no (escaped_read n s (omega arith)))
     (cases_Bool (b == backslash))
   where

@@ -3,7 +3,7 @@ use Rattle.std.proofs.Common.{◌≡◌, ℕ, ◌+◌, ◌<◌, Bool, false, Lis
 use Rattle.std.proofs.Common.{◌∙◌, arith, append_assoc}
 use Rattle.std.specs.Prelude.{not, ◌==◌, if◌then◌else◌}
 use Rattle.std.proofs.lemmas.Bool.Decides.{nat_tests}
-use Rattle.std.proofs.lemmas.List.{append-nil, flat_map_more, length-map, length-take-le, length_push, map_push}
+use Rattle.std.proofs.lemmas.List.{append-nil, flat_map_more, length-map, length-take-le, map_push}
 use Rattle.std.proofs.lemmas.List.{take_more}
 use Rattle.htmd_text.specs.Joins.{joined_texts}
 
@@ -35,6 +35,3 @@ joined_more separator f texts n x base first here begun =
     rw (more, joined_push separator (map f (take n texts)) (f x), size, ← begun)
     (append_assoc (base ++ joined_texts separator (map f (take n texts))) (separator_unless first separator) (f x)
     ∙ append_assoc base (joined_texts separator (map f (take n texts))) (separator_unless first separator ++ f x))
-
-pub pushed_some : {X : Type 0} (xs : List X) (x : X) → false ≡ (length (xs ++ x ∷ []) == 0)
-pushed_some xs x = let size = length_push xs x in grind (arith, nat_tests)

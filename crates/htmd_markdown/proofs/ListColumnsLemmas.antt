@@ -217,7 +217,7 @@ number_marker-end spacing highest number =
     (suffix_len-push is_line_feed (decimal number) full_stop refl)
     ∙ spaces_none (spacing + (digits highest - digits number))
 
-digit_first : (b : ℕ) → 48 ≤ b → is_line_feed b ≡ false
+pub digit_first : (b : ℕ) → 48 ≤ b → is_line_feed b ≡ false
 digit_first b le = grind (arith, nat_tests)
 
 -- ---- each item

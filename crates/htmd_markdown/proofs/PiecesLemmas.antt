@@ -7,7 +7,7 @@ use Rattle.std.specs.List.{between, flat_map}
 use Rattle.std.specs.Str.{IsCharBoundary, IsUtf8, all_scalars, encode_utf8_all}
 use Rattle.std.specs.Char.{encode_utf8}
 use lib.Utf8.{scalar}
-use Rattle.std.proofs.lemmas.Bool.{and_parts, cases_Bool}
+use Rattle.std.proofs.lemmas.Bool.{and_parts, cases_Bool, eqb-true}
 use Rattle.std.proofs.lemmas.Bool.Decides.{nat_tests}
 use Rattle.std.proofs.lemmas.List.{append-nil, drop_more, drop_all, reverse-append, reverse-reverse}
 use Rattle.std.proofs.lemmas.List.Edits.{between_more, between_none}
@@ -23,7 +23,7 @@ use Rattle.htmd_markdown.specs.Tables.{in_cell}
 use Rattle.htmd_markdown.specs.GuardedTables.{in_line, escaped_bars, is_escaping, guarded_cell}
 use Rattle.htmd_markdown.specs.CellBytes.{IsReplaced, piece, pieces, escapes_next, cell_of}
 use Rattle.htmd_markdown.proofs.TrimmedTexts.{Begins, IsBare, trimmed_between}
-use Rattle.htmd_markdown.proofs.CellsLemmas.{lacks, same_byte, high_byte, trimmed_is_text, normalised_is}
+use Rattle.htmd_markdown.proofs.CellsLemmas.{lacks, high_byte, trimmed_is_text, normalised_is}
 use Rattle.htmd_markdown.proofs.CellsLemmas.{normalised_is_cell}
 
 -- As far as i the cell is written, but for what stands from `from` on.
@@ -100,11 +100,11 @@ one_more : (escaped : Bool) (s : List ℕ) (b : ℕ)
 one_more escaped s b rest =
     ⊎_elim
     (λ (yes : (b == line_feed) ≡ true).
-    subst (OneMore escaped s) (sym (same_byte b line_feed yes)) (ap (λ l. space ∷ l) (rest false)))
+    subst (OneMore escaped s) (sym (eqb-true b line_feed yes)) (ap (λ l. space ∷ l) (rest false)))
     (λ (no : (b == line_feed) ≡ false).
     ⊎_elim
     (λ (yes : (b == carriage_return) ≡ true).
-    subst (OneMore escaped s) (sym (same_byte b carriage_return yes)) (rest escaped))
+    subst (OneMore escaped s) (sym (eqb-true b carriage_return yes)) (rest escaped))
     (λ (no' : (b == carriage_return) ≡ false).
     rw (no, no') (ap (λ l. cond ((b == vertical_bar) && not escaped) (backslash ∷ b ∷ []) (b ∷ []) ++ l)
     (rest (is_escaping escaped b))))

@@ -1,10 +1,11 @@
 -- A text without special characters is written as it is.
-use Rattle.std.proofs.Common.{◌≡◌, ℕ, zero, suc, Bool, true, false, List, [], ◌∷◌, refl, sym, ap, ◌∙◌}
-use Rattle.std.specs.Prelude.{◌==◌, ◌&&◌, ◌||◌, slice_index, Option, Some, None, is_none}
+use Rattle.std.proofs.Common.{◌≡◌, ℕ, zero, suc, Bool, true, false, List, [], ◌∷◌, refl, sym, ◌∙◌}
+use Rattle.std.specs.Prelude.{◌==◌, ◌&&◌, ◌||◌, slice_index, Option, is_none}
 use Rattle.std.specs.List.{list_any}
 use Rattle.std.proofs.lemmas.Bool.{or_parts, or_from, and_left}
 use Rattle.htmd_text.specs.Characters.{ampersand, number_sign}
-use Rattle.htmd_text.specs.EscapeMarks.{with_backslashes, is_place}
+use Rattle.htmd_text.specs.EscapeMarks.{is_place}
+use Rattle.htmd_text.proofs.EscapeMarksLemmas.{no_place, unmarked_stays}
 use Rattle.htmd_markdown.specs.GuardedText.{is_always_guarded, is_mark_anywhere, is_block_mark, is_guarded_mark}
 use Rattle.htmd_markdown.specs.GuardedText.{guarded_text}
 use Rattle.htmd_markdown.specs.SpecialBytes.{is_special}
@@ -23,20 +24,11 @@ unmarked_anywhere s k plain =
     let other = or_parts (is_always_guarded b) (b == ampersand) sign.0 in
     or_from _ _ (or_from _ _ other.0 (and_left _ _ other.1)) (and_left _ _ sign.1)
 
-unmarked_stays : (marked : ℕ → Bool) (k : ℕ) (s : List ℕ) → ((i : ℕ) → marked i ≡ false)
-    → with_backslashes marked k s ≡ s
-unmarked_stays marked k [] none = refl
-unmarked_stays marked k (b ∷ s) none = rw (none k) (ap (λ l. b ∷ l) (unmarked_stays marked (suc k) s none))
-
 pub plain_stays_guarded : (begins : Bool) (s : List ℕ) → list_any is_special s ≡ false
     → ((k : ℕ) → (begins && is_block_mark s k) ≡ false) → guarded_text begins s ≡ s
 plain_stays_guarded begins s none no_block =
     unmarked_stays (is_guarded_mark begins s) 0 s
     (λ k. or_from _ _ (unmarked_anywhere s k (special_at s k none)) (no_block k))
-
-no_place : (o : Option ℕ) (k : ℕ) → is_none o ≡ true → is_place o k ≡ false
-no_place None k e = refl
-no_place (Some place) k e = cc
 
 -- no place at the start of a line gets a backslash where none is told
 pub none_at_block : (o : Option ℕ) (begins : Bool) (s : List ℕ) → is_none o ≡ true

@@ -1,17 +1,16 @@
 -- A text that is made of another one, written piece by piece.
-use Rattle.std.proofs.Common.{◌≡◌, ℕ, ◌+◌, ◌<◌, ◌≤◌, true, List, [], ◌∷◌, ◌++◌, length, get_or, take, drop, refl, sym}
+use Rattle.std.proofs.Common.{◌≡◌, ℕ, ◌+◌, ◌<◌, ◌≤◌, List, [], ◌∷◌, ◌++◌, length, get_or, take, drop, refl, sym}
 use Rattle.std.proofs.Common.{ap}
 use Rattle.std.proofs.Common.{◌∙◌, arith, append_assoc}
 use Rattle.std.specs.Prelude.{slice_index}
 use Rattle.std.specs.List.{between}
 use Rattle.std.specs.Str.{IsCharBoundary, IsUtf8}
-use Rattle.std.specs.Char.{is_ascii}
-use Rattle.std.proofs.lemmas.Bool.Decides.{nat_tests}
 use Rattle.std.proofs.lemmas.List.{append-nil, drop_more, drop_all, drop-drop, get_or-drop}
 use Rattle.std.proofs.lemmas.List.Edits.{between_more, between_none}
 use Rattle.std.proofs.lemmas.Slice.{between_to_end}
 use Rattle.std.proofs.lemmas.Str.{IsCharBoundary-start, IsCharBoundary-after_ascii}
 use Rattle.htmd_markdown.specs.Rewriting.{StandsFor}
+use Rattle.htmd_text.proofs.EscapeMarksLemmas.{below_ascii_end}
 
 -- What was written behind a text, the piece that waits, and what the rest becomes, are the whole.
 pub record Rewriting (made_of : List ℕ → List ℕ) (s before out : List ℕ) (from i : ℕ) : Type 0 where
@@ -42,9 +41,6 @@ rewriting_stays made_of s before out from i lt stays was = record {
       ap (λ l. l ++ rest) piece ∙ append_assoc (between from i s) (get_or s i 0 ∷ []) rest in
       ap (λ l. out ++ l) (grown ∙ ap (λ l. between from i s ++ l) (sym first)) ∙ was.whole;
 }
-
-below_ascii_end : (b : ℕ) → is_ascii b ≡ true → b < 128
-below_ascii_end b e = grind (arith, nat_tests)
 
 pub rewriting_replaced : (made_of : List ℕ → List ℕ) (s before out piece : List ℕ) (from i : ℕ) → IsUtf8 s
     → i < length s → StandsFor made_of (drop i s) piece → Rewriting made_of s before out from i

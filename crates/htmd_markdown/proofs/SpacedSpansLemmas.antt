@@ -16,7 +16,7 @@ use Rattle.htmd_markdown.specs.CodeSpanReading.{is_backquote, before_run, line_e
 use Rattle.htmd_markdown.specs.CodeSpanReading.{from_delimiter, read_span}
 use Rattle.htmd_markdown.specs.LineEnds.{holds_line_end}
 use Rattle.htmd_markdown.specs.GuardedCode.{code_line, span_text, spaced_span}
-use Rattle.htmd_markdown.proofs.CodeSpansLemmas.{code_span-reads_back}
+use Rattle.htmd_markdown.proofs.CodeSpansLemmas.{code_span-reads_back, run_push}
 use Rattle.htmd_markdown.proofs.LineEndsLemmas.{line_ends-left, spaces-none}
 use Rattle.htmd_markdown.proofs.LinesLemmas.{lack_trimmed}
 
@@ -28,7 +28,7 @@ inside_of n s =
 read_is : (s : List ℕ) → read_span s ≡ inside_of (prefix_len is_backquote (from_delimiter s)) (from_delimiter s)
 read_is s = refl
 
-one_more : (n : ℕ) → 1 + n ≡ suc n
+pub one_more : (n : ℕ) → 1 + n ≡ suc n
 one_more n = omega arith
 
 from_next : (b : ℕ) (s : List ℕ) → is_backquote b ≡ false → from_delimiter (b ∷ s) ≡ from_delimiter s
@@ -46,10 +46,6 @@ read_next b s other = ap (λ l. inside_of (prefix_len is_backquote l) l) (from_n
 read_here : (b : ℕ) (s : List ℕ) → is_backquote b ≡ true
     → read_span (b ∷ s) ≡ inside_of (prefix_len is_backquote (b ∷ s)) (b ∷ s)
 read_here b s here = ap (λ l. inside_of (prefix_len is_backquote l) l) (from_here b s here)
-
-run_push : (s : List ℕ) → prefix_len is_backquote (s ++ space ∷ []) ≡ prefix_len is_backquote s
-run_push [] = refl
-run_push (b ∷ s) = ap (λ n. cond (is_backquote b) (1 + n) 0) (run_push s)
 
 some_of : (b : ℕ) (found : Option (List ℕ)) (front : List ℕ) → option_map (λ l. b ∷ l) found ≡ Some front
     → (rest : List ℕ) × ((found ≡ Some rest) × (front ≡ b ∷ rest))

@@ -6,7 +6,7 @@ use Rattle.std.specs.List.{list_all, flat_map}
 use Rattle.std.specs.Str.{IsUtf8, chars}
 use Rattle.std.specs.Str.Lines.{lines}
 use Rattle.std.proofs.Common.{lit<}
-use Rattle.std.proofs.lemmas.Bool.{and_parts}
+use Rattle.std.proofs.lemmas.Bool.{and_parts, not-true}
 use Rattle.std.proofs.lemmas.List.{append-nil, length-map, length-replicate}
 use Rattle.std.proofs.lemmas.Str.{IsUtf8-nil, IsUtf8-string_bytes, IsUtf8-from_ascii, chars-IsAscii}
 use Rattle.htmd_text.specs.Characters.{line_feed, space, hyphen, vertical_bar}
@@ -20,7 +20,7 @@ use Rattle.htmd_markdown.proofs.PiecesLemmas.{cell_is_text, guarded_is_text, gua
 use Rattle.htmd_markdown.specs.Tables.{texts, row_texts}
 use Rattle.htmd_markdown.proofs.TrimmedTexts.{Begins, reversed_passes}
 use Rattle.htmd_markdown.proofs.CellsLemmas.{IsCell, lacks, normalised_is_cell}
-use Rattle.htmd_markdown.proofs.TablesLemmas.{AreCells, not_passed, padded_pushed, line_cells-length, row_cells}
+use Rattle.htmd_markdown.proofs.TablesLemmas.{AreCells, padded_pushed, line_cells-length, row_cells}
 use Rattle.htmd_markdown.proofs.TableLinesLemmas.{Fit, IsLine, AreLines, joined_lines, lines_alike, line_width}
 use Rattle.htmd_markdown.proofs.TableLinesLemmas.{IsLineCell, AreLineCells, is_table_line, characters_of_line}
 use Rattle.htmd_markdown.proofs.GuardedRowsLemmas.{uncut, AreUncut, row_uncut, line_cut}
@@ -51,7 +51,7 @@ bare_begins : (s : List ℕ) → list_all (λ b. not (is_document_white_space b)
     → Begins is_document_white_space s
 bare_begins [] all = tt
 bare_begins (b ∷ s) all =
-    not_passed (is_document_white_space b)
+    not-true (is_document_white_space b)
     (and_parts (not (is_document_white_space b)) (list_all (λ c. not (is_document_white_space c)) s) all).0
 
 dashes_cell : (w : ℕ) → IsCell (spec.dashes w)

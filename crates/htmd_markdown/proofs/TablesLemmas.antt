@@ -1,11 +1,11 @@
 -- Lines of a table, cell by cell.
-use Rattle.std.proofs.Common.{◌≡◌, ℕ, zero, suc, ◌+◌, ◌-◌, ◌<◌, ◌≤◌, Bool, true, false, List, [], ◌∷◌, ◌++◌, length}
+use Rattle.std.proofs.Common.{◌≡◌, ℕ, zero, suc, ◌+◌, ◌-◌, ◌<◌, ◌≤◌, true, false, List, [], ◌∷◌, ◌++◌, length}
 use Rattle.std.proofs.Common.{get_or, take, drop, map, refl, sym, ap, ◌∙◌, arith, append_assoc, length-append, ⊎_elim}
 use Rattle.std.proofs.Common.{codes}
 use Rattle.std.specs.Prelude.{not, ◌&&◌, ◌==◌, nat_lt, replicate, cond, All, String, string_bytes}
 use Rattle.std.specs.List.{slice_split, list_all}
 use Rattle.std.specs.Str.{chars}
-use Rattle.std.proofs.lemmas.Bool.{and_parts, cases_Bool}
+use Rattle.std.proofs.lemmas.Bool.{and_parts, cases_Bool, not-true}
 use Rattle.std.proofs.lemmas.Bool.Decides.{nat_tests}
 use Rattle.std.proofs.lemmas.List.{length-map, length-replicate, get_or_append_left, get_or-append_right, get_or-map}
 use Rattle.std.proofs.lemmas.List.{get_or-replicate, get_or_past, drop_more, drop_all, take_at}
@@ -175,12 +175,8 @@ paddeds [] widths = []
 paddeds (cell ∷ cells) [] = []
 paddeds (cell ∷ cells) (width ∷ widths) = padded_cell cell width ∷ paddeds cells widths
 
-pub not_passed : (p : Bool) → not p ≡ true → p ≡ false
-not_passed true e = sym e
-not_passed false e = refl
-
 pub none_of : (c : ℕ) (s : List ℕ) → lacks c s ≡ true → All (λ b. (b == c) ≡ false) s
-none_of c s all = λ k d lt. not_passed _ (AllPass-from_list_all (λ b. not (b == c)) s all k d lt)
+none_of c s all = λ k d lt. not-true _ (AllPass-from_list_all (λ b. not (b == c)) s all k d lt)
 
 parts_of : (cells : List (List ℕ)) (widths : List ℕ) → AreCells cells
     → slice_split (λ b. b == vertical_bar) (barred_cells cells widths ++ line_feed ∷ []) ≡ paddeds cells widths
@@ -232,7 +228,7 @@ no_bars : (s : List ℕ) → lacks vertical_bar s ≡ true → bars s ≡ 0
 no_bars [] none = refl
 no_bars (b ∷ s) none =
     let parts = and_parts (not (b == vertical_bar)) (lacks vertical_bar s) none in
-    let first : (b == vertical_bar) ≡ false = not_passed (b == vertical_bar) parts.0 in
+    let first : (b == vertical_bar) ≡ false = not-true (b == vertical_bar) parts.0 in
     let one : bars (b ∷ []) ≡ 0 = rw first refl in
     omega (arith, bars-append (b ∷ []) s, one, no_bars s parts.1)
 

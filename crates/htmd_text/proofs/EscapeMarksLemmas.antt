@@ -3,7 +3,7 @@ use Rattle.std.proofs.Common.{◌≡◌, ℕ, suc, zero, ◌+◌, ◌<◌, ◌�
 use Rattle.std.proofs.Common.{get_or, drop, refl, sym, ap, ◌∙◌, arith, append_assoc, add-one, Option, Some, None}
 use Rattle.std.specs.Prelude.{◌==◌, ◌&&◌, not, is_none, slice_index}
 use Rattle.std.specs.List.{between, list_any}
-use Rattle.std.proofs.lemmas.Bool.{or_parts, or_from, and_parts, and_left, and_right}
+use Rattle.std.proofs.lemmas.Bool.{or_parts, or_from, and_parts, and_left, and_right, not-true}
 use Rattle.std.proofs.lemmas.Bool.Decides.{nat_tests}
 use Rattle.std.specs.Char.{is_ascii}
 use Rattle.std.specs.Str.{IsCharBoundary, IsUtf8}
@@ -84,7 +84,7 @@ not_nil : (out : List ℕ) (b : ℕ) → out ++ b ∷ [] ≡ [] → ⊥
 not_nil [] b e = cc
 not_nil (x ∷ out) b e = cc
 
-below_ascii_end : (b : ℕ) → is_ascii b ≡ true → b < 128
+pub below_ascii_end : (b : ℕ) → is_ascii b ≡ true → b < 128
 below_ascii_end b e = grind (arith, nat_tests)
 
 pub writing_marked : (marked : ℕ → Bool) (s out : List ℕ) (from i : ℕ) → i < length s → marked i ≡ true
@@ -125,16 +125,12 @@ writing_nothing marked s out from i past none was =
 
 -- ---- a text without special characters has no mark
 
-special_at : (s : List ℕ) (k : ℕ) → list_any is_special s ≡ false → is_special (slice_index s k) ≡ false
+pub special_at : (s : List ℕ) (k : ℕ) → list_any is_special s ≡ false → is_special (slice_index s k) ≡ false
 special_at [] k none = refl
 special_at (b ∷ s) zero none = (or_parts (is_special b) (list_any is_special s) none).0
 special_at (b ∷ s) (suc k) none = special_at s k (or_parts (is_special b) (list_any is_special s) none).1
 
-false_from_not : (b : Bool) → not b ≡ true → b ≡ false
-false_from_not true e = sym e
-false_from_not false e = refl
-
-no_place : (o : Option ℕ) (k : ℕ) → is_none o ≡ true → is_place o k ≡ false
+pub no_place : (o : Option ℕ) (k : ℕ) → is_none o ≡ true → is_place o k ≡ false
 no_place None k e = refl
 no_place (Some place) k e = cc
 
@@ -142,17 +138,17 @@ plain_unmarked : (marks : Marks) (s : List ℕ) (k : ℕ) → is_plain marks s �
     → is_marked_by marks s k ≡ false
 plain_unmarked Html s k plain =
     let other = or_parts (is_always_marked (slice_index s k)) (slice_index s k == less_than_sign)
-    (special_at s k (false_from_not _ plain)) in
+    (special_at s k (not-true _ plain)) in
     and_left _ _ (and_left _ _ other.1)
 plain_unmarked (Markdown begins_block item_dot) s k plain =
     let parts = and_parts (not begins_block && is_none item_dot) (not (list_any is_special s)) plain in
     let front = and_parts (not begins_block) (is_none item_dot) parts.0 in
     let other = or_parts (is_always_marked (slice_index s k)) (slice_index s k == less_than_sign)
-    (special_at s k (false_from_not _ parts.1)) in
+    (special_at s k (not-true _ parts.1)) in
     or_from _ _ (or_from _ _ (or_from _ _ other.0 (and_left _ _ other.1))
-    (and_right (k == 0) begins_block (false_from_not _ front.0))) (no_place item_dot k front.1)
+    (and_right (k == 0) begins_block (not-true _ front.0))) (no_place item_dot k front.1)
 
-unmarked_stays : (marked : ℕ → Bool) (k : ℕ) (s : List ℕ) → ((i : ℕ) → marked i ≡ false)
+pub unmarked_stays : (marked : ℕ → Bool) (k : ℕ) (s : List ℕ) → ((i : ℕ) → marked i ≡ false)
     → with_backslashes marked k s ≡ s
 unmarked_stays marked k [] none = refl
 unmarked_stays marked k (b ∷ s) none = rw (none k) (ap (λ l. b ∷ l) (unmarked_stays marked (suc k) s none))

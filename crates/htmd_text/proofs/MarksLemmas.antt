@@ -87,7 +87,7 @@ marked_is_punctuation s k e =
     (numbered_dot s k)
     (or_cases (special || html || begins) dot e)
 
-punctuation_is_ascii : (b : ℕ) → is_ascii_punctuation b ≡ true → is_ascii b ≡ true
+pub punctuation_is_ascii : (b : ℕ) → is_ascii_punctuation b ≡ true → is_ascii b ≡ true
 punctuation_is_ascii b e = grind (arith, nat_tests)
 
 pub marks_are_ascii : (s : List ℕ) → AreAscii (Markdown (begins_block s) (numbered_item_dot s)) s

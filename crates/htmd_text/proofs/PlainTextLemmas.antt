@@ -7,7 +7,7 @@ use Rattle.std.specs.List.{starts_with, prefix_len}
 use Rattle.std.specs.Char.{is_ascii_punctuation, is_ascii_alphabetic, is_ascii_digit}
 use Rattle.std.proofs.lemmas.Bool.{or_parts, or_from, or_left, or_right, not_from_false, not_from_true, cases_Bool}
 use Rattle.std.proofs.lemmas.Bool.{and_left, and_right, and_cases, false≢true, and_from, cases_lt, and_parts, cond-true}
-use Rattle.std.proofs.lemmas.Bool.{cond-false, false_from_ne_true}
+use Rattle.std.proofs.lemmas.Bool.{cond-false, false_from_ne_true, not-false}
 use Rattle.std.proofs.lemmas.Bool.Decides.{Decides-eqb, nat_tests}
 use Rattle.std.proofs.lemmas.Slice.Eq.{starts_is}
 use Rattle.htmd_text.specs.Characters.{backslash, less_than_sign, question_mark, slash, exclamation_mark, space}
@@ -24,17 +24,17 @@ use Rattle.htmd_text.specs.ListMarkers.{is_numeric, number_signs, is_atx_heading
 use Rattle.htmd_text.specs.ListMarkers.{ordered_item_dot}
 use Rattle.htmd_text.proofs.ListMarkersLemmas.{numeric-ascii}
 
-bare_first : (passes : List ℕ → Bool) (b : ℕ) (t : List ℕ) → (b == backslash) ≡ false
+pub bare_first : (passes : List ℕ → Bool) (b : ℕ) (t : List ℕ) → (b == backslash) ≡ false
     → passes (b ∷ t) ≡ true
     → each_bare passes t ≡ true → each_bare passes (b ∷ t) ≡ true
 bare_first passes b [] other here rest = here
 bare_first passes b (c ∷ t) other here rest = rw (other, here) rest
 
-escaped_first : (passes : List ℕ → Bool) (b : ℕ) (t : List ℕ) → is_ascii_punctuation b ≡ true
+pub escaped_first : (passes : List ℕ → Bool) (b : ℕ) (t : List ℕ) → is_ascii_punctuation b ≡ true
     → each_bare passes t ≡ true → each_bare passes (backslash ∷ b ∷ t) ≡ true
 escaped_first passes b t here rest = rw here rest
 
-one_more : (passes : List ℕ → Bool) (m : Bool) (b : ℕ) (t : List ℕ)
+pub one_more : (passes : List ℕ → Bool) (m : Bool) (b : ℕ) (t : List ℕ)
     → (m ≡ true → is_ascii_punctuation b ≡ true)
     → (m ≡ false → (b == backslash) ≡ false) → (m ≡ false → passes (b ∷ t) ≡ true)
     → each_bare passes t ≡ true
@@ -78,10 +78,6 @@ no_inline w = each_bare-escaped begins_no_inline w 0 w refl
     ∙ (unmarked_parts w i m).0))
 
 -- ---- what stands behind a bare `<`
-
-true_from_not : (b : Bool) → not b ≡ false → b ≡ true
-true_from_not true e = refl
-true_from_not false e = cc
 
 letter_first : (m : Bool) (c : ℕ) (t : List ℕ) → is_ascii_alphabetic c ≡ false
     → is_ascii_alphabetic (slice_index (cond m (backslash ∷ c ∷ t) (c ∷ t)) 0) ≡ false
@@ -149,7 +145,7 @@ no_html_first w k c t false part closed =
     (and_cases (c == slash) (is_ascii_alphabetic (slice_index t 0)) two.1) in
     let no_declaration : ((c == exclamation_mark) && not (starts_with nat_eq out (codes "\\[CDATA\\["))) ≡ false =
     ⊎_elim (and_left (c == exclamation_mark) _)
-    (λ e. and_right (c == exclamation_mark) _ (not_from_true _ (cdata_stays w (suc k) t part (true_from_not _ e))))
+    (λ e. and_right (c == exclamation_mark) _ (not_from_true _ (cdata_stays w (suc k) t part (not-false _ e))))
     (and_cases (c == exclamation_mark) (not (starts_with nat_eq t (codes "[CDATA["))) three.1) in
     not_from_false _ (or_from _ _ (or_from _ _ two.0 no_end_tag) no_declaration)
 
@@ -298,7 +294,7 @@ no_block w = no_block_of w w refl
 
 -- ---- it does not begin an ordered list item
 
-chars_ascii : (b : ℕ) (s : List ℕ) → b < 128 → chars (b ∷ s) ≡ b ∷ chars s
+pub chars_ascii : (b : ℕ) (s : List ℕ) → b < 128 → chars (b ∷ s) ≡ b ∷ chars s
 unfolding chars
 chars_ascii b [] small = let test : nat_lt b 128 ≡ true = grind (arith, nat_tests) in rw test refl
 chars_ascii b (c ∷ s) small = let test : nat_lt b 128 ≡ true = grind (arith, nat_tests) in rw test refl

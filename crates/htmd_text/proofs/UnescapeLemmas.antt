@@ -8,11 +8,11 @@ use Rattle.htmd_text.specs.EscapeMarks.{with_backslashes, is_marked, escaped_mar
 use Rattle.htmd_text.specs.Unescape.{unescape}
 use Rattle.htmd_text.proofs.MarksLemmas.{marked_is_punctuation, unmarked_is_no_backslash}
 
-unescape_other : (b : ℕ) (t : List ℕ) → (b == backslash) ≡ false → unescape (b ∷ t) ≡ b ∷ unescape t
+pub unescape_other : (b : ℕ) (t : List ℕ) → (b == backslash) ≡ false → unescape (b ∷ t) ≡ b ∷ unescape t
 unescape_other b [] other = refl
 unescape_other b (c ∷ t) other = rw other refl
 
-unescape_escaped : (b : ℕ) (t : List ℕ) → is_ascii_punctuation b ≡ true
+pub unescape_escaped : (b : ℕ) (t : List ℕ) → is_ascii_punctuation b ≡ true
     → unescape (backslash ∷ b ∷ t) ≡ b ∷ unescape t
 unescape_escaped b t here = rw here refl
 

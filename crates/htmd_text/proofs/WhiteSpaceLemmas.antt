@@ -92,7 +92,7 @@ squeezing_stays s out from i lt stays was = record {
       ap (λ l. out ++ l) (grown ∙ ap (λ l. between from i s ++ l) (sym first)) ∙ was.whole;
 }
 
-white_is_ascii : (b : ℕ) → is_ascii_white_space b ≡ true → b < 128
+pub white_is_ascii : (b : ℕ) → is_ascii_white_space b ≡ true → b < 128
 white_is_ascii b white = grind (arith, nat_tests)
 
 pub squeezing_replaced : (s out instead : List ℕ) (from i : ℕ) → IsUtf8 s → i < length s

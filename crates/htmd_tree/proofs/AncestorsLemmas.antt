@@ -5,7 +5,7 @@ use Rattle.std.proofs.lemmas.Bool.{false≢true}
 use Rattle.htmd_tree.specs.Items.{Item, parent_at, depth_at, IsTree}
 use Rattle.htmd_tree.specs.Ancestors.{chain_from, ancestors_up, ancestors_of}
 
-no_parent : (items : List Item) (id : ℕ) → IsTree items → id < length items → parent_at items id ≡ None
+pub no_parent : (items : List Item) (id : ℕ) → IsTree items → id < length items → parent_at items id ≡ None
     → depth_at items id ≡ 0
 no_parent items zero t l e = ap (λ (x : Item). x.depth) t.first
 no_parent items (suc id) t l e =

@@ -9,8 +9,8 @@ use Rattle.htmd_grammar.specs.CharacterClasses.{first_is, behind_run}
 use Rattle.htmd_grammar.specs.TagReading.{TagPart, attribute, is_other, next_part, TagForm, no_form, form}
 use Rattle.htmd_grammar.specs.TagReading.{with_attribute}
 use Rattle.htmd_grammar.specs.TagReading.{form_behind, form_within}
-use Rattle.htmd_grammar.proofs.BooleanLemmas.{or_true, or_false}
-use Rattle.std.proofs.lemmas.Bool.{eqb-true}
+use Rattle.std.proofs.lemmas.Bool.{eqb-true, or_parts}
+use Rattle.std.proofs.Math.Bool.{or-true}
 use Rattle.htmd_tree.specs.Bodies.{behind_form, behind_name, first_of, behind_first_start_tag}
 use Rattle.htmd_tree.specs.Bodies.{begins_end_tag, holds_end_tag, before_last_end_tag}
 use Rattle.htmd_tree.proofs.TagPartsLemmas.{part_shorter, form_same, behind_within}
@@ -107,7 +107,7 @@ holds_there : (k : ℕ) (s : List ℕ) → k < length s → begins_end_tag (drop
     → holds_end_tag s ≡ true
 holds_there k [] l e = absurd (omega arith)
 holds_there zero (b ∷ s) l e = rw e refl
-holds_there (suc k) (b ∷ s) l e = rw (holds_there k s (omega arith) e) (or_true (begins_end_tag (b ∷ s)))
+holds_there (suc k) (b ∷ s) l e = rw (holds_there k s (omega arith) e) (or-true (begins_end_tag (b ∷ s)))
 
 -- the last end tag
 last_at : (k : ℕ) (s : List ℕ) → k < length s → begins_end_tag (drop k s) ≡ true
@@ -126,7 +126,7 @@ last_at (suc k) (b ∷ s) l e f =
 pub none_cut : (s : List ℕ) → holds_end_tag s ≡ false → before_last_end_tag s ≡ s
 none_cut [] e = refl
 none_cut (b ∷ s) e =
-    let k = or_false (begins_end_tag (b ∷ s)) (holds_end_tag s) e in
+    let k = or_parts (begins_end_tag (b ∷ s)) (holds_end_tag s) e in
     rw k.0 (ap (λ (x : List ℕ). b ∷ x) (none_cut s k.1))
 
 -- what is cut away stands behind

@@ -6,10 +6,11 @@ use Rattle.std.proofs.Common.{Option, Some, None, codes}
 use Rattle.std.specs.List.{list_all}
 use Rattle.std.specs.Str.{bytes_eq}
 use Rattle.std.specs.Char.{to_ascii_lowercase, is_ascii_alphabetic}
-use Rattle.std.proofs.lemmas.Bool.{eqb-true}
+use Rattle.std.proofs.lemmas.Bool.{eqb-true, and_parts}
 use Rattle.std.proofs.lemmas.Bool.Decides.{nat_tests}
 use Rattle.std.proofs.lemmas.Slice.Eq.{bytes_eq-Decides}
 use Rattle.std.specs.Prelude.{if◌then◌else◌}
+use Rattle.std.proofs.Math.Bool.{and-false, or-true}
 use Rattle.htmd_text.specs.Characters.{less_than_sign, greater_than_sign, slash}
 use Rattle.htmd_text.specs.WhiteSpace.{is_ascii_white_space}
 use Rattle.htmd_grammar.specs.CharacterClasses.{first_is, begins_with, leading_run, behind_run, is_tag_name}
@@ -17,7 +18,6 @@ use Rattle.htmd_grammar.specs.CharacterClasses.{is_tag_name_byte}
 use Rattle.htmd_grammar.specs.ValueTrees.{AttributePair}
 use Rattle.htmd_grammar.specs.Faults.{HasEndTag}
 use Rattle.htmd_grammar.specs.TagReading.{TagForm, no_form, form, form_within}
-use Rattle.htmd_grammar.proofs.BooleanLemmas.{and_true, or_true}
 use Rattle.htmd_grammar.proofs.FaultPieces.{end_is_read, end_tag_there, form_read_behind, name_read}
 use Rattle.htmd_grammar.proofs.TagReadingLemmas.{back_split, front_all, form_read, halts_name, rest_halts}
 use Rattle.htmd_grammar.proofs.TagSpellingLemmas.{tag_spelled}
@@ -45,7 +45,7 @@ body_is_name : (name : List ℕ) → list_all is_tag_name_byte name ≡ true
 body_is_name [] a e = absurd (cc)
 body_is_name (b ∷ name) a e =
     let k : to_ascii_lowercase b ≡ 98 = cc in
-    rw (lower_letter b k) (and_true (is_tag_name_byte b) (list_all is_tag_name_byte name) a).1
+    rw (lower_letter b k) (and_parts (is_tag_name_byte b) (list_all is_tag_name_byte name) a).1
 
 of_form : (f : TagForm) (rest : List ℕ) → behind_form f ≡ Some rest
     → (spelled : List AttributePair) × (present : Bool) × (f ≡ form spelled present rest)
@@ -101,15 +101,15 @@ end_tag_has : (s : List ℕ) → begins_end_tag s ≡ true → HasEndTag s (code
 unfolding ends_name
 end_tag_has [] e = absurd (cc)
 end_tag_has (b ∷ []) e =
-    let p = and_true (begins_with (codes "</") (b ∷ []) && is_body_name []) (ends_name []) e in
-    let q = and_true (begins_with (codes "</") (b ∷ [])) (is_body_name []) p.0 in
-    let z = and_true (eqb b 60) false q.0 in
+    let p = and_parts (begins_with (codes "</") (b ∷ []) && is_body_name []) (ends_name []) e in
+    let q = and_parts (begins_with (codes "</") (b ∷ [])) (is_body_name []) p.0 in
+    let z = and_parts (eqb b 60) false q.0 in
     absurd (let k = z.1 in cc)
 end_tag_has (b ∷ c ∷ w) e =
-    let p = and_true (begins_with (codes "</") (b ∷ c ∷ w) && is_body_name w) (ends_name w) e in
-    let q = and_true (begins_with (codes "</") (b ∷ c ∷ w)) (is_body_name w) p.0 in
-    let r = and_true (eqb b 60) (eqb c 47 && true) q.0 in
-    let t = and_true (eqb c 47) true r.1 in
+    let p = and_parts (begins_with (codes "</") (b ∷ c ∷ w) && is_body_name w) (ends_name w) e in
+    let q = and_parts (begins_with (codes "</") (b ∷ c ∷ w)) (is_body_name w) p.0 in
+    let r = and_parts (eqb b 60) (eqb c 47 && true) q.0 in
+    let t = and_parts (eqb c 47) true r.1 in
     let n : name_read w ≡ codes "body" = is_body (name_read w) q.1 in
     let i = body_is_name (leading_run is_tag_name_byte w) (front_all is_tag_name_byte w) n in
     rw (eqb-true b 60 r.0, eqb-true c 47 t.0)
@@ -184,17 +184,13 @@ behind_body x = refl
 holds_body_end : (text behind : List ℕ) → holds_end_tag (text ++ (codes "</body>" ++ behind)) ≡ true
 holds_body_end [] behind = refl
 holds_body_end (b ∷ text) behind =
-    rw (holds_body_end text behind) (or_true (begins_end_tag (b ∷ (text ++ (codes "</body>" ++ behind)))))
-
-and_none : (x : Bool) → (x && false) ≡ false
-and_none true = refl
-and_none false = refl
+    rw (holds_body_end text behind) (or-true (begins_end_tag (b ∷ (text ++ (codes "</body>" ++ behind)))))
 
 before_end : (text behind : List ℕ) → holds_end_tag behind ≡ false
     → before_last_end_tag (text ++ (codes "</body>" ++ behind)) ≡ text
 before_end [] behind e = rw e refl
 before_end (b ∷ text) behind e =
-    rw (holds_body_end text behind, and_none (begins_end_tag (b ∷ (text ++ (codes "</body>" ++ behind)))))
+    rw (holds_body_end text behind, and-false (begins_end_tag (b ∷ (text ++ (codes "</body>" ++ behind)))))
     (ap (λ (x : List ℕ). b ∷ x) (before_end text behind e))
 
 found : (before x : List ℕ) → LacksStartTag before (codes "<body>" ++ x)

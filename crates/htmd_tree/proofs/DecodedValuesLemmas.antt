@@ -12,14 +12,11 @@ use Rattle.htmd_grammar.specs.CharacterClasses.{leading_run, behind_run}
 use Rattle.htmd_grammar.specs.References.{stands, piece_at, behind, put, decode}
 use Rattle.htmd_grammar.specs.Rules.{named_characters}
 use Rattle.htmd_grammar.specs.declared.fault.FaultKind.{FaultKind}
+use Rattle.htmd_grammar.proofs.Readings.{behind_nothing}
 use Rattle.htmd_tree.specs.DecodedCharacters.{is_itself, piece_of, HasPushed}
 use Rattle.htmd_tree.specs.declared.reader.references.Character.{Character}
 use Rattle.htmd_tree.proofs.CharacterClassesLemmas.{take_leading_run, drop_leading_run, behind_leading_run}
 use Rattle.htmd_tree.proofs.TextRunsLemmas.{before_others}
-
-behind_none : (o : Option (List ℕ)) → behind [] o ≡ o
-behind_none None = refl
-behind_none (Some u) = refl
 
 behind_both : (v w : List ℕ) (o : Option (List ℕ)) → behind (v ++ w) o ≡ behind v (behind w o)
 behind_both v w None = refl
@@ -46,7 +43,7 @@ literal (b ∷ s) =
     (λ q. let p = itself_piece b s q in
     rw (q, p) (behind_both (b ∷ []) (leading_run is_itself s) (decode named_characters 0 (behind_run is_itself s))
     ∙ ap (behind (b ∷ [])) (literal s)))
-    (λ q. rw q (behind_none (decode named_characters 0 (b ∷ s))))
+    (λ q. rw q (behind_nothing (decode named_characters 0 (b ∷ s))))
 
 -- the characters that stand for themselves
 pub literal_pushed : (before s front rest after : List ℕ) (len : ℕ) → len ≡ length (leading_run is_itself s)

@@ -5,8 +5,8 @@ use Rattle.std.specs.List.{sum_by}
 use Rattle.std.specs.Prelude.{◌||◌, nat_le, nat_lt, if◌then◌else◌}
 use Rattle.std.proofs.lemmas.Bool.Decides.{nat_tests}
 use Rattle.std.proofs.lemmas.List.Sums.{sum_by-append}
+use Rattle.std.proofs.Math.Bool.{or-true}
 use Rattle.htmd_text.proofs.Cases.{test}
-use Rattle.htmd_grammar.proofs.BooleanLemmas.{or_true}
 use Rattle.htmd_tree.specs.Lines.{ends_line, lines_ended, line_front, begins_character, characters}
 
 pub line_ends : (n : ℕ) (s : List ℕ) → n < length s → ends_line (drop n s) ≡ true
@@ -30,7 +30,7 @@ front_ends n [] l e = absurd (omega arith)
 front_ends zero (b ∷ s) l e = rw e refl
 front_ends (suc n) (b ∷ s) l e =
     let more = above_none (lines_ended (suc n) s) (lines_ended n s) (line_ends n s (omega arith) e) in
-    rw (more, or_true (ends_line (b ∷ s))) (front_ends n s (omega arith) e)
+    rw (more, or-true (ends_line (b ∷ s))) (front_ends n s (omega arith) e)
 
 choice_grows : (c : Bool) (b x : ℕ) (s t : List ℕ) → s ≡ t ++ (x ∷ [])
     → (if c then s else b ∷ s) ≡ (if c then t else b ∷ t) ++ (x ∷ [])

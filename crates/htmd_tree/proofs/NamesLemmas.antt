@@ -1,5 +1,6 @@
 -- Names in a set.
-use Rattle.std.proofs.Common.{◌≡◌, ℕ, ◌+◌, ◌-◌, ◌≤◌, Bool, true, false, ◌||◌, cond, List, [], ◌∷◌, ◌++◌, map, length, take}
+use Rattle.std.proofs.Common.{◌≡◌, ℕ, ◌+◌, ◌-◌, ◌≤◌, Bool, true, false, ◌||◌, cond, List, [], ◌∷◌, ◌++◌, map, length}
+use Rattle.std.proofs.Common.{take}
 use Rattle.std.proofs.Common.{get_or, refl, sym, ◌∙◌, ap, subst, eqb, arith, append_assoc, string_bytes}
 use Rattle.std.proofs.lemmas.List.{map-append, take_more, take_all}
 use Rattle.std.specs.BTreeSet.{BTreeSet, contains, Updates}

@@ -1,7 +1,8 @@
 -- Which part of a document each node of its layout is.
-use Rattle.std.proofs.Common.{◌≡◌, ℕ, zero, suc, ◌+◌, ◌<◌, ◌≤◌, Bool, true, false, ◌&&◌, List, [], ◌∷◌, ◌++◌, length, map}
+use Rattle.std.proofs.Common.{◌≡◌, ℕ, zero, suc, ◌+◌, ◌<◌, ◌≤◌, Bool, true, false, ◌&&◌, List, [], ◌∷◌, ◌++◌, length}
+use Rattle.std.proofs.Common.{map}
 use Rattle.std.proofs.Common.{refl, sym, ap, ◌∙◌, subst, arith, inl, inr, Some, codes}
-use Rattle.std.proofs.lemmas.Bool.{cases_lt}
+use Rattle.std.proofs.lemmas.Bool.{cases_lt, and_parts}
 use Rattle.std.proofs.lemmas.List.{append_assoc, append-nil, length-append}
 use Rattle.htmd_grammar.specs.ValueTrees.{ValueTree, document, doctype, text, comment, element, ValueForest, none, more}
 use Rattle.htmd_grammar.specs.ValueTrees.{AttributePair}
@@ -22,7 +23,8 @@ use Rattle.htmd_tree.specs.OpenNodes.{items_above, stack_items}
 use Rattle.htmd_tree.specs.Ancestors.{ancestor_of, ancestors_up, ancestors_of}
 use Rattle.htmd_tree.specs.Layout.{size, sizes, item_under, tree_items, forest_items}
 use Rattle.htmd_tree.specs.Parts.{ancestor_names, value_at}
-use Rattle.htmd_tree.proofs.LayoutLemmas.{HasNoChildren, other_first, renumbered, forest_items-skip, forest_items-denotes}
+use Rattle.htmd_tree.proofs.LayoutLemmas.{HasNoChildren, other_first, renumbered, forest_items-skip}
+use Rattle.htmd_tree.proofs.LayoutLemmas.{forest_items-denotes}
 use Rattle.htmd_tree.proofs.OpenNodesLemmas.{item_at-middle, length-tree_items, length-forest_items}
 
 -- ---- content
@@ -39,10 +41,6 @@ abbrev mutual
   pub are_content : ValueForest → Bool
   are_content none = true
   are_content (more tree trees) = is_content tree && are_content trees
-
-both_hold : (x y : Bool) → (x && y) ≡ true → (x ≡ true) × (y ≡ true)
-both_hold true y e = (refl, e)
-both_hold false y e = absurd (cc)
 
 -- ---- nodes that stand behind
 
@@ -208,7 +206,7 @@ module _ (items : List Item) where
         let later : List Item = forest_items (suc d) p (b + size t) ts in
         let whole : items ≡ before ++ (first ++ (later ++ rest)) =
         e ∙ ap (λ y. before ++ y) (append_assoc first later rest) in
-        let both = both_hold (is_content t) (are_content ts) i in
+        let both = and_parts (is_content t) (are_content ts) i in
         let count : length (before ++ first) ≡ b + size t =
         length-append before first ∙ (ap (λ z. length before + z) (length-tree_items t (suc d) p b)
         ∙ ap (λ z. z + size t) n) in

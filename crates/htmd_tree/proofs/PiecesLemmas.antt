@@ -1,22 +1,22 @@
 -- How the pieces of a document and their order are the grammar's steps.
-use Rattle.std.proofs.Common.{◌≡◌, ℕ, suc, ◌<◌, ◌≤◌, Bool, true, false, cond, ◌&&◌, ◌||◌, ◌==◌, List, [], ◌∷◌, length}
-use Rattle.std.proofs.Common.{refl, sym, ap, ◌∙◌, subst, arith, Ok, Err, Option, Some, None, drop, OnOk, codes, not}
-use Rattle.std.specs.Str.{bytes_eq}
-use Rattle.std.proofs.lemmas.Slice.Eq.{bytes_eq-Decides}
+use Rattle.std.proofs.Common.{◌≡◌, ℕ, suc, ◌<◌, ◌≤◌, Bool, true, false, cond, ◌&&◌, ◌==◌, List, [], ◌∷◌, length}
+use Rattle.std.proofs.Common.{refl, sym, ap, ◌∙◌, subst, arith, Ok, Err, Option, Some, None, drop, OnOk, codes}
+use Rattle.std.proofs.lemmas.Bool.{not-true, not-false}
+use Rattle.std.proofs.Math.Bool.{and-false}
 use Rattle.htmd_text.proofs.Cases.{test}
 use Rattle.htmd_text.specs.Characters.{less_than_sign}
 use Rattle.htmd_grammar.specs.ValueTrees.{AttributePair, text}
-use Rattle.htmd_grammar.specs.CharacterClasses.{is_empty, first_is, is_among, onward}
+use Rattle.htmd_grammar.specs.CharacterClasses.{is_empty, first_is, onward}
 use Rattle.htmd_grammar.specs.Rules.{Rules, project}
 use Rattle.htmd_grammar.specs.RawContent.{holds_text_alone, holds_raw_text, begins_own_end, begins_markup, ends_text}
 use Rattle.htmd_grammar.specs.RawContent.{text_of}
 use Rattle.htmd_grammar.specs.CharacterClasses.{up_to}
 use Rattle.htmd_grammar.specs.Documents.{above_body}
-use Rattle.htmd_grammar.specs.Places.{is_tbody, is_table}
 use Rattle.htmd_grammar.specs.Steps.{OpenElement, State, step, Reaches, here, via, closed, with_tree, fault}
 use Rattle.htmd_grammar.specs.Steps.{between, is_too_deep, is_implied, ends_rows, markup_step, raw_text_step}
 use Rattle.htmd_grammar.specs.Steps.{with_children, body}
 use Rattle.htmd_grammar.specs.declared.fault.FaultKind.TheVariants.{Unclosed, TooDeep}
+use Rattle.htmd_grammar.proofs.PlacesLemmas.{tbody_not_table}
 use Rattle.htmd_tree.specs.OpenNodes.{stack_items, innermost_name, AreOpen, Holds, IsReading}
 use Rattle.htmd_tree.specs.Advances.{Answer, place, rules_of, Follows, Advances, Ends, HasSettled, HasRead}
 use Rattle.htmd_tree.specs.Advances.{IsAtText}
@@ -55,46 +55,21 @@ module _ (rules : Rules) (fs : List OpenElement) (s : List ℕ) where
   unfolding step
   raw_text_is r e m h = rw (r, e, m, h) refl
 
-no_rows_at_end : (b : Bool) → (b && false) ≡ false
-no_rows_at_end true = refl
-no_rows_at_end false = refl
-
 no_markup_at_end : (scripting : Bool) (n : List ℕ) → ends_text scripting n [] ≡ false
 no_markup_at_end scripting n = test (holds_text_alone scripting n) (λ e. rw e refl) (λ e. rw e refl)
 
 end_is : (rules : Rules) (fs : List OpenElement) → step rules above_body (place fs []) ≡ Err Unclosed
 unfolding step
-end_is rules fs = rw (no_rows_at_end (is_implied fs), no_markup_at_end rules.scripting (innermost_name fs)) refl
-
-pub not_true : (x : Bool) → not x ≡ true → x ≡ false
-not_true true e = absurd (cc)
-not_true false e = refl
-
-pub not_false : (x : Bool) → not x ≡ false → x ≡ true
-not_false true e = refl
-not_false false e = absurd (cc)
+end_is rules fs = rw (and-false (is_implied fs), no_markup_at_end rules.scripting (innermost_name fs)) refl
 
 -- ---- an implied `tbody`
-
-one_name : (m n : List ℕ) → is_among (m ∷ []) n ≡ true → n ≡ m
-one_name m n e = (bytes_eq-Decides n m).0 (or_right (bytes_eq n m) e)
-  where
-    or_right : (b : Bool) → (b || false) ≡ true → b ≡ true
-    or_right true e = refl
-    or_right false e = e
-
-no_body_is_table : (n : List ℕ) → is_tbody n ≡ true → is_table n ≡ true → ⊥
-no_body_is_table n b t =
-    let e = one_name (codes "tbody") n b in
-    let h : is_table (codes "tbody") ≡ true = subst (λ m. is_table m ≡ true) e t in
-    (cc)
 
 -- around an implied `tbody` stands a `table`, which is not implied
 outer_is_tag : (f g : OpenElement) (fs : List OpenElement) → AreOpen (f ∷ g ∷ fs) → f.implied ≡ true
     → g.implied ≡ false
 outer_is_tag f g [] h i = h.1.2
 outer_is_tag f g (k ∷ fs) h i =
-    test g.implied (λ e. absurd (no_body_is_table g.name ((h.1.0 e).0) ((h.0 i).1))) (λ e. e)
+    test g.implied (λ e. absurd (tbody_not_table g.name ((h.1.0 e).0) ((h.0 i).1))) (λ e. e)
 
 pub settled_open : (reader : Reader) (has_doctype : Bool) (fs : List OpenElement) (o : OpenNode)
     → Holds reader has_doctype fs → IsTop reader o → (o.implied && ends_rows reader.rest.now) ≡ false

@@ -2,11 +2,11 @@
 use Rattle.std.proofs.Common.{◌≡◌, ℕ, Bool, true, false, ◌&&◌, ◌||◌, List, [], ◌∷◌, ◌++◌, refl, sym, ap, ◌∙◌}
 use Rattle.std.proofs.Common.{subst, codes}
 use Rattle.std.specs.Str.{bytes_eq}
-use Rattle.std.proofs.lemmas.Slice.Eq.{bytes_eq-Decides}
 use Rattle.std.proofs.lemmas.List.Folds.{list_any-append}
 use Rattle.htmd_text.proofs.Cases.{test}
 use Rattle.htmd_grammar.specs.CharacterClasses.{is_among}
 use Rattle.htmd_grammar.specs.Places.{Context, is_open, excludes_itself, is_allowed, closes_paragraph}
+use Rattle.htmd_grammar.proofs.PlacesLemmas.{one_name}
 use Rattle.htmd_tree.specs.PlaceFlags.{place_of, own_flag, flags_allow, closer_a_to_d, closer_f_to_h, closer_l_to_x}
 use Rattle.htmd_tree.specs.declared.reader.places.Place.{Place}
 
@@ -83,13 +83,6 @@ with_flag r x a b e f = e ∙ ap (λ z. x || z) f
 pub with_bound : (r x y a b : Bool) → r ≡ (x || (y && a)) → a ≡ b → r ≡ (x || (y && b))
 with_bound r x y a b e f = e ∙ ap (λ z. x || (y && z)) f
 
-named_so : (m n : List ℕ) → is_among (m ∷ []) n ≡ true → n ≡ m
-named_so m n e = (bytes_eq-Decides n m).0 (or_right (bytes_eq n m) e)
-  where
-    or_right : (b : Bool) → (b || false) ≡ true → b ≡ true
-    or_right true e = refl
-    or_right false e = e
-
 not_named : (m n : List ℕ) → is_among (m ∷ []) n ≡ false → bytes_eq n m ≡ false
 not_named m n e = or_left (bytes_eq n m) e
   where
@@ -102,7 +95,7 @@ module _ (scripting : Bool) (c : Context) where
   OwnFlag n = own_flag (place_of scripting c) n ≡ (excludes_itself n && is_open (n ∷ []) c)
 
   by_name : (m n : List ℕ) → OwnFlag m → is_among (m ∷ []) n ≡ true → OwnFlag n
-  by_name m n h e = subst OwnFlag (sym (named_so m n e)) h
+  by_name m n h e = subst OwnFlag (sym (one_name m n e)) h
 
   own_flag-is : (n : List ℕ) → OwnFlag n
   own_flag-is n =

@@ -1,5 +1,5 @@
 -- Where a text may be cut behind characters with which it begins, and what stands behind a doctype.
-use Rattle.std.proofs.Common.{◌≡◌, ℕ, zero, suc, ◌+◌, ◌<◌, ◌≤◌, Bool, true, false, cond, ◌&&◌, ◌==◌, List, [], ◌∷◌, length}
+use Rattle.std.proofs.Common.{◌≡◌, ℕ, zero, suc, ◌+◌, ◌<◌, ◌≤◌, Bool, true, false, cond, ◌==◌, List, [], ◌∷◌, length}
 use Rattle.std.proofs.Common.{drop, get_or, refl, sym, ap, ◌∙◌, subst, arith, Option, Some, None, codes}
 use Rattle.std.specs.Prelude.{nat_lt, option_map}
 use Rattle.std.specs.List.{list_all}
@@ -8,6 +8,7 @@ use Rattle.std.specs.Char.{to_ascii_lowercase}
 use Rattle.std.specs.Str.{IsUtf8}
 use Rattle.std.proofs.lemmas.Bool.Decides.{nat_tests}
 use Rattle.std.proofs.lemmas.Str.{lead_after_ascii}
+use Rattle.std.proofs.lemmas.Bool.{and_parts}
 use denote.Ref.{Bor}
 use Rattle.htmd_text.proofs.Cases.{test}
 use Rattle.htmd_text.specs.WhiteSpace.{is_ascii_white_space}
@@ -16,10 +17,6 @@ use Rattle.htmd_grammar.specs.Comments.{white_space_and_name, doctype_name, behi
 
 abbrev all_ascii : List ℕ → Bool
 all_ascii p = list_all (λ c. nat_lt c 128) p
-
-both_hold : (x y : Bool) → (x && y) ≡ true → (x ≡ true) × (y ≡ true)
-both_hold true y e = (refl, e)
-both_hold false y e = absurd (cc)
 
 lower_ascii : (b c : ℕ) → (to_ascii_lowercase b == c) ≡ true → nat_lt c 128 ≡ true → b < 128
 lower_ascii b c e l =
@@ -31,7 +28,7 @@ pub begins_within : (p s : List ℕ) → begins_in_any_case p s ≡ true → len
 begins_within [] s e = omega arith
 begins_within (c ∷ p) [] e = absurd (cc)
 begins_within (c ∷ p) (b ∷ s) e =
-    let h = begins_within p s ((both_hold (to_ascii_lowercase b == c) (begins_in_any_case p s) e).1) in omega arith
+    let h = begins_within p s ((and_parts (to_ascii_lowercase b == c) (begins_in_any_case p s) e).1) in omega arith
 
 last_ascii : (p s : List ℕ) (n : ℕ) → begins_in_any_case p s ≡ true → all_ascii p ≡ true
     → length p ≡ suc n
@@ -39,11 +36,11 @@ last_ascii : (p s : List ℕ) (n : ℕ) → begins_in_any_case p s ≡ true → 
 last_ascii [] s n e a l = absurd (omega arith)
 last_ascii (c ∷ p) [] n e a l = absurd (cc)
 last_ascii (c ∷ p) (b ∷ s) zero e a l =
-    lower_ascii b c ((both_hold (to_ascii_lowercase b == c) (begins_in_any_case p s) e).0)
-    ((both_hold (nat_lt c 128) (all_ascii p) a).0)
+    lower_ascii b c ((and_parts (to_ascii_lowercase b == c) (begins_in_any_case p s) e).0)
+    ((and_parts (nat_lt c 128) (all_ascii p) a).0)
 last_ascii (c ∷ p) (b ∷ s) (suc n) e a l =
-    last_ascii p s n ((both_hold (to_ascii_lowercase b == c) (begins_in_any_case p s) e).1)
-    ((both_hold (nat_lt c 128) (all_ascii p) a).1) (omega arith)
+    last_ascii p s n ((and_parts (to_ascii_lowercase b == c) (begins_in_any_case p s) e).1)
+    ((and_parts (nat_lt c 128) (all_ascii p) a).1) (omega arith)
 
 pub lead_behind : (p s : List ℕ) → IsUtf8 s → begins_in_any_case p s ≡ true → all_ascii p ≡ true
     → 0 < length p

@@ -6,11 +6,11 @@ use Rattle.std.proofs.lemmas.Bool.Decides.{nat_tests}
 use Rattle.std.proofs.lemmas.Str.{IsCharBoundary-start, lead_after_ascii}
 use Rattle.std.specs.Str.{IsUtf8, IsCharBoundary}
 use Rattle.std.specs.Prelude.{nat_lt}
-use Rattle.htmd_text.specs.WhiteSpace.{is_ascii_white_space}
 use Rattle.htmd_grammar.specs.CharacterClasses.{leading_run, behind_run, is_tag_name_byte, is_attribute_name_byte}
 use Rattle.htmd_grammar.specs.CharacterClasses.{is_unquoted_byte}
 use Rattle.htmd_grammar.specs.TagReading.{is_other}
 use Rattle.htmd_text.proofs.Cases.{test}
+use Rattle.htmd_text.proofs.WhiteSpaceLemmas.{white_is_ascii}
 use Rattle.htmd_tree.specs.declared.reader.runs.Class.{Class}
 use Rattle.htmd_tree.specs.declared.reader.runs.Class.TheVariants.{TagName, WhiteSpace, AttributeName, UnquotedValue}
 use Rattle.htmd_tree.specs.declared.reader.runs.Class.TheVariants.{Other}
@@ -47,7 +47,7 @@ stop_at p (b ∷ s) l =
     test (p b) (λ e. let k = rw e at l in rw e (stop_at p s (omega arith))) (λ e. rw e e)
 
 -- the last character of a run
-last_of : (p : ℕ → Bool) (s : List ℕ) (n : ℕ) → length (leading_run p s) ≡ suc n
+pub last_of : (p : ℕ → Bool) (s : List ℕ) (n : ℕ) → length (leading_run p s) ≡ suc n
     → p (get_or s n 0) ≡ true
 last_of p [] n q = absurd (omega arith)
 last_of p (b ∷ s) zero q = test (p b) (λ e. e) (λ e. let k = rw e at q in absurd (omega arith))
@@ -64,9 +64,6 @@ IsUniform p = ((b : ℕ) → p b ≡ false → b < 128) ⊎ ((b : ℕ) → p b �
 outside_tag_name : (b : ℕ) → is_tag_name_byte b ≡ true → b < 128
 outside_tag_name b e = grind (arith, nat_tests)
 
-outside_white_space : (b : ℕ) → is_ascii_white_space b ≡ true → b < 128
-outside_white_space b e = grind (arith, nat_tests)
-
 outside_attribute_name : (b : ℕ) → is_attribute_name_byte b ≡ false → b < 128
 outside_attribute_name b e = grind (arith, nat_tests)
 
@@ -78,12 +75,12 @@ outside_other other b l e = grind (arith, nat_tests)
 
 uniform : (class : Class) → is_ascii class ≡ true → IsUniform (is_in class)
 uniform TagName a = inr outside_tag_name
-uniform WhiteSpace a = inr outside_white_space
+uniform WhiteSpace a = inr white_is_ascii
 uniform AttributeName a = inl outside_attribute_name
 uniform UnquotedValue a = inl outside_unquoted
 uniform (Other other) a = inl (λ b. outside_other other b a)
 
-behind_last : (p : ℕ → Bool) (s : List ℕ) (n : ℕ) → IsUtf8 s → ((b : ℕ) → p b ≡ true → b < 128)
+pub behind_last : (p : ℕ → Bool) (s : List ℕ) (n : ℕ) → IsUtf8 s → ((b : ℕ) → p b ≡ true → b < 128)
     → length (leading_run p s) ≡ n → IsCharBoundary s n
 behind_last p s zero u h q = IsCharBoundary-start s u
 behind_last p s (suc n) u h q =

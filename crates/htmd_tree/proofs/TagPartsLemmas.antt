@@ -1,26 +1,26 @@
 -- How the parts of a start tag follow from the runs that are found.
-use Rattle.std.proofs.Common.{◌≡◌, ℕ, zero, suc, ◌<◌, ◌≤◌, Bool, true, false, not, ◌&&◌, List, [], ◌∷◌, ◌++◌, length, map}
+use Rattle.std.proofs.Common.{◌≡◌, ℕ, zero, suc, ◌<◌, ◌≤◌, Bool, true, false, not, ◌&&◌, List, [], ◌∷◌, ◌++◌, length}
+use Rattle.std.proofs.Common.{map}
 use Rattle.std.proofs.Common.{drop, get_or, refl, sym, ◌∙◌, ap, arith, eqb, append_assoc, length-drop}
 use Rattle.std.specs.Prelude.{◌==◌, if◌then◌else◌}
-use Rattle.std.proofs.lemmas.Bool.{and_parts, eqb-true}
+use Rattle.std.proofs.lemmas.Bool.{and_parts, eqb-true, not-true, not-false}
 use Rattle.std.proofs.lemmas.Bool.Decides.{nat_tests}
 use Rattle.std.specs.List.{list_all}
 use Rattle.std.specs.Char.{is_ascii_alphabetic, to_ascii_lowercase}
 use Rattle.htmd_text.specs.WhiteSpace.{is_ascii_white_space}
 use Rattle.htmd_text.proofs.Cases.{test}
 use Rattle.htmd_grammar.specs.ValueTrees.{AttributePair}
-use Rattle.htmd_grammar.specs.CharacterClasses.{is_empty, first_is, leading_run, behind_run, is_tag_name, is_tag_name_byte}
-use Rattle.htmd_grammar.specs.CharacterClasses.{is_attribute_name, is_attribute_name_byte, holds_control, is_unquoted_byte}
+use Rattle.htmd_grammar.specs.CharacterClasses.{is_empty, first_is, leading_run, behind_run, is_tag_name}
+use Rattle.htmd_grammar.specs.CharacterClasses.{is_tag_name_byte}
+use Rattle.htmd_grammar.specs.CharacterClasses.{is_attribute_name, is_attribute_name_byte, holds_control}
+use Rattle.htmd_grammar.specs.CharacterClasses.{is_unquoted_byte}
 use Rattle.htmd_grammar.specs.TagReading.{TagPart, malformed, tag_end, attribute, is_other, quoted_value, value_part}
 use Rattle.htmd_grammar.specs.TagReading.{unquoted_value, behind_attribute_name, behind_slash, behind_gap, next_part}
 use Rattle.htmd_grammar.specs.TagReading.{TagForm, no_form, form, with_attribute, form_behind, form_within}
+use Rattle.htmd_grammar.proofs.TagReadingLemmas.{front_all}
 use Rattle.htmd_tree.specs.TagParts.{attribute_part, with_attributes}
 
 -- ---- names
-
-pub run_passes : (p : ℕ → Bool) (s : List ℕ) → list_all p (leading_run p s) ≡ true
-run_passes p [] = refl
-run_passes p (b ∷ s) = test (p b) (λ e. rw (e, e, run_passes p s) refl) (λ e. rw e refl)
 
 letter_in_name : (b : ℕ) → is_ascii_alphabetic b ≡ true → is_tag_name_byte b ≡ true
 letter_in_name b e = grind (arith, nat_tests)
@@ -29,7 +29,7 @@ letter_in_name b e = grind (arith, nat_tests)
 pub name_begins : (s : List ℕ) → 0 < length s → is_ascii_alphabetic (get_or s 0 0) ≡ true
     → is_tag_name (leading_run is_tag_name_byte s) ≡ true
 name_begins [] l e = absurd (omega arith)
-name_begins (b ∷ s) l e = let k = letter_in_name b e in rw (k, e, run_passes is_tag_name_byte s) refl
+name_begins (b ∷ s) l e = let k = letter_in_name b e in rw (k, e, front_all is_tag_name_byte s) refl
 
 -- and nothing else does
 pub name_lacks_letter : (s : List ℕ) → is_ascii_alphabetic (get_or s 0 0) ≡ false
@@ -58,20 +58,12 @@ quote_behind : (q : ℕ) (s : List ℕ)
 quote_behind q [] = refl
 quote_behind q (b ∷ s) = test (eqb b q) (λ e. rw (e, e) refl) (λ e. rw e (quote_behind q s))
 
-pub not_false : (x : Bool) → not x ≡ false → x ≡ true
-not_false true e = refl
-not_false false e = sym e
-
-pub not_true : (x : Bool) → not x ≡ true → x ≡ false
-not_true true e = sym e
-not_true false e = refl
-
 pub quote_lacks : (q : ℕ) (name s behind : List ℕ) → behind ≡ behind_run (is_other q) s
     → first_is q behind ≡ false
     → malformed ≡ quoted_value q name s
 quote_lacks q name s behind e f =
     let k : not (is_empty (behind_run (is_other q) s)) ≡ false = sym (quote_behind q s) ∙ rw e at f in
-    let m : is_empty (behind_run (is_other q) s) ≡ true = not_false _ k in
+    let m : is_empty (behind_run (is_other q) s) ≡ true = not-false _ k in
     rw m refl
 
 pub quote_ends : (q : ℕ) (name s value behind rest : List ℕ) → value ≡ leading_run (is_other q) s
@@ -79,7 +71,7 @@ pub quote_ends : (q : ℕ) (name s value behind rest : List ℕ) → value ≡ l
     → attribute name value rest ≡ quoted_value q name s
 quote_ends q name s value behind rest d e f g =
     let k : not (is_empty (behind_run (is_other q) s)) ≡ true = sym (quote_behind q s) ∙ rw e at f in
-    let m : is_empty (behind_run (is_other q) s) ≡ false = not_true _ k in
+    let m : is_empty (behind_run (is_other q) s) ≡ false = not-true _ k in
     rw (m, d, g, e) refl
 
 -- ---- attributes
@@ -90,7 +82,7 @@ pub attribute_is_named : (s name rest : List ℕ) → name ≡ leading_run is_at
 attribute_is_named s name rest d e f g =
     let m : is_empty (leading_run is_attribute_name_byte s) ≡ false = sym (empty_length _) ∙ rw d at f in
     let h : holds_control (leading_run is_attribute_name_byte s) ≡ false = rw d at g in
-    let r = run_passes is_attribute_name_byte s in
+    let r = front_all is_attribute_name_byte s in
     rw (d, e, m, r, h) refl
 
 -- ---- each part takes at least one character

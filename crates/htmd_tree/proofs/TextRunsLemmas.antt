@@ -1,31 +1,33 @@
 -- Runs of characters and references, against the grammar's steps.
-use Rattle.std.proofs.Common.{◌≡◌, ℕ, zero, suc, ◌+◌, ◌-◌, ◌<◌, ◌≤◌, Bool, true}
+use Rattle.std.proofs.Common.{◌≡◌, ℕ, ◌+◌, ◌-◌, ◌<◌, ◌≤◌, Bool, true}
 use Rattle.std.proofs.Common.{false, cond, List, [], ◌∷◌, ◌++◌}
 use Rattle.std.proofs.Common.{length, take, drop, get_or, Ok, Err, Some, None, refl, ap, sym, subst, ◌∙◌, arith}
 use Rattle.std.proofs.Common.{⊎_elim, append_assoc}
 use Rattle.std.proofs.lemmas.Bool.{and_parts, and_cases, and_left, cases_lt, cases_eq}
 use Rattle.std.proofs.lemmas.Bool.Decides.{nat_tests}
 use Rattle.std.proofs.lemmas.List.{append-nil, drop-drop, length-drop, get_or-drop, length-append}
-use Rattle.std.proofs.lemmas.Str.{encode_ascii, length-encode, len_utf8_bounds, inside_one, IsCharBoundary-start}
-use Rattle.std.proofs.lemmas.Str.{lead_after_ascii, IsCharBoundary-after_ascii}
+use Rattle.std.proofs.lemmas.Str.{encode_ascii, length-encode, len_utf8_bounds, inside_one}
+use Rattle.std.proofs.lemmas.Str.{IsCharBoundary-after_ascii}
 use Rattle.std.specs.Char.{encode_utf8, is_ascii_whitespace}
 use Rattle.std.specs.List.{list_all}
 use Rattle.std.specs.Prelude.{◌==◌, ◌&&◌, not, slice_index}
 use Rattle.std.specs.Str.{IsUtf8, IsCharBoundary}
 use Rattle.htmd_text.proofs.Cases.{test}
 use Rattle.htmd_text.specs.WhiteSpace.{is_ascii_white_space}
+use Rattle.htmd_text.proofs.WhiteSpaceLemmas.{white_is_ascii}
 use Rattle.htmd_grammar.specs.CharacterClasses.{is_empty, leading_run, behind_run}
 use Rattle.htmd_grammar.specs.Documents.{above_body}
 use Rattle.htmd_grammar.specs.Places.{parent_name, holds_parts}
 use Rattle.htmd_grammar.specs.RawContent.{begins_markup, begins_own_end, holds_raw_text, ends_text}
 use Rattle.htmd_grammar.specs.References.{Piece, stands, wrong, piece_at}
-use Rattle.htmd_grammar.specs.Rules.{Rules, project, named_characters}
-use Rattle.htmd_grammar.specs.Steps.{OpenElement, State, Reaches, here, via, step, names_of, is_implied, ends_rows}
+use Rattle.htmd_grammar.specs.Rules.{project, named_characters}
+use Rattle.htmd_grammar.specs.Steps.{OpenElement, Reaches, here, via, step, names_of, is_implied, ends_rows}
 use Rattle.htmd_grammar.specs.Steps.{is_too_deep, character_step}
 use Rattle.htmd_grammar.specs.declared.fault.FaultKind.{FaultKind}
 use Rattle.htmd_grammar.specs.declared.fault.FaultKind.TheVariants.{StrayText, TooDeep}
 use Rattle.htmd_grammar.proofs.BooleanLemmas.{and_false}
 use Rattle.htmd_grammar.proofs.TextLemmas.{rows_go_on}
+use Rattle.htmd_grammar.proofs.ReadBackLemmas.{no_markup, no_end}
 use Rattle.htmd_tree.specs.DecodedCharacters.{piece_of, IsPieceEnd}
 use Rattle.htmd_tree.specs.TextRuns.{is_plain, is_run_end, IsTextPlace, in_run, first_piece, fault_of, IsCharacterIn}
 use Rattle.htmd_tree.specs.TextRuns.{IsFaultIn, Pushes, StopsRun}
@@ -34,20 +36,9 @@ use Rattle.htmd_tree.specs.declared.reader.Stop.TheVariants.{Memory, Refused}
 use Rattle.htmd_tree.specs.declared.reader.references.Character.{Character}
 use Rattle.htmd_tree.specs.declared.reader.text_runs.TextPlace.{TextPlace}
 use Rattle.htmd_tree.proofs.CharacterClassesLemmas.{take_leading_run, drop_leading_run, behind_leading_run}
+use Rattle.htmd_tree.proofs.RunsLemmas.{run_within, behind_last}
 
 -- ---- where a run may be cut
-
-run_within : (p : ℕ → Bool) (s : List ℕ) → length (leading_run p s) ≤ length s
-run_within p [] = omega arith
-run_within p (b ∷ s) = let h = run_within p s in test (p b) (λ q. rw q (omega arith)) (λ q. rw q (omega arith))
-
-last_of : (p : ℕ → Bool) (s : List ℕ) (n : ℕ) → length (leading_run p s) ≡ suc n
-    → p (get_or s n 0) ≡ true
-last_of p [] n q = absurd (omega arith)
-last_of p (b ∷ s) zero q = test (p b) (λ e. e) (λ e. let k = rw e at q in absurd (omega arith))
-last_of p (b ∷ s) (suc n) q =
-    test (p b) (λ e. let k = rw e at q in last_of p s n (omega arith))
-    (λ e. let k = rw e at q in absurd (omega arith))
 
 pub before_others : (p : ℕ → Bool) (s : List ℕ) → ((b : ℕ) → p b ≡ false → b < 128)
     → IsCharBoundary s (length (leading_run p s))
@@ -57,26 +48,15 @@ before_others p s h = (
       absurd (omega arith),
 )
 
-behind_last : (p : ℕ → Bool) (s : List ℕ) (n : ℕ) → IsUtf8 s → ((b : ℕ) → p b ≡ true → b < 128)
-    → length (leading_run p s) ≡ n → IsCharBoundary s n
-behind_last p s zero u h q = IsCharBoundary-start s u
-behind_last p s (suc n) u h q =
-    let w = run_within p s in
-    let a : get_or s n 0 < 128 = h (get_or s n 0) (last_of p s n q) in
-    let k : n + 1 ≡ suc n = omega arith in
-    let m : suc n < length s → 128 ≤ get_or s (suc n) 0 → 192 ≤ get_or s (suc n) 0 =
-    subst (λ (j : ℕ). j < length s → 128 ≤ get_or s j 0 → 192 ≤ get_or s j 0) k (lead_after_ascii s n u a) in
-    (omega arith, m)
-
-white_is_ascii : (b : ℕ) → is_plain true b ≡ true → b < 128
-white_is_ascii b e = grind (arith, nat_tests)
+plain_white_is_ascii : (b : ℕ) → is_plain true b ≡ true → b < 128
+plain_white_is_ascii b e = grind (arith, nat_tests)
 
 other_is_ascii : (b : ℕ) → is_plain false b ≡ false → b < 128
 other_is_ascii b e = grind (arith, nat_tests)
 
 pub plain_cut : (parts : Bool) (s : List ℕ) (n : ℕ) → IsUtf8 s → n ≡ length (leading_run (is_plain parts) s)
     → IsCharBoundary s n
-plain_cut true s n u e = behind_last (is_plain true) s n u white_is_ascii (sym e)
+plain_cut true s n u e = behind_last (is_plain true) s n u plain_white_is_ascii (sym e)
 plain_cut false s n u e = subst (IsCharBoundary s) (sym e) (before_others (is_plain false) s other_is_ascii)
 
 -- ---- plain characters
@@ -98,18 +78,10 @@ plain_piece : (parts : Bool) (b : ℕ) (s : List ℕ) → is_plain parts b ≡ t
     → piece_at named_characters b s ≡ stands 0 (b ∷ [])
 plain_piece parts b s e = let k = other parts b e in rw (k.1, k.2) refl
 
-own_not : (n : List ℕ) (b : ℕ) (s : List ℕ) → (b == 60) ≡ false → begins_own_end n (b ∷ s) ≡ false
-own_not n b [] q = refl
-own_not n b (c ∷ s) q = rw q refl
-
-markup_not : (b : ℕ) (s : List ℕ) → (b == 60) ≡ false → begins_markup (b ∷ s) ≡ false
-markup_not b [] q = refl
-markup_not b (c ∷ s) q = rw q refl
-
 plain_goes_on : (alone parts : Bool) (n : List ℕ) (b : ℕ) (s : List ℕ) → is_plain parts b ≡ true
     → is_run_end alone n (b ∷ s) ≡ false
-plain_goes_on true parts n b s e = own_not n b s (other parts b e).0
-plain_goes_on false parts n b s e = markup_not b s (other parts b e).0
+plain_goes_on true parts n b s e = no_end n b s (other parts b e).0
+plain_goes_on false parts n b s e = no_markup b s (other parts b e).0
 
 plain_white : (parts : Bool) (b : ℕ) → is_plain parts b ≡ true
     → (parts && not (list_all is_ascii_white_space (b ∷ []))) ≡ false
@@ -270,16 +242,13 @@ module _ (scripting : Bool) (place : TextPlace) (n : List ℕ) (fs : List OpenEl
 
 -- ---- the first character
 
-is_white_below : (b : ℕ) → is_ascii_white_space b ≡ true → b < 128
-is_white_below b e = grind (arith, nat_tests)
-
 same_white : (b : ℕ) → is_ascii_whitespace b ≡ is_ascii_white_space b
 same_white b = grind (arith, nat_tests)
 
 white_first : (s : List ℕ) → 0 < length s → list_all is_ascii_white_space s ≡ true → get_or s 0 0 < 128
 white_first [] l e = absurd (omega arith)
 white_first (b ∷ s) l e =
-    is_white_below b (and_parts (is_ascii_white_space b) (list_all is_ascii_white_space s) e).0
+    white_is_ascii b (and_parts (is_ascii_white_space b) (list_all is_ascii_white_space s) e).0
 
 -- a character is white space where its bytes are
 white_character : (c : ℕ) → list_all is_ascii_white_space (encode_utf8 c) ≡ is_ascii_whitespace c
@@ -390,11 +359,6 @@ some_bytes run after c e =
     omega (arith, ap length e, length-append run (encode_utf8 c), length-encode c, (len_utf8_bounds c).0)
 
 -- ---- from push to push
-
-pub reaches_then : {rules : Rules} {a b c : State} → Reaches rules above_body a b → Reaches rules above_body b c
-    → Reaches rules above_body a c
-reaches_then here q = q
-reaches_then (via e p) q = via e (reaches_then p q)
 
 run_not_empty : (alone : Bool) (n s : List ℕ) → is_run_end alone n s ≡ false → is_empty s ≡ false
 run_not_empty alone n [] e = e

@@ -1,5 +1,6 @@
 -- A text, read in one call, against the grammar's steps.
-use Rattle.std.proofs.Common.{◌≡◌, ℕ, ◌<◌, Bool, true, false, cond, List, [], ◌∷◌, length, Ok, Err, refl, ap, sym, subst}
+use Rattle.std.proofs.Common.{◌≡◌, ℕ, ◌<◌, Bool, true, false, cond, List, [], ◌∷◌, length, Ok, Err, refl, ap, sym}
+use Rattle.std.proofs.Common.{subst}
 use Rattle.std.proofs.Common.{◌∙◌, arith, codes, take, drop}
 use Rattle.std.proofs.lemmas.Bool.{or_right}
 use Rattle.std.specs.Prelude.{◌&&◌, ◌||◌}
@@ -9,7 +10,7 @@ use Rattle.htmd_grammar.specs.ValueTrees.{text}
 use Rattle.htmd_grammar.specs.CharacterClasses.{is_empty, is_among, up_to, onward}
 use Rattle.htmd_grammar.specs.Comments.{normalized}
 use Rattle.htmd_grammar.specs.Documents.{above_body}
-use Rattle.htmd_grammar.specs.Places.{parent_name, is_tbody}
+use Rattle.htmd_grammar.specs.Places.{parent_name}
 use Rattle.htmd_grammar.specs.RawContent.{begins_markup, begins_own_end, ends_text, holds_raw_text, holds_text_alone}
 use Rattle.htmd_grammar.specs.RawContent.{has_script_escape, raw_text_of, text_of}
 use Rattle.htmd_grammar.specs.References.{decode}
@@ -17,8 +18,7 @@ use Rattle.htmd_grammar.specs.Rules.{project, named_characters}
 use Rattle.htmd_grammar.specs.Steps.{OpenElement, Reaches, here, via, step, names_of, is_too_deep}
 use Rattle.htmd_grammar.specs.Steps.{Step, add, between, fault, with_tree, raw_text_step}
 use Rattle.htmd_grammar.specs.declared.fault.FaultKind.TheVariants.{ScriptEscape, TooDeep}
-use Rattle.htmd_grammar.proofs.BooleanLemmas.{and_false}
-use Rattle.htmd_grammar.proofs.PlacesLemmas.{one_name}
+use Rattle.htmd_grammar.proofs.PlacesLemmas.{tbody_no_text_alone}
 use Rattle.htmd_tree.specs.OpenNodes.{Holds, AreOpen, innermost_name, open_node}
 use Rattle.htmd_tree.specs.Advances.{Answer, rules_of, Follows, Advances, IsAtText}
 use Rattle.htmd_tree.specs.TextRuns.{IsTextPlace, in_run, is_run_end, StopsRun}
@@ -28,19 +28,15 @@ use Rattle.htmd_tree.specs.declared.reader.Stop.{Stop}
 use Rattle.htmd_tree.specs.declared.reader.Stop.TheVariants.{Memory, Refused}
 use Rattle.htmd_tree.specs.declared.reader.text_runs.TextPlace.{TextPlace}
 use Rattle.htmd_tree.proofs.CharacterClassesLemmas.{take_up_to, drop_up_to}
-use Rattle.htmd_tree.proofs.TextRunsLemmas.{reaches_then}
+use Rattle.htmd_tree.proofs.PiecesLemmas.{reaches_then}
 
 -- ---- the place of a text
-
-tbody_holds_more : (scripting : Bool) (n : List ℕ) → is_tbody n ≡ true → holds_text_alone scripting n ≡ false
-tbody_holds_more scripting n e =
-    subst (λ m. holds_text_alone scripting m ≡ false) (sym (one_name (codes "tbody") n e)) (and_false scripting)
 
 implied_holds_more : (scripting : Bool) (f : OpenElement) (fs : List OpenElement) → AreOpen (f ∷ fs)
     → (f.implied && holds_text_alone scripting f.name) ≡ false
 implied_holds_more scripting f [] o = rw o.2 refl
 implied_holds_more scripting f (g ∷ fs) o =
-    test f.implied (λ q. rw q (tbody_holds_more scripting f.name (o.0 q).0)) (λ q. rw q refl)
+    test f.implied (λ q. rw q (tbody_no_text_alone scripting f.name (o.0 q).0)) (λ q. rw q refl)
 
 pub text_place_is : (reader : Reader) (has_doctype : Bool) (fs : List OpenElement) (o : OpenNode) (deep : Bool)
     → ((h : Bool) (f : OpenElement) (gs : List OpenElement) → Holds reader h (f ∷ gs)

@@ -11,7 +11,8 @@ use Rattle.htmd_grammar.specs.Serialisation.{is_void}
 use Rattle.htmd_grammar.specs.Tags.{attribute_names, decode_values}
 use Rattle.htmd_grammar.specs.OpenElements.{has_unknown_reference}
 use Rattle.htmd_grammar.specs.declared.fault.FaultKind.{FaultKind}
-use Rattle.htmd_grammar.specs.declared.fault.FaultKind.TheVariants.{UnknownReference, BadNumber, DuplicateAttribute, SelfClosing}
+use Rattle.htmd_grammar.specs.declared.fault.FaultKind.TheVariants.{UnknownReference, BadNumber, DuplicateAttribute}
+use Rattle.htmd_grammar.specs.declared.fault.FaultKind.TheVariants.{SelfClosing}
 use Rattle.htmd_grammar.specs.declared.fault.FaultKind.TheVariants.{TagOutside}
 use Rattle.htmd_grammar.specs.TagReading.{TagPart, malformed, tag_end, attribute, behind_attribute_name}
 use Rattle.htmd_grammar.specs.TagReading.{TagForm, no_form, form}

@@ -13,9 +13,10 @@ use Rattle.htmd.specs.Elements.{Occurrence, Answer, answer_after, view_at}
 use Rattle.htmd.specs.Rendering.{written_within, inside_of}
 use Rattle.htmd.specs.Handled.{occurrence_in_tree, handled}
 use Rattle.htmd.specs.Views.{answer_view}
-use Rattle.htmd.proofs.BeginningsLemmas.{begins-to, begins-start, grows-answer, grows-within, on_err_always}
+use Rattle.htmd.proofs.BeginningsLemmas.{begins-to, begins-start, grows-answer, grows-within}
 use Rattle.htmd.proofs.WalkingLemmas.{shown-same}
 use Rattle.htmd.proofs.dom_walker.handle_element.Goals as goal
+use Rattle.htmd_text.proofs.Cases.{OnErr-always}
 
 pub returns-clause-ok : goal.returns-clause-ok
 unfolding handled
@@ -112,6 +113,6 @@ unfolding handled
 returns-in_err-is_known_in_line-clause-err g c =
     let v = conversion_of (g.R.Registry.config c.args.registry.now) c.args.tree.now in
     let at = occurrence_in_tree v c.args.node c.args.markdown_translated in
-    on_err_always _ (begins-start (grows-answer at
+    OnErr-always _ (begins-start (grows-answer at
     (grows-within (height (tree_of c.args.tree.now c.args.node)) v) c.args.skipped
     (ancestor_of (data_at c.args.tree.now c.args.node)).tag c.args.links.now))

@@ -1,6 +1,4 @@
 use Rattle.std.proofs.Common.{◌≡◌, ◌++◌, ◌∙◌, ◌||◌, ap, sym, string_bytes, ltb}
-use Rattle.std.proofs.Common.{List, ℕ, Result, Ok, Err, OnOk, cond}
-use Rattle.std.specs.Result.{is_ok}
 use Rattle.std.specs.List.{suffix_len}
 use Rattle.htmd_text.specs.EscapeMarks.{escaped_markdown}
 use Rattle.htmd_text.specs.WhiteSpace.{squeezed_text}
@@ -9,12 +7,7 @@ use Rattle.htmd.specs.Seams.{ends_with_space}
 use Rattle.htmd.specs.OrdinaryText.{without_first_space}
 use Rattle.htmd.proofs.text_node.append_ordinary.Goals as goal
 use Rattle.htmd.proofs.text_node.append_ordinary.Goals.{then-trim, else-trim}
-
-pushed : {T E : Type 0} (r : Result T E) (new long short : List ℕ) {whole : List ℕ}
-    → new ≡ cond (is_ok r) long short
-    → long ≡ whole → OnOk r (new ≡ whole)
-pushed (Ok x) new long short e f = e ∙ f
-pushed (Err x) new long short e f = tt
+use Rattle.htmd_markdown.proofs.guarded_text.push_guarded_text.Answers.{pushed}
 
 pub returns-then-is_plain : goal.returns-then-is_plain
 returns-then-is_plain c =

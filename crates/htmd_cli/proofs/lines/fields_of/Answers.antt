@@ -1,7 +1,8 @@
 -- The last tab, or that there is none.
 use Rattle.std.proofs.Common.{◌≡◌, ◌<◌, ◌+◌, sym, length, get_or, rules}
 use Rattle.htmd.specs.Characters.{tab}
-use Rattle.htmd_cli.proofs.LinesLemmas.{lacks-all, lacks-behind, others-at, last-at, other_fields-none, last_field-whole}
+use Rattle.htmd_cli.proofs.LinesLemmas.{lacks-all, lacks-behind, others-at, last-at, other_fields-none}
+use Rattle.htmd_cli.proofs.LinesLemmas.{last_field-whole}
 use Rattle.htmd_cli.proofs.lines.fields_of.Goals as goal
 
 pub returns-in-Some : goal.returns-in-Some

@@ -8,8 +8,9 @@ use Rattle.std.proofs.lemmas.Iterator.Splits.{YieldsList-from_str_split}
 use Rattle.std.proofs.lemmas.Iterator.Consumers.{YieldsList-turn, YieldsList-end}
 use Rattle.htmd_text.specs.Characters.{line_feed, space}
 use Rattle.htmd_text.specs.Joins.{joined_texts}
+use Rattle.htmd_text.proofs.IndentsLemmas.{pushed_some}
 use Rattle.htmd_markdown.specs.CodeSpans.{space_if}
-use Rattle.htmd_markdown.proofs.JoinedTextsLemmas.{joined_more, pushed_some}
+use Rattle.htmd_markdown.proofs.JoinedTextsLemmas.{joined_more}
 use Rattle.htmd_markdown.proofs.OneLineLemmas.{joined_lines}
 use Rattle.htmd_markdown.proofs.code_span.push_with_spaces.Goals as goal
 

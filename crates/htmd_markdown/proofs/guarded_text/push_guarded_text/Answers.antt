@@ -19,7 +19,7 @@ use Rattle.htmd_markdown.proofs.guarded_text.push_guarded_text.Goals as goal
 use Rattle.htmd_markdown.proofs.guarded_text.push_guarded_text.Goals.{then-is_mark+in_ok-push_str+in_ok-push}
 use Rattle.htmd_markdown.proofs.guarded_text.push_guarded_text.Goals.{else-is_mark}
 
-pushed : {T E : Type 0} (r : Result T E) (new long short : List ℕ) {whole : List ℕ}
+pub pushed : {T E : Type 0} (r : Result T E) (new long short : List ℕ) {whole : List ℕ}
     → new ≡ cond (is_ok r) long short → long ≡ whole → OnOk r (new ≡ whole)
 pushed (Ok x) new long short e f = e ∙ f
 pushed (Err x) new long short e f = tt

@@ -6,9 +6,10 @@ use Rattle.std.proofs.lemmas.Iterator.Splits.{YieldsList-from_lines}
 use Rattle.std.proofs.lemmas.Iterator.Consumers.{YieldsList-turn, YieldsList-end}
 use Rattle.htmd_text.specs.Characters.{line_feed}
 use Rattle.htmd_text.specs.Joins.{joined_texts}
+use Rattle.htmd_text.proofs.IndentsLemmas.{pushed_some}
 use Rattle.htmd_markdown.specs.CodeBlocks.{code_of}
 use Rattle.htmd_markdown.specs.IndentedCode.{indented_line}
-use Rattle.htmd_markdown.proofs.JoinedTextsLemmas.{separator_unless, joined_more, pushed_some}
+use Rattle.htmd_markdown.proofs.JoinedTextsLemmas.{separator_unless, joined_more}
 use Rattle.htmd_markdown.proofs.indented_code.write_indented_code.Goals as goal
 
 pub loop-line-preserved : goal.loop-line-preserved

@@ -1,7 +1,8 @@
 use Rattle.std.proofs.Common.{rules, ◌<◌, length, sym, ◌∙◌}
 use Rattle.htmd_tree.proofs.ItemsLemmas.{child_read}
 use Rattle.htmd.proofs.ChildListsLemmas.{any_here, none_more, none_all, child_within}
-use Rattle.htmd.proofs.TableHeadersLemmas.{shows_header_deeper, header_below-any, shown_deeper, table_shown, other_shown}
+use Rattle.htmd.proofs.TableHeadersLemmas.{shows_header_deeper, header_below-any, shown_deeper, table_shown}
+use Rattle.htmd.proofs.TableHeadersLemmas.{other_shown}
 use Rattle.htmd.proofs.element_handler.table.+has_header_below.Goals as goal
 
 pub is_header-requires : goal.is_header-requires

@@ -1,5 +1,6 @@
 -- The tag has its form: what its attributes and its name make of it.
-use Rattle.std.proofs.Common.{◌≡◌, ◌<◌, ◌≤◌, rules, suc, length, map, refl, sym, ◌∙◌, ap, arith, Ok, Err, None, string_bytes}
+use Rattle.std.proofs.Common.{◌≡◌, ◌<◌, ◌≤◌, rules, suc, length, map, refl, sym, ◌∙◌, ap, arith, Ok, Err, None}
+use Rattle.std.proofs.Common.{string_bytes}
 use Rattle.std.specs.Char.{to_ascii_lowercase}
 use Rattle.htmd_grammar.specs.CharacterClasses.{is_tag_name_byte}
 use Rattle.htmd_grammar.specs.Documents.{above_body}

@@ -4,8 +4,9 @@ use Rattle.std.proofs.lemmas.Result.{err_from_is_err_and}
 use Rattle.std.specs.String.{string_bytes}
 use Rattle.htmd_grammar.specs.Steps.{here}
 use Rattle.htmd_tree.specs.TextRuns.{is_run_end}
-use Rattle.htmd_tree.proofs.TextRunsLemmas.{stops_there, reaches_then}
+use Rattle.htmd_tree.proofs.TextRunsLemmas.{stops_there}
 use Rattle.htmd_tree.proofs.reader.text_runs.read_run.Goals as goal
+use Rattle.htmd_tree.proofs.PiecesLemmas.{reaches_then}
 
 pub returns-in_err-rest-clause-steps : goal.returns-in_err-rest-clause-steps
 returns-in_err-rest-clause-steps c = λ scripting fs there goes_on.

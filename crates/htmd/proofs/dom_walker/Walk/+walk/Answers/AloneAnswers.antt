@@ -28,13 +28,13 @@ use Rattle.htmd.proofs.BeginningsLemmas.{begins-start, begins-to}
 use Rattle.htmd.proofs.BeginningsLemmas.{grows-alone}
 use Rattle.htmd.proofs.BeginningsLemmas.{grows-contents}
 use Rattle.htmd.proofs.BeginningsLemmas.{grows-within}
-use Rattle.htmd.proofs.BeginningsLemmas.{on_err_always}
 use Rattle.htmd.proofs.RenderingLemmas.{unpreformatted, element_broken}
 use Rattle.htmd.proofs.RememberingLemmas.{given-always, shown-answer, result_put, result_broken}
 use Rattle.htmd.proofs.WalkingLemmas.{following, contents_more, contents_first}
 use Rattle.htmd.proofs.WalkingLemmas.{exit-err, text_alone, below_lower}
 use Rattle.htmd.proofs.dom_walker.Walk.+walk.Goals as goal
 use Rattle.htmd.proofs.dom_walker.Walk.+walk.Goals.{walk_alone-then-not-is_text, walk_alone-else-not-is_text}
+use Rattle.htmd_text.proofs.Cases.{OnErr-always}
 
 pub walk_alone-returns-clause-ok : goal.walk_alone-returns-clause-ok
 walk_alone-returns-clause-ok g t c =
@@ -92,7 +92,7 @@ walk_alone-returns-in_err-walk_node-clause-err g t c =
     ap (written_within n v (tree_of c.args.self.now.tree.now c.args.node)
     (context_of (ancestors_of c.args.self.now.tree.now c.args.node) c.if-not-is_text.context true)) start
     ∙ turned n h in
-    on_err_always {P = AtNode v c.args.node (λ write. Begins c.args.links.now c.walk_node.new.links
+    OnErr-always {P = AtNode v c.args.node (λ write. Begins c.args.links.now c.walk_node.new.links
     (content_alone write v (tree_of c.args.self.now.tree.now c.args.node) c.args.node
     c.args.links.now).definitions)} _ (λ n h.
     begins-to (c.in_err-walk_node.ensures.err n h) (ap (λ (o : Output). o.definitions) (whole n h)))
@@ -100,7 +100,7 @@ walk_alone-returns-in_err-walk_node-clause-err g t c =
 pub walk_descendant-returns-in_err-append_text-clause-err : goal.walk_descendant-returns-in_err-append_text-clause-err
 walk_descendant-returns-in_err-append_text-clause-err g t c =
     let v = conversion_of (g.R.Registry.config c.args.self.now.registry.now) c.args.self.now.tree.now in
-    on_err_always {P = AtNode v c.args.below
+    OnErr-always {P = AtNode v c.args.below
     (λ write. Begins c.args.links.now c.args.links.now
     (content_alone write v (descendant_tree c.args.self.now.tree.now (option_copied c.args.element.now.text)
     c.args.below) c.args.below c.args.links.now).definitions)} _ (λ n h.
@@ -111,7 +111,7 @@ walk_descendant-returns-in_err-append_text-clause-err g t c =
 pub walk_descendant-returns-in_err-is_in_line-clause-err : goal.walk_descendant-returns-in_err-is_in_line-clause-err
 walk_descendant-returns-in_err-is_in_line-clause-err g t c =
     let v = conversion_of (g.R.Registry.config c.args.self.now.registry.now) c.args.self.now.tree.now in
-    on_err_always {P = AtNode v c.args.below
+    OnErr-always {P = AtNode v c.args.below
     (λ write. Begins c.args.links.now c.args.links.now
     (content_alone write v (descendant_tree c.args.self.now.tree.now (option_copied c.args.element.now.text)
     c.args.below) c.args.below c.args.links.now).definitions)} _ (λ n h.
@@ -267,7 +267,7 @@ not_some (Some x) e = cc
 pub walk_kept-returns-in_err-is_line_below-clause-err : goal.walk_kept-returns-in_err-is_line_below-clause-err
 walk_kept-returns-in_err-is_line_below-clause-err g t c =
     let v = conversion_of (g.R.Registry.config c.args.self.now.registry.now) c.args.self.now.tree.now in
-    on_err_always {P = AtNode v c.args.below
+    OnErr-always {P = AtNode v c.args.below
     (λ write. Begins c.args.links.now c.args.links.now
     (content_alone write v (descendant_tree c.args.self.now.tree.now (option_copied c.args.element.now.text)
     c.args.below) c.args.below c.args.links.now).definitions)} _
@@ -292,7 +292,7 @@ walk_kept-returns-in_err-given-clause-err g t c =
     (not_some c.args.element.now.text (sym c.is_some.ensures ∙ c.if-is_some.false))) in
     let answered : ℕ → Answer = λ m. answer_after 0 name (occurrence_at (written_within m v) v c.args.below
     (inside_of items c.args.below) (children_at items c.args.below)) old in
-    on_err_always {P = AtNode v c.args.below
+    OnErr-always {P = AtNode v c.args.below
     (λ write. Begins c.args.links.now new
     (content_alone write v (descendant_tree c.args.self.now.tree.now (option_copied c.args.element.now.text)
     c.args.below) c.args.below c.args.links.now).definitions)} _
@@ -390,7 +390,7 @@ walk_kept-returns-clause-err g t c =
     c.in_ok-given.ensures.ok m k
     ∙ shown-answer v c.args.below None (option_copied c.text_shown.result) c.options.result.now name m old
     c.text_shown.ensures.shows c.text_shown.ensures.children c.options.ensures.value in
-    on_err_always {P = AtNode v c.args.below
+    OnErr-always {P = AtNode v c.args.below
     (λ write. Begins c.args.links.now new
     (content_alone write v (descendant_tree c.args.self.now.tree.now (option_copied c.args.element.now.text)
     c.args.below) c.args.below c.args.links.now).definitions)} _

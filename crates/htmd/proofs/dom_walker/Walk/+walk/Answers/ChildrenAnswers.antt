@@ -21,13 +21,13 @@ use Rattle.htmd.proofs.BeginningsLemmas.{beginning-refl, beginning-trans, beginn
 use Rattle.htmd.proofs.BeginningsLemmas.{begins-wider}
 use Rattle.htmd.proofs.BeginningsLemmas.{grows-children}
 use Rattle.htmd.proofs.BeginningsLemmas.{grows-within}
-use Rattle.htmd.proofs.BeginningsLemmas.{on_err_always}
 use Rattle.htmd.proofs.ChildrenLemmas.{IsChild, children-all, child-first, inside-child, nonempty, if_some}
 use Rattle.htmd.proofs.ChildrenLemmas.{first-has_text}
 use Rattle.htmd.proofs.ChildrenLemmas.{group_written, group_grows}
 use Rattle.htmd.proofs.RenderingLemmas.{cut_before}
 use Rattle.htmd.proofs.OneLineLemmas.{known-child}
 use Rattle.htmd.proofs.dom_walker.Walk.+walk.Goals as goal
+use Rattle.htmd_text.proofs.Cases.{OnErr-always}
 
 pub walk_children-loop-rest-init : goal.walk_children-loop-rest-init
 walk_children-loop-rest-init g t c =
@@ -49,7 +49,7 @@ walk_children-loop-rest-init g t c =
 pub walk_children-returns-in_err-joined-clause-err : goal.walk_children-returns-in_err-joined-clause-err
 walk_children-returns-in_err-joined-clause-err g t c =
     let v = conversion_of (g.R.Registry.config c.args.self.now.registry.now) c.args.self.now.tree.now in
-    on_err_always {P = InNode v c.args.node (λ write. Begins c.args.links.now c.loop-rest.links
+    OnErr-always {P = InNode v c.args.node (λ write. Begins c.args.links.now c.loop-rest.links
     (write_groups write (inside_of c.args.self.now.tree.now c.args.node)
     (children_at c.args.self.now.tree.now c.args.node) (output_view c.args.out.now c.args.links.now)).definitions)}
     _ (λ n h. record {
@@ -117,7 +117,7 @@ walk_children-returns-in_err-walk_node-clause-err g t c =
     (take (group_length (tree_of c.args.self.now.tree.now) c.loop-rest.rest.now) c.loop-rest.rest.now) =
     c.lent.ensures ∙ c.in_ok-joined.ensures ∙ ap (group_text (tree_of c.args.self.now.tree.now))
     (c.split_at.ensures.front ∙ ap (λ k. take k c.loop-rest.rest.now) c.group_length.ensures.value) in
-    on_err_always {P = InNode v c.args.node (λ write. Begins c.args.links.now c.walk_node.new.links
+    OnErr-always {P = InNode v c.args.node (λ write. Begins c.args.links.now c.walk_node.new.links
     (write_groups write (inside_of c.args.self.now.tree.now c.args.node)
     (children_at c.args.self.now.tree.now c.args.node) (output_view c.args.out.now c.args.links.now)).definitions)}
     _ (λ n h.

@@ -21,13 +21,13 @@ use Rattle.htmd.specs.Views.{answer_view, optional_result, output_view}
 use Rattle.htmd.specs.Walking.{AtNode}
 use Rattle.htmd.proofs.BeginningsLemmas.{begins-start, begins-to}
 use Rattle.htmd.proofs.BeginningsLemmas.{grows-within}
-use Rattle.htmd.proofs.BeginningsLemmas.{on_err_always}
 use Rattle.htmd.proofs.RenderingLemmas.{text_written, doctype_written, comment_written, document_written}
 use Rattle.htmd.proofs.RenderingLemmas.{document_broken, element_broken}
 use Rattle.htmd.proofs.RememberingLemmas.{shown-answer, remembered-answer, result_put, result_broken}
 use Rattle.htmd.specs.OneLineElements.{known_in_line_inside}
 use Rattle.htmd.proofs.OneLineLemmas.{known-document}
 use Rattle.htmd.proofs.dom_walker.Walk.+walk.Goals as goal
+use Rattle.htmd_text.proofs.Cases.{OnErr-always}
 
 pub walk_node-returns-in_ok-walk_children-in-Document-clause-ok :
     goal.walk_node-returns-in_ok-walk_children-in-Document-clause-ok
@@ -50,7 +50,7 @@ pub walk_node-returns-in_err-walk_children-in-Document-clause-err :
     goal.walk_node-returns-in_err-walk_children-in-Document-clause-err
 walk_node-returns-in_err-walk_children-in-Document-clause-err g t c =
     let v = conversion_of (g.R.Registry.config c.args.self.now.registry.now) c.args.self.now.tree.now in
-    on_err_always {P = AtNode v c.args.node (λ write. Begins c.args.links.now c.walk_children.new.links
+    OnErr-always {P = AtNode v c.args.node (λ write. Begins c.args.links.now c.walk_children.new.links
     (write (group_tree (option_copied c.args.joined) (tree_of c.args.self.now.tree.now c.args.node))
     (context_of (ancestors_of c.args.self.now.tree.now c.args.node) c.args.context.preformatted c.args.context.trim)
     (output_view c.args.out.now c.args.links.now)).definitions)} _ (λ n h.
@@ -114,7 +114,7 @@ walk_node-returns-else-is_markdown_alone-clause-ok g t c =
 pub walk_node-returns-else-is_markdown_alone-clause-err : goal.walk_node-returns-else-is_markdown_alone-clause-err
 walk_node-returns-else-is_markdown_alone-clause-err g t c =
     let v = conversion_of (g.R.Registry.config c.args.self.now.registry.now) c.args.self.now.tree.now in
-    on_err_always {P = AtNode v c.args.node
+    OnErr-always {P = AtNode v c.args.node
     (λ write. Begins c.args.links.now c.args.links.now
     (write (group_tree (option_copied c.args.joined) (tree_of c.args.self.now.tree.now c.args.node))
     (context_of (ancestors_of c.args.self.now.tree.now c.args.node) c.args.context.preformatted c.args.context.trim)
@@ -152,7 +152,7 @@ walk_node-returns-in-Text-clause-ok g t c =
 pub walk_node-returns-in-Text-clause-err : goal.walk_node-returns-in-Text-clause-err
 walk_node-returns-in-Text-clause-err g t c =
     let v = conversion_of (g.R.Registry.config c.args.self.now.registry.now) c.args.self.now.tree.now in
-    on_err_always {P = AtNode v c.args.node
+    OnErr-always {P = AtNode v c.args.node
     (λ write. Begins c.args.links.now c.args.links.now
     (write (group_tree (option_copied c.args.joined) (tree_of c.args.self.now.tree.now c.args.node))
     (context_of (ancestors_of c.args.self.now.tree.now c.args.node) c.args.context.preformatted c.args.context.trim)
@@ -208,7 +208,7 @@ walk_node-returns-in-Some-clause-err g t c =
     let made : (m : ℕ) → height (tree_of items c.args.node) ≤ suc m
     → ◌≡◌ {A = Answer} (record { result = known; definitions = old }) (answered m name) = λ m k.
     remembered-answer v c.args.node joined name attributes known m old is c.in-Some.ensures.0 c.in-Some.ensures.1 k in
-    on_err_always {P = AtNode v c.args.node (λ write. Begins c.args.links.now old
+    OnErr-always {P = AtNode v c.args.node (λ write. Begins c.args.links.now old
     (write (group_tree (option_copied c.args.joined) (tree_of c.args.self.now.tree.now c.args.node))
     (context_of (ancestors_of c.args.self.now.tree.now c.args.node) c.args.context.preformatted c.args.context.trim)
     (output_view c.args.out.now c.args.links.now)).definitions)} _
@@ -230,7 +230,7 @@ walk_node-returns-in_err-given-in-Element-clause-err g t c =
     let answered : ℕ → List ℕ → Answer = λ m tag. answer_after 0 tag
     (occurrence_at (written_within m v) v c.args.node
     (inside_of items c.args.node) (group_children joined (children_at items c.args.node))) old in
-    on_err_always {P = AtNode v c.args.node (λ write. Begins c.args.links.now c.walk_element.new.links
+    OnErr-always {P = AtNode v c.args.node (λ write. Begins c.args.links.now c.walk_element.new.links
     (write (group_tree (option_copied c.args.joined) (tree_of c.args.self.now.tree.now c.args.node))
     (context_of (ancestors_of c.args.self.now.tree.now c.args.node) c.args.context.preformatted c.args.context.trim)
     (output_view c.args.out.now c.args.links.now)).definitions)} _
@@ -299,7 +299,7 @@ walk_node-returns-in_ok-given-in-Element-clause-err g t c =
     c.as_str-in-Element.result.now m old c.text_shown.ensures.shows c.text_shown.ensures.children
     c.options-in-Element-2.ensures.value
     ∙ ap (answered m) c.as_str-in-Element.ensures.value in
-    on_err_always {P = AtNode v c.args.node (λ write. Begins c.args.links.now new
+    OnErr-always {P = AtNode v c.args.node (λ write. Begins c.args.links.now new
     (write (group_tree (option_copied c.args.joined) (tree_of c.args.self.now.tree.now c.args.node))
     (context_of (ancestors_of c.args.self.now.tree.now c.args.node) c.args.context.preformatted c.args.context.trim)
     (output_view c.args.out.now c.args.links.now)).definitions)} _
