@@ -18,7 +18,7 @@ use Rattle.std.proofs.lemmas.List.Elements.{All-get_or}
 use Rattle.std.proofs.lemmas.Slice.Zip.{length-zip, get_or-zip}
 use Rattle.htmd.specs.declared.element_handler.HandlerResult.{HandlerResult}
 use Rattle.htmd.specs.Views.{results_view}
-use Rattle.htmd.specs.ElementViews.{value_of_first, are_markdown}
+use Rattle.htmd.specs.ElementPlans.{value_of_first, are_markdown}
 
 -- ---- whether one of a list passes a test
 

@@ -8,7 +8,7 @@ use Rattle.htmd_tree.specs.declared.tree.Attribute.{Attribute}
 use Rattle.htmd_tree.specs.Items.{Item}
 use Rattle.htmd_tree.specs.Views.{pairs_of}
 use Rattle.htmd.proofs.Steps.{stepped}
-use Rattle.htmd.specs.ElementViews.{is_tag_among, tag_at}
+use Rattle.htmd.specs.ElementPlans.{is_tag_among, tag_at}
 use Rattle.htmd.specs.Code.{language_of_class, first_language, classes_of, language_of, language_at, language_of_pre}
 
 pub language-here : (all : List (List ℕ)) (k : ℕ) (class language : List ℕ) → k < length all

@@ -10,12 +10,13 @@ use Rattle.htmd_markdown.proofs.EmphasesLemmas.{marks_inside}
 use Rattle.htmd.specs.declared.options.Options.{Options}
 use Rattle.htmd.specs.declared.options.TranslationMode.{TranslationMode}
 use Rattle.htmd.specs.Outputs.{is_markdown_alone_in, is_guarded_in}
-use Rattle.htmd.specs.Sections.{markdown_result}
+use Rattle.htmd.specs.ElementPlans.{markdown_result}
 use Rattle.htmd.specs.Handling.{raw_html, content_of_children, HandlerMeaning}
 use Rattle.htmd.specs.Choice.{Config, indexes, handlers_at}
-use Rattle.htmd.specs.ElementViews.{attributes_of}
+use Rattle.htmd.specs.ElementPlans.{attributes_of}
 use Rattle.htmd.specs.Elements.{content_of, answer_after, first_answer, plan_answer, without_handler}
-use Rattle.htmd.specs.Inline.{emphasis_of, optional_markdown}
+use Rattle.htmd.specs.Emphases.{emphasis_of}
+use Rattle.htmd.specs.ElementPlans.{optional_markdown}
 use Rattle.htmd.specs.BuiltIn.{built_in}
 use Rattle.htmd.specs.EmphasisLaws.{MarksAreInside, MarksStandInside}
 

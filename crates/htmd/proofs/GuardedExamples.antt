@@ -13,7 +13,7 @@ use Rattle.htmd.specs.BuiltIn.{built_in}
 use Rattle.htmd.specs.Seams.{guarded_at_seam}
 use Rattle.htmd.specs.Spans.{is_read_in_formula}
 use Rattle.htmd.specs.OneLineElements.{stands_in_line, in_line_up}
-use Rattle.htmd.specs.TableElements.{guarded_captions}
+use Rattle.htmd.specs.Tables.{guarded_captions}
 use Rattle.htmd.specs.Rendering.{written_within}
 use Rattle.htmd.specs.Markdown.{markdown}
 use Rattle.htmd.specs.TextLaws.{is_page_of_texts}

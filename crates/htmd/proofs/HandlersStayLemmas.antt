@@ -9,8 +9,8 @@ use Rattle.htmd.specs.declared.element_handler.built_in.BuiltIn.TheVariants.{Blo
 use Rattle.htmd.specs.declared.element_handler.built_in.BuiltIn.TheVariants.{LineBreak, ThematicBreak, Paragraph}
 use Rattle.htmd.specs.declared.element_handler.built_in.BuiltIn.TheVariants.{Code, Preformatted, Image, Anchor}
 use Rattle.htmd.specs.declared.element_handler.built_in.BuiltIn.TheVariants.{Table, TableCell, TableRow, TablePart}
-use Rattle.htmd.specs.declared.element_handler.built_in.BuiltIn.TheVariants.{HeadOrBody}
-use Rattle.htmd.specs.declared.element_handler.built_in.BuiltIn.TheVariants.{Html, Span, OtherBlock}
+use Rattle.htmd.specs.declared.element_handler.built_in.BuiltIn.TheVariants.{PagePart}
+use Rattle.htmd.specs.declared.element_handler.built_in.BuiltIn.TheVariants.{Page, Span, OtherBlock}
 use Rattle.htmd.specs.declared.element_handler.element_handlers.Handler.{Handler}
 use Rattle.htmd.specs.declared.element_handler.element_handlers.Handler.TheVariants as registered
 use Rattle.htmd.specs.declared.options.LinkStyle.{LinkStyle}
@@ -21,7 +21,7 @@ use Rattle.htmd.specs.Layers.{with_functions, put_at}
 use Rattle.htmd.specs.Outputs.{is_guarded}
 use Rattle.htmd.specs.Anchors.{anchors, anchor_address, finish_at, link_finish, guarded_link_finish}
 use Rattle.htmd.specs.BuiltIn.{meaning_of}
-use Rattle.htmd.specs.HandlerMeanings.{handler_meaning}
+use Rattle.htmd.specs.RegisteredHandlers.{handler_meaning}
 use Rattle.htmd.specs.Staying.{HandlerStays, HandlersStay}
 
 link-stays : (style : LinkStyle) (view : ElementView) (content address : List ℕ)
@@ -79,8 +79,8 @@ built_in-stays TableRow = λ view content definitions others e. refl
 built_in-stays TablePart = λ view content definitions others e. refl
 built_in-stays Paragraph = λ view content definitions others e. refl
 built_in-stays Preformatted = λ view content definitions others e. refl
-built_in-stays HeadOrBody = λ view content definitions others e. refl
-built_in-stays Html = λ view content definitions others e. refl
+built_in-stays PagePart = λ view content definitions others e. refl
+built_in-stays Page = λ view content definitions others e. refl
 built_in-stays Span = λ view content definitions others e. refl
 built_in-stays OtherBlock = λ view content definitions others e. refl
 

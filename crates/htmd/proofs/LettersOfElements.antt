@@ -20,17 +20,23 @@ use Rattle.htmd.specs.Choice.{TagIndex, indexes, handlers_at}
 use Rattle.htmd.specs.AllText.{text_or_all, all_text_of}
 use Rattle.htmd.specs.Groups.{only_text, groups_of, children_at}
 use Rattle.htmd.specs.Outputs.{Conversion, conversion_of, Writes, is_markdown_alone, is_guarded, result_of}
-use Rattle.htmd.specs.ElementViews.{tag_of, attributes_of, ancestors_of, is_tag_among, markdown_plan, tag_at}
-use Rattle.htmd.specs.ElementViews.{unless_faithful}
+use Rattle.htmd.specs.ElementPlans.{tag_of, attributes_of, ancestors_of, is_tag_among, markdown_plan, tag_at}
+use Rattle.htmd.specs.ElementPlans.{unless_faithful}
 use Rattle.htmd_markdown.specs.LineBreaks.{line_break}
 use Rattle.htmd_markdown.specs.ThematicBreaks.{thematic_break}
 use Rattle.htmd.specs.OrdinaryText.{pre}
 use Rattle.htmd.specs.Children.{content_inside, content_alone, descendant_tree}
 use Rattle.htmd.specs.Elements.{Occurrence, Answer, content_of, contents_alone, first_answer, plan_answer, answer_after}
 use Rattle.htmd.specs.Elements.{without_handler, occurrence_at, with_finish, answer_of}
-use Rattle.htmd.specs.Sections.{paragraphs, quotes, parts_of_page, pages, other_blocks, other_block_plan, hidden_tags}
-use Rattle.htmd.specs.Inline.{headings, emphasis_of, line_breaks, break_style_of, thematic_breaks}
-use Rattle.htmd.specs.Inline.{thematic_break_style_of}
+use Rattle.htmd.specs.Paragraphs.{paragraphs}
+use Rattle.htmd.specs.BlockQuotes.{quotes}
+use Rattle.htmd.specs.Pages.{parts_of_page, pages}
+use Rattle.htmd.specs.OtherBlocks.{other_blocks, other_block_plan, hidden_tags}
+use Rattle.htmd.specs.Headings.{headings}
+use Rattle.htmd.specs.Emphases.{emphasis_of}
+use Rattle.htmd.specs.LineBreaks.{line_breaks, break_style_of}
+use Rattle.htmd.specs.ThematicBreaks.{thematic_breaks}
+use Rattle.htmd.specs.ThematicBreaks.{thematic_break_style_of}
 use Rattle.htmd.specs.Spans.{spans, formula_mark, formula_plan, is_read_in_formula}
 use Rattle.htmd_markdown.specs.GuardedCode.{fitting_language}
 use Rattle.htmd_markdown.specs.GuardedLinks.{guarded_image}
@@ -38,18 +44,26 @@ use Rattle.htmd_markdown.specs.Links.{image}
 use Rattle.htmd_markdown.specs.ListItems.{guarded_spacing}
 use Rattle.htmd_markdown.specs.Lists.{Block, ordered_list, guarded_ordered_list, guarded_first_number, highest_number}
 use Rattle.htmd.specs.OneLineElements.{stands_in_line}
-use Rattle.htmd.specs.Code.{code, code_plan, guarded_code_plan, content_plan, preformatted_texts, preformatted_plan}
-use Rattle.htmd.specs.Code.{block_plan, guarded_preformatted, is_code_block, language, shows_language, language_of}
-use Rattle.htmd.specs.Code.{language_at, language_of_code, guarded_language, only_node, without_comments}
-use Rattle.htmd.specs.ListElements.{lists, list_items, block_of_child, blocks_of_list, blocks_of, first_number_of}
-use Rattle.htmd.specs.ListElements.{numbered_list, ordered_text}
+use Rattle.htmd.specs.Code.{code, code_plan, guarded_code_plan, content_plan}
+use Rattle.htmd.specs.Preformatted.{preformatted_texts, preformatted_plan}
+use Rattle.htmd.specs.Preformatted.{block_plan, guarded_preformatted}
+use Rattle.htmd.specs.Code.{is_code_block, language, shows_language, language_of}
+use Rattle.htmd.specs.Code.{language_at}
+use Rattle.htmd.specs.Preformatted.{language_of_code, guarded_language, only_node, without_comments}
+use Rattle.htmd.specs.Lists.{lists, block_of_child, blocks_of_list, blocks_of, first_number_of}
+use Rattle.htmd.specs.ListItems.{list_items}
+use Rattle.htmd.specs.Lists.{numbered_list, ordered_text}
 use Rattle.htmd_text.specs.BlankLines.{with_blank_lines}
 use Rattle.htmd_text.specs.Trims.{trimmed_text, some_text, is_line_feed}
 use Rattle.std.specs.Option.{option_map}
-use Rattle.htmd.specs.TableElements.{cells, table_rows, table_parts, tables, table_plan, has_table_form, has_lines}
-use Rattle.htmd.specs.TableElements.{layout_of}
-use Rattle.htmd.specs.TableElements.{nodes_of, TableTexts, no_texts, with_parts, table_text, guarded_table_text}
-use Rattle.htmd.specs.Inline.{optional_markdown}
+use Rattle.htmd.specs.TableCells.{cells}
+use Rattle.htmd.specs.TableParts.{table_rows, table_parts}
+use Rattle.htmd.specs.Tables.{tables, table_plan, has_table_form}
+use Rattle.htmd.specs.TableLayouts.{has_lines}
+use Rattle.htmd.specs.TableLayouts.{layout_of}
+use Rattle.htmd.specs.TableLayouts.{nodes_of}
+use Rattle.htmd.specs.Tables.{TableTexts, no_texts, with_parts, table_text, guarded_table_text}
+use Rattle.htmd.specs.ElementPlans.{optional_markdown}
 use Rattle.htmd.proofs.LettersOfTexts.{says-blank_lines}
 use Rattle.htmd.proofs.LettersOfTables.{SayEach, all_of, says-table_text, says-guarded_table_text}
 use Rattle.htmd.specs.Letters.{nodes_of_table, is_written}

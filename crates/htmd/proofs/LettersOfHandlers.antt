@@ -31,17 +31,23 @@ use Rattle.htmd.specs.declared.options.LinkStyle.{LinkStyle}
 use Rattle.htmd.specs.declared.options.LinkStyle.TheVariants.{Inlined, InlinedPreferAutolinks, Referenced}
 use Rattle.htmd.specs.Handling.{ElementView, ResultView, content_of_children, HandlerMeaning}
 use Rattle.htmd.specs.Outputs.{is_markdown_alone, is_guarded}
-use Rattle.htmd.specs.ElementViews.{tag_of, parent_tag, is_tag_among}
+use Rattle.htmd.specs.ElementPlans.{tag_of, parent_tag, is_tag_among}
 use Rattle.htmd.specs.LinkAttributes.{is_among, last_value, title_of}
-use Rattle.htmd.specs.Sections.{paragraphs, quotes, parts_of_page, pages}
-use Rattle.htmd.specs.Inline.{headings, emphasis_of, optional_markdown}
-use Rattle.htmd.specs.Inline.{level_of}
+use Rattle.htmd.specs.Paragraphs.{paragraphs}
+use Rattle.htmd.specs.BlockQuotes.{quotes}
+use Rattle.htmd.specs.Pages.{parts_of_page, pages}
+use Rattle.htmd.specs.Headings.{headings}
+use Rattle.htmd.specs.Emphases.{emphasis_of}
+use Rattle.htmd.specs.ElementPlans.{optional_markdown}
+use Rattle.htmd.specs.Headings.{level_of}
 use Rattle.htmd.specs.Spans.{mark_of_class, formula_mark}
 use Rattle.htmd.specs.Code.{code, is_code_block, shows_language, language, language_of}
 use Rattle.htmd.specs.Code.{first_language, language_of_class, classes_of}
-use Rattle.htmd.specs.ListElements.{lists, list_items, is_in_ordered, is_in_item, list_result, bullet_item_of}
-use Rattle.htmd.specs.ListElements.{list_tags}
-use Rattle.htmd.specs.TableElements.{cells, table_rows, table_parts}
+use Rattle.htmd.specs.Lists.{lists, is_in_item, list_result}
+use Rattle.htmd.specs.ListItems.{list_items, is_in_ordered, bullet_item_of}
+use Rattle.htmd.specs.ListItems.{list_tags}
+use Rattle.htmd.specs.TableCells.{cells}
+use Rattle.htmd.specs.TableParts.{table_rows, table_parts}
 use Rattle.htmd.specs.Anchors.{anchor_address, finish_at, link_finish, guarded_link_finish}
 use Rattle.htmd.specs.Letters.{letters, letters_if_any, said_of_address, prefers_autolinks}
 use Rattle.htmd.proofs.LettersLemmas.{Says, says-own, says-nil, says-append, says-is, is_filler, says-fillers}

@@ -21,8 +21,9 @@ use Rattle.htmd_markdown.specs.Tables.{table_by, table}
 use Rattle.htmd.specs.declared.element_handler.table_layout.PartKind.{PartKind}
 use Rattle.htmd.specs.declared.element_handler.table_layout.PartKind.TheVariants.{Caption, Headers, Row}
 use Rattle.htmd.specs.Handling.{ResultView}
-use Rattle.htmd.specs.TableElements.{Part, nodes_of, TableTexts, no_texts, text_of_cell, with_part, with_parts, in_line}
-use Rattle.htmd.specs.TableElements.{table_text, guarded_captions, guarded_headers, guarded_table_text}
+use Rattle.htmd.specs.TableLayouts.{Part, nodes_of}
+use Rattle.htmd.specs.Tables.{TableTexts, no_texts, text_of_cell, with_part, with_parts, in_line}
+use Rattle.htmd.specs.Tables.{table_text, guarded_captions, guarded_headers, guarded_table_text}
 use Rattle.htmd.specs.Letters.{letters, nodes_if, nodes_of_kind, last_headers, nodes_of_table}
 use Rattle.htmd.proofs.LettersLemmas.{Says, says-own, says-nil, says-append, says-is, is_filler, says-many, says-behind}
 use Rattle.htmd.proofs.LettersLemmas.{says-before, filler_ascii}

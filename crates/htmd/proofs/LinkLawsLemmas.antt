@@ -13,7 +13,7 @@ use Rattle.htmd.specs.declared.options.LinkStyle.{LinkStyle}
 use Rattle.htmd.specs.declared.options.LinkStyle.TheVariants.{Inlined, InlinedPreferAutolinks, Referenced}
 use Rattle.htmd.specs.Handling.{ElementView, ResultView, PlanView, this_result, raw_html}
 use Rattle.htmd_markdown.specs.GuardedLinks.{guarded_image}
-use Rattle.htmd.specs.ElementViews.{markdown_plan}
+use Rattle.htmd.specs.ElementPlans.{markdown_plan}
 use Rattle.htmd.specs.Outputs.{is_guarded}
 use Rattle.htmd.specs.LinkAttributes.{title_of, is_raw_unless_among}
 use Rattle.htmd.specs.Images.{image_attributes, image_address, alternative_text, image_at}

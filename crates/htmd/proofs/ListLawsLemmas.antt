@@ -34,9 +34,9 @@ use Rattle.htmd.specs.Handling.{ElementView, ResultView}
 use Rattle.htmd.specs.Outputs.{is_markdown_alone, is_guarded}
 use Rattle.htmd.specs.Children.{content_alone, descendant_tree}
 use Rattle.htmd.specs.Elements.{Occurrence, contents_alone}
-use Rattle.htmd.specs.ElementViews.{raw_block_result, are_markdown, attributes_of, value_of_first}
-use Rattle.htmd.specs.Inline.{optional_markdown}
-use Rattle.htmd.specs.ListElements.{block_of_child, blocks_of_list, blocks_of, first_number_of, is_in_item}
+use Rattle.htmd.specs.ElementPlans.{raw_block_result, are_markdown, attributes_of, value_of_first}
+use Rattle.htmd.specs.ElementPlans.{optional_markdown}
+use Rattle.htmd.specs.Lists.{block_of_child, blocks_of_list, blocks_of, first_number_of, is_in_item}
 use Rattle.htmd.specs.ListLaws.{ItemsBeginInOneColumn, is_item, HasItemBehind, EachItemTakesANumber}
 
 -- ---- line feeds are cut behind a text

@@ -27,11 +27,11 @@ use Rattle.htmd.specs.Outputs.{Conversion, conversion_of, Output, context_of, em
 use Rattle.htmd.specs.Outputs.{is_guarded}
 use Rattle.htmd.specs.OrdinaryText.{written_text}
 use Rattle.htmd.specs.Children.{trim_after, write_children, content_inside}
-use Rattle.htmd.specs.ElementViews.{plain_plan}
+use Rattle.htmd.specs.ElementPlans.{plain_plan}
 use Rattle.htmd.specs.Elements.{Occurrence, Answer, content_of, answer_after, first_answer, plan_answer, with_finish}
 use Rattle.htmd.specs.Elements.{without_handler, view_at, occurrence_at}
 use Rattle.htmd.specs.Rendering.{with_answer, end_of_document, written_within}
-use Rattle.htmd.specs.Sections.{paragraphs}
+use Rattle.htmd.specs.Paragraphs.{paragraphs}
 use Rattle.htmd.specs.BuiltIn.{built_in}
 use Rattle.htmd.specs.Markdown.{append_texts, walked_node, markdown}
 use Rattle.htmd.specs.ParagraphLaws as law

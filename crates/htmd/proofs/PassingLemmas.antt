@@ -16,7 +16,7 @@ use Rattle.htmd.specs.Markdown.{append_text, append_texts}
 use Rattle.htmd.proofs.ElementsLemmas.{drop_at_some, drop_at_none}
 use Rattle.htmd.specs.OrdinaryText.{pre}
 use Rattle.htmd.specs.Outputs.{Output, is_markdown_alone, is_guarded}
-use Rattle.htmd.specs.ElementViews.{ancestors_of}
+use Rattle.htmd.specs.ElementPlans.{ancestors_of}
 use Rattle.htmd.specs.Elements.{Occurrence, Answer, content_of, first_answer, answer_after, plan_answer, answer_of}
 use Rattle.htmd.specs.Elements.{raw_answer}
 use Rattle.htmd.specs.Spans.{is_span, formula_mark, has_math_class, formula_plan, spans}

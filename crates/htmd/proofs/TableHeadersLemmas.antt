@@ -10,9 +10,10 @@ use Rattle.htmd_tree.proofs.NumberedTreesLemmas.{tree-open}
 use Rattle.htmd_tree.proofs.AncestorsLemmas.{ancestors-open}
 use Rattle.htmd_tree.proofs.ItemsLemmas.{child_read}
 use Rattle.htmd.specs.Groups.{children_at}
-use Rattle.htmd.specs.ElementViews.{is_tag_among}
-use Rattle.htmd.specs.TableElements.{has_tag, header_tags, cell_tags, tag_of_tree, is_header, is_table, is_cell}
-use Rattle.htmd.specs.TableElements.{has_header_below, has_header_among, has_explicit_headers}
+use Rattle.htmd.specs.ElementPlans.{is_tag_among}
+use Rattle.htmd.specs.TableLayouts.{has_tag}
+use Rattle.htmd.specs.Tables.{header_tags, cell_tags, tag_of_tree, is_header, is_table, is_cell}
+use Rattle.htmd.specs.Tables.{has_header_below, has_header_among, has_explicit_headers}
 
 tag-put : (id : ℕ) (d : Data) (children : NumberedForest) → tag_of_tree (with_children id d children) ≡ tag_of d
 tag-put id document_node children = refl

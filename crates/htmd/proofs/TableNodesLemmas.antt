@@ -12,10 +12,10 @@ use Rattle.htmd.specs.declared.element_handler.table_layout.PartKind.TheVariants
 use Rattle.htmd.specs.declared.element_handler.table_layout.TableChild.{TableChild}
 use Rattle.htmd.specs.declared.element_handler.table_layout.TableChild.TheVariants.{TableCaption, TableHead}
 use Rattle.htmd.specs.declared.element_handler.table_layout.TableChild.TheVariants.{TableSection, DirectRow, OtherChild}
-use Rattle.htmd.specs.TableElements.{Part, Layout, part, has_tag, tagged_children, if_none, header_cells}
-use Rattle.htmd.specs.TableElements.{with_cells, with_row, with_headers_or, is_headless, with_section_row}
-use Rattle.htmd.specs.TableElements.{with_table_row, head_row, with_head, table_child, with_table_child, with_child}
-use Rattle.htmd.specs.TableElements.{empty_layout, layout_of, nodes_of}
+use Rattle.htmd.specs.TableLayouts.{Part, Layout, part, has_tag, tagged_children, if_none, header_cells}
+use Rattle.htmd.specs.TableLayouts.{with_cells, with_row, with_headers_or, is_headless, with_section_row}
+use Rattle.htmd.specs.TableLayouts.{with_table_row, head_row, with_head, table_child, with_table_child, with_child}
+use Rattle.htmd.specs.TableLayouts.{empty_layout, layout_of, nodes_of}
 use Rattle.htmd.proofs.ChildListsLemmas.{children_proper}
 
 -- what holds of the first state and is kept by each step holds of the last

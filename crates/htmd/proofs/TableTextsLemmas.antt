@@ -5,8 +5,8 @@ use Rattle.std.proofs.lemmas.List.{drop_more, drop_all, take_min, drop_min}
 use Rattle.htmd.specs.declared.element_handler.HandlerResult.{HandlerResult}
 use Rattle.htmd.specs.declared.element_handler.table_layout.Part.{Part}
 use Rattle.htmd.specs.Handling.{ResultView}
-use Rattle.htmd.specs.TableElements.{TableTexts, with_part, with_parts}
-use Rattle.htmd.specs.TableLayouts.{parts_view}
+use Rattle.htmd.specs.Tables.{TableTexts, with_part, with_parts}
+use Rattle.htmd.specs.TableViews.{parts_view}
 use Rattle.htmd.specs.Views.{result_view, results_view}
 
 map-take : (n : ℕ) (xs : List HandlerResult) → results_view (take n xs) ≡ take n (results_view xs)

@@ -23,14 +23,17 @@ use Rattle.htmd.specs.Handling.{ElementView, ResultView, PlanView, content_of_ch
 use Rattle.htmd.specs.Choice.{indexes, handlers_at}
 use Rattle.htmd.specs.Outputs.{Conversion, conversion_of, Writes, is_markdown_alone_in, is_markdown_alone}
 use Rattle.htmd.specs.Outputs.{is_guarded_in, is_guarded, result_of}
-use Rattle.htmd.specs.ElementViews.{tag_of, attributes_of, is_tag_among}
+use Rattle.htmd.specs.ElementPlans.{tag_of, attributes_of, is_tag_among}
 use Rattle.htmd.specs.Elements.{Occurrence, Answer, content_of, first_answer, plan_answer, answer_after}
 use Rattle.htmd.specs.Elements.{without_handler, occurrence_at, with_finish, answer_of}
-use Rattle.htmd.specs.Sections.{paragraphs, parts_of_page, pages, hidden_tags, other_blocks}
+use Rattle.htmd.specs.Paragraphs.{paragraphs}
+use Rattle.htmd.specs.Pages.{parts_of_page, pages}
+use Rattle.htmd.specs.OtherBlocks.{hidden_tags, other_blocks}
 use Rattle.htmd.specs.Spans.{is_span, spans, formula_mark, formula_plan, has_math_class}
 use Rattle.htmd.specs.LinkAttributes.{last_value}
 use Rattle.htmd.specs.Anchors.{anchors, finish_at}
-use Rattle.htmd.specs.TableElements.{cells, table_rows, table_parts}
+use Rattle.htmd.specs.TableCells.{cells}
+use Rattle.htmd.specs.TableParts.{table_rows, table_parts}
 use Rattle.htmd.specs.BuiltIn.{other_block_tags, built_in}
 use Rattle.htmd.specs.TextLaws.{wrapped_tags, is_wrapped, is_plain_span, is_plain_anchor, is_passed_on}
 use Rattle.htmd.proofs.PassingLemmas.{no_mark}
@@ -209,12 +212,13 @@ module _ (options : Options) (attributes : List AttributePair) where
     ),
   )
 
--- the index of the handler of other blocks is the only one that a tag has
-abbrev has_index : Options → ℕ → List ℕ → Bool
-has_index options index tag = bytes_eq (indexes tag (built_in options).registered) (index ∷ [])
+-- a tag has the handlers of `div`, which are those of the other blocks
+abbrev is_other : Options → List ℕ → Bool
+is_other options tag =
+    bytes_eq (indexes tag (built_in options).registered) (indexes (codes "div") (built_in options).registered)
 
-other_index : (options : Options) → list_all (has_index options 22) other_block_tags ≡ true
-other_index options = refl
+all_other : (options : Options) → list_all (is_other options) other_block_tags ≡ true
+all_other options = refl
 
 holds_of_all : (p : List ℕ → Bool) (tags : List (List ℕ)) → list_all p tags ≡ true
     → HoldsOfAll (λ tag. p tag ≡ true) tags
@@ -225,11 +229,12 @@ holds_of_all p (tag ∷ tags) e = let parts = and_parts (p tag) (list_all p tags
 other_is_only : (options : Options) (name : List ℕ) → is_tag_among other_block_tags (Some name) ≡ true
     → IsOnly options name other_blocks
 other_is_only options name e =
-    let here : has_index options 22 name ≡ true =
-    among (λ tag. has_index options 22 tag ≡ true) other_block_tags name
-    (holds_of_all (has_index options 22) other_block_tags (other_index options)) e in
+    let here : is_other options name ≡ true =
+    among (λ tag. is_other options tag ≡ true) other_block_tags name
+    (holds_of_all (is_other options) other_block_tags (all_other options)) e in
     ap (λ (l : List ℕ). handlers_at (built_in options).handlers (drop 0 l))
-    ((bytes_eq-Decides (indexes name (built_in options).registered) (22 ∷ [])).0 here)
+    ((bytes_eq-Decides (indexes name (built_in options).registered)
+    (indexes (codes "div") (built_in options).registered)).0 here)
 
 wrapped_is_handled : (options : Options) (name : List ℕ) (attributes : List AttributePair)
     → is_wrapped name ≡ true

@@ -16,10 +16,10 @@ use Rattle.htmd.specs.Handling.{ElementView, ResultView, PlanView, raw_html, con
 use Rattle.htmd.specs.Handling.{HandlerMeaning}
 use Rattle.htmd.specs.Handling.{final_result, without_definitions}
 use Rattle.htmd.specs.Outputs.{is_guarded}
-use Rattle.htmd.specs.ElementViews.{attributes_of}
+use Rattle.htmd.specs.ElementPlans.{attributes_of}
 use Rattle.htmd.specs.AllText.{all_text_of}
 use Rattle.htmd.specs.LinkAttributes.{last_value, is_raw_unless_among, title_of}
-use Rattle.htmd.specs.Sections.{markdown_result}
+use Rattle.htmd.specs.ElementPlans.{markdown_result}
 
 abbrev pub anchor_attributes : List (List ℕ)
 anchor_attributes = codes "href" ∷ codes "title" ∷ []

@@ -8,17 +8,27 @@ use Rattle.htmd.specs.declared.element_handler.built_in.BuiltIn.TheVariants.{Blo
 use Rattle.htmd.specs.declared.element_handler.built_in.BuiltIn.TheVariants.{LineBreak, ThematicBreak, Paragraph}
 use Rattle.htmd.specs.declared.element_handler.built_in.BuiltIn.TheVariants.{Code, Preformatted, Image, Anchor}
 use Rattle.htmd.specs.declared.element_handler.built_in.BuiltIn.TheVariants.{Table, TableCell, TableRow, TablePart}
-use Rattle.htmd.specs.declared.element_handler.built_in.BuiltIn.TheVariants.{HeadOrBody}
-use Rattle.htmd.specs.declared.element_handler.built_in.BuiltIn.TheVariants.{Html, Span, OtherBlock}
+use Rattle.htmd.specs.declared.element_handler.built_in.BuiltIn.TheVariants.{PagePart}
+use Rattle.htmd.specs.declared.element_handler.built_in.BuiltIn.TheVariants.{Page, Span, OtherBlock}
 use Rattle.htmd.specs.Handling.{HandlerMeaning}
 use Rattle.htmd.specs.Choice.{Config, with_handler}
 use Rattle.htmd_markdown.specs.declared.emphasis.Emphasis.TheVariants as kind
-use Rattle.htmd.specs.Sections.{quotes, paragraphs, parts_of_page, pages, other_blocks}
-use Rattle.htmd.specs.Inline.{headings, emphasis_of, line_breaks, thematic_breaks}
+use Rattle.htmd.specs.BlockQuotes.{quotes}
+use Rattle.htmd.specs.Paragraphs.{paragraphs}
+use Rattle.htmd.specs.Pages.{parts_of_page, pages}
+use Rattle.htmd.specs.OtherBlocks.{other_blocks}
+use Rattle.htmd.specs.Headings.{headings}
+use Rattle.htmd.specs.Emphases.{emphasis_of}
+use Rattle.htmd.specs.LineBreaks.{line_breaks}
+use Rattle.htmd.specs.ThematicBreaks.{thematic_breaks}
 use Rattle.htmd.specs.Spans.{spans}
-use Rattle.htmd.specs.Code.{code, preformatted_texts}
-use Rattle.htmd.specs.ListElements.{lists, list_items}
-use Rattle.htmd.specs.TableElements.{tables, cells, table_rows, table_parts}
+use Rattle.htmd.specs.Code.{code}
+use Rattle.htmd.specs.Preformatted.{preformatted_texts}
+use Rattle.htmd.specs.Lists.{lists}
+use Rattle.htmd.specs.ListItems.{list_items}
+use Rattle.htmd.specs.Tables.{tables}
+use Rattle.htmd.specs.TableCells.{cells}
+use Rattle.htmd.specs.TableParts.{table_rows, table_parts}
 use Rattle.htmd.specs.Images.{images}
 use Rattle.htmd.specs.Anchors.{anchors}
 
@@ -104,8 +114,8 @@ meaning_of TableRow = table_rows
 meaning_of TablePart = table_parts
 meaning_of Paragraph = paragraphs
 meaning_of Preformatted = preformatted_texts
-meaning_of HeadOrBody = parts_of_page
-meaning_of Html = pages
+meaning_of PagePart = parts_of_page
+meaning_of Page = pages
 meaning_of Span = spans
 meaning_of OtherBlock = other_blocks
 

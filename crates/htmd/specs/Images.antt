@@ -4,7 +4,7 @@ use Rattle.htmd_markdown.specs.Links.{image}
 use Rattle.htmd_markdown.specs.GuardedLinks.{guarded_image}
 use Rattle.htmd.specs.Handling.{ElementView, PlanView, nothing, this_result, raw_html, HandlerMeaning, of_plan}
 use Rattle.htmd.specs.Outputs.{is_guarded}
-use Rattle.htmd.specs.ElementViews.{attributes_of}
+use Rattle.htmd.specs.ElementPlans.{attributes_of}
 use Rattle.htmd.specs.LinkAttributes.{last_value, is_raw_unless_among, title_of}
 
 abbrev pub image_attributes : List (List ℕ)

@@ -20,14 +20,16 @@ use Rattle.htmd.specs.Images.{image_address, alternative_text}
 use Rattle.htmd.specs.Anchors.{anchor_address}
 use Rattle.htmd_markdown.specs.GuardedCode.{fitting_language}
 use Rattle.htmd.specs.AllText.{all_text_of}
-use Rattle.htmd.specs.Code.{language, shows_language, guarded_language}
+use Rattle.htmd.specs.Code.{language, shows_language}
+use Rattle.htmd.specs.Preformatted.{guarded_language}
 use Rattle.htmd.specs.OneLineElements.{stands_in_line}
-use Rattle.htmd.specs.ElementViews.{attributes_of, is_tag_among}
-use Rattle.htmd.specs.Sections.{hidden_tags}
+use Rattle.htmd.specs.ElementPlans.{attributes_of, is_tag_among}
+use Rattle.htmd.specs.OtherBlocks.{hidden_tags}
 use Rattle.htmd.specs.Spans.{is_span, formula_mark, is_read_in_formula}
 use Rattle.htmd.specs.declared.element_handler.table_layout.PartKind.{PartKind}
 use Rattle.htmd.specs.declared.element_handler.table_layout.PartKind.TheVariants.{Caption, Headers, Row}
-use Rattle.htmd.specs.TableElements.{Part, layout_at, has_table_form, has_lines}
+use Rattle.htmd.specs.TableLayouts.{Part, layout_at, has_lines}
+use Rattle.htmd.specs.Tables.{has_table_form}
 use Rattle.htmd.specs.BuiltIn.{built_in}
 use Rattle.htmd.specs.Markdown.{walked_content, markdown}
 use Rattle.htmd.specs.Conversions.{IsTreeOf, IsMarkdownOfTexts}

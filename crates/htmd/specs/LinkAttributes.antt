@@ -6,7 +6,7 @@ use Rattle.std.specs.Str.{bytes_eq}
 use Rattle.htmd_tree.specs.ValueTrees.{AttributePair}
 use Rattle.htmd.specs.Handling.{ElementView}
 use Rattle.htmd.specs.Outputs.{is_markdown_alone}
-use Rattle.htmd.specs.ElementViews.{attributes_of}
+use Rattle.htmd.specs.ElementPlans.{attributes_of}
 
 abbrev pub is_among : List (List ℕ) → List ℕ → Bool
 is_among names name = list_any (λ n. bytes_eq n name) names

@@ -18,7 +18,7 @@ use Rattle.htmd.specs.Layers.{put_at}
 use Rattle.htmd.specs.LinkAttributes.{title_of}
 use Rattle.htmd.specs.Images.{images, image_address, alternative_text}
 use Rattle.htmd.specs.Anchors.{anchors, anchor_address}
-use Rattle.htmd.specs.Sections.{markdown_result}
+use Rattle.htmd.specs.ElementPlans.{markdown_result}
 use Rattle.htmd.specs.Outputs.{is_guarded}
 use Rattle.htmd.specs.BuiltIn.{built_in}
 use Rattle.htmd.specs.Markdown.{walked_node}

@@ -7,9 +7,9 @@ use Rattle.htmd_markdown.specs.ListColumns.{HasEqualColumns}
 use Rattle.htmd_tree.specs.Items.{Item, data_at, children_of, tag_of}
 use Rattle.htmd.specs.Handling.{ElementView, ResultView}
 use Rattle.htmd.specs.Outputs.{is_guarded}
-use Rattle.htmd.specs.ElementViews.{is_tag_among}
+use Rattle.htmd.specs.ElementPlans.{is_tag_among}
 use Rattle.htmd.specs.Elements.{Occurrence, contents_alone}
-use Rattle.htmd.specs.ListElements.{ordered_result, blocks_of, first_number_of}
+use Rattle.htmd.specs.Lists.{ordered_result, blocks_of, first_number_of}
 
 -- ---- columns
 

@@ -7,7 +7,8 @@ use Rattle.htmd_tree.specs.Ancestors.{Ancestor, ancestor_of}
 use Rattle.htmd.specs.declared.options.Options.{Options}
 use Rattle.htmd.specs.Outputs.{is_guarded}
 use Rattle.htmd.specs.LinkAttributes.{is_among, last_value}
-use Rattle.htmd.specs.TableElements.{has_table_form, layout_of, has_lines}
+use Rattle.htmd.specs.Tables.{has_table_form}
+use Rattle.htmd.specs.TableLayouts.{layout_of, has_lines}
 
 abbrev pub heading_tags : List (List ℕ)
 heading_tags = codes "h1" ∷ codes "h2" ∷ codes "h3" ∷ codes "h4" ∷ codes "h5" ∷ codes "h6" ∷ []

@@ -6,7 +6,7 @@ use Rattle.htmd.specs.declared.element_handler.element_handlers.ElementHandlers.
 use Rattle.htmd.specs.Handling.{HandlerMeaning}
 use Rattle.htmd.specs.Choice.{Config}
 use Rattle.htmd.specs.TagIndexes.{tag_index}
-use Rattle.htmd.specs.HandlerMeanings.{handler_meaning}
+use Rattle.htmd.specs.RegisteredHandlers.{handler_meaning}
 
 abbrev pub config_of : {X : Type 0} {F : X → Type 0} → (DynBox X Global F → HandlerMeaning)
     → ElementHandlers X F

@@ -8,7 +8,7 @@ use Rattle.htmd_text.specs.Trims.{trimmed_text, is_line_feed}
 use Rattle.htmd_tree.specs.ValueTrees.{AttributePair}
 use Rattle.htmd.specs.Handling.{ElementView, ResultView, PlanView, content_of_children, HandlerMeaning, of_plan}
 use Rattle.htmd.specs.OrdinaryText.{pre}
-use Rattle.htmd.specs.ElementViews.{attributes_of, ancestors_of, unless_faithful, markdown_plan}
+use Rattle.htmd.specs.ElementPlans.{attributes_of, ancestors_of, unless_faithful, markdown_plan}
 use Rattle.htmd.specs.Outputs.{is_guarded}
 
 abbrev pub is_span : List ℕ → Bool

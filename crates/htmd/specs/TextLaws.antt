@@ -13,9 +13,9 @@ use Rattle.htmd_markdown.specs.GuardedText as reader
 use Rattle.htmd.specs.declared.options.Options.{Options}
 use Rattle.htmd.specs.Choice.{Config, indexes}
 use Rattle.htmd.specs.Outputs.{is_guarded}
-use Rattle.htmd.specs.ElementViews.{is_tag_among}
+use Rattle.htmd.specs.ElementPlans.{is_tag_among}
 use Rattle.htmd.specs.LinkAttributes.{last_value}
-use Rattle.htmd.specs.Sections.{hidden_tags}
+use Rattle.htmd.specs.OtherBlocks.{hidden_tags}
 use Rattle.htmd.specs.Spans.{is_span, has_math_class}
 use Rattle.htmd.specs.BuiltIn.{other_block_tags, built_in}
 use Rattle.htmd.specs.Markdown.{markdown}

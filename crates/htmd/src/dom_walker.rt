@@ -16,7 +16,7 @@ ghost use Rattle.htmd.specs.Children.{write_groups, content_alone, descendant_tr
 ghost use Rattle.htmd.specs.Elements.{content_of, contents_alone, answer_after, raw_answer};
 ghost use Rattle.htmd.specs.Rendering.{is_text, inside_of, with_result};
 ghost use Rattle.htmd.specs.Markdown.{markdown};
-ghost use Rattle.htmd.specs.Handled.{IsElement, handled};
+ghost use Rattle.htmd.specs.HandlerAnswers.{IsElement, handled};
 ghost use Rattle.htmd.specs.Beginnings.{Begins};
 ghost use Rattle.htmd.specs.Views.{optional_result, output_view, answer_view, contents_view};
 ghost use Rattle.htmd.specs.Walking.{AtElement, AtNode, InNode, AlwaysGives, AreRemembered};

@@ -16,24 +16,23 @@ use std::alloc::{AllocError, Global};
 use std::marker::Model;
 
 mod anchor;
-mod blocks;
-mod br;
+mod block_quote;
 mod built_in;
 pub(crate) mod code;
 mod element_handlers;
 mod emphasis;
 pub(crate) mod fn_handler;
-mod headings;
-mod hr;
-mod img;
+mod heading;
+mod image;
 pub(crate) mod layered;
+mod line_break;
 pub(crate) mod link_attributes;
 mod list;
 mod list_item;
+mod other_block;
 mod page;
 pub(crate) mod plans;
-mod pre;
-mod quote;
+mod preformatted;
 pub(crate) mod registrar;
 mod registrations;
 pub(crate) mod registry;
@@ -42,6 +41,7 @@ pub(crate) mod table;
 mod table_cell;
 pub(crate) mod table_layout;
 mod table_part;
+mod thematic_break;
 
 pub use element_handlers::{ElementHandlers, HandlerRefused};
 pub use fn_handler::{Answering, FnHandler, HandlerRule};
@@ -73,7 +73,7 @@ pub struct Element<'a> {
 
 impl<'a> Element<'a> {
     ghost use Rattle.htmd.specs.Views.{element_view};
-    ghost use Rattle.htmd.specs.ElementViews.{attributes_of, value_of_first};
+    ghost use Rattle.htmd.specs.ElementPlans.{attributes_of, value_of_first};
 
     /// The tree as it was handed in.
     pub fn tree(&self) -> &Tree

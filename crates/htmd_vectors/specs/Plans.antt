@@ -2,7 +2,7 @@
 use Rattle.std.specs.Prelude.{ℕ, zero, suc, true, ◌==◌, if◌then◌else◌, List, [], ◌∷◌, Option, Some, None, codes}
 use Rattle.htmd_tree.specs.Items.{Item, children_of}
 use Rattle.htmd.specs.Handling.{ElementView, PlanView, nothing, this_result, content_of_descendant, content_of_fallback}
-use Rattle.htmd.specs.ElementViews.{attributes_of, value_of_first}
+use Rattle.htmd.specs.ElementPlans.{attributes_of, value_of_first}
 
 -- this text, if there is one
 abbrev pub plan_of_text : Option (List ℕ) → PlanView

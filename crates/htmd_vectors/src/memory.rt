@@ -78,12 +78,13 @@ fn hands_back_handlers(rt: HostRuntime) -> Result<(), Fail> {
             return Err(Fail::from("one request is refused"));
         }
     }
-    let table: [(&str, usize, Option<usize>); 6] = [
-        ("a", 0, Some(23)),
-        ("a", 1, Some(23)),
+    let added = handlers.find_handler("u", 0);
+    assert!(rt; added.is_some());
+    let table: [(&str, usize, Option<usize>); 5] = [
+        ("a", 0, added),
+        ("a", 1, added),
         ("a", 2, Some(1)),
         ("a", 3, None),
-        ("u", 0, Some(23)),
         ("u", 1, None),
     ];
     for (tag, skipped, place) in table {

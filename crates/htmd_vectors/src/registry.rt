@@ -5,7 +5,7 @@ use htmd::options::Options;
 use htmd::{NodeData, Tree};
 use std::test::Fail;
 
-// The built-in handlers are found at 0 to 22, whichever of their tags is asked for.
+// A built-in handler is found whichever of its tags is asked for.
 #[test]
 fn finds_built_in_handlers(rt: HostRuntime) -> Result<(), Fail> {
     let handlers = ElementHandlers::new(rt.alloc(), Options::default())?;
@@ -30,12 +30,14 @@ fn finds_built_in_handlers(rt: HostRuntime) -> Result<(), Fail> {
 fn finds_repeated_handlers(rt: HostRuntime) -> Result<(), Fail> {
     let mut handlers = ElementHandlers::new(rt.alloc(), Options::default())?;
     let handler: Box<dyn ElementHandler> = Box::new(rt.alloc(), PassesOn { appended: None })?;
-    if handlers.add_handler(&["a", "a"], handler).is_err() {
+    if handlers.add_handler(&["a", "a", "u"], handler).is_err() {
         return Err(Fail::from("there is memory"));
     }
+    let added = handlers.find_handler("u", 0);
+    assert!(rt; added.is_some());
     let table: [(usize, Option<usize>); 4] = [
-        (0, Some(23)),
-        (1, Some(23)),
+        (0, added),
+        (1, added),
         (2, Some(1)),
         (3, None),
     ];

@@ -5,7 +5,7 @@ ghost use Rattle.std.specs.Option.{option_copied, unwrap_or};
 ghost use Rattle.htmd_markdown.specs.Links as piece;
 ghost use Rattle.htmd_markdown.specs.GuardedLinks as guarded;
 ghost use Rattle.htmd.specs.LinkAttributes.{title_of};
-ghost use Rattle.htmd.specs.Sections.{markdown_result};
+ghost use Rattle.htmd.specs.ElementPlans.{markdown_result};
 ghost use Rattle.htmd.specs.Anchors as spec;
 ghost use Rattle.htmd.specs.Beginnings.{Begins};
 ghost use Rattle.htmd.specs.Elements.{finish_answer};

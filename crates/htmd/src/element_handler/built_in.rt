@@ -9,11 +9,12 @@ ghost use Rattle.htmd.specs.Markdown.{append_text};
 ghost use Rattle.htmd.specs.Views.{result_view, optional_result, results_view, answer_view, element_view};
 ghost use Rattle.htmd.specs.Walking.{request_view, outcome_view};
 
-use super::blocks::TAGS;
+use super::other_block::TAGS;
 use super::registry::{Outcome, Request};
 use super::{
-    Element, HandlerResult, Links, Plan, anchor, blocks, br, code, emphasis, headings, hr, img,
-    list, list_item, page, plans, pre, quote, span, table, table_cell, table_part,
+    Element, HandlerResult, Links, Plan, anchor, block_quote, code, emphasis, heading, image,
+    line_break, list, list_item, other_block, page, plans, preformatted, span, table, table_cell,
+    table_part, thematic_break,
 };
 use htmd_markdown::Emphasis;
 use std::alloc::{AllocError, Global};
@@ -38,8 +39,8 @@ pub(crate) enum BuiltIn {
     TablePart,
     Paragraph,
     Preformatted,
-    HeadOrBody,
-    Html,
+    PagePart,
+    Page,
     Span,
     OtherBlock,
 }
@@ -65,8 +66,8 @@ pub(crate) const HANDLERS_AND_TAGS: &[(BuiltIn, &[&str])] = &[
     (BuiltIn::TablePart, &["caption"]),
     (BuiltIn::Paragraph, &["p"]),
     (BuiltIn::Preformatted, &["pre"]),
-    (BuiltIn::HeadOrBody, &["head", "body"]),
-    (BuiltIn::Html, &["html"]),
+    (BuiltIn::PagePart, &["head", "body"]),
+    (BuiltIn::Page, &["html"]),
     (BuiltIn::Span, &["span"]),
     (BuiltIn::OtherBlock, &TAGS),
 ];
@@ -78,7 +79,7 @@ impl BuiltIn {
         ensures proper { IfOk result (λ p. IsProper element.now.tree.now element.now.node (request_view p)) }
     {
         match self {
-            BuiltIn::Image => Ok(Request::OfPlan(img::plan(alloc, element)?)),
+            BuiltIn::Image => Ok(Request::OfPlan(image::plan(alloc, element)?)),
             BuiltIn::Anchor => Ok(Request::OfPlan(anchor::plan(element))),
             BuiltIn::ListElement => list::plan(alloc, element),
             BuiltIn::ListItem => Ok(Request::OfPlan(plans::plain_plan(element))),
@@ -87,18 +88,18 @@ impl BuiltIn {
             BuiltIn::Strong => Ok(Request::OfPlan(plans::plain_plan(element))),
             BuiltIn::Emphasis => Ok(Request::OfPlan(plans::plain_plan(element))),
             BuiltIn::Heading => Ok(Request::OfPlan(plans::plain_plan(element))),
-            BuiltIn::LineBreak => Ok(Request::OfPlan(br::plan(alloc, element)?)),
-            BuiltIn::ThematicBreak => Ok(Request::OfPlan(hr::plan(alloc, element)?)),
+            BuiltIn::LineBreak => Ok(Request::OfPlan(line_break::plan(alloc, element)?)),
+            BuiltIn::ThematicBreak => Ok(Request::OfPlan(thematic_break::plan(alloc, element)?)),
             BuiltIn::Table => table::plan(alloc, element),
             BuiltIn::TableCell => Ok(Request::OfPlan(table_cell::plan(element))),
             BuiltIn::TableRow => Ok(Request::OfPlan(table_part::plan_of_row(element))),
             BuiltIn::TablePart => Ok(Request::OfPlan(table_part::plan_of_part(element))),
             BuiltIn::Paragraph => Ok(Request::OfPlan(plans::plain_plan(element))),
-            BuiltIn::Preformatted => Ok(Request::OfPlan(pre::plan(alloc, element)?)),
-            BuiltIn::HeadOrBody => Ok(Request::OfPlan(page::plan_of_part(element))),
-            BuiltIn::Html => Ok(Request::OfPlan(page::plan(element))),
+            BuiltIn::Preformatted => Ok(Request::OfPlan(preformatted::plan(alloc, element)?)),
+            BuiltIn::PagePart => Ok(Request::OfPlan(page::plan_of_part(element))),
+            BuiltIn::Page => Ok(Request::OfPlan(page::plan(element))),
             BuiltIn::Span => Ok(Request::OfPlan(span::plan(alloc, element)?)),
-            BuiltIn::OtherBlock => Ok(Request::OfPlan(blocks::plan(element))),
+            BuiltIn::OtherBlock => Ok(Request::OfPlan(other_block::plan(element))),
         }
     }
 
@@ -121,11 +122,11 @@ impl BuiltIn {
             BuiltIn::Anchor => anchor::finish(alloc, element, content, links),
             BuiltIn::ListElement => list::finish(alloc, element, content),
             BuiltIn::ListItem => list_item::finish(alloc, element, content),
-            BuiltIn::BlockQuote => quote::finish(alloc, element, content),
+            BuiltIn::BlockQuote => block_quote::finish(alloc, element, content),
             BuiltIn::Code => code::finish(alloc, element, content),
             BuiltIn::Strong => emphasis::finish(alloc, Emphasis::Strong, element, content),
             BuiltIn::Emphasis => emphasis::finish(alloc, Emphasis::Regular, element, content),
-            BuiltIn::Heading => headings::finish(alloc, element, content),
+            BuiltIn::Heading => heading::finish(alloc, element, content),
             BuiltIn::LineBreak => Ok(None),
             BuiltIn::ThematicBreak => Ok(None),
             BuiltIn::Table => table::finish(element, content),
@@ -133,9 +134,9 @@ impl BuiltIn {
             BuiltIn::TableRow => table_part::finish(alloc, element, content),
             BuiltIn::TablePart => table_part::finish(alloc, element, content),
             BuiltIn::Paragraph => plans::wrap(alloc, element, content),
-            BuiltIn::Preformatted => pre::finish(alloc, element, content),
-            BuiltIn::HeadOrBody => plans::wrap(alloc, element, content),
-            BuiltIn::Html => plans::wrap(alloc, element, content),
+            BuiltIn::Preformatted => preformatted::finish(alloc, element, content),
+            BuiltIn::PagePart => plans::wrap(alloc, element, content),
+            BuiltIn::Page => plans::wrap(alloc, element, content),
             BuiltIn::Span => span::finish(alloc, element, content),
             BuiltIn::OtherBlock => plans::wrap(alloc, element, content),
         }

@@ -6,7 +6,7 @@ ghost use Rattle.htmd.specs.Handling.{of_functions, IsProper};
 ghost use Rattle.htmd.specs.Views.{plan_view, element_view, result_view, optional_result, optional_text};
 ghost use Rattle.htmd.specs.TagIndexes.{tag_index};
 ghost use Rattle.htmd.specs.Markdown.{append_text};
-ghost use Rattle.htmd.specs.HandlerMeanings.{handler_meaning};
+ghost use Rattle.htmd.specs.RegisteredHandlers.{handler_meaning};
 ghost use Rattle.htmd.specs.Spans.{spans};
 
 use super::built_in::{BuiltIn, HANDLERS_AND_TAGS};
@@ -209,7 +209,7 @@ impl ElementHandlers {
 
 impl ElementHandlers {
     ghost use Rattle.htmd_tree.specs.Items.{data_at};
-    ghost use Rattle.htmd.specs.Handled.{IsElement, handled};
+    ghost use Rattle.htmd.specs.HandlerAnswers.{IsElement, handled};
     ghost use Rattle.htmd.specs.Beginnings.{Begins};
     ghost use Rattle.htmd.specs.Views.{answer_view};
 

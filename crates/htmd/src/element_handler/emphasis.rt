@@ -1,7 +1,7 @@
 //! The handlers of `strong`, `b`, `em` and `i`.
 
 ghost use Rattle.std.specs.Prelude.{◌≡◌, IfOk};
-ghost use Rattle.htmd.specs.Inline.{emphasis_result};
+ghost use Rattle.htmd.specs.Emphases.{emphasis_result};
 ghost use Rattle.htmd.specs.Views.{element_view, result_view, optional_result};
 
 use super::plans::is_guarded;

@@ -6,7 +6,7 @@ ghost use Rattle.htmd_markdown.specs.Lists.{block_of};
 ghost use Rattle.htmd_tree.specs.Items.{children_of, data_at, tag_of};
 ghost use Rattle.htmd_tree.specs.Views.{pairs_of};
 ghost use Rattle.htmd.specs.Handling.{IsProper};
-ghost use Rattle.htmd.specs.ListElements as spec;
+ghost use Rattle.htmd.specs.Lists as spec;
 ghost use Rattle.htmd.specs.Views.{element_view, result_view, results_view, optional_result};
 ghost use Rattle.htmd.specs.Walking.{request_view};
 

@@ -1,7 +1,7 @@
 //! The handler of `li`.
 
 ghost use Rattle.std.specs.Prelude.{◌≡◌, IfOk, string_bytes};
-ghost use Rattle.htmd.specs.ListElements.{bullet_item_of, item_result};
+ghost use Rattle.htmd.specs.ListItems.{bullet_item_of, item_result};
 ghost use Rattle.htmd.specs.Views.{element_view, result_view, optional_result};
 
 use super::plans::{is_guarded, parent_tag};

@@ -1,7 +1,7 @@
 //! The handlers of `html`, `head` and `body`.
 
 ghost use Rattle.std.specs.Prelude.{◌≡◌};
-ghost use Rattle.htmd.specs.Sections as spec;
+ghost use Rattle.htmd.specs.Pages as spec;
 ghost use Rattle.htmd_tree.specs.Items.{parent_at};
 ghost use Rattle.htmd.specs.Views.{plan_view, element_view};
 

@@ -3,9 +3,9 @@
 ghost use Rattle.std.specs.Prelude.{◌≡◌, ◌&&◌, ◌||◌, not, IfOk, length, map};
 ghost use Rattle.std.specs.Option.{option_copied};
 ghost use Rattle.htmd_tree.specs.Views.{pairs_of};
-ghost use Rattle.htmd.specs.ElementViews as spec;
+ghost use Rattle.htmd.specs.ElementPlans as spec;
 ghost use Rattle.htmd.specs.Outputs.{is_markdown_alone, is_guarded};
-ghost use Rattle.htmd.specs.Sections.{wrapped_result};
+ghost use Rattle.htmd.specs.ElementPlans.{wrapped_result};
 ghost use Rattle.htmd.specs.Views.{plan_view, element_view, result_view, results_view, optional_result};
 
 use super::{Element, HandlerResult, Plan};

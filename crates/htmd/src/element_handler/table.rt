@@ -11,8 +11,9 @@ ghost use Rattle.htmd_tree.specs.Ancestors.{ancestors_of};
 ghost use Rattle.htmd.specs.Groups.{children_at};
 ghost use Rattle.htmd.specs.Handling.{IsProper};
 ghost use Rattle.htmd_markdown.specs.GuardedTables.{guarded_table};
-ghost use Rattle.htmd.specs.TableElements as spec;
-ghost use Rattle.htmd.specs.TableLayouts.{parts_view, texts_view};
+ghost use Rattle.htmd.specs.TableLayouts as layouts;
+ghost use Rattle.htmd.specs.Tables as spec;
+ghost use Rattle.htmd.specs.TableViews.{parts_view, texts_view};
 ghost use Rattle.htmd.specs.Views.{element_view, result_view, results_view, optional_result};
 ghost use Rattle.htmd.specs.Walking.{request_view, outcome_view};
 
@@ -37,7 +38,7 @@ pub(crate) struct TableTexts {
 /// Whether a node is `th` or `thead`.
 fn is_header(tree: &Tree, node: NodeId) -> bool
     requires { node < length tree.now }
-    ensures { result ≡ spec.has_tag spec.header_tags tree.now node }
+    ensures { result ≡ layouts.has_tag spec.header_tags tree.now node }
 {
     matches!(tree.tag_name(node), Some("th" | "thead"))
 }
@@ -80,7 +81,7 @@ fn has_explicit_headers(tree: &Tree, table: NodeId) -> bool
 /// Whether a node is `td` or `th`.
 fn is_cell(tree: &Tree, node: NodeId) -> bool
     requires { node < length tree.now }
-    ensures { result ≡ spec.has_tag spec.cell_tags tree.now node }
+    ensures { result ≡ layouts.has_tag spec.cell_tags tree.now node }
 {
     matches!(tree.tag_name(node), Some("td" | "th"))
 }

@@ -3,7 +3,7 @@
 ghost use Rattle.std.specs.Prelude.{◌≡◌};
 ghost use Rattle.std.specs.List.{list_any};
 ghost use Rattle.htmd_tree.specs.Items.{children_of};
-ghost use Rattle.htmd.specs.TableElements as spec;
+ghost use Rattle.htmd.specs.TableCells as spec;
 ghost use Rattle.htmd.specs.Views.{plan_view, element_view};
 
 use super::plans::{is_markdown_alone, parent_tag, plan_if};

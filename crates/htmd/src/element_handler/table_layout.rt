@@ -3,8 +3,8 @@
 ghost use Rattle.std.specs.Prelude.{◌≡◌, ◌<◌, OnOk, IfOk, IsTrue, [], ◌∷◌, All, length, fold};
 ghost use Rattle.std.specs.Prelude.{codes};
 ghost use Rattle.htmd_tree.specs.Items.{data_at, tag_of};
-ghost use Rattle.htmd.specs.TableElements as spec;
-ghost use Rattle.htmd.specs.TableLayouts.{layout_view, parts_view};
+ghost use Rattle.htmd.specs.TableLayouts as spec;
+ghost use Rattle.htmd.specs.TableViews.{layout_view, parts_view};
 
 use htmd_tree::{NodeId, Tree};
 use std::alloc::{AllocError, Global};

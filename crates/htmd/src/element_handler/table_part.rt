@@ -1,9 +1,9 @@
 //! The handlers of `tr`, `tbody`, `thead` and `caption`.
 
 ghost use Rattle.std.specs.Prelude.{◌≡◌, [], ◌∷◌, codes, IfOk};
-ghost use Rattle.htmd.specs.ElementViews as spec;
-ghost use Rattle.htmd.specs.ElementViews.{parent_tag, is_tag_among, unless_attributes};
-ghost use Rattle.htmd.specs.TableElements.{table_rows, table_parts, part_result};
+ghost use Rattle.htmd.specs.ElementPlans as spec;
+ghost use Rattle.htmd.specs.ElementPlans.{parent_tag, is_tag_among, unless_attributes};
+ghost use Rattle.htmd.specs.TableParts.{table_rows, table_parts, part_result};
 ghost use Rattle.htmd.specs.Views.{plan_view, element_view, result_view, optional_result};
 
 use super::plans::{has_attributes_beyond, parent_tag, plan_if};

@@ -11,7 +11,7 @@ use Rattle.htmd.specs.Groups.{group_children, children_at}
 use Rattle.htmd.specs.Outputs.{conversion_of}
 use Rattle.htmd.specs.Elements.{Occurrence, Answer, answer_after, view_at}
 use Rattle.htmd.specs.Rendering.{written_within, inside_of}
-use Rattle.htmd.specs.Handled.{occurrence_in_tree, handled}
+use Rattle.htmd.specs.HandlerAnswers.{occurrence_in_tree, handled}
 use Rattle.htmd.specs.Views.{answer_view}
 use Rattle.htmd.proofs.BeginningsLemmas.{begins-to, begins-start, grows-answer, grows-within}
 use Rattle.htmd.proofs.WalkingLemmas.{shown-same}

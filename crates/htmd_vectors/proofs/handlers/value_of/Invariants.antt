@@ -1,7 +1,7 @@
 -- The value is that of the first attribute of this name among those that are left.
 use Rattle.std.proofs.Common.{◌≡◌, drop}
 use Rattle.htmd_tree.specs.Views.{pairs_of}
-use Rattle.htmd.specs.ElementViews.{value_of_first}
+use Rattle.htmd.specs.ElementPlans.{value_of_first}
 use Rattle.htmd_vectors.proofs.handlers.value_of.Given as goal
 
 abbrev pub invariant-loop-attribute : goal.invariant-loop-attribute

@@ -1,6 +1,6 @@
 use Rattle.std.proofs.Common.{sym, ap, ◌∙◌}
 use Rattle.std.specs.List.{list_any}
-use Rattle.htmd.specs.ListElements.{is_other_element}
+use Rattle.htmd.specs.Lists.{is_other_element}
 use Rattle.htmd.proofs.ChildListsLemmas.{any_here, none_more, none_all, child_within}
 use Rattle.htmd.proofs.element_handler.list.has_other_elements.Goals as goal
 

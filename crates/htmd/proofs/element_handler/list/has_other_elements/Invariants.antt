@@ -1,6 +1,6 @@
 use Rattle.std.proofs.Common.{◌≡◌, false, take}
 use Rattle.std.specs.List.{list_any}
-use Rattle.htmd.specs.ListElements.{is_other_element}
+use Rattle.htmd.specs.Lists.{is_other_element}
 use Rattle.htmd.proofs.element_handler.list.has_other_elements.Given as goal
 
 abbrev pub invariant-loop-child : goal.invariant-loop-child

@@ -8,7 +8,7 @@ use Rattle.htmd_markdown.specs.Lists.{Block, block_of}
 use Rattle.htmd_tree.specs.Items.{tag_of, data_at}
 use Rattle.htmd.specs.declared.element_handler.HandlerResult.{HandlerResult}
 use Rattle.htmd.specs.Handling.{ResultView}
-use Rattle.htmd.specs.ListElements.{block_of_child}
+use Rattle.htmd.specs.Lists.{block_of_child}
 use Rattle.htmd.specs.Views.{result_view}
 use Rattle.htmd.proofs.ChildListsLemmas.{zip-map, map_twice, zip_first_all}
 use Rattle.htmd.proofs.element_handler.list.list_blocks.Goals as goal

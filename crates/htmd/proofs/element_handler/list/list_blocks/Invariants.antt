@@ -1,7 +1,7 @@
 use Rattle.std.proofs.Common.{◌≡◌, map}
 use Rattle.htmd_markdown.specs.Lists.{block_of}
 use Rattle.htmd_tree.specs.Items.{tag_of, data_at}
-use Rattle.htmd.specs.ListElements.{block_of_child}
+use Rattle.htmd.specs.Lists.{block_of_child}
 use Rattle.htmd.specs.Views.{result_view}
 use Rattle.htmd.proofs.element_handler.list.list_blocks.Given as goal
 

@@ -1,7 +1,7 @@
 use Rattle.std.proofs.Common.{sym, ap, ◌∙◌, subst, List, ℕ, Bool, All, ◌<◌, length}
 use Rattle.htmd.specs.Handling.{ResultView}
-use Rattle.htmd.specs.ElementViews.{are_markdown}
-use Rattle.htmd.specs.ListElements.{blocks_of_list, blocks_of, ordered_text}
+use Rattle.htmd.specs.ElementPlans.{are_markdown}
+use Rattle.htmd.specs.Lists.{blocks_of_list, blocks_of, ordered_text}
 use Rattle.htmd.specs.Views.{results_view, element_view}
 use Rattle.htmd.proofs.ChildListsLemmas.{children_within}
 use Rattle.htmd.proofs.element_handler.list.numbered_list.Goals as goal

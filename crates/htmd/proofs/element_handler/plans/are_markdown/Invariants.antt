@@ -1,5 +1,5 @@
 use Rattle.std.proofs.Common.{◌≡◌, drop}
-use Rattle.htmd.specs.ElementViews.{are_markdown}
+use Rattle.htmd.specs.ElementPlans.{are_markdown}
 use Rattle.htmd.specs.Views.{results_view}
 use Rattle.htmd.proofs.element_handler.plans.are_markdown.Given as goal
 

@@ -1,6 +1,6 @@
 use Rattle.std.proofs.Common.{◌≡◌, drop}
 use Rattle.htmd_tree.specs.Views.{pairs_of}
-use Rattle.htmd.specs.ElementViews.{value_of_first}
+use Rattle.htmd.specs.ElementPlans.{value_of_first}
 use Rattle.htmd.proofs.element_handler.plans.find_value.Given as goal
 
 abbrev pub invariant-loop-attribute : goal.invariant-loop-attribute

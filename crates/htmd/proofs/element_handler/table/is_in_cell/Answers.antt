@@ -1,6 +1,6 @@
 use Rattle.std.proofs.Common.{sym, ◌∙◌, arith}
 use Rattle.htmd_tree.specs.Items.{data_at}
-use Rattle.htmd.specs.TableElements.{is_cell}
+use Rattle.htmd.specs.Tables.{is_cell}
 use Rattle.htmd.proofs.TableHeadersLemmas.{cell-tag, any-root, any-hit, any-miss}
 use Rattle.htmd.proofs.element_handler.table.is_in_cell.Goals as goal
 

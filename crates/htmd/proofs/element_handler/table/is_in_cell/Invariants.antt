@@ -1,7 +1,7 @@
 use Rattle.std.proofs.Common.{◌≡◌, ◌<◌, length}
 use Rattle.std.specs.List.{list_any}
 use Rattle.htmd_tree.specs.Ancestors.{ancestors_of}
-use Rattle.htmd.specs.TableElements.{is_cell}
+use Rattle.htmd.specs.Tables.{is_cell}
 use Rattle.htmd.proofs.element_handler.table.is_in_cell.Given as goal
 
 abbrev pub invariant-loop-parent : goal.invariant-loop-parent

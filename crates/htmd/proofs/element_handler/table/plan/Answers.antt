@@ -1,7 +1,7 @@
 use Rattle.std.proofs.Common.{sym, ap, ◌∙◌, subst, All}
 use Rattle.htmd_tree.specs.Items.{IsBelow}
-use Rattle.htmd.specs.TableElements.{Layout, nodes_of}
-use Rattle.htmd.specs.TableLayouts.{parts_view}
+use Rattle.htmd.specs.TableLayouts.{Layout, nodes_of}
+use Rattle.htmd.specs.TableViews.{parts_view}
 use Rattle.htmd.proofs.TableNodesLemmas.{layout-proper}
 use Rattle.htmd.proofs.element_handler.table.plan.Goals as goal
 

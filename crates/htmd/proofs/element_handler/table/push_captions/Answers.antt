@@ -3,7 +3,7 @@ use Rattle.std.specs.Prelude.{String}
 use Rattle.std.specs.Global.{Global}
 use Rattle.std.specs.List.{flat_map}
 use Rattle.std.proofs.lemmas.List.{take_all, flat_map_more}
-use Rattle.htmd.specs.TableElements.{in_line}
+use Rattle.htmd.specs.Tables.{in_line}
 use Rattle.htmd.proofs.ChildListsLemmas.{map_next}
 use Rattle.htmd.proofs.element_handler.table.push_captions.Goals as goal
 

@@ -1,6 +1,6 @@
 use Rattle.std.proofs.Common.{◌≡◌, ◌++◌, take, map, string_bytes}
 use Rattle.std.specs.List.{flat_map}
-use Rattle.htmd.specs.TableElements.{in_line}
+use Rattle.htmd.specs.Tables.{in_line}
 use Rattle.htmd.proofs.element_handler.table.push_captions.Given as goal
 
 abbrev pub invariant-loop-caption : goal.invariant-loop-caption

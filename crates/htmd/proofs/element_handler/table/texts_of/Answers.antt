@@ -4,7 +4,7 @@ use Rattle.std.specs.Global.{Global}
 use Rattle.std.specs.String.{string_bytes}
 use Rattle.std.proofs.lemmas.List.{map_push, take_all}
 use Rattle.htmd.specs.declared.element_handler.HandlerResult.{HandlerResult}
-use Rattle.htmd.specs.TableElements.{text_of_cell}
+use Rattle.htmd.specs.Tables.{text_of_cell}
 use Rattle.htmd.specs.Views.{result_view}
 use Rattle.htmd.proofs.ChildListsLemmas.{map_twice, map_next}
 use Rattle.htmd.proofs.element_handler.table.texts_of.Goals as goal

@@ -1,6 +1,6 @@
 use Rattle.std.proofs.Common.{◌≡◌, take, map}
 use Rattle.std.specs.String.{string_bytes}
-use Rattle.htmd.specs.TableElements.{text_of_cell}
+use Rattle.htmd.specs.Tables.{text_of_cell}
 use Rattle.htmd.specs.Views.{result_view}
 use Rattle.htmd.proofs.element_handler.table.texts_of.Given as goal
 

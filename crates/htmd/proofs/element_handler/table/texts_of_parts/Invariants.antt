@@ -1,6 +1,6 @@
 use Rattle.std.proofs.Common.{◌≡◌, drop}
-use Rattle.htmd.specs.TableElements.{with_parts, no_texts}
-use Rattle.htmd.specs.TableLayouts.{parts_view, texts_view}
+use Rattle.htmd.specs.Tables.{with_parts, no_texts}
+use Rattle.htmd.specs.TableViews.{parts_view, texts_view}
 use Rattle.htmd.specs.Views.{results_view}
 use Rattle.htmd.proofs.element_handler.table.texts_of_parts.Given as goal
 

@@ -1,6 +1,6 @@
 use Rattle.std.proofs.Common.{sym, ap, ◌∙◌}
 use Rattle.std.specs.List.{list_any}
-use Rattle.htmd.specs.TableElements.{is_block_node}
+use Rattle.htmd.specs.TableCells.{is_block_node}
 use Rattle.htmd.proofs.ChildListsLemmas.{any_here, none_more, none_all, child_within}
 use Rattle.htmd.proofs.element_handler.table_cell.has_blocks.Goals as goal
 

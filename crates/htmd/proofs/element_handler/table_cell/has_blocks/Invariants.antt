@@ -1,6 +1,6 @@
 use Rattle.std.proofs.Common.{◌≡◌, false, take}
 use Rattle.std.specs.List.{list_any}
-use Rattle.htmd.specs.TableElements.{is_block_node}
+use Rattle.htmd.specs.TableCells.{is_block_node}
 use Rattle.htmd.proofs.element_handler.table_cell.has_blocks.Given as goal
 
 abbrev pub invariant-loop-child : goal.invariant-loop-child

@@ -1,5 +1,5 @@
 use Rattle.std.proofs.Common.{sym, ap, ◌∙◌, ◌∷◌, [], filter, codes}
-use Rattle.htmd.specs.TableElements.{has_tag, head_row}
+use Rattle.htmd.specs.TableLayouts.{has_tag, head_row}
 use Rattle.htmd.proofs.ChildListsLemmas.{filtered_first, filtered_out, filtered_all, child_within}
 use Rattle.htmd.proofs.element_handler.table_layout.head_row.Goals as goal
 

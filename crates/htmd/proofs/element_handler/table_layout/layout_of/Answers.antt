@@ -1,6 +1,6 @@
 use Rattle.std.proofs.Common.{sym, ap, ◌∙◌, fold}
 use Rattle.std.proofs.lemmas.List.{take_all}
-use Rattle.htmd.specs.TableElements.{with_child, empty_layout}
+use Rattle.htmd.specs.TableLayouts.{with_child, empty_layout}
 use Rattle.htmd.proofs.ChildListsLemmas.{fold_next, child_within}
 use Rattle.htmd.proofs.element_handler.table_layout.layout_of.Goals as goal
 

@@ -1,6 +1,6 @@
 use Rattle.std.proofs.Common.{◌≡◌, take, fold}
-use Rattle.htmd.specs.TableElements.{with_child, empty_layout}
-use Rattle.htmd.specs.TableLayouts.{layout_view}
+use Rattle.htmd.specs.TableLayouts.{with_child, empty_layout}
+use Rattle.htmd.specs.TableViews.{layout_view}
 use Rattle.htmd.proofs.element_handler.table_layout.layout_of.Given as goal
 
 abbrev pub invariant-loop-child : goal.invariant-loop-child

@@ -1,6 +1,6 @@
 use Rattle.std.proofs.Common.{◌≡◌, take}
-use Rattle.htmd.specs.TableElements.{nodes_of}
-use Rattle.htmd.specs.TableLayouts.{parts_view}
+use Rattle.htmd.specs.TableLayouts.{nodes_of}
+use Rattle.htmd.specs.TableViews.{parts_view}
 use Rattle.htmd.proofs.element_handler.table_layout.nodes_of.Given as goal
 
 abbrev pub invariant-loop-part : goal.invariant-loop-part

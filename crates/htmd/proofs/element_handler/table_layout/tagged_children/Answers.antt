@@ -1,5 +1,5 @@
 use Rattle.std.proofs.Common.{sym, ap, ◌∙◌, ◌∷◌, [], ◌++◌, filter}
-use Rattle.htmd.specs.TableElements.{has_tag}
+use Rattle.htmd.specs.TableLayouts.{has_tag}
 use Rattle.htmd.proofs.ChildListsLemmas.{filtered_in, filtered_out, filtered_all, child_within}
 use Rattle.htmd.proofs.element_handler.table_layout.tagged_children.Goals as goal
 

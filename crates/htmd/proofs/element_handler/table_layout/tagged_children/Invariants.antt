@@ -1,5 +1,5 @@
 use Rattle.std.proofs.Common.{◌≡◌, take, filter, ◌∷◌, []}
-use Rattle.htmd.specs.TableElements.{has_tag}
+use Rattle.htmd.specs.TableLayouts.{has_tag}
 use Rattle.htmd.proofs.element_handler.table_layout.tagged_children.Given as goal
 
 abbrev pub invariant-loop-child : goal.invariant-loop-child

@@ -2,7 +2,7 @@
 use Rattle.std.proofs.Common.{◌++◌, ◌∷◌, [], ◌∙◌, ap, sym, map, take}
 use Rattle.std.proofs.lemmas.List.{take_more, take_all, map-append}
 use Rattle.htmd.specs.Handling.{of_functions}
-use Rattle.htmd.specs.HandlerMeanings.{handler_meaning}
+use Rattle.htmd.specs.RegisteredHandlers.{handler_meaning}
 use Rattle.htmd.specs.Markdown.{append_text, append_texts}
 use Rattle.htmd.proofs.PassingLemmas.{append_texts-push}
 use Rattle.htmd.proofs.element_handler.element_handlers.ElementHandlersRegistry.append.Goals as goal

@@ -1,6 +1,6 @@
 use Rattle.std.proofs.Common.{◌≡◌, take, map, string_bytes}
 use Rattle.htmd.specs.Handling.{of_functions}
-use Rattle.htmd.specs.HandlerMeanings.{handler_meaning}
+use Rattle.htmd.specs.RegisteredHandlers.{handler_meaning}
 use Rattle.htmd.specs.Markdown.{append_texts}
 use Rattle.htmd.proofs.element_handler.element_handlers.ElementHandlersRegistry.append.Given as goal
 

@@ -4,7 +4,7 @@ use Rattle.std.specs.Option.{is_some}
 use Rattle.htmd_tree.specs.Items.{element_node}
 use Rattle.htmd_tree.specs.Views.{data_of, pairs_of}
 use Rattle.htmd.specs.Handling.{of_functions}
-use Rattle.htmd.specs.HandlerMeanings.{handler_meaning}
+use Rattle.htmd.specs.RegisteredHandlers.{handler_meaning}
 use Rattle.htmd.specs.Registries.{config_of}
 use Rattle.htmd.specs.Spans.{formula_mark}
 use Rattle.htmd.proofs.PassingLemmas.{passed-unhandled, passed-span, none_after, not-true, not-false, no_value}

@@ -1,6 +1,6 @@
 use Rattle.std.proofs.Common.{sym, ap, ◌∙◌, ◌∷◌, [], filter, fold, codes}
-use Rattle.htmd.specs.TableElements.{has_tag, with_section_row}
-use Rattle.htmd.specs.TableLayouts.{layout_view}
+use Rattle.htmd.specs.TableLayouts.{has_tag, with_section_row}
+use Rattle.htmd.specs.TableViews.{layout_view}
 use Rattle.htmd.proofs.ChildListsLemmas.{fold_in, fold_out, filtered_all, child_within}
 use Rattle.htmd.proofs.element_handler.table_layout.Layout.push_section.Goals as goal
 

@@ -1,6 +1,6 @@
 use Rattle.std.proofs.Common.{◌≡◌, take, filter, fold, ◌∷◌, [], codes}
-use Rattle.htmd.specs.TableElements.{has_tag, with_section_row}
-use Rattle.htmd.specs.TableLayouts.{layout_view}
+use Rattle.htmd.specs.TableLayouts.{has_tag, with_section_row}
+use Rattle.htmd.specs.TableViews.{layout_view}
 use Rattle.htmd.proofs.element_handler.table_layout.Layout.push_section.Given as goal
 
 abbrev pub invariant-loop-child : goal.invariant-loop-child

@@ -1,17 +1,19 @@
--- What a handler reads off an element that it is shown, and the plans that many handlers have.
+-- What a handler reads off an element that it is shown, and the plans and results that many handlers have.
 use Rattle.std.specs.Prelude.{ℕ, Bool, false, not, ◌&&◌, ◌||◌, if◌then◌else◌, nat_lt, List, [], ◌∷◌, length, Option}
 use Rattle.std.specs.Prelude.{Some, None, true, ℤ, pos, negsuc}
 use Rattle.std.specs.List.{list_any, list_all}
 use Rattle.std.specs.Str.{bytes_eq}
+use Rattle.htmd_text.specs.Trims.{trimmed_text, is_line_feed}
+use Rattle.htmd_text.specs.BlankLines.{with_blank_lines}
 use Rattle.htmd_tree.specs.ValueTrees.{AttributePair}
-use Rattle.htmd_tree.specs.Items as tree
-use Rattle.htmd_tree.specs.Ancestors as above
-use Rattle.htmd_tree.specs.NumberedTrees.{tree_of, value_tree}
+use Rattle.htmd_tree.specs.NumberedTrees.{tree_of, value_tree, text}
 use Rattle.htmd_tree.specs.Serialisation.{serialisation}
 use Rattle.htmd_tree.specs.RawBlocks.{raw_block}
-use Rattle.htmd.specs.Handling.{ElementView, ResultView, PlanView, this_result, raw_html}
-use Rattle.htmd.specs.Handling.{content_of_children}
+use Rattle.htmd.specs.Handling.{ElementView, ResultView, PlanView, this_result, raw_html, content_of_children}
+use Rattle.htmd.specs.Handling.{HandlerMeaning, of_plan}
 use Rattle.htmd.specs.Outputs.{is_markdown_alone}
+use Rattle.htmd_tree.specs.Items as tree
+use Rattle.htmd_tree.specs.Ancestors as above
 
 abbrev pub tag_of : ElementView → List ℕ
 tag_of view = (above.ancestor_of (tree.data_at view.items view.node)).tag
@@ -80,3 +82,23 @@ is_tag_among tags (Some tag) = list_any (λ t. bytes_eq t tag) tags
 -- in Faithful only under a parent with one of these tags
 abbrev pub plan_under : List (List ℕ) → ElementView → PlanView
 plan_under tags view = plan_if (is_tag_among tags (parent_tag view)) view
+
+-- this text, as Markdown
+abbrev pub markdown_result : List ℕ → Option ResultView
+markdown_result s = Some (record { content = s; markdown_translated = true })
+
+-- the content without line feeds at its ends, with blank lines around
+abbrev pub wrapped_result : ElementView → ResultView → Option ResultView
+wrapped_result view content = markdown_result (with_blank_lines (trimmed_text is_line_feed content.content))
+
+-- a text that may be there, as Markdown
+abbrev pub optional_markdown : Option (List ℕ) → Option ResultView
+optional_markdown None = None
+optional_markdown (Some s) = markdown_result s
+
+-- this text, whatever the children give
+abbrev pub text_plan : List ℕ → ElementView → PlanView
+text_plan s view = unless_attributes view (markdown_plan s)
+
+abbrev pub text_alone : (ElementView → List ℕ) → HandlerMeaning
+text_alone text = of_plan (λ view. text_plan (text view) view) (λ view content. None)

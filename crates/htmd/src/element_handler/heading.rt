@@ -1,7 +1,7 @@
 //! The handler of `h1` to `h6`.
 
 ghost use Rattle.std.specs.Prelude.{◌≡◌, IfOk};
-ghost use Rattle.htmd.specs.Inline.{level_of, heading_result};
+ghost use Rattle.htmd.specs.Headings.{level_of, heading_result};
 ghost use Rattle.htmd.specs.Views.{element_view, result_view, optional_result};
 
 use super::plans::is_guarded;

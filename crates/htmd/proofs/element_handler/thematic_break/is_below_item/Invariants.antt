@@ -1,8 +1,8 @@
 use Rattle.std.proofs.Common.{◌≡◌, ◌<◌, length}
 use Rattle.std.specs.List.{list_any}
 use Rattle.htmd_tree.specs.Ancestors.{ancestors_of}
-use Rattle.htmd.specs.Inline.{is_item}
-use Rattle.htmd.proofs.element_handler.hr.is_below_item.Given as goal
+use Rattle.htmd.specs.ThematicBreaks.{is_item}
+use Rattle.htmd.proofs.element_handler.thematic_break.is_below_item.Given as goal
 
 abbrev pub invariant-loop-parent : goal.invariant-loop-parent
 invariant-loop-parent l = record {

@@ -1,8 +1,8 @@
 -- The children, comments aside, are the one that was seen, a node of the tree, and those among the children ahead.
 use Rattle.std.proofs.Common.{◌≡◌, ◌<◌, length, drop, IfSome}
-use Rattle.htmd.specs.Code.{without_comments}
+use Rattle.htmd.specs.Preformatted.{without_comments}
 use Rattle.htmd.proofs.CodeLemmas.{seen_before}
-use Rattle.htmd.proofs.element_handler.pre.only_child.Given as goal
+use Rattle.htmd.proofs.element_handler.preformatted.only_child.Given as goal
 
 abbrev pub invariant-loop-child : goal.invariant-loop-child
 invariant-loop-child l = record {

@@ -1,7 +1,7 @@
 use Rattle.std.proofs.Common.{arith}
 use Rattle.std.proofs.lemmas.Grind.{common_steps}
 use Rattle.htmd_tree.proofs.ItemsLemmas.{child_read}
-use Rattle.htmd.proofs.element_handler.pre.only_child.Goals as goal
+use Rattle.htmd.proofs.element_handler.preformatted.only_child.Goals as goal
 
 pub is_comment-requires : goal.is_comment-requires
 is_comment-requires c =

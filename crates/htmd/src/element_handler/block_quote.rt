@@ -1,7 +1,7 @@
 //! The handler of `blockquote`.
 
 ghost use Rattle.std.specs.Prelude.{◌≡◌, IfOk};
-ghost use Rattle.htmd.specs.Sections.{quote_result};
+ghost use Rattle.htmd.specs.BlockQuotes.{quote_result};
 ghost use Rattle.htmd.specs.Views.{element_view, result_view, optional_result};
 
 use super::{Element, HandlerResult};

@@ -1,8 +1,8 @@
 //! The block elements that have no other handler.
 
 ghost use Rattle.std.specs.Prelude.{◌≡◌, Some};
-ghost use Rattle.htmd.specs.ElementViews.{is_tag_among};
-ghost use Rattle.htmd.specs.Sections.{hidden_tags, other_blocks};
+ghost use Rattle.htmd.specs.ElementPlans.{is_tag_among};
+ghost use Rattle.htmd.specs.OtherBlocks.{hidden_tags, other_blocks};
 ghost use Rattle.htmd.specs.Views.{plan_view, element_view};
 
 use super::plans::{is_guarded, unless_faithful};

@@ -1,6 +1,6 @@
 use Rattle.std.proofs.Common.{arith}
 use Rattle.htmd_tree.proofs.ItemsLemmas.{child_read}
-use Rattle.htmd.proofs.element_handler.pre.is_code_alone.Goals as goal
+use Rattle.htmd.proofs.element_handler.preformatted.is_code_alone.Goals as goal
 
 pub tag_name-requires : goal.tag_name-requires
 tag_name-requires c =

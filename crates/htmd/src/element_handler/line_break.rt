@@ -1,7 +1,7 @@
 //! The handler of `br`.
 
 ghost use Rattle.std.specs.Prelude.{◌≡◌, IfOk};
-ghost use Rattle.htmd.specs.Inline.{line_breaks};
+ghost use Rattle.htmd.specs.LineBreaks.{line_breaks};
 ghost use Rattle.htmd.specs.Views.{plan_view, element_view};
 
 use super::plans::{is_guarded, is_plain};

@@ -3,10 +3,10 @@ use Rattle.std.proofs.lemmas.Grind.{common_steps}
 use Rattle.htmd_tree.specs.Items.{Data, document_node, doctype_node, text_node, comment_node, element_node}
 use Rattle.htmd_tree.specs.Items.{data_at, tag_of}
 use Rattle.htmd_tree.specs.Ancestors.{ancestor_of}
-use Rattle.htmd.specs.ElementViews.{is_tag_among}
-use Rattle.htmd.specs.Inline.{is_item}
+use Rattle.htmd.specs.ElementPlans.{is_tag_among}
+use Rattle.htmd.specs.ThematicBreaks.{is_item}
 use Rattle.htmd.proofs.TableHeadersLemmas.{any-root, any-hit, any-miss}
-use Rattle.htmd.proofs.element_handler.hr.is_below_item.Goals as goal
+use Rattle.htmd.proofs.element_handler.thematic_break.is_below_item.Goals as goal
 
 item-tag : (d : Data) → is_tag_among (codes "li" ∷ []) (tag_of d) ≡ is_item (ancestor_of d)
 item-tag document_node = refl

@@ -1,23 +1,17 @@
--- The handlers of ol, ul and li.
-use Rattle.std.specs.Prelude.{ℕ, Bool, false, not, ◌&&◌, ◌||◌, if◌then◌else◌, List, [], ◌∷◌, ◌++◌, map}
-use Rattle.std.specs.Prelude.{Option, Some, None, codes}
+-- The handler of ol and ul.
+use Rattle.std.specs.Prelude.{ℕ, Bool, false, not, ◌&&◌, ◌||◌, if◌then◌else◌, List, [], ◌∷◌, Option, Some, None, codes}
+use Rattle.std.specs.Prelude.{map}
 use Rattle.std.specs.List.{list_any, zip}
 use Rattle.std.specs.Str.{bytes_eq}
-use Rattle.htmd_text.specs.Characters.{line_feed}
-use Rattle.htmd_markdown.specs.ListItems.{bullet_item, guarded_bullet_item, unnumbered_item}
 use Rattle.htmd_markdown.specs.Lists.{first_number, Block, item, other, ordered_list, guarded_ordered_list, list_block}
 use Rattle.htmd_tree.specs.ValueTrees.{AttributePair}
 use Rattle.htmd_tree.specs.Items.{Item, data_at, children_of}
-use Rattle.htmd_tree.specs.Items as tree
-use Rattle.htmd.specs.Handling.{ElementView, ResultView, PlanView, raw_html, content_of_children, contents_of_each}
-use Rattle.htmd.specs.Handling.{final_result, HandlerMeaning, without_definitions, of_plan}
+use Rattle.htmd.specs.Handling.{ElementView, ResultView, PlanView, raw_html, content_of_children, HandlerMeaning}
+use Rattle.htmd.specs.Handling.{contents_of_each, final_result, without_definitions}
 use Rattle.htmd.specs.Outputs.{is_markdown_alone, is_guarded}
-use Rattle.htmd.specs.ElementViews.{tag_of, attributes_of, parent_tag, is_tag_among, is_raw_html_due, plain_plan}
-use Rattle.htmd.specs.ElementViews.{value_of_first, are_markdown, raw_block_result}
-use Rattle.htmd.specs.Sections.{markdown_result}
-use Rattle.htmd.specs.Inline.{optional_markdown}
-
--- ---- ol and ul
+use Rattle.htmd.specs.ElementPlans.{tag_of, attributes_of, parent_tag, value_of_first, are_markdown, raw_block_result}
+use Rattle.htmd.specs.ElementPlans.{is_raw_html_due, is_tag_among, optional_markdown}
+use Rattle.htmd_tree.specs.Items as tree
 
 -- how many attributes a list may have: `start`, where it stands first
 abbrev pub allowed_attributes : List AttributePair → ℕ
@@ -95,28 +89,3 @@ lists = record {
   finish_each = λ view contents. final_result (ordered_result view contents);
   append = λ definitions. None;
 }
-
--- ---- li
-
-abbrev pub is_in_ordered : ElementView → Bool
-is_in_ordered view = is_tag_among (codes "ol" ∷ []) (parent_tag view)
-
--- the elements whose children are items (HTML, 4.4.5 to 4.4.8, and the obsolete dir)
-abbrev pub list_tags : List (List ℕ)
-list_tags = codes "ul" ∷ codes "ol" ∷ codes "menu" ∷ codes "dir" ∷ []
-
--- an item of a bullet list; in Guarded it ends its line where it stands in no list
-abbrev pub bullet_item_of : ElementView → List ℕ → List ℕ
-bullet_item_of view content =
-    if is_guarded view.options
-    then guarded_bullet_item view.options.bullet_list_marker view.options.ul_bullet_spacing content
-    ++ (if is_tag_among list_tags (parent_tag view) then [] else line_feed ∷ [])
-    else bullet_item view.options.bullet_list_marker view.options.ul_bullet_spacing content
-
--- under ol the list puts the number before the item
-abbrev pub item_result : ElementView → ResultView → Option ResultView
-item_result view content = markdown_result
-    (if is_in_ordered view then unnumbered_item content.content else bullet_item_of view content.content)
-
-abbrev pub list_items : HandlerMeaning
-list_items = of_plan plain_plan item_result

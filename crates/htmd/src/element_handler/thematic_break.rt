@@ -4,8 +4,8 @@ ghost use Rattle.std.specs.Prelude.{◌≡◌, ◌<◌, ◌∷◌, [], IfOk, len
 ghost use Rattle.std.specs.List.{list_any};
 ghost use Rattle.htmd_tree.specs.Ancestors.{ancestors_of};
 ghost use Rattle.htmd_tree.specs.Items.{data_at, tag_of};
-ghost use Rattle.htmd.specs.ElementViews.{is_tag_among};
-ghost use Rattle.htmd.specs.Inline.{is_item, thematic_break_style_of, thematic_breaks};
+ghost use Rattle.htmd.specs.ElementPlans.{is_tag_among};
+ghost use Rattle.htmd.specs.ThematicBreaks.{is_item, thematic_break_style_of, thematic_breaks};
 ghost use Rattle.htmd.specs.Views.{plan_view, element_view};
 
 use super::plans::{is_guarded, is_plain};
