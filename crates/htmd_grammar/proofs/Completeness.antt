@@ -19,8 +19,8 @@ use Rattle.htmd_grammar.specs.Comments.{before_comment_end, is_comment_text, nor
 use Rattle.htmd_grammar.specs.Documents.{above_body, below_body, body_text}
 use Rattle.htmd_grammar.specs.Faults.{top_children}
 use Rattle.htmd_grammar.specs.Grammar.{ReadsForest, ReadsTree, begins_with_row, may_end_rows, reads}
-use Rattle.htmd_grammar.specs.Places.{Context, holds_parts, is_allowed, is_outside, is_table, is_table_part, is_tbody}
-use Rattle.htmd_grammar.specs.Places.{parent_name}
+use Rattle.htmd_grammar.specs.Nesting.{Context, holds_parts, is_allowed, is_outside, is_table, is_table_part, is_tbody}
+use Rattle.htmd_grammar.specs.Nesting.{parent_name}
 use Rattle.htmd_grammar.specs.RawContent.{content_of, drops_line_feed, ends_text, holds_raw_text, holds_text_alone}
 use Rattle.htmd_grammar.specs.RawContent.{raw_text_of, text_of}
 use Rattle.htmd_grammar.specs.References.{Names, Piece, after_line_feed, decode, less_line_feed, piece_at, stands}
@@ -37,8 +37,8 @@ use Rattle.htmd_grammar.specs.ValueTrees.{AttributePair, ValueForest, ValueTree,
 use Rattle.htmd_grammar.specs.ValueTrees.{more, none, text}
 use Rattle.htmd_grammar.proofs.BooleanLemmas.{and_false}
 use Rattle.htmd_grammar.proofs.CommentsLemmas.{before_close-append}
-use Rattle.htmd_grammar.proofs.PlacesLemmas.{allowed_parts, bytes_same, no_text_alone, one_name, part_place, row_place}
-use Rattle.htmd_grammar.proofs.PlacesLemmas.{tbody_no_text_alone, tbody_not_table, tbody_place}
+use Rattle.htmd_grammar.proofs.NestingLemmas.{allowed_parts, bytes_same, no_text_alone, one_name, part_place, row_place}
+use Rattle.htmd_grammar.proofs.NestingLemmas.{tbody_no_text_alone, tbody_not_table, tbody_place}
 use Rattle.htmd_grammar.proofs.ReferencesLemmas.{Fits, IsBound, drop_over, known, less_bounds, piece_bound}
 use Rattle.htmd_grammar.proofs.ReferencesLemmas.{piece_fits, piece_over, put_parts}
 use Rattle.htmd_grammar.proofs.TagReadingLemmas.{filled, form_read, halts_name, rest_halts, white_back}

@@ -18,7 +18,7 @@ use Rattle.htmd_grammar.specs.References.{stands, wrong}
 use Rattle.htmd_grammar.specs.Rules.{character_named}
 use Rattle.htmd_grammar.specs.declared.fault.FaultKind.TheVariants.{BadNumber}
 use Rattle.htmd_grammar.proofs.BooleanLemmas.{if_then}
-use Rattle.htmd_grammar.proofs.PlacesLemmas.{same_bytes}
+use Rattle.htmd_grammar.proofs.NestingLemmas.{same_bytes}
 use Rattle.htmd_grammar.proofs.ReferencesLemmas.{Fits, drop_cut, piece_fits, stands_same, named_fits}
 use Rattle.htmd_grammar.proofs.TagReadingLemmas.{back_split, front_all, front_cut}
 use Rattle.htmd_grammar.proofs.TagSpellingLemmas.{at_head}

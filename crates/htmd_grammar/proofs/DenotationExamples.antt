@@ -2,7 +2,7 @@
 use Rattle.std.proofs.Common.{List, [], codes, false, refl, true, ℕ, ◌++◌, ◌∷◌}
 use Rattle.std.specs.Char.{encode_utf8}
 use lib.Utf8.{encode}
-use Rattle.htmd_grammar.specs.Places.{is_allowed}
+use Rattle.htmd_grammar.specs.Nesting.{is_allowed}
 use Rattle.htmd_grammar.specs.References.{may_be_numbered}
 use Rattle.htmd_grammar.specs.Serialisation.{is_void}
 use Rattle.htmd_grammar.specs.Steps.{step}

@@ -7,7 +7,7 @@ use Rattle.htmd_text.specs.Characters.{null}
 use Rattle.htmd_grammar.specs.CharacterClasses.{is_empty, lacks}
 use Rattle.htmd_grammar.specs.Documents.{above_body, byte_order_mark}
 use Rattle.htmd_grammar.specs.Faults.{IsFault}
-use Rattle.htmd_grammar.specs.Places.{is_allowed}
+use Rattle.htmd_grammar.specs.Nesting.{is_allowed}
 use Rattle.htmd_grammar.specs.References.{may_be_numbered}
 use Rattle.htmd_grammar.specs.Rules.{Rules, named_characters, project}
 use Rattle.htmd_grammar.specs.Serialisation.{is_void}

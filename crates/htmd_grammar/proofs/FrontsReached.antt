@@ -1,11 +1,11 @@
--- The steps of a reader reach each good front behind which a row says something.
+-- The steps of a reader reach each viable prefix behind which a row says something.
 use Rattle.std.proofs.Common.{Bool, List, Ok, [], ap, append_assoc, codes, false, inl, inr, not, refl, subst}
 use Rattle.std.proofs.Common.{sym, true, ℕ, ◌&&◌, ◌++◌, ◌∙◌, ◌∷◌, ◌≡◌, ◌≢◌, ◌⊎◌}
 use Rattle.htmd_grammar.specs.CharacterClasses.{is_empty}
 use Rattle.htmd_grammar.specs.Documents.{above_body}
-use Rattle.htmd_grammar.specs.Fronts.{IsFront, IsGoodFront, IsKept, Opens, content_so_far, ends_at, with_text}
+use Rattle.htmd_grammar.specs.Fronts.{IsFront, IsViablePrefix, IsKept, Opens, content_so_far, ends_at, with_text}
 use Rattle.htmd_grammar.specs.Grammar.{ReadsForest, begins_with_row, may_end_rows}
-use Rattle.htmd_grammar.specs.Places.{Context, is_table, is_tbody}
+use Rattle.htmd_grammar.specs.Nesting.{Context, is_table, is_tbody}
 use Rattle.htmd_grammar.specs.RawContent.{begins_markup, content_of, ends_text, holds_raw_text, holds_text_alone}
 use Rattle.htmd_grammar.specs.Rules.{Rules}
 use Rattle.htmd_grammar.specs.Steps.{OpenElement, Reaches, State, body, closed, ends_rows, fresh, here, is_text_end}
@@ -18,7 +18,7 @@ use Rattle.htmd_grammar.proofs.Completeness.{at_piece, in_text, node_read, not_d
 use Rattle.htmd_grammar.proofs.Completeness.{reaches_then, row_opens_in, tag_opens}
 use Rattle.htmd_grammar.proofs.FrontsLemmas.{content_plain, ends_here, ends_in_text, kept_opened, part_stays}
 use Rattle.htmd_grammar.proofs.FrontsLemmas.{tbody_drops}
-use Rattle.htmd_grammar.proofs.PlacesLemmas.{no_text_alone, one_name, row_is_no_tbody, tbody_place}
+use Rattle.htmd_grammar.proofs.NestingLemmas.{no_text_alone, one_name, row_is_no_tbody, tbody_place}
 use Rattle.htmd_grammar.proofs.Readings.{named_front}
 use Rattle.htmd_grammar.proofs.TagReadingLemmas.{filled}
 use Rattle.htmd_grammar.proofs.TextLemmas.{Stops, markup-append}
@@ -296,7 +296,7 @@ module _ (rules : Rules) where
       (same_first f g fs gs (ap (λ (st : State). st.stack) e), ap (λ (st : State). st.run) e)
 
   pub front_reached : (f : OpenElement) (gs : List OpenElement) (before behind : List ℕ)
-      → (h : IsGoodFront rules f gs before behind)
+      → (h : IsViablePrefix rules f gs before behind)
       → (ends_in_text f.children ≡ true → GoesOn f behind)
       → IsKept f.name (content_so_far rules above_body f gs (ends_rows behind) before h.pieces) behind
       → AtFront f gs (before ++ behind) behind

@@ -9,7 +9,7 @@ use Rattle.std.proofs.lemmas.Bool.{and_parts}
 use Rattle.htmd_grammar.specs.CharacterClasses.{holds_control, is_attribute_name, is_attribute_name_byte, is_empty}
 use Rattle.htmd_grammar.specs.CharacterClasses.{is_tag_name, is_tag_name_byte, lacks}
 use Rattle.htmd_grammar.specs.Grammar.{ReadsForest, ReadsTree, may_end_rows}
-use Rattle.htmd_grammar.specs.Places.{Context}
+use Rattle.htmd_grammar.specs.Nesting.{Context}
 use Rattle.htmd_grammar.specs.RawContent.{content_of}
 use Rattle.htmd_grammar.specs.ReadBack.{all_plain, is_plain, is_plain_attribute, is_special}
 use Rattle.htmd_grammar.specs.Rules.{Rules}
@@ -20,7 +20,7 @@ use Rattle.htmd_grammar.specs.Tags.{attribute_names}
 use Rattle.htmd_grammar.specs.ValueTrees.{AttributePair, ValueForest, ValueTree, comment, doctype, document, element}
 use Rattle.htmd_grammar.specs.ValueTrees.{more, none, text}
 use Rattle.htmd_grammar.proofs.BooleanLemmas.{all_pass, lacks-append}
-use Rattle.htmd_grammar.proofs.PlacesLemmas.{one_name}
+use Rattle.htmd_grammar.proofs.NestingLemmas.{one_name}
 use Rattle.htmd_grammar.proofs.TagsLemmas.{AreTreeKeys, IsTreeName, decoded_names, tree_keys, tree_name}
 use Rattle.htmd_grammar.proofs.TreeTexts.{Inside}
 use Rattle.htmd_text.proofs.Cases.{test}

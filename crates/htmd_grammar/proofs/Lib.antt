@@ -3,7 +3,7 @@ pub mod SerialisationLemmas
 pub mod RawBlocksLemmas
 mod Examples
 pub mod BooleanLemmas
-pub mod PlacesLemmas
+pub mod NestingLemmas
 mod ReferencedLineFeeds
 mod EscapeLemmas
 mod TagNamesLemmas
@@ -25,7 +25,7 @@ mod FullPieces
 mod FrontsLemmas
 mod Soundness
 mod Readings
-mod GoodFronts
+mod ViablePrefixes
 mod ParameterLaw
 pub mod FaultPieces
 mod LowerFaults

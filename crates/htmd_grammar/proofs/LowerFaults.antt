@@ -9,7 +9,7 @@ use Rattle.htmd_grammar.specs.CharacterClasses.{are_distinct, begins_with, up_to
 use Rattle.htmd_grammar.specs.Documents.{above_body}
 use Rattle.htmd_grammar.specs.Faults.{HasComment, HasEndTag, HasPiece, HasTagForm, Says, begins_tag, context_for}
 use Rattle.htmd_grammar.specs.Faults.{has_bad_number, number_of}
-use Rattle.htmd_grammar.specs.Places.{holds_parts, is_allowed, is_outside, parent_name}
+use Rattle.htmd_grammar.specs.Nesting.{holds_parts, is_allowed, is_outside, parent_name}
 use Rattle.htmd_grammar.specs.RawContent.{ends_text, holds_raw_text, raw_text_of}
 use Rattle.htmd_grammar.specs.References.{Names, Piece, piece_at, stands, wrong}
 use Rattle.htmd_grammar.specs.Rules.{Rules}

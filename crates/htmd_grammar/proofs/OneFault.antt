@@ -17,7 +17,7 @@ use Rattle.htmd_grammar.specs.Faults.{number_of}
 use Rattle.htmd_grammar.specs.Fronts.{IsFront, IsKept, content_so_far, with_text}
 use Rattle.htmd_grammar.specs.Grammar.{ReadsForest}
 use Rattle.htmd_grammar.specs.Laws.{FaultsAreOne}
-use Rattle.htmd_grammar.specs.Places.{Context, holds_parts}
+use Rattle.htmd_grammar.specs.Nesting.{Context, holds_parts}
 use Rattle.htmd_grammar.specs.RawContent.{content_of, drops_line_feed, ends_text, holds_raw_text}
 use Rattle.htmd_grammar.specs.References.{Names, piece_at, stands, wrong}
 use Rattle.htmd_grammar.specs.Rules.{Rules}
@@ -35,7 +35,7 @@ use Rattle.htmd_grammar.proofs.CutLemmas.{piece_white}
 use Rattle.htmd_grammar.proofs.FrontsLemmas.{content_plain, ends_in_text}
 use Rattle.htmd_grammar.proofs.FrontsReached.{AtFront, GoesOn, front_reached, text_behind}
 use Rattle.htmd_grammar.proofs.LowerFaults.{none_below_nothing, not_both}
-use Rattle.htmd_grammar.proofs.PlacesLemmas.{among_passes}
+use Rattle.htmd_grammar.proofs.NestingLemmas.{among_passes}
 use Rattle.htmd_grammar.proofs.Readings.{clean_stops, conf_start, kept}
 use Rattle.htmd_grammar.proofs.ReferencesLemmas.{and_bounds, piece_bound}
 use Rattle.htmd_grammar.proofs.RightFaults.{childless, says_with_text, says_without_text}
@@ -351,7 +351,7 @@ module _ (rules : Rules) where
     in_text (at.inner ∷ h.opened) at.run h.behind,
     reached,
     finds at.inner h.opened at.run h.behind s k reached at.going
-        (rw at.same_implied (h.front_is_good).no_more_rows) at.mode
+        (rw at.same_implied (h.prefix_is_viable).no_more_rows) at.mode
         (subst (λ (f : OpenElement). Says rules (f ∷ h.opened) h.behind k) (sym at.whole) h.says)
         (λ lower l z. h.no_lower lower l
         (subst (λ (f : OpenElement). Says rules (f ∷ h.opened) h.behind lower) at.whole z)),
@@ -360,12 +360,12 @@ module _ (rules : Rules) where
     where
       leaves : ends_in_text (h.innermost).children ≡ true → Leaves h.innermost h.behind
       leaves e = says_leaves h.innermost h.opened h.behind k h.says e
-          (shallow_text h.innermost h.opened (ends_rows h.behind) h.before (h.front_is_good).pieces e)
+          (shallow_text h.innermost h.opened (ends_rows h.behind) h.before (h.prefix_is_viable).pieces e)
 
       at : AtFront rules h.innermost h.opened (h.before ++ h.behind) h.behind
-      at = front_reached rules h.innermost h.opened h.before h.behind h.front_is_good (λ e. (leaves e).0)
-          (kept_here h.innermost h.opened (ends_rows h.behind) h.before h.behind (h.front_is_good).pieces
-          (h.front_is_good).dropped (λ e. (leaves e).1))
+      at = front_reached rules h.innermost h.opened h.before h.behind h.prefix_is_viable (λ e. (leaves e).0)
+          (kept_here h.innermost h.opened (ends_rows h.behind) h.before h.behind (h.prefix_is_viable).pieces
+          (h.prefix_is_viable).dropped (λ e. (leaves e).1))
 
       reached : Reaches rules above_body (started s) (in_text (at.inner ∷ h.opened) at.run h.behind)
       reached = subst (λ (y : List ℕ). Reaches rules above_body (at_piece (body ∷ []) y)

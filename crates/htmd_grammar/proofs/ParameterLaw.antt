@@ -7,7 +7,7 @@ use Rattle.htmd_grammar.specs.CharacterClasses.{behind_run, first_is, leading_ru
 use Rattle.htmd_grammar.specs.Documents.{below_body, body_text}
 use Rattle.htmd_grammar.specs.Grammar.{ReadsForest, ReadsTree, may_end_rows}
 use Rattle.htmd_grammar.specs.Laws.{MoreRulesReadMore, MoreRulesReadMoreDocuments}
-use Rattle.htmd_grammar.specs.Places.{Context, parent_name}
+use Rattle.htmd_grammar.specs.Nesting.{Context, parent_name}
 use Rattle.htmd_grammar.specs.RawContent.{content_of, holds_raw_text, text_of}
 use Rattle.htmd_grammar.specs.References.{Names, Piece, behind, behind_ampersand, decode, named, piece_at, put, stands}
 use Rattle.htmd_grammar.specs.Rules.{Rules, character_named}

@@ -7,7 +7,7 @@ use Rattle.htmd_text.specs.Characters.{line_feed}
 use Rattle.htmd_text.proofs.Cases.{test}
 use Rattle.htmd_grammar.specs.Documents.{above_body, below_body}
 use Rattle.htmd_grammar.specs.Grammar.{reads}
-use Rattle.htmd_grammar.specs.Places.{is_allowed}
+use Rattle.htmd_grammar.specs.Nesting.{is_allowed}
 use Rattle.htmd_grammar.specs.RawBlocks.{RefersToLineFeeds, line_feed_reference, nothing, reference, same}
 use Rattle.htmd_grammar.specs.ReadBack.{DenotesAlone, is_special}
 use Rattle.htmd_grammar.specs.References.{may_be_numbered}
@@ -15,7 +15,7 @@ use Rattle.htmd_grammar.specs.Rules.{project}
 use Rattle.htmd_grammar.specs.Serialisation.{is_raw_text, is_void, serialisation}
 use Rattle.htmd_grammar.specs.Steps.{Reaches, State, finished, started, step}
 use Rattle.htmd_grammar.specs.ValueTrees.{AttributePair, ValueForest, ValueTree, element, more, none, text}
-use Rattle.htmd_grammar.proofs.GoodFronts.{sound_end}
+use Rattle.htmd_grammar.proofs.ViablePrefixes.{sound_end}
 use Rattle.htmd_grammar.proofs.ReferencedLineFeeds.{refers_same}
 use Rattle.htmd_grammar.proofs.Runs.{Denotes, denotes, steps, steps_reach}
 use Rattle.htmd_grammar.proofs.Subtrees.{project_has, reads_back}

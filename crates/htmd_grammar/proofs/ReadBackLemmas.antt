@@ -9,7 +9,7 @@ use Rattle.std.specs.Str.{bytes_eq}
 use Rattle.std.proofs.lemmas.Bool.{not-true, and_parts, or_parts}
 use Rattle.htmd_grammar.specs.CharacterClasses.{lacks, up_to}
 use Rattle.htmd_grammar.specs.Grammar.{ReadsForest, ReadsTree, begins_with_row, may_end_rows}
-use Rattle.htmd_grammar.specs.Places.{Context, is_tbody, parent_name}
+use Rattle.htmd_grammar.specs.Nesting.{Context, is_tbody, parent_name}
 use Rattle.htmd_grammar.specs.RawBlocks.{RefersToLineFeeds}
 use Rattle.htmd_grammar.specs.RawContent.{begins_markup, begins_own_end, content_of, drops_line_feed, ends_text}
 use Rattle.htmd_grammar.specs.RawContent.{holds_raw_text, holds_text_alone}
@@ -22,7 +22,7 @@ use Rattle.htmd_grammar.specs.ValueTrees.{AttributePair, ValueForest, ValueTree,
 use Rattle.htmd_grammar.specs.ValueTrees.{more, none, text}
 use Rattle.htmd_grammar.proofs.BooleanLemmas.{and_false}
 use Rattle.htmd_grammar.proofs.EscapeLemmas.{HasEscapes, text_back}
-use Rattle.htmd_grammar.proofs.PlacesLemmas.{one_name, tbody_not_void}
+use Rattle.htmd_grammar.proofs.NestingLemmas.{one_name, tbody_not_void}
 use Rattle.htmd_grammar.proofs.ReferencedLineFeeds.{refers_nothing, refers_split}
 use Rattle.htmd_grammar.proofs.TagsLemmas.{IsTreeName, end_tag_back, start_tag_back, tree_name}
 use Rattle.htmd_text.proofs.Cases.{test}

@@ -12,7 +12,7 @@ use Rattle.htmd_text.proofs.Cases.{test}
 use Rattle.htmd_grammar.specs.CharacterClasses.{is_empty, lacks, onward, up_to}
 use Rattle.htmd_grammar.specs.Fronts.{IsFront}
 use Rattle.htmd_grammar.specs.Grammar.{ReadsForest, ReadsTree, reads}
-use Rattle.htmd_grammar.specs.Places.{Context, holds_parts, parent_name}
+use Rattle.htmd_grammar.specs.Nesting.{Context, holds_parts, parent_name}
 use Rattle.htmd_grammar.specs.RawContent.{ends_text, holds_raw_text, text_of}
 use Rattle.htmd_grammar.specs.References.{Names, Piece, behind, decode, piece_at, put, stands, wrong}
 use Rattle.htmd_grammar.specs.Rules.{Rules}

@@ -1,7 +1,7 @@
 -- Texts that denote nothing, each with the place and kind of its refusal: the places, and what is too deep.
 use Rattle.std.proofs.Common.{codes, false, refl, true, ℕ}
 use lib.Utf8.{encode}
-use Rattle.htmd_grammar.specs.Places.{is_allowed}
+use Rattle.htmd_grammar.specs.Nesting.{is_allowed}
 use Rattle.htmd_grammar.specs.References.{may_be_numbered}
 use Rattle.htmd_grammar.specs.Rules.{Rules, named_characters, project}
 use Rattle.htmd_grammar.specs.Serialisation.{is_void}

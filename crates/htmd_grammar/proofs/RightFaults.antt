@@ -8,7 +8,7 @@ use Rattle.htmd_grammar.specs.Faults.{IsPieceFault, Says}
 use Rattle.htmd_grammar.specs.Fronts.{IsFront, with_text}
 use Rattle.htmd_grammar.specs.Grammar.{ReadsForest, may_end_rows}
 use Rattle.htmd_grammar.specs.Laws.{FaultsAreRight}
-use Rattle.htmd_grammar.specs.Places.{Context}
+use Rattle.htmd_grammar.specs.Nesting.{Context}
 use Rattle.htmd_grammar.specs.RawContent.{content_of, ends_text, holds_raw_text, holds_text_alone}
 use Rattle.htmd_grammar.specs.Rules.{Rules}
 use Rattle.htmd_grammar.specs.Steps.{OpenElement, Reaches, names_of, started, step}
@@ -21,7 +21,7 @@ use Rattle.htmd_grammar.specs.declared.fault.FaultKind.TheVariants.{StrayText, T
 use Rattle.htmd_grammar.specs.declared.fault.FaultKind.TheVariants.{UnknownReference}
 use Rattle.htmd_grammar.proofs.Completeness.{in_text}
 use Rattle.htmd_grammar.proofs.FrontsLemmas.{ends_in_text}
-use Rattle.htmd_grammar.proofs.GoodFronts.{good_front}
+use Rattle.htmd_grammar.proofs.ViablePrefixes.{viable_prefix}
 use Rattle.htmd_grammar.proofs.LowerFaults.{not_both}
 use Rattle.htmd_grammar.proofs.Readings.{Middle, conf_start, kept}
 use Rattle.htmd_grammar.proofs.Soundness.{IsConf, flag, not_none, not_stops}
@@ -155,7 +155,7 @@ module _ (rules : Rules) where
           behind = rest;
           text_is = i.1;
           place_is = p;
-          front_is_good = good_front rules f gs run rest i.0 a q.1;
+          prefix_is_viable = viable_prefix rules f gs run rest i.0 a q.1;
           says = says_with_text run rest k (not_raw a.1 a.4) (q.0).0;
           no_lower = λ lower l h. (q.0).1 lower l (says_without_text run rest lower h);
         }

@@ -11,7 +11,7 @@ use Rattle.htmd_grammar.specs.Rules.{Rules, project}
 use Rattle.htmd_grammar.specs.Steps.{Reaches, State, Step, finished, here, started, step, via}
 use Rattle.htmd_grammar.specs.ValueTrees.{ValueForest, ValueTree}
 use Rattle.htmd_grammar.specs.declared.fault.FaultKind.{FaultKind}
-use Rattle.htmd_grammar.proofs.GoodFronts.{refused, sound_end}
+use Rattle.htmd_grammar.proofs.ViablePrefixes.{refused, sound_end}
 use Rattle.htmd_grammar.proofs.RightFaults.{faults_are_right}
 
 -- at most so many steps, up to a fault

@@ -18,8 +18,8 @@ use Rattle.htmd_grammar.specs.Comments.{before_comment_end, is_comment_text, nor
 use Rattle.htmd_grammar.specs.Faults.{top_children}
 use Rattle.htmd_grammar.specs.Fronts.{IsFront, IsKept, content_so_far}
 use Rattle.htmd_grammar.specs.Grammar.{ReadsForest, ReadsTree, begins_with_row, may_end_rows, tag_name_at}
-use Rattle.htmd_grammar.specs.Places.{Context, holds_parts, is_allowed, is_outside, is_row, is_table, is_table_part}
-use Rattle.htmd_grammar.specs.Places.{parent_name}
+use Rattle.htmd_grammar.specs.Nesting.{Context, holds_parts, is_allowed, is_outside, is_row, is_table, is_table_part}
+use Rattle.htmd_grammar.specs.Nesting.{parent_name}
 use Rattle.htmd_grammar.specs.RawContent.{content_of, drops_line_feed, ends_text, holds_raw_text, holds_text_alone}
 use Rattle.htmd_grammar.specs.RawContent.{raw_text_of, text_of}
 use Rattle.htmd_grammar.specs.References.{Piece, after_line_feed, less_line_feed, piece_at, stands, wrong}
@@ -43,8 +43,8 @@ use Rattle.htmd_grammar.proofs.CutLemmas.{kept_cut, piece_cut}
 use Rattle.htmd_grammar.proofs.FrontsLemmas.{closes, content_plain, ends_in_text, front_weaker, grows, kept_tag}
 use Rattle.htmd_grammar.proofs.FrontsLemmas.{row_append, tag_starts}
 use Rattle.htmd_grammar.proofs.FullPieces.{raw_text_full}
-use Rattle.htmd_grammar.proofs.PlacesLemmas.{no_text_alone, one_name, row_not_void, same_bytes, table_takes}
-use Rattle.htmd_grammar.proofs.PlacesLemmas.{text_alone_passes}
+use Rattle.htmd_grammar.proofs.NestingLemmas.{no_text_alone, one_name, row_not_void, same_bytes, table_takes}
+use Rattle.htmd_grammar.proofs.NestingLemmas.{text_alone_passes}
 use Rattle.htmd_grammar.proofs.ReferencesLemmas.{drop_cut}
 use Rattle.htmd_grammar.proofs.TagReadingLemmas.{back_split, front_all}
 use Rattle.htmd_grammar.proofs.TagSpellingLemmas.{at_head, tag_spelled}

@@ -17,7 +17,7 @@ use Rattle.htmd_grammar.specs.Comments.{before_comment_end, is_comment_text, nor
 use Rattle.htmd_grammar.specs.Documents.{above_body}
 use Rattle.htmd_grammar.specs.Faults.{HasComment, HasEndTag, HasTagForm, IsTextWithReferences, Says, context_for}
 use Rattle.htmd_grammar.specs.Faults.{has_bad_number, number_of}
-use Rattle.htmd_grammar.specs.Places.{Context, holds_parts, is_allowed, is_outside, is_row}
+use Rattle.htmd_grammar.specs.Nesting.{Context, holds_parts, is_allowed, is_outside, is_row}
 use Rattle.htmd_grammar.specs.RawContent.{ends_text, holds_raw_text, holds_text_alone, raw_text_of, text_of}
 use Rattle.htmd_grammar.specs.References.{Piece, piece_at, stands, wrong}
 use Rattle.htmd_grammar.specs.Rules.{Rules}
@@ -42,7 +42,7 @@ use Rattle.htmd_grammar.proofs.FaultPieces.{values_right, values_wrong}
 use Rattle.htmd_grammar.proofs.LowerFaults.{NoneBelow, TagPassed, TextPassed, none_below_comment, none_below_end}
 use Rattle.htmd_grammar.proofs.LowerFaults.{none_below_five, none_of_comment, none_of_end, none_of_tag, none_of_text}
 use Rattle.htmd_grammar.proofs.LowerFaults.{none_below_nothing, none_below_tag, none_below_text, not_both}
-use Rattle.htmd_grammar.proofs.PlacesLemmas.{bytes_same, one_name, row_fits, same_bytes}
+use Rattle.htmd_grammar.proofs.NestingLemmas.{bytes_same, one_name, row_fits, same_bytes}
 use Rattle.htmd_grammar.proofs.Soundness.{shallow}
 use Rattle.htmd_grammar.proofs.TagReadingLemmas.{back_split}
 use Rattle.htmd_grammar.proofs.TagSpellingLemmas.{tag_spelled}

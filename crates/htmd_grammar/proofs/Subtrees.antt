@@ -4,7 +4,7 @@ use Rattle.std.proofs.lemmas.List.{append-nil}
 use Rattle.std.specs.Bool.{MatchBool}
 use Rattle.htmd_grammar.specs.CharacterClasses.{lacks}
 use Rattle.htmd_grammar.specs.Grammar.{ReadsForest, ReadsTree, begins_with_row, may_end_rows, reads}
-use Rattle.htmd_grammar.specs.Places.{Context, is_tbody}
+use Rattle.htmd_grammar.specs.Nesting.{Context, is_tbody}
 use Rattle.htmd_grammar.specs.RawBlocks.{RefersToLineFeeds}
 use Rattle.htmd_grammar.specs.RawContent.{content_of}
 use Rattle.htmd_grammar.specs.ReadBack.{AreIn, DenotesAlone, IsIn, RawBlockReadsBack, ReadsBack, is_plain}

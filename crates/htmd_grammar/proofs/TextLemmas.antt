@@ -15,7 +15,7 @@ use Rattle.htmd_grammar.specs.Grammar.{tag_name_at}
 use Rattle.htmd_grammar.specs.RawContent.{begins_markup, begins_own_end, ends_text, goes_on_with_name, holds_text_alone}
 use Rattle.htmd_grammar.specs.Steps.{end_tag_name_at, ends_rows}
 use Rattle.htmd_grammar.proofs.BooleanLemmas.{and_false, if_then}
-use Rattle.htmd_grammar.proofs.PlacesLemmas.{text_alone_passes}
+use Rattle.htmd_grammar.proofs.NestingLemmas.{text_alone_passes}
 use Rattle.htmd_grammar.proofs.TagReadingLemmas.{front_cut, halts}
 
 -- nothing follows, or what ends a text under this parent

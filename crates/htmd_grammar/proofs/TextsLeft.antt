@@ -12,7 +12,7 @@ use Rattle.htmd_grammar.specs.Rules.{Rules}
 use Rattle.htmd_grammar.specs.Steps.{State, finished, started}
 use Rattle.htmd_grammar.specs.ValueTrees.{ValueForest}
 use Rattle.htmd_grammar.proofs.BooleanLemmas.{if_then}
-use Rattle.htmd_grammar.proofs.GoodFronts.{refused}
+use Rattle.htmd_grammar.proofs.ViablePrefixes.{refused}
 use Rattle.htmd_grammar.proofs.Readings.{conf_start, kept}
 use Rattle.htmd_grammar.proofs.TagReadingLemmas.{back_split}
 

@@ -3,7 +3,7 @@ use Rattle.std.proofs.Common.{Bool, List, [], ap, append_assoc, codes, false, in
 use Rattle.std.proofs.Common.{◌∷◌, ◌≡◌, ◌⊎◌}
 use Rattle.std.specs.Bool.{MatchBool}
 use Rattle.htmd_grammar.specs.Grammar.{Apart, ReadsForest, ReadsTree, begins_with_row, may_end_rows}
-use Rattle.htmd_grammar.specs.Places.{Context, is_tbody}
+use Rattle.htmd_grammar.specs.Nesting.{Context, is_tbody}
 use Rattle.htmd_grammar.specs.RawContent.{begins_markup, content_of, holds_text_alone}
 use Rattle.htmd_grammar.specs.Rules.{Rules}
 use Rattle.htmd_grammar.specs.Serialisation.{is_void}
@@ -11,7 +11,7 @@ use Rattle.htmd_grammar.specs.Steps.{ends_rows}
 use Rattle.htmd_grammar.specs.Tags.{IsEndTag, IsStartTag}
 use Rattle.htmd_grammar.specs.ValueTrees.{AttributePair, ValueForest, ValueTree, comment, doctype, document, element}
 use Rattle.htmd_grammar.specs.ValueTrees.{more, none, text}
-use Rattle.htmd_grammar.proofs.PlacesLemmas.{no_text_alone, one_name, row_is_no_tbody}
+use Rattle.htmd_grammar.proofs.NestingLemmas.{no_text_alone, one_name, row_is_no_tbody}
 use Rattle.htmd_grammar.proofs.TextLemmas.{Stops, front_stops, markup-append, name_head}
 
 abbrev pub IsTextTree : ValueTree → Bool

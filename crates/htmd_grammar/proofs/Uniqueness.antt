@@ -8,7 +8,7 @@ use Rattle.htmd_grammar.specs.CharacterClasses.{is_tag_name}
 use Rattle.htmd_grammar.specs.Documents.{ReadsDocument, above_body, body_text, document_tree}
 use Rattle.htmd_grammar.specs.Faults.{top_children}
 use Rattle.htmd_grammar.specs.Grammar.{reads}
-use Rattle.htmd_grammar.specs.Places.{Context, is_table}
+use Rattle.htmd_grammar.specs.Nesting.{Context, is_table}
 use Rattle.htmd_grammar.specs.RawContent.{goes_on_with_name, holds_text_alone}
 use Rattle.htmd_grammar.specs.Rules.{Rules}
 use Rattle.htmd_grammar.specs.Steps.{OpenElement, Reaches, State, Step, ends_rows, fault, fresh, here, step, via}
@@ -18,7 +18,7 @@ use Rattle.htmd_grammar.specs.declared.fault.FaultKind.{FaultKind}
 use Rattle.htmd_grammar.specs.declared.fault.FaultKind.TheVariants.{MalformedTag}
 use Rattle.htmd_grammar.proofs.BooleanLemmas.{and_false}
 use Rattle.htmd_grammar.proofs.Completeness.{at_piece, nodes_read}
-use Rattle.htmd_grammar.proofs.PlacesLemmas.{one_name, same_bytes, text_alone_passes}
+use Rattle.htmd_grammar.proofs.NestingLemmas.{one_name, same_bytes, text_alone_passes}
 use Rattle.htmd_grammar.proofs.TextLemmas.{Stops, begins_name-lower, name_cut}
 use Rattle.htmd_text.proofs.Cases.{test}
 

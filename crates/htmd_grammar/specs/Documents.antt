@@ -5,7 +5,7 @@ use Rattle.htmd_grammar.specs.ValueTrees.{ValueTree, document, doctype, element,
 use Rattle.htmd_grammar.specs.CharacterClasses.{begins_with, lacks}
 use Rattle.htmd_grammar.specs.Rules.{Rules}
 use Rattle.htmd_grammar.specs.Comments.{behind_doctype}
-use Rattle.htmd_grammar.specs.Places.{Context}
+use Rattle.htmd_grammar.specs.Nesting.{Context}
 use Rattle.htmd_grammar.specs.Grammar.{reads}
 
 -- U+FEFF in UTF-8

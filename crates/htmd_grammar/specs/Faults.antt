@@ -12,11 +12,11 @@ use Rattle.htmd_grammar.specs.References.{Names, Piece, stands, wrong, piece_at}
 use Rattle.htmd_grammar.specs.Tags.{attribute_names, IsTagForm, IsEndTag}
 use Rattle.htmd_grammar.specs.Comments.{IsComment}
 use Rattle.htmd_grammar.specs.RawContent.{holds_raw_text, ends_text, raw_text_of}
-use Rattle.htmd_grammar.specs.Places.{Context, is_outside, is_row, is_table, holds_parts, is_allowed}
+use Rattle.htmd_grammar.specs.Nesting.{Context, is_outside, is_row, is_table, holds_parts, is_allowed}
 use Rattle.htmd_grammar.specs.Documents.{above_body, body_text}
 use Rattle.htmd_grammar.specs.Serialisation.{is_void}
 use Rattle.htmd_grammar.specs.Steps.{OpenElement, names_of, has_unknown_reference}
-use Rattle.htmd_grammar.specs.Fronts.{IsGoodFront}
+use Rattle.htmd_grammar.specs.Fronts.{IsViablePrefix}
 use Rattle.htmd_grammar.specs.declared.fault.FaultKind.{FaultKind}
 use Rattle.htmd_grammar.specs.declared.fault.FaultKind.TheVariants.{
   Nul,
@@ -98,7 +98,7 @@ module _ (rules : Rules) (fs : List OpenElement) (s : List ℕ) where
   here = names_of above_body fs
 
   abbrev parent : List ℕ
-  parent = Rattle.htmd_grammar.specs.Places.parent_name here
+  parent = Rattle.htmd_grammar.specs.Nesting.parent_name here
 
   -- markup stands there
   abbrev pub IsMarkup : Type 0
@@ -175,7 +175,7 @@ pub record IsFirstNul (text : List ℕ) (place : ℕ) : Type 0 where
   pub place_is : length before ≡ place
   pub first : lacks null before ≡ true
 
--- What stands before the place is a good front, what stands there is of this kind and of no lower one.
+-- What stands before the place is a viable prefix, what stands there is of this kind and of no lower one.
 pub record IsPieceFault (rules : Rules) (text : List ℕ) (place : ℕ) (kind : FaultKind) : Type 0 where
   pub innermost : OpenElement
   pub opened : List OpenElement
@@ -183,7 +183,7 @@ pub record IsPieceFault (rules : Rules) (text : List ℕ) (place : ℕ) (kind : 
   pub behind : List ℕ
   pub text_is : body_text text ≡ before ++ behind
   pub place_is : place + length behind ≡ length text
-  pub front_is_good : IsGoodFront rules innermost opened before behind
+  pub prefix_is_viable : IsViablePrefix rules innermost opened before behind
   pub says : Says rules (innermost ∷ opened) behind kind
   pub no_lower : (lower : FaultKind) → number_of lower < number_of kind
       → Says rules (innermost ∷ opened) behind lower

@@ -7,7 +7,7 @@ use Rattle.htmd_grammar.specs.CharacterClasses.{is_empty}
 use Rattle.htmd_grammar.specs.Rules.{Rules}
 use Rattle.htmd_grammar.specs.Tags.{IsStartTag}
 use Rattle.htmd_grammar.specs.RawContent.{content_of}
-use Rattle.htmd_grammar.specs.Places.{Context, is_table_part, is_tbody, is_allowed}
+use Rattle.htmd_grammar.specs.Nesting.{Context, is_table_part, is_tbody, is_allowed}
 use Rattle.htmd_grammar.specs.Grammar.{begins_with_row, ReadsForest, reads}
 use Rattle.htmd_grammar.specs.Documents.{above_body, below_body}
 use Rattle.htmd_grammar.specs.Serialisation.{is_void, end_tag}
@@ -58,7 +58,7 @@ end_tags (f ∷ []) = []
 end_tags (f ∷ g ∷ fs) = end_tag f.name ++ end_tags (g ∷ fs)
 
 -- The beginning of the content of a document is whole pieces of it, and its end tags make a text of the grammar of it.
-pub record IsGoodFront (rules : Rules) (f : OpenElement) (fs : List OpenElement) (before behind : List ℕ) : Type 0
+pub record IsViablePrefix (rules : Rules) (f : OpenElement) (fs : List OpenElement) (before behind : List ℕ) : Type 0
   where
     pub pieces : IsFront rules above_body (ends_rows behind) (f ∷ fs) before
     -- a row has begun an implied `tbody`

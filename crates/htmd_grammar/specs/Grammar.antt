@@ -12,7 +12,7 @@ use Rattle.htmd_grammar.specs.Rules.{Rules}
 use Rattle.htmd_grammar.specs.Tags.{IsStartTag, IsEndTag}
 use Rattle.htmd_grammar.specs.Comments.{IsComment}
 use Rattle.htmd_grammar.specs.RawContent.{holds_text_alone, ends_text, text_of, content_of}
-use Rattle.htmd_grammar.specs.Places.{Context, parent_name, is_table_part, is_tbody, is_row, holds_parts, is_allowed}
+use Rattle.htmd_grammar.specs.Nesting.{Context, parent_name, is_table_part, is_tbody, is_row, holds_parts, is_allowed}
 use Rattle.htmd_grammar.specs.Serialisation.{is_void}
 
 -- ---- neighbours

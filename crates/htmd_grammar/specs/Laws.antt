@@ -4,11 +4,11 @@ use Rattle.htmd_text.specs.Characters.{null}
 use Rattle.htmd_grammar.specs.ValueTrees.{ValueTree, ValueForest}
 use Rattle.htmd_grammar.specs.CharacterClasses.{lacks}
 use Rattle.htmd_grammar.specs.Rules.{Rules, character_named}
-use Rattle.htmd_grammar.specs.Places.{Context}
+use Rattle.htmd_grammar.specs.Nesting.{Context}
 use Rattle.htmd_grammar.specs.Grammar.{reads}
 use Rattle.htmd_grammar.specs.Documents.{above_body, below_body, body_text, ReadsDocument}
 use Rattle.htmd_grammar.specs.Steps.{OpenElement, State, Reaches, step, started, finished, ends_rows}
-use Rattle.htmd_grammar.specs.Fronts.{IsGoodFront, with_text}
+use Rattle.htmd_grammar.specs.Fronts.{IsViablePrefix, with_text}
 use Rattle.htmd_grammar.specs.Faults.{IsFault}
 use Rattle.htmd_grammar.specs.declared.fault.FaultKind.{FaultKind}
 
@@ -67,13 +67,13 @@ FaultsRefuse rules =
     → ((content : ValueForest) → st ≡ finished content → ⊥)
     → (content : ValueForest) → reads rules below_body (body_text s) content → ⊥
 
--- what has been read is a good front, also in the midst of a text, but where an implied `tbody` is about to end
-abbrev pub FrontsAreGood : Rules → Type 0
-FrontsAreGood rules =
+-- what has been read is a viable prefix, also in the midst of a text, but where an implied `tbody` is about to end
+abbrev pub PrefixesAreViable : Rules → Type 0
+PrefixesAreViable rules =
     (s : List ℕ) (f : OpenElement) (fs : List OpenElement) (run rest : List ℕ)
     → Reaches rules above_body (started s) (record { stack = f ∷ fs; run = run; rest = rest })
     → (f.implied && ends_rows rest) ≡ false
-    → (before : List ℕ) × (body_text s ≡ before ++ rest) × IsGoodFront rules (with_text f run) fs before rest
+    → (before : List ℕ) × (body_text s ≡ before ++ rest) × IsViablePrefix rules (with_text f run) fs before rest
 
 -- ---- refusals
 

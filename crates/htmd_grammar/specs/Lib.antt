@@ -1,5 +1,5 @@
 -- The strict grammar, in reading order: value trees and what they are written as; the rules; characters, references,
--- tags, comments, raw content, places, the relation, the document; what is read back; the steps of a reader and its
+-- tags, comments, raw content, nesting, the relation, the document; what is read back; the steps of a reader and its
 -- open elements; fronts, faults and their names; the laws; last what the serialiser's own functions alone cite.
 pub mod ValueTrees
 pub mod Serialisation
@@ -10,7 +10,7 @@ pub mod References
 pub mod Tags
 pub mod Comments
 pub mod RawContent
-pub mod Places
+pub mod Nesting
 pub mod Grammar
 pub mod Documents
 pub mod ReadBack

@@ -8,7 +8,7 @@ use Rattle.htmd_grammar.specs.ValueTrees.{AttributePair, ValueTree, element, Val
 use Rattle.htmd_grammar.specs.CharacterClasses.{leading_run}
 use Rattle.htmd_grammar.specs.CharacterClasses.{is_tag_name_byte}
 use Rattle.htmd_grammar.specs.References.{Names, Piece, stands, wrong, piece_at}
-use Rattle.htmd_grammar.specs.Places.{Context, is_table_part}
+use Rattle.htmd_grammar.specs.Nesting.{Context, is_table_part}
 use Rattle.htmd_grammar.specs.Grammar.{tag_name_at}
 use Rattle.htmd_grammar.specs.declared.fault.FaultKind.TheVariants.{UnknownReference}
 

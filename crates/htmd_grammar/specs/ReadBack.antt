@@ -9,7 +9,7 @@ use Rattle.htmd_grammar.specs.ValueTrees.{AttributePair, ValueTree, document, do
 use Rattle.htmd_grammar.specs.ValueTrees.{ValueForest, none, more}
 use Rattle.htmd_grammar.specs.CharacterClasses.{lacks, is_among}
 use Rattle.htmd_grammar.specs.Rules.{Rules}
-use Rattle.htmd_grammar.specs.Places.{Context}
+use Rattle.htmd_grammar.specs.Nesting.{Context}
 use Rattle.htmd_grammar.specs.Grammar.{reads}
 use Rattle.htmd_grammar.specs.Serialisation.{serialisation, is_raw_text}
 use Rattle.htmd_grammar.specs.RawBlocks.{raw_block, RefersToLineFeeds}

@@ -15,7 +15,7 @@ use Rattle.htmd_grammar.specs.References.{Piece, stands, wrong, piece_at}
 use Rattle.htmd_grammar.specs.Tags.{attribute_names, decode_values}
 use Rattle.htmd_grammar.specs.Comments.{normalized, before_comment_end, is_comment_text}
 use Rattle.htmd_grammar.specs.RawContent.{holds_raw_text, ends_text, text_of, content_of}
-use Rattle.htmd_grammar.specs.Places.{Context, parent_name, is_outside, is_row, holds_parts, is_allowed}
+use Rattle.htmd_grammar.specs.Nesting.{Context, parent_name, is_outside, is_row, holds_parts, is_allowed}
 use Rattle.htmd_grammar.specs.Documents.{body_text}
 use Rattle.htmd_grammar.specs.Serialisation.{is_void}
 use Rattle.htmd_grammar.specs.TagReading.{TagForm, no_form, form, form_within}

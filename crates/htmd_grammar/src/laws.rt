@@ -1,7 +1,7 @@
 //! Laws of the definitions: each is the contract of a function that does nothing.
 ghost use Rattle.std.specs.Prelude.{Bool};
 ghost use Rattle.htmd_grammar.specs.Rules.{Rules, project};
-ghost use Rattle.htmd_grammar.specs.Laws.{AtMostOneForest, AtMostOneDocument, MoreRulesReadMore, MoreRulesReadMoreDocuments, StepsReadAll, StepsReadRightly, FaultsRefuse, FrontsAreGood, FaultsAreOne, FaultsAreRight, FaultsRefuseDocuments, RestIsAnEnd};
+ghost use Rattle.htmd_grammar.specs.Laws.{AtMostOneForest, AtMostOneDocument, MoreRulesReadMore, MoreRulesReadMoreDocuments, StepsReadAll, StepsReadRightly, FaultsRefuse, PrefixesAreViable, FaultsAreOne, FaultsAreRight, FaultsRefuseDocuments, RestIsAnEnd};
 ghost use Rattle.htmd_grammar.specs.ReadBack.{ReadsBack, RawBlockReadsBack};
 
 /// A text denotes at most one document, and in any context that is not empty at most one list of trees.
@@ -27,16 +27,16 @@ pub fn more_rules_read_more()
 
 /// The steps of a reader reach the end exactly for the texts that denote something, and read that; a fault of
 /// a step at any state but the finished one means that the text denotes nothing, and what was read before a step is a
-/// good front.
+/// viable prefix.
 pub fn steps_read_the_grammar()
     ensures complete { (rules : Rules) → StepsReadAll rules }
     ensures sound { (rules : Rules) → StepsReadRightly rules }
     ensures refused { (rules : Rules) → FaultsRefuse rules }
-    ensures fronts { (rules : Rules) → FrontsAreGood rules }
+    ensures fronts { (rules : Rules) → PrefixesAreViable rules }
 {}
 
 /// Where the steps of a reader stop before the end, what stands there is of the fault's kind and of no lower one,
-/// what stands before it is a good front, and the text denotes nothing. What is left there is an end of the text.
+/// what stands before it is a viable prefix, and the text denotes nothing. What is left there is an end of the text.
 pub fn faults_are_right()
     ensures right { (rules : Rules) → FaultsAreRight rules }
     ensures refused { (rules : Rules) → FaultsRefuseDocuments rules }

@@ -131,10 +131,6 @@ blank_bytes t text i lt =
     (λ large. large_is_no_backslash (get_or f i 0) large)
     (cases_lt (get_or f i 0) 128)
 
-unfolding chars
-chars_ascii b [] small = let test : nat_lt b 128 ≡ true = grind (arith, nat_tests) in rw test refl
-chars_ascii b (c ∷ s) small = let test : nat_lt b 128 ≡ true = grind (arith, nat_tests) in rw test refl
-
 while_stops : (p : ℕ → Bool) (cs : List ℕ) (b : ℕ) (x : List ℕ) → p b ≡ false
     → take_while p (take_while p cs ++ b ∷ x) ≡ take_while p cs
 while_stops p [] b x stops = take_while-cons p b x ∙ cond-false (p b) _ _ stops

@@ -12,14 +12,14 @@ use Rattle.htmd_grammar.specs.Steps.{OpenElement, Step, step, here, via, names_o
 use Rattle.htmd_grammar.specs.Steps.{with_tree, add, fault, between, is_too_deep}
 use Rattle.htmd_grammar.specs.declared.fault.FaultKind.TheVariants.{TooDeep}
 use Rattle.htmd_tree.specs.Items.{Data, element_node, Item, depth_at, data_at, new_item, greatest_depth}
-use Rattle.htmd_tree.specs.PlaceFlags.{place_of}
+use Rattle.htmd_tree.specs.Surroundings.{surroundings_of}
 use Rattle.htmd_tree.specs.OpenNodes.{stack_items, innermost_number, innermost_name, open_node, open_nodes}
 use Rattle.htmd_tree.specs.OpenNodes.{MayOpen, Holds, IsReading}
-use Rattle.htmd_tree.specs.Advances.{Answer, place, rules_of, Follows, Advances, leaf, IsLeaf, HasAdded}
+use Rattle.htmd_tree.specs.Advances.{Answer, state_at, rules_of, Follows, Advances, leaf, IsLeaf, HasAdded}
 use Rattle.htmd_tree.specs.Advances.{StopsDeep}
 use Rattle.htmd_tree.specs.declared.reader.OpenNode.{OpenNode}
 use Rattle.htmd_tree.specs.declared.reader.Reader.{Reader}
-use Rattle.htmd_tree.specs.declared.reader.places.Place.{Place}
+use Rattle.htmd_tree.specs.declared.reader.surroundings.Surroundings.{Surroundings}
 use Rattle.htmd_tree.specs.declared.reader.Stop.{Stop}
 use Rattle.htmd_tree.specs.declared.reader.Stop.TheVariants.{Memory, Refused}
 use Rattle.htmd_tree.proofs.OpenNodesLemmas.{top_depth, top_data, stack_items-leaf, stack_items-opened}
@@ -51,7 +51,8 @@ reading_at reader has_doctype (f ∷ fs) h = (has_doctype, f, fs, h)
 
 pub top_at : (reader : Reader) (has_doctype : Bool) (fs : List OpenElement) (o : OpenNode) → IsTop reader o
     → Holds reader has_doctype fs
-    → (o.id ≡ innermost_number has_doctype fs) × (o.place ≡ place_of reader.scripting (names_of above_body fs))
+    → (o.id ≡ innermost_number has_doctype fs)
+    × (o.surroundings ≡ surroundings_of reader.scripting (names_of above_body fs))
     × (depth_at reader.tree o.id + 1 ≡ length (names_of above_body fs))
 top_at reader has_doctype [] o t h = absurd h.are_open
 top_at reader has_doctype (f ∷ fs) o t h =
@@ -61,7 +62,7 @@ top_at reader has_doctype (f ∷ fs) o t h =
     ap (λ (n : ℕ). depth_at reader.tree n) k
     ∙ (ap (λ (y : List Item). depth_at y (length (stack_items has_doctype fs))) h.tree_is
     ∙ top_depth has_doctype f fs) in
-    (k, ap (λ (y : OpenNode). y.place) e, omega arith)
+    (k, ap (λ (y : OpenNode). y.surroundings) e, omega arith)
 
 pub name_at : (reader : Reader) (has_doctype : Bool) (fs : List OpenElement) (o : OpenNode) (n : List ℕ)
     (attributes : List AttributePair) → IsTop reader o → Holds reader has_doctype fs
@@ -139,14 +140,14 @@ leaf_follows old middle new has_doctype (f ∷ gs) x id rest h l a tree stack le
     } in
     rw a.shallow (record { holds = holds; run = refl; rest = left; scripting = scripting })
 
-same_node : (o : OpenNode) (id : ℕ) (implied : Bool) (p : Place) → o.id ≡ id → o.implied ≡ implied
-    → o.place ≡ p
-    → ◌≡◌ {A = OpenNode} o (record { id = id; implied = implied; place = p })
+same_node : (o : OpenNode) (id : ℕ) (implied : Bool) (p : Surroundings) → o.id ≡ id → o.implied ≡ implied
+    → o.surroundings ≡ p
+    → ◌≡◌ {A = OpenNode} o (record { id = id; implied = implied; surroundings = p })
 same_node o id implied p i j k =
-    let by_id : ℕ → OpenNode = λ n. record { id = n; implied = o.implied; place = o.place } in
-    let by_flag : Bool → OpenNode = λ b. record { id = id; implied = b; place = o.place } in
-    let by_place : Place → OpenNode = λ q. record { id = id; implied = implied; place = q } in
-    ap by_id i ∙ (ap by_flag j ∙ ap by_place k)
+    let by_id : ℕ → OpenNode = λ n. record { id = n; implied = o.implied; surroundings = o.surroundings } in
+    let by_flag : Bool → OpenNode = λ b. record { id = id; implied = b; surroundings = o.surroundings } in
+    let by_surroundings : Surroundings → OpenNode = λ q. record { id = id; implied = implied; surroundings = q } in
+    ap by_id i ∙ (ap by_flag j ∙ ap by_surroundings k)
 
 pub added_at : (old new : Reader) (has_doctype : Bool) (fs : List OpenElement) (o : OpenNode) (x : Data) (id : ℕ)
     → IsTop old o → Holds old has_doctype fs → id ≡ length old.tree
@@ -161,7 +162,7 @@ added_at old new has_doctype fs o x id t h number tree shallow = record {
 pub opened_follows : (old middle new : Reader) (has_doctype : Bool) (fs : List OpenElement) (n : List ℕ)
     (attributes : List AttributePair) (implied : Bool) (o : OpenNode) → Holds old has_doctype fs
     → MayOpen n implied fs → HasAdded old middle has_doctype fs (element_node n attributes) o.id
-    → o.implied ≡ implied → o.place ≡ place_of old.scripting (n ∷ names_of above_body fs)
+    → o.implied ≡ implied → o.surroundings ≡ surroundings_of old.scripting (n ∷ names_of above_body fs)
     → new.tree ≡ middle.tree → new.stack.items ≡ old.stack.items ++ o ∷ [] → new.rest.now ≡ old.rest.now
     → new.scripting ≡ old.scripting
     → Follows old new has_doctype (Ok tt) (cond (is_too_deep (rules_of old) above_body fs) (fault TooDeep)
@@ -172,7 +173,7 @@ opened_follows old middle new has_doctype (f ∷ gs) n attributes implied o h m 
     let number : o.id ≡ length (stack_items has_doctype (f ∷ gs)) = a.number ∙ ap length h.tree_is in
     let last : o ≡ open_node old.scripting has_doctype (fresh n attributes implied) (f ∷ gs) =
     same_node o (length (stack_items has_doctype (f ∷ gs))) implied
-    (place_of old.scripting (n ∷ names_of above_body (f ∷ gs))) number flag flags in
+    (surroundings_of old.scripting (n ∷ names_of above_body (f ∷ gs))) number flag flags in
     let holds : Holds new has_doctype (fresh n attributes implied ∷ f ∷ gs) = record {
       tree_is = tree ∙ (a.tree ∙ stack_items-opened has_doctype f gs n attributes implied old.tree h.tree_is);
       stack_is =
@@ -192,14 +193,14 @@ reading_kept reader other tree stack scripting r =
 -- ---- steps
 
 pub advance : (old new : Reader) (has_doctype : Bool) (fs : List OpenElement) (r : Answer) (s : Step)
-    → step (rules_of old) above_body (place fs old.rest.now) ≡ s → is_empty old.rest.now ≡ false
+    → step (rules_of old) above_body (state_at fs old.rest.now) ≡ s → is_empty old.rest.now ≡ false
     → Follows old new has_doctype r s → Advances old new has_doctype fs r
 advance old new has_doctype fs (Ok x) (Ok st) e left_over at = (st, at, via e here)
 advance old new has_doctype fs (Ok x) (Err kind) e left_over at = absurd at
 advance old new has_doctype fs (Err Memory) s e left_over at = tt
 advance old new has_doctype fs (Err (Refused left kind)) (Ok st) e left_over at = absurd at
 advance old new has_doctype fs (Err (Refused left kind)) (Err found) e left_over at =
-    (place fs old.rest.now, here, e ∙ ap Err (sym at.0), left_over, at.1)
+    (state_at fs old.rest.now, here, e ∙ ap Err (sym at.0), left_over, at.1)
 
 -- ---- closing
 

@@ -25,7 +25,7 @@ use Rattle.htmd_grammar.specs.declared.fault.FaultKind.TheVariants.{Nul}
 use Rattle.htmd_tree.specs.Items.{Item}
 use Rattle.htmd_tree.specs.Layout.{forest_items, document_items}
 use Rattle.htmd_tree.specs.OpenNodes.{stack_items}
-use Rattle.htmd_tree.specs.Advances.{Ends, place, rules_of}
+use Rattle.htmd_tree.specs.Advances.{Ends, state_at, rules_of}
 use Rattle.htmd_tree.specs.declared.reader.Reader.{Reader}
 use Rattle.htmd_tree.specs.declared.reader.Stop.TheVariants.{Refused}
 use Rattle.htmd_tree.specs.declared.reader.ReadError.{ReadError}
@@ -54,7 +54,7 @@ pub read_rightly : (old new : Reader) (scripting : Bool) (s : List ℕ) → Step
 read_rightly old new scripting s sound l rest flag e =
     let reaches : Reaches (project scripting) above_body (started s) (finished (e.0)) =
     subst (λ b. Reaches (project b) above_body (started s) (finished (e.0))) flag
-    (subst (λ t. Reaches (rules_of old) above_body (place (body ∷ []) t) (finished (e.0))) rest (e.2)) in (
+    (subst (λ t. Reaches (rules_of old) above_body (state_at (body ∷ []) t) (finished (e.0))) rest (e.2)) in (
       with_doctype (behind_doctype (behind_mark s)) (skeleton (e.0)),
       e.1 ∙ laid_out (behind_doctype (behind_mark s)) (e.0),
       (l, e.0, refl, sound s (e.0) reaches),
@@ -119,7 +119,7 @@ module _ (old new : Reader) (scripting : Bool) (s : List ℕ) (left : ℕ) (kind
   fault_reached : Reaches (project scripting) above_body (started s) (e.0)
   fault_reached =
       subst (λ b. Reaches (project b) above_body (started s) (e.0)) flag
-      (subst (λ t. Reaches (rules_of old) above_body (place (body ∷ []) t) (e.0)) rest (e.1))
+      (subst (λ t. Reaches (rules_of old) above_body (state_at (body ∷ []) t) (e.0)) rest (e.1))
 
   fault_found : step (project scripting) above_body (e.0) ≡ Err kind
   fault_found = subst (λ b. step (project b) above_body (e.0) ≡ Err kind) flag (e.2)

@@ -103,10 +103,10 @@ module _ (items : List Item) (p : ℕ) (node_data : Data) where
 
 -- node c is item number c, counted from b, and its parent is p
 record IsAmong (b : ℕ) (items : List Item) (p c : ℕ) : Type 0 where
-  place : ℕ
-  number : c ≡ b + place
-  within : place < length items
-  parent : parent_at items place ≡ Some p
+  index : ℕ
+  number : c ≡ b + index
+  within : index < length items
+  parent : parent_at items index ≡ Some p
 
 some_child : (p : ℕ) (o : Option ℕ) → is_child p o ≡ true → o ≡ Some p
 some_child p None e = (cc)
@@ -124,7 +124,7 @@ with_first b item items p d behind k l = test (is_child p item.parent) (λ y. rw
     later : (k : ℕ) → k < length (children_from (suc b) items p)
         → IsAmong b (item ∷ items) p (get_or (children_from (suc b) items p) k d)
     later k l = let r = behind k l in record {
-      place = suc r.place;
+      index = suc r.index;
       number = omega (arith, r.number);
       within =
           omega (arith, r.within);
@@ -134,7 +134,7 @@ with_first b item items p d behind k l = test (is_child p item.parent) (λ y. rw
     first : is_child p item.parent ≡ true → (k : ℕ) → k < length (b ∷ children_from (suc b) items p)
         → IsAmong b (item ∷ items) p (get_or (b ∷ children_from (suc b) items p) k d)
     first y zero l = record {
-      place = 0;
+      index = 0;
       number = omega arith;
       within = omega arith;
       parent =
@@ -154,7 +154,7 @@ pub child_read : (items : List Item) (node : ℕ) (ids : List ℕ) (k id : ℕ) 
     × (parent_at items id ≡ Some node)
 child_read items node ids k id t l same m here =
     let r = children_from-read 0 items node id k (subst (λ (x : List ℕ). k < length x) same m) in
-    let e : r.place ≡ id = omega (arith, r.number, here ∙ ap (λ (x : List ℕ). get_or x k id) same) in
+    let e : r.index ≡ id = omega (arith, r.number, here ∙ ap (λ (x : List ℕ). get_or x k id) same) in
     let within : id < length items = subst (λ n. n < length items) e r.within in
     let named : parent_at items id ≡ Some node = subst (λ n. parent_at items n ≡ Some node) e r.parent in
     ((t.under id node within named).before, within, named)

@@ -18,7 +18,7 @@ pub mod ContentsLemmas
 pub mod TagStepsLemmas
 pub mod TagAnswersLemmas
 pub mod PreludeLemmas
-pub mod PlaceFlagsLemmas
+pub mod SurroundingsLemmas
 pub mod PartsLemmas
 pub mod RawBlockLemmas
 pub mod CharacterClassesLemmas

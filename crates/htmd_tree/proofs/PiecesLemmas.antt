@@ -16,9 +16,9 @@ use Rattle.htmd_grammar.specs.Steps.{OpenElement, State, step, Reaches, here, vi
 use Rattle.htmd_grammar.specs.Steps.{between, is_too_deep, is_implied, ends_rows, markup_step, raw_text_step}
 use Rattle.htmd_grammar.specs.Steps.{with_children, body}
 use Rattle.htmd_grammar.specs.declared.fault.FaultKind.TheVariants.{Unclosed, TooDeep}
-use Rattle.htmd_grammar.proofs.PlacesLemmas.{tbody_not_table}
+use Rattle.htmd_grammar.proofs.NestingLemmas.{tbody_not_table}
 use Rattle.htmd_tree.specs.OpenNodes.{stack_items, innermost_name, AreOpen, Holds, IsReading}
-use Rattle.htmd_tree.specs.Advances.{Answer, place, rules_of, Follows, Advances, Ends, HasSettled, HasRead}
+use Rattle.htmd_tree.specs.Advances.{Answer, state_at, rules_of, Follows, Advances, Ends, HasSettled, HasRead}
 use Rattle.htmd_tree.specs.Advances.{IsAtText}
 use Rattle.htmd_tree.specs.declared.reader.OpenNode.{OpenNode}
 use Rattle.htmd_tree.specs.declared.reader.Reader.{Reader}
@@ -26,7 +26,7 @@ use Rattle.htmd_tree.specs.declared.reader.Stop.{Stop}
 use Rattle.htmd_tree.specs.declared.reader.Stop.TheVariants.{Memory, Refused}
 use Rattle.htmd_tree.proofs.OpenNodesLemmas.{length-open_nodes}
 use Rattle.htmd_tree.proofs.AdvancesLemmas.{IsTop, top_at, advance}
-use Rattle.htmd_tree.specs.declared.reader.places.Place.{Place}
+use Rattle.htmd_tree.specs.declared.reader.surroundings.Surroundings.{Surroundings}
 
 -- ---- steps
 
@@ -37,19 +37,19 @@ reaches_then (via e p) q = via e (reaches_then p q)
 
 module _ (rules : Rules) (fs : List OpenElement) (s : List ℕ) where
   tbody_is : (f : OpenElement) → f.implied ≡ true → ends_rows s ≡ true
-      → step rules above_body (place (f ∷ fs) s) ≡ Ok (place (with_tree fs (closed f)) s)
+      → step rules above_body (state_at (f ∷ fs) s) ≡ Ok (state_at (with_tree fs (closed f)) s)
   unfolding step
   tbody_is f i e = rw (i, e) refl
 
   pub markup_is : (is_implied fs && ends_rows s) ≡ false → ends_text rules.scripting (innermost_name fs) s ≡ true
-      → step rules above_body (place fs s) ≡ markup_step rules above_body fs (drop 1 s)
+      → step rules above_body (state_at fs s) ≡ markup_step rules above_body fs (drop 1 s)
   unfolding step
   markup_is r e = rw (r, e) refl
 
   pub raw_text_is : (is_implied fs && ends_rows s) ≡ false
       → ends_text rules.scripting (innermost_name fs) s ≡ false
       → is_empty s ≡ false → holds_raw_text rules.scripting (innermost_name fs) ≡ true
-      → step rules above_body (place fs s) ≡ raw_text_step rules above_body fs
+      → step rules above_body (state_at fs s) ≡ raw_text_step rules above_body fs
       (text_of rules (innermost_name fs) (up_to (ends_text rules.scripting (innermost_name fs)) s))
       (onward (ends_text rules.scripting (innermost_name fs)) s)
   unfolding step
@@ -58,7 +58,7 @@ module _ (rules : Rules) (fs : List OpenElement) (s : List ℕ) where
 no_markup_at_end : (scripting : Bool) (n : List ℕ) → ends_text scripting n [] ≡ false
 no_markup_at_end scripting n = test (holds_text_alone scripting n) (λ e. rw e refl) (λ e. rw e refl)
 
-end_is : (rules : Rules) (fs : List OpenElement) → step rules above_body (place fs []) ≡ Err Unclosed
+end_is : (rules : Rules) (fs : List OpenElement) → step rules above_body (state_at fs []) ≡ Err Unclosed
 unfolding step
 end_is rules fs = rw (and-false (is_implied fs), no_markup_at_end rules.scripting (innermost_name fs)) refl
 
@@ -125,18 +125,18 @@ implied_is_inner reader o r t i = each (r.2) (r.3)
 -- ---- one call after another
 
 pub joined : (old middle new : Reader) (has_doctype : Bool) (fs gs : List OpenElement) (r : Answer)
-    → Reaches (rules_of old) above_body (place fs old.rest.now) (place gs middle.rest.now)
+    → Reaches (rules_of old) above_body (state_at fs old.rest.now) (state_at gs middle.rest.now)
     → middle.scripting ≡ old.scripting → Advances middle new has_doctype gs r
     → Advances old new has_doctype fs r
 joined old middle new has_doctype fs gs (Ok x) p e a = (
   a.0,
   record { holds = a.1.holds; run = a.1.run; rest = a.1.rest; scripting = a.1.scripting ∙ e },
-  reaches_then p (subst (λ b. Reaches (project b) above_body (place gs middle.rest.now) (a.0)) e (a.2)),
+  reaches_then p (subst (λ b. Reaches (project b) above_body (state_at gs middle.rest.now) (a.0)) e (a.2)),
 )
 joined old middle new has_doctype fs gs (Err Memory) p e a = tt
 joined old middle new has_doctype fs gs (Err (Refused left kind)) p e a = (
   a.0,
-  reaches_then p (subst (λ b. Reaches (project b) above_body (place gs middle.rest.now) (a.0)) e (a.1)),
+  reaches_then p (subst (λ b. Reaches (project b) above_body (state_at gs middle.rest.now) (a.0)) e (a.1)),
   subst (λ b. step (project b) above_body (a.0) ≡ Err kind) e (a.2),
   a.3,
   a.4,
@@ -145,8 +145,8 @@ joined old middle new has_doctype fs gs (Err (Refused left kind)) p e a = (
 module _ (old middle new : Reader) (has_doctype : Bool) (fs : List OpenElement) (r : Answer)
     (s : HasSettled old middle has_doctype fs) (same : middle.rest.now ≡ old.rest.now)
     (left_over : is_empty old.rest.now ≡ false) where
-  reached : Reaches (rules_of old) above_body (place fs old.rest.now) (place s.opened middle.rest.now)
-  reached = subst (λ t. Reaches (rules_of old) above_body (place fs old.rest.now) (place s.opened t)) (sym same)
+  reached : Reaches (rules_of old) above_body (state_at fs old.rest.now) (state_at s.opened middle.rest.now)
+  reached = subst (λ t. Reaches (rules_of old) above_body (state_at fs old.rest.now) (state_at s.opened t)) (sym same)
       s.reaches
 
   settled_there : (is_implied s.opened && ends_rows middle.rest.now) ≡ false
@@ -243,7 +243,7 @@ raw_text_shorter old middle new has_doctype gs (Ok x) same left_over e f =
 
 -- ---- the loop
 
-state_is : (st : State) (rest : List ℕ) → st.run ≡ [] → rest ≡ st.rest → st ≡ place st.stack rest
+state_is : (st : State) (rest : List ℕ) → st.run ≡ [] → rest ≡ st.rest → st ≡ state_at st.stack rest
 state_is st rest r e =
     let by_run : List ℕ → State = λ u. record { stack = st.stack; run = u; rest = st.rest } in
     let by_rest : List ℕ → State = λ t. record { stack = st.stack; run = []; rest = t } in
@@ -264,7 +264,7 @@ read_more old middle new has_doctype fs h f =
     record {
       opened = (a.0).stack;
       holds = a.1.holds;
-      reaches = subst (λ st. Reaches (rules_of old) above_body (place fs old.rest.now) st)
+      reaches = subst (λ st. Reaches (rules_of old) above_body (state_at fs old.rest.now) st)
           (state_is (a.0) new.rest.now a.1.run a.1.rest) (a.2);
       scripting = a.1.scripting;
     }
@@ -293,9 +293,9 @@ ends_open old new has_doctype fs stop h e l same =
     ∙ length-open_nodes new.scripting has_doctype h.opened in
     let two : 1 < length h.opened = omega arith in
     subst (λ x. Ends old new has_doctype fs (Err x)) (sym same) (
-      place h.opened new.rest.now,
+      state_at h.opened new.rest.now,
       h.reaches,
-      ap (λ t. step (rules_of old) above_body (place h.opened t)) (empty_is new.rest.now e)
+      ap (λ t. step (rules_of old) above_body (state_at h.opened t)) (empty_is new.rest.now e)
           ∙ end_is (rules_of old) h.opened,
       (λ _. two),
       refl,
@@ -318,7 +318,7 @@ pub ends_well : (old new : Reader) (has_doctype : Bool) (fs : List OpenElement) 
 ends_well old new has_doctype fs h e l = each h.opened h.holds h.reaches
   where
     each : (gs : List OpenElement) → Holds new has_doctype gs
-        → Reaches (rules_of old) above_body (place fs old.rest.now) (place gs new.rest.now)
+        → Reaches (rules_of old) above_body (state_at fs old.rest.now) (state_at gs new.rest.now)
         → Ends old new has_doctype fs (Ok tt)
     each [] i p = absurd i.are_open
     each (f ∷ g ∷ gs) i p =
@@ -329,20 +329,21 @@ ends_well old new has_doctype fs h e l = each h.opened h.holds h.reaches
         let b : f ≡ with_children body f.children = body_is f (i.are_open.0) (i.are_open.1) (i.are_open.2) in (
           f.children,
           i.tree_is ∙ ap (λ x. stack_items has_doctype (x ∷ [])) b,
-          subst (λ x. Reaches (rules_of old) above_body (place fs old.rest.now) (place (x ∷ []) [])) b
-              (subst (λ t. Reaches (rules_of old) above_body (place fs old.rest.now) (place (f ∷ []) t))
+          subst (λ x. Reaches (rules_of old) above_body (state_at fs old.rest.now) (state_at (x ∷ []) [])) b
+              (subst (λ t. Reaches (rules_of old) above_body (state_at fs old.rest.now) (state_at (f ∷ []) t))
               (empty_is new.rest.now e) p),
         )
 
 -- ---- what is kept of the innermost open element
 
 pub text_alone_at : (reader : Reader) (has_doctype : Bool) (fs : List OpenElement) (o : OpenNode) → IsTop reader o
-    → Holds reader has_doctype fs → o.place.text_alone ≡ holds_text_alone reader.scripting (innermost_name fs)
-text_alone_at reader has_doctype fs o t h = ap (λ (p : Place). p.text_alone) ((top_at reader has_doctype fs o t h).1)
+    → Holds reader has_doctype fs → o.surroundings.text_alone ≡ holds_text_alone reader.scripting (innermost_name fs)
+text_alone_at reader has_doctype fs o t h =
+    ap (λ (p : Surroundings). p.text_alone) ((top_at reader has_doctype fs o t h).1)
 
 pub raw_text_at : (reader : Reader) (has_doctype : Bool) (fs : List OpenElement) (o : OpenNode) → IsTop reader o
-    → Holds reader has_doctype fs → o.place.raw_text ≡ holds_raw_text reader.scripting (innermost_name fs)
-raw_text_at reader has_doctype fs o t h = ap (λ (p : Place). p.raw_text) ((top_at reader has_doctype fs o t h).1)
+    → Holds reader has_doctype fs → o.surroundings.raw_text ≡ holds_raw_text reader.scripting (innermost_name fs)
+raw_text_at reader has_doctype fs o t h = ap (λ (p : Surroundings). p.raw_text) ((top_at reader has_doctype fs o t h).1)
 
 pub ends_alone : (scripting : Bool) (n s : List ℕ) → holds_text_alone scripting n ≡ true
     → begins_own_end n s ≡ ends_text scripting n s

@@ -6,7 +6,7 @@ use Rattle.htmd_text.specs.BlankLines.{with_blank_lines}
 use Rattle.htmd_grammar.specs.ValueTrees.{AttributePair, ValueTree, document, doctype, text, comment, element}
 use Rattle.htmd_grammar.specs.ValueTrees.{ValueForest, none, more}
 use Rattle.htmd_grammar.specs.Rules.{project}
-use Rattle.htmd_grammar.specs.Places.{Context}
+use Rattle.htmd_grammar.specs.Nesting.{Context}
 use Rattle.htmd_grammar.specs.Comments.{behind_doctype}
 use Rattle.htmd_grammar.specs.Documents.{above_body, below_body, body_text, behind_mark, with_doctype, skeleton}
 use Rattle.htmd_grammar.specs.Documents.{ReadsDocument}

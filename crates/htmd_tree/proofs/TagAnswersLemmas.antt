@@ -7,7 +7,7 @@ use Rattle.std.specs.Str.{bytes_eq}
 use Rattle.htmd_text.proofs.Cases.{test}
 use Rattle.htmd_grammar.specs.ValueTrees.{AttributePair}
 use Rattle.htmd_grammar.specs.Rules.{project}
-use Rattle.htmd_grammar.specs.Places.{is_row}
+use Rattle.htmd_grammar.specs.Nesting.{is_row}
 use Rattle.htmd_grammar.specs.Steps.{OpenElement, Step, fault, between, fresh, closed, with_tree, is_too_deep}
 use Rattle.htmd_grammar.specs.Steps.{open_step, place_step, close_step}
 use Rattle.htmd_grammar.specs.declared.fault.FaultKind.{FaultKind}

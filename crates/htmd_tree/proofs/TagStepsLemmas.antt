@@ -15,7 +15,7 @@ use Rattle.htmd_grammar.specs.Rules.{Rules, project, named_characters}
 use Rattle.htmd_grammar.specs.References.{Piece, stands, wrong, piece_at, less_line_feed, after_line_feed}
 use Rattle.htmd_grammar.specs.Tags.{attribute_names, decode_values}
 use Rattle.htmd_grammar.specs.RawContent.{drops_line_feed, content_of}
-use Rattle.htmd_grammar.specs.Places.{Context, is_outside, is_row, is_allowed}
+use Rattle.htmd_grammar.specs.Nesting.{Context, is_outside, is_row, is_allowed}
 use Rattle.htmd_grammar.specs.Serialisation.{is_void}
 use Rattle.htmd_grammar.specs.TagReading.{TagForm, form, form_within}
 use Rattle.htmd_grammar.specs.OpenElements.{has_unknown_reference}

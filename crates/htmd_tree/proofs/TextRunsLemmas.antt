@@ -17,7 +17,7 @@ use Rattle.htmd_text.specs.WhiteSpace.{is_ascii_white_space}
 use Rattle.htmd_text.proofs.WhiteSpaceLemmas.{white_is_ascii}
 use Rattle.htmd_grammar.specs.CharacterClasses.{is_empty, leading_run, behind_run}
 use Rattle.htmd_grammar.specs.Documents.{above_body}
-use Rattle.htmd_grammar.specs.Places.{parent_name, holds_parts}
+use Rattle.htmd_grammar.specs.Nesting.{parent_name, holds_parts}
 use Rattle.htmd_grammar.specs.RawContent.{begins_markup, begins_own_end, holds_raw_text, ends_text}
 use Rattle.htmd_grammar.specs.References.{Piece, stands, wrong, piece_at}
 use Rattle.htmd_grammar.specs.Rules.{project, named_characters}
@@ -29,12 +29,12 @@ use Rattle.htmd_grammar.proofs.BooleanLemmas.{and_false}
 use Rattle.htmd_grammar.proofs.TextLemmas.{rows_go_on}
 use Rattle.htmd_grammar.proofs.ReadBackLemmas.{no_markup, no_end}
 use Rattle.htmd_tree.specs.DecodedCharacters.{piece_of, IsPieceEnd}
-use Rattle.htmd_tree.specs.TextRuns.{is_plain, is_run_end, IsTextPlace, in_run, first_piece, fault_of, IsCharacterIn}
+use Rattle.htmd_tree.specs.TextRuns.{is_plain, is_run_end, TellsOfText, in_run, first_piece, fault_of, IsCharacterIn}
 use Rattle.htmd_tree.specs.TextRuns.{IsFaultIn, Pushes, StopsRun}
 use Rattle.htmd_tree.specs.declared.reader.Stop.{Stop}
 use Rattle.htmd_tree.specs.declared.reader.Stop.TheVariants.{Memory, Refused}
 use Rattle.htmd_tree.specs.declared.reader.references.Character.{Character}
-use Rattle.htmd_tree.specs.declared.reader.text_runs.TextPlace.{TextPlace}
+use Rattle.htmd_tree.specs.declared.reader.text_runs.TextSurroundings.{TextSurroundings}
 use Rattle.htmd_tree.proofs.CharacterClassesLemmas.{take_leading_run, drop_leading_run, behind_leading_run}
 use Rattle.htmd_tree.proofs.RunsLemmas.{run_within, behind_last}
 
@@ -90,66 +90,66 @@ plain_white false b e = refl
 
 -- ---- steps in a run
 
-module _ (scripting : Bool) (place : TextPlace) (n : List ℕ) (fs : List OpenElement)
-    (here_is : IsTextPlace scripting place n fs) where
-  goes_on : (b : ℕ) (s : List ℕ) → is_run_end place.alone n (b ∷ s) ≡ false
+module _ (scripting : Bool) (around : TextSurroundings) (n : List ℕ) (fs : List OpenElement)
+    (here_is : TellsOfText scripting around n fs) where
+  goes_on : (b : ℕ) (s : List ℕ) → is_run_end around.alone n (b ∷ s) ≡ false
       → ends_text scripting (parent_name (names_of above_body fs)) (b ∷ s) ≡ false
   goes_on b s e =
       subst (λ m. ends_text scripting m (b ∷ s) ≡ false) here_is.name_is
       (subst (λ z. cond z (begins_own_end n (b ∷ s)) (begins_markup (b ∷ s)) ≡ false) here_is.alone_is e)
 
-  no_rows_end : (b : ℕ) (s : List ℕ) → is_run_end place.alone n (b ∷ s) ≡ false
+  no_rows_end : (b : ℕ) (s : List ℕ) → is_run_end around.alone n (b ∷ s) ≡ false
       → (is_implied fs && ends_rows (b ∷ s)) ≡ false
   no_rows_end b s e =
       ⊎_elim (λ f. and_left (is_implied fs) (ends_rows (b ∷ s)) f)
       (λ q. rows_go_on (is_implied fs) (b ∷ s)
       (subst (λ z. cond z (begins_own_end n (b ∷ s)) (begins_markup (b ∷ s)) ≡ false) q e))
-      (and_cases (is_implied fs) place.alone here_is.no_rows)
+      (and_cases (is_implied fs) around.alone here_is.no_rows)
 
   no_raw : holds_raw_text scripting (parent_name (names_of above_body fs)) ≡ false
   no_raw = subst (λ m. holds_raw_text scripting m ≡ false) here_is.name_is here_is.no_raw_text
 
-  parts_here : holds_parts (parent_name (names_of above_body fs)) ≡ place.parts
+  parts_here : holds_parts (parent_name (names_of above_body fs)) ≡ around.parts
   parts_here = ap holds_parts (sym here_is.name_is) ∙ sym here_is.parts_is
 
-  is_step : (run : List ℕ) (b : ℕ) (s : List ℕ) → is_run_end place.alone n (b ∷ s) ≡ false
+  is_step : (run : List ℕ) (b : ℕ) (s : List ℕ) → is_run_end around.alone n (b ∷ s) ≡ false
       → step (project scripting) above_body (in_run fs run (b ∷ s))
       ≡ character_step (project scripting) above_body fs run s (piece_at named_characters b s)
   unfolding step
   is_step run b s e = rw (goes_on b s e, and_false (not (is_empty run)), no_rows_end b s e, no_raw) refl
 
   -- what a piece does there
-  right_piece : (run s v : List ℕ) (m : ℕ) (p : Piece) → place.too_deep ≡ false → p ≡ stands m v
-      → fault_of place.parts p ≡ None
+  right_piece : (run s v : List ℕ) (m : ℕ) (p : Piece) → around.too_deep ≡ false → p ≡ stands m v
+      → fault_of around.parts p ≡ None
       → character_step (project scripting) above_body fs run s p ≡ Ok (in_run fs (run ++ v) (drop m s))
   right_piece run s v m p d e f =
       let white : (holds_parts (parent_name (names_of above_body fs)) && not (list_all is_ascii_white_space v))
       ≡ false =
       ap (λ z. z && not (list_all is_ascii_white_space v)) parts_here
-      ∙ test (place.parts && not (list_all is_ascii_white_space v))
-      (λ q. absurd (let w : fault_of place.parts (stands m v) ≡ None = ap (fault_of place.parts) (sym e) ∙ f in
+      ∙ test (around.parts && not (list_all is_ascii_white_space v))
+      (λ q. absurd (let w : fault_of around.parts (stands m v) ≡ None = ap (fault_of around.parts) (sym e) ∙ f in
       let z = rw q at w in cc)) (λ q. q) in
       let deep : is_too_deep (project scripting) above_body fs ≡ false = sym here_is.deep_is ∙ d in
       rw e (rw (white, deep) refl)
 
-  deep_piece : (run s v : List ℕ) (m : ℕ) (p : Piece) → place.too_deep ≡ true → p ≡ stands m v
-      → fault_of place.parts p ≡ None
+  deep_piece : (run s v : List ℕ) (m : ℕ) (p : Piece) → around.too_deep ≡ true → p ≡ stands m v
+      → fault_of around.parts p ≡ None
       → character_step (project scripting) above_body fs run s p ≡ Err TooDeep
   deep_piece run s v m p d e f =
       let white : (holds_parts (parent_name (names_of above_body fs)) && not (list_all is_ascii_white_space v))
       ≡ false =
       ap (λ z. z && not (list_all is_ascii_white_space v)) parts_here
-      ∙ test (place.parts && not (list_all is_ascii_white_space v))
-      (λ q. absurd (let w : fault_of place.parts (stands m v) ≡ None = ap (fault_of place.parts) (sym e) ∙ f in
+      ∙ test (around.parts && not (list_all is_ascii_white_space v))
+      (λ q. absurd (let w : fault_of around.parts (stands m v) ≡ None = ap (fault_of around.parts) (sym e) ∙ f in
       let z = rw q at w in cc)) (λ q. q) in
       let deep : is_too_deep (project scripting) above_body fs ≡ true = sym here_is.deep_is ∙ d in
       rw e (rw (white, deep) refl)
 
-  wrong_piece : (run s : List ℕ) (p : Piece) (kind : FaultKind) → fault_of place.parts p ≡ Some kind
+  wrong_piece : (run s : List ℕ) (p : Piece) (kind : FaultKind) → fault_of around.parts p ≡ Some kind
       → character_step (project scripting) above_body fs run s p ≡ Err kind
   wrong_piece run s (wrong k) kind e = let q : k ≡ kind = cc in ap (λ x. Err x) q
   wrong_piece run s (stands m v) kind e =
-      test (place.parts && not (list_all is_ascii_white_space v))
+      test (around.parts && not (list_all is_ascii_white_space v))
       (λ q. let w = rw q at e in
       let same : StrayText ≡ kind = cc in
       let stray : (holds_parts (parent_name (names_of above_body fs)) && not (list_all is_ascii_white_space v))
@@ -159,61 +159,61 @@ module _ (scripting : Bool) (place : TextPlace) (n : List ℕ) (fs : List OpenEl
 
   -- ---- plain characters
 
-  no_fault : (b : ℕ) → is_plain place.parts b ≡ true → fault_of place.parts (stands 0 (b ∷ [])) ≡ None
-  no_fault b p = rw (plain_white place.parts b p) refl
+  no_fault : (b : ℕ) → is_plain around.parts b ≡ true → fault_of around.parts (stands 0 (b ∷ [])) ≡ None
+  no_fault b p = rw (plain_white around.parts b p) refl
 
-  plain_step : (run : List ℕ) (b : ℕ) (s : List ℕ) → place.too_deep ≡ false
-      → is_plain place.parts b ≡ true
+  plain_step : (run : List ℕ) (b : ℕ) (s : List ℕ) → around.too_deep ≡ false
+      → is_plain around.parts b ≡ true
       → step (project scripting) above_body (in_run fs run (b ∷ s)) ≡ Ok (in_run fs (run ++ b ∷ []) s)
   plain_step run b s d p =
-      let e = plain_piece place.parts b s p in
-      is_step run b s (plain_goes_on place.alone place.parts n b s p)
+      let e = plain_piece around.parts b s p in
+      is_step run b s (plain_goes_on around.alone around.parts n b s p)
       ∙ right_piece run s (b ∷ []) 0 (piece_at named_characters b s) d e
-      (ap (fault_of place.parts) e ∙ no_fault b p)
+      (ap (fault_of around.parts) e ∙ no_fault b p)
 
-  plain_reaches : (s run : List ℕ) → place.too_deep ≡ false
+  plain_reaches : (s run : List ℕ) → around.too_deep ≡ false
       → Reaches (project scripting) above_body (in_run fs run s)
-      (in_run fs (run ++ leading_run (is_plain place.parts) s) (behind_run (is_plain place.parts) s))
+      (in_run fs (run ++ leading_run (is_plain around.parts) s) (behind_run (is_plain around.parts) s))
   plain_reaches [] run d =
       subst (λ r. Reaches (project scripting) above_body (in_run fs run []) (in_run fs r [])) (sym (append-nil run))
       here
   plain_reaches (b ∷ s) run d =
-      test (is_plain place.parts b)
+      test (is_plain around.parts b)
       (λ q. rw q (via (plain_step run b s d q)
       (subst (λ r. Reaches (project scripting) above_body (in_run fs (run ++ b ∷ []) s)
-      (in_run fs r (behind_run (is_plain place.parts) s)))
-      (append_assoc run (b ∷ []) (leading_run (is_plain place.parts) s)) (plain_reaches s (run ++ b ∷ []) d))))
+      (in_run fs r (behind_run (is_plain around.parts) s)))
+      (append_assoc run (b ∷ []) (leading_run (is_plain around.parts) s)) (plain_reaches s (run ++ b ∷ []) d))))
       (λ q. rw q (subst (λ r. Reaches (project scripting) above_body (in_run fs run (b ∷ s))
       (in_run fs r (b ∷ s)))
       (sym (append-nil run)) here))
 
-  pub plain_pushed : (run s front rest after : List ℕ) (len : ℕ) → place.too_deep ≡ false
-      → len ≡ length (leading_run (is_plain place.parts) s) → front ≡ take len s → rest ≡ drop len s
+  pub plain_pushed : (run s front rest after : List ℕ) (len : ℕ) → around.too_deep ≡ false
+      → len ≡ length (leading_run (is_plain around.parts) s) → front ≡ take len s → rest ≡ drop len s
       → after ≡ run ++ front → Reaches (project scripting) above_body (in_run fs run s) (in_run fs after rest)
   plain_pushed run s front rest after len d e f r a =
-      let g : after ≡ run ++ leading_run (is_plain place.parts) s =
-      a ∙ ap (λ x. run ++ x) (f ∙ ap (λ m. take m s) e ∙ take_leading_run (is_plain place.parts) s) in
-      let h : rest ≡ behind_run (is_plain place.parts) s =
-      r ∙ ap (λ m. drop m s) e ∙ drop_leading_run (is_plain place.parts) s in
+      let g : after ≡ run ++ leading_run (is_plain around.parts) s =
+      a ∙ ap (λ x. run ++ x) (f ∙ ap (λ m. take m s) e ∙ take_leading_run (is_plain around.parts) s) in
+      let h : rest ≡ behind_run (is_plain around.parts) s =
+      r ∙ ap (λ m. drop m s) e ∙ drop_leading_run (is_plain around.parts) s in
       subst (λ x. Reaches (project scripting) above_body (in_run fs run s) (in_run fs x rest)) (sym g)
       (subst (λ x. Reaches (project scripting) above_body (in_run fs run s)
-      (in_run fs (run ++ leading_run (is_plain place.parts) s) x)) (sym h) (plain_reaches s run d))
+      (in_run fs (run ++ leading_run (is_plain around.parts) s) x)) (sym h) (plain_reaches s run d))
 
-  pub plain_deep : (run s : List ℕ) → place.too_deep ≡ true → 0 < length (leading_run (is_plain place.parts) s)
+  pub plain_deep : (run s : List ℕ) → around.too_deep ≡ true → 0 < length (leading_run (is_plain around.parts) s)
       → step (project scripting) above_body (in_run fs run s) ≡ Err TooDeep
   plain_deep run [] d l = absurd (omega arith)
   plain_deep run (b ∷ s) d l =
-      test (is_plain place.parts b)
-      (λ p. let e = plain_piece place.parts b s p in
-      is_step run b s (plain_goes_on place.alone place.parts n b s p)
+      test (is_plain around.parts b)
+      (λ p. let e = plain_piece around.parts b s p in
+      is_step run b s (plain_goes_on around.alone around.parts n b s p)
       ∙ deep_piece run s (b ∷ []) 0 (piece_at named_characters b s) d e
-      (ap (fault_of place.parts) e ∙ no_fault b p))
+      (ap (fault_of around.parts) e ∙ no_fault b p))
       (λ p. let m = rw p at l in absurd (omega arith))
 
   -- ---- other characters
 
-  pub special_pushed : (run s rest after : List ℕ) (character : Character) → place.too_deep ≡ false
-      → is_run_end place.alone n s ≡ false → IsCharacterIn place.parts s character
+  pub special_pushed : (run s rest after : List ℕ) (character : Character) → around.too_deep ≡ false
+      → is_run_end around.alone n s ≡ false → IsCharacterIn around.parts s character
       → rest ≡ drop (1 + character.behind) s → after ≡ run ++ encode_utf8 character.value
       → Reaches (project scripting) above_body (in_run fs run s) (in_run fs after rest)
   special_pushed run [] rest after character d e i r a = absurd (cc)
@@ -226,8 +226,8 @@ module _ (scripting : Bool) (place : TextPlace) (n : List ℕ) (fs : List OpenEl
       (subst (λ x. Reaches (project scripting) above_body (in_run fs run (b ∷ s))
       (in_run fs (run ++ encode_utf8 character.value) x)) (sym q) (via one here))
 
-  pub special_deep : (run s : List ℕ) (character : Character) → place.too_deep ≡ true
-      → is_run_end place.alone n s ≡ false → IsCharacterIn place.parts s character
+  pub special_deep : (run s : List ℕ) (character : Character) → around.too_deep ≡ true
+      → is_run_end around.alone n s ≡ false → IsCharacterIn around.parts s character
       → step (project scripting) above_body (in_run fs run s) ≡ Err TooDeep
   special_deep run [] character d e i = absurd (cc)
   special_deep run (b ∷ s) character d e i =
@@ -235,8 +235,8 @@ module _ (scripting : Bool) (place : TextPlace) (n : List ℕ) (fs : List OpenEl
       ∙ deep_piece run s (encode_utf8 character.value) character.behind (piece_at named_characters b s) d i.piece
       i.right
 
-  pub special_wrong : (run s : List ℕ) (kind : FaultKind) → is_run_end place.alone n s ≡ false
-      → IsFaultIn place.parts s kind → step (project scripting) above_body (in_run fs run s) ≡ Err kind
+  pub special_wrong : (run s : List ℕ) (kind : FaultKind) → is_run_end around.alone n s ≡ false
+      → IsFaultIn around.parts s kind → step (project scripting) above_body (in_run fs run s) ≡ Err kind
   special_wrong run [] kind e i = absurd (cc)
   special_wrong run (b ∷ s) kind e i = is_step run b s e ∙ wrong_piece run s (piece_at named_characters b s) kind i
 
@@ -365,16 +365,16 @@ run_not_empty alone n [] e = e
 run_not_empty alone n (b ∷ s) e = refl
 
 -- a fault where a push would begin is a fault of the run
-pub stops_there : (scripting : Bool) (fs : List OpenElement) (place : TextPlace)
+pub stops_there : (scripting : Bool) (fs : List OpenElement) (around : TextSurroundings)
     (n s was run rest after : List ℕ) (stop : Stop)
     → Reaches (project scripting) above_body (in_run fs [] s) (in_run fs run rest) → was ≡ run
-    → is_run_end place.alone n rest ≡ false → Pushes scripting fs was rest after (Err stop)
+    → is_run_end around.alone n rest ≡ false → Pushes scripting fs was rest after (Err stop)
     → StopsRun scripting fs s stop
-stops_there scripting fs place n s was run rest after Memory r q e p = tt
-stops_there scripting fs place n s was run rest after (Refused left kind) r q e p = (
+stops_there scripting fs around n s was run rest after Memory r q e p = tt
+stops_there scripting fs around n s was run rest after (Refused left kind) r q e p = (
   in_run fs run rest,
   r,
   subst (λ x. step (project scripting) above_body (in_run fs x rest) ≡ Err kind) q p.0,
-  run_not_empty place.alone n rest e,
+  run_not_empty around.alone n rest e,
   p.1,
 )

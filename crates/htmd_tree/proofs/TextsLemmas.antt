@@ -10,7 +10,7 @@ use Rattle.htmd_grammar.specs.ValueTrees.{text}
 use Rattle.htmd_grammar.specs.CharacterClasses.{is_empty, is_among, up_to, onward}
 use Rattle.htmd_grammar.specs.Comments.{normalized}
 use Rattle.htmd_grammar.specs.Documents.{above_body}
-use Rattle.htmd_grammar.specs.Places.{parent_name}
+use Rattle.htmd_grammar.specs.Nesting.{parent_name}
 use Rattle.htmd_grammar.specs.RawContent.{begins_markup, begins_own_end, ends_text, holds_raw_text, holds_text_alone}
 use Rattle.htmd_grammar.specs.RawContent.{has_script_escape, raw_text_of, text_of}
 use Rattle.htmd_grammar.specs.References.{decode}
@@ -18,15 +18,15 @@ use Rattle.htmd_grammar.specs.Rules.{project, named_characters}
 use Rattle.htmd_grammar.specs.Steps.{OpenElement, Reaches, here, via, step, names_of, is_too_deep}
 use Rattle.htmd_grammar.specs.Steps.{Step, add, between, fault, with_tree, raw_text_step}
 use Rattle.htmd_grammar.specs.declared.fault.FaultKind.TheVariants.{ScriptEscape, TooDeep}
-use Rattle.htmd_grammar.proofs.PlacesLemmas.{tbody_no_text_alone}
+use Rattle.htmd_grammar.proofs.NestingLemmas.{tbody_no_text_alone}
 use Rattle.htmd_tree.specs.OpenNodes.{Holds, AreOpen, innermost_name, open_node}
 use Rattle.htmd_tree.specs.Advances.{Answer, rules_of, Follows, Advances, IsAtText}
-use Rattle.htmd_tree.specs.TextRuns.{IsTextPlace, in_run, is_run_end, StopsRun}
+use Rattle.htmd_tree.specs.TextRuns.{TellsOfText, in_run, is_run_end, StopsRun}
 use Rattle.htmd_tree.specs.declared.reader.OpenNode.{OpenNode}
 use Rattle.htmd_tree.specs.declared.reader.Reader.{Reader}
 use Rattle.htmd_tree.specs.declared.reader.Stop.{Stop}
 use Rattle.htmd_tree.specs.declared.reader.Stop.TheVariants.{Memory, Refused}
-use Rattle.htmd_tree.specs.declared.reader.text_runs.TextPlace.{TextPlace}
+use Rattle.htmd_tree.specs.declared.reader.text_runs.TextSurroundings.{TextSurroundings}
 use Rattle.htmd_tree.proofs.CharacterClassesLemmas.{take_up_to, drop_up_to}
 use Rattle.htmd_tree.proofs.PiecesLemmas.{reaches_then}
 
@@ -38,29 +38,30 @@ implied_holds_more scripting f [] o = rw o.2 refl
 implied_holds_more scripting f (g ∷ fs) o =
     test f.implied (λ q. rw q (tbody_no_text_alone scripting f.name (o.0 q).0)) (λ q. rw q refl)
 
-pub text_place_is : (reader : Reader) (has_doctype : Bool) (fs : List OpenElement) (o : OpenNode) (deep : Bool)
+pub tells_of_text : (reader : Reader) (has_doctype : Bool) (fs : List OpenElement) (o : OpenNode) (deep : Bool)
     → ((h : Bool) (f : OpenElement) (gs : List OpenElement) → Holds reader h (f ∷ gs)
     → o ≡ open_node reader.scripting h f gs)
     → Holds reader has_doctype fs → IsAtText reader fs → deep ≡ is_too_deep (rules_of reader) above_body fs
-    → IsTextPlace reader.scripting (record { alone = o.place.text_alone; parts = o.place.parts; too_deep = deep })
+    → TellsOfText reader.scripting
+    (record { alone = o.surroundings.text_alone; parts = o.surroundings.parts; too_deep = deep })
     (innermost_name fs) fs
-text_place_is reader has_doctype [] o deep t h i e = absurd h.are_open
-text_place_is reader has_doctype (f ∷ gs) o deep t h i e =
+tells_of_text reader has_doctype [] o deep t h i e = absurd h.are_open
+tells_of_text reader has_doctype (f ∷ gs) o deep t h i e =
     let q = t has_doctype f gs h in
     record {
       name_is = refl;
-      alone_is = ap (λ (x : OpenNode). x.place.text_alone) q;
-      parts_is = ap (λ (x : OpenNode). x.place.parts) q;
+      alone_is = ap (λ (x : OpenNode). x.surroundings.text_alone) q;
+      parts_is = ap (λ (x : OpenNode). x.surroundings.parts) q;
       deep_is = e;
       no_raw_text = i.no_raw_text;
-      no_rows = ap (λ (x : OpenNode). f.implied && x.place.text_alone) q
+      no_rows = ap (λ (x : OpenNode). f.implied && x.surroundings.text_alone) q
           ∙ implied_holds_more reader.scripting f gs h.are_open;
     }
 
 -- ---- a text and its end
 
-run_goes_on : (scripting : Bool) (p : TextPlace) (n s : List ℕ) (fs : List OpenElement)
-    → IsTextPlace scripting p n fs
+run_goes_on : (scripting : Bool) (p : TextSurroundings) (n s : List ℕ) (fs : List OpenElement)
+    → TellsOfText scripting p n fs
     → is_empty s ≡ false → ends_text scripting (parent_name (names_of above_body fs)) s ≡ false
     → is_run_end p.alone n s ≡ false
 run_goes_on scripting p n [] fs t e f = absurd (cc)
@@ -68,12 +69,13 @@ run_goes_on scripting p n (b ∷ s) fs t e f =
     subst (λ z. cond z (begins_own_end n (b ∷ s)) (begins_markup (b ∷ s)) ≡ false) (sym t.alone_is)
     (subst (λ m. ends_text scripting m (b ∷ s) ≡ false) (sym t.name_is) f)
 
-pub text_goes_on : (reader : Reader) (p : TextPlace) (n : List ℕ) (fs : List OpenElement)
-    → IsTextPlace reader.scripting p n fs → IsAtText reader fs → is_run_end p.alone n reader.rest.now ≡ false
+pub text_goes_on : (reader : Reader) (p : TextSurroundings) (n : List ℕ) (fs : List OpenElement)
+    → TellsOfText reader.scripting p n fs → IsAtText reader fs → is_run_end p.alone n reader.rest.now ≡ false
 text_goes_on reader p n fs t i =
     run_goes_on reader.scripting p n reader.rest.now fs t i.more_text i.no_markup
 
-flush : (scripting : Bool) (p : TextPlace) (n run s : List ℕ) (fs : List OpenElement) → IsTextPlace scripting p n fs
+flush : (scripting : Bool) (p : TextSurroundings) (n run s : List ℕ) (fs : List OpenElement)
+    → TellsOfText scripting p n fs
     → 0 < length run → is_run_end p.alone n s ≡ true
     → step (project scripting) above_body (in_run fs run s) ≡ between (with_tree fs (text run)) s
 unfolding step
@@ -91,8 +93,8 @@ flush scripting p n (b ∷ run) (d ∷ s) fs t l e =
     rw q refl
 
 -- the text was added, and the reader is behind it
-pub text_read : (old new : Reader) (has_doctype : Bool) (fs : List OpenElement) (answer : Answer) (p : TextPlace)
-    (n run rest : List ℕ) → IsTextPlace old.scripting p n fs → p.too_deep ≡ false → 0 < length run
+pub text_read : (old new : Reader) (has_doctype : Bool) (fs : List OpenElement) (answer : Answer) (p : TextSurroundings)
+    (n run rest : List ℕ) → TellsOfText old.scripting p n fs → p.too_deep ≡ false → 0 < length run
     → Reaches (rules_of old) above_body (in_run fs [] old.rest.now) (in_run fs run rest)
     → is_run_end p.alone n rest ≡ true
     → Follows old new has_doctype answer (add (rules_of old) above_body fs (text run) rest)

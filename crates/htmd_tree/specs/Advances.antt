@@ -19,8 +19,8 @@ abbrev pub Answer : Type 0
 Answer = Result (Unit {0}) Stop
 
 -- between two pieces
-abbrev pub place : List OpenElement → List ℕ → State
-place fs rest = record { stack = fs; run = []; rest = rest }
+abbrev pub state_at : List OpenElement → List ℕ → State
+state_at fs rest = record { stack = fs; run = []; rest = rest }
 
 abbrev pub rules_of : Reader → Rules
 rules_of reader = project reader.scripting
@@ -43,20 +43,20 @@ Follows old new has_doctype (Err (Refused left kind)) (Err fault) = (kind ≡ fa
 -- Some steps lead from where these elements are open to what a call left, or to the fault that it answered.
 abbrev pub Advances : Reader → Reader → Bool → List OpenElement → Answer → Type 0
 Advances old new has_doctype fs (Ok x) =
-    (st : State) × IsAt old new has_doctype st × Reaches (rules_of old) above_body (place fs old.rest.now) st
+    (st : State) × IsAt old new has_doctype st × Reaches (rules_of old) above_body (state_at fs old.rest.now) st
 Advances old new has_doctype fs (Err Memory) = ⊤
 Advances old new has_doctype fs (Err (Refused left kind)) =
-    (st : State) × Reaches (rules_of old) above_body (place fs old.rest.now) st
+    (st : State) × Reaches (rules_of old) above_body (state_at fs old.rest.now) st
     × (step (rules_of old) above_body st ≡ Err kind) × (is_empty st.rest ≡ false) × (left ≡ length st.rest)
 
 -- Some steps lead from where these elements are open to the end of the document, or to the fault that was answered.
 abbrev pub Ends : Reader → Reader → Bool → List OpenElement → Answer → Type 0
 Ends old new has_doctype fs (Ok x) =
     (content : ValueForest) × (new.tree ≡ stack_items has_doctype (with_children body content ∷ []))
-    × Reaches (rules_of old) above_body (place fs old.rest.now) (finished content)
+    × Reaches (rules_of old) above_body (state_at fs old.rest.now) (finished content)
 Ends old new has_doctype fs (Err Memory) = ⊤
 Ends old new has_doctype fs (Err (Refused left kind)) =
-    (st : State) × Reaches (rules_of old) above_body (place fs old.rest.now) st
+    (st : State) × Reaches (rules_of old) above_body (state_at fs old.rest.now) st
     × (step (rules_of old) above_body st ≡ Err kind) × (st.rest ≡ [] → 1 < length st.stack)
     × (left ≡ length st.rest)
 
@@ -98,7 +98,7 @@ StopsDeep reader fs (Refused left kind) =
 pub record HasSettled (old new : Reader) (has_doctype : Bool) (fs : List OpenElement) : Type 0 where
   pub opened : List OpenElement
   pub holds : Holds new has_doctype opened
-  pub reaches : Reaches (rules_of old) above_body (place fs old.rest.now) (place opened old.rest.now)
+  pub reaches : Reaches (rules_of old) above_body (state_at fs old.rest.now) (state_at opened old.rest.now)
   pub settled : (is_implied opened && ends_rows old.rest.now) ≡ false
   pub scripting : new.scripting ≡ old.scripting
 
@@ -106,5 +106,5 @@ pub record HasSettled (old new : Reader) (has_doctype : Bool) (fs : List OpenEle
 pub record HasRead (old new : Reader) (has_doctype : Bool) (fs : List OpenElement) : Type 0 where
   pub opened : List OpenElement
   pub holds : Holds new has_doctype opened
-  pub reaches : Reaches (rules_of old) above_body (place fs old.rest.now) (place opened new.rest.now)
+  pub reaches : Reaches (rules_of old) above_body (state_at fs old.rest.now) (state_at opened new.rest.now)
   pub scripting : new.scripting ≡ old.scripting

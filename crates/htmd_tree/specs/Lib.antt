@@ -15,7 +15,7 @@ pub mod Lines
 pub mod Parts
 pub mod Entries
 pub mod DecodedCharacters
-pub mod PlaceFlags
+pub mod Surroundings
 pub mod OpenNodes
 pub mod Advances
 pub mod Runs

@@ -1,11 +1,11 @@
 -- The tree that a reader builds and the open elements that it keeps, as those of the grammar's steps.
 use Rattle.std.specs.Prelude.{◌≡◌, ℕ, suc, Bool, true, false, List, [], ◌∷◌, ◌++◌, length, codes}
-use Rattle.htmd_grammar.specs.Places.{parent_name, is_tbody, is_table}
+use Rattle.htmd_grammar.specs.Nesting.{parent_name, is_tbody, is_table}
 use Rattle.htmd_grammar.specs.Documents.{above_body}
 use Rattle.htmd_grammar.specs.Steps.{OpenElement, names_of}
 use Rattle.htmd_tree.specs.Items.{Item, document_item, doctype_node, element_node}
 use Rattle.htmd_tree.specs.Layout.{item_under, forest_items}
-use Rattle.htmd_tree.specs.PlaceFlags.{place_of}
+use Rattle.htmd_tree.specs.Surroundings.{surroundings_of}
 use Rattle.htmd_tree.specs.declared.reader.OpenNode.{OpenNode}
 use Rattle.htmd_tree.specs.declared.reader.Reader.{Reader}
 
@@ -46,7 +46,7 @@ open_node scripting has_doctype f fs =
     record {
       id = length (stack_items has_doctype fs);
       implied = f.implied;
-      place = place_of scripting (names_of above_body (f ∷ fs));
+      surroundings = surroundings_of scripting (names_of above_body (f ∷ fs));
     }
 
 -- what is kept of the open elements, outermost first

@@ -2,7 +2,7 @@
 use Rattle.std.specs.Prelude.{◌≡◌, ℕ, ◌<◌, Bool, true, List, map}
 use Rattle.htmd_grammar.specs.ValueTrees.{AttributePair, ValueTree, document}
 use Rattle.htmd_grammar.specs.ValueTrees.{ValueForest, none, more}
-use Rattle.htmd_grammar.specs.Places.{Context}
+use Rattle.htmd_grammar.specs.Nesting.{Context}
 use Rattle.htmd_grammar.specs.Rules.{project}
 use Rattle.htmd_grammar.specs.Documents.{ReadsDocument}
 use Rattle.htmd_grammar.specs.ReadBack.{is_plain, DenotesAlone}

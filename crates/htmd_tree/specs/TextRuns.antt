@@ -8,7 +8,7 @@ use Rattle.htmd_text.specs.Characters.{less_than_sign, ampersand, carriage_retur
 use Rattle.htmd_text.specs.WhiteSpace.{is_ascii_white_space}
 use Rattle.htmd_grammar.specs.CharacterClasses.{is_empty}
 use Rattle.htmd_grammar.specs.Documents.{above_body}
-use Rattle.htmd_grammar.specs.Places.{parent_name, holds_parts}
+use Rattle.htmd_grammar.specs.Nesting.{parent_name, holds_parts}
 use Rattle.htmd_grammar.specs.RawContent.{begins_markup, begins_own_end, holds_raw_text, holds_text_alone}
 use Rattle.htmd_grammar.specs.References.{Piece, stands, wrong, piece_at}
 use Rattle.htmd_grammar.specs.Rules.{project, named_characters}
@@ -19,7 +19,7 @@ use Rattle.htmd_tree.specs.DecodedCharacters.{piece_of, IsPieceEnd}
 use Rattle.htmd_tree.specs.declared.reader.Stop.{Stop}
 use Rattle.htmd_tree.specs.declared.reader.Stop.TheVariants.{Memory, Refused}
 use Rattle.htmd_tree.specs.declared.reader.references.Character.{Character}
-use Rattle.htmd_tree.specs.declared.reader.text_runs.TextPlace.{TextPlace}
+use Rattle.htmd_tree.specs.declared.reader.text_runs.TextSurroundings.{TextSurroundings}
 
 -- a character stands for itself and may stand there, as its first byte tells
 abbrev pub is_plain : Bool → ℕ → Bool
@@ -31,14 +31,15 @@ is_plain parts b =
 abbrev pub is_run_end : Bool → List ℕ → List ℕ → Bool
 is_run_end alone n s = is_empty s || (if alone then begins_own_end n s else begins_markup s)
 
--- what the place of a text asks is what these open elements ask
-pub record IsTextPlace (scripting : Bool) (place : TextPlace) (n : List ℕ) (fs : List OpenElement) : Type 0 where
-  pub name_is : n ≡ parent_name (names_of above_body fs)
-  pub alone_is : place.alone ≡ holds_text_alone scripting n
-  pub parts_is : place.parts ≡ holds_parts n
-  pub deep_is : place.too_deep ≡ is_too_deep (project scripting) above_body fs
-  pub no_raw_text : holds_raw_text scripting n ≡ false
-  pub no_rows : (is_implied fs && place.alone) ≡ false
+-- what is kept for a text is what these open elements ask of it
+pub record TellsOfText (scripting : Bool) (around : TextSurroundings) (n : List ℕ) (fs : List OpenElement) : Type 0
+  where
+    pub name_is : n ≡ parent_name (names_of above_body fs)
+    pub alone_is : around.alone ≡ holds_text_alone scripting n
+    pub parts_is : around.parts ≡ holds_parts n
+    pub deep_is : around.too_deep ≡ is_too_deep (project scripting) above_body fs
+    pub no_raw_text : holds_raw_text scripting n ≡ false
+    pub no_rows : (is_implied fs && around.alone) ≡ false
 
 -- in the midst of a text
 abbrev pub in_run : List OpenElement → List ℕ → List ℕ → State
@@ -83,9 +84,9 @@ StopsRun scripting fs s (Refused left kind) =
     × (left ≡ length st.rest)
 
 -- the steps lead to the end of the run, or to a fault in it
-abbrev pub ReadsRun : {A : Type 0} → Bool → List OpenElement → TextPlace → List ℕ → List ℕ
+abbrev pub ReadsRun : {A : Type 0} → Bool → List OpenElement → TextSurroundings → List ℕ → List ℕ
     → Result (String A × Bor (List ℕ)) Stop → Type 0
-ReadsRun scripting fs place n s (Ok r) =
+ReadsRun scripting fs around n s (Ok r) =
     Reaches (project scripting) above_body (in_run fs [] s) (in_run fs (string_bytes r.0) r.1.now)
-    × (is_run_end place.alone n r.1.now ≡ true)
-ReadsRun scripting fs place n s (Err stop) = StopsRun scripting fs s stop
+    × (is_run_end around.alone n r.1.now ≡ true)
+ReadsRun scripting fs around n s (Err stop) = StopsRun scripting fs s stop

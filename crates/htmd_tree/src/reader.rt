@@ -3,7 +3,7 @@ ghost use Rattle.std.specs.Prelude.{◌≡◌, ◌∷◌, ◌<◌, ◌≤◌, �
 ghost use Rattle.std.specs.Prelude.{◌==◌, OnOk, IfOk, IfErr, IsTrue, Ok, Err, if◌then◌else◌, codes, string_bytes};
 ghost use Rattle.htmd_grammar.specs.CharacterClasses.{is_empty, first_is};
 ghost use Rattle.htmd_grammar.specs.Documents.{above_body};
-ghost use Rattle.htmd_grammar.specs.Places.{parent_name, is_table};
+ghost use Rattle.htmd_grammar.specs.Nesting.{parent_name, is_table};
 ghost use Rattle.htmd_grammar.specs.RawContent.{ends_text, holds_raw_text, text_of};
 ghost use Rattle.htmd_grammar.specs.CharacterClasses.{up_to, onward};
 ghost use Rattle.htmd_grammar.specs.Steps.{OpenElement, is_too_deep, add, fault, between};
@@ -33,7 +33,6 @@ mod comments;
 mod contents;
 mod line_ends;
 mod pieces;
-mod places;
 mod prelude;
 mod raw_content;
 mod raw_text;
@@ -41,13 +40,14 @@ mod references;
 mod rows;
 mod runs;
 mod scan;
+mod surroundings;
 mod tag_names;
 mod tags;
 mod text_runs;
 mod texts;
 mod values;
 
-use crate::reader::places::Place;
+use crate::reader::surroundings::Surroundings;
 use crate::tree::{Attribute, MAX_DEPTH, NodeData, NodeId, Tree, TreeError};
 pub use body::body_of;
 use htmd_grammar::FaultKind;
@@ -66,12 +66,12 @@ pub enum ReadError {
     Memory,
 }
 
-/// What is kept of an open element: its node, whether no tag opened it, and what its place allows.
+/// What is kept of an open element: its node, whether no tag opened it, and what may stand in it.
 #[derive(Clone, Copy, Drop)]
 pub(crate) struct OpenNode {
     id: NodeId,
     implied: bool,
-    place: Place,
+    surroundings: Surroundings,
 }
 
 /// Why the reader stops. A fault is named by how many bytes are left from its place on.
@@ -195,9 +195,13 @@ impl<'a> Reader<'a> {
             else between (fresh (string_bytes name) (pairs_of attrs.items) implied ∷ fs) self.old.rest.now) }
         ensures rest { self.new.rest.now ≡ self.old.rest.now }
     {
-        let place = self.top().place.inner(name.as_str(), self.scripting);
+        let surroundings = self.top().surroundings.inner(name.as_str(), self.scripting);
         let id = self.add_node(NodeData::Element { name, attrs })?;
-        self.stack.push(OpenNode { id, implied, place })?;
+        self.stack.push(OpenNode {
+            id,
+            implied,
+            surroundings,
+        })?;
         Ok(())
     }
 

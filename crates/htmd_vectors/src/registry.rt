@@ -35,12 +35,7 @@ fn finds_repeated_handlers(rt: HostRuntime) -> Result<(), Fail> {
     }
     let added = handlers.find_handler("u", 0);
     assert!(rt; added.is_some());
-    let table: [(usize, Option<usize>); 4] = [
-        (0, added),
-        (1, added),
-        (2, Some(1)),
-        (3, None),
-    ];
+    let table: [(usize, Option<usize>); 4] = [(0, added), (1, added), (2, Some(1)), (3, None)];
     for (skipped, place) in table {
         assert_eq!(rt; handlers.find_handler("a", skipped), place, "{skipped}");
     }

@@ -5,8 +5,8 @@ ghost use Rattle.htmd_grammar.specs.Documents.{behind_mark, body_text};
 ghost use Rattle.htmd_grammar.specs.Steps.{body};
 ghost use Rattle.htmd_tree.specs.OpenNodes.{Holds, stack_items};
 
-use crate::reader::places::Place;
 use crate::reader::prelude::{behind_doctype, behind_mark};
+use crate::reader::surroundings::Surroundings;
 use crate::reader::{OpenNode, Reader};
 use crate::tree::{NodeId, Tree, TreeError};
 use std::alloc::Global;
@@ -47,7 +47,7 @@ impl<'a> Reader<'a> {
         stack.push(OpenNode {
             id: body,
             implied: false,
-            place: Place::of_body(scripting),
+            surroundings: Surroundings::of_body(scripting),
         })?;
         Ok(Reader {
             alloc,

@@ -36,7 +36,7 @@ impl<'a> Reader<'a> {
             → result ≡ ends_text self.now.scripting (innermost_name fs) self.now.rest.now }
     {
         let bytes = self.rest.as_bytes();
-        if self.top().place.text_alone {
+        if self.top().surroundings.text_alone {
             begins_own_end(bytes, self.innermost_name().as_bytes())
         } else {
             begins_markup(bytes)
@@ -56,7 +56,7 @@ impl<'a> Reader<'a> {
         if self.is_at_markup() {
             return self.read_markup();
         }
-        if self.top().place.raw_text {
+        if self.top().surroundings.raw_text {
             self.read_raw_text()
         } else {
             self.read_text()

@@ -4,7 +4,7 @@ ghost use Rattle.std.specs.Str.{bytes_eq};
 ghost use Rattle.std.specs.Char.{to_ascii_lowercase};
 ghost use Rattle.htmd_grammar.specs.CharacterClasses as classes;
 ghost use Rattle.htmd_grammar.specs.OpenElements as spec;
-ghost use Rattle.htmd_grammar.specs.Places as places;
+ghost use Rattle.htmd_grammar.specs.Nesting as nesting;
 
 fn is_tag_name_byte(byte: u8) -> bool
     ensures { result ≡ classes.is_tag_name_byte byte }
@@ -34,7 +34,7 @@ pub(super) fn is_tag_name(bytes: &[u8], name: &[u8]) -> bool
 
 /// Whether the name of a part of a table stands here.
 fn is_table_part(bytes: &[u8]) -> bool
-    ensures { result ≡ places.is_table_part
+    ensures { result ≡ nesting.is_table_part
         (map to_ascii_lowercase (classes.leading_run classes.is_tag_name_byte bytes.now)) }
 {
     is_tag_name(bytes, b"caption")

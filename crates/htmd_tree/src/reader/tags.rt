@@ -4,7 +4,7 @@ ghost use Rattle.std.specs.Str.{bytes_eq};
 ghost use Rattle.htmd_text.specs.Characters.{less_than_sign};
 ghost use Rattle.htmd_grammar.specs.CharacterClasses.{first_is};
 ghost use Rattle.htmd_grammar.specs.Documents.{above_body};
-ghost use Rattle.htmd_grammar.specs.Places.{is_allowed, is_row};
+ghost use Rattle.htmd_grammar.specs.Nesting.{is_allowed, is_row};
 ghost use Rattle.htmd_grammar.specs.Steps.{OpenElement, names_of, start_tag_step, place_step, open_step, end_tag_step, close_step};
 ghost use Rattle.htmd_grammar.specs.Steps.{markup_step};
 ghost use Rattle.htmd_tree.specs.Views.{pairs_of};
@@ -15,8 +15,8 @@ ghost use Rattle.htmd_tree.specs.Advances.{Follows, rules_of};
 use crate::reader::attribute_values::attributes_of;
 use crate::reader::attributes::tag_form;
 use crate::reader::contents::content_of;
-use crate::reader::places::is_outside;
 use crate::reader::runs::{Class, behind_first, split_run, strip_byte};
+use crate::reader::surroundings::is_outside;
 use crate::reader::tag_names::{in_lower_case, split_name};
 use crate::reader::{Reader, Stop};
 use crate::serialiser::is_void;
@@ -43,7 +43,7 @@ impl<'a> Reader<'a> {
         ensures { (has_doctype : Bool) (fs : List OpenElement) → Holds self.now has_doctype fs
             → result ≡ is_allowed self.now.scripting (names_of above_body fs) name.now }
     {
-        self.top().place.allows(name)
+        self.top().surroundings.allows(name)
     }
 
     /// Opens the element of a start tag, or adds a void one.

@@ -7,7 +7,7 @@ ghost use Rattle.htmd_grammar.specs.CharacterClasses.{leading_run};
 ghost use Rattle.htmd_grammar.specs.Steps.{OpenElement};
 ghost use Rattle.htmd_tree.specs.DecodedCharacters.{IsPieceEnd};
 ghost use Rattle.htmd_tree.specs.declared.reader.Stop.TheVariants.{Refused};
-ghost use Rattle.htmd_tree.specs.TextRuns.{is_plain, is_run_end, IsTextPlace, Pushes, ReadsRun, IsCharacterIn};
+ghost use Rattle.htmd_tree.specs.TextRuns.{is_plain, is_run_end, TellsOfText, Pushes, ReadsRun, IsCharacterIn};
 ghost use Rattle.htmd_tree.specs.TextRuns.{IsFaultIn};
 
 use crate::reader::Stop;
@@ -17,9 +17,9 @@ use crate::reader::scan::begins_markup;
 use htmd_grammar::FaultKind;
 use std::alloc::Global;
 
-/// What the place of a text asks of it.
+/// What is kept of the open elements for a text in them.
 #[derive(Clone, Copy, Drop)]
-pub(crate) struct TextPlace {
+pub(crate) struct TextSurroundings {
     /// Its element's own end tag ends it; elsewhere markup does.
     pub(crate) alone: bool,
     /// It stands between the parts of a table, and is white space.
@@ -95,21 +95,21 @@ fn refused(text: &str, kind: FaultKind) -> Stop
 /// Puts the plain characters with which the text begins behind a run. What is left is answered.
 fn push_plain<'a>(
     run: &mut String,
-    place: TextPlace,
+    around: TextSurroundings,
     text: &'a str,
     len: usize,
 ) -> Result<&'a str, Stop>
     requires some { 0 < len }
-    requires plain { len ≡ length (leading_run (is_plain place.parts) text.now) }
+    requires plain { len ≡ length (leading_run (is_plain around.parts) text.now) }
     ensures steps { (scripting : Bool) (n : List ℕ) (fs : List OpenElement)
-        → IsTextPlace scripting place n fs
+        → TellsOfText scripting around n fs
         → Pushes scripting fs (string_bytes run.old) text.now (string_bytes run.new) result }
     ensures shorter { IfOk result (λ rest. length rest.now < length text.now) }
     ensures text { IfOk result (λ rest. IsUtf8 rest.now) }
     ensures longer { OnOk result (0 < length (string_bytes run.new)) }
-    ensures deep { OnOk result (place.too_deep ≡ false) }
+    ensures deep { OnOk result (around.too_deep ≡ false) }
 {
-    if place.too_deep {
+    if around.too_deep {
         return Err(refused(text, FaultKind::TooDeep));
     }
     let (front, rest) = text.split_at(len);
@@ -118,20 +118,24 @@ fn push_plain<'a>(
 }
 
 /// Puts the character with which the text begins, which isn't plain, behind a run. What is left is answered.
-fn push_special<'a>(run: &mut String, place: TextPlace, text: &'a str) -> Result<&'a str, Stop>
+fn push_special<'a>(
+    run: &mut String,
+    around: TextSurroundings,
+    text: &'a str,
+) -> Result<&'a str, Stop>
     requires more { 0 < length text.now }
-    requires special { is_plain place.parts (slice_index text.now 0) ≡ false }
+    requires special { is_plain around.parts (slice_index text.now 0) ≡ false }
     ensures steps { (scripting : Bool) (n : List ℕ) (fs : List OpenElement)
-        → IsTextPlace scripting place n fs → is_run_end place.alone n text.now ≡ false
+        → TellsOfText scripting around n fs → is_run_end around.alone n text.now ≡ false
         → Pushes scripting fs (string_bytes run.old) text.now (string_bytes run.new) result }
     ensures shorter { IfOk result (λ rest. length rest.now < length text.now) }
     ensures text { IfOk result (λ rest. IsUtf8 rest.now) }
     ensures longer { OnOk result (0 < length (string_bytes run.new)) }
-    ensures deep { OnOk result (place.too_deep ≡ false) }
+    ensures deep { OnOk result (around.too_deep ≡ false) }
 {
-    match character_in(text.as_bytes(), place.parts) {
+    match character_in(text.as_bytes(), around.parts) {
         Ok(character) => {
-            if place.too_deep {
+            if around.too_deep {
                 return Err(refused(text, FaultKind::TooDeep));
             }
             run.push(character.value)?;
@@ -142,21 +146,21 @@ fn push_special<'a>(run: &mut String, place: TextPlace, text: &'a str) -> Result
 }
 
 /// Puts what comes next in a text behind a run: plain characters, or one other. What is left is answered.
-fn push_next<'a>(run: &mut String, place: TextPlace, text: &'a str) -> Result<&'a str, Stop>
+fn push_next<'a>(run: &mut String, around: TextSurroundings, text: &'a str) -> Result<&'a str, Stop>
     requires more { 0 < length text.now }
     ensures steps { (scripting : Bool) (n : List ℕ) (fs : List OpenElement)
-        → IsTextPlace scripting place n fs → is_run_end place.alone n text.now ≡ false
+        → TellsOfText scripting around n fs → is_run_end around.alone n text.now ≡ false
         → Pushes scripting fs (string_bytes run.old) text.now (string_bytes run.new) result }
     ensures shorter { IfOk result (λ rest. length rest.now < length text.now) }
     ensures text { IfOk result (λ rest. IsUtf8 rest.now) }
     ensures longer { OnOk result (0 < length (string_bytes run.new)) }
-    ensures deep { OnOk result (place.too_deep ≡ false) }
+    ensures deep { OnOk result (around.too_deep ≡ false) }
 {
-    let len = plain_len(text.as_bytes(), place.parts);
+    let len = plain_len(text.as_bytes(), around.parts);
     if len == 0 {
-        push_special(run, place, text)
+        push_special(run, around, text)
     } else {
-        push_plain(run, place, text, len)
+        push_plain(run, around, text, len)
     }
 }
 
@@ -165,20 +169,20 @@ pub(crate) fn read_run<'a>(
     alloc: Global,
     text: &'a str,
     name: &[u8],
-    place: TextPlace,
+    around: TextSurroundings,
 ) -> Result<(String, &'a str), Stop>
     requires more { 0 < length text.now }
-    ensures steps { (scripting : Bool) (fs : List OpenElement) → IsTextPlace scripting place name.now fs
-        → is_run_end place.alone name.now text.now ≡ false
-        → ReadsRun scripting fs place name.now text.now result }
+    ensures steps { (scripting : Bool) (fs : List OpenElement) → TellsOfText scripting around name.now fs
+        → is_run_end around.alone name.now text.now ≡ false
+        → ReadsRun scripting fs around name.now text.now result }
     ensures shorter { IfOk result (λ r. length r.1.now < length text.now) }
     ensures longer { IfOk result (λ r. 0 < length (string_bytes r.0)) }
-    ensures deep { OnOk result (place.too_deep ≡ false) }
+    ensures deep { OnOk result (around.too_deep ≡ false) }
 {
     let mut run = String::new(alloc);
-    let mut rest = push_next(&mut run, place, text)?;
-    while !is_run_end(rest.as_bytes(), name, place.alone) {
-        rest = push_next(&mut run, place, rest)?;
+    let mut rest = push_next(&mut run, around, text)?;
+    while !is_run_end(rest.as_bytes(), name, around.alone) {
+        rest = push_next(&mut run, around, rest)?;
     }
     Ok((run, rest))
 }

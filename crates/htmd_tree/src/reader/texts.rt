@@ -4,25 +4,25 @@ ghost use Rattle.htmd_grammar.specs.Documents.{above_body};
 ghost use Rattle.htmd_grammar.specs.CharacterClasses.{is_empty, leading_run};
 ghost use Rattle.htmd_grammar.specs.Steps.{OpenElement};
 ghost use Rattle.htmd_tree.specs.OpenNodes.{Holds, IsReading, innermost_name};
-ghost use Rattle.htmd_tree.specs.TextRuns.{IsTextPlace};
+ghost use Rattle.htmd_tree.specs.TextRuns.{TellsOfText};
 ghost use Rattle.htmd_tree.specs.Advances.{Advances, IsAtText};
 
-use crate::reader::text_runs::{TextPlace, read_run};
+use crate::reader::text_runs::{TextSurroundings, read_run};
 use crate::reader::{Reader, Stop};
 use crate::tree::NodeData;
 
 impl<'a> Reader<'a> {
     /// What the innermost open element asks of its texts.
-    fn text_place(&self) -> TextPlace
+    fn text_surroundings(&self) -> TextSurroundings
         requires reading { IsReading self.now }
         ensures { (has_doctype : Bool) (fs : List OpenElement) → Holds self.now has_doctype fs
             → IsAtText self.now fs
-            → IsTextPlace self.now.scripting result (innermost_name fs) fs }
+            → TellsOfText self.now.scripting result (innermost_name fs) fs }
     {
-        let place = self.top().place;
-        TextPlace {
-            alone: place.text_alone,
-            parts: place.parts,
+        let around = self.top().surroundings;
+        TextSurroundings {
+            alone: around.text_alone,
+            parts: around.parts,
             too_deep: self.is_too_deep(),
         }
     }
@@ -36,9 +36,9 @@ impl<'a> Reader<'a> {
         ensures reading { OnOk result (IsReading self.new) }
         ensures shorter { OnOk result (length self.new.rest.now < length self.old.rest.now) }
     {
-        let place = self.text_place();
+        let around = self.text_surroundings();
         let name = self.innermost_name().as_bytes();
-        let (run, rest) = read_run(self.alloc, self.rest, name, place)?;
+        let (run, rest) = read_run(self.alloc, self.rest, name, around)?;
         self.add_leaf(NodeData::Text(run), rest)
     }
 }

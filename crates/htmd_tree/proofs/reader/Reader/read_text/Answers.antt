@@ -7,7 +7,7 @@ use Rattle.htmd_grammar.specs.Documents.{above_body}
 use Rattle.htmd_grammar.specs.Steps.{add}
 use Rattle.htmd_tree.specs.Advances.{rules_of}
 use Rattle.htmd_tree.specs.OpenNodes.{innermost_name}
-use Rattle.htmd_tree.specs.TextRuns.{IsTextPlace}
+use Rattle.htmd_tree.specs.TextRuns.{TellsOfText}
 use Rattle.htmd_tree.proofs.TagAnswersLemmas.{shorter_follows}
 use Rattle.htmd_tree.proofs.TagStepsLemmas.{add_within}
 use Rattle.htmd_tree.proofs.TextsLemmas.{text_goes_on, text_read, text_stops}
@@ -18,24 +18,24 @@ returns-in_err-run-clause-advances c = λ has_doctype fs holds there.
     let p = err_from_is_err_and c.from_residual.result c.from_residual.ensures.1 in
     let name : c.as_bytes-name.result.now ≡ innermost_name fs =
     c.as_bytes-name.ensures.value ∙ c.innermost_name.ensures has_doctype fs holds in
-    let place =
-    subst (λ (n : List ℕ). IsTextPlace c.args.self.now.scripting c.text_place-place.result n fs) (sym name)
-    (c.text_place-place.ensures has_doctype fs holds there) in
+    let around =
+    subst (λ (n : List ℕ). TellsOfText c.args.self.now.scripting c.text_surroundings-place.result n fs) (sym name)
+    (c.text_surroundings-place.ensures has_doctype fs holds there) in
     rw (p.1, p.2) (text_stops c.args.self.now c.args.self.now has_doctype fs c.in_err-run.field-0.0
-    (c.in_err-run.ensures.steps c.args.self.now.scripting fs place
-    (text_goes_on c.args.self.now c.text_place-place.result c.as_bytes-name.result.now fs place there)))
+    (c.in_err-run.ensures.steps c.args.self.now.scripting fs around
+    (text_goes_on c.args.self.now c.text_surroundings-place.result c.as_bytes-name.result.now fs around there)))
 
 pub returns-clause-advances : goal.returns-clause-advances
 returns-clause-advances c = λ has_doctype fs holds there.
     let name : c.as_bytes-name.result.now ≡ innermost_name fs =
     c.as_bytes-name.ensures.value ∙ c.innermost_name.ensures has_doctype fs holds in
-    let place =
-    subst (λ (n : List ℕ). IsTextPlace c.args.self.now.scripting c.text_place-place.result n fs) (sym name)
-    (c.text_place-place.ensures has_doctype fs holds there) in
-    let read = c.in_ok-run.ensures.steps c.args.self.now.scripting fs place
-    (text_goes_on c.args.self.now c.text_place-place.result c.as_bytes-name.result.now fs place there) in
-    text_read c.args.self.now c.add_leaf.new.self has_doctype fs c.add_leaf.result c.text_place-place.result
-    c.as_bytes-name.result.now (string_bytes c.in_ok-run.run') c.in_ok-run.rest.now place c.in_ok-run.ensures.deep
+    let around =
+    subst (λ (n : List ℕ). TellsOfText c.args.self.now.scripting c.text_surroundings-place.result n fs) (sym name)
+    (c.text_surroundings-place.ensures has_doctype fs holds there) in
+    let read = c.in_ok-run.ensures.steps c.args.self.now.scripting fs around
+    (text_goes_on c.args.self.now c.text_surroundings-place.result c.as_bytes-name.result.now fs around there) in
+    text_read c.args.self.now c.add_leaf.new.self has_doctype fs c.add_leaf.result c.text_surroundings-place.result
+    c.as_bytes-name.result.now (string_bytes c.in_ok-run.run') c.in_ok-run.rest.now around c.in_ok-run.ensures.deep
     c.in_ok-run.ensures.longer read.0 read.1 (c.add_leaf.ensures.follows has_doctype fs holds)
 
 pub returns-clause-shorter : goal.returns-clause-shorter

@@ -8,26 +8,26 @@ use Rattle.htmd_tree.proofs.reader.text_runs.push_special.Goals as goal
 
 pub returns-then-place-clause-steps : goal.returns-then-place-clause-steps
 returns-then-place-clause-steps c = λ scripting n fs there goes_on.
-    let character = subst (λ (s : List ℕ). IsCharacterIn c.args.place.parts s c.in-Ok.character)
+    let character = subst (λ (s : List ℕ). IsCharacterIn c.args.around.parts s c.in-Ok.character)
     c.as_bytes.ensures.value c.in-Ok.ensures in
     subst (λ (x : Stop). Pushes scripting fs (string_bytes c.args.run.now) c.args.text.now
     (string_bytes c.args.run.now) (Err x)) (sym c.refused.ensures) (
-      special_deep scripting c.args.place n fs there (string_bytes c.args.run.now) c.args.text.now c.in-Ok.character
+      special_deep scripting c.args.around n fs there (string_bytes c.args.run.now) c.args.text.now c.in-Ok.character
           c.if-place.true goes_on character,
       refl,
     )
 
 pub range_from-requires : goal.range_from-requires
 range_from-requires c =
-    let character = subst (λ (s : List ℕ). IsCharacterIn c.args.place.parts s c.in-Ok.character)
+    let character = subst (λ (s : List ℕ). IsCharacterIn c.args.around.parts s c.in-Ok.character)
     c.as_bytes.ensures.value c.in-Ok.ensures in
-    λ _. special_cut c.args.place.parts c.args.text.now c.in-Ok.character c.utf8.text c.requires.more character
+    λ _. special_cut c.args.around.parts c.args.text.now c.in-Ok.character c.utf8.text c.requires.more character
 
 pub returns-in_ok-push-in-Ok-clause-steps : goal.returns-in_ok-push-in-Ok-clause-steps
 returns-in_ok-push-in-Ok-clause-steps c = λ scripting n fs there goes_on.
-    let character = subst (λ (s : List ℕ). IsCharacterIn c.args.place.parts s c.in-Ok.character)
+    let character = subst (λ (s : List ℕ). IsCharacterIn c.args.around.parts s c.in-Ok.character)
     c.as_bytes.ensures.value c.in-Ok.ensures in
-    special_pushed scripting c.args.place n fs there (string_bytes c.args.run.now) c.args.text.now
+    special_pushed scripting c.args.around n fs there (string_bytes c.args.run.now) c.args.text.now
     c.range_from.result.now (string_bytes c.push.new.self) c.in-Ok.character c.if-place.false goes_on character
     c.range_from.ensures.value c.in_ok-push-in-Ok.ensures.bytes
 
@@ -38,11 +38,11 @@ returns-in_ok-push-in-Ok-clause-longer c =
 
 pub returns-in-Err-clause-steps : goal.returns-in-Err-clause-steps
 returns-in-Err-clause-steps c = λ scripting n fs there goes_on.
-    let fault = subst (λ (s : List ℕ). IsFaultIn c.args.place.parts s c.in-Err.kind)
+    let fault = subst (λ (s : List ℕ). IsFaultIn c.args.around.parts s c.in-Err.kind)
     c.as_bytes.ensures.value c.in-Err.ensures in
     subst (λ (x : Stop). Pushes scripting fs (string_bytes c.args.run.now) c.args.text.now
     (string_bytes c.args.run.now) (Err x)) (sym c.refused-in-Err.ensures) (
-      special_wrong scripting c.args.place n fs there (string_bytes c.args.run.now) c.args.text.now c.in-Err.kind
+      special_wrong scripting c.args.around n fs there (string_bytes c.args.run.now) c.args.text.now c.in-Err.kind
           goes_on fault,
       refl,
     )

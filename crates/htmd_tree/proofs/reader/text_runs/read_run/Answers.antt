@@ -11,14 +11,14 @@ use Rattle.htmd_tree.proofs.PiecesLemmas.{reaches_then}
 pub returns-in_err-rest-clause-steps : goal.returns-in_err-rest-clause-steps
 returns-in_err-rest-clause-steps c = λ scripting fs there goes_on.
     let p = err_from_is_err_and c.from_residual.result c.from_residual.ensures.1 in
-    rw (p.1, p.2) (stops_there scripting fs c.args.place c.args.name.now c.args.text.now
+    rw (p.1, p.2) (stops_there scripting fs c.args.around c.args.name.now c.args.text.now
     (string_bytes c.new-run.result) [] c.args.text.now (string_bytes c.push_next.new.run) c.in_err-rest.field-0.0
     here c.new-run.ensures.bytes goes_on (c.in_err-rest.ensures.steps scripting c.args.name.now fs there goes_on))
 
 pub loop-place-preserved : goal.loop-place-preserved
 loop-place-preserved c =
-    let more : is_run_end c.args.place.alone c.args.name.now c.loop-place.rest.now ≡ false =
-    ap (is_run_end c.args.place.alone c.args.name.now) (sym c.as_bytes.ensures.value) ∙ sym c.is_run_end.ensures
+    let more : is_run_end c.args.around.alone c.args.name.now c.loop-place.rest.now ≡ false =
+    ap (is_run_end c.args.around.alone c.args.name.now) (sym c.as_bytes.ensures.value) ∙ sym c.is_run_end.ensures
     ∙ c.loop-place-test.true in
     record {
       text = c.in_ok-rest-2.ensures.text;
@@ -33,6 +33,6 @@ loop-place-preserved c =
 pub returns-clause-steps : goal.returns-clause-steps
 returns-clause-steps c = λ scripting fs there goes_on. (
   c.loop-place.invariant.steps scripting fs there goes_on,
-  ap (is_run_end c.args.place.alone c.args.name.now) (sym c.as_bytes.ensures.value) ∙ sym c.is_run_end.ensures
+  ap (is_run_end c.args.around.alone c.args.name.now) (sym c.as_bytes.ensures.value) ∙ sym c.is_run_end.ensures
       ∙ c.loop-place-test.false,
 )

@@ -6,7 +6,7 @@ use Rattle.std.specs.String.{string_bytes}
 use Rattle.htmd_grammar.specs.Documents.{above_body}
 use Rattle.htmd_grammar.specs.Rules.{project}
 use Rattle.htmd_grammar.specs.Steps.{OpenElement, Reaches}
-use Rattle.htmd_tree.specs.TextRuns.{is_run_end, in_run, IsTextPlace}
+use Rattle.htmd_tree.specs.TextRuns.{is_run_end, in_run, TellsOfText}
 use Rattle.htmd_tree.proofs.reader.text_runs.read_run.Given as goal
 
 abbrev pub invariant-loop-place : goal.invariant-loop-place
@@ -14,9 +14,9 @@ invariant-loop-place l = record {
   text : shadow (Utf8 l.rest);
   shorter : length l.rest < length l.text;
   longer : 0 < length (string_bytes l.run);
-  deep : l.place.too_deep ≡ false;
-  steps : (scripting : Bool) (fs : List OpenElement) → IsTextPlace scripting l.place l.name fs
-      → is_run_end l.place.alone l.name l.text ≡ false
+  deep : l.around.too_deep ≡ false;
+  steps : (scripting : Bool) (fs : List OpenElement) → TellsOfText scripting l.around l.name fs
+      → is_run_end l.around.alone l.name l.text ≡ false
       → Reaches (project scripting) above_body (in_run fs [] l.text) (in_run fs (string_bytes l.run) l.rest);
 }
 

@@ -7,8 +7,8 @@ use Rattle.std.specs.Str.{bytes_eq}
 use Rattle.std.proofs.lemmas.Bool.{not-true, and_parts}
 use Rattle.std.proofs.Math.Bool.{or-false}
 use Rattle.htmd_grammar.specs.CharacterClasses.{is_among}
-use Rattle.htmd_grammar.specs.Places.{Context, fits_lists, fits_open_elements, fits_select, fits_table, is_allowed}
-use Rattle.htmd_grammar.specs.Places.{is_outside, is_row, is_table, is_table_part, is_tbody, parent_name}
+use Rattle.htmd_grammar.specs.Nesting.{Context, fits_lists, fits_open_elements, fits_select, fits_table, is_allowed}
+use Rattle.htmd_grammar.specs.Nesting.{is_outside, is_row, is_table, is_table_part, is_tbody, parent_name}
 use Rattle.htmd_grammar.specs.RawContent.{holds_text_alone}
 use Rattle.htmd_grammar.specs.Serialisation.{is_void}
 use Rattle.htmd_grammar.proofs.BooleanLemmas.{and_false}
@@ -61,7 +61,7 @@ text_alone_passes P z n e l = among_passes P text_alone_names n (named e) l
 pub tbody_not_table : (p : List ℕ) → is_tbody p ≡ true → is_table p ≡ true → ⊥
 tbody_not_table p t e = let q = one_name (codes "table") p e in let r = rw q at t in cc
 
--- what the places ask, apart from what is open further out
+-- what the innermost element asks, apart from what is open further out
 pub allowed_parts : (z : Bool) (c : Context) (n : List ℕ) → is_allowed z c n ≡ true
     → (is_outside n ≡ false) × (holds_text_alone z (parent_name c) ≡ false)
     × (fits_table (parent_name c) n ≡ true)
@@ -74,7 +74,7 @@ allowed_parts z c n a =
     let g = and_parts (not (is_outside n) && not (holds_text_alone z (parent_name c)) && fits_table (parent_name c) n)
     (fits_select (parent_name c) n) f.0 in
     let h =
-        and_parts (not (is_outside n) && not (holds_text_alone z (parent_name c))) (fits_table (parent_name c) n) g.0
+    and_parts (not (is_outside n) && not (holds_text_alone z (parent_name c))) (fits_table (parent_name c) n) g.0
     in
     let i = and_parts (not (is_outside n)) (not (holds_text_alone z (parent_name c))) h.0 in
     (not-true (is_outside n) i.0, not-true (holds_text_alone z (parent_name c)) i.1, h.1)

@@ -1,17 +1,18 @@
--- What is kept of an element's place tells what may stand there.
+-- What is kept of an element and its ancestors tells what may stand there.
 use Rattle.std.proofs.Common.{◌≡◌, ℕ, Bool, true, false, ◌&&◌, ◌||◌, List, [], ◌∷◌, ◌++◌, refl, sym, ap, ◌∙◌}
 use Rattle.std.proofs.Common.{subst, codes}
 use Rattle.std.specs.Str.{bytes_eq}
 use Rattle.std.proofs.lemmas.List.Folds.{list_any-append}
 use Rattle.htmd_text.proofs.Cases.{test}
 use Rattle.htmd_grammar.specs.CharacterClasses.{is_among}
-use Rattle.htmd_grammar.specs.Places.{Context, is_open, excludes_itself, is_allowed, closes_paragraph}
-use Rattle.htmd_grammar.proofs.PlacesLemmas.{one_name}
-use Rattle.htmd_tree.specs.PlaceFlags.{place_of, own_flag, flags_allow, closer_a_to_d, closer_f_to_h, closer_l_to_x}
-use Rattle.htmd_tree.specs.declared.reader.places.Place.{Place}
+use Rattle.htmd_grammar.specs.Nesting.{Context, is_open, excludes_itself, is_allowed, closes_paragraph}
+use Rattle.htmd_grammar.proofs.NestingLemmas.{one_name}
+use Rattle.htmd_tree.specs.Surroundings.{surroundings_of, own_flag, flags_allow, closer_a_to_d, closer_f_to_h}
+use Rattle.htmd_tree.specs.Surroundings.{closer_l_to_x}
+use Rattle.htmd_tree.specs.declared.reader.surroundings.Surroundings.{Surroundings}
 
--- a place is what its flags are
-pub same_place : (p q : Place)
+-- what is kept is its flags
+pub same_surroundings : (p q : Surroundings)
     → p.text_alone ≡ q.text_alone
     → p.raw_text ≡ q.raw_text
     → p.parts ≡ q.parts
@@ -34,27 +35,27 @@ pub same_place : (p q : Place)
     → p.item ≡ q.item
     → p.description ≡ q.description
     → p ≡ q
-same_place p q h1 h2 h3 h4 h5 h6 h7 h8 h9 h10 h11 h12 h13 h14 h15 h16 h17 h18 h19 h20 h21 =
-    let p1 : Place = record p { text_alone = q.text_alone } in
-    let p2 : Place = record p1 { raw_text = q.raw_text } in
-    let p3 : Place = record p2 { parts = q.parts } in
-    let p4 : Place = record p3 { table = q.table } in
-    let p5 : Place = record p4 { rows = q.rows } in
-    let p6 : Place = record p5 { row = q.row } in
-    let p7 : Place = record p6 { columns = q.columns } in
-    let p8 : Place = record p7 { select = q.select } in
-    let p9 : Place = record p8 { option_group = q.option_group } in
-    let p10 : Place = record p9 { option = q.option } in
-    let p11 : Place = record p10 { heading = q.heading } in
-    let p12 : Place = record p11 { open_p = q.open_p } in
-    let p13 : Place = record p12 { open_a = q.open_a } in
-    let p14 : Place = record p13 { open_button = q.open_button } in
-    let p15 : Place = record p14 { open_form = q.open_form } in
-    let p16 : Place = record p15 { open_nobr = q.open_nobr } in
-    let p17 : Place = record p16 { open_select = q.open_select } in
-    let p18 : Place = record p17 { open_option = q.open_option } in
-    let p19 : Place = record p18 { open_options = q.open_options } in
-    let p20 : Place = record p19 { item = q.item } in
+same_surroundings p q h1 h2 h3 h4 h5 h6 h7 h8 h9 h10 h11 h12 h13 h14 h15 h16 h17 h18 h19 h20 h21 =
+    let p1 : Surroundings = record p { text_alone = q.text_alone } in
+    let p2 : Surroundings = record p1 { raw_text = q.raw_text } in
+    let p3 : Surroundings = record p2 { parts = q.parts } in
+    let p4 : Surroundings = record p3 { table = q.table } in
+    let p5 : Surroundings = record p4 { rows = q.rows } in
+    let p6 : Surroundings = record p5 { row = q.row } in
+    let p7 : Surroundings = record p6 { columns = q.columns } in
+    let p8 : Surroundings = record p7 { select = q.select } in
+    let p9 : Surroundings = record p8 { option_group = q.option_group } in
+    let p10 : Surroundings = record p9 { option = q.option } in
+    let p11 : Surroundings = record p10 { heading = q.heading } in
+    let p12 : Surroundings = record p11 { open_p = q.open_p } in
+    let p13 : Surroundings = record p12 { open_a = q.open_a } in
+    let p14 : Surroundings = record p13 { open_button = q.open_button } in
+    let p15 : Surroundings = record p14 { open_form = q.open_form } in
+    let p16 : Surroundings = record p15 { open_nobr = q.open_nobr } in
+    let p17 : Surroundings = record p16 { open_select = q.open_select } in
+    let p18 : Surroundings = record p17 { open_option = q.open_option } in
+    let p19 : Surroundings = record p18 { open_options = q.open_options } in
+    let p20 : Surroundings = record p19 { item = q.item } in
     ap (λ (x : Bool). record p { text_alone = x }) h1
     ∙ (ap (λ (x : Bool). record p1 { raw_text = x }) h2
     ∙ (ap (λ (x : Bool). record p2 { parts = x }) h3
@@ -92,7 +93,7 @@ not_named m n e = or_left (bytes_eq n m) e
 
 module _ (scripting : Bool) (c : Context) where
   abbrev OwnFlag : List ℕ → Type 0
-  OwnFlag n = own_flag (place_of scripting c) n ≡ (excludes_itself n && is_open (n ∷ []) c)
+  OwnFlag n = own_flag (surroundings_of scripting c) n ≡ (excludes_itself n && is_open (n ∷ []) c)
 
   by_name : (m n : List ℕ) → OwnFlag m → is_among (m ∷ []) n ≡ true → OwnFlag n
   by_name m n h e = subst OwnFlag (sym (one_name m n e)) h
@@ -114,13 +115,13 @@ module _ (scripting : Bool) (c : Context) where
         not_named (codes "option") n v,
       ) refl))))))
 
-  allowed_there : (n : List ℕ) → flags_allow (place_of scripting c) n ≡ is_allowed scripting c n
+  allowed_there : (n : List ℕ) → flags_allow (surroundings_of scripting c) n ≡ is_allowed scripting c n
   unfolding is_allowed
   allowed_there n = rw (own_flag-is n) refl
 
-  pub flags_allow-is : (place : Place) (n : List ℕ) → place ≡ place_of scripting c
-      → flags_allow place n ≡ is_allowed scripting c n
-  flags_allow-is place n e = ap (λ (p : Place). flags_allow p n) e ∙ allowed_there n
+  pub flags_allow-is : (around : Surroundings) (n : List ℕ) → around ≡ surroundings_of scripting c
+      → flags_allow around n ≡ is_allowed scripting c n
+  flags_allow-is around n e = ap (λ (p : Surroundings). flags_allow p n) e ∙ allowed_there n
 
 -- the names that don't stand under an open p are those of the three parts
 pub closers : (n : List ℕ) → closes_paragraph n

@@ -1,7 +1,7 @@
 -- What is left to prove of `allows`.
 use Rattle.std.proofs.Common.{◌∙◌}
-use Rattle.htmd_tree.proofs.PlaceFlagsLemmas.{flags_allow-is}
-use Rattle.htmd_tree.proofs.reader.places.Place.allows.Goals as goal
+use Rattle.htmd_tree.proofs.SurroundingsLemmas.{flags_allow-is}
+use Rattle.htmd_tree.proofs.reader.surroundings.Surroundings.allows.Goals as goal
 
 pub returns : goal.returns
 returns c = λ scripting above e.

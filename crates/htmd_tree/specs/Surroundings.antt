@@ -2,13 +2,13 @@
 use Rattle.std.specs.Prelude.{ℕ, Bool, false, not, ◌&&◌, ◌||◌, if◌then◌else◌, List, [], ◌∷◌, codes}
 use Rattle.htmd_grammar.specs.CharacterClasses.{is_among}
 use Rattle.htmd_grammar.specs.RawContent.{holds_raw_text, holds_text_alone}
-use Rattle.htmd_grammar.specs.Places.{Context, parent_name, is_open, is_met_before, is_heading, is_table, holds_rows}
-use Rattle.htmd_grammar.specs.Places.{is_row, holds_parts, is_optgroup, is_option, is_outside, is_table_part}
-use Rattle.htmd_grammar.specs.Places.{closes_paragraph}
-use Rattle.htmd_tree.specs.declared.reader.places.Place.{Place}
+use Rattle.htmd_grammar.specs.Nesting.{Context, parent_name, is_open, is_met_before, is_heading, is_table, holds_rows}
+use Rattle.htmd_grammar.specs.Nesting.{is_row, holds_parts, is_optgroup, is_option, is_outside, is_table_part}
+use Rattle.htmd_grammar.specs.Nesting.{closes_paragraph}
+use Rattle.htmd_tree.specs.declared.reader.surroundings.Surroundings.{Surroundings}
 
-abbrev pub place_of : Bool → Context → Place
-place_of scripting c =
+abbrev pub surroundings_of : Bool → Context → Surroundings
+surroundings_of scripting c =
     record {
       text_alone = holds_text_alone scripting (parent_name c);
       raw_text = holds_raw_text scripting (parent_name c);
@@ -35,51 +35,51 @@ place_of scripting c =
 
 -- ---- what may stand where this is kept, as `is_allowed` has it
 
-abbrev pub flags_fit_table : Place → List ℕ → Bool
-flags_fit_table place n =
-    if is_table_part n then place.table
-    else if is_row n then place.rows
-    else if is_among (codes "td" ∷ codes "th" ∷ []) n then place.row
-    else if is_among (codes "col" ∷ []) n then place.columns
-    else not place.parts
+abbrev pub flags_fit_table : Surroundings → List ℕ → Bool
+flags_fit_table around n =
+    if is_table_part n then around.table
+    else if is_row n then around.rows
+    else if is_among (codes "td" ∷ codes "th" ∷ []) n then around.row
+    else if is_among (codes "col" ∷ []) n then around.columns
+    else not around.parts
 
-abbrev pub flags_fit_select : Place → List ℕ → Bool
-flags_fit_select place n =
-    if place.select then is_option n || is_optgroup n
-    else if place.option_group then is_option n
-    else not place.option
+abbrev pub flags_fit_select : Surroundings → List ℕ → Bool
+flags_fit_select around n =
+    if around.select then is_option n || is_optgroup n
+    else if around.option_group then is_option n
+    else not around.option
 
 -- an element that doesn't stand in itself is open
-abbrev pub own_flag : Place → List ℕ → Bool
-own_flag place n =
-    if is_among (codes "a" ∷ []) n then place.open_a
-    else if is_among (codes "button" ∷ []) n then place.open_button
-    else if is_among (codes "form" ∷ []) n then place.open_form
-    else if is_among (codes "nobr" ∷ []) n then place.open_nobr
-    else if is_among (codes "select" ∷ []) n then place.open_select
-    else if is_among (codes "option" ∷ []) n then place.open_option
+abbrev pub own_flag : Surroundings → List ℕ → Bool
+own_flag around n =
+    if is_among (codes "a" ∷ []) n then around.open_a
+    else if is_among (codes "button" ∷ []) n then around.open_button
+    else if is_among (codes "form" ∷ []) n then around.open_form
+    else if is_among (codes "nobr" ∷ []) n then around.open_nobr
+    else if is_among (codes "select" ∷ []) n then around.open_select
+    else if is_among (codes "option" ∷ []) n then around.open_option
     else false
 
-abbrev pub flags_fit_open_elements : Place → List ℕ → Bool
-flags_fit_open_elements place n =
-    not (closes_paragraph n && place.open_p)
-    && not (own_flag place n)
-    && not (is_optgroup n && place.open_options)
-    && not (is_heading n && place.heading)
+abbrev pub flags_fit_open_elements : Surroundings → List ℕ → Bool
+flags_fit_open_elements around n =
+    not (closes_paragraph n && around.open_p)
+    && not (own_flag around n)
+    && not (is_optgroup n && around.open_options)
+    && not (is_heading n && around.heading)
 
-abbrev pub flags_fit_lists : Place → List ℕ → Bool
-flags_fit_lists place n =
-    not (is_among (codes "li" ∷ []) n && place.item)
-    && not (is_among (codes "dd" ∷ codes "dt" ∷ []) n && place.description)
+abbrev pub flags_fit_lists : Surroundings → List ℕ → Bool
+flags_fit_lists around n =
+    not (is_among (codes "li" ∷ []) n && around.item)
+    && not (is_among (codes "dd" ∷ codes "dt" ∷ []) n && around.description)
 
-abbrev pub flags_allow : Place → List ℕ → Bool
-flags_allow place n =
+abbrev pub flags_allow : Surroundings → List ℕ → Bool
+flags_allow around n =
     not (is_outside n)
-    && not place.text_alone
-    && flags_fit_table place n
-    && flags_fit_select place n
-    && flags_fit_open_elements place n
-    && flags_fit_lists place n
+    && not around.text_alone
+    && flags_fit_table around n
+    && flags_fit_select around n
+    && flags_fit_open_elements around n
+    && flags_fit_lists around n
 
 -- ---- the names that `closes_paragraph` has, in three parts
 

@@ -1,13 +1,14 @@
--- What has been read at each state is a good front: the end tags of its open elements make a text of the grammar of it.
+-- What has been read at each state is a viable prefix: the end tags of its open elements make a text of the grammar
+-- of it.
 use Rattle.std.proofs.Common.{Bool, Err, List, [], append_assoc, codes, false, inl, inr, refl, subst, sym, true, ℕ}
 use Rattle.std.proofs.Common.{◌&&◌, ◌++◌, ◌∷◌, ◌≡◌, ◌⊎◌}
 use Rattle.std.proofs.iter.runs.Made.{run}
 use Rattle.std.proofs.lemmas.List.{append-nil}
 use Rattle.htmd_grammar.specs.CharacterClasses.{is_empty}
 use Rattle.htmd_grammar.specs.Documents.{above_body, below_body, body_text}
-use Rattle.htmd_grammar.specs.Fronts.{IsFront, IsGoodFront, Opens, end_tags, with_text}
+use Rattle.htmd_grammar.specs.Fronts.{IsFront, IsViablePrefix, Opens, end_tags, with_text}
 use Rattle.htmd_grammar.specs.Grammar.{ReadsForest, begins_with_row, reads}
-use Rattle.htmd_grammar.specs.Places.{Context}
+use Rattle.htmd_grammar.specs.Nesting.{Context}
 use Rattle.htmd_grammar.specs.Rules.{Rules}
 use Rattle.htmd_grammar.specs.Serialisation.{end_tag}
 use Rattle.htmd_grammar.specs.Steps.{OpenElement, Reaches, State, body, closed, ends_rows, fault, finished, names_of}
@@ -18,7 +19,7 @@ use Rattle.htmd_grammar.specs.declared.fault.FaultKind.TheVariants.{Unclosed}
 use Rattle.htmd_grammar.proofs.BooleanLemmas.{and_false}
 use Rattle.htmd_grammar.proofs.Completeness.{complete, in_text}
 use Rattle.htmd_grammar.proofs.FrontsLemmas.{closes, front_weaker, nodes_weaker, row_append}
-use Rattle.htmd_grammar.proofs.PlacesLemmas.{one_name}
+use Rattle.htmd_grammar.proofs.NestingLemmas.{one_name}
 use Rattle.htmd_grammar.proofs.Readings.{IsAt, Middle, at_conf, conf_start, kept, middle_front, sound}
 use Rattle.htmd_grammar.proofs.Soundness.{IsConf, flag, flag_rows, not_none}
 use Rattle.htmd_grammar.proofs.TagReadingLemmas.{filled}
@@ -53,7 +54,7 @@ module _ (rules : Rules) where
   -- between two pieces
   front_between : (f : OpenElement) (gs : List OpenElement) (s rest : List ℕ)
       → IsConf rules above_body (f ∷ gs) s rest
-      → (f.implied && ends_rows rest) ≡ false → IsGoodFront rules f gs s rest
+      → (f.implied && ends_rows rest) ≡ false → IsViablePrefix rules f gs s rest
   unfolding front_weaker
   front_between f [] s rest c e = record {
     pieces = front_weaker rules above_body f [] (flag rules above_body (f ∷ []) rest) (ends_rows rest) s
@@ -76,7 +77,7 @@ module _ (rules : Rules) where
   front_within : (f : OpenElement) (gs : List OpenElement) (s w run rest : List ℕ)
       → IsConf rules above_body (f ∷ gs) s (w ++ rest) → Middle rules above_body (f ∷ gs) w run rest
       → (f.implied && ends_rows rest) ≡ false
-      → IsGoodFront rules (with_children f (more (text run) none)) gs (s ++ w) rest
+      → IsViablePrefix rules (with_children f (more (text run) none)) gs (s ++ w) rest
   front_within f gs s w run rest c h e =
       let k = middle_front rules above_body f gs (ends_rows rest) s w run rest c h in record {
         pieces = k;
@@ -87,24 +88,24 @@ module _ (rules : Rules) where
             (λ i. row_append f.children (more (text run) none) (c.rows i));
       }
 
-  pub good_front : (f : OpenElement) (gs : List OpenElement) (run rest s : List ℕ)
+  pub viable_prefix : (f : OpenElement) (gs : List OpenElement) (run rest s : List ℕ)
       → IsAt rules above_body (in_text (f ∷ gs) run rest) s → (f.implied && ends_rows rest) ≡ false
-      → IsGoodFront rules (with_text f run) gs s rest
-  good_front f gs run rest s h e = go h.0 h.1 h.2 h.3 h.4
+      → IsViablePrefix rules (with_text f run) gs s rest
+  viable_prefix f gs run rest s h e = go h.0 h.1 h.2 h.3 h.4
     where
       go : (before w : List ℕ) → s ≡ before ++ w → IsConf rules above_body (f ∷ gs) before (w ++ rest)
           → ((w ≡ []) × (run ≡ [])) ⊎ Middle rules above_body (f ∷ gs) w run rest
-          → IsGoodFront rules (with_text f run) gs s rest
+          → IsViablePrefix rules (with_text f run) gs s rest
       go before w q c (inl i) =
           let k = at_conf rules above_body f gs s before w run rest q c i.0 in
-          subst (λ (y : List ℕ). IsGoodFront rules (with_text f y) gs s rest) (sym i.1)
+          subst (λ (y : List ℕ). IsViablePrefix rules (with_text f y) gs s rest) (sym i.1)
           (front_between f gs s rest k e)
       go before w q c (inr i) =
           let n : is_empty run ≡ false = filled run i.begun in
-          let k : IsGoodFront rules (with_children f (more (text run) none)) gs (before ++ w) rest =
+          let k : IsViablePrefix rules (with_children f (more (text run) none)) gs (before ++ w) rest =
           front_within f gs before w run rest c i e in
-          subst (λ (y : List ℕ). IsGoodFront rules (with_text f run) gs y rest) (sym q)
-          (subst (λ (g : OpenElement). IsGoodFront rules g gs (before ++ w) rest) (with_text_is n) k)
+          subst (λ (y : List ℕ). IsViablePrefix rules (with_text f run) gs y rest) (sym q)
+          (subst (λ (g : OpenElement). IsViablePrefix rules g gs (before ++ w) rest) (with_text_is n) k)
         where
           with_text_is : is_empty run ≡ false → with_children f (more (text run) none) ≡ with_text f run
           with_text_is n = rw n refl
@@ -124,11 +125,11 @@ module _ (rules : Rules) where
   -- what has been read at a reached state
   pub reached_front : (s : List ℕ) (f : OpenElement) (gs : List OpenElement) (run rest : List ℕ)
       → Reaches rules above_body (started s) (in_text (f ∷ gs) run rest) → (f.implied && ends_rows rest) ≡ false
-      → (before : List ℕ) × (body_text s ≡ before ++ rest) × IsGoodFront rules (with_text f run) gs before rest
+      → (before : List ℕ) × (body_text s ≡ before ++ rest) × IsViablePrefix rules (with_text f run) gs before rest
   reached_front s f gs run rest r e =
       let k = kept rules above_body (started s) (in_text (f ∷ gs) run rest) [] r
       (conf_start rules above_body (body_text s)) in
-      (k.0, k.1, good_front f gs run rest k.0 k.2 e)
+      (k.0, k.1, viable_prefix f gs run rest k.0 k.2 e)
 
   pub sound_end : (s : List ℕ) (content : ValueForest) → Reaches rules above_body (started s) (finished content)
       → reads rules below_body (body_text s) content

@@ -3,14 +3,14 @@ ghost use Rattle.std.specs.Prelude.{◌≡◌, ◌||◌, ◌&&◌, not, false, [
 ghost use Rattle.std.specs.Str.{bytes_eq};
 ghost use Rattle.htmd_grammar.specs.CharacterClasses.{is_among};
 ghost use Rattle.htmd_grammar.specs.Documents.{below_body};
-ghost use Rattle.htmd_grammar.specs.Places as spec;
+ghost use Rattle.htmd_grammar.specs.Nesting as spec;
 ghost use Rattle.htmd_grammar.specs.RawContent as raw;
-ghost use Rattle.htmd_tree.specs.PlaceFlags.{place_of};
-ghost use Rattle.htmd_tree.specs.PlaceFlags as flags;
+ghost use Rattle.htmd_tree.specs.Surroundings.{surroundings_of};
+ghost use Rattle.htmd_tree.specs.Surroundings as flags;
 
 /// What is kept of an open element and its ancestors.
 #[derive(Clone, Copy, Drop)]
-pub(crate) struct Place {
+pub(crate) struct Surroundings {
     /// It holds text alone, with references or without.
     pub(crate) text_alone: bool,
     /// It holds text without references.
@@ -158,7 +158,7 @@ fn is_closer_l_to_x(name: &str) -> bool
     )
 }
 
-#[tactic(auto, using(crate::proofs::PlaceFlagsLemmas::closers))]
+#[tactic(auto, using(crate::proofs::SurroundingsLemmas::closers))]
 /// Whether an element of this name doesn't stand under an open `p`. Each of the three parts is compiled to a test of
 /// the length first; were all names in one `match`, the last ones wouldn't be.
 fn closes_paragraph(name: &str) -> bool
@@ -243,13 +243,13 @@ fn opens_description(name: &str, above: bool) -> bool
     }
 }
 
-impl Place {
+impl Surroundings {
     /// What is kept of `body`.
-    pub(crate) fn of_body(scripting: bool) -> Place
-        ensures { result ≡ place_of scripting below_body }
+    pub(crate) fn of_body(scripting: bool) -> Surroundings
+        ensures { result ≡ surroundings_of scripting below_body }
     {
         let _scripting = scripting;
-        Place {
+        Surroundings {
             text_alone: false,
             raw_text: false,
             parts: false,
@@ -275,11 +275,11 @@ impl Place {
     }
 
     /// What is kept of an element of this name in an element of which this is kept.
-    pub(crate) fn inner(self, name: &str, scripting: bool) -> Place
-        ensures { (c : spec.Context) → self ≡ place_of scripting c
-            → result ≡ place_of scripting (name.now ∷ c) }
+    pub(crate) fn inner(self, name: &str, scripting: bool) -> Surroundings
+        ensures { (c : spec.Context) → self ≡ surroundings_of scripting c
+            → result ≡ surroundings_of scripting (name.now ∷ c) }
     {
-        Place {
+        Surroundings {
             text_alone: holds_text_alone(name, scripting),
             raw_text: holds_raw_text(name, scripting),
             parts: holds_parts(name),
@@ -380,7 +380,7 @@ impl Place {
 
     /// Whether an element of this name may stand here.
     pub(crate) fn allows(self, name: &str) -> bool
-        ensures { (scripting : Bool) (c : spec.Context) → self ≡ place_of scripting c
+        ensures { (scripting : Bool) (c : spec.Context) → self ≡ surroundings_of scripting c
             → result ≡ spec.is_allowed scripting c name.now }
     {
         self.fits(name)
