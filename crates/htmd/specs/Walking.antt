@@ -1,5 +1,5 @@
 -- The definitions that private clauses alone use: what the walk speaks of on its way.
-use Rattle.std.specs.Prelude.{◌≡◌, ℕ, suc, ◌≤◌, List, Option, All}
+use Rattle.std.specs.Prelude.{◌≡◌, ℕ, suc, ◌≤◌, List, Option, Result, All, IfOk, OnErr}
 use Rattle.htmd_tree.specs.Items.{Item, data_at}
 use Rattle.htmd_tree.specs.NumberedTrees.{tree_of, height}
 use Rattle.htmd_tree.specs.Ancestors.{ancestor_of}
@@ -11,10 +11,12 @@ use Rattle.htmd.specs.declared.element_handler.registry.Outcome.{Outcome}
 use Rattle.htmd.specs.declared.element_handler.registry.Outcome.TheVariants.{Final, ChildrenToo}
 use Rattle.htmd.specs.Handling.{ResultView, PlanView, contents_of_each, OutcomeView, final_result, children_too}
 use Rattle.htmd.specs.Groups.{children_at}
+use Rattle.htmd.specs.Children.{content_alone, descendant_tree}
 use Rattle.htmd.specs.Choice.{Config}
-use Rattle.htmd.specs.Outputs.{Conversion, conversion_of, Writes}
+use Rattle.htmd.specs.Outputs.{Conversion, conversion_of, Writes, Output}
 use Rattle.htmd.specs.Elements.{Occurrence, Answer, answer_after, occurrence_at}
 use Rattle.htmd.specs.Rendering.{written_within, inside_of}
+use Rattle.htmd.specs.Beginnings.{Begins}
 use Rattle.htmd.specs.Views.{plan_view, element_view, element_children, optional_result}
 
 abbrev pub request_view : Request → PlanView
@@ -48,6 +50,33 @@ AtNode conversion id P = (n : ℕ) → height (tree_of conversion.items id) ≤ 
 abbrev pub InNode : Conversion → ℕ → (Writes → Type 0) → Type 0
 InNode conversion id P = (n : ℕ) → height (tree_of conversion.items id) ≤ suc n
     → P (written_within n conversion)
+
+-- where a call ends well, what it gives is this of the element
+abbrev pub ElementGives : {A B E : Type 0} → Config → List Item → Element → (Occurrence → B) → (A → B) → Result A E
+    → Type 0
+ElementGives config items e wanted seen result =
+    IfOk result (λ r. AtElement (conversion_of config items) e (λ at. seen r ≡ wanted at))
+
+-- where it stops, the definitions are the old ones and a beginning of what would have been added
+abbrev pub ElementBegins : {A E : Type 0} → Config → List Item → Element → (Occurrence → List (List ℕ))
+    → List (List ℕ) → List (List ℕ) → Result A E → Type 0
+ElementBegins config items e wanted old new result =
+    OnErr result (AtElement (conversion_of config items) e (λ at. Begins old new (wanted at)))
+
+-- the same, of a node
+abbrev pub NodeGives : {A B E : Type 0} → Config → List Item → ℕ → (Writes → B) → (A → B) → Result A E → Type 0
+NodeGives config items id wanted seen result =
+    IfOk result (λ r. AtNode (conversion_of config items) id (λ write. seen r ≡ wanted write))
+
+abbrev pub NodeBegins : {A E : Type 0} → Config → List Item → ℕ → (Writes → List (List ℕ))
+    → List (List ℕ) → List (List ℕ) → Result A E → Type 0
+NodeBegins config items id wanted old new result =
+    OnErr result (AtNode (conversion_of config items) id (λ write. Begins old new (wanted write)))
+
+-- the content of a node that an element hands over, after these definitions
+abbrev pub content_below : Config → List Item → Option (List ℕ) → ℕ → List (List ℕ) → Writes → Output
+content_below config items text below definitions write =
+    content_alone write (conversion_of config items) (descendant_tree items text below) below definitions
 
 -- what an element of the tree answers where it is in no group
 abbrev pub answer_at : Writes → Conversion → ℕ → List (List ℕ) → Answer

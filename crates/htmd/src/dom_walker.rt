@@ -12,14 +12,15 @@ ghost use Rattle.htmd.specs.Handling.{IsProper, contents_of_each};
 ghost use Rattle.htmd.specs.OrdinaryText.{pre};
 ghost use Rattle.htmd.specs.Groups.{only_text, group_tree, children_at};
 ghost use Rattle.htmd.specs.Outputs.{conversion_of, context_of, empty_output, is_guarded};
-ghost use Rattle.htmd.specs.Children.{write_groups, content_alone, descendant_tree};
+ghost use Rattle.htmd.specs.Children.{write_groups, content_alone};
 ghost use Rattle.htmd.specs.Elements.{content_of, contents_alone, answer_after, raw_answer};
 ghost use Rattle.htmd.specs.Rendering.{is_text, inside_of, with_result};
 ghost use Rattle.htmd.specs.Markdown.{markdown};
 ghost use Rattle.htmd.specs.HandlerAnswers.{IsElement, handled};
 ghost use Rattle.htmd.specs.Beginnings.{Begins};
 ghost use Rattle.htmd.specs.Views.{optional_result, output_view, answer_view, contents_view};
-ghost use Rattle.htmd.specs.Walking.{AtElement, AtNode, InNode, AlwaysGives, AreRemembered};
+ghost use Rattle.htmd.specs.Walking.{AtNode, InNode, ElementGives, ElementBegins, NodeGives, NodeBegins};
+ghost use Rattle.htmd.specs.Walking.{AlwaysGives, AreRemembered, content_below};
 ghost use Rattle.htmd.specs.OneLineElements.{known_in_line, known_in_line_inside};
 ghost use Rattle.htmd.specs.Code.{language_of_pre};
 
@@ -186,12 +187,10 @@ impl<'a, R: Registry> Walk<'a, R> {
         requires tree { element.now.tree.now ≡ self.now.tree.now }
         requires options { element.now.options.now ≡ (R.config self.now.registry.now).options }
         requires inside { inside_pre ≡ pre (inside_of self.now.tree.now element.now.node) }
-        ensures ok { let conversion = conversion_of (R.config self.now.registry.now) self.now.tree.now in
-            IfOk result (λ r. AtElement conversion element.now (λ at.
-            answer_view r links.new ≡ answer_after skipped element.now.tag.now at links.old)) }
-        ensures err { let conversion = conversion_of (R.config self.now.registry.now) self.now.tree.now in
-            OnErr result (AtElement conversion element.now (λ at.
-            Begins links.old links.new (answer_after skipped element.now.tag.now at links.old).definitions)) }
+        ensures ok { ElementGives (R.config self.now.registry.now) self.now.tree.now element.now
+            (λ at. answer_after skipped element.now.tag.now at links.old) (λ r. answer_view r links.new) result }
+        ensures err { ElementBegins (R.config self.now.registry.now) self.now.tree.now element.now
+            (λ at. (answer_after skipped element.now.tag.now at links.old).definitions) links.old links.new result }
     {
         let Some(index) = self.registry.find(element.tag, skipped) else {
             if is_markdown_alone(self.registry.options()) {
@@ -271,12 +270,10 @@ impl<'a, R: Registry> Walk<'a, R> {
         requires tree { element.now.tree.now ≡ self.now.tree.now }
         requires options { element.now.options.now ≡ (R.config self.now.registry.now).options }
         requires inside { inside_pre ≡ pre (inside_of self.now.tree.now element.now.node) }
-        ensures ok { let conversion = conversion_of (R.config self.now.registry.now) self.now.tree.now in
-            IfOk result (λ r. AtElement conversion element.now (λ at.
-            answer_view r links.new ≡ answer_after 0 element.now.tag.now at links.old)) }
-        ensures err { let conversion = conversion_of (R.config self.now.registry.now) self.now.tree.now in
-            OnErr result (AtElement conversion element.now (λ at.
-            Begins links.old links.new (answer_after 0 element.now.tag.now at links.old).definitions)) }
+        ensures ok { ElementGives (R.config self.now.registry.now) self.now.tree.now element.now
+            (λ at. answer_after 0 element.now.tag.now at links.old) (λ r. answer_view r links.new) result }
+        ensures err { ElementBegins (R.config self.now.registry.now) self.now.tree.now element.now
+            (λ at. (answer_after 0 element.now.tag.now at links.old).definitions) links.old links.new result }
     {
         if !self.registry.goes_past(self.tree, element.node) {
             return self.handle(element, inside_pre, 0, links);
@@ -301,12 +298,10 @@ impl<'a, R: Registry> Walk<'a, R> {
         requires tree { element.now.tree.now ≡ self.now.tree.now }
         requires options { element.now.options.now ≡ (R.config self.now.registry.now).options }
         requires inside { inside_pre ≡ pre (inside_of self.now.tree.now element.now.node) }
-        ensures ok { let conversion = conversion_of (R.config self.now.registry.now) self.now.tree.now in
-            IfOk result (λ r. AtElement conversion element.now (λ at.
-            answer_view r links.new ≡ raw_answer at links.old)) }
-        ensures err { let conversion = conversion_of (R.config self.now.registry.now) self.now.tree.now in
-            OnErr result (AtElement conversion element.now (λ at.
-            Begins links.old links.new (raw_answer at links.old).definitions)) }
+        ensures ok { ElementGives (R.config self.now.registry.now) self.now.tree.now element.now
+            (λ at. raw_answer at links.old) (λ r. answer_view r links.new) result }
+        ensures err { ElementBegins (R.config self.now.registry.now) self.now.tree.now element.now
+            (λ at. (raw_answer at links.old).definitions) links.old links.new result }
     {
         if is_block_element(element.tag) {
             return Ok(Some(raw_result(raw_block(self.alloc, self.tree, element.node)?)));
@@ -337,14 +332,12 @@ impl<'a, R: Registry> Walk<'a, R> {
         requires options { element.now.options.now ≡ (R.config self.now.registry.now).options }
         requires proper { IsProper self.now.tree.now element.now.node (contents_of_each nodes.now) }
         requires remembered { AreRemembered (R.config self.now.registry.now) self.now.tree.now remembered.old.items }
-        ensures ok { let conversion = conversion_of (R.config self.now.registry.now) self.now.tree.now in
-            IfOk result (λ r. AtElement conversion element.now (λ at.
-            contents_view r.items links.new ≡ contents_alone at nodes.now links.old)) }
+        ensures ok { ElementGives (R.config self.now.registry.now) self.now.tree.now element.now
+            (λ at. contents_alone at nodes.now links.old) (λ r. contents_view r.items links.new) result }
         ensures remembered { OnOk result
             (AreRemembered (R.config self.now.registry.now) self.now.tree.now remembered.new.items) }
-        ensures err { let conversion = conversion_of (R.config self.now.registry.now) self.now.tree.now in
-            OnErr result (AtElement conversion element.now (λ at.
-            Begins links.old links.new (contents_alone at nodes.now links.old).definitions)) }
+        ensures err { ElementBegins (R.config self.now.registry.now) self.now.tree.now element.now
+            (λ at. (contents_alone at nodes.now links.old).definitions) links.old links.new result }
     {
         let inside_line = self.is_line_inside(element)?;
         let mut results = Vec::with_capacity(self.alloc, nodes.len())?;
@@ -367,12 +360,10 @@ impl<'a, R: Registry> Walk<'a, R> {
         requires tree { element.now.tree.now ≡ self.now.tree.now }
         requires options { element.now.options.now ≡ (R.config self.now.registry.now).options }
         requires inside { inside_pre ≡ pre (inside_of self.now.tree.now element.now.node) }
-        ensures ok { let conversion = conversion_of (R.config self.now.registry.now) self.now.tree.now in
-            IfOk result (λ r. AtElement conversion element.now (λ at.
-            output_view r links.new ≡ content_of at links.old)) }
-        ensures err { let conversion = conversion_of (R.config self.now.registry.now) self.now.tree.now in
-            OnErr result (AtElement conversion element.now (λ at.
-            Begins links.old links.new (content_of at links.old).definitions)) }
+        ensures ok { ElementGives (R.config self.now.registry.now) self.now.tree.now element.now
+            (λ at. content_of at links.old) (λ r. output_view r links.new) result }
+        ensures err { ElementBegins (R.config self.now.registry.now) self.now.tree.now element.now
+            (λ at. (content_of at links.old).definitions) links.old links.new result }
     {
         let mut out = empty_result(self.alloc);
         if let Some(text) = element.text {
@@ -410,12 +401,12 @@ impl<'a, R: Registry> Walk<'a, R> {
         requires inside { inside_pre ≡ pre (inside_of self.now.tree.now node) }
         requires line { inside_line ≡ known_in_line_inside (R.config self.now.registry.now).options
             self.now.tree.now node }
-        ensures ok { let conversion = conversion_of (R.config self.now.registry.now) self.now.tree.now in
-            OnOk result (InNode conversion node (λ write. output_view out.new links.new
+        ensures ok { OnOk result
+            (InNode (conversion_of (R.config self.now.registry.now) self.now.tree.now) node (λ write. output_view out.new links.new
             ≡ write_groups write (inside_of self.now.tree.now node) (children_at self.now.tree.now node)
             (output_view out.old links.old))) }
-        ensures err { let conversion = conversion_of (R.config self.now.registry.now) self.now.tree.now in
-            OnErr result (InNode conversion node (λ write. Begins links.old links.new
+        ensures err { OnErr result
+            (InNode (conversion_of (R.config self.now.registry.now) self.now.tree.now) node (λ write. Begins links.old links.new
             (write_groups write (inside_of self.now.tree.now node) (children_at self.now.tree.now node)
             (output_view out.old links.old)).definitions)) }
     {
@@ -463,13 +454,12 @@ impl<'a, R: Registry> Walk<'a, R> {
             self.now.tree.now element.now.node }
         requires behind { element.now.node < below }
         requires within { below < length self.now.tree.now }
-        ensures ok { let conversion = conversion_of (R.config self.now.registry.now) self.now.tree.now in
-            IfOk result (λ r. AtNode conversion below (λ write. output_view r links.new
-            ≡ content_alone write conversion
-            (descendant_tree self.now.tree.now (option_copied element.now.text) below) below links.old)) }
-        ensures err { let conversion = conversion_of (R.config self.now.registry.now) self.now.tree.now in
-            OnErr result (AtNode conversion below (λ write. Begins links.old links.new (content_alone write conversion
-            (descendant_tree self.now.tree.now (option_copied element.now.text) below) below links.old).definitions)) }
+        ensures ok { NodeGives (R.config self.now.registry.now) self.now.tree.now below
+            (content_below (R.config self.now.registry.now) self.now.tree.now (option_copied element.now.text) below links.old)
+            (λ r. output_view r links.new) result }
+        ensures err { NodeBegins (R.config self.now.registry.now) self.now.tree.now below
+            (λ write. (content_below (R.config self.now.registry.now) self.now.tree.now (option_copied element.now.text) below
+            links.old write).definitions) links.old links.new result }
     {
         let Some(text) = element.text else {
             let is_in_line = self.is_line_below(element.node, inside_line, below)?;
@@ -510,15 +500,14 @@ impl<'a, R: Registry> Walk<'a, R> {
         requires behind { element.now.node < below }
         requires within { below < length self.now.tree.now }
         requires remembered { AreRemembered (R.config self.now.registry.now) self.now.tree.now remembered.old.items }
-        ensures ok { let conversion = conversion_of (R.config self.now.registry.now) self.now.tree.now in
-            IfOk result (λ r. AtNode conversion below (λ write. output_view r links.new
-            ≡ content_alone write conversion
-            (descendant_tree self.now.tree.now (option_copied element.now.text) below) below links.old)) }
+        ensures ok { NodeGives (R.config self.now.registry.now) self.now.tree.now below
+            (content_below (R.config self.now.registry.now) self.now.tree.now (option_copied element.now.text) below links.old)
+            (λ r. output_view r links.new) result }
         ensures remembered { OnOk result
             (AreRemembered (R.config self.now.registry.now) self.now.tree.now remembered.new.items) }
-        ensures err { let conversion = conversion_of (R.config self.now.registry.now) self.now.tree.now in
-            OnErr result (AtNode conversion below (λ write. Begins links.old links.new (content_alone write conversion
-            (descendant_tree self.now.tree.now (option_copied element.now.text) below) below links.old).definitions)) }
+        ensures err { NodeBegins (R.config self.now.registry.now) self.now.tree.now below
+            (λ write. (content_below (R.config self.now.registry.now) self.now.tree.now (option_copied element.now.text) below
+            links.old write).definitions) links.old links.new result }
     {
         if !may_keep || element.text.is_some() {
             return self.walk_descendant(element, inside_line, below, links);
@@ -556,12 +545,12 @@ impl<'a, R: Registry> Walk<'a, R> {
         requires ready { R.ready self.now.registry.now }
         requires within { node < length self.now.tree.now }
         requires line { is_in_line ≡ known_in_line (R.config self.now.registry.now).options self.now.tree.now node }
-        ensures ok { let conversion = conversion_of (R.config self.now.registry.now) self.now.tree.now in
-            IfOk result (λ r. AtNode conversion node (λ write. output_view r links.new
-            ≡ content_alone write conversion (tree_of self.now.tree.now node) node links.old)) }
-        ensures err { let conversion = conversion_of (R.config self.now.registry.now) self.now.tree.now in
-            OnErr result (AtNode conversion node (λ write. Begins links.old links.new
-            (content_alone write conversion (tree_of self.now.tree.now node) node links.old).definitions)) }
+        ensures ok { NodeGives (R.config self.now.registry.now) self.now.tree.now node
+            (λ write. content_alone write (conversion_of (R.config self.now.registry.now) self.now.tree.now)
+            (tree_of self.now.tree.now node) node links.old) (λ r. output_view r links.new) result }
+        ensures err { NodeBegins (R.config self.now.registry.now) self.now.tree.now node
+            (λ write. (content_alone write (conversion_of (R.config self.now.registry.now) self.now.tree.now)
+            (tree_of self.now.tree.now node) node links.old).definitions) links.old links.new result }
     {
         let mut out = empty_result(self.alloc);
         // A text that is handed over by itself is ordinary.
@@ -602,15 +591,13 @@ impl<'a, R: Registry> Walk<'a, R> {
             ≡ language_of_pre self.now.tree.now (parent_at self.now.tree.now node) }
         requires context { is_text (data_at self.now.tree.now node) ≡ false
             → context.preformatted ≡ pre (ancestors_of self.now.tree.now node) }
-        ensures ok { let conversion = conversion_of (R.config self.now.registry.now) self.now.tree.now in
-            let tree = group_tree (option_copied joined.entry) (tree_of self.now.tree.now node) in
+        ensures ok { let tree = group_tree (option_copied joined.entry) (tree_of self.now.tree.now node) in
             let context = context_of (ancestors_of self.now.tree.now node) context.preformatted context.trim in
-            OnOk result (AtNode conversion node (λ write.
+            OnOk result (AtNode (conversion_of (R.config self.now.registry.now) self.now.tree.now) node (λ write.
             output_view out.new links.new ≡ write tree context (output_view out.old links.old))) }
-        ensures err { let conversion = conversion_of (R.config self.now.registry.now) self.now.tree.now in
-            let tree = group_tree (option_copied joined.entry) (tree_of self.now.tree.now node) in
+        ensures err { let tree = group_tree (option_copied joined.entry) (tree_of self.now.tree.now node) in
             let context = context_of (ancestors_of self.now.tree.now node) context.preformatted context.trim in
-            OnErr result (AtNode conversion node (λ write.
+            OnErr result (AtNode (conversion_of (R.config self.now.registry.now) self.now.tree.now) node (λ write.
             Begins links.old links.new (write tree context (output_view out.old links.old)).definitions)) }
     {
         match self.tree.data(node) {

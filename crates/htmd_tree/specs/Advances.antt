@@ -9,7 +9,7 @@ use Rattle.htmd_grammar.specs.Steps.{OpenElement, State, Step, step, Reaches, is
 use Rattle.htmd_grammar.specs.Steps.{with_children, body, finished, is_too_deep}
 use Rattle.htmd_grammar.specs.declared.fault.FaultKind.TheVariants.{TooDeep}
 use Rattle.htmd_tree.specs.Items.{Data, document_node, doctype_node, text_node, comment_node, element_node, new_item}
-use Rattle.htmd_tree.specs.OpenNodes.{Holds, innermost_name, stack_items, innermost_number}
+use Rattle.htmd_tree.specs.OpenNodes.{Holds, WhateverIsOpen, innermost_name, stack_items, innermost_number}
 use Rattle.htmd_tree.specs.declared.reader.Reader.{Reader}
 use Rattle.htmd_tree.specs.declared.reader.Stop.{Stop}
 use Rattle.htmd_tree.specs.declared.reader.Stop.TheVariants.{Memory, Refused}
@@ -39,6 +39,10 @@ Follows old new has_doctype (Ok x) (Err kind) = ⊥
 Follows old new has_doctype (Err Memory) taken = ⊤
 Follows old new has_doctype (Err (Refused left kind)) (Ok st) = ⊥
 Follows old new has_doctype (Err (Refused left kind)) (Err fault) = (kind ≡ fault) × (left ≡ length old.rest.now)
+
+-- The same, whatever is open: the step is told from the open elements.
+abbrev pub Steps : Reader → Reader → Answer → (List OpenElement → Step) → Type 0
+Steps old new answer taken = WhateverIsOpen old (λ has_doctype fs. Follows old new has_doctype answer (taken fs))
 
 -- Some steps lead from where these elements are open to what a call left, or to the fault that it answered.
 abbrev pub Advances : Reader → Reader → Bool → List OpenElement → Answer → Type 0

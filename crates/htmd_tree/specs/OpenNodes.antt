@@ -76,6 +76,10 @@ pub record Holds (reader : Reader) (has_doctype : Bool) (fs : List OpenElement) 
   pub stack_is : reader.stack.items ≡ open_nodes reader.scripting has_doctype fs
   pub are_open : AreOpen fs
 
+-- it holds of all elements and flags that fit where the reader is
+abbrev pub WhateverIsOpen : Reader → (Bool → List OpenElement → Type 0) → Type 0
+WhateverIsOpen reader P = (has_doctype : Bool) (fs : List OpenElement) → Holds reader has_doctype fs → P has_doctype fs
+
 -- the reader is where some elements are open
 abbrev pub IsReading : Reader → Type 0
 IsReading reader = (has_doctype : Bool) × (f : OpenElement) × (fs : List OpenElement)

@@ -20,8 +20,8 @@ ghost use Rattle.htmd_tree.specs.Layout.{document_items};
 ghost use Rattle.std.specs.List.{list_any, position};
 ghost use Rattle.htmd_tree.specs.Views.{data_of, pairs_of};
 ghost use Rattle.htmd_tree.specs.Items.{holds_children, data_at};
-ghost use Rattle.htmd_tree.specs.OpenNodes.{Holds, IsReading, MayOpen, innermost_name, open_node};
-ghost use Rattle.htmd_tree.specs.Advances.{Follows, HasAdded, StopsDeep, IsLeaf, leaf, rules_of};
+ghost use Rattle.htmd_tree.specs.OpenNodes.{Holds, IsReading, MayOpen, innermost_name, open_node, WhateverIsOpen};
+ghost use Rattle.htmd_tree.specs.Advances.{HasAdded, StopsDeep, IsLeaf, leaf, rules_of, Steps};
 ghost use Rattle.htmd_tree.specs.declared.reader.Stop.TheVariants.{Memory, Refused};
 
 mod attribute_values;
@@ -123,8 +123,7 @@ impl<'a> Reader<'a> {
     /// The name of the innermost open element.
     fn innermost_name(&self) -> &str
         requires reading { IsReading self.now }
-        ensures { (has_doctype : Bool) (fs : List OpenElement) → Holds self.now has_doctype fs
-            → result.now ≡ innermost_name fs }
+        ensures { WhateverIsOpen self.now (λ has_doctype fs. result.now ≡ innermost_name fs) }
     {
         match self.tree.data(self.top().id) {
             NodeData::Element { name, .. } => name.as_str(),
@@ -135,8 +134,8 @@ impl<'a> Reader<'a> {
     /// Whether a node in the innermost open element would stand too deep.
     fn is_too_deep(&self) -> bool
         requires reading { IsReading self.now }
-        ensures { (has_doctype : Bool) (fs : List OpenElement) → Holds self.now has_doctype fs
-            → result ≡ is_too_deep (rules_of self.now) above_body fs }
+        ensures { WhateverIsOpen self.now (λ has_doctype fs.
+            result ≡ is_too_deep (rules_of self.now) above_body fs) }
     {
         self.tree.depth(self.top().id) >= MAX_DEPTH
     }
@@ -154,10 +153,10 @@ impl<'a> Reader<'a> {
     /// A new node in the innermost open element.
     fn add_node(&mut self, node: NodeData) -> Result<NodeId, Stop>
         requires reading { IsReading self.old }
-        ensures ok { IfOk result (λ id. (has_doctype : Bool) (fs : List OpenElement)
-            → Holds self.old has_doctype fs → HasAdded self.old self.new has_doctype fs (data_of node) id) }
-        ensures err { IfErr result (λ stop. (has_doctype : Bool) (fs : List OpenElement)
-            → Holds self.old has_doctype fs → StopsDeep self.old fs stop) }
+        ensures ok { IfOk result (λ id. WhateverIsOpen self.old (λ has_doctype fs.
+            HasAdded self.old self.new has_doctype fs (data_of node) id)) }
+        ensures err { IfErr result (λ stop. WhateverIsOpen self.old (λ has_doctype fs.
+            StopsDeep self.old fs stop)) }
         ensures stack { self.new.stack.items ≡ self.old.stack.items }
         ensures rest { self.new.rest.now ≡ self.old.rest.now }
         ensures scripting { self.new.scripting ≡ self.old.scripting }
@@ -174,9 +173,8 @@ impl<'a> Reader<'a> {
     fn add_leaf(&mut self, node: NodeData, rest: &'a str) -> Result<(), Stop>
         requires reading { IsReading self.old }
         requires leaf { IsLeaf (data_of node) }
-        ensures follows { (has_doctype : Bool) (fs : List OpenElement) → Holds self.old has_doctype fs
-            → Follows self.old self.new has_doctype result
-            (add (rules_of self.old) above_body fs (leaf (data_of node)) rest.now) }
+        ensures follows { Steps self.old self.new result
+            (λ fs. add (rules_of self.old) above_body fs (leaf (data_of node)) rest.now) }
         ensures reading { OnOk result (IsReading self.new) }
     {
         self.add_node(node)?;
@@ -187,11 +185,10 @@ impl<'a> Reader<'a> {
     /// A new element in the innermost open element, which then is the innermost one.
     fn open_node(&mut self, name: String, attrs: Vec<Attribute>, implied: bool) -> Result<(), Stop>
         requires reading { IsReading self.old }
-        requires may_open { (has_doctype : Bool) (fs : List OpenElement) → Holds self.old has_doctype fs
-            → MayOpen (string_bytes name) implied fs }
-        ensures follows { (has_doctype : Bool) (fs : List OpenElement) → Holds self.old has_doctype fs
-            → Follows self.old self.new has_doctype result
-            (if is_too_deep (rules_of self.old) above_body fs then fault TooDeep
+        requires may_open { WhateverIsOpen self.old (λ has_doctype fs.
+            MayOpen (string_bytes name) implied fs) }
+        ensures follows { Steps self.old self.new result
+            (λ fs. if is_too_deep (rules_of self.old) above_body fs then fault TooDeep
             else between (fresh (string_bytes name) (pairs_of attrs.items) implied ∷ fs) self.old.rest.now) }
         ensures rest { self.new.rest.now ≡ self.old.rest.now }
     {
@@ -213,9 +210,8 @@ impl<'a> Reader<'a> {
         rest: &'a str,
     ) -> Result<(), Stop>
         requires reading { IsReading self.old }
-        ensures follows { (has_doctype : Bool) (fs : List OpenElement) → Holds self.old has_doctype fs
-            → Follows self.old self.new has_doctype result
-            (if is_too_deep (rules_of self.old) above_body fs then fault TooDeep
+        ensures follows { Steps self.old self.new result
+            (λ fs. if is_too_deep (rules_of self.old) above_body fs then fault TooDeep
             else between (fresh (string_bytes name) (pairs_of attrs.items) false ∷ fs) rest.now) }
         ensures reading { OnOk result (IsReading self.new) }
     {
@@ -227,11 +223,9 @@ impl<'a> Reader<'a> {
     /// An implied `tbody` in the innermost open element, a `table`.
     fn open_implied_body(&mut self) -> Result<(), Stop>
         requires reading { IsReading self.old }
-        requires table { (has_doctype : Bool) (fs : List OpenElement) → Holds self.old has_doctype fs
-            → is_table (innermost_name fs) ≡ true }
-        ensures follows { (has_doctype : Bool) (fs : List OpenElement) → Holds self.old has_doctype fs
-            → Follows self.old self.new has_doctype result
-            (if is_too_deep (rules_of self.old) above_body fs then fault TooDeep
+        requires table { WhateverIsOpen self.old (λ has_doctype fs. is_table (innermost_name fs) ≡ true) }
+        ensures follows { Steps self.old self.new result
+            (λ fs. if is_too_deep (rules_of self.old) above_body fs then fault TooDeep
             else between (fresh (codes "tbody") [] true ∷ fs) self.old.rest.now) }
         ensures reading { OnOk result (IsReading self.new) }
     {

@@ -1,9 +1,9 @@
 //! Comments and other declarations.
-ghost use Rattle.std.specs.Prelude.{◌≡◌, ◌<◌, Bool, true, false, List, length, drop, OnOk};
+ghost use Rattle.std.specs.Prelude.{◌≡◌, ◌<◌, true, false, length, drop, OnOk};
 ghost use Rattle.htmd_grammar.specs.Documents.{above_body};
-ghost use Rattle.htmd_grammar.specs.Steps.{OpenElement, declaration_step};
-ghost use Rattle.htmd_tree.specs.OpenNodes.{Holds, IsReading};
-ghost use Rattle.htmd_tree.specs.Advances.{Follows, rules_of};
+ghost use Rattle.htmd_grammar.specs.Steps.{declaration_step};
+ghost use Rattle.htmd_tree.specs.OpenNodes.{IsReading};
+ghost use Rattle.htmd_tree.specs.Advances.{rules_of, Steps};
 
 use crate::reader::comment_texts::{begins_dashes, is_comment_text, split_comment};
 use crate::reader::line_ends::normalized;
@@ -16,9 +16,8 @@ impl<'a> Reader<'a> {
     pub(super) fn read_declaration(&mut self, behind: &'a str) -> Result<(), Stop>
         requires reading { IsReading self.old }
         requires behind { length behind.now < length self.old.rest.now }
-        ensures follows { (has_doctype : Bool) (fs : List OpenElement) → Holds self.old has_doctype fs
-            → Follows self.old self.new has_doctype result
-            (declaration_step (rules_of self.old) above_body fs behind.now) }
+        ensures follows { Steps self.old self.new result
+            (λ fs. declaration_step (rules_of self.old) above_body fs behind.now) }
         ensures reading { OnOk result (IsReading self.new) }
         ensures shorter { OnOk result (length self.new.rest.now < length self.old.rest.now) }
     {

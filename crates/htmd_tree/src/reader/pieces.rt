@@ -1,9 +1,8 @@
 //! The content of a document, piece by piece.
-ghost use Rattle.std.specs.Prelude.{◌≡◌, ◌<◌, ◌&&◌, Bool, false, List, length, OnOk};
+ghost use Rattle.std.specs.Prelude.{◌≡◌, ◌<◌, ◌&&◌, false, length, OnOk};
 ghost use Rattle.htmd_grammar.specs.CharacterClasses.{is_empty};
 ghost use Rattle.htmd_grammar.specs.RawContent.{ends_text};
-ghost use Rattle.htmd_grammar.specs.Steps.{OpenElement};
-ghost use Rattle.htmd_tree.specs.OpenNodes.{Holds, IsReading, innermost_name};
+ghost use Rattle.htmd_tree.specs.OpenNodes.{IsReading, innermost_name, WhateverIsOpen};
 ghost use Rattle.htmd_tree.specs.Advances.{Advances, Ends, HasSettled};
 
 use crate::reader::raw_content::begins_own_end;
@@ -16,8 +15,8 @@ impl<'a> Reader<'a> {
     /// Closes an implied `tbody` that ends where the text that is left begins.
     fn close_implied_body(&mut self)
         requires reading { IsReading self.old }
-        ensures settled { (has_doctype : Bool) (fs : List OpenElement) → Holds self.old has_doctype fs
-            → HasSettled self.old self.new has_doctype fs }
+        ensures settled { WhateverIsOpen self.old (λ has_doctype fs.
+            HasSettled self.old self.new has_doctype fs) }
         ensures reading { IsReading self.new }
         ensures rest { self.new.rest.now ≡ self.old.rest.now }
     {
@@ -32,8 +31,8 @@ impl<'a> Reader<'a> {
     /// Whether a text can't go on here: markup stands here, or the end of an element that holds text alone.
     fn is_at_markup(&self) -> bool
         requires reading { IsReading self.now }
-        ensures { (has_doctype : Bool) (fs : List OpenElement) → Holds self.now has_doctype fs
-            → result ≡ ends_text self.now.scripting (innermost_name fs) self.now.rest.now }
+        ensures { WhateverIsOpen self.now (λ has_doctype fs.
+            result ≡ ends_text self.now.scripting (innermost_name fs) self.now.rest.now) }
     {
         let bytes = self.rest.as_bytes();
         if self.top().surroundings.text_alone {
@@ -47,8 +46,8 @@ impl<'a> Reader<'a> {
     fn read_piece(&mut self) -> Result<(), Stop>
         requires reading { IsReading self.old }
         requires more { is_empty self.old.rest.now ≡ false }
-        ensures advances { (has_doctype : Bool) (fs : List OpenElement) → Holds self.old has_doctype fs
-            → Advances self.old self.new has_doctype fs result }
+        ensures advances { WhateverIsOpen self.old (λ has_doctype fs.
+            Advances self.old self.new has_doctype fs result) }
         ensures reading { OnOk result (IsReading self.new) }
         ensures shorter { OnOk result (length self.new.rest.now < length self.old.rest.now) }
     {
@@ -66,8 +65,8 @@ impl<'a> Reader<'a> {
     /// Reads the content of `body` up to the end of the text.
     pub(super) fn read_content(&mut self) -> Result<(), Stop>
         requires reading { IsReading self.old }
-        ensures ends { (has_doctype : Bool) (fs : List OpenElement) → Holds self.old has_doctype fs
-            → Ends self.old self.new has_doctype fs result }
+        ensures ends { WhateverIsOpen self.old (λ has_doctype fs.
+            Ends self.old self.new has_doctype fs result) }
     {
         while !self.rest.is_empty() {
             self.read_piece()?;

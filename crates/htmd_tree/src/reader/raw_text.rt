@@ -1,10 +1,10 @@
 //! Text without references, up to the element's own end tag.
-ghost use Rattle.std.specs.Prelude.{◌≡◌, ◌<◌, Bool, true, false, List, length, drop, OnOk};
+ghost use Rattle.std.specs.Prelude.{◌≡◌, ◌<◌, true, false, length, drop, OnOk};
 ghost use Rattle.htmd_grammar.specs.Documents.{above_body};
 ghost use Rattle.htmd_grammar.specs.CharacterClasses.{is_empty, up_to, onward};
 ghost use Rattle.htmd_grammar.specs.RawContent.{ends_text, holds_raw_text, text_of};
-ghost use Rattle.htmd_grammar.specs.Steps.{OpenElement, raw_text_step};
-ghost use Rattle.htmd_tree.specs.OpenNodes.{Holds, IsReading, innermost_name};
+ghost use Rattle.htmd_grammar.specs.Steps.{raw_text_step};
+ghost use Rattle.htmd_tree.specs.OpenNodes.{IsReading, innermost_name, WhateverIsOpen};
 ghost use Rattle.htmd_tree.specs.Advances.{Follows, rules_of};
 
 use crate::reader::line_ends::normalized;
@@ -18,12 +18,12 @@ impl<'a> Reader<'a> {
     pub(super) fn read_raw_text(&mut self) -> Result<(), Stop>
         requires reading { IsReading self.old }
         requires more { is_empty self.old.rest.now ≡ false }
-        ensures follows { (has_doctype : Bool) (fs : List OpenElement) → Holds self.old has_doctype fs
-            → holds_raw_text self.old.scripting (innermost_name fs) ≡ true
+        ensures follows { WhateverIsOpen self.old (λ has_doctype fs.
+            holds_raw_text self.old.scripting (innermost_name fs) ≡ true
             → Follows self.old self.new has_doctype result (raw_text_step (rules_of self.old) above_body fs
             (text_of (rules_of self.old) (innermost_name fs)
             (up_to (ends_text self.old.scripting (innermost_name fs)) self.old.rest.now))
-            (onward (ends_text self.old.scripting (innermost_name fs)) self.old.rest.now)) }
+            (onward (ends_text self.old.scripting (innermost_name fs)) self.old.rest.now))) }
         ensures reading { OnOk result (IsReading self.new) }
     {
         let name = self.innermost_name();

@@ -1,16 +1,16 @@
 //! Start tags and end tags. A fault of a tag stands at its `<`, where the text that is left begins.
-ghost use Rattle.std.specs.Prelude.{◌≡◌, ◌<◌, ◌&&◌, Bool, true, false, List, length, drop, OnOk, string_bytes, codes};
+ghost use Rattle.std.specs.Prelude.{◌≡◌, ◌<◌, ◌&&◌, true, false, length, drop, OnOk, string_bytes, codes};
 ghost use Rattle.std.specs.Str.{bytes_eq};
 ghost use Rattle.htmd_text.specs.Characters.{less_than_sign};
 ghost use Rattle.htmd_grammar.specs.CharacterClasses.{first_is};
 ghost use Rattle.htmd_grammar.specs.Documents.{above_body};
 ghost use Rattle.htmd_grammar.specs.Nesting.{is_allowed, is_row};
-ghost use Rattle.htmd_grammar.specs.Steps.{OpenElement, names_of, start_tag_step, place_step, open_step, end_tag_step, close_step};
+ghost use Rattle.htmd_grammar.specs.Steps.{names_of, start_tag_step, place_step, open_step, end_tag_step, close_step};
 ghost use Rattle.htmd_grammar.specs.Steps.{markup_step};
 ghost use Rattle.htmd_tree.specs.Views.{pairs_of};
 ghost use Rattle.htmd_tree.specs.TagParts.{fault_of_name};
-ghost use Rattle.htmd_tree.specs.OpenNodes.{Holds, IsReading, innermost_name};
-ghost use Rattle.htmd_tree.specs.Advances.{Follows, rules_of};
+ghost use Rattle.htmd_tree.specs.OpenNodes.{IsReading, innermost_name, WhateverIsOpen};
+ghost use Rattle.htmd_tree.specs.Advances.{rules_of, Steps};
 
 use crate::reader::attribute_values::attributes_of;
 use crate::reader::attributes::tag_form;
@@ -40,8 +40,8 @@ impl<'a> Reader<'a> {
     /// Whether an element of this name may stand here.
     fn allows(&self, name: &str) -> bool
         requires reading { IsReading self.now }
-        ensures { (has_doctype : Bool) (fs : List OpenElement) → Holds self.now has_doctype fs
-            → result ≡ is_allowed self.now.scripting (names_of above_body fs) name.now }
+        ensures { WhateverIsOpen self.now (λ has_doctype fs.
+            result ≡ is_allowed self.now.scripting (names_of above_body fs) name.now) }
     {
         self.top().surroundings.allows(name)
     }
@@ -49,9 +49,8 @@ impl<'a> Reader<'a> {
     /// Opens the element of a start tag, or adds a void one.
     fn open_tag(&mut self, name: String, attrs: Vec<Attribute>, rest: &'a str) -> Result<(), Stop>
         requires reading { IsReading self.old }
-        ensures follows { (has_doctype : Bool) (fs : List OpenElement) → Holds self.old has_doctype fs
-            → Follows self.old self.new has_doctype result
-            (open_step (rules_of self.old) above_body fs (string_bytes name) (pairs_of attrs.items) rest.now) }
+        ensures follows { Steps self.old self.new result
+            (λ fs. open_step (rules_of self.old) above_body fs (string_bytes name) (pairs_of attrs.items) rest.now) }
         ensures reading { OnOk result (IsReading self.new) }
     {
         if !self.allows(name.as_str()) {
@@ -67,8 +66,8 @@ impl<'a> Reader<'a> {
     /// Whether an element of this name implies a `tbody` here: a row in a table.
     fn implies_body(&self, name: &str) -> bool
         requires reading { IsReading self.now }
-        ensures { (has_doctype : Bool) (fs : List OpenElement) → Holds self.now has_doctype fs
-            → result ≡ (is_row name.now && bytes_eq (innermost_name fs) (codes "table")) }
+        ensures { WhateverIsOpen self.now (λ has_doctype fs.
+            result ≡ (is_row name.now && bytes_eq (innermost_name fs) (codes "table"))) }
     {
         name == "tr" && self.innermost_name() == "table"
     }
@@ -76,9 +75,8 @@ impl<'a> Reader<'a> {
     /// Gives the element of a start tag its place, in an implied `tbody` where it implies one.
     fn place_tag(&mut self, name: String, attrs: Vec<Attribute>, rest: &'a str) -> Result<(), Stop>
         requires reading { IsReading self.old }
-        ensures follows { (has_doctype : Bool) (fs : List OpenElement) → Holds self.old has_doctype fs
-            → Follows self.old self.new has_doctype result
-            (place_step (rules_of self.old) above_body fs (string_bytes name) (pairs_of attrs.items) rest.now) }
+        ensures follows { Steps self.old self.new result
+            (λ fs. place_step (rules_of self.old) above_body fs (string_bytes name) (pairs_of attrs.items) rest.now) }
         ensures reading { OnOk result (IsReading self.new) }
     {
         if self.implies_body(name.as_str()) {
@@ -92,9 +90,8 @@ impl<'a> Reader<'a> {
     pub(super) fn read_start_tag(&mut self, behind: &'a str) -> Result<(), Stop>
         requires reading { IsReading self.old }
         requires behind { length behind.now < length self.old.rest.now }
-        ensures follows { (has_doctype : Bool) (fs : List OpenElement) → Holds self.old has_doctype fs
-            → Follows self.old self.new has_doctype result
-            (start_tag_step (rules_of self.old) above_body fs behind.now) }
+        ensures follows { Steps self.old self.new result
+            (λ fs. start_tag_step (rules_of self.old) above_body fs behind.now) }
         ensures reading { OnOk result (IsReading self.new) }
         ensures shorter { OnOk result (length self.new.rest.now < length self.old.rest.now) }
     {
@@ -118,9 +115,8 @@ impl<'a> Reader<'a> {
     /// Closes the innermost open element, which must have this name.
     fn close_tag(&mut self, name: &str, rest: &'a str) -> Result<(), Stop>
         requires reading { IsReading self.old }
-        ensures follows { (has_doctype : Bool) (fs : List OpenElement) → Holds self.old has_doctype fs
-            → Follows self.old self.new has_doctype result
-            (close_step (rules_of self.old) above_body fs name.now rest.now) }
+        ensures follows { Steps self.old self.new result
+            (λ fs. close_step (rules_of self.old) above_body fs name.now rest.now) }
         ensures reading { OnOk result (IsReading self.new) }
     {
         if self.stack.len() < 2 {
@@ -137,9 +133,8 @@ impl<'a> Reader<'a> {
     pub(super) fn read_end_tag(&mut self, behind: &'a str) -> Result<(), Stop>
         requires reading { IsReading self.old }
         requires behind { length behind.now < length self.old.rest.now }
-        ensures follows { (has_doctype : Bool) (fs : List OpenElement) → Holds self.old has_doctype fs
-            → Follows self.old self.new has_doctype result
-            (end_tag_step (rules_of self.old) above_body fs behind.now) }
+        ensures follows { Steps self.old self.new result
+            (λ fs. end_tag_step (rules_of self.old) above_body fs behind.now) }
         ensures reading { OnOk result (IsReading self.new) }
         ensures shorter { OnOk result (length self.new.rest.now < length self.old.rest.now) }
     {
@@ -161,9 +156,8 @@ impl<'a> Reader<'a> {
     pub(super) fn read_markup(&mut self) -> Result<(), Stop>
         requires reading { IsReading self.old }
         requires markup { first_is less_than_sign self.old.rest.now ≡ true }
-        ensures follows { (has_doctype : Bool) (fs : List OpenElement) → Holds self.old has_doctype fs
-            → Follows self.old self.new has_doctype result
-            (markup_step (rules_of self.old) above_body fs (drop 1 self.old.rest.now)) }
+        ensures follows { Steps self.old self.new result
+            (λ fs. markup_step (rules_of self.old) above_body fs (drop 1 self.old.rest.now)) }
         ensures reading { OnOk result (IsReading self.new) }
         ensures shorter { OnOk result (length self.new.rest.now < length self.old.rest.now) }
     {

@@ -1,9 +1,8 @@
 //! Texts: characters and references.
-ghost use Rattle.std.specs.Prelude.{◌≡◌, ◌<◌, ◌≤◌, Bool, true, false, List, length, drop, OnOk};
+ghost use Rattle.std.specs.Prelude.{◌≡◌, ◌<◌, ◌≤◌, true, false, length, drop, OnOk};
 ghost use Rattle.htmd_grammar.specs.Documents.{above_body};
 ghost use Rattle.htmd_grammar.specs.CharacterClasses.{is_empty, leading_run};
-ghost use Rattle.htmd_grammar.specs.Steps.{OpenElement};
-ghost use Rattle.htmd_tree.specs.OpenNodes.{Holds, IsReading, innermost_name};
+ghost use Rattle.htmd_tree.specs.OpenNodes.{IsReading, innermost_name, WhateverIsOpen};
 ghost use Rattle.htmd_tree.specs.TextRuns.{TellsOfText};
 ghost use Rattle.htmd_tree.specs.Advances.{Advances, IsAtText};
 
@@ -15,9 +14,8 @@ impl<'a> Reader<'a> {
     /// What the innermost open element asks of its texts.
     fn text_surroundings(&self) -> TextSurroundings
         requires reading { IsReading self.now }
-        ensures { (has_doctype : Bool) (fs : List OpenElement) → Holds self.now has_doctype fs
-            → IsAtText self.now fs
-            → TellsOfText self.now.scripting result (innermost_name fs) fs }
+        ensures { WhateverIsOpen self.now (λ has_doctype fs. IsAtText self.now fs
+            → TellsOfText self.now.scripting result (innermost_name fs) fs) }
     {
         let around = self.top().surroundings;
         TextSurroundings {
@@ -31,8 +29,8 @@ impl<'a> Reader<'a> {
     pub(super) fn read_text(&mut self) -> Result<(), Stop>
         requires reading { IsReading self.old }
         requires more { is_empty self.old.rest.now ≡ false }
-        ensures advances { (has_doctype : Bool) (fs : List OpenElement) → Holds self.old has_doctype fs
-            → IsAtText self.old fs → Advances self.old self.new has_doctype fs result }
+        ensures advances { WhateverIsOpen self.old (λ has_doctype fs.
+            IsAtText self.old fs → Advances self.old self.new has_doctype fs result) }
         ensures reading { OnOk result (IsReading self.new) }
         ensures shorter { OnOk result (length self.new.rest.now < length self.old.rest.now) }
     {
