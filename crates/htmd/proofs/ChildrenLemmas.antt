@@ -8,7 +8,7 @@ use Rattle.htmd_tree.specs.Items.{Data, document_node, doctype_node, text_node, 
 use Rattle.htmd_tree.specs.NumberedTrees.{with_children}
 use Rattle.htmd_tree.proofs.NumberedTreesLemmas.{tree-open}
 use Rattle.std.proofs.lemmas.List.{get_or_default}
-use Rattle.std.proofs.lemmas.List.Elements.{All-from_get_or, All-weaker, All-get_or}
+use Rattle.std.proofs.lemmas.List.Elements.{All-from_get_or, All-get_or}
 use Rattle.htmd_tree.specs.Items.{Item, IsTree, children_of, parent_at}
 use Rattle.htmd_tree.specs.NumberedTrees.{NumberedTree, NumberedForest, document, doctype, text, comment, element, more}
 use Rattle.htmd_tree.specs.NumberedTrees.{forest_of, tree_of, height}
@@ -45,10 +45,6 @@ children-all items node t l =
 pub nonempty : (n : ℕ) → false ≡ eqb n 0 → 0 < n
 nonempty zero h = cc
 nonempty (suc n) h = omega arith
-
-pub within-all : (items : List Item) (node : ℕ) (ids : List ℕ) → All (IsChild items node) ids
-    → All (λ id. id < length items) ids
-within-all items node ids h = All-weaker (IsChild items node) (λ id. id < length items) (λ id c. c.within) ids h
 
 pub child-first : (items : List Item) (node child : ℕ) (ids : List ℕ) → 0 < length ids
     → child ≡ get_or ids 0 child

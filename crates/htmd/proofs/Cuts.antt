@@ -1,12 +1,11 @@
 -- Where a text may be cut: beside ASCII characters at its start and at its end.
-use Rattle.std.proofs.Common.{◌≡◌, ◌≤◌, ◌-◌, ◌+◌, ℕ, zero, suc, Bool, List, length, get_or, sym, arith, subst}
-use Rattle.std.specs.List.{prefix_len, suffix_len}
+use Rattle.std.proofs.Common.{◌≡◌, ◌≤◌, ◌-◌, ◌+◌, ℕ, zero, suc, Bool, List, get_or, arith, subst}
+use Rattle.std.specs.List.{prefix_len}
 use Rattle.std.specs.Str.{IsCharBoundary, IsUtf8}
 use Rattle.std.proofs.lemmas.Bool.Decides.{nat_tests}
 use Rattle.std.proofs.lemmas.List.Sums.{prefix_len_passes, prefix_len-le-length}
 use Rattle.std.proofs.lemmas.Str.{IsCharBoundary-start, IsCharBoundary-after_ascii}
-use Rattle.std.specs.String.Boundary.{IsSplitPoint}
-use Rattle.htmd_text.proofs.TrimsLemmas.{OfAscii, end_boundary}
+use Rattle.htmd_text.proofs.TrimsLemmas.{OfAscii}
 use Rattle.htmd_text.specs.Trims.{is_space}
 
 pub space_of_ascii : OfAscii is_space
@@ -23,11 +22,3 @@ cut_in_leading passes s (suc k) text ascii l =
     subst (λ (n : ℕ). IsCharBoundary s n) step
     (IsCharBoundary-after_ascii s k text (omega (arith, prefix_len-le-length passes s))
     (ascii (get_or s k 0) passed))
-
--- in front of such characters at the end
-pub cut_before_final : (passes : ℕ → Bool) (s : List ℕ) (n : ℕ) → OfAscii passes
-    → n ≡ length s - suffix_len passes s
-    → IsSplitPoint s n
-cut_before_final passes s n ascii e =
-    let here = subst (λ (k : ℕ). IsCharBoundary s k) (sym e) (end_boundary passes s ascii) in
-    (here.0, λ _. here.1)

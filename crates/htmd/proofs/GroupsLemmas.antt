@@ -25,16 +25,6 @@ abbrev joint_replaced : List ℕ → Option Joint → Option Joint
 joint_replaced s None = None
 joint_replaced s (Some j) = Some (record { name = j.name; attributes = j.attributes; text = s })
 
-pub only_text-with : (s : List ℕ) (trees : NumberedForest) → IsSome (only_text trees)
-    → only_text (with_only_text s trees) ≡ Some s
-only_text-with s none h = cc
-only_text-with s (more (document i c) ts) h = cc
-only_text-with s (more (doctype i) ts) h = cc
-only_text-with s (more (text i t) none) h = refl
-only_text-with s (more (text i t) (more u us)) h = cc
-only_text-with s (more (comment i t) ts) h = cc
-only_text-with s (more (element i n a c) ts) h = cc
-
 joint_with-replaced : (s : List ℕ) (name : List ℕ) (attributes : List AttributePair) (trees : NumberedForest)
     → joint_with name attributes (only_text (with_only_text s trees)) ≡ joint_replaced s
     (joint_with name attributes (only_text trees))

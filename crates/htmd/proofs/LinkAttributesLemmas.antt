@@ -1,6 +1,6 @@
 -- The attributes of a link or an image, one after another.
-use Rattle.std.proofs.Common.{◌≡◌, ℕ, ◌+◌, ◌<◌, Bool, true, false, cond, not, ◌||◌, List, [], ◌∷◌, ◌++◌, length, get_or}
-use Rattle.std.proofs.Common.{take, drop, map, Some, None, refl, sym, ap, ◌∙◌, string_bytes, Bor}
+use Rattle.std.proofs.Common.{◌≡◌, ℕ, ◌+◌, ◌<◌, Bool, true, false, cond, ◌||◌, List, [], ◌∷◌, ◌++◌, length, get_or}
+use Rattle.std.proofs.Common.{take, map, Some, None, refl, sym, ap, ◌∙◌, string_bytes, Bor}
 use Rattle.std.proofs.lemmas.List.{take_more, map-append}
 use Rattle.std.specs.List.{list_any}
 use Rattle.std.specs.Option.{option_or}
@@ -8,8 +8,7 @@ use Rattle.std.specs.Str.{bytes_eq}
 use Rattle.htmd_tree.specs.ValueTrees.{AttributePair}
 use Rattle.htmd_tree.specs.declared.tree.Attribute.{Attribute}
 use Rattle.htmd_tree.specs.Views.{pair_of, pairs_of}
-use Rattle.htmd.specs.LinkAttributes.{is_among, last_value, has_others}
-use Rattle.htmd.proofs.Steps.{stepped}
+use Rattle.htmd.specs.LinkAttributes.{is_among, last_value}
 
 pub among_names : (names : List (Bor (List ℕ))) (name : List ℕ)
     → list_any (λ n. bytes_eq n.now name) names ≡ is_among (map (λ n. n.now) names) name
@@ -47,8 +46,3 @@ pub value-other : (names : List (List ℕ)) (attrs : List Attribute) (i : ℕ) (
     → last_value names (pairs_of (take (i + 1) attrs)) ≡ last_value names (pairs_of (take i attrs))
 value-other names attrs i a l here is =
     ap (last_value names) (pairs-more attrs i a l here) ∙ last-other names (pairs_of (take i attrs)) (pair_of a) is
-
-pub others-step : (names : List (List ℕ)) (attrs : List Attribute) (i : ℕ) (a : Attribute) → i < length attrs
-    → a ≡ get_or attrs i a → has_others names (pairs_of (drop i attrs))
-    ≡ (not (is_among names (string_bytes a.name)) || has_others names (pairs_of (drop (i + 1) attrs)))
-others-step names attrs i a l here = stepped (λ xs. has_others names (pairs_of xs)) attrs i a l here

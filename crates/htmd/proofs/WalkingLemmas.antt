@@ -235,24 +235,3 @@ raw_inline at name attributes definitions e b =
           ++ end_of_element name));
       definitions = (content_of at definitions).definitions;
     })) b)
-
-pub raw_of_block : (at : Occurrence) (name : List ℕ) (attributes : List AttributePair) (definitions : List (List ℕ))
-    → data_at at.conversion.items at.view.node ≡ element_node name attributes → is_block name ≡ true
-    → ◌≡◌ {A = Answer} (record {
-      result =
-          Some (raw_result (raw_block (serialisation (value_tree (tree_of at.conversion.items at.view.node)))));
-      definitions =
-          definitions;
-    }) (raw_answer at definitions)
-raw_of_block at name attributes definitions e b =
-    sym (ap (λ c. raw_element at c definitions) e
-    ∙ ap (λ x. cond x (record {
-      result =
-          Some (raw_result (raw_block (serialisation (value_tree (tree_of at.conversion.items at.view.node)))));
-      definitions = definitions;
-    })
-    (record {
-      result = Some (raw_result ((start_tag name attributes ++ (content_of at definitions).text)
-          ++ end_of_element name));
-      definitions = (content_of at definitions).definitions;
-    })) b)

@@ -1,7 +1,6 @@
 //! All text of an element, whatever stands between its texts.
 
 ghost use Rattle.std.specs.Prelude.{◌≡◌, ◌<◌, ◌++◌, IfOk, OnOk, length, string_bytes};
-ghost use Rattle.htmd_tree.specs.NumberedTrees.{tree_of};
 ghost use Rattle.htmd.specs.AllText as spec;
 ghost use Rattle.htmd.specs.Groups.{children_at};
 ghost use Rattle.htmd.specs.Views.{element_view};

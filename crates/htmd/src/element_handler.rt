@@ -1,6 +1,6 @@
 //! Handlers of elements, and what they are shown and give.
 
-ghost use Rattle.std.specs.Prelude.{◌≡◌, ◌<◌, ◌&&◌, [], ℕ, List, Option, IfOk, IfSome, map, length, not, string_bytes};
+ghost use Rattle.std.specs.Prelude.{◌≡◌, ◌<◌, [], ℕ, List, Option, IfOk, map, length, string_bytes};
 ghost use Rattle.std.specs.Option.{option_copied};
 ghost use Rattle.htmd_tree.specs.Items.{data_at, element_node, parent_at};
 ghost use Rattle.htmd_tree.specs.Views.{pairs_of};

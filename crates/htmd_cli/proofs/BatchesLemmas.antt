@@ -4,7 +4,7 @@ use Rattle.std.proofs.Common.{List, [], ◌∷◌, ◌++◌, length}
 use Rattle.std.proofs.Common.{Option, Some, None, Result, Ok, Err, IfOk, OnOk, OnErr, take, length-take, arith}
 use Rattle.std.proofs.Common.{append_assoc, append-nil}
 use Rattle.std.proofs.Common.{length-append}
-use Rattle.std.proofs.KnownBytes.{Appends-nil, Appends-trans, Consumes-nil, Consumes-trans}
+use Rattle.std.proofs.KnownBytes.{Appends-nil, Appends-trans, Consumes-trans}
 use Rattle.std.specs.Str.{bytes_eq}
 use Rattle.std.specs.Io.KnownBytes.{Appends, Consumes, IsAtEnd}
 use Rattle.htmd.specs.Characters.{line_feed}
@@ -83,16 +83,6 @@ Answers-like way all all2 rest rest2 a b c n m k p e f g h = record {
   ahead = λ tail. e tail ∙ (p.ahead tail ∙ ap (λ t. p.done ++ t) (f tail));
 }
 
--- the same rows at other tails
-Answers-at : (way : Way) (all rest : List ℕ → List (List ℕ)) (f : List ℕ → List ℕ) (a b : List ℕ) (n m : ℕ)
-    → Answers way all rest a b n m → Answers way (λ tail. all (f tail)) (λ tail. rest (f tail)) a b n m
-Answers-at way all rest f a b n m p = record {
-  done = p.done;
-  written = p.written;
-  are = p.are;
-  appended = p.appended;
-  number = p.number;
-  ahead = λ tail. p.ahead (f tail);
 }
 
 -- whichever way a call ended, it left some rows
@@ -139,12 +129,6 @@ data_ends begun front behind rest row tail o f r e =
     ∙ rows-end (begun ++ front) (behind ++ tail) (lacks-append line_feed begun front o f.0)
     (sym (ap (λ t. bytes_eq t end_mark) r) ∙ e))
 
--- what stands behind the last line feed
-pub row_goes_on : (begun rest next tail : List ℕ) → next ≡ begun ++ rest
-    → rows_from begun (rest ++ tail) ≡ rows_from next tail
-row_goes_on begun rest next tail e =
-    ap rows (sym (append_assoc begun rest tail)) ∙ ap (λ t. rows (t ++ tail)) (sym e)
-
 pub lacks_on : (begun rest next : List ℕ) → next ≡ begun ++ rest → lacks line_feed begun ≡ true
     → lacks line_feed rest ≡ true → lacks line_feed next ≡ true
 lacks_on begun rest next e o r = ap (lacks line_feed) e ∙ lacks-append line_feed begun rest o r
@@ -154,15 +138,6 @@ pub last_row : (begun : List ℕ) → 0 < length begun → lacks line_feed begun
     → rows begun ≡ begun ∷ []
 last_row [] some o e = absurd (omega arith)
 last_row (b ∷ s) some o e = ap before_end (lines-open b s o) ∙ rw e refl
-
-pub no_last_row : (begun : List ℕ) → length begun ≡ 0 → rows begun ≡ []
-no_last_row [] e = refl
-no_last_row (b ∷ s) e = absurd (omega arith)
-
-pub last_end : (begun : List ℕ) → 0 < length begun → lacks line_feed begun ≡ true → bytes_eq begun end_mark ≡ true
-    → rows begun ≡ []
-last_end [] some o e = absurd (omega arith)
-last_end (b ∷ s) some o e = ap before_end (lines-open b s o) ∙ rw e refl
 
 pub followed-some : (s tail : List ℕ) → 0 < length s → followed s tail ≡ s ++ tail
 followed-some [] tail l = absurd (omega arith)
@@ -183,16 +158,6 @@ pub record Progress (way : Way) (before now : Option (List ℕ)) (empty full : O
   pub put : Appends empty full written
   pub answers : Answers way (λ tail. rows (consumed ++ tail)) (rows_from begun) [] written 0 answered
 
-pub Progress-start : (way : Way) (source sink : Option (List ℕ)) (begun : List ℕ) (answered : ℕ) → begun ≡ []
-    → answered ≡ 0 → Progress way source source sink sink begun answered
-Progress-start way source sink begun answered o a = record {
-  consumed = [];
-  written = [];
-  taken = Consumes-nil source;
-  put = Appends-nil sink;
-  answers = Answers-like way (λ tail. rows tail) (λ tail. rows tail) (λ tail. rows tail) (rows_from begun) [] [] [] 0 0
-      answered (Answers-none way (λ tail. rows tail) (λ tail. rows tail) [] 0 (λ tail. refl)) (λ tail. refl)
-      (λ tail. ap (λ t. rows (t ++ tail)) (sym o)) refl a;
 }
 
 -- the answers of a read behind those before it, while nothing waits

@@ -7,7 +7,7 @@ use Rattle.std.proofs.lemmas.List.{drop_more, drop_all, take_all, take_more, tak
 use Rattle.std.proofs.lemmas.Bool.{eqb-true, lt-ltb, le-ltb}
 use Rattle.std.specs.Prelude.{nat_lt}
 use Rattle.htmd.specs.Characters.{backslash, carriage_return, line_feed, tab}
-use Rattle.htmd_cli.specs.Fields.{digit_value, digits, number_behind, escaped, escape_length, letter_x}
+use Rattle.htmd_cli.specs.Fields.{digit_value, digits, number_behind, escaped, escape_length}
 use Rattle.htmd_cli.specs.Fields.{read_behind, read_field, written_byte, written_field, FieldsReadBack}
 use Rattle.htmd_cli.specs.Lines.{lacks}
 use Rattle.htmd_cli.proofs.LinesLemmas.{unless}
@@ -85,17 +85,6 @@ digits-within base (suc n) (b ∷ s) =
     within (nat_lt (digit_value b) base) (digits base n s) (length s) (digits-within base n s)
 
 -- ---- what is read
-
-length-within : (t u : Bool) (n m l : ℕ) → n ≤ suc l → m ≤ l → (if t then n else if u then suc m else 1) ≤ suc l
-length-within true u n m l p q = p
-length-within false true n m l p q = omega arith
-length-within false false n m l p q = omega arith
-
-pub escape_length-within : (s : List ℕ) → escape_length s ≤ length s
-escape_length-within [] = omega arith
-escape_length-within (b ∷ s) =
-    length-within (nat_lt (digit_value b) 8) (b == letter_x) (digits 8 3 (b ∷ s)) (digits 16 2 s) (length s)
-    (digits-within 8 3 (b ∷ s)) (digits-within 16 2 s)
 
 read_behind-drop : (n : ℕ) (s : List ℕ) → read_behind n s ≡ read_behind 0 (drop n s)
 read_behind-drop zero s = refl

@@ -8,7 +8,7 @@ use Rattle.std.proofs.lemmas.Bool.{ne_eqb}
 use Rattle.std.proofs.lemmas.List.Elements.{All-head, All-tail}
 use Rattle.std.specs.Str.{bytes_eq}
 use Rattle.htmd.specs.Characters.{line_feed, tab}
-use Rattle.htmd_cli.specs.Lines.{lacks, lines, before_lines, rows, before_end, end_mark, other_fields, last_field}
+use Rattle.htmd_cli.specs.Lines.{lacks, lines, before_lines, rows, end_mark, other_fields, last_field}
 
 -- ---- where a byte doesn't stand
 
@@ -77,11 +77,6 @@ rows-line l s p e = rw (lines-line l s p, e) refl
 pub rows-end : (l s : List ℕ) → lacks line_feed l ≡ true → bytes_eq l end_mark ≡ true
     → rows (l ++ line_feed ∷ s) ≡ []
 rows-end l s p e = rw (lines-line l s p, e) refl
-
--- a last line without a line feed is as with one
-pub rows-open : (l : List ℕ) → 0 < length l → lacks line_feed l ≡ true → rows (l ++ line_feed ∷ []) ≡ rows l
-rows-open [] some p = absurd (omega arith)
-rows-open (b ∷ l) some p = ap before_end (lines-line (b ∷ l) [] p ∙ sym (lines-open b l p))
 
 -- ---- fields
 

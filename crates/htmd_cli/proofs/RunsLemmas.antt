@@ -1,15 +1,13 @@
 -- A run from its input to what it wrote, and a refused conversion as the run's.
 use Rattle.std.proofs.Common.{◌≡◌, ◌∙◌, sym, ap, subst, ℕ, List, [], ◌∷◌, ◌++◌, Option, Some, None}
-use Rattle.std.proofs.Common.{Result, Err, IsErrAnd, IfSome, IsUtf8, append-nil}
+use Rattle.std.proofs.Common.{IfSome, IsUtf8, append-nil}
 use Rattle.std.proofs.KnownBytes.{Consumes-whole}
 use Rattle.std.specs.Io.KnownBytes.{Appends, Consumes, IsAtEnd}
 use Rattle.htmd.specs.Characters.{line_feed}
-use Rattle.htmd.specs.FaultKind.{FaultKind}
 use Rattle.htmd.specs.declared.conversion.ConvertError.{ConvertError}
 use Rattle.htmd.specs.declared.conversion.ConvertError.TheVariants as conversion
 use Rattle.htmd_cli.specs.declared.faults.RunError.{RunError}
 use Rattle.htmd_cli.specs.declared.faults.RunError.TheVariants as run
-use Rattle.htmd_cli.specs.Failures.{run_error}
 use Rattle.htmd_cli.specs.Settings.{Chosen}
 use Rattle.htmd_cli.specs.Conversion.{HasMarkdown}
 use Rattle.htmd_cli.specs.Runs.{Converts, IsConvertible, Writes}
@@ -41,16 +39,3 @@ pub convertible_run : (chosen : Chosen) (old new : Option (List ℕ)) (items inp
 convertible_run chosen old new items input markdown c e i m =
     Consumes-whole old new items (IsConvertible chosen) c e
     (subst (IsConvertible chosen) i (m.0, markdown, m.1))
-
-refused_conversion : (e : ConvertError) (place : ℕ) (kind : FaultKind)
-    → run.Refused place kind ≡ run_error e → e ≡ conversion.Refused place kind
-refused_conversion (conversion.Refused p k) place kind q = cc
-refused_conversion conversion.Memory place kind q = absurd cc
-
--- a refusal of a run comes of a refused conversion, with its place and kind
-pub conversion_before : {T U : Type 0} (r : Result T RunError) (x : Result U ConvertError) (e : ConvertError)
-    (place : ℕ) (kind : FaultKind) → x ≡ Err e → IsErrAnd r (λ error. error ≡ run_error e)
-    → r ≡ Err (run.Refused place kind) → x ≡ Err (conversion.Refused place kind)
-conversion_before r x e place kind was given q =
-    was ∙ ap Err (refused_conversion e place kind
-    (subst (λ y. IsErrAnd y (λ error. error ≡ run_error e)) q given))

@@ -1,7 +1,7 @@
 -- Words, their values and what they ask for, step by step.
 use Rattle.std.proofs.Common.{◌≡◌, ℕ, suc, ◌+◌, ◌<◌, Bool, true, false, ◌&&◌, ◌||◌, List, [], ◌∷◌, ◌++◌}
 use Rattle.std.proofs.Common.{length, drop, map, get_or, eqb, refl, sym, ◌∙◌, ap, arith, append_assoc}
-use Rattle.std.proofs.Common.{Option, Some, None, MatchOption, string_bytes}
+use Rattle.std.proofs.Common.{Option, Some, None, MatchOption}
 use Rattle.std.specs.Borrow.{Bor}
 use Rattle.std.specs.Str.Pattern.{LacksTextAt, StripsPrefix, FindsTextPrefix}
 use Rattle.std.specs.List.{list_all, position_or_len, before_first, after_first}
@@ -10,12 +10,10 @@ use Rattle.std.specs.declared.string.String.{String}
 use Rattle.std.proofs.lemmas.List.{drop_more, map_push}
 use Rattle.std.proofs.lemmas.Bool.{eqb-true}
 use Rattle.std.proofs.lemmas.Bool.Decides.{nat_tests}
-use Rattle.std.proofs.Math.Bool.{or-true, or-false, and-true}
 use Rattle.htmd.specs.CharacterClasses.{begins_with}
-use Rattle.htmd_cli.specs.Words.{Asked, words, is_given, meaning, is_known, are_known, after, asked_behind, asked_by}
+use Rattle.htmd_cli.specs.Words.{Asked, is_given, asked_behind, asked_by}
 use Rattle.htmd_cli.specs.Words.{nothing_asked}
-use Rattle.htmd_cli.specs.Words.{number, number_behind, with_digit, parts, is_filled}
-use Rattle.htmd_cli.specs.WordRows.{Row, word_of}
+use Rattle.htmd_cli.specs.Words.{number_behind, with_digit, parts, is_filled}
 
 -- either way, with what the test says
 test : {P : Type 0} (b : Bool) → (b ≡ true → P) → (b ≡ false → P) → P
@@ -27,10 +25,6 @@ test false f g = g refl
 pub no_number : (s : List ℕ) → number_behind None s ≡ None
 no_number [] = refl
 no_number (b ∷ s) = no_number s
-
-pub number_begins : (s : List ℕ) → 0 < length s → number s ≡ number_behind (Some 0) s
-number_begins [] l = absurd (omega arith)
-number_begins (b ∷ s) l = refl
 
 -- one digit more
 pub number_goes_on : (n : ℕ) (s : List ℕ) (i : ℕ) (r : Option ℕ) → i < length s
@@ -50,34 +44,6 @@ some_part [] = ([], [], refl)
 some_part (b ∷ s) =
     let i = some_part s in
     test (eqb b 44) (λ e. ([], parts s, rw e refl)) (λ e. (b ∷ i.0, i.1, rw (e, i.2) refl))
-
-pub all_filled : (s : List ℕ) → are_filled false (parts s) ≡ list_all is_filled (parts s)
-all_filled s = let i = some_part s in rw i.2 refl
-
-filled_letter : (f : Bool) (b : ℕ) (s : List ℕ) → eqb b 44 ≡ false
-    → are_filled f (parts (b ∷ s)) ≡ are_filled true (parts s)
-filled_letter f b s e = let i = some_part s in rw (e, i.2, or-true f) refl
-
-filled_comma : (f : Bool) (b : ℕ) (s : List ℕ) → eqb b 44 ≡ true
-    → are_filled f (parts (b ∷ s)) ≡ f && list_all is_filled (parts s)
-filled_comma f b s e = rw (e, or-false f) refl
-
-pub letter_fills : (f : Bool) (s : List ℕ) (i : ℕ) → i < length s → eqb (get_or s i 0) 44 ≡ false
-    → are_filled f (parts (drop i s)) ≡ are_filled true (parts (drop (i + 1) s))
-letter_fills f s i l e = rw (drop_more s i 0 l) (filled_letter f (get_or s i 0) (drop (i + 1) s) e)
-
-pub comma_goes_on : (s : List ℕ) (i : ℕ) → i < length s → eqb (get_or s i 0) 44 ≡ true
-    → are_filled true (parts (drop i s)) ≡ are_filled false (parts (drop (i + 1) s))
-comma_goes_on s i l e =
-    rw (drop_more s i 0 l)
-    (filled_comma true (get_or s i 0) (drop (i + 1) s) e ∙ sym (all_filled (drop (i + 1) s)))
-
-pub comma_empties : (s : List ℕ) (i : ℕ) → i < length s → eqb (get_or s i 0) 44 ≡ true
-    → are_filled false (parts (drop i s)) ≡ false
-comma_empties s i l e = rw (drop_more s i 0 l) (filled_comma false (get_or s i 0) (drop (i + 1) s) e)
-
-pub filled_end : (f : Bool) (s : List ℕ) → s ≡ [] → are_filled f (parts s) ≡ f
-filled_end f s e = rw e (and-true (f || false) ∙ or-false f)
 
 pub one_part : (s : List ℕ) → position_or_len (λ b. eqb b 44) s ≡ length s → parts s ≡ s ∷ []
 one_part [] e = refl
@@ -124,35 +90,7 @@ value_behind n s true None e h =
 value_behind n s true (Some x) e h =
     (ap (begins_with n) h.1.1 ∙ begins_append n (drop h.0 s), h.2 ∙ ap (λ k. drop k s) h.1.0)
 
--- a row that isn't given
-pub row_passed : (rows : List Row) (given : List ℕ) (i : ℕ) (d : Row) → i < length rows
-    → is_given (word_of (get_or rows i d)).name (word_of (get_or rows i d)).takes_value given ≡ false
-    → meaning (map word_of (drop i rows)) given ≡ meaning (map word_of (drop (i + 1) rows)) given
-row_passed rows given i d l e = rw (drop_more rows i d l, e) refl
-
-pub row_found : (rows : List Row) (given : List ℕ) (i : ℕ) (d : Row) → i < length rows
-    → is_given (word_of (get_or rows i d)).name (word_of (get_or rows i d)).takes_value given ≡ true
-    → meaning (map word_of (drop i rows)) given
-    ≡ (word_of (get_or rows i d)).effect (drop (length (word_of (get_or rows i d)).name) given)
-row_found rows given i d l e = rw (drop_more rows i d l, e) refl
-
 -- ---- all words
-
-pub word_known : (given : List (String Global)) (i : ℕ) (d : String Global) → i < length given
-    → are_known (drop i given) ≡ true
-    → (is_known (get_or given i d) ≡ true) × (are_known (drop (i + 1) given) ≡ true)
-word_known given i d l e =
-    let z : are_known (get_or given i d ∷ drop (i + 1) given) ≡ true = rw (drop_more given i d l) at e in
-    both (is_known (get_or given i d)) (are_known (drop (i + 1) given)) z
-  where
-    both : (x y : Bool) → (x && y) ≡ true → (x ≡ true) × (y ≡ true)
-    both true y e = (refl, e)
-    both false y e = (absurd (cc), absurd (cc))
-
-pub asked_more : (asked : Asked) (given : List (String Global)) (i : ℕ) (d : String Global) → i < length given
-    → asked_behind asked (drop i given)
-    ≡ asked_behind (after (meaning words (string_bytes (get_or given i d))) asked) (drop (i + 1) given)
-asked_more asked given i d l = rw (drop_more given i d l) refl
 
 pub asked_first : (asked : Asked) (given : List (String Global)) → asked ≡ nothing_asked
     → asked_behind asked given ≡ asked_by given

@@ -1,5 +1,4 @@
 //! What is written in place of a conversion: the help and the version.
-ghost use Rattle.std.specs.Prelude.{◌≡◌};
 ghost use Rattle.htmd_cli.specs.Failures.{FailsAtErr};
 
 use crate::faults::Failed;

@@ -1,5 +1,5 @@
 //! Sources, sinks, readers and writers that fail where they are told to.
-ghost use Rattle.std.specs.Prelude.{◌≡◌, Some, None, true, false, if◌then◌else◌};
+ghost use Rattle.std.specs.Prelude.{◌≡◌, Some, true, false, if◌then◌else◌};
 
 use htmd_cli::{Failed, Sink, Source};
 use std::alloc::Global;

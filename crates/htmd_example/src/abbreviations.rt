@@ -1,5 +1,5 @@
 //! A handler of one's own that reads an attribute: behind what stands in `abbr` comes its `title`, in parentheses.
-ghost use Rattle.std.specs.Prelude.{◌++◌, Some, None, codes};
+ghost use Rattle.std.specs.Prelude.{Some, None, codes};
 ghost use Rattle.htmd.specs.Handling.{content_of_children};
 ghost use Rattle.htmd.specs.ElementPlans.{attributes_of, value_of_first};
 ghost use Rattle.htmd_example.specs.Abbreviations.{spelled_out};

@@ -1,6 +1,6 @@
 //! A handler of two closures, one of which keeps a text: it is put behind what stands in `b`.
-ghost use Rattle.std.specs.Prelude.{◌≡◌, ◌++◌, ◌∷◌, [], Option, Some, IfOk, codes, string_bytes};
-ghost use Rattle.htmd.specs.Handling.{ElementView, ResultView, PlanView, content_of_children};
+ghost use Rattle.std.specs.Prelude.{◌≡◌, ◌++◌, Option, Some, IfOk, codes, string_bytes};
+ghost use Rattle.htmd.specs.Handling.{content_of_children};
 ghost use Rattle.htmd.specs.Views.{optional_result};
 
 use htmd::element_handler::{Element, FnHandler, HandlerResult, HandlerRule, Plan};

@@ -8,7 +8,7 @@ mod ReferencedLineFeeds
 mod EscapeLemmas
 mod TagNamesLemmas
 mod TagsLemmas
-mod ReadBackLemmas
+pub mod ReadBackLemmas
 pub mod TagReadingLemmas
 pub mod TagSpellingLemmas
 pub mod TextLemmas
@@ -24,7 +24,7 @@ mod CutLemmas
 mod FullPieces
 mod FrontsLemmas
 mod Soundness
-mod Readings
+pub mod Readings
 mod ViablePrefixes
 mod ParameterLaw
 pub mod FaultPieces

@@ -1,6 +1,5 @@
 -- Which names may stand where.
-use Rattle.std.proofs.Common.{Bool, List, [], ap, codes, false, inl, inr, not, refl, sym, true, ℕ, ◌&&◌, ◌∙◌, ◌∷◌, ◌≡◌}
-use Rattle.std.proofs.Common.{◌⊎◌}
+use Rattle.std.proofs.Common.{Bool, List, [], ap, codes, false, not, refl, sym, true, ℕ, ◌&&◌, ◌∙◌, ◌∷◌, ◌≡◌}
 use Rattle.std.proofs.lemmas.Slice.Eq.{bytes_eq-Decides}
 use Rattle.std.specs.List.{list_all}
 use Rattle.std.specs.Str.{bytes_eq}
@@ -22,9 +21,6 @@ bytes_same n = (bytes_eq-Decides n n).1 refl
 
 pub one_name : (m n : List ℕ) → is_among (m ∷ []) n ≡ true → n ≡ m
 one_name m n e = same_bytes n m (sym (or-false (bytes_eq n m)) ∙ e)
-
-pub two_names : (a b n : List ℕ) → is_among (a ∷ b ∷ []) n ≡ true → (n ≡ a) ⊎ (n ≡ b)
-two_names a b n e = test (bytes_eq n a) (λ t. inl (same_bytes n a t)) (λ t. let w = rw t at e in inr (one_name b n w))
 
 -- what each of some names passes
 pub among_passes : (P : List ℕ → Bool) (names : List (List ℕ)) (n : List ℕ) → is_among names n ≡ true

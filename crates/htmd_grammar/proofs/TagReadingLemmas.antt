@@ -67,13 +67,6 @@ lex_gap : (gap r : List ℕ) → list_all is_ascii_white_space gap ≡ true → 
     → next_part (gap ++ r) ≡ behind_gap (not (is_empty gap)) r
 lex_gap gap r l h = let c = front_cut is_ascii_white_space gap r l h in rw (c.0, c.1) refl
 
-key_head : (key : List ℕ) → is_attribute_name key ≡ true → (b : ℕ) × (s : List ℕ) × (key ≡ b ∷ s)
-    × (is_attribute_name_byte b ≡ true)
-key_head [] e = absurd (cc)
-key_head (b ∷ s) e =
-    let p = and_parts (list_all is_attribute_name_byte (b ∷ s)) _ e in
-    (b, s, refl, (and_parts (is_attribute_name_byte b) (list_all is_attribute_name_byte s) p.0).0)
-
 key_bytes : (key : List ℕ) → is_attribute_name key ≡ true → list_all is_attribute_name_byte key ≡ true
 key_bytes key e = let p = and_parts (not (is_empty key) && list_all is_attribute_name_byte key) _ e in
     (and_parts (not (is_empty key)) (list_all is_attribute_name_byte key) p.0).1

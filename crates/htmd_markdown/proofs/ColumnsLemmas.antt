@@ -26,9 +26,6 @@ pub record Widening (old more ws : List ℕ) (i : ℕ) : Type 0 where
   pub within : i ≤ length ws
   pub whole : take i ws ++ spec.wider (drop i ws) (drop i more) ≡ spec.wider old more
 
-pub widening_none : (old more : List ℕ) → Widening old more old 0
-widening_none old more = record { within = omega arith; whole = refl }
-
 pub widening_set : (old more ws : List ℕ) (i w : ℕ) → i < length ws → i < length more
     → w ≡ max (get_or ws i 0) (get_or more i 0) → Widening old more ws i
     → Widening old more (set ws i w) (i + 1)

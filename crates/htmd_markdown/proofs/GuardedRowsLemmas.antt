@@ -198,9 +198,6 @@ escaped_as_is b s = by_case (b == vertical_bar) (b == backslash)
     by_case false true = refl
     by_case false false = refl
 
-bar_read : (s : List ℕ) → bars_read (backslash ∷ vertical_bar ∷ s) ≡ vertical_bar ∷ bars_read s
-bar_read s = refl
-
 read_one : (b : ℕ) (s : List ℕ) → (b == backslash) ≡ false → bars_read (escaped_bars false s) ≡ bars_read s
     → bars_read (escaped_bars false (b ∷ s)) ≡ bars_read (b ∷ s)
 read_one b s other rest =

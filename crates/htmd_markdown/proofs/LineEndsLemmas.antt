@@ -53,10 +53,6 @@ pub filled_if : (s : List ℕ) → (length s == 0) ≡ false → is_filled s ≡
 filled_if [] e = cc
 filled_if (b ∷ s) e = refl
 
-pub filled_or : (s : List ℕ) → (length s == 0) ≡ true → is_filled s ≡ false
-filled_or [] e = refl
-filled_or (b ∷ s) e = grind (arith, nat_tests)
-
 not_empty : (both other : Bool) (b : ℕ) (s rest : List ℕ)
     → ((b == carriage_return) && (slice_index s 0 == line_feed)) ≡ both
     → (length rest == 0) ≡ (length s == 0)

@@ -131,12 +131,6 @@ high_piece escaped b high =
     let return : (b == carriage_return) ≡ false = grind (arith, nat_tests) in
     rw (bar, feed, return) refl
 
-high_next : (escaped : Bool) (b : ℕ) → 128 ≤ b → escapes_next escaped b ≡ false
-high_next escaped b high =
-    let mark : (b == backslash) ≡ false = grind (arith, nat_tests) in
-    let return : (b == carriage_return) ≡ false = grind (arith, nat_tests) in
-    rw (return, mark) refl
-
 high_pieces : (s : List ℕ) (escaped : Bool) (rest : List ℕ) → ((k : ℕ) → k < length s
     → 128 ≤ get_or s k 0)
     → (next : Bool) × (pieces Backslashes escaped (s ++ rest) ≡ s ++ pieces Backslashes next rest)

@@ -25,9 +25,6 @@ abbrev inside_of : ℕ → List ℕ → Option (List ℕ)
 inside_of n s =
     option_map (λ inside. without_padding (line_ends_as_spaces inside)) (before_run n false (drop n s))
 
-read_is : (s : List ℕ) → read_span s ≡ inside_of (prefix_len is_backquote (from_delimiter s)) (from_delimiter s)
-read_is s = refl
-
 pub one_more : (n : ℕ) → 1 + n ≡ suc n
 one_more n = omega arith
 

@@ -1,6 +1,5 @@
 //! Fenced code blocks (CommonMark 0.31.2, 4.5).
-ghost use Rattle.std.specs.Prelude.{◌≡◌, ◌<◌, ℕ, true, drop, replicate, Some, IfOk, OnOk, string_bytes};
-ghost use Rattle.std.specs.List.{prefix_len};
+ghost use Rattle.std.specs.Prelude.{◌≡◌, ◌<◌, ℕ, true, drop, replicate, Some, IfOk, string_bytes};
 ghost use Rattle.std.specs.Option.{option_copied};
 ghost use Rattle.htmd_markdown.specs.CodeBlocks.{code_of};
 ghost use Rattle.htmd_markdown.specs.FenceReading.{read_fence, symbols_at_start};

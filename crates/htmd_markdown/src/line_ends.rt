@@ -1,5 +1,5 @@
 //! Line ends of a text (CommonMark 0.31.2, 2.1) as something else.
-ghost use Rattle.std.specs.Prelude.{◌≡◌, ◌++◌, [], ◌∷◌, IfOk, OnOk, MatchOption, drop, take, string_bytes};
+ghost use Rattle.std.specs.Prelude.{◌≡◌, ◌++◌, IfOk, OnOk, MatchOption, drop, take, string_bytes};
 ghost use Rattle.std.specs.Cow.{cow_str_bytes};
 ghost use Rattle.htmd_markdown.specs.LineEnds as spec;
 ghost use Rattle.htmd_markdown.specs.Rewriting.{StandsFor};

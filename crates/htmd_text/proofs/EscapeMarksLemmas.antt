@@ -115,14 +115,6 @@ writing_all marked s out from i past was =
     rw piece (ap (λ l. out ++ l) (sym (append-nil (between from i s)) ∙ ap (λ l. between from i s ++ l) (sym ended))
     ∙ was.whole)
 
--- nothing was written
-pub writing_nothing : (marked : ℕ → Bool) (s out : List ℕ) (from i : ℕ) → length s ≤ i → out ≡ []
-    → Writing marked s out from i → s ≡ with_backslashes marked 0 s
-writing_nothing marked s out from i past none was =
-    let start = was.not_begun none in
-    let all : s ≡ between from (length s) s = rw start (sym (between_to_end s 0 (length s) (omega arith))) in
-    all ∙ (rw none at (writing_all marked s out from i past was))
-
 -- ---- a text without special characters has no mark
 
 pub special_at : (s : List ℕ) (k : ℕ) → list_any is_special s ≡ false → is_special (slice_index s k) ≡ false

@@ -6,9 +6,8 @@ use Rattle.std.specs.List.{between}
 use Rattle.std.specs.Str.{IsCharBoundary, IsUtf8}
 use Rattle.std.proofs.lemmas.Bool.{and_parts, cases_Bool, false_from_ne_true, false≢true}
 use Rattle.std.proofs.lemmas.Bool.Decides.{nat_tests}
-use Rattle.std.proofs.lemmas.List.{append-nil, drop_more, drop_all, drop-drop, get_or-drop}
+use Rattle.std.proofs.lemmas.List.{drop_more, drop-drop, get_or-drop}
 use Rattle.std.proofs.lemmas.List.Edits.{between_more, between_none}
-use Rattle.std.proofs.lemmas.Slice.{between_to_end}
 use Rattle.std.proofs.lemmas.Str.{IsCharBoundary-start, IsCharBoundary-after_ascii}
 use Rattle.htmd_text.specs.Characters.{space}
 use Rattle.htmd_text.specs.WhiteSpace.{is_ascii_white_space, begins_with_white_space, squeezed_text}
@@ -42,14 +41,6 @@ pub inner_replaced : (b : ℕ) (s : List ℕ) → is_ascii_white_space b ≡ tru
     → IsReplaced (b ∷ s) []
 inner_replaced b s white more =
     let whole : squeezed_text (b ∷ s) ≡ squeezed_text s = rw (white, more) refl in
-    record { white = white; whole = whole }
-
--- the last white space of a run becomes a space
-pub last_replaced : (b : ℕ) (s : List ℕ) → is_ascii_white_space b ≡ true → begins_with_white_space s ≡ false
-    → b ≢ space
-    → IsReplaced (b ∷ s) (space ∷ [])
-last_replaced b s white last other =
-    let whole : squeezed_text (b ∷ s) ≡ space ∷ squeezed_text s = rw (white, last) refl in
     record { white = white; whole = whole }
 
 pub space_stays : (s : List ℕ) → begins_with_white_space s ≡ false
@@ -111,15 +102,6 @@ squeezing_replaced s out instead from i text lt here was = record {
       rw (between_none s (i + 1), append_assoc, append_assoc) (ap (λ l. out ++ (between from i s ++ l)) (sym rest)
       ∙ was.whole);
 }
-
-pub squeezing_all : (s out : List ℕ) (from i : ℕ) → length s ≤ i → Squeezing s out from i
-    → out ++ between from (length s) s ≡ squeezed_text s
-squeezing_all s out from i past was =
-    let piece : between from (length s) s ≡ between from i s = between_to_end s from (length s) (omega arith)
-    ∙ sym (between_to_end s from i past) in
-    let ended : squeezed_text (drop i s) ≡ [] = ap squeezed_text (drop_all i s past) in
-    rw piece (ap (λ l. out ++ l) (sym (append-nil (between from i s)) ∙ ap (λ l. between from i s ++ l) (sym ended))
-    ∙ was.whole)
 
 -- ---- a text whose white space is spaces alone
 

@@ -1,6 +1,5 @@
 //! The beginnings of a line that Markdown reads as a heading or as an ordered list item.
 ghost use Rattle.std.specs.Prelude.{◌≡◌, ◌==◌, ◌≤◌, length};
-ghost use Rattle.std.specs.List.{prefix_len};
 ghost use Rattle.htmd_text.specs.ListMarkers as spec;
 
 use crate::runs::leading_len;

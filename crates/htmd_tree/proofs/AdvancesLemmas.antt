@@ -16,11 +16,9 @@ use Rattle.htmd_tree.specs.Surroundings.{surroundings_of}
 use Rattle.htmd_tree.specs.OpenNodes.{stack_items, innermost_number, innermost_name, open_node, open_nodes}
 use Rattle.htmd_tree.specs.OpenNodes.{MayOpen, Holds, IsReading}
 use Rattle.htmd_tree.specs.Advances.{Answer, state_at, rules_of, Follows, Advances, leaf, IsLeaf, HasAdded}
-use Rattle.htmd_tree.specs.Advances.{StopsDeep}
 use Rattle.htmd_tree.specs.declared.reader.OpenNode.{OpenNode}
 use Rattle.htmd_tree.specs.declared.reader.Reader.{Reader}
 use Rattle.htmd_tree.specs.declared.reader.surroundings.Surroundings.{Surroundings}
-use Rattle.htmd_tree.specs.declared.reader.Stop.{Stop}
 use Rattle.htmd_tree.specs.declared.reader.Stop.TheVariants.{Memory, Refused}
 use Rattle.htmd_tree.proofs.OpenNodesLemmas.{top_depth, top_data, stack_items-leaf, stack_items-opened}
 use Rattle.htmd_tree.proofs.OpenNodesLemmas.{stack_items-closed, AreOpen-with}
@@ -118,12 +116,6 @@ pub reading_either : (old new : Reader) (has_doctype : Bool) (r : Answer) (s : S
     → Follows old new has_doctype r s → OnOk r (IsReading new)
 reading_either old new has_doctype (Ok x) s f = reading_after old new has_doctype s f
 reading_either old new has_doctype (Err stop) s f = tt
-
-pub stop_follows : (old new : Reader) (has_doctype : Bool) (fs : List OpenElement) (stop : Stop) (s : Step)
-    → StopsDeep old fs stop → Follows old new has_doctype (Err stop)
-    (cond (is_too_deep (rules_of old) above_body fs) (fault TooDeep) s)
-stop_follows old new has_doctype fs Memory s d = tt
-stop_follows old new has_doctype fs (Refused left kind) s d = rw d.2 (d.0, d.1)
 
 pub leaf_follows : (old middle new : Reader) (has_doctype : Bool) (fs : List OpenElement) (x : Data) (id : ℕ)
     (rest : List ℕ) → Holds old has_doctype fs → IsLeaf x → HasAdded old middle has_doctype fs x id

@@ -1,7 +1,7 @@
 -- Values with references, piece by piece.
 use Rattle.std.proofs.Common.{◌≡◌, ℕ, zero, suc, ◌+◌, ◌<◌, true, false, List, []}
 use Rattle.std.proofs.Common.{◌∷◌, ◌++◌, length, take, drop, get_or}
-use Rattle.std.proofs.Common.{Option, None, Some, Ok, Err, refl, ap, sym, subst, ◌∙◌, arith, append_assoc}
+use Rattle.std.proofs.Common.{Option, None, Some, Ok, refl, ap, sym, subst, ◌∙◌, arith, append_assoc}
 use Rattle.std.proofs.lemmas.Bool.Decides.{nat_tests}
 use Rattle.std.proofs.lemmas.List.{drop-drop, get_or-drop}
 use Rattle.std.specs.Char.{encode_utf8}
@@ -11,7 +11,6 @@ use Rattle.htmd_text.proofs.Cases.{test}
 use Rattle.htmd_grammar.specs.CharacterClasses.{leading_run, behind_run}
 use Rattle.htmd_grammar.specs.References.{stands, piece_at, behind, put, decode}
 use Rattle.htmd_grammar.specs.Rules.{named_characters}
-use Rattle.htmd_grammar.specs.declared.fault.FaultKind.{FaultKind}
 use Rattle.htmd_grammar.proofs.Readings.{behind_nothing}
 use Rattle.htmd_tree.specs.DecodedCharacters.{is_itself, piece_of, HasPushed}
 use Rattle.htmd_tree.specs.declared.reader.references.Character.{Character}
@@ -94,9 +93,3 @@ character_pushed (b ∷ s) x before after rest character l e p a r =
     ap (piece_at named_characters b) (sym e) ∙ sym p in
     let k : rest ≡ drop character.behind s = r ∙ sym (drop-drop character.behind 1 (b ∷ s)) in
     subst (λ y. HasPushed before (b ∷ s) after y) (sym k) (special b s before after character q a)
-
-pub character_wrong : (s x : List ℕ) (kind : FaultKind) → 0 < length s → x ≡ drop 1 s
-    → piece_of (Err kind) ≡ piece_at named_characters (slice_index s 0) x → decode named_characters 0 s ≡ None
-character_wrong [] x kind l e p = absurd (omega arith)
-character_wrong (b ∷ s) x kind l e p =
-    ap (λ q. put q (λ n. decode named_characters n s)) (ap (piece_at named_characters b) (sym e) ∙ sym p)

@@ -1,5 +1,5 @@
 -- Lines without CR, and their ends.
-use Rattle.std.proofs.Common.{◌≡◌, ◌≢◌, ℕ, suc, ◌+◌, ◌<◌, true, false, List, []}
+use Rattle.std.proofs.Common.{◌≡◌, ◌≢◌, ℕ, suc, ◌+◌, ◌<◌, false, List, []}
 use Rattle.std.proofs.Common.{◌∷◌, ◌++◌, length, get_or, refl, ap, sym}
 use Rattle.std.proofs.Common.{◌∙◌, arith, append_assoc, drop, subst}
 use Rattle.std.proofs.lemmas.List.{length-append}
@@ -8,7 +8,6 @@ use Rattle.std.proofs.lemmas.Str.{IsUtf8-drop, IsCharBoundary-after_ascii}
 use Rattle.std.specs.Str.{IsUtf8}
 use Rattle.std.proofs.lemmas.Bool.Decides.{nat_tests}
 use Rattle.std.specs.Prelude.{◌==◌}
-use Rattle.htmd_grammar.specs.CharacterClasses.{first_is}
 use Rattle.htmd_grammar.specs.Comments.{normalized}
 
 abbrev pub HasNoReturn : List ℕ → Type 0
@@ -31,12 +30,6 @@ normalized_same [] h = refl
 normalized_same (b ∷ s) h =
     let q = other b (h 0 (omega arith)) in
     rw q (ap (λ x. b ∷ x) (normalized_same s (behind_first b s h)))
-
-pub one_line_end : (s : List ℕ) → first_is 10 s ≡ true → normalized (13 ∷ s) ≡ normalized s
-one_line_end s e = rw e refl
-
-pub lone_return : (s : List ℕ) → first_is 10 s ≡ false → normalized (13 ∷ s) ≡ 10 ∷ normalized s
-lone_return s e = rw e refl
 
 -- one more line
 pub line_more : (lines line ended rest behind text : List ℕ) → lines ++ normalized rest ≡ normalized text

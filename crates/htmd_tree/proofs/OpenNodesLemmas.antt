@@ -1,15 +1,15 @@
 -- What the items of the open elements become where a node is added and where an element opens or is closed.
-use Rattle.std.proofs.Common.{◌≡◌, ℕ, suc, ◌+◌, ◌-◌, ◌<◌, ◌≤◌, Bool, true, List, [], ◌∷◌, ◌++◌, length, refl}
-use Rattle.std.proofs.Common.{sym, ap, ◌∙◌, subst, arith, add-zero, add_assoc, get_or}
+use Rattle.std.proofs.Common.{◌≡◌, ℕ, suc, ◌+◌, ◌-◌, ◌≤◌, Bool, List, [], ◌∷◌, ◌++◌, length, refl}
+use Rattle.std.proofs.Common.{sym, ap, ◌∙◌, arith, add-zero, add_assoc, get_or}
 use Rattle.std.proofs.lemmas.List.{append_assoc, append-nil, length-append}
 use Rattle.htmd_grammar.specs.ValueTrees.{ValueTree, document, doctype, text, comment, element, ValueForest, none, more}
 use Rattle.htmd_grammar.specs.ValueTrees.{AttributePair}
 use Rattle.htmd_grammar.specs.Documents.{above_body}
 use Rattle.htmd_grammar.specs.Steps.{OpenElement, names_of, closed, fresh, with_forest, with_tree, ◌+++◌}
 use Rattle.htmd_tree.specs.Items.{Data, document_node, doctype_node, text_node, comment_node, element_node, Item}
-use Rattle.htmd_tree.specs.Items.{item_at, depth_at, data_at, new_item, holds_children}
+use Rattle.htmd_tree.specs.Items.{item_at, depth_at, data_at, new_item}
 use Rattle.htmd_tree.specs.Layout.{size, sizes, item_under, tree_items, forest_items}
-use Rattle.htmd_tree.specs.OpenNodes.{stack_items, innermost_number, open_node, open_nodes, AreOpen, Holds, IsReading}
+use Rattle.htmd_tree.specs.OpenNodes.{stack_items, innermost_number, open_node, open_nodes, AreOpen, IsReading}
 use Rattle.htmd_tree.specs.Advances.{leaf, IsLeaf}
 use Rattle.htmd_tree.specs.declared.reader.OpenNode.{OpenNode}
 use Rattle.htmd_tree.specs.declared.reader.Reader.{Reader}
@@ -65,18 +65,10 @@ stack_items-closed has_doctype f g gs =
     (append-nil (tree_items (suc (length (names_of above_body gs))) (length (stack_items has_doctype gs))
     (length (stack_items has_doctype (g ∷ gs))) (closed f)))
 
-pub open_nodes-with : (scripting has_doctype : Bool) (fs : List OpenElement) (ts : ValueForest)
-    → open_nodes scripting has_doctype (with_forest fs ts) ≡ open_nodes scripting has_doctype fs
-open_nodes-with scripting has_doctype [] ts = refl
-open_nodes-with scripting has_doctype (f ∷ fs) ts = refl
-
 pub AreOpen-with : (fs : List OpenElement) (ts : ValueForest) → AreOpen fs → AreOpen (with_forest fs ts)
 AreOpen-with [] ts h = h
 AreOpen-with (f ∷ []) ts h = h
 AreOpen-with (f ∷ g ∷ fs) ts h = h
-
-pub AreOpen-outer : (f g : OpenElement) (fs : List OpenElement) → AreOpen (f ∷ g ∷ fs) → AreOpen (g ∷ fs)
-AreOpen-outer f g fs h = h.1
 
 pub item_at-middle : (items rest : List Item) (x : Item) → item_at (items ++ x ∷ rest) (length items) ≡ x
 item_at-middle [] rest x = refl
@@ -98,10 +90,6 @@ pub top_data : (has_doctype : Bool) (f : OpenElement) (gs : List OpenElement)
     ≡ element_node f.name f.attributes
 top_data has_doctype f gs = ap (λ (x : Item). x.node_data) (top_item has_doctype f gs)
 
-pub top_within : (has_doctype : Bool) (f : OpenElement) (gs : List OpenElement)
-    → length (stack_items has_doctype gs) < length (stack_items has_doctype (f ∷ gs))
-top_within has_doctype f gs = rw length-append (omega arith)
-
 pub length-open_nodes : (scripting has_doctype : Bool) (fs : List OpenElement)
     → length (open_nodes scripting has_doctype fs) ≡ length fs
 length-open_nodes scripting has_doctype [] = refl
@@ -113,41 +101,12 @@ get_or-last : (nodes : List OpenNode) (x o : OpenNode) → get_or (nodes ++ x �
 get_or-last [] x o = refl
 get_or-last (n ∷ nodes) x o = get_or-last nodes x o
 
--- the last of the open elements is the innermost
-pub last_node : (scripting has_doctype : Bool) (f : OpenElement) (fs : List OpenElement) (nodes : List OpenNode)
-    (o : OpenNode) → nodes ≡ open_nodes scripting has_doctype (f ∷ fs) → o ≡ get_or nodes (length nodes - 1) o
-    → o ≡ open_node scripting has_doctype f fs
-last_node scripting has_doctype f fs nodes o same here =
-    let outer : List OpenNode = open_nodes scripting has_doctype fs in
-    let x : OpenNode = open_node scripting has_doctype f fs in
-    let n : length nodes ≡ length outer + 1 = ap length same ∙ length-append outer (x ∷ []) in
-    let k : length nodes - 1 ≡ length outer = omega arith in
-    here ∙ (ap (λ (j : ℕ). get_or nodes j o) k ∙ (ap (λ (y : List OpenNode). get_or y (length outer) o) same
-    ∙ get_or-last outer x o))
-
 -- some element is open
 pub some_open : (reader : Reader) → IsReading reader → 1 ≤ length reader.stack.items
 some_open reader r =
     let n : length reader.stack.items ≡ suc (length r.2) = ap length (r.3).stack_is
     ∙ length-open_nodes reader.scripting r.0 (r.1 ∷ r.2) in
     omega arith
-
--- the reader's innermost open element
-pub top_is : (reader : Reader) (has_doctype : Bool) (f : OpenElement) (fs : List OpenElement) (o : OpenNode)
-    → Holds reader has_doctype (f ∷ fs) → o ≡ get_or reader.stack.items (length reader.stack.items - 1) o
-    → o ≡ open_node reader.scripting has_doctype f fs
-top_is reader has_doctype f fs o h here =
-    last_node reader.scripting has_doctype f fs reader.stack.items o h.stack_is here
-
-pub top_number : (reader : Reader) (has_doctype : Bool) (f : OpenElement) (fs : List OpenElement) (o : OpenNode)
-    → Holds reader has_doctype (f ∷ fs) → o ≡ open_node reader.scripting has_doctype f fs
-    → (o.id < length reader.tree) × (holds_children (data_at reader.tree o.id) ≡ true)
-top_number reader has_doctype f fs o h e =
-    let k : o.id ≡ length (stack_items has_doctype fs) = ap (λ (y : OpenNode). y.id) e in
-    let P : List Item → ℕ → Type 0 =
-    λ items n. (n < length items) × (holds_children (data_at items n) ≡ true) in
-    subst (λ (n : ℕ). P reader.tree n) (sym k) (subst (λ (y : List Item). P y (length (stack_items has_doctype fs)))
-    (sym h.tree_is) (top_within has_doctype f fs, ap holds_children (top_data has_doctype f fs)))
 
 -- ---- additions
 

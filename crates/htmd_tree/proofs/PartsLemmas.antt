@@ -74,9 +74,6 @@ mutual
       ∙ (tree_items-behind t d p b (b + size t) q (forest_items d p (b + size t) ts ++ rest) refl l (omega arith)
       ∙ forest_items-behind ts d p (b + size t) n q rest (omega arith) (omega arith) m)
 
-pub none_before : StandBefore []
-none_before q rest l = refl
-
 pub one_more : (before : List Item) (d p : ℕ) (x : Data) → StandBefore before → p ≤ length before
     → StandBefore (before ++ item_under d p x ∷ [])
 one_more before d p x h l q rest m =

@@ -1,9 +1,8 @@
 -- Where a text may be cut behind characters with which it begins, and what stands behind a doctype.
 use Rattle.std.proofs.Common.{◌≡◌, ℕ, zero, suc, ◌+◌, ◌<◌, ◌≤◌, Bool, true, false, cond, ◌==◌, List, [], ◌∷◌, length}
 use Rattle.std.proofs.Common.{drop, get_or, refl, sym, ap, ◌∙◌, subst, arith, Option, Some, None, codes}
-use Rattle.std.specs.Prelude.{nat_lt, option_map}
+use Rattle.std.specs.Prelude.{nat_lt}
 use Rattle.std.specs.List.{list_all}
-use Rattle.std.specs.Option.{MatchOption}
 use Rattle.std.specs.Char.{to_ascii_lowercase}
 use Rattle.std.specs.Str.{IsUtf8}
 use Rattle.std.proofs.lemmas.Bool.Decides.{nat_tests}
@@ -50,12 +49,6 @@ lead_behind (c ∷ p) s u e a l =
     let n : length p + 1 ≡ suc (length p) = omega arith in
     subst (λ k. k < length s → 128 ≤ get_or s k 0 → 192 ≤ get_or s k 0) n
     (lead_after_ascii s (length p) u (last_ascii (c ∷ p) s (length p) e a refl))
-
-pub stripped_is : (r : Option (Bor (List ℕ))) (b : Bool) (v : List ℕ)
-    → MatchOption r (b ≡ false) (λ rest. (b ≡ true) × (rest.now ≡ v))
-    → option_map (λ rest. rest.now) r ≡ cond b (Some v) None
-stripped_is None b v h = rw h refl
-stripped_is (Some x) b v h = rw (h.0) (ap Some (h.1))
 
 pub white_and_name : (t : List ℕ)
     → white_space_and_name t ≡ cond (is_empty (leading_run is_ascii_white_space t)) None

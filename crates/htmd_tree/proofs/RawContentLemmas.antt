@@ -35,15 +35,6 @@ script_later s i r l e q =
     rw d (rw no (sym (absorbed (holds_in_any_case (codes "<script") (drop (i + 1) s))
     (begins_with (codes "<!--") (get_or s i 0 ∷ drop (i + 1) s)) (has_script_escape (drop (i + 1) s)))))
 
-pub script_here : (s : List ℕ) (i : ℕ) (r : Bool) → i < length s
-    → r ≡ begins_in_any_case (codes "<script") (take (length s - i) (drop i s)) → r ≡ true
-    → goes_on true (drop i s) ≡ true
-script_here s i r l e q =
-    let d = drop_more s i 0 l in
-    let yes : begins_in_any_case (codes "<script") (get_or s i 0 ∷ drop (i + 1) s) ≡ true =
-    ap (begins_in_any_case (codes "<script")) (sym d ∙ sym (rest_of s i)) ∙ sym e ∙ q in
-    rw d (rw yes refl)
-
 -- before `<!--`, or at it
 pub escape_more : (s : List ℕ) (i : ℕ) (r : Bool) → i < length s
     → r ≡ begins_with (codes "<!--") (take (length s - i) (drop i s))

@@ -1,10 +1,10 @@
 -- What is written for a node, child by child.
-use Rattle.std.proofs.Common.{◌≡◌, ℕ, ◌+◌, ◌<◌, Bool, cond, List, ◌++◌, length, get_or, drop, sym, ap, ◌∙◌, Result, Ok}
+use Rattle.std.proofs.Common.{◌≡◌, ℕ, ◌+◌, ◌<◌, Bool, cond, List, ◌++◌, length, sym, ap, ◌∙◌, Result, Ok}
 use Rattle.std.proofs.Common.{Err, OnOk, is_ok}
-use Rattle.std.proofs.lemmas.List.{append_assoc, drop_more}
+use Rattle.std.proofs.lemmas.List.{append_assoc}
 use Rattle.htmd_tree.specs.Items.{Data, Item, data_at, children_of, IsTree}
-use Rattle.htmd_tree.specs.NumberedTrees.{value_tree, value_forest, NumberedTree, with_children, tree_of, forest_of}
-use Rattle.htmd_grammar.specs.Serialisation.{markup_of, all_markup_of}
+use Rattle.htmd_tree.specs.NumberedTrees.{value_tree, NumberedTree, with_children, tree_of, forest_of}
+use Rattle.htmd_grammar.specs.Serialisation.{markup_of}
 use Rattle.htmd_tree.proofs.NumberedTreesLemmas.{tree-open}
 
 pub OnOk-pushed : {T E : Type 0} (r : Result T E) (new out piece : List ℕ)
@@ -32,13 +32,3 @@ pub markup_of-node : (items : List Item) (node : ℕ) (node_data : Data) (raw : 
 markup_of-node items node node_data raw t l e =
     ap (λ (x : NumberedTree). markup_of raw (value_tree x)) (tree-open items node t l
     ∙ ap (λ (x : Data). with_children node x (forest_of (tree_of items) (children_of items node))) (sym e))
-
--- the children from one on
-pub all_markup_of-drop : (tree : ℕ → NumberedTree) (raw : Bool) (ids : List ℕ) (k id : ℕ) → k < length ids
-    → id ≡ get_or ids k id
-    → all_markup_of raw (value_forest (forest_of tree (drop k ids))) ≡ markup_of raw (value_tree (tree id))
-    ++ all_markup_of raw (value_forest (forest_of tree (drop (k + 1) ids)))
-all_markup_of-drop tree raw ids k id l e =
-    ap (λ (x : List ℕ). all_markup_of raw (value_forest (forest_of tree x))) (drop_more ids k id l)
-    ∙ ap (λ n. markup_of raw (value_tree (tree n)) ++ all_markup_of raw
-    (value_forest (forest_of tree (drop (k + 1) ids)))) (sym e)

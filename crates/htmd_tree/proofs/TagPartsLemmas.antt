@@ -31,12 +31,6 @@ pub name_begins : (s : List ℕ) → 0 < length s → is_ascii_alphabetic (get_o
 name_begins [] l e = absurd (omega arith)
 name_begins (b ∷ s) l e = let k = letter_in_name b e in rw (k, e, front_all is_tag_name_byte s) refl
 
--- and nothing else does
-pub name_lacks_letter : (s : List ℕ) → is_ascii_alphabetic (get_or s 0 0) ≡ false
-    → is_tag_name (leading_run is_tag_name_byte s) ≡ false
-name_lacks_letter [] e = refl
-name_lacks_letter (b ∷ s) e = test (is_tag_name_byte b) (λ k. rw (k, e) refl) (λ k. rw k refl)
-
 -- lower case changes nothing of a name that is in lower case
 pub lower_case_stays : (s : List ℕ) → list_all (λ b. to_ascii_lowercase b == b) s ≡ true
     → map to_ascii_lowercase s ≡ s

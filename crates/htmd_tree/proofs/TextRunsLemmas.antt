@@ -281,26 +281,6 @@ high_piece b s h =
     let r : (b == 13) ≡ false = grind (arith, nat_tests) in
     rw (a, r) refl
 
-high_plain : (b : ℕ) → 128 ≤ b → is_plain false b ≡ true
-high_plain b h = grind (arith, nat_tests)
-
-high_not_white : (b : ℕ) → 128 ≤ b → is_ascii_white_space b ≡ false
-high_not_white b h = grind (arith, nat_tests)
-
--- a byte of a character outside ASCII
-pub stray_byte : (parts : Bool) (s : List ℕ) → is_plain parts (slice_index s 0) ≡ false
-    → 128 ≤ slice_index s 0
-    → IsFaultIn parts s StrayText
-stray_byte true s p h =
-    ap (fault_of true) (high_piece (slice_index s 0) (drop 1 s) h)
-    ∙ (let w = high_not_white (slice_index s 0) h in rw w refl)
-stray_byte false s p h = absurd (let k = high_plain (slice_index s 0) h in let z = sym k ∙ p in cc)
-
-pub wrong_reference : (parts : Bool) (s x : List ℕ) (kind : FaultKind) → x ≡ drop 1 s
-    → piece_of (Err kind) ≡ piece_at named_characters (slice_index s 0) x → IsFaultIn parts s kind
-wrong_reference parts s x kind e p =
-    ap (fault_of parts) (ap (piece_at named_characters (slice_index s 0)) (sym e) ∙ sym p)
-
 pub stray_character : (parts : Bool) (s x : List ℕ) (character : Character) → x ≡ drop 1 s
     → piece_of (Ok character) ≡ piece_at named_characters (slice_index s 0) x → parts ≡ true
     → is_ascii_whitespace character.value ≡ false → IsFaultIn parts s StrayText
@@ -308,15 +288,6 @@ stray_character parts s x character e p q w =
     let white = white_character character.value ∙ w in
     ap (fault_of parts) (ap (piece_at named_characters (slice_index s 0)) (sym e) ∙ sym p) ∙ rw (q, white) refl
 
-pub right_character : (parts : Bool) (s x : List ℕ) (character : Character) → x ≡ drop 1 s
-    → piece_of (Ok character) ≡ piece_at named_characters (slice_index s 0) x
-    → (parts ≡ true → is_ascii_whitespace character.value ≡ true) → IsPieceEnd x character.behind
-    → slice_index s 0 < 128 → IsCharacterIn parts s character
-right_character parts s x character e p w d l = record {
-  piece = same;
-  right = ap (fault_of parts) same ∙ fine parts w;
-  end = subst (λ y. IsPieceEnd y character.behind) e d;
-  ascii = l;
 }
   where
     same : first_piece s ≡ piece_of (Ok character)

@@ -1,6 +1,6 @@
 -- Attributes whose values are decoded one after another.
 use Rattle.std.proofs.Common.{◌≡◌, ℕ, List, [], ◌∷◌, ◌++◌, refl, sym, ◌∙◌, ap}
-use Rattle.std.proofs.Common.{Option, Some, None, append_assoc}
+use Rattle.std.proofs.Common.{Option, Some, None}
 use Rattle.std.proofs.Common.{Bool, false, cond, Ok, Err}
 use Rattle.std.specs.List.{list_any}
 use Rattle.htmd_grammar.specs.CharacterClasses.{are_distinct}
@@ -20,31 +20,6 @@ behind_attributes before (Some more) = Some (before ++ more)
 pub nothing_behind : (o : Option (List AttributePair)) → behind_attributes [] o ≡ o
 nothing_behind None = refl
 nothing_behind (Some more) = refl
-
-one_behind : (before : List AttributePair) (n v : List ℕ) (o : Option (List AttributePair))
-    → behind_attributes (before ++ (record { name = n; value = v } ∷ [])) o
-    ≡ behind_attributes before (with_value n (Some v) o)
-one_behind before n v None = refl
-one_behind before n v (Some more) = ap (λ (x : List AttributePair). Some x) (append_assoc before _ more)
-
--- one more attribute, whose value is decoded
-pub value_more : (before : List AttributePair) (a : AttributePair) (spelled : List AttributePair) (v : List ℕ)
-    (whole : Option (List AttributePair)) → decode named_characters 0 a.value ≡ Some v
-    → behind_attributes before (decode_values named_characters (a ∷ spelled)) ≡ whole
-    → behind_attributes (before ++ (record { name = a.name; value = v } ∷ []))
-    (decode_values named_characters spelled)
-    ≡ whole
-value_more before a spelled v whole e h =
-    one_behind before a.name v (decode_values named_characters spelled)
-    ∙ (ap (λ (x : Option (List ℕ)). behind_attributes before
-    (with_value a.name x (decode_values named_characters spelled)))
-    (sym e) ∙ h)
-
--- a value that isn't right
-pub value_wrong : (before : List AttributePair) (a : AttributePair) (spelled : List AttributePair)
-    (whole : Option (List AttributePair)) → decode named_characters 0 a.value ≡ None
-    → behind_attributes before (decode_values named_characters (a ∷ spelled)) ≡ whole → None ≡ whole
-value_wrong before a spelled whole e h = rw e at h
 
 -- ---- attributes whose values have been decoded
 

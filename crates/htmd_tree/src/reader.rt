@@ -1,14 +1,10 @@
 //! The reader of HTML: a tree from a text of the strict grammar, or the first fault of any other text.
-ghost use Rattle.std.specs.Prelude.{◌≡◌, ◌∷◌, ◌<◌, ◌≤◌, ℕ, Bool, true, false, not, ◌&&◌, List, [], length, drop};
+ghost use Rattle.std.specs.Prelude.{◌≡◌, ◌∷◌, ◌<◌, ℕ, Bool, true, false, List, [], length};
 ghost use Rattle.std.specs.Prelude.{◌==◌, OnOk, IfOk, IfErr, IsTrue, Ok, Err, if◌then◌else◌, codes, string_bytes};
-ghost use Rattle.htmd_grammar.specs.CharacterClasses.{is_empty, first_is};
 ghost use Rattle.htmd_grammar.specs.Documents.{above_body};
-ghost use Rattle.htmd_grammar.specs.Nesting.{parent_name, is_table};
-ghost use Rattle.htmd_grammar.specs.RawContent.{ends_text, holds_raw_text, text_of};
-ghost use Rattle.htmd_grammar.specs.CharacterClasses.{up_to, onward};
+ghost use Rattle.htmd_grammar.specs.Nesting.{is_table};
 ghost use Rattle.htmd_grammar.specs.Steps.{OpenElement, is_too_deep, add, fault, between};
-ghost use Rattle.htmd_grammar.specs.Steps.{fresh, closed, with_tree, is_implied, ends_rows, raw_text_step};
-ghost use Rattle.htmd_grammar.specs.Steps.{declaration_step, start_tag_step, end_tag_step, markup_step};
+ghost use Rattle.htmd_grammar.specs.Steps.{fresh, closed, with_tree};
 ghost use Rattle.htmd_grammar.specs.Documents.{ReadsDocument};
 ghost use Rattle.htmd_grammar.specs.Faults.{IsFault};
 ghost use Rattle.htmd_grammar.specs.Rules.{project};

@@ -1,5 +1,5 @@
 //! Handlers of closures, alone and with others for the same tag.
-ghost use Rattle.std.specs.Prelude.{◌≡◌, ◌++◌, Some, None, IfOk, true, codes, string_bytes};
+ghost use Rattle.std.specs.Prelude.{◌≡◌, ◌++◌, Some, None, IfOk, codes, string_bytes};
 ghost use Rattle.htmd.specs.Handling.{nothing, content_of_children, content_of_fallback};
 ghost use Rattle.htmd.specs.Views.{optional_result};
 

@@ -5,7 +5,7 @@ ghost use Rattle.std.specs.Prelude.{codes, string_bytes};
 ghost use Rattle.htmd_tree.specs.Items.{children_of};
 ghost use Rattle.htmd_tree.specs.Views.{pairs_of};
 ghost use Rattle.htmd.specs.ElementPlans.{attributes_of, is_more_than, value_of_first};
-ghost use Rattle.htmd.specs.Handling.{nothing, this_result, raw_html, content_of_children, content_of_fallback};
+ghost use Rattle.htmd.specs.Handling.{this_result, raw_html, content_of_children, content_of_fallback};
 ghost use Rattle.htmd.specs.Outputs.{is_markdown_alone};
 ghost use Rattle.htmd.specs.Views.{optional_text};
 ghost use Rattle.htmd_vectors.specs.Plans.{plan_of_text, plan_of_first, plan_of_below, first_or, down, plan_with_id};

@@ -6,7 +6,7 @@ ghost use Rattle.htmd.specs.Beginnings.{Begins};
 ghost use Rattle.htmd.specs.Elements.{finish_answer};
 ghost use Rattle.htmd.specs.BuiltIn.{meaning_of};
 ghost use Rattle.htmd.specs.Markdown.{append_text};
-ghost use Rattle.htmd.specs.Views.{result_view, optional_result, results_view, answer_view, element_view};
+ghost use Rattle.htmd.specs.Views.{result_view, results_view, answer_view, element_view};
 ghost use Rattle.htmd.specs.Walking.{request_view, outcome_view};
 
 use super::other_block::TAGS;

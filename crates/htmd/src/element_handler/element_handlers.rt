@@ -1,7 +1,7 @@
 //! The registry of handlers.
 
-ghost use Rattle.std.specs.Prelude.{◌≡◌, ◌+◌, ◌^◌, ◌<◌, IfOk, IfSome, IfErr, OnOk, OnErr, All, map, length, slice_get, [], ◌++◌, string_bytes, IsTrue};
-ghost use Rattle.htmd.specs.Choice.{tags_at, with_handler};
+ghost use Rattle.std.specs.Prelude.{◌≡◌, ◌+◌, ◌<◌, IfOk, IfErr, OnOk, OnErr, All, map, length, slice_get, ◌++◌, string_bytes, IsTrue};
+ghost use Rattle.htmd.specs.Choice.{with_handler};
 ghost use Rattle.htmd.specs.Handling.{of_functions, IsProper};
 ghost use Rattle.htmd.specs.Views.{plan_view, element_view, result_view, optional_result, optional_text};
 ghost use Rattle.htmd.specs.TagIndexes.{tag_index};
@@ -114,7 +114,7 @@ fn push_appended(
 
 impl ElementHandlers {
     ghost use Rattle.htmd.specs.Choice.{indexes, no_handler};
-    ghost use Rattle.htmd.specs.BuiltIn.{built_in, empty_config, meaning_of, with_rows, row_of};
+    ghost use Rattle.htmd.specs.BuiltIn.{built_in, meaning_of, with_rows, row_of};
 
     /// The built-in handlers.
     pub fn new(alloc: Global, options: Options) -> Result<ElementHandlers, AllocError>

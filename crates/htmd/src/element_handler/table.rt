@@ -1,11 +1,7 @@
 //! The handler of `table`.
 
 ghost use Rattle.std.specs.Prelude.{◌≡◌, ◌<◌, ◌++◌, IfOk, OnOk, map, length, string_bytes};
-ghost use Rattle.std.specs.Option.{option_map};
-ghost use Rattle.htmd_text.specs.Trims.{trimmed_text, some_text, is_line_feed};
-ghost use Rattle.htmd_text.specs.BlankLines.{with_blank_lines};
 ghost use Rattle.std.specs.List.{list_any, flat_map};
-ghost use Rattle.htmd_tree.specs.Items.{IsTree};
 ghost use Rattle.htmd_tree.specs.NumberedTrees.{tree_of};
 ghost use Rattle.htmd_tree.specs.Ancestors.{ancestors_of};
 ghost use Rattle.htmd.specs.Groups.{children_at};

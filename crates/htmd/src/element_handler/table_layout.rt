@@ -1,6 +1,6 @@
 //! Which nodes of a table are rendered, and what they are to it.
 
-ghost use Rattle.std.specs.Prelude.{◌≡◌, ◌<◌, OnOk, IfOk, IsTrue, [], ◌∷◌, All, length, fold};
+ghost use Rattle.std.specs.Prelude.{◌≡◌, ◌<◌, OnOk, IfOk, [], ◌∷◌, length, fold};
 ghost use Rattle.std.specs.Prelude.{codes};
 ghost use Rattle.htmd_tree.specs.Items.{data_at, tag_of};
 ghost use Rattle.htmd.specs.TableLayouts as spec;

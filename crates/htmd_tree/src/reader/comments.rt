@@ -1,5 +1,5 @@
 //! Comments and other declarations.
-ghost use Rattle.std.specs.Prelude.{◌≡◌, ◌<◌, true, false, length, drop, OnOk};
+ghost use Rattle.std.specs.Prelude.{◌<◌, length, OnOk};
 ghost use Rattle.htmd_grammar.specs.Documents.{above_body};
 ghost use Rattle.htmd_grammar.specs.Steps.{declaration_step};
 ghost use Rattle.htmd_tree.specs.OpenNodes.{IsReading};

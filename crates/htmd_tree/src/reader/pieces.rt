@@ -1,5 +1,5 @@
 //! The content of a document, piece by piece.
-ghost use Rattle.std.specs.Prelude.{◌≡◌, ◌<◌, ◌&&◌, false, length, OnOk};
+ghost use Rattle.std.specs.Prelude.{◌≡◌, ◌<◌, false, length, OnOk};
 ghost use Rattle.htmd_grammar.specs.CharacterClasses.{is_empty};
 ghost use Rattle.htmd_grammar.specs.RawContent.{ends_text};
 ghost use Rattle.htmd_tree.specs.OpenNodes.{IsReading, innermost_name, WhateverIsOpen};

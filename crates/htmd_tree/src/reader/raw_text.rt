@@ -1,5 +1,5 @@
 //! Text without references, up to the element's own end tag.
-ghost use Rattle.std.specs.Prelude.{◌≡◌, ◌<◌, true, false, length, drop, OnOk};
+ghost use Rattle.std.specs.Prelude.{◌≡◌, ◌<◌, true, false, OnOk};
 ghost use Rattle.htmd_grammar.specs.Documents.{above_body};
 ghost use Rattle.htmd_grammar.specs.CharacterClasses.{is_empty, up_to, onward};
 ghost use Rattle.htmd_grammar.specs.RawContent.{ends_text, holds_raw_text, text_of};

@@ -1,7 +1,7 @@
 //! Characters and character references (HTML Standard, 13.1.4).
 ghost use Rattle.std.specs.Prelude.{◌≡◌, ◌≤◌, ◌<◌, ◌+◌, ℕ, Bool, length, drop, map, min, None};
 ghost use Rattle.std.specs.Prelude.{Some, if◌then◌else◌, false, IfOk};
-ghost use Rattle.std.specs.Char.{is_ascii_digit, is_ascii_hexdigit};
+ghost use Rattle.std.specs.Char.{is_ascii_digit};
 ghost use Rattle.htmd_grammar.specs.CharacterClasses.{first_is, leading_run};
 ghost use Rattle.htmd_grammar.specs.References as spec;
 ghost use Rattle.htmd_text.specs.Characters.{number_sign, semicolon};

@@ -1,5 +1,5 @@
 //! Start tags and end tags. A fault of a tag stands at its `<`, where the text that is left begins.
-ghost use Rattle.std.specs.Prelude.{◌≡◌, ◌<◌, ◌&&◌, true, false, length, drop, OnOk, string_bytes, codes};
+ghost use Rattle.std.specs.Prelude.{◌≡◌, ◌<◌, ◌&&◌, true, length, drop, OnOk, string_bytes, codes};
 ghost use Rattle.std.specs.Str.{bytes_eq};
 ghost use Rattle.htmd_text.specs.Characters.{less_than_sign};
 ghost use Rattle.htmd_grammar.specs.CharacterClasses.{first_is};

@@ -5,7 +5,6 @@ ghost use Rattle.std.specs.Prelude.{OnOk, MatchResult};
 ghost use Rattle.std.specs.Str.{IsUtf8};
 ghost use Rattle.htmd_grammar.specs.CharacterClasses.{leading_run};
 ghost use Rattle.htmd_grammar.specs.Steps.{OpenElement};
-ghost use Rattle.htmd_tree.specs.DecodedCharacters.{IsPieceEnd};
 ghost use Rattle.htmd_tree.specs.declared.reader.Stop.TheVariants.{Refused};
 ghost use Rattle.htmd_tree.specs.TextRuns.{is_plain, is_run_end, TellsOfText, Pushes, ReadsRun, IsCharacterIn};
 ghost use Rattle.htmd_tree.specs.TextRuns.{IsFaultIn};

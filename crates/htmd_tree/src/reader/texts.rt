@@ -1,7 +1,6 @@
 //! Texts: characters and references.
-ghost use Rattle.std.specs.Prelude.{◌≡◌, ◌<◌, ◌≤◌, true, false, length, drop, OnOk};
-ghost use Rattle.htmd_grammar.specs.Documents.{above_body};
-ghost use Rattle.htmd_grammar.specs.CharacterClasses.{is_empty, leading_run};
+ghost use Rattle.std.specs.Prelude.{◌≡◌, ◌<◌, false, length, OnOk};
+ghost use Rattle.htmd_grammar.specs.CharacterClasses.{is_empty};
 ghost use Rattle.htmd_tree.specs.OpenNodes.{IsReading, innermost_name, WhateverIsOpen};
 ghost use Rattle.htmd_tree.specs.TextRuns.{TellsOfText};
 ghost use Rattle.htmd_tree.specs.Advances.{Advances, IsAtText};

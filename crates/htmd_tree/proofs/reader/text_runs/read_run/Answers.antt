@@ -15,24 +15,24 @@ returns-in_err-rest-clause-steps c = λ scripting fs there goes_on.
     (string_bytes c.new-run.result) [] c.args.text.now (string_bytes c.push_next.new.run) c.in_err-rest.field-0.0
     here c.new-run.ensures.bytes goes_on (c.in_err-rest.ensures.steps scripting c.args.name.now fs there goes_on))
 
-pub loop-place-preserved : goal.loop-place-preserved
-loop-place-preserved c =
-    let more : is_run_end c.args.around.alone c.args.name.now c.loop-place.rest.now ≡ false =
+pub loop-around-preserved : goal.loop-around-preserved
+loop-around-preserved c =
+    let more : is_run_end c.args.around.alone c.args.name.now c.loop-around.rest.now ≡ false =
     ap (is_run_end c.args.around.alone c.args.name.now) (sym c.as_bytes.ensures.value) ∙ sym c.is_run_end.ensures
-    ∙ c.loop-place-test.true in
+    ∙ c.loop-around-test.true in
     record {
       text = c.in_ok-rest-2.ensures.text;
-      shorter = omega (arith, c.in_ok-rest-2.ensures.shorter, c.loop-place.invariant.shorter);
+      shorter = omega (arith, c.in_ok-rest-2.ensures.shorter, c.loop-around.invariant.shorter);
       longer = c.in_ok-rest-2.ensures.longer;
       deep = c.in_ok-rest-2.ensures.deep;
       steps = λ scripting fs there goes_on.
-          reaches_then (c.loop-place.invariant.steps scripting fs there goes_on)
+          reaches_then (c.loop-around.invariant.steps scripting fs there goes_on)
           (c.in_ok-rest-2.ensures.steps scripting c.args.name.now fs there more);
     }
 
 pub returns-clause-steps : goal.returns-clause-steps
 returns-clause-steps c = λ scripting fs there goes_on. (
-  c.loop-place.invariant.steps scripting fs there goes_on,
+  c.loop-around.invariant.steps scripting fs there goes_on,
   ap (is_run_end c.args.around.alone c.args.name.now) (sym c.as_bytes.ensures.value) ∙ sym c.is_run_end.ensures
-      ∙ c.loop-place-test.false,
+      ∙ c.loop-around-test.false,
 )

@@ -9,8 +9,8 @@ use Rattle.htmd_grammar.specs.Steps.{OpenElement, Reaches}
 use Rattle.htmd_tree.specs.TextRuns.{is_run_end, in_run, TellsOfText}
 use Rattle.htmd_tree.proofs.reader.text_runs.read_run.Given as goal
 
-abbrev pub invariant-loop-place : goal.invariant-loop-place
-invariant-loop-place l = record {
+abbrev pub invariant-loop-around : goal.invariant-loop-around
+invariant-loop-around l = record {
   text : shadow (Utf8 l.rest);
   shorter : length l.rest < length l.text;
   longer : 0 < length (string_bytes l.run);
@@ -20,5 +20,5 @@ invariant-loop-place l = record {
       → Reaches (project scripting) above_body (in_run fs [] l.text) (in_run fs (string_bytes l.run) l.rest);
 }
 
-abbrev pub decreases-loop-place : goal.decreases-loop-place
-decreases-loop-place l = length l.rest
+abbrev pub decreases-loop-around : goal.decreases-loop-around
+decreases-loop-around l = length l.rest
