@@ -7,7 +7,7 @@ use Rattle.htmd_grammar.specs.References.{may_be_numbered}
 use Rattle.htmd_grammar.specs.Serialisation.{is_void}
 use Rattle.htmd_grammar.specs.Steps.{step}
 use Rattle.htmd_grammar.specs.ValueTrees.{AttributePair, comment, element, more, none, text}
-use Rattle.htmd_grammar.proofs.Runs.{Denotes, denotes}
+use Rattle.htmd_grammar.proofs.ComputedSteps.{Denotes, denotes}
 
 abbrev attribute_pair : List ℕ → List ℕ → AttributePair
 attribute_pair n v = record { name = n; value = v }

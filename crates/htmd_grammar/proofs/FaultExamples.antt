@@ -19,7 +19,7 @@ use Rattle.htmd_grammar.specs.declared.fault.FaultKind.TheVariants.{Nul, ScriptE
 use Rattle.htmd_grammar.specs.declared.fault.FaultKind.TheVariants.{StrayText, TagOutside, TooDeep, Unclosed}
 use Rattle.htmd_grammar.specs.declared.fault.FaultKind.TheVariants.{UnknownReference}
 use Rattle.htmd_grammar.proofs.RightFaults.{faults_are_right}
-use Rattle.htmd_grammar.proofs.Runs.{steps, steps_reach}
+use Rattle.htmd_grammar.proofs.ComputedSteps.{steps, steps_reach}
 
 -- a fault of the project's rules, as computed by so many steps
 fault_of : (rules : Rules) (n : ℕ) (s : List ℕ) (place : ℕ) (kind : FaultKind) → lacks null s ≡ true

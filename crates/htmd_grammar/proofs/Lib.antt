@@ -33,7 +33,7 @@ mod StepFaults
 mod RightFaults
 mod FrontsReached
 mod OneFault
-mod Runs
+mod ComputedSteps
 mod FaultExamples
 mod TextsLeft
 mod DenotationExamples

@@ -7,7 +7,7 @@ use Rattle.htmd_text.specs.Characters.{exclamation_mark, less_than_sign, slash}
 use Rattle.htmd_text.specs.WhiteSpace.{is_ascii_white_space}
 use Rattle.htmd_grammar.specs.CharacterClasses.{are_distinct, begins_with, up_to}
 use Rattle.htmd_grammar.specs.Documents.{above_body}
-use Rattle.htmd_grammar.specs.Faults.{HasComment, HasEndTag, HasPiece, HasTagForm, Says, begins_tag, context_for}
+use Rattle.htmd_grammar.specs.Faults.{HasComment, HasEndTag, HasPiece, HasTagForm, Applies, begins_tag, context_for}
 use Rattle.htmd_grammar.specs.Faults.{has_bad_number, number_of}
 use Rattle.htmd_grammar.specs.Nesting.{holds_parts, is_allowed, is_outside, parent_name}
 use Rattle.htmd_grammar.specs.RawContent.{ends_text, holds_raw_text, raw_text_of}
@@ -83,7 +83,7 @@ module _ (rules : Rules) (fs : List OpenElement) where
 
   -- no row of a number below this one says so
   abbrev pub NoneBelow : ℕ → List ℕ → Type 0
-  NoneBelow k s = (lower : FaultKind) → number_of lower < k → Says rules fs s lower → ⊥
+  NoneBelow k s = (lower : FaultKind) → number_of lower < k → Applies rules fs s lower → ⊥
 
   -- the first rows of markup
   pub none_below_five : (k : ℕ) (s : List ℕ) → k ≤ 4 → (2 < k → begins_tag s ≡ false)
@@ -288,8 +288,8 @@ module _ (rules : Rules) (fs : List OpenElement) where
 
   -- ---- where no row says anything
 
-  none_at_all : (s : List ℕ) → NoneBelow 15 s → (Says rules fs s TooDeep → ⊥) → (k : FaultKind)
-      → Says rules fs s k → ⊥
+  none_at_all : (s : List ℕ) → NoneBelow 15 s → (Applies rules fs s TooDeep → ⊥) → (k : FaultKind)
+      → Applies rules fs s k → ⊥
   none_at_all s n d Nul h = n Nul (omega arith) h
   none_at_all s n d MalformedTag h = n MalformedTag (omega arith) h
   none_at_all s n d MalformedComment h = n MalformedComment (omega arith) h
@@ -307,32 +307,32 @@ module _ (rules : Rules) (fs : List OpenElement) where
   none_at_all s n d TooDeep h = d h
 
   pub none_of_text : (b : ℕ) (s : List ℕ) → TextPassed 15 b s → length (names_of above_body fs) ≤ rules.depth
-      → (k : FaultKind) → Says rules fs (b ∷ s) k → ⊥
+      → (k : FaultKind) → Applies rules fs (b ∷ s) k → ⊥
   none_of_text b s p l = none_at_all (b ∷ s) (none_below_text 15 b s p) deep
     where
-      deep : Says rules fs (b ∷ s) TooDeep → ⊥
+      deep : Applies rules fs (b ∷ s) TooDeep → ⊥
       deep (inl h) = let d = h.0 in omega arith
       deep (inr h) = not_both _ h.0 p.goes
 
   pub none_of_comment : (w : List ℕ) → HasComment (less_than_sign ∷ exclamation_mark ∷ w)
       → ends_text rules.scripting TheParent (less_than_sign ∷ exclamation_mark ∷ w) ≡ true
       → length (names_of above_body fs) ≤ rules.depth
-      → (k : FaultKind) → Says rules fs (less_than_sign ∷ exclamation_mark ∷ w) k → ⊥
+      → (k : FaultKind) → Applies rules fs (less_than_sign ∷ exclamation_mark ∷ w) k → ⊥
   none_of_comment w c m l = none_at_all (less_than_sign ∷ exclamation_mark ∷ w)
       (none_below_comment 15 w (omega arith) c m) deep
     where
-      deep : Says rules fs (less_than_sign ∷ exclamation_mark ∷ w) TooDeep → ⊥
+      deep : Applies rules fs (less_than_sign ∷ exclamation_mark ∷ w) TooDeep → ⊥
       deep (inl h) = let d = h.0 in omega arith
       deep (inr h) = exclamation_form w h.1 h.2 h.3 h.4
 
   pub none_of_tag : (d : ℕ) (w n : List ℕ) (spelled : List AttributePair) (present : Bool)
       → TagPassed 15 d w n spelled present → length (names_of above_body fs) ≤ rules.depth
       → length (context_for rules fs (less_than_sign ∷ d ∷ w) n) ≤ rules.depth
-      → (k : FaultKind) → Says rules fs (less_than_sign ∷ d ∷ w) k → ⊥
+      → (k : FaultKind) → Applies rules fs (less_than_sign ∷ d ∷ w) k → ⊥
   none_of_tag d w n spelled present p l c = none_at_all (less_than_sign ∷ d ∷ w)
       (none_below_tag 15 d w n spelled present p) deep
     where
-      deep : Says rules fs (less_than_sign ∷ d ∷ w) TooDeep → ⊥
+      deep : Applies rules fs (less_than_sign ∷ d ∷ w) TooDeep → ⊥
       deep (inl h) = let d = h.0 in omega arith
       deep (inr h) =
           let u = p.only h.1 h.2 h.3 h.4 in
@@ -341,7 +341,7 @@ module _ (rules : Rules) (fs : List OpenElement) where
           omega arith
 
   rows_of_end : (w n : List ℕ) → NoneBelow 11 (less_than_sign ∷ slash ∷ w)
-      → (Says rules fs (less_than_sign ∷ slash ∷ w) StrayEndTag → ⊥)
+      → (Applies rules fs (less_than_sign ∷ slash ∷ w) StrayEndTag → ⊥)
       → ends_text rules.scripting TheParent (less_than_sign ∷ slash ∷ w) ≡ true
       → NoneBelow 15 (less_than_sign ∷ slash ∷ w)
   rows_of_end w n e t m StrayEndTag u h = t h
@@ -362,14 +362,14 @@ module _ (rules : Rules) (fs : List OpenElement) where
 
   stray_end : (w n : List ℕ) → TheParent ≡ n → 1 < length fs
       → ends_text rules.scripting TheParent (less_than_sign ∷ slash ∷ w) ≡ true
-      → name_read w ≡ n → Says rules fs (less_than_sign ∷ slash ∷ w) StrayEndTag → ⊥
+      → name_read w ≡ n → Applies rules fs (less_than_sign ∷ slash ∷ w) StrayEndTag → ⊥
   stray_end w n p l m r h = elim (h.3) [
     | inl u ↦ u (p ∙ (sym r ∙ (end_is_read slash w h.1 h.2).3))
     | inr u ↦ omega arith
   ]
 
   deep_end : (w : List ℕ) → ends_text rules.scripting TheParent (less_than_sign ∷ slash ∷ w) ≡ true
-      → Says rules fs (less_than_sign ∷ slash ∷ w) TooDeep → ⊥
+      → Applies rules fs (less_than_sign ∷ slash ∷ w) TooDeep → ⊥
   deep_end w m (inl h) = elim (h.1) [
     | inl u ↦ not_both _ m u.1
     | inr u ↦ no_comment ((comment_is_read slash w u.1).0)
@@ -383,7 +383,7 @@ module _ (rules : Rules) (fs : List OpenElement) where
       → is_outside (name_read w) ≡ false
       → ends_text rules.scripting TheParent (less_than_sign ∷ slash ∷ w) ≡ true → TheParent ≡ n
       → name_read w ≡ n
-      → 1 < length fs → (k : FaultKind) → Says rules fs (less_than_sign ∷ slash ∷ w) k → ⊥
+      → 1 < length fs → (k : FaultKind) → Applies rules fs (less_than_sign ∷ slash ∷ w) k → ⊥
   none_of_end w n t o m p r l = none_at_all (less_than_sign ∷ slash ∷ w)
       (rows_of_end w n (none_below_end 11 w n (omega arith) (λ _. t) (λ _. o) m) (stray_end w n p l m r) m)
       (deep_end w m)

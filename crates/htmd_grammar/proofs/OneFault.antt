@@ -12,7 +12,7 @@ use Rattle.htmd_text.specs.WhiteSpace.{is_ascii_white_space}
 use Rattle.htmd_text.proofs.Cases.{test}
 use Rattle.htmd_grammar.specs.CharacterClasses.{first_is, is_empty, lacks}
 use Rattle.htmd_grammar.specs.Documents.{above_body, body_text}
-use Rattle.htmd_grammar.specs.Faults.{HasPiece, IsFirstNul, IsPieceFault, IsTextWithReferences, Says}
+use Rattle.htmd_grammar.specs.Faults.{HasPiece, IsFirstNul, IsPieceFault, IsTextWithReferences, Applies}
 use Rattle.htmd_grammar.specs.Faults.{number_of}
 use Rattle.htmd_grammar.specs.Fronts.{IsFront, IsKept, content_so_far, with_text}
 use Rattle.htmd_grammar.specs.Grammar.{ReadsForest}
@@ -208,7 +208,7 @@ module _ (rules : Rules) where
               let i = rw (sym y) at x in cc
 
   says_leaves : (f : OpenElement) (gs : List OpenElement) (behind : List ℕ) (k : FaultKind)
-      → Says rules (f ∷ gs) behind k → ends_in_text f.children ≡ true
+      → Applies rules (f ∷ gs) behind k → ends_in_text f.children ≡ true
       → length (names_of above_body (f ∷ gs)) ≤ rules.depth → Leaves f behind
   says_leaves f gs behind Nul h e l = absurd h
   says_leaves f gs behind UnknownReference (inl h) e l =
@@ -284,7 +284,7 @@ module _ (rules : Rules) where
       full (b ∷ i) n j = j b i
 
   -- an element is open where a row says something of the end
-  open_left : (f : OpenElement) (gs : List OpenElement) (k : FaultKind) → Says rules (f ∷ gs) [] k
+  open_left : (f : OpenElement) (gs : List OpenElement) (k : FaultKind) → Applies rules (f ∷ gs) [] k
       → 1 < length (f ∷ gs)
   open_left f gs Nul h = absurd (none_below_nothing rules (f ∷ gs) Nul (omega arith) h)
   open_left f gs MalformedTag h = absurd (none_below_nothing rules (f ∷ gs) MalformedTag (omega arith) h)
@@ -317,8 +317,8 @@ module _ (rules : Rules) where
       → (not (is_empty run) && is_text_end rules above_body (f ∷ gs) behind) ≡ false
       → (f.implied && ends_rows behind) ≡ false
       → (is_empty run ≡ false → holds_raw_text rules.scripting f.name ≡ false)
-      → Says rules (with_text f run ∷ gs) behind k
-      → ((lower : FaultKind) → number_of lower < number_of k → Says rules (with_text f run ∷ gs) behind lower
+      → Applies rules (with_text f run ∷ gs) behind k
+      → ((lower : FaultKind) → number_of lower < number_of k → Applies rules (with_text f run ∷ gs) behind lower
       → ⊥)
       → step rules above_body (in_text (f ∷ gs) run behind) ≡ Err k
   finds f gs run behind s k r x y m h n =
@@ -328,9 +328,9 @@ module _ (rules : Rules) where
       go (step rules above_body (in_text (f ∷ gs) run behind)) refl
       (step_tells rules f gs run behind (step rules above_body (in_text (f ∷ gs) run behind))
       (childless rules f gs a.1 run behind a.3 a.4)
-      (λ e. open_left f gs k (subst (λ (z : List ℕ). Says rules (f ∷ gs) z k) e says)) x y refl)
+      (λ e. open_left f gs k (subst (λ (z : List ℕ). Applies rules (f ∷ gs) z k) e says)) x y refl)
     where
-      says : Says rules (f ∷ gs) behind k
+      says : Applies rules (f ∷ gs) behind k
       says = says_without_text rules f gs run behind k h
 
       go : (got : Step) → step rules above_body (in_text (f ∷ gs) run behind) ≡ got
@@ -352,9 +352,9 @@ module _ (rules : Rules) where
     reached,
     finds at.inner h.opened at.run h.behind s k reached at.going
         (rw at.same_implied (h.prefix_is_viable).no_more_rows) at.mode
-        (subst (λ (f : OpenElement). Says rules (f ∷ h.opened) h.behind k) (sym at.whole) h.says)
+        (subst (λ (f : OpenElement). Applies rules (f ∷ h.opened) h.behind k) (sym at.whole) h.says)
         (λ lower l z. h.no_lower lower l
-        (subst (λ (f : OpenElement). Says rules (f ∷ h.opened) h.behind lower) at.whole z)),
+        (subst (λ (f : OpenElement). Applies rules (f ∷ h.opened) h.behind lower) at.whole z)),
     h.place_is,
   )
     where

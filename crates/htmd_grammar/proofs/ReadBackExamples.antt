@@ -17,7 +17,7 @@ use Rattle.htmd_grammar.specs.Steps.{Reaches, State, finished, started, step}
 use Rattle.htmd_grammar.specs.ValueTrees.{AttributePair, ValueForest, ValueTree, element, more, none, text}
 use Rattle.htmd_grammar.proofs.ViablePrefixes.{sound_end}
 use Rattle.htmd_grammar.proofs.ReferencedLineFeeds.{refers_same}
-use Rattle.htmd_grammar.proofs.Runs.{Denotes, denotes, steps, steps_reach}
+use Rattle.htmd_grammar.proofs.ComputedSteps.{Denotes, denotes, steps, steps_reach}
 use Rattle.htmd_grammar.proofs.Subtrees.{project_has, reads_back}
 
 -- line feeds written as references where the flag says so, and as they are behind the last flag

@@ -8,7 +8,7 @@ use Rattle.htmd_grammar.specs.Serialisation.{is_void}
 use Rattle.htmd_grammar.specs.Steps.{step}
 use Rattle.htmd_grammar.specs.declared.fault.FaultKind.TheVariants.{BadNumber, MalformedComment, MalformedDeclaration}
 use Rattle.htmd_grammar.specs.declared.fault.FaultKind.TheVariants.{MalformedTag, NotAllowedHere, StrayText, TooDeep}
-use Rattle.htmd_grammar.proofs.Runs.{Refuses, refuses}
+use Rattle.htmd_grammar.proofs.ComputedSteps.{Refuses, refuses}
 
 -- the project's names, and so many levels below the Document
 abbrev shallow_rules : ℕ → Rules

@@ -4,7 +4,7 @@ use Rattle.std.proofs.Common.{◌<◌, ◌∷◌, ◌≡◌, ◌⊎◌}
 use Rattle.std.proofs.Math.Bool.{or-true}
 use Rattle.htmd_grammar.specs.CharacterClasses.{is_among, is_empty}
 use Rattle.htmd_grammar.specs.Documents.{above_body, body_text}
-use Rattle.htmd_grammar.specs.Faults.{IsPieceFault, Says}
+use Rattle.htmd_grammar.specs.Faults.{IsPieceFault, Applies}
 use Rattle.htmd_grammar.specs.Fronts.{IsFront, with_text}
 use Rattle.htmd_grammar.specs.Grammar.{ReadsForest, may_end_rows}
 use Rattle.htmd_grammar.specs.Laws.{FaultsAreRight}
@@ -85,8 +85,8 @@ module _ (rules : Rules) where
     -- with the text so far in the innermost element the rows say the same
     pub says_with_text : (run rest : List ℕ) (k : FaultKind)
         → (is_empty run ≡ false → holds_raw_text rules.scripting f.name ≡ false)
-        → Says rules (f ∷ gs) rest k
-        → Says rules (with_text f run ∷ gs) rest k
+        → Applies rules (f ∷ gs) rest k
+        → Applies rules (with_text f run ∷ gs) rest k
     says_with_text [] rest k r h = h
     says_with_text (b ∷ run) rest Nul r h = h
     says_with_text (b ∷ run) rest MalformedTag r h = h
@@ -105,8 +105,8 @@ module _ (rules : Rules) where
         absurd (not_both (holds_raw_text rules.scripting f.name) h.2 (r refl))
     says_with_text (b ∷ run) rest TooDeep r h = h
 
-    pub says_without_text : (run rest : List ℕ) (k : FaultKind) → Says rules (with_text f run ∷ gs) rest k
-        → Says rules (f ∷ gs) rest k
+    pub says_without_text : (run rest : List ℕ) (k : FaultKind) → Applies rules (with_text f run ∷ gs) rest k
+        → Applies rules (f ∷ gs) rest k
     says_without_text [] rest k h = h
     says_without_text (b ∷ run) rest Nul h = h
     says_without_text (b ∷ run) rest MalformedTag h = h

@@ -15,7 +15,7 @@ use Rattle.htmd_grammar.specs.CharacterClasses.{are_distinct, begins_with, behin
 use Rattle.htmd_grammar.specs.CharacterClasses.{is_tag_name_byte, leading_run, onward, up_to}
 use Rattle.htmd_grammar.specs.Comments.{before_comment_end, is_comment_text, normalized}
 use Rattle.htmd_grammar.specs.Documents.{above_body}
-use Rattle.htmd_grammar.specs.Faults.{HasComment, HasEndTag, HasTagForm, IsTextWithReferences, Says, context_for}
+use Rattle.htmd_grammar.specs.Faults.{HasComment, HasEndTag, HasTagForm, IsTextWithReferences, Applies, context_for}
 use Rattle.htmd_grammar.specs.Faults.{has_bad_number, number_of}
 use Rattle.htmd_grammar.specs.Nesting.{Context, holds_parts, is_allowed, is_outside, is_row}
 use Rattle.htmd_grammar.specs.RawContent.{ends_text, holds_raw_text, holds_text_alone, raw_text_of, text_of}
@@ -63,18 +63,18 @@ module _ (rules : Rules) (f : OpenElement) (gs : List OpenElement) where
 
   -- the kind stands there, and no lower one
   abbrev pub IsRight : List ℕ → FaultKind → Type 0
-  IsRight s k = Says rules (f ∷ gs) s k × NoneBelow rules (f ∷ gs) (number_of k) s
+  IsRight s k = Applies rules (f ∷ gs) s k × NoneBelow rules (f ∷ gs) (number_of k) s
 
   -- what a step says of a text: its fault is right, or no row says something of the text
   abbrev pub Tells : List ℕ → Step → Type 0
   Tells s (Err k) = IsRight s k
-  Tells s (Ok st) = (k : FaultKind) → Says rules (f ∷ gs) s k → ⊥
+  Tells s (Ok st) = (k : FaultKind) → Applies rules (f ∷ gs) s k → ⊥
 
   right_of : (s : List ℕ) (k : FaultKind) (r : Step) → fault k ≡ r → IsRight s k → Tells s r
   right_of s k r e h = subst (λ (x : Step). Tells s x) e h
 
   none_of : (s : List ℕ) (st : State) (r : Step) → ◌≡◌ {A = Step} (Ok st) r
-      → ((k : FaultKind) → Says rules (f ∷ gs) s k → ⊥) → Tells s r
+      → ((k : FaultKind) → Applies rules (f ∷ gs) s k → ⊥) → Tells s r
   none_of s st r e h = subst (λ (x : Step). Tells s x) e h
 
   -- ---- text
@@ -480,7 +480,7 @@ module _ (rules : Rules) (f : OpenElement) (gs : List OpenElement) where
     where
       opens : not (is_allowed rules.scripting (names_of above_body hs) (name_read (d ∷ w))) ≡ false
           → is_too_deep rules above_body hs ≡ false
-          → (k : FaultKind) → Says rules (f ∷ gs) (less_than_sign ∷ d ∷ w) k → ⊥
+          → (k : FaultKind) → Applies rules (f ∷ gs) (less_than_sign ∷ d ∷ w) k → ⊥
       opens u y =
           let a = shallow rules above_body hs y in
           none_of_tag rules (f ∷ gs) d w (name_read (d ∷ w)) spelled present

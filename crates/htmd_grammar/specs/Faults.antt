@@ -117,49 +117,49 @@ module _ (rules : Rules) (fs : List OpenElement) (s : List ℕ) where
   context_for n = if is_row n && is_table parent then codes "tbody" ∷ here else here
 
   -- what the kind says of the open elements and the text from the place on
-  abbrev pub Says : FaultKind → Type 0
-  Says Nul = ⊥
-  Says MalformedTag =
+  abbrev pub Applies : FaultKind → Type 0
+  Applies Nul = ⊥
+  Applies MalformedTag =
       IsMarkup × (begins_tag s ≡ true)
       × ((n : List ℕ) (spelled : List AttributePair) (present : Bool) → HasTagForm s n spelled present → ⊥)
       × ((n : List ℕ) → HasEndTag s n → ⊥)
-  Says MalformedComment = IsMarkup × (begins_with (codes "<!--") s ≡ true) × (HasComment s → ⊥)
-  Says MalformedDeclaration =
+  Applies MalformedComment = IsMarkup × (begins_with (codes "<!--") s ≡ true) × (HasComment s → ⊥)
+  Applies MalformedDeclaration =
       IsMarkup × ((begins_with (codes "<?") s ≡ true)
       ⊎ ((begins_with (codes "<!") s ≡ true) × (begins_with (codes "<!--") s ≡ false)))
-  Says UnknownReference =
+  Applies UnknownReference =
       (IsTextWithReferences × HasPiece rules.names s (wrong UnknownReference))
       ⊎ (IsMarkup × (n : List ℕ) × (spelled : List AttributePair) × (present : Bool)
       × HasTagForm s n spelled present
       × (list_any (λ a. has_unknown_reference rules.names a.value) spelled ≡ true))
-  Says BadNumber =
+  Applies BadNumber =
       (IsTextWithReferences × HasPiece rules.names s (wrong BadNumber))
       ⊎ (IsMarkup × (n : List ℕ) × (spelled : List AttributePair) × (present : Bool)
       × HasTagForm s n spelled present
       × (list_any (λ a. has_bad_number rules.names a.value) spelled ≡ true))
-  Says DuplicateAttribute =
+  Applies DuplicateAttribute =
       IsMarkup × (n : List ℕ) × (spelled : List AttributePair) × (present : Bool) × HasTagForm s n spelled present
       × (are_distinct (attribute_names spelled) ≡ false)
-  Says SelfClosing =
+  Applies SelfClosing =
       IsMarkup × (n : List ℕ) × (spelled : List AttributePair) × HasTagForm s n spelled true
       × (is_void n ≡ false)
-  Says TagOutside =
+  Applies TagOutside =
       IsMarkup × (n : List ℕ) × (is_outside n ≡ true)
       × (((spelled : List AttributePair) × (present : Bool) × HasTagForm s n spelled present) ⊎ HasEndTag s n)
-  Says NotAllowedHere =
+  Applies NotAllowedHere =
       IsMarkup × (n : List ℕ) × (spelled : List AttributePair) × (present : Bool) × HasTagForm s n spelled present
       × (is_allowed rules.scripting (context_for n) n ≡ false)
-  Says StrayEndTag = IsMarkup × (n : List ℕ) × HasEndTag s n × ((parent ≢ n) ⊎ (length fs ≤ 1))
-  Says StrayText =
+  Applies StrayEndTag = IsMarkup × (n : List ℕ) × HasEndTag s n × ((parent ≢ n) ⊎ (length fs ≤ 1))
+  Applies StrayText =
       IsTextWithReferences × (holds_parts parent ≡ true) × (more_bytes : ℕ) × (v : List ℕ)
       × HasPiece rules.names s
       (stands more_bytes v)
       × (list_all is_ascii_white_space v ≡ false)
-  Says Unclosed = (s ≡ []) × (1 < length fs)
-  Says ScriptEscape =
+  Applies Unclosed = (s ≡ []) × (1 < length fs)
+  Applies ScriptEscape =
       IsText × (top_children fs ≡ none) × (holds_raw_text rules.scripting parent ≡ true)
       × (raw_text_of parent (up_to (ends_text rules.scripting parent) s) ≡ None)
-  Says TooDeep =
+  Applies TooDeep =
       ((rules.depth < length here) × (IsText ⊎ (IsMarkup × HasComment s)))
       ⊎ (IsMarkup × (n : List ℕ) × (spelled : List AttributePair) × (present : Bool)
       × HasTagForm s n spelled present
@@ -184,9 +184,9 @@ pub record IsPieceFault (rules : Rules) (text : List ℕ) (place : ℕ) (kind : 
   pub text_is : body_text text ≡ before ++ behind
   pub place_is : place + length behind ≡ length text
   pub prefix_is_viable : IsViablePrefix rules innermost opened before behind
-  pub says : Says rules (innermost ∷ opened) behind kind
+  pub says : Applies rules (innermost ∷ opened) behind kind
   pub no_lower : (lower : FaultKind) → number_of lower < number_of kind
-      → Says rules (innermost ∷ opened) behind lower
+      → Applies rules (innermost ∷ opened) behind lower
       → ⊥
 
 -- The refusal is right.

@@ -14,7 +14,7 @@ use Rattle.htmd_text.proofs.WhiteSpaceLemmas.{white_is_ascii}
 use Rattle.htmd_tree.specs.declared.reader.runs.Class.{Class}
 use Rattle.htmd_tree.specs.declared.reader.runs.Class.TheVariants.{TagName, WhiteSpace, AttributeName, UnquotedValue}
 use Rattle.htmd_tree.specs.declared.reader.runs.Class.TheVariants.{Other}
-use Rattle.htmd_tree.specs.Runs.{is_in, is_ascii}
+use Rattle.htmd_tree.specs.Classes.{is_in, is_ascii}
 
 -- one more character of the run
 pub run_more : (p : ℕ → Bool) (s : List ℕ) (i : ℕ) → i < length s → p (get_or s i 0) ≡ true

@@ -18,6 +18,6 @@ pub mod DecodedCharacters
 pub mod Surroundings
 pub mod OpenNodes
 pub mod Advances
-pub mod Runs
+pub mod Classes
 pub mod TagParts
 pub mod TextRuns

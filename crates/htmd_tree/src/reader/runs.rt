@@ -1,7 +1,7 @@
 //! How a text begins: the longest run of characters of one class, and one character.
 ghost use Rattle.std.specs.Prelude.{◌≡◌, ◌<◌, ◌≤◌, true, false, length, drop, slice_index, MatchOption};
 ghost use Rattle.htmd_grammar.specs.CharacterClasses.{first_is, leading_run, behind_run};
-ghost use Rattle.htmd_tree.specs.Runs.{is_in, is_ascii};
+ghost use Rattle.htmd_tree.specs.Classes.{is_in, is_ascii};
 
 /// What the characters of a run have in common. Outside ASCII they are all of the class, or none is.
 #[derive(Clone, Copy)]

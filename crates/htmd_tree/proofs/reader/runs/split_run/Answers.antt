@@ -1,7 +1,7 @@
 use Rattle.std.proofs.Common.{◌∙◌, length, take, drop, sym, ap, subst}
 use Rattle.std.specs.Str.{IsCharBoundary}
 use Rattle.htmd_grammar.specs.CharacterClasses.{leading_run}
-use Rattle.htmd_tree.specs.Runs.{is_in}
+use Rattle.htmd_tree.specs.Classes.{is_in}
 use Rattle.htmd_tree.proofs.RunsLemmas.{take_run, drop_run, run_cut}
 use Rattle.htmd_tree.proofs.reader.runs.split_run.Goals as goal
 
