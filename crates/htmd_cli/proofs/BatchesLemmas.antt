@@ -83,8 +83,6 @@ Answers-like way all all2 rest rest2 a b c n m k p e f g h = record {
   ahead = λ tail. e tail ∙ (p.ahead tail ∙ ap (λ t. p.done ++ t) (f tail));
 }
 
-}
-
 -- whichever way a call ended, it left some rows
 pub some_rest : {T E : Type 0} (way : Way) (all : List ℕ → List (List ℕ)) (rest : T → List ℕ → List (List ℕ))
     (a b : List ℕ) (n m : ℕ) (r : Result T E) → IfOk r (λ x. Answers way all (rest x) a b n m)
@@ -157,8 +155,6 @@ pub record Progress (way : Way) (before now : Option (List ℕ)) (empty full : O
   pub taken : Consumes before now consumed
   pub put : Appends empty full written
   pub answers : Answers way (λ tail. rows (consumed ++ tail)) (rows_from begun) [] written 0 answered
-
-}
 
 -- the answers of a read behind those before it, while nothing waits
 joined : (way : Way) (consumed written begun chunk waits after : List ℕ) (rest : List ℕ → List (List ℕ)) (n m : ℕ)

@@ -29,7 +29,7 @@ use Rattle.htmd_grammar.proofs.BooleanLemmas.{and_false}
 use Rattle.htmd_grammar.proofs.TextLemmas.{rows_go_on}
 use Rattle.htmd_grammar.proofs.ReadBackLemmas.{no_markup, no_end}
 use Rattle.htmd_tree.specs.DecodedCharacters.{piece_of, IsPieceEnd}
-use Rattle.htmd_tree.specs.TextRuns.{is_plain, is_run_end, TellsOfText, in_run, first_piece, fault_of, IsCharacterIn}
+use Rattle.htmd_tree.specs.TextRuns.{is_plain, is_run_end, TellsOfText, in_run, fault_of, IsCharacterIn}
 use Rattle.htmd_tree.specs.TextRuns.{IsFaultIn, Pushes, StopsRun}
 use Rattle.htmd_tree.specs.declared.reader.Stop.{Stop}
 use Rattle.htmd_tree.specs.declared.reader.Stop.TheVariants.{Memory, Refused}
@@ -287,16 +287,6 @@ pub stray_character : (parts : Bool) (s x : List ℕ) (character : Character) �
 stray_character parts s x character e p q w =
     let white = white_character character.value ∙ w in
     ap (fault_of parts) (ap (piece_at named_characters (slice_index s 0)) (sym e) ∙ sym p) ∙ rw (q, white) refl
-
-}
-  where
-    same : first_piece s ≡ piece_of (Ok character)
-    same = ap (piece_at named_characters (slice_index s 0)) (sym e) ∙ sym p
-
-    fine : (b : Bool) → (b ≡ true → is_ascii_whitespace character.value ≡ true)
-        → fault_of b (piece_of (Ok character)) ≡ None
-    fine true h = let white = white_character character.value ∙ h refl in rw white refl
-    fine false h = refl
 
 -- the text may be cut behind its first character
 pub first_cut : (s : List ℕ) (n : ℕ) → IsUtf8 s → 0 < length s → slice_index s 0 < 128
