@@ -19,22 +19,22 @@ returns-in_err-run-clause-advances c = λ has_doctype fs holds there.
     let name : c.as_bytes-name.result.now ≡ innermost_name fs =
     c.as_bytes-name.ensures.value ∙ c.innermost_name.ensures has_doctype fs holds in
     let around =
-    subst (λ (n : List ℕ). TellsOfText c.args.self.now.scripting c.text_surroundings-place.result n fs) (sym name)
-    (c.text_surroundings-place.ensures has_doctype fs holds there) in
+    subst (λ (n : List ℕ). TellsOfText c.args.self.now.scripting c.text_surroundings-around.result n fs) (sym name)
+    (c.text_surroundings-around.ensures has_doctype fs holds there) in
     rw (p.1, p.2) (text_stops c.args.self.now c.args.self.now has_doctype fs c.in_err-run.field-0.0
     (c.in_err-run.ensures.steps c.args.self.now.scripting fs around
-    (text_goes_on c.args.self.now c.text_surroundings-place.result c.as_bytes-name.result.now fs around there)))
+    (text_goes_on c.args.self.now c.text_surroundings-around.result c.as_bytes-name.result.now fs around there)))
 
 pub returns-clause-advances : goal.returns-clause-advances
 returns-clause-advances c = λ has_doctype fs holds there.
     let name : c.as_bytes-name.result.now ≡ innermost_name fs =
     c.as_bytes-name.ensures.value ∙ c.innermost_name.ensures has_doctype fs holds in
     let around =
-    subst (λ (n : List ℕ). TellsOfText c.args.self.now.scripting c.text_surroundings-place.result n fs) (sym name)
-    (c.text_surroundings-place.ensures has_doctype fs holds there) in
+    subst (λ (n : List ℕ). TellsOfText c.args.self.now.scripting c.text_surroundings-around.result n fs) (sym name)
+    (c.text_surroundings-around.ensures has_doctype fs holds there) in
     let read = c.in_ok-run.ensures.steps c.args.self.now.scripting fs around
-    (text_goes_on c.args.self.now c.text_surroundings-place.result c.as_bytes-name.result.now fs around there) in
-    text_read c.args.self.now c.add_leaf.new.self has_doctype fs c.add_leaf.result c.text_surroundings-place.result
+    (text_goes_on c.args.self.now c.text_surroundings-around.result c.as_bytes-name.result.now fs around there) in
+    text_read c.args.self.now c.add_leaf.new.self has_doctype fs c.add_leaf.result c.text_surroundings-around.result
     c.as_bytes-name.result.now (string_bytes c.in_ok-run.run') c.in_ok-run.rest.now around c.in_ok-run.ensures.deep
     c.in_ok-run.ensures.longer read.0 read.1 (c.add_leaf.ensures.follows has_doctype fs holds)
 

@@ -8,11 +8,11 @@ use Rattle.htmd_tree.specs.declared.reader.Stop.{Stop}
 use Rattle.htmd_tree.proofs.TextRunsLemmas.{plain_deep, plain_cut, plain_pushed}
 use Rattle.htmd_tree.proofs.reader.text_runs.push_plain.Goals as goal
 
-pub returns-then-place-clause-steps : goal.returns-then-place-clause-steps
-returns-then-place-clause-steps c = λ scripting n fs there.
+pub returns-then-around-clause-steps : goal.returns-then-around-clause-steps
+returns-then-around-clause-steps c = λ scripting n fs there.
     subst (λ (x : Stop). Pushes scripting fs (string_bytes c.args.run.now) c.args.text.now
     (string_bytes c.args.run.now) (Err x)) (sym c.refused.ensures) (
-      plain_deep scripting c.args.around n fs there (string_bytes c.args.run.now) c.args.text.now c.if-place.true
+      plain_deep scripting c.args.around n fs there (string_bytes c.args.run.now) c.args.text.now c.if-around.true
           (omega arith),
       refl,
     )
@@ -23,7 +23,7 @@ split_at-requires c = plain_cut c.args.around.parts c.args.text.now c.args.len c
 pub returns-clause-steps : goal.returns-clause-steps
 returns-clause-steps c = λ scripting n fs there.
     plain_pushed scripting c.args.around n fs there (string_bytes c.args.run.now) c.args.text.now
-    c.split_at.result.0.now c.split_at.result.1.now (string_bytes c.push_str.new.self) c.args.len c.if-place.false
+    c.split_at.result.0.now c.split_at.result.1.now (string_bytes c.push_str.new.self) c.args.len c.if-around.false
     c.requires.plain c.split_at.ensures.front c.split_at.ensures.back c.in_ok-push_str.ensures.bytes
 
 pub returns-clause-text : goal.returns-clause-text

@@ -6,14 +6,14 @@ use Rattle.htmd_tree.specs.declared.reader.Stop.{Stop}
 use Rattle.htmd_tree.proofs.TextRunsLemmas.{special_deep, special_cut, special_pushed, special_wrong, some_bytes}
 use Rattle.htmd_tree.proofs.reader.text_runs.push_special.Goals as goal
 
-pub returns-then-place-clause-steps : goal.returns-then-place-clause-steps
-returns-then-place-clause-steps c = λ scripting n fs there goes_on.
+pub returns-then-around-clause-steps : goal.returns-then-around-clause-steps
+returns-then-around-clause-steps c = λ scripting n fs there goes_on.
     let character = subst (λ (s : List ℕ). IsCharacterIn c.args.around.parts s c.in-Ok.character)
     c.as_bytes.ensures.value c.in-Ok.ensures in
     subst (λ (x : Stop). Pushes scripting fs (string_bytes c.args.run.now) c.args.text.now
     (string_bytes c.args.run.now) (Err x)) (sym c.refused.ensures) (
       special_deep scripting c.args.around n fs there (string_bytes c.args.run.now) c.args.text.now c.in-Ok.character
-          c.if-place.true goes_on character,
+          c.if-around.true goes_on character,
       refl,
     )
 
@@ -28,7 +28,7 @@ returns-in_ok-push-in-Ok-clause-steps c = λ scripting n fs there goes_on.
     let character = subst (λ (s : List ℕ). IsCharacterIn c.args.around.parts s c.in-Ok.character)
     c.as_bytes.ensures.value c.in-Ok.ensures in
     special_pushed scripting c.args.around n fs there (string_bytes c.args.run.now) c.args.text.now
-    c.range_from.result.now (string_bytes c.push.new.self) c.in-Ok.character c.if-place.false goes_on character
+    c.range_from.result.now (string_bytes c.push.new.self) c.in-Ok.character c.if-around.false goes_on character
     c.range_from.ensures.value c.in_ok-push-in-Ok.ensures.bytes
 
 pub returns-in_ok-push-in-Ok-clause-longer : goal.returns-in_ok-push-in-Ok-clause-longer
