@@ -1,6 +1,6 @@
 -- All text below a node, as the loop over its children finds it.
-use Rattle.std.proofs.Common.{◌≡◌, ℕ, ◌+◌, ◌<◌, List, [], ◌∷◌, ◌++◌, length, get_or, drop, refl, sym, ap, ◌∙◌}
-use Rattle.std.proofs.Common.{Bool, true, false, cond, codes}
+use Rattle.std.proofs.Common.{◌≡◌, ℕ, ◌+◌, ◌<◌, List, [], ◌∷◌, ◌++◌, length, get_or, drop, sym, ap, ◌∙◌}
+use Rattle.std.proofs.Common.{true, false, cond, codes}
 use Rattle.std.proofs.lemmas.List.{drop_more, append_assoc}
 use Rattle.std.specs.Str.{bytes_eq}
 use Rattle.htmd_text.specs.Characters.{line_feed}

@@ -1,5 +1,5 @@
 -- The marks of emphasis stand inside the white space at the ends of a content.
-use Rattle.std.proofs.Common.{◌≡◌, ◌-◌, ℕ, Bool, not, ◌&&◌, List, [], ◌∷◌, length, take, drop, codes}
+use Rattle.std.proofs.Common.{◌≡◌, ◌-◌, ℕ, not, ◌&&◌, List, [], ◌∷◌, length, take, drop, codes}
 use Rattle.std.proofs.Common.{refl, sym, ap, ◌∙◌}
 use Rattle.std.proofs.Common.{subst, cond, Option, Some, None, IfSome, nat_lt}
 use Rattle.std.specs.Str.{IsUtf8, IsTrimStart, IsTrimEnd, trim_start, trim_end}

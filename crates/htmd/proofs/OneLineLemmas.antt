@@ -1,6 +1,6 @@
 -- Whether a node stands in one line is known from its parent.
 use Rattle.std.proofs.Common.{◌≡◌, ℕ, suc, ◌<◌, length, Option, Some, None, refl, sym, ap, ◌∙◌}
-use Rattle.std.proofs.Common.{Bool, true, false, ◌||◌, ◌&&◌, arith}
+use Rattle.std.proofs.Common.{true, false, ◌||◌, ◌&&◌, arith}
 use Rattle.std.specs.Prelude.{List}
 use Rattle.htmd_tree.specs.Items.{Item, document_node, data_at, parent_at, depth_at, IsTree}
 use Rattle.htmd_tree.specs.Ancestors.{ancestor_of}

@@ -27,7 +27,7 @@ use Rattle.htmd.specs.Rendering.{with_result, with_answer, end_of_document, writ
 use Rattle.htmd.specs.Staying.{HandlerStays, HandlersStay}
 use Rattle.htmd.proofs.BeginningsLemmas.{Grows, beginning-more, grows-children, grows-content, grows-alone}
 use Rattle.htmd.proofs.BeginningsLemmas.{grows-contents, grows-fallback, grows-each, grows-first, grows-within}
-use Rattle.htmd.proofs.BeginningsLemmas.{result-definitions, grows-before}
+use Rattle.htmd.proofs.BeginningsLemmas.{result-definitions}
 
 -- the same, with these definitions
 abbrev pub with_definitions : List (List ℕ) → Output → Output

@@ -6,7 +6,7 @@ use Rattle.std.specs.Str.{bytes_eq}
 use Rattle.htmd_text.specs.Trims.{trimmed_text, is_line_feed}
 use Rattle.htmd_text.specs.BlankLines.{with_blank_lines}
 use Rattle.htmd_tree.specs.ValueTrees.{AttributePair}
-use Rattle.htmd_tree.specs.NumberedTrees.{tree_of, value_tree, text}
+use Rattle.htmd_tree.specs.NumberedTrees.{tree_of, value_tree}
 use Rattle.htmd_tree.specs.Serialisation.{serialisation}
 use Rattle.htmd_tree.specs.RawBlocks.{raw_block}
 use Rattle.htmd.specs.Handling.{ElementView, ResultView, PlanView, this_result, raw_html, content_of_children}

@@ -3,7 +3,6 @@ use Rattle.std.specs.Prelude.{ℕ, Bool, false, not, ◌&&◌, ◌||◌, if◌th
 use Rattle.std.specs.Prelude.{Some, None, true, codes, ◌++◌, filter, fold}
 use Rattle.std.specs.Str.{bytes_eq}
 use Rattle.std.specs.List.{flat_map}
-use Rattle.htmd_markdown.specs.Lists.{other}
 use Rattle.htmd_tree.specs.Items.{Item, data_at, children_of}
 use Rattle.htmd.specs.Handling.{ElementView}
 use Rattle.htmd.specs.declared.element_handler.table_layout.PartKind.{PartKind}

@@ -1,5 +1,5 @@
 -- How a batch goes from row to row; the contracts of private functions alone cite it.
-use Rattle.std.specs.Prelude.{◌≡◌, ◌+◌, ◌-◌, ◌^◌, min, Bool, if◌then◌else◌, ℕ, List, [], ◌∷◌, ◌++◌, length}
+use Rattle.std.specs.Prelude.{◌≡◌, ◌+◌, Bool, if◌then◌else◌, ℕ, List, [], ◌∷◌, ◌++◌, length}
 use Rattle.htmd_cli.specs.Conversion.{Way}
 use Rattle.htmd_cli.specs.Lines.{rows}
 use Rattle.htmd_cli.specs.Rows.{AreAnswers, counted}

@@ -3,7 +3,7 @@ use Rattle.std.proofs.Common.{Bool, List, [], cond, false, inl, inr, not, refl, 
 use Rattle.std.proofs.Common.{◌≡◌, ◌⊎◌}
 use Rattle.std.specs.List.{list_all}
 use Rattle.std.specs.Prelude.{◌==◌}
-use Rattle.std.proofs.lemmas.Bool.{not-true, and_parts, or_parts, eqb-true}
+use Rattle.std.proofs.lemmas.Bool.{and_parts}
 use Rattle.std.proofs.Math.Bool.{and-false}
 use Rattle.htmd_grammar.specs.CharacterClasses.{lacks}
 

@@ -12,7 +12,6 @@ use Rattle.htmd_markdown.specs.TableReading.{column_count}
 use Rattle.htmd_markdown.specs.declared.table.Bars.{Bars}
 use Rattle.htmd_markdown.specs.declared.table.Bars.TheVariants.{References, Backslashes}
 use Rattle.htmd_markdown.specs.CellBytes.{held, held_widths, cell_of, width_of}
-use Rattle.htmd_markdown.specs.Tables.{texts}
 use Rattle.htmd_markdown.proofs.TableLinesLemmas.{Fit}
 
 -- ---- one more line

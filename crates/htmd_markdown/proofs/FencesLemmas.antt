@@ -14,7 +14,7 @@ use Rattle.htmd_markdown.specs.FenceReading.{is_line_end, symbols_at_start, is_o
 use Rattle.htmd_markdown.proofs.RunsLemmas.{run_at-le-longest}
 use Rattle.htmd_markdown.proofs.CodeBlocksLemmas.{code_of-behind}
 use Rattle.htmd_markdown.proofs.FenceReadingLemmas.{Below, MakesFences, read_fence-between, opens_with_tildes}
-use Rattle.htmd_markdown.proofs.FenceReadingLemmas.{opens_with_backquotes, symbols_before}
+use Rattle.htmd_markdown.proofs.FenceReadingLemmas.{opens_with_backquotes}
 
 makes_fences : (fence : CodeBlockFence) → MakesFences (symbol_of fence)
 makes_fences Tildes = record { itself = refl; no_space = refl; no_line_end = refl; no_line_feed = refl }

@@ -1,7 +1,6 @@
 -- How the pieces of a document and their order are the grammar's steps.
 use Rattle.std.proofs.Common.{◌≡◌, ℕ, suc, ◌<◌, ◌≤◌, Bool, true, false, cond, ◌&&◌, ◌==◌, List, [], ◌∷◌, length}
 use Rattle.std.proofs.Common.{refl, sym, ap, ◌∙◌, subst, arith, Ok, Err, Option, Some, None, drop, OnOk, codes}
-use Rattle.std.proofs.lemmas.Bool.{not-true, not-false}
 use Rattle.std.proofs.Math.Bool.{and-false}
 use Rattle.htmd_text.proofs.Cases.{test}
 use Rattle.htmd_text.specs.Characters.{less_than_sign}

@@ -1,11 +1,8 @@
-use Rattle.std.proofs.Common.{rules, arith, ◌≡◌, ◌<◌, ◌++◌, length, sym, ap, ◌∙◌, refl, string_bytes, List, ℕ}
+use Rattle.std.proofs.Common.{rules, arith, ◌<◌, ◌++◌, length, sym, ap, ◌∙◌, string_bytes}
 use Rattle.std.proofs.lemmas.List.{append-nil}
-use Rattle.htmd_tree.specs.Items.{data_at}
-use Rattle.htmd_tree.specs.NumberedTrees.{tree_of}
 use Rattle.htmd_tree.specs.Views.{pairs_of, data_of}
 use Rattle.htmd_tree.proofs.ItemsLemmas.{child_read}
-use Rattle.htmd.specs.AllText.{all_text, all_text_among}
-use Rattle.htmd.specs.Groups.{children_at}
+use Rattle.htmd.specs.AllText.{all_text}
 use Rattle.htmd.proofs.AllTextLemmas.{said-more, text_said, comment_said, doctype_said, document_said, break_said}
 use Rattle.htmd.proofs.AllTextLemmas.{other_said}
 use Rattle.htmd.proofs.ChildListsLemmas.{child_within}

@@ -1,5 +1,5 @@
 use Rattle.std.proofs.Common.{sym, ◌∙◌, arith}
-use Rattle.htmd.proofs.OneLineLemmas.{stands-hit, stands-miss, stands-root, known-guarded, known-unguarded}
+use Rattle.htmd.proofs.OneLineLemmas.{stands-hit, stands-miss, stands-root, known-guarded}
 use Rattle.htmd.proofs.line.is_known_in_line.Goals as goal
 
 pub is_in_one_line-requires : goal.is_in_one_line-requires

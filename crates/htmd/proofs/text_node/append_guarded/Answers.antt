@@ -1,4 +1,4 @@
-use Rattle.std.proofs.Common.{◌≡◌, ◌++◌, ◌∙◌, ◌||◌, ap, sym, string_bytes, ltb, List, ℕ, Bool, Result, Ok, Err, OnOk}
+use Rattle.std.proofs.Common.{◌≡◌, ◌++◌, ◌∙◌, ◌||◌, ap, sym, string_bytes, ltb, List, ℕ, Result, Ok, Err, OnOk}
 use Rattle.std.specs.List.{suffix_len}
 use Rattle.htmd_text.specs.WhiteSpace.{squeezed_text}
 use Rattle.htmd_text.specs.Trims.{is_space}

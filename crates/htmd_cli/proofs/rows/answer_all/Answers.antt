@@ -1,5 +1,5 @@
 -- A read that goes on, the end, and each fault.
-use Rattle.std.proofs.Common.{◌≡◌, ◌∙◌, ◌+◌, ◌++◌, ap, subst, length, take, arith}
+use Rattle.std.proofs.Common.{◌≡◌, ◌∙◌, ◌+◌, ap, subst, length, take, arith}
 use Rattle.std.specs.Io.KnownBytes.{IsAtEnd}
 use Rattle.htmd.specs.Characters.{line_feed}
 use Rattle.htmd_cli.specs.Batches.{Answers, followed, rows_from, rows_left}

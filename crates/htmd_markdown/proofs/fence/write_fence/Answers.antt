@@ -1,9 +1,9 @@
 -- The block is its definition, so its laws hold of what was written.
-use Rattle.std.proofs.Common.{◌≡◌, ℕ, ◌<◌, List, IfOk, ap, drop, refl, replicate, string_bytes, subst, ◌∙◌}
+use Rattle.std.proofs.Common.{◌≡◌, ℕ, List, IfOk, ap, refl, replicate, string_bytes, subst, ◌∙◌}
 use Rattle.std.specs.Prelude.{Some}
 use Rattle.std.specs.Option.{option_copied}
 use Rattle.htmd_markdown.specs.CodeBlocks.{code_of}
-use Rattle.htmd_markdown.specs.FenceReading.{read_fence, symbols_at_start}
+use Rattle.htmd_markdown.specs.FenceReading.{read_fence}
 use Rattle.htmd_markdown.specs.Fences.{symbol_of, fence_len, between_fences, fenced_code_block}
 use Rattle.htmd_markdown.proofs.ResultLemmas.{of_answer}
 use Rattle.htmd_markdown.proofs.FencesLemmas.{fence-longer, fenced_code_block-reads_back, info_given}
