@@ -29,6 +29,7 @@ use Rattle.htmd_tree.specs.Advances.{Ends, state_at, rules_of}
 use Rattle.htmd_tree.specs.declared.reader.Reader.{Reader}
 use Rattle.htmd_tree.specs.declared.reader.Stop.TheVariants.{Refused}
 use Rattle.htmd_tree.specs.declared.reader.ReadError.{ReadError}
+use Rattle.htmd_tree.specs.declared.reader.ReadError.TheVariants.{Refused as RefusedAt}
 
 -- a document is laid out as the items of `body`, which is open
 pub laid_out : (o : Option (List ℕ)) (content : ValueForest)
