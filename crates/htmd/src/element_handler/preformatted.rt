@@ -4,7 +4,7 @@ ghost use Rattle.std.specs.Prelude.{◌≡◌, ◌<◌, true, not, IfOk, IfSome,
 ghost use Rattle.std.specs.Option.{option_copied};
 ghost use Rattle.htmd.specs.Outputs.{is_guarded};
 ghost use Rattle.htmd_tree.specs.Items.{IsTree, children_of, data_at};
-ghost use Rattle.htmd.specs.Code as spec;
+ghost use Rattle.htmd.specs.Preformatted as spec;
 ghost use Rattle.htmd.specs.Views.{plan_view, element_view, result_view, optional_result};
 
 use super::code::language_of;

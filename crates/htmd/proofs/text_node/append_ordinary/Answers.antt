@@ -1,5 +1,6 @@
 use Rattle.std.proofs.Common.{◌≡◌, ◌++◌, ◌∙◌, ◌||◌, ap, sym, string_bytes, ltb}
 use Rattle.std.specs.List.{suffix_len}
+use Rattle.htmd_text.proofs.Cases.{pushed}
 use Rattle.htmd_text.specs.EscapeMarks.{escaped_markdown}
 use Rattle.htmd_text.specs.WhiteSpace.{squeezed_text}
 use Rattle.htmd_text.specs.Trims.{is_space}
@@ -7,7 +8,6 @@ use Rattle.htmd.specs.Seams.{ends_with_space}
 use Rattle.htmd.specs.OrdinaryText.{without_first_space}
 use Rattle.htmd.proofs.text_node.append_ordinary.Goals as goal
 use Rattle.htmd.proofs.text_node.append_ordinary.Goals.{then-trim, else-trim}
-use Rattle.htmd_markdown.proofs.guarded_text.push_guarded_text.Answers.{pushed}
 
 pub returns-then-is_plain : goal.returns-then-is_plain
 returns-then-is_plain c =

@@ -5,24 +5,19 @@ use Rattle.std.proofs.lemmas.Slice.{between_to_end}
 use Rattle.std.proofs.lemmas.Str.{IsCharBoundary-before_ascii}
 use Rattle.std.specs.String.{string_bytes}
 use Rattle.std.specs.List.{between}
+use Rattle.htmd_text.proofs.Cases.{pushed}
 use Rattle.htmd_text.specs.Characters.{backslash}
 use Rattle.htmd_markdown.specs.GuardedText.{is_guarded_mark}
 use Rattle.htmd_markdown.proofs.AddressesLemmas.{escaping_none, escaping_plain, escaping_marked, escaping_all}
 use Rattle.htmd_markdown.proofs.GuardedMarksLemmas.{mark_is_ascii, mark_told}
-use Rattle.std.proofs.Common.{rules, List, ℕ, Result, Ok, Err, OnOk, cond}
+use Rattle.std.proofs.Common.{rules}
 use Rattle.std.specs.Prelude.{is_none}
-use Rattle.std.specs.Result.{is_ok}
 use Rattle.std.specs.List.{list_any}
 use Rattle.htmd_markdown.specs.SpecialBytes.{is_special}
 use Rattle.htmd_markdown.proofs.PlainGuardedLemmas.{plain_stays_guarded, none_at_block}
 use Rattle.htmd_markdown.proofs.guarded_text.push_guarded_text.Goals as goal
 use Rattle.htmd_markdown.proofs.guarded_text.push_guarded_text.Goals.{then-is_mark+in_ok-push_str+in_ok-push}
 use Rattle.htmd_markdown.proofs.guarded_text.push_guarded_text.Goals.{else-is_mark}
-
-pub pushed : {T E : Type 0} (r : Result T E) (new long short : List ℕ) {whole : List ℕ}
-    → new ≡ cond (is_ok r) long short → long ≡ whole → OnOk r (new ≡ whole)
-pushed (Ok x) new long short e f = e ∙ f
-pushed (Err x) new long short e f = tt
 
 pub returns-then-not-has_special : goal.returns-then-not-has_special
 returns-then-not-has_special c =
