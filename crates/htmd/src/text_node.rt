@@ -1,6 +1,7 @@
 //! The text of a text node, put behind a text.
 
-ghost use Rattle.std.specs.Prelude.{◌≡◌, ◌++◌, Bool, false, IsTrue, OnOk, string_bytes};
+ghost use Rattle.std.specs.Prelude.{◌≡◌, ◌++◌, Bool, false, IsTrue, OnOk, if◌then◌else◌, string_bytes};
+ghost use Rattle.std.specs.Result.{is_ok};
 ghost use Rattle.htmd_text.specs.EscapeMarks.{escaped_markdown};
 ghost use Rattle.htmd_text.specs.WhiteSpace.{squeezed_text};
 ghost use Rattle.htmd.specs.OrdinaryText as spec;
@@ -77,6 +78,20 @@ fn is_plain(text: &str) -> bool
     begins_plain(text.as_bytes()) && stays_plain(text.as_bytes())
 }
 
+/// The least room that is made in an empty text: with what malloc adds, 64 bytes.
+const ROOM: usize = 56;
+
+/// Puts a text behind another. An empty one gets room for more, so that it seldom grows.
+fn push_with_room(out: &mut String, text: &str) -> Result<(), AllocError>
+    ensures bytes { string_bytes out.new
+        ≡ (if is_ok result then string_bytes out.old ++ text.now else string_bytes out.old) }
+{
+    if out.is_empty() {
+        out.reserve(text.len().max(ROOM))?;
+    }
+    out.push_str(text)
+}
+
 /// Squeezed, without its first space where a space is not wanted, and escaped.
 fn append_ordinary(
     alloc: Global,
@@ -89,11 +104,11 @@ fn append_ordinary(
 {
     let goes = trim || trailing_len(out.as_bytes(), b' ') > 0;
     if is_plain(text) {
-        return out.push_str(without_first_space(text, goes));
+        return push_with_room(out, without_first_space(text, goes));
     }
     let squeezed = compress_whitespace(alloc, text)?;
     let escaped = escape_if_needed(alloc, without_first_space(squeezed.as_str(), goes))?;
-    out.push_str(escaped.as_str())?;
+    push_with_room(out, escaped.as_str())?;
     Ok(())
 }
 

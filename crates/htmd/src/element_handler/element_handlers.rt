@@ -278,16 +278,17 @@ impl Registry for ElementHandlers {
         let NodeData::Element { name, attrs } = tree.data(node) else {
             return false;
         };
-        if !is_markdown_alone(&self.options) {
-            return false;
-        }
         let tag = name.as_str();
-        let Some(index) = self.find(tag, 0) else {
-            return tag != "span";
-        };
+        // Of other tags the handlers are looked up where they are asked.
         if tag != "span" {
             return false;
         }
+        if !is_markdown_alone(&self.options) {
+            return false;
+        }
+        let Some(index) = self.find(tag, 0) else {
+            return false;
+        };
         if self.find(tag, 1).is_some() {
             return false;
         }

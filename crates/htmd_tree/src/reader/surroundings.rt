@@ -1,6 +1,7 @@
 //! What is kept of an open element and its ancestors, so that asking what may stand there costs the same at any depth.
 ghost use Rattle.std.specs.Prelude.{◌≡◌, ◌||◌, ◌&&◌, not, false, [], ◌∷◌, Bool, codes};
 ghost use Rattle.std.specs.Str.{bytes_eq};
+ghost use Rattle.std.specs.List.{list_any};
 ghost use Rattle.htmd_grammar.specs.CharacterClasses.{is_among};
 ghost use Rattle.htmd_grammar.specs.Documents.{below_body};
 ghost use Rattle.htmd_grammar.specs.Nesting as spec;
@@ -62,17 +63,19 @@ pub(crate) fn is_outside(name: &str) -> bool
     if name.len() < 4 {
         return false;
     }
-    matches!(
+    is_one_of(
         name,
-        "html"
-            | "head"
-            | "body"
-            | "frameset"
-            | "frame"
-            | "template"
-            | "plaintext"
-            | "listing"
-            | "image"
+        &[
+            "html",
+            "head",
+            "body",
+            "frameset",
+            "frame",
+            "template",
+            "plaintext",
+            "listing",
+            "image",
+        ],
     )
 }
 
@@ -80,9 +83,9 @@ pub(crate) fn is_outside(name: &str) -> bool
 fn holds_raw_text(name: &str, scripting: bool) -> bool
     ensures { result ≡ raw.holds_raw_text scripting name.now }
 {
-    matches!(
+    is_one_of(
         name,
-        "script" | "style" | "iframe" | "noembed" | "noframes" | "xmp"
+        &["script", "style", "iframe", "noembed", "noframes", "xmp"],
     ) || scripting && name == "noscript"
 }
 
@@ -90,27 +93,29 @@ fn holds_raw_text(name: &str, scripting: bool) -> bool
 fn holds_text_alone(name: &str, scripting: bool) -> bool
     ensures { result ≡ raw.holds_text_alone scripting name.now }
 {
-    matches!(name, "title" | "textarea") || holds_raw_text(name, scripting)
+    is_one_of(name, &["title", "textarea"]) || holds_raw_text(name, scripting)
 }
 
 /// Whether this is a name from `address` to `dt` that doesn't stand under an open `p`.
 fn is_closer_a_to_d(name: &str) -> bool
     ensures { result ≡ is_among flags.closer_a_to_d name.now }
 {
-    matches!(
+    is_one_of(
         name,
-        "address"
-            | "article"
-            | "aside"
-            | "blockquote"
-            | "center"
-            | "dd"
-            | "details"
-            | "dialog"
-            | "dir"
-            | "div"
-            | "dl"
-            | "dt"
+        &[
+            "address",
+            "article",
+            "aside",
+            "blockquote",
+            "center",
+            "dd",
+            "details",
+            "dialog",
+            "dir",
+            "div",
+            "dl",
+            "dt",
+        ],
     )
 }
 
@@ -118,22 +123,24 @@ fn is_closer_a_to_d(name: &str) -> bool
 fn is_closer_f_to_h(name: &str) -> bool
     ensures { result ≡ is_among flags.closer_f_to_h name.now }
 {
-    matches!(
+    is_one_of(
         name,
-        "fieldset"
-            | "figcaption"
-            | "figure"
-            | "footer"
-            | "form"
-            | "h1"
-            | "h2"
-            | "h3"
-            | "h4"
-            | "h5"
-            | "h6"
-            | "header"
-            | "hgroup"
-            | "hr"
+        &[
+            "fieldset",
+            "figcaption",
+            "figure",
+            "footer",
+            "form",
+            "h1",
+            "h2",
+            "h3",
+            "h4",
+            "h5",
+            "h6",
+            "header",
+            "hgroup",
+            "hr",
+        ],
     )
 }
 
@@ -141,26 +148,18 @@ fn is_closer_f_to_h(name: &str) -> bool
 fn is_closer_l_to_x(name: &str) -> bool
     ensures { result ≡ is_among flags.closer_l_to_x name.now }
 {
-    matches!(
+    is_one_of(
         name,
-        "li" | "main"
-            | "menu"
-            | "nav"
-            | "ol"
-            | "p"
-            | "pre"
-            | "search"
-            | "section"
-            | "summary"
-            | "table"
-            | "ul"
-            | "xmp"
+        &[
+            "li", "main", "menu", "nav", "ol", "p", "pre", "search", "section", "summary", "table",
+            "ul", "xmp",
+        ],
     )
 }
 
 #[tactic(auto, using(crate::proofs::SurroundingsLemmas::closers))]
-/// Whether an element of this name doesn't stand under an open `p`. Each of the three parts is compiled to a test of
-/// the length first; were all names in one `match`, the last ones wouldn't be.
+/// Whether an element of this name doesn't stand under an open `p`. Each of the three parts is
+/// short enough that LLVM unrolls it into tests of lengths and first bytes.
 fn closes_paragraph(name: &str) -> bool
     ensures { result ≡ spec.closes_paragraph name.now }
 {
@@ -178,16 +177,16 @@ fn is_heading(name: &str) -> bool
 fn is_table_part(name: &str) -> bool
     ensures { result ≡ spec.is_table_part name.now }
 {
-    matches!(name, "caption" | "colgroup" | "thead" | "tbody" | "tfoot")
+    is_one_of(name, &["caption", "colgroup", "thead", "tbody", "tfoot"])
 }
 
 /// Whether in an element of this name stand parts of a table, comments and white space alone.
 fn holds_parts(name: &str) -> bool
     ensures { result ≡ spec.holds_parts name.now }
 {
-    matches!(
+    is_one_of(
         name,
-        "table" | "thead" | "tbody" | "tfoot" | "tr" | "colgroup"
+        &["table", "thead", "tbody", "tfoot", "tr", "colgroup"],
     )
 }
 
@@ -195,14 +194,23 @@ fn holds_parts(name: &str) -> bool
 fn holds_rows(name: &str) -> bool
     ensures { result ≡ spec.holds_rows name.now }
 {
-    matches!(name, "thead" | "tbody" | "tfoot")
+    is_one_of(name, &["thead", "tbody", "tfoot"])
 }
 
-/// Whether this is that name.
+/// Whether this is that name. Most names that it is not differ in their length or their first byte.
 fn is_named(name: &str, wanted: &str) -> bool
     ensures { result ≡ (bytes_eq name.now wanted.now || false) }
 {
-    name == wanted
+    name.len() == wanted.len()
+        && name.as_bytes().first() == wanted.as_bytes().first()
+        && name == wanted
+}
+
+/// Whether this is one of those names.
+fn is_one_of(name: &str, names: &[&str]) -> bool
+    ensures { result ≡ list_any (λ other. bytes_eq name.now other.now) names.now }
+{
+    names.iter().any(|other| is_named(name, *other))
 }
 
 /// Whether an element of that name is open in one of this name.
@@ -216,7 +224,7 @@ fn opens(name: &str, wanted: &str, above: bool) -> bool
 fn opens_options(name: &str, above: bool) -> bool
     ensures { result ≡ (is_among (codes "optgroup" ∷ codes "option" ∷ []) name.now || above) }
 {
-    matches!(name, "optgroup" | "option") || above
+    is_one_of(name, &["optgroup", "option"]) || above
 }
 
 /// Whether an `li` is open, in no list inside it, in an element of this name.
@@ -224,11 +232,7 @@ fn opens_item(name: &str, above: bool) -> bool
     ensures { result ≡ (is_among (codes "li" ∷ []) name.now
         || (not (is_among (codes "ul" ∷ codes "ol" ∷ codes "menu" ∷ codes "dir" ∷ []) name.now) && above)) }
 {
-    match name {
-        "li" => true,
-        "ul" | "ol" | "menu" | "dir" => false,
-        _ => above,
-    }
+    is_named(name, "li") || !is_one_of(name, &["ul", "ol", "menu", "dir"]) && above
 }
 
 /// Whether a `dd` or `dt` is open, in no `dl` inside it, in an element of this name.
@@ -236,11 +240,7 @@ fn opens_description(name: &str, above: bool) -> bool
     ensures { result ≡ (is_among (codes "dd" ∷ codes "dt" ∷ []) name.now
         || (not (is_among (codes "dl" ∷ []) name.now) && above)) }
 {
-    match name {
-        "dd" | "dt" => true,
-        "dl" => false,
-        _ => above,
-    }
+    is_one_of(name, &["dd", "dt"]) || !is_named(name, "dl") && above
 }
 
 impl Surroundings {
@@ -324,10 +324,10 @@ impl Surroundings {
         ensures { result ≡ flags.flags_fit_select self name.now }
     {
         if self.select {
-            return matches!(name, "option" | "optgroup");
+            return is_one_of(name, &["option", "optgroup"]);
         }
         if self.option_group {
-            return matches!(name, "option");
+            return is_named(name, "option");
         }
         !self.option
     }
@@ -363,7 +363,8 @@ impl Surroundings {
     fn fits_lists(self, name: &str) -> bool
         ensures { result ≡ flags.flags_fit_lists self name.now }
     {
-        !(self.item && is_named(name, "li")) && !(self.description && matches!(name, "dd" | "dt"))
+        !(self.item && is_named(name, "li"))
+            && !(self.description && is_one_of(name, &["dd", "dt"]))
     }
 
     /// Whether all that is kept lets an element of this name stand here.

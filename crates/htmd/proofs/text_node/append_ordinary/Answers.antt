@@ -20,8 +20,8 @@ returns-then-is_plain c =
     ] in
     let rest = c.without_first_space.ensures ∙ sym (c.is_plain.ensures c.if-is_plain.true c.if-trim.goes)
     ∙ ap (λ t. escaped_markdown (without_first_space t (squeezed_text c.args.text.now))) goes in
-    pushed c.push_str.result (string_bytes c.push_str.new.self) (out ++ c.without_first_space.result.now) out
-    c.push_str.ensures.bytes (ap (λ s. out ++ s) rest)
+    pushed c.push_with_room.result (string_bytes c.push_with_room.new.out) (out ++ c.without_first_space.result.now) out
+    c.push_with_room.ensures.bytes (ap (λ s. out ++ s) rest)
 
 pub returns : goal.returns
 returns c =
@@ -34,5 +34,5 @@ returns c =
     ] in
     let rest = c.without_first_space-2.ensures ∙ ap (without_first_space c.if-trim.goes) (c.as_str.ensures.value
     ∙ c.in_ok-squeezed.ensures.text) ∙ ap (λ t. without_first_space t (squeezed_text c.args.text.now)) goes in
-    c.in_ok-push_str.ensures.bytes ∙ ap (λ s. out ++ s) (c.as_str-2.ensures.value ∙ c.in_ok-escaped.ensures.text
+    c.in_ok-push_with_room.ensures.bytes ∙ ap (λ s. out ++ s) (c.as_str-2.ensures.value ∙ c.in_ok-escaped.ensures.text
     ∙ ap escaped_markdown rest)
