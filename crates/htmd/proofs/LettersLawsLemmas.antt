@@ -44,8 +44,9 @@ use Rattle.htmd.specs.Markdown.{walked_node, walked_content, append_texts, markd
 use Rattle.htmd.specs.Letters.{letters, said_among, said_within, said, prefers_autolinks}
 use Rattle.htmd.specs.Letters.{LettersOfContent, LettersOfMarkdown, LettersOfConversion, EveryLetterOnce}
 use Rattle.htmd.specs.Letters.{SaysEveryLetterOf}
+use Rattle.htmd.proofs.CountedTexts.{of_letters}
 use Rattle.htmd.proofs.LettersLemmas.{Says, says-own, says-nil, says-append, says-is, says-fillers}
-use Rattle.htmd.proofs.LettersOfTexts.{document_of_fillers, line_feed_of_fillers, space_of_fillers, says-trimmed_end}
+use Rattle.htmd.proofs.LettersOfTexts.{document_of_white, line_feed_of_white, space_of_white, says-trimmed_end}
 use Rattle.htmd.proofs.LettersOfTexts.{says-trimmed, says-squeezed, says-escaped, says-escaped_pre}
 use Rattle.htmd.proofs.LettersOfPieces.{says-first_space, says-seam}
 use Rattle.htmd.proofs.LettersOfGuarded.{says-guarded_text, says-guarded_seam}
@@ -131,7 +132,7 @@ module _ (items : List Item) where
     all_text_fits (text i s) fit = fit
     all_text_fits (comment i s) fit = IsUtf8-nil
     all_text_fits (element i name attributes c) fit =
-        cond_both (bytes_eq name (codes "br")) _ _ IsUtf8 (λ _. (says-fillers (line_feed ∷ []) refl).utf8)
+        cond_both (bytes_eq name (codes "br")) _ _ IsUtf8 (λ _. (says-fillers {law = of_letters} (line_feed ∷ []) refl).utf8)
         (λ _. all_text_fits_among c fit.1)
 
     all_text_fits_among : (trees : NumberedForest) → AllFit trees → IsUtf8 (all_text_among trees)
@@ -215,54 +216,54 @@ module _ (options : Options) (alone : is_markdown_alone options ≡ true)
   -- so many levels say what stands in the tree
   abbrev AreSaid : ℕ → Type 0
   AreSaid n = (tree : NumberedTree) (context : Context) (out : Output) (l : List ℕ) → Fits items tree
-      → Says out.text l → Says (written_within n conversion tree context out).text (l ++ says n tree)
+      → Says of_letters out.text l → Says of_letters (written_within n conversion tree context out).text (l ++ says n tree)
 
-  before_is_said : (block : Bool) (out : Output) {l : List ℕ} → Says out.text l
-      → Says (before_child block out).text l
-  before_is_said true out p = says-trimmed_end is_space space_of_fillers out.text p
+  before_is_said : (block : Bool) (out : Output) {l : List ℕ} → Says of_letters out.text l
+      → Says of_letters (before_child block out).text l
+  before_is_said true out p = says-trimmed_end is_space space_of_white out.text p
   before_is_said false out p = p
 
   children_are_said : (n : ℕ) → AreSaid n → (inside : List Ancestor) (trees : NumberedForest) (trim : Bool)
-      (out : Output) (l : List ℕ) → AllFit items trees → Says out.text l
-      → Says (write_children (written_within n conversion) inside trees trim out).text
+      (out : Output) (l : List ℕ) → AllFit items trees → Says of_letters out.text l
+      → Says of_letters (write_children (written_within n conversion) inside trees trim out).text
       (l ++ said_among (says n) trees)
   children_are_said n keeps inside none trim out l fit p = says-is (sym (append-nil l)) p
   children_are_said n keeps inside (more tree trees) trim out l fit p =
       let block = is_block_tree tree in
       let before = before_child block out in
       let after = written_within n conversion tree (context_of inside (pre inside) trim) before in
-      let first : Says after.text (l ++ says n tree) =
+      let first : Says of_letters after.text (l ++ says n tree) =
       keeps tree (context_of inside (pre inside) trim) before l fit.0 (before_is_said block out p) in
       says-is (append_assoc l (says n tree) (said_among (says n) trees))
       (children_are_said n keeps inside trees (trim_after block before after trim) after (l ++ says n tree) fit.1 first)
 
   groups_are_said : (n : ℕ) → AreSaid n → (inside : List Ancestor) (children : NumberedForest) (out : Output)
-      (l : List ℕ) → AllFit items children → Says out.text l
-      → Says (write_groups (written_within n conversion) inside children out).text
+      (l : List ℕ) → AllFit items children → Says of_letters out.text l
+      → Says of_letters (write_groups (written_within n conversion) inside children out).text
       (l ++ said_among (says n) (groups_of children))
   groups_are_said n keeps inside children out l fit p =
       children_are_said n keeps inside (groups_of children) (trims_first inside) out l (groups_fit items children fit) p
 
   result_is_said : (out : Output) (whole : Bool) (r : Option ResultView) (definitions : List (List ℕ))
       (l m : List ℕ)
-      → Says out.text l → SaysResult r m
-      → Says (with_result (is_guarded options) out whole r definitions).text (l ++ m)
+      → Says of_letters out.text l → SaysResult of_letters r m
+      → Says of_letters (with_result (is_guarded options) out whole r definitions).text (l ++ m)
   result_is_said out whole None definitions l m p q = says-is (sym (append-nil l) ∙ ap (λ z. l ++ z) (sym q)) p
   result_is_said out whole (Some result) definitions l m p q =
-      cond_both (is_guarded options) _ _ (λ (t : List ℕ). Says t (l ++ m))
+      cond_both (is_guarded options) _ _ (λ (t : List ℕ). Says of_letters t (l ++ m))
       (λ _. says-guarded_seam out.text result.content p q) (λ _. says-seam out.text result.content whole p q)
 
-  text_is_said : (s : List ℕ) (context : Context) (out : Output) (l : List ℕ) → IsUtf8 s → Says out.text l
-      → Says (write_text (is_guarded options) s context out).text (l ++ letters s)
+  text_is_said : (s : List ℕ) (context : Context) (out : Output) (l : List ℕ) → IsUtf8 s → Says of_letters out.text l
+      → Says of_letters (write_text (is_guarded options) s context out).text (l ++ letters s)
   text_is_said s context out l t p =
       let own = says-own s t in
       let squeezed = says-first_space (context.trim || ends_with_space out.text) (squeezed_text s) (says-squeezed s
       own) in
       says-append p
-      (cond_both (is_guarded options) _ _ (λ (x : List ℕ). Says x (letters s))
+      (cond_both (is_guarded options) _ _ (λ (x : List ℕ). Says of_letters x (letters s))
       (λ _. says-guarded_text (begins_line out.text) _ (letters s) squeezed)
-      (λ _. cond_both context.preformatted _ _ (λ (x : List ℕ). Says x (letters s))
-      (λ _. cond_both (parent_is_pre context.ancestors) _ _ (λ (x : List ℕ). Says x (letters s))
+      (λ _. cond_both context.preformatted _ _ (λ (x : List ℕ). Says of_letters x (letters s))
+      (λ _. cond_both (parent_is_pre context.ancestors) _ _ (λ (x : List ℕ). Says of_letters x (letters s))
       (λ _. says-escaped_pre s own) (λ _. own))
       (λ _. says-escaped _ squeezed)))
 
@@ -270,7 +271,7 @@ module _ (options : Options) (alone : is_markdown_alone options ≡ true)
   unfolding written_within said_within
   within_is_said zero tree context out l fit p = says-is (sym (append-nil l)) p
   within_is_said (suc n) (document id children) context out l fit p =
-      says-trimmed_end is_document_white_space document_of_fillers _
+      says-trimmed_end is_document_white_space document_of_white _
       (groups_are_said n (within_is_said n) (record { tag = codes "html"; attributes = [] } ∷ context.ancestors)
       children out l fit p)
   within_is_said (suc n) (doctype id) context out l fit p = says-is (sym (append-nil l)) p
@@ -290,10 +291,10 @@ module _ (options : Options) (alone : is_markdown_alone options ≡ true)
       (descendant_fits items plain (only_text children) d shown) says-nil)
       name fit.0)
 
-  content_is_said : (start : ℕ) → Says (walked_content (built_in options) items start) (said options items start)
+  content_is_said : (start : ℕ) → Says of_letters (walked_content (built_in options) items start) (said options items start)
   content_is_said start =
       let tree = tree_of items start in
-      says-trimmed is_line_feed line_feed_of_fillers _
+      says-trimmed is_line_feed line_feed_of_white _
       (within_is_said (height tree) tree (context_of (ancestors_of items start) false true) (empty_output []) []
       (tree_fits items plain start) says-nil)
 

@@ -53,7 +53,8 @@ use Rattle.htmd.specs.Inline.{optional_markdown}
 use Rattle.htmd.proofs.LettersOfTexts.{says-blank_lines}
 use Rattle.htmd.proofs.LettersOfTables.{SayEach, all_of, says-table_text, says-guarded_table_text}
 use Rattle.htmd.specs.Letters.{nodes_of_table, is_written}
-use Rattle.htmd.proofs.LettersLemmas.{says-nil}
+use Rattle.htmd.proofs.CountedTexts.{of_letters}
+use Rattle.htmd.proofs.LettersLemmas.{says-of_nothing}
 use Rattle.htmd.specs.Images.{images, image_address, alternative_text, image_at}
 use Rattle.htmd.specs.LinkAttributes.{title_of}
 use Rattle.htmd.specs.Anchors.{anchors, anchor_address}
@@ -61,7 +62,7 @@ use Rattle.htmd.specs.BuiltIn.{other_block_tags, built_in}
 use Rattle.htmd.specs.Letters.{said_of_image, said_of_formula, said_of_element, said_among, said_of_each, said_inside}
 use Rattle.htmd.specs.Letters.{prefers_autolinks, letters, letters_if_any, said_of_code, said_of_pre, is_hidden}
 use Rattle.htmd.proofs.LettersLemmas.{Says, says-own, says-as, says-is, is_filler}
-use Rattle.htmd.proofs.LettersOfTexts.{line_feed_of_fillers, says-trimmed}
+use Rattle.htmd.proofs.LettersOfTexts.{line_feed_of_white, says-trimmed}
 use Rattle.htmd.proofs.LettersOfLines.{SayAll, say-none, say-cons}
 use Rattle.htmd.proofs.LettersOfLinks.{IsTextIfAny, text_of_block, says-ordered, says-image}
 use Rattle.htmd.proofs.LettersOfHandlers.{SaysResult, AreValues, last_is_text, language_is_text, either_text}
@@ -187,9 +188,9 @@ module _ (options : Options) (alone : is_markdown_alone options ≡ true)
       (children : NumberedForest) (definitions : List (List ℕ)) (text : IsTextIfAny (only_text children))
       (all : IsUtf8 (text_or_all (only_text children) (children_at items id)))
       (within : (before : List (List ℕ))
-      → Says (content_inside write inside children before).text (said_among says (groups_of children)))
+      → Says of_letters (content_inside write inside children before).text (said_among says (groups_of children)))
       (each : (d : ℕ) (before : List (List ℕ))
-      → Says (content_alone write conversion (descendant_tree items (only_text children) d) d before).text
+      → Says of_letters (content_alone write conversion (descendant_tree items (only_text children) d) d before).text
       (says (descendant_tree items (only_text children) d))) where
     abbrev at : Occurrence
     at = occurrence_at write conversion id inside children
@@ -198,24 +199,24 @@ module _ (options : Options) (alone : is_markdown_alone options ≡ true)
     abbrev IsSaid : List ℕ → Type 0
     IsSaid tag =
         tag_of at.view ≡ tag
-        → SaysResult (answer_after 0 tag at definitions).result
+        → SaysResult of_letters (answer_after 0 tag at definitions).result
         (said_of_element tag at.view (said_inside says tag at.view children))
 
     planned_is_said : (tag : List ℕ) (handler : HandlerMeaning) (plan : PlanView) (l : List ℕ)
         → IsOnly options tag
         handler
         → handler.plan at.view ≡ plan
-        → SaysResult (plan_answer handler at definitions plan (without_handler at definitions)).result l
-        → SaysResult (answer_after 0 tag at definitions).result l
+        → SaysResult of_letters (plan_answer handler at definitions plan (without_handler at definitions)).result l
+        → SaysResult of_letters (answer_after 0 tag at definitions).result l
     planned_is_said tag handler plan l only planned p =
         let answered : answer_after 0 tag at definitions
         ≡ plan_answer handler at definitions plan (without_handler at definitions) =
         ap (λ (hs : List HandlerMeaning). first_answer hs at definitions) only
         ∙ ap (λ (x : PlanView). plan_answer handler at definitions x (without_handler at definitions)) planned in
-        subst (λ (a : Answer). SaysResult a.result l) (sym answered) p
+        subst (λ (a : Answer). SaysResult of_letters a.result l) (sym answered) p
 
     content_is_said : (tag : List ℕ) (handler : HandlerMeaning) → IsOnly options tag handler
-        → KeepsContent tag handler
+        → KeepsContent of_letters tag handler
         → said_of_element tag at.view (said_inside says tag at.view children) ≡ said_among says (groups_of children)
         → IsSaid tag
     content_is_said tag handler only keeps same here =
@@ -223,16 +224,16 @@ module _ (options : Options) (alone : is_markdown_alone options ≡ true)
         planned_is_said tag handler content_of_children
         (said_of_element tag at.view (said_inside says tag at.view children)) only
         (keeps.planned at.view alone here)
-        (subst (λ (l : List ℕ). SaysResult (handler.finish at.view (result_of out) out.definitions).result l)
+        (subst (λ (l : List ℕ). SaysResult of_letters (handler.finish at.view (result_of out) out.definitions).result l)
         (sym same)
         (keeps.finished at.view (result_of out) out.definitions (said_among says (groups_of children)) alone
         (within definitions)))
 
     -- one of two plans, and what is said by each
     either_is_said : (handler : HandlerMeaning) (b : Bool) (first second : PlanView) (l m : List ℕ)
-        → SaysResult (plan_answer handler at definitions first (without_handler at definitions)).result l
-        → SaysResult (plan_answer handler at definitions second (without_handler at definitions)).result m
-        → SaysResult (plan_answer handler at definitions (cond b first second)
+        → SaysResult of_letters (plan_answer handler at definitions first (without_handler at definitions)).result l
+        → SaysResult of_letters (plan_answer handler at definitions second (without_handler at definitions)).result m
+        → SaysResult of_letters (plan_answer handler at definitions (cond b first second)
         (without_handler at definitions)).result
         (cond b l m)
     either_is_said handler true first second l m p q = p
@@ -253,7 +254,7 @@ module _ (options : Options) (alone : is_markdown_alone options ≡ true)
     titled = last_is_text (codes "title" ∷ []) (attributes_of at.view) (values id)
 
     image_gives : (address : Option (List ℕ)) → IsTextIfAny address
-        → SaysResult (plan_answer images at definitions (image_at address at.view) (without_handler at
+        → SaysResult of_letters (plan_answer images at definitions (image_at address at.view) (without_handler at
         definitions)).result
         (said_of_image address at.view)
     image_gives None found = refl
@@ -262,7 +263,7 @@ module _ (options : Options) (alone : is_markdown_alone options ≡ true)
         let title = title_of at.view in
         let described = last_is_text (codes "alt" ∷ []) (attributes_of at.view) (values id) in
         cond_both (is_guarded options) guarded_image image
-        (λ (f : List ℕ → Option (List ℕ) → Option (List ℕ) → List ℕ). Says (f address alt title)
+        (λ (f : List ℕ → Option (List ℕ) → Option (List ℕ) → List ℕ). Says of_letters (f address alt title)
         (letters_if_any alt ++ letters address ++ letters_if_any title))
         (λ _. says-guarded_image address alt title found described titled)
         (λ _. says-image address alt title found described titled)
@@ -311,7 +312,7 @@ module _ (options : Options) (alone : is_markdown_alone options ≡ true)
         cond_both (is_tag_among (codes "code" ∷ []) (tag_at items (Some child))) _ _ IsTextIfAny
         (λ _. language_of_node (Some child)) (λ _. tt)
 
-    guarded_pre_says : Says (guarded_preformatted at.view)
+    guarded_pre_says : Says of_letters (guarded_preformatted at.view)
         (cond (stands_in_line items id) [] (letters_if_any (fitting_language (guarded_language at.view)))
         ++ letters (all_text_of at.view))
     guarded_pre_says =
@@ -324,8 +325,8 @@ module _ (options : Options) (alone : is_markdown_alone options ≡ true)
         in_line_or (stands_in_line items id) _ _ _ _ (says-guarded_span s (letters s) said)
         (says-blank_lines _ (says-guarded_block s (guarded_language at.view) options.code_block_fence said text))
       where
-        in_line_or : (b : Bool) (x y l m : List ℕ) → Says x m → Says y (l ++ m)
-            → Says (cond b x y) (cond b [] l ++ m)
+        in_line_or : (b : Bool) (x y l m : List ℕ) → Says of_letters x m → Says of_letters y (l ++ m)
+            → Says of_letters (cond b x y) (cond b [] l ++ m)
         in_line_or true x y l m p q = p
         in_line_or false x y l m p q = q
 
@@ -339,18 +340,18 @@ module _ (options : Options) (alone : is_markdown_alone options ≡ true)
         (block_plan at.view) _ inside guarded_pre_says
         (rw (alone, alone) (wrapped out.text inside (within definitions))))
 
-    span_content : SaysResult (with_finish spans at.view (content_of at definitions)).result
+    span_content : SaysResult of_letters (with_finish spans at.view (content_of at definitions)).result
         (said_among says (groups_of children))
     span_content =
         let out = content_of at definitions in
         cond_both (is_guarded options || pre (ancestors_of at.view)) _ _
-        (λ (t : List ℕ). Says t (said_among says (groups_of children))) (λ _. within definitions)
-        (λ _. says-trimmed _ line_feed_of_fillers out.text (within definitions))
+        (λ (t : List ℕ). Says of_letters t (said_among says (groups_of children))) (λ _. within definitions)
+        (λ _. says-trimmed _ line_feed_of_white out.text (within definitions))
 
     span_gives : (mark shown : Option (List ℕ))
         → ((m : List ℕ) → mark ≡ Some m → list_all is_filler m ≡ true)
         → IsTextIfAny shown
-        → SaysResult (plan_answer spans at definitions (formula_plan at.view mark shown)
+        → SaysResult of_letters (plan_answer spans at definitions (formula_plan at.view mark shown)
         (without_handler at definitions)).result
         (said_of_formula (is_guarded options) mark shown (said_among says (groups_of children)))
     span_gives None shown fills t = rw alone span_content
@@ -372,7 +373,7 @@ module _ (options : Options) (alone : is_markdown_alone options ≡ true)
         cond_both (is_tag_among (codes "li" ∷ []) tag) _ _ (λ b. s ≡ text_of_block b) (λ _. refl) (λ _. refl)
 
     blocks_say : (ds : List ℕ) (before : List (List ℕ))
-        → SayAll (map text_of_block (blocks_of_list items ds (contents_alone at ds before).results))
+        → SayAll of_letters (map text_of_block (blocks_of_list items ds (contents_alone at ds before).results))
         (said_of_each says at.view ds)
     blocks_say [] before = say-none
     blocks_say (d ∷ ds) before =
@@ -380,13 +381,13 @@ module _ (options : Options) (alone : is_markdown_alone options ≡ true)
         say-cons (says-as (block_text (tree.tag_of (data_at items d)) out.text) (each d before))
         (blocks_say ds out.definitions)
 
-    ordered_says : (blocks : List Block) (l : List ℕ) → SayAll (map text_of_block blocks) l
-        → Says (ordered_text at.view blocks) l
+    ordered_says : (blocks : List Block) (l : List ℕ) → SayAll of_letters (map text_of_block blocks) l
+        → Says of_letters (ordered_text at.view blocks) l
     ordered_says blocks l p =
         let first = first_number_of at.view in
         let spacing = options.ol_number_spacing in
         cond_both (is_guarded options) guarded_ordered_list ordered_list
-        (λ (f : ℕ → ℕ → List Block → List ℕ). Says (f first spacing blocks) l)
+        (λ (f : ℕ → ℕ → List Block → List ℕ). Says of_letters (f first spacing blocks) l)
         (λ _. says-ordered (guarded_first_number first (highest_number first blocks)) (guarded_spacing spacing) blocks
         p) (λ _. says-ordered first spacing blocks p)
 
@@ -415,13 +416,13 @@ module _ (options : Options) (alone : is_markdown_alone options ≡ true)
     same_list [] = refl
     same_list (d ∷ ds) = ap (λ z. said_here d ++ z) (same_list ds)
 
-    between_lines : (s : List ℕ) (l : List ℕ) → Says s l
-        → SaysResult (optional_markdown (option_map with_blank_lines (some_text s))) l
-    between_lines [] l p = sym p.says ∙ says-nil.says
+    between_lines : (s : List ℕ) (l : List ℕ) → Says of_letters s l
+        → SaysResult of_letters (optional_markdown (option_map with_blank_lines (some_text s))) l
+    between_lines [] l p = says-of_nothing p
     between_lines (b ∷ s) l p = says-blank_lines (b ∷ s) p
 
     table_gives : (form lines : Bool) → has_table_form items id ≡ form → has_lines (layout_of items id) ≡ lines
-        → SaysResult (plan_answer tables at definitions (table_plan at.view) (without_handler at definitions)).result
+        → SaysResult of_letters (plan_answer tables at definitions (table_plan at.view) (without_handler at definitions)).result
         (said_inside says (codes "table") at.view children)
     table_gives false lines is has = rw (alone, is, alone, is) (within definitions)
     table_gives true true is has =
@@ -431,7 +432,7 @@ module _ (options : Options) (alone : is_markdown_alone options ≡ true)
         rw (alone, is, alone, has)
         (says-is (same_list (nodes_of_table parts))
         (cond_both (is_guarded options) guarded_table_text table_text
-        (λ (f : TableTexts → List ℕ). Says (f (with_parts no_texts parts results))
+        (λ (f : TableTexts → List ℕ). Says of_letters (f (with_parts no_texts parts results))
         (all_of said_here (nodes_of_table parts)))
         (λ _. says-guarded_table_text said_here parts results each)
         (λ _. says-table_text said_here parts results each)))
@@ -441,7 +442,7 @@ module _ (options : Options) (alone : is_markdown_alone options ≡ true)
         let out = content_of at before in
         rw (alone, is, alone, has, alone, is)
         (between_lines (trimmed_text is_line_feed out.text) (said_among says (groups_of children))
-        (says-trimmed is_line_feed line_feed_of_fillers out.text (within before)))
+        (says-trimmed is_line_feed line_feed_of_white out.text (within before)))
 
     table_is_said : IsSaid (codes "table")
     table_is_said here =
@@ -706,7 +707,7 @@ module _ (options : Options) (alone : is_markdown_alone options ≡ true)
         planned_is_said name other_blocks (other_block_plan at.view)
         (said_of_element name at.view (said_inside says name at.view children))
         (among (λ tag. IsOnly options tag other_blocks) other_block_tags name other_is_only e) refl
-        (subst (λ (l : List ℕ). SaysResult (plan_answer other_blocks at definitions (other_block_plan at.view)
+        (subst (λ (l : List ℕ). SaysResult of_letters (plan_answer other_blocks at definitions (other_block_plan at.view)
         (without_handler at definitions)).result l) same
         (either_is_said other_blocks hides nothing (unless_faithful at.view) [] inside refl
         (rw alone (wrapped out.text inside (within definitions)))))
@@ -724,7 +725,7 @@ module _ (options : Options) (alone : is_markdown_alone options ≡ true)
         ap (λ (l : List ℕ). first_answer (handlers_at (built_in options).handlers (drop 0 l)) at definitions) none
         ∙ cond-true (is_markdown_alone options) _ _ alone in
         let plain = plain_by (is_named first_tags) name false e refl refl refl refl refl refl refl refl refl in
-        subst (λ (a : Answer). SaysResult a.result
+        subst (λ (a : Answer). SaysResult of_letters a.result
         (said_of_element name at.view (said_inside says name at.view children))) (sym answered)
         (says-is
         (sym (said_plainly name plain says at.view children

@@ -41,6 +41,7 @@ pub mod GuardedSeams
 pub mod TextTrees
 pub mod TextElements
 pub mod TextLawsLemmas
+pub mod CountedTexts
 pub mod LettersLemmas
 pub mod LettersOfTexts
 pub mod LettersOfLines
