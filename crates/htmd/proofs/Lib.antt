@@ -50,6 +50,7 @@ pub mod LettersOfLinks
 pub mod LettersOfGuarded
 pub mod LettersOfHandlers
 pub mod LettersOfTables
+pub mod ElementsByTag
 pub mod LettersOfElements
 pub mod LettersLawsLemmas
 pub mod ChildListsLemmas
