@@ -1,38 +1,80 @@
 -- An element by its tag: which handler it has, and what is to be shown of each.
-use Rattle.std.proofs.Common.{◌≡◌, ℕ, Bool, true, false, cond, List, [], ◌∷◌, ◌++◌}
-use Rattle.std.proofs.Common.{codes, drop, refl, sym, ap, ◌∙◌, subst, ⊎_elim}
-use Rattle.std.specs.Prelude.{not}
-use Rattle.std.specs.List.{list_any}
-use Rattle.std.specs.Str.{bytes_eq}
-use Rattle.std.proofs.lemmas.Bool.{cond-true, cond-false, cases_Bool, or_cases, or_from, or_parts}
-use Rattle.std.proofs.lemmas.Bool.{false_from_ne_true, false≢true, true≢false}
+use Rattle.std.proofs.Common.{◌≡◌, ℕ, Bool, true, false, cond, List, [], ◌∷◌, ◌++◌, Option, Some, None}
+use Rattle.std.proofs.Common.{codes, drop, map, refl, sym, ap, ◌∙◌, subst, ⊎_elim}
+use Rattle.std.specs.Prelude.{◌||◌, ◌&&◌, not, option_and_then}
+use Rattle.std.specs.List.{list_any, list_all}
+use Rattle.std.specs.Str.{IsUtf8, bytes_eq}
+use Rattle.std.proofs.Math.Bool.{and_comm}
+use Rattle.std.proofs.lemmas.Bool.{cond_both, cond-true, cond-false, cases_Bool, or_cases, or_from, or_parts}
+use Rattle.std.proofs.lemmas.Bool.{false_from_ne_true, false≢true, true≢false, and_left}
 use Rattle.std.proofs.lemmas.List.Folds.{list_any-append}
 use Rattle.std.proofs.lemmas.Slice.Eq.{bytes_eq-Decides}
-use Rattle.htmd_tree.specs.Items.{Item}
-use Rattle.htmd_tree.specs.NumberedTrees.{NumberedForest}
-use Rattle.htmd_tree.specs.Ancestors.{Ancestor}
+use Rattle.htmd_tree.specs.Items.{Item, data_at, parent_at, children_of}
+use Rattle.htmd_tree.specs.Items as tree
+use Rattle.htmd_tree.specs.NumberedTrees.{NumberedTree, NumberedForest}
+use Rattle.htmd_tree.specs.Ancestors.{Ancestor, ancestor_of}
 use Rattle.htmd_markdown.specs.declared.emphasis.Emphasis.TheVariants as kind
 use Rattle.htmd.specs.declared.options.Options.{Options}
-use Rattle.htmd.specs.Handling.{PlanView, HandlerMeaning}
+use Rattle.htmd.specs.Handling.{ElementView, PlanView, nothing, content_of_children, contents_of_each, HandlerMeaning}
 use Rattle.htmd.specs.Choice.{TagIndex, indexes, handlers_at}
-use Rattle.htmd.specs.Outputs.{conversion_of, Writes, is_markdown_alone}
+use Rattle.htmd.specs.AllText.{text_or_all, all_text_of}
+use Rattle.htmd.specs.Groups.{only_text, groups_of, children_at}
+use Rattle.htmd.specs.Outputs.{Conversion, conversion_of, Writes, is_markdown_alone, is_guarded, result_of}
+use Rattle.htmd.specs.ElementViews.{tag_of, attributes_of, ancestors_of, is_tag_among, markdown_plan, tag_at}
+use Rattle.htmd.specs.ElementViews.{unless_faithful}
+use Rattle.htmd_markdown.specs.LineBreaks.{line_break}
+use Rattle.htmd_markdown.specs.ThematicBreaks.{thematic_break}
 use Rattle.htmd.specs.OrdinaryText.{pre}
-use Rattle.htmd.specs.Elements.{Occurrence, Answer, content_of, first_answer, plan_answer, answer_after}
-use Rattle.htmd.specs.Elements.{without_handler, occurrence_at, answer_of}
-use Rattle.htmd.specs.Sections.{paragraphs, quotes, parts_of_page, pages, other_blocks, hidden_tags}
-use Rattle.htmd.specs.Inline.{headings, emphasis_of}
-use Rattle.htmd.specs.Code.{code}
-use Rattle.htmd.specs.ListElements.{lists, list_items}
-use Rattle.htmd.specs.TableElements.{cells, table_rows, table_parts}
-use Rattle.htmd.proofs.CountedTexts.{Law}
+use Rattle.htmd.specs.Children.{content_inside, content_alone, descendant_tree}
+use Rattle.htmd.specs.Elements.{Occurrence, Answer, content_of, contents_alone, first_answer, plan_answer, answer_after}
+use Rattle.htmd.specs.Elements.{without_handler, occurrence_at, with_finish, answer_of}
+use Rattle.htmd.specs.Sections.{paragraphs, quotes, parts_of_page, pages, other_blocks, other_block_plan, hidden_tags}
+use Rattle.htmd.specs.Inline.{headings, emphasis_of, line_breaks, break_style_of, thematic_breaks}
+use Rattle.htmd.specs.Inline.{thematic_break_style_of}
+use Rattle.htmd.specs.Spans.{spans, formula_mark, formula_plan, is_read_in_formula}
+use Rattle.htmd_markdown.specs.GuardedCode.{fitting_language}
+use Rattle.htmd_markdown.specs.GuardedLinks.{guarded_image}
+use Rattle.htmd_markdown.specs.Links.{image}
+use Rattle.htmd_markdown.specs.ListItems.{guarded_spacing}
+use Rattle.htmd_markdown.specs.Lists.{Block, ordered_list, guarded_ordered_list, guarded_first_number, highest_number}
+use Rattle.htmd.specs.OneLineElements.{stands_in_line}
+use Rattle.htmd.specs.Code.{code, code_plan, guarded_code_plan, content_plan, preformatted_texts, preformatted_plan}
+use Rattle.htmd.specs.Code.{block_plan, guarded_preformatted, is_code_block, language, shows_language, language_of}
+use Rattle.htmd.specs.Code.{language_at, language_of_code, guarded_language, only_node, without_comments}
+use Rattle.htmd.specs.ListElements.{lists, list_items, block_of_child, blocks_of_list, blocks_of, first_number_of}
+use Rattle.htmd.specs.ListElements.{numbered_list, ordered_text}
+use Rattle.htmd_text.specs.BlankLines.{with_blank_lines}
+use Rattle.htmd_text.specs.Trims.{trimmed_text, some_text, is_line_feed}
+use Rattle.std.specs.Option.{option_map}
+use Rattle.htmd.specs.TableElements.{cells, table_rows, table_parts, tables, table_plan, has_table_form, has_lines}
+use Rattle.htmd.specs.TableElements.{layout_of}
+use Rattle.htmd.specs.TableElements.{nodes_of, TableTexts, no_texts, with_parts, table_text, guarded_table_text}
+use Rattle.htmd.specs.Inline.{optional_markdown}
+use Rattle.htmd.proofs.LettersOfTexts.{says-blank_lines}
+use Rattle.htmd.proofs.LettersOfTables.{SayEach, all_of, says-table_text, says-guarded_table_text}
+use Rattle.htmd.specs.Letters.{nodes_of_table, is_written}
+use Rattle.htmd.proofs.LettersLemmas.{says-of_nothing}
+use Rattle.htmd.specs.Images.{images, image_address, alternative_text, image_at}
+use Rattle.htmd.specs.LinkAttributes.{title_of}
+use Rattle.htmd.specs.Anchors.{anchors, anchor_address}
 use Rattle.htmd.specs.BuiltIn.{other_block_tags, built_in}
-use Rattle.htmd.proofs.LettersOfHandlers.{SaysResult}
+use Rattle.htmd.specs.Letters.{said_of_image, said_of_formula, said_of_element, said_among, said_of_each, said_inside}
+use Rattle.htmd.specs.Letters.{prefers_autolinks, letters, letters_if_any, said_of_code, said_of_pre, is_hidden}
+use Rattle.htmd.proofs.LettersLemmas.{Says, says-own, says-as, says-is, is_filler}
+use Rattle.htmd.proofs.LettersOfTexts.{line_feed_of_white, says-trimmed}
+use Rattle.htmd.proofs.LettersOfLines.{SayAll, say-none, say-cons}
+use Rattle.htmd.proofs.LettersOfLinks.{IsTextIfAny, text_of_block, says-ordered, says-image}
+use Rattle.htmd.proofs.LettersOfHandlers.{SaysResult, AreValues, last_is_text, language_is_text, either_text}
 use Rattle.htmd.proofs.LettersOfHandlers.{KeepsContent}
 use Rattle.htmd.proofs.LettersOfHandlers.{keeps_paragraphs, keeps_quotes, keeps_parts, keeps_pages, keeps_cells}
 use Rattle.htmd.proofs.LettersOfHandlers.{keeps_rows}
-use Rattle.htmd.proofs.LettersOfHandlers.{keeps_table_parts, keeps_items, keeps_headings}
+use Rattle.htmd.proofs.LettersOfHandlers.{keeps_table_parts, keeps_items, keeps_headings, wrapped}
 use Rattle.htmd.proofs.LettersOfHandlers.{keeps_emphasis}
-use Rattle.htmd.proofs.LettersOfHandlers.{keeps_lists}
+use Rattle.htmd.proofs.LettersOfGuarded.{says-guarded_image, says-guarded_code, says-guarded_span, says-guarded_block}
+use Rattle.htmd.proofs.LettersOfHandlers.{keeps_lists, says-listed, says-break, says-rule}
+use Rattle.htmd.proofs.LettersOfHandlers.{code_is_said as code_says, link_is_said, formula_marks_fill, says-formula}
+use Rattle.htmd.proofs.CountedTexts.{Law}
+use Rattle.std.specs.Option.{option_or}
 
 -- ---- which handlers there are
 
@@ -343,3 +385,78 @@ unhandled_answer options items write id inside children definitions name alone n
     let at = occurrence_at write (conversion_of (built_in options) items) id inside children in
     ap (λ (l : List ℕ). first_answer (handlers_at (built_in options).handlers (drop 0 l)) at definitions) none
     ∙ cond-true (is_markdown_alone options) _ _ alone
+
+-- ---- languages
+
+module _ (items : List Item) (values : (id : ℕ) → AreValues (ancestor_of (data_at items id)).attributes) where
+  pub language_of_node : (node : Option ℕ) → IsTextIfAny (language_at items node)
+  language_of_node None = tt
+  language_of_node (Some node) = language_is_text (ancestor_of (data_at items node)).attributes (values node)
+
+  pub shown_language : (view : ElementView) → view.items ≡ items → IsTextIfAny (language view)
+  shown_language view same =
+      subst (λ (all : List Item). IsTextIfAny (option_or (language_of (ancestor_of (data_at all view.node)).attributes)
+      (language_at all (parent_at all view.node)))) (sym same)
+      (either_text (language_of (ancestor_of (data_at items view.node)).attributes)
+      (language_at items (parent_at items view.node))
+      (language_is_text (ancestor_of (data_at items view.node)).attributes (values view.node))
+      (language_of_node (parent_at items view.node)))
+
+-- ---- ordered lists
+
+-- each of these nodes, handed over by itself, gives what it says
+abbrev pub EachSays : Law → Occurrence → (NumberedTree → List ℕ) → List ℕ → Type 0
+EachSays law at says [] = Unit {0}
+EachSays law at says (d ∷ ds) =
+    ((before : List (List ℕ)) → Says law
+    (content_alone at.write at.conversion (descendant_tree at.conversion.items at.view.text d) d before).text
+    (says (descendant_tree at.conversion.items at.view.text d)))
+    × EachSays law at says ds
+
+pub each_of_all : (law : Law) (at : Occurrence) (says : NumberedTree → List ℕ) (ds : List ℕ)
+    → ((d : ℕ) (before : List (List ℕ)) → Says law
+    (content_alone at.write at.conversion (descendant_tree at.conversion.items at.view.text d) d before).text
+    (says (descendant_tree at.conversion.items at.view.text d)))
+    → EachSays law at says ds
+each_of_all law at says [] each = tt
+each_of_all law at says (d ∷ ds) each = (each d, each_of_all law at says ds each)
+
+block_text : (tag : Option (List ℕ)) (s : List ℕ) → s ≡ text_of_block (block_of_child tag s)
+block_text tag s =
+    cond_both (is_tag_among (codes "li" ∷ []) tag) _ _ (λ b. s ≡ text_of_block b) (λ _. refl) (λ _. refl)
+
+module _ (law : Law) (options : Options) (alone : is_markdown_alone options ≡ true) (items : List Item)
+    (write : Writes) (id : ℕ) (inside : List Ancestor) (children : NumberedForest)
+    (says : NumberedTree → List ℕ) where
+  abbrev list_at : Occurrence
+  list_at = occurrence_at write (conversion_of (built_in options) items) id inside children
+
+  blocks_say : (ds : List ℕ) (before : List (List ℕ)) → EachSays law list_at says ds
+      → SayAll law (map text_of_block (blocks_of_list items ds (contents_alone list_at ds before).results))
+      (said_of_each says list_at.view ds)
+  blocks_say [] before each = say-none
+  blocks_say (d ∷ ds) before each =
+      let child = descendant_tree items (only_text children) d in
+      let out = content_alone write (conversion_of (built_in options) items) child d before in
+      say-cons (says-as (block_text (tree.tag_of (data_at items d)) out.text) (each.0 before))
+      (blocks_say ds out.definitions each.1)
+
+  ordered_says : (blocks : List Block) (l : List ℕ) → SayAll law (map text_of_block blocks) l
+      → Says law (ordered_text list_at.view blocks) l
+  ordered_says blocks l p =
+      let first = first_number_of list_at.view in
+      let spacing = options.ol_number_spacing in
+      cond_both (is_guarded options) guarded_ordered_list ordered_list
+      (λ (f : ℕ → ℕ → List Block → List ℕ). Says law (f first spacing blocks) l)
+      (λ _. says-ordered (guarded_first_number first (highest_number first blocks)) (guarded_spacing spacing) blocks
+      p) (λ _. says-ordered first spacing blocks p)
+
+  pub ordered_gives : (definitions : List (List ℕ)) → EachSays law list_at says (children_of items id)
+      → SaysResult law (plan_answer lists list_at definitions (contents_of_each (children_of items id))
+      (without_handler list_at definitions)).result
+      (said_of_each says list_at.view (children_of items id))
+  ordered_gives definitions each =
+      let nodes = children_of items id in
+      let results = (contents_alone list_at nodes definitions).results in
+      says-listed list_at.view (numbered_list list_at.view results) (said_of_each says list_at.view nodes) alone
+      (ordered_says (blocks_of list_at.view results) _ (blocks_say nodes definitions each))

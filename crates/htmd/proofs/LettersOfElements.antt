@@ -62,12 +62,14 @@ use Rattle.htmd.proofs.LettersLemmas.{Says, says-own, says-as, says-is, is_fille
 use Rattle.htmd.proofs.LettersOfTexts.{line_feed_of_white, says-trimmed}
 use Rattle.htmd.proofs.LettersOfLines.{SayAll, say-none, say-cons}
 use Rattle.htmd.proofs.LettersOfLinks.{IsTextIfAny, text_of_block, says-ordered, says-image}
+use Rattle.htmd.proofs.LettersOfHandlers.{says-span_result}
 use Rattle.htmd.proofs.LettersOfHandlers.{SaysResult, AreValues, last_is_text, language_is_text, either_text}
 use Rattle.htmd.proofs.LettersOfHandlers.{KeepsContent}
 use Rattle.htmd.proofs.LettersOfHandlers.{wrapped}
 use Rattle.htmd.proofs.LettersOfGuarded.{says-guarded_image, says-guarded_code, says-guarded_span, says-guarded_block}
 use Rattle.htmd.proofs.LettersOfHandlers.{says-listed, says-break, says-rule}
 use Rattle.htmd.proofs.LettersOfHandlers.{code_is_said as code_says, link_is_said, formula_marks_fill, says-formula}
+use Rattle.htmd.proofs.ElementsByTag.{language_of_node, shown_language, ordered_gives, each_of_all}
 use Rattle.htmd.proofs.ElementsByTag.{IsOnly, is_named, IsPlain, by_tag, planned_is_said, either_is_said}
 use Rattle.htmd.proofs.ElementsByTag.{unhandled_answer}
 
@@ -166,15 +168,6 @@ module _ (options : Options) (alone : is_markdown_alone options ≡ true)
         options.link_style refl style (anchor_address at.view) refl
         (last_is_text (codes "href" ∷ []) (attributes_of at.view) (values id)) titled)
 
-    language_of_node : (node : Option ℕ) → IsTextIfAny (language_at items node)
-    language_of_node None = tt
-    language_of_node (Some node) = language_is_text (ancestor_of (data_at items node)).attributes (values node)
-
-    shown_language : IsTextIfAny (language at.view)
-    shown_language =
-        either_text (language_of (attributes_of at.view)) (language_at items (parent_at items id))
-        (language_is_text (attributes_of at.view) (values id)) (language_of_node (parent_at items id))
-
     code_is_said : IsSaid (codes "code")
     code_is_said here =
         let out = content_of at definitions in
@@ -185,14 +178,14 @@ module _ (options : Options) (alone : is_markdown_alone options ≡ true)
         (cond (shows_language at.view) (letters_if_any (language at.view)) [] ++ inside)
         (says-guarded_code (all_text_of at.view) _ (says-own (all_text_of at.view) all))
         (rw alone
-        (code_says at.view out.text inside (within definitions) shown_language options.code_block_style refl
+        (code_says at.view out.text inside (within definitions) (shown_language items values at.view refl) options.code_block_style refl
         (is_code_block at.view) refl)))
 
     child_language : (child : Option ℕ) → IsTextIfAny (option_and_then (language_of_code items) child)
     child_language None = tt
     child_language (Some child) =
         cond_both (is_tag_among (codes "code" ∷ []) (tag_at items (Some child))) _ _ IsTextIfAny
-        (λ _. language_of_node (Some child)) (λ _. tt)
+        (λ _. language_of_node items values (Some child)) (λ _. tt)
 
     guarded_pre_says : Says of_letters (guarded_preformatted at.view)
         (cond (stands_in_line items id) [] (letters_if_any (fitting_language (guarded_language at.view)))
@@ -226,9 +219,7 @@ module _ (options : Options) (alone : is_markdown_alone options ≡ true)
         (said_among says (groups_of children))
     span_content =
         let out = content_of at definitions in
-        cond_both (is_guarded options || pre (ancestors_of at.view)) _ _
-        (λ (t : List ℕ). Says of_letters t (said_among says (groups_of children))) (λ _. within definitions)
-        (λ _. says-trimmed _ line_feed_of_white out.text (within definitions))
+        says-span_result of_letters at.view (result_of out) (said_among says (groups_of children)) (within definitions)
 
     span_gives : (mark shown : Option (List ℕ))
         → ((m : List ℕ) → mark ≡ Some m → list_all is_filler m ≡ true)
@@ -250,37 +241,12 @@ module _ (options : Options) (alone : is_markdown_alone options ≡ true)
         (span_gives (formula_mark (attributes_of at.view)) (only_text children)
         (formula_marks_fill (attributes_of at.view)) text)
 
-    block_text : (tag : Option (List ℕ)) (s : List ℕ) → s ≡ text_of_block (block_of_child tag s)
-    block_text tag s =
-        cond_both (is_tag_among (codes "li" ∷ []) tag) _ _ (λ b. s ≡ text_of_block b) (λ _. refl) (λ _. refl)
-
-    blocks_say : (ds : List ℕ) (before : List (List ℕ))
-        → SayAll of_letters (map text_of_block (blocks_of_list items ds (contents_alone at ds before).results))
-        (said_of_each says at.view ds)
-    blocks_say [] before = say-none
-    blocks_say (d ∷ ds) before =
-        let out = content_alone write conversion (descendant_tree items (only_text children) d) d before in
-        say-cons (says-as (block_text (tree.tag_of (data_at items d)) out.text) (each d before))
-        (blocks_say ds out.definitions)
-
-    ordered_says : (blocks : List Block) (l : List ℕ) → SayAll of_letters (map text_of_block blocks) l
-        → Says of_letters (ordered_text at.view blocks) l
-    ordered_says blocks l p =
-        let first = first_number_of at.view in
-        let spacing = options.ol_number_spacing in
-        cond_both (is_guarded options) guarded_ordered_list ordered_list
-        (λ (f : ℕ → ℕ → List Block → List ℕ). Says of_letters (f first spacing blocks) l)
-        (λ _. says-ordered (guarded_first_number first (highest_number first blocks)) (guarded_spacing spacing) blocks
-        p) (λ _. says-ordered first spacing blocks p)
-
     ordered_is_said : IsSaid (codes "ol")
     ordered_is_said here =
-        let nodes = children_of items id in
-        let results = (contents_alone at nodes definitions).results in
-        planned_is_said of_letters at definitions (codes "ol") lists (contents_of_each nodes) (said_of_each says at.view nodes) refl
-        (rw (alone, here) refl)
-        (says-listed at.view (numbered_list at.view results) (said_of_each says at.view nodes) alone
-        (ordered_says (blocks_of at.view results) _ (blocks_say nodes definitions)))
+        planned_is_said of_letters at definitions (codes "ol") lists (contents_of_each (children_of items id))
+        (said_of_each says at.view (children_of items id)) refl (rw (alone, here) refl)
+        (ordered_gives of_letters options alone items write id inside children says definitions
+        (each_of_all of_letters at says (children_of items id) each))
 
     -- ---- tables
 

@@ -1,7 +1,7 @@
 -- What the results of the built-in handlers hold, by either law; of code and of a link their letters.
 use Rattle.std.proofs.Common.{◌≡◌, ℕ, Bool, true, false, cond, List, [], ◌∷◌, ◌++◌, take}
 use Rattle.std.proofs.Common.{drop, refl, sym, ap, ◌∙◌, subst, Option, Some, None, codes}
-use Rattle.std.specs.Prelude.{◌==◌, nat_lt}
+use Rattle.std.specs.Prelude.{◌==◌, ◌||◌, nat_lt}
 use Rattle.std.specs.List.{list_all, starts_with}
 use Rattle.std.specs.Option.{is_some, option_or}
 use Rattle.std.specs.Str.{IsUtf8, bytes_eq}
@@ -31,12 +31,13 @@ use Rattle.htmd.specs.declared.options.LinkStyle.{LinkStyle}
 use Rattle.htmd.specs.declared.options.LinkStyle.TheVariants.{Inlined, InlinedPreferAutolinks, Referenced}
 use Rattle.htmd.specs.Handling.{ElementView, ResultView, content_of_children, HandlerMeaning}
 use Rattle.htmd.specs.Outputs.{is_markdown_alone, is_guarded}
-use Rattle.htmd.specs.ElementViews.{tag_of, parent_tag, is_tag_among}
+use Rattle.htmd.specs.ElementViews.{ancestors_of, tag_of, parent_tag, is_tag_among}
 use Rattle.htmd.specs.LinkAttributes.{is_among, last_value, title_of}
 use Rattle.htmd.specs.Sections.{paragraphs, quotes, parts_of_page, pages}
 use Rattle.htmd.specs.Inline.{headings, emphasis_of, optional_markdown}
 use Rattle.htmd.specs.Inline.{level_of}
-use Rattle.htmd.specs.Spans.{mark_of_class, formula_mark}
+use Rattle.htmd.specs.Spans.{mark_of_class, formula_mark, span_result}
+use Rattle.htmd.specs.OrdinaryText.{pre}
 use Rattle.htmd.specs.Code.{code, is_code_block, shows_language, language, language_of}
 use Rattle.htmd.specs.Code.{first_language, language_of_class, classes_of}
 use Rattle.htmd.specs.ListElements.{lists, list_items, is_in_ordered, is_in_item, list_result, bullet_item_of}
@@ -305,3 +306,9 @@ formula_marks_fill (a ∷ b ∷ attributes) mark = λ e. cc
 pub says-formula : {law : Law} (mark s : List ℕ) → list_all is_filler mark ≡ true → IsUtf8 s → Says law ((mark ++ s) ++ mark)
     (counted law s)
 says-formula mark s fills text = says-before mark fills (says-behind mark fills (says-own s text))
+
+pub says-span_result : (law : Law) (view : ElementView) (content : ResultView) (l : List ℕ)
+    → Says law content.content l → SaysResult law (span_result view content) l
+says-span_result law view content l p =
+    cond_both (is_guarded view.options || pre (ancestors_of view)) _ _ (λ (t : List ℕ). Says law t l) (λ _. p)
+    (λ _. says-trimmed is_line_feed line_feed_of_white content.content p)

@@ -53,6 +53,7 @@ pub mod LettersOfTables
 pub mod ElementsByTag
 pub mod LettersOfElements
 pub mod LettersLawsLemmas
+pub mod ShownOfElements
 pub mod ChildListsLemmas
 pub mod TableNodesLemmas
 pub mod TableHeadersLemmas
