@@ -1,12 +1,11 @@
 -- An element by its tag: which handler it has, and what is to be shown of each.
 use Rattle.std.proofs.Common.{◌≡◌, ℕ, Bool, true, false, cond, List, [], ◌∷◌, ◌++◌, Option, Some, None}
 use Rattle.std.proofs.Common.{codes, drop, map, refl, sym, ap, ◌∙◌, subst, ⊎_elim}
-use Rattle.std.specs.Prelude.{◌||◌, ◌&&◌, not, option_and_then}
-use Rattle.std.specs.List.{list_any, list_all}
-use Rattle.std.specs.Str.{IsUtf8, bytes_eq}
-use Rattle.std.proofs.Math.Bool.{and_comm}
+use Rattle.std.specs.Prelude.{not}
+use Rattle.std.specs.List.{list_any}
+use Rattle.std.specs.Str.{bytes_eq}
 use Rattle.std.proofs.lemmas.Bool.{cond_both, cond-true, cond-false, cases_Bool, or_cases, or_from, or_parts}
-use Rattle.std.proofs.lemmas.Bool.{false_from_ne_true, false≢true, true≢false, and_left}
+use Rattle.std.proofs.lemmas.Bool.{false_from_ne_true, false≢true, true≢false}
 use Rattle.std.proofs.lemmas.List.Folds.{list_any-append}
 use Rattle.std.proofs.lemmas.Slice.Eq.{bytes_eq-Decides}
 use Rattle.htmd_tree.specs.Items.{Item, data_at, parent_at, children_of}
@@ -15,64 +14,37 @@ use Rattle.htmd_tree.specs.NumberedTrees.{NumberedTree, NumberedForest}
 use Rattle.htmd_tree.specs.Ancestors.{Ancestor, ancestor_of}
 use Rattle.htmd_markdown.specs.declared.emphasis.Emphasis.TheVariants as kind
 use Rattle.htmd.specs.declared.options.Options.{Options}
-use Rattle.htmd.specs.Handling.{ElementView, PlanView, nothing, content_of_children, contents_of_each, HandlerMeaning}
+use Rattle.htmd.specs.Handling.{ElementView, PlanView, contents_of_each, HandlerMeaning}
 use Rattle.htmd.specs.Choice.{TagIndex, indexes, handlers_at}
-use Rattle.htmd.specs.AllText.{text_or_all, all_text_of}
-use Rattle.htmd.specs.Groups.{only_text, groups_of, children_at}
-use Rattle.htmd.specs.Outputs.{Conversion, conversion_of, Writes, is_markdown_alone, is_guarded, result_of}
-use Rattle.htmd.specs.ElementViews.{tag_of, attributes_of, ancestors_of, is_tag_among, markdown_plan, tag_at}
-use Rattle.htmd.specs.ElementViews.{unless_faithful}
-use Rattle.htmd_markdown.specs.LineBreaks.{line_break}
-use Rattle.htmd_markdown.specs.ThematicBreaks.{thematic_break}
+use Rattle.htmd.specs.Groups.{only_text}
+use Rattle.htmd.specs.Outputs.{conversion_of, Writes, is_markdown_alone, is_guarded}
+use Rattle.htmd.specs.ElementViews.{is_tag_among}
 use Rattle.htmd.specs.OrdinaryText.{pre}
-use Rattle.htmd.specs.Children.{content_inside, content_alone, descendant_tree}
+use Rattle.htmd.specs.Children.{content_alone, descendant_tree}
 use Rattle.htmd.specs.Elements.{Occurrence, Answer, content_of, contents_alone, first_answer, plan_answer, answer_after}
-use Rattle.htmd.specs.Elements.{without_handler, occurrence_at, with_finish, answer_of}
-use Rattle.htmd.specs.Sections.{paragraphs, quotes, parts_of_page, pages, other_blocks, other_block_plan, hidden_tags}
-use Rattle.htmd.specs.Inline.{headings, emphasis_of, line_breaks, break_style_of, thematic_breaks}
-use Rattle.htmd.specs.Inline.{thematic_break_style_of}
-use Rattle.htmd.specs.Spans.{spans, formula_mark, formula_plan, is_read_in_formula}
-use Rattle.htmd_markdown.specs.GuardedCode.{fitting_language}
-use Rattle.htmd_markdown.specs.GuardedLinks.{guarded_image}
-use Rattle.htmd_markdown.specs.Links.{image}
+use Rattle.htmd.specs.Elements.{without_handler, occurrence_at, answer_of}
+use Rattle.htmd.specs.Sections.{paragraphs, quotes, parts_of_page, pages, other_blocks, hidden_tags}
+use Rattle.htmd.specs.Inline.{headings, emphasis_of}
 use Rattle.htmd_markdown.specs.ListItems.{guarded_spacing}
 use Rattle.htmd_markdown.specs.Lists.{Block, ordered_list, guarded_ordered_list, guarded_first_number, highest_number}
-use Rattle.htmd.specs.OneLineElements.{stands_in_line}
-use Rattle.htmd.specs.Code.{code, code_plan, guarded_code_plan, content_plan, preformatted_texts, preformatted_plan}
-use Rattle.htmd.specs.Code.{block_plan, guarded_preformatted, is_code_block, language, shows_language, language_of}
-use Rattle.htmd.specs.Code.{language_at, language_of_code, guarded_language, only_node, without_comments}
+use Rattle.htmd.specs.Code.{code}
+use Rattle.htmd.specs.Code.{language, language_of}
+use Rattle.htmd.specs.Code.{language_at}
 use Rattle.htmd.specs.ListElements.{lists, list_items, block_of_child, blocks_of_list, blocks_of, first_number_of}
 use Rattle.htmd.specs.ListElements.{numbered_list, ordered_text}
-use Rattle.htmd_text.specs.BlankLines.{with_blank_lines}
-use Rattle.htmd_text.specs.Trims.{trimmed_text, some_text, is_line_feed}
-use Rattle.std.specs.Option.{option_map}
-use Rattle.htmd.specs.TableElements.{cells, table_rows, table_parts, tables, table_plan, has_table_form, has_lines}
-use Rattle.htmd.specs.TableElements.{layout_of}
-use Rattle.htmd.specs.TableElements.{nodes_of, TableTexts, no_texts, with_parts, table_text, guarded_table_text}
-use Rattle.htmd.specs.Inline.{optional_markdown}
-use Rattle.htmd.proofs.LettersOfTexts.{says-blank_lines}
-use Rattle.htmd.proofs.LettersOfTables.{SayEach, all_of, says-table_text, says-guarded_table_text}
-use Rattle.htmd.specs.Letters.{nodes_of_table, is_written}
-use Rattle.htmd.proofs.LettersLemmas.{says-of_nothing}
-use Rattle.htmd.specs.Images.{images, image_address, alternative_text, image_at}
-use Rattle.htmd.specs.LinkAttributes.{title_of}
-use Rattle.htmd.specs.Anchors.{anchors, anchor_address}
+use Rattle.htmd.specs.TableElements.{cells, table_rows, table_parts}
 use Rattle.htmd.specs.BuiltIn.{other_block_tags, built_in}
-use Rattle.htmd.specs.Letters.{said_of_image, said_of_formula, said_of_element, said_among, said_of_each, said_inside}
-use Rattle.htmd.specs.Letters.{prefers_autolinks, letters, letters_if_any, said_of_code, said_of_pre, is_hidden}
-use Rattle.htmd.proofs.LettersLemmas.{Says, says-own, says-as, says-is, is_filler}
-use Rattle.htmd.proofs.LettersOfTexts.{line_feed_of_white, says-trimmed}
+use Rattle.htmd.specs.Letters.{said_of_each}
+use Rattle.htmd.proofs.LettersLemmas.{Says, says-as}
 use Rattle.htmd.proofs.LettersOfLines.{SayAll, say-none, say-cons}
-use Rattle.htmd.proofs.LettersOfLinks.{IsTextIfAny, text_of_block, says-ordered, says-image}
-use Rattle.htmd.proofs.LettersOfHandlers.{SaysResult, AreValues, last_is_text, language_is_text, either_text}
+use Rattle.htmd.proofs.LettersOfLinks.{IsTextIfAny, text_of_block, says-ordered}
+use Rattle.htmd.proofs.LettersOfHandlers.{SaysResult, AreValues, language_is_text, either_text}
 use Rattle.htmd.proofs.LettersOfHandlers.{KeepsContent}
 use Rattle.htmd.proofs.LettersOfHandlers.{keeps_paragraphs, keeps_quotes, keeps_parts, keeps_pages, keeps_cells}
 use Rattle.htmd.proofs.LettersOfHandlers.{keeps_rows}
-use Rattle.htmd.proofs.LettersOfHandlers.{keeps_table_parts, keeps_items, keeps_headings, wrapped}
+use Rattle.htmd.proofs.LettersOfHandlers.{keeps_table_parts, keeps_items, keeps_headings}
 use Rattle.htmd.proofs.LettersOfHandlers.{keeps_emphasis}
-use Rattle.htmd.proofs.LettersOfGuarded.{says-guarded_image, says-guarded_code, says-guarded_span, says-guarded_block}
-use Rattle.htmd.proofs.LettersOfHandlers.{keeps_lists, says-listed, says-break, says-rule}
-use Rattle.htmd.proofs.LettersOfHandlers.{code_is_said as code_says, link_is_said, formula_marks_fill, says-formula}
+use Rattle.htmd.proofs.LettersOfHandlers.{keeps_lists, says-listed}
 use Rattle.htmd.proofs.CountedTexts.{Law}
 use Rattle.std.specs.Option.{option_or}
 

@@ -1,14 +1,13 @@
 -- The letters of elements.
 use Rattle.std.proofs.Common.{◌≡◌, ℕ, Bool, true, false, cond, List, [], ◌∷◌, ◌++◌, Option, Some, None}
-use Rattle.std.proofs.Common.{codes, map, refl, sym, ap, ◌∙◌, subst}
+use Rattle.std.proofs.Common.{codes, refl, sym, ap, ◌∙◌, subst}
 use Rattle.std.specs.Prelude.{◌||◌, ◌&&◌, option_and_then}
 use Rattle.std.specs.List.{list_all}
 use Rattle.std.specs.Str.{IsUtf8, bytes_eq}
 use Rattle.std.proofs.Math.Bool.{and_comm}
 use Rattle.std.proofs.lemmas.Bool.{cond_both, cond-false, or_from}
 use Rattle.std.proofs.lemmas.Bool.{and_left}
-use Rattle.htmd_tree.specs.Items.{Item, data_at, parent_at, children_of}
-use Rattle.htmd_tree.specs.Items as tree
+use Rattle.htmd_tree.specs.Items.{Item, data_at, children_of}
 use Rattle.htmd_tree.specs.NumberedTrees.{NumberedTree, NumberedForest}
 use Rattle.htmd_tree.specs.Ancestors.{Ancestor, ancestor_of}
 use Rattle.htmd.specs.declared.options.Options.{Options}
@@ -17,11 +16,10 @@ use Rattle.htmd.specs.Choice.{indexes}
 use Rattle.htmd.specs.AllText.{text_or_all, all_text_of}
 use Rattle.htmd.specs.Groups.{only_text, groups_of, children_at}
 use Rattle.htmd.specs.Outputs.{Conversion, conversion_of, Writes, is_markdown_alone, is_guarded, result_of}
-use Rattle.htmd.specs.ElementViews.{tag_of, attributes_of, ancestors_of, is_tag_among, markdown_plan, tag_at}
+use Rattle.htmd.specs.ElementViews.{tag_of, attributes_of, is_tag_among, markdown_plan, tag_at}
 use Rattle.htmd.specs.ElementViews.{unless_faithful}
 use Rattle.htmd_markdown.specs.LineBreaks.{line_break}
 use Rattle.htmd_markdown.specs.ThematicBreaks.{thematic_break}
-use Rattle.htmd.specs.OrdinaryText.{pre}
 use Rattle.htmd.specs.Children.{content_inside, content_alone, descendant_tree}
 use Rattle.htmd.specs.Elements.{Occurrence, Answer, content_of, contents_alone, plan_answer, answer_after}
 use Rattle.htmd.specs.Elements.{without_handler, occurrence_at, with_finish}
@@ -32,14 +30,11 @@ use Rattle.htmd.specs.Spans.{spans, formula_mark, formula_plan, is_read_in_formu
 use Rattle.htmd_markdown.specs.GuardedCode.{fitting_language}
 use Rattle.htmd_markdown.specs.GuardedLinks.{guarded_image}
 use Rattle.htmd_markdown.specs.Links.{image}
-use Rattle.htmd_markdown.specs.ListItems.{guarded_spacing}
-use Rattle.htmd_markdown.specs.Lists.{Block, ordered_list, guarded_ordered_list, guarded_first_number, highest_number}
 use Rattle.htmd.specs.OneLineElements.{stands_in_line}
 use Rattle.htmd.specs.Code.{code, code_plan, guarded_code_plan, content_plan, preformatted_texts, preformatted_plan}
 use Rattle.htmd.specs.Code.{block_plan, guarded_preformatted, is_code_block, language, shows_language, language_of}
-use Rattle.htmd.specs.Code.{language_at, language_of_code, guarded_language, only_node, without_comments}
-use Rattle.htmd.specs.ListElements.{lists, block_of_child, blocks_of_list, blocks_of, first_number_of}
-use Rattle.htmd.specs.ListElements.{numbered_list, ordered_text}
+use Rattle.htmd.specs.Code.{language_of_code, guarded_language, only_node, without_comments}
+use Rattle.htmd.specs.ListElements.{lists}
 use Rattle.htmd_text.specs.BlankLines.{with_blank_lines}
 use Rattle.htmd_text.specs.Trims.{trimmed_text, some_text, is_line_feed}
 use Rattle.std.specs.Option.{option_map}
@@ -58,16 +53,15 @@ use Rattle.htmd.specs.Anchors.{anchors, anchor_address}
 use Rattle.htmd.specs.BuiltIn.{built_in}
 use Rattle.htmd.specs.Letters.{said_of_image, said_of_formula, said_of_element, said_among, said_of_each, said_inside}
 use Rattle.htmd.specs.Letters.{prefers_autolinks, letters, letters_if_any, said_of_code, said_of_pre, is_hidden}
-use Rattle.htmd.proofs.LettersLemmas.{Says, says-own, says-as, says-is, is_filler}
+use Rattle.htmd.proofs.LettersLemmas.{Says, says-own, says-is, is_filler}
 use Rattle.htmd.proofs.LettersOfTexts.{line_feed_of_white, says-trimmed}
-use Rattle.htmd.proofs.LettersOfLines.{SayAll, say-none, say-cons}
-use Rattle.htmd.proofs.LettersOfLinks.{IsTextIfAny, text_of_block, says-ordered, says-image}
+use Rattle.htmd.proofs.LettersOfLinks.{IsTextIfAny, says-image}
 use Rattle.htmd.proofs.LettersOfHandlers.{says-span_result}
 use Rattle.htmd.proofs.LettersOfHandlers.{SaysResult, AreValues, last_is_text, language_is_text, either_text}
 use Rattle.htmd.proofs.LettersOfHandlers.{KeepsContent}
 use Rattle.htmd.proofs.LettersOfHandlers.{wrapped}
 use Rattle.htmd.proofs.LettersOfGuarded.{says-guarded_image, says-guarded_code, says-guarded_span, says-guarded_block}
-use Rattle.htmd.proofs.LettersOfHandlers.{says-listed, says-break, says-rule}
+use Rattle.htmd.proofs.LettersOfHandlers.{says-break, says-rule}
 use Rattle.htmd.proofs.LettersOfHandlers.{code_is_said as code_says, link_is_said, formula_marks_fill, says-formula}
 use Rattle.htmd.proofs.ElementsByTag.{language_of_node, shown_language, ordered_gives, each_of_all}
 use Rattle.htmd.proofs.ElementsByTag.{IsOnly, is_named, IsPlain, by_tag, planned_is_said, either_is_said}

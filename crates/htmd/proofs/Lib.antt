@@ -52,6 +52,8 @@ pub mod LettersOfHandlers
 pub mod LettersOfTables
 pub mod ElementsByTag
 pub mod LettersOfElements
+pub mod FittingTrees
+pub mod SaidChildren
 pub mod LettersLawsLemmas
 pub mod ShownOfElements
 pub mod ChildListsLemmas
