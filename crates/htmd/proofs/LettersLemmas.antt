@@ -44,7 +44,7 @@ pub says-of_nothing : {law : Law} {l : List ℕ} → Says law [] l → l ≡ []
 says-of_nothing {law} {l} p =
     holds-of_nothing law l (holds-as law l (counted law []) [] (ap (filter (counts law)) chars-nil) p.says)
 
-counted_append : (law : Law) (s t : List ℕ) → IsUtf8 s → counted law (s ++ t) ≡ counted law s ++ counted law t
+pub counted_append : (law : Law) (s t : List ℕ) → IsUtf8 s → counted law (s ++ t) ≡ counted law s ++ counted law t
 counted_append law s t text =
     ap (filter (counts law)) (chars-append s t text) ∙ filter-append (counts law) (chars s) (chars t)
 

@@ -56,6 +56,7 @@ pub mod FittingTrees
 pub mod SaidChildren
 pub mod LettersLawsLemmas
 pub mod ShownOfElements
+pub mod ShownTrees
 pub mod ChildListsLemmas
 pub mod TableNodesLemmas
 pub mod TableHeadersLemmas
