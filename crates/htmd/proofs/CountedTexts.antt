@@ -49,7 +49,7 @@ part-then (x ∷ l) (y ∷ m) (z ∷ n) p q =
     (λ later. inr (part-then (x ∷ l) m n later here.1)) p)
     (λ later. inr (part-then (x ∷ l) (y ∷ m) n p later)) q
 
-part-append : (l m s t : List ℕ) → IsPart l s → IsPart m t → IsPart (l ++ m) (s ++ t)
+pub part-append : (l m s t : List ℕ) → IsPart l s → IsPart m t → IsPart (l ++ m) (s ++ t)
 part-append [] m [] t p q = q
 part-append [] m (c ∷ s) t p q = part-behind m (s ++ t) c (part-append [] m s t tt q)
 part-append (x ∷ l) m [] t p q = absurd p

@@ -122,7 +122,7 @@ values_of [] all = tt
 values_of (a ∷ attributes) all =
     (all 0 a (omega arith), values_of attributes (λ k d l. all (suc k) d (omega arith)))
 
-values_in : (d : Data) → HoldsText d → AreValues (ancestor_of d).attributes
+pub values_in : (d : Data) → HoldsText d → AreValues (ancestor_of d).attributes
 values_in document_node plain = tt
 values_in doctype_node plain = tt
 values_in (text_node s) plain = tt
@@ -203,7 +203,7 @@ beyond [] id high = refl
 beyond (item ∷ items) zero high = absurd (omega arith)
 beyond (item ∷ items) (suc id) high = beyond items id (omega arith)
 
-plain_at : (items : List Item) → HoldTexts items → (id : ℕ) → HoldsText (data_at items id)
+pub plain_at : (items : List Item) → HoldTexts items → (id : ℕ) → HoldsText (data_at items id)
 plain_at items all id =
     ⊎_elim (λ low. all id document_item low)
     (λ high. subst (λ (item : Item). HoldsText item.node_data) (sym (beyond items id high)) tt)
@@ -347,7 +347,7 @@ letters_of_markdown options items start alone inlined plain =
     ∙ letters_of_content options items start alone (ap prefers_autolinks inlined) plain
 
 letters_of_conversion : LettersOfConversion
-letters_of_conversion options scripting html s alone inlined (tree, is_tree, plain, e) =
+letters_of_conversion options scripting html s alone inlined (tree, is_tree, ordered, plain, e) =
     (tree, is_tree, ap letters e ∙ letters_of_markdown options tree 0 alone inlined plain)
 
 -- as `convert` gives it

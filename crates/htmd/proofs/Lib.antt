@@ -57,6 +57,7 @@ pub mod SaidChildren
 pub mod LettersLawsLemmas
 pub mod ShownOfElements
 pub mod ShownTrees
+pub mod ShownLawsLemmas
 pub mod ChildListsLemmas
 pub mod TableNodesLemmas
 pub mod TableHeadersLemmas
