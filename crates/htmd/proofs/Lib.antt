@@ -65,3 +65,4 @@ pub mod TableTextsLemmas
 mod Examples
 mod GuardedExamples
 mod LettersExamples
+mod ShownExamples
