@@ -1,9 +1,9 @@
 -- In Pure nothing that a reader sees is lost.
-use Rattle.std.proofs.Common.{◌≡◌, ℕ, zero, suc, ◌+◌, ◌<◌, ◌≤◌, Bool, true, false, List, [], ◌∷◌, ◌++◌, length, Option}
+use Rattle.std.proofs.Common.{◌≡◌, ℕ, zero, suc, ◌<◌, ◌≤◌, Bool, true, false, List, [], ◌∷◌, ◌++◌, length, Option}
 use Rattle.std.proofs.Common.{Some, None, codes, refl, sym, ap, ◌∙◌, arith, subst, Result, IfOk}
 use Rattle.std.proofs.lemmas.List.{append-nil}
 use Rattle.std.proofs.lemmas.Result.{IfOk-weaker}
-use Rattle.htmd_text.specs.Trims.{trimmed_text, trimmed_end, is_line_feed}
+use Rattle.htmd_text.specs.Trims.{trimmed_end, is_line_feed}
 use Rattle.htmd_text.specs.WhiteSpace.{is_document_white_space}
 use Rattle.htmd_tree.specs.Items.{Item, data_at, children_of, IsTree, HoldsText, HoldTexts}
 use Rattle.htmd_tree.specs.NumberedTrees.{NumberedTree, document, doctype, text, comment, element, NumberedForest, none}
@@ -25,7 +25,6 @@ use Rattle.htmd.specs.OrdinaryText.{pre}
 use Rattle.htmd.specs.Outputs.{Conversion, conversion_of, Output, Context, context_of, empty_output, is_guarded}
 use Rattle.htmd.specs.Outputs.{is_markdown_alone, is_markdown_alone_in, is_guarded_in}
 use Rattle.htmd.specs.Rendering.{with_result, written_within}
-use Rattle.htmd.specs.Letters.{said_of_each}
 use Rattle.htmd.specs.Shown.{visible, IsPart, shown, shown_among, has_no_table, ShownInContent, ShownInMarkdown}
 use Rattle.htmd.specs.Shown.{ShownInConversion, LosesNothingOf, NothingIsLost}
 use Rattle.htmd.proofs.CountedTexts.{of_visible, part-append}

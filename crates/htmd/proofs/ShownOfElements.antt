@@ -1,19 +1,18 @@
 -- What the elements of Pure show.
-use Rattle.std.proofs.Common.{◌≡◌, ℕ, Bool, true, false, cond, List, [], ◌∷◌, ◌++◌, Option, Some, None}
-use Rattle.std.proofs.Common.{codes, refl, sym, ap, ◌∙◌, subst}
-use Rattle.std.specs.Prelude.{◌||◌, ◌&&◌}
+use Rattle.std.proofs.Common.{◌≡◌, ℕ, Bool, true, false, cond, List, [], ◌∷◌, Option, Some, None}
+use Rattle.std.proofs.Common.{codes, refl, sym, subst}
 use Rattle.std.specs.List.{list_all}
 use Rattle.std.specs.Option.{unwrap_or}
 use Rattle.std.specs.Str.{bytes_eq}
-use Rattle.std.proofs.lemmas.Bool.{cond_both, cond-true, cond-false, or_from, true≢false}
+use Rattle.std.proofs.lemmas.Bool.{cond_both, cond-false, or_from, true≢false}
 use Rattle.std.proofs.lemmas.List.{append-nil}
 use Rattle.std.proofs.lemmas.Slice.Eq.{bytes_eq-Decides}
-use Rattle.htmd_tree.specs.Items.{Item, data_at, parent_at, children_of}
-use Rattle.htmd_tree.specs.NumberedTrees.{NumberedTree, NumberedForest}
+use Rattle.htmd_tree.specs.Items.{Item, data_at, children_of}
+use Rattle.htmd_tree.specs.NumberedTrees.{NumberedForest}
 use Rattle.htmd_tree.specs.Ancestors.{Ancestor, ancestor_of}
 use Rattle.htmd_markdown.specs.Addresses.{escaped_address}
 use Rattle.htmd_markdown.specs.LineBreaks.{line_break}
-use Rattle.htmd_markdown.specs.Links.{inline_link, autolink, image}
+use Rattle.htmd_markdown.specs.Links.{inline_link, image}
 use Rattle.htmd_markdown.specs.GuardedLinks.{guarded_image}
 use Rattle.htmd_markdown.specs.ThematicBreaks.{thematic_break}
 use Rattle.htmd.specs.declared.options.CodeBlockStyle.{CodeBlockStyle}

@@ -1,9 +1,9 @@
 -- What trees show: their groups show the same, and the children of an ordered list are those that stand in its tree.
 use Rattle.std.proofs.Common.{◌≡◌, ℕ, zero, suc, ◌<◌, ◌≤◌, Bool, true, false, cond, List, [], ◌∷◌, ◌++◌, length, get_or}
 use Rattle.std.proofs.Common.{Option, Some, None, codes, refl, sym, ap, ◌∙◌, subst, arith, append_assoc, ⊎_elim}
-use Rattle.std.specs.Prelude.{◌&&◌, ◌||◌, not, filter}
-use Rattle.std.specs.Str.{IsUtf8, bytes_eq, chars}
-use Rattle.std.proofs.lemmas.Bool.{cond_both, cond-true, cond-false, or_cases, or_from, and_parts, not-true, true≢false}
+use Rattle.std.specs.Prelude.{◌&&◌, ◌||◌, not}
+use Rattle.std.specs.Str.{IsUtf8, bytes_eq}
+use Rattle.std.proofs.lemmas.Bool.{cond_both, or_cases, and_parts, not-true, true≢false}
 use Rattle.std.proofs.lemmas.Bool.{false≢true}
 use Rattle.std.proofs.lemmas.List.{append-nil}
 use Rattle.std.proofs.lemmas.Slice.Eq.{bytes_eq-Decides}
@@ -16,11 +16,11 @@ use Rattle.htmd_tree.specs.NumberedTrees.{more, with_children, forest_of, tree_o
 use Rattle.htmd_tree.specs.Ancestors.{ancestor_of}
 use Rattle.htmd_tree.proofs.NumberedTreesLemmas.{tree-open, height_pos, lower_child, IsLower}
 use Rattle.htmd.specs.Groups.{only_text, with_only_text, with_text, text_of, joint_text, joint_with, joint_of, is_joinable}
-use Rattle.htmd.specs.Groups.{in_front, groups_of, children_at, may_join, alike, is_em, is_strong, both_join, Joint, joins}
+use Rattle.htmd.specs.Groups.{in_front, groups_of, children_at, may_join, alike, is_em, is_strong, both_join, Joint}
 use Rattle.htmd.specs.Handling.{ElementView}
 use Rattle.htmd.specs.Children.{descendant_tree}
 use Rattle.htmd.specs.Letters.{said_among, said_of_each}
-use Rattle.htmd.specs.Shown.{is_visible, visible, is_empty_element, shown, shown_among, has_no_table, have_no_table}
+use Rattle.htmd.specs.Shown.{visible, is_empty_element, shown, shown_among, has_no_table, have_no_table}
 use Rattle.htmd.proofs.CountedTexts.{of_visible}
 use Rattle.htmd.proofs.LettersLemmas.{counted_append}
 use Rattle.htmd.proofs.FittingTrees as fitting
