@@ -1,6 +1,6 @@
 -- What a refusal says of the text that was refused.
 use Rattle.std.proofs.Common.{◌≡◌, ◌∙◌, sym, ap, subst, ℕ, ◌+◌, ◌≤◌, Bool, List, ◌∷◌, ◌++◌, length, arith, inl, inr}
-use Rattle.std.proofs.Common.{Result, Err, IsErrAnd, length-append}
+use Rattle.std.proofs.Common.{Result, Err, IfOk, IsErrAnd, true, length-append}
 use Rattle.htmd_text.specs.Characters.{null}
 use Rattle.htmd_grammar.specs.Faults.{IsFault}
 use Rattle.htmd_grammar.specs.Rules.{project}
@@ -10,7 +10,10 @@ use Rattle.htmd_tree.specs.declared.reader.ReadError.TheVariants as read
 use Rattle.htmd.specs.declared.conversion.ConvertError.{ConvertError}
 use Rattle.htmd.specs.declared.conversion.ConvertError.TheVariants as convert
 use Rattle.htmd_tree.specs.Bodies.{body_part, body_place, StandsAt}
-use Rattle.htmd.specs.Conversions.{conversion_error, IsRefused, IsPageRefused}
+use Rattle.htmd.specs.BuiltIn.{built_in}
+use Rattle.htmd.specs.Choice.{Config}
+use Rattle.htmd.specs.Defaults.{default_options}
+use Rattle.htmd.specs.Conversions.{conversion_error, IsMarkdownOf, IsRefused, IsPageRefused}
 
 -- a refusal to convert comes of a refusal to read, with its place and kind
 refused_reading : (e : ReadError) (place : ℕ) (kind : FaultKind)
@@ -75,3 +78,12 @@ page_refused r scripting page part start within found place kind p s f d e =
       subst (λ k. IsRefused scripting (body_part page) within k) q.1
           (subst (λ x. IsRefused scripting x within found) p f),
     )
+
+-- as `convert` gives it
+pub markdown_by_default : {E T : Type 0} (config : Config) (scripting : Bool) (html : List ℕ) (written : T → List ℕ)
+    (r : Result T E) → config ≡ built_in default_options → scripting ≡ true
+    → IfOk r (λ s. IsMarkdownOf config scripting html (written s))
+    → IfOk r (λ s. IsMarkdownOf (built_in default_options) true html (written s))
+markdown_by_default config scripting html written r c on h =
+    subst (λ k. IfOk r (λ s. IsMarkdownOf k true html (written s))) c
+    (subst (λ k. IfOk r (λ s. IsMarkdownOf config k html (written s))) on h)

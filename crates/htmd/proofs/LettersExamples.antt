@@ -12,7 +12,7 @@ use Rattle.htmd.specs.Letters.{said, said_within}
 use Rattle.htmd.specs.OneLineElements.{stands_in_line, in_line_up}
 use Rattle.htmd.proofs.GuardedExamples.{guarded}
 
-abbrev forest : List ValueTree → ValueForest
+abbrev pub forest : List ValueTree → ValueForest
 forest [] = none
 forest (tree ∷ trees) = more tree (forest trees)
 
@@ -20,24 +20,24 @@ forest (tree ∷ trees) = more tree (forest trees)
 abbrev PageSays : List ValueTree → List ℕ → Type 0
 PageSays trees letters = said default_options (document_items (forest trees)) 0 ≡ letters
 
-abbrev say : List ℕ → ValueTree
+abbrev pub say : List ℕ → ValueTree
 say s = text s
 
-abbrev tag_with : List ℕ → List AttributePair → List ValueTree → ValueTree
+abbrev pub tag_with : List ℕ → List AttributePair → List ValueTree → ValueTree
 tag_with name attributes trees = element name attributes (forest trees)
 
-abbrev tag : List ℕ → List ValueTree → ValueTree
+abbrev pub tag : List ℕ → List ValueTree → ValueTree
 tag name trees = tag_with name [] trees
 
 -- an element with one text
-abbrev leaf : List ℕ → List ℕ → ValueTree
+abbrev pub leaf : List ℕ → List ℕ → ValueTree
 leaf name s = tag name (say s ∷ [])
 
-abbrev pair : List ℕ → List ℕ → AttributePair
+abbrev pub pair : List ℕ → List ℕ → AttributePair
 pair name value = record { name = name; value = value }
 
 -- U+00A0
-abbrev no_break_space : List ℕ
+abbrev pub no_break_space : List ℕ
 no_break_space = no_break_space_first_byte ∷ no_break_space_second_byte ∷ []
 
 -- white space, digits and punctuation are no letters

@@ -1,17 +1,13 @@
 -- In Pure and in Guarded every letter is said once.
 use Rattle.std.proofs.Common.{◌≡◌, ℕ, zero, suc, ◌+◌, ◌≤◌, Bool, true, false, List, [], ◌∷◌, ◌++◌, length, Option}
-use Rattle.std.proofs.Common.{Some, None, All, codes, refl, sym, ap, ◌∙◌, arith, subst, append_assoc, ⊎_elim}
+use Rattle.std.proofs.Common.{Some, None, All, codes, refl, sym, ap, ◌∙◌, arith, subst, ⊎_elim}
 use Rattle.std.proofs.Common.{cond, Result, IfOk}
-use Rattle.std.specs.Prelude.{◌||◌}
-use Rattle.std.specs.Str.{IsUtf8, bytes_eq}
+use Rattle.std.specs.Str.{IsUtf8}
 use Rattle.std.proofs.lemmas.Bool.{cond_both, cases_lt}
 use Rattle.std.proofs.lemmas.List.{append-nil}
 use Rattle.std.proofs.lemmas.Result.{IfOk-weaker}
-use Rattle.std.proofs.lemmas.Str.{IsUtf8-append, IsUtf8-nil}
-use Rattle.htmd_text.specs.Characters.{line_feed}
-use Rattle.htmd_text.specs.Trims.{trimmed_end, is_line_feed, is_space}
-use Rattle.htmd_markdown.specs.GuardedText.{begins_line}
-use Rattle.htmd_text.specs.WhiteSpace.{is_document_white_space, squeezed_text}
+use Rattle.htmd_text.specs.Trims.{trimmed_end, is_line_feed}
+use Rattle.htmd_text.specs.WhiteSpace.{is_document_white_space}
 use Rattle.htmd_tree.specs.ValueTrees.{AttributePair}
 use Rattle.htmd_tree.specs.Items.{Data, document_node, doctype_node, text_node, comment_node, element_node, Item}
 use Rattle.htmd_tree.specs.Items.{document_item, item_at, data_at, is_child, children_of, HoldsText, HoldTexts}
@@ -27,118 +23,48 @@ use Rattle.htmd.specs.declared.options.LinkStyle.{LinkStyle}
 use Rattle.htmd.specs.declared.options.LinkStyle.TheVariants.{Inlined, InlinedPreferAutolinks, Referenced}
 use Rattle.htmd.specs.Anchors.{anchors, anchor_address, finish_at, link_finish, guarded_link_finish}
 use Rattle.htmd.proofs.KeepingLemmas.{keeps-within}
-use Rattle.htmd.specs.OrdinaryText.{pre, parent_is_pre}
-use Rattle.htmd.specs.Seams.{ends_with_space}
-use Rattle.htmd.specs.Groups.{only_text, with_only_text, with_text, text_of, joint_text, joint_with, is_joinable}
-use Rattle.htmd.specs.Groups.{in_front}
+use Rattle.htmd.specs.OrdinaryText.{pre}
+use Rattle.htmd.specs.Groups.{only_text, with_only_text}
+use Rattle.htmd.specs.Groups.{may_join}
+use Rattle.htmd.proofs.SaidChildren.{AllOf, children_are_said, text_is_said}
 use Rattle.htmd.specs.Groups.{groups_of, children_at}
-use Rattle.htmd.specs.AllText.{all_text, all_text_among, text_or_all}
+use Rattle.htmd.specs.AllText.{text_or_all}
 use Rattle.htmd.specs.Outputs.{Conversion, conversion_of, Output, Context, context_of, empty_output, is_guarded}
 use Rattle.htmd.specs.Outputs.{is_markdown_alone}
-use Rattle.htmd.specs.Children.{is_block_tree, before_child, trim_after, write_children, write_groups, trims_first}
+use Rattle.htmd.specs.Children.{write_groups, trims_first}
 use Rattle.htmd.specs.Children.{descendant_tree}
 use Rattle.htmd.specs.Elements.{answer_after, occurrence_at}
-use Rattle.htmd.specs.Rendering.{with_result, write_text, written_within}
+use Rattle.htmd.specs.Rendering.{with_result, written_within}
 use Rattle.htmd.specs.BuiltIn.{built_in}
 use Rattle.htmd.specs.Markdown.{walked_node, walked_content, append_texts, markdown}
 use Rattle.htmd.specs.Letters.{letters, said_among, said_within, said, prefers_autolinks}
 use Rattle.htmd.specs.Letters.{LettersOfContent, LettersOfMarkdown, LettersOfConversion, EveryLetterOnce}
 use Rattle.htmd.specs.Letters.{SaysEveryLetterOf}
-use Rattle.htmd.proofs.LettersLemmas.{Says, says-own, says-nil, says-append, says-is, says-fillers}
-use Rattle.htmd.proofs.LettersOfTexts.{document_of_fillers, line_feed_of_fillers, space_of_fillers, says-trimmed_end}
-use Rattle.htmd.proofs.LettersOfTexts.{says-trimmed, says-squeezed, says-escaped, says-escaped_pre}
-use Rattle.htmd.proofs.LettersOfPieces.{says-first_space, says-seam}
-use Rattle.htmd.proofs.LettersOfGuarded.{says-guarded_text, says-guarded_seam}
+use Rattle.htmd.proofs.CountedTexts.{of_letters}
+use Rattle.htmd.proofs.LettersLemmas.{Says, says-nil, says-is}
+use Rattle.htmd.proofs.LettersOfTexts.{document_of_white, line_feed_of_white, says-trimmed_end}
+use Rattle.htmd.proofs.LettersOfTexts.{says-trimmed}
+use Rattle.htmd.proofs.LettersOfPieces.{says-seam}
+use Rattle.htmd.proofs.LettersOfGuarded.{says-guarded_seam}
 use Rattle.htmd.proofs.LettersOfLinks.{IsTextIfAny}
 use Rattle.htmd.proofs.LettersOfHandlers.{SaysResult, AreValues}
 use Rattle.htmd.proofs.LettersOfElements.{element_is_said}
+use Rattle.htmd.proofs.FittingTrees as fitting
 
 module _ (items : List Item) where
-  abbrev mutual
-    -- texts are text, and elements have their tags among the items
-    Fits : NumberedTree → Type 0
-    Fits (document id children) = AllFit children
-    Fits (doctype id) = Unit {0}
-    Fits (text id s) = IsUtf8 s
-    Fits (comment id s) = Unit {0}
-    Fits (element id name attributes children) =
-        ((ancestor_of (data_at items id)).tag ≡ name) × AllFit children
+  -- elements have their tags among the items
+  abbrev HasTag : ℕ → List ℕ → NumberedForest → Type 0
+  HasTag id name children = (ancestor_of (data_at items id)).tag ≡ name
 
-    AllFit : NumberedForest → Type 0
-    AllFit none = Unit {0}
-    AllFit (more tree trees) = Fits tree × AllFit trees
+  tag_stays : (id : ℕ) (name s : List ℕ) (children : NumberedForest) → may_join name ≡ true → HasTag id name children
+      → HasTag id name (with_only_text s children)
+  tag_stays id name s children may has = has
 
-  -- ---- in groups
+  abbrev Fits : NumberedTree → Type 0
+  Fits = fitting.Fits HasTag tag_stays
 
-  only_fits : (trees : NumberedForest) → AllFit trees → IsTextIfAny (only_text trees)
-  only_fits none fit = tt
-  only_fits (more (document i c) trees) fit = tt
-  only_fits (more (doctype i) trees) fit = tt
-  only_fits (more (text i s) none) fit = fit.0
-  only_fits (more (text i s) (more tree trees)) fit = tt
-  only_fits (more (comment i s) trees) fit = tt
-  only_fits (more (element i name attributes c) trees) fit = tt
-
-  with_only_fits : (s : List ℕ) (trees : NumberedForest) → IsUtf8 s → AllFit trees
-      → AllFit (with_only_text s trees)
-  with_only_fits s none t fit = tt
-  with_only_fits s (more (document i c) trees) t fit = fit
-  with_only_fits s (more (doctype i) trees) t fit = fit
-  with_only_fits s (more (text i r) none) t fit = (t, tt)
-  with_only_fits s (more (text i r) (more tree trees)) t fit = fit
-  with_only_fits s (more (comment i r) trees) t fit = fit
-  with_only_fits s (more (element i name attributes c) trees) t fit = fit
-
-  with_text_fits : (s : List ℕ) (tree : NumberedTree) → IsUtf8 s → Fits tree → Fits (with_text s tree)
-  with_text_fits s (document i c) t fit = fit
-  with_text_fits s (doctype i) t fit = fit
-  with_text_fits s (text i r) t fit = fit
-  with_text_fits s (comment i r) t fit = fit
-  with_text_fits s (element i name attributes c) t fit = (fit.0, with_only_fits s c t fit.1)
-
-  joint_fits : (name : List ℕ) (attributes : List AttributePair) (s : Option (List ℕ)) → IsTextIfAny s
-      → IsUtf8 (joint_text (joint_with name attributes s))
-  joint_fits name attributes None t = IsUtf8-nil
-  joint_fits name attributes (Some s) t = t
-
-  text_fits : (tree : NumberedTree) → Fits tree → IsUtf8 (text_of tree)
-  text_fits (document i c) fit = IsUtf8-nil
-  text_fits (doctype i) fit = IsUtf8-nil
-  text_fits (text i s) fit = IsUtf8-nil
-  text_fits (comment i s) fit = IsUtf8-nil
-  text_fits (element i name attributes c) fit = joint_fits name attributes (only_text c) (only_fits c fit.1)
-
-  front_fits : (tree : NumberedTree) (trees : NumberedForest) → Fits tree → AllFit trees
-      → AllFit (in_front tree trees)
-  front_fits tree none fit all = (fit, tt)
-  front_fits tree (more first rest) fit all =
-      cond_both (is_joinable tree first) _ _ AllFit
-      (λ _. (
-        with_text_fits (text_of tree ++ text_of first) tree
-            (IsUtf8-append (text_of tree) (text_of first) (text_fits tree fit) (text_fits first all.0)) fit,
-        all.1,
-      ))
-      (λ _. (fit, all))
-
-  groups_fit : (trees : NumberedForest) → AllFit trees → AllFit (groups_of trees)
-  groups_fit none all = tt
-  groups_fit (more tree trees) all = front_fits tree (groups_of trees) all.0 (groups_fit trees all.1)
-
-  mutual
-    all_text_fits : (tree : NumberedTree) → Fits tree → IsUtf8 (all_text tree)
-    all_text_fits (document i c) fit = all_text_fits_among c fit
-    all_text_fits (doctype i) fit = IsUtf8-nil
-    all_text_fits (text i s) fit = fit
-    all_text_fits (comment i s) fit = IsUtf8-nil
-    all_text_fits (element i name attributes c) fit =
-        cond_both (bytes_eq name (codes "br")) _ _ IsUtf8 (λ _. (says-fillers (line_feed ∷ []) refl).utf8)
-        (λ _. all_text_fits_among c fit.1)
-
-    all_text_fits_among : (trees : NumberedForest) → AllFit trees → IsUtf8 (all_text_among trees)
-    all_text_fits_among none all = IsUtf8-nil
-    all_text_fits_among (more tree trees) all =
-        IsUtf8-append (all_text tree) (all_text_among trees) (all_text_fits tree all.0)
-        (all_text_fits_among trees all.1)
+  abbrev AllFit : NumberedForest → Type 0
+  AllFit = fitting.AllFit HasTag tag_stays
 
   -- ---- among the items
 
@@ -182,7 +108,7 @@ module _ (items : List Item) where
 
     whole_fits : (shown : Option (List ℕ)) (id : ℕ) → IsTextIfAny shown
         → IsUtf8 (text_or_all shown (children_at items id))
-    whole_fits None id t = all_text_fits_among (children_at items id) (all_fit (children_of items id))
+    whole_fits None id t = fitting.all_text_fits_among HasTag tag_stays (children_at items id) (all_fit (children_of items id))
     whole_fits (Some s) id t = t
 
     descendant_fits : (shown : Option (List ℕ)) (d : ℕ) → IsTextIfAny shown
@@ -196,7 +122,7 @@ values_of [] all = tt
 values_of (a ∷ attributes) all =
     (all 0 a (omega arith), values_of attributes (λ k d l. all (suc k) d (omega arith)))
 
-values_in : (d : Data) → HoldsText d → AreValues (ancestor_of d).attributes
+pub values_in : (d : Data) → HoldsText d → AreValues (ancestor_of d).attributes
 values_in document_node plain = tt
 values_in doctype_node plain = tt
 values_in (text_node s) plain = tt
@@ -215,72 +141,46 @@ module _ (options : Options) (alone : is_markdown_alone options ≡ true)
   -- so many levels say what stands in the tree
   abbrev AreSaid : ℕ → Type 0
   AreSaid n = (tree : NumberedTree) (context : Context) (out : Output) (l : List ℕ) → Fits items tree
-      → Says out.text l → Says (written_within n conversion tree context out).text (l ++ says n tree)
+      → Says of_letters out.text l → Says of_letters (written_within n conversion tree context out).text (l ++ says n tree)
 
-  before_is_said : (block : Bool) (out : Output) {l : List ℕ} → Says out.text l
-      → Says (before_child block out).text l
-  before_is_said true out p = says-trimmed_end is_space space_of_fillers out.text p
-  before_is_said false out p = p
-
-  children_are_said : (n : ℕ) → AreSaid n → (inside : List Ancestor) (trees : NumberedForest) (trim : Bool)
-      (out : Output) (l : List ℕ) → AllFit items trees → Says out.text l
-      → Says (write_children (written_within n conversion) inside trees trim out).text
-      (l ++ said_among (says n) trees)
-  children_are_said n keeps inside none trim out l fit p = says-is (sym (append-nil l)) p
-  children_are_said n keeps inside (more tree trees) trim out l fit p =
-      let block = is_block_tree tree in
-      let before = before_child block out in
-      let after = written_within n conversion tree (context_of inside (pre inside) trim) before in
-      let first : Says after.text (l ++ says n tree) =
-      keeps tree (context_of inside (pre inside) trim) before l fit.0 (before_is_said block out p) in
-      says-is (append_assoc l (says n tree) (said_among (says n) trees))
-      (children_are_said n keeps inside trees (trim_after block before after trim) after (l ++ says n tree) fit.1 first)
+  all_of : (n : ℕ) (trees : NumberedForest) → AllFit items trees → AllOf (Fits items) trees
+  all_of n none fit = tt
+  all_of n (more tree trees) fit = (fit.0, all_of n trees fit.1)
 
   groups_are_said : (n : ℕ) → AreSaid n → (inside : List Ancestor) (children : NumberedForest) (out : Output)
-      (l : List ℕ) → AllFit items children → Says out.text l
-      → Says (write_groups (written_within n conversion) inside children out).text
+      (l : List ℕ) → AllFit items children → Says of_letters out.text l
+      → Says of_letters (write_groups (written_within n conversion) inside children out).text
       (l ++ said_among (says n) (groups_of children))
   groups_are_said n keeps inside children out l fit p =
-      children_are_said n keeps inside (groups_of children) (trims_first inside) out l (groups_fit items children fit) p
+      children_are_said of_letters (written_within n conversion) (Fits items) (says n) keeps inside
+      (groups_of children) (trims_first inside) out l
+      (all_of n (groups_of children) (fitting.groups_fit (HasTag items) (tag_stays items) children fit)) p
 
   result_is_said : (out : Output) (whole : Bool) (r : Option ResultView) (definitions : List (List ℕ))
       (l m : List ℕ)
-      → Says out.text l → SaysResult r m
-      → Says (with_result (is_guarded options) out whole r definitions).text (l ++ m)
+      → Says of_letters out.text l → SaysResult of_letters r m
+      → Says of_letters (with_result (is_guarded options) out whole r definitions).text (l ++ m)
   result_is_said out whole None definitions l m p q = says-is (sym (append-nil l) ∙ ap (λ z. l ++ z) (sym q)) p
   result_is_said out whole (Some result) definitions l m p q =
-      cond_both (is_guarded options) _ _ (λ (t : List ℕ). Says t (l ++ m))
+      cond_both (is_guarded options) _ _ (λ (t : List ℕ). Says of_letters t (l ++ m))
       (λ _. says-guarded_seam out.text result.content p q) (λ _. says-seam out.text result.content whole p q)
-
-  text_is_said : (s : List ℕ) (context : Context) (out : Output) (l : List ℕ) → IsUtf8 s → Says out.text l
-      → Says (write_text (is_guarded options) s context out).text (l ++ letters s)
-  text_is_said s context out l t p =
-      let own = says-own s t in
-      let squeezed = says-first_space (context.trim || ends_with_space out.text) (squeezed_text s) (says-squeezed s
-      own) in
-      says-append p
-      (cond_both (is_guarded options) _ _ (λ (x : List ℕ). Says x (letters s))
-      (λ _. says-guarded_text (begins_line out.text) _ (letters s) squeezed)
-      (λ _. cond_both context.preformatted _ _ (λ (x : List ℕ). Says x (letters s))
-      (λ _. cond_both (parent_is_pre context.ancestors) _ _ (λ (x : List ℕ). Says x (letters s))
-      (λ _. says-escaped_pre s own) (λ _. own))
-      (λ _. says-escaped _ squeezed)))
 
   within_is_said : (n : ℕ) → AreSaid n
   unfolding written_within said_within
   within_is_said zero tree context out l fit p = says-is (sym (append-nil l)) p
   within_is_said (suc n) (document id children) context out l fit p =
-      says-trimmed_end is_document_white_space document_of_fillers _
+      says-trimmed_end is_document_white_space document_of_white _
       (groups_are_said n (within_is_said n) (record { tag = codes "html"; attributes = [] } ∷ context.ancestors)
       children out l fit p)
   within_is_said (suc n) (doctype id) context out l fit p = says-is (sym (append-nil l)) p
-  within_is_said (suc n) (text id s) context out l fit p = text_is_said s context out l fit p
+  within_is_said (suc n) (text id s) context out l fit p =
+      text_is_said of_letters (is_guarded options) s context out l fit p
   within_is_said (suc n) (comment id s) context out l fit p = rw alone (says-is (sym (append-nil l)) p)
   within_is_said (suc n) (element id name attributes children) context out l fit p =
       let write = written_within n conversion in
       let inside : List Ancestor = record { tag = name; attributes = attributes } ∷ context.ancestors in
       let answer = answer_after 0 name (occurrence_at write conversion id inside children) out.definitions in
-      let shown = only_fits items children fit.1 in
+      let shown = fitting.only_fits (HasTag items) (tag_stays items) children fit.1 in
       result_is_said out (pre context.ancestors) answer.result answer.definitions l _ p
       (element_is_said options alone style items (λ i. values_in (data_at items i) (plain i)) write (says n) id inside
       children out.definitions shown (whole_fits items plain (only_text children) id shown)
@@ -290,10 +190,10 @@ module _ (options : Options) (alone : is_markdown_alone options ≡ true)
       (descendant_fits items plain (only_text children) d shown) says-nil)
       name fit.0)
 
-  content_is_said : (start : ℕ) → Says (walked_content (built_in options) items start) (said options items start)
+  content_is_said : (start : ℕ) → Says of_letters (walked_content (built_in options) items start) (said options items start)
   content_is_said start =
       let tree = tree_of items start in
-      says-trimmed is_line_feed line_feed_of_fillers _
+      says-trimmed is_line_feed line_feed_of_white _
       (within_is_said (height tree) tree (context_of (ancestors_of items start) false true) (empty_output []) []
       (tree_fits items plain start) says-nil)
 
@@ -303,7 +203,7 @@ beyond [] id high = refl
 beyond (item ∷ items) zero high = absurd (omega arith)
 beyond (item ∷ items) (suc id) high = beyond items id (omega arith)
 
-plain_at : (items : List Item) → HoldTexts items → (id : ℕ) → HoldsText (data_at items id)
+pub plain_at : (items : List Item) → HoldTexts items → (id : ℕ) → HoldsText (data_at items id)
 plain_at items all id =
     ⊎_elim (λ low. all id document_item low)
     (λ high. subst (λ (item : Item). HoldsText item.node_data) (sym (beyond items id high)) tt)
@@ -447,7 +347,7 @@ letters_of_markdown options items start alone inlined plain =
     ∙ letters_of_content options items start alone (ap prefers_autolinks inlined) plain
 
 letters_of_conversion : LettersOfConversion
-letters_of_conversion options scripting html s alone inlined (tree, is_tree, plain, e) =
+letters_of_conversion options scripting html s alone inlined (tree, is_tree, ordered, plain, e) =
     (tree, is_tree, ap letters e ∙ letters_of_markdown options tree 0 alone inlined plain)
 
 -- as `convert` gives it

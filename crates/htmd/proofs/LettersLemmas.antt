@@ -1,9 +1,9 @@
--- The letters of texts one after another, and of texts with other characters in them.
+-- What texts hold one after another, and texts with other characters in them, by either law.
 use Rattle.std.proofs.Common.{◌≡◌, ℕ, zero, suc, ◌+◌, ◌<◌, Bool, true, false, List, [], ◌∷◌, ◌++◌}
 use Rattle.std.proofs.Common.{length, get_or, take, refl, sym, ap, ◌∙◌, arith, subst}
 use Rattle.std.specs.Prelude.{◌&&◌, not, filter, replicate, nat_lt}
 use Rattle.std.specs.List.{list_all}
-use Rattle.std.specs.Char.{encode_utf8}
+use Rattle.std.specs.Char.{encode_utf8, is_whitespace}
 use Rattle.std.specs.Str.{chars, IsUtf8, IsAscii, IsCharBoundary}
 use Rattle.std.proofs.lemmas.Bool.{and_parts, and_from, cond-false, not-true}
 use Rattle.std.proofs.lemmas.Bool.{ltb-true}
@@ -14,31 +14,52 @@ use Rattle.std.proofs.lemmas.Str.{IsUtf8-past_char, chars-nil, chars-append, cha
 use Rattle.std.proofs.lemmas.Str.{encode_ascii}
 use Rattle.std.proofs.lemmas.Str.{IsCharBoundary-before_ascii, IsCharBoundary-end}
 use Rattle.std.proofs.lemmas.Str.Ascii.{IsAscii-nil, IsAscii-cons}
-use Rattle.htmd.specs.Letters.{is_letter, letters}
+use Rattle.htmd.specs.Letters.{is_letter}
+use Rattle.htmd.proofs.CountedTexts.{Law, of_visible, counts, counted, Holds, white_is_uncounted}
+use Rattle.htmd.proofs.CountedTexts.{holds-own, holds-then, holds-append, holds-of_nothing, holds-as, holds-none}
 
--- it is text, and these are its letters
-pub record Says (s l : List ℕ) : Type 0 where
+-- it is text, and holds what is wanted
+pub record Says (law : Law) (s l : List ℕ) : Type 0 where
   pub utf8 : IsUtf8 s
-  pub says : letters s ≡ l
+  pub says : Holds law l (counted law s)
 
-pub says-own : (s : List ℕ) → IsUtf8 s → Says s (letters s)
-says-own s text = record { utf8 = text; says = refl }
+pub says-own : {law : Law} (s : List ℕ) → IsUtf8 s → Says law s (counted law s)
+says-own {law} s text = record { utf8 = text; says = holds-own law (counted law s) }
 
-pub says-nil : Says [] []
-says-nil = record { utf8 = IsUtf8-nil; says = ap (filter is_letter) chars-nil }
-
-pub says-append : {s t l m : List ℕ} → Says s l → Says t m → Says (s ++ t) (l ++ m)
-says-append {s} {t} {l} {m} p q = record {
-  utf8 = IsUtf8-append s t p.utf8 q.utf8;
-  says = ap (filter is_letter) (chars-append s t p.utf8) ∙ filter-append is_letter (chars s) (chars t)
-      ∙ ap (λ x. x ++ letters t) p.says ∙ ap (λ x. l ++ x) q.says;
+pub says-nil : {law : Law} → Says law [] []
+says-nil {law} = record {
+  utf8 = IsUtf8-nil;
+  says = holds-as law [] [] (counted law []) (sym (ap (filter (counts law)) chars-nil)) (holds-own law []);
 }
 
-pub says-as : {s t l : List ℕ} → s ≡ t → Says s l → Says t l
-says-as {s} {t} {l} e p = subst (λ (x : List ℕ). Says x l) e p
+-- of what is wanted no more than this
+pub says-in : {law : Law} {s l m : List ℕ} → Holds law m l → Says law s l → Says law s m
+says-in {law} {s} {l} {m} h p = record { utf8 = p.utf8; says = holds-then law m l (counted law s) h p.says }
 
-pub says-is : {s l m : List ℕ} → l ≡ m → Says s l → Says s m
-says-is {s} {l} {m} e p = record { utf8 = p.utf8; says = p.says ∙ e }
+-- any text shows nothing at least
+pub shows-none : {s : List ℕ} → IsUtf8 s → Says of_visible s []
+shows-none text = record { utf8 = text; says = tt }
+
+pub says-of_nothing : {law : Law} {l : List ℕ} → Says law [] l → l ≡ []
+says-of_nothing {law} {l} p =
+    holds-of_nothing law l (holds-as law l (counted law []) [] (ap (filter (counts law)) chars-nil) p.says)
+
+pub counted_append : (law : Law) (s t : List ℕ) → IsUtf8 s → counted law (s ++ t) ≡ counted law s ++ counted law t
+counted_append law s t text =
+    ap (filter (counts law)) (chars-append s t text) ∙ filter-append (counts law) (chars s) (chars t)
+
+pub says-append : {law : Law} {s t l m : List ℕ} → Says law s l → Says law t m → Says law (s ++ t) (l ++ m)
+says-append {law} {s} {t} {l} {m} p q = record {
+  utf8 = IsUtf8-append s t p.utf8 q.utf8;
+  says = holds-as law (l ++ m) (counted law s ++ counted law t) (counted law (s ++ t))
+      (sym (counted_append law s t p.utf8)) (holds-append law l m (counted law s) (counted law t) p.says q.says);
+}
+
+pub says-as : {law : Law} {s t l : List ℕ} → s ≡ t → Says law s l → Says law t l
+says-as {law} {s} {t} {l} e p = subst (λ (x : List ℕ). Says law x l) e p
+
+pub says-is : {law : Law} {s l m : List ℕ} → l ≡ m → Says law s l → Says law s m
+says-is {law} {s} {l} {m} e p = subst (λ (x : List ℕ). Says law s x) e p
 
 -- ---- characters that are no letters
 
@@ -48,7 +69,7 @@ is_filler b = nat_lt b 128 && not (is_letter b)
 pub filler_ascii : (b : ℕ) → is_filler b ≡ true → b < 128
 filler_ascii b e = ltb-true b 128 (and_parts (nat_lt b 128) (not (is_letter b)) e).0
 
-pub filler_silent : (b : ℕ) → is_filler b ≡ true → is_letter b ≡ false
+filler_silent : (b : ℕ) → is_filler b ≡ true → is_letter b ≡ false
 filler_silent b e = not-true (is_letter b) (and_parts (nat_lt b 128) (not (is_letter b)) e).1
 
 pub fillers_ascii : (s : List ℕ) → list_all is_filler s ≡ true → IsAscii s
@@ -62,41 +83,70 @@ fillers_silent (b ∷ s) e = let parts = and_parts (is_filler b) (list_all is_fi
     cond-false (is_letter b) _ _ (filler_silent b parts.0) ∙ fillers_silent s parts.1
 
 -- ASCII text
-pub says-ascii : (s : List ℕ) → IsAscii s → Says s (filter is_letter s)
-says-ascii s ascii = record { utf8 = IsUtf8-from_ascii s ascii; says = ap (filter is_letter) (chars-IsAscii s ascii) }
+pub says-ascii : {law : Law} (s : List ℕ) → IsAscii s → Says law s (filter (counts law) s)
+says-ascii {law} s ascii =
+    says-is (ap (filter (counts law)) (chars-IsAscii s ascii)) (says-own s (IsUtf8-from_ascii s ascii))
 
-pub says-fillers : (s : List ℕ) → list_all is_filler s ≡ true → Says s []
-says-fillers s e = says-is (fillers_silent s e) (says-ascii s (fillers_ascii s e))
+pub says-fillers : {law : Law} (s : List ℕ) → list_all is_filler s ≡ true → Says law s []
+says-fillers {law} s e = says-in (holds-none law s (fillers_silent s e)) (says-ascii s (fillers_ascii s e))
 
 fillers_many : (n b : ℕ) → is_filler b ≡ true → list_all is_filler (replicate n b) ≡ true
 fillers_many zero b e = refl
 fillers_many (suc n) b e = and_from (is_filler b) _ e (fillers_many n b e)
 
-pub says-many : (n b : ℕ) → is_filler b ≡ true → Says (replicate n b) []
+pub says-many : {law : Law} (n b : ℕ) → is_filler b ≡ true → Says law (replicate n b) []
 says-many n b e = says-fillers (replicate n b) (fillers_many n b e)
 
 -- ---- between them
 
-pub says-behind : {s l : List ℕ} (f : List ℕ) → list_all is_filler f ≡ true → Says s l → Says (f ++ s) l
+pub says-behind : {law : Law} {s l : List ℕ} (f : List ℕ) → list_all is_filler f ≡ true → Says law s l
+    → Says law (f ++ s) l
 says-behind f e p = says-append (says-fillers f e) p
 
-pub says-before : {s l : List ℕ} (f : List ℕ) → list_all is_filler f ≡ true → Says s l → Says (s ++ f) l
-says-before {s} {l} f e p = says-is (append-nil l) (says-append p (says-fillers f e))
+pub says-before : {law : Law} {s l : List ℕ} (f : List ℕ) → list_all is_filler f ≡ true → Says law s l
+    → Says law (s ++ f) l
+says-before {law} {s} {l} f e p = says-is (append-nil l) (says-append p (says-fillers f e))
 
--- ---- cut off
+-- ---- white space cut off
 
-one_cut : (b : ℕ) (s l : List ℕ) → is_filler b ≡ true → Says (b ∷ s) l → Says s l
-one_cut b s l e p =
-    let whole : b ∷ s ≡ encode_utf8 b ++ s = ap (λ x. x ++ s) (sym (encode_ascii b (filler_ascii b e))) in
+-- ASCII white space
+abbrev pub is_white : ℕ → Bool
+is_white b = nat_lt b 128 && is_whitespace b
+
+pub white_ascii : (b : ℕ) → is_white b ≡ true → b < 128
+white_ascii b e = ltb-true b 128 (and_parts (nat_lt b 128) (is_whitespace b) e).0
+
+pub white_silent : (law : Law) (b : ℕ) → is_white b ≡ true → counts law b ≡ false
+white_silent law b e = white_is_uncounted law b (and_parts (nat_lt b 128) (is_whitespace b) e).1
+
+pub white_fills : (b : ℕ) → is_white b ≡ true → is_filler b ≡ true
+white_fills b e =
+    let parts = and_parts (nat_lt b 128) (is_whitespace b) e in
+    and_from (nat_lt b 128) (not (is_letter b)) parts.0 (rw parts.1 refl)
+
+pub whites_fill : (s : List ℕ) → list_all is_white s ≡ true → list_all is_filler s ≡ true
+whites_fill [] e = refl
+whites_fill (b ∷ s) e = let parts = and_parts (is_white b) (list_all is_white s) e in
+    and_from (is_filler b) (list_all is_filler s) (white_fills b parts.0) (whites_fill s parts.1)
+
+whites_silent : (law : Law) (s : List ℕ) → list_all is_white s ≡ true → filter (counts law) s ≡ []
+whites_silent law [] e = refl
+whites_silent law (b ∷ s) e = let parts = and_parts (is_white b) (list_all is_white s) e in
+    cond-false (counts law b) _ _ (white_silent law b parts.0) ∙ whites_silent law s parts.1
+
+one_cut : {law : Law} (b : ℕ) (s l : List ℕ) → is_white b ≡ true → Says law (b ∷ s) l → Says law s l
+one_cut {law} b s l e p =
+    let whole : b ∷ s ≡ encode_utf8 b ++ s = ap (λ x. x ++ s) (sym (encode_ascii b (white_ascii b e))) in
     record {
       utf8 = IsUtf8-past_char (b ∷ s) s b p.utf8 whole;
-      says = sym (cond-false (is_letter b) (b ∷ letters s) (letters s) (filler_silent b e))
-          ∙ sym (ap (filter is_letter) (chars_past_char (b ∷ s) s b p.utf8 whole)) ∙ p.says;
+      says = holds-as law l (counted law (b ∷ s)) (counted law s)
+          (ap (filter (counts law)) (chars_past_char (b ∷ s) s b p.utf8 whole)
+          ∙ cond-false (counts law b) (b ∷ counted law s) (counted law s) (white_silent law b e)) p.says;
     }
 
-pub says-cut_start : (f s l : List ℕ) → list_all is_filler f ≡ true → Says (f ++ s) l → Says s l
+pub says-cut_start : {law : Law} (f s l : List ℕ) → list_all is_white f ≡ true → Says law (f ++ s) l → Says law s l
 says-cut_start [] s l e p = p
-says-cut_start (b ∷ f) s l e p = let parts = and_parts (is_filler b) (list_all is_filler f) e in
+says-cut_start (b ∷ f) s l e p = let parts = and_parts (is_white b) (list_all is_white f) e in
     says-cut_start f s l parts.1 (one_cut b (f ++ s) l parts.0 p)
 
 end_at : (s f : List ℕ) → list_all is_filler f ≡ true → IsCharBoundary (s ++ f) (length s)
@@ -110,18 +160,23 @@ end_at s (b ∷ f) e =
     there [] = refl
     there (x ∷ s) = there s
 
-pub says-cut_end : (s f l : List ℕ) → list_all is_filler f ≡ true → Says (s ++ f) l → Says s l
-says-cut_end s f l e p =
+-- what the law doesn't count goes at the end
+pub says-cut_end : {law : Law} (s f l : List ℕ) → list_all is_filler f ≡ true → filter (counts law) f ≡ []
+    → Says law (s ++ f) l → Says law s l
+says-cut_end {law} s f l e none p =
     let front : take (length s) (s ++ f) ≡ s = take-append-le (length s) s f (omega arith) ∙ all s in
     let text : IsUtf8 s = subst (λ (x : List ℕ). IsUtf8 x) front (IsUtf8-take (s ++ f) (length s) p.utf8 (end_at s f
     e)) in
+    let silent : counted law f ≡ [] = ap (filter (counts law)) (chars-IsAscii f (fillers_ascii f e)) ∙ none in
     record {
       utf8 = text;
-      says = sym (append-nil (letters s)) ∙ ap (λ x. letters s ++ x) (sym (says-fillers f e).says)
-          ∙ sym (filter-append is_letter (chars s) (chars f))
-          ∙ ap (filter is_letter) (sym (chars-append s f text)) ∙ p.says;
+      says = holds-as law l (counted law (s ++ f)) (counted law s)
+          (counted_append law s f text ∙ ap (λ x. counted law s ++ x) silent ∙ append-nil (counted law s)) p.says;
     }
   where
     all : (s : List ℕ) → take (length s) s ≡ s
     all [] = refl
     all (x ∷ s) = ap (λ l. x ∷ l) (all s)
+
+pub says-cut_white : {law : Law} (s f l : List ℕ) → list_all is_white f ≡ true → Says law (s ++ f) l → Says law s l
+says-cut_white {law} s f l e p = says-cut_end s f l (whites_fill f e) (whites_silent law f e) p

@@ -1,39 +1,29 @@
 -- The letters of elements.
 use Rattle.std.proofs.Common.{◌≡◌, ℕ, Bool, true, false, cond, List, [], ◌∷◌, ◌++◌, Option, Some, None}
-use Rattle.std.proofs.Common.{codes, drop, map, refl, sym, ap, ◌∙◌, subst, ⊎_elim}
-use Rattle.std.specs.Prelude.{◌||◌, ◌&&◌, not, option_and_then}
-use Rattle.std.specs.List.{list_any, list_all}
+use Rattle.std.proofs.Common.{codes, refl, sym, ap, ◌∙◌, subst}
+use Rattle.std.specs.Prelude.{◌||◌, ◌&&◌, option_and_then}
+use Rattle.std.specs.List.{list_all}
 use Rattle.std.specs.Str.{IsUtf8, bytes_eq}
 use Rattle.std.proofs.Math.Bool.{and_comm}
-use Rattle.std.proofs.lemmas.Bool.{cond_both, cond-true, cond-false, cases_Bool, or_cases, or_from, or_parts}
-use Rattle.std.proofs.lemmas.Bool.{false_from_ne_true, false≢true, true≢false, and_left}
-use Rattle.std.proofs.lemmas.List.Folds.{list_any-append}
-use Rattle.std.proofs.lemmas.Slice.Eq.{bytes_eq-Decides}
-use Rattle.htmd_tree.specs.Items.{Item, data_at, parent_at, children_of}
-use Rattle.htmd_tree.specs.Items as tree
+use Rattle.std.proofs.lemmas.Bool.{cond_both, cond-false, or_from}
+use Rattle.std.proofs.lemmas.Bool.{and_left}
+use Rattle.htmd_tree.specs.Items.{Item, data_at, children_of}
 use Rattle.htmd_tree.specs.NumberedTrees.{NumberedTree, NumberedForest}
 use Rattle.htmd_tree.specs.Ancestors.{Ancestor, ancestor_of}
-use Rattle.htmd_markdown.specs.declared.emphasis.Emphasis.TheVariants as kind
 use Rattle.htmd.specs.declared.options.Options.{Options}
-use Rattle.htmd.specs.Handling.{ElementView, PlanView, nothing, content_of_children, contents_of_each, HandlerMeaning}
-use Rattle.htmd.specs.Choice.{TagIndex, indexes, handlers_at}
+use Rattle.htmd.specs.Handling.{ElementView, nothing, content_of_children, contents_of_each, HandlerMeaning}
+use Rattle.htmd.specs.Choice.{indexes}
 use Rattle.htmd.specs.AllText.{text_or_all, all_text_of}
 use Rattle.htmd.specs.Groups.{only_text, groups_of, children_at}
 use Rattle.htmd.specs.Outputs.{Conversion, conversion_of, Writes, is_markdown_alone, is_guarded, result_of}
-use Rattle.htmd.specs.ElementPlans.{tag_of, attributes_of, ancestors_of, is_tag_among, markdown_plan, tag_at}
+use Rattle.htmd.specs.ElementPlans.{tag_of, attributes_of, is_tag_among, markdown_plan, tag_at}
 use Rattle.htmd.specs.ElementPlans.{unless_faithful}
 use Rattle.htmd_markdown.specs.LineBreaks.{line_break}
 use Rattle.htmd_markdown.specs.ThematicBreaks.{thematic_break}
-use Rattle.htmd.specs.OrdinaryText.{pre}
 use Rattle.htmd.specs.Children.{content_inside, content_alone, descendant_tree}
-use Rattle.htmd.specs.Elements.{Occurrence, Answer, content_of, contents_alone, first_answer, plan_answer, answer_after}
-use Rattle.htmd.specs.Elements.{without_handler, occurrence_at, with_finish, answer_of}
-use Rattle.htmd.specs.Paragraphs.{paragraphs}
-use Rattle.htmd.specs.BlockQuotes.{quotes}
-use Rattle.htmd.specs.Pages.{parts_of_page, pages}
+use Rattle.htmd.specs.Elements.{Occurrence, Answer, content_of, contents_alone, plan_answer, answer_after}
+use Rattle.htmd.specs.Elements.{without_handler, occurrence_at, with_finish}
 use Rattle.htmd.specs.OtherBlocks.{other_blocks, other_block_plan, hidden_tags}
-use Rattle.htmd.specs.Headings.{headings}
-use Rattle.htmd.specs.Emphases.{emphasis_of}
 use Rattle.htmd.specs.LineBreaks.{line_breaks, break_style_of}
 use Rattle.htmd.specs.ThematicBreaks.{thematic_breaks}
 use Rattle.htmd.specs.ThematicBreaks.{thematic_break_style_of}
@@ -41,23 +31,16 @@ use Rattle.htmd.specs.Spans.{spans, formula_mark, formula_plan, is_read_in_formu
 use Rattle.htmd_markdown.specs.GuardedCode.{fitting_language}
 use Rattle.htmd_markdown.specs.GuardedLinks.{guarded_image}
 use Rattle.htmd_markdown.specs.Links.{image}
-use Rattle.htmd_markdown.specs.ListItems.{guarded_spacing}
-use Rattle.htmd_markdown.specs.Lists.{Block, ordered_list, guarded_ordered_list, guarded_first_number, highest_number}
 use Rattle.htmd.specs.OneLineElements.{stands_in_line}
 use Rattle.htmd.specs.Code.{code, code_plan, guarded_code_plan, content_plan}
 use Rattle.htmd.specs.Preformatted.{preformatted_texts, preformatted_plan}
 use Rattle.htmd.specs.Preformatted.{block_plan, guarded_preformatted}
 use Rattle.htmd.specs.Code.{is_code_block, language, shows_language, language_of}
-use Rattle.htmd.specs.Code.{language_at}
 use Rattle.htmd.specs.Preformatted.{language_of_code, guarded_language, only_node, without_comments}
-use Rattle.htmd.specs.Lists.{lists, block_of_child, blocks_of_list, blocks_of, first_number_of}
-use Rattle.htmd.specs.ListItems.{list_items}
-use Rattle.htmd.specs.Lists.{numbered_list, ordered_text}
+use Rattle.htmd.specs.Lists.{lists}
 use Rattle.htmd_text.specs.BlankLines.{with_blank_lines}
 use Rattle.htmd_text.specs.Trims.{trimmed_text, some_text, is_line_feed}
 use Rattle.std.specs.Option.{option_map}
-use Rattle.htmd.specs.TableCells.{cells}
-use Rattle.htmd.specs.TableParts.{table_rows, table_parts}
 use Rattle.htmd.specs.Tables.{tables, table_plan, has_table_form}
 use Rattle.htmd.specs.TableLayouts.{has_lines}
 use Rattle.htmd.specs.TableLayouts.{layout_of}
@@ -67,109 +50,27 @@ use Rattle.htmd.specs.ElementPlans.{optional_markdown}
 use Rattle.htmd.proofs.LettersOfTexts.{says-blank_lines}
 use Rattle.htmd.proofs.LettersOfTables.{SayEach, all_of, says-table_text, says-guarded_table_text}
 use Rattle.htmd.specs.Letters.{nodes_of_table, is_written}
-use Rattle.htmd.proofs.LettersLemmas.{says-nil}
+use Rattle.htmd.proofs.CountedTexts.{of_letters}
+use Rattle.htmd.proofs.LettersLemmas.{says-of_nothing}
 use Rattle.htmd.specs.Images.{images, image_address, alternative_text, image_at}
 use Rattle.htmd.specs.LinkAttributes.{title_of}
 use Rattle.htmd.specs.Anchors.{anchors, anchor_address}
-use Rattle.htmd.specs.BuiltIn.{other_block_tags, built_in}
+use Rattle.htmd.specs.BuiltIn.{built_in}
 use Rattle.htmd.specs.Letters.{said_of_image, said_of_formula, said_of_element, said_among, said_of_each, said_inside}
 use Rattle.htmd.specs.Letters.{prefers_autolinks, letters, letters_if_any, said_of_code, said_of_pre, is_hidden}
-use Rattle.htmd.proofs.LettersLemmas.{Says, says-own, says-as, says-is, is_filler}
-use Rattle.htmd.proofs.LettersOfTexts.{line_feed_of_fillers, says-trimmed}
-use Rattle.htmd.proofs.LettersOfLines.{SayAll, say-none, say-cons}
-use Rattle.htmd.proofs.LettersOfLinks.{IsTextIfAny, text_of_block, says-ordered, says-image}
+use Rattle.htmd.proofs.LettersLemmas.{Says, says-own, says-is, is_filler}
+use Rattle.htmd.proofs.LettersOfTexts.{line_feed_of_white, says-trimmed}
+use Rattle.htmd.proofs.LettersOfLinks.{IsTextIfAny, says-image}
+use Rattle.htmd.proofs.LettersOfHandlers.{says-span_result}
 use Rattle.htmd.proofs.LettersOfHandlers.{SaysResult, AreValues, last_is_text, language_is_text, either_text}
 use Rattle.htmd.proofs.LettersOfHandlers.{KeepsContent}
-use Rattle.htmd.proofs.LettersOfHandlers.{keeps_paragraphs, keeps_quotes, keeps_parts, keeps_pages, keeps_cells}
-use Rattle.htmd.proofs.LettersOfHandlers.{keeps_rows}
-use Rattle.htmd.proofs.LettersOfHandlers.{keeps_table_parts, keeps_items, keeps_headings, wrapped}
-use Rattle.htmd.proofs.LettersOfHandlers.{keeps_emphasis}
+use Rattle.htmd.proofs.LettersOfHandlers.{wrapped}
 use Rattle.htmd.proofs.LettersOfGuarded.{says-guarded_image, says-guarded_code, says-guarded_span, says-guarded_block}
-use Rattle.htmd.proofs.LettersOfHandlers.{keeps_lists, says-listed, says-break, says-rule}
+use Rattle.htmd.proofs.LettersOfHandlers.{says-break, says-rule}
 use Rattle.htmd.proofs.LettersOfHandlers.{code_is_said as code_says, link_is_said, formula_marks_fill, says-formula}
-
--- ---- which handlers there are
-
--- the only handler of a tag
-abbrev IsOnly : Options → List ℕ → HandlerMeaning → Type 0
-IsOnly options tag handler =
-    handlers_at (built_in options).handlers (drop 0 (indexes tag (built_in options).registered)) ≡ handler ∷ []
-
-abbrev is_named : List (List ℕ) → List ℕ → Bool
-is_named tags name = list_any (λ tag. bytes_eq tag name) tags
-
-abbrev HoldsOfAll : (List ℕ → Type 0) → List (List ℕ) → Type 0
-HoldsOfAll P [] = Unit {0}
-HoldsOfAll P (tag ∷ tags) = P tag × HoldsOfAll P tags
-
-among : (P : List ℕ → Type 0) (tags : List (List ℕ)) (name : List ℕ) → HoldsOfAll P tags
-    → is_named tags name ≡ true → P name
-among P [] name all e = absurd (false≢true e)
-among P (tag ∷ tags) name all e =
-    ⊎_elim (λ here. subst P ((bytes_eq-Decides tag name).0 here) all.0) (among P tags name all.1) (or_cases _ _ e)
-
--- the tags of the built-in handlers but those of other blocks, in order of registration
-abbrev first_tags : List (List ℕ)
-first_tags =
-    codes "img" ∷ codes "a" ∷ codes "ol" ∷ codes "ul" ∷ codes "li" ∷ codes "blockquote" ∷
-    codes "code" ∷ codes "strong" ∷ codes "b" ∷ codes "i" ∷ codes "em" ∷ codes "h1" ∷ codes "h2" ∷
-    codes "h3" ∷ codes "h4" ∷ codes "h5" ∷ codes "h6" ∷ codes "br" ∷ codes "hr" ∷ codes "table" ∷
-    codes "td" ∷ codes "th" ∷ codes "tr" ∷ codes "tbody" ∷ codes "thead" ∷ codes "caption" ∷
-    codes "p" ∷ codes "pre" ∷ codes "head" ∷ codes "body" ∷ codes "html" ∷ codes "span" ∷ []
-
--- a tag that nothing is registered for
-not_registered : (name : List ℕ) (registered : List TagIndex)
-    → list_any (λ (r : TagIndex). bytes_eq r.tag name) registered ≡ false → indexes name registered ≡ []
-not_registered name [] e = refl
-not_registered name (r ∷ rs) e =
-    let parts = or_parts (bytes_eq r.tag name) _ e in
-    rw (not_registered name rs parts.1) (cond-false (bytes_eq r.tag name) _ _ parts.0)
-
-registered_tags : (options : Options) (name : List ℕ)
-    → list_any (λ (r : TagIndex). bytes_eq r.tag name) (built_in options).registered
-    ≡ is_named (first_tags ++ other_block_tags) name
-registered_tags options name = refl
-
--- names apart
-differ : (p : List ℕ → Bool) (name t : List ℕ) (b : Bool) → p name ≡ b → p t ≡ not b
-    → bytes_eq name t ≡ false
-differ p name t b e f =
-    false_from_ne_true (bytes_eq name t)
-    (λ same. apart b (sym e ∙ ap p ((bytes_eq-Decides name t).0 same) ∙ f))
-  where
-    apart : (b : Bool) → b ≡ not b → ⊥
-    apart true e = true≢false e
-    apart false e = false≢true e
-
--- names of no element that says something of its own
-record IsPlain (name : List ℕ) : Type 0 where
-  br : bytes_eq name (codes "br") ≡ false
-  hr : bytes_eq name (codes "hr") ≡ false
-  img : bytes_eq name (codes "img") ≡ false
-  a : bytes_eq name (codes "a") ≡ false
-  pre : bytes_eq name (codes "pre") ≡ false
-  code : bytes_eq name (codes "code") ≡ false
-  span : bytes_eq name (codes "span") ≡ false
-  ol : bytes_eq name (codes "ol") ≡ false
-  table : bytes_eq name (codes "table") ≡ false
-
-plain_by : (p : List ℕ → Bool) (name : List ℕ) (b : Bool) → p name ≡ b → p (codes "br") ≡ not b
-    → p (codes "hr") ≡ not b → p (codes "img") ≡ not b → p (codes "a") ≡ not b
-    → p (codes "code") ≡ not b
-    → p (codes "pre") ≡ not b → p (codes "span") ≡ not b → p (codes "ol") ≡ not b
-    → p (codes "table") ≡ not b
-    → IsPlain name
-plain_by p name b e br hr img a code pre span ol table = record {
-  br = differ p name (codes "br") b e br;
-  hr = differ p name (codes "hr") b e hr;
-  img = differ p name (codes "img") b e img;
-  a = differ p name (codes "a") b e a;
-  code = differ p name (codes "code") b e code;
-  pre = differ p name (codes "pre") b e pre;
-  span = differ p name (codes "span") b e span;
-  ol = differ p name (codes "ol") b e ol;
-  table = differ p name (codes "table") b e table;
-}
+use Rattle.htmd.proofs.ElementsByTag.{language_of_node, shown_language, ordered_gives, each_of_all}
+use Rattle.htmd.proofs.ElementsByTag.{IsOnly, is_named, IsPlain, by_tag, planned_is_said, either_is_said}
+use Rattle.htmd.proofs.ElementsByTag.{unhandled_answer}
 
 said_plainly : (name : List ℕ) → IsPlain name → (says : NumberedTree → List ℕ) (view : ElementView)
     (children : NumberedForest)
@@ -183,14 +84,6 @@ said_plainly name p says view children =
     ∙ cond-false (bytes_eq name (codes "code")) _ _ p.code ∙ cond-false (bytes_eq name (codes "pre")) _ _ p.pre
     ∙ cond-false (bytes_eq name (codes "span")) _ _ p.span
 
--- elements that a browser doesn't show have a handler
-not_hidden : (name : List ℕ) → is_named other_block_tags name ≡ false → is_named hidden_tags name ≡ false
-not_hidden name e =
-    false_from_ne_true (is_named hidden_tags name)
-    (λ h. true≢false
-    (sym (among (λ tag. is_named other_block_tags tag ≡ true) hidden_tags name
-    (refl, (refl, (refl, (refl, (refl, tt))))) h) ∙ e))
-
 module _ (options : Options) (alone : is_markdown_alone options ≡ true)
     (style : prefers_autolinks options.link_style ≡ false) (items : List Item)
     (values : (id : ℕ) → AreValues (ancestor_of (data_at items id)).attributes) where
@@ -201,9 +94,9 @@ module _ (options : Options) (alone : is_markdown_alone options ≡ true)
       (children : NumberedForest) (definitions : List (List ℕ)) (text : IsTextIfAny (only_text children))
       (all : IsUtf8 (text_or_all (only_text children) (children_at items id)))
       (within : (before : List (List ℕ))
-      → Says (content_inside write inside children before).text (said_among says (groups_of children)))
+      → Says of_letters (content_inside write inside children before).text (said_among says (groups_of children)))
       (each : (d : ℕ) (before : List (List ℕ))
-      → Says (content_alone write conversion (descendant_tree items (only_text children) d) d before).text
+      → Says of_letters (content_alone write conversion (descendant_tree items (only_text children) d) d before).text
       (says (descendant_tree items (only_text children) d))) where
     abbrev at : Occurrence
     at = occurrence_at write conversion id inside children
@@ -212,54 +105,31 @@ module _ (options : Options) (alone : is_markdown_alone options ≡ true)
     abbrev IsSaid : List ℕ → Type 0
     IsSaid tag =
         tag_of at.view ≡ tag
-        → SaysResult (answer_after 0 tag at definitions).result
+        → SaysResult of_letters (answer_after 0 tag at definitions).result
         (said_of_element tag at.view (said_inside says tag at.view children))
 
-    planned_is_said : (tag : List ℕ) (handler : HandlerMeaning) (plan : PlanView) (l : List ℕ)
-        → IsOnly options tag
-        handler
-        → handler.plan at.view ≡ plan
-        → SaysResult (plan_answer handler at definitions plan (without_handler at definitions)).result l
-        → SaysResult (answer_after 0 tag at definitions).result l
-    planned_is_said tag handler plan l only planned p =
-        let answered : answer_after 0 tag at definitions
-        ≡ plan_answer handler at definitions plan (without_handler at definitions) =
-        ap (λ (hs : List HandlerMeaning). first_answer hs at definitions) only
-        ∙ ap (λ (x : PlanView). plan_answer handler at definitions x (without_handler at definitions)) planned in
-        subst (λ (a : Answer). SaysResult a.result l) (sym answered) p
-
     content_is_said : (tag : List ℕ) (handler : HandlerMeaning) → IsOnly options tag handler
-        → KeepsContent tag handler
+        → KeepsContent of_letters tag handler
         → said_of_element tag at.view (said_inside says tag at.view children) ≡ said_among says (groups_of children)
         → IsSaid tag
     content_is_said tag handler only keeps same here =
         let out = content_of at definitions in
-        planned_is_said tag handler content_of_children
+        planned_is_said of_letters at definitions tag handler content_of_children
         (said_of_element tag at.view (said_inside says tag at.view children)) only
         (keeps.planned at.view alone here)
-        (subst (λ (l : List ℕ). SaysResult (handler.finish at.view (result_of out) out.definitions).result l)
+        (subst (λ (l : List ℕ). SaysResult of_letters (handler.finish at.view (result_of out) out.definitions).result l)
         (sym same)
         (keeps.finished at.view (result_of out) out.definitions (said_among says (groups_of children)) alone
         (within definitions)))
 
-    -- one of two plans, and what is said by each
-    either_is_said : (handler : HandlerMeaning) (b : Bool) (first second : PlanView) (l m : List ℕ)
-        → SaysResult (plan_answer handler at definitions first (without_handler at definitions)).result l
-        → SaysResult (plan_answer handler at definitions second (without_handler at definitions)).result m
-        → SaysResult (plan_answer handler at definitions (cond b first second)
-        (without_handler at definitions)).result
-        (cond b l m)
-    either_is_said handler true first second l m p q = p
-    either_is_said handler false first second l m p q = q
-
     break_is_said : IsSaid (codes "br")
     break_is_said here =
-        planned_is_said (codes "br") line_breaks (markdown_plan (line_break (break_style_of at.view))) [] refl (rw
+        planned_is_said of_letters at definitions (codes "br") line_breaks (markdown_plan (line_break (break_style_of at.view))) [] refl (rw
         alone refl) (says-break (break_style_of at.view))
 
     rule_is_said : IsSaid (codes "hr")
     rule_is_said here =
-        planned_is_said (codes "hr") thematic_breaks
+        planned_is_said of_letters at definitions (codes "hr") thematic_breaks
         (markdown_plan (thematic_break (thematic_break_style_of at.view))) [] refl (rw alone refl)
         (says-rule (thematic_break_style_of at.view))
 
@@ -267,7 +137,7 @@ module _ (options : Options) (alone : is_markdown_alone options ≡ true)
     titled = last_is_text (codes "title" ∷ []) (attributes_of at.view) (values id)
 
     image_gives : (address : Option (List ℕ)) → IsTextIfAny address
-        → SaysResult (plan_answer images at definitions (image_at address at.view) (without_handler at
+        → SaysResult of_letters (plan_answer images at definitions (image_at address at.view) (without_handler at
         definitions)).result
         (said_of_image address at.view)
     image_gives None found = refl
@@ -276,14 +146,14 @@ module _ (options : Options) (alone : is_markdown_alone options ≡ true)
         let title = title_of at.view in
         let described = last_is_text (codes "alt" ∷ []) (attributes_of at.view) (values id) in
         cond_both (is_guarded options) guarded_image image
-        (λ (f : List ℕ → Option (List ℕ) → Option (List ℕ) → List ℕ). Says (f address alt title)
+        (λ (f : List ℕ → Option (List ℕ) → Option (List ℕ) → List ℕ). Says of_letters (f address alt title)
         (letters_if_any alt ++ letters address ++ letters_if_any title))
         (λ _. says-guarded_image address alt title found described titled)
         (λ _. says-image address alt title found described titled)
 
     image_is_said : IsSaid (codes "img")
     image_is_said here =
-        planned_is_said (codes "img") images (image_at (image_address at.view) at.view)
+        planned_is_said of_letters at definitions (codes "img") images (image_at (image_address at.view) at.view)
         (said_of_image (image_address at.view) at.view) refl (rw alone refl)
         (image_gives (image_address at.view)
         (last_is_text (codes "href" ∷ codes "src" ∷ []) (attributes_of at.view) (values id)))
@@ -291,41 +161,32 @@ module _ (options : Options) (alone : is_markdown_alone options ≡ true)
     anchor_is_said : IsSaid (codes "a")
     anchor_is_said here =
         let out = content_of at definitions in
-        planned_is_said (codes "a") anchors content_of_children _ refl (rw alone refl)
+        planned_is_said of_letters at definitions (codes "a") anchors content_of_children _ refl (rw alone refl)
         (link_is_said at.view (result_of out) out.definitions (said_among says (groups_of children))
         (within definitions)
         options.link_style refl style (anchor_address at.view) refl
         (last_is_text (codes "href" ∷ []) (attributes_of at.view) (values id)) titled)
 
-    language_of_node : (node : Option ℕ) → IsTextIfAny (language_at items node)
-    language_of_node None = tt
-    language_of_node (Some node) = language_is_text (ancestor_of (data_at items node)).attributes (values node)
-
-    shown_language : IsTextIfAny (language at.view)
-    shown_language =
-        either_text (language_of (attributes_of at.view)) (language_at items (parent_at items id))
-        (language_is_text (attributes_of at.view) (values id)) (language_of_node (parent_at items id))
-
     code_is_said : IsSaid (codes "code")
     code_is_said here =
         let out = content_of at definitions in
         let inside = said_among says (groups_of children) in
-        planned_is_said (codes "code") code (code_plan at.view) (said_of_code at.view inside) refl refl
-        (either_is_said code (is_guarded options) (guarded_code_plan at.view) (content_plan at.view)
+        planned_is_said of_letters at definitions (codes "code") code (code_plan at.view) (said_of_code at.view inside) refl refl
+        (either_is_said of_letters at definitions code (is_guarded options) (guarded_code_plan at.view) (content_plan at.view)
         (letters (all_text_of at.view))
         (cond (shows_language at.view) (letters_if_any (language at.view)) [] ++ inside)
         (says-guarded_code (all_text_of at.view) _ (says-own (all_text_of at.view) all))
         (rw alone
-        (code_says at.view out.text inside (within definitions) shown_language options.code_block_style refl
+        (code_says at.view out.text inside (within definitions) (shown_language items values at.view refl) options.code_block_style refl
         (is_code_block at.view) refl)))
 
     child_language : (child : Option ℕ) → IsTextIfAny (option_and_then (language_of_code items) child)
     child_language None = tt
     child_language (Some child) =
         cond_both (is_tag_among (codes "code" ∷ []) (tag_at items (Some child))) _ _ IsTextIfAny
-        (λ _. language_of_node (Some child)) (λ _. tt)
+        (λ _. language_of_node items values (Some child)) (λ _. tt)
 
-    guarded_pre_says : Says (guarded_preformatted at.view)
+    guarded_pre_says : Says of_letters (guarded_preformatted at.view)
         (cond (stands_in_line items id) [] (letters_if_any (fitting_language (guarded_language at.view)))
         ++ letters (all_text_of at.view))
     guarded_pre_says =
@@ -338,8 +199,8 @@ module _ (options : Options) (alone : is_markdown_alone options ≡ true)
         in_line_or (stands_in_line items id) _ _ _ _ (says-guarded_span s (letters s) said)
         (says-blank_lines _ (says-guarded_block s (guarded_language at.view) options.code_block_fence said text))
       where
-        in_line_or : (b : Bool) (x y l m : List ℕ) → Says x m → Says y (l ++ m)
-            → Says (cond b x y) (cond b [] l ++ m)
+        in_line_or : (b : Bool) (x y l m : List ℕ) → Says of_letters x m → Says of_letters y (l ++ m)
+            → Says of_letters (cond b x y) (cond b [] l ++ m)
         in_line_or true x y l m p q = p
         in_line_or false x y l m p q = q
 
@@ -347,71 +208,44 @@ module _ (options : Options) (alone : is_markdown_alone options ≡ true)
     pre_is_said here =
         let out = content_of at definitions in
         let inside = said_among says (groups_of children) in
-        planned_is_said (codes "pre") preformatted_texts (preformatted_plan at.view) (said_of_pre at.view inside) refl
+        planned_is_said of_letters at definitions (codes "pre") preformatted_texts (preformatted_plan at.view) (said_of_pre at.view inside) refl
         refl
-        (either_is_said preformatted_texts (is_guarded options) (markdown_plan (guarded_preformatted at.view))
+        (either_is_said of_letters at definitions preformatted_texts (is_guarded options) (markdown_plan (guarded_preformatted at.view))
         (block_plan at.view) _ inside guarded_pre_says
         (rw (alone, alone) (wrapped out.text inside (within definitions))))
 
-    span_content : SaysResult (with_finish spans at.view (content_of at definitions)).result
+    span_content : SaysResult of_letters (with_finish spans at.view (content_of at definitions)).result
         (said_among says (groups_of children))
     span_content =
         let out = content_of at definitions in
-        cond_both (is_guarded options || pre (ancestors_of at.view)) _ _
-        (λ (t : List ℕ). Says t (said_among says (groups_of children))) (λ _. within definitions)
-        (λ _. says-trimmed _ line_feed_of_fillers out.text (within definitions))
+        says-span_result of_letters at.view (result_of out) (said_among says (groups_of children)) (within definitions)
 
     span_gives : (mark shown : Option (List ℕ))
         → ((m : List ℕ) → mark ≡ Some m → list_all is_filler m ≡ true)
         → IsTextIfAny shown
-        → SaysResult (plan_answer spans at definitions (formula_plan at.view mark shown)
+        → SaysResult of_letters (plan_answer spans at definitions (formula_plan at.view mark shown)
         (without_handler at definitions)).result
         (said_of_formula (is_guarded options) mark shown (said_among says (groups_of children)))
     span_gives None shown fills t = rw alone span_content
     span_gives (Some mark) None fills t = rw alone span_content
     span_gives (Some mark) (Some s) fills t =
-        either_is_said spans (is_guarded options && is_read_in_formula s) content_of_children
+        either_is_said of_letters at definitions spans (is_guarded options && is_read_in_formula s) content_of_children
         (markdown_plan ((mark ++ s) ++ mark)) (said_among says (groups_of children)) (letters s) span_content
         (says-formula mark s (fills mark refl) t)
 
     span_is_said : IsSaid (codes "span")
     span_is_said here =
-        planned_is_said (codes "span") spans
+        planned_is_said of_letters at definitions (codes "span") spans
         (formula_plan at.view (formula_mark (attributes_of at.view)) (only_text children)) _ refl refl
         (span_gives (formula_mark (attributes_of at.view)) (only_text children)
         (formula_marks_fill (attributes_of at.view)) text)
 
-    block_text : (tag : Option (List ℕ)) (s : List ℕ) → s ≡ text_of_block (block_of_child tag s)
-    block_text tag s =
-        cond_both (is_tag_among (codes "li" ∷ []) tag) _ _ (λ b. s ≡ text_of_block b) (λ _. refl) (λ _. refl)
-
-    blocks_say : (ds : List ℕ) (before : List (List ℕ))
-        → SayAll (map text_of_block (blocks_of_list items ds (contents_alone at ds before).results))
-        (said_of_each says at.view ds)
-    blocks_say [] before = say-none
-    blocks_say (d ∷ ds) before =
-        let out = content_alone write conversion (descendant_tree items (only_text children) d) d before in
-        say-cons (says-as (block_text (tree.tag_of (data_at items d)) out.text) (each d before))
-        (blocks_say ds out.definitions)
-
-    ordered_says : (blocks : List Block) (l : List ℕ) → SayAll (map text_of_block blocks) l
-        → Says (ordered_text at.view blocks) l
-    ordered_says blocks l p =
-        let first = first_number_of at.view in
-        let spacing = options.ol_number_spacing in
-        cond_both (is_guarded options) guarded_ordered_list ordered_list
-        (λ (f : ℕ → ℕ → List Block → List ℕ). Says (f first spacing blocks) l)
-        (λ _. says-ordered (guarded_first_number first (highest_number first blocks)) (guarded_spacing spacing) blocks
-        p) (λ _. says-ordered first spacing blocks p)
-
     ordered_is_said : IsSaid (codes "ol")
     ordered_is_said here =
-        let nodes = children_of items id in
-        let results = (contents_alone at nodes definitions).results in
-        planned_is_said (codes "ol") lists (contents_of_each nodes) (said_of_each says at.view nodes) refl
-        (rw (alone, here) refl)
-        (says-listed at.view (numbered_list at.view results) (said_of_each says at.view nodes) alone
-        (ordered_says (blocks_of at.view results) _ (blocks_say nodes definitions)))
+        planned_is_said of_letters at definitions (codes "ol") lists (contents_of_each (children_of items id))
+        (said_of_each says at.view (children_of items id)) refl (rw (alone, here) refl)
+        (ordered_gives of_letters options alone items write id inside children says definitions
+        (each_of_all of_letters at says (children_of items id) each))
 
     -- ---- tables
 
@@ -429,13 +263,13 @@ module _ (options : Options) (alone : is_markdown_alone options ≡ true)
     same_list [] = refl
     same_list (d ∷ ds) = ap (λ z. said_here d ++ z) (same_list ds)
 
-    between_lines : (s : List ℕ) (l : List ℕ) → Says s l
-        → SaysResult (optional_markdown (option_map with_blank_lines (some_text s))) l
-    between_lines [] l p = sym p.says ∙ says-nil.says
+    between_lines : (s : List ℕ) (l : List ℕ) → Says of_letters s l
+        → SaysResult of_letters (optional_markdown (option_map with_blank_lines (some_text s))) l
+    between_lines [] l p = says-of_nothing p
     between_lines (b ∷ s) l p = says-blank_lines (b ∷ s) p
 
     table_gives : (form lines : Bool) → has_table_form items id ≡ form → has_lines (layout_of items id) ≡ lines
-        → SaysResult (plan_answer tables at definitions (table_plan at.view) (without_handler at definitions)).result
+        → SaysResult of_letters (plan_answer tables at definitions (table_plan at.view) (without_handler at definitions)).result
         (said_inside says (codes "table") at.view children)
     table_gives false lines is has = rw (alone, is, alone, is) (within definitions)
     table_gives true true is has =
@@ -445,7 +279,7 @@ module _ (options : Options) (alone : is_markdown_alone options ≡ true)
         rw (alone, is, alone, has)
         (says-is (same_list (nodes_of_table parts))
         (cond_both (is_guarded options) guarded_table_text table_text
-        (λ (f : TableTexts → List ℕ). Says (f (with_parts no_texts parts results))
+        (λ (f : TableTexts → List ℕ). Says of_letters (f (with_parts no_texts parts results))
         (all_of said_here (nodes_of_table parts)))
         (λ _. says-guarded_table_text said_here parts results each)
         (λ _. says-table_text said_here parts results each)))
@@ -455,298 +289,57 @@ module _ (options : Options) (alone : is_markdown_alone options ≡ true)
         let out = content_of at before in
         rw (alone, is, alone, has, alone, is)
         (between_lines (trimmed_text is_line_feed out.text) (said_among says (groups_of children))
-        (says-trimmed is_line_feed line_feed_of_fillers out.text (within before)))
+        (says-trimmed is_line_feed line_feed_of_white out.text (within before)))
 
     table_is_said : IsSaid (codes "table")
     table_is_said here =
-        planned_is_said (codes "table") tables (table_plan at.view) (said_inside says (codes "table") at.view children)
+        planned_is_said of_letters at definitions (codes "table") tables (table_plan at.view) (said_inside says (codes "table") at.view children)
         refl refl (table_gives (has_table_form items id) (has_lines (layout_of items id)) refl refl)
 
-    first_are_said : HoldsOfAll (λ tag. IsSaid tag) first_tags
-    first_are_said = (
-      image_is_said,
-      (
-        anchor_is_said,
-        (
-          ordered_is_said,
-          (
-            content_is_said (codes "ul") lists refl keeps_lists refl,
-            (
-              content_is_said (codes "li") list_items refl (keeps_items (codes "li")) refl,
-              (
-                content_is_said (codes "blockquote") quotes refl (keeps_quotes (codes "blockquote")) refl,
-                (
-                  code_is_said,
-                  (
-                    content_is_said (codes "strong") (emphasis_of kind.Strong) refl (keeps_emphasis kind.Strong
-                        (codes "strong")) refl,
-                    (
-                      content_is_said (codes "b") (emphasis_of kind.Strong) refl (keeps_emphasis kind.Strong (codes
-                          "b")) refl,
-                      (
-                        content_is_said (codes "i") (emphasis_of kind.Regular) refl (keeps_emphasis kind.Regular
-                            (codes "i")) refl,
-                        (
-                          content_is_said (codes "em") (emphasis_of kind.Regular) refl (keeps_emphasis kind.Regular
-                              (codes "em")) refl,
-                          (
-                            content_is_said (codes "h1") headings refl (keeps_headings (codes "h1")) refl,
-                            (
-                              content_is_said (codes "h2") headings refl (keeps_headings (codes "h2")) refl,
-                              (
-                                content_is_said (codes "h3") headings refl (keeps_headings (codes "h3")) refl,
-                                (
-                                  content_is_said (codes "h4") headings refl (keeps_headings (codes "h4")) refl,
-                                  (
-                                    content_is_said (codes "h5") headings refl (keeps_headings (codes "h5")) refl,
-                                    (
-                                      content_is_said (codes "h6") headings refl (keeps_headings (codes "h6")) refl,
-                                      (
-                                        break_is_said,
-                                        (
-                                          rule_is_said,
-                                          (
-                                            table_is_said,
-                                            (
-                                              content_is_said (codes "td") cells refl (keeps_cells (codes "td")) refl,
-                                              (
-                                                content_is_said (codes "th") cells refl (keeps_cells (codes "th")) refl,
-                                                (
-                                                  content_is_said (codes "tr") table_rows refl (keeps_rows (codes
-                                                      "tr")) refl,
-                                                  (
-                                                    content_is_said (codes "tbody") table_parts refl
-                                                        (keeps_table_parts (codes "tbody")) refl,
-                                                    (
-                                                      content_is_said (codes "thead") table_parts refl
-                                                          (keeps_table_parts (codes "thead")) refl,
-                                                      (
-                                                        content_is_said (codes "caption") table_parts refl
-                                                            (keeps_table_parts (codes "caption")) refl,
-                                                        (
-                                                          content_is_said (codes "p") paragraphs refl
-                                                              (keeps_paragraphs (codes "p")) refl,
-                                                          (
-                                                            pre_is_said,
-                                                            (
-                                                              content_is_said (codes "head") parts_of_page refl
-                                                                  (keeps_parts (codes "head")) refl,
-                                                              (
-                                                                content_is_said (codes "body") parts_of_page refl
-                                                                    (keeps_parts (codes "body")) refl,
-                                                                (
-                                                                  content_is_said (codes "html") pages refl
-                                                                      (keeps_pages (codes "html")) refl,
-                                                                  (
-                                                                    span_is_said,
-                                                                    tt,
-                                                                  ),
-                                                                ),
-                                                              ),
-                                                            ),
-                                                          ),
-                                                        ),
-                                                      ),
-                                                    ),
-                                                  ),
-                                                ),
-                                              ),
-                                            ),
-                                          ),
-                                        ),
-                                      ),
-                                    ),
-                                  ),
-                                ),
-                              ),
-                            ),
-                          ),
-                        ),
-                      ),
-                    ),
-                  ),
-                ),
-              ),
-            ),
-          ),
-        ),
-      ),
-    )
+    plainly_said : (name : List ℕ) → IsPlain name → is_named hidden_tags name ≡ false
+        → said_of_element name at.view (said_inside says name at.view children) ≡ said_among says (groups_of children)
+    plainly_said name plain shown =
+        said_plainly name plain says at.view children
+        ∙ cond-false (is_hidden name at.view) _ _ (and_left _ _ shown)
 
-    -- the index of the handler of other blocks is the only one that such a tag has
-    other_is_only : HoldsOfAll (λ tag. IsOnly options tag other_blocks) other_block_tags
-    other_is_only = (
-      refl,
-      (
-        refl,
-        (
-          refl,
-          (
-            refl,
-            (
-              refl,
-              (
-                refl,
-                (
-                  refl,
-                  (
-                    refl,
-                    (
-                      refl,
-                      (
-                        refl,
-                        (
-                          refl,
-                          (
-                            refl,
-                            (
-                              refl,
-                              (
-                                refl,
-                                (
-                                  refl,
-                                  (
-                                    refl,
-                                    (
-                                      refl,
-                                      (
-                                        refl,
-                                        (
-                                          refl,
-                                          (
-                                            refl,
-                                            (
-                                              refl,
-                                              (
-                                                refl,
-                                                (
-                                                  refl,
-                                                  (
-                                                    refl,
-                                                    (
-                                                      refl,
-                                                      (
-                                                        refl,
-                                                        (
-                                                          refl,
-                                                          (
-                                                            refl,
-                                                            (
-                                                              refl,
-                                                              (
-                                                                refl,
-                                                                (
-                                                                  refl,
-                                                                  (
-                                                                    refl,
-                                                                    (
-                                                                      refl,
-                                                                      (
-                                                                        refl,
-                                                                        (
-                                                                          refl,
-                                                                          (
-                                                                            refl,
-                                                                            (
-                                                                              refl,
-                                                                              (
-                                                                                refl,
-                                                                                (
-                                                                                  refl,
-                                                                                  (
-                                                                                    refl,
-                                                                                    (
-                                                                                      refl,
-                                                                                      (
-                                                                                        refl,
-                                                                                        (
-                                                                                          refl,
-                                                                                          tt,
-                                                                                        ),
-                                                                                      ),
-                                                                                    ),
-                                                                                  ),
-                                                                                ),
-                                                                              ),
-                                                                            ),
-                                                                          ),
-                                                                        ),
-                                                                      ),
-                                                                    ),
-                                                                  ),
-                                                                ),
-                                                              ),
-                                                            ),
-                                                          ),
-                                                        ),
-                                                      ),
-                                                    ),
-                                                  ),
-                                                ),
-                                              ),
-                                            ),
-                                          ),
-                                        ),
-                                      ),
-                                    ),
-                                  ),
-                                ),
-                              ),
-                            ),
-                          ),
-                        ),
-                      ),
-                    ),
-                  ),
-                ),
-              ),
-            ),
-          ),
-        ),
-      ),
-    )
-
-    other_is_said : (name : List ℕ) → is_named other_block_tags name ≡ true → IsSaid name
-    other_is_said name e here =
+    other_is_said : (name : List ℕ) → IsOnly options name other_blocks → IsPlain name → IsSaid name
+    other_is_said name only plain here =
         let out = content_of at definitions in
         let inside = said_among says (groups_of children) in
         let hides = is_guarded options && is_tag_among hidden_tags (Some (tag_of at.view)) in
-        let plain = plain_by (is_named other_block_tags) name true e refl refl refl refl refl refl refl refl refl in
         let same : cond hides [] inside
         ≡ said_of_element name at.view (said_inside says name at.view children) =
         ap (λ b. cond b [] inside) (and_comm (is_guarded options) (is_tag_among hidden_tags (Some (tag_of at.view))))
         ∙ ap (λ (tag : List ℕ). cond (is_hidden tag at.view) [] inside) here
         ∙ sym (said_plainly name plain says at.view children) in
-        planned_is_said name other_blocks (other_block_plan at.view)
-        (said_of_element name at.view (said_inside says name at.view children))
-        (among (λ tag. IsOnly options tag other_blocks) other_block_tags name other_is_only e) refl
-        (subst (λ (l : List ℕ). SaysResult (plan_answer other_blocks at definitions (other_block_plan at.view)
+        planned_is_said of_letters at definitions name other_blocks (other_block_plan at.view)
+        (said_of_element name at.view (said_inside says name at.view children)) only refl
+        (subst (λ (l : List ℕ). SaysResult of_letters (plan_answer other_blocks at definitions (other_block_plan at.view)
         (without_handler at definitions)).result l) same
-        (either_is_said other_blocks hides nothing (unless_faithful at.view) [] inside refl
+        (either_is_said of_letters at definitions other_blocks hides nothing (unless_faithful at.view) [] inside refl
         (rw alone (wrapped out.text inside (within definitions)))))
 
-    unhandled_is_said : (name : List ℕ) → is_named first_tags name ≡ false
-        → is_named other_block_tags name ≡ false
-        → IsSaid name
-    unhandled_is_said name e f here =
-        let out = content_of at definitions in
-        let none : indexes name (built_in options).registered ≡ [] =
-        not_registered name (built_in options).registered
-        (registered_tags options name ∙ list_any-append (λ tag. bytes_eq tag name) first_tags other_block_tags
-        ∙ or_from _ _ e f) in
-        let answered : answer_after 0 name at definitions ≡ answer_of out =
-        ap (λ (l : List ℕ). first_answer (handlers_at (built_in options).handlers (drop 0 l)) at definitions) none
-        ∙ cond-true (is_markdown_alone options) _ _ alone in
-        let plain = plain_by (is_named first_tags) name false e refl refl refl refl refl refl refl refl refl in
-        subst (λ (a : Answer). SaysResult a.result
-        (said_of_element name at.view (said_inside says name at.view children))) (sym answered)
-        (says-is
-        (sym (said_plainly name plain says at.view children
-        ∙ cond-false (is_hidden name at.view) _ _ (and_left _ _ (not_hidden name f)))) (within definitions))
+    unhandled_is_said : (name : List ℕ) → indexes name (built_in options).registered ≡ [] → IsPlain name
+        → is_named hidden_tags name ≡ false → IsSaid name
+    unhandled_is_said name none plain shown here =
+        subst (λ (a : Answer). SaysResult of_letters a.result
+        (said_of_element name at.view (said_inside says name at.view children)))
+        (sym (unhandled_answer options items write id inside children definitions name alone none))
+        (says-is (sym (plainly_said name plain shown)) (within definitions))
 
     pub element_is_said : (name : List ℕ) → IsSaid name
-    element_is_said name =
-        ⊎_elim (λ first. among (λ tag. IsSaid tag) first_tags name first_are_said first)
-        (λ later. ⊎_elim (other_is_said name) (unhandled_is_said name later) (cases_Bool (is_named other_block_tags
-        name)))
-        (cases_Bool (is_named first_tags name))
+    element_is_said name = by_tag {law = of_letters} {options = options} {Shown = IsSaid} (record {
+      image = image_is_said;
+      anchor = anchor_is_said;
+      ordered = ordered_is_said;
+      code = code_is_said;
+      line_break = break_is_said;
+      thematic_break = rule_is_said;
+      table = table_is_said;
+      pre = pre_is_said;
+      span = span_is_said;
+      content = λ tag handler only keeps plain shown. content_is_said tag handler only keeps
+          (plainly_said tag plain shown);
+      other = other_is_said;
+      unhandled = unhandled_is_said;
+    }) name

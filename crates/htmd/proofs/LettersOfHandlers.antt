@@ -1,7 +1,7 @@
--- The letters of what the built-in handlers give.
+-- What the results of the built-in handlers hold, by either law; of code and of a link their letters.
 use Rattle.std.proofs.Common.{◌≡◌, ℕ, Bool, true, false, cond, List, [], ◌∷◌, ◌++◌, take}
 use Rattle.std.proofs.Common.{drop, refl, sym, ap, ◌∙◌, subst, Option, Some, None, codes}
-use Rattle.std.specs.Prelude.{◌==◌, nat_lt}
+use Rattle.std.specs.Prelude.{◌==◌, ◌||◌, nat_lt}
 use Rattle.std.specs.List.{list_all, starts_with}
 use Rattle.std.specs.Option.{is_some, option_or}
 use Rattle.std.specs.Str.{IsUtf8, bytes_eq}
@@ -31,7 +31,7 @@ use Rattle.htmd.specs.declared.options.LinkStyle.{LinkStyle}
 use Rattle.htmd.specs.declared.options.LinkStyle.TheVariants.{Inlined, InlinedPreferAutolinks, Referenced}
 use Rattle.htmd.specs.Handling.{ElementView, ResultView, content_of_children, HandlerMeaning}
 use Rattle.htmd.specs.Outputs.{is_markdown_alone, is_guarded}
-use Rattle.htmd.specs.ElementPlans.{tag_of, parent_tag, is_tag_among}
+use Rattle.htmd.specs.ElementPlans.{ancestors_of, tag_of, parent_tag, is_tag_among}
 use Rattle.htmd.specs.LinkAttributes.{is_among, last_value, title_of}
 use Rattle.htmd.specs.Paragraphs.{paragraphs}
 use Rattle.htmd.specs.BlockQuotes.{quotes}
@@ -40,7 +40,8 @@ use Rattle.htmd.specs.Headings.{headings}
 use Rattle.htmd.specs.Emphases.{emphasis_of}
 use Rattle.htmd.specs.ElementPlans.{optional_markdown}
 use Rattle.htmd.specs.Headings.{level_of}
-use Rattle.htmd.specs.Spans.{mark_of_class, formula_mark}
+use Rattle.htmd.specs.Spans.{mark_of_class, formula_mark, span_result}
+use Rattle.htmd.specs.OrdinaryText.{pre}
 use Rattle.htmd.specs.Code.{code, is_code_block, shows_language, language, language_of}
 use Rattle.htmd.specs.Code.{first_language, language_of_class, classes_of}
 use Rattle.htmd.specs.Lists.{lists, is_in_item, list_result}
@@ -50,25 +51,26 @@ use Rattle.htmd.specs.TableCells.{cells}
 use Rattle.htmd.specs.TableParts.{table_rows, table_parts}
 use Rattle.htmd.specs.Anchors.{anchor_address, finish_at, link_finish, guarded_link_finish}
 use Rattle.htmd.specs.Letters.{letters, letters_if_any, said_of_address, prefers_autolinks}
+use Rattle.htmd.proofs.CountedTexts.{Law, of_letters, counted}
 use Rattle.htmd.proofs.LettersLemmas.{Says, says-own, says-nil, says-append, says-is, is_filler, says-fillers}
 use Rattle.htmd.proofs.LettersLemmas.{says-behind, says-before}
-use Rattle.htmd.proofs.LettersOfTexts.{line_feed_of_fillers, says-trimmed, says-blank_lines}
+use Rattle.htmd.proofs.LettersOfTexts.{line_feed_of_white, says-trimmed, says-blank_lines}
 use Rattle.htmd.proofs.LettersOfLines.{AreTexts, say-cut, says-quote}
 use Rattle.htmd.proofs.LettersOfPieces.{SaysIfAny, says-emphasised, says-heading, says-code_span, says-indented_code}
 use Rattle.htmd.proofs.LettersOfPieces.{says-fenced}
 use Rattle.htmd.proofs.LettersOfLinks.{IsTextIfAny, says-own_if_any, says-bullet, says-unnumbered, says-list}
-use Rattle.htmd.proofs.LettersOfLinks.{says-link, says-reference}
+use Rattle.htmd.proofs.LettersOfLinks.{says-link, says-reference, says-resource}
 use Rattle.htmd.proofs.LettersOfGuarded.{says-guarded_link, says-guarded_reference, says-guarded_emphasis}
 use Rattle.htmd.proofs.LettersOfGuarded.{says-guarded_heading}
 
--- a result or nothing, and its letters
-abbrev pub SaysResult : Option ResultView → List ℕ → Type 0
-SaysResult None l = l ≡ []
-SaysResult (Some r) l = Says r.content l
+-- a result or nothing, and what it holds
+abbrev pub SaysResult : Law → Option ResultView → List ℕ → Type 0
+SaysResult law None l = l ≡ []
+SaysResult law (Some r) l = Says law r.content l
 
-says-optional : (s : Option (List ℕ)) (l : List ℕ) → SaysIfAny s l → SaysResult (optional_markdown s) l
-says-optional None l p = p
-says-optional (Some s) l p = p
+says-optional : (law : Law) (s : Option (List ℕ)) (l : List ℕ) → SaysIfAny law s l → SaysResult law (optional_markdown s) l
+says-optional law None l p = p
+says-optional law (Some s) l p = p
 
 -- ---- attributes that are text
 
@@ -119,112 +121,112 @@ pub language_is_text : (attributes : List AttributePair) → AreValues attribute
 language_is_text [] values = tt
 language_is_text (a ∷ attributes) values =
     cond_both (bytes_eq a.name (codes "class")) _ _ IsTextIfAny
-    (λ _. first_is_text (classes_of a.value) (say-cut space refl a.value (says-own a.value values.0)).texts)
+    (λ _. first_is_text (classes_of a.value) (say-cut space refl {law = of_letters} a.value (says-own a.value values.0)).texts)
     (λ _. language_is_text attributes values.1)
 
 -- ---- handlers that make something of the content alone
 
-pub wrapped : (s : List ℕ) (l : List ℕ) → Says s l → Says (with_blank_lines (trimmed_text is_line_feed s)) l
-wrapped s l p = says-blank_lines (trimmed_text is_line_feed s) (says-trimmed is_line_feed line_feed_of_fillers s p)
+pub wrapped : {law : Law} (s : List ℕ) (l : List ℕ) → Says law s l → Says law (with_blank_lines (trimmed_text is_line_feed s)) l
+wrapped s l p = says-blank_lines (trimmed_text is_line_feed s) (says-trimmed is_line_feed line_feed_of_white s p)
 
--- in Pure and in Guarded it asks for the children's content, of elements with this tag, and keeps its letters
-pub record KeepsContent (tag : List ℕ) (handler : HandlerMeaning) : Type 0 where
+-- in Pure and in Guarded it asks for the children's content, of elements with this tag, and keeps what it holds
+pub record KeepsContent (law : Law) (tag : List ℕ) (handler : HandlerMeaning) : Type 0 where
   pub planned : (view : ElementView) → is_markdown_alone view.options ≡ true → tag_of view ≡ tag
       → handler.plan view ≡ content_of_children
   pub finished : (view : ElementView) (content : ResultView) (definitions : List (List ℕ)) (l : List ℕ)
-      → is_markdown_alone view.options ≡ true → Says content.content l
-      → SaysResult (handler.finish view content definitions).result l
+      → is_markdown_alone view.options ≡ true → Says law content.content l
+      → SaysResult law (handler.finish view content definitions).result l
 
-pub keeps_paragraphs : (tag : List ℕ) → KeepsContent tag paragraphs
+pub keeps_paragraphs : {law : Law} (tag : List ℕ) → KeepsContent law tag paragraphs
 keeps_paragraphs tag = record {
   planned = λ view alone here. rw alone refl;
   finished = λ view content definitions l alone p. wrapped content.content l p;
 }
 
-pub keeps_quotes : (tag : List ℕ) → KeepsContent tag quotes
+pub keeps_quotes : {law : Law} (tag : List ℕ) → KeepsContent law tag quotes
 keeps_quotes tag = record {
   planned = λ view alone here. rw alone refl;
   finished = λ view content definitions l alone p. says-quote content.content l p;
 }
 
-pub keeps_parts : (tag : List ℕ) → KeepsContent tag parts_of_page
+pub keeps_parts : {law : Law} (tag : List ℕ) → KeepsContent law tag parts_of_page
 keeps_parts tag = record {
   planned = λ view alone here. rw alone refl;
   finished = λ view content definitions l alone p. wrapped content.content l p;
 }
 
-pub keeps_pages : (tag : List ℕ) → KeepsContent tag pages
+pub keeps_pages : {law : Law} (tag : List ℕ) → KeepsContent law tag pages
 keeps_pages tag = record {
   planned = λ view alone here. rw alone refl;
   finished = λ view content definitions l alone p. wrapped content.content l p;
 }
 
-pub keeps_cells : (tag : List ℕ) → KeepsContent tag cells
+pub keeps_cells : {law : Law} (tag : List ℕ) → KeepsContent law tag cells
 keeps_cells tag = record {
   planned = λ view alone here. rw alone refl;
   finished = λ view content definitions l alone p. wrapped content.content l p;
 }
 
-pub keeps_rows : (tag : List ℕ) → KeepsContent tag table_rows
+pub keeps_rows : {law : Law} (tag : List ℕ) → KeepsContent law tag table_rows
 keeps_rows tag = record {
   planned = λ view alone here. rw alone refl;
   finished = λ view content definitions l alone p. wrapped content.content l p;
 }
 
-pub keeps_table_parts : (tag : List ℕ) → KeepsContent tag table_parts
+pub keeps_table_parts : {law : Law} (tag : List ℕ) → KeepsContent law tag table_parts
 keeps_table_parts tag = record {
   planned = λ view alone here. rw alone refl;
   finished = λ view content definitions l alone p. wrapped content.content l p;
 }
 
-says-item_of : (view : ElementView) (s : List ℕ) {l : List ℕ} → Says s l → Says (bullet_item_of view s) l
-says-item_of view s {l} p =
+says-item_of : {law : Law} (view : ElementView) (s : List ℕ) {l : List ℕ} → Says law s l → Says law (bullet_item_of view s) l
+says-item_of {law} view s {l} p =
     let marker = view.options.bullet_list_marker in
     let spacing = view.options.ul_bullet_spacing in
-    cond_both (is_guarded view.options) _ _ (λ (t : List ℕ). Says t l)
+    cond_both (is_guarded view.options) _ _ (λ (t : List ℕ). Says law t l)
     (λ _. says-is (append-nil l)
     (says-append (says-bullet marker (guarded_spacing spacing) s p) (end_of_line (is_tag_among list_tags (parent_tag
     view)))))
     (λ _. says-bullet marker spacing s p)
   where
-    end_of_line : (b : Bool) → Says (cond b [] (line_feed ∷ [])) []
+    end_of_line : (b : Bool) → Says law (cond b [] (line_feed ∷ [])) []
     end_of_line true = says-nil
     end_of_line false = says-fillers (line_feed ∷ []) refl
 
-pub keeps_items : (tag : List ℕ) → KeepsContent tag list_items
-keeps_items tag = record {
+pub keeps_items : {law : Law} (tag : List ℕ) → KeepsContent law tag list_items
+keeps_items {law} tag = record {
   planned = λ view alone here. rw alone refl;
   finished = λ view content definitions l alone p.
-      cond_both (is_in_ordered view) _ _ (λ (t : List ℕ). Says t l) (λ _. says-unnumbered content.content p)
+      cond_both (is_in_ordered view) _ _ (λ (t : List ℕ). Says law t l) (λ _. says-unnumbered content.content p)
       (λ _. says-item_of view content.content p);
 }
 
-pub keeps_headings : (tag : List ℕ) → KeepsContent tag headings
-keeps_headings tag = record {
+pub keeps_headings : {law : Law} (tag : List ℕ) → KeepsContent law tag headings
+keeps_headings {law} tag = record {
   planned = λ view alone here. rw alone refl;
   finished = λ view content definitions l alone p.
       let style = view.options.heading_style in
       let level = level_of (tag_of view) in
       cond_both (is_guarded view.options) guarded_heading heading
-      (λ (f : HeadingStyle → ℕ → List ℕ → List ℕ). Says (f style level content.content) l)
+      (λ (f : HeadingStyle → ℕ → List ℕ → List ℕ). Says law (f style level content.content) l)
       (λ _. says-guarded_heading style level content.content l p) (λ _. says-heading style level content.content p);
 }
 
-pub keeps_emphasis : (emphasis : Emphasis) (tag : List ℕ) → KeepsContent tag (emphasis_of emphasis)
-keeps_emphasis emphasis tag = record {
+pub keeps_emphasis : {law : Law} (emphasis : Emphasis) (tag : List ℕ) → KeepsContent law tag (emphasis_of emphasis)
+keeps_emphasis {law} emphasis tag = record {
   planned = λ view alone here. rw alone refl;
   finished = λ view content definitions l alone p.
-      cond_both (is_guarded view.options) _ _ (λ (r : Option ResultView). SaysResult r l)
+      cond_both (is_guarded view.options) _ _ (λ (r : Option ResultView). SaysResult law r l)
       (λ _. says-guarded_emphasis emphasis content.content l p)
-      (λ _. says-optional (emphasised_text emphasis content.content) l (says-emphasised emphasis content.content p));
+      (λ _. says-optional law (emphasised_text emphasis content.content) l (says-emphasised emphasis content.content p));
 }
 
-pub says-listed : (view : ElementView) (list : ResultView) (l : List ℕ) → is_markdown_alone view.options ≡ true
-    → Says list.content l → SaysResult (list_result view list) l
-says-listed view list l alone p =
-    rw alone (says-optional (list_block (is_in_item view) list.content) l (says-list (is_in_item view) list.content p))
+pub says-listed : {law : Law} (view : ElementView) (list : ResultView) (l : List ℕ) → is_markdown_alone view.options ≡ true
+    → Says law list.content l → SaysResult law (list_result view list) l
+says-listed {law} view list l alone p =
+    rw alone (says-optional law (list_block (is_in_item view) list.content) l (says-list (is_in_item view) list.content p))
 
-pub keeps_lists : KeepsContent (codes "ul") lists
+pub keeps_lists : {law : Law} → KeepsContent law (codes "ul") lists
 keeps_lists = record {
   planned = λ view alone here. rw (alone, here) refl;
   finished = λ view content definitions l alone p. says-listed view content l alone p;
@@ -232,20 +234,20 @@ keeps_lists = record {
 
 -- ---- handlers with more to say
 
-pub says-break : (style : BrStyle) → Says (line_break style) []
+pub says-break : {law : Law} (style : BrStyle) → Says law (line_break style) []
 says-break TwoSpaces = says-fillers (line_break TwoSpaces) refl
 says-break Backslash = says-fillers (line_break Backslash) refl
 
-pub says-rule : (style : HrStyle) → Says (thematic_break style) []
+pub says-rule : {law : Law} (style : HrStyle) → Says law (thematic_break style) []
 says-rule Dashes = says-fillers (thematic_break Dashes) refl
 says-rule Asterisks = says-fillers (thematic_break Asterisks) refl
 says-rule Underscores = says-fillers (thematic_break Underscores) refl
 
 -- code
-pub code_is_said : (view : ElementView) (s l : List ℕ) → Says s l → IsTextIfAny (language view)
+pub code_is_said : (view : ElementView) (s l : List ℕ) → Says of_letters s l → IsTextIfAny (language view)
     → (style : CodeBlockStyle) → view.options.code_block_style ≡ style
     → (block : Bool) → is_code_block view ≡ block
-    → SaysResult (code.finish view (record { content = s; markdown_translated = true }) []).result
+    → SaysResult of_letters (code.finish view (record { content = s; markdown_translated = true }) []).result
     (cond (shows_language view) (letters_if_any (language view)) [] ++ l)
 code_is_said view s l p text Indented e true here = rw (here, e) (says-indented_code s p)
 code_is_said view s l p text Fenced e true here =
@@ -260,29 +262,29 @@ code_is_said view s l p text style e false here = rw here (says-code_span view.o
 
 -- links
 pub link_is_said : (view : ElementView) (content : ResultView) (definitions : List (List ℕ)) (l : List ℕ)
-    → Says content.content l → (style : LinkStyle)
+    → Says of_letters content.content l → (style : LinkStyle)
     → view.options.link_style ≡ style → prefers_autolinks style ≡ false
     → (address : Option (List ℕ)) → anchor_address view ≡ address → IsTextIfAny address
     → IsTextIfAny (title_of view)
-    → SaysResult (finish_at address view content definitions).result (l ++ said_of_address style address view)
+    → SaysResult of_letters (finish_at address view content definitions).result (l ++ said_of_address style address view)
 link_is_said view content definitions l p Inlined e f None here text titled = says-is (sym (append-nil l)) p
 link_is_said view content definitions l p Referenced e f None here text titled = says-is (sym (append-nil l)) p
 link_is_said view content definitions l p InlinedPreferAutolinks e f address here text titled = cc
 link_is_said view content definitions l p Inlined e f (Some address) here text titled =
     subst
-    (λ (written : LinkStyle). SaysResult ((cond (is_guarded view.options) guarded_link_finish link_finish) written view
+    (λ (written : LinkStyle). SaysResult of_letters ((cond (is_guarded view.options) guarded_link_finish link_finish) written view
     content.content address definitions).result (l ++ (letters address ++ letters_if_any (title_of view)))) (sym e)
     (cond_both (is_guarded view.options) guarded_link_finish link_finish
-    (λ finish. SaysResult (finish Inlined view content.content address definitions).result
+    (λ finish. SaysResult of_letters (finish Inlined view content.content address definitions).result
     (l ++ (letters address ++ letters_if_any (title_of view))))
     (λ _. says-guarded_link content.content address (title_of view) p text titled)
-    (λ _. says-link content.content address (title_of view) p text titled))
+    (λ _. says-link content.content address (title_of view) p (says-resource address (title_of view) text titled)))
 link_is_said view content definitions l p Referenced e f (Some address) here text titled =
     subst
-    (λ (written : LinkStyle). SaysResult ((cond (is_guarded view.options) guarded_link_finish link_finish) written view
+    (λ (written : LinkStyle). SaysResult of_letters ((cond (is_guarded view.options) guarded_link_finish link_finish) written view
     content.content address definitions).result (l ++ [])) (sym e)
     (cond_both (is_guarded view.options) guarded_link_finish link_finish
-    (λ finish. SaysResult (finish Referenced view content.content address definitions).result (l ++ []))
+    (λ finish. SaysResult of_letters (finish Referenced view content.content address definitions).result (l ++ []))
     (λ _. says-is (sym (append-nil l)) (says-guarded_reference _ content.content p))
     (λ _. says-is (sym (append-nil l)) (says-reference view.options.link_reference_style _ content.content p)))
 
@@ -307,6 +309,12 @@ formula_marks_fill (a ∷ []) mark =
     (λ _ e. marks_fill a.value mark e) (λ _ e. cc)
 formula_marks_fill (a ∷ b ∷ attributes) mark = λ e. cc
 
-pub says-formula : (mark s : List ℕ) → list_all is_filler mark ≡ true → IsUtf8 s → Says ((mark ++ s) ++ mark)
-    (letters s)
+pub says-formula : {law : Law} (mark s : List ℕ) → list_all is_filler mark ≡ true → IsUtf8 s → Says law ((mark ++ s) ++ mark)
+    (counted law s)
 says-formula mark s fills text = says-before mark fills (says-behind mark fills (says-own s text))
+
+pub says-span_result : (law : Law) (view : ElementView) (content : ResultView) (l : List ℕ)
+    → Says law content.content l → SaysResult law (span_result view content) l
+says-span_result law view content l p =
+    cond_both (is_guarded view.options || pre (ancestors_of view)) _ _ (λ (t : List ℕ). Says law t l) (λ _. p)
+    (λ _. says-trimmed is_line_feed line_feed_of_white content.content p)

@@ -1,4 +1,4 @@
--- The letters of the pieces of Markdown that handlers write.
+-- What the pieces of Markdown hold that handlers write, by either law.
 use Rattle.std.proofs.Common.{◌≡◌, ℕ, zero, suc, ◌+◌, ◌-◌, Bool, true, false, cond, List, [], ◌∷◌, ◌++◌}
 use Rattle.std.proofs.Common.{length, take, drop, refl, sym, ap, ◌∙◌, arith, subst, Option, Some}
 use Rattle.std.proofs.Common.{None, ⊎_elim, map, min, max}
@@ -30,29 +30,29 @@ use Rattle.htmd_markdown.specs.Fences.{symbol_of, info_string, fence_len, fenced
 use Rattle.htmd_markdown.specs.IndentedCode.{indented_line, indented_code_block}
 use Rattle.htmd.specs.Seams.{ends_with_space, begins_with_space}
 use Rattle.htmd.specs.Seams.{joined_at_seam}
-use Rattle.htmd.specs.Letters.{is_letter}
-use Rattle.htmd.proofs.LettersLemmas.{Says, says-nil, says-append, says-as, says-is, is_filler, says-fillers}
-use Rattle.htmd.proofs.LettersLemmas.{says-many, says-before, says-cut_start}
-use Rattle.htmd.proofs.LettersOfTexts.{document_of_fillers, line_feed_of_fillers, says-trimmed_start}
+use Rattle.htmd.proofs.CountedTexts.{Law, counts, counted, white_is_uncounted}
+use Rattle.htmd.proofs.LettersLemmas.{Says, says-own, says-nil, says-in, says-append, says-as, says-is, is_filler}
+use Rattle.htmd.proofs.LettersLemmas.{says-of_nothing, says-fillers, says-many, says-before, is_white, says-cut_start}
+use Rattle.htmd.proofs.LettersOfTexts.{document_of_white, line_feed_of_white, says-trimmed_start}
 use Rattle.htmd.proofs.LettersOfTexts.{says-trimmed_end, says-trimmed, says-blank_lines, Edited, says-edited}
-use Rattle.htmd.proofs.LettersOfTexts.{same_edit, silent_edit, IsEdit, space_ascii}
+use Rattle.htmd.proofs.LettersOfTexts.{same_edit, filling_edit, IsEdit}
 use Rattle.htmd.proofs.LettersOfLines.{say-mapped, says-joined}
 use Rattle.htmd.proofs.LettersOfLines.{say-lines, says-cut_last}
 
--- a text that may be there, and its letters
-abbrev pub SaysIfAny : Option (List ℕ) → List ℕ → Type 0
-SaysIfAny None l = l ≡ []
-SaysIfAny (Some s) l = Says s l
+-- a text that may be there, and what it holds
+abbrev pub SaysIfAny : Law → Option (List ℕ) → List ℕ → Type 0
+SaysIfAny law None l = l ≡ []
+SaysIfAny law (Some s) l = Says law s l
 
 -- ---- seams
 
-space_first : (s : List ℕ) {l : List ℕ} → begins_with_space s ≡ true → Says s l → Says (drop 1 s) l
+space_first : {law : Law} (s : List ℕ) {l : List ℕ} → begins_with_space s ≡ true → Says law s l → Says law (drop 1 s) l
 space_first [] e p = p
 space_first (b ∷ s) {l} e p =
     ⊎_elim
     (λ (here : is_space b ≡ true).
     says-cut_start (b ∷ []) s l
-    (subst (λ (x : ℕ). list_all is_filler (x ∷ []) ≡ true) (sym (eqb-true b space here)) refl) p)
+    (subst (λ (x : ℕ). list_all is_white (x ∷ []) ≡ true) (sym (eqb-true b space here)) refl) p)
     (λ (not_here : is_space b ≡ false).
     let none : prefix_len is_space (b ∷ s) ≡ 0 = cond-false (is_space b) _ _ not_here in
     absurd (no_less (prefix_len is_space (b ∷ s)) none e))
@@ -62,76 +62,73 @@ space_first (b ∷ s) {l} e p =
     no_less zero e l = cc
     no_less (suc n) e l = cc
 
-pub says-first_space : (goes : Bool) (s : List ℕ) {l : List ℕ} → Says s l
-    → Says (cond (goes && begins_with_space s) (drop 1 s) s) l
-says-first_space goes s {l} p =
-    cond_both (goes && begins_with_space s) (drop 1 s) s (λ t. Says t l)
+pub says-first_space : {law : Law} (goes : Bool) (s : List ℕ) {l : List ℕ} → Says law s l
+    → Says law (cond (goes && begins_with_space s) (drop 1 s) s) l
+says-first_space {law} goes s {l} p =
+    cond_both (goes && begins_with_space s) (drop 1 s) s (λ t. Says law t l)
     (λ e. space_first s (and_parts goes (begins_with_space s) e).1 p) (λ _. p)
 
-pub says-seam : (out content : List ℕ) (whole : Bool) {l m : List ℕ} → Says out l → Says content m
-    → Says (joined_at_seam out content whole) (l ++ m)
-says-seam out content whole {l} {m} p q =
+pub says-seam : {law : Law} (out content : List ℕ) (whole : Bool) {l m : List ℕ} → Says law out l → Says law content m
+    → Says law (joined_at_seam out content whole) (l ++ m)
+says-seam {law} out content whole {l} {m} p q =
     let a = suffix_len is_line_feed out in
     let b = prefix_len is_line_feed content in
-    cond_both (whole || (length out == 0)) _ _ (λ t. Says t (l ++ m))
+    cond_both (whole || (length out == 0)) _ _ (λ t. Says law t (l ++ m))
     (λ _. says-append p q)
     (λ _. cond_both (((a == 0) && (b == 0)) && (ends_with_space out && begins_with_space content)) _ _
-    (λ t. Says t (l ++ m))
+    (λ t. Says law t (l ++ m))
     (λ e. says-append p
     (space_first content
     (and_parts (ends_with_space out) (begins_with_space content) (and_parts ((a == 0) && (b == 0)) _ e).1).1 q))
     (λ _. says-append
     (says-is (append-nil l)
-    (says-append (says-trimmed_end is_line_feed line_feed_of_fillers out p)
+    (says-append (says-trimmed_end is_line_feed line_feed_of_white out p)
     (says-many (min (a + b) (max 2 a)) line_feed refl)))
-    (says-trimmed_start is_line_feed line_feed_of_fillers content q)))
+    (says-trimmed_start is_line_feed line_feed_of_white content q)))
 
 -- ---- emphasis
 
-white_is_silent : (c : ℕ) → is_whitespace c ≡ true → is_letter c ≡ false
-white_is_silent c e = rw e refl
-
 -- white space and the rest, by characters
-record IsCut (cs ws rest : List ℕ) : Type 0 where
+record IsCut (law : Law) (cs ws rest : List ℕ) : Type 0 where
   whole : cs ≡ ws ++ rest
-  silent : filter is_letter ws ≡ []
+  silent : filter (counts law) ws ≡ []
 
-skipped : (cs : List ℕ) → (ws : List ℕ) × IsCut cs ws (skip_leading_whitespace cs)
-skipped [] = ([], record { whole = refl; silent = refl })
-skipped (c ∷ cs) =
-    let more = skipped cs in
-    cond_both (is_whitespace c) _ _ (λ z. (ws : List ℕ) × IsCut (c ∷ cs) ws z)
+skipped : (law : Law) (cs : List ℕ) → (ws : List ℕ) × IsCut law cs ws (skip_leading_whitespace cs)
+skipped law [] = ([], record { whole = refl; silent = refl })
+skipped law (c ∷ cs) =
+    let more = skipped law cs in
+    cond_both (is_whitespace c) _ _ (λ z. (ws : List ℕ) × IsCut law (c ∷ cs) ws z)
     (λ e. (
       c ∷ more.0,
       record {
         whole = ap (λ z. c ∷ z) (more.1).whole;
-        silent = cond-false (is_letter c) _ _ (white_is_silent c e) ∙ (more.1).silent;
+        silent = cond-false (counts law c) _ _ (white_is_uncounted law c e) ∙ (more.1).silent;
       },
     ))
     (λ _. ([], record { whole = refl; silent = refl }))
 
-record IsCutBehind (cs front ws : List ℕ) : Type 0 where
+record IsCutBehind (law : Law) (cs front ws : List ℕ) : Type 0 where
   whole : cs ≡ front ++ ws
-  silent : filter is_letter ws ≡ []
+  silent : filter (counts law) ws ≡ []
 
 nil_of : (cs : List ℕ) → (length cs == 0) ≡ true → cs ≡ []
 nil_of [] e = refl
 nil_of (c ∷ cs) e = let none : length (c ∷ cs) ≡ 0 = eqb-true (length (c ∷ cs)) 0 e in absurd (omega arith)
 
-dropped : (cs : List ℕ) → (ws : List ℕ) × IsCutBehind cs (drop_trailing_whitespace cs) ws
-dropped [] = ([], record { whole = refl; silent = refl })
-dropped (c ∷ cs) =
-    let more = dropped cs in
+dropped : (law : Law) (cs : List ℕ) → (ws : List ℕ) × IsCutBehind law cs (drop_trailing_whitespace cs) ws
+dropped law [] = ([], record { whole = refl; silent = refl })
+dropped law (c ∷ cs) =
+    let more = dropped law cs in
     cond_both (is_whitespace c && length (drop_trailing_whitespace cs) == 0) _ _
-    (λ z. (ws : List ℕ) × IsCutBehind (c ∷ cs) z ws)
+    (λ z. (ws : List ℕ) × IsCutBehind law (c ∷ cs) z ws)
     (λ e.
     let parts = and_parts (is_whitespace c) _ e in
     let none = nil_of (drop_trailing_whitespace cs) parts.1 in (
       c ∷ cs,
       record {
         whole = refl;
-        silent = cond-false (is_letter c) _ _ (white_is_silent c parts.0)
-            ∙ ap (filter is_letter) ((more.1).whole ∙ ap (λ z. z ++ more.0) none) ∙ (more.1).silent;
+        silent = cond-false (counts law c) _ _ (white_is_uncounted law c parts.0)
+            ∙ ap (filter (counts law)) ((more.1).whole ∙ ap (λ z. z ++ more.0) none) ∙ (more.1).silent;
       },
     ))
     (λ _. (more.0, record { whole = ap (λ z. c ∷ z) (more.1).whole; silent = (more.1).silent }))
@@ -144,8 +141,10 @@ scalars-front (x ∷ xs) ys e =
     let more = scalars-front xs ys parts.1 in
     (and_from _ (all_scalars xs) parts.0 more.0, more.1)
 
-says-encoded : (cs : List ℕ) → all_scalars cs ≡ true → Says (encode_utf8_all cs) (filter is_letter cs)
-says-encoded cs e = record { utf8 = (cs, (e, refl)); says = ap (filter is_letter) (chars-encodes cs e) }
+says-encoded : {law : Law} (cs : List ℕ) → all_scalars cs ≡ true
+    → Says law (encode_utf8_all cs) (filter (counts law) cs)
+says-encoded {law} cs e =
+    says-is (ap (filter (counts law)) (chars-encodes cs e)) (says-own (encode_utf8_all cs) (cs, (e, refl)))
 
 front_taken : (x y : List ℕ) → take (length (x ++ y) - length y) (x ++ y) ≡ x
 front_taken x y =
@@ -165,20 +164,20 @@ marks_silent : (emphasis : Emphasis) → list_all is_filler (mark emphasis) ≡ 
 marks_silent Regular = refl
 marks_silent Strong = refl
 
-says-between : (m before middle after : List ℕ) {l : List ℕ} → list_all is_filler m ≡ true → Says before []
-    → Says middle l → Says after [] → SaysIfAny (between m before middle after) l
-says-between m before [] after e p q r = sym q.says ∙ says-nil.says
+says-between : {law : Law} (m before middle after : List ℕ) {l : List ℕ} → list_all is_filler m ≡ true → Says law before []
+    → Says law middle l → Says law after [] → SaysIfAny law (between m before middle after) l
+says-between m before [] after e p q r = says-of_nothing q
 says-between m before (b ∷ middle) after {l} e p q r =
     says-is (append-nil l) (says-append (says-before m e (says-append (says-before m e p) q)) r)
 
-pub says-emphasised : (emphasis : Emphasis) (s : List ℕ) {l : List ℕ} → Says s l
-    → SaysIfAny (emphasised_text emphasis s) l
+pub says-emphasised : {law : Law} (emphasis : Emphasis) (s : List ℕ) {l : List ℕ} → Says law s l
+    → SaysIfAny law (emphasised_text emphasis s) l
 unfolding trim_start trim_end
-says-emphasised emphasis s {l} p =
+says-emphasised {law} emphasis s {l} p =
     let cs = chars s in
-    let first = skipped cs in
+    let first = skipped law cs in
     let rest = skip_leading_whitespace cs in
-    let last = dropped rest in
+    let last = dropped law rest in
     let front = drop_trailing_whitespace rest in
     let scalar = scalars-chars s p.utf8 in
     let cut = scalars-front first.0 rest (subst (λ (x : List ℕ). all_scalars x ≡ true) (first.1).whole scalar) in
@@ -199,21 +198,21 @@ says-emphasised emphasis s {l} p =
     ap (λ (x : List ℕ). drop (length x) (encode_utf8_all rest)) middle
     ∙ ap (λ (x : List ℕ). drop (length (encode_utf8_all front)) x) rest_whole
     ∙ rest_left (encode_utf8_all front) (encode_utf8_all last.0) in
-    let letters_stay : filter is_letter front ≡ l =
-    sym (append-nil (filter is_letter front))
-    ∙ ap (λ z. filter is_letter front ++ z) (sym (last.1).silent)
-    ∙ sym (filter-append is_letter front last.0) ∙ ap (filter is_letter) (sym (last.1).whole)
-    ∙ ap (λ z. z ++ filter is_letter rest) (sym (first.1).silent)
-    ∙ sym (filter-append is_letter first.0 rest) ∙ ap (filter is_letter) (sym (first.1).whole) ∙ p.says in
+    let all_stay : filter (counts law) front ≡ counted law s =
+    sym (append-nil (filter (counts law) front))
+    ∙ ap (λ z. filter (counts law) front ++ z) (sym (last.1).silent)
+    ∙ sym (filter-append (counts law) front last.0) ∙ ap (filter (counts law)) (sym (last.1).whole)
+    ∙ ap (λ z. z ++ filter (counts law) rest) (sym (first.1).silent)
+    ∙ sym (filter-append (counts law) first.0 rest) ∙ ap (filter (counts law)) (sym (first.1).whole) in
     says-between (mark emphasis) (white_space_at_start s) (trim s) (white_space_at_end (trim_start s))
     (marks_silent emphasis)
     (says-as (sym before) (says-is (first.1).silent (says-encoded first.0 cut.0)))
-    (says-as (sym middle) (says-is letters_stay (says-encoded front cut_behind.0)))
+    (says-as (sym middle) (says-in p.says (says-is all_stay (says-encoded front cut_behind.0))))
     (says-as (sym after) (says-is (last.1).silent (says-encoded last.0 cut_behind.1)))
 
 -- ---- headings
 
-says-setext : (level : ℕ) (s : List ℕ) {l : List ℕ} → Says s l → Says (setext level s) l
+says-setext : {law : Law} (level : ℕ) (s : List ℕ) {l : List ℕ} → Says law s l → Says law (setext level s) l
 says-setext level s {l} p =
     says-is (append-nil l)
     (says-append (says-before (line_feed ∷ []) refl p) (says-many (length (chars s)) (underline level) (silent
@@ -223,71 +222,71 @@ says-setext level s {l} p =
     silent true = refl
     silent false = refl
 
-says-atx : (level : ℕ) (s : List ℕ) {l : List ℕ} → Says s l → Says (atx level s) l
+says-atx : {law : Law} (level : ℕ) (s : List ℕ) {l : List ℕ} → Says law s l → Says law (atx level s) l
 says-atx level s p = says-append (says-before (space ∷ []) refl (says-many level 0x23 refl)) p
 
-pub says-heading : (style : HeadingStyle) (level : ℕ) (s : List ℕ) {l : List ℕ} → Says s l
-    → Says (heading style level s) l
-says-heading style level s {l} p =
+pub says-heading : {law : Law} (style : HeadingStyle) (level : ℕ) (s : List ℕ) {l : List ℕ} → Says law s l
+    → Says law (heading style level s) l
+says-heading {law} style level s {l} p =
     let t = trimmed_text is_document_white_space s in
-    let q = says-trimmed is_document_white_space document_of_fillers s p in
+    let q = says-trimmed is_document_white_space document_of_white s p in
     says-blank_lines (styled_heading style level t) (styled style t q)
   where
-    styled : (style : HeadingStyle) (t : List ℕ) → Says t l → Says (styled_heading style level t) l
+    styled : (style : HeadingStyle) (t : List ℕ) → Says law t l → Says law (styled_heading style level t) l
     styled Atx t q = says-atx level t q
     styled Setex t q =
-        cond_both (nat_le level 2) _ _ (λ x. Says x l) (λ _. says-setext level t q) (λ _. says-atx level t q)
+        cond_both (nat_le level 2) _ _ (λ x. Says law x l) (λ _. says-setext level t q) (λ _. says-atx level t q)
 
 -- ---- code
 
-pub spaces_if : (due : Bool) → Says (space_if due) []
+pub spaces_if : {law : Law} (due : Bool) → Says law (space_if due) []
 spaces_if true = says-fillers (space ∷ []) refl
 spaces_if false = says-nil
 
-line_feeds_as_spaces : (s : List ℕ) → Edited s (map (λ b. cond (is_line_feed b) space b) s)
-line_feeds_as_spaces [] = refl
-line_feeds_as_spaces (b ∷ s) = (
+line_feeds_as_spaces : (law : Law) (s : List ℕ) → Edited law s (map (λ b. cond (is_line_feed b) space b) s)
+line_feeds_as_spaces law [] = refl
+line_feeds_as_spaces law (b ∷ s) = (
   cond (is_line_feed b) space b ∷ [],
   map (λ c. cond (is_line_feed c) space c) s,
   one b,
   refl,
-  line_feeds_as_spaces s,
+  line_feeds_as_spaces law s,
 )
   where
-    one : (b : ℕ) → IsEdit b (cond (is_line_feed b) space b ∷ [])
-    one b = cond_both (is_line_feed b) space b (λ x. IsEdit b (x ∷ []))
-        (λ e. silent_edit b (space ∷ []) (line_feed_of_fillers b e) space_ascii refl) (λ _. same_edit b)
+    one : (b : ℕ) → IsEdit law b (cond (is_line_feed b) space b ∷ [])
+    one b = cond_both (is_line_feed b) space b (λ x. IsEdit law b (x ∷ []))
+        (λ e. filling_edit law b (space ∷ []) (line_feed_of_white b e) refl) (λ _. same_edit law b)
 
-says-one_line : (s : List ℕ) {l : List ℕ} → Says s l → Says (in_one_line s) l
-says-one_line s {l} p =
+says-one_line : {law : Law} (s : List ℕ) {l : List ℕ} → Says law s l → Says law (in_one_line s) l
+says-one_line {law} s {l} p =
     says-is (append-nil l)
-    (says-append (says-append (spaces_if _) (says-edited s _ (line_feeds_as_spaces s) p)) (spaces_if _))
+    (says-append (says-append (spaces_if _) (says-edited s _ (line_feeds_as_spaces law s) p)) (spaces_if _))
 
-says-span_content : (preformatted_code : Bool) (s : List ℕ) {l : List ℕ} → Says s l
-    → Says (span_content preformatted_code s) l
+says-span_content : {law : Law} (preformatted_code : Bool) (s : List ℕ) {l : List ℕ} → Says law s l
+    → Says law (span_content preformatted_code s) l
 says-span_content true s p = says-one_line s p
-says-span_content false s p = says-trimmed is_document_white_space document_of_fillers s p
+says-span_content false s p = says-trimmed is_document_white_space document_of_white s p
 
-says-delimited : (padded : Bool) (n : ℕ) (s : List ℕ) {l : List ℕ} → Says s l
-    → Says (delimited_text padded n s) l
+says-delimited : {law : Law} (padded : Bool) (n : ℕ) (s : List ℕ) {l : List ℕ} → Says law s l
+    → Says law (delimited_text padded n s) l
 says-delimited padded n s {l} p =
     says-is (append-nil (l ++ []) ∙ append-nil l)
     (says-append (says-append (says-append (says-append (says-many n grave_accent refl) (spaces_if padded)) p)
     (spaces_if padded)) (says-many n grave_accent refl))
 
-pub says-code_span : (preformatted_code : Bool) (s : List ℕ) {l : List ℕ} → Says s l
-    → Says (code_span preformatted_code s) l
+pub says-code_span : {law : Law} (preformatted_code : Bool) (s : List ℕ) {l : List ℕ} → Says law s l
+    → Says law (code_span preformatted_code s) l
 says-code_span preformatted_code s p =
     says-delimited _ _ (span_content preformatted_code s) (says-span_content preformatted_code s p)
 
-says-code_of : (s : List ℕ) {l : List ℕ} → Says s l → Says (code_of s) l
-says-code_of s {l} p =
-    cond_both (slice_index s (length s - 1) == line_feed) _ _ (λ (t : List ℕ). Says t l)
+says-code_of : {law : Law} (s : List ℕ) {l : List ℕ} → Says law s l → Says law (code_of s) l
+says-code_of {law} s {l} p =
+    cond_both (slice_index s (length s - 1) == line_feed) _ _ (λ (t : List ℕ). Says law t l)
     (λ e. says-cut_last s
-    (subst (λ (x : ℕ). is_filler x ≡ true) (sym (eqb-true (slice_index s (length s - 1)) line_feed e)) refl) p)
+    (subst (λ (x : ℕ). is_white x ≡ true) (sym (eqb-true (slice_index s (length s - 1)) line_feed e)) refl) p)
     (λ _. p)
 
-pub says-indented_code : (s : List ℕ) {l : List ℕ} → Says s l → Says (indented_code_block s) l
+pub says-indented_code : {law : Law} (s : List ℕ) {l : List ℕ} → Says law s l → Says law (indented_code_block s) l
 says-indented_code s p =
     says-joined (line_feed ∷ []) refl _
     (say-mapped indented_line (λ t m q. says-append (says-many 4 space refl) q) _ (say-lines (code_of s)
@@ -297,14 +296,14 @@ symbol_silent : (fence : CodeBlockFence) → is_filler (symbol_of fence) ≡ tru
 symbol_silent Tildes = refl
 symbol_silent Backticks = refl
 
-info_says : (language : Option (List ℕ)) (m : List ℕ) → SaysIfAny language m → Says (info_string language) m
+info_says : {law : Law} (language : Option (List ℕ)) (m : List ℕ) → SaysIfAny law language m → Says law (info_string language) m
 info_says None m e = says-is (sym e) says-nil
 info_says (Some s) m p = p
 
-pub says-fenced : (s : List ℕ) (language : Option (List ℕ)) (fence : CodeBlockFence) (l m : List ℕ) → Says s l
-    → SaysIfAny language m → Says (fenced_code_block s language fence) (m ++ l)
-says-fenced s language fence l m p q =
-    let run = says-many (fence_len (symbol_of fence) (code_of s)) (symbol_of fence) (symbol_silent fence) in
+pub says-fenced : {law : Law} (s : List ℕ) (language : Option (List ℕ)) (fence : CodeBlockFence) (l m : List ℕ) → Says law s l
+    → SaysIfAny law language m → Says law (fenced_code_block s language fence) (m ++ l)
+says-fenced {law} s language fence l m p q =
+    let run = says-many {law = law} (fence_len (symbol_of fence) (code_of s)) (symbol_of fence) (symbol_silent fence) in
     says-is (append-nil (m ++ l))
     (says-append
     (says-before (line_feed ∷ []) refl

@@ -1,10 +1,10 @@
 -- The letters of tables.
 use Rattle.std.proofs.Common.{◌≡◌, ℕ, zero, suc, ◌+◌, ◌-◌, ◌≤◌, Bool, true, false, cond, List, [], ◌∷◌, ◌++◌}
-use Rattle.std.proofs.Common.{length, take, drop, map, refl, sym, ap, ◌∙◌, arith, append_assoc, length-append}
+use Rattle.std.proofs.Common.{length, take, drop, map, refl, sym, ap, ◌∙◌, arith, append_assoc, length-append, inr}
 use Rattle.std.specs.Prelude.{◌==◌, ◌&&◌, not, replicate, fold}
-use Rattle.std.specs.List.{flat_map}
+use Rattle.std.specs.List.{list_all, flat_map}
 use Rattle.std.specs.Str.{chars}
-use Rattle.std.proofs.lemmas.Bool.{and_parts, cond_both}
+use Rattle.std.proofs.lemmas.Bool.{and_parts, and_from, cond_both}
 use Rattle.std.proofs.lemmas.Bool.Decides.{nat_tests}
 use Rattle.std.proofs.lemmas.List.{append-nil, length-map, length-replicate}
 use Rattle.htmd_text.specs.BlankLines.{blank_line}
@@ -26,10 +26,11 @@ use Rattle.htmd.specs.Tables.{TableTexts, no_texts, text_of_cell, with_part, wit
 use Rattle.htmd.specs.Tables.{table_text, guarded_captions, guarded_headers, guarded_table_text}
 use Rattle.htmd.specs.Letters.{letters, nodes_if, nodes_of_kind, last_headers, nodes_of_table}
 use Rattle.htmd.proofs.LettersLemmas.{Says, says-own, says-nil, says-append, says-is, is_filler, says-many, says-behind}
-use Rattle.htmd.proofs.LettersLemmas.{says-before, filler_ascii}
-use Rattle.htmd.proofs.LettersOfTexts.{document_of_fillers, says-trimmed, Edited, says-edited, IsEdit, same_edit}
-use Rattle.htmd.proofs.LettersOfTexts.{filling_edit, backslash_edit, line_feed_of_fillers, return_of_fillers}
-use Rattle.htmd.proofs.LettersOfLines.{AreTexts, letters_of_all, SayAll, say-none, say-cons, say-is, say-mapped, Keeps}
+use Rattle.htmd.proofs.LettersLemmas.{says-before, filler_ascii, fillers_ascii, fillers_silent}
+use Rattle.htmd.proofs.CountedTexts.{of_letters}
+use Rattle.htmd.proofs.LettersOfTexts.{document_of_white, says-trimmed, Edited, says-edited, IsEdit, same_edit}
+use Rattle.htmd.proofs.LettersOfTexts.{filling_edit, backslash_edit, line_feed_of_white, return_of_white}
+use Rattle.htmd.proofs.LettersOfLines.{AreTexts, counted_of_all, SayAll, say-none, say-cons, say-is, say-mapped, Keeps}
 use Rattle.htmd.proofs.LettersOfLines.{says-flat}
 
 -- ---- cells
@@ -37,75 +38,84 @@ use Rattle.htmd.proofs.LettersOfLines.{says-flat}
 bar_fills : (b : ℕ) → (b == vertical_bar) ≡ true → is_filler b ≡ true
 bar_fills b e = grind (arith, nat_tests)
 
-cell_edit : (b : ℕ) → IsEdit b (in_cell b)
-cell_edit b =
-    cond_both (b == line_feed) _ _ (IsEdit b) (λ e. filling_edit b (space ∷ []) (line_feed_of_fillers b e) refl)
-    (λ _. cond_both (b == carriage_return) _ _ (IsEdit b) (λ e. filling_edit b [] (return_of_fillers b e) refl)
-    (λ _. cond_both (b == vertical_bar) _ _ (IsEdit b) (λ e. filling_edit b _ (bar_fills b e) refl)
-    (λ _. same_edit b)))
+bar_edit : (b : ℕ) (x : List ℕ) → (b == vertical_bar) ≡ true → list_all is_filler x ≡ true → IsEdit of_letters b x
+bar_edit b x e f =
+    inr (
+      filler_ascii b (bar_fills b e),
+      fillers_ascii x f,
+      fillers_silent x f
+          ∙ sym (fillers_silent (b ∷ []) (and_from (is_filler b) true (bar_fills b e) refl)),
+    )
 
-cell_edits : (s : List ℕ) → Edited s (flat_map in_cell s)
+cell_edit : (b : ℕ) → IsEdit of_letters b (in_cell b)
+cell_edit b =
+    cond_both (b == line_feed) _ _ (IsEdit of_letters b) (λ e. filling_edit of_letters b (space ∷ []) (line_feed_of_white b e) refl)
+    (λ _. cond_both (b == carriage_return) _ _ (IsEdit of_letters b) (λ e. filling_edit of_letters b [] (return_of_white b e) refl)
+    (λ _. cond_both (b == vertical_bar) _ _ (IsEdit of_letters b) (λ e. bar_edit b _ e refl)
+    (λ _. same_edit of_letters b)))
+
+cell_edits : (s : List ℕ) → Edited of_letters s (flat_map in_cell s)
 cell_edits [] = refl
 cell_edits (b ∷ s) = (in_cell b, flat_map in_cell s, cell_edit b, refl, cell_edits s)
 
-pub says-normalised : Keeps normalised_cell
+pub says-normalised : Keeps of_letters normalised_cell
 says-normalised s l p =
-    says-trimmed is_document_white_space document_of_fillers (flat_map in_cell s)
+    says-trimmed is_document_white_space document_of_white (flat_map in_cell s)
     (says-edited s (flat_map in_cell s) (cell_edits s) p)
 
 -- ---- cells of Guarded
 
-line_edit : (b : ℕ) → IsEdit b (guarded.in_line b)
+line_edit : (b : ℕ) → IsEdit of_letters b (guarded.in_line b)
 line_edit b =
-    cond_both (b == line_feed) _ _ (IsEdit b) (λ e. filling_edit b (space ∷ []) (line_feed_of_fillers b e) refl)
-    (λ _. cond_both (b == carriage_return) _ _ (IsEdit b) (λ e. filling_edit b [] (return_of_fillers b e) refl)
-    (λ _. same_edit b))
+    cond_both (b == line_feed) _ _ (IsEdit of_letters b) (λ e. filling_edit of_letters b (space ∷ []) (line_feed_of_white b e) refl)
+    (λ _. cond_both (b == carriage_return) _ _ (IsEdit of_letters b) (λ e. filling_edit of_letters b [] (return_of_white b e) refl)
+    (λ _. same_edit of_letters b))
 
-line_edits : (s : List ℕ) → Edited s (flat_map guarded.in_line s)
+line_edits : (s : List ℕ) → Edited of_letters s (flat_map guarded.in_line s)
 line_edits [] = refl
 line_edits (b ∷ s) = (guarded.in_line b, flat_map guarded.in_line s, line_edit b, refl, line_edits s)
 
-bar_edits : (escaped : Bool) (s : List ℕ) → Edited s (escaped_bars escaped s)
+bar_edits : (escaped : Bool) (s : List ℕ) → Edited of_letters s (escaped_bars escaped s)
 bar_edits escaped [] = refl
 bar_edits escaped (b ∷ s) =
     let due = (b == vertical_bar) && not escaped in (
       cond due (backslash ∷ b ∷ []) (b ∷ []),
       escaped_bars (is_escaping escaped b) s,
-      cond_both due _ _ (IsEdit b)
-          (λ e. backslash_edit b (filler_ascii b (bar_fills b (and_parts (b == vertical_bar) _ e).0)))
-          (λ _. same_edit b),
+      cond_both due _ _ (IsEdit of_letters b)
+          (λ e. backslash_edit of_letters b (filler_ascii b (bar_fills b (and_parts (b == vertical_bar) _ e).0)))
+          (λ _. same_edit of_letters b),
       refl,
       bar_edits (is_escaping escaped b) s,
     )
 
-pub says-guarded_cell : Keeps guarded_cell
+pub says-guarded_cell : Keeps of_letters guarded_cell
 says-guarded_cell s l p =
     let whole = trimmed_text is_document_white_space s in
     says-edited (cell_line s) (guarded_cell s) (bar_edits false (cell_line s))
     (says-edited whole (cell_line s) (line_edits whole)
-    (says-trimmed is_document_white_space document_of_fillers s p))
+    (says-trimmed is_document_white_space document_of_white s p))
 
 -- ---- lines
 
-pub say-append : (ss rs : List (List ℕ)) {l m : List ℕ} → SayAll ss l → SayAll rs m
-    → SayAll (ss ++ rs) (l ++ m)
+pub say-append : (ss rs : List (List ℕ)) {l m : List ℕ} → SayAll of_letters ss l → SayAll of_letters rs m
+    → SayAll of_letters (ss ++ rs) (l ++ m)
 say-append [] rs {l} {m} p q = say-is (ap (λ z. z ++ m) p.say) q
 say-append (s ∷ ss) rs {l} {m} p q =
-    say-is (sym (append_assoc (letters s) (letters_of_all ss) m) ∙ ap (λ z. z ++ m) p.say)
+    say-is (sym (append_assoc (letters s) (counted_of_all of_letters ss) m) ∙ ap (λ z. z ++ m) p.say)
     (say-cons (says-own s p.texts.0) (say-append ss rs (record { texts = p.texts.1; say = refl }) q))
 
-say-empty : (n : ℕ) → SayAll (replicate n []) []
+say-empty : (n : ℕ) → SayAll of_letters (replicate n []) []
 say-empty zero = say-none
 say-empty (suc n) = say-is (append-nil []) (say-cons says-nil (say-empty n))
 
-says-padded : (cell : List ℕ) (width : ℕ) {l : List ℕ} → Says cell l → Says (padded_cell cell width) l
+says-padded : (cell : List ℕ) (width : ℕ) {l : List ℕ} → Says of_letters cell l → Says of_letters (padded_cell cell width) l
 says-padded cell width {l} p =
     says-behind (space ∷ []) refl
     (says-is (append-nil l)
     (says-append p (says-before (space ∷ []) refl (says-many (width - length (chars cell)) space refl))))
 
 says-barred : (cells : List (List ℕ)) (widths : List ℕ) {l : List ℕ} → length cells ≤ length widths
-    → SayAll cells l → Says (barred_cells cells widths) l
+    → SayAll of_letters cells l → Says of_letters (barred_cells cells widths) l
 says-barred [] widths fit p = says-is p.say says-nil
 says-barred (cell ∷ cells) [] fit p = absurd (omega (arith, fit))
 says-barred (cell ∷ cells) (width ∷ widths) fit p =
@@ -115,13 +125,13 @@ says-barred (cell ∷ cells) (width ∷ widths) fit p =
     (says-barred cells widths (omega (arith, fit)) (record { texts = p.texts.1; say = refl }))))
 
 says-line : (cells : List (List ℕ)) (widths : List ℕ) {l : List ℕ} → length cells ≤ length widths
-    → SayAll cells l
-    → Says (line cells widths) l
+    → SayAll of_letters cells l
+    → Says of_letters (line cells widths) l
 says-line cells widths fit p = says-behind (vertical_bar ∷ []) refl (says-barred cells widths fit p)
 
-says-row : (written : List ℕ → List ℕ) → Keeps written
+says-row : (written : List ℕ → List ℕ) → Keeps of_letters written
     → (cells : List (List ℕ)) (widths : List ℕ) {l : List ℕ}
-    → length cells ≤ length widths → SayAll cells l → Says (row_by written cells widths) l
+    → length cells ≤ length widths → SayAll of_letters cells l → Says of_letters (row_by written cells widths) l
 says-row written keeps cells widths {l} fit p =
     let missing = length widths - length cells in
     let pad : List (List ℕ) = replicate missing [] in
@@ -134,11 +144,11 @@ says-row written keeps cells widths {l} fit p =
     (say-is (append-nil l)
     (say-append (map written cells) (replicate missing []) (say-mapped written keeps cells p) (say-empty missing))))
 
-say-dashes : (widths : List ℕ) → SayAll (map dashes widths) []
+say-dashes : (widths : List ℕ) → SayAll of_letters (map dashes widths) []
 say-dashes [] = say-none
 say-dashes (width ∷ widths) = say-is (append-nil []) (say-cons (says-many width hyphen refl) (say-dashes widths))
 
-says-separator : (widths : List ℕ) → Says (separator widths) []
+says-separator : (widths : List ℕ) → Says of_letters (separator widths) []
 says-separator widths =
     let size : length (map dashes widths) ≡ length widths = length-map widths dashes in
     says-before (line_feed ∷ []) refl (says-line (map dashes widths) widths (omega (arith, size)) (say-dashes widths))
@@ -182,48 +192,48 @@ AreRows (cells ∷ rows) = AreTexts cells × AreRows rows
 
 abbrev pub letters_of_rows : List (List (List ℕ)) → List ℕ
 letters_of_rows [] = []
-letters_of_rows (cells ∷ rows) = letters_of_all cells ++ letters_of_rows rows
+letters_of_rows (cells ∷ rows) = counted_of_all of_letters cells ++ letters_of_rows rows
 
 pub record SayRows (rows : List (List (List ℕ))) (l : List ℕ) : Type 0 where
   pub texts : AreRows rows
   pub say : letters_of_rows rows ≡ l
 
 rows-push : (rows : List (List (List ℕ))) (cells : List (List ℕ)) {l m : List ℕ} → SayRows rows l
-    → SayAll cells m
+    → SayAll of_letters cells m
     → SayRows (rows ++ cells ∷ []) (l ++ m)
 rows-push [] cells {l} {m} p q = record {
   texts = (q.texts, tt);
-  say = append-nil (letters_of_all cells) ∙ q.say ∙ ap (λ z. z ++ m) p.say;
+  say = append-nil (counted_of_all of_letters cells) ∙ q.say ∙ ap (λ z. z ++ m) p.say;
 }
 rows-push (first ∷ rows) cells {l} {m} p q =
     let more = rows-push rows cells (record { texts = p.texts.1; say = refl }) q in
     record {
       texts = (p.texts.0, more.texts);
-      say = ap (λ z. letters_of_all first ++ z) more.say
-          ∙ sym (append_assoc (letters_of_all first) (letters_of_rows rows) m) ∙ ap (λ z. z ++ m) p.say;
+      say = ap (λ z. counted_of_all of_letters first ++ z) more.say
+          ∙ sym (append_assoc (counted_of_all of_letters first) (letters_of_rows rows) m) ∙ ap (λ z. z ++ m) p.say;
     }
 
-says-rows : (written : List ℕ → List ℕ) → Keeps written
+says-rows : (written : List ℕ → List ℕ) → Keeps of_letters written
     → (rows : List (List (List ℕ))) (widths : List ℕ) {l : List ℕ}
-    → FitIn (length widths) rows → SayRows rows l → Says (flat_map (λ cells. row_by written cells widths) rows) l
+    → FitIn (length widths) rows → SayRows rows l → Says of_letters (flat_map (λ cells. row_by written cells widths) rows) l
 says-rows written keeps [] widths fit p = says-is p.say says-nil
 says-rows written keeps (cells ∷ rows) widths fit p =
     says-is p.say
     (says-append (says-row written keeps cells widths fit.0 (record { texts = p.texts.0; say = refl }))
     (says-rows written keeps rows widths fit.1 (record { texts = p.texts.1; say = refl })))
 
-says-head : (written : List ℕ → List ℕ) → Keeps written
+says-head : (written : List ℕ → List ℕ) → Keeps of_letters written
     → (headers : List (List ℕ)) (widths : List ℕ) {l : List ℕ}
-    → length headers ≤ length widths → SayAll headers l → Says (head_by written headers widths) l
+    → length headers ≤ length widths → SayAll of_letters headers l → Says of_letters (head_by written headers widths) l
 says-head written keeps [] widths fit p = says-is p.say says-nil
 says-head written keeps (header ∷ headers) widths {l} fit p =
     says-is (append-nil l)
     (says-append (says-row written keeps (header ∷ headers) widths fit p) (says-separator widths))
 
-pub says-table : (written : List ℕ → List ℕ) → Keeps written
+pub says-table : (written : List ℕ → List ℕ) → Keeps of_letters written
     → (width : List ℕ → ℕ) (headers : List (List ℕ))
-    (rows : List (List (List ℕ))) {l m : List ℕ} → SayAll headers l → SayRows rows m
-    → Says (table_by written width headers rows) (l ++ m)
+    (rows : List (List (List ℕ))) {l m : List ℕ} → SayAll of_letters headers l → SayRows rows m
+    → Says of_letters (table_by written width headers rows) (l ++ m)
 says-table written keeps width headers rows p q =
     let widths = column_widths_by width (headers ∷ rows) in
     let fit = fit_in width [] (headers ∷ rows) in
@@ -246,7 +256,7 @@ module _ (f : ℕ → List ℕ) where
   SayEach [] [] = Unit {0}
   SayEach [] (r ∷ rs) = ⊥
   SayEach (d ∷ ds) [] = ⊥
-  SayEach (d ∷ ds) (r ∷ rs) = Says r.content (f d) × SayEach ds rs
+  SayEach (d ∷ ds) (r ∷ rs) = Says of_letters r.content (f d) × SayEach ds rs
 
   each_split : (xs ys : List ℕ) (rs : List ResultView) → SayEach (xs ++ ys) rs
       → SayEach xs (take (length xs) rs) × SayEach ys (drop (length xs) rs)
@@ -260,16 +270,16 @@ module _ (f : ℕ → List ℕ) where
       let more = each_split xs ys rs p.1 in
       ((p.0, more.0), more.1)
 
-  cells_say : (ds : List ℕ) (rs : List ResultView) → SayEach ds rs → SayAll (map text_of_cell rs) (all_of ds)
+  cells_say : (ds : List ℕ) (rs : List ResultView) → SayEach ds rs → SayAll of_letters (map text_of_cell rs) (all_of ds)
   cells_say [] [] p = say-none
   cells_say [] (r ∷ rs) p = absurd p
   cells_say (d ∷ ds) [] p = absurd p
   cells_say (d ∷ ds) (r ∷ rs) p =
-      say-cons (says-trimmed is_document_white_space document_of_fillers r.content p.0) (cells_say ds rs p.1)
+      say-cons (says-trimmed is_document_white_space document_of_white r.content p.0) (cells_say ds rs p.1)
 
   record SayTexts (texts : TableTexts) (captions headers rows : List ℕ) : Type 0 where
-    in_captions : SayAll texts.captions captions
-    in_headers : SayAll texts.headers headers
+    in_captions : SayAll of_letters texts.captions captions
+    in_headers : SayAll of_letters texts.headers headers
     in_rows : SayRows texts.rows rows
 
   rows-is : {rows : List (List (List ℕ))} {l m : List ℕ} → l ≡ m → SayRows rows l → SayRows rows m
@@ -344,11 +354,11 @@ module _ (f : ℕ → List ℕ) where
       ∙ ap (λ z. z ++ all_of rows) (sym (all-append captions headers))
       ∙ sym (all-append (captions ++ headers) rows)
 
-  says-in_line : Keeps in_line
+  says-in_line : Keeps of_letters in_line
   says-in_line s l p = says-before (line_feed ∷ []) refl p
 
   pub says-table_text : (parts : List Part) (rs : List ResultView) → SayEach (nodes_of parts) rs
-      → Says (table_text (with_parts no_texts parts rs)) (all_of (nodes_of_table parts))
+      → Says of_letters (table_text (with_parts no_texts parts rs)) (all_of (nodes_of_table parts))
   says-table_text parts rs e =
       let texts = with_parts no_texts parts rs in
       let all = table_says parts rs e in
@@ -358,18 +368,18 @@ module _ (f : ℕ → List ℕ) where
       (says-in_line (table texts.headers texts.rows) _
       (says-table normalised_cell says-normalised cell_width texts.headers texts.rows all.in_headers all.in_rows)))
 
-  says-captions : (captions : List (List ℕ)) {l : List ℕ} → SayAll captions l
-      → Says (guarded_captions captions) l
+  says-captions : (captions : List (List ℕ)) {l : List ℕ} → SayAll of_letters captions l
+      → Says of_letters (guarded_captions captions) l
   says-captions [] p = says-is p.say says-nil
   says-captions (caption ∷ captions) {l} p =
       says-in_line (flat_map in_line (caption ∷ captions)) l (says-flat in_line says-in_line (caption ∷ captions) p)
 
-  say-headers : (headers : List (List ℕ)) {l : List ℕ} → SayAll headers l → SayAll (guarded_headers headers) l
+  say-headers : (headers : List (List ℕ)) {l : List ℕ} → SayAll of_letters headers l → SayAll of_letters (guarded_headers headers) l
   say-headers [] p = say-is p.say (say-is (append-nil []) (say-cons says-nil say-none))
   say-headers (header ∷ headers) p = p
 
   pub says-guarded_table_text : (parts : List Part) (rs : List ResultView) → SayEach (nodes_of parts) rs
-      → Says (guarded_table_text (with_parts no_texts parts rs)) (all_of (nodes_of_table parts))
+      → Says of_letters (guarded_table_text (with_parts no_texts parts rs)) (all_of (nodes_of_table parts))
   says-guarded_table_text parts rs e =
       let texts = with_parts no_texts parts rs in
       let all = table_says parts rs e in

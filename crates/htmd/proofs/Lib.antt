@@ -41,6 +41,7 @@ pub mod GuardedSeams
 pub mod TextTrees
 pub mod TextElements
 pub mod TextLawsLemmas
+pub mod CountedTexts
 pub mod LettersLemmas
 pub mod LettersOfTexts
 pub mod LettersOfLines
@@ -49,8 +50,14 @@ pub mod LettersOfLinks
 pub mod LettersOfGuarded
 pub mod LettersOfHandlers
 pub mod LettersOfTables
+pub mod ElementsByTag
 pub mod LettersOfElements
+pub mod FittingTrees
+pub mod SaidChildren
 pub mod LettersLawsLemmas
+pub mod ShownOfElements
+pub mod ShownTrees
+pub mod ShownLawsLemmas
 pub mod ChildListsLemmas
 pub mod TableNodesLemmas
 pub mod TableHeadersLemmas
@@ -58,3 +65,4 @@ pub mod TableTextsLemmas
 mod Examples
 mod GuardedExamples
 mod LettersExamples
+mod ShownExamples

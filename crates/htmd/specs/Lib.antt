@@ -66,6 +66,7 @@ pub mod Registries
 pub mod Converters
 pub mod Conversions
 pub mod Letters
+pub mod Shown
 pub mod Defaults
 pub mod TagIndexes
 pub mod Closures

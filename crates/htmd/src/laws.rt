@@ -9,6 +9,7 @@ ghost use Rattle.htmd.specs.LinkLaws.{ImagesHoldAddresses, LinksHoldAddresses};
 ghost use Rattle.htmd.specs.ListLaws.{EachItemTakesANumber, ItemsBeginInOneColumn};
 ghost use Rattle.htmd.specs.ParagraphLaws.{ParagraphsReadBack};
 ghost use Rattle.htmd.specs.Letters.{EveryLetterOnce};
+ghost use Rattle.htmd.specs.Shown.{NothingIsLost};
 ghost use Rattle.htmd.specs.TextLaws.{TextStaysText};
 ghost use Rattle.htmd.specs.Views.{element_view};
 
@@ -99,4 +100,12 @@ pub fn text_stays_text()
 /// content decides whether a link says its address once or twice.
 pub fn every_letter_once()
     ensures { EveryLetterOnce }
+{}
+
+/// In Pure, with the built-in handlers, where no table stands, nothing that a reader sees is lost: the characters that
+/// are no white space, of all texts that are not below `br`, `hr` or `img`, stand in the content in their order, digits
+/// and punctuation too, whatever is put between them. So it is of the whole Markdown, and of each text that is
+/// converted. A table is left out, since it drops cells.
+pub fn nothing_is_lost()
+    ensures { NothingIsLost }
 {}
