@@ -15,7 +15,8 @@ use Rattle.htmd_tree.specs.NumberedTrees.{NumberedTree, document, doctype, text,
 use Rattle.htmd_tree.specs.NumberedTrees.{more, with_children, forest_of, tree_of, height, tallest}
 use Rattle.htmd_tree.specs.Ancestors.{ancestor_of}
 use Rattle.htmd_tree.proofs.NumberedTreesLemmas.{tree-open, height_pos, lower_child, IsLower}
-use Rattle.htmd.specs.Groups.{only_text, with_only_text, with_text, text_of, joint_text, joint_with, joint_of, is_joinable}
+use Rattle.htmd.specs.Groups.{only_text, with_only_text, with_text, text_of, joint_text, joint_with, joint_of}
+use Rattle.htmd.specs.Groups.{is_joinable}
 use Rattle.htmd.specs.Groups.{in_front, groups_of, children_at, may_join, alike, is_em, is_strong, both_join, Joint}
 use Rattle.htmd.specs.Handling.{ElementView}
 use Rattle.htmd.specs.Children.{descendant_tree}
