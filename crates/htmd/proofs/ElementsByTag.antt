@@ -305,9 +305,54 @@ pub record ElementsByTag (law : Law) (options : Options) (Shown : List ℕ → T
   pub unhandled : (name : List ℕ) → indexes name (built_in options).registered ≡ [] → IsPlain name
       → is_named hidden_tags name ≡ false → Shown name
 
+also : {A B : Type 0} → A → B → A × B
+also a b = (a, b)
+
 first_by_tag : {law : Law} {options : Options} {Shown : List ℕ → Type 0} → ElementsByTag law options Shown
     → HoldsOfAll Shown first_tags
-first_by_tag cases = (cases.image, (cases.anchor, (cases.ordered, (cases.content (codes "ul") lists refl keeps_lists (plain_if (codes "ul") refl) refl, (cases.content (codes "li") list_items refl (keeps_items (codes "li")) (plain_if (codes "li") refl) refl, (cases.content (codes "blockquote") quotes refl (keeps_quotes (codes "blockquote")) (plain_if (codes "blockquote") refl) refl, (cases.code, (cases.content (codes "strong") (emphasis_of kind.Strong) refl (keeps_emphasis kind.Strong (codes "strong")) (plain_if (codes "strong") refl) refl, (cases.content (codes "b") (emphasis_of kind.Strong) refl (keeps_emphasis kind.Strong (codes "b")) (plain_if (codes "b") refl) refl, (cases.content (codes "i") (emphasis_of kind.Regular) refl (keeps_emphasis kind.Regular (codes "i")) (plain_if (codes "i") refl) refl, (cases.content (codes "em") (emphasis_of kind.Regular) refl (keeps_emphasis kind.Regular (codes "em")) (plain_if (codes "em") refl) refl, (cases.content (codes "h1") headings refl (keeps_headings (codes "h1")) (plain_if (codes "h1") refl) refl, (cases.content (codes "h2") headings refl (keeps_headings (codes "h2")) (plain_if (codes "h2") refl) refl, (cases.content (codes "h3") headings refl (keeps_headings (codes "h3")) (plain_if (codes "h3") refl) refl, (cases.content (codes "h4") headings refl (keeps_headings (codes "h4")) (plain_if (codes "h4") refl) refl, (cases.content (codes "h5") headings refl (keeps_headings (codes "h5")) (plain_if (codes "h5") refl) refl, (cases.content (codes "h6") headings refl (keeps_headings (codes "h6")) (plain_if (codes "h6") refl) refl, (cases.line_break, (cases.thematic_break, (cases.table, (cases.content (codes "td") cells refl (keeps_cells (codes "td")) (plain_if (codes "td") refl) refl, (cases.content (codes "th") cells refl (keeps_cells (codes "th")) (plain_if (codes "th") refl) refl, (cases.content (codes "tr") table_rows refl (keeps_rows (codes "tr")) (plain_if (codes "tr") refl) refl, (cases.content (codes "tbody") table_parts refl (keeps_table_parts (codes "tbody")) (plain_if (codes "tbody") refl) refl, (cases.content (codes "thead") table_parts refl (keeps_table_parts (codes "thead")) (plain_if (codes "thead") refl) refl, (cases.content (codes "caption") table_parts refl (keeps_table_parts (codes "caption")) (plain_if (codes "caption") refl) refl, (cases.content (codes "p") paragraphs refl (keeps_paragraphs (codes "p")) (plain_if (codes "p") refl) refl, (cases.pre, (cases.content (codes "head") parts_of_page refl (keeps_parts (codes "head")) (plain_if (codes "head") refl) refl, (cases.content (codes "body") parts_of_page refl (keeps_parts (codes "body")) (plain_if (codes "body") refl) refl, (cases.content (codes "html") pages refl (keeps_pages (codes "html")) (plain_if (codes "html") refl) refl, (cases.span, tt))))))))))))))))))))))))))))))))
+first_by_tag cases =
+    also cases.image
+    (also cases.anchor
+    (also cases.ordered
+    (also (cases.content (codes "ul") lists refl keeps_lists (plain_if (codes "ul") refl) refl)
+    (also (cases.content (codes "li") list_items refl (keeps_items (codes "li")) (plain_if (codes "li") refl) refl)
+    (also (cases.content (codes "blockquote") quotes refl (keeps_quotes (codes "blockquote")) (plain_if
+    (codes "blockquote") refl) refl)
+    (also cases.code
+    (also (cases.content (codes "strong") (emphasis_of kind.Strong) refl (keeps_emphasis kind.Strong
+    (codes "strong")) (plain_if (codes "strong") refl) refl)
+    (also (cases.content (codes "b") (emphasis_of kind.Strong) refl (keeps_emphasis kind.Strong (codes "b"))
+    (plain_if (codes "b") refl) refl)
+    (also (cases.content (codes "i") (emphasis_of kind.Regular) refl (keeps_emphasis kind.Regular (codes "i"))
+    (plain_if (codes "i") refl) refl)
+    (also (cases.content (codes "em") (emphasis_of kind.Regular) refl (keeps_emphasis kind.Regular (codes "em"))
+    (plain_if (codes "em") refl) refl)
+    (also (cases.content (codes "h1") headings refl (keeps_headings (codes "h1")) (plain_if (codes "h1") refl) refl)
+    (also (cases.content (codes "h2") headings refl (keeps_headings (codes "h2")) (plain_if (codes "h2") refl) refl)
+    (also (cases.content (codes "h3") headings refl (keeps_headings (codes "h3")) (plain_if (codes "h3") refl) refl)
+    (also (cases.content (codes "h4") headings refl (keeps_headings (codes "h4")) (plain_if (codes "h4") refl) refl)
+    (also (cases.content (codes "h5") headings refl (keeps_headings (codes "h5")) (plain_if (codes "h5") refl) refl)
+    (also (cases.content (codes "h6") headings refl (keeps_headings (codes "h6")) (plain_if (codes "h6") refl) refl)
+    (also cases.line_break
+    (also cases.thematic_break
+    (also cases.table
+    (also (cases.content (codes "td") cells refl (keeps_cells (codes "td")) (plain_if (codes "td") refl) refl)
+    (also (cases.content (codes "th") cells refl (keeps_cells (codes "th")) (plain_if (codes "th") refl) refl)
+    (also (cases.content (codes "tr") table_rows refl (keeps_rows (codes "tr")) (plain_if (codes "tr") refl) refl)
+    (also (cases.content (codes "tbody") table_parts refl (keeps_table_parts (codes "tbody")) (plain_if
+    (codes "tbody") refl) refl)
+    (also (cases.content (codes "thead") table_parts refl (keeps_table_parts (codes "thead")) (plain_if
+    (codes "thead") refl) refl)
+    (also (cases.content (codes "caption") table_parts refl (keeps_table_parts (codes "caption")) (plain_if
+    (codes "caption") refl) refl)
+    (also (cases.content (codes "p") paragraphs refl (keeps_paragraphs (codes "p")) (plain_if (codes "p") refl) refl)
+    (also cases.pre
+    (also (cases.content (codes "head") parts_of_page refl (keeps_parts (codes "head")) (plain_if
+    (codes "head") refl) refl)
+    (also (cases.content (codes "body") parts_of_page refl (keeps_parts (codes "body")) (plain_if
+    (codes "body") refl) refl)
+    (also (cases.content (codes "html") pages refl (keeps_pages (codes "html")) (plain_if (codes "html") refl) refl)
+    (also cases.span tt)))))))))))))))))))))))))))))))
 
 pub by_tag : {law : Law} {options : Options} {Shown : List ℕ → Type 0} → ElementsByTag law options Shown
     → (name : List ℕ) → Shown name

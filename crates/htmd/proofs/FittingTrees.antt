@@ -105,7 +105,8 @@ module _ (Fit : ℕ → List ℕ → NumberedForest → Type 0)
     all_text_fits (text i s) fit = fit
     all_text_fits (comment i s) fit = IsUtf8-nil
     all_text_fits (element i name attributes c) fit =
-        cond_both (bytes_eq name (codes "br")) _ _ IsUtf8 (λ _. (says-fillers {law = of_letters} (line_feed ∷ []) refl).utf8)
+        cond_both (bytes_eq name (codes "br")) _ _ IsUtf8 (λ _. (says-fillers {law = of_letters}
+        (line_feed ∷ []) refl).utf8)
         (λ _. all_text_fits_among c fit.1)
 
     pub all_text_fits_among : (trees : NumberedForest) → AllFit trees → IsUtf8 (all_text_among trees)

@@ -108,7 +108,8 @@ module _ (items : List Item) where
 
     whole_fits : (shown : Option (List ℕ)) (id : ℕ) → IsTextIfAny shown
         → IsUtf8 (text_or_all shown (children_at items id))
-    whole_fits None id t = fitting.all_text_fits_among HasTag tag_stays (children_at items id) (all_fit (children_of items id))
+    whole_fits None id t =
+        fitting.all_text_fits_among HasTag tag_stays (children_at items id) (all_fit (children_of items id))
     whole_fits (Some s) id t = t
 
     descendant_fits : (shown : Option (List ℕ)) (d : ℕ) → IsTextIfAny shown
@@ -141,7 +142,8 @@ module _ (options : Options) (alone : is_markdown_alone options ≡ true)
   -- so many levels say what stands in the tree
   abbrev AreSaid : ℕ → Type 0
   AreSaid n = (tree : NumberedTree) (context : Context) (out : Output) (l : List ℕ) → Fits items tree
-      → Says of_letters out.text l → Says of_letters (written_within n conversion tree context out).text (l ++ says n tree)
+      → Says of_letters out.text l
+      → Says of_letters (written_within n conversion tree context out).text (l ++ says n tree)
 
   all_of : (n : ℕ) (trees : NumberedForest) → AllFit items trees → AllOf (Fits items) trees
   all_of n none fit = tt
@@ -190,7 +192,8 @@ module _ (options : Options) (alone : is_markdown_alone options ≡ true)
       (descendant_fits items plain (only_text children) d shown) says-nil)
       name fit.0)
 
-  content_is_said : (start : ℕ) → Says of_letters (walked_content (built_in options) items start) (said options items start)
+  content_is_said : (start : ℕ)
+      → Says of_letters (walked_content (built_in options) items start) (said options items start)
   content_is_said start =
       let tree = tree_of items start in
       says-trimmed is_line_feed line_feed_of_white _

@@ -124,7 +124,8 @@ module _ (options : Options) (alone : is_markdown_alone options ≡ true)
 
     break_is_said : IsSaid (codes "br")
     break_is_said here =
-        planned_is_said of_letters at definitions (codes "br") line_breaks (markdown_plan (line_break (break_style_of at.view))) [] refl (rw
+        planned_is_said of_letters at definitions (codes "br") line_breaks (markdown_plan (line_break
+        (break_style_of at.view))) [] refl (rw
         alone refl) (says-break (break_style_of at.view))
 
     rule_is_said : IsSaid (codes "hr")
@@ -171,13 +172,16 @@ module _ (options : Options) (alone : is_markdown_alone options ≡ true)
     code_is_said here =
         let out = content_of at definitions in
         let inside = said_among says (groups_of children) in
-        planned_is_said of_letters at definitions (codes "code") code (code_plan at.view) (said_of_code at.view inside) refl refl
-        (either_is_said of_letters at definitions code (is_guarded options) (guarded_code_plan at.view) (content_plan at.view)
+        planned_is_said of_letters at definitions (codes "code") code (code_plan at.view)
+        (said_of_code at.view inside) refl refl
+        (either_is_said of_letters at definitions code (is_guarded options) (guarded_code_plan at.view)
+        (content_plan at.view)
         (letters (all_text_of at.view))
         (cond (shows_language at.view) (letters_if_any (language at.view)) [] ++ inside)
         (says-guarded_code (all_text_of at.view) _ (says-own (all_text_of at.view) all))
         (rw alone
-        (code_says at.view out.text inside (within definitions) (shown_language items values at.view refl) options.code_block_style refl
+        (code_says at.view out.text inside (within definitions)
+        (shown_language items values at.view refl) options.code_block_style refl
         (is_code_block at.view) refl)))
 
     child_language : (child : Option ℕ) → IsTextIfAny (option_and_then (language_of_code items) child)
@@ -208,9 +212,11 @@ module _ (options : Options) (alone : is_markdown_alone options ≡ true)
     pre_is_said here =
         let out = content_of at definitions in
         let inside = said_among says (groups_of children) in
-        planned_is_said of_letters at definitions (codes "pre") preformatted_texts (preformatted_plan at.view) (said_of_pre at.view inside) refl
+        planned_is_said of_letters at definitions (codes "pre") preformatted_texts (preformatted_plan at.view)
+        (said_of_pre at.view inside) refl
         refl
-        (either_is_said of_letters at definitions preformatted_texts (is_guarded options) (markdown_plan (guarded_preformatted at.view))
+        (either_is_said of_letters at definitions preformatted_texts (is_guarded options) (markdown_plan
+        (guarded_preformatted at.view))
         (block_plan at.view) _ inside guarded_pre_says
         (rw (alone, alone) (wrapped out.text inside (within definitions))))
 
@@ -269,7 +275,8 @@ module _ (options : Options) (alone : is_markdown_alone options ≡ true)
     between_lines (b ∷ s) l p = says-blank_lines (b ∷ s) p
 
     table_gives : (form lines : Bool) → has_table_form items id ≡ form → has_lines (layout_of items id) ≡ lines
-        → SaysResult of_letters (plan_answer tables at definitions (table_plan at.view) (without_handler at definitions)).result
+        → SaysResult of_letters (plan_answer tables at definitions (table_plan at.view)
+        (without_handler at definitions)).result
         (said_inside says (codes "table") at.view children)
     table_gives false lines is has = rw (alone, is, alone, is) (within definitions)
     table_gives true true is has =
@@ -293,7 +300,8 @@ module _ (options : Options) (alone : is_markdown_alone options ≡ true)
 
     table_is_said : IsSaid (codes "table")
     table_is_said here =
-        planned_is_said of_letters at definitions (codes "table") tables (table_plan at.view) (said_inside says (codes "table") at.view children)
+        planned_is_said of_letters at definitions (codes "table") tables (table_plan at.view) (said_inside says
+        (codes "table") at.view children)
         refl refl (table_gives (has_table_form items id) (has_lines (layout_of items id)) refl refl)
 
     plainly_said : (name : List ℕ) → IsPlain name → is_named hidden_tags name ≡ false
@@ -314,7 +322,8 @@ module _ (options : Options) (alone : is_markdown_alone options ≡ true)
         ∙ sym (said_plainly name plain says at.view children) in
         planned_is_said of_letters at definitions name other_blocks (other_block_plan at.view)
         (said_of_element name at.view (said_inside says name at.view children)) only refl
-        (subst (λ (l : List ℕ). SaysResult of_letters (plan_answer other_blocks at definitions (other_block_plan at.view)
+        (subst (λ (l : List ℕ). SaysResult of_letters (plan_answer other_blocks at definitions
+        (other_block_plan at.view)
         (without_handler at definitions)).result l) same
         (either_is_said of_letters at definitions other_blocks hides nothing (unless_faithful at.view) [] inside refl
         (rw alone (wrapped out.text inside (within definitions)))))

@@ -1,6 +1,6 @@
 -- The letters of the pieces of Markdown that Guarded writes.
-use Rattle.std.proofs.Common.{◌≡◌, ℕ, ◌-◌, Bool, true, false, cond, List, [], ◌∷◌, ◌++◌, length, take, drop, refl, sym}
-use Rattle.std.proofs.Common.{◌∙◌}
+use Rattle.std.proofs.Common.{◌≡◌, ℕ, ◌-◌, Bool, true, false, cond, List, [], ◌∷◌, ◌++◌, length, take, drop, refl}
+use Rattle.std.proofs.Common.{sym, ◌∙◌}
 use Rattle.std.proofs.Common.{subst, arith, append_assoc, Option, Some, None, codes, map}
 use Rattle.std.specs.Prelude.{◌&&◌, ◌==◌, slice_index, filter, unwrap_or}
 use Rattle.std.specs.Char.{is_ascii}
@@ -71,12 +71,14 @@ says-last_cut c fills s {l} e p =
     says-cut_end (take (length s - 1) s) (drop (length s - 1) s) l last (fillers_silent (drop (length s - 1) s) last)
     (says-as (sym (take-append-drop (length s - 1) s)) p)
 
-says-before_content : (out content : List ℕ) {l : List ℕ} → Says of_letters out l → Says of_letters (before_content out content) l
+says-before_content : (out content : List ℕ) {l : List ℕ} → Says of_letters out l
+    → Says of_letters (before_content out content) l
 says-before_content out content {l} p =
     cond_both (ends_with exclamation_mark out && begins_with left_square_bracket content) _ _
     (λ (t : List ℕ). Says of_letters t l)
     (λ e. says-before (codes "\\!") refl (says-last_cut exclamation_mark refl out (and_parts _ _ e).0 p))
-    (λ _. cond_both (ends_with grave_accent out && begins_with grave_accent content) _ _ (λ (t : List ℕ). Says of_letters t l)
+    (λ _. cond_both (ends_with grave_accent out && begins_with grave_accent content) _ _ (λ
+    (t : List ℕ). Says of_letters t l)
     (λ _. says-before (codes " ") refl p) (λ _. p))
 
 pub says-guarded_seam : (out content : List ℕ) {l m : List ℕ} → Says of_letters out l → Says of_letters content m
@@ -106,7 +108,8 @@ line_ends_edited instead fills (b ∷ s) =
 says-line_ends : (instead : List ℕ) → list_all is_filler instead ≡ true → Keeps of_letters (line_ends_as instead)
 says-line_ends instead fills s l p = says-edited s (line_ends_as instead s) (line_ends_edited instead fills s) p
 
-says-between_spaces : {law : Law} (parts : List (List ℕ)) {l : List ℕ} → SayAll law parts l → Says law (with_spaces_between parts) l
+says-between_spaces : {law : Law} (parts : List (List ℕ)) {l : List ℕ} → SayAll law parts l
+    → Says law (with_spaces_between parts) l
 says-between_spaces parts p = says-joined (space ∷ []) refl (filter is_filled parts) (say-filled parts p)
 
 pub says-in_one_line : {law : Law} → Keeps law one_line
@@ -135,11 +138,13 @@ says-title_behind (Some s) text =
     says-behind (codes " \"") refl
     (says-before (codes "\"") refl (says-guarded_title s (letters s) (says-own s text)))
 
-bracket_if : (due : Bool) (bracket : List ℕ) → list_all is_filler bracket ≡ true → Says of_letters (cond due bracket []) []
+bracket_if : (due : Bool) (bracket : List ℕ) → list_all is_filler bracket ≡ true
+    → Says of_letters (cond due bracket []) []
 bracket_if true bracket e = says-fillers bracket e
 bracket_if false bracket e = says-nil
 
-says-destination : (address : List ℕ) {l : List ℕ} → Says of_letters address l → Says of_letters (guarded_destination address) l
+says-destination : (address : List ℕ) {l : List ℕ} → Says of_letters address l
+    → Says of_letters (guarded_destination address) l
 says-destination address {l} p =
     let due = needs_brackets (bare_address address) in
     says-is (append-nil l)
@@ -160,7 +165,8 @@ says-link_text s {l} p = says-append (spaces_if _) (says-in_brackets (one_line s
 
 pub says-guarded_link : (s address : List ℕ) (title : Option (List ℕ)) {l : List ℕ} → Says of_letters s l
     → IsUtf8 address
-    → IsTextIfAny title → Says of_letters (guarded_link s address title) (l ++ (letters address ++ letters_if_any title))
+    → IsTextIfAny title
+    → Says of_letters (guarded_link s address title) (l ++ (letters address ++ letters_if_any title))
 says-guarded_link s address title {l} p text titled =
     says-is (append-nil (l ++ (letters address ++ letters_if_any title)))
     (says-append (says-append (says-link_text s p) (says-guarded_resource address title text titled)) (spaces_if _))

@@ -68,7 +68,8 @@ abbrev pub SaysResult : Law → Option ResultView → List ℕ → Type 0
 SaysResult law None l = l ≡ []
 SaysResult law (Some r) l = Says law r.content l
 
-says-optional : (law : Law) (s : Option (List ℕ)) (l : List ℕ) → SaysIfAny law s l → SaysResult law (optional_markdown s) l
+says-optional : (law : Law) (s : Option (List ℕ)) (l : List ℕ) → SaysIfAny law s l
+    → SaysResult law (optional_markdown s) l
 says-optional law None l p = p
 says-optional law (Some s) l p = p
 
@@ -121,12 +122,14 @@ pub language_is_text : (attributes : List AttributePair) → AreValues attribute
 language_is_text [] values = tt
 language_is_text (a ∷ attributes) values =
     cond_both (bytes_eq a.name (codes "class")) _ _ IsTextIfAny
-    (λ _. first_is_text (classes_of a.value) (say-cut space refl {law = of_letters} a.value (says-own a.value values.0)).texts)
+    (λ _. first_is_text (classes_of a.value) (say-cut space refl {law = of_letters} a.value
+    (says-own a.value values.0)).texts)
     (λ _. language_is_text attributes values.1)
 
 -- ---- handlers that make something of the content alone
 
-pub wrapped : {law : Law} (s : List ℕ) (l : List ℕ) → Says law s l → Says law (with_blank_lines (trimmed_text is_line_feed s)) l
+pub wrapped : {law : Law} (s : List ℕ) (l : List ℕ) → Says law s l
+    → Says law (with_blank_lines (trimmed_text is_line_feed s)) l
 wrapped s l p = says-blank_lines (trimmed_text is_line_feed s) (says-trimmed is_line_feed line_feed_of_white s p)
 
 -- in Pure and in Guarded it asks for the children's content, of elements with this tag, and keeps what it holds
@@ -179,7 +182,8 @@ keeps_table_parts tag = record {
   finished = λ view content definitions l alone p. wrapped content.content l p;
 }
 
-says-item_of : {law : Law} (view : ElementView) (s : List ℕ) {l : List ℕ} → Says law s l → Says law (bullet_item_of view s) l
+says-item_of : {law : Law} (view : ElementView) (s : List ℕ) {l : List ℕ} → Says law s l
+    → Says law (bullet_item_of view s) l
 says-item_of {law} view s {l} p =
     let marker = view.options.bullet_list_marker in
     let spacing = view.options.ul_bullet_spacing in
@@ -218,13 +222,16 @@ keeps_emphasis {law} emphasis tag = record {
   finished = λ view content definitions l alone p.
       cond_both (is_guarded view.options) _ _ (λ (r : Option ResultView). SaysResult law r l)
       (λ _. says-guarded_emphasis emphasis content.content l p)
-      (λ _. says-optional law (emphasised_text emphasis content.content) l (says-emphasised emphasis content.content p));
+      (λ _. says-optional law (emphasised_text emphasis content.content) l
+      (says-emphasised emphasis content.content p));
 }
 
-pub says-listed : {law : Law} (view : ElementView) (list : ResultView) (l : List ℕ) → is_markdown_alone view.options ≡ true
+pub says-listed : {law : Law} (view : ElementView) (list : ResultView) (l : List ℕ)
+    → is_markdown_alone view.options ≡ true
     → Says law list.content l → SaysResult law (list_result view list) l
 says-listed {law} view list l alone p =
-    rw alone (says-optional law (list_block (is_in_item view) list.content) l (says-list (is_in_item view) list.content p))
+    rw alone (says-optional law (list_block (is_in_item view) list.content) l (says-list
+    (is_in_item view) list.content p))
 
 pub keeps_lists : {law : Law} → KeepsContent law (codes "ul") lists
 keeps_lists = record {
@@ -266,13 +273,15 @@ pub link_is_said : (view : ElementView) (content : ResultView) (definitions : Li
     → view.options.link_style ≡ style → prefers_autolinks style ≡ false
     → (address : Option (List ℕ)) → anchor_address view ≡ address → IsTextIfAny address
     → IsTextIfAny (title_of view)
-    → SaysResult of_letters (finish_at address view content definitions).result (l ++ said_of_address style address view)
+    → SaysResult of_letters (finish_at address view content definitions).result
+    (l ++ said_of_address style address view)
 link_is_said view content definitions l p Inlined e f None here text titled = says-is (sym (append-nil l)) p
 link_is_said view content definitions l p Referenced e f None here text titled = says-is (sym (append-nil l)) p
 link_is_said view content definitions l p InlinedPreferAutolinks e f address here text titled = cc
 link_is_said view content definitions l p Inlined e f (Some address) here text titled =
     subst
-    (λ (written : LinkStyle). SaysResult of_letters ((cond (is_guarded view.options) guarded_link_finish link_finish) written view
+    (λ (written : LinkStyle). SaysResult of_letters ((cond (is_guarded view.options) guarded_link_finish link_finish)
+    written view
     content.content address definitions).result (l ++ (letters address ++ letters_if_any (title_of view)))) (sym e)
     (cond_both (is_guarded view.options) guarded_link_finish link_finish
     (λ finish. SaysResult of_letters (finish Inlined view content.content address definitions).result
@@ -281,7 +290,8 @@ link_is_said view content definitions l p Inlined e f (Some address) here text t
     (λ _. says-link content.content address (title_of view) p (says-resource address (title_of view) text titled)))
 link_is_said view content definitions l p Referenced e f (Some address) here text titled =
     subst
-    (λ (written : LinkStyle). SaysResult of_letters ((cond (is_guarded view.options) guarded_link_finish link_finish) written view
+    (λ (written : LinkStyle). SaysResult of_letters ((cond (is_guarded view.options) guarded_link_finish link_finish)
+    written view
     content.content address definitions).result (l ++ [])) (sym e)
     (cond_both (is_guarded view.options) guarded_link_finish link_finish
     (λ finish. SaysResult of_letters (finish Referenced view content.content address definitions).result (l ++ []))
@@ -309,7 +319,8 @@ formula_marks_fill (a ∷ []) mark =
     (λ _ e. marks_fill a.value mark e) (λ _ e. cc)
 formula_marks_fill (a ∷ b ∷ attributes) mark = λ e. cc
 
-pub says-formula : {law : Law} (mark s : List ℕ) → list_all is_filler mark ≡ true → IsUtf8 s → Says law ((mark ++ s) ++ mark)
+pub says-formula : {law : Law} (mark s : List ℕ) → list_all is_filler mark ≡ true → IsUtf8 s
+    → Says law ((mark ++ s) ++ mark)
     (counted law s)
 says-formula mark s fills text = says-before mark fills (says-behind mark fills (says-own s text))
 

@@ -206,7 +206,8 @@ stripped {law} s l p =
     (subst (λ (x : ℕ). is_white x ≡ true) (sym (eqb-true (slice_index s (length s - 1)) 13 e)) refl) p)
     (λ _. p)
 
-say-lines_of : {law : Law} (parts : List (List ℕ)) {l : List ℕ} → SayAll law parts l → SayAll law (lines_of_parts parts) l
+say-lines_of : {law : Law} (parts : List (List ℕ)) {l : List ℕ} → SayAll law parts l
+    → SayAll law (lines_of_parts parts) l
 say-lines_of [] p = p
 say-lines_of {law} ([] ∷ []) {l} p =
     let none : counted_of_all law ([] ∷ []) ≡ [] =
@@ -270,7 +271,8 @@ says-block out (b ∷ block) p q =
     (says-many (min (max (suffix_len is_line_feed out) (prefix_len is_line_feed (b ∷ block))) 2) line_feed refl)))
     (says-trimmed_start is_line_feed line_feed_of_white (b ∷ block) q)
 
-says-blocks_behind : {law : Law} (out : List ℕ) (blocks : List (List ℕ)) {l m : List ℕ} → Says law out l → SayAll law blocks m
+says-blocks_behind : {law : Law} (out : List ℕ) (blocks : List (List ℕ)) {l m : List ℕ} → Says law out l
+    → SayAll law blocks m
     → Says law (fold join_block out blocks) (l ++ m)
 says-blocks_behind {law} out [] {l} {m} p q =
     says-is (sym (append-nil l) ∙ ap (λ z. l ++ z) (sym (holds-of_nothing law m q.say))) p
@@ -280,5 +282,6 @@ says-blocks_behind {law} out (b ∷ blocks) {l} {m} p q =
     (says-blocks_behind (join_block out b) blocks (says-block out b p (says-own b q.texts.0))
     (say-own _ q.texts.1)))
 
-pub says-joined_blocks : {law : Law} (blocks : List (List ℕ)) {m : List ℕ} → SayAll law blocks m → Says law (joined_blocks blocks) m
+pub says-joined_blocks : {law : Law} (blocks : List (List ℕ)) {m : List ℕ} → SayAll law blocks m
+    → Says law (joined_blocks blocks) m
 says-joined_blocks blocks q = says-blocks_behind [] blocks says-nil q

@@ -102,19 +102,22 @@ say-numbered spacing highest number (other text ∷ blocks) p =
     (say-cons (says-own text p.texts.0)
     (say-numbered spacing highest number blocks (say-own _ p.texts.1)))
 
-pub says-ordered : {law : Law} (first spacing : ℕ) (blocks : List Block) {l : List ℕ} → SayAll law (map text_of_block blocks) l
+pub says-ordered : {law : Law} (first spacing : ℕ) (blocks : List Block) {l : List ℕ}
+    → SayAll law (map text_of_block blocks) l
     → Says law (ordered_list first spacing blocks) l
 says-ordered first spacing blocks p =
     says-joined_blocks _ (say-numbered spacing (highest_number first blocks) first blocks p)
 
-between_feeds : {law : Law} (n : ℕ) (s : List ℕ) {l : List ℕ} → Says law s l → SaysIfAny law (option_map (between_line_feeds n)
+between_feeds : {law : Law} (n : ℕ) (s : List ℕ) {l : List ℕ} → Says law s l
+    → SaysIfAny law (option_map (between_line_feeds n)
     (some_text s)) l
 between_feeds n [] p = says-of_nothing p
 between_feeds n (b ∷ s) {l} p =
     says-is (append-nil l)
     (says-append (says-append (says-many n line_feed refl) p) (says-many n line_feed refl))
 
-pub says-list : {law : Law} (is_in_item : Bool) (s : List ℕ) {l : List ℕ} → Says law s l → SaysIfAny law (list_block is_in_item s) l
+pub says-list : {law : Law} (is_in_item : Bool) (s : List ℕ) {l : List ℕ} → Says law s l
+    → SaysIfAny law (list_block is_in_item s) l
 says-list is_in_item s p =
     between_feeds (cond is_in_item 1 2) (trimmed_text is_line_feed s)
     (says-trimmed is_line_feed line_feed_of_white s p)

@@ -164,7 +164,8 @@ marks_silent : (emphasis : Emphasis) → list_all is_filler (mark emphasis) ≡ 
 marks_silent Regular = refl
 marks_silent Strong = refl
 
-says-between : {law : Law} (m before middle after : List ℕ) {l : List ℕ} → list_all is_filler m ≡ true → Says law before []
+says-between : {law : Law} (m before middle after : List ℕ) {l : List ℕ} → list_all is_filler m ≡ true
+    → Says law before []
     → Says law middle l → Says law after [] → SaysIfAny law (between m before middle after) l
 says-between m before [] after e p q r = says-of_nothing q
 says-between m before (b ∷ middle) after {l} e p q r =
@@ -296,11 +297,13 @@ symbol_silent : (fence : CodeBlockFence) → is_filler (symbol_of fence) ≡ tru
 symbol_silent Tildes = refl
 symbol_silent Backticks = refl
 
-info_says : {law : Law} (language : Option (List ℕ)) (m : List ℕ) → SaysIfAny law language m → Says law (info_string language) m
+info_says : {law : Law} (language : Option (List ℕ)) (m : List ℕ) → SaysIfAny law language m
+    → Says law (info_string language) m
 info_says None m e = says-is (sym e) says-nil
 info_says (Some s) m p = p
 
-pub says-fenced : {law : Law} (s : List ℕ) (language : Option (List ℕ)) (fence : CodeBlockFence) (l m : List ℕ) → Says law s l
+pub says-fenced : {law : Law} (s : List ℕ) (language : Option (List ℕ)) (fence : CodeBlockFence) (l m : List ℕ)
+    → Says law s l
     → SaysIfAny law language m → Says law (fenced_code_block s language fence) (m ++ l)
 says-fenced {law} s language fence l m p q =
     let run = says-many {law = law} (fence_len (symbol_of fence) (code_of s)) (symbol_of fence) (symbol_silent fence) in

@@ -49,8 +49,10 @@ bar_edit b x e f =
 
 cell_edit : (b : ℕ) → IsEdit of_letters b (in_cell b)
 cell_edit b =
-    cond_both (b == line_feed) _ _ (IsEdit of_letters b) (λ e. filling_edit of_letters b (space ∷ []) (line_feed_of_white b e) refl)
-    (λ _. cond_both (b == carriage_return) _ _ (IsEdit of_letters b) (λ e. filling_edit of_letters b [] (return_of_white b e) refl)
+    cond_both (b == line_feed) _ _ (IsEdit of_letters b) (λ e. filling_edit of_letters b (space ∷ [])
+    (line_feed_of_white b e) refl)
+    (λ _. cond_both (b == carriage_return) _ _ (IsEdit of_letters b) (λ e. filling_edit of_letters b []
+    (return_of_white b e) refl)
     (λ _. cond_both (b == vertical_bar) _ _ (IsEdit of_letters b) (λ e. bar_edit b _ e refl)
     (λ _. same_edit of_letters b)))
 
@@ -67,8 +69,10 @@ says-normalised s l p =
 
 line_edit : (b : ℕ) → IsEdit of_letters b (guarded.in_line b)
 line_edit b =
-    cond_both (b == line_feed) _ _ (IsEdit of_letters b) (λ e. filling_edit of_letters b (space ∷ []) (line_feed_of_white b e) refl)
-    (λ _. cond_both (b == carriage_return) _ _ (IsEdit of_letters b) (λ e. filling_edit of_letters b [] (return_of_white b e) refl)
+    cond_both (b == line_feed) _ _ (IsEdit of_letters b) (λ e. filling_edit of_letters b (space ∷ [])
+    (line_feed_of_white b e) refl)
+    (λ _. cond_both (b == carriage_return) _ _ (IsEdit of_letters b) (λ e. filling_edit of_letters b []
+    (return_of_white b e) refl)
     (λ _. same_edit of_letters b))
 
 line_edits : (s : List ℕ) → Edited of_letters s (flat_map guarded.in_line s)
@@ -108,7 +112,8 @@ say-empty : (n : ℕ) → SayAll of_letters (replicate n []) []
 say-empty zero = say-none
 say-empty (suc n) = say-is (append-nil []) (say-cons says-nil (say-empty n))
 
-says-padded : (cell : List ℕ) (width : ℕ) {l : List ℕ} → Says of_letters cell l → Says of_letters (padded_cell cell width) l
+says-padded : (cell : List ℕ) (width : ℕ) {l : List ℕ} → Says of_letters cell l
+    → Says of_letters (padded_cell cell width) l
 says-padded cell width {l} p =
     says-behind (space ∷ []) refl
     (says-is (append-nil l)
@@ -215,7 +220,8 @@ rows-push (first ∷ rows) cells {l} {m} p q =
 
 says-rows : (written : List ℕ → List ℕ) → Keeps of_letters written
     → (rows : List (List (List ℕ))) (widths : List ℕ) {l : List ℕ}
-    → FitIn (length widths) rows → SayRows rows l → Says of_letters (flat_map (λ cells. row_by written cells widths) rows) l
+    → FitIn (length widths) rows → SayRows rows l
+    → Says of_letters (flat_map (λ cells. row_by written cells widths) rows) l
 says-rows written keeps [] widths fit p = says-is p.say says-nil
 says-rows written keeps (cells ∷ rows) widths fit p =
     says-is p.say
@@ -374,7 +380,8 @@ module _ (f : ℕ → List ℕ) where
   says-captions (caption ∷ captions) {l} p =
       says-in_line (flat_map in_line (caption ∷ captions)) l (says-flat in_line says-in_line (caption ∷ captions) p)
 
-  say-headers : (headers : List (List ℕ)) {l : List ℕ} → SayAll of_letters headers l → SayAll of_letters (guarded_headers headers) l
+  say-headers : (headers : List (List ℕ)) {l : List ℕ} → SayAll of_letters headers l
+      → SayAll of_letters (guarded_headers headers) l
   say-headers [] p = say-is p.say (say-is (append-nil []) (say-cons says-nil say-none))
   say-headers (header ∷ headers) p = p
 

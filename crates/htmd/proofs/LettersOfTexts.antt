@@ -250,5 +250,6 @@ says-escaped s p = says-marked (is_marked s) s (λ i l e. punctuation_low (slice
     i e)) p
 
 pub says-escaped_pre : {law : Law} (s : List ℕ) {l : List ℕ} → Says law s l → Says law (escaped_pre_text s) l
-says-escaped_pre {law} s {l} p = cond_both _ (backslash ∷ s) s (λ t. Says law t l) (λ _. says-behind (codes "\\") refl p)
+says-escaped_pre {law} s {l} p =
+    cond_both _ (backslash ∷ s) s (λ t. Says law t l) (λ _. says-behind (codes "\\") refl p)
     (λ _. p)

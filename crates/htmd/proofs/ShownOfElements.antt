@@ -176,7 +176,8 @@ module _ (options : Options) (alone : is_markdown_alone options ≡ true) (plain
     pre_shows here other =
         let out = content_of at definitions in
         planned_is_said of_visible at definitions (codes "pre") preformatted_texts content_of_children
-        (shown_among children) refl pre_planned (rw alone (wrapped out.text (shown_among children) (within definitions)))
+        (shown_among children) refl pre_planned (rw alone (wrapped out.text (shown_among children)
+        (within definitions)))
 
     span_content : SaysResult of_visible (with_finish spans at.view (content_of at definitions)).result
         (shown_among children)
