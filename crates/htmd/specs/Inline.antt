@@ -1,5 +1,5 @@
 -- The handlers of h1 to h6, strong and b, em and i, br and hr.
-use Rattle.std.specs.Prelude.{ℕ, Bool, ◌&&◌, if◌then◌else◌, List, Option, Some, None, codes}
+use Rattle.std.specs.Prelude.{ℕ, Bool, true, ◌&&◌, if◌then◌else◌, List, Option, Some, None, codes}
 use Rattle.std.specs.List.{list_any}
 use Rattle.std.specs.Str.{bytes_eq}
 use Rattle.htmd_markdown.specs.declared.emphasis.Emphasis.{Emphasis}
