@@ -14,11 +14,11 @@ use Rattle.htmd_tree.specs.NumberedTrees.{NumberedTree, NumberedForest}
 use Rattle.htmd_tree.specs.Ancestors.{Ancestor, ancestor_of}
 use Rattle.htmd_markdown.specs.declared.emphasis.Emphasis.TheVariants as kind
 use Rattle.htmd.specs.declared.options.Options.{Options}
-use Rattle.htmd.specs.Handling.{ElementView, PlanView, contents_of_each, HandlerMeaning}
+use Rattle.htmd.specs.Handling.{ElementView, PlanView, content_of_children, contents_of_each, HandlerMeaning}
 use Rattle.htmd.specs.Choice.{TagIndex, indexes, handlers_at}
 use Rattle.htmd.specs.Groups.{only_text}
-use Rattle.htmd.specs.Outputs.{conversion_of, Writes, is_markdown_alone, is_guarded}
-use Rattle.htmd.specs.ElementPlans.{is_tag_among}
+use Rattle.htmd.specs.Outputs.{conversion_of, Writes, is_markdown_alone, is_guarded, result_of}
+use Rattle.htmd.specs.ElementPlans.{tag_of, attributes_of, is_tag_among}
 use Rattle.htmd.specs.OrdinaryText.{pre}
 use Rattle.htmd.specs.Children.{content_alone, descendant_tree}
 use Rattle.htmd.specs.Elements.{Occurrence, Answer, content_of, contents_alone, first_answer, plan_answer, answer_after}
@@ -29,6 +29,8 @@ use Rattle.htmd.specs.Pages.{parts_of_page, pages}
 use Rattle.htmd.specs.OtherBlocks.{other_blocks, hidden_tags}
 use Rattle.htmd.specs.Headings.{headings}
 use Rattle.htmd.specs.Emphases.{emphasis_of}
+use Rattle.htmd_markdown.specs.GuardedLinks.{guarded_image}
+use Rattle.htmd_markdown.specs.Links.{image}
 use Rattle.htmd_markdown.specs.ListItems.{guarded_spacing}
 use Rattle.htmd_markdown.specs.Lists.{Block, ordered_list, guarded_ordered_list, guarded_first_number, highest_number}
 use Rattle.htmd.specs.Code.{code}
@@ -39,17 +41,22 @@ use Rattle.htmd.specs.ListItems.{list_items}
 use Rattle.htmd.specs.Lists.{numbered_list, ordered_text}
 use Rattle.htmd.specs.TableCells.{cells}
 use Rattle.htmd.specs.TableParts.{table_rows, table_parts}
+use Rattle.htmd.proofs.CountedTexts.{of_letters}
+use Rattle.htmd.specs.Images.{images, alternative_text, image_at}
+use Rattle.htmd.specs.LinkAttributes.{title_of}
 use Rattle.htmd.specs.BuiltIn.{other_block_tags, built_in}
-use Rattle.htmd.specs.Letters.{said_of_each}
+use Rattle.htmd.specs.Letters.{said_of_image, said_of_each}
+use Rattle.htmd.specs.Letters.{letters, letters_if_any}
 use Rattle.htmd.proofs.LettersLemmas.{Says, says-as}
 use Rattle.htmd.proofs.LettersOfLines.{SayAll, say-none, say-cons}
-use Rattle.htmd.proofs.LettersOfLinks.{IsTextIfAny, text_of_block, says-ordered}
-use Rattle.htmd.proofs.LettersOfHandlers.{SaysResult, AreValues, language_is_text, either_text}
+use Rattle.htmd.proofs.LettersOfLinks.{IsTextIfAny, text_of_block, says-ordered, says-image}
+use Rattle.htmd.proofs.LettersOfHandlers.{SaysResult, AreValues, last_is_text, language_is_text, either_text}
 use Rattle.htmd.proofs.LettersOfHandlers.{KeepsContent}
 use Rattle.htmd.proofs.LettersOfHandlers.{keeps_paragraphs, keeps_quotes, keeps_parts, keeps_pages, keeps_cells}
 use Rattle.htmd.proofs.LettersOfHandlers.{keeps_rows}
 use Rattle.htmd.proofs.LettersOfHandlers.{keeps_table_parts, keeps_items, keeps_headings}
 use Rattle.htmd.proofs.LettersOfHandlers.{keeps_emphasis}
+use Rattle.htmd.proofs.LettersOfGuarded.{says-guarded_image}
 use Rattle.htmd.proofs.LettersOfHandlers.{keeps_lists, says-listed}
 use Rattle.htmd.proofs.CountedTexts.{Law}
 use Rattle.std.specs.Option.{option_or}
@@ -386,6 +393,17 @@ planned_is_said law at definitions tag handler plan l only planned p =
     ∙ ap (λ (x : PlanView). plan_answer handler at definitions x (without_handler at definitions)) planned in
     subst (λ (a : Answer). SaysResult law a.result l) (sym answered) p
 
+-- of a handler that keeps the content
+pub kept_is_said : (law : Law) (at : Occurrence) (definitions : List (List ℕ)) (tag : List ℕ)
+    (handler : HandlerMeaning) (l : List ℕ) → is_markdown_alone at.view.options ≡ true
+    → handlers_at at.conversion.config.handlers (drop 0 (indexes tag at.conversion.config.registered)) ≡ handler ∷ []
+    → KeepsContent law tag handler → tag_of at.view ≡ tag → Says law (content_of at definitions).text l
+    → SaysResult law (answer_after 0 tag at definitions).result l
+kept_is_said law at definitions tag handler l alone only keeps here p =
+    let out = content_of at definitions in
+    planned_is_said law at definitions tag handler content_of_children l only (keeps.planned at.view alone here)
+    (keeps.finished at.view (result_of out) out.definitions l alone p)
+
 -- one of two plans, and what is said by each
 pub either_is_said : (law : Law) (at : Occurrence) (definitions : List (List ℕ)) (handler : HandlerMeaning) (b : Bool)
     (first second : PlanView) (l m : List ℕ)
@@ -408,6 +426,24 @@ unhandled_answer options items write id inside children definitions name alone n
     let at = occurrence_at write (conversion_of (built_in options) items) id inside children in
     ap (λ (l : List ℕ). first_answer (handlers_at (built_in options).handlers (drop 0 l)) at definitions) none
     ∙ cond-true (is_markdown_alone options) _ _ alone
+
+-- ---- images
+
+pub image_gives : (at : Occurrence) (definitions : List (List ℕ)) → AreValues (attributes_of at.view)
+    → (address : Option (List ℕ)) → IsTextIfAny address
+    → SaysResult of_letters (plan_answer images at definitions (image_at address at.view) (without_handler at
+    definitions)).result (said_of_image address at.view)
+image_gives at definitions values None found = refl
+image_gives at definitions values (Some address) found =
+    let alt = alternative_text at.view in
+    let title = title_of at.view in
+    let titled = last_is_text (codes "title" ∷ []) (attributes_of at.view) values in
+    let described = last_is_text (codes "alt" ∷ []) (attributes_of at.view) values in
+    cond_both (is_guarded at.view.options) guarded_image image
+    (λ (f : List ℕ → Option (List ℕ) → Option (List ℕ) → List ℕ). Says of_letters (f address alt title)
+    (letters_if_any alt ++ letters address ++ letters_if_any title))
+    (λ _. says-guarded_image address alt title found described titled)
+    (λ _. says-image address alt title found described titled)
 
 -- ---- languages
 

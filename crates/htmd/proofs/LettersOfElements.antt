@@ -29,8 +29,6 @@ use Rattle.htmd.specs.ThematicBreaks.{thematic_breaks}
 use Rattle.htmd.specs.ThematicBreaks.{thematic_break_style_of}
 use Rattle.htmd.specs.Spans.{spans, formula_mark, formula_plan, is_read_in_formula}
 use Rattle.htmd_markdown.specs.GuardedCode.{fitting_language}
-use Rattle.htmd_markdown.specs.GuardedLinks.{guarded_image}
-use Rattle.htmd_markdown.specs.Links.{image}
 use Rattle.htmd.specs.OneLineElements.{stands_in_line}
 use Rattle.htmd.specs.Code.{code, code_plan, guarded_code_plan, content_plan}
 use Rattle.htmd.specs.Preformatted.{preformatted_texts, preformatted_plan}
@@ -52,7 +50,7 @@ use Rattle.htmd.proofs.LettersOfTables.{SayEach, all_of, says-table_text, says-g
 use Rattle.htmd.specs.Letters.{nodes_of_table, is_written}
 use Rattle.htmd.proofs.CountedTexts.{of_letters}
 use Rattle.htmd.proofs.LettersLemmas.{says-of_nothing}
-use Rattle.htmd.specs.Images.{images, image_address, alternative_text, image_at}
+use Rattle.htmd.specs.Images.{images, image_address, image_at}
 use Rattle.htmd.specs.LinkAttributes.{title_of}
 use Rattle.htmd.specs.Anchors.{anchors, anchor_address}
 use Rattle.htmd.specs.BuiltIn.{built_in}
@@ -60,17 +58,17 @@ use Rattle.htmd.specs.Letters.{said_of_image, said_of_formula, said_of_element, 
 use Rattle.htmd.specs.Letters.{prefers_autolinks, letters, letters_if_any, said_of_code, said_of_pre, is_hidden}
 use Rattle.htmd.proofs.LettersLemmas.{Says, says-own, says-is, is_filler}
 use Rattle.htmd.proofs.LettersOfTexts.{line_feed_of_white, says-trimmed}
-use Rattle.htmd.proofs.LettersOfLinks.{IsTextIfAny, says-image}
+use Rattle.htmd.proofs.LettersOfLinks.{IsTextIfAny}
 use Rattle.htmd.proofs.LettersOfHandlers.{says-span_result}
 use Rattle.htmd.proofs.LettersOfHandlers.{SaysResult, AreValues, last_is_text, language_is_text, either_text}
 use Rattle.htmd.proofs.LettersOfHandlers.{KeepsContent}
 use Rattle.htmd.proofs.LettersOfHandlers.{wrapped}
-use Rattle.htmd.proofs.LettersOfGuarded.{says-guarded_image, says-guarded_code, says-guarded_span, says-guarded_block}
+use Rattle.htmd.proofs.LettersOfGuarded.{says-guarded_code, says-guarded_span, says-guarded_block}
 use Rattle.htmd.proofs.LettersOfHandlers.{says-break, says-rule}
 use Rattle.htmd.proofs.LettersOfHandlers.{code_is_said as code_says, link_is_said, formula_marks_fill, says-formula}
 use Rattle.htmd.proofs.ElementsByTag.{language_of_node, shown_language, ordered_gives, each_of_all}
 use Rattle.htmd.proofs.ElementsByTag.{IsOnly, is_named, IsPlain, by_tag, planned_is_said, either_is_said}
-use Rattle.htmd.proofs.ElementsByTag.{unhandled_answer}
+use Rattle.htmd.proofs.ElementsByTag.{kept_is_said, image_gives, unhandled_answer}
 
 said_plainly : (name : List ℕ) → IsPlain name → (says : NumberedTree → List ℕ) (view : ElementView)
     (children : NumberedForest)
@@ -108,25 +106,11 @@ module _ (options : Options) (alone : is_markdown_alone options ≡ true)
         → SaysResult of_letters (answer_after 0 tag at definitions).result
         (said_of_element tag at.view (said_inside says tag at.view children))
 
-    content_is_said : (tag : List ℕ) (handler : HandlerMeaning) → IsOnly options tag handler
-        → KeepsContent of_letters tag handler
-        → said_of_element tag at.view (said_inside says tag at.view children) ≡ said_among says (groups_of children)
-        → IsSaid tag
-    content_is_said tag handler only keeps same here =
-        let out = content_of at definitions in
-        planned_is_said of_letters at definitions tag handler content_of_children
-        (said_of_element tag at.view (said_inside says tag at.view children)) only
-        (keeps.planned at.view alone here)
-        (subst (λ (l : List ℕ). SaysResult of_letters (handler.finish at.view (result_of out) out.definitions).result l)
-        (sym same)
-        (keeps.finished at.view (result_of out) out.definitions (said_among says (groups_of children)) alone
-        (within definitions)))
-
     break_is_said : IsSaid (codes "br")
     break_is_said here =
-        planned_is_said of_letters at definitions (codes "br") line_breaks (markdown_plan (line_break
-        (break_style_of at.view))) [] refl (rw
-        alone refl) (says-break (break_style_of at.view))
+        planned_is_said of_letters at definitions (codes "br") line_breaks
+        (markdown_plan (line_break (break_style_of at.view))) [] refl (rw alone refl)
+        (says-break (break_style_of at.view))
 
     rule_is_said : IsSaid (codes "hr")
     rule_is_said here =
@@ -137,26 +121,11 @@ module _ (options : Options) (alone : is_markdown_alone options ≡ true)
     titled : IsTextIfAny (title_of at.view)
     titled = last_is_text (codes "title" ∷ []) (attributes_of at.view) (values id)
 
-    image_gives : (address : Option (List ℕ)) → IsTextIfAny address
-        → SaysResult of_letters (plan_answer images at definitions (image_at address at.view) (without_handler at
-        definitions)).result
-        (said_of_image address at.view)
-    image_gives None found = refl
-    image_gives (Some address) found =
-        let alt = alternative_text at.view in
-        let title = title_of at.view in
-        let described = last_is_text (codes "alt" ∷ []) (attributes_of at.view) (values id) in
-        cond_both (is_guarded options) guarded_image image
-        (λ (f : List ℕ → Option (List ℕ) → Option (List ℕ) → List ℕ). Says of_letters (f address alt title)
-        (letters_if_any alt ++ letters address ++ letters_if_any title))
-        (λ _. says-guarded_image address alt title found described titled)
-        (λ _. says-image address alt title found described titled)
-
     image_is_said : IsSaid (codes "img")
     image_is_said here =
         planned_is_said of_letters at definitions (codes "img") images (image_at (image_address at.view) at.view)
         (said_of_image (image_address at.view) at.view) refl (rw alone refl)
-        (image_gives (image_address at.view)
+        (image_gives at definitions (values id) (image_address at.view)
         (last_is_text (codes "href" ∷ codes "src" ∷ []) (attributes_of at.view) (values id)))
 
     anchor_is_said : IsSaid (codes "a")
@@ -310,6 +279,14 @@ module _ (options : Options) (alone : is_markdown_alone options ≡ true)
         said_plainly name plain says at.view children
         ∙ cond-false (is_hidden name at.view) _ _ (and_left _ _ shown)
 
+    content_is_said : (tag : List ℕ) (handler : HandlerMeaning) → IsOnly options tag handler
+        → KeepsContent of_letters tag handler → IsPlain tag → is_named hidden_tags tag ≡ false → IsSaid tag
+    content_is_said tag handler only keeps plain shown here =
+        subst (λ (l : List ℕ). SaysResult of_letters (answer_after 0 tag at definitions).result l)
+        (sym (plainly_said tag plain shown))
+        (kept_is_said of_letters at definitions tag handler (said_among says (groups_of children)) alone only keeps here
+        (within definitions))
+
     other_is_said : (name : List ℕ) → IsOnly options name other_blocks → IsPlain name → IsSaid name
     other_is_said name only plain here =
         let out = content_of at definitions in
@@ -347,8 +324,7 @@ module _ (options : Options) (alone : is_markdown_alone options ≡ true)
       table = table_is_said;
       pre = pre_is_said;
       span = span_is_said;
-      content = λ tag handler only keeps plain shown. content_is_said tag handler only keeps
-          (plainly_said tag plain shown);
+      content = content_is_said;
       other = other_is_said;
       unhandled = unhandled_is_said;
     }) name

@@ -12,8 +12,7 @@ use Rattle.htmd_tree.specs.NumberedTrees.{NumberedForest}
 use Rattle.htmd_tree.specs.Ancestors.{Ancestor, ancestor_of}
 use Rattle.htmd_markdown.specs.Addresses.{escaped_address}
 use Rattle.htmd_markdown.specs.LineBreaks.{line_break}
-use Rattle.htmd_markdown.specs.Links.{inline_link, image}
-use Rattle.htmd_markdown.specs.GuardedLinks.{guarded_image}
+use Rattle.htmd_markdown.specs.Links.{inline_link}
 use Rattle.htmd_markdown.specs.ThematicBreaks.{thematic_break}
 use Rattle.htmd.specs.declared.options.CodeBlockStyle.{CodeBlockStyle}
 use Rattle.htmd.specs.declared.options.CodeBlockStyle.TheVariants.{Indented, Fenced}
@@ -31,7 +30,7 @@ use Rattle.htmd.specs.Elements.{Occurrence, Answer, content_of, plan_answer, ans
 use Rattle.htmd.specs.Elements.{occurrence_at, with_finish}
 use Rattle.htmd.specs.Groups.{only_text}
 use Rattle.htmd.specs.Handling.{ElementView, ResultView, content_of_children, contents_of_each, HandlerMeaning}
-use Rattle.htmd.specs.Images.{images, image_address, alternative_text, image_at}
+use Rattle.htmd.specs.Images.{images, image_address, image_at}
 use Rattle.htmd.specs.LineBreaks.{line_breaks, break_style_of}
 use Rattle.htmd.specs.ThematicBreaks.{thematic_breaks, thematic_break_style_of}
 use Rattle.htmd.specs.LinkAttributes.{title_of}
@@ -41,15 +40,14 @@ use Rattle.htmd.specs.OtherBlocks.{other_blocks, hidden_tags}
 use Rattle.htmd.specs.Spans.{spans, formula_mark, formula_plan}
 use Rattle.htmd.specs.Letters.{said_of_each}
 use Rattle.htmd.specs.Shown.{visible, is_empty_element, shown, shown_among}
-use Rattle.htmd.proofs.CountedTexts.{of_visible}
+use Rattle.htmd.proofs.CountedTexts.{of_letters, of_visible}
 use Rattle.htmd.proofs.LettersLemmas.{Says, shows-none, says-as, says-is, says-behind, says-before, is_filler}
 use Rattle.htmd.proofs.LettersOfPieces.{SaysIfAny, says-indented_code, says-fenced, says-code_span}
-use Rattle.htmd.proofs.LettersOfLinks.{IsTextIfAny, says-image, says-link, says-resource, says-reference}
-use Rattle.htmd.proofs.LettersOfGuarded.{says-guarded_image}
+use Rattle.htmd.proofs.LettersOfLinks.{IsTextIfAny, says-link, says-resource, says-reference}
 use Rattle.htmd.proofs.LettersOfHandlers.{SaysResult, AreValues, last_is_text, KeepsContent, wrapped, says-break}
 use Rattle.htmd.proofs.LettersOfHandlers.{says-rule, formula_marks_fill, says-formula, says-span_result}
 use Rattle.htmd.proofs.ElementsByTag.{IsOnly, is_named, IsPlain, by_tag, planned_is_said, unhandled_answer}
-use Rattle.htmd.proofs.ElementsByTag.{shown_language, EachSays, ordered_gives}
+use Rattle.htmd.proofs.ElementsByTag.{kept_is_said, image_gives, shown_language, EachSays, ordered_gives}
 
 -- ---- links and code
 
@@ -94,6 +92,11 @@ code_shows view s l p text style e false here = rw here (says-code_span view.opt
 
 -- ---- elements
 
+-- whatever letters it has, nothing is wanted of it
+result_shows_none : (r : Option ResultView) (l : List ℕ) → SaysResult of_letters r l → SaysResult of_visible r []
+result_shows_none None l p = refl
+result_shows_none (Some r) l p = shows-none p.utf8
+
 module _ (options : Options) (alone : is_markdown_alone options ≡ true) (plain : is_guarded options ≡ false)
     (items : List Item) (values : (id : ℕ) → AreValues (ancestor_of (data_at items id)).attributes) where
   abbrev conversion : Conversion
@@ -129,25 +132,12 @@ module _ (options : Options) (alone : is_markdown_alone options ≡ true) (plain
     titled : IsTextIfAny (title_of at.view)
     titled = last_is_text (codes "title" ∷ []) (attributes_of at.view) (values id)
 
-    image_gives : (address : Option (List ℕ)) → IsTextIfAny address
-        → SaysResult of_visible (plan_answer images at definitions (image_at address at.view) (without_handler at
-        definitions)).result []
-    image_gives None found = refl
-    image_gives (Some address) found =
-        let alt = alternative_text at.view in
-        let title = title_of at.view in
-        let described = last_is_text (codes "alt" ∷ []) (attributes_of at.view) (values id) in
-        cond_both (is_guarded options) guarded_image image
-        (λ (f : List ℕ → Option (List ℕ) → Option (List ℕ) → List ℕ). Says of_visible (f address alt title) [])
-        (λ _. shows-none (says-guarded_image address alt title found described titled).utf8)
-        (λ _. shows-none (says-image address alt title found described titled).utf8)
-
     image_shows : IsShown (codes "img")
     image_shows here other =
         planned_is_said of_visible at definitions (codes "img") images (image_at (image_address at.view) at.view) []
         refl (rw alone refl)
-        (image_gives (image_address at.view)
-        (last_is_text (codes "href" ∷ codes "src" ∷ []) (attributes_of at.view) (values id)))
+        (result_shows_none _ _ (image_gives at definitions (values id) (image_address at.view)
+        (last_is_text (codes "href" ∷ codes "src" ∷ []) (attributes_of at.view) (values id))))
 
     anchor_shows : IsShown (codes "a")
     anchor_shows here other =
@@ -216,11 +206,9 @@ module _ (options : Options) (alone : is_markdown_alone options ≡ true) (plain
     content_shows : (tag : List ℕ) (handler : HandlerMeaning) → IsOnly options tag handler
         → KeepsContent of_visible tag handler → IsPlain tag → is_named hidden_tags tag ≡ false → IsShown tag
     content_shows tag handler only keeps is seen here other =
-        let out = content_of at definitions in
         as_shown tag _ is
-        (planned_is_said of_visible at definitions tag handler content_of_children (shown_among children) only
-        (keeps.planned at.view alone here)
-        (keeps.finished at.view (result_of out) out.definitions (shown_among children) alone (within definitions)))
+        (kept_is_said of_visible at definitions tag handler (shown_among children) alone only keeps here
+        (within definitions))
 
     other_shows : (name : List ℕ) → IsOnly options name other_blocks → IsPlain name → IsShown name
     other_shows name only is here other =
