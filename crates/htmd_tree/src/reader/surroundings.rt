@@ -1,7 +1,6 @@
 //! What is kept of an open element and its ancestors, so that asking what may stand there costs the same at any depth.
 ghost use Rattle.std.specs.Prelude.{◌≡◌, ◌||◌, ◌&&◌, not, false, [], ◌∷◌, Bool, codes};
 ghost use Rattle.std.specs.Str.{bytes_eq};
-ghost use Rattle.std.specs.List.{list_any};
 ghost use Rattle.htmd_grammar.specs.CharacterClasses.{is_among};
 ghost use Rattle.htmd_grammar.specs.Documents.{below_body};
 ghost use Rattle.htmd_grammar.specs.Nesting as spec;
@@ -63,19 +62,17 @@ pub(crate) fn is_outside(name: &str) -> bool
     if name.len() < 4 {
         return false;
     }
-    is_one_of(
+    matches!(
         name,
-        &[
-            "html",
-            "head",
-            "body",
-            "frameset",
-            "frame",
-            "template",
-            "plaintext",
-            "listing",
-            "image",
-        ],
+        "html"
+            | "head"
+            | "body"
+            | "frameset"
+            | "frame"
+            | "template"
+            | "plaintext"
+            | "listing"
+            | "image"
     )
 }
 
@@ -83,9 +80,9 @@ pub(crate) fn is_outside(name: &str) -> bool
 fn holds_raw_text(name: &str, scripting: bool) -> bool
     ensures { result ≡ raw.holds_raw_text scripting name.now }
 {
-    is_one_of(
+    matches!(
         name,
-        &["script", "style", "iframe", "noembed", "noframes", "xmp"],
+        "script" | "style" | "iframe" | "noembed" | "noframes" | "xmp"
     ) || scripting && name == "noscript"
 }
 
@@ -93,29 +90,27 @@ fn holds_raw_text(name: &str, scripting: bool) -> bool
 fn holds_text_alone(name: &str, scripting: bool) -> bool
     ensures { result ≡ raw.holds_text_alone scripting name.now }
 {
-    is_one_of(name, &["title", "textarea"]) || holds_raw_text(name, scripting)
+    matches!(name, "title" | "textarea") || holds_raw_text(name, scripting)
 }
 
 /// Whether this is a name from `address` to `dt` that doesn't stand under an open `p`.
 fn is_closer_a_to_d(name: &str) -> bool
     ensures { result ≡ is_among flags.closer_a_to_d name.now }
 {
-    is_one_of(
+    matches!(
         name,
-        &[
-            "address",
-            "article",
-            "aside",
-            "blockquote",
-            "center",
-            "dd",
-            "details",
-            "dialog",
-            "dir",
-            "div",
-            "dl",
-            "dt",
-        ],
+        "address"
+            | "article"
+            | "aside"
+            | "blockquote"
+            | "center"
+            | "dd"
+            | "details"
+            | "dialog"
+            | "dir"
+            | "div"
+            | "dl"
+            | "dt"
     )
 }
 
@@ -123,24 +118,22 @@ fn is_closer_a_to_d(name: &str) -> bool
 fn is_closer_f_to_h(name: &str) -> bool
     ensures { result ≡ is_among flags.closer_f_to_h name.now }
 {
-    is_one_of(
+    matches!(
         name,
-        &[
-            "fieldset",
-            "figcaption",
-            "figure",
-            "footer",
-            "form",
-            "h1",
-            "h2",
-            "h3",
-            "h4",
-            "h5",
-            "h6",
-            "header",
-            "hgroup",
-            "hr",
-        ],
+        "fieldset"
+            | "figcaption"
+            | "figure"
+            | "footer"
+            | "form"
+            | "h1"
+            | "h2"
+            | "h3"
+            | "h4"
+            | "h5"
+            | "h6"
+            | "header"
+            | "hgroup"
+            | "hr"
     )
 }
 
@@ -148,18 +141,26 @@ fn is_closer_f_to_h(name: &str) -> bool
 fn is_closer_l_to_x(name: &str) -> bool
     ensures { result ≡ is_among flags.closer_l_to_x name.now }
 {
-    is_one_of(
+    matches!(
         name,
-        &[
-            "li", "main", "menu", "nav", "ol", "p", "pre", "search", "section", "summary", "table",
-            "ul", "xmp",
-        ],
+        "li" | "main"
+            | "menu"
+            | "nav"
+            | "ol"
+            | "p"
+            | "pre"
+            | "search"
+            | "section"
+            | "summary"
+            | "table"
+            | "ul"
+            | "xmp"
     )
 }
 
 #[tactic(auto, using(crate::proofs::SurroundingsLemmas::closers))]
-/// Whether an element of this name doesn't stand under an open `p`. Each of the three parts is
-/// short enough that LLVM unrolls it into tests of lengths and first bytes.
+/// Whether an element of this name doesn't stand under an open `p`. Each of the three parts is compiled to a test of
+/// the length first; were all names in one `match`, the last ones wouldn't be.
 fn closes_paragraph(name: &str) -> bool
     ensures { result ≡ spec.closes_paragraph name.now }
 {
@@ -177,16 +178,16 @@ fn is_heading(name: &str) -> bool
 fn is_table_part(name: &str) -> bool
     ensures { result ≡ spec.is_table_part name.now }
 {
-    is_one_of(name, &["caption", "colgroup", "thead", "tbody", "tfoot"])
+    matches!(name, "caption" | "colgroup" | "thead" | "tbody" | "tfoot")
 }
 
 /// Whether in an element of this name stand parts of a table, comments and white space alone.
 fn holds_parts(name: &str) -> bool
     ensures { result ≡ spec.holds_parts name.now }
 {
-    is_one_of(
+    matches!(
         name,
-        &["table", "thead", "tbody", "tfoot", "tr", "colgroup"],
+        "table" | "thead" | "tbody" | "tfoot" | "tr" | "colgroup"
     )
 }
 
@@ -194,23 +195,14 @@ fn holds_parts(name: &str) -> bool
 fn holds_rows(name: &str) -> bool
     ensures { result ≡ spec.holds_rows name.now }
 {
-    is_one_of(name, &["thead", "tbody", "tfoot"])
+    matches!(name, "thead" | "tbody" | "tfoot")
 }
 
-/// Whether this is that name. Most names that it is not differ in their length or their first byte.
+/// Whether this is that name.
 fn is_named(name: &str, wanted: &str) -> bool
     ensures { result ≡ (bytes_eq name.now wanted.now || false) }
 {
-    name.len() == wanted.len()
-        && name.as_bytes().first() == wanted.as_bytes().first()
-        && name == wanted
-}
-
-/// Whether this is one of those names.
-fn is_one_of(name: &str, names: &[&str]) -> bool
-    ensures { result ≡ list_any (λ other. bytes_eq name.now other.now) names.now }
-{
-    names.iter().any(|other| is_named(name, *other))
+    name == wanted
 }
 
 /// Whether an element of that name is open in one of this name.
@@ -224,7 +216,7 @@ fn opens(name: &str, wanted: &str, above: bool) -> bool
 fn opens_options(name: &str, above: bool) -> bool
     ensures { result ≡ (is_among (codes "optgroup" ∷ codes "option" ∷ []) name.now || above) }
 {
-    is_one_of(name, &["optgroup", "option"]) || above
+    matches!(name, "optgroup" | "option") || above
 }
 
 /// Whether an `li` is open, in no list inside it, in an element of this name.
@@ -232,7 +224,11 @@ fn opens_item(name: &str, above: bool) -> bool
     ensures { result ≡ (is_among (codes "li" ∷ []) name.now
         || (not (is_among (codes "ul" ∷ codes "ol" ∷ codes "menu" ∷ codes "dir" ∷ []) name.now) && above)) }
 {
-    is_named(name, "li") || !is_one_of(name, &["ul", "ol", "menu", "dir"]) && above
+    match name {
+        "li" => true,
+        "ul" | "ol" | "menu" | "dir" => false,
+        _ => above,
+    }
 }
 
 /// Whether a `dd` or `dt` is open, in no `dl` inside it, in an element of this name.
@@ -240,7 +236,11 @@ fn opens_description(name: &str, above: bool) -> bool
     ensures { result ≡ (is_among (codes "dd" ∷ codes "dt" ∷ []) name.now
         || (not (is_among (codes "dl" ∷ []) name.now) && above)) }
 {
-    is_one_of(name, &["dd", "dt"]) || !is_named(name, "dl") && above
+    match name {
+        "dd" | "dt" => true,
+        "dl" => false,
+        _ => above,
+    }
 }
 
 impl Surroundings {
@@ -324,10 +324,10 @@ impl Surroundings {
         ensures { result ≡ flags.flags_fit_select self name.now }
     {
         if self.select {
-            return is_one_of(name, &["option", "optgroup"]);
+            return matches!(name, "option" | "optgroup");
         }
         if self.option_group {
-            return is_named(name, "option");
+            return matches!(name, "option");
         }
         !self.option
     }
@@ -363,8 +363,7 @@ impl Surroundings {
     fn fits_lists(self, name: &str) -> bool
         ensures { result ≡ flags.flags_fit_lists self name.now }
     {
-        !(self.item && is_named(name, "li"))
-            && !(self.description && is_one_of(name, &["dd", "dt"]))
+        !(self.item && is_named(name, "li")) && !(self.description && matches!(name, "dd" | "dt"))
     }
 
     /// Whether all that is kept lets an element of this name stand here.
