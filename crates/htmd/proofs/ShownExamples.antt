@@ -1,5 +1,5 @@
 -- What pages show in Pure, by example.
-use Rattle.std.proofs.Common.{◌≡◌, ℕ, Bool, true, false, List, [], ◌∷◌, refl, codes, inl, inr, ⊎_elim, arith}
+use Rattle.std.proofs.Common.{◌≡◌, ℕ, false, List, [], ◌∷◌, refl, codes, inl, inr, ⊎_elim, arith}
 use Rattle.std.specs.Str.{chars}
 use Rattle.htmd_tree.specs.ValueTrees.{ValueTree}
 use Rattle.htmd_tree.specs.NumberedTrees.{tree_of, forest_from}
