@@ -4,6 +4,7 @@ ghost use Rattle.std.specs.Prelude.{◌≡◌, ◌++◌, Bool, false, IsTrue, On
 ghost use Rattle.std.specs.Result.{is_ok};
 ghost use Rattle.htmd_text.specs.EscapeMarks.{escaped_markdown};
 ghost use Rattle.htmd_text.specs.WhiteSpace.{squeezed_text};
+ghost use Rattle.htmd_markdown.specs.GuardedText.{guarded_text};
 ghost use Rattle.htmd.specs.OrdinaryText as spec;
 ghost use Rattle.htmd.specs.PlainTexts.{is_plain_byte, stays_plain, may_begin, begins_plain};
 
@@ -33,7 +34,8 @@ fn without_first_space(text: &str, goes: bool) -> &str
 fn is_plain_byte(byte: u8) -> bool
     ensures { result ≡ is_plain_byte byte }
 {
-    byte > b' ' && !matches!(byte, b'\\' | b'*' | b'_' | b'`' | b'[' | b']' | b'<')
+    // Most bytes are letters in lower case, which stand behind each of the marks.
+    byte > b'`' || byte > b' ' && !matches!(byte, b'\\' | b'*' | b'_' | b'`' | b'[' | b']' | b'<')
 }
 
 /// Whether each byte stands for itself or is a space alone. All bytes are looked at, so that a
@@ -81,15 +83,32 @@ fn is_plain(text: &str) -> bool
 /// The least room that is made in an empty text: with what malloc adds, 64 bytes.
 const ROOM: usize = 56;
 
-/// Puts a text behind another. An empty one gets room for more, so that it seldom grows.
-fn push_with_room(out: &mut String, text: &str) -> Result<(), AllocError>
-    ensures bytes { string_bytes out.new
-        ≡ (if is_ok result then string_bytes out.old ++ text.now else string_bytes out.old) }
+/// Makes room in an empty text for this one and for more behind it, so that it seldom grows.
+fn make_room(out: &mut String, text: &str) -> Result<(), AllocError>
+    ensures { string_bytes out.new ≡ string_bytes out.old }
 {
     if out.is_empty() {
         out.reserve(text.len().max(ROOM))?;
     }
+    Ok(())
+}
+
+/// Puts a text behind another, with room for more.
+fn push_with_room(out: &mut String, text: &str) -> Result<(), AllocError>
+    ensures bytes { string_bytes out.new
+        ≡ (if is_ok result then string_bytes out.old ++ text.now else string_bytes out.old) }
+{
+    make_room(out, text)?;
     out.push_str(text)
+}
+
+/// Puts a text behind another as Guarded does, with room for more.
+fn push_guarded_with_room(out: &mut String, text: &str, begins_line: bool) -> Result<(), AllocError>
+    ensures { OnOk result
+        (string_bytes out.new ≡ string_bytes out.old ++ guarded_text begins_line text.now) }
+{
+    make_room(out, text)?;
+    push_guarded_text(out, text, begins_line)
 }
 
 /// Squeezed, without its first space where a space is not wanted, and escaped.
@@ -137,7 +156,7 @@ fn append_guarded(alloc: Global, out: &mut String, text: &str, trim: bool) -> Re
     let goes = trim || trailing_len(out.as_bytes(), b' ') > 0;
     let begins = begins_line(out.as_str());
     let squeezed = compress_whitespace(alloc, text)?;
-    push_guarded_text(out, without_first_space(squeezed.as_str(), goes), begins)
+    push_guarded_with_room(out, without_first_space(squeezed.as_str(), goes), begins)
 }
 
 /// The text of a text node, put behind what is written so far.

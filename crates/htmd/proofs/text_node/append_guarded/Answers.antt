@@ -26,6 +26,6 @@ returns c =
     ∙ c.in_ok-squeezed.ensures.text) ∙ ap (λ t. without_first_space t (squeezed_text c.args.text.now)) goes in
     let begins : c.begins_line-begins.result ≡ begins_line out =
     c.begins_line-begins.ensures ∙ ap begins_line c.as_str.ensures.value in
-    on_ok_to c.push_guarded_text.result _ _ _
+    on_ok_to c.push_guarded_with_room.result _ _ _
     (ap (λ b. out ++ guarded_text b c.without_first_space.result.now) begins
-    ∙ ap (λ s. out ++ guarded_text (begins_line out) s) rest) c.push_guarded_text.ensures
+    ∙ ap (λ s. out ++ guarded_text (begins_line out) s) rest) c.push_guarded_with_room.ensures
