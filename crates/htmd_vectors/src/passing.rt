@@ -37,14 +37,14 @@ fn passes(alloc: Global, handlers: &ElementHandlers, tag: &str, class: &str) -> 
     Ok(handlers.goes_past(&tree, element))
 }
 
-// In Pure those without handlers are gone past, and a `span` that is no formula.
+// In Pure a `span` that is no formula is gone past; that another element has no handlers is seen where they are asked.
 #[test]
 fn goes_past_elements(rt: HostRuntime) -> Result<(), Fail> {
     let pure = TranslationMode::Pure;
     let faithful = TranslationMode::Faithful;
     let table: [(TranslationMode, &str, &str, bool); 6] = [
         (pure, "span", "", true),
-        (pure, "mark", "", true),
+        (pure, "mark", "", false),
         (pure, "p", "", false),
         (pure, "span", "math math-inline", false),
         (faithful, "mark", "", false),
@@ -67,6 +67,5 @@ fn asks_handlers_of_ones_own(rt: HostRuntime) -> Result<(), Fail> {
         return Err(Fail::from("there is memory"));
     }
     assert!(rt; !passes(rt.alloc(), &handlers, "span", "")?);
-    assert!(rt; passes(rt.alloc(), &handlers, "mark", "")?);
     Ok(())
 }
