@@ -1,6 +1,7 @@
 //! The walk over a tree.
 
 mod results;
+mod spare_texts;
 
 ghost use Rattle.std.specs.Prelude.{◌≡◌, ◌<◌, ℕ, List, None, false, IfOk, IfSome, IsSome, IsTrue, OnOk, OnErr};
 ghost use Rattle.std.specs.Prelude.{length, string_bytes};
@@ -42,6 +43,7 @@ use results::{
     append_copy, append_result, between_tags, copied, cut_before_child, empty_result, lent,
     push_comment, raw_result, text_shown, trim_after,
 };
+use spare_texts::SpareTexts;
 use std::alloc::{AllocError, Global};
 
 /// What an element gave that added no definition: it gives the same wherever else it is reached.
@@ -58,13 +60,14 @@ pub(crate) struct Walk<'a, R: Registry> {
     alloc: Global,
     tree: &'a Tree,
     remembered: &'a [Remembered],
+    spare: &'a SpareTexts,
     ghost is_tree: { IsTree tree.now },
     ghost are_right: { AreRemembered (R.config registry.now) tree.now remembered.now },
 }
 
 impl<'a, R: Registry> Walk<'a, R> {
     /// A walk over a tree, by these handlers.
-    pub(crate) fn new(registry: &'a R, alloc: Global, tree: &'a Tree) -> Self
+    pub(crate) fn new(registry: &'a R, alloc: Global, tree: &'a Tree, spare: &'a SpareTexts) -> Self
         ensures registry { result.registry.now ≡ registry.now }
         ensures tree { result.tree.now ≡ tree.now }
     {
@@ -74,6 +77,7 @@ impl<'a, R: Registry> Walk<'a, R> {
             alloc,
             tree,
             remembered: &[],
+            spare,
         }
     }
 
@@ -122,8 +126,9 @@ impl<'a, R: Registry> Walk<'a, R> {
             let result = copied(self.alloc, &given)?;
             remembered.push(Remembered { node, result })?;
         }
-        let mut out = empty_result(self.alloc);
-        append_result(&mut out, given, whole, is_guarded(self.registry.options()))?;
+        let mut out = empty_result(self.alloc, self.spare);
+        let is_guarded = is_guarded(self.registry.options());
+        append_result(&mut out, given, whole, is_guarded, self.alloc, self.spare)?;
         Ok(out)
     }
 
@@ -248,6 +253,7 @@ impl<'a, R: Registry> Walk<'a, R> {
                             alloc: self.alloc,
                             tree: self.tree,
                             remembered: remembered.as_slice(),
+                            spare: self.spare,
                         };
                         let content = knowing.content(element, inside_pre, links)?;
                         self.registry
@@ -365,7 +371,7 @@ impl<'a, R: Registry> Walk<'a, R> {
         ensures err { ElementBegins (R.config self.now.registry.now) self.now.tree.now element.now
             (λ at. (content_of at links.old).definitions) links.old links.new result }
     {
-        let mut out = empty_result(self.alloc);
+        let mut out = empty_result(self.alloc, self.spare);
         if let Some(text) = element.text {
             let context = Context {
                 preformatted: inside_pre,
@@ -465,7 +471,7 @@ impl<'a, R: Registry> Walk<'a, R> {
             let is_in_line = self.is_line_below(element.node, inside_line, below)?;
             return self.walk_alone(below, is_in_line, links);
         };
-        let mut out = empty_result(self.alloc);
+        let mut out = empty_result(self.alloc, self.spare);
         let context = Context {
             preformatted: false,
             trim: true,
@@ -552,7 +558,7 @@ impl<'a, R: Registry> Walk<'a, R> {
             (λ write. (content_alone write (conversion_of (R.config self.now.registry.now) self.now.tree.now)
             (tree_of self.now.tree.now node) node links.old).definitions) links.old links.new result }
     {
-        let mut out = empty_result(self.alloc);
+        let mut out = empty_result(self.alloc, self.spare);
         // A text that is handed over by itself is ordinary.
         let context = Context {
             preformatted: !is_text(self.tree, node) && is_inside_pre(self.tree, node),
@@ -637,6 +643,7 @@ impl<'a, R: Registry> Walk<'a, R> {
                         &known.result,
                         context.preformatted,
                         is_guarded,
+                        self.spare,
                     );
                 }
                 let inside_pre = context.preformatted || is_pre_or_code(self.tree, node);
@@ -652,7 +659,14 @@ impl<'a, R: Registry> Walk<'a, R> {
                     pre_language,
                 };
                 let given = self.walk_element(&element, inside_pre, links)?;
-                append_result(out, given, context.preformatted, is_guarded)
+                append_result(
+                    out,
+                    given,
+                    context.preformatted,
+                    is_guarded,
+                    self.alloc,
+                    self.spare,
+                )
             }
         }
     }
@@ -669,7 +683,8 @@ pub(crate) fn tree_to_markdown<R: Registry>(
     requires within { node < length tree.now }
     ensures { IfOk result (λ text. string_bytes text ≡ markdown (R.config registry.now) tree.now node) }
 {
-    let walk = Walk::new(registry, alloc, tree);
+    let spare = SpareTexts::new(alloc);
+    let walk = Walk::new(registry, alloc, tree, &spare);
     let mut links = Links::new(alloc);
     let is_in_line = is_known_in_line(registry.options(), alloc, tree, node)?;
     let mut markdown = walk.walk_alone(node, is_in_line, &mut links)?.content;
@@ -713,6 +728,7 @@ pub(crate) fn handle_element<R: Registry>(
         pre_language: language_above(tree, node),
     };
     let inside_pre = is_inside_pre(tree, node) || is_pre_or_code(tree, node);
-    let walk = Walk::new(registry, alloc, tree);
+    let spare = SpareTexts::new(alloc);
+    let walk = Walk::new(registry, alloc, tree, &spare);
     walk.handle(&element, inside_pre, skipped, links)
 }

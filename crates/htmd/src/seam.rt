@@ -32,13 +32,13 @@ fn rest_at_seam<'a>(out: &[u8], content: &'a str) -> &'a str
     &content[beginning - kept..]
 }
 
-/// Puts content behind a text; onto an empty text it is moved.
-fn append_content(out: &mut String, content: String, whole: bool) -> Result<(), AllocError>
+/// Puts content behind a text; onto an empty text it is moved. What is left of it is of no use but for its memory.
+fn append_content(out: &mut String, content: &mut String, whole: bool) -> Result<(), AllocError>
     ensures { OnOk result (string_bytes out.new
-        ≡ joined_at_seam (string_bytes out.old) (string_bytes content) whole) }
+        ≡ joined_at_seam (string_bytes out.old) (string_bytes content.old) whole) }
 {
     if out.is_empty() {
-        *out = content;
+        std::mem::swap(out, content);
         return Ok(());
     }
     if whole {
@@ -63,15 +63,16 @@ fn part_from_content(out: &mut String, content: &str) -> Result<(), AllocError>
     }
 }
 
-/// Puts content behind a text, whole or at a seam; in Guarded never whole, and kept apart.
+/// Puts content behind a text, whole or at a seam; in Guarded never whole, and kept apart. What is left of the content
+/// is of no use but for its memory.
 pub(crate) fn append_normalized_content(
     out: &mut String,
-    content: String,
+    content: &mut String,
     whole: bool,
     is_guarded: bool,
 ) -> Result<(), AllocError>
     ensures { OnOk result (string_bytes out.new
-        ≡ written_at_seam is_guarded (string_bytes out.old) (string_bytes content) whole) }
+        ≡ written_at_seam is_guarded (string_bytes out.old) (string_bytes content.old) whole) }
 {
     if is_guarded {
         part_from_content(out, content.as_str())?;

@@ -17,7 +17,7 @@ use Rattle.htmd_tree.specs.declared.tree.NodeData.TheVariants.{Document, Doctype
 use Rattle.htmd_tree.specs.Items.{Item, document_item, is_child, children_of, holds_children, data_at, depth_at}
 use Rattle.htmd_tree.specs.Items.{new_item, greatest_depth, IsTree, HoldsText, HoldTexts}
 use Rattle.htmd_tree.specs.Views.{data_of, pairs_of}
-use Rattle.htmd_tree.specs.Entries.{parent_of, item_of, items_of, IsStored}
+use Rattle.htmd_tree.specs.Entries.{parent_of, numbers_of, item_of, items_of, IsStored}
 use Rattle.htmd_tree.proofs.ItemsLemmas.{children_from-push, children_from-none, is_child-before, IsTree-added}
 
 -- an entry is replaced by one that is the same node
@@ -28,7 +28,7 @@ items_of-set entries p old new here same = map-set_same item_of entries p new ol
 -- the parent's entry is written with the children that it had
 pub IsStored-kept : (entries : List Entry) (p : ℕ) (old new : Entry) → p < length entries
     → old ≡ get_or entries p old
-    → item_of new ≡ item_of old → new.children.items ≡ old.children.items → IsStored entries
+    → item_of new ≡ item_of old → numbers_of new.children ≡ numbers_of old.children → IsStored entries
     → IsStored (set entries p new)
 IsStored-kept entries p old new l here same kids t = record {
   tree = subst IsTree (sym (items_of-set entries p old new here same)) t.tree;
@@ -36,20 +36,20 @@ IsStored-kept entries p old new l here same kids t = record {
       ∙ ap (λ (y : List Item). children_of y k) (sym (items_of-set entries p old new here same));
 }
   where
-    at_parent : (d : Entry) → (get_or (set entries p new) p d).children.items ≡ children_of (items_of entries) p
+    at_parent : (d : Entry) → numbers_of (get_or (set entries p new) p d).children ≡ children_of (items_of entries) p
     at_parent d =
-        ap (λ (x : Entry). x.children.items) (get_or-set_same entries p new d l)
-        ∙ (kids ∙ (ap (λ (x : Entry). x.children.items) (here ∙ get_or_default entries p old d l)
+        ap (λ (x : Entry). numbers_of x.children) (get_or-set_same entries p new d l)
+        ∙ (kids ∙ (ap (λ (x : Entry). numbers_of x.children) (here ∙ get_or_default entries p old d l)
         ∙ t.children p d l))
 
     each : (k : ℕ) (d : Entry) → k < length entries
-        → (get_or (set entries p new) k d).children.items ≡ children_of
+        → numbers_of (get_or (set entries p new) k d).children ≡ children_of
         (items_of entries) k
     each k d m = elim (cases_eq k p) [
-      | inl e ↦ subst (λ j. (get_or (set entries p new) j d).children.items ≡ children_of (items_of entries) j)
+      | inl e ↦ subst (λ j. numbers_of (get_or (set entries p new) j d).children ≡ children_of (items_of entries) j)
           (sym e)
           (at_parent d)
-      | inr n ↦ ap (λ (x : Entry). x.children.items) (get_or-set_other entries p k new d n) ∙ t.children k d m
+      | inr n ↦ ap (λ (x : Entry). numbers_of x.children) (get_or-set_other entries p k new d n) ∙ t.children k d m
     ]
 
 -- the items after an addition
@@ -63,9 +63,9 @@ items_of-added entries p old new last here same =
 -- the parent's entry gets a child more, and the child's entry comes last
 pub IsStored-added : (entries : List Entry) (p : ℕ) (old new last : Entry) → p < length entries
     → old ≡ get_or entries p old → item_of new ≡ item_of old
-    → new.children.items ≡ old.children.items ++ length entries
+    → numbers_of new.children ≡ numbers_of old.children ++ length entries
     ∷ []
-    → item_of last ≡ new_item (items_of entries) p (data_of last.data) → last.children.items ≡ []
+    → item_of last ≡ new_item (items_of entries) p (data_of last.data) → numbers_of last.children ≡ []
     → holds_children (data_at (items_of entries) p) ≡ true → depth_at (items_of entries) p < greatest_depth
     → IsStored entries → IsStored (set entries p new ++ last ∷ [])
 IsStored-added entries p old new last l here same kids this no_kids holds shallow t = record {
@@ -100,16 +100,16 @@ IsStored-added entries p old new last l here same kids this no_kids holds shallo
     at_old : (k : ℕ) (d : Entry) → k < length entries → get_or (written ++ last ∷ []) k d ≡ get_or written k d
     at_old k d m = get_or_append_left written (last ∷ []) d k (omega (arith, same_length))
 
-    at_parent : (d : Entry) → (get_or (written ++ last ∷ []) p d).children.items
+    at_parent : (d : Entry) → numbers_of (get_or (written ++ last ∷ []) p d).children
         ≡ children_of (items_of entries) p
         ++ length entries ∷ []
     at_parent d =
-        ap (λ (x : Entry). x.children.items) (at_old p d l ∙ get_or-set_same entries p new d l)
+        ap (λ (x : Entry). numbers_of x.children) (at_old p d l ∙ get_or-set_same entries p new d l)
         ∙ (kids ∙ ap (λ (y : List ℕ). y ++ length entries ∷ [])
-        (ap (λ (x : Entry). x.children.items) (here ∙ get_or_default entries p old d l) ∙ t.children p d l))
+        (ap (λ (x : Entry). numbers_of x.children) (here ∙ get_or_default entries p old d l) ∙ t.children p d l))
 
-    at_last : (d : Entry) → (get_or (written ++ last ∷ []) (length entries) d).children.items ≡ []
-    at_last d = ap (λ (x : Entry). x.children.items) (get_or_push written last d (length entries) same_length)
+    at_last : (d : Entry) → numbers_of (get_or (written ++ last ∷ []) (length entries) d).children ≡ []
+    at_last d = ap (λ (x : Entry). numbers_of x.children) (get_or_push written last d (length entries) same_length)
         ∙ no_kids
 
     none_yet : children_of (items_of entries) (length entries) ≡ []
@@ -117,18 +117,18 @@ IsStored-added entries p old new last l here same kids this no_kids holds shallo
         (λ k m. is_child-before (items_of entries) k (length entries) t.tree m (omega (arith, count)))
 
     each : (k : ℕ) (d : Entry) → k < length (written ++ last ∷ [])
-        → (get_or (written ++ last ∷ []) k d).children.items
+        → numbers_of (get_or (written ++ last ∷ []) k d).children
         ≡ children_of (items_of entries) k ++ cond (eqb p k) (length entries ∷ []) []
     each k d m = elim (cases_eq k p) [
-      | inl e ↦ subst (λ j. (get_or (written ++ last ∷ []) j d).children.items ≡ children_of (items_of entries) j
+      | inl e ↦ subst (λ j. numbers_of (get_or (written ++ last ∷ []) j d).children ≡ children_of (items_of entries) j
           ++ cond (eqb p j) (length entries ∷ []) []) (sym e)
           (let b : eqb p p ≡ true = grind (arith, nat_tests) in at_parent d ∙ rw b refl)
       | inr n ↦ elim (cases_lt k (length entries)) [
         | inl old ↦ let b : eqb p k ≡ false = grind (arith, nat_tests) in
-            ap (λ (x : Entry). x.children.items) (at_old k d old ∙ get_or-set_other entries p k new d n)
+            ap (λ (x : Entry). numbers_of x.children) (at_old k d old ∙ get_or-set_other entries p k new d n)
             ∙ (t.children k d old ∙ rw b (sym (append-nil (children_of (items_of entries) k))))
         | inr past ↦ let e : length entries ≡ k = omega (arith, length_push written last, same_length) in
-            subst (λ j. (get_or (written ++ last ∷ []) j d).children.items ≡ children_of (items_of entries) j
+            subst (λ j. numbers_of (get_or (written ++ last ∷ []) j d).children ≡ children_of (items_of entries) j
             ++ cond (eqb p j) (length entries ∷ []) []) e
             (let b : eqb p (length entries) ≡ false = grind (arith, nat_tests) in at_last d ∙ rw (b, none_yet) refl)
       ]

@@ -1,5 +1,5 @@
 -- What is written for a node, child by child.
-use Rattle.std.proofs.Common.{◌≡◌, ℕ, ◌+◌, ◌<◌, Bool, cond, List, ◌++◌, length, sym, ap, ◌∙◌, Result, Ok}
+use Rattle.std.proofs.Common.{◌≡◌, ℕ, ◌<◌, Bool, cond, List, ◌++◌, length, sym, ap, ◌∙◌, Result, Ok}
 use Rattle.std.proofs.Common.{Err, OnOk, is_ok}
 use Rattle.std.proofs.lemmas.List.{append_assoc}
 use Rattle.htmd_tree.specs.Items.{Data, Item, data_at, children_of, IsTree}

@@ -5,6 +5,7 @@
 //! page, and `line_and_column` says where a place stands.
 #![tactic(auto)]
 
+mod children;
 pub mod laws;
 mod lines;
 mod reader;

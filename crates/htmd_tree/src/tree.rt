@@ -8,6 +8,7 @@ ghost use Rattle.htmd_tree.specs.Items.{greatest_depth, HoldTexts};
 ghost use Rattle.htmd_tree.specs.Views.{data_of, pairs_of};
 ghost use Rattle.htmd_tree.specs.declared.tree.TreeError.TheVariants.{Memory};
 
+use crate::children::Children;
 use std::alloc::{AllocError, AllocFailed, Global};
 use std::marker::Model;
 use thiserror::Error;
@@ -81,7 +82,7 @@ struct Entry {
     data: NodeData,
     parent: NodeId,
     depth: usize,
-    children: Vec<NodeId>,
+    children: Children,
 }
 
 /// A Document and the nodes below it.
@@ -104,22 +105,6 @@ impl Model for Tree {
     ghost invariant = { λ t. IsStored t.entries.items };
 }
 
-/// The room of the first list of children: 24 bytes, the least that malloc gives.
-const FIRST_CHILDREN: usize = 3;
-
-/// A new last child among children.
-fn push_child(children: &mut Vec<NodeId>, id: NodeId) -> Result<(), TreeError>
-    ensures ok { OnOk result (children.new.items ≡ children.old.items ++ id ∷ []) }
-    ensures err { OnErr result (children.new.items ≡ children.old.items) }
-    ensures memory { IsOkUnless result TreeError.Memory }
-{
-    if children.is_empty() {
-        children.reserve_exact(FIRST_CHILDREN)?;
-    }
-    children.push(id)?;
-    Ok(())
-}
-
 impl Tree {
     /// A tree of the Document alone. An `Err` is `Memory`.
     pub fn new(alloc: Global) -> Result<Tree, TreeError>
@@ -131,7 +116,7 @@ impl Tree {
             data: NodeData::Document,
             parent: NodeId { index: 0 },
             depth: 0,
-            children: Vec::new(alloc),
+            children: Children::None,
         })?;
         Ok(Tree { entries, alloc })
     }
@@ -238,10 +223,12 @@ impl Tree {
             data: node_data,
             parent,
             depth: self.entries[parent.index].depth + 1,
-            children: Vec::new(self.alloc),
+            children: Children::None,
         };
         self.entries.reserve(1)?;
-        push_child(&mut self.entries[parent.index].children, id)?;
+        self.entries[parent.index]
+            .children
+            .push_child(self.alloc, id)?;
         self.entries.push(entry)?;
         Ok(id)
     }

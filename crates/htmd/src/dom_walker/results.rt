@@ -11,6 +11,7 @@ ghost use Rattle.htmd.specs.Elements.{raw_result, end_of_element};
 ghost use Rattle.htmd.specs.Rendering.{with_result};
 ghost use Rattle.htmd.specs.Views.{optional_text, optional_result, output_view, result_view};
 
+use super::spare_texts::SpareTexts;
 use crate::element_handler::HandlerResult;
 use crate::node_util::only_text;
 use crate::seam::append_normalized_content;
@@ -47,12 +48,12 @@ pub(crate) fn lent(text: &Option<String>) -> Option<&str>
 }
 
 /// Nothing is written yet, of a text of its own.
-pub(crate) fn empty_result(alloc: Global) -> HandlerResult
+pub(crate) fn empty_result(alloc: Global, spare: &SpareTexts) -> HandlerResult
     ensures content { string_bytes result.content ≡ [] }
     ensures markdown_translated { result.markdown_translated ≡ true }
 {
     HandlerResult {
-        content: String::new(alloc),
+        content: spare.take(alloc),
         markdown_translated: true,
     }
 }
@@ -129,6 +130,8 @@ pub(crate) fn append_result(
     given: Option<HandlerResult>,
     whole: bool,
     is_guarded: bool,
+    alloc: Global,
+    spare: &SpareTexts,
 ) -> Result<(), AllocError>
     ensures { OnOk result ((definitions : List (List ℕ)) → output_view out.new definitions
         ≡ with_result is_guarded (output_view out.old definitions) whole (optional_result given) definitions) }
@@ -136,8 +139,10 @@ pub(crate) fn append_result(
     match given {
         None => Ok(()),
         Some(given) => {
-            append_normalized_content(&mut out.content, given.content, whole, is_guarded)?;
+            let mut content = given.content;
+            append_normalized_content(&mut out.content, &mut content, whole, is_guarded)?;
             out.markdown_translated = out.markdown_translated && given.markdown_translated;
+            spare.keep(alloc, content);
             Ok(())
         }
     }
@@ -150,12 +155,13 @@ pub(crate) fn append_copy(
     given: &Option<HandlerResult>,
     whole: bool,
     is_guarded: bool,
+    spare: &SpareTexts,
 ) -> Result<(), AllocError>
     ensures { OnOk result ((definitions : List (List ℕ)) → output_view out.new definitions
         ≡ with_result is_guarded (output_view out.old definitions) whole (optional_result given.now) definitions) }
 {
     let given = copied(alloc, given)?;
-    append_result(out, given, whole, is_guarded)
+    append_result(out, given, whole, is_guarded, alloc, spare)
 }
 
 /// Puts a comment behind a text.

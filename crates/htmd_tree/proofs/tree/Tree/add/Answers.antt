@@ -2,10 +2,11 @@
 use Rattle.std.proofs.Common.{◌≡◌, ◌<◌, ◌∷◌, [], ◌++◌, List, length, get_or, set, arith, rules, refl, sym, ap, ◌∙◌}
 use Rattle.std.proofs.Common.{subst, ◌+◌, ℕ}
 use Rattle.std.proofs.lemmas.List.{length-map}
+use Rattle.htmd_tree.specs.declared.children.Children.TheVariants as kept
 use Rattle.htmd_tree.specs.declared.tree.Entry.{Entry}
 use Rattle.htmd_tree.specs.Items.{Item, new_item}
 use Rattle.htmd_tree.specs.Views.{data_of}
-use Rattle.htmd_tree.specs.Entries.{item_of, items_of, IsStored}
+use Rattle.htmd_tree.specs.Entries.{item_of, items_of, numbers_of, IsStored}
 use Rattle.htmd_tree.proofs.EntriesLemmas.{items_of-set, items_of-added, IsStored-kept, IsStored-added, last_item}
 use Rattle.htmd_tree.proofs.tree.Tree.add.Goals as goal
 
@@ -14,7 +15,7 @@ invariant_of-self-in_err-push_child c =
     let entries : List Entry = c.reserve.new.self.items in
     let i : ℕ = c.parent-2.inside.index in
     let old : Entry = c.index_mut.result.now in
-    let children = c.push_child.new.children in
+    let children = c.push_child.new.self in
     let new : Entry = record { «data» = old.data; parent = old.parent; depth = old.depth; children = children }
     in
     let items : items_of entries ≡ c.args.self.now = ap items_of c.reserve.ensures.items ∙ c.self.view_is in
@@ -28,7 +29,7 @@ returns-in_err-push_child-clause-err c =
     let entries : List Entry = c.reserve.new.self.items in
     let i : ℕ = c.parent-2.inside.index in
     let old : Entry = c.index_mut.result.now in
-    let children = c.push_child.new.children in
+    let children = c.push_child.new.self in
     let new : Entry = record { «data» = old.data; parent = old.parent; depth = old.depth; children = children }
     in
     let items : items_of entries ≡ c.args.self.now = ap items_of c.reserve.ensures.items ∙ c.self.view_is in
@@ -44,7 +45,7 @@ invariant_of-self-2 c =
     let entries : List Entry = c.reserve.new.self.items in
     let i : ℕ = c.parent-2.inside.index in
     let old : Entry = c.index_mut.result.now in
-    let children = c.push_child.new.children in
+    let children = c.push_child.new.self in
     let new : Entry = record { «data» = old.data; parent = old.parent; depth = old.depth; children = children }
     in
     let items : items_of entries ≡ c.args.self.now = ap items_of c.reserve.ensures.items ∙ c.self.view_is in
@@ -56,7 +57,7 @@ invariant_of-self-2 c =
       parent = c.args.parent;
       depth = c.index.result.now.depth
           + 1;
-      children = c.new.result;
+      children = kept.None;
     } in
     let read : c.index.result.now ≡ get_or entries i c.index.result.now = c.index.ensures
     ∙ (ap (λ (x : List Entry). get_or x c.parent.inside.index c.index.result.now) (sym c.reserve.ensures.items)
@@ -66,15 +67,15 @@ invariant_of-self-2 c =
     let number : c.len.result ≡ length entries = c.len.ensures ∙ search rules in
     subst IsStored (sym c.in_ok-push.ensures.items)
     (IsStored-added entries i old new last within c.index_mut.ensures.value refl (c.in_ok-push_child.ensures.ok
-    ∙ ap (λ n. old.children.items ++ n ∷ []) number)
-    this c.new.ensures.items (rw (items, at) c.requires.holds) (rw (items, at) c.requires.shallow) stored)
+    ∙ ap (λ n. numbers_of old.children ++ n ∷ []) number)
+    this refl (rw (items, at) c.requires.holds) (rw (items, at) c.requires.shallow) stored)
 
 pub returns-clause-ok : goal.returns-clause-ok
 returns-clause-ok c =
     let entries : List Entry = c.reserve.new.self.items in
     let i : ℕ = c.parent-2.inside.index in
     let old : Entry = c.index_mut.result.now in
-    let children = c.push_child.new.children in
+    let children = c.push_child.new.self in
     let new : Entry = record { «data» = old.data; parent = old.parent; depth = old.depth; children = children }
     in
     let items : items_of entries ≡ c.args.self.now = ap items_of c.reserve.ensures.items ∙ c.self.view_is in
@@ -86,7 +87,7 @@ returns-clause-ok c =
       parent = c.args.parent;
       depth = c.index.result.now.depth
           + 1;
-      children = c.new.result;
+      children = kept.None;
     } in
     let read : c.index.result.now ≡ get_or entries i c.index.result.now = c.index.ensures
     ∙ (ap (λ (x : List Entry). get_or x c.parent.inside.index c.index.result.now) (sym c.reserve.ensures.items)
