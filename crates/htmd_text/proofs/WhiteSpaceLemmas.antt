@@ -1,7 +1,7 @@
 -- A text whose white space is squeezed piece by piece.
 use Rattle.std.proofs.Common.{◌≡◌, ℕ, suc, ◌+◌, ◌<◌, ◌≤◌, Bool, true, false, cond, List, [], ◌∷◌, ◌++◌, length, get_or}
 use Rattle.std.proofs.Common.{take, drop, refl, sym, ap, ◌∙◌, arith, append_assoc, ⊎_elim, eq-eqb}
-use Rattle.std.specs.Prelude.{◌≢◌, ◌==◌, ◌&&◌, ◌||◌, not, slice_index}
+use Rattle.std.specs.Prelude.{◌==◌, ◌&&◌, ◌||◌, not, slice_index}
 use Rattle.std.specs.List.{between}
 use Rattle.std.specs.Str.{IsCharBoundary, IsUtf8}
 use Rattle.std.proofs.lemmas.Bool.{and_parts, cases_Bool, false_from_ne_true, false≢true}
@@ -51,26 +51,27 @@ pub other_stays : (b : ℕ) (s : List ℕ) → is_ascii_white_space b ≡ false
     → squeezed_text (b ∷ s) ≡ b ∷ squeezed_text s
 other_stays b s other = rw other refl
 
--- What was written, the piece that waits, and what the rest becomes, are the whole.
-pub record Squeezing (s out : List ℕ) (from i : ℕ) : Type 0 where
+-- What was there, what was written, the piece that waits, and what the rest becomes, are the whole.
+pub record Squeezing (start s out : List ℕ) (from i : ℕ) : Type 0 where
   pub in_order : from ≤ i
   pub cut : IsCharBoundary s from
-  pub whole : out ++ (between from i s ++ squeezed_text (drop i s)) ≡ squeezed_text s
+  pub whole : out ++ (between from i s ++ squeezed_text (drop i s)) ≡ start ++ squeezed_text s
 
-pub squeezing_none : (s out : List ℕ) → IsUtf8 s → out ≡ [] → Squeezing s out 0 0
-squeezing_none s out text none = record {
+pub squeezing_none : (start s : List ℕ) → IsUtf8 s → Squeezing start s start 0 0
+squeezing_none start s text = record {
   in_order = omega arith;
   cut = IsCharBoundary-start s text;
-  whole = rw none refl;
+  whole = refl;
 }
 
 rest_of : (s : List ℕ) (i : ℕ) → drop 1 (drop i s) ≡ drop (i + 1) s
 rest_of s i = drop-drop 1 i s
 
-pub squeezing_stays : (s out : List ℕ) (from i : ℕ) → i < length s
+pub squeezing_stays : (start s out : List ℕ) (from i : ℕ) → i < length s
     → squeezed_text (drop i s) ≡ take 1 (drop i s)
-    ++ squeezed_text (drop 1 (drop i s)) → Squeezing s out from i → Squeezing s out from (i + 1)
-squeezing_stays s out from i lt stays was = record {
+    ++ squeezed_text (drop 1 (drop i s)) → Squeezing start s out from i
+    → Squeezing start s out from (i + 1)
+squeezing_stays start s out from i lt stays was = record {
   in_order = omega (arith, was.in_order);
   cut = was.cut;
   whole =
@@ -86,10 +87,10 @@ squeezing_stays s out from i lt stays was = record {
 pub white_is_ascii : (b : ℕ) → is_ascii_white_space b ≡ true → b < 128
 white_is_ascii b white = grind (arith, nat_tests)
 
-pub squeezing_replaced : (s out instead : List ℕ) (from i : ℕ) → IsUtf8 s → i < length s
+pub squeezing_replaced : (start s out instead : List ℕ) (from i : ℕ) → IsUtf8 s → i < length s
     → IsReplaced (drop i s) instead
-    → Squeezing s out from i → Squeezing s ((out ++ between from i s) ++ instead) (i + 1) (i + 1)
-squeezing_replaced s out instead from i text lt here was = record {
+    → Squeezing start s out from i → Squeezing start s ((out ++ between from i s) ++ instead) (i + 1) (i + 1)
+squeezing_replaced start s out instead from i text lt here was = record {
   in_order = omega arith;
   cut =
       let place : slice_index (drop i s) 0 ≡ get_or s i 0 = get_or-drop i s 0 0
@@ -156,15 +157,9 @@ stays_squeezed true false b s rest white last le same alone =
 stays_squeezed false v b s rest other w le same alone =
     ap (λ w. (not w || (true && (b == space))) && is_squeezed w s) other ∙ alone
 
-same_is_squeezed : (s : List ℕ) → squeezed_text s ≡ s → is_squeezed false s ≡ true
+-- a text that stays is one that the test finds squeezed
+pub same_is_squeezed : (s : List ℕ) → squeezed_text s ≡ s → is_squeezed false s ≡ true
 same_is_squeezed [] same = refl
 same_is_squeezed (b ∷ s) same =
     stays_squeezed (is_ascii_white_space b) (begins_with_white_space s) b s (squeezed_text s) refl refl
     (squeezed_le s) same (same_is_squeezed s (squeezed_tail b s same))
-
--- a text that the test finds not to be squeezed changes
-pub changes : (s bytes : List ℕ) (found : Bool) → bytes ≡ s → found ≡ is_squeezed false bytes
-    → found ≡ false
-    → squeezed_text s ≡ s → ⊥
-changes s bytes found bytes_are is_found none same =
-    false≢true (sym none ∙ is_found ∙ ap (is_squeezed false) bytes_are ∙ same_is_squeezed s same)

@@ -27,4 +27,4 @@ pub use self::trim::{
     StripWhitespace, TrimDocumentWhitespace, trim_end_document_white_space, trim_end_line_feeds,
     trim_end_spaces, trim_newlines,
 };
-pub use self::white_space::compress_whitespace;
+pub use self::white_space::{compress_whitespace, is_squeezed, push_squeezed};

@@ -1,5 +1,5 @@
 //! White space of a text.
-ghost use Rattle.std.specs.Prelude.{◌≡◌, ◌++◌, false, IfOk, IsOkAnd, MatchOption, take, drop};
+ghost use Rattle.std.specs.Prelude.{◌≡◌, ◌++◌, true, false, IfOk, OnOk, IsOkAnd, MatchOption, take, drop, string_bytes};
 ghost use Rattle.std.specs.Cow.{cow_str_bytes, IsBorrowedStr};
 ghost use Rattle.htmd_text.specs.WhiteSpace as spec;
 ghost use Rattle.htmd_text.specs.Replacement.{IsReplaced, is_squeezed};
@@ -13,26 +13,41 @@ pub fn compress_whitespace(alloc: Global, text: &str) -> Result<CowStr<'_>, Allo
     ensures text { IfOk result (λ c. cow_str_bytes c ≡ spec.squeezed_text text.now) }
     ensures borrowed { spec.squeezed_text text.now ≡ text.now → IsOkAnd result (λ c. IsBorrowedStr c) }
 {
-    let bytes = text.as_bytes();
-    if is_squeezed(bytes) {
+    if is_squeezed(text) {
         return Ok(CowStr::Borrowed(text));
     }
-    let mut squeezed = String::with_capacity(alloc, bytes.len())?;
+    let mut squeezed = String::with_capacity(alloc, text.len())?;
+    push_squeezed(&mut squeezed, text)?;
+    Ok(CowStr::Owned(squeezed))
+}
+
+/// Puts the text with each maximal run of ASCII white space as one space behind another. An `Err` is want of memory.
+pub fn push_squeezed(out: &mut String, text: &str) -> Result<(), AllocError>
+    ensures { OnOk result (string_bytes out.new ≡ string_bytes out.old ++ spec.squeezed_text text.now) }
+{
+    let bytes = text.as_bytes();
     let mut from = 0;
     for i in 0..bytes.len() {
         if let Some(instead) = replacement(&bytes[i..]) {
-            squeezed.push_str(&text[from..i])?;
-            squeezed.push_str(instead)?;
+            out.push_str(&text[from..i])?;
+            out.push_str(instead)?;
             from = i + 1;
         }
     }
-    squeezed.push_str(&text[from..])?;
-    Ok(CowStr::Owned(squeezed))
+    out.push_str(&text[from..])
+}
+
+/// Whether squeezing white space leaves the text as it is.
+pub fn is_squeezed(text: &str) -> bool
+    ensures stays { result ≡ true → spec.squeezed_text text.now ≡ text.now }
+    ensures changes { spec.squeezed_text text.now ≡ text.now → result ≡ true }
+{
+    has_single_spaces(text.as_bytes())
 }
 
 /// Whether each white space is a space alone. All bytes are looked at, so that a processor can
 /// compare many at once.
-fn is_squeezed(bytes: &[u8]) -> bool
+fn has_single_spaces(bytes: &[u8]) -> bool
     ensures { result ≡ is_squeezed false bytes.now }
 {
     let mut is_squeezed = true;
