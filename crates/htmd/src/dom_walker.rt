@@ -1,7 +1,6 @@
 //! The walk over a tree.
 
 mod results;
-mod spare_texts;
 
 ghost use Rattle.std.specs.Prelude.{◌≡◌, ◌<◌, ℕ, List, None, false, IfOk, IfSome, IsSome, IsTrue, OnOk, OnErr};
 ghost use Rattle.std.specs.Prelude.{length, string_bytes};
@@ -34,6 +33,7 @@ use crate::line::{is_in_one_line, is_known_in_line};
 use crate::node_util::{
     is_block, is_inside_pre, is_parent_pre, is_pre_or_code, is_text, trims_first,
 };
+use crate::spare_texts::SpareTexts;
 use crate::text_node::{Context, append_text};
 use htmd_text::{
     is_block_element, trim_end_document_white_space, trim_end_line_feeds, trim_newlines,
@@ -43,7 +43,6 @@ use results::{
     append_copy, append_result, between_tags, copied, cut_before_child, empty_result, lent,
     push_comment, raw_result, text_shown, trim_after,
 };
-use spare_texts::SpareTexts;
 use std::alloc::{AllocError, Global};
 
 /// What an element gave that added no definition: it gives the same wherever else it is reached.
@@ -383,6 +382,7 @@ impl<'a, R: Registry> Walk<'a, R> {
                 element.tag == "pre",
                 context,
                 is_guarded(self.registry.options()),
+                self.spare,
                 &mut out.content,
             )?;
             return Ok(out);
@@ -483,6 +483,7 @@ impl<'a, R: Registry> Walk<'a, R> {
             false,
             context,
             is_guarded,
+            self.spare,
             &mut out.content,
         )?;
         Ok(out)
@@ -631,6 +632,7 @@ impl<'a, R: Registry> Walk<'a, R> {
                     in_pre,
                     context,
                     is_guarded,
+                    self.spare,
                     &mut out.content,
                 )
             }

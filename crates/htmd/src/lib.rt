@@ -21,6 +21,7 @@ mod line;
 mod node_util;
 pub mod options;
 mod seam;
+mod spare_texts;
 mod text_node;
 
 pub use conversion::{ConvertError, convert};

@@ -8,9 +8,10 @@ ghost use Rattle.htmd_markdown.specs.GuardedText.{guarded_text};
 ghost use Rattle.htmd.specs.OrdinaryText as spec;
 ghost use Rattle.htmd.specs.PlainTexts.{is_plain_byte, stays_plain, may_begin, begins_plain};
 
+use crate::spare_texts::SpareTexts;
 use htmd_markdown::{begins_line, push_guarded_text};
 use htmd_text::runs::{leading_len, trailing_len};
-use htmd_text::{compress_whitespace, escape_if_needed, escape_pre_text_if_needed};
+use htmd_text::{escape_if_needed, escape_pre_text_if_needed, is_squeezed, push_squeezed};
 use std::alloc::{AllocError, Global};
 
 /// Where a text is written: as preformatted text or not, with this trim flag.
@@ -111,12 +112,22 @@ fn push_guarded_with_room(out: &mut String, text: &str, begins_line: bool) -> Re
     push_guarded_text(out, text, begins_line)
 }
 
+/// Puts a text behind another with a backslash before each place that would be read as markup, with room for more.
+fn push_escaped(alloc: Global, out: &mut String, text: &str) -> Result<(), AllocError>
+    ensures { OnOk result
+        (string_bytes out.new ≡ string_bytes out.old ++ escaped_markdown text.now) }
+{
+    let escaped = escape_if_needed(alloc, text)?;
+    push_with_room(out, escaped.as_str())
+}
+
 /// Squeezed, without its first space where a space is not wanted, and escaped.
 fn append_ordinary(
     alloc: Global,
     out: &mut String,
     text: &str,
     trim: bool,
+    spare: &SpareTexts,
 ) -> Result<(), AllocError>
     ensures { OnOk result (string_bytes out.new
         ≡ string_bytes out.old ++ spec.ordinary_text trim (string_bytes out.old) text.now) }
@@ -125,9 +136,13 @@ fn append_ordinary(
     if is_plain(text) {
         return push_with_room(out, without_first_space(text, goes));
     }
-    let squeezed = compress_whitespace(alloc, text)?;
-    let escaped = escape_if_needed(alloc, without_first_space(squeezed.as_str(), goes))?;
-    push_with_room(out, escaped.as_str())?;
+    if is_squeezed(text) {
+        return push_escaped(alloc, out, without_first_space(text, goes));
+    }
+    let mut squeezed = spare.take(alloc);
+    push_squeezed(&mut squeezed, text)?;
+    push_escaped(alloc, out, without_first_space(squeezed.as_str(), goes))?;
+    spare.keep(alloc, squeezed);
     Ok(())
 }
 
@@ -149,14 +164,26 @@ fn append_preformatted(
 }
 
 /// Squeezed, without its first space where a space is not wanted, and escaped as Guarded does.
-fn append_guarded(alloc: Global, out: &mut String, text: &str, trim: bool) -> Result<(), AllocError>
+fn append_guarded(
+    alloc: Global,
+    out: &mut String,
+    text: &str,
+    trim: bool,
+    spare: &SpareTexts,
+) -> Result<(), AllocError>
     ensures { OnOk result (string_bytes out.new
         ≡ string_bytes out.old ++ spec.guarded_ordinary_text trim (string_bytes out.old) text.now) }
 {
     let goes = trim || trailing_len(out.as_bytes(), b' ') > 0;
     let begins = begins_line(out.as_str());
-    let squeezed = compress_whitespace(alloc, text)?;
-    push_guarded_with_room(out, without_first_space(squeezed.as_str(), goes), begins)
+    if is_squeezed(text) {
+        return push_guarded_with_room(out, without_first_space(text, goes), begins);
+    }
+    let mut squeezed = spare.take(alloc);
+    push_squeezed(&mut squeezed, text)?;
+    push_guarded_with_room(out, without_first_space(squeezed.as_str(), goes), begins)?;
+    spare.keep(alloc, squeezed);
+    Ok(())
 }
 
 /// The text of a text node, put behind what is written so far.
@@ -166,16 +193,17 @@ pub(crate) fn append_text(
     in_pre: bool,
     context: Context,
     is_guarded: bool,
+    spare: &SpareTexts,
     out: &mut String,
 ) -> Result<(), AllocError>
     ensures { OnOk result (string_bytes out.new ≡ string_bytes out.old
         ++ spec.written_text is_guarded context.preformatted in_pre context.trim (string_bytes out.old) text.now) }
 {
     if is_guarded {
-        return append_guarded(alloc, out, text, context.trim);
+        return append_guarded(alloc, out, text, context.trim, spare);
     }
     if context.preformatted {
         return append_preformatted(alloc, out, text, in_pre);
     }
-    append_ordinary(alloc, out, text, context.trim)
+    append_ordinary(alloc, out, text, context.trim, spare)
 }

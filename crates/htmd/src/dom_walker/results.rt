@@ -11,10 +11,10 @@ ghost use Rattle.htmd.specs.Elements.{raw_result, end_of_element};
 ghost use Rattle.htmd.specs.Rendering.{with_result};
 ghost use Rattle.htmd.specs.Views.{optional_text, optional_result, output_view, result_view};
 
-use super::spare_texts::SpareTexts;
 use crate::element_handler::HandlerResult;
 use crate::node_util::only_text;
 use crate::seam::append_normalized_content;
+use crate::spare_texts::SpareTexts;
 use htmd_text::trim_end_spaces;
 use htmd_tree::{Attribute, NodeId, Tree, is_void, push_end_tag, push_start_tag};
 use std::alloc::{AllocError, Global};

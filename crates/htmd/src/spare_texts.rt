@@ -1,11 +1,11 @@
-//! Texts that a walk is done with, whose memory the next ones take.
+//! Texts that a conversion is done with, whose memory the next ones take.
 
 ghost use Rattle.std.specs.Prelude.{◌≡◌, [], string_bytes};
 
 use std::alloc::Global;
 use std::cell::Cell;
 
-/// So many are kept, since a walk writes about as many texts at a time.
+/// So many are kept: about as many as are written at a time, one for each element in another.
 const MOST: usize = 16;
 
 /// Texts that are done with.
