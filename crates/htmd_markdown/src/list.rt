@@ -220,11 +220,7 @@ fn without_line_feeds_before(text: &str) -> &str
 
 /// A list among the blocks around it, without line feeds at its own ends: in an item it begins and
 /// ends a line, elsewhere blank lines stand around it. Nothing where the list is empty.
-pub fn write_list_block(
-    alloc: Global,
-    mut list: String,
-    is_in_item: bool,
-) -> Result<Option<String>, AllocError>
+pub fn write_list_block(mut list: String, is_in_item: bool) -> Result<Option<String>, AllocError>
     ensures { IfOk result (λ block. option_map string_bytes block
         ≡ spec.list_block is_in_item (string_bytes list)) }
 {
@@ -232,10 +228,9 @@ pub fn write_list_block(
     if list.is_empty() {
         return Ok(None);
     }
-    let line_feeds = if is_in_item { 1 } else { 2 };
-    let mut block = String::with_capacity(alloc, list.len() + 4)?;
-    push_repeated(&mut block, '\n', line_feeds)?;
-    block.push_str(&list)?;
-    push_repeated(&mut block, '\n', line_feeds)?;
-    Ok(Some(block))
+    let line_feeds = if is_in_item { "\n" } else { "\n\n" };
+    list.reserve(2 * line_feeds.len())?;
+    list.insert_str(0, line_feeds)?;
+    list.push_str(line_feeds)?;
+    Ok(Some(list))
 }

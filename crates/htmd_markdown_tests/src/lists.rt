@@ -120,7 +120,7 @@ fn sets_lists_apart(rt: HostRuntime) -> Result<(), Fail> {
     ];
     for (text, is_in_item, want) in cases {
         let list = String::from_str(rt.alloc(), text)?;
-        match (write_list_block(rt.alloc(), list, is_in_item)?, want) {
+        match (write_list_block(list, is_in_item)?, want) {
             (Some(block), Some(want)) => assert_eq!(rt; block.as_str(), want, "at {text}"),
             (None, None) => {}
             _ => panic!(rt; "at {text}"),

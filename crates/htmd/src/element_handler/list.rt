@@ -100,7 +100,7 @@ pub(crate) fn finish(
         return Ok(Some(raw_block_result(alloc, element)?));
     }
     let is_in_item = parent_tag(element) == Some("li");
-    match write_list_block(alloc, list.content, is_in_item)? {
+    match write_list_block(list.content, is_in_item)? {
         Some(text) => Ok(Some(HandlerResult::from_string(text))),
         None => Ok(None),
     }
