@@ -9,8 +9,7 @@ ghost use Rattle.htmd_markdown.specs.Lists as spec;
 
 use htmd_text::runs::leading_len;
 use htmd_text::{
-    TrimDocumentWhitespace, digits, indent_text_except_first_line, join_blocks, push_repeated,
-    trim_newlines,
+    TrimDocumentWhitespace, digits, join_blocks, push_indented, push_repeated, trim_newlines,
 };
 use std::alloc::{AllocError, Global};
 
@@ -59,7 +58,7 @@ pub fn write_bullet_item(
     item.push('\n')?;
     item.push(bullet(marker))?;
     push_repeated(&mut item, ' ', spacing as usize)?;
-    push_content(alloc, &mut item, content)?;
+    push_content(&mut item, content)?;
     Ok(item)
 }
 
@@ -196,19 +195,19 @@ fn write_numbered_item(
     write!(item, "{number}")?;
     item.push('.')?;
     push_repeated(&mut item, ' ', spaces)?;
-    push_content(alloc, &mut item, content)?;
+    push_content(&mut item, content)?;
     Ok(item)
 }
 
 /// Puts the content of an item behind its marker, which a line feed precedes: further lines stand
 /// behind as many spaces as the marker takes.
-fn push_content(alloc: Global, item: &mut String, content: &str) -> Result<(), AllocError>
+fn push_content(item: &mut String, content: &str) -> Result<(), AllocError>
     requires { 0 < length (string_bytes item.old) }
     ensures { OnOk result (string_bytes item.new
         ≡ string_bytes item.old ++ indented_text content.now (length (string_bytes item.old) - 1) true) }
 {
-    let content = indent_text_except_first_line(alloc, content, item.len() - 1, true)?;
-    item.push_str(&content)
+    let indent = item.len() - 1;
+    push_indented(item, content, indent, true)
 }
 
 /// The text without line feeds at its start.

@@ -17,21 +17,35 @@ pub fn indent_text_except_first_line(
 ) -> Result<String, AllocError>
     ensures { IfOk result (λ t. string_bytes t ≡ spec.indented_text text.now indent trim_line_end) }
 {
-    if indent == 0 {
-        return String::from_str(alloc, text);
-    }
     let mut indented = String::with_capacity(alloc, text.len())?;
+    push_indented(&mut indented, text, indent, trim_line_end)?;
+    Ok(indented)
+}
+
+/// Puts behind a text what `indent_text_except_first_line` answers for another one.
+pub fn push_indented(
+    out: &mut String,
+    text: &str,
+    indent: usize,
+    trim_line_end: bool,
+) -> Result<(), AllocError>
+    ensures { OnOk result (string_bytes out.new
+        ≡ string_bytes out.old ++ spec.indented_text text.now indent trim_line_end) }
+{
+    if indent == 0 {
+        return out.push_str(text);
+    }
     let mut is_first = true;
     for line in text.lines() {
         let line = line_text(line, trim_line_end);
         if is_first {
-            indented.push_str(line)?;
+            out.push_str(line)?;
         } else {
-            push_line(&mut indented, line, indent)?;
+            push_line(out, line, indent)?;
         }
         is_first = false;
     }
-    Ok(indented)
+    Ok(())
 }
 
 /// The line, where asked without document white space at its end.

@@ -18,7 +18,7 @@ mod white_space;
 pub use self::blank_lines::{surround_with_blank_lines, with_blank_lines};
 pub use self::blocks::is_block_element;
 pub use self::escape::{escape_html, escape_if_needed, escape_pre_text_if_needed};
-pub use self::indent::indent_text_except_first_line;
+pub use self::indent::{indent_text_except_first_line, push_indented};
 pub use self::join::{JoinOnStringIterator, concat, join_blocks};
 pub use self::list_markers::{index_of_markdown_ordered_item_dot, is_markdown_atx_heading};
 pub use self::numbers::digits;

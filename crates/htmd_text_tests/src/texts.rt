@@ -215,6 +215,9 @@ fn joins_and_indents(rt: HostRuntime) -> Result<(), Fail> {
     for (text, indent, trim, want) in cases {
         let indented = indent_text_except_first_line(alloc, text, indent, trim)?;
         assert_eq!(rt; indented.as_str(), want, "at {text}");
+        let mut item = String::from_str(alloc, "* ")?;
+        push_indented(&mut item, text, indent, trim)?;
+        assert_eq!(rt; item.strip_prefix("* "), Some(want), "at {text}");
     }
     Ok(())
 }

@@ -1,4 +1,4 @@
--- What is left to prove of `indent_text_except_first_line`.
+-- What is left to prove of `push_indented`.
 use Rattle.std.proofs.Common.{◌≡◌, ◌<◌, ◌++◌, length, take, map, arith, ap, ◌∙◌}
 use Rattle.std.specs.Str.Lines.{lines}
 use Rattle.std.specs.String.{string_bytes}
@@ -8,7 +8,7 @@ use Rattle.std.proofs.lemmas.Iterator.Splits.{YieldsList-from_lines}
 use Rattle.std.proofs.lemmas.Iterator.Consumers.{YieldsList-turn, YieldsList-end}
 use Rattle.htmd_text.specs.Indents.{line_text, next_line, indented_lines}
 use Rattle.htmd_text.proofs.IndentsLemmas.{first_line, later_line, pushed_some, lines_indented}
-use Rattle.htmd_text.proofs.indent.indent_text_except_first_line.Goals as goal
+use Rattle.htmd_text.proofs.indent.push_indented.Goals as goal
 
 pub loop-line-preserved-in_ok-push_str : goal.loop-line-preserved-in_ok-push_str
 loop-line-preserved-in_ok-push_str c =
@@ -17,10 +17,10 @@ loop-line-preserved-in_ok-push_str c =
     _ c.in-Some.line c.in-Some.is c.next.ensures.steps in
     let start : n ≡ 0 = grind (arith, nat_tests) in
     let more = first_line c.args.indent (line_text c.args.trim_line_end) (lines c.args.text.now) n c.in-Some.line.now
-    (string_bytes c.loop-line.indented) turn start c.loop-line.invariant.written in
+    (string_bytes c.args.out.now) (string_bytes c.loop-line.out) turn start c.loop-line.invariant.written in
     record {
       written = rw (length_push c.loop-line.yielded c.in-Some.line) (c.in_ok-push_str.ensures.bytes
-          ∙ ap (λ l. string_bytes c.loop-line.indented ++ l) c.line_text-line.ensures ∙ more);
+          ∙ ap (λ l. string_bytes c.loop-line.out ++ l) c.line_text-line.ensures ∙ more);
       begun = pushed_some c.loop-line.yielded c.in-Some.line;
     }
 
@@ -31,10 +31,10 @@ loop-line-preserved c =
     _ c.in-Some.line c.in-Some.is c.next.ensures.steps in
     let some : 0 < n = grind (arith, nat_tests) in
     let more = later_line c.args.indent (line_text c.args.trim_line_end) (lines c.args.text.now) n c.in-Some.line.now
-    (string_bytes c.loop-line.indented) turn some c.loop-line.invariant.written in
+    (string_bytes c.args.out.now) (string_bytes c.loop-line.out) turn some c.loop-line.invariant.written in
     record {
       written = rw (length_push c.loop-line.yielded c.in-Some.line) (c.in_ok-push_line.ensures
-          ∙ ap (λ l. string_bytes c.loop-line.indented ++ next_line c.args.indent l) c.line_text-line.ensures
+          ∙ ap (λ l. string_bytes c.loop-line.out ++ next_line c.args.indent l) c.line_text-line.ensures
           ∙ more);
       begun = pushed_some c.loop-line.yielded c.in-Some.line;
     }
@@ -47,5 +47,6 @@ returns c =
     let whole : take (length c.loop-line.yielded) ls ≡ ls =
     take_all (length c.loop-line.yielded) ls (omega (arith, all.1)) in
     c.loop-line.invariant.written
-    ∙ ap (λ l. indented_lines c.args.indent (map (line_text c.args.trim_line_end) l)) whole
-    ∙ lines_indented c.args.text.now c.args.indent c.args.trim_line_end c.if-indent-eq0.false
+    ∙ ap (λ l. string_bytes c.args.out.now ++ l)
+    (ap (λ l. indented_lines c.args.indent (map (line_text c.args.trim_line_end) l)) whole
+    ∙ lines_indented c.args.text.now c.args.indent c.args.trim_line_end c.if-indent-eq0.false)
