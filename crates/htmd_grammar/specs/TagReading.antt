@@ -1,4 +1,5 @@
--- A start tag taken apart from left to right, for the steps of a reader. It is no part of the grammar.
+-- A start tag taken apart from left to right, as the steps of a reader and the search for a body take it. The relation
+-- that says what a text denotes spells tags by itself.
 use Rattle.std.specs.Prelude.{ℕ, zero, suc, Bool, true, false, not, ◌&&◌, ◌==◌, if◌then◌else◌, List, [], ◌∷◌, map, drop}
 use Rattle.std.specs.Char.{to_ascii_lowercase}
 use Rattle.htmd_text.specs.Characters.{quotation_mark, apostrophe, slash, equals_sign, greater_than_sign}
