@@ -1,11 +1,22 @@
 -- The white space at the ends of a text, and what stands between.
-use Rattle.std.proofs.Common.{◌≡◌, ◌≢◌, ℕ, ◌-◌, ◌<◌, List, [], ◌∷◌, ◌++◌, length, take, drop, min, refl, sym, ap, ◌∙◌}
-use Rattle.std.proofs.Common.{subst, arith, append_assoc, length-append, length-drop}
+use Rattle.std.proofs.Common.{◌≡◌, ◌≢◌, ℕ, ◌+◌, ◌-◌, ◌<◌, ◌≤◌, List, [], ◌∷◌, ◌++◌, length, get_or, take, drop, min}
+use Rattle.std.proofs.Common.{refl, sym, ap, ◌∙◌, subst, arith, append_assoc, length-append, length-drop, Some, None}
+use Rattle.std.proofs.Common.{Bool, true, false}
+use Rattle.std.specs.Prelude.{not, ◌&&◌}
 use Rattle.std.specs.Char.{is_not_whitespace, encode_utf8}
-use Rattle.std.specs.Str.{IsUtf8, IsTrimStart, IsTrimEnd, EmptyOrStartsWithPassing, encode_utf8_all}
-use Rattle.std.proofs.lemmas.List.{take_min, take-append-drop}
-use Rattle.std.proofs.lemmas.Str.{encode_same}
-use Rattle.htmd_markdown.specs.Emphases.{IsTight, AreMarksInside, IsWhiteSpace}
+use Rattle.std.specs.List.{insert_slice}
+use Rattle.std.specs.Str.{IsUtf8, IsTrimStart, IsTrimEnd, EmptyOrStartsWithPassing, encode_utf8_all, IsCharBoundary}
+use Rattle.std.specs.Str.{trim, trim_start, trim_end}
+use Rattle.std.specs.String.Boundary.{IsSplitPoint}
+use Rattle.std.proofs.Math.Seq.{take-append_seam, drop-append_seam}
+use Rattle.std.proofs.lemmas.List.{take_min, drop_min, take-append-drop, length-take-le, get_or_append_left}
+use Rattle.std.proofs.lemmas.Str.{encode_same, IsCharBoundary-from_rest}
+use Rattle.htmd_text.proofs.TrimsLemmas.{rest_boundary, front_boundary}
+use Rattle.htmd_text.specs.Trims.{white_space_at_start, white_space_at_end}
+use Rattle.htmd_markdown.specs.Emphases as spec
+use Rattle.htmd_markdown.specs.Titles.{is_filled}
+use Rattle.htmd_markdown.specs.Emphases.{IsTight, AreMarksInside, IsWhiteSpace, between, emphasised_text}
+use Rattle.htmd_markdown.specs.declared.emphasis.Emphasis.{Emphasis}
 
 -- what was cut from the start, by the length of the rest
 pub cut_is : (s r : List ℕ) (n : ℕ) → r ≡ drop n s → take (length s - length r) s ≡ take n s
@@ -66,3 +77,123 @@ marks_inside mark s rest middle before after out text filled start end b a e =
         subst (λ (l : List ℕ). IsWhiteSpace l) (sym back) end.2,
       ),
     )
+
+-- a text between marks is one where there is something between them
+between_filled : (mark before middle after : List ℕ) → middle ≢ []
+    → between mark before middle after ≡ Some ((((before ++ mark) ++ middle) ++ mark) ++ after)
+between_filled mark before [] after filled = absurd (filled refl)
+between_filled mark before (b ∷ middle) after filled = refl
+
+-- what begins where the white space at the start ends
+rest_is : (s rest : List ℕ) → IsTrimStart s rest → rest ≡ drop (length s - length rest) s
+rest_is s rest start =
+    let size : length rest ≡ length s - start.0 = ap length start.1 ∙ length-drop start.0 s in
+    let place : length s - length rest ≡ min start.0 (length s) = omega (arith, start.4) in
+    start.1 ∙ sym (drop_min start.0 s) ∙ ap (λ k. drop k s) (sym place)
+
+-- the text is its white space, what stands between, and white space again
+parts : (s rest middle : List ℕ) → IsTrimStart s rest → IsTrimEnd rest middle
+    → s ≡ (take (length s - length rest) s ++ middle) ++ drop (length middle) rest
+parts s rest middle start end =
+    let before = take (length s - length rest) s in
+    let front : middle ≡ take (length middle) rest = end.1 ∙ ap (λ k. take k rest) (sym end.4) in
+    let inner : middle ++ drop (length middle) rest ≡ rest = ap (λ l. l ++ drop (length middle) rest) front
+    ∙ take-append-drop (length middle) rest in
+    let all : before ++ rest ≡ s = ap (λ l. before ++ l) (rest_is s rest start)
+    ∙ take-append-drop (length s - length rest) s in
+    sym all ∙ ap (λ l. before ++ l) (sym inner) ∙ sym (append_assoc before middle (drop (length middle) rest))
+
+-- a mark at the seam of two texts
+inserted : (xs ys mark : List ℕ) (n : ℕ) → n ≡ length xs → insert_slice (xs ++ ys) n mark ≡ (xs ++ mark) ++ ys
+inserted xs ys mark n e = rw (e, take-append_seam xs ys, drop-append_seam xs ys) refl
+
+-- first the mark at the end, then that at the start
+both_inserted : (before middle after mark s : List ℕ) (start end : ℕ) → s ≡ (before ++ middle) ++ after
+    → start ≡ length before → end ≡ start + length middle
+    → insert_slice (insert_slice s end mark) start mark ≡ (((before ++ mark) ++ middle) ++ mark) ++ after
+both_inserted before middle after mark s start end whole first last =
+    let size : end ≡ length (before ++ middle) = omega (arith, length-append before middle) in
+    let behind : insert_slice s end mark ≡ ((before ++ middle) ++ mark) ++ after =
+    ap (λ l. insert_slice l end mark) whole ∙ inserted (before ++ middle) after mark end size in
+    let apart : ((before ++ middle) ++ mark) ++ after ≡ before ++ (middle ++ (mark ++ after)) = simp append_assoc in
+    ap (λ l. insert_slice l start mark) (behind ∙ apart)
+    ∙ inserted before (middle ++ (mark ++ after)) mark start first
+    ∙ simp append_assoc
+
+-- the text that the code makes
+pub marks_put : (mark s rest middle once out : List ℕ) (start end : ℕ) → IsTrimStart s rest → IsTrimEnd rest middle
+    → start ≡ length s - length rest → end ≡ start + length middle
+    → once ≡ insert_slice s end mark → out ≡ insert_slice once start mark
+    → out ≡ (((take (length s - length rest) s ++ mark) ++ middle) ++ mark) ++ drop (length middle) rest
+marks_put mark s rest middle once out start end cut_start cut_end first last at_end at_start =
+    let size = length-take-le (length s - length rest) s (omega arith) in
+    at_start
+    ∙ ap (λ l. insert_slice l start mark) at_end
+    ∙ both_inserted (take (length s - length rest) s) middle (drop (length middle) rest) mark s start end
+    (parts s rest middle cut_start cut_end) (omega (arith, size)) last
+
+-- such a text is the content with emphasis
+pub emphasised_is : (emphasis : Emphasis) (mark s rest middle out : List ℕ) → mark ≡ spec.mark emphasis
+    → rest ≡ trim_start s → middle ≡ trim_end rest → middle ≢ []
+    → out ≡ (((take (length s - length rest) s ++ mark) ++ middle) ++ mark) ++ drop (length middle) rest
+    → emphasised_text emphasis s ≡ Some out
+emphasised_is emphasis mark s rest middle out marked start end filled e =
+    let before = take (length s - length rest) s in
+    let after = drop (length middle) rest in
+    let same : emphasised_text emphasis s ≡ between mark before middle after = rw (end, start, marked) refl in
+    same ∙ between_filled mark before middle after filled ∙ ap (λ l. Some l) (sym e)
+
+-- a mark may stand behind what is left
+pub end_may_take : (s rest middle : List ℕ) (end : ℕ) → IsUtf8 rest → IsUtf8 middle → IsTrimStart s rest
+    → IsTrimEnd rest middle → end ≡ length s - length rest + length middle → IsSplitPoint s end
+end_may_take s rest middle end text text_middle cut_start cut_end place =
+    let cut : IsCharBoundary rest (length middle) =
+    front_boundary rest middle cut_end.0 text text_middle cut_end.5 cut_end.4 cut_end.1 in
+    let here = IsCharBoundary-from_rest s (length s - length rest) (length middle) (omega arith)
+    (subst (λ (l : List ℕ). IsCharBoundary l (length middle)) (rest_is s rest cut_start) cut) in
+    subst (λ (k : ℕ). IsSplitPoint s k) (sym place) (here.0, λ _. here.1)
+
+-- what stands before a mark stays
+before_mark : (s mark : List ℕ) (n i : ℕ) → n ≤ length s → i < n
+    → get_or (insert_slice s n mark) i 0 ≡ get_or s i 0
+before_mark s mark n i le lt =
+    let size = length-take-le n s le in
+    let within : i < length (take n s) = omega arith in
+    ap (λ l. get_or l i 0) (append_assoc (take n s) mark (drop n s))
+    ∙ get_or_append_left (take n s) (mark ++ drop n s) 0 i within
+    ∙ sym (get_or_append_left (take n s) (drop n s) 0 i within)
+    ∙ ap (λ l. get_or l i 0) (take-append-drop n s)
+
+-- with a mark behind what is left, one may stand in front of it too
+pub start_may_take : (s rest middle mark marked : List ℕ) (start end : ℕ) → IsUtf8 rest → middle ≢ []
+    → IsTrimStart s rest → IsTrimEnd rest middle → start ≡ length s - length rest → end ≡ start + length middle
+    → marked ≡ insert_slice s end mark → IsSplitPoint marked start
+start_may_take s rest middle mark marked start end text filled cut_start cut_end first last e =
+    let here = rest_boundary s rest cut_start.0 text cut_start.4 cut_start.1 in
+    let some : 0 < length middle = some_length middle filled in
+    let within : end ≤ length s = omega (arith, cut_start.4, cut_end.4, cut_end.5) in
+    let same : get_or marked start 0 ≡ get_or s start 0 =
+    ap (λ l. get_or l start 0) e ∙ before_mark s mark end start within (omega arith) in
+    let front = length-take-le end s within in
+    let size : length marked ≡ length (take end s) + length mark + length (drop end s) =
+    ap length e ∙ simp length-append in
+    let there : IsCharBoundary s start = subst (λ (k : ℕ). IsCharBoundary s k) (sym first) here in
+    let begins = there.1 (omega arith) in
+    (omega arith, λ _ _. subst (λ (b : ℕ). 128 ≤ b → 192 ≤ b) (sym same) begins)
+
+filled_between : (mark before middle after : List ℕ) → is_filled middle ≡ true
+    → between mark before middle after ≢ None
+filled_between mark before [] after filled = absurd (cc)
+filled_between mark before (b ∷ middle) after filled = λ none. cc
+
+both_true : (a b : Bool) → (a && b) ≡ true → b ≡ true
+both_true true b e = e
+both_true false b e = absurd (cc)
+
+-- content that takes marks gets them
+pub takes_marked : (emphasis : Emphasis) (s : List ℕ) (is_marked : Bool) → spec.takes_marks s ≡ true
+    → (is_marked ≡ false → emphasised_text emphasis s ≡ None) → is_marked ≡ true
+takes_marked emphasis s true takes none = refl
+takes_marked emphasis s false takes none =
+    absurd (filled_between (spec.mark emphasis) (white_space_at_start s) (trim s) (white_space_at_end (trim_start s))
+    (both_true (not (spec.holds_blank_line s)) (is_filled (trim s)) takes) (none refl))

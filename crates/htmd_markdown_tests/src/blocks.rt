@@ -19,7 +19,7 @@ fn marks_stand_inside_white_space(rt: HostRuntime) -> Result<(), Fail> {
         (Emphasis::Regular, "", None),
     ];
     for (emphasis, content, want) in cases {
-        let text = write_emphasis(rt.alloc(), emphasis, content)?;
+        let text = write_emphasis(emphasis, String::from_str(rt.alloc(), content)?)?;
         let text = text.as_ref().map(|s| s.as_str());
         assert_eq!(rt; text, want, "at {content}");
     }

@@ -32,7 +32,7 @@ fn marks_one_paragraph_alone(rt: HostRuntime) -> Result<(), Fail> {
     ];
     for (emphasis, content, want) in cases {
         let content = String::from_str(rt.alloc(), content)?;
-        let text = write_guarded_emphasis(rt.alloc(), emphasis, content)?;
+        let text = write_guarded_emphasis(emphasis, content)?;
         assert_eq!(rt; text.as_str(), want);
     }
     Ok(())

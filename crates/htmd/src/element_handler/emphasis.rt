@@ -7,11 +7,10 @@ ghost use Rattle.htmd.specs.Views.{element_view, result_view, optional_result};
 use super::plans::is_guarded;
 use super::{Element, HandlerResult};
 use htmd_markdown::{Emphasis, write_emphasis, write_guarded_emphasis};
-use std::alloc::{AllocError, Global};
+use std::alloc::AllocError;
 
 /// The content between marks; where it is white space alone nothing, or in Guarded as it is.
 pub(crate) fn finish(
-    alloc: Global,
     emphasis: Emphasis,
     element: &Element,
     content: HandlerResult,
@@ -20,10 +19,10 @@ pub(crate) fn finish(
         (λ r. optional_result r ≡ emphasis_result emphasis (element_view element.now) (result_view content)) }
 {
     if is_guarded(element.options) {
-        let text = write_guarded_emphasis(alloc, emphasis, content.content)?;
+        let text = write_guarded_emphasis(emphasis, content.content)?;
         return Ok(Some(HandlerResult::from_string(text)));
     }
-    match write_emphasis(alloc, emphasis, content.content.as_str())? {
+    match write_emphasis(emphasis, content.content)? {
         Some(text) => Ok(Some(HandlerResult::from_string(text))),
         None => Ok(None),
     }
