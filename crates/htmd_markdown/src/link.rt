@@ -22,6 +22,9 @@ pub enum LinkReferenceStyle {
     Shortcut,
 }
 
+/// How many bytes stand around the parts of an image at most, `![](< "">)`; the text doesn't grow but for escapes.
+const MARKS_AROUND: usize = 10;
+
 /// An image with its description and title.
 pub fn write_image(
     alloc: Global,
@@ -35,7 +38,15 @@ pub fn write_image(
         (spec.image_start address.now (option_copied alt.entry)) address.now
         (spec.resource_end address.now (option_copied title.entry)) (string_bytes s)) }
 {
-    let mut image = String::with_capacity(alloc, address.len() + 8)?;
+    let words = alt
+        .unwrap_or("")
+        .len()
+        .saturating_add(title.unwrap_or("").len());
+    let room = address
+        .len()
+        .saturating_add(words)
+        .saturating_add(MARKS_AROUND);
+    let mut image = String::with_capacity(alloc, room)?;
     image.push_str("![")?;
     push_description(&mut image, alt)?;
     image.push(']')?;
@@ -60,7 +71,12 @@ pub fn write_inline_link(
 {
     let (content, _) = content.strip_leading_document_whitespace();
     let (content, white_space) = content.strip_trailing_document_whitespace();
-    let mut link = String::with_capacity(alloc, content.len() + 8)?;
+    let words = content.len().saturating_add(title.unwrap_or("").len());
+    let room = address
+        .len()
+        .saturating_add(words)
+        .saturating_add(MARKS_AROUND);
+    let mut link = String::with_capacity(alloc, room)?;
     push_in_brackets(&mut link, content)?;
     push_resource(&mut link, address, title)?;
     link.push_str(white_space.unwrap_or(""))?;
