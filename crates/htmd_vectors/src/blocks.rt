@@ -1,12 +1,11 @@
 //! Paragraphs, headings, sections and what stands in a line.
-use crate::builders::faithful;
-use crate::pages::converted_page;
-use htmd::options::Options;
+use crate::pages::first_otherwise;
+use htmd::options::TranslationMode;
 use std::test::Fail;
 
 #[test]
 fn converts_paragraphs(rt: HostRuntime) -> Result<(), Fail> {
-    let table: [(&str, &str); 14] = [
+    let table: &[(&str, &str)] = &[
         ("", ""),
         ("<h1>Hello</h1>", "# Hello"),
         (
@@ -28,16 +27,14 @@ fn converts_paragraphs(rt: HostRuntime) -> Result<(), Fail> {
         ("a  <p> b</p>c ", "a\n\nb\n\nc"),
         ("<p>a <u> b</u></p>", "a b"),
     ];
-    for (html, markdown) in table {
-        let answer = converted_page(rt.alloc(), Options::default(), html)?;
-        assert_eq!(rt; answer.as_str(), markdown, "{html:?}");
-    }
+    let otherwise = first_otherwise(rt.alloc(), TranslationMode::Pure, table)?;
+    assert_eq!(rt; otherwise, None);
     Ok(())
 }
 
 #[test]
 fn sets_blocks_apart(rt: HostRuntime) -> Result<(), Fail> {
-    let table: [(&str, &str); 6] = [
+    let table: &[(&str, &str)] = &[
         ("Hi<br>there<br><br>!", "Hi  \nthere  \n  \n!"),
         ("<div>a</div>b<hr>c", "a\n\nb\n\n* * *\n\nc"),
         ("<blockquote><p>a</p><p>b</p></blockquote>", "> a\n> \n> b"),
@@ -48,17 +45,15 @@ fn sets_blocks_apart(rt: HostRuntime) -> Result<(), Fail> {
         ("<h3> a </h3><p>b</p>", "### a\n\nb"),
         ("<h6>six</h6>", "###### six"),
     ];
-    for (html, markdown) in table {
-        let answer = converted_page(rt.alloc(), Options::default(), html)?;
-        assert_eq!(rt; answer.as_str(), markdown, "{html:?}");
-    }
+    let otherwise = first_otherwise(rt.alloc(), TranslationMode::Pure, table)?;
+    assert_eq!(rt; otherwise, None);
     Ok(())
 }
 
 // Neighbours that join stand as one, and emphasis has its marks inside white space.
 #[test]
 fn joins_neighbours(rt: HostRuntime) -> Result<(), Fail> {
-    let table: [(&str, &str); 8] = [
+    let table: &[(&str, &str)] = &[
         ("<i>a</i><em>b</em><i>c</i>", "*abc*"),
         ("a<b> </b>b", "ab"),
         ("<b>C </b>", "**C**"),
@@ -68,17 +63,15 @@ fn joins_neighbours(rt: HostRuntime) -> Result<(), Fail> {
         ("<span class=\"math math-display\">a*b</span>", "$$a*b$$"),
         ("<u><mark>~x</mark></u>", "\\~x"),
     ];
-    for (html, markdown) in table {
-        let answer = converted_page(rt.alloc(), Options::default(), html)?;
-        assert_eq!(rt; answer.as_str(), markdown, "{html:?}");
-    }
+    let otherwise = first_otherwise(rt.alloc(), TranslationMode::Pure, table)?;
+    assert_eq!(rt; otherwise, None);
     Ok(())
 }
 
 // An attribute that Markdown has no place for makes an element HTML in Faithful.
 #[test]
 fn keeps_attributes_as_html(rt: HostRuntime) -> Result<(), Fail> {
-    let table: [(&str, &str); 14] = [
+    let table: &[(&str, &str)] = &[
         ("<h1 id=\"i\">a</h1>", "<h1 id=\"i\">a</h1>"),
         ("<h2 id=\"i\">a</h2>", "<h2 id=\"i\">a</h2>"),
         ("<h3 id=\"i\">a</h3>", "<h3 id=\"i\">a</h3>"),
@@ -100,9 +93,7 @@ fn keeps_attributes_as_html(rt: HostRuntime) -> Result<(), Fail> {
         ("<h2>a</h2><blockquote>b</blockquote>", "## a\n\n> b"),
         ("<p>a<br>b</p>", "a  \nb"),
     ];
-    for (html, markdown) in table {
-        let answer = converted_page(rt.alloc(), faithful(), html)?;
-        assert_eq!(rt; answer.as_str(), markdown, "{html:?}");
-    }
+    let otherwise = first_otherwise(rt.alloc(), TranslationMode::Faithful, table)?;
+    assert_eq!(rt; otherwise, None);
     Ok(())
 }

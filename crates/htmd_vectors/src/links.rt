@@ -1,12 +1,11 @@
 //! Links and images.
-use crate::builders::faithful;
-use crate::pages::converted_page;
-use htmd::options::Options;
+use crate::pages::first_otherwise;
+use htmd::options::TranslationMode;
 use std::test::Fail;
 
 #[test]
 fn converts_links(rt: HostRuntime) -> Result<(), Fail> {
-    let table: [(&str, &str); 8] = [
+    let table: &[(&str, &str)] = &[
         ("<a href=\"/x?a=1&b=2\">t</a>", "[t](/x?a=1&b=2)"),
         (
             "<a href=\"/u\" title=\"say &quot;hi&quot;\"> t </a>",
@@ -25,16 +24,14 @@ fn converts_links(rt: HostRuntime) -> Result<(), Fail> {
         ("<p>a<img alt=\"x\"></p>", "a"),
         ("<a title=\"x\"><b>t</b></a>", "**t**"),
     ];
-    for (html, markdown) in table {
-        let answer = converted_page(rt.alloc(), Options::default(), html)?;
-        assert_eq!(rt; answer.as_str(), markdown, "{html:?}");
-    }
+    let otherwise = first_otherwise(rt.alloc(), TranslationMode::Pure, table)?;
+    assert_eq!(rt; otherwise, None);
     Ok(())
 }
 
 #[test]
 fn keeps_other_links_as_html(rt: HostRuntime) -> Result<(), Fail> {
-    let table: [(&str, &str); 3] = [
+    let table: &[(&str, &str)] = &[
         (
             "<img src=\"one.png\" alt=\"y\" scale=\"50%\">",
             "<img src=\"one.png\" alt=\"y\" scale=\"50%\">",
@@ -48,9 +45,7 @@ fn keeps_other_links_as_html(rt: HostRuntime) -> Result<(), Fail> {
             "<pre><a href=\"/x\">A</a></pre>",
         ),
     ];
-    for (html, markdown) in table {
-        let answer = converted_page(rt.alloc(), faithful(), html)?;
-        assert_eq!(rt; answer.as_str(), markdown, "{html:?}");
-    }
+    let otherwise = first_otherwise(rt.alloc(), TranslationMode::Faithful, table)?;
+    assert_eq!(rt; otherwise, None);
     Ok(())
 }

@@ -1,13 +1,13 @@
 //! Lists.
-use crate::builders::{faithful, skipping};
-use crate::pages::{converted_page, page_by};
+use crate::builders::skipping;
+use crate::pages::{first_otherwise, page_by};
 use htmd::HtmlToMarkdown;
-use htmd::options::Options;
+use htmd::options::TranslationMode;
 use std::test::Fail;
 
 #[test]
 fn converts_lists(rt: HostRuntime) -> Result<(), Fail> {
-    let table: [(&str, &str); 10] = [
+    let table: &[(&str, &str)] = &[
         (
             "<ol start=\"9\"><li>a</li><li>b</li></ol>",
             "9.   a\n10.  b",
@@ -25,10 +25,8 @@ fn converts_lists(rt: HostRuntime) -> Result<(), Fail> {
         ("a<ol></ol>b", "ab"),
         ("a<ul><li></li></ul>", "a\n\n*"),
     ];
-    for (html, markdown) in table {
-        let answer = converted_page(rt.alloc(), Options::default(), html)?;
-        assert_eq!(rt; answer.as_str(), markdown, "{html:?}");
-    }
+    let otherwise = first_otherwise(rt.alloc(), TranslationMode::Pure, table)?;
+    assert_eq!(rt; otherwise, None);
     Ok(())
 }
 
@@ -43,7 +41,7 @@ fn counts_skipped_items(rt: HostRuntime) -> Result<(), Fail> {
 
 #[test]
 fn keeps_other_lists_as_html(rt: HostRuntime) -> Result<(), Fail> {
-    let table: [(&str, &str); 5] = [
+    let table: &[(&str, &str)] = &[
         ("<ol><li>a</li></ol>", "1.  a"),
         ("<ol><li foo>b</li></ol>", "<ol><li foo=\"\">b</li></ol>"),
         ("<ul><p>b</p></ul>", "<ul><p>b</p></ul>"),
@@ -53,9 +51,7 @@ fn keeps_other_lists_as_html(rt: HostRuntime) -> Result<(), Fail> {
             "<ul class=\"x\"><li>b</li></ul>",
         ),
     ];
-    for (html, markdown) in table {
-        let answer = converted_page(rt.alloc(), faithful(), html)?;
-        assert_eq!(rt; answer.as_str(), markdown, "{html:?}");
-    }
+    let otherwise = first_otherwise(rt.alloc(), TranslationMode::Faithful, table)?;
+    assert_eq!(rt; otherwise, None);
     Ok(())
 }

@@ -1,5 +1,5 @@
 //! Pages of HTML: what a converter gives of them, or where and how they are refused.
-use htmd::options::Options;
+use htmd::options::{Options, TranslationMode};
 use htmd::{ConvertError, FaultKind, HtmlToMarkdown, convert};
 use std::alloc::Global;
 use std::test::Fail;
@@ -23,6 +23,24 @@ pub(crate) fn page_by(
 pub(crate) fn converted_page(alloc: Global, options: Options, html: &str) -> Result<String, Fail> {
     let converter = HtmlToMarkdown::builder(alloc)?.options(options).build();
     page_by(alloc, &converter, html)
+}
+
+/// The first of these pages whose Markdown in this mode isn't the text beside it.
+pub(crate) fn first_otherwise<'a>(
+    alloc: Global,
+    translation_mode: TranslationMode,
+    table: &[(&'a str, &str)],
+) -> Result<Option<&'a str>, Fail> {
+    for (html, markdown) in table {
+        let options = Options {
+            translation_mode,
+            ..Options::default()
+        };
+        if converted_page(alloc, options, html)?.as_str() != *markdown {
+            return Ok(Some(html));
+        }
+    }
+    Ok(None)
 }
 
 /// Where and how a page is refused.

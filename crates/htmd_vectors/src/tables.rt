@@ -1,12 +1,11 @@
 //! Tables.
-use crate::builders::faithful;
-use crate::pages::converted_page;
-use htmd::options::Options;
+use crate::pages::first_otherwise;
+use htmd::options::TranslationMode;
 use std::test::Fail;
 
 #[test]
 fn converts_tables(rt: HostRuntime) -> Result<(), Fail> {
-    let table: [(&str, &str); 9] = [
+    let table: &[(&str, &str)] = &[
         (
             "<table><thead><tr><th>A</th></tr></thead><tbody><tr><td>b|c</td><td>d</td></tr></tbody></table>",
             "| A        |   |\n| -------- | - |\n| b&#124;c | d |",
@@ -39,25 +38,21 @@ fn converts_tables(rt: HostRuntime) -> Result<(), Fail> {
             "S\n| a |\n| - |",
         ),
     ];
-    for (html, markdown) in table {
-        let answer = converted_page(rt.alloc(), Options::default(), html)?;
-        assert_eq!(rt; answer.as_str(), markdown, "{html:?}");
-    }
+    let otherwise = first_otherwise(rt.alloc(), TranslationMode::Pure, table)?;
+    assert_eq!(rt; otherwise, None);
     Ok(())
 }
 
 #[test]
 fn keeps_other_tables_as_html(rt: HostRuntime) -> Result<(), Fail> {
-    let table: [(&str, &str); 2] = [
+    let table: &[(&str, &str)] = &[
         ("<table><tr><td>A</td><td>B</td></tr></table>", "| A | B |"),
         (
             "<table><tr><td x>A</td></tr></table>",
             "<table><tbody><tr><td x=\"\">A</td></tr></tbody></table>",
         ),
     ];
-    for (html, markdown) in table {
-        let answer = converted_page(rt.alloc(), faithful(), html)?;
-        assert_eq!(rt; answer.as_str(), markdown, "{html:?}");
-    }
+    let otherwise = first_otherwise(rt.alloc(), TranslationMode::Faithful, table)?;
+    assert_eq!(rt; otherwise, None);
     Ok(())
 }
