@@ -1,5 +1,5 @@
 //! Paragraphs, headings, sections and what stands in a line.
-use crate::pages::first_otherwise;
+use crate::pages::expect_pages;
 use htmd::options::TranslationMode;
 use std::test::Fail;
 
@@ -27,9 +27,7 @@ fn converts_paragraphs(rt: HostRuntime) -> Result<(), Fail> {
         ("a  <p> b</p>c ", "a\n\nb\n\nc"),
         ("<p>a <u> b</u></p>", "a b"),
     ];
-    let otherwise = first_otherwise(rt.alloc(), TranslationMode::Pure, table)?;
-    assert_eq!(rt; otherwise, None);
-    Ok(())
+    expect_pages(rt.alloc(), TranslationMode::Pure, table)
 }
 
 #[test]
@@ -45,9 +43,7 @@ fn sets_blocks_apart(rt: HostRuntime) -> Result<(), Fail> {
         ("<h3> a </h3><p>b</p>", "### a\n\nb"),
         ("<h6>six</h6>", "###### six"),
     ];
-    let otherwise = first_otherwise(rt.alloc(), TranslationMode::Pure, table)?;
-    assert_eq!(rt; otherwise, None);
-    Ok(())
+    expect_pages(rt.alloc(), TranslationMode::Pure, table)
 }
 
 // Neighbours that join stand as one, and emphasis has its marks inside white space.
@@ -63,9 +59,7 @@ fn joins_neighbours(rt: HostRuntime) -> Result<(), Fail> {
         ("<span class=\"math math-display\">a*b</span>", "$$a*b$$"),
         ("<u><mark>~x</mark></u>", "\\~x"),
     ];
-    let otherwise = first_otherwise(rt.alloc(), TranslationMode::Pure, table)?;
-    assert_eq!(rt; otherwise, None);
-    Ok(())
+    expect_pages(rt.alloc(), TranslationMode::Pure, table)
 }
 
 // An attribute that Markdown has no place for makes an element HTML in Faithful.
@@ -93,7 +87,5 @@ fn keeps_attributes_as_html(rt: HostRuntime) -> Result<(), Fail> {
         ("<h2>a</h2><blockquote>b</blockquote>", "## a\n\n> b"),
         ("<p>a<br>b</p>", "a  \nb"),
     ];
-    let otherwise = first_otherwise(rt.alloc(), TranslationMode::Faithful, table)?;
-    assert_eq!(rt; otherwise, None);
-    Ok(())
+    expect_pages(rt.alloc(), TranslationMode::Faithful, table)
 }

@@ -28,13 +28,16 @@ pub(crate) fn referenced() -> Options {
     }
 }
 
-/// The builder, with this handler for a tag.
+/// The builder, with this handler for these tags.
 pub(crate) fn with_handler(
     builder: HtmlToMarkdownBuilder,
-    tag: &str,
+    tags: &[&str],
     handler: Box<dyn ElementHandler>,
 ) -> Result<HtmlToMarkdownBuilder, Fail> {
-    match builder.add_handler(&[tag], handler) {
+    if tags.is_empty() {
+        return Err(Fail::from("there is a tag"));
+    }
+    match builder.add_handler(tags, handler) {
         Ok(builder) => Ok(builder),
         Err(_) => Err(Fail::from("there is memory")),
     }

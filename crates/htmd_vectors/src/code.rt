@@ -1,6 +1,5 @@
 //! Code spans and code blocks.
-use crate::builders::faithful;
-use crate::pages::{converted_page, first_otherwise};
+use crate::pages::{expect_pages, expect_pages_with};
 use htmd::options::{Options, TranslationMode};
 use std::test::Fail;
 
@@ -33,32 +32,26 @@ fn converts_code(rt: HostRuntime) -> Result<(), Fail> {
         ("<pre><code>a\n\n</code></pre>", "```\na\n\n```"),
         ("<code>a</code><code>b</code>", "`ab`"),
     ];
-    let otherwise = first_otherwise(rt.alloc(), TranslationMode::Pure, table)?;
-    assert_eq!(rt; otherwise, None);
-    Ok(())
+    expect_pages(rt.alloc(), TranslationMode::Pure, table)
 }
 
 #[test]
 fn keeps_white_space(rt: HostRuntime) -> Result<(), Fail> {
-    let table: [(&str, &str); 3] = [
+    let options = Options {
+        preformatted_code: true,
+        ..Options::default()
+    };
+    let table: &[(&str, &str)] = &[
         ("<code> foo </code>", "`  foo  `"),
         ("<code>a\nb</code>", "`a b`"),
         ("<code>\n a\n</code>", "`   a  `"),
     ];
-    for (html, markdown) in table {
-        let options = Options {
-            preformatted_code: true,
-            ..Options::default()
-        };
-        let answer = converted_page(rt.alloc(), options, html)?;
-        assert_eq!(rt; answer.as_str(), markdown, "{html:?}");
-    }
-    Ok(())
+    expect_pages_with(rt.alloc(), options, table)
 }
 
 #[test]
 fn is_faithful(rt: HostRuntime) -> Result<(), Fail> {
-    let table: [(&str, &str); 6] = [
+    let table: &[(&str, &str)] = &[
         ("<pre>Test</pre>", "<pre>Test</pre>"),
         ("<pre>\n<code>x</code></pre>", "```\nx\n```"),
         (
@@ -75,9 +68,5 @@ fn is_faithful(rt: HostRuntime) -> Result<(), Fail> {
             "<code class=\"language-x\">a</code>",
         ),
     ];
-    for (html, markdown) in table {
-        let answer = converted_page(rt.alloc(), faithful(), html)?;
-        assert_eq!(rt; answer.as_str(), markdown, "{html:?}");
-    }
-    Ok(())
+    expect_pages(rt.alloc(), TranslationMode::Faithful, table)
 }

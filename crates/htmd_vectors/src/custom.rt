@@ -4,7 +4,7 @@ use crate::handlers::{
     AsRawHtml, FirstBelow, FirstChild, GivesNothing, NeedsId, PassesOn, Says, TellsDue, TellsFlag,
     TextAlone,
 };
-use crate::pages::page_by;
+use crate::pages::{expect_pages_by, page_by};
 use htmd::HtmlToMarkdown;
 use htmd::element_handler::ElementHandler;
 use htmd::options::Options;
@@ -18,8 +18,19 @@ fn with_one(
     handler: Box<dyn ElementHandler>,
     html: &str,
 ) -> Result<String, Fail> {
-    let builder = with_handler(HtmlToMarkdown::builder(alloc)?, tag, handler)?;
+    let builder = with_handler(HtmlToMarkdown::builder(alloc)?, &[tag], handler)?;
     page_by(alloc, &builder.build(), html)
+}
+
+// Fails at the first of these pages whose Markdown, with one handler for these tags, isn't the text beside it.
+fn expect_pages_of(
+    alloc: Global,
+    tags: &[&str],
+    handler: Box<dyn ElementHandler>,
+    table: &[(&str, &str)],
+) -> Result<(), Fail> {
+    let builder = with_handler(HtmlToMarkdown::builder(alloc)?, tags, handler)?;
+    expect_pages_by(alloc, &builder.build(), table)
 }
 
 fn says(alloc: Global, text: &str, markdown_translated: bool) -> Result<Says, Fail> {
@@ -67,24 +78,21 @@ fn tells_flags(rt: HostRuntime) -> Result<(), Fail> {
     for (tag, html, markdown) in table {
         let raw: Box<dyn ElementHandler> = Box::new(rt.alloc(), AsRawHtml)?;
         let flag: Box<dyn ElementHandler> = Box::new(rt.alloc(), TellsFlag)?;
-        let builder = with_handler(HtmlToMarkdown::builder(rt.alloc())?, "x", raw)?;
-        let converter = with_handler(builder, tag, flag)?.build();
-        let answer = page_by(rt.alloc(), &converter, html)?;
-        assert_eq!(rt; answer.as_str(), markdown, "{html:?}");
+        let builder = with_handler(HtmlToMarkdown::builder(rt.alloc())?, &["x"], raw)?;
+        let converter = with_handler(builder, &[tag], flag)?.build();
+        expect_pages_by(rt.alloc(), &converter, &[(html, markdown)])?;
     }
     let unsure: Box<dyn ElementHandler> = Box::new(rt.alloc(), says(rt.alloc(), "x", false)?)?;
     let flag: Box<dyn ElementHandler> = Box::new(rt.alloc(), TellsFlag)?;
-    let builder = with_handler(HtmlToMarkdown::builder(rt.alloc())?, "x", unsure)?;
-    let converter = with_handler(builder, "p", flag)?.build();
-    let answer = page_by(rt.alloc(), &converter, "<p><x></x></p>")?;
-    assert_eq!(rt; answer.as_str(), "F");
-    Ok(())
+    let builder = with_handler(HtmlToMarkdown::builder(rt.alloc())?, &["x"], unsure)?;
+    let converter = with_handler(builder, &["p"], flag)?.build();
+    expect_pages_by(rt.alloc(), &converter, &[("<p><x></x></p>", "F")])
 }
 
 // Raw HTML of an element without a block name shows its content, and a group its joined text.
 #[test]
 fn gives_raw_html(rt: HostRuntime) -> Result<(), Fail> {
-    let table: [(&str, &str); 3] = [
+    let table: &[(&str, &str)] = &[
         ("<x><b>y</b></x>", "<x>**y**</x>"),
         ("<x a=1>y</x><x a=1>z</x>", "<x a=\"1\">yz</x>"),
         (
@@ -92,35 +100,27 @@ fn gives_raw_html(rt: HostRuntime) -> Result<(), Fail> {
             "<x a=\"1\">y</x><x a=\"2\">z</x>",
         ),
     ];
-    for (html, markdown) in table {
-        let raw: Box<dyn ElementHandler> = Box::new(rt.alloc(), AsRawHtml)?;
-        let answer = with_one(rt.alloc(), "x", raw, html)?;
-        assert_eq!(rt; answer.as_str(), markdown, "{html:?}");
-    }
-    Ok(())
+    let raw: Box<dyn ElementHandler> = Box::new(rt.alloc(), AsRawHtml)?;
+    expect_pages_of(rt.alloc(), &["x"], raw, table)
 }
 
 // A group shows its joined text, and an element with other children none.
 #[test]
 fn shows_texts(rt: HostRuntime) -> Result<(), Fail> {
-    let table: [(&str, &str); 4] = [
+    let table: &[(&str, &str)] = &[
         ("<i>a</i><em>b</em>", "ab"),
         ("<i> * </i>", " *"),
         ("<i>a<b>b</b></i>", ""),
         ("<i></i>", ""),
     ];
-    for (html, markdown) in table {
-        let handler: Box<dyn ElementHandler> = Box::new(rt.alloc(), TextAlone)?;
-        let answer = with_one(rt.alloc(), "i", handler, html)?;
-        assert_eq!(rt; answer.as_str(), markdown, "{html:?}");
-    }
-    Ok(())
+    let handler: Box<dyn ElementHandler> = Box::new(rt.alloc(), TextAlone)?;
+    expect_pages_of(rt.alloc(), &["i"], handler, table)
 }
 
 // A descendant is handed over by itself: below `pre` its white space is kept, and a text is ordinary.
 #[test]
 fn asks_for_descendants(rt: HostRuntime) -> Result<(), Fail> {
-    let table: [(&str, &str); 3] = [
+    let table: &[(&str, &str)] = &[
         (
             "<pre><delegate><mark>  *literal*  \nsecond</mark></delegate></pre>",
             "  *literal*  \nsecond",
@@ -128,12 +128,8 @@ fn asks_for_descendants(rt: HostRuntime) -> Result<(), Fail> {
         ("<p>a<delegate>  *b*</delegate></p>", "a\\*b\\*"),
         ("<p>a<delegate></delegate></p>", "a"),
     ];
-    for (html, markdown) in table {
-        let handler: Box<dyn ElementHandler> = Box::new(rt.alloc(), FirstChild)?;
-        let answer = with_one(rt.alloc(), "delegate", handler, html)?;
-        assert_eq!(rt; answer.as_str(), markdown, "{html:?}");
-    }
-    Ok(())
+    let handler: Box<dyn ElementHandler> = Box::new(rt.alloc(), FirstChild)?;
+    expect_pages_of(rt.alloc(), &["delegate"], handler, table)
 }
 
 // The deepest node that a tree has, a text at level 1,024, stands 1,021 levels below a child of the body.
@@ -165,37 +161,30 @@ fn asks_for_the_deepest_node(rt: HostRuntime) -> Result<(), Fail> {
 #[test]
 fn finishes(rt: HostRuntime) -> Result<(), Fail> {
     let nothing: Box<dyn ElementHandler> = Box::new(rt.alloc(), GivesNothing)?;
-    let answer = with_one(rt.alloc(), "p", nothing, "<p>a</p>b")?;
-    assert_eq!(rt; answer.as_str(), "b");
-    Ok(())
+    expect_pages_of(rt.alloc(), &["p"], nothing, &[("<p>a</p>b", "b")])
 }
 
 // A fallback goes to the handler before; past the last one it is the content.
 #[test]
 fn falls_back(rt: HostRuntime) -> Result<(), Fail> {
-    let table: [(&str, &str, &str); 7] = [
-        ("img", "<img src=\"/x\" id=\"i\"/>", "![](/x)"),
-        ("img", "<img src=\"/x\"/>", ""),
-        ("b", "<b id=i>x</b>", "**x**"),
-        ("b", "<b>x</b>", ""),
-        ("u", "<u id=i>x*</u>", "x\\*"),
-        ("x-y", "<x-y id=i><p>x</p></x-y>", "x"),
-        ("br", "a<br id=i>b", "a  \nb"),
+    let tags: &[&str] = &["img", "b", "u", "x-y", "br"];
+    let table: &[(&str, &str)] = &[
+        ("<img src=\"/x\" id=\"i\"/>", "![](/x)"),
+        ("<img src=\"/x\"/>", ""),
+        ("<b id=i>x</b>", "**x**"),
+        ("<b>x</b>", ""),
+        ("<u id=i>x*</u>", "x\\*"),
+        ("<x-y id=i><p>x</p></x-y>", "x"),
+        ("a<br id=i>b", "a  \nb"),
     ];
-    for (tag, html, markdown) in table {
-        let handler: Box<dyn ElementHandler> = Box::new(rt.alloc(), NeedsId)?;
-        let answer = with_one(rt.alloc(), tag, handler, html)?;
-        assert_eq!(rt; answer.as_str(), markdown, "{html:?}");
-    }
-    let html =
-        "<pre><code><span>sudo apt update\n</span><span>sudo apt install curl\n</span></code></pre>";
+    let handler: Box<dyn ElementHandler> = Box::new(rt.alloc(), NeedsId)?;
+    expect_pages_of(rt.alloc(), tags, handler, table)?;
+    let joined: &[(&str, &str)] = &[(
+        "<pre><code><span>sudo apt update\n</span><span>sudo apt install curl\n</span></code></pre>",
+        "```\nsudo apt update\nsudo apt install curl\n```",
+    )];
     let handler: Box<dyn ElementHandler> = Box::new(rt.alloc(), PassesOn { appended: None })?;
-    let answer = with_one(rt.alloc(), "span", handler, html)?;
-    assert_eq!(rt;
-        answer.as_str(),
-        "```\nsudo apt update\nsudo apt install curl\n```"
-    );
-    Ok(())
+    expect_pages_of(rt.alloc(), &["span"], handler, joined)
 }
 
 fn passes_on(alloc: Global, appended: &str) -> Result<PassesOn, Fail> {
@@ -225,10 +214,9 @@ fn puts_texts_after_a_conversion(rt: HostRuntime) -> Result<(), Fail> {
         let builder = HtmlToMarkdown::builder(rt.alloc())?.options(referenced());
         let first: Box<dyn ElementHandler> = Box::new(rt.alloc(), passes_on(rt.alloc(), first)?)?;
         let second: Box<dyn ElementHandler> = Box::new(rt.alloc(), passes_on(rt.alloc(), second)?)?;
-        let builder = with_handler(builder, "q", first)?;
-        let builder = with_handler(builder, "r", second)?;
-        let answer = page_by(rt.alloc(), &builder.build(), html)?;
-        assert_eq!(rt; answer.as_str(), markdown);
+        let builder = with_handler(builder, &["q"], first)?;
+        let builder = with_handler(builder, &["r"], second)?;
+        expect_pages_by(rt.alloc(), &builder.build(), &[(html, markdown)])?;
     }
     Ok(())
 }
@@ -237,34 +225,24 @@ fn puts_texts_after_a_conversion(rt: HostRuntime) -> Result<(), Fail> {
 #[test]
 fn registers_twice(rt: HostRuntime) -> Result<(), Fail> {
     let handler: Box<dyn ElementHandler> = Box::new(rt.alloc(), PassesOn { appended: None })?;
-    let Ok(builder) = HtmlToMarkdown::builder(rt.alloc())?.add_handler(&["b", "b"], handler) else {
-        return Err(Fail::from("there is memory"));
-    };
-    let answer = page_by(rt.alloc(), &builder.build(), "<b>x</b>")?;
-    assert_eq!(rt; answer.as_str(), "**x**");
-    Ok(())
+    expect_pages_of(rt.alloc(), &["b", "b"], handler, &[("<b>x</b>", "**x**")])
 }
 
 #[test]
 fn skips_tags(rt: HostRuntime) -> Result<(), Fail> {
     let builder = HtmlToMarkdown::builder(rt.alloc())?;
     let converter = skipping(builder, &["script", "style"])?.build();
-    let table: [(&str, &str); 2] = [
+    let table: &[(&str, &str)] = &[
         ("<script>let x = 0;</script>", ""),
         (
             "<script>let x = 0;</script><p>a<style>p {}</style></p>",
             "a",
         ),
     ];
-    for (html, markdown) in table {
-        let answer = page_by(rt.alloc(), &converter, html)?;
-        assert_eq!(rt; answer.as_str(), markdown, "{html:?}");
-    }
+    expect_pages_by(rt.alloc(), &converter, table)?;
     let builder = HtmlToMarkdown::builder(rt.alloc())?.options(faithful());
     let converter = skipping(builder, &["x"])?.build();
-    let answer = page_by(rt.alloc(), &converter, "a<x a=1>b</x>")?;
-    assert_eq!(rt; answer.as_str(), "a");
-    Ok(())
+    expect_pages_by(rt.alloc(), &converter, &[("a<x a=1>b</x>", "a")])
 }
 
 // Raw HTML is due in Faithful alone, where there are more attributes than are allowed, which may be fewer
@@ -283,7 +261,7 @@ fn asks_whether_raw_html_is_due(rt: HostRuntime) -> Result<(), Fail> {
         for (options, wanted) in [(faithful(), markdown), (Options::default(), "F")] {
             let handler: Box<dyn ElementHandler> = Box::new(rt.alloc(), TellsDue { allowed })?;
             let builder = HtmlToMarkdown::builder(rt.alloc())?.options(options);
-            let converter = with_handler(builder, "x", handler)?.build();
+            let converter = with_handler(builder, &["x"], handler)?.build();
             let answer = page_by(rt.alloc(), &converter, html)?;
             assert_eq!(rt; answer.as_str(), wanted, "{html:?} {allowed}");
         }

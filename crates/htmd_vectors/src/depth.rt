@@ -1,5 +1,5 @@
 //! Pages of elements within elements.
-use crate::pages::{converted_page, refusal};
+use crate::pages::{converted_page, expect_refusals};
 use htmd::FaultKind;
 use htmd::options::Options;
 use std::alloc::{AllocError, Global};
@@ -32,15 +32,11 @@ fn converts_deep_pages(rt: HostRuntime) -> Result<(), Fail> {
 #[test]
 fn refuses_deeper_pages(rt: HostRuntime) -> Result<(), Fail> {
     let html = nested(rt.alloc(), 1023, 1023)?;
-    assert_eq!(rt;
-        refusal(rt.alloc(), html.as_str())?,
-        (5110, FaultKind::TooDeep)
-    );
-    let mut html = nested(rt.alloc(), 1020, 0)?;
-    html.push_str("<table><tr>")?;
-    assert_eq!(rt;
-        refusal(rt.alloc(), html.as_str())?,
-        (5107, FaultKind::TooDeep)
-    );
-    Ok(())
+    let mut row = nested(rt.alloc(), 1020, 0)?;
+    row.push_str("<table><tr>")?;
+    let table = [
+        (html.as_str(), 5110, FaultKind::TooDeep),
+        (row.as_str(), 5107, FaultKind::TooDeep),
+    ];
+    expect_refusals(rt.alloc(), &table)
 }

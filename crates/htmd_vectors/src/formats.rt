@@ -1,6 +1,6 @@
 //! Each option, and what it changes.
 use crate::builders::referenced;
-use crate::pages::converted_page;
+use crate::pages::expect_pages_with;
 use htmd::options::{
     BrStyle, BulletListMarker, CodeBlockFence, CodeBlockStyle, HeadingStyle, HrStyle,
     LinkReferenceStyle, LinkStyle, Options, TranslationMode,
@@ -9,21 +9,17 @@ use std::test::Fail;
 
 #[test]
 fn underlines_headings(rt: HostRuntime) -> Result<(), Fail> {
-    let table: [(&str, &str); 4] = [
+    let options = Options {
+        heading_style: HeadingStyle::Setex,
+        ..Options::default()
+    };
+    let table: &[(&str, &str)] = &[
         ("<h1>Heading</h1>", "Heading\n======="),
         ("<h2>été</h2>", "été\n---"),
         ("<h3>a</h3>", "### a"),
         ("<h6>a</h6>", "###### a"),
     ];
-    for (html, markdown) in table {
-        let options = Options {
-            heading_style: HeadingStyle::Setex,
-            ..Options::default()
-        };
-        let answer = converted_page(rt.alloc(), options, html)?;
-        assert_eq!(rt; answer.as_str(), markdown, "{html:?}");
-    }
-    Ok(())
+    expect_pages_with(rt.alloc(), options, table)
 }
 
 #[test]
@@ -38,8 +34,7 @@ fn writes_breaks(rt: HostRuntime) -> Result<(), Fail> {
             hr_style,
             ..Options::default()
         };
-        let answer = converted_page(rt.alloc(), options, "<hr>")?;
-        assert_eq!(rt; answer.as_str(), markdown);
+        expect_pages_with(rt.alloc(), options, &[("<hr>", markdown)])?;
     }
     let hard = [
         (BrStyle::TwoSpaces, "a  \nb"),
@@ -50,8 +45,7 @@ fn writes_breaks(rt: HostRuntime) -> Result<(), Fail> {
             br_style,
             ..Options::default()
         };
-        let answer = converted_page(rt.alloc(), options, "a<br>b")?;
-        assert_eq!(rt; answer.as_str(), markdown);
+        expect_pages_with(rt.alloc(), options, &[("a<br>b", markdown)])?;
     }
     Ok(())
 }
@@ -62,17 +56,17 @@ fn writes_code_blocks(rt: HostRuntime) -> Result<(), Fail> {
         code_block_style: CodeBlockStyle::Indented,
         ..Options::default()
     };
-    let html = "<pre><code>a\n\nb\n</code></pre>";
-    let answer = converted_page(rt.alloc(), options, html)?;
-    assert_eq!(rt; answer.as_str(), "    a\n    \n    b");
+    let indented: &[(&str, &str)] = &[("<pre><code>a\n\nb\n</code></pre>", "    a\n    \n    b")];
+    expect_pages_with(rt.alloc(), options, indented)?;
     let options = Options {
         code_block_fence: CodeBlockFence::Tildes,
         ..Options::default()
     };
-    let html = "<pre><code>~~~~~\nx</code></pre>";
-    let answer = converted_page(rt.alloc(), options, html)?;
-    assert_eq!(rt; answer.as_str(), "~~~~~~\n~~~~~\nx\n~~~~~~");
-    Ok(())
+    let fenced: &[(&str, &str)] = &[(
+        "<pre><code>~~~~~\nx</code></pre>",
+        "~~~~~~\n~~~~~\nx\n~~~~~~",
+    )];
+    expect_pages_with(rt.alloc(), options, fenced)
 }
 
 #[test]
@@ -98,8 +92,7 @@ fn spaces_items(rt: HostRuntime) -> Result<(), Fail> {
             translation_mode: TranslationMode::Faithful,
             ..Options::default()
         };
-        let answer = converted_page(rt.alloc(), options, html)?;
-        assert_eq!(rt; answer.as_str(), markdown, "{html:?}");
+        expect_pages_with(rt.alloc(), options, &[(html, markdown)])?;
     }
     Ok(())
 }
@@ -124,8 +117,7 @@ fn prefers_autolinks(rt: HostRuntime) -> Result<(), Fail> {
             translation_mode,
             ..Options::default()
         };
-        let answer = converted_page(rt.alloc(), options, html)?;
-        assert_eq!(rt; answer.as_str(), markdown, "{html:?}");
+        expect_pages_with(rt.alloc(), options, &[(html, markdown)])?;
     }
     Ok(())
 }
@@ -142,15 +134,14 @@ fn refers_by_contents(rt: HostRuntime) -> Result<(), Fail> {
             link_reference_style,
             ..referenced()
         };
-        let answer = converted_page(rt.alloc(), options, "<a href=\"/x\">A</a>")?;
-        assert_eq!(rt; answer.as_str(), markdown);
+        expect_pages_with(rt.alloc(), options, &[("<a href=\"/x\">A</a>", markdown)])?;
     }
     Ok(())
 }
 
 #[test]
 fn refers_by_numbers(rt: HostRuntime) -> Result<(), Fail> {
-    let table: [(&str, &str); 3] = [
+    let table: &[(&str, &str)] = &[
         ("<a href=\"/a b\">t</a>", "[t][1]\n\n[1]: /a b"),
         (
             "<table><caption><a href=\"/x\">C</a></caption><thead></thead></table>",
@@ -158,17 +149,17 @@ fn refers_by_numbers(rt: HostRuntime) -> Result<(), Fail> {
         ),
         ("<p><a>t</a></p>", "t"),
     ];
-    for (html, markdown) in table {
-        let answer = converted_page(rt.alloc(), referenced(), html)?;
-        assert_eq!(rt; answer.as_str(), markdown, "{html:?}");
-    }
-    Ok(())
+    expect_pages_with(rt.alloc(), referenced(), table)
 }
 
 // A definition stays where the link that it is for is written as HTML.
 #[test]
 fn refers_in_faithful(rt: HostRuntime) -> Result<(), Fail> {
-    let table: [(&str, &str); 4] = [
+    let options = Options {
+        translation_mode: TranslationMode::Faithful,
+        ..referenced()
+    };
+    let table: &[(&str, &str)] = &[
         (
             "<a href=\"/x\" title=\"T\">A</a><a href=\"/x\" title=\"T\">B</a>",
             "[A][1][B][2]\n\n[1]: /x \"T\"\n[2]: /x \"T\"",
@@ -187,13 +178,5 @@ fn refers_in_faithful(rt: HostRuntime) -> Result<(), Fail> {
             "<pre><code><a href=\"/x\">A</a></code></pre>\n\n[1]: /x",
         ),
     ];
-    for (html, markdown) in table {
-        let options = Options {
-            translation_mode: TranslationMode::Faithful,
-            ..referenced()
-        };
-        let answer = converted_page(rt.alloc(), options, html)?;
-        assert_eq!(rt; answer.as_str(), markdown, "{html:?}");
-    }
-    Ok(())
+    expect_pages_with(rt.alloc(), options, table)
 }

@@ -1,6 +1,6 @@
 //! The mode Guarded: what a reader of CommonMark sees is the page's text.
 use crate::builders::guarded;
-use crate::pages::{converted_page, first_otherwise};
+use crate::pages::{expect_pages, expect_pages_with};
 use htmd::options::{
     BrStyle, BulletListMarker, CodeBlockFence, CodeBlockStyle, HeadingStyle, LinkReferenceStyle,
     LinkStyle, Options, TranslationMode,
@@ -24,9 +24,7 @@ fn escapes_texts(rt: HostRuntime) -> Result<(), Fail> {
         ("<p>&lt;/p></p>", "\\</p>"),
         ("<script>x</script><p>y</p>", "y"),
     ];
-    let otherwise = first_otherwise(rt.alloc(), TranslationMode::Guarded, table)?;
-    assert_eq!(rt; otherwise, None);
-    Ok(())
+    expect_pages(rt.alloc(), TranslationMode::Guarded, table)
 }
 
 #[test]
@@ -46,9 +44,7 @@ fn escapes_where_lines_begin(rt: HostRuntime) -> Result<(), Fail> {
         ("<p>..x</p>", "\\..x"),
         ("<p>1) x <i>2) y</i></p>", "1\\) x *2\\) y*"),
     ];
-    let otherwise = first_otherwise(rt.alloc(), TranslationMode::Guarded, table)?;
-    assert_eq!(rt; otherwise, None);
-    Ok(())
+    expect_pages(rt.alloc(), TranslationMode::Guarded, table)
 }
 
 // An exclamation mark before a link would make an image of it; before an image it stands for itself.
@@ -58,9 +54,7 @@ fn parts_marks_at_seams(rt: HostRuntime) -> Result<(), Fail> {
         ("<p>!<a href=\"/x\">t</a></p>", "\\![t](/x)"),
         ("<p>a!<img src=\"/i\"></p>", "a!![](/i)"),
     ];
-    let otherwise = first_otherwise(rt.alloc(), TranslationMode::Guarded, table)?;
-    assert_eq!(rt; otherwise, None);
-    Ok(())
+    expect_pages(rt.alloc(), TranslationMode::Guarded, table)
 }
 
 #[test]
@@ -71,9 +65,7 @@ fn converts_code(rt: HostRuntime) -> Result<(), Fail> {
         ("<p><code>a</code><code x>b</code></p>", "`a` `b`"),
         ("<code>\n a\r\n\n`b` </code>", " `` a  `b` ``"),
     ];
-    let otherwise = first_otherwise(rt.alloc(), TranslationMode::Guarded, table)?;
-    assert_eq!(rt; otherwise, None);
-    Ok(())
+    expect_pages(rt.alloc(), TranslationMode::Guarded, table)
 }
 
 #[test]
@@ -99,9 +91,7 @@ fn converts_code_blocks(rt: HostRuntime) -> Result<(), Fail> {
             "*   ```\n    a\n    b\n    ```",
         ),
     ];
-    let otherwise = first_otherwise(rt.alloc(), TranslationMode::Guarded, table)?;
-    assert_eq!(rt; otherwise, None);
-    Ok(())
+    expect_pages(rt.alloc(), TranslationMode::Guarded, table)
 }
 
 #[test]
@@ -117,9 +107,7 @@ fn converts_code_blocks_in_one_line(rt: HostRuntime) -> Result<(), Fail> {
             "| A     |\n| ----- |\n| `x y` |",
         ),
     ];
-    let otherwise = first_otherwise(rt.alloc(), TranslationMode::Guarded, table)?;
-    assert_eq!(rt; otherwise, None);
-    Ok(())
+    expect_pages(rt.alloc(), TranslationMode::Guarded, table)
 }
 
 #[test]
@@ -135,9 +123,7 @@ fn converts_links(rt: HostRuntime) -> Result<(), Fail> {
             "x [y](javascript:a\\(\"\\<b\\>\"\\))",
         ),
     ];
-    let otherwise = first_otherwise(rt.alloc(), TranslationMode::Guarded, table)?;
-    assert_eq!(rt; otherwise, None);
-    Ok(())
+    expect_pages(rt.alloc(), TranslationMode::Guarded, table)
 }
 
 #[test]
@@ -146,9 +132,7 @@ fn converts_images(rt: HostRuntime) -> Result<(), Fail> {
         "<img src=\"/i&amp;lt;j\" alt=\"](y) &lt;b>\" title=\"a\n\nb\">",
         "![\\](y) \\<b>](/i\\&lt;j \"a b\")",
     )];
-    let otherwise = first_otherwise(rt.alloc(), TranslationMode::Guarded, table)?;
-    assert_eq!(rt; otherwise, None);
-    Ok(())
+    expect_pages(rt.alloc(), TranslationMode::Guarded, table)
 }
 
 #[test]
@@ -158,9 +142,7 @@ fn converts_emphasis(rt: HostRuntime) -> Result<(), Fail> {
         ("<i> a </i>", " *a*"),
         ("<p><b>&nbsp;</b>x</p>", "\u{a0}x"),
     ];
-    let otherwise = first_otherwise(rt.alloc(), TranslationMode::Guarded, table)?;
-    assert_eq!(rt; otherwise, None);
-    Ok(())
+    expect_pages(rt.alloc(), TranslationMode::Guarded, table)
 }
 
 #[test]
@@ -169,9 +151,7 @@ fn converts_headings_and_breaks(rt: HostRuntime) -> Result<(), Fail> {
         ("<p>a<br>+ b</p>", "a  \n\\+ b"),
         ("<h1>a<br>b #</h1>", "# a b \\#"),
     ];
-    let otherwise = first_otherwise(rt.alloc(), TranslationMode::Guarded, table)?;
-    assert_eq!(rt; otherwise, None);
-    Ok(())
+    expect_pages(rt.alloc(), TranslationMode::Guarded, table)
 }
 
 #[test]
@@ -185,9 +165,7 @@ fn converts_lists(rt: HostRuntime) -> Result<(), Fail> {
             "*   **\\- a**\n*   *1\\. b*",
         ),
     ];
-    let otherwise = first_otherwise(rt.alloc(), TranslationMode::Guarded, table)?;
-    assert_eq!(rt; otherwise, None);
-    Ok(())
+    expect_pages(rt.alloc(), TranslationMode::Guarded, table)
 }
 
 #[test]
@@ -196,9 +174,7 @@ fn converts_tables(rt: HostRuntime) -> Result<(), Fail> {
         "<table><caption>S</caption><tr><th>A|B</th><th></th></tr><tr><td><code>c|d</code></td></tr></table>",
         "S\n\n| A\\|B   |     |\n| ------ | --- |\n| `c\\|d` |     |",
     )];
-    let otherwise = first_otherwise(rt.alloc(), TranslationMode::Guarded, table)?;
-    assert_eq!(rt; otherwise, None);
-    Ok(())
+    expect_pages(rt.alloc(), TranslationMode::Guarded, table)
 }
 
 #[test]
@@ -210,136 +186,90 @@ fn converts_spans(rt: HostRuntime) -> Result<(), Fail> {
             "$a_b$ a\\<b",
         ),
     ];
-    let otherwise = first_otherwise(rt.alloc(), TranslationMode::Guarded, table)?;
-    assert_eq!(rt; otherwise, None);
-    Ok(())
+    expect_pages(rt.alloc(), TranslationMode::Guarded, table)
 }
 
 // Autolinks hold addresses that have a scheme and no reference; references name their number.
 #[test]
 fn converts_links_by_style(rt: HostRuntime) -> Result<(), Fail> {
-    let table: [(Options, &str, &str); 4] = [
+    let options = Options {
+        link_style: LinkStyle::InlinedPreferAutolinks,
+        ..guarded()
+    };
+    let autolinks: &[(&str, &str)] = &[
         (
-            Options {
-                link_style: LinkStyle::InlinedPreferAutolinks,
-                ..guarded()
-            },
             "<a href=\"https://e.x/a_b\">https://e.x/a_b</a>",
             "<https://e.x/a_b>",
         ),
+        ("<a href=\"/u\">/u</a>", "[/u](/u)"),
         (
-            Options {
-                link_style: LinkStyle::InlinedPreferAutolinks,
-                ..guarded()
-            },
-            "<a href=\"/u\">/u</a>",
-            "[/u](/u)",
-        ),
-        (
-            Options {
-                link_style: LinkStyle::InlinedPreferAutolinks,
-                ..guarded()
-            },
             "<a href=\"https://e.x/&amp;lt;\">https://e.x/&amp;lt;</a>",
             "[https://e.x/\\&lt;](https://e.x/\\&lt;)",
         ),
-        (
-            Options {
-                link_style: LinkStyle::Referenced,
-                link_reference_style: LinkReferenceStyle::Shortcut,
-                ..guarded()
-            },
-            "<a href=\"/x\" title=\"t\">a]</a> (b)",
-            "[a\\]][1] (b)\n\n[1]: /x \"t\"",
-        ),
     ];
-    for (options, html, markdown) in table {
-        let answer = converted_page(rt.alloc(), options, html)?;
-        assert_eq!(rt; answer.as_str(), markdown, "{html:?}");
-    }
-    Ok(())
+    expect_pages_with(rt.alloc(), options, autolinks)?;
+    let options = Options {
+        link_style: LinkStyle::Referenced,
+        link_reference_style: LinkReferenceStyle::Shortcut,
+        ..guarded()
+    };
+    let references: &[(&str, &str)] = &[(
+        "<a href=\"/x\" title=\"t\">a]</a> (b)",
+        "[a\\]][1] (b)\n\n[1]: /x \"t\"",
+    )];
+    expect_pages_with(rt.alloc(), options, references)
 }
 
 // Code blocks are fenced in each style.
 #[test]
 fn converts_code_blocks_by_style(rt: HostRuntime) -> Result<(), Fail> {
-    let table: [(Options, &str, &str); 2] = [
-        (
-            Options {
-                code_block_style: CodeBlockStyle::Indented,
-                bullet_list_marker: BulletListMarker::Dash,
-                ..guarded()
-            },
-            "<ul><li>a</li></ul><pre>&lt;b></pre>",
-            "-   a\n\n```\n<b>\n```",
-        ),
-        (
-            Options {
-                code_block_fence: CodeBlockFence::Tildes,
-                ..guarded()
-            },
-            "<pre class=\"language-a~b\">x</pre>",
-            "~~~\nx\n~~~",
-        ),
-    ];
-    for (options, html, markdown) in table {
-        let answer = converted_page(rt.alloc(), options, html)?;
-        assert_eq!(rt; answer.as_str(), markdown, "{html:?}");
-    }
-    Ok(())
+    let options = Options {
+        code_block_style: CodeBlockStyle::Indented,
+        bullet_list_marker: BulletListMarker::Dash,
+        ..guarded()
+    };
+    let indented: &[(&str, &str)] = &[(
+        "<ul><li>a</li></ul><pre>&lt;b></pre>",
+        "-   a\n\n```\n<b>\n```",
+    )];
+    expect_pages_with(rt.alloc(), options, indented)?;
+    let options = Options {
+        code_block_fence: CodeBlockFence::Tildes,
+        ..guarded()
+    };
+    let tildes: &[(&str, &str)] = &[("<pre class=\"language-a~b\">x</pre>", "~~~\nx\n~~~")];
+    expect_pages_with(rt.alloc(), options, tildes)
 }
 
 // A list's spacing is at least 1 and at most 4.
 #[test]
 fn converts_lists_by_spacing(rt: HostRuntime) -> Result<(), Fail> {
-    let table: [(Options, &str, &str); 2] = [
-        (
-            Options {
-                ul_bullet_spacing: 9,
-                ..guarded()
-            },
-            "<ul><li>a<p>b</p></li></ul>",
-            "*    a\n\n     b",
-        ),
-        (
-            Options {
-                ol_number_spacing: 0,
-                ..guarded()
-            },
-            "<ol><li>a</li></ol>",
-            "1. a",
-        ),
-    ];
-    for (options, html, markdown) in table {
-        let answer = converted_page(rt.alloc(), options, html)?;
-        assert_eq!(rt; answer.as_str(), markdown, "{html:?}");
-    }
-    Ok(())
+    let options = Options {
+        ul_bullet_spacing: 9,
+        ..guarded()
+    };
+    let bullets: &[(&str, &str)] = &[("<ul><li>a<p>b</p></li></ul>", "*    a\n\n     b")];
+    expect_pages_with(rt.alloc(), options, bullets)?;
+    let options = Options {
+        ol_number_spacing: 0,
+        ..guarded()
+    };
+    let numbers: &[(&str, &str)] = &[("<ol><li>a</li></ol>", "1. a")];
+    expect_pages_with(rt.alloc(), options, numbers)
 }
 
 #[test]
 fn converts_headings_and_breaks_by_style(rt: HostRuntime) -> Result<(), Fail> {
-    let table: [(Options, &str, &str); 2] = [
-        (
-            Options {
-                br_style: BrStyle::Backslash,
-                ..guarded()
-            },
-            "<p>a<br>b</p>",
-            "a  \nb",
-        ),
-        (
-            Options {
-                heading_style: HeadingStyle::Setex,
-                ..guarded()
-            },
-            "<h1></h1><h2>a<br>b</h2>",
-            "# \n\na b\n---",
-        ),
-    ];
-    for (options, html, markdown) in table {
-        let answer = converted_page(rt.alloc(), options, html)?;
-        assert_eq!(rt; answer.as_str(), markdown, "{html:?}");
-    }
-    Ok(())
+    let options = Options {
+        br_style: BrStyle::Backslash,
+        ..guarded()
+    };
+    let breaks: &[(&str, &str)] = &[("<p>a<br>b</p>", "a  \nb")];
+    expect_pages_with(rt.alloc(), options, breaks)?;
+    let options = Options {
+        heading_style: HeadingStyle::Setex,
+        ..guarded()
+    };
+    let headings: &[(&str, &str)] = &[("<h1></h1><h2>a<br>b</h2>", "# \n\na b\n---")];
+    expect_pages_with(rt.alloc(), options, headings)
 }

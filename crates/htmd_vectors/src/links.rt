@@ -1,5 +1,5 @@
 //! Links and images.
-use crate::pages::first_otherwise;
+use crate::pages::expect_pages;
 use htmd::options::TranslationMode;
 use std::test::Fail;
 
@@ -24,9 +24,7 @@ fn converts_links(rt: HostRuntime) -> Result<(), Fail> {
         ("<p>a<img alt=\"x\"></p>", "a"),
         ("<a title=\"x\"><b>t</b></a>", "**t**"),
     ];
-    let otherwise = first_otherwise(rt.alloc(), TranslationMode::Pure, table)?;
-    assert_eq!(rt; otherwise, None);
-    Ok(())
+    expect_pages(rt.alloc(), TranslationMode::Pure, table)
 }
 
 #[test]
@@ -45,7 +43,5 @@ fn keeps_other_links_as_html(rt: HostRuntime) -> Result<(), Fail> {
             "<pre><a href=\"/x\">A</a></pre>",
         ),
     ];
-    let otherwise = first_otherwise(rt.alloc(), TranslationMode::Faithful, table)?;
-    assert_eq!(rt; otherwise, None);
-    Ok(())
+    expect_pages(rt.alloc(), TranslationMode::Faithful, table)
 }

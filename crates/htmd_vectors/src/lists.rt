@@ -1,6 +1,6 @@
 //! Lists.
 use crate::builders::skipping;
-use crate::pages::{first_otherwise, page_by};
+use crate::pages::{expect_pages, expect_pages_by};
 use htmd::HtmlToMarkdown;
 use htmd::options::TranslationMode;
 use std::test::Fail;
@@ -25,18 +25,14 @@ fn converts_lists(rt: HostRuntime) -> Result<(), Fail> {
         ("a<ol></ol>b", "ab"),
         ("a<ul><li></li></ul>", "a\n\n*"),
     ];
-    let otherwise = first_otherwise(rt.alloc(), TranslationMode::Pure, table)?;
-    assert_eq!(rt; otherwise, None);
-    Ok(())
+    expect_pages(rt.alloc(), TranslationMode::Pure, table)
 }
 
 // An item that is passed over takes a number.
 #[test]
 fn counts_skipped_items(rt: HostRuntime) -> Result<(), Fail> {
     let converter = skipping(HtmlToMarkdown::builder(rt.alloc())?, &["li"])?.build();
-    let answer = page_by(rt.alloc(), &converter, "<ol><li>a</li></ol>")?;
-    assert_eq!(rt; answer.as_str(), "1.");
-    Ok(())
+    expect_pages_by(rt.alloc(), &converter, &[("<ol><li>a</li></ol>", "1.")])
 }
 
 #[test]
@@ -51,7 +47,5 @@ fn keeps_other_lists_as_html(rt: HostRuntime) -> Result<(), Fail> {
             "<ul class=\"x\"><li>b</li></ul>",
         ),
     ];
-    let otherwise = first_otherwise(rt.alloc(), TranslationMode::Faithful, table)?;
-    assert_eq!(rt; otherwise, None);
-    Ok(())
+    expect_pages(rt.alloc(), TranslationMode::Faithful, table)
 }

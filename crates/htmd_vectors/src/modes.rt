@@ -1,5 +1,5 @@
 //! The mode Faithful, and scripting.
-use crate::pages::{first_otherwise, page_by};
+use crate::pages::{expect_pages, expect_pages_by};
 use htmd::HtmlToMarkdown;
 use htmd::options::TranslationMode;
 use std::test::Fail;
@@ -34,36 +34,26 @@ fn converts_in_faithful(rt: HostRuntime) -> Result<(), Fail> {
             "<details>a\n &#10;\n b</details>",
         ),
     ];
-    let otherwise = first_otherwise(rt.alloc(), TranslationMode::Faithful, table)?;
-    assert_eq!(rt; otherwise, None);
-    Ok(())
+    expect_pages(rt.alloc(), TranslationMode::Faithful, table)
 }
 
 // The content of `noscript` is a text where scripting is on, and else nodes.
 #[test]
 fn converts_without_scripting(rt: HostRuntime) -> Result<(), Fail> {
-    let table: [(&str, bool, &str); 3] = [
-        (
-            "<noscript><p>Hello</p></noscript>",
-            true,
-            "\\<p>Hello\\</p>",
-        ),
-        ("<noscript><p>Hello</p></noscript>", false, "Hello"),
-        ("<noscript>&lt;a</noscript>", true, "&lt;a"),
+    let texts: &[(&str, &str)] = &[
+        ("<noscript><p>Hello</p></noscript>", "\\<p>Hello\\</p>"),
+        ("<noscript>&lt;a</noscript>", "&lt;a"),
     ];
-    for (html, scripting, markdown) in table {
-        let builder = HtmlToMarkdown::builder(rt.alloc())?.scripting_enabled(scripting);
-        let answer = page_by(rt.alloc(), &builder.build(), html)?;
-        assert_eq!(rt; answer.as_str(), markdown, "{html:?}");
-    }
-    Ok(())
+    let builder = HtmlToMarkdown::builder(rt.alloc())?.scripting_enabled(true);
+    expect_pages_by(rt.alloc(), &builder.build(), texts)?;
+    let nodes: &[(&str, &str)] = &[("<noscript><p>Hello</p></noscript>", "Hello")];
+    let builder = HtmlToMarkdown::builder(rt.alloc())?.scripting_enabled(false);
+    expect_pages_by(rt.alloc(), &builder.build(), nodes)
 }
 
 // A comment is written in Faithful alone.
 #[test]
 fn leaves_comments_out(rt: HostRuntime) -> Result<(), Fail> {
     let converter = HtmlToMarkdown::new(rt.alloc())?;
-    let answer = page_by(rt.alloc(), &converter, "a<!--c-->b")?;
-    assert_eq!(rt; answer.as_str(), "ab");
-    Ok(())
+    expect_pages_by(rt.alloc(), &converter, &[("a<!--c-->b", "ab")])
 }

@@ -10,11 +10,14 @@ pub(crate) fn page_by(
     converter: &HtmlToMarkdown,
     html: &str,
 ) -> Result<String, Fail> {
-    let markdown = converter.convert(alloc, html)?;
+    let markdown = match converter.convert(alloc, html) {
+        Ok(markdown) => markdown,
+        Err(error) => return Err(Fail::new(format_args!("{html:?}: {error}"))),
+    };
     let tree = converter.html_to_tree(alloc, html)?;
     let again = converter.tree_to_markdown(alloc, &tree, tree.root())?;
     if markdown.as_str() != again.as_str() {
-        return Err(Fail::from("a page and its tree give the same"));
+        return Err(Fail::new(format_args!("{html:?} gives {markdown:?}, and its tree {again:?}")));
     }
     Ok(again)
 }
@@ -25,29 +28,61 @@ pub(crate) fn converted_page(alloc: Global, options: Options, html: &str) -> Res
     page_by(alloc, &converter, html)
 }
 
-/// The first of these pages whose Markdown in this mode isn't the text beside it.
-pub(crate) fn first_otherwise<'a>(
+/// Fails at the first of these pages whose Markdown by this converter isn't the text beside it, and says which.
+pub(crate) fn expect_pages_by(
     alloc: Global,
-    translation_mode: TranslationMode,
-    table: &[(&'a str, &str)],
-) -> Result<Option<&'a str>, Fail> {
+    converter: &HtmlToMarkdown,
+    table: &[(&str, &str)],
+) -> Result<(), Fail> {
     for (html, markdown) in table {
-        let options = Options {
-            translation_mode,
-            ..Options::default()
-        };
-        if converted_page(alloc, options, html)?.as_str() != *markdown {
-            return Ok(Some(html));
+        let answer = page_by(alloc, converter, html)?;
+        if answer.as_str() != *markdown {
+            return Err(Fail::new(format_args!("{html:?} gives {answer:?}, not {markdown:?}")));
         }
     }
-    Ok(None)
+    Ok(())
 }
 
-/// Where and how a page is refused.
-pub(crate) fn refusal(alloc: Global, html: &str) -> Result<(usize, FaultKind), Fail> {
-    match convert(alloc, html) {
-        Ok(_) => Err(Fail::from("the page is outside the grammar")),
-        Err(ConvertError::Refused { place, kind }) => Ok((place, kind)),
-        Err(ConvertError::Memory) => Err(Fail::from("there is memory")),
+/// The same of a converter with these options.
+pub(crate) fn expect_pages_with(
+    alloc: Global,
+    options: Options,
+    table: &[(&str, &str)],
+) -> Result<(), Fail> {
+    let converter = HtmlToMarkdown::builder(alloc)?.options(options).build();
+    expect_pages_by(alloc, &converter, table)
+}
+
+/// The same of a converter in this mode.
+pub(crate) fn expect_pages(
+    alloc: Global,
+    translation_mode: TranslationMode,
+    table: &[(&str, &str)],
+) -> Result<(), Fail> {
+    let options = Options {
+        translation_mode,
+        ..Options::default()
+    };
+    expect_pages_with(alloc, options, table)
+}
+
+/// Fails at the first of these pages that isn't refused at the place and with the kind beside it, and says which.
+pub(crate) fn expect_refusals(
+    alloc: Global,
+    table: &[(&str, usize, FaultKind)],
+) -> Result<(), Fail> {
+    for (html, place, kind) in table {
+        let wanted = ConvertError::Refused {
+            place: *place,
+            kind: *kind,
+        };
+        match convert(alloc, html) {
+            Ok(_) => return Err(Fail::new(format_args!("{html:?} is converted"))),
+            Err(error) if error != wanted => {
+                return Err(Fail::new(format_args!("{error}, not {wanted}: {html:?}")));
+            }
+            Err(_) => {}
+        }
     }
+    Ok(())
 }

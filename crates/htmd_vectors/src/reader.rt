@@ -1,5 +1,5 @@
 //! Texts of HTML and the trees that they denote, or where and how they are refused.
-use crate::pages::{first_otherwise, refusal};
+use crate::pages::{expect_pages, expect_refusals};
 use htmd::FaultKind;
 use htmd::options::TranslationMode;
 use std::test::Fail;
@@ -14,14 +14,12 @@ fn reads_pages(rt: HostRuntime) -> Result<(), Fail> {
         ("<script>if (a<b) x</script>", "if (a\\<b) x"),
         ("<table><tr><td>x</td></tr></tbody></table>", "x"),
     ];
-    let otherwise = first_otherwise(rt.alloc(), TranslationMode::Pure, table)?;
-    assert_eq!(rt; otherwise, None);
-    Ok(())
+    expect_pages(rt.alloc(), TranslationMode::Pure, table)
 }
 
 #[test]
 fn refuses_pieces_and_places(rt: HostRuntime) -> Result<(), Fail> {
-    let table: [(&str, usize, FaultKind); 16] = [
+    let table: &[(&str, usize, FaultKind)] = &[
         ("<p><div>x</div></p>", 3, FaultKind::NotAllowedHere),
         ("a\0", 1, FaultKind::Nul),
         ("<!-- x", 0, FaultKind::MalformedComment),
@@ -47,15 +45,12 @@ fn refuses_pieces_and_places(rt: HostRuntime) -> Result<(), Fail> {
             FaultKind::StrayText,
         ),
     ];
-    for (html, place, kind) in table {
-        assert_eq!(rt; refusal(rt.alloc(), html)?, (place, kind), "{html:?}");
-    }
-    Ok(())
+    expect_refusals(rt.alloc(), table)
 }
 
 #[test]
 fn refuses_raw_content(rt: HostRuntime) -> Result<(), Fail> {
-    let table: [(&str, usize, FaultKind); 7] = [
+    let table: &[(&str, usize, FaultKind)] = &[
         ("<script><!--<script></script>", 8, FaultKind::ScriptEscape),
         ("<title>&bogus;", 7, FaultKind::UnknownReference),
         ("<textarea>a", 11, FaultKind::Unclosed),
@@ -64,8 +59,5 @@ fn refuses_raw_content(rt: HostRuntime) -> Result<(), Fail> {
         ("<svg><path/></svg>", 5, FaultKind::SelfClosing),
         ("<!DOCTYPE html><p/>", 15, FaultKind::SelfClosing),
     ];
-    for (html, place, kind) in table {
-        assert_eq!(rt; refusal(rt.alloc(), html)?, (place, kind), "{html:?}");
-    }
-    Ok(())
+    expect_refusals(rt.alloc(), table)
 }

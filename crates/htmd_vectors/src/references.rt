@@ -1,5 +1,5 @@
 //! Character references.
-use crate::pages::{first_otherwise, refusal};
+use crate::pages::{expect_pages, expect_refusals};
 use htmd::FaultKind;
 use htmd::options::TranslationMode;
 use std::test::Fail;
@@ -23,14 +23,12 @@ fn knows_names(rt: HostRuntime) -> Result<(), Fail> {
         ("AT&T", "AT&T"),
         ("&amp", "&amp"),
     ];
-    let otherwise = first_otherwise(rt.alloc(), TranslationMode::Pure, table)?;
-    assert_eq!(rt; otherwise, None);
-    Ok(())
+    expect_pages(rt.alloc(), TranslationMode::Pure, table)
 }
 
 #[test]
 fn refuses_other_references(rt: HostRuntime) -> Result<(), Fail> {
-    let table: [(&str, usize, FaultKind); 7] = [
+    let table: &[(&str, usize, FaultKind)] = &[
         ("a&bogus;", 1, FaultKind::UnknownReference),
         ("&#128;", 0, FaultKind::BadNumber),
         ("&#65", 0, FaultKind::BadNumber),
@@ -39,8 +37,5 @@ fn refuses_other_references(rt: HostRuntime) -> Result<(), Fail> {
         ("<i x=&bad; x=1>", 0, FaultKind::UnknownReference),
         ("&Pound;", 0, FaultKind::UnknownReference),
     ];
-    for (html, place, kind) in table {
-        assert_eq!(rt; refusal(rt.alloc(), html)?, (place, kind), "{html:?}");
-    }
-    Ok(())
+    expect_refusals(rt.alloc(), table)
 }

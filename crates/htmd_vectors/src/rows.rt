@@ -45,14 +45,23 @@ pub(crate) fn built(alloc: Global, row: Row) -> Result<Tree, Fail> {
     Ok(tree)
 }
 
-/// What a converter with these options gives of a row.
-pub(crate) fn converted(alloc: Global, options: Options, row: Row) -> Result<String, Fail> {
+/// Fails at the first of these rows of which a converter with these options doesn't give the text beside it, and says
+/// which. The same converter and tree give the same again.
+pub(crate) fn expect_rows(
+    alloc: Global,
+    options: Options,
+    table: &[(Row, &str)],
+) -> Result<(), Fail> {
     let converter = HtmlToMarkdown::builder(alloc)?.options(options).build();
-    let tree = built(alloc, row)?;
-    let first = converter.tree_to_markdown(alloc, &tree, tree.root())?;
-    let again = converter.tree_to_markdown(alloc, &tree, tree.root())?;
-    if first.as_str() != again.as_str() {
-        return Err(Fail::from("the same converter and tree give the same"));
+    for (row, markdown) in table {
+        let tree = built(alloc, row)?;
+        let first = converter.tree_to_markdown(alloc, &tree, tree.root())?;
+        let again = converter.tree_to_markdown(alloc, &tree, tree.root())?;
+        if first.as_str() != *markdown || again.as_str() != *markdown {
+            return Err(Fail::new(format_args!(
+                "{row:?} gives {first:?} and {again:?}, not {markdown:?}"
+            )));
+        }
     }
-    Ok(again)
+    Ok(())
 }

@@ -1,5 +1,5 @@
 //! Tables.
-use crate::pages::first_otherwise;
+use crate::pages::expect_pages;
 use htmd::options::TranslationMode;
 use std::test::Fail;
 
@@ -38,9 +38,7 @@ fn converts_tables(rt: HostRuntime) -> Result<(), Fail> {
             "S\n| a |\n| - |",
         ),
     ];
-    let otherwise = first_otherwise(rt.alloc(), TranslationMode::Pure, table)?;
-    assert_eq!(rt; otherwise, None);
-    Ok(())
+    expect_pages(rt.alloc(), TranslationMode::Pure, table)
 }
 
 #[test]
@@ -52,7 +50,5 @@ fn keeps_other_tables_as_html(rt: HostRuntime) -> Result<(), Fail> {
             "<table><tbody><tr><td x=\"\">A</td></tr></tbody></table>",
         ),
     ];
-    let otherwise = first_otherwise(rt.alloc(), TranslationMode::Faithful, table)?;
-    assert_eq!(rt; otherwise, None);
-    Ok(())
+    expect_pages(rt.alloc(), TranslationMode::Faithful, table)
 }

@@ -1,13 +1,13 @@
 //! Trees that are built by calls, and that no text denotes, and their Markdown.
 use crate::builders::{faithful, referenced};
-use crate::rows::{Row, converted};
+use crate::rows::{Row, expect_rows};
 use htmd::options::Options;
 use std::test::Fail;
 
 // Paragraphs without a text are passed over, and head and body are blocks, as title, script and style are.
 #[test]
 fn converts_pages(rt: HostRuntime) -> Result<(), Fail> {
-    let table: [(Row, &str); 3] = [
+    let table: &[(Row, &str)] = &[
         (
             &[
                 (0, "p", ""),
@@ -45,11 +45,7 @@ fn converts_pages(rt: HostRuntime) -> Result<(), Fail> {
             "Demo\n\nconsole.log('Hello');\n\nbody {}\n\nContent",
         ),
     ];
-    for (row, markdown) in table {
-        let answer = converted(rt.alloc(), Options::default(), row)?;
-        assert_eq!(rt; answer.as_str(), markdown);
-    }
-    Ok(())
+    expect_rows(rt.alloc(), Options::default(), table)
 }
 
 // A link in a link is finished first.
@@ -64,15 +60,14 @@ fn refers_by_numbers(rt: HostRuntime) -> Result<(), Fail> {
         (4, "a", "href=/i"),
         (6, "", "y"),
     ];
-    let answer = converted(rt.alloc(), referenced(), row)?;
-    assert_eq!(rt; answer.as_str(), "[x[y][1]][2]\n\n[1]: /i\n[2]: /o");
-    Ok(())
+    let markdown = "[x[y][1]][2]\n\n[1]: /i\n[2]: /o";
+    expect_rows(rt.alloc(), referenced(), &[(row, markdown)])
 }
 
 // Rows and headers may stand right in a table.
 #[test]
 fn converts_tables(rt: HostRuntime) -> Result<(), Fail> {
-    let table: [(Row, &str); 4] = [
+    let table: &[(Row, &str)] = &[
         (
             &[
                 (0, "table", ""),
@@ -122,16 +117,12 @@ fn converts_tables(rt: HostRuntime) -> Result<(), Fail> {
             "| b |",
         ),
     ];
-    for (row, markdown) in table {
-        let answer = converted(rt.alloc(), Options::default(), row)?;
-        assert_eq!(rt; answer.as_str(), markdown);
-    }
-    Ok(())
+    expect_rows(rt.alloc(), Options::default(), table)
 }
 
 #[test]
 fn keeps_other_tables_as_html(rt: HostRuntime) -> Result<(), Fail> {
-    let table: [(Row, &str); 3] = [
+    let table: &[(Row, &str)] = &[
         (
             &[
                 (0, "table", ""),
@@ -155,17 +146,13 @@ fn keeps_other_tables_as_html(rt: HostRuntime) -> Result<(), Fail> {
         ),
         (&[(0, "table", ""), (1, "tbody", ""), (1, "", "x")], "x"),
     ];
-    for (row, markdown) in table {
-        let answer = converted(rt.alloc(), faithful(), row)?;
-        assert_eq!(rt; answer.as_str(), markdown);
-    }
-    Ok(())
+    expect_rows(rt.alloc(), faithful(), table)
 }
 
 // What isn't in its place, or has an attribute, is written as HTML in Faithful. In Pure the content stands alone.
 #[test]
 fn keeps_parts_of_tables_as_html(rt: HostRuntime) -> Result<(), Fail> {
-    let table: [(Row, &str); 10] = [
+    let table: &[(Row, &str)] = &[
         (
             &[
                 (0, "table", ""),
@@ -205,11 +192,9 @@ fn keeps_parts_of_tables_as_html(rt: HostRuntime) -> Result<(), Fail> {
             "a",
         ),
     ];
-    for (row, markdown) in table {
-        let answer = converted(rt.alloc(), faithful(), row)?;
-        assert_eq!(rt; answer.as_str(), markdown);
-        let answer = converted(rt.alloc(), Options::default(), row)?;
-        assert_eq!(rt; answer.as_str(), "a");
+    expect_rows(rt.alloc(), faithful(), table)?;
+    for (row, _) in table {
+        expect_rows(rt.alloc(), Options::default(), &[(row, "a")])?;
     }
     Ok(())
 }
@@ -217,7 +202,7 @@ fn keeps_parts_of_tables_as_html(rt: HostRuntime) -> Result<(), Fail> {
 // `head` and `body` stand in `html` or the Document, `html` in the Document alone. Their attributes don't count.
 #[test]
 fn keeps_other_parts_of_pages_as_html(rt: HostRuntime) -> Result<(), Fail> {
-    let table: [(Row, &str); 9] = [
+    let table: &[(Row, &str)] = &[
         (&[(0, "head", "x=1"), (1, "", "a")], "a"),
         (&[(0, "body", "x=1"), (1, "", "a")], "a"),
         (&[(0, "html", "x=1"), (1, "", "a")], "a"),
@@ -240,9 +225,5 @@ fn keeps_other_parts_of_pages_as_html(rt: HostRuntime) -> Result<(), Fail> {
             "<html>a</html>",
         ),
     ];
-    for (row, markdown) in table {
-        let answer = converted(rt.alloc(), faithful(), row)?;
-        assert_eq!(rt; answer.as_str(), markdown);
-    }
-    Ok(())
+    expect_rows(rt.alloc(), faithful(), table)
 }

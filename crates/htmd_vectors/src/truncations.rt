@@ -1,6 +1,6 @@
 //! Pages that are cut short, or lack a character or a byte.
 use crate::builders::referenced;
-use crate::pages::{first_otherwise, refusal};
+use crate::pages::{expect_pages, expect_refusals};
 use htmd::options::{Options, TranslationMode};
 use htmd::{ConvertError, FaultKind, HtmlToMarkdown};
 use htmd_cli::{Input, Mode, Output, RunError, run};
@@ -48,7 +48,7 @@ kept &gt;</textarea><select><optgroup label=\"g\"><option value=1>1</option></op
 
 #[test]
 fn refuses_beginnings(rt: HostRuntime) -> Result<(), Fail> {
-    let table: [(&str, usize, FaultKind); 22] = [
+    let table: &[(&str, usize, FaultKind)] = &[
         ("<p", 0, FaultKind::MalformedTag),
         ("<p>", 3, FaultKind::Unclosed),
         ("<p>a", 4, FaultKind::Unclosed),
@@ -72,18 +72,13 @@ fn refuses_beginnings(rt: HostRuntime) -> Result<(), Fail> {
         ("<div>a", 6, FaultKind::Unclosed),
         ("<a href=\"x", 0, FaultKind::MalformedTag),
     ];
-    for (html, place, kind) in table {
-        assert_eq!(rt; refusal(rt.alloc(), html)?, (place, kind), "{html:?}");
-    }
-    Ok(())
+    expect_refusals(rt.alloc(), table)
 }
 
 #[test]
 fn converts_what_is_whole(rt: HostRuntime) -> Result<(), Fail> {
     let table: &[(&str, &str)] = &[("", ""), ("<", "<"), ("<p>a<b c=\"d\">e</b></p>", "a**e**")];
-    let otherwise = first_otherwise(rt.alloc(), TranslationMode::Pure, table)?;
-    assert_eq!(rt; otherwise, None);
-    Ok(())
+    expect_pages(rt.alloc(), TranslationMode::Pure, table)
 }
 
 // Whether a page is converted, or refused at a place of it.
