@@ -86,6 +86,28 @@ fn keeps_attributes_as_html(rt: HostRuntime) -> Result<(), Fail> {
         ("<h1>a<br class=\"x\">b</h1>", "# a<br class=\"x\">b"),
         ("<h2>a</h2><blockquote>b</blockquote>", "## a\n\n> b"),
         ("<p>a<br>b</p>", "a  \nb"),
+        (
+            "<h1>a</h1><h3>b</h3><h4>c</h4><h5>d</h5><h6>e</h6>",
+            "# a\n\n### b\n\n#### c\n\n##### d\n\n###### e",
+        ),
+        ("<h2 x>a <b>b</b></h2>", "<h2 x=\"\">a <b>b</b></h2>"),
+        ("<h1 x></h1>", "<h1 x=\"\"></h1>"),
+        (
+            "<blockquote x>*a*<p>b</p></blockquote>",
+            "<blockquote x=\"\">*a*<p>b</p></blockquote>",
+        ),
+        (
+            "<p id=i class=c>a &lt; b &amp; *c*</p>",
+            "<p id=\"i\" class=\"c\">a &lt; b &amp; *c*</p>",
+        ),
+        ("<p x>a\n\nb</p>", "<p x=\"\">a\n&#10;b</p>"),
+        ("<p x></p>", "<p x=\"\"></p>"),
+        ("<p>a<br x=1 y>b<br>c</p>", "a<br x=\"1\" y=\"\">b  \nc"),
+        ("a<hr x>b", "a\n\n<hr x=\"\">\n\nb"),
+        (
+            "<p><em x>a*</em> <strong y>b</strong></p>",
+            "<em x=\"\">a\\*</em> <strong y=\"\">b</strong>",
+        ),
     ];
     expect_pages(rt.alloc(), TranslationMode::Faithful, table)
 }

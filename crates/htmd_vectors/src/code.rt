@@ -31,6 +31,22 @@ fn converts_code(rt: HostRuntime) -> Result<(), Fail> {
         ),
         ("<pre><code>a\n\n</code></pre>", "```\na\n\n```"),
         ("<code>a</code><code>b</code>", "`ab`"),
+        ("<pre>Test</pre>", "Test"),
+        ("<pre>\n<code>x</code></pre>", "```\nx\n```"),
+        (
+            "<pre><code accesskey=\"f\">Test</code></pre>",
+            "```\nTest\n```",
+        ),
+        (
+            "<pre><code class=\"language-x\">a</code></pre>",
+            "```x\na\n```",
+        ),
+        ("<p><code><b>a</b></code></p>", "`**a**`"),
+        ("<p><code class=\"language-x\">a</code></p>", "`a`"),
+        (
+            "<pre class=\"language-x\"><code>a</code></pre>",
+            "```x\na\n```",
+        ),
     ];
     expect_pages(rt.alloc(), TranslationMode::Pure, table)
 }
@@ -67,6 +83,11 @@ fn is_faithful(rt: HostRuntime) -> Result<(), Fail> {
             "<p><code class=\"language-x\">a</code></p>",
             "<code class=\"language-x\">a</code>",
         ),
+        (
+            "<pre class=\"language-x\"><code>a</code></pre>",
+            "<pre class=\"language-x\"><code>a</code></pre>",
+        ),
+        ("<pre><code>a</code>b</pre>", "<pre><code>a</code>b</pre>"),
     ];
     expect_pages(rt.alloc(), TranslationMode::Faithful, table)
 }

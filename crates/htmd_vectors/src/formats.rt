@@ -148,6 +148,10 @@ fn refers_by_numbers(rt: HostRuntime) -> Result<(), Fail> {
             "[C][2]\n\n[1]: /x\n[2]: /x",
         ),
         ("<p><a>t</a></p>", "t"),
+        (
+            "<pre><code><a href=\"/x\">A</a></code></pre>",
+            "```\n[A][1]\n```\n\n[1]: /x",
+        ),
     ];
     expect_pages_with(rt.alloc(), referenced(), table)
 }

@@ -40,6 +40,10 @@ fn keeps_other_lists_as_html(rt: HostRuntime) -> Result<(), Fail> {
     let table: &[(&str, &str)] = &[
         ("<ol><li>a</li></ol>", "1.  a"),
         ("<ol><li foo>b</li></ol>", "<ol><li foo=\"\">b</li></ol>"),
+        (
+            "<ul><li>a</li><li x>b</li></ul>",
+            "<ul><li>a</li><li x=\"\">b</li></ul>",
+        ),
         ("<ul><p>b</p></ul>", "<ul><p>b</p></ul>"),
         ("<ul start=\"2\"><li>b</li></ul>", "*   b"),
         (

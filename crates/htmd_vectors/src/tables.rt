@@ -49,6 +49,22 @@ fn keeps_other_tables_as_html(rt: HostRuntime) -> Result<(), Fail> {
             "<table><tr><td x>A</td></tr></table>",
             "<table><tbody><tr><td x=\"\">A</td></tr></tbody></table>",
         ),
+        (
+            "<table x><tr><th>A</th></tr></table>",
+            "<table x=\"\"><tbody><tr><th>A</th></tr></tbody></table>",
+        ),
+        (
+            "<table><tr><th x>A</th></tr></table>",
+            "<table><tbody><tr><th x=\"\">A</th></tr></tbody></table>",
+        ),
+        (
+            "<table><tr><th><p>A</p></th></tr></table>",
+            "<table><tbody><tr><th><p>A</p></th></tr></tbody></table>",
+        ),
+        (
+            "<table><thead x><tr><th>A</th></tr></thead><tbody x><tr x><td>b</td></tr></tbody></table>",
+            "| A |\n| - |\n| b |",
+        ),
     ];
     expect_pages(rt.alloc(), TranslationMode::Faithful, table)
 }

@@ -191,6 +191,86 @@ fn keeps_parts_of_tables_as_html(rt: HostRuntime) -> Result<(), Fail> {
             ],
             "a",
         ),
+        (
+            &[
+                (0, "table", ""),
+                (1, "tbody", ""),
+                (2, "tr", ""),
+                (3, "", "a"),
+            ],
+            "a",
+        ),
+        (
+            &[
+                (0, "table", ""),
+                (1, "thead", ""),
+                (2, "tr", "x=1\ny=2"),
+                (3, "", "a"),
+            ],
+            "<tr x=\"1\" y=\"2\">a</tr>",
+        ),
+        (
+            &[
+                (0, "table", ""),
+                (1, "tbody", ""),
+                (2, "tr", ""),
+                (3, "tr", ""),
+                (4, "", "a"),
+            ],
+            "<tr>a</tr>",
+        ),
+        (
+            &[
+                (0, "table", ""),
+                (1, "tfoot", ""),
+                (2, "tr", ""),
+                (3, "", "a"),
+            ],
+            "<tfoot><tr>a</tr></tfoot>",
+        ),
+        (
+            &[
+                (0, "table", ""),
+                (1, "tbody", ""),
+                (2, "tr", "x=1"),
+                (3, "td", ""),
+                (4, "", "a"),
+            ],
+            "| a |",
+        ),
+        (
+            &[(0, "div", ""), (1, "tr", ""), (2, "", "a")],
+            "<div><tr>a</tr></div>",
+        ),
+        (
+            &[(0, "p", ""), (1, "tr", ""), (2, "td", ""), (3, "", "a")],
+            "<tr><td>a</td></tr>",
+        ),
+        (
+            &[(0, "u", ""), (1, "tr", ""), (2, "", "a")],
+            "<u>\n\n<tr>a</tr>\n\n</u>",
+        ),
+        (&[(0, "table", ""), (1, "tbody", ""), (2, "", "a")], "a"),
+        (
+            &[(0, "p", ""), (1, "tbody", ""), (2, "", "a")],
+            "<tbody>a</tbody>",
+        ),
+        (&[(0, "table", ""), (1, "thead", ""), (2, "", "a")], "a"),
+        (
+            &[(0, "p", ""), (1, "thead", ""), (2, "", "a")],
+            "<thead>a</thead>",
+        ),
+        (&[(0, "table", ""), (1, "caption", ""), (2, "", "a")], "a"),
+        (
+            &[(0, "p", ""), (1, "caption", ""), (2, "", "a")],
+            "<caption>a</caption>",
+        ),
+        (&[(0, "td", ""), (1, "", "a")], "<td>a</td>"),
+        (&[(0, "th", ""), (1, "", "a")], "<th>a</th>"),
+        (
+            &[(0, "table", ""), (1, "td", ""), (2, "", "a")],
+            "<td>a</td>",
+        ),
     ];
     expect_rows(rt.alloc(), faithful(), table)?;
     for (row, _) in table {
@@ -199,7 +279,8 @@ fn keeps_parts_of_tables_as_html(rt: HostRuntime) -> Result<(), Fail> {
     Ok(())
 }
 
-// `head` and `body` stand in `html` or the Document, `html` in the Document alone. Their attributes don't count.
+// `head` and `body` stand in `html` or the Document, `html` in the Document alone; elsewhere they are written as HTML in
+// Faithful. Their attributes don't count.
 #[test]
 fn keeps_other_parts_of_pages_as_html(rt: HostRuntime) -> Result<(), Fail> {
     let table: &[(Row, &str)] = &[
@@ -224,6 +305,63 @@ fn keeps_other_parts_of_pages_as_html(rt: HostRuntime) -> Result<(), Fail> {
             &[(0, "body", ""), (1, "html", ""), (2, "", "a")],
             "<html>a</html>",
         ),
+        (&[(0, "html", ""), (1, "head", "x=1"), (2, "", "a")], "a"),
+        (&[(0, "html", ""), (1, "body", "x=1"), (2, "", "a")], "a"),
+        (
+            &[
+                (0, "html", ""),
+                (1, "head", ""),
+                (2, "title", ""),
+                (3, "", "t"),
+                (1, "body", ""),
+                (5, "p", ""),
+                (6, "", "a"),
+            ],
+            "<title>t</title>\n\na",
+        ),
+        (
+            &[(0, "div", ""), (1, "head", ""), (2, "", "a")],
+            "<div><head>a</head></div>",
+        ),
+        (
+            &[(0, "p", ""), (1, "head", "x=1"), (2, "", "a")],
+            "<head x=\"1\">a</head>",
+        ),
+        (
+            &[
+                (0, "body", ""),
+                (1, "head", ""),
+                (2, "", "a\n\nb < c & *d*"),
+            ],
+            "<head>a\n&#10;b &lt; c &amp; *d*</head>",
+        ),
+        (
+            &[(0, "body", ""), (1, "body", ""), (2, "", "a")],
+            "<body>a</body>",
+        ),
+        (
+            &[(0, "u", ""), (1, "body", ""), (2, "", "a")],
+            "<u>\n\n<body>a</body>\n\n</u>",
+        ),
+        (
+            &[(0, "p", ""), (1, "html", ""), (2, "", "a")],
+            "<html>a</html>",
+        ),
+        (
+            &[(0, "blockquote", ""), (1, "html", ""), (2, "", "a")],
+            "> <html>a</html>",
+        ),
     ];
-    expect_rows(rt.alloc(), faithful(), table)
+    expect_rows(rt.alloc(), faithful(), table)?;
+    let in_pure: &[(Row, &str)] = &[
+        (&[(0, "body", ""), (1, "head", "x=1"), (2, "", "a")], "a"),
+        (
+            &[(0, "blockquote", ""), (1, "body", "x=1"), (2, "", "a")],
+            "> a",
+        ),
+        (&[(0, "html", ""), (1, "html", "x=1"), (2, "", "a")], "a"),
+        (&[(0, "div", ""), (1, "head", ""), (2, "", "a")], "a"),
+        (&[(0, "u", ""), (1, "body", ""), (2, "", "a")], "a"),
+    ];
+    expect_rows(rt.alloc(), Options::default(), in_pure)
 }
