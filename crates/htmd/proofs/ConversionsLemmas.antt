@@ -80,7 +80,8 @@ page_refused r scripting page part start within found place kind p s f d e =
     )
 
 -- as `convert` gives it
-pub markdown_by_default : {E T : Type 0} (config : Config) (scripting : Bool) (html : List ℕ) (written : T → List ℕ)
+pub markdown_by_default : {E T : Type 0} (config : Config) (scripting : Bool) (html : List ℕ)
+    (written : T → List ℕ)
     (r : Result T E) → config ≡ built_in default_options → scripting ≡ true
     → IfOk r (λ s. IsMarkdownOf config scripting html (written s))
     → IfOk r (λ s. IsMarkdownOf (built_in default_options) true html (written s))

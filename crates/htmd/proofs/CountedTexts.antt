@@ -84,6 +84,7 @@ pub holds-as : (law : Law) (l m n : List ℕ) → m ≡ n → Holds law l m → 
 holds-as law l m n e p = subst (λ (x : List ℕ). Holds law l x) e p
 
 -- characters that are no letters may stand where none are wanted
-pub holds-none : (law : Law) (found : List ℕ) → filter is_letter found ≡ [] → Holds law [] (filter (counts law) found)
+pub holds-none : (law : Law) (found : List ℕ) → filter is_letter found ≡ []
+    → Holds law [] (filter (counts law) found)
 holds-none of_letters found e = e
 holds-none of_visible found e = tt

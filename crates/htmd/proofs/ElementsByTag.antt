@@ -306,8 +306,8 @@ pub record ElementsByTag (law : Law) (options : Options) (Shown : List ℕ → T
   pub table : Shown (codes "table")
   pub pre : Shown (codes "pre")
   pub span : Shown (codes "span")
-  pub content : (tag : List ℕ) (handler : HandlerMeaning) → IsOnly options tag handler → KeepsContent law tag handler
-      → IsPlain tag → is_named hidden_tags tag ≡ false → Shown tag
+  pub content : (tag : List ℕ) (handler : HandlerMeaning) → IsOnly options tag handler
+      → KeepsContent law tag handler → IsPlain tag → is_named hidden_tags tag ≡ false → Shown tag
   pub other : (name : List ℕ) → IsOnly options name other_blocks → IsPlain name → Shown name
   pub unhandled : (name : List ℕ) → indexes name (built_in options).registered ≡ [] → IsPlain name
       → is_named hidden_tags name ≡ false → Shown name
@@ -382,8 +382,8 @@ by_tag {law} {options} {Shown} cases name =
 -- the answer of the only handler
 pub planned_is_said : (law : Law) (at : Occurrence) (definitions : List (List ℕ)) (tag : List ℕ)
     (handler : HandlerMeaning) (plan : PlanView) (l : List ℕ)
-    → handlers_at at.conversion.config.handlers (drop 0 (indexes tag at.conversion.config.registered)) ≡ handler ∷ []
-    → handler.plan at.view ≡ plan
+    → handlers_at at.conversion.config.handlers (drop 0 (indexes tag at.conversion.config.registered))
+    ≡ handler ∷ [] → handler.plan at.view ≡ plan
     → SaysResult law (plan_answer handler at definitions plan (without_handler at definitions)).result l
     → SaysResult law (answer_after 0 tag at definitions).result l
 planned_is_said law at definitions tag handler plan l only planned p =
@@ -396,7 +396,8 @@ planned_is_said law at definitions tag handler plan l only planned p =
 -- of a handler that keeps the content
 pub kept_is_said : (law : Law) (at : Occurrence) (definitions : List (List ℕ)) (tag : List ℕ)
     (handler : HandlerMeaning) (l : List ℕ) → is_markdown_alone at.view.options ≡ true
-    → handlers_at at.conversion.config.handlers (drop 0 (indexes tag at.conversion.config.registered)) ≡ handler ∷ []
+    → handlers_at at.conversion.config.handlers (drop 0 (indexes tag at.conversion.config.registered))
+    ≡ handler ∷ []
     → KeepsContent law tag handler → tag_of at.view ≡ tag → Says law (content_of at definitions).text l
     → SaysResult law (answer_after 0 tag at definitions).result l
 kept_is_said law at definitions tag handler l alone only keeps here p =
@@ -419,9 +420,9 @@ either_is_said law at definitions handler false first second l m p q = q
 pub unhandled_answer : (options : Options) (items : List Item) (write : Writes) (id : ℕ) (inside : List Ancestor)
     (children : NumberedForest) (definitions : List (List ℕ)) (name : List ℕ) → is_markdown_alone options ≡ true
     → indexes name (built_in options).registered ≡ []
-    → answer_after 0 name (occurrence_at write (conversion_of (built_in options) items) id inside children) definitions
-    ≡ answer_of (content_of (occurrence_at write (conversion_of (built_in options) items) id inside children)
-    definitions)
+    → answer_after 0 name (occurrence_at write (conversion_of (built_in options) items) id inside children)
+    definitions ≡ answer_of
+    (content_of (occurrence_at write (conversion_of (built_in options) items) id inside children) definitions)
 unhandled_answer options items write id inside children definitions name alone none =
     let at = occurrence_at write (conversion_of (built_in options) items) id inside children in
     ap (λ (l : List ℕ). first_answer (handlers_at (built_in options).handlers (drop 0 l)) at definitions) none

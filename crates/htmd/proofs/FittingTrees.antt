@@ -25,8 +25,8 @@ both_may name attributes (Some s) None e = absurd (false≢true e)
 both_may name attributes (Some s) (Some right) e = (and_parts _ _ (and_parts _ _ e).0).0
 
 module _ (Fit : ℕ → List ℕ → NumberedForest → Type 0)
-    (stays : (id : ℕ) (name s : List ℕ) (children : NumberedForest) → may_join name ≡ true → Fit id name children
-    → Fit id name (with_only_text s children)) where
+    (stays : (id : ℕ) (name s : List ℕ) (children : NumberedForest) → may_join name ≡ true
+    → Fit id name children → Fit id name (with_only_text s children)) where
   abbrev mutual
     -- texts are text, and this holds of elements
     pub Fits : NumberedTree → Type 0
@@ -61,8 +61,8 @@ module _ (Fit : ℕ → List ℕ → NumberedForest → Type 0)
   with_only_fits s (more (comment i r) trees) t fit = fit
   with_only_fits s (more (element i name attributes c) trees) t fit = fit
 
-  with_text_fits : (s : List ℕ) (tree first : NumberedTree) → is_joinable tree first ≡ true → IsUtf8 s → Fits tree
-      → Fits (with_text s tree)
+  with_text_fits : (s : List ℕ) (tree first : NumberedTree) → is_joinable tree first ≡ true → IsUtf8 s
+      → Fits tree → Fits (with_text s tree)
   with_text_fits s (document i c) first e t fit = fit
   with_text_fits s (doctype i) first e t fit = fit
   with_text_fits s (text i r) first e t fit = fit

@@ -56,8 +56,8 @@ module _ (items : List Item) where
   abbrev HasTag : ℕ → List ℕ → NumberedForest → Type 0
   HasTag id name children = (ancestor_of (data_at items id)).tag ≡ name
 
-  tag_stays : (id : ℕ) (name s : List ℕ) (children : NumberedForest) → may_join name ≡ true → HasTag id name children
-      → HasTag id name (with_only_text s children)
+  tag_stays : (id : ℕ) (name s : List ℕ) (children : NumberedForest) → may_join name ≡ true
+      → HasTag id name children → HasTag id name (with_only_text s children)
   tag_stays id name s children may has = has
 
   abbrev Fits : NumberedTree → Type 0

@@ -44,7 +44,8 @@ pub says-of_nothing : {law : Law} {l : List ℕ} → Says law [] l → l ≡ []
 says-of_nothing {law} {l} p =
     holds-of_nothing law l (holds-as law l (counted law []) [] (ap (filter (counts law)) chars-nil) p.says)
 
-pub counted_append : (law : Law) (s t : List ℕ) → IsUtf8 s → counted law (s ++ t) ≡ counted law s ++ counted law t
+pub counted_append : (law : Law) (s t : List ℕ) → IsUtf8 s
+    → counted law (s ++ t) ≡ counted law s ++ counted law t
 counted_append law s t text =
     ap (filter (counts law)) (chars-append s t text) ∙ filter-append (counts law) (chars s) (chars t)
 
@@ -144,7 +145,8 @@ one_cut {law} b s l e p =
           ∙ cond-false (counts law b) (b ∷ counted law s) (counted law s) (white_silent law b e)) p.says;
     }
 
-pub says-cut_start : {law : Law} (f s l : List ℕ) → list_all is_white f ≡ true → Says law (f ++ s) l → Says law s l
+pub says-cut_start : {law : Law} (f s l : List ℕ) → list_all is_white f ≡ true → Says law (f ++ s) l
+    → Says law s l
 says-cut_start [] s l e p = p
 says-cut_start (b ∷ f) s l e p = let parts = and_parts (is_white b) (list_all is_white f) e in
     says-cut_start f s l parts.1 (one_cut b (f ++ s) l parts.0 p)
@@ -178,5 +180,6 @@ says-cut_end {law} s f l e none p =
     all [] = refl
     all (x ∷ s) = ap (λ l. x ∷ l) (all s)
 
-pub says-cut_white : {law : Law} (s f l : List ℕ) → list_all is_white f ≡ true → Says law (s ++ f) l → Says law s l
+pub says-cut_white : {law : Law} (s f l : List ℕ) → list_all is_white f ≡ true → Says law (s ++ f) l
+    → Says law s l
 says-cut_white {law} s f l e p = says-cut_end s f l (whites_fill f e) (whites_silent law f e) p

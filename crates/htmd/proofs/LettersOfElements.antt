@@ -274,7 +274,8 @@ module _ (options : Options) (alone : is_markdown_alone options ≡ true)
         refl refl (table_gives (has_table_form items id) (has_lines (layout_of items id)) refl refl)
 
     plainly_said : (name : List ℕ) → IsPlain name → is_named hidden_tags name ≡ false
-        → said_of_element name at.view (said_inside says name at.view children) ≡ said_among says (groups_of children)
+        → said_of_element name at.view (said_inside says name at.view children)
+        ≡ said_among says (groups_of children)
     plainly_said name plain shown =
         said_plainly name plain says at.view children
         ∙ cond-false (is_hidden name at.view) _ _ (and_left _ _ shown)

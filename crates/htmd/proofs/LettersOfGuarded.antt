@@ -81,8 +81,8 @@ says-before_content out content {l} p =
     (t : List ℕ). Says of_letters t l)
     (λ _. says-before (codes " ") refl p) (λ _. p))
 
-pub says-guarded_seam : (out content : List ℕ) {l m : List ℕ} → Says of_letters out l → Says of_letters content m
-    → Says of_letters (guarded_at_seam out content) (l ++ m)
+pub says-guarded_seam : (out content : List ℕ) {l m : List ℕ} → Says of_letters out l
+    → Says of_letters content m → Says of_letters (guarded_at_seam out content) (l ++ m)
 says-guarded_seam out content p q =
     says-seam (before_content out content) content false (says-before_content out content p) q
 
@@ -105,7 +105,8 @@ line_ends_edited instead fills (b ∷ s) =
     one = cond_both (is_line_end b) instead (b ∷ []) (IsEdit of_letters b)
         (λ e. filling_edit of_letters b instead (line_end_fills b e) fills) (λ _. same_edit of_letters b)
 
-says-line_ends : (instead : List ℕ) → list_all is_filler instead ≡ true → Keeps of_letters (line_ends_as instead)
+says-line_ends : (instead : List ℕ) → list_all is_filler instead ≡ true
+    → Keeps of_letters (line_ends_as instead)
 says-line_ends instead fills s l p = says-edited s (line_ends_as instead s) (line_ends_edited instead fills s) p
 
 says-between_spaces : {law : Law} (parts : List (List ℕ)) {l : List ℕ} → SayAll law parts l
@@ -187,7 +188,8 @@ says-guarded_description (Some s) text =
 
 pub says-guarded_image : (address : List ℕ) (alt title : Option (List ℕ)) → IsUtf8 address → IsTextIfAny alt
     → IsTextIfAny title
-    → Says of_letters (guarded_image address alt title) (letters_if_any alt ++ letters address ++ letters_if_any title)
+    → Says of_letters (guarded_image address alt title)
+    (letters_if_any alt ++ letters address ++ letters_if_any title)
 says-guarded_image address alt title text described titled =
     says-is (sym (append_assoc (letters_if_any alt) (letters address) (letters_if_any title)))
     (says-append
@@ -221,7 +223,8 @@ unfilled : (s : List ℕ) {l : List ℕ} → is_filled s ≡ false → Says of_l
 unfilled [] e p = sym (says-of_nothing p)
 unfilled (b ∷ s) e p = cc
 
-says-span_or : (before behind : Bool) (s blank : List ℕ) {l : List ℕ} → Says of_letters blank [] → Says of_letters s l
+says-span_or : (before behind : Bool) (s blank : List ℕ) {l : List ℕ} → Says of_letters blank []
+    → Says of_letters s l
     → Says of_letters (cond (is_filled (span_text s)) (spaced_span before behind (code_line s)) blank) l
 says-span_or before behind s blank {l} none p =
     let line = says-line_ends (space ∷ []) refl s l p in

@@ -58,7 +58,8 @@ say-cons {law} {s} {l} {m} {ss} p q = record {
 pub say-is : {law : Law} {ss : List (List ℕ)} {l m : List ℕ} → l ≡ m → SayAll law ss l → SayAll law ss m
 say-is {law} {ss} {l} {m} e p = subst (λ (x : List ℕ). SayAll law ss x) e p
 
-pub say-in : {law : Law} {ss : List (List ℕ)} {l m : List ℕ} → Holds law m l → SayAll law ss l → SayAll law ss m
+pub say-in : {law : Law} {ss : List (List ℕ)} {l m : List ℕ} → Holds law m l → SayAll law ss l
+    → SayAll law ss m
 say-in {law} {ss} {l} {m} h p = record { texts = p.texts; say = holds-then law m l (counted_of_all law ss) h p.say }
 
 pub say-as : {law : Law} {ss rs : List (List ℕ)} {l : List ℕ} → ss ≡ rs → SayAll law ss l → SayAll law rs l
@@ -68,16 +69,16 @@ say-as {law} {ss} {rs} {l} e p = subst (λ (x : List (List ℕ)). SayAll law x l
 abbrev pub Keeps : Law → (List ℕ → List ℕ) → Type 0
 Keeps law f = (s l : List ℕ) → Says law s l → Says law (f s) l
 
-pub say-mapped : {law : Law} (f : List ℕ → List ℕ) → Keeps law f → (ss : List (List ℕ)) {l : List ℕ} → SayAll law ss l
-    → SayAll law (map f ss) l
+pub say-mapped : {law : Law} (f : List ℕ → List ℕ) → Keeps law f → (ss : List (List ℕ)) {l : List ℕ}
+    → SayAll law ss l → SayAll law (map f ss) l
 say-mapped f keeps [] p = p
 say-mapped {law} f keeps (s ∷ ss) p =
     say-in p.say
     (say-cons (keeps s (counted law s) (says-own s p.texts.0))
     (say-mapped f keeps ss (say-own _ p.texts.1)))
 
-pub says-flat : {law : Law} (f : List ℕ → List ℕ) → Keeps law f → (ss : List (List ℕ)) {l : List ℕ} → SayAll law ss l
-    → Says law (flat_map f ss) l
+pub says-flat : {law : Law} (f : List ℕ → List ℕ) → Keeps law f → (ss : List (List ℕ)) {l : List ℕ}
+    → SayAll law ss l → Says law (flat_map f ss) l
 says-flat f keeps [] p = says-in p.say says-nil
 says-flat {law} f keeps (s ∷ ss) p =
     says-in p.say
@@ -129,8 +130,8 @@ longer_part {law} c first more cs scalar p =
     say-in
     (subst (λ (x : List ℕ). Holds law x (wanted ++ counted_of_all law (first ∷ more)))
     (sym (filter-append (counts law) (c ∷ []) cs))
-    (holds-append law wanted (filter (counts law) cs) wanted (counted_of_all law (first ∷ more)) (holds-own law wanted)
-    p.say))
+    (holds-append law wanted (filter (counts law) cs) wanted (counted_of_all law (first ∷ more))
+    (holds-own law wanted) p.say))
     (say-is (append_assoc wanted (counted law first) (counted_of_all law more))
     (say-cons (says-append (says-character c scalar) (says-own first p.texts.0)) (say-own more p.texts.1)))
 
@@ -193,8 +194,8 @@ last_reads q s e =
     subst (λ (x : ℕ). q x ≡ true) same e)
 
 -- without the last character, where that is white space
-pub says-cut_last : {law : Law} (s : List ℕ) {l : List ℕ} → is_white (get_or s (length s - 1) 0) ≡ true → Says law s l
-    → Says law (take (length s - 1) s) l
+pub says-cut_last : {law : Law} (s : List ℕ) {l : List ℕ} → is_white (get_or s (length s - 1) 0) ≡ true
+    → Says law s l → Says law (take (length s - 1) s) l
 says-cut_last s {l} e p =
     says-cut_white (take (length s - 1) s) (drop (length s - 1) s) l (last_reads is_white s e)
     (says-as (sym (take-append-drop (length s - 1) s)) p)

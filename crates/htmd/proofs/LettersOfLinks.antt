@@ -134,7 +134,8 @@ says-address : {law : Law} (s : List ℕ) {l : List ℕ} → Says law s l → Sa
 says-address s p =
     says-marked (λ k. is_one_of parentheses (slice_index s k)) s (λ i l e. parentheses_low (slice_index s i) e) p
 
-pub say-filled : {law : Law} (ss : List (List ℕ)) {l : List ℕ} → SayAll law ss l → SayAll law (filter is_filled ss) l
+pub say-filled : {law : Law} (ss : List (List ℕ)) {l : List ℕ} → SayAll law ss l
+    → SayAll law (filter is_filled ss) l
 say-filled [] p = p
 say-filled {law} ([] ∷ ss) {l} p =
     let none : counted law [] ++ counted_of_all law ss ≡ counted_of_all law ss =
@@ -163,11 +164,13 @@ pub says-own_if_any : (s : Option (List ℕ)) → IsTextIfAny s → SaysIfAny of
 says-own_if_any None text = refl
 says-own_if_any (Some s) text = says-own s text
 
-says-description : (alt : Option (List ℕ)) → IsTextIfAny alt → Says of_letters (description alt) (letters_if_any alt)
+says-description : (alt : Option (List ℕ)) → IsTextIfAny alt
+    → Says of_letters (description alt) (letters_if_any alt)
 says-description None text = says-nil
 says-description (Some s) text = says-tidied s (says-own s text)
 
-says-title : (title : Option (List ℕ)) → IsTextIfAny title → Says of_letters (title_text title) (letters_if_any title)
+says-title : (title : Option (List ℕ)) → IsTextIfAny title
+    → Says of_letters (title_text title) (letters_if_any title)
 says-title None text = says-nil
 says-title (Some s) text =
     says-behind (codes " \"") refl (says-before (codes "\"") refl (says-tidied s (says-own s text)))
@@ -212,8 +215,8 @@ says-link s address title p q =
     (says-trimmed is_document_white_space document_of_white s p))
     q)
 
-pub says-reference : {law : Law} (style : LinkReferenceStyle) (number : ℕ) (s : List ℕ) {l : List ℕ} → Says law s l
-    → Says law (reference style number s) l
+pub says-reference : {law : Law} (style : LinkReferenceStyle) (number : ℕ) (s : List ℕ) {l : List ℕ}
+    → Says law s l → Says law (reference style number s) l
 says-reference Full number s {l} p =
     says-is (append-nil l)
     (says-append (says-in_brackets s p) (says-in_brackets (decimal number) (says-decimal number)))

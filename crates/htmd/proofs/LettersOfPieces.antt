@@ -46,7 +46,8 @@ SaysIfAny law (Some s) l = Says law s l
 
 -- ---- seams
 
-space_first : {law : Law} (s : List ℕ) {l : List ℕ} → begins_with_space s ≡ true → Says law s l → Says law (drop 1 s) l
+space_first : {law : Law} (s : List ℕ) {l : List ℕ} → begins_with_space s ≡ true → Says law s l
+    → Says law (drop 1 s) l
 space_first [] e p = p
 space_first (b ∷ s) {l} e p =
     ⊎_elim
@@ -68,8 +69,8 @@ says-first_space {law} goes s {l} p =
     cond_both (goes && begins_with_space s) (drop 1 s) s (λ t. Says law t l)
     (λ e. space_first s (and_parts goes (begins_with_space s) e).1 p) (λ _. p)
 
-pub says-seam : {law : Law} (out content : List ℕ) (whole : Bool) {l m : List ℕ} → Says law out l → Says law content m
-    → Says law (joined_at_seam out content whole) (l ++ m)
+pub says-seam : {law : Law} (out content : List ℕ) (whole : Bool) {l m : List ℕ} → Says law out l
+    → Says law content m → Says law (joined_at_seam out content whole) (l ++ m)
 says-seam {law} out content whole {l} {m} p q =
     let a = suffix_len is_line_feed out in
     let b = prefix_len is_line_feed content in
@@ -287,7 +288,8 @@ says-code_of {law} s {l} p =
     (subst (λ (x : ℕ). is_white x ≡ true) (sym (eqb-true (slice_index s (length s - 1)) line_feed e)) refl) p)
     (λ _. p)
 
-pub says-indented_code : {law : Law} (s : List ℕ) {l : List ℕ} → Says law s l → Says law (indented_code_block s) l
+pub says-indented_code : {law : Law} (s : List ℕ) {l : List ℕ} → Says law s l
+    → Says law (indented_code_block s) l
 says-indented_code s p =
     says-joined (line_feed ∷ []) refl _
     (say-mapped indented_line (λ t m q. says-append (says-many 4 space refl) q) _ (say-lines (code_of s)

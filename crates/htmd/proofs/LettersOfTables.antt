@@ -38,7 +38,8 @@ use Rattle.htmd.proofs.LettersOfLines.{says-flat}
 bar_fills : (b : ℕ) → (b == vertical_bar) ≡ true → is_filler b ≡ true
 bar_fills b e = grind (arith, nat_tests)
 
-bar_edit : (b : ℕ) (x : List ℕ) → (b == vertical_bar) ≡ true → list_all is_filler x ≡ true → IsEdit of_letters b x
+bar_edit : (b : ℕ) (x : List ℕ) → (b == vertical_bar) ≡ true → list_all is_filler x ≡ true
+    → IsEdit of_letters b x
 bar_edit b x e f =
     inr (
       filler_ascii b (bar_fills b e),
@@ -230,7 +231,8 @@ says-rows written keeps (cells ∷ rows) widths fit p =
 
 says-head : (written : List ℕ → List ℕ) → Keeps of_letters written
     → (headers : List (List ℕ)) (widths : List ℕ) {l : List ℕ}
-    → length headers ≤ length widths → SayAll of_letters headers l → Says of_letters (head_by written headers widths) l
+    → length headers ≤ length widths → SayAll of_letters headers l
+    → Says of_letters (head_by written headers widths) l
 says-head written keeps [] widths fit p = says-is p.say says-nil
 says-head written keeps (header ∷ headers) widths {l} fit p =
     says-is (append-nil l)
@@ -276,7 +278,8 @@ module _ (f : ℕ → List ℕ) where
       let more = each_split xs ys rs p.1 in
       ((p.0, more.0), more.1)
 
-  cells_say : (ds : List ℕ) (rs : List ResultView) → SayEach ds rs → SayAll of_letters (map text_of_cell rs) (all_of ds)
+  cells_say : (ds : List ℕ) (rs : List ResultView) → SayEach ds rs
+      → SayAll of_letters (map text_of_cell rs) (all_of ds)
   cells_say [] [] p = say-none
   cells_say [] (r ∷ rs) p = absurd p
   cells_say (d ∷ ds) [] p = absurd p

@@ -46,8 +46,8 @@ space_of_white b e = grind (arith, nat_tests)
 pub return_of_white : OfWhite (λ b. b == carriage_return)
 return_of_white b e = grind (arith, nat_tests)
 
-pub says-trimmed_start : {law : Law} (passes : ℕ → Bool) → OfWhite passes → (s : List ℕ) {l : List ℕ} → Says law s l
-    → Says law (trimmed_start passes s) l
+pub says-trimmed_start : {law : Law} (passes : ℕ → Bool) → OfWhite passes → (s : List ℕ) {l : List ℕ}
+    → Says law s l → Says law (trimmed_start passes s) l
 says-trimmed_start passes fills [] p = p
 says-trimmed_start {law} passes fills (b ∷ s) {l} p =
     cond_both (passes b) (1 + prefix_len passes s) 0 (λ n. Says law (drop n (b ∷ s)) l)
@@ -79,14 +79,14 @@ end_white passes fills s =
     ∙ ap (λ i. get_or s i 0) (omega (arith, size, within)) ∙ sym (get_or-drop n s k 0) in
     subst (λ (x : ℕ). is_white x ≡ true) same (fills (get_or (reverse s) back 0) passed))
 
-pub says-trimmed_end : {law : Law} (passes : ℕ → Bool) → OfWhite passes → (s : List ℕ) {l : List ℕ} → Says law s l
-    → Says law (trimmed_end passes s) l
+pub says-trimmed_end : {law : Law} (passes : ℕ → Bool) → OfWhite passes → (s : List ℕ) {l : List ℕ}
+    → Says law s l → Says law (trimmed_end passes s) l
 says-trimmed_end passes fills s {l} p =
     says-cut_white (trimmed_end passes s) (cut_end passes s) l (end_white passes fills s)
     (says-as (sym (take-append-drop (length s - suffix_len passes s) s)) p)
 
-pub says-trimmed : {law : Law} (passes : ℕ → Bool) → OfWhite passes → (s : List ℕ) {l : List ℕ} → Says law s l
-    → Says law (trimmed_text passes s) l
+pub says-trimmed : {law : Law} (passes : ℕ → Bool) → OfWhite passes → (s : List ℕ) {l : List ℕ}
+    → Says law s l → Says law (trimmed_text passes s) l
 says-trimmed passes fills s p =
     says-trimmed_end passes fills (trimmed_start passes s) (says-trimmed_start passes fills s p)
 
@@ -105,8 +105,8 @@ Edited law [] t = t ≡ []
 Edited law (b ∷ s) t = (x rest : List ℕ) × IsEdit law b x × (t ≡ x ++ rest) × Edited law s rest
 
 -- a longer character stays
-kept : (law : Law) (x r t : List ℕ) → ((k : ℕ) → k < length x → 128 ≤ get_or x k 0) → Edited law (x ++ r) t
-    → (rest : List ℕ) × (t ≡ x ++ rest) × Edited law r rest
+kept : (law : Law) (x r t : List ℕ) → ((k : ℕ) → k < length x → 128 ≤ get_or x k 0)
+    → Edited law (x ++ r) t → (rest : List ℕ) × (t ≡ x ++ rest) × Edited law r rest
 kept law [] r t high e = (t, refl, e)
 kept law (b ∷ x) r t high (y, rest, edit, whole, more) =
     let deeper = kept law x r rest (λ k l. high (suc k) (omega arith)) more in
@@ -183,7 +183,8 @@ filling_edit law b x e f =
       white_ascii b e,
       fillers_ascii x f,
       subst (λ (l : List ℕ). Holds law l (filter (counts law) x))
-          (sym (cond-false (counts law b) (b ∷ []) [] (white_silent law b e))) (holds-none law x (fillers_silent x f)),
+          (sym (cond-false (counts law b) (b ∷ []) [] (white_silent law b e)))
+          (holds-none law x (fillers_silent x f)),
     )
 
 ascii_of_white : OfWhite is_ascii_white_space
@@ -216,7 +217,11 @@ backslash_holds of_visible b =
 
 pub backslash_edit : (law : Law) (b : ℕ) → b < 128 → IsEdit law b (backslash ∷ b ∷ [])
 backslash_edit law b low =
-    inr (low, IsAscii-cons backslash (b ∷ []) (omega arith) (IsAscii-cons b [] low IsAscii-nil), backslash_holds law b)
+    inr (
+      low,
+      IsAscii-cons backslash (b ∷ []) (omega arith) (IsAscii-cons b [] low IsAscii-nil),
+      backslash_holds law b,
+    )
 
 marked_edits : (law : Law) (marked : ℕ → Bool) (k : ℕ) (s : List ℕ)
     → ((i : ℕ) → i < length s → marked (k + i) ≡ true → get_or s i 0 < 128)
@@ -224,7 +229,8 @@ marked_edits : (law : Law) (marked : ℕ → Bool) (k : ℕ) (s : List ℕ)
 marked_edits law marked k [] low = refl
 marked_edits law marked k (b ∷ s) low =
     let rest = with_backslashes marked (suc k) s in
-    let more = marked_edits law marked (suc k) s (λ i l e. low (suc i) (omega arith) (ap marked (omega arith) ∙ e)) in
+    let more = marked_edits law marked (suc k) s
+    (λ i l e. low (suc i) (omega arith) (ap marked (omega arith) ∙ e)) in
     cond_both (marked k) _ _ (Edited law (b ∷ s))
     (λ e. (
       backslash ∷ b ∷ [],

@@ -50,8 +50,8 @@ module _ (law : Law) (write : Writes) (Fits : NumberedTree → Type 0) (says : N
       says-is (append_assoc l (says tree) (said_among says trees))
       (children_are_said inside trees (trim_after block before after trim) after (l ++ says tree) fit.1 first)
 
-pub text_is_said : (law : Law) (guarded : Bool) (s : List ℕ) (context : Context) (out : Output) (l : List ℕ) → IsUtf8 s
-    → Says law out.text l → Says law (write_text guarded s context out).text (l ++ counted law s)
+pub text_is_said : (law : Law) (guarded : Bool) (s : List ℕ) (context : Context) (out : Output) (l : List ℕ)
+    → IsUtf8 s → Says law out.text l → Says law (write_text guarded s context out).text (l ++ counted law s)
 text_is_said law guarded s context out l t p =
     let own = says-own {law = law} s t in
     let squeezed = says-first_space (context.trim || ends_with_space out.text) (squeezed_text s) (says-squeezed s

@@ -25,7 +25,8 @@ unfolding tree_of forest_from chars
 lists_show_items = refl
 
 -- neighbours that join show both texts
-neighbours_show_both : PageShows (leaf (codes "b") (codes "1*") ∷ leaf (codes "strong") (codes "2") ∷ []) (codes "1*2")
+neighbours_show_both : PageShows (leaf (codes "b") (codes "1*") ∷ leaf (codes "strong") (codes "2") ∷ [])
+    (codes "1*2")
 unfolding tree_of forest_from chars
 neighbours_show_both = refl
 
@@ -35,8 +36,8 @@ white_space_shows_nothing = refl
 
 -- a break and an image show nothing, and what stands behind them stays
 breaks_show_nothing :
-    PageShows (say (codes "1") ∷ tag (codes "br") [] ∷ say (codes "2") ∷ tag (codes "hr") [] ∷ say (codes "3") ∷
-    tag_with (codes "img") (pair (codes "alt") (codes "x") ∷ []) [] ∷ say (codes "4") ∷ [])
+    PageShows (say (codes "1") ∷ tag (codes "br") [] ∷ say (codes "2") ∷ tag (codes "hr") [] ∷
+    say (codes "3") ∷ tag_with (codes "img") (pair (codes "alt") (codes "x") ∷ []) [] ∷ say (codes "4") ∷ [])
     (codes "1234")
 unfolding tree_of forest_from chars
 breaks_show_nothing = refl
@@ -61,7 +62,8 @@ script_shows_text = refl
 
 -- a table is left out, wherever it stands
 table_is_left_out :
-    has_no_table (tree_of (document_items (forest (tag (codes "p") (tag (codes "table") [] ∷ []) ∷ []))) 0) ≡ false
+    has_no_table (tree_of (document_items (forest (tag (codes "p") (tag (codes "table") [] ∷ []) ∷ []))) 0)
+    ≡ false
 unfolding tree_of forest_from
 table_is_left_out = refl
 
@@ -73,7 +75,8 @@ escaped_text_holds_it = inl (refl, inr (inl (refl, tt)))
 -- order counts
 swapped_text_does_not : IsPart (codes "12") (codes "21") → ⊥
 swapped_text_does_not p =
-    ⊎_elim (λ (here : (0x31 ≡ 0x32) × IsPart (codes "2") (codes "1")). let e = here.0 in absurd (omega (arith, e)))
+    ⊎_elim (λ (here : (0x31 ≡ 0x32) × IsPart (codes "2") (codes "1")). let e = here.0 in
+    absurd (omega (arith, e)))
     (λ later. ⊎_elim (λ (here : (0x31 ≡ 0x31) × IsPart (codes "2") []). here.1) (λ none. none) later) p
 
 -- and each character as often as it stands there

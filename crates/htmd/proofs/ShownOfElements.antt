@@ -197,7 +197,8 @@ module _ (options : Options) (alone : is_markdown_alone options ≡ true) (plain
     not_empty : (name : List ℕ) → IsPlain name → is_empty_element name ≡ false
     not_empty name is = or_from _ _ (or_from _ _ is.br is.hr) is.img
 
-    as_shown : (name : List ℕ) (r : Option ResultView) → IsPlain name → SaysResult of_visible r (shown_among children)
+    as_shown : (name : List ℕ) (r : Option ResultView) → IsPlain name
+        → SaysResult of_visible r (shown_among children)
         → SaysResult of_visible r (cond (is_empty_element name) [] (shown_among children))
     as_shown name r is p =
         subst (λ (l : List ℕ). SaysResult of_visible r l)

@@ -33,7 +33,8 @@ same_among (more tree trees) = ap (λ z. shown tree ++ z) (same_among trees)
 -- ---- one text alone
 
 -- what shows one text alone shows that text
-pub only_shows : (trees : NumberedForest) (s : List ℕ) → only_text trees ≡ Some s → shown_among trees ≡ visible s
+pub only_shows : (trees : NumberedForest) (s : List ℕ) → only_text trees ≡ Some s
+    → shown_among trees ≡ visible s
 only_shows none s e = cc
 only_shows (more (document i c) trees) s e = cc
 only_shows (more (doctype i) trees) s e = cc
@@ -79,7 +80,8 @@ not_alone (element i name attributes c) next trees = refl
 
 -- ---- groups
 
-named_full : (m tag : List ℕ) → bytes_eq m tag ≡ true → is_empty_element tag ≡ false → is_empty_element m ≡ false
+named_full : (m tag : List ℕ) → bytes_eq m tag ≡ true → is_empty_element tag ≡ false
+    → is_empty_element m ≡ false
 named_full m tag e full = ap is_empty_element ((bytes_eq-Decides m tag).0 e) ∙ full
 
 em_full : (m : List ℕ) → is_em m ≡ true → is_empty_element m ≡ false
@@ -225,7 +227,8 @@ module _ (items : List Item) where
         (λ k m f. let lower : IsLower items id (get_or (children_of items id) k 0) = lower_child items id k t l m in
         fits_within n (get_or (children_of items id) k 0) lower.1 (omega (arith, lower.2, low)) f)))
 
-    pub tree_fits : (id : ℕ) → id < length items → has_no_table (tree_of items id) ≡ true → Fits (tree_of items id)
+    pub tree_fits : (id : ℕ) → id < length items → has_no_table (tree_of items id) ≡ true
+        → Fits (tree_of items id)
     tree_fits id l e = fits_within (height (tree_of items id)) id l (omega arith) e
 
 -- ---- the children of an ordered list

@@ -38,7 +38,8 @@ IsMarkdownOf config scripting html text =
 -- the same, and the document is a tree whose texts are UTF-8
 abbrev pub IsMarkdownOfTexts : Config → Bool → List ℕ → List ℕ → Type 0
 IsMarkdownOfTexts config scripting html text =
-    (tree : List Item) × IsTreeOf scripting html tree × IsTree tree × HoldTexts tree × (text ≡ markdown config tree 0)
+    (tree : List Item) × IsTreeOf scripting html tree × IsTree tree × HoldTexts tree
+    × (text ≡ markdown config tree 0)
 
 -- why a text was not read is why it was not converted
 abbrev pub conversion_error : ReadError → ConvertError

@@ -52,8 +52,8 @@ InNode conversion id P = (n : ℕ) → height (tree_of conversion.items id) ≤ 
     → P (written_within n conversion)
 
 -- where a call ends well, what it gives is this of the element
-abbrev pub ElementGives : {A B E : Type 0} → Config → List Item → Element → (Occurrence → B) → (A → B) → Result A E
-    → Type 0
+abbrev pub ElementGives : {A B E : Type 0} → Config → List Item → Element → (Occurrence → B) → (A → B)
+    → Result A E → Type 0
 ElementGives config items e wanted seen result =
     IfOk result (λ r. AtElement (conversion_of config items) e (λ at. seen r ≡ wanted at))
 
@@ -64,7 +64,8 @@ ElementBegins config items e wanted old new result =
     OnErr result (AtElement (conversion_of config items) e (λ at. Begins old new (wanted at)))
 
 -- the same, of a node
-abbrev pub NodeGives : {A B E : Type 0} → Config → List Item → ℕ → (Writes → B) → (A → B) → Result A E → Type 0
+abbrev pub NodeGives : {A B E : Type 0} → Config → List Item → ℕ → (Writes → B) → (A → B) → Result A E
+    → Type 0
 NodeGives config items id wanted seen result =
     IfOk result (λ r. AtNode (conversion_of config items) id (λ write. seen r ≡ wanted write))
 

@@ -408,11 +408,12 @@ impl<'a, R: Registry> Walk<'a, R> {
         requires line { inside_line ≡ known_in_line_inside (R.config self.now.registry.now).options
             self.now.tree.now node }
         ensures ok { OnOk result
-            (InNode (conversion_of (R.config self.now.registry.now) self.now.tree.now) node (λ write. output_view out.new links.new
-            ≡ write_groups write (inside_of self.now.tree.now node) (children_at self.now.tree.now node)
-            (output_view out.old links.old))) }
+            (InNode (conversion_of (R.config self.now.registry.now) self.now.tree.now) node
+            (λ write. output_view out.new links.new ≡ write_groups write (inside_of self.now.tree.now node)
+            (children_at self.now.tree.now node) (output_view out.old links.old))) }
         ensures err { OnErr result
-            (InNode (conversion_of (R.config self.now.registry.now) self.now.tree.now) node (λ write. Begins links.old links.new
+            (InNode (conversion_of (R.config self.now.registry.now) self.now.tree.now) node
+            (λ write. Begins links.old links.new
             (write_groups write (inside_of self.now.tree.now node) (children_at self.now.tree.now node)
             (output_view out.old links.old)).definitions)) }
     {
@@ -461,11 +462,12 @@ impl<'a, R: Registry> Walk<'a, R> {
         requires behind { element.now.node < below }
         requires within { below < length self.now.tree.now }
         ensures ok { NodeGives (R.config self.now.registry.now) self.now.tree.now below
-            (content_below (R.config self.now.registry.now) self.now.tree.now (option_copied element.now.text) below links.old)
+            (content_below (R.config self.now.registry.now) self.now.tree.now
+            (option_copied element.now.text) below links.old)
             (λ r. output_view r links.new) result }
         ensures err { NodeBegins (R.config self.now.registry.now) self.now.tree.now below
-            (λ write. (content_below (R.config self.now.registry.now) self.now.tree.now (option_copied element.now.text) below
-            links.old write).definitions) links.old links.new result }
+            (λ write. (content_below (R.config self.now.registry.now) self.now.tree.now
+            (option_copied element.now.text) below links.old write).definitions) links.old links.new result }
     {
         let Some(text) = element.text else {
             let is_in_line = self.is_line_below(element.node, inside_line, below)?;
@@ -508,13 +510,14 @@ impl<'a, R: Registry> Walk<'a, R> {
         requires within { below < length self.now.tree.now }
         requires remembered { AreRemembered (R.config self.now.registry.now) self.now.tree.now remembered.old.items }
         ensures ok { NodeGives (R.config self.now.registry.now) self.now.tree.now below
-            (content_below (R.config self.now.registry.now) self.now.tree.now (option_copied element.now.text) below links.old)
+            (content_below (R.config self.now.registry.now) self.now.tree.now
+            (option_copied element.now.text) below links.old)
             (λ r. output_view r links.new) result }
         ensures remembered { OnOk result
             (AreRemembered (R.config self.now.registry.now) self.now.tree.now remembered.new.items) }
         ensures err { NodeBegins (R.config self.now.registry.now) self.now.tree.now below
-            (λ write. (content_below (R.config self.now.registry.now) self.now.tree.now (option_copied element.now.text) below
-            links.old write).definitions) links.old links.new result }
+            (λ write. (content_below (R.config self.now.registry.now) self.now.tree.now
+            (option_copied element.now.text) below links.old write).definitions) links.old links.new result }
     {
         if !may_keep || element.text.is_some() {
             return self.walk_descendant(element, inside_line, below, links);

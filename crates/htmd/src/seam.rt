@@ -3,7 +3,8 @@
 ghost use Rattle.std.specs.Prelude.{◌≡◌, ◌++◌, ◌&&◌, ◌==◌, OnOk, string_bytes};
 ghost use Rattle.std.specs.List.{prefix_len, suffix_len};
 ghost use Rattle.htmd_text.specs.Trims.{is_line_feed};
-ghost use Rattle.htmd.specs.Seams.{begins_with_space, ends_with_space, joined_texts, joined_at_seam, before_content, written_at_seam};
+ghost use Rattle.htmd.specs.Seams.{begins_with_space, ends_with_space, joined_texts, joined_at_seam, before_content};
+ghost use Rattle.htmd.specs.Seams.{written_at_seam};
 
 use htmd_text::runs::{leading_len, trailing_len};
 use std::alloc::AllocError;

@@ -17,8 +17,8 @@ use Rattle.htmd_cli.proofs.LinesLemmas.{lacks-append, lines-open, rows-line, row
 
 -- ---- answers
 
-AreAnswers-append : (way : Way) (xs ys : List (List ℕ)) (u v : List ℕ) → AreAnswers way xs u → AreAnswers way ys v
-    → AreAnswers way (xs ++ ys) (u ++ v)
+AreAnswers-append : (way : Way) (xs ys : List (List ℕ)) (u v : List ℕ) → AreAnswers way xs u
+    → AreAnswers way ys v → AreAnswers way (xs ++ ys) (u ++ v)
 AreAnswers-append way [] ys u v p q = subst (AreAnswers way ys) (ap (λ t. t ++ v) (sym p)) q
 AreAnswers-append way (row ∷ more) ys u v p q = (
   p.0,
@@ -67,7 +67,8 @@ Answers-then way all middle rest a b c n m k p q = record {
   appended = q.appended ∙ (ap (λ t. t ++ q.written) p.appended ∙ append_assoc a p.written q.written);
   number = counted-then n m k (length p.done) (length q.done) (length (p.done ++ q.done)) p.number q.number
       (length-append p.done q.done);
-  ahead = λ tail. p.ahead tail ∙ (ap (λ t. p.done ++ t) (q.ahead tail) ∙ sym (append_assoc p.done q.done (rest tail)));
+  ahead = λ tail. p.ahead tail
+      ∙ (ap (λ t. p.done ++ t) (q.ahead tail) ∙ sym (append_assoc p.done q.done (rest tail)));
 }
 
 -- the same rows, otherwise said
@@ -84,7 +85,8 @@ Answers-like way all all2 rest rest2 a b c n m k p e f g h = record {
 }
 
 -- whichever way a call ended, it left some rows
-pub some_rest : {T E : Type 0} (way : Way) (all : List ℕ → List (List ℕ)) (rest : T → List ℕ → List (List ℕ))
+pub some_rest : {T E : Type 0} (way : Way) (all : List ℕ → List (List ℕ))
+    (rest : T → List ℕ → List (List ℕ))
     (a b : List ℕ) (n m : ℕ) (r : Result T E) → IfOk r (λ x. Answers way all (rest x) a b n m)
     → OnErr r ((left : List ℕ → List (List ℕ)) × Answers way all left a b n m)
     → (left : List ℕ → List (List ℕ)) × Answers way all left a b n m
@@ -92,8 +94,8 @@ some_rest way all rest a b n m (Ok x) p q = (rest x, p)
 some_rest way all rest a b n m (Err e) p q = q
 
 -- where a call ends early, what is left is left
-pub stopped : {T E : Type 0} (way : Way) (all rest : List ℕ → List (List ℕ)) (a b : List ℕ) (n m : ℕ) (r : Result T E)
-    → Answers way all rest a b n m
+pub stopped : {T E : Type 0} (way : Way) (all rest : List ℕ → List (List ℕ)) (a b : List ℕ) (n m : ℕ)
+    (r : Result T E) → Answers way all rest a b n m
     → OnErr r ((left : List ℕ → List (List ℕ)) × Answers way all left a b n m)
 stopped way all rest a b n m (Ok x) p = tt
 stopped way all rest a b n m (Err e) p = (rest, p)
@@ -103,7 +105,8 @@ stopped way all rest a b n m (Err e) p = (rest, p)
 shift : (begun front behind tail : List ℕ) (b : ℕ)
     → begun ++ ((front ++ b ∷ behind) ++ tail) ≡ (begun ++ front) ++ b ∷ (behind ++ tail)
 shift begun front behind tail b =
-    ap (λ t. begun ++ t) (append_assoc front (b ∷ behind) tail) ∙ sym (append_assoc begun front (b ∷ (behind ++ tail)))
+    ap (λ t. begun ++ t) (append_assoc front (b ∷ behind) tail)
+    ∙ sym (append_assoc begun front (b ∷ (behind ++ tail)))
 
 -- a row that ends, and the row that begins
 pub row_ends : (begun front behind rest row next tail : List ℕ) → lacks line_feed begun ≡ true
@@ -132,8 +135,8 @@ pub lacks_on : (begun rest next : List ℕ) → next ≡ begun ++ rest → lacks
 lacks_on begun rest next e o r = ap (lacks line_feed) e ∙ lacks-append line_feed begun rest o r
 
 -- the last row, where no line feed ends it
-pub last_row : (begun : List ℕ) → 0 < length begun → lacks line_feed begun ≡ true → bytes_eq begun end_mark ≡ false
-    → rows begun ≡ begun ∷ []
+pub last_row : (begun : List ℕ) → 0 < length begun → lacks line_feed begun ≡ true
+    → bytes_eq begun end_mark ≡ false → rows begun ≡ begun ∷ []
 last_row [] some o e = absurd (omega arith)
 last_row (b ∷ s) some o e = ap before_end (lines-open b s o) ∙ rw e refl
 
@@ -157,8 +160,8 @@ pub record Progress (way : Way) (before now : Option (List ℕ)) (empty full : O
   pub answers : Answers way (λ tail. rows (consumed ++ tail)) (rows_from begun) [] written 0 answered
 
 -- the answers of a read behind those before it, while nothing waits
-joined : (way : Way) (consumed written begun chunk waits after : List ℕ) (rest : List ℕ → List (List ℕ)) (n m : ℕ)
-    → Answers way (λ tail. rows (consumed ++ tail)) (rows_from begun) [] written 0 n → waits ≡ []
+joined : (way : Way) (consumed written begun chunk waits after : List ℕ) (rest : List ℕ → List (List ℕ))
+    (n m : ℕ) → Answers way (λ tail. rows (consumed ++ tail)) (rows_from begun) [] written 0 n → waits ≡ []
     → Answers way (λ tail. rows_from begun (followed chunk tail)) rest waits after n m
     → Answers way (λ tail. rows (consumed ++ followed chunk tail)) rest [] (written ++ after) 0 m
 joined way consumed written begun chunk waits after rest n m p w q = record {
@@ -178,8 +181,10 @@ joined way consumed written begun chunk waits after rest n m p w q = record {
     given = q.appended ∙ ap (λ t. t ++ q.written) w
 
 -- a read of some bytes, whose answers were written
-pub Progress-step : (way : Way) (before was now empty held full : Option (List ℕ)) (begun chunk waits after : List ℕ)
-    (n m : ℕ) (next : List ℕ) → Progress way before was empty held begun n → Consumes was now chunk → waits ≡ []
+pub Progress-step : (way : Way) (before was now empty held full : Option (List ℕ))
+    (begun chunk waits after : List ℕ)
+    (n m : ℕ) (next : List ℕ) → Progress way before was empty held begun n → Consumes was now chunk
+    → waits ≡ []
     → Answers way (λ tail. rows_from begun (followed chunk tail)) (rows_left true next) waits after n m
     → 0 < length chunk → Appends held full after → Progress way before now empty full next m
 Progress-step way before was now empty held full begun chunk waits after n m next p c w q some a = record {
@@ -204,7 +209,8 @@ follows (b ∷ s) ys f = refl
 from_none : (m count : ℕ) → counted m ≡ counted (0 + count) → counted m ≡ counted count
 from_none m count e = omega arith
 
-next_row : (m count row : ℕ) → row ≡ counted (m + 1) → counted m ≡ counted count → row ≡ counted (count + 1)
+next_row : (m count row : ℕ) → row ≡ counted (m + 1) → counted m ≡ counted count
+    → row ≡ counted (count + 1)
 next_row m count row r e = omega arith
 
 -- the first rows of the input, as far as they were answered
@@ -226,7 +232,8 @@ first_rows way xs consumed chunk ys written rest m e f q = (
 
 -- all rows were answered
 pub batch_ends : (way : Way) (before was now empty held full : Option (List ℕ)) (begun chunk waits after : List ℕ)
-    (n m : ℕ) (next : List ℕ) → Progress way before was empty held begun n → Consumes was now chunk → waits ≡ []
+    (n m : ℕ) (next : List ℕ) → Progress way before was empty held begun n → Consumes was now chunk
+    → waits ≡ []
     → Answers way (λ tail. rows_from begun (followed chunk tail)) (rows_left false next) waits after n m
     → (length chunk ≡ 0 → IsAtEnd now) → Appends held full after → ConvertsRows way before empty full
 batch_ends way None was now empty held full begun chunk waits after n m next p c w q f a = tt
@@ -237,8 +244,8 @@ batch_ends way (Some xs) was (Some ys) empty held full begun chunk waits after n
     let r = joined way p.consumed p.written begun chunk waits after (rows_left false next) n m p.answers w q in (
       p.written ++ after,
       subst (λ t. AreAnswers way t (p.written ++ after))
-          (sym (ap rows (taken ∙ (append_assoc p.consumed chunk ys ∙ ap (λ t. p.consumed ++ t) (follows chunk ys f)))
-          ∙ (r.ahead ys ∙ append-nil r.done)))
+          (sym (ap rows (taken ∙ (append_assoc p.consumed chunk ys
+          ∙ ap (λ t. p.consumed ++ t) (follows chunk ys f))) ∙ (r.ahead ys ∙ append-nil r.done)))
           (subst (AreAnswers way r.done) (sym r.appended) r.are),
       Appends-trans empty held full p.written after p.put a,
     )
@@ -317,20 +324,20 @@ nothing_yet way (Some xs) sink =
     (0, [], ([], rows xs, refl, refl, refl), refl, Appends-nil sink)
 
 -- the row that is begun, with its answer behind those that wait
-pub answered_row : (way : Way) (row read old new given answer : List ℕ) → read ≡ row → IsRowAnswer way read answer
-    → new ≡ old ++ given → given ≡ answer
+pub answered_row : (way : Way) (row read old new given answer : List ℕ) → read ≡ row
+    → IsRowAnswer way read answer → new ≡ old ++ given → given ≡ answer
     → (written : List ℕ) × IsRowAnswer way row written × (new ≡ old ++ written)
 answered_row way row read old new given answer e h n g =
     (answer, subst (λ t. IsRowAnswer way t answer) e h, n ∙ ap (λ t. old ++ t) g)
 
 -- a read of nothing, and of some bytes
-pub read_none : (way : Way) (begun bytes a b : List ℕ) (rest : List ℕ → List (List ℕ)) (n m : ℕ) → length bytes ≡ 0
-    → Answers way (λ _. rows begun) rest a b n m
+pub read_none : (way : Way) (begun bytes a b : List ℕ) (rest : List ℕ → List (List ℕ)) (n m : ℕ)
+    → length bytes ≡ 0 → Answers way (λ _. rows begun) rest a b n m
     → Answers way (λ tail. rows_from begun (followed bytes tail)) rest a b n m
 read_none way begun bytes a b rest n m e p =
     Answers-like way (λ _. rows begun) (λ tail. rows_from begun (followed bytes tail)) rest rest a b b n m m p
-    (λ tail. ap (λ t. rows (begun ++ t)) (followed-none bytes tail e) ∙ ap rows (append-nil begun)) (λ tail. refl) refl
-    refl
+    (λ tail. ap (λ t. rows (begun ++ t)) (followed-none bytes tail e) ∙ ap rows (append-nil begun))
+    (λ tail. refl) refl refl
 
 some_length : (n : ℕ) → (n == 0) ≡ false → 0 < n
 some_length zero e = absurd (cc)
@@ -343,26 +350,28 @@ last_alone row read n z l e o f =
     last_row row (subst (λ t. 0 < length t) e (subst (λ k. 0 < k) (sym l) (some_length n z))) o
     (ap (λ t. bytes_eq t end_mark) (sym e) ∙ f)
 
-pub end_ok : {T E : Type 0} (way : Way) (begun old new : List ℕ) (n m : ℕ) (r : Result T E) → rows begun ≡ begun ∷ []
+pub end_ok : {T E : Type 0} (way : Way) (begun old new : List ℕ) (n m : ℕ) (r : Result T E)
+    → rows begun ≡ begun ∷ []
     → OnOk r ((written : List ℕ) × IsRowAnswer way begun written × (new ≡ old ++ written))
     → OnOk r (m ≡ counted (n + 1)) → OnOk r (Answers way (λ _. rows begun) (λ _. []) old new n m)
 end_ok way begun old new n m (Ok x) e h k =
     Answers-row way (λ _. rows begun) (λ _. []) begun old new n m h k (λ tail. e)
 end_ok way begun old new n m (Err x) e h k = tt
 
-pub end_err : {T E : Type 0} (way : Way) (begun old new : List ℕ) (n m : ℕ) (r : Result T E) → OnErr r (new ≡ old)
-    → OnErr r (m ≡ n)
+pub end_err : {T E : Type 0} (way : Way) (begun old new : List ℕ) (n m : ℕ) (r : Result T E)
+    → OnErr r (new ≡ old) → OnErr r (m ≡ n)
     → OnErr r ((rest : List ℕ → List (List ℕ)) × Answers way (λ _. rows begun) rest old new n m)
 end_err way begun old new n m (Ok x) h k = tt
 end_err way begun old new n m (Err x) h k = (
   (λ _. rows begun),
   Answers-like way (λ _. rows begun) (λ _. rows begun) (λ _. rows begun) (λ _. rows begun) old old new n n m
-      (Answers-none way (λ _. rows begun) (λ _. rows begun) old n (λ tail. refl)) (λ tail. refl) (λ tail. refl) h k,
+      (Answers-none way (λ _. rows begun) (λ _. rows begun) old n (λ tail. refl)) (λ tail. refl)
+      (λ tail. refl) h k,
 )
 
 -- the same of an equal row that is begun
-pub Progress-kept : (way : Way) (before now empty full : Option (List ℕ)) (a b : List ℕ) (n m : ℕ) → b ≡ a → m ≡ n
-    → Progress way before now empty full a n → Progress way before now empty full b m
+pub Progress-kept : (way : Way) (before now empty full : Option (List ℕ)) (a b : List ℕ) (n m : ℕ) → b ≡ a
+    → m ≡ n → Progress way before now empty full a n → Progress way before now empty full b m
 Progress-kept way before now empty full a b n m e f p =
     subst (λ k. Progress way before now empty full b k) (sym f)
     (subst (λ t. Progress way before now empty full t n) (sym e) p)

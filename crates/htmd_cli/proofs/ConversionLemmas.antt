@@ -34,7 +34,8 @@ match_false P Q true e p = absurd (cc)
 match_false P Q false e p = p
 
 pub by_text : (way : Way) (input text : List ℕ) (items : List Item) (start : ℕ) → way.text ≡ true
-    → items ≡ paragraph input → start ≡ 0 → text ≡ markdown way.config items start → IsMarkdownBy way input text
+    → items ≡ paragraph input → start ≡ 0 → text ≡ markdown way.config items start
+    → IsMarkdownBy way input text
 unfolding paragraph_markdown
 by_text way input text items start t i s e =
     match_true _ _ way.text t (e ∙ (ap (λ x. markdown way.config x start) i
@@ -46,5 +47,6 @@ way_with text body scripting config =
     record { text = text; body = body; scripting = scripting; config = config }
 
 -- equal handlers and the same scripting
-pub way_same : (text body a b : Bool) (k l : Config) → a ≡ b → k ≡ l → way_with text body a k ≡ way_with text body b l
+pub way_same : (text body a b : Bool) (k l : Config) → a ≡ b → k ≡ l
+    → way_with text body a k ≡ way_with text body b l
 way_same text body a b k l e f = rw (e, f) refl

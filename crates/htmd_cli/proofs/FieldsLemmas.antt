@@ -38,15 +38,15 @@ digits-more base most s i digit whole l some e t h =
     omega arith
 
 -- no digit more
-pub number-ends : (v base n : ℕ) (s : List ℕ) (i digit : ℕ) → i < length s → digit ≡ digit_value (get_or s i 0)
-    → base ≤ digit → number_behind v base n (drop i s) ≡ v
+pub number-ends : (v base n : ℕ) (s : List ℕ) (i digit : ℕ) → i < length s
+    → digit ≡ digit_value (get_or s i 0) → base ≤ digit → number_behind v base n (drop i s) ≡ v
 number-ends v base zero s i digit l e d = refl
 number-ends v base (suc n) s i digit l e d =
     let test : nat_lt (digit_value (get_or s i 0)) base ≡ false = rw (← e) (le-ltb digit base d) in
     rw (drop_more s i 0 l, test) refl
 
-pub digits-ends : (base n : ℕ) (s : List ℕ) (i digit : ℕ) → i < length s → digit ≡ digit_value (get_or s i 0)
-    → base ≤ digit → digits base n (drop i s) ≡ 0
+pub digits-ends : (base n : ℕ) (s : List ℕ) (i digit : ℕ) → i < length s
+    → digit ≡ digit_value (get_or s i 0) → base ≤ digit → digits base n (drop i s) ≡ 0
 digits-ends base zero s i digit l e d = refl
 digits-ends base (suc n) s i digit l e d =
     let test : nat_lt (digit_value (get_or s i 0)) base ≡ false = rw (← e) (le-ltb digit base d) in
@@ -68,7 +68,8 @@ digits-nil : (base n : ℕ) → digits base n [] ≡ 0
 digits-nil base zero = refl
 digits-nil base (suc n) = refl
 
-pub number-out : (v base n : ℕ) (s : List ℕ) (i : ℕ) → length s ≤ i → number_behind v base n (drop i s) ≡ v
+pub number-out : (v base n : ℕ) (s : List ℕ) (i : ℕ) → length s ≤ i
+    → number_behind v base n (drop i s) ≡ v
 number-out v base n s i l = rw (drop_all i s l) (number-nil v base n)
 
 pub digits-out : (base n : ℕ) (s : List ℕ) (i : ℕ) → length s ≤ i → digits base n (drop i s) ≡ 0
@@ -102,7 +103,8 @@ read-whole [] p = refl
 read-whole (b ∷ f) p = unless (b == backslash) (lacks backslash f) _ _ _ p (λ e. ap (λ t. b ∷ t) (read-whole f e))
 
 -- an escape, and what stands behind it
-pub read-escape : (s : List ℕ) → read_field (backslash ∷ s) ≡ escaped s ∷ read_field (drop (escape_length s) s)
+pub read-escape : (s : List ℕ)
+    → read_field (backslash ∷ s) ≡ escaped s ∷ read_field (drop (escape_length s) s)
 read-escape s = ap (λ t. escaped s ∷ t) (read_behind-drop (escape_length s) s)
 
 -- a page with the bytes before the next escape, and with that one

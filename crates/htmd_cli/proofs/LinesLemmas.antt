@@ -18,7 +18,8 @@ pub unless : {A : Type 0} (t x : Bool) (here there goal : A) → (if t then fals
 unless true x here there goal p f = absurd (cc)
 unless false x here there goal p f = f p
 
-pub lacks-append : (b : ℕ) (s t : List ℕ) → lacks b s ≡ true → lacks b t ≡ true → lacks b (s ++ t) ≡ true
+pub lacks-append : (b : ℕ) (s t : List ℕ) → lacks b s ≡ true → lacks b t ≡ true
+    → lacks b (s ++ t) ≡ true
 lacks-append b [] t p q = q
 lacks-append b (c ∷ s) t p q =
     unless (c == b) (lacks b s) false (lacks b (s ++ t)) true p (λ e. lacks-append b s t e q)
@@ -63,7 +64,8 @@ lines-line [] s p = refl
 lines-line (c ∷ l) s p =
     unless (c == line_feed) (lacks line_feed l) _ _ _ p (λ e. ap (before_lines c) (lines-line l s e))
 
-pub lines-open : (b : ℕ) (l : List ℕ) → lacks line_feed (b ∷ l) ≡ true → lines (b ∷ l) ≡ (b ∷ l) ∷ []
+pub lines-open : (b : ℕ) (l : List ℕ) → lacks line_feed (b ∷ l) ≡ true
+    → lines (b ∷ l) ≡ (b ∷ l) ∷ []
 lines-open b [] p = unless (b == line_feed) true _ _ _ p (λ e. refl)
 lines-open b (c ∷ l) p =
     unless (b == line_feed) (lacks line_feed (c ∷ l)) _ _ _ p (λ e. ap (before_lines b) (lines-open c l e))
@@ -110,7 +112,8 @@ pub others-at : (row : List ℕ) (place : ℕ) → place < length row → get_or
 others-at row place l e p =
     take_more row place 0 l
     ∙ (ap (λ x. take place row ++ x ∷ []) e
-    ∙ sym (ap other_fields (around row place tab l e) ∙ other_fields-split (take place row) (drop (place + 1) row) p))
+    ∙ sym (ap other_fields (around row place tab l e)
+    ∙ other_fields-split (take place row) (drop (place + 1) row) p))
 
 pub last-at : (row : List ℕ) (place : ℕ) → place < length row → get_or row place 0 ≡ tab
     → lacks tab (drop (place + 1) row) ≡ true

@@ -22,8 +22,9 @@ field_answer way field page read before old new (Ok x) e p q z h = (
 field_answer way field page read before old new (Err x) e p q z h = tt
 
 -- a row, part by part
-pub row_answer : (way : Way) (row last others a b c d : List ℕ) → last ≡ last_field row → others ≡ other_fields row
-    → a ≡ [] → b ≡ a ++ others → (written : List ℕ) × IsFieldAnswer way last written × (c ≡ b ++ written)
+pub row_answer : (way : Way) (row last others a b c d : List ℕ) → last ≡ last_field row
+    → others ≡ other_fields row → a ≡ [] → b ≡ a ++ others
+    → (written : List ℕ) × IsFieldAnswer way last written × (c ≡ b ++ written)
     → d ≡ c ++ line_feed ∷ [] → IsRowAnswer way row d
 row_answer way row last others a b c d l o z p h q = (
   h.0,

@@ -6,7 +6,8 @@ use Rattle.htmd_cli.specs.Rows.{AreAnswers, counted}
 
 -- Of the rows that each further input gives, some were answered, and the rest is left. What waits grew by the answers,
 -- and the count of answered rows by their number.
-pub record Answers (way : Way) (all rest : List ℕ → List (List ℕ)) (before after : List ℕ) (n m : ℕ) : Type 0 where
+pub record Answers (way : Way) (all rest : List ℕ → List (List ℕ)) (before after : List ℕ)
+    (n m : ℕ) : Type 0 where
   pub done : List (List ℕ)
   pub written : List ℕ
   pub are : AreAnswers way done written

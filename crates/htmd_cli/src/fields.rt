@@ -124,7 +124,8 @@ fn next_escape(text: &[u8]) -> Option<(&[u8], &[u8], &[u8])>
 
 // How a byte is escaped in a field, if it is.
 fn escape_of(byte: u8) -> Option<&'static [u8]>
-    ensures { MatchOption result (spec.written_byte byte ≡ byte ∷ []) (λ escape. spec.written_byte byte ≡ escape.now) }
+    ensures { MatchOption result (spec.written_byte byte ≡ byte ∷ [])
+        (λ escape. spec.written_byte byte ≡ escape.now) }
 {
     match byte {
         b'\\' => Some(b"\\\\".as_slice()),

@@ -52,8 +52,10 @@ pub fn run_rows<R: Source, W: Sink, E: Sink>(
         → StopsInRows (way_of (chosen_by settings.entry)) fault.row
         (R.remaining source.old) (W.contents sink.old) (W.contents sink.new)) }
     ensures faults { IfErr result (λ fault. IsRowFault fault.error) }
-    ensures read_failed { IsErrAnd result (λ fault. fault.error ≡ RunError.Read) ↔ IsTrue (R.has_failed source.new) }
-    ensures write_failed { IsErrAnd result (λ fault. fault.error ≡ RunError.Write) ↔ IsTrue (W.has_failed sink.new) }
+    ensures read_failed { IsErrAnd result (λ fault. fault.error ≡ RunError.Read)
+        ↔ IsTrue (R.has_failed source.new) }
+    ensures write_failed { IsErrAnd result (λ fault. fault.error ≡ RunError.Write)
+        ↔ IsTrue (W.has_failed sink.new) }
 {
     let Ok(builder) = HtmlToMarkdown::builder(alloc) else {
         return Err(first_row_fault());
@@ -117,8 +119,10 @@ fn answer_all<H: Registry, R: Source, W: Sink, E: Sink>(
         → StopsInRows (way_by H.config conversion.now) fault.row
         (R.remaining source.old) (W.contents sink.old) (W.contents sink.new)) }
     ensures faults { IfErr result (λ fault. IsRowFault fault.error) }
-    ensures read_failed { IsErrAnd result (λ fault. fault.error ≡ RunError.Read) ↔ IsTrue (R.has_failed source.new) }
-    ensures write_failed { IsErrAnd result (λ fault. fault.error ≡ RunError.Write) ↔ IsTrue (W.has_failed sink.new) }
+    ensures read_failed { IsErrAnd result (λ fault. fault.error ≡ RunError.Read)
+        ↔ IsTrue (R.has_failed source.new) }
+    ensures write_failed { IsErrAnd result (λ fault. fault.error ≡ RunError.Write)
+        ↔ IsTrue (W.has_failed sink.new) }
 {
     let mut batch = Batch::new(alloc);
     let mut buffer = [0u8; BUFFER_SIZE];

@@ -193,7 +193,8 @@ begins_name-append : (ps s x : List ℕ) → goes_on_with_name ps s ≡ true →
 begins_name-append [] [] x e = absurd (cc)
 begins_name-append [] (b ∷ s) x e = e
 begins_name-append (p ∷ ps) [] x e = absurd (cc)
-begins_name-append (p ∷ ps) (b ∷ s) x e = let k = and_parts (to_ascii_lowercase b == p) (goes_on_with_name ps s) e in
+begins_name-append (p ∷ ps) (b ∷ s) x e = let k = and_parts (to_ascii_lowercase b == p)
+    (goes_on_with_name ps s) e in
     rw (k.0, begins_name-append ps s x k.1) refl
 
 pub stops-append : (z : Bool) (n s x : List ℕ) → ends_text z n s ≡ true → ends_text z n (s ++ x) ≡ true

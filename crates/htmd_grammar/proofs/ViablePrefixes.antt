@@ -125,7 +125,8 @@ module _ (rules : Rules) where
   -- what has been read at a reached state
   pub reached_front : (s : List ℕ) (f : OpenElement) (gs : List OpenElement) (run rest : List ℕ)
       → Reaches rules above_body (started s) (in_text (f ∷ gs) run rest) → (f.implied && ends_rows rest) ≡ false
-      → (before : List ℕ) × (body_text s ≡ before ++ rest) × IsViablePrefix rules (with_text f run) gs before rest
+      → (before : List ℕ) × (body_text s ≡ before ++ rest)
+      × IsViablePrefix rules (with_text f run) gs before rest
   reached_front s f gs run rest r e =
       let k = kept rules above_body (started s) (in_text (f ∷ gs) run rest) [] r
       (conf_start rules above_body (body_text s)) in

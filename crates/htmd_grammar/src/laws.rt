@@ -1,7 +1,10 @@
 //! Laws of the definitions: each is the contract of a function that does nothing.
 ghost use Rattle.std.specs.Prelude.{Bool};
 ghost use Rattle.htmd_grammar.specs.Rules.{Rules, project};
-ghost use Rattle.htmd_grammar.specs.Laws.{AtMostOneForest, AtMostOneDocument, MoreRulesReadMore, MoreRulesReadMoreDocuments, StepsReadAll, StepsReadRightly, FaultsRefuse, PrefixesAreViable, FaultsAreOne, FaultsAreRight, FaultsRefuseDocuments, RestIsAnEnd};
+ghost use Rattle.htmd_grammar.specs.Laws.{AtMostOneForest, AtMostOneDocument, MoreRulesReadMore};
+ghost use Rattle.htmd_grammar.specs.Laws.{MoreRulesReadMoreDocuments, StepsReadAll, StepsReadRightly, FaultsRefuse};
+ghost use Rattle.htmd_grammar.specs.Laws.{PrefixesAreViable, FaultsAreOne, FaultsAreRight, FaultsRefuseDocuments};
+ghost use Rattle.htmd_grammar.specs.Laws.{RestIsAnEnd};
 ghost use Rattle.htmd_grammar.specs.ReadBack.{ReadsBack, RawBlockReadsBack};
 
 /// A text denotes at most one document, and in any context that is not empty at most one list of trees.

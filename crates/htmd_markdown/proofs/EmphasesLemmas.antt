@@ -104,7 +104,8 @@ parts s rest middle start end =
     sym all ∙ ap (λ l. before ++ l) (sym inner) ∙ sym (append_assoc before middle (drop (length middle) rest))
 
 -- a mark at the seam of two texts
-inserted : (xs ys mark : List ℕ) (n : ℕ) → n ≡ length xs → insert_slice (xs ++ ys) n mark ≡ (xs ++ mark) ++ ys
+inserted : (xs ys mark : List ℕ) (n : ℕ) → n ≡ length xs
+    → insert_slice (xs ++ ys) n mark ≡ (xs ++ mark) ++ ys
 inserted xs ys mark n e = rw (e, take-append_seam xs ys, drop-append_seam xs ys) refl
 
 -- first the mark at the end, then that at the start
@@ -121,8 +122,8 @@ both_inserted before middle after mark s start end whole first last =
     ∙ simp append_assoc
 
 -- the text that the code makes
-pub marks_put : (mark s rest middle once out : List ℕ) (start end : ℕ) → IsTrimStart s rest → IsTrimEnd rest middle
-    → start ≡ length s - length rest → end ≡ start + length middle
+pub marks_put : (mark s rest middle once out : List ℕ) (start end : ℕ) → IsTrimStart s rest
+    → IsTrimEnd rest middle → start ≡ length s - length rest → end ≡ start + length middle
     → once ≡ insert_slice s end mark → out ≡ insert_slice once start mark
     → out ≡ (((take (length s - length rest) s ++ mark) ++ middle) ++ mark) ++ drop (length middle) rest
 marks_put mark s rest middle once out start end cut_start cut_end first last at_end at_start =
@@ -166,8 +167,8 @@ before_mark s mark n i le lt =
 
 -- with a mark behind what is left, one may stand in front of it too
 pub start_may_take : (s rest middle mark marked : List ℕ) (start end : ℕ) → IsUtf8 rest → middle ≢ []
-    → IsTrimStart s rest → IsTrimEnd rest middle → start ≡ length s - length rest → end ≡ start + length middle
-    → marked ≡ insert_slice s end mark → IsSplitPoint marked start
+    → IsTrimStart s rest → IsTrimEnd rest middle → start ≡ length s - length rest
+    → end ≡ start + length middle → marked ≡ insert_slice s end mark → IsSplitPoint marked start
 start_may_take s rest middle mark marked start end text filled cut_start cut_end first last e =
     let here = rest_boundary s rest cut_start.0 text cut_start.4 cut_start.1 in
     let some : 0 < length middle = some_length middle filled in

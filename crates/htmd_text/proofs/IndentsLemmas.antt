@@ -22,7 +22,8 @@ mapped_more f ls n x here =
 
 -- the first line, behind what stood before
 pub first_line : (indent : ℕ) (f : List ℕ → List ℕ) (ls : List (List ℕ)) (n : ℕ) (x before out : List ℕ)
-    → (n < length ls) × (x ≡ get_or ls n x) → n ≡ 0 → out ≡ before ++ indented_lines indent (map f (take n ls))
+    → (n < length ls) × (x ≡ get_or ls n x) → n ≡ 0
+    → out ≡ before ++ indented_lines indent (map f (take n ls))
     → out ++ f x ≡ before ++ indented_lines indent (map f (take (n + 1) ls))
 first_line indent f ls n x before out here start was =
     let none : take n ls ≡ [] = rw start refl in
@@ -30,7 +31,8 @@ first_line indent f ls n x before out here start was =
 
 -- a further line
 pub later_line : (indent : ℕ) (f : List ℕ → List ℕ) (ls : List (List ℕ)) (n : ℕ) (x before out : List ℕ)
-    → (n < length ls) × (x ≡ get_or ls n x) → 0 < n → out ≡ before ++ indented_lines indent (map f (take n ls))
+    → (n < length ls) × (x ≡ get_or ls n x) → 0 < n
+    → out ≡ before ++ indented_lines indent (map f (take n ls))
     → out ++ next_line indent (f x) ≡ before ++ indented_lines indent (map f (take (n + 1) ls))
 later_line indent f ls n x before out here some was =
     let size : length (map f (take n ls)) ≡ n = length-map (take n ls) f

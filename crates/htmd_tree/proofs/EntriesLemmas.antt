@@ -36,7 +36,8 @@ IsStored-kept entries p old new l here same kids t = record {
       ∙ ap (λ (y : List Item). children_of y k) (sym (items_of-set entries p old new here same));
 }
   where
-    at_parent : (d : Entry) → numbers_of (get_or (set entries p new) p d).children ≡ children_of (items_of entries) p
+    at_parent : (d : Entry) → numbers_of (get_or (set entries p new) p d).children
+        ≡ children_of (items_of entries) p
     at_parent d =
         ap (λ (x : Entry). numbers_of x.children) (get_or-set_same entries p new d l)
         ∙ (kids ∙ (ap (λ (x : Entry). numbers_of x.children) (here ∙ get_or_default entries p old d l)
@@ -46,7 +47,8 @@ IsStored-kept entries p old new l here same kids t = record {
         → numbers_of (get_or (set entries p new) k d).children ≡ children_of
         (items_of entries) k
     each k d m = elim (cases_eq k p) [
-      | inl e ↦ subst (λ j. numbers_of (get_or (set entries p new) j d).children ≡ children_of (items_of entries) j)
+      | inl e ↦ subst (λ j. numbers_of (get_or (set entries p new) j d).children
+          ≡ children_of (items_of entries) j)
           (sym e)
           (at_parent d)
       | inr n ↦ ap (λ (x : Entry). numbers_of x.children) (get_or-set_other entries p k new d n) ∙ t.children k d m
@@ -120,7 +122,8 @@ IsStored-added entries p old new last l here same kids this no_kids holds shallo
         → numbers_of (get_or (written ++ last ∷ []) k d).children
         ≡ children_of (items_of entries) k ++ cond (eqb p k) (length entries ∷ []) []
     each k d m = elim (cases_eq k p) [
-      | inl e ↦ subst (λ j. numbers_of (get_or (written ++ last ∷ []) j d).children ≡ children_of (items_of entries) j
+      | inl e ↦ subst (λ j. numbers_of (get_or (written ++ last ∷ []) j d).children
+          ≡ children_of (items_of entries) j
           ++ cond (eqb p j) (length entries ∷ []) []) (sym e)
           (let b : eqb p p ≡ true = grind (arith, nat_tests) in at_parent d ∙ rw b refl)
       | inr n ↦ elim (cases_lt k (length entries)) [

@@ -336,13 +336,15 @@ ends_well old new has_doctype fs h e l = each h.opened h.holds h.reaches
 -- ---- what is kept of the innermost open element
 
 pub text_alone_at : (reader : Reader) (has_doctype : Bool) (fs : List OpenElement) (o : OpenNode) → IsTop reader o
-    → Holds reader has_doctype fs → o.surroundings.text_alone ≡ holds_text_alone reader.scripting (innermost_name fs)
+    → Holds reader has_doctype fs
+    → o.surroundings.text_alone ≡ holds_text_alone reader.scripting (innermost_name fs)
 text_alone_at reader has_doctype fs o t h =
     ap (λ (p : Surroundings). p.text_alone) ((top_at reader has_doctype fs o t h).1)
 
 pub raw_text_at : (reader : Reader) (has_doctype : Bool) (fs : List OpenElement) (o : OpenNode) → IsTop reader o
     → Holds reader has_doctype fs → o.surroundings.raw_text ≡ holds_raw_text reader.scripting (innermost_name fs)
-raw_text_at reader has_doctype fs o t h = ap (λ (p : Surroundings). p.raw_text) ((top_at reader has_doctype fs o t h).1)
+raw_text_at reader has_doctype fs o t h = ap (λ (p : Surroundings). p.raw_text)
+    ((top_at reader has_doctype fs o t h).1)
 
 pub ends_alone : (scripting : Bool) (n s : List ℕ) → holds_text_alone scripting n ≡ true
     → begins_own_end n s ≡ ends_text scripting n s

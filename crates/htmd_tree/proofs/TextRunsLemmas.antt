@@ -199,7 +199,8 @@ module _ (scripting : Bool) (around : TextSurroundings) (n : List ℕ) (fs : Lis
       (subst (λ x. Reaches (project scripting) above_body (in_run fs run s)
       (in_run fs (run ++ leading_run (is_plain around.parts) s) x)) (sym h) (plain_reaches s run d))
 
-  pub plain_deep : (run s : List ℕ) → around.too_deep ≡ true → 0 < length (leading_run (is_plain around.parts) s)
+  pub plain_deep : (run s : List ℕ) → around.too_deep ≡ true
+      → 0 < length (leading_run (is_plain around.parts) s)
       → step (project scripting) above_body (in_run fs run s) ≡ Err TooDeep
   plain_deep run [] d l = absurd (omega arith)
   plain_deep run (b ∷ s) d l =

@@ -78,7 +78,8 @@ pub record Holds (reader : Reader) (has_doctype : Bool) (fs : List OpenElement) 
 
 -- it holds of all elements and flags that fit where the reader is
 abbrev pub WhateverIsOpen : Reader → (Bool → List OpenElement → Type 0) → Type 0
-WhateverIsOpen reader P = (has_doctype : Bool) (fs : List OpenElement) → Holds reader has_doctype fs → P has_doctype fs
+WhateverIsOpen reader P =
+    (has_doctype : Bool) (fs : List OpenElement) → Holds reader has_doctype fs → P has_doctype fs
 
 -- the reader is where some elements are open
 abbrev pub IsReading : Reader → Type 0

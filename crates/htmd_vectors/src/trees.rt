@@ -279,8 +279,8 @@ fn keeps_parts_of_tables_as_html(rt: HostRuntime) -> Result<(), Fail> {
     Ok(())
 }
 
-// `head` and `body` stand in `html` or the Document, `html` in the Document alone; elsewhere they are written as HTML in
-// Faithful. Their attributes don't count.
+// `head` and `body` stand in `html` or the Document, `html` in the Document alone; elsewhere they are written as HTML
+// in Faithful. Their attributes don't count.
 #[test]
 fn keeps_other_parts_of_pages_as_html(rt: HostRuntime) -> Result<(), Fail> {
     let table: &[(Row, &str)] = &[

@@ -1,6 +1,7 @@
 //! The registry of handlers.
 
-ghost use Rattle.std.specs.Prelude.{◌≡◌, ◌+◌, ◌<◌, IfOk, IfErr, OnOk, OnErr, All, map, length, slice_get, ◌++◌, string_bytes, IsTrue};
+ghost use Rattle.std.specs.Prelude.{◌≡◌, ◌+◌, ◌<◌, IfOk, IfErr, OnOk, OnErr, All, map, length, slice_get, ◌++◌};
+ghost use Rattle.std.specs.Prelude.{string_bytes, IsTrue};
 ghost use Rattle.htmd.specs.Choice.{with_handler};
 ghost use Rattle.htmd.specs.Handling.{of_functions, IsProper};
 ghost use Rattle.htmd.specs.Views.{plan_view, element_view, result_view, optional_result, optional_text};

@@ -1,6 +1,7 @@
 //! The registrations of handlers for tags, with the position of each tag's newest one at hand.
 
-ghost use Rattle.std.specs.Prelude.{◌≡◌, ◌<◌, ◌+◌, ◌^◌, ◌++◌, ◌∷◌, [], ℕ, List, All, IfOk, IfSome, OnOk, OnErr, length, map, reverse, slice_get, string_bytes, vec_len, vec_capacity, ◌≤◌};
+ghost use Rattle.std.specs.Prelude.{◌≡◌, ◌<◌, ◌+◌, ◌^◌, ◌++◌, ◌∷◌, [], ℕ, List, All, IfOk, IfSome, OnOk, OnErr, length};
+ghost use Rattle.std.specs.Prelude.{map, reverse, slice_get, string_bytes, vec_len, vec_capacity, ◌≤◌};
 ghost use Rattle.std.specs.HashMap.{get_by_text, spare};
 ghost use Rattle.htmd.specs.Choice.{tag_at, tags_at, indexes};
 ghost use Rattle.htmd.specs.TagIndexes.{tag_index};

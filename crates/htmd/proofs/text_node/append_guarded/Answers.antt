@@ -23,7 +23,8 @@ returns-then-is_squeezed c =
     let rest = c.without_first_space.ensures
     ∙ ap (without_first_space c.if-trim.goes) (sym (c.is_squeezed.ensures.stays c.if-is_squeezed.true))
     ∙ ap (λ t. without_first_space t (squeezed_text c.args.text.now)) goes in
-    on_ok_weaker c.push_guarded_with_room.result (λ h. h ∙ (ap (λ b. out ++ guarded_text b c.without_first_space.result.now) begins
+    on_ok_weaker c.push_guarded_with_room.result
+    (λ h. h ∙ (ap (λ b. out ++ guarded_text b c.without_first_space.result.now) begins
     ∙ ap (λ s. out ++ guarded_text (begins_line out) s) rest)) c.push_guarded_with_room.ensures
 
 pub returns : goal.returns
@@ -41,5 +42,6 @@ returns c =
     ∙ ap (without_first_space c.if-trim.goes) (c.as_str-2.ensures.value ∙ c.in_ok-push_squeezed.ensures
     ∙ ap (λ s. s ++ squeezed_text c.args.text.now) c.take-squeezed.ensures)
     ∙ ap (λ t. without_first_space t (squeezed_text c.args.text.now)) goes in
-    c.in_ok-push_guarded_with_room.ensures ∙ (ap (λ b. out ++ guarded_text b c.without_first_space-2.result.now) begins
+    c.in_ok-push_guarded_with_room.ensures
+    ∙ (ap (λ b. out ++ guarded_text b c.without_first_space-2.result.now) begins
     ∙ ap (λ s. out ++ guarded_text (begins_line out) s) rest)

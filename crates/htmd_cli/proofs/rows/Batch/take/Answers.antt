@@ -52,8 +52,8 @@ returns-in_err-answer_open-clause-err g c =
     let way = way_by g.H.Registry.config c.args.conversion.now in
     let was = c.loop-front.self in
     let new = c.answer_open.new.self in
-    stopped way _ (λ tail. rows_from was.begun.items (c.loop-front.rest.now ++ tail)) _ new.answers.items _ new.answered
-    _
+    stopped way _ (λ tail. rows_from was.begun.items (c.loop-front.rest.now ++ tail)) _ new.answers.items _
+    new.answered _
     (Answers-like way _ _ (λ tail. rows_from was.begun.items (c.loop-front.rest.now ++ tail))
     (λ tail. rows_from was.begun.items (c.loop-front.rest.now ++ tail)) _ was.answers.items new.answers.items _
     was.answered new.answered c.loop-front.invariant.answers (λ tail. refl) (λ tail. refl)
