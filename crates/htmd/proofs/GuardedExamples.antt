@@ -1,10 +1,9 @@
 -- Worked examples of Guarded.
 use Rattle.std.proofs.Common.{◌≡◌, ℕ, List, [], ◌∷◌, ◌++◌, true, false, codes, refl}
-use Rattle.std.specs.Str.{chars}
 use Rattle.htmd_text.specs.Blocks.{is_block}
 use Rattle.htmd_tree.specs.ValueTrees.{AttributePair}
 use Rattle.htmd_tree.specs.Items.{Item, document_item, new_item, element_node, text_node, comment_node}
-use Rattle.htmd_tree.specs.NumberedTrees.{tree_of, forest_from, value_tree}
+use Rattle.htmd_tree.specs.NumberedTrees.{tree_of, forest_from}
 use Rattle.htmd_tree.specs.Ancestors.{ancestors_of, ancestors_up}
 use Rattle.htmd.specs.declared.options.Options.{Options}
 use Rattle.htmd.specs.declared.options.TranslationMode.TheVariants.{Guarded}
@@ -16,7 +15,6 @@ use Rattle.htmd.specs.OneLineElements.{stands_in_line, in_line_up}
 use Rattle.htmd.specs.Tables.{guarded_captions}
 use Rattle.htmd.specs.Rendering.{written_within}
 use Rattle.htmd.specs.Markdown.{markdown}
-use Rattle.htmd.specs.TextLaws.{is_page_of_texts}
 
 no_image_at_a_seam : guarded_at_seam (codes "a!") (codes "[b](c)") ≡ codes "a\\![b](c)"
 no_image_at_a_seam = refl
@@ -111,33 +109,3 @@ hidden_converted : markdown (built_in guarded) hidden 0 ≡ []
 unfolding markdown written_within tree_of forest_from ancestors_of ancestors_up is_block hidden with_text
     with_element root guarded
 hidden_converted = refl
-
--- a text that elements part stays the text
-parted_tag : List Item
-parted_tag =
-    with_text 3 (codes "b>") (with_element 1 (codes "span") [] (with_text 1 (codes "<")
-    (with_element 0 (codes "p") [] root)))
-
-parted_tag_is_page : is_page_of_texts (built_in guarded) (value_tree (tree_of parted_tag 0)) ≡ true
-unfolding tree_of forest_from is_block parted_tag with_text with_element root
-parted_tag_is_page = refl
-
-parted_tag_converted : markdown (built_in guarded) parted_tag 0 ≡ codes "\\<b>"
-unfolding chars markdown written_within tree_of forest_from ancestors_of ancestors_up is_block parted_tag with_text
-    with_element root guarded
-parted_tag_converted = refl
-
--- a name and its semicolon apart
-parted_reference : List Item
-parted_reference =
-    with_text 3 (codes "copy;") (with_element 1 (codes "u") [] (with_text 1 (codes "AT&")
-    (with_element 0 (codes "p") [] root)))
-
-parted_reference_is_page : is_page_of_texts (built_in guarded) (value_tree (tree_of parted_reference 0)) ≡ true
-unfolding tree_of forest_from is_block parted_reference with_text with_element root
-parted_reference_is_page = refl
-
-parted_reference_converted : markdown (built_in guarded) parted_reference 0 ≡ codes "AT\\&copy;"
-unfolding chars markdown written_within tree_of forest_from ancestors_of ancestors_up is_block parted_reference
-    with_text with_element root guarded
-parted_reference_converted = refl

@@ -23,46 +23,10 @@ pub mod CodeLemmas
 pub mod LayersLemmas
 pub mod LinkAttributesLemmas
 pub mod AnchorsLemmas
-pub mod LinkLawsLemmas
-pub mod KeepingLemmas
-pub mod NumbersLemmas
-pub mod ListLawsLemmas
 pub mod ConversionsLemmas
-pub mod LawsLemmas
-pub mod GroupCuts
-pub mod EmphasisLawsLemmas
-pub mod TextEnds
-pub mod ShownTexts
-pub mod ParagraphTexts
-pub mod ParagraphSeams
-pub mod ParagraphLawsLemmas
-pub mod GuardedEnds
-pub mod GuardedSeams
-pub mod TextTrees
-pub mod TextElements
-pub mod TextLawsLemmas
-pub mod CountedTexts
-pub mod LettersLemmas
-pub mod LettersOfTexts
-pub mod LettersOfLines
-pub mod LettersOfPieces
-pub mod LettersOfLinks
-pub mod LettersOfGuarded
-pub mod LettersOfHandlers
-pub mod LettersOfTables
-pub mod ElementsByTag
-pub mod LettersOfElements
-pub mod FittingTrees
-pub mod SaidChildren
-pub mod LettersLawsLemmas
-pub mod ShownOfElements
-pub mod ShownTrees
-pub mod ShownLawsLemmas
 pub mod ChildListsLemmas
 pub mod TableNodesLemmas
 pub mod TableHeadersLemmas
 pub mod TableTextsLemmas
 mod Examples
-mod GuardedExamples
-mod LettersExamples
-mod ShownExamples
+pub mod GuardedExamples

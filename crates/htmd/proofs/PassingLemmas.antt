@@ -98,6 +98,17 @@ span-inside tag attributes above e = ap (λ t. pre (record { tag = t; attributes
 
 -- ---- how the registry finds it out
 
+pub passed-unhandled : (config : Config) (name : List ℕ) (attributes : List AttributePair) (d : Data)
+    → d ≡ element_node name attributes → is_markdown_alone config.options ≡ true
+    → None ≡ slice_get (indexes name config.registered) 0 → is_span name ≡ false → IsPassed config d
+passed-unhandled config name attributes d e p h s =
+    subst (IsPassed config) (sym e) (
+      p,
+      subst (λ b. IsPlain (handlers_at config.handlers (indexes name config.registered)) b
+          (has_math_class attributes)) (sym s)
+          (ap (handlers_at config.handlers) (drop_at_none (indexes name config.registered) 0 h)),
+    )
+
 pub passed-span : (config : Config) (name : List ℕ) (attributes : List AttributePair) (d : Data) (index : ℕ)
     → d ≡ element_node name attributes → is_markdown_alone config.options ≡ true
     → Some index ≡ slice_get (indexes name config.registered) 0

@@ -5,7 +5,7 @@ use Rattle.htmd_grammar.specs.Documents.{ReadsDocument}
 use Rattle.htmd_grammar.specs.Rules.{project}
 use Rattle.htmd_grammar.specs.Faults.{IsFault}
 use Rattle.htmd_grammar.specs.declared.fault.FaultKind.{FaultKind}
-use Rattle.htmd_tree.specs.Items.{Item, IsTree, HoldTexts}
+use Rattle.htmd_tree.specs.Items.{Item}
 use Rattle.htmd_tree.specs.Bodies.{body_part, body_place}
 use Rattle.htmd_tree.specs.Layout.{document_items}
 use Rattle.htmd_tree.specs.declared.reader.ReadError.{ReadError}
@@ -34,12 +34,6 @@ pub record IsRefused (scripting : Bool) (html : List ℕ) (place : ℕ) (kind : 
 abbrev pub IsMarkdownOf : Config → Bool → List ℕ → List ℕ → Type 0
 IsMarkdownOf config scripting html text =
     (tree : List Item) × IsTreeOf scripting html tree × (text ≡ markdown config tree 0)
-
--- the same, and the document is a tree whose texts are UTF-8
-abbrev pub IsMarkdownOfTexts : Config → Bool → List ℕ → List ℕ → Type 0
-IsMarkdownOfTexts config scripting html text =
-    (tree : List Item) × IsTreeOf scripting html tree × IsTree tree × HoldTexts tree
-    × (text ≡ markdown config tree 0)
 
 -- why a text was not read is why it was not converted
 abbrev pub conversion_error : ReadError → ConvertError

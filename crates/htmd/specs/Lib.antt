@@ -1,5 +1,5 @@
 -- What Markdown a tree becomes, in reading order: what a handler is and answers, which handlers a tag has, how texts
--- are put together, what an element and a node give by them, what a whole conversion gives, and its laws; then the
+-- are put together, what an element and a node give by them, what a whole conversion gives; then the
 -- built-in handlers and the registry; last what private contracts alone speak of.
 pub use Rattle.htmd_text.specs.Characters
 pub use Rattle.htmd_text.specs.Blocks
@@ -28,7 +28,6 @@ pub mod Elements
 pub mod Rendering
 pub mod Markdown
 pub mod HandlerAnswers
-pub mod Laws
 pub mod ElementPlans
 pub mod AllText
 pub mod Headings
@@ -46,6 +45,7 @@ pub mod Preformatted
 pub mod Lists
 pub mod ListItems
 pub mod TableLayouts
+pub mod TableOrder
 pub mod Tables
 pub mod TableCells
 pub mod TableParts
@@ -53,20 +53,12 @@ pub mod LinkAttributes
 pub mod Images
 pub mod Anchors
 pub mod BuiltIn
-pub mod GroupLaws
-pub mod EmphasisLaws
-pub mod LinkLaws
-pub mod ListLaws
-pub mod ParagraphLaws
-pub mod TextLaws
 pub mod Beginnings
 pub mod Views
 pub mod RegisteredHandlers
 pub mod Registries
 pub mod Converters
 pub mod Conversions
-pub mod Letters
-pub mod Shown
 pub mod Defaults
 pub mod TagIndexes
 pub mod Closures

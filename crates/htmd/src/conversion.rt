@@ -5,8 +5,6 @@ ghost use Rattle.htmd_grammar.specs.declared.fault.FaultKind.{FaultKind};
 ghost use Rattle.htmd.specs.BuiltIn.{built_in};
 ghost use Rattle.htmd.specs.Conversions.{IsRefused, IsMarkdownOf, conversion_error};
 ghost use Rattle.htmd.specs.Defaults.{default_options};
-ghost use Rattle.htmd.specs.Letters.{SaysEveryLetterOf};
-ghost use Rattle.htmd.specs.Shown.{LosesNothingOf};
 ghost use Rattle.htmd.specs.declared.conversion.ConvertError.TheVariants.{Memory};
 
 use crate::converter::HtmlToMarkdown;
@@ -53,14 +51,12 @@ impl<T: Drop> From<AllocFailed<T>> for ConvertError {
 }
 
 /// The Markdown of a text of HTML, by a new converter: the built-in handlers, the default options and
-/// scripting on. It has each letter of the document once, in order; and where no table stands, each character that a
-/// reader sees, in order. `Refused` for each text outside the grammar, with the byte place and the kind of its first
-/// fault; `Memory` where a growth was refused.
+/// scripting on. Of a table that is written as one it drops `th` in body rows, `td` in the row that gives the headers
+/// where `th` stand in it, further rows of a `thead`, and each `thead` but the last. `Refused` for each text outside the
+/// grammar, with the byte place and the kind of its first fault; `Memory` where a growth was refused.
 pub fn convert(alloc: Global, html: &str) -> Result<String, ConvertError>
     ensures ok { IfOk result
         (λ text. IsMarkdownOf (built_in default_options) true html.now (string_bytes text)) }
-    ensures letters { IfOk result (λ text. SaysEveryLetterOf default_options true html.now (string_bytes text)) }
-    ensures shown { IfOk result (λ text. LosesNothingOf true html.now (string_bytes text)) }
     ensures refused { (place : ℕ) (kind : FaultKind) → result ≡ Err (ConvertError.Refused place kind)
         → IsRefused true html.now place kind }
 {

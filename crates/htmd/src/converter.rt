@@ -4,7 +4,7 @@ ghost use Rattle.std.specs.Prelude.{◌≡◌, ◌<◌, ℕ, true, None, Err, If
 ghost use Rattle.htmd_grammar.specs.declared.fault.FaultKind.{FaultKind};
 ghost use Rattle.htmd.specs.Handling.{of_functions};
 ghost use Rattle.htmd.specs.Choice.{no_handler, with_handler, with_options};
-ghost use Rattle.htmd.specs.Conversions.{IsRefused, IsMarkdownOf, IsMarkdownOfTexts, IsTreeOf, IsMarkdownOfPage};
+ghost use Rattle.htmd.specs.Conversions.{IsRefused, IsMarkdownOf, IsTreeOf, IsMarkdownOfPage};
 ghost use Rattle.htmd.specs.Conversions.{IsPageRefused};
 ghost use Rattle.htmd.specs.Defaults.{default_options};
 ghost use Rattle.htmd.specs.Markdown.{markdown};
@@ -92,13 +92,10 @@ impl<R: Registry> HtmlToMarkdown<R> {
         Ok(read_html(alloc, html, self.scripting)?)
     }
 
-    /// The Markdown of a text of HTML: of its tree, from the Document, all of whose texts are UTF-8. It is
-    /// refused as its tree is.
+    /// The Markdown of a text of HTML: of its tree, from the Document. It is refused as its tree is.
     pub fn convert(&self, alloc: Global, html: &str) -> Result<String, ConvertError>
         requires ready { R.ready (handlers_of self.now) }
         ensures ok { IfOk result (λ text. IsMarkdownOf (R.config (handlers_of self.now))
-            (scripting_of self.now) html.now (string_bytes text)) }
-        ensures texts { IfOk result (λ text. IsMarkdownOfTexts (R.config (handlers_of self.now))
             (scripting_of self.now) html.now (string_bytes text)) }
         ensures refused { (place : ℕ) (kind : FaultKind) → result ≡ Err (ConvertError.Refused place kind)
             → IsRefused (scripting_of self.now) html.now place kind }

@@ -16,13 +16,17 @@ mod converter;
 mod dom_walker;
 pub mod element_handler;
 mod group;
-pub mod laws;
 mod line;
 mod node_util;
 pub mod options;
 mod seam;
 mod spare_texts;
 mod text_node;
+
+/// The writers of pieces that read back: what they promise of a piece holds of what a handler writes.
+pub mod laws {
+    pub use htmd_markdown::{write_fence, write_row, write_span, write_table};
+}
 
 pub use conversion::{ConvertError, convert};
 pub use converter::{AddFnRefused, AddRefused, HtmlToMarkdown, HtmlToMarkdownBuilder, SkipRefused};

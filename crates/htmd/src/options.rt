@@ -34,7 +34,7 @@ pub enum TranslationMode {
     /// It is written as HTML.
     Faithful,
     /// Its content alone is written, and the page's text is escaped so that a CommonMark reader sees it as text;
-    /// `laws::text_stays_text` says of which pages that is proved.
+    /// `text_stays_text` of `htmd_laws` says of which pages that is proved.
     Guarded,
 }
 

@@ -1,4 +1,4 @@
--- Fields, escape by escape, and that what is written is read.
+-- Fields, escape by escape.
 use Rattle.std.proofs.Common.{◌≡◌, ◌∙◌, sym, ap, refl, ℕ, zero, suc, ◌+◌, ◌-◌, ◌*◌, ◌%◌, ◌<◌, ◌≤◌, ◌==◌}
 use Rattle.std.proofs.Common.{Bool, true, false, append-nil}
 use Rattle.std.proofs.Common.{if◌then◌else◌, List, [], ◌∷◌, ◌++◌, length, take, drop, get_or, arith, append_assoc}
@@ -8,7 +8,7 @@ use Rattle.std.proofs.lemmas.Bool.{eqb-true, lt-ltb, le-ltb}
 use Rattle.std.specs.Prelude.{nat_lt}
 use Rattle.htmd.specs.Characters.{backslash, carriage_return, line_feed, tab}
 use Rattle.htmd_cli.specs.Fields.{digit_value, digits, number_behind, escaped, escape_length}
-use Rattle.htmd_cli.specs.Fields.{read_behind, read_field, written_byte, written_field, FieldsReadBack}
+use Rattle.htmd_cli.specs.Fields.{read_behind, read_field, written_byte, written_field}
 use Rattle.htmd_cli.specs.Lines.{lacks}
 use Rattle.htmd_cli.proofs.LinesLemmas.{unless}
 
@@ -136,24 +136,6 @@ pub read-end : (page page1 rest whole : List ℕ) → lacks backslash rest ≡ t
 read-end page page1 rest whole p e h = e ∙ (ap (λ t. page ++ t) (sym (read-whole rest p)) ∙ h)
 
 -- ---- what is written
-
--- a byte that is escaped, or isn't, is read as itself
-written-read : (b : ℕ) (s : List ℕ) (t u v w : Bool) → (b == backslash) ≡ t → (b == line_feed) ≡ u
-    → (b == carriage_return) ≡ v → (b == tab) ≡ w
-    → read_field ((if t then codes "\\\\" else if u then codes "\\n" else if v then codes "\\r"
-    else if w then codes "\\t" else b ∷ []) ++ s) ≡ b ∷ read_field s
-written-read b s true u v w e f g h = ap (λ x. x ∷ read_field s) (sym (eqb-true b backslash e))
-written-read b s false true v w e f g h = ap (λ x. x ∷ read_field s) (sym (eqb-true b line_feed f))
-written-read b s false false true w e f g h = ap (λ x. x ∷ read_field s) (sym (eqb-true b carriage_return g))
-written-read b s false false false true e f g h = ap (λ x. x ∷ read_field s) (sym (eqb-true b tab h))
-written-read b s false false false false e f g h = rw e refl
-
-pub fields_read_back : FieldsReadBack
-fields_read_back [] = refl
-fields_read_back (b ∷ s) =
-    written-read b (written_field s) (b == backslash) (b == line_feed) (b == carriage_return) (b == tab)
-    refl refl refl refl
-    ∙ ap (λ t. b ∷ t) (fields_read_back s)
 
 -- one byte more that isn't escaped
 pub written-plain : (text : List ℕ) (place : ℕ) → place < length text

@@ -1,9 +1,8 @@
--- Lemmas of runs, words, conversions and paragraphs, and worked rows.
+-- Lemmas of runs, words, conversions and rows, and worked rows.
 pub mod AppendsLemmas
 pub mod ConversionLemmas
 pub mod RunsLemmas
 pub mod WordsLemmas
-pub mod ParagraphLawsLemmas
 pub mod LinesLemmas
 pub mod FieldsLemmas
 pub mod RowsLemmas

@@ -1,5 +1,5 @@
 -- A field of a row, read and written, as PostgreSQL's COPY does: "COPY", File Formats, Text Format.
-use Rattle.std.specs.Prelude.{◌≡◌, ℕ, zero, suc, ◌+◌, ◌-◌, ◌*◌, ◌%◌, Bool, ◌&&◌, ◌==◌, nat_lt, nat_le}
+use Rattle.std.specs.Prelude.{ℕ, zero, suc, ◌+◌, ◌-◌, ◌*◌, ◌%◌, Bool, ◌&&◌, ◌==◌, nat_lt, nat_le}
 use Rattle.std.specs.Prelude.{if◌then◌else◌, List, [], ◌∷◌, ◌++◌, codes}
 use Rattle.std.specs.Char.{is_ascii_digit}
 use Rattle.htmd.specs.Characters.{backslash, carriage_return, digit_zero, form_feed, line_feed, tab}
@@ -102,7 +102,3 @@ written_byte b =
 abbrev pub written_field : List ℕ → List ℕ
 written_field [] = []
 written_field (b ∷ s) = written_byte b ++ written_field s
-
--- A text that is written as a field is read as that text.
-abbrev pub FieldsReadBack : Type 0
-FieldsReadBack = (text : List ℕ) → read_field (written_field text) ≡ text

@@ -7,6 +7,5 @@ pub mod Lines
 pub mod Fields
 pub mod Words
 pub mod Rows
-pub mod ParagraphLaws
 pub mod WordRows
 pub mod Batches

@@ -13,7 +13,6 @@ mod explanations;
 mod faults;
 mod fields;
 mod help;
-pub mod laws;
 mod lines;
 mod paragraph;
 mod pipeline;

@@ -4,10 +4,10 @@ ghost use Rattle.htmd.specs.BuiltIn.{built_in};
 ghost use Rattle.htmd.specs.Characters.{line_feed};
 ghost use Rattle.htmd.specs.Conversions.{DenotesNothing, IsMarkdownOf};
 ghost use Rattle.htmd.specs.Defaults.{default_options};
-ghost use Rattle.htmd.specs.Letters.{letters, said};
+ghost use Rattle.htmd_laws.specs.Letters.{letters, said};
 
-use htmd::laws::every_letter_once;
 use htmd::{ConvertError, HtmlToMarkdown, Tree, convert};
+use htmd_laws::conversion::every_letter_once;
 use std::alloc::{AllocError, Global};
 
 /// The Markdown of a text, and a line feed behind it.

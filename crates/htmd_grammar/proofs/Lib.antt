@@ -7,32 +7,29 @@ pub mod NestingLemmas
 mod ReferencedLineFeeds
 mod EscapeLemmas
 mod TagNamesLemmas
-mod TagsLemmas
+pub mod TagsLemmas
 pub mod ReadBackLemmas
 pub mod TagReadingLemmas
 pub mod TagSpellingLemmas
 pub mod TextLemmas
-mod CommentsLemmas
-mod ReferencesLemmas
-mod TreeTexts
-mod Completeness
-mod Uniqueness
+pub mod CommentsLemmas
+pub mod ReferencesLemmas
+pub mod TreeTexts
+pub mod Completeness
+pub mod Uniqueness
 mod RawReadBack
 mod LackLemmas
 mod Subtrees
-mod CutLemmas
+pub mod CutLemmas
 mod FullPieces
-mod FrontsLemmas
-mod Soundness
+pub mod FrontsLemmas
+pub mod Soundness
 pub mod Readings
 mod ViablePrefixes
-mod ParameterLaw
 pub mod FaultPieces
-mod LowerFaults
-mod StepFaults
-mod RightFaults
-mod FrontsReached
-mod OneFault
+pub mod LowerFaults
+pub mod StepFaults
+pub mod RightFaults
 mod ComputedSteps
 mod FaultExamples
 mod TextsLeft

@@ -1,17 +1,10 @@
-//! Laws of the definitions: each is the contract of a function that does nothing.
+//! The laws that the reader and the serialiser of `htmd_tree` call: each is the contract of a function that does
+//! nothing. `htmd_laws` has those that no code calls.
 ghost use Rattle.std.specs.Prelude.{Bool};
 ghost use Rattle.htmd_grammar.specs.Rules.{Rules, project};
-ghost use Rattle.htmd_grammar.specs.Laws.{AtMostOneForest, AtMostOneDocument, MoreRulesReadMore};
-ghost use Rattle.htmd_grammar.specs.Laws.{MoreRulesReadMoreDocuments, StepsReadAll, StepsReadRightly, FaultsRefuse};
-ghost use Rattle.htmd_grammar.specs.Laws.{PrefixesAreViable, FaultsAreOne, FaultsAreRight, FaultsRefuseDocuments};
-ghost use Rattle.htmd_grammar.specs.Laws.{RestIsAnEnd};
+ghost use Rattle.htmd_grammar.specs.Laws.{StepsReadAll, StepsReadRightly, FaultsRefuse, PrefixesAreViable};
+ghost use Rattle.htmd_grammar.specs.Laws.{FaultsAreRight, FaultsRefuseDocuments, RestIsAnEnd};
 ghost use Rattle.htmd_grammar.specs.ReadBack.{ReadsBack, RawBlockReadsBack};
-
-/// A text denotes at most one document, and in any context that is not empty at most one list of trees.
-pub fn at_most_one_tree()
-    ensures document { (rules : Rules) → AtMostOneDocument rules }
-    ensures in_context { (rules : Rules) → AtMostOneForest rules }
-{}
 
 /// Of trees that were read: what the serialiser writes of an element without carriage returns, comments, `pre`,
 /// `textarea` and raw text elements is read as that element alone, in the context of its ancestors, also with
@@ -19,13 +12,6 @@ pub fn at_most_one_tree()
 pub fn raw_html_reads_back()
     ensures serialisation { (scripting : Bool) → ReadsBack (project scripting) }
     ensures block { (scripting : Bool) → RawBlockReadsBack (project scripting) }
-{}
-
-/// What a text denotes under fewer names of references and a smaller depth, it denotes under more, with the same
-/// scripting.
-pub fn more_rules_read_more()
-    ensures in_context { MoreRulesReadMore }
-    ensures document { MoreRulesReadMoreDocuments }
 {}
 
 /// The steps of a reader reach the end exactly for the texts that denote something, and read that; a fault of
@@ -44,9 +30,4 @@ pub fn faults_are_right()
     ensures right { (rules : Rules) → FaultsAreRight rules }
     ensures refused { (rules : Rules) → FaultsRefuseDocuments rules }
     ensures rest { (rules : Rules) → RestIsAnEnd rules }
-{}
-
-/// A text has at most one right place and kind of a refusal.
-pub fn faults_are_one()
-    ensures { (rules : Rules) → FaultsAreOne rules }
 {}

@@ -279,17 +279,16 @@ impl Registry for ElementHandlers {
         let NodeData::Element { name, attrs } = tree.data(node) else {
             return false;
         };
-        let tag = name.as_str();
-        // Of other tags the handlers are looked up where they are asked.
-        if tag != "span" {
-            return false;
-        }
         if !is_markdown_alone(&self.options) {
             return false;
         }
+        let tag = name.as_str();
         let Some(index) = self.find(tag, 0) else {
-            return false;
+            return tag != "span";
         };
+        if tag != "span" {
+            return false;
+        }
         if self.find(tag, 1).is_some() {
             return false;
         }

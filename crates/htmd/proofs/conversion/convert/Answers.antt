@@ -2,24 +2,12 @@
 use Rattle.std.proofs.Common.{subst, string_bytes}
 use Rattle.htmd.specs.Conversions.{IsRefused}
 use Rattle.htmd.proofs.ConversionsLemmas.{markdown_by_default}
-use Rattle.htmd.proofs.LettersLawsLemmas.{said_by_default}
-use Rattle.htmd.proofs.ShownLawsLemmas.{shown_by_default}
 use Rattle.htmd.proofs.conversion.convert.Goals as goal
 
 pub returns-clause-ok : goal.returns-clause-ok
 returns-clause-ok c =
     markdown_by_default _ _ c.args.html.now string_bytes c.convert.result c.in_ok-new.ensures.handlers
     c.in_ok-new.ensures.scripting c.convert.ensures.ok
-
-pub returns-clause-letters : goal.returns-clause-letters
-returns-clause-letters c =
-    said_by_default _ _ c.args.html.now string_bytes c.convert.result c.in_ok-new.ensures.handlers
-    c.in_ok-new.ensures.scripting c.convert.ensures.texts
-
-pub returns-clause-shown : goal.returns-clause-shown
-returns-clause-shown c =
-    shown_by_default _ _ c.args.html.now string_bytes c.convert.result c.in_ok-new.ensures.handlers
-    c.in_ok-new.ensures.scripting c.convert.ensures.texts
 
 pub returns-clause-refused : goal.returns-clause-refused
 returns-clause-refused c place kind q =

@@ -1,0 +1,132 @@
+/*
+ * HTML to Markdown: the proved converter, for C.
+ *
+ *     htmd_options options;
+ *     htmd_default_options(&options);
+ *     status = htmd_convert(html, html_len, &options, out, out_len, &needed, &place, &kind);
+ *
+ * Texts are bytes in UTF-8 with a length, without a 0 at the end; places are bytes from 0.
+ *
+ * What is proved holds for callers that do as follows; nothing checks it.
+ * - No pointer is null, not even where its length is 0, and each has as many bytes as its length says.
+ * - What is written (out, needed, place, kind, options, line, column) overlaps nothing else that is passed.
+ * - malloc, realloc and free are one allocator, which aligns a block to each power of two up to 16 that divides its size.
+ * - No call is made in a signal handler, nor in the forked child of a process with threads.
+ * Calls from several threads at once are fine: the library keeps nothing between calls and has no lock.
+ */
+#ifndef HTMD_H
+#define HTMD_H
+
+#include <stddef.h>
+#include <stdint.h>
+
+#ifdef __cplusplus
+extern "C" {
+#endif
+
+/* The version of the struct below. */
+#define HTMD_OPTIONS_VERSION 1
+
+/* Further readers and values may come with numbers that are bad options today; no number changes what it says. */
+
+/* reader: how the text is read */
+enum {
+    HTMD_STRICT = 0, /* all of it, by the strict grammar */
+    HTMD_PAGE = 1    /* of a page what stands between the tags of its body, by the same grammar */
+    /* 2 is kept for a reader of any HTML, and is a bad option until it is there */
+};
+
+/* mode: what becomes of what Markdown has no form for, and how much of a text is escaped */
+enum {
+    HTMD_PURE = 0,     /* its content */
+    HTMD_FAITHFUL = 1, /* that stays HTML */
+    HTMD_GUARDED = 2   /* its content, and texts are escaped so that a reader shows them as texts */
+};
+
+enum { HTMD_HEADING_ATX = 0, HTMD_HEADING_SETEXT = 1 };
+enum { HTMD_HR_ASTERISKS = 0, HTMD_HR_DASHES = 1, HTMD_HR_UNDERSCORES = 2 };
+enum { HTMD_BR_TWO_SPACES = 0, HTMD_BR_BACKSLASH = 1 };
+enum { HTMD_LINK_INLINED = 0, HTMD_LINK_INLINED_PREFER_AUTOLINKS = 1, HTMD_LINK_REFERENCED = 2 };
+enum { HTMD_REFERENCE_FULL = 0, HTMD_REFERENCE_COLLAPSED = 1, HTMD_REFERENCE_SHORTCUT = 2 };
+enum { HTMD_CODE_FENCED = 0, HTMD_CODE_INDENTED = 1 };
+enum { HTMD_FENCE_BACKTICKS = 0, HTMD_FENCE_TILDES = 1 };
+enum { HTMD_BULLET_ASTERISK = 0, HTMD_BULLET_DASH = 1 };
+
+/* What a conversion goes by. Fill it by htmd_default_options, and change what is to be changed. */
+typedef struct htmd_options {
+    uint8_t version; /* HTMD_OPTIONS_VERSION */
+    uint8_t reader;
+    uint8_t mode;
+    uint8_t scripting; /* 1: the content of noscript is one text; 0: it is nodes */
+    uint8_t heading_style;
+    uint8_t hr_style;
+    uint8_t br_style;
+    uint8_t link_style;
+    uint8_t link_reference_style;
+    uint8_t code_block_style;
+    uint8_t code_block_fence;
+    uint8_t bullet_list_marker;
+    uint8_t ul_bullet_spacing; /* any number; the spaces behind the marker of an item of a bullet list */
+    uint8_t ol_number_spacing; /* any number; the spaces behind the longest number of an ordered list */
+    uint8_t preformatted_code; /* 1: the white space of a code span is kept; 0: it is not */
+    uint8_t reserved[17];      /* 0 */
+} htmd_options;
+
+/* What a call answers. */
+enum {
+    HTMD_DONE = 0,
+    HTMD_TOO_SMALL = 1,  /* out_len is less than needed */
+    HTMD_REFUSED = 2,    /* the text is outside the grammar */
+    HTMD_NOT_UTF8 = 3,   /* the bytes are no UTF-8 */
+    HTMD_NO_MEMORY = 4,  /* a request for memory was refused */
+    HTMD_BAD_OPTIONS = 5 /* a number of the struct is none that its field may have */
+};
+
+/* The kinds of a refusal; docs/GRAMMAR.md says what each means, and what to do. */
+enum {
+    HTMD_NUL = 1,
+    HTMD_MALFORMED_TAG = 2,
+    HTMD_MALFORMED_COMMENT = 3,
+    HTMD_MALFORMED_DECLARATION = 4,
+    HTMD_UNKNOWN_REFERENCE = 5,
+    HTMD_BAD_NUMBER = 6,
+    HTMD_DUPLICATE_ATTRIBUTE = 7,
+    HTMD_SELF_CLOSING = 8,
+    HTMD_TAG_OUTSIDE = 9,
+    HTMD_NOT_ALLOWED_HERE = 10,
+    HTMD_STRAY_END_TAG = 11,
+    HTMD_STRAY_TEXT = 12,
+    HTMD_UNCLOSED = 13,
+    HTMD_SCRIPT_ESCAPE = 14,
+    HTMD_TOO_DEEP = 15
+};
+
+/* Writes the default options: strict, Pure, scripting on, spacings of 3 and 2, and 0 in all else. */
+void htmd_default_options(htmd_options *options);
+
+/*
+ * Writes the Markdown of a text to the front of out, and answers what was done. The options are looked at first, then
+ * whether the bytes are UTF-8.
+ *
+ * needed: of HTMD_DONE and HTMD_TOO_SMALL the length of the Markdown, else 0.
+ * place: of HTMD_REFUSED where the text is wrong first, of HTMD_NOT_UTF8 the first bad byte, else 0.
+ * kind: of HTMD_REFUSED the kind, else 0.
+ *
+ * Of out nothing is written but where the status is HTMD_DONE, and then the first needed bytes alone. A text is
+ * converted anew by each call, so a buffer that is large enough at once saves a conversion; most Markdown is shorter than
+ * its HTML.
+ */
+uint32_t htmd_convert(const uint8_t *html, size_t html_len, const htmd_options *options, uint8_t *out, size_t out_len,
+                      size_t *needed, size_t *place, uint8_t *kind);
+
+/*
+ * The line and the column of a place in a text, both from 1. A line ends with a line feed, a carriage return and a line
+ * feed, or a carriage return; columns are characters. The status is HTMD_DONE, or HTMD_NOT_UTF8 and both are 0.
+ */
+uint32_t htmd_line_and_column(const uint8_t *html, size_t html_len, size_t place, size_t *line, size_t *column);
+
+#ifdef __cplusplus
+}
+#endif
+
+#endif

@@ -1,0 +1,259 @@
+/* Tests of the library from C: what no clause can say of the header, of the linking and of real calls. With one request
+ * for memory refused after the other it is linked so that malloc and realloc are those below. */
+#include "htmd.h"
+
+#include <stdio.h>
+#include <stdlib.h>
+#include <string.h>
+
+static int failures = 0;
+
+#define CHECK(condition)                                                                                              \
+    do {                                                                                                              \
+        if (!(condition)) {                                                                                           \
+            fprintf(stderr, "%s:%d: %s\n", __FILE__, __LINE__, #condition);                                           \
+            failures++;                                                                                               \
+        }                                                                                                             \
+    } while (0)
+
+enum { ROOM = 4096, UNTOUCHED = 0xA5 };
+
+/* A call, and all that it answers. The buffer lies on the heap, so that valgrind sees what is written behind it. */
+struct answer {
+    uint32_t status;
+    size_t needed;
+    size_t place;
+    uint8_t kind;
+    uint8_t out[ROOM];
+};
+
+static struct answer call(const char *html, size_t html_len, const htmd_options *options, size_t out_len) {
+    struct answer answer;
+    uint8_t *text = malloc(html_len + 1);
+    uint8_t *out = malloc(out_len + 1);
+    if (text == NULL || out == NULL || out_len > ROOM)
+        abort();
+    memcpy(text, html, html_len);
+    memset(out, UNTOUCHED, out_len + 1);
+    text = realloc(text, html_len == 0 ? 1 : html_len);
+    out = realloc(out, out_len == 0 ? 1 : out_len);
+    answer.needed = answer.place = SIZE_MAX;
+    answer.kind = UINT8_MAX;
+    memset(answer.out, UNTOUCHED, ROOM);
+    answer.status =
+        htmd_convert(text, html_len, options, out, out_len, &answer.needed, &answer.place, &answer.kind);
+    memcpy(answer.out, out, out_len);
+    free(text);
+    free(out);
+    return answer;
+}
+
+static int is_untouched(const uint8_t *bytes, size_t from, size_t to) {
+    for (size_t i = from; i < to; i++)
+        if (bytes[i] != UNTOUCHED)
+            return 0;
+    return 1;
+}
+
+static int says(const struct answer *answer, const char *markdown) {
+    size_t length = strlen(markdown);
+    return answer->status == HTMD_DONE && answer->needed == length && memcmp(answer->out, markdown, length) == 0 &&
+           is_untouched(answer->out, length, ROOM) && answer->place == 0 && answer->kind == 0;
+}
+
+static htmd_options defaults(void) {
+    htmd_options options;
+    memset(&options, UNTOUCHED, sizeof options);
+    htmd_default_options(&options);
+    return options;
+}
+
+static void test_struct(void) {
+    htmd_options options = defaults();
+    const uint8_t wanted[32] = {1, 0, 0, 1, 0, 0, 0, 0, 0, 0, 0, 0, 3, 2};
+    CHECK(sizeof(htmd_options) == 32);
+    CHECK(memcmp(&options, wanted, sizeof wanted) == 0);
+    CHECK(offsetof(htmd_options, version) == 0);
+    CHECK(offsetof(htmd_options, ul_bullet_spacing) == 12);
+    CHECK(offsetof(htmd_options, reserved) == 15);
+}
+
+static void test_sizes(void) {
+    const char *html = "<h1>Tea</h1><p>Use <b>fresh</b> water.</p>";
+    const char *markdown = "# Tea\n\nUse **fresh** water.";
+    size_t length = strlen(markdown);
+    htmd_options options = defaults();
+    for (size_t room = 0; room <= length + 2; room++) {
+        struct answer answer = call(html, strlen(html), &options, room);
+        if (room >= length) {
+            CHECK(says(&answer, markdown));
+            continue;
+        }
+        CHECK(answer.status == HTMD_TOO_SMALL);
+        CHECK(answer.needed == length && answer.place == 0 && answer.kind == 0);
+        CHECK(is_untouched(answer.out, 0, ROOM));
+    }
+    struct answer nothing = call("", 0, &options, 0);
+    CHECK(says(&nothing, ""));
+}
+
+static void test_readers(void) {
+    const char *page = "<!DOCTYPE html><html><head><title>t</title></head><body><h1>Hi</h1></body></html>";
+    htmd_options options = defaults();
+    struct answer refused = call(page, strlen(page), &options, ROOM);
+    CHECK(refused.status == HTMD_REFUSED && refused.place == 15 && refused.kind == HTMD_TAG_OUTSIDE);
+    CHECK(refused.needed == 0 && is_untouched(refused.out, 0, ROOM));
+    options.reader = HTMD_PAGE;
+    struct answer answer = call(page, strlen(page), &options, ROOM);
+    CHECK(says(&answer, "# Hi"));
+}
+
+static void test_options(void) {
+    const char *html = "<h1>A</h1><hr><p>b<br>c <a href=\"/x\">d</a></p><ul><li>e</li></ul><ol><li>f</li></ol>"
+                       "<pre><code>g</code></pre><p>h <code> i  j </code></p>";
+    htmd_options options = defaults();
+    struct answer plain = call(html, strlen(html), &options, ROOM);
+    CHECK(says(&plain, "# A\n\n* * *\n\nb  \nc [d](/x)\n\n*   e\n\n1.  f\n\n```\ng\n```\n\nh `i  j`"));
+    options.heading_style = HTMD_HEADING_SETEXT;
+    options.hr_style = HTMD_HR_DASHES;
+    options.br_style = HTMD_BR_BACKSLASH;
+    options.link_style = HTMD_LINK_REFERENCED;
+    options.link_reference_style = HTMD_REFERENCE_COLLAPSED;
+    options.code_block_fence = HTMD_FENCE_TILDES;
+    options.bullet_list_marker = HTMD_BULLET_DASH;
+    options.ul_bullet_spacing = 1;
+    options.ol_number_spacing = 1;
+    options.preformatted_code = 1;
+    struct answer other = call(html, strlen(html), &options, ROOM);
+    CHECK(says(&other, "A\n=\n\n- - -\n\nb\\\nc [d][]\n\n- e\n\n1. f\n\n~~~\ng\n~~~\n\nh `  i  j  `\n\n[d]: /x"));
+    options.code_block_style = HTMD_CODE_INDENTED;
+    options.hr_style = HTMD_HR_UNDERSCORES;
+    options.link_reference_style = HTMD_REFERENCE_SHORTCUT;
+    other = call(html, strlen(html), &options, ROOM);
+    CHECK(says(&other, "A\n=\n\n_ _ _\n\nb\\\nc [d]\n\n- e\n\n1. f\n\n    g\n\nh `  i  j  `\n\n[d]: /x"));
+    options.link_style = HTMD_LINK_INLINED_PREFER_AUTOLINKS;
+    const char *autolink = "<a href=\"http://a.b/\">http://a.b/</a>";
+    struct answer link = call(autolink, strlen(autolink), &options, ROOM);
+    CHECK(says(&link, "<http://a.b/>"));
+}
+
+static void test_modes(void) {
+    const char *html = "<p>10<sup>3</sup> &amp;copy;</p>";
+    htmd_options options = defaults();
+    struct answer pure = call(html, strlen(html), &options, ROOM);
+    CHECK(says(&pure, "103 &copy;"));
+    options.mode = HTMD_GUARDED;
+    struct answer guarded = call(html, strlen(html), &options, ROOM);
+    CHECK(says(&guarded, "103 \\&copy;"));
+    options.mode = HTMD_FAITHFUL;
+    struct answer faithful = call(html, strlen(html), &options, ROOM);
+    CHECK(says(&faithful, "10<sup>3</sup> &copy;"));
+}
+
+/* Each number of each byte of the struct: all but the good ones answer the status for them, and write nothing. */
+static void test_numbers(void) {
+    const int counts[32] = {0, 2, 3, 2, 2, 3, 2, 3, 3, 2, 2, 2, 256, 256, 2};
+    for (int at = 0; at < 32; at++) {
+        for (int number = 0; number < 256; number++) {
+            htmd_options options = defaults();
+            memcpy((uint8_t *)&options + at, &(uint8_t){(uint8_t)number}, 1);
+            int is_good = at == 0 ? number == HTMD_OPTIONS_VERSION : at > 14 ? number == 0 : number < counts[at];
+            struct answer answer = call("<p>a</p>", 8, &options, 8);
+            if (is_good) {
+                CHECK(says(&answer, "a"));
+                continue;
+            }
+            CHECK(answer.status == HTMD_BAD_OPTIONS);
+            CHECK(answer.needed == 0 && answer.place == 0 && answer.kind == 0);
+            CHECK(is_untouched(answer.out, 0, ROOM));
+        }
+    }
+    htmd_options options = defaults();
+    options.reader = 2;
+    struct answer both = call("\xff", 1, &options, 8);
+    CHECK(both.status == HTMD_BAD_OPTIONS);
+}
+
+static void test_utf8(void) {
+    htmd_options options = defaults();
+    struct answer answer = call("<p>\xc3\xa4</p>", 9, &options, ROOM);
+    CHECK(says(&answer, "\xc3\xa4"));
+    answer = call("<p>\xc3</p>", 8, &options, ROOM);
+    CHECK(answer.status == HTMD_NOT_UTF8 && answer.place == 3 && answer.kind == 0 && answer.needed == 0);
+    CHECK(is_untouched(answer.out, 0, ROOM));
+    answer = call("a\0b", 3, &options, ROOM);
+    CHECK(answer.status == HTMD_REFUSED && answer.place == 1 && answer.kind == HTMD_NUL);
+}
+
+static void test_places(void) {
+    const char *html = "<p>one</p>\n<p>\xc3\xa4wo &nosuch; three</p>\n";
+    const uint8_t *text = (const uint8_t *)html;
+    htmd_options options = defaults();
+    struct answer answer = call(html, strlen(html), &options, ROOM);
+    CHECK(answer.status == HTMD_REFUSED && answer.place == 19 && answer.kind == HTMD_UNKNOWN_REFERENCE);
+    size_t line = 0, column = 0;
+    CHECK(htmd_line_and_column(text, strlen(html), answer.place, &line, &column) == HTMD_DONE);
+    CHECK(line == 2 && column == 8);
+    CHECK(htmd_line_and_column(text, strlen(html), SIZE_MAX, &line, &column) == HTMD_DONE);
+    CHECK(line == 3 && column == 1);
+    CHECK(htmd_line_and_column((const uint8_t *)"\xff", 1, 0, &line, &column) == HTMD_NOT_UTF8);
+    CHECK(line == 0 && column == 0);
+}
+
+#ifdef REFUSE_MEMORY
+static long refused_request = 0;
+static long requests = 0;
+
+void *__real_malloc(size_t size);
+void *__real_realloc(void *block, size_t size);
+void *__wrap_malloc(size_t size);
+void *__wrap_realloc(void *block, size_t size);
+
+static int is_refused(void) { return refused_request != 0 && ++requests == refused_request; }
+
+void *__wrap_malloc(size_t size) { return is_refused() ? NULL : __real_malloc(size); }
+
+void *__wrap_realloc(void *block, size_t size) { return is_refused() ? NULL : __real_realloc(block, size); }
+
+/* Each request of a call refused in turn: the call says so and writes nothing, or answers as ever. */
+static void test_memory(void) {
+    const char *html = "<h1>A <em>page</em></h1><ol start=9><li><a href=\"/x\" title=\"t\">one</a></li><li>b_c</li></ol>"
+                       "<table><tr><th>A</th></tr><tr><td>1|2</td></tr></table><pre><code>let</code></pre>";
+    const uint8_t *text = (const uint8_t *)html;
+    htmd_options options = defaults();
+    struct answer whole = call(html, strlen(html), &options, ROOM);
+    CHECK(whole.status == HTMD_DONE);
+    long refusals = 0;
+    for (refused_request = 1;; refused_request++) {
+        uint8_t out[ROOM];
+        size_t needed, place;
+        uint8_t kind;
+        memset(out, UNTOUCHED, ROOM);
+        requests = 0;
+        uint32_t status = htmd_convert(text, strlen(html), &options, out, ROOM, &needed, &place, &kind);
+        int is_whole = status == HTMD_DONE && needed == whole.needed && memcmp(out, whole.out, ROOM) == 0;
+        int is_nothing = status == HTMD_NO_MEMORY && needed == 0 && is_untouched(out, 0, ROOM);
+        CHECK((is_whole || is_nothing) && place == 0 && kind == 0);
+        if (requests < refused_request)
+            break;
+        refusals += is_nothing;
+    }
+    CHECK(refusals > 10);
+    refused_request = 0;
+}
+#else
+static void test_memory(void) {}
+#endif
+
+int main(void) {
+    test_struct();
+    test_sizes();
+    test_readers();
+    test_options();
+    test_modes();
+    test_numbers();
+    test_utf8();
+    test_places();
+    test_memory();
+    return failures == 0 ? EXIT_SUCCESS : EXIT_FAILURE;
+}

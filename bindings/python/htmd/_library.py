@@ -1,0 +1,87 @@
+"""The C library: its struct of options, its numbers and its functions, as `bindings/c/htmd.h` has them."""
+
+import ctypes
+import os
+
+OPTIONS_VERSION = 1
+
+DONE = 0
+TOO_SMALL = 1
+REFUSED = 2
+NOT_UTF8 = 3
+NO_MEMORY = 4
+BAD_OPTIONS = 5
+
+#: The kinds of a refusal, by number.
+KINDS = {
+    1: "Nul",
+    2: "MalformedTag",
+    3: "MalformedComment",
+    4: "MalformedDeclaration",
+    5: "UnknownReference",
+    6: "BadNumber",
+    7: "DuplicateAttribute",
+    8: "SelfClosing",
+    9: "TagOutside",
+    10: "NotAllowedHere",
+    11: "StrayEndTag",
+    12: "StrayText",
+    13: "Unclosed",
+    14: "ScriptEscape",
+    15: "TooDeep",
+}
+
+
+class Options(ctypes.Structure):
+    """What a conversion goes by, in numbers."""
+
+    _fields_ = [
+        ("version", ctypes.c_uint8),
+        ("reader", ctypes.c_uint8),
+        ("mode", ctypes.c_uint8),
+        ("scripting", ctypes.c_uint8),
+        ("heading_style", ctypes.c_uint8),
+        ("hr_style", ctypes.c_uint8),
+        ("br_style", ctypes.c_uint8),
+        ("link_style", ctypes.c_uint8),
+        ("link_reference_style", ctypes.c_uint8),
+        ("code_block_style", ctypes.c_uint8),
+        ("code_block_fence", ctypes.c_uint8),
+        ("bullet_list_marker", ctypes.c_uint8),
+        ("ul_bullet_spacing", ctypes.c_uint8),
+        ("ol_number_spacing", ctypes.c_uint8),
+        ("preformatted_code", ctypes.c_uint8),
+        ("reserved", ctypes.c_uint8 * 17),
+    ]
+
+
+def _load() -> ctypes.CDLL:
+    path = os.path.join(os.path.dirname(os.path.abspath(__file__)), "libhtmd.so")
+    try:
+        return ctypes.CDLL(path)
+    except OSError as error:
+        raise ImportError(f"{error}; bindings/c/build of the repository makes it") from error
+
+
+_size = ctypes.c_size_t
+_size_out = ctypes.POINTER(ctypes.c_size_t)
+
+_loaded = _load()
+
+# A `CDLL` lets other threads run while one is in a call.
+convert = _loaded.htmd_convert
+convert.restype = ctypes.c_uint32
+convert.argtypes = [
+    ctypes.c_char_p,
+    _size,
+    ctypes.POINTER(Options),
+    ctypes.POINTER(ctypes.c_uint8),
+    _size,
+    _size_out,
+    _size_out,
+    ctypes.POINTER(ctypes.c_uint8),
+]
+
+line_and_column = _loaded.htmd_line_and_column
+line_and_column.restype = ctypes.c_uint32
+line_and_column.argtypes = [ctypes.c_char_p, _size, _size, _size_out, _size_out]

@@ -1,0 +1,201 @@
+"""Tests of the package: what no clause can say of real calls. They run by `python3 -m unittest` and by pytest."""
+
+import concurrent.futures
+import pickle
+import re
+import unittest
+from pathlib import Path
+
+import htmd
+from htmd import _convert, _library
+
+HEADER = Path(__file__).parents[2] / "c" / "htmd.h"
+
+PAGE = "<!DOCTYPE html><html><head><title>t</title></head><body><h1>Hi</h1></body></html>"
+
+#: Of each kind a text, and the byte where it is refused.
+REFUSALS = {
+    "Nul": ("a\0b", 1),
+    "MalformedTag": ("<p>a <b c</p>", 5),
+    "MalformedComment": ("a<!-- b", 1),
+    "MalformedDeclaration": ("<p>a</p><!DOCTYPE html>", 8),
+    "UnknownReference": ("<p>a &nosuch; b</p>", 5),
+    "BadNumber": ("<p>a &#150; b</p>", 5),
+    "DuplicateAttribute": ("<p id=a id=b>c</p>", 0),
+    "SelfClosing": ("<div/>a", 0),
+    "TagOutside": ("<html><body>a</body></html>", 0),
+    "NotAllowedHere": ("<ul><li>a<li>b</ul>", 9),
+    "StrayEndTag": ("<b>a<i>b</b></i>", 8),
+    "StrayText": ("<table>a<tr><td>b</td></tr></table>", 7),
+    "Unclosed": ("<p>a", 4),
+    "ScriptEscape": ("<script><!-- <script></script>", 8),
+    "TooDeep": ("<div>" * 2000, 5110),
+}
+
+#: Of each word of each option a text and its Markdown, in the mode "pure".
+OPTIONS = [
+    ("heading_style", "atx", "<h1>A</h1>", "# A"),
+    ("heading_style", "setext", "<h1>A</h1>", "A\n="),
+    ("hr_style", "asterisks", "<hr>", "* * *"),
+    ("hr_style", "dashes", "<hr>", "- - -"),
+    ("hr_style", "underscores", "<hr>", "_ _ _"),
+    ("br_style", "two-spaces", "a<br>b", "a  \nb"),
+    ("br_style", "backslash", "a<br>b", "a\\\nb"),
+    ("link_style", "inlined", "<a href=http://a.b/>http://a.b/</a>", "[http://a.b/](http://a.b/)"),
+    ("link_style", "inlined-prefer-autolinks", "<a href=http://a.b/>http://a.b/</a>", "<http://a.b/>"),
+    ("link_style", "referenced", "<a href=/x>d</a>", "[d][1]\n\n[1]: /x"),
+    ("code_block_style", "fenced", "<pre><code>g</code></pre>", "```\ng\n```"),
+    ("code_block_style", "indented", "<pre><code>g</code></pre>", "    g"),
+    ("code_block_fence", "backticks", "<pre><code>g</code></pre>", "```\ng\n```"),
+    ("code_block_fence", "tildes", "<pre><code>g</code></pre>", "~~~\ng\n~~~"),
+    ("bullet_list_marker", "asterisk", "<ul><li>e</li></ul>", "*   e"),
+    ("bullet_list_marker", "dash", "<ul><li>e</li></ul>", "-   e"),
+    ("ul_bullet_spacing", 1, "<ul><li>e</li></ul>", "* e"),
+    ("ol_number_spacing", 1, "<ol><li>e</li></ol>", "1. e"),
+    ("preformatted_code", False, "<code> i  j </code>", "`i  j`"),
+    ("preformatted_code", True, "<code> i  j </code>", "`  i  j  `"),
+    ("scripting", True, "<noscript><b>x</b></noscript>", "\\<b>x\\</b>"),
+    ("scripting", False, "<noscript><b>x</b></noscript>", "**x**"),
+]
+
+
+class Conversions(unittest.TestCase):
+    def test_page(self):
+        self.assertEqual(htmd.convert("<h1>Tea</h1><p>Use <b>fresh</b> water.</p>"), "# Tea\n\nUse **fresh** water.")
+        self.assertEqual(htmd.convert(PAGE), "# Hi")
+        self.assertEqual(htmd.convert(PAGE.encode()), "# Hi")
+        self.assertEqual(htmd.convert(""), "")
+
+    def test_readers(self):
+        self.assertEqual(htmd.convert(PAGE, reader="page"), "# Hi")
+        with self.assertRaises(htmd.Refused) as raised:
+            htmd.convert(PAGE, reader="strict")
+        self.assertEqual((raised.exception.place, raised.exception.kind), (15, "TagOutside"))
+
+    def test_modes(self):
+        html = "<p>10<sup>3</sup> &amp;copy;</p>"
+        self.assertEqual(htmd.convert(html), "103 \\&copy;")
+        self.assertEqual(htmd.convert(html, mode="guarded"), "103 \\&copy;")
+        self.assertEqual(htmd.convert(html, mode="pure"), "103 &copy;")
+        self.assertEqual(htmd.convert(html, mode="faithful"), "10<sup>3</sup> &copy;")
+
+    def test_options(self):
+        for name, value, html, markdown in OPTIONS:
+            with self.subTest(name=name, value=value):
+                self.assertEqual(htmd.convert(html, mode="pure", **{name: value}), markdown)
+
+    def test_reference_styles(self):
+        html = "<a href=/x>d</a>"
+        for style, link in [("full", "[d][1]"), ("collapsed", "[d][]"), ("shortcut", "[d]")]:
+            markdown = htmd.convert(html, mode="pure", link_style="referenced", link_reference_style=style)
+            self.assertEqual(markdown.split("\n")[0], link)
+
+    def test_characters_beyond_ascii(self):
+        self.assertEqual(htmd.convert("<p>\u00e4 \u4e2d \U0001f375</p>"), "\u00e4 \u4e2d \U0001f375")
+
+    def test_markdown_longer_than_its_page(self):
+        self.assertEqual(htmd.convert("<p>" + "x*y*z " * 5000 + "</p>"), ("x\\*y\\*z " * 5000).strip())
+
+
+class Refusals(unittest.TestCase):
+    def test_kinds(self):
+        self.assertEqual(list(REFUSALS), list(_library.KINDS.values()))
+        for kind, (html, place) in REFUSALS.items():
+            with self.subTest(kind=kind), self.assertRaises(htmd.Refused) as raised:
+                htmd.convert(html, reader="strict")
+            self.assertEqual((raised.exception.kind, raised.exception.place), (kind, place))
+
+    def test_places(self):
+        with self.assertRaises(htmd.Refused) as raised:
+            htmd.convert("<p>one</p>\n<p>\u00e4wo &nosuch; three</p>\n")
+        refused = raised.exception
+        self.assertEqual((refused.place, refused.line, refused.column), (19, 2, 8))
+        self.assertEqual(str(refused), "refused at byte 19: UnknownReference (line 2, column 8)")
+        self.assertIsInstance(refused, ValueError)
+
+    def test_pickles(self):
+        refused = pickle.loads(pickle.dumps(htmd.Refused(19, "UnknownReference", 2, 8)))
+        self.assertEqual((refused.place, refused.kind, refused.line, refused.column), (19, "UnknownReference", 2, 8))
+
+    def test_no_utf8(self):
+        with self.assertRaises(UnicodeDecodeError) as raised:
+            htmd.convert(b"<p>\xff</p>")
+        self.assertEqual(raised.exception.start, 3)
+        with self.assertRaises(UnicodeEncodeError):
+            htmd.convert("<p>\ud800</p>")
+
+    def test_unknown_options(self):
+        for name in _convert.WORDS:
+            with self.subTest(name=name), self.assertRaises(ValueError):
+                htmd.convert("", **{name: "no-such"})
+        for name in ("ul_bullet_spacing", "ol_number_spacing"):
+            for value in (-1, 256):
+                with self.subTest(name=name, value=value), self.assertRaises(ValueError):
+                    htmd.convert("", **{name: value})
+            for value in ("1", 1.0, True):
+                with self.subTest(name=name, value=value), self.assertRaises(TypeError):
+                    htmd.convert("", **{name: value})
+        for name in ("scripting", "preformatted_code", "no_such"):
+            with self.subTest(name=name), self.assertRaises(TypeError):
+                htmd.convert("", **{name: 1})
+        with self.assertRaises(TypeError):
+            htmd.convert(None)
+
+
+class Threads(unittest.TestCase):
+    def test_eight_threads_give_what_one_gives(self):
+        rows = [
+            f"<h2>{n}</h2><ul>" + f"<li>a <b>{n}</b> &amp; <a href=/{n}>b</a></li>" * (n % 40) + "</ul>"
+            for n in range(400)
+        ]
+        alone = [htmd.convert(row) for row in rows]
+        with concurrent.futures.ThreadPoolExecutor(8) as pool:
+            for _ in range(3):
+                self.assertEqual(list(pool.map(htmd.convert, rows)), alone)
+            refused = [pool.submit(htmd.convert, f"<p>{'a' * n}&no;") for n in range(100)]
+        for n, future in enumerate(refused):
+            self.assertEqual((future.exception().place, future.exception().column), (3 + n, 4 + n))
+
+
+class Header(unittest.TestCase):
+    """The numbers of the package are those of the header."""
+
+    def setUp(self):
+        if not HEADER.exists():
+            self.skipTest("the package doesn't lie in its repository")
+        self.text = HEADER.read_text()
+        self.numbers = {name: int(number) for name, number in re.findall(r"\bHTMD_(\w+) = (\d+)", self.text)}
+
+    def test_statuses_and_kinds(self):
+        for name in ("DONE", "TOO_SMALL", "REFUSED", "NOT_UTF8", "NO_MEMORY", "BAD_OPTIONS"):
+            self.assertEqual(self.numbers[name], getattr(_library, name))
+        for number, kind in _library.KINDS.items():
+            self.assertEqual(self.numbers[re.sub(r"(?<!^)([A-Z])", r"_\1", kind).upper()], number)
+        version = re.search(r"#define HTMD_OPTIONS_VERSION (\d+)", self.text)
+        self.assertEqual(int(version.group(1)), _library.OPTIONS_VERSION)
+
+    def test_words(self):
+        prefixes = {
+            "reader": "",
+            "mode": "",
+            "heading_style": "HEADING_",
+            "hr_style": "HR_",
+            "br_style": "BR_",
+            "link_style": "LINK_",
+            "link_reference_style": "REFERENCE_",
+            "code_block_style": "CODE_",
+            "code_block_fence": "FENCE_",
+            "bullet_list_marker": "BULLET_",
+        }
+        for name, words in _convert.WORDS.items():
+            for word, number in words.items():
+                self.assertEqual(self.numbers[prefixes[name] + word.upper().replace("-", "_")], number)
+
+    def test_struct(self):
+        struct = self.text[self.text.index("typedef struct") :]
+        fields = re.findall(r"uint8_t (\w+)(?:\[\d+\])?;", struct[: struct.index("}")])
+        self.assertEqual(fields, [name for name, _ in _library.Options._fields_])
+
+
+if __name__ == "__main__":
+    unittest.main()

@@ -1,0 +1,69 @@
+-- The trees of texts, of bodies and of one paragraph hold UTF-8.
+use Rattle.std.proofs.Common.{◌≡◌, sym, subst, refl, ℕ, Bool, true, false, List, [], ◌∷◌, codes, arith}
+use Rattle.std.specs.Str.{IsUtf8}
+use Rattle.std.specs.List.{All}
+use Rattle.htmd_tree.specs.ValueTrees.{AttributePair}
+use Rattle.htmd_tree.specs.Items.{Item, document_item, new_item, element_node, text_node, IsTree, HoldTexts}
+use Rattle.htmd_tree.specs.Bodies.{body_part}
+use Rattle.htmd_tree.proofs.ItemsLemmas.{IsTree-added}
+use Rattle.htmd.specs.Choice.{Config}
+use Rattle.htmd.specs.Markdown.{markdown}
+use Rattle.htmd_cli.specs.Conversion.{Way, empty_paragraph, paragraph, paragraph_markdown, IsMarkdownBy}
+use Rattle.htmd_laws.specs.InputLaws.{TreesHoldTexts, IsTreeBy, InputsHoldTexts}
+use Rattle.htmd_laws.proofs.LaidTrees.{document_alone, with_first, none_hold, Holds}
+use Rattle.htmd_laws.proofs.TreesRead.{trees_hold, body_part_utf8}
+
+pub trees_hold_texts : TreesHoldTexts
+trees_hold_texts scripting html tree u (children, is, reads) =
+    subst (λ (x : List Item). IsTree x × HoldTexts x) (sym is) (trees_hold scripting html children u reads)
+
+-- ---- one paragraph
+
+empty_is_tree : IsTree empty_paragraph
+empty_is_tree =
+    IsTree-added _ 0 (element_node (codes "p") []) (omega arith) refl (omega arith) document_alone
+
+pub paragraph_is_tree : (text : List ℕ) → IsTree (paragraph text)
+paragraph_is_tree [] = empty_is_tree
+paragraph_is_tree (b ∷ s) =
+    IsTree-added empty_paragraph 1 (text_node (b ∷ s)) (omega arith) refl (omega arith) empty_is_tree
+
+no_values : All (λ (a : AttributePair). IsUtf8 a.value) []
+no_values k d l = absurd (omega arith)
+
+empty_holds : (rest : List Item) → HoldTexts rest
+    → HoldTexts (document_item ∷ new_item (document_item ∷ []) 0 (element_node (codes "p") []) ∷ rest)
+empty_holds rest h =
+    with_first Holds document_item (new_item (document_item ∷ []) 0 (element_node (codes "p") []) ∷ rest) tt
+    (with_first Holds (new_item (document_item ∷ []) 0 (element_node (codes "p") [])) rest no_values h)
+
+paragraph_holds : (text : List ℕ) → IsUtf8 text → HoldTexts (paragraph text)
+paragraph_holds [] u = empty_holds [] none_hold
+paragraph_holds (b ∷ s) u =
+    empty_holds (new_item empty_paragraph 1 (text_node (b ∷ s)) ∷ [])
+    (with_first Holds (new_item empty_paragraph 1 (text_node (b ∷ s))) [] u none_hold)
+
+-- ---- inputs
+
+-- all of an input is converted, or the body of a page
+abbrev pub whole_way : Bool → Config → Way
+whole_way scripting config = record { text = false; body = false; scripting = scripting; config = config }
+
+abbrev pub body_way : Bool → Config → Way
+body_way scripting config = record { text = false; body = true; scripting = scripting; config = config }
+
+held_by : (is_text is_body scripting : Bool) (config : Config) (input text : List ℕ) → IsUtf8 input
+    → let way : Way = record { text = is_text; body = is_body; scripting = scripting; config = config } in
+    IsMarkdownBy way input text
+    → (tree : List Item) × IsTreeBy way input tree × IsTree tree × HoldTexts tree × (text ≡ markdown config tree 0)
+unfolding paragraph_markdown
+held_by true is_body scripting config input text u h =
+    (paragraph input, refl, paragraph_is_tree input, paragraph_holds input u, h)
+held_by false true scripting config input text u h =
+    let t = trees_hold_texts scripting (body_part input) h.0 (body_part_utf8 input u) h.1 in
+    (h.0, h.1, t.0, t.1, h.2)
+held_by false false scripting config input text u h =
+    let t = trees_hold_texts scripting input h.0 u h.1 in (h.0, h.1, t.0, t.1, h.2)
+
+pub inputs_hold_texts : InputsHoldTexts
+inputs_hold_texts way input text u h = held_by way.text way.body way.scripting way.config input text u h

@@ -1,0 +1,51 @@
+-- The lemmas of the laws, each module over those before it: of the grammar, of the conversion, of a run; and worked
+-- examples.
+pub mod ParameterLaw
+pub mod FrontsReached
+pub mod OneFault
+pub mod Utf8Cuts
+pub mod DecodedTexts
+pub mod TextsRead
+pub mod LaidTrees
+pub mod TreesRead
+pub mod InputLawsLemmas
+pub mod FieldLawsLemmas
+pub mod LinkLawsLemmas
+pub mod KeepingLemmas
+pub mod NumbersLemmas
+pub mod ListLawsLemmas
+pub mod ContentLawsLemmas
+pub mod GroupCuts
+pub mod EmphasisLawsLemmas
+pub mod TextEnds
+pub mod ShownTexts
+pub mod ParagraphTexts
+pub mod ParagraphSeams
+pub mod ParagraphLawsLemmas
+pub mod GuardedEnds
+pub mod GuardedSeams
+pub mod TextTrees
+pub mod TextElements
+pub mod TextLawsLemmas
+pub mod CountedTexts
+pub mod LettersLemmas
+pub mod LettersOfTexts
+pub mod LettersOfLines
+pub mod LettersOfPieces
+pub mod LettersOfLinks
+pub mod LettersOfGuarded
+pub mod LettersOfHandlers
+pub mod LettersOfTables
+pub mod ElementsByTag
+pub mod LettersOfElements
+pub mod FittingTrees
+pub mod SaidChildren
+pub mod LettersLawsLemmas
+pub mod ShownOfElements
+pub mod ShownTrees
+pub mod ShownLawsLemmas
+pub mod OneParagraphLawsLemmas
+mod ParagraphExamples
+mod TextExamples
+mod LettersExamples
+mod ShownExamples

@@ -1,0 +1,52 @@
+-- Worked examples of pages of texts in Guarded.
+use Rattle.std.proofs.Common.{◌≡◌, ℕ, List, [], ◌∷◌, ◌++◌, true, codes, refl}
+use Rattle.std.specs.Str.{chars}
+use Rattle.htmd_text.specs.Blocks.{is_block}
+use Rattle.htmd_tree.specs.Items.{Item, document_item, new_item, element_node, text_node}
+use Rattle.htmd_tree.specs.NumberedTrees.{tree_of, forest_from, value_tree}
+use Rattle.htmd_tree.specs.Ancestors.{ancestors_of, ancestors_up}
+use Rattle.htmd.specs.BuiltIn.{built_in}
+use Rattle.htmd.specs.Rendering.{written_within}
+use Rattle.htmd.specs.Markdown.{markdown}
+use Rattle.htmd.proofs.GuardedExamples.{guarded}
+use Rattle.htmd_laws.specs.TextLaws.{is_page_of_texts}
+
+-- a Document of these, each under its parent
+root : List Item
+root = document_item ∷ []
+
+with_element : ℕ → List ℕ → List Item → List Item
+with_element parent name items = items ++ new_item items parent (element_node name []) ∷ []
+
+with_text : ℕ → List ℕ → List Item → List Item
+with_text parent s items = items ++ new_item items parent (text_node s) ∷ []
+
+-- a text that elements part stays the text
+parted_tag : List Item
+parted_tag =
+    with_text 3 (codes "b>") (with_element 1 (codes "span") (with_text 1 (codes "<")
+    (with_element 0 (codes "p") root)))
+
+parted_tag_is_page : is_page_of_texts (built_in guarded) (value_tree (tree_of parted_tag 0)) ≡ true
+unfolding tree_of forest_from is_block parted_tag with_text with_element root
+parted_tag_is_page = refl
+
+parted_tag_converted : markdown (built_in guarded) parted_tag 0 ≡ codes "\\<b>"
+unfolding chars markdown written_within tree_of forest_from ancestors_of ancestors_up is_block parted_tag with_text
+    with_element root guarded
+parted_tag_converted = refl
+
+-- a name and its semicolon apart
+parted_reference : List Item
+parted_reference =
+    with_text 3 (codes "copy;") (with_element 1 (codes "u") (with_text 1 (codes "AT&")
+    (with_element 0 (codes "p") root)))
+
+parted_reference_is_page : is_page_of_texts (built_in guarded) (value_tree (tree_of parted_reference 0)) ≡ true
+unfolding tree_of forest_from is_block parted_reference with_text with_element root
+parted_reference_is_page = refl
+
+parted_reference_converted : markdown (built_in guarded) parted_reference 0 ≡ codes "AT\\&copy;"
+unfolding chars markdown written_within tree_of forest_from ancestors_of ancestors_up is_block parted_reference
+    with_text with_element root guarded
+parted_reference_converted = refl
