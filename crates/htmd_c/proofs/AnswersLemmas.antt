@@ -1,0 +1,42 @@
+-- What a conversion gives, by equal handlers.
+use Rattle.std.proofs.Common.{◌≡◌, sym, subst, refl, ℕ, Bool, true, false, List, [], ◌∷◌, Result, IfOk, MatchBool}
+use Rattle.std.specs.Prelude.{◌==◌}
+use Rattle.htmd.specs.declared.options.Options.{Options}
+use Rattle.htmd.specs.BuiltIn.{Row, with_rows, empty_config, built_in, built_in_rows}
+use Rattle.htmd.specs.Choice.{Config, with_handler, with_options}
+use Rattle.htmd.specs.Conversions.{IsMarkdownOf, IsMarkdownOfPage}
+use Rattle.htmd.specs.Defaults.{default_options}
+use Rattle.htmd_c.specs.declared.options.HtmdOptions.{HtmdOptions}
+use Rattle.htmd_c.specs.Answers.{config_of, IsMarkdownBy}
+use Rattle.htmd_c.specs.Options.{strict, is_scripting}
+
+with_options-with_rows : (rows : List Row) (config : Config) (options : Options)
+    → with_options (with_rows rows config) options ≡ with_rows rows (with_options config options)
+with_options-with_rows [] config options = refl
+with_options-with_rows (r ∷ rs) config options = with_options-with_rows rs (with_handler config r.tags r.handler) options
+
+-- the built-in handlers with other options
+pub built_in_with : (options : Options) → with_options (built_in default_options) options ≡ built_in options
+built_in_with options = with_options-with_rows built_in_rows (empty_config default_options) options
+
+-- a conversion as the strict reader gives it
+pub by_strict : {E T : Type 0} (given : HtmdOptions) (html : List ℕ) (written : T → List ℕ) (r : Result T E)
+    (config : Config) (scripting : Bool) → (given.reader == strict) ≡ true → config ≡ config_of given
+    → scripting ≡ is_scripting given → IfOk r (λ s. IsMarkdownOf config scripting html (written s))
+    → IfOk r (λ s. IsMarkdownBy given html (written s))
+by_strict given html written r config scripting e k on h =
+    subst (λ b. IfOk r (λ s. MatchBool b (IsMarkdownOf (config_of given) (is_scripting given) html (written s))
+    (IsMarkdownOfPage (config_of given) (is_scripting given) html (written s)))) (sym e)
+    (subst (λ c. IfOk r (λ s. IsMarkdownOf c (is_scripting given) html (written s))) k
+    (subst (λ b. IfOk r (λ s. IsMarkdownOf config b html (written s))) on h))
+
+-- as the reader of pages gives it
+pub by_page : {E T : Type 0} (given : HtmdOptions) (html : List ℕ) (written : T → List ℕ) (r : Result T E)
+    (config : Config) (scripting : Bool) → (given.reader == strict) ≡ false → config ≡ config_of given
+    → scripting ≡ is_scripting given → IfOk r (λ s. IsMarkdownOfPage config scripting html (written s))
+    → IfOk r (λ s. IsMarkdownBy given html (written s))
+by_page given html written r config scripting e k on h =
+    subst (λ b. IfOk r (λ s. MatchBool b (IsMarkdownOf (config_of given) (is_scripting given) html (written s))
+    (IsMarkdownOfPage (config_of given) (is_scripting given) html (written s)))) (sym e)
+    (subst (λ c. IfOk r (λ s. IsMarkdownOfPage c (is_scripting given) html (written s))) k
+    (subst (λ b. IfOk r (λ s. IsMarkdownOfPage config b html (written s))) on h))

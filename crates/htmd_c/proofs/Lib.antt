@@ -1,0 +1,2 @@
+pub mod AnswersLemmas
+mod Examples

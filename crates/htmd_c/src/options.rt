@@ -1,0 +1,208 @@
+//! The struct of options: what its numbers mean, and which are good.
+ghost use Rattle.std.specs.Prelude.{◌≡◌, ◌==◌};
+ghost use Rattle.std.specs.List.{list_all};
+ghost use Rattle.htmd_c.specs.Options as spec;
+
+use htmd::options::{
+    BrStyle, BulletListMarker, CodeBlockFence, CodeBlockStyle, HeadingStyle, HrStyle,
+    LinkReferenceStyle, LinkStyle, Options, TranslationMode,
+};
+
+/// The version of the struct that this library knows.
+const VERSION: u8 = 1;
+
+/// The text is read as it stands.
+pub(crate) const STRICT: u8 = 0;
+
+/// What a conversion goes by, in numbers. A further field takes the place of a reserved byte, whose 0 then says what is
+/// done without it; a further value of a field is a number that is not good yet.
+#[repr(C)]
+#[derive(Debug, Clone, Copy)]
+pub struct HtmdOptions {
+    pub version: u8,
+    pub reader: u8,
+    pub mode: u8,
+    pub scripting: u8,
+    pub heading_style: u8,
+    pub hr_style: u8,
+    pub br_style: u8,
+    pub link_style: u8,
+    pub link_reference_style: u8,
+    pub code_block_style: u8,
+    pub code_block_fence: u8,
+    pub bullet_list_marker: u8,
+    pub ul_bullet_spacing: u8,
+    pub ol_number_spacing: u8,
+    pub preformatted_code: u8,
+    pub reserved: [u8; 17],
+}
+
+/// The struct that says what `convert` goes by.
+pub(crate) fn default_struct() -> HtmdOptions
+    ensures { result ≡ spec.default_struct }
+{
+    HtmdOptions {
+        version: VERSION,
+        reader: STRICT,
+        mode: 0,
+        scripting: 1,
+        heading_style: 0,
+        hr_style: 0,
+        br_style: 0,
+        link_style: 0,
+        link_reference_style: 0,
+        code_block_style: 0,
+        code_block_fence: 0,
+        bullet_list_marker: 0,
+        ul_bullet_spacing: 3,
+        ol_number_spacing: 2,
+        preformatted_code: 0,
+        reserved: [0; 17],
+    }
+}
+
+fn is_reading_known(given: &HtmdOptions) -> bool
+    ensures { result ≡ spec.is_reading_known given.now }
+{
+    given.version == VERSION && given.reader < 2 && given.mode < 3 && given.scripting < 2
+}
+
+fn are_lines_known(given: &HtmdOptions) -> bool
+    ensures { result ≡ spec.are_lines_known given.now }
+{
+    given.heading_style < 2
+        && given.hr_style < 3
+        && given.br_style < 2
+        && given.link_style < 3
+        && given.link_reference_style < 3
+}
+
+fn are_blocks_known(given: &HtmdOptions) -> bool
+    ensures { result ≡ spec.are_blocks_known given.now }
+{
+    given.code_block_style < 2
+        && given.code_block_fence < 2
+        && given.bullet_list_marker < 2
+        && given.preformatted_code < 2
+}
+
+fn are_zero(bytes: &[u8]) -> bool
+    ensures { result ≡ list_all (λ b. b == 0) bytes.now }
+{
+    bytes.iter().all(|byte| *byte == 0)
+}
+
+/// Whether each number is one that its field may have.
+pub(crate) fn is_good(given: &HtmdOptions) -> bool
+    ensures { result ≡ spec.is_good given.now }
+{
+    is_reading_known(given)
+        && are_lines_known(given)
+        && are_blocks_known(given)
+        && are_zero(&given.reserved)
+}
+
+fn mode(number: u8) -> TranslationMode
+    ensures { result ≡ spec.mode number }
+{
+    match number {
+        1 => TranslationMode::Faithful,
+        2 => TranslationMode::Guarded,
+        _ => TranslationMode::Pure,
+    }
+}
+
+fn heading_style(number: u8) -> HeadingStyle
+    ensures { result ≡ spec.heading_style number }
+{
+    match number {
+        1 => HeadingStyle::Setex,
+        _ => HeadingStyle::Atx,
+    }
+}
+
+fn hr_style(number: u8) -> HrStyle
+    ensures { result ≡ spec.hr_style number }
+{
+    match number {
+        1 => HrStyle::Dashes,
+        2 => HrStyle::Underscores,
+        _ => HrStyle::Asterisks,
+    }
+}
+
+fn br_style(number: u8) -> BrStyle
+    ensures { result ≡ spec.br_style number }
+{
+    match number {
+        1 => BrStyle::Backslash,
+        _ => BrStyle::TwoSpaces,
+    }
+}
+
+fn link_style(number: u8) -> LinkStyle
+    ensures { result ≡ spec.link_style number }
+{
+    match number {
+        1 => LinkStyle::InlinedPreferAutolinks,
+        2 => LinkStyle::Referenced,
+        _ => LinkStyle::Inlined,
+    }
+}
+
+fn link_reference_style(number: u8) -> LinkReferenceStyle
+    ensures { result ≡ spec.link_reference_style number }
+{
+    match number {
+        1 => LinkReferenceStyle::Collapsed,
+        2 => LinkReferenceStyle::Shortcut,
+        _ => LinkReferenceStyle::Full,
+    }
+}
+
+fn code_block_style(number: u8) -> CodeBlockStyle
+    ensures { result ≡ spec.code_block_style number }
+{
+    match number {
+        1 => CodeBlockStyle::Indented,
+        _ => CodeBlockStyle::Fenced,
+    }
+}
+
+fn code_block_fence(number: u8) -> CodeBlockFence
+    ensures { result ≡ spec.code_block_fence number }
+{
+    match number {
+        1 => CodeBlockFence::Tildes,
+        _ => CodeBlockFence::Backticks,
+    }
+}
+
+fn bullet_list_marker(number: u8) -> BulletListMarker
+    ensures { result ≡ spec.bullet_list_marker number }
+{
+    match number {
+        1 => BulletListMarker::Dash,
+        _ => BulletListMarker::Asterisk,
+    }
+}
+
+/// The options that a good struct says.
+pub(crate) fn options_of(given: &HtmdOptions) -> Options
+    ensures { result ≡ spec.options_of given.now }
+{
+    Options {
+        heading_style: heading_style(given.heading_style),
+        hr_style: hr_style(given.hr_style),
+        br_style: br_style(given.br_style),
+        link_style: link_style(given.link_style),
+        link_reference_style: link_reference_style(given.link_reference_style),
+        code_block_style: code_block_style(given.code_block_style),
+        code_block_fence: code_block_fence(given.code_block_fence),
+        bullet_list_marker: bullet_list_marker(given.bullet_list_marker),
+        ul_bullet_spacing: given.ul_bullet_spacing,
+        ol_number_spacing: given.ol_number_spacing,
+        preformatted_code: given.preformatted_code == 1,
+        translation_mode: mode(given.mode),
+    }
+}
