@@ -1,9 +1,11 @@
 //! The answer to a case: `=` and a text, or `!`, the byte place and the kind of a refusal.
 use crate::encoding::push_encoded;
 use crate::faults::LineFault;
+use crate::program::push_run;
 use crate::settings::{Question, Settings};
+use crate::trees::tree_of;
 use htmd::options::{Options, TranslationMode};
-use htmd::{ConvertError, FaultKind, HtmlToMarkdownBuilder};
+use htmd::{ConvertError, FaultKind, HtmlToMarkdown, HtmlToMarkdownBuilder};
 use htmd_cli::{Input, Mode, Output, RunError, run};
 use htmd_tree::{ReadError, read_html, serialize};
 use std::alloc::{AllocError, Global};
@@ -21,7 +23,8 @@ pub(crate) fn push_answer(
             push_text(answers, &markdown)
         }
         Question::Read => push_page(alloc, answers, settings.scripting, text),
-        Question::Convert => push_conversion(alloc, answers, settings, text),
+        Question::Program => push_run(alloc, answers, &settings.words, text),
+        Question::Tree | Question::Convert => push_markdown(alloc, answers, settings, text),
     }
 }
 
@@ -61,33 +64,69 @@ fn push_page(
     }
 }
 
-/// Puts the Markdown of the Document that a text denotes.
-fn push_conversion(
+/// Puts the Markdown of a text by the converter that the settings ask for.
+fn push_markdown(
     alloc: Global,
     answers: &mut String,
     settings: Settings,
     text: &str,
 ) -> Result<(), LineFault> {
-    match page_markdown(alloc, settings, text) {
-        Ok(markdown) => push_text(answers, &markdown),
-        Err(ConvertError::Refused { place, kind }) => push_refusal(alloc, answers, place, kind),
-        Err(ConvertError::Memory) => Err(LineFault::Memory),
+    let question = settings.question;
+    let tags = texts_of(alloc, &settings.skipped)?;
+    let mut builder = HtmlToMarkdownBuilder::new(alloc)?
+        .options(settings.options)
+        .scripting_enabled(settings.scripting);
+    if !tags.is_empty() {
+        builder = match builder.skip_tags(tags.as_slice()) {
+            Ok(builder) => builder,
+            Err(_) => return Err(LineFault::Memory),
+        };
+    }
+    let converter = builder.build();
+    match question {
+        Question::Tree => push_tree(alloc, answers, &converter, text),
+        _ => push_conversion(alloc, answers, &converter, text),
     }
 }
 
-/// The Markdown of a page, by the converter that the settings ask for.
-fn page_markdown(alloc: Global, settings: Settings, text: &str) -> Result<String, ConvertError> {
-    let builder = HtmlToMarkdownBuilder::new(alloc)?
-        .options(settings.options)
-        .scripting_enabled(settings.scripting);
-    let tags = texts_of(alloc, &settings.skipped)?;
-    if tags.is_empty() {
-        return builder.build().convert(alloc, text);
+/// Puts the Markdown of the Document that a text denotes; the same comes of its tree.
+fn push_conversion(
+    alloc: Global,
+    answers: &mut String,
+    converter: &HtmlToMarkdown,
+    text: &str,
+) -> Result<(), LineFault> {
+    let markdown = match converter.convert(alloc, text) {
+        Ok(markdown) => markdown,
+        Err(ConvertError::Refused { place, kind }) => {
+            return push_refusal(alloc, answers, place, kind);
+        }
+        Err(ConvertError::Memory) => return Err(LineFault::Memory),
+    };
+    let Ok(tree) = converter.html_to_tree(alloc, text) else {
+        return Err(LineFault::TreeDiffers);
+    };
+    let again = converter.tree_to_markdown(alloc, &tree, tree.root())?;
+    if again.as_str() != markdown.as_str() {
+        return Err(LineFault::TreeDiffers);
     }
-    match builder.skip_tags(tags.as_slice()) {
-        Ok(builder) => builder.build().convert(alloc, text),
-        Err(_) => Err(ConvertError::Memory),
+    push_text(answers, &markdown)
+}
+
+/// Puts the Markdown of the tree that an outline shows; the same comes a second time.
+fn push_tree(
+    alloc: Global,
+    answers: &mut String,
+    converter: &HtmlToMarkdown,
+    outline: &str,
+) -> Result<(), LineFault> {
+    let tree = tree_of(alloc, outline)?;
+    let markdown = converter.tree_to_markdown(alloc, &tree, tree.root())?;
+    let again = converter.tree_to_markdown(alloc, &tree, tree.root())?;
+    if again.as_str() != markdown.as_str() {
+        return Err(LineFault::TreeDiffers);
     }
+    push_text(answers, &markdown)
 }
 
 /// The same names, lent.

@@ -20,12 +20,17 @@ pub(crate) fn push_answers(alloc: Global, answers: &mut String, cases: &str) -> 
 
 /// Puts the answer to one case, and a line feed.
 fn push_line(alloc: Global, answers: &mut String, case: &str) -> Result<(), LineFault> {
+    push_case(alloc, answers, case)?;
+    answers.push('\n')?;
+    Ok(())
+}
+
+/// Puts the answer to one case.
+pub(crate) fn push_case(alloc: Global, answers: &mut String, case: &str) -> Result<(), LineFault> {
     let Some((words, code)) = case.split_once('\t') else {
         return Err(LineFault::NoTab);
     };
     let settings = Settings::of(alloc, words)?;
     let text = decode(alloc, code)?;
-    push_answer(alloc, answers, settings, &text)?;
-    answers.push('\n')?;
-    Ok(())
+    push_answer(alloc, answers, settings, &text)
 }

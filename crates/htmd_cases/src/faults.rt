@@ -2,7 +2,7 @@
 ghost use Rattle.htmd_cases.specs.declared.faults.LineFault.TheVariants.{Memory};
 ghost use Rattle.std.specs.Prelude.{◌≡◌};
 
-use std::alloc::AllocError;
+use std::alloc::{AllocError, AllocFailed};
 use thiserror::Error;
 
 /// A line without an answer, counted from 1.
@@ -26,12 +26,26 @@ pub(crate) enum LineFault {
     Memory,
     #[error("the run failed")]
     Run,
+    #[error("a node of the outline has no place in a tree")]
+    NoTree,
+    #[error("the tree of the page gives other Markdown")]
+    TreeDiffers,
+    #[error("it gives `{0}`")]
+    Wrong(String),
 }
 
 impl From<AllocError> for LineFault {
     ghost from_gives = { λ _ fault. fault ≡ Memory };
 
     fn from(_error: AllocError) -> LineFault {
+        LineFault::Memory
+    }
+}
+
+impl<T: Drop> From<AllocFailed<T>> for LineFault {
+    ghost from_gives = { λ _ fault. fault ≡ Memory };
+
+    fn from(_error: AllocFailed<T>) -> LineFault {
         LineFault::Memory
     }
 }

@@ -1,35 +1,47 @@
-//! A driver for cases. It reads a case a line, settings, a tab and a text, and writes the answer to
-//! each as a line; `README.md` says what the lines hold. All is read before the first answer, and a
-//! line that is no case ends the program with status 1 and nothing written.
+//! A driver for cases. It reads a case a line, settings, a tab and a text, and writes the answer to each as a line;
+//! then it reads the files that its words name, each a family of cases with their answers, and writes how many each
+//! has. `README.md` says what the lines hold. All is read before anything is written: a line that is no case, or a case
+//! of a family with another answer than the one beside it, ends the program with status 1 and nothing written.
 #![tactic(auto)]
 
 mod answers;
 mod cases;
 mod encoding;
+mod families;
 mod faults;
 mod options;
+mod program;
 mod settings;
+mod trees;
 
 use crate::cases::push_answers;
+use crate::families::push_count;
 use crate::faults::Fault;
 use std::alloc::Global;
 use std::io::{self, Write};
 use std::process::ExitCode;
+use std::{env, fs};
 
 fn main(rt: HostRuntime) -> io::Result<ExitCode> {
     let cases = io::read_to_string(rt.alloc(), rt.stdin())?;
-    match answers_to(rt.alloc(), &cases) {
-        Ok(answers) => {
-            let mut stdout = rt.stdout();
-            stdout.write_all(answers.as_bytes())?;
-            stdout.flush()?;
-            Ok(ExitCode::SUCCESS)
-        }
+    let mut answers = match answers_to(rt.alloc(), &cases) {
+        Ok(answers) => answers,
         Err(fault) => {
             eprintln!(rt; "htmd_cases: {fault}")?;
-            Ok(ExitCode::FAILURE)
+            return Ok(ExitCode::FAILURE);
+        }
+    };
+    for name in env::args(&rt)?.skip(1) {
+        let family = fs::read_to_string(&rt, name.as_str())?;
+        if let Err(fault) = push_count(rt.alloc(), &mut answers, &name, &family) {
+            eprintln!(rt; "htmd_cases: {name}, {fault}")?;
+            return Ok(ExitCode::FAILURE);
         }
     }
+    let mut stdout = rt.stdout();
+    stdout.write_all(answers.as_bytes())?;
+    stdout.flush()?;
+    Ok(ExitCode::SUCCESS)
 }
 
 /// The answers to all the cases, a line each.

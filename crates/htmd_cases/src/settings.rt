@@ -11,6 +11,10 @@ pub(crate) enum Question {
     Text,
     /// the HTML of the Document that this text denotes
     Read,
+    /// the Markdown of the tree that has this text as its outline
+    Tree,
+    /// what the program makes of this text
+    Program,
     /// the Markdown of the Document that this text denotes
     Convert,
 }
@@ -24,6 +28,8 @@ pub(crate) struct Settings {
     pub(crate) scripting: bool,
     /// the tags that are skipped, named in one call
     pub(crate) skipped: Vec<String>,
+    /// the words of the program
+    pub(crate) words: Vec<String>,
 }
 
 impl Settings {
@@ -34,11 +40,17 @@ impl Settings {
             options: Options::default(),
             scripting: true,
             skipped: Vec::new(alloc),
+            words: Vec::new(alloc),
         };
         for word in words.split_whitespace() {
             match word {
                 "text" => settings.question = Question::Text,
                 "read" => settings.question = Question::Read,
+                "tree" => settings.question = Question::Tree,
+                "program" => settings.question = Question::Program,
+                _ if word.starts_with("--") => {
+                    settings.words.push(String::from_str(alloc, word)?)?;
+                }
                 _ => settings.set(alloc, word)?,
             }
         }

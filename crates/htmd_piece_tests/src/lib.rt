@@ -1,0 +1,29 @@
+//! Each function of `htmd_text`, each writer of `htmd_markdown`, and trees, bodies, the reader and the serialiser of
+//! `htmd_tree`, on rows of their rules. Expected values are written by hand from the rules, and never taken from the
+//! code.
+#![tactic(auto)]
+
+#[cfg(test)]
+mod blocks;
+#[cfg(test)]
+mod bodies;
+#[cfg(test)]
+mod code_blocks;
+#[cfg(test)]
+mod code_spans;
+#[cfg(test)]
+mod guarded_pieces;
+#[cfg(test)]
+mod guarded_texts;
+#[cfg(test)]
+mod links;
+#[cfg(test)]
+mod lists;
+#[cfg(test)]
+mod reader;
+#[cfg(test)]
+mod tables;
+#[cfg(test)]
+mod texts;
+#[cfg(test)]
+mod trees;

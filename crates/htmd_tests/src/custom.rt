@@ -1,0 +1,253 @@
+//! Handlers of one's own: what they are shown, what they may ask for, and in what order they are asked.
+use crate::builders::{faithful, referenced, with_handler};
+use crate::handlers::{
+    AsRawHtml, FirstBelow, FirstChild, GivesNothing, NeedsId, PassesOn, Says, TellsDue, TellsFlag,
+    TextAlone,
+};
+use crate::pages::{expect_pages_by, page_by};
+use htmd::HtmlToMarkdown;
+use htmd::element_handler::ElementHandler;
+use htmd::options::Options;
+use std::alloc::Global;
+use std::test::Fail;
+
+// The Markdown of a page with one handler, for a tag.
+fn with_one(
+    alloc: Global,
+    tag: &str,
+    handler: Box<dyn ElementHandler>,
+    html: &str,
+) -> Result<String, Fail> {
+    let builder = with_handler(HtmlToMarkdown::builder(alloc)?, &[tag], handler)?;
+    page_by(alloc, &builder.build(), html)
+}
+
+// Fails at the first of these pages whose Markdown, with one handler for these tags, isn't the text beside it.
+fn expect_pages_of(
+    alloc: Global,
+    tags: &[&str],
+    handler: Box<dyn ElementHandler>,
+    table: &[(&str, &str)],
+) -> Result<(), Fail> {
+    let builder = with_handler(HtmlToMarkdown::builder(alloc)?, tags, handler)?;
+    expect_pages_by(alloc, &builder.build(), table)
+}
+
+fn says(alloc: Global, text: &str, markdown_translated: bool) -> Result<Says, Fail> {
+    let text = String::from_str(alloc, text)?;
+    Ok(Says {
+        text,
+        markdown_translated,
+    })
+}
+
+// A text stands for the element as it is, also one that is empty, of line feeds alone, or with a lone
+// carriage return; a block of blank lines is put on by the seam.
+#[test]
+fn takes_texts(rt: HostRuntime) -> Result<(), Fail> {
+    let page = "<p>a <x>gone</x> b</p>";
+    let table: [(&str, &str, &str, &str); 8] = [
+        ("x", "[Svg Image]", page, "a [Svg Image] b"),
+        ("x", "", page, "a b"),
+        ("x", "\n\n\n", page, "a \n\n b"),
+        ("x", "\r", page, "a \r b"),
+        ("x", "\n- c\n", page, "a \n- c\n b"),
+        ("x", " ", page, "a b"),
+        ("svg", "[Svg Image]", "<svg></svg>", "[Svg Image]"),
+        ("span", "[s]", "<p><span>x</span></p>", "[s]"),
+    ];
+    for (tag, text, html, markdown) in table {
+        let handler: Box<dyn ElementHandler> = Box::new(rt.alloc(), says(rt.alloc(), text, true)?)?;
+        let answer = with_one(rt.alloc(), tag, handler, html)?;
+        assert_eq!(rt; answer.as_str(), markdown, "{text:?}");
+    }
+    Ok(())
+}
+
+// The flag of a result is told to those above, also in Pure, and also past elements without handlers;
+// a list hides it.
+#[test]
+fn tells_flags(rt: HostRuntime) -> Result<(), Fail> {
+    let table: [(&str, &str, &str); 5] = [
+        ("p", "<p><span><x></x></span></p>", "F"),
+        ("p", "<p><mark><x></x></mark></p>", "F"),
+        ("p", "<p><span>a</span></p>", "T"),
+        ("div", "<div><ul><x></x></ul></div>", "T"),
+        ("section", "<section><div><x></x></div></section>", "T"),
+    ];
+    for (tag, html, markdown) in table {
+        let raw: Box<dyn ElementHandler> = Box::new(rt.alloc(), AsRawHtml)?;
+        let flag: Box<dyn ElementHandler> = Box::new(rt.alloc(), TellsFlag)?;
+        let builder = with_handler(HtmlToMarkdown::builder(rt.alloc())?, &["x"], raw)?;
+        let converter = with_handler(builder, &[tag], flag)?.build();
+        expect_pages_by(rt.alloc(), &converter, &[(html, markdown)])?;
+    }
+    let unsure: Box<dyn ElementHandler> = Box::new(rt.alloc(), says(rt.alloc(), "x", false)?)?;
+    let flag: Box<dyn ElementHandler> = Box::new(rt.alloc(), TellsFlag)?;
+    let builder = with_handler(HtmlToMarkdown::builder(rt.alloc())?, &["x"], unsure)?;
+    let converter = with_handler(builder, &["p"], flag)?.build();
+    expect_pages_by(rt.alloc(), &converter, &[("<p><x></x></p>", "F")])
+}
+
+// Raw HTML of an element without a block name shows its content, and a group its joined text.
+#[test]
+fn gives_raw_html(rt: HostRuntime) -> Result<(), Fail> {
+    let table: &[(&str, &str)] = &[
+        ("<x><b>y</b></x>", "<x>**y**</x>"),
+        ("<x a=1>y</x><x a=1>z</x>", "<x a=\"1\">yz</x>"),
+        (
+            "<x a=1>y</x><x a=2>z</x>",
+            "<x a=\"1\">y</x><x a=\"2\">z</x>",
+        ),
+    ];
+    let raw: Box<dyn ElementHandler> = Box::new(rt.alloc(), AsRawHtml)?;
+    expect_pages_of(rt.alloc(), &["x"], raw, table)
+}
+
+// A group shows its joined text, and an element with other children none.
+#[test]
+fn shows_texts(rt: HostRuntime) -> Result<(), Fail> {
+    let table: &[(&str, &str)] = &[
+        ("<i>a</i><em>b</em>", "ab"),
+        ("<i> * </i>", " *"),
+        ("<i>a<b>b</b></i>", ""),
+        ("<i></i>", ""),
+    ];
+    let handler: Box<dyn ElementHandler> = Box::new(rt.alloc(), TextAlone)?;
+    expect_pages_of(rt.alloc(), &["i"], handler, table)
+}
+
+// A descendant is handed over by itself: below `pre` its white space is kept, and a text is ordinary.
+#[test]
+fn asks_for_descendants(rt: HostRuntime) -> Result<(), Fail> {
+    let table: &[(&str, &str)] = &[
+        (
+            "<pre><delegate><mark>  *literal*  \nsecond</mark></delegate></pre>",
+            "  *literal*  \nsecond",
+        ),
+        ("<p>a<delegate>  *b*</delegate></p>", "a\\*b\\*"),
+        ("<p>a<delegate></delegate></p>", "a"),
+    ];
+    let handler: Box<dyn ElementHandler> = Box::new(rt.alloc(), FirstChild)?;
+    expect_pages_of(rt.alloc(), &["delegate"], handler, table)
+}
+
+// The deepest node that a tree has, a text at level 1,024, stands 1,021 levels below a child of the body.
+#[test]
+fn asks_for_the_deepest_node(rt: HostRuntime) -> Result<(), Fail> {
+    let mut html = String::from_str(rt.alloc(), "a <delegate>")?;
+    for _ in 0..1020 {
+        html.push_str("<i>")?;
+    }
+    html.push_str("*b*")?;
+    for _ in 0..1020 {
+        html.push_str("</i>")?;
+    }
+    html.push_str("</delegate> c")?;
+    for (levels, markdown) in [
+        (1021, "a \\*b\\* c"),
+        (2000, "a \\*b\\* c"),
+        (1020, "a *\\*b\\** c"),
+        (0, "a c"),
+    ] {
+        let handler: Box<dyn ElementHandler> = Box::new(rt.alloc(), FirstBelow { levels })?;
+        let answer = with_one(rt.alloc(), "delegate", handler, html.as_str())?;
+        assert_eq!(rt; answer.as_str(), markdown, "{levels}");
+    }
+    Ok(())
+}
+
+// What a handler finishes with may be nothing.
+#[test]
+fn finishes(rt: HostRuntime) -> Result<(), Fail> {
+    let nothing: Box<dyn ElementHandler> = Box::new(rt.alloc(), GivesNothing)?;
+    expect_pages_of(rt.alloc(), &["p"], nothing, &[("<p>a</p>b", "b")])
+}
+
+// A fallback goes to the handler before; past the last one it is the content.
+#[test]
+fn falls_back(rt: HostRuntime) -> Result<(), Fail> {
+    let tags: &[&str] = &["img", "b", "u", "x-y", "br"];
+    let table: &[(&str, &str)] = &[
+        ("<img src=\"/x\" id=\"i\"/>", "![](/x)"),
+        ("<img src=\"/x\"/>", ""),
+        ("<b id=i>x</b>", "**x**"),
+        ("<b>x</b>", ""),
+        ("<u id=i>x*</u>", "x\\*"),
+        ("<x-y id=i><p>x</p></x-y>", "x"),
+        ("a<br id=i>b", "a  \nb"),
+    ];
+    let handler: Box<dyn ElementHandler> = Box::new(rt.alloc(), NeedsId)?;
+    expect_pages_of(rt.alloc(), tags, handler, table)?;
+    let joined: &[(&str, &str)] = &[(
+        "<pre><code><span>sudo apt update\n</span><span>sudo apt install curl\n</span></code></pre>",
+        "```\nsudo apt update\nsudo apt install curl\n```",
+    )];
+    let handler: Box<dyn ElementHandler> = Box::new(rt.alloc(), PassesOn { appended: None })?;
+    expect_pages_of(rt.alloc(), &["span"], handler, joined)
+}
+
+fn passes_on(alloc: Global, appended: &str) -> Result<PassesOn, Fail> {
+    let appended = Some(String::from_str(alloc, appended)?);
+    Ok(PassesOn { appended })
+}
+
+// The texts after a conversion stand in order of registration, the final line feeds cut once in all, and
+// those of definitions before all others.
+#[test]
+fn puts_texts_after_a_conversion(rt: HostRuntime) -> Result<(), Fail> {
+    let link = "<a href=\"/x\">t</a>";
+    let table: [(&str, &str, &str, &str); 6] = [
+        ("\n\nA\n", "\n\nB\n\n", "<p>t</p>", "t\n\nA\n\n\nB"),
+        ("", "", "<p>t</p>", "t"),
+        ("\n\n", "\n", "<p>t</p>", "t"),
+        ("", "\n\nB", "<p>t</p>", "t\n\nB"),
+        ("\n\nA\n", "\n\n", "<p>t</p>", "t\n\nA"),
+        (
+            "\n\nA\n",
+            "\n\nB\n\n",
+            link,
+            "[t][1]\n\n[1]: /x\n\n\n\nA\n\n\nB",
+        ),
+    ];
+    for (first, second, html, markdown) in table {
+        let builder = HtmlToMarkdown::builder(rt.alloc())?.options(referenced());
+        let first: Box<dyn ElementHandler> = Box::new(rt.alloc(), passes_on(rt.alloc(), first)?)?;
+        let second: Box<dyn ElementHandler> = Box::new(rt.alloc(), passes_on(rt.alloc(), second)?)?;
+        let builder = with_handler(builder, &["q"], first)?;
+        let builder = with_handler(builder, &["r"], second)?;
+        expect_pages_by(rt.alloc(), &builder.build(), &[(html, markdown)])?;
+    }
+    Ok(())
+}
+
+// A tag that is named twice is registered twice: the handler is asked twice, and then the built-in one.
+#[test]
+fn registers_twice(rt: HostRuntime) -> Result<(), Fail> {
+    let handler: Box<dyn ElementHandler> = Box::new(rt.alloc(), PassesOn { appended: None })?;
+    expect_pages_of(rt.alloc(), &["b", "b"], handler, &[("<b>x</b>", "**x**")])
+}
+
+// Raw HTML is due in Faithful alone, where there are more attributes than are allowed, which may be fewer
+// than none.
+#[test]
+fn asks_whether_raw_html_is_due(rt: HostRuntime) -> Result<(), Fail> {
+    let table: [(i64, &str, &str); 6] = [
+        (-1, "<x></x>", "T"),
+        (0, "<x></x>", "F"),
+        (0, "<x a></x>", "T"),
+        (1, "<x a></x>", "F"),
+        (1, "<x a b></x>", "T"),
+        (i64::MIN, "<x></x>", "T"),
+    ];
+    for (allowed, html, markdown) in table {
+        for (options, wanted) in [(faithful(), markdown), (Options::default(), "F")] {
+            let handler: Box<dyn ElementHandler> = Box::new(rt.alloc(), TellsDue { allowed })?;
+            let builder = HtmlToMarkdown::builder(rt.alloc())?.options(options);
+            let converter = with_handler(builder, &["x"], handler)?.build();
+            let answer = page_by(rt.alloc(), &converter, html)?;
+            assert_eq!(rt; answer.as_str(), wanted, "{html:?} {allowed}");
+        }
+    }
+    Ok(())
+}

@@ -1,0 +1,72 @@
+//! Which elements the walk goes past, without asking their handlers.
+use crate::handlers::PassesOn;
+use htmd::element_handler::{ElementHandler, ElementHandlers, Registry};
+use htmd::options::{Options, TranslationMode};
+use htmd_tree::{Attribute, NodeId, Tree};
+use std::alloc::Global;
+use std::test::Fail;
+
+// The tree of an element of this tag and class with a text, and the element.
+fn tree_of(alloc: Global, tag: &str, class: &str) -> Result<(Tree, NodeId), Fail> {
+    let mut tree = Tree::new(alloc)?;
+    let mut attrs = Vec::new(alloc);
+    if !class.is_empty() {
+        let name = String::from_str(alloc, "class")?;
+        let value = String::from_str(alloc, class)?;
+        attrs.push(Attribute { name, value })?;
+    }
+    let root = tree.root();
+    let element = tree.add_element(root, tag, attrs)?;
+    tree.add_text(element, "x")?;
+    Ok((tree, element))
+}
+
+fn options_in(translation_mode: TranslationMode) -> Options {
+    Options {
+        translation_mode,
+        ..Options::default()
+    }
+}
+
+// Whether the walk goes past the element of this tag and class.
+fn passes(alloc: Global, handlers: &ElementHandlers, tag: &str, class: &str) -> Result<bool, Fail> {
+    let (tree, element) = tree_of(alloc, tag, class)?;
+    if !tree.contains(element) {
+        return Err(Fail::from("an element was added"));
+    }
+    Ok(handlers.goes_past(&tree, element))
+}
+
+// In Pure those without handlers are gone past, and a `span` that is no formula.
+#[test]
+fn goes_past_elements(rt: HostRuntime) -> Result<(), Fail> {
+    let pure = TranslationMode::Pure;
+    let faithful = TranslationMode::Faithful;
+    let table: [(TranslationMode, &str, &str, bool); 6] = [
+        (pure, "span", "", true),
+        (pure, "mark", "", true),
+        (pure, "p", "", false),
+        (pure, "span", "math math-inline", false),
+        (faithful, "mark", "", false),
+        (faithful, "span", "", false),
+    ];
+    for (mode, tag, class, is_past) in table {
+        let handlers = ElementHandlers::new(rt.alloc(), options_in(mode))?;
+        let answer = passes(rt.alloc(), &handlers, tag, class)?;
+        assert_eq!(rt; answer, is_past, "{tag} {class:?}");
+    }
+    Ok(())
+}
+
+// A `span` with a handler of one's own is not gone past.
+#[test]
+fn asks_handlers_of_ones_own(rt: HostRuntime) -> Result<(), Fail> {
+    let mut handlers = ElementHandlers::new(rt.alloc(), Options::default())?;
+    let handler: Box<dyn ElementHandler> = Box::new(rt.alloc(), PassesOn { appended: None })?;
+    if handlers.add_handler(&["span"], handler).is_err() {
+        return Err(Fail::from("there is memory"));
+    }
+    assert!(rt; !passes(rt.alloc(), &handlers, "span", "")?);
+    assert!(rt; passes(rt.alloc(), &handlers, "mark", "")?);
+    Ok(())
+}
