@@ -1,0 +1,177 @@
+-- Tokens in foreign content (HTML Standard, 13.2.6 and 13.2.6.5).
+use Rattle.std.specs.Prelude.{ℕ, Bool, true, false, not, ◌&&◌, ◌||◌, if◌then◌else◌, List, [], ◌∷◌, ◌++◌, codes}
+use Rattle.std.specs.List.{list_any}
+use Rattle.htmd_grammar.specs.CharacterClasses.{is_among}
+use Rattle.htmd_grammar.specs.ValueTrees.{AttributePair}
+use Rattle.htmd_html5_state.specs.Names.{NameValue, known, other, ElementNameValue, html, svg, math, text_of_name}
+use Rattle.htmd_html5_state.specs.OpenElements.{OpenValue}
+use Rattle.htmd_html5_state.specs.State.{StateValue, on_stack}
+use Rattle.htmd_html5_state.specs.Insertion.{current, insert_text, insert_comment}
+use Rattle.htmd_html5_state.specs.Foreign.{insert_foreign, is_html, is_math_text_point, is_annotation, is_html_point, leave_foreign, foreign_end, goes_by_mode, after_foreign_end, ForeignEnd}
+use Rattle.htmd_html5_state.specs.declared.names.TagName.{TagName}
+use Rattle.htmd_html5_state.specs.declared.names.Namespace.TheVariants.{Svg, MathMl}
+use Rattle.htmd_html5_state.specs.declared.names.Namespace.{Namespace}
+use Rattle.htmd_html5.specs.Tokens.{StartTagValue, TokenValue, start_tag, end_tag, run, comment, doctype, end_of_file}
+use Rattle.htmd_html5.specs.declared.tokens.RunKind.TheVariants.{White, Nulls, Characters}
+use Rattle.htmd_html5.specs.declared.tokens.RunKind.{RunKind}
+use Rattle.htmd_html5.specs.Answers.{Answer, done}
+use Rattle.htmd_html5.specs.SharedRules.{no_frameset}
+use Rattle.std.specs.Char.{encode_utf8}
+use Rattle.htmd_html5_tokens.specs.References.{replacement_character}
+use Rattle.htmd_html5.specs.Modes.{by_mode_rules}
+use Rattle.htmd_html5_state.specs.declared.names.TagName.TheVariants as tags
+
+-- ---- which tokens go there (13.2.6)
+
+abbrev pub stays_foreign : TagName → Bool
+stays_foreign tags.MGlyph = true
+stays_foreign tags.MalignMark = true
+stays_foreign _ = false
+
+abbrev pub is_glyph : NameValue → Bool
+is_glyph (known tag) = stays_foreign tag
+is_glyph (other s) = false
+
+-- in a MathML text integration point HTML's rules apply to this
+abbrev pub is_for_math_text : TokenValue → Bool
+is_for_math_text (run kind text) = true
+is_for_math_text (start_tag tag) = not (is_glyph tag.name)
+is_for_math_text _ = false
+
+abbrev pub is_svg_name : NameValue → Bool
+is_svg_name (known tags.Svg) = true
+is_svg_name _ = false
+
+-- in `annotation-xml`
+abbrev pub is_for_annotation : TokenValue → Bool
+is_for_annotation (start_tag tag) = is_svg_name tag.name
+is_for_annotation _ = false
+
+-- in an HTML integration point
+abbrev pub is_for_html_point : TokenValue → Bool
+is_for_html_point (run kind text) = true
+is_for_html_point (start_tag tag) = true
+is_for_html_point _ = false
+
+abbrev pub goes_to_html : TokenValue → OpenValue → StateValue → Bool
+goes_to_html token e s =
+    is_html e
+    || (is_math_text_point e && is_for_math_text token)
+    || (is_annotation e && is_for_annotation token)
+    || (is_html_point s.nodes e && is_for_html_point token)
+
+abbrev pub goes_foreign : TokenValue → List OpenValue → StateValue → Bool
+goes_foreign end_of_file stack s = false
+goes_foreign token [] s = false
+goes_foreign token (e ∷ es) s = not (goes_to_html token e s)
+
+abbrev pub is_foreign : TokenValue → StateValue → Bool
+is_foreign token s = goes_foreign token s.stack s
+
+-- ---- what they do there (13.2.6.5)
+
+-- HTML elements that end foreign content
+abbrev pub breaks_out : TagName → Bool
+breaks_out tags.B = true
+breaks_out tags.Big = true
+breaks_out tags.BlockQuote = true
+breaks_out tags.Body = true
+breaks_out tags.Br = true
+breaks_out tags.Center = true
+breaks_out tags.Code = true
+breaks_out tags.Dd = true
+breaks_out tags.Div = true
+breaks_out tags.Dl = true
+breaks_out tags.Dt = true
+breaks_out tags.Em = true
+breaks_out tags.Embed = true
+breaks_out tags.H1 = true
+breaks_out tags.H2 = true
+breaks_out tags.H3 = true
+breaks_out tags.H4 = true
+breaks_out tags.H5 = true
+breaks_out tags.H6 = true
+breaks_out tags.Head = true
+breaks_out tags.Hr = true
+breaks_out tags.I = true
+breaks_out tags.Img = true
+breaks_out tags.Li = true
+breaks_out tags.Listing = true
+breaks_out tags.Menu = true
+breaks_out tags.Meta = true
+breaks_out tags.NoBr = true
+breaks_out tags.Ol = true
+breaks_out tags.P = true
+breaks_out tags.Pre = true
+breaks_out tags.Ruby = true
+breaks_out tags.S = true
+breaks_out tags.Small = true
+breaks_out tags.Span = true
+breaks_out tags.Strong = true
+breaks_out tags.Strike = true
+breaks_out tags.Sub = true
+breaks_out tags.Sup = true
+breaks_out tags.Table = true
+breaks_out tags.Tt = true
+breaks_out tags.U = true
+breaks_out tags.Ul = true
+breaks_out tags.Var = true
+breaks_out _ = false
+
+-- a `font` of HTML has one of these attributes
+abbrev pub is_font_attribute : AttributePair → Bool
+is_font_attribute a = is_among (codes "color" ∷ codes "face" ∷ codes "size" ∷ []) a.name
+
+abbrev pub tag_breaks_out : NameValue → List AttributePair → Bool
+tag_breaks_out (known tags.Font) attributes = list_any is_font_attribute attributes
+tag_breaks_out (known tag) attributes = breaks_out tag
+tag_breaks_out (other s) attributes = false
+
+abbrev pub end_breaks_out : NameValue → Bool
+end_breaks_out (known tags.Br) = true
+end_breaks_out (known tags.P) = true
+end_breaks_out _ = false
+
+-- out of foreign content, and then by the rules of the mode
+abbrev pub break_out : TokenValue → StateValue → Answer
+break_out token s = by_mode_rules token (on_stack (leave_foreign s.nodes) s)
+
+abbrev pub namespace_of : ElementNameValue → Namespace
+namespace_of (html name) = MathMl
+namespace_of (svg name) = Svg
+namespace_of (math name) = MathMl
+
+abbrev pub start_foreign_element : StartTagValue → StateValue → StateValue
+start_foreign_element tag s =
+    insert_foreign (namespace_of (current s.stack).name) (text_of_name tag.name) tag.attributes tag.self_closing s
+
+abbrev pub start_in_foreign : StartTagValue → StateValue → Answer
+start_in_foreign tag s =
+    if tag_breaks_out tag.name tag.attributes then break_out (start_tag tag) s else done (start_foreign_element tag s)
+
+abbrev pub end_foreign : NameValue → ForeignEnd → StateValue → Answer
+end_foreign name end s =
+    if goes_by_mode end then by_mode_rules (end_tag name) s else done (after_foreign_end end s)
+
+abbrev pub end_in_foreign : NameValue → StateValue → Answer
+end_in_foreign name s =
+    if end_breaks_out name then break_out (end_tag name) s
+    else end_foreign name (foreign_end (text_of_name name) s.stack) s
+
+-- U+FFFD for each U+0000
+abbrev pub replacements : List ℕ → List ℕ
+replacements [] = []
+replacements (b ∷ s) = encode_utf8 replacement_character ++ replacements s
+
+abbrev pub run_in_foreign : RunKind → List ℕ → StateValue → StateValue
+run_in_foreign White text s = insert_text text s
+run_in_foreign Nulls text s = insert_text (replacements text) s
+run_in_foreign Characters text s = no_frameset (insert_text text s)
+
+abbrev pub in_foreign_content : TokenValue → StateValue → Answer
+in_foreign_content (run kind text) s = done (run_in_foreign kind text s)
+in_foreign_content (comment text) s = done (insert_comment text s)
+in_foreign_content (doctype quirks) s = done s
+in_foreign_content (start_tag tag) s = start_in_foreign tag s
+in_foreign_content (end_tag name) s = end_in_foreign name s
+in_foreign_content end_of_file s = done s

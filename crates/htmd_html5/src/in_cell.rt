@@ -1,0 +1,82 @@
+//! The mode "in cell".
+ghost use Rattle.std.specs.Prelude.{◌≡◌, is_some, IfOk, IfSome};
+ghost use Rattle.htmd_html5_state.specs.Names.{name_of};
+ghost use Rattle.htmd_html5.specs.Answers.{answer};
+ghost use Rattle.htmd_html5.specs.InCell as spec;
+ghost use Rattle.htmd_html5.specs.Tokens.{tag_of};
+
+use crate::body_ends::end_in_body;
+use crate::body_starts::start_in_body;
+use crate::tokens::StartTag;
+use htmd_html5_state::{HtmlName, HtmlState, InsertionMode, NameSet, Scope, TagName};
+use std::alloc::AllocError;
+
+fn end_cell(state: &mut HtmlState, tag: TagName)
+    ensures { state.new ≡ spec.end_cell tag state.old }
+{
+    if state.close(NameSet::Only(tag), Scope::Table) {
+        state.clear_to_marker();
+        state.set_mode(InsertionMode::InRow);
+    }
+}
+
+/// Closes the cell, where one of these is in scope. Gives whether one is.
+fn leave_cell(state: &mut HtmlState, wanted: NameSet) -> bool
+    ensures { answer state.new result ≡ spec.leave_cell wanted state.old }
+{
+    let found = state.is_in_scope(wanted, Scope::Table);
+    if found {
+        state.pop_until(NameSet::Cells);
+        state.clear_to_marker();
+        state.set_mode(InsertionMode::InRow);
+    }
+    found
+}
+
+pub(crate) fn start_in_cell(
+    state: &mut HtmlState,
+    tag: StartTag,
+) -> Result<Option<StartTag>, AllocError>
+    ensures answer { IfOk result (λ again. answer state.new (is_some again)
+        ≡ spec.start_in_cell (name_of tag.name) (tag_of tag) state.old) }
+    ensures same { IfOk result (λ again. IfSome again (λ t. tag_of t ≡ tag_of tag)) }
+{
+    match tag.name {
+        HtmlName::Known(
+            TagName::Caption
+            | TagName::Col
+            | TagName::ColGroup
+            | TagName::TBody
+            | TagName::Td
+            | TagName::TFoot
+            | TagName::Th
+            | TagName::THead
+            | TagName::Tr,
+        ) => {
+            if leave_cell(state, NameSet::Cells) {
+                return Ok(Some(tag));
+            }
+        }
+        _ => start_in_body(state, tag)?,
+    }
+    Ok(None)
+}
+
+pub(crate) fn end_in_cell(state: &mut HtmlState, name: &HtmlName) -> Result<bool, AllocError>
+    ensures { IfOk result (λ again. answer state.new again
+        ≡ spec.end_in_cell (name_of name.now) state.old) }
+{
+    match name {
+        HtmlName::Known(tag @ (TagName::Td | TagName::Th)) => {
+            end_cell(state, *tag);
+            Ok(false)
+        }
+        HtmlName::Known(
+            tag @ (TagName::Table | TagName::TBody | TagName::TFoot | TagName::THead | TagName::Tr),
+        ) => Ok(leave_cell(state, NameSet::Only(*tag))),
+        HtmlName::Known(
+            TagName::Body | TagName::Caption | TagName::Col | TagName::ColGroup | TagName::Html,
+        ) => Ok(false),
+        _ => end_in_body(state, name),
+    }
+}
