@@ -2,7 +2,7 @@
 -- the Document. A number that no node has is that of a node with nothing, which doesn't change.
 use Rattle.std.specs.Prelude.{ℕ, zero, suc, ◌-◌, Bool, true, false, not, ◌&&◌, ◌||◌, ◌==◌, nat_lt, if◌then◌else◌}
 use Rattle.std.specs.Prelude.{List, [], ◌∷◌, ◌++◌, length, insert, remove, slice_get, slice_set, slice_index_or}
-use Rattle.std.specs.Prelude.{Option, Some, None}
+use Rattle.std.specs.Prelude.{Option, Some, None, find}
 use Rattle.std.specs.List.{list_any, list_all}
 use Rattle.std.specs.Str.{bytes_eq}
 use Rattle.htmd_grammar.specs.ValueTrees.{AttributePair}
@@ -165,6 +165,14 @@ is_named name a = bytes_eq a.name name
 
 abbrev pub has_attribute : List ℕ → List AttributePair → Bool
 has_attribute name attributes = list_any (is_named name) attributes
+
+abbrev pub value_in : Option AttributePair → Option (List ℕ)
+value_in None = None
+value_in (Some a) = Some a.value
+
+-- the value of the first attribute of this name
+abbrev pub value_of : List ℕ → List AttributePair → Option (List ℕ)
+value_of name attributes = value_in (find (is_named name) attributes)
 
 abbrev pub with_missing : List AttributePair → List AttributePair → List AttributePair
 with_missing attributes [] = attributes

@@ -15,4 +15,5 @@ pub mod Views
 pub mod OpenViews
 pub mod FormattingViews
 pub mod AdoptionViews
+pub mod ForeignViews
 pub mod StateViews

@@ -1,7 +1,7 @@
 //! Documents while they are made: nodes by number, each with its parent and its children.
 ghost use Rattle.std.specs.Prelude.{◌≡◌, ◌∷◌, ◌++◌, ◌≤◌, [], length, IfOk, OnOk, if◌then◌else◌, Some, None};
 ghost use Rattle.htmd_html5_state.specs.Documents as spec;
-ghost use Rattle.htmd_html5_state.specs.Views.{kind_of, nodes_of};
+ghost use Rattle.htmd_html5_state.specs.Views.{kind_of, kind_seen, nodes_of};
 ghost use Rattle.htmd_tree.specs.Views.{pairs_of};
 
 use crate::attributes::{add_missing, copy_all};
@@ -90,7 +90,6 @@ fn place_index(children: &[usize], next: Option<usize>) -> usize
 }
 
 impl NodeKind {
-    /// A copy, for an element; a Document else.
     fn copy(&self, alloc: Global) -> Result<NodeKind, AllocError>
         ensures { IfOk result (λ copy. kind_of copy ≡ kind_of self.now) }
     {
@@ -134,12 +133,13 @@ impl Document {
         self.nodes.len()
     }
 
-    pub(crate) fn kind(&self, node: usize) -> &NodeKind
-        ensures { kind_of result.now ≡ spec.kind_at self.now node }
+    /// What a node is; None where it isn't there.
+    pub(crate) fn kind(&self, node: usize) -> Option<&NodeKind>
+        ensures { kind_seen result ≡ spec.kind_at self.now node }
     {
         match self.nodes.get(node) {
-            Some(node) => &node.kind,
-            None => &NodeKind::Document,
+            Some(node) => Some(&node.kind),
+            None => None,
         }
     }
 
@@ -240,7 +240,10 @@ impl Document {
         ensures ok { OnOk result (self.new
             ≡ self.old ++ spec.new_node (spec.kind_at self.old node) ∷ []) }
     {
-        let kind = self.kind(node).copy(self.alloc)?;
+        let kind = match self.kind(node) {
+            Some(kind) => kind.copy(self.alloc)?,
+            None => NodeKind::Document,
+        };
         self.push(kind)
     }
 

@@ -29,7 +29,7 @@ impl HtmlState {
     fn insert_like(&mut self, node: usize) -> Result<(), AllocError>
         ensures { OnOk result (self.new ≡ spec.insert_copy node self.old) }
     {
-        if let NodeKind::Element { name, attributes } = self.document.kind(node) {
+        if let Some(NodeKind::Element { name, attributes }) = self.document.kind(node) {
             let name = name.copy()?;
             let attributes = copy_all(self.alloc, attributes)?;
             self.insert_named(name, attributes)?;

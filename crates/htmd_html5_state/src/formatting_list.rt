@@ -3,7 +3,7 @@ ghost use Rattle.std.specs.Prelude.{◌≡◌, ◌∷◌, ◌<◌, [], true, fal
 ghost use Rattle.htmd_html5_state.specs.Adoption as adoption;
 ghost use Rattle.htmd_html5_state.specs.Documents.{same_element, kind_at};
 ghost use Rattle.htmd_html5_state.specs.Formatting as spec;
-ghost use Rattle.htmd_html5_state.specs.Views.{kind_of};
+ghost use Rattle.htmd_html5_state.specs.Views.{kind_seen};
 ghost use Rattle.htmd_html5_state.specs.OpenViews.{stack_of};
 ghost use Rattle.htmd_html5_state.specs.FormattingViews.{entries_of, IsNewest};
 
@@ -37,27 +37,27 @@ impl Model for FormattingList {
 }
 
 /// Whether both are elements of the same name and attributes.
-fn are_alike(this: &NodeKind, that: &NodeKind) -> bool
-    ensures { result ≡ same_element (kind_of this.now) (kind_of that.now) }
+fn are_alike(this: Option<&NodeKind>, that: Option<&NodeKind>) -> bool
+    ensures { result ≡ same_element (kind_seen this) (kind_seen that) }
 {
     match (this, that) {
         (
-            NodeKind::Element { name, attributes },
-            NodeKind::Element {
+            Some(NodeKind::Element { name, attributes }),
+            Some(NodeKind::Element {
                 name: wanted,
                 attributes: others,
-            },
+            }),
         ) => name.is(wanted) && are_same(attributes, others),
         _ => false,
     }
 }
 
 /// Whether it is an element of this name.
-fn is_element(kind: &NodeKind, tag: TagName) -> bool
-    ensures { result ≡ adoption.kind_is tag (kind_of kind.now) }
+fn is_element(kind: Option<&NodeKind>, tag: TagName) -> bool
+    ensures { result ≡ adoption.kind_is tag (kind_seen kind) }
 {
     match kind {
-        NodeKind::Element { name, .. } => name.is_tag(tag),
+        Some(NodeKind::Element { name, .. }) => name.is_tag(tag),
         _ => false,
     }
 }
@@ -97,10 +97,10 @@ fn newest(entries: &[Option<usize>], document: &Document, tag: TagName) -> Optio
 fn oldest_alike(
     entries: &[Option<usize>],
     document: &Document,
-    kind: &NodeKind,
+    kind: Option<&NodeKind>,
 ) -> Option<usize>
     ensures { result ≡ spec.one_too_many spec.alike_limit
-        (filter (spec.is_alike document.now (kind_of kind.now)) (spec.since_marker (entries_of entries.now))) }
+        (filter (spec.is_alike document.now (kind_seen kind)) (spec.since_marker (entries_of entries.now))) }
 {
     let mut count = 0;
     let mut oldest = None;

@@ -1,5 +1,5 @@
 //! The stack of open elements.
-ghost use Rattle.std.specs.Prelude.{◌≡◌, ◌∷◌, ◌++◌, [], true, false, IfOk, OnOk, MatchOption, option_map};
+ghost use Rattle.std.specs.Prelude.{◌≡◌, ◌-◌, ◌∷◌, ◌++◌, [], length, drop, true, false, IfOk, OnOk, MatchOption, option_map};
 ghost use Rattle.std.specs.List.{list_any};
 ghost use Rattle.htmd_html5_state.specs.Names.{element_name_of, name_of, html};
 ghost use Rattle.htmd_html5_state.specs.OpenElements as spec;
@@ -68,7 +68,7 @@ fn holds_node(elements: &[OpenElement], node: usize) -> bool
     false
 }
 
-fn is_in_scope(elements: &[OpenElement], set: NameSet, scope: Scope) -> bool
+pub(crate) fn is_in_scope(elements: &[OpenElement], set: NameSet, scope: Scope) -> bool
     ensures { result ≡ spec.is_in_scope set scope (stack_of elements.now) }
 {
     let mut rest = elements;
@@ -403,6 +403,13 @@ impl OpenElements {
         if is_closable(&self.elements, name) {
             self.pop_through(name);
         }
+    }
+
+    /// Pops all but the outermost so many.
+    pub(crate) fn truncate(&mut self, len: usize)
+        ensures { self.new ≡ drop (length self.old - len) self.old }
+    {
+        self.elements.truncate(len);
     }
 
     /// Pops all but the outermost.
