@@ -1,14 +1,14 @@
 -- The adoption agency algorithm (HTML Standard, 13.2.6.4.7).
-use Rattle.std.specs.Prelude.{ℕ, zero, suc, Bool, true, false, not, ◌&&◌, ◌||◌, nat_le, if◌then◌else◌, List, [], ◌∷◌, ◌++◌}
+use Rattle.std.specs.Prelude.{ℕ, zero, suc, ◌-◌, Bool, true, false, not, ◌&&◌, ◌||◌, nat_lt, if◌then◌else◌, List, [], ◌∷◌, ◌++◌}
 use Rattle.std.specs.Prelude.{length, find, Option, Some, None}
 use Rattle.std.specs.List.{list_any}
-use Rattle.htmd_html5_state.specs.Names.{known, html, same_element_name, ElementNameValue}
+use Rattle.htmd_html5_state.specs.Names.{known, html, is_tag, ElementNameValue}
 use Rattle.htmd_html5_state.specs.Sets.{bounds}
-use Rattle.htmd_html5_state.specs.Documents.{NodeValue, KindValue, element, kind_at, add, detach, put, new_node, last_in}
-use Rattle.htmd_html5_state.specs.Documents.{Place, attach, move_children}
-use Rattle.htmd_html5_state.specs.OpenElements.{OpenValue, is_in, is_open_node, inside, around, without, pop, close_name}
+use Rattle.htmd_html5_state.specs.Documents.{NodeValue, KindValue, element, kind_at, detach, put, new_node, last_in}
+use Rattle.htmd_html5_state.specs.Documents.{attach, move_children}
+use Rattle.htmd_html5_state.specs.OpenElements.{OpenValue, is_in, is_open_node, inside, around, pop, close_name}
 use Rattle.htmd_html5_state.specs.State.{StateValue, on_nodes, on_stack, on_formatting}
-use Rattle.htmd_html5_state.specs.Insertion.{current, opened, place_in}
+use Rattle.htmd_html5_state.specs.Insertion.{current, opened, place}
 use Rattle.htmd_html5_state.specs.Formatting.{since_marker, is_listed, without_entry, replace_entry, insert_behind}
 use Rattle.htmd_html5_state.specs.declared.names.TagName.{TagName}
 use Rattle.htmd_html5_state.specs.declared.sets.NameSet.TheVariants.{Only}
@@ -17,7 +17,7 @@ use Rattle.htmd_html5_state.specs.declared.sets.Scope.TheVariants.{Default, Spec
 -- ---- what the algorithm looks for
 
 abbrev pub kind_is : TagName → KindValue → Bool
-kind_is tag (element name attributes) = same_element_name name (html (known tag))
+kind_is tag (element name attributes) = is_tag tag name
 kind_is tag _ = false
 
 abbrev pub node_is : List NodeValue → TagName → ℕ → Bool
@@ -51,102 +51,115 @@ furthest_block (e ∷ es) = furthest_with e es (furthest_block es)
 
 -- ---- the elements between the furthest block and the formatting element
 
--- what has been made of them: the nodes and the list, which copies are open, the last of them, and the first,
--- behind which the bookmark is; without one it is where the formatting element stands
+-- what has been made of them: the state, which copies are open, the last of them, and the first, behind which the
+-- bookmark is; without one it is where the formatting element stands
 pub record Chain : Type 0 where
-  pub nodes : List NodeValue
-  pub formatting : List (Option ℕ)
+  pub state : StateValue
   pub copies : List OpenValue
   pub last : ℕ
   pub bookmark : Option ℕ
+
+abbrev pub begin_chain : ℕ → StateValue → Chain
+begin_chain block s = record { state = s; copies = []; last = block; bookmark = None }
 
 abbrev pub or_first : Option ℕ → ℕ → ℕ
 or_first None n = n
 or_first (Some first) n = first
 
--- a copy of an element takes its place, and what was made last is moved into it
-abbrev pub with_copy : OpenValue → Chain → Chain
-with_copy e c = record {
-  nodes = attach c.last (last_in (length c.nodes)) (c.nodes ++ new_node (kind_at c.nodes e.node) ∷ []);
-  formatting = replace_entry e.node (length c.nodes) c.formatting;
-  copies = c.copies ++ opened (length c.nodes) e.name ∷ [];
-  last = length c.nodes;
-  bookmark = Some (or_first c.bookmark (length c.nodes));
+-- a copy takes the place of an element on the list, and what was made last is moved into it
+abbrev pub copy_into : ℕ → ℕ → StateValue → StateValue
+copy_into n last s = record s {
+  nodes = attach last (last_in (length s.nodes)) (s.nodes ++ new_node (kind_at s.nodes n) ∷ []);
+  formatting = replace_entry n (length s.nodes) s.formatting;
 }
 
--- those behind the third, and those that aren't on the list, go
+abbrev pub with_copy : OpenValue → Chain → Chain
+with_copy e c = record {
+  state = copy_into e.node c.last c.state;
+  copies = c.copies ++ opened (length c.state.nodes) e.name ∷ [];
+  last = length c.state.nodes;
+  bookmark = Some (or_first c.bookmark (length c.state.nodes));
+}
+
+-- so many may still be copied; those behind, and those that aren't on the list, go
 abbrev pub with_next : ℕ → OpenValue → Chain → Chain
-with_next count e c =
-    if nat_le count 3 && is_listed e.node c.formatting then with_copy e c
-    else record c { formatting = without_entry e.node c.formatting }
+with_next left e c =
+    if nat_lt 0 left && is_listed e.node c.state.formatting then with_copy e c
+    else record c { state = on_formatting (without_entry e.node) c.state }
 
 abbrev pub chain : ℕ → List OpenValue → Chain → Chain
-chain count [] c = c
-chain count (e ∷ es) c = chain (suc count) es (with_next count e c)
+chain left [] c = c
+chain left (e ∷ es) c = chain (left - 1) es (with_next left e c)
 
--- ---- one round
+-- ---- one round, in which only what is around the formatting element is open
 
--- the new element takes the place of the formatting element, or stands behind the bookmark
-abbrev pub with_bookmark : ℕ → ℕ → Option ℕ → List (Option ℕ) → List (Option ℕ)
-with_bookmark formatting new None entries = replace_entry formatting new entries
-with_bookmark formatting new (Some first) entries = without_entry formatting (insert_behind first new entries)
+-- what was made last goes to the common ancestor; no table stands inside the formatting element
+abbrev pub move_last : ℕ → StateValue → StateValue
+move_last last s =
+    let moved = on_nodes (detach last) s in
+    on_nodes (put last (place moved)) moved
 
 -- a copy of the formatting element takes all children of the furthest block, and is its only child then
-abbrev pub wrap_children : KindValue → ℕ → List NodeValue → List NodeValue
-wrap_children kind block nodes =
-    put (length nodes) (last_in block) (move_children block (length nodes) (nodes ++ new_node kind ∷ []))
+abbrev pub wrap_children : ℕ → ℕ → List NodeValue → List NodeValue
+wrap_children formatting block nodes =
+    put (length nodes) (last_in block)
+    (move_children block (length nodes) (nodes ++ new_node (kind_at nodes formatting) ∷ []))
 
--- when what is between has been done with
-abbrev pub adopt_with : ℕ → ElementNameValue → Furthest → List OpenValue → Chain → StateValue → StateValue
-adopt_with formatting name f outer c s =
-    let formatting_open = opened formatting name in
-    let moved = detach c.last c.nodes in
-    let stack = f.inner ++ f.block ∷ (c.copies ++ formatting_open ∷ outer) in
-    let placed = put c.last (place_in (current outer) (record s { nodes = moved; stack = stack })) moved in
-    record s {
-      nodes = wrap_children (kind_at placed formatting) f.block.node placed;
-      stack = f.inner ++ opened (length placed) name ∷ f.block ∷ (c.copies ++ outer);
-      formatting = with_bookmark formatting (length placed) c.bookmark c.formatting;
-    }
+-- it takes the place of the formatting element, or stands behind the bookmark
+abbrev pub with_bookmark : ℕ → ℕ → Option ℕ → List (Option ℕ) → List (Option ℕ)
+with_bookmark formatting copy None entries = replace_entry formatting copy entries
+with_bookmark formatting copy (Some first) entries = without_entry formatting (insert_behind first copy entries)
 
-abbrev pub adopt : ℕ → ElementNameValue → Furthest → List OpenValue → StateValue → StateValue
-adopt formatting name f outer s =
-    adopt_with formatting name f outer
-    (chain 1 f.between
-    (record {
-      nodes = s.nodes;
-      formatting = s.formatting;
-      copies = [];
-      last = f.block.node;
-      bookmark = None;
-    }))
-    s
+abbrev pub finish : ℕ → TagName → Furthest → Chain → StateValue → StateValue
+finish formatting tag f c s = record s {
+  nodes = wrap_children formatting f.block.node s.nodes;
+  stack = f.inner ++ opened (length s.nodes) (html (known tag)) ∷ f.block ∷ (c.copies ++ s.stack);
+  formatting = with_bookmark formatting (length s.nodes) c.bookmark s.formatting;
+}
 
--- without a furthest block: the formatting element and what is open inside it are closed
-abbrev pub close_formatting : ℕ → List OpenValue → StateValue → StateValue
-close_formatting formatting outer s =
-    record s { stack = outer; formatting = without_entry formatting s.formatting }
+abbrev pub adopt_by : ℕ → TagName → Furthest → Chain → StateValue
+adopt_by formatting tag f c = finish formatting tag f c (move_last c.last c.state)
 
-abbrev pub after_round : (StateValue → StateValue) → ℕ → TagName → Option Furthest → StateValue → StateValue
-after_round again formatting tag None s = close_formatting formatting (around formatting s.stack) s
-after_round again formatting tag (Some f) s =
-    again (adopt formatting (html (known tag)) f (around formatting s.stack) s)
+abbrev pub adopt : ℕ → TagName → Furthest → StateValue → StateValue
+adopt formatting tag f s = adopt_by formatting tag f (chain 3 f.between (begin_chain f.block.node s))
+
+-- what a round leaves, and whether the next one follows
+pub data Round : Type 0 where
+  last_round : StateValue → Round
+  goes_on : StateValue → Round
+
+-- without a furthest block the formatting element is closed, with all inside it
+abbrev pub round_by : ℕ → TagName → Option Furthest → StateValue → Round
+round_by formatting tag None s = last_round (on_formatting (without_entry formatting) s)
+round_by formatting tag (Some f) s = goes_on (adopt formatting tag f s)
+
+-- with a formatting element that is open, and in scope
+abbrev pub round_open : TagName → ℕ → StateValue → Round
+round_open tag formatting s =
+    round_by formatting tag (furthest_block (inside formatting s.stack)) (on_stack (around formatting) s)
 
 -- with a formatting element; one that isn't open goes from the list, and one that isn't in scope stays
-abbrev pub round_with : (StateValue → StateValue) → TagName → ℕ → StateValue → StateValue
-round_with again tag formatting s =
-    if not (is_open_node formatting s.stack) then on_formatting (without_entry formatting) s
-    else if list_any bounds_any (inside formatting s.stack) then s
-    else after_round again formatting tag (furthest_block (inside formatting s.stack)) s
+abbrev pub round_with : TagName → ℕ → StateValue → Round
+round_with tag formatting s =
+    if not (is_open_node formatting s.stack) then last_round (on_formatting (without_entry formatting) s)
+    else if list_any bounds_any (inside formatting s.stack) then last_round s
+    else round_open tag formatting s
 
-abbrev pub round : (StateValue → StateValue) → TagName → Option ℕ → StateValue → StateValue
-round again tag None s = on_stack (close_name (known tag)) s
-round again tag (Some formatting) s = round_with again tag formatting s
+abbrev pub round_of : TagName → Option ℕ → StateValue → Round
+round_of tag None s = last_round (on_stack (close_name (known tag)) s)
+round_of tag (Some formatting) s = round_with tag formatting s
+
+abbrev pub round : TagName → StateValue → Round
+round tag s = round_of tag (formatting_element tag s) s
+
+abbrev pub go_on : (StateValue → StateValue) → Round → StateValue
+go_on more (last_round s) = s
+go_on more (goes_on s) = more s
 
 -- at most so many rounds
 abbrev pub rounds : ℕ → TagName → StateValue → StateValue
 rounds zero tag s = s
-rounds (suc k) tag s = round (rounds k tag) tag (formatting_element tag s) s
+rounds (suc k) tag s = go_on (rounds k tag) (round tag s)
 
 -- ---- the algorithm
 

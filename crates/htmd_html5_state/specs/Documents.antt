@@ -2,10 +2,11 @@
 -- the Document. A number that no node has is that of a node with nothing, which doesn't change.
 use Rattle.std.specs.Prelude.{ℕ, zero, suc, ◌-◌, Bool, true, false, not, ◌&&◌, ◌||◌, ◌==◌, nat_lt, if◌then◌else◌}
 use Rattle.std.specs.Prelude.{List, [], ◌∷◌, ◌++◌, length, insert, remove, slice_get, slice_set, slice_index_or}
-use Rattle.std.specs.Prelude.{Option, Some, None}
+use Rattle.std.specs.Prelude.{Option, Some, None, find}
 use Rattle.std.specs.List.{list_any, list_all}
 use Rattle.std.specs.Str.{bytes_eq}
 use Rattle.htmd_grammar.specs.ValueTrees.{AttributePair}
+use Rattle.htmd_html5_state.specs.declared.document.Place.{Place}
 use Rattle.htmd_html5_state.specs.Names.{ElementNameValue, same_element_name}
 
 -- what a node is
@@ -62,11 +63,6 @@ with_children n children nodes = slice_set nodes n (record (node_at nodes n) { c
 
 -- ---- places among the children of a node
 
--- a place: in this node before this child, or as the last
-pub record Place : Type 0 where
-  pub parent : ℕ
-  pub next : Option ℕ
-
 abbrev pub last_in : ℕ → Place
 last_in parent = record { parent = parent; next = None }
 
@@ -90,9 +86,12 @@ place_index (Some next) children = index_of next children
 abbrev pub without_child : ℕ → List ℕ → List ℕ
 without_child n children = remove children (index_of n children)
 
+abbrev pub remove_child : ℕ → ℕ → List NodeValue → List NodeValue
+remove_child p n nodes = with_children p (without_child n (children_at nodes p)) nodes
+
 abbrev pub detach_from : Option ℕ → ℕ → List NodeValue → List NodeValue
 detach_from None n nodes = nodes
-detach_from (Some p) n nodes = with_parent n None (with_children p (without_child n (children_at nodes p)) nodes)
+detach_from (Some p) n nodes = with_parent n None (remove_child p n nodes)
 
 -- out of its parent
 abbrev pub detach : ℕ → List NodeValue → List NodeValue
@@ -119,11 +118,14 @@ abbrev pub with_parents : ℕ → List ℕ → List NodeValue → List NodeValue
 with_parents p [] nodes = nodes
 with_parents p (c ∷ cs) nodes = with_parents p cs (with_parent c (Some p) nodes)
 
+abbrev pub append_children : ℕ → List ℕ → List NodeValue → List NodeValue
+append_children n more nodes = with_children n (children_at nodes n ++ more) nodes
+
 -- all children of one node to another, behind those that it has
 abbrev pub move_children : ℕ → ℕ → List NodeValue → List NodeValue
 move_children from to nodes =
-    with_children from []
-    (with_children to (children_at nodes to ++ children_at nodes from) (with_parents to (children_at nodes from) nodes))
+    append_children to (children_at nodes from)
+    (with_parents to (children_at nodes from) (with_children from [] nodes))
 
 -- ---- texts
 
@@ -136,17 +138,25 @@ abbrev pub preceding : Place → List NodeValue → Option ℕ
 preceding place nodes =
     child_before (place_index place.next (children_at nodes place.parent)) (children_at nodes place.parent)
 
-abbrev pub join_text : List ℕ → Place → ℕ → Option (List ℕ) → List NodeValue → List NodeValue
-join_text s place n None nodes = add (text s) place nodes
-join_text s place n (Some before) nodes = with_kind n (text (before ++ s)) nodes
+abbrev pub joined_with : List ℕ → ℕ → Option (List ℕ) → List NodeValue → Option (List NodeValue)
+joined_with s n None nodes = None
+joined_with s n (Some before) nodes = Some (with_kind n (text (before ++ s)) nodes)
 
-abbrev pub add_to_text : List ℕ → Place → Option ℕ → List NodeValue → List NodeValue
-add_to_text s place None nodes = add (text s) place nodes
-add_to_text s place (Some n) nodes = join_text s place n (text_of (kind_at nodes n)) nodes
+-- at the end of a text; nothing where the node is none
+abbrev pub joined : List ℕ → ℕ → List NodeValue → Option (List NodeValue)
+joined s n nodes = joined_with s n (text_of (kind_at nodes n)) nodes
+
+abbrev pub joined_to : List ℕ → Option ℕ → List NodeValue → Option (List NodeValue)
+joined_to s None nodes = None
+joined_to s (Some n) nodes = joined s n nodes
+
+abbrev pub or_add : List ℕ → Place → List NodeValue → Option (List NodeValue) → List NodeValue
+or_add s place nodes None = add (text s) place nodes
+or_add s place nodes (Some new) = new
 
 -- at the end of the text right before the place, where one stands there, else as a new text (13.2.6.1)
 abbrev pub add_text : List ℕ → Place → List NodeValue → List NodeValue
-add_text s place nodes = add_to_text s place (preceding place nodes) nodes
+add_text s place nodes = or_add s place nodes (joined_to s (preceding place nodes) nodes)
 
 -- ---- attributes
 
@@ -155,6 +165,14 @@ is_named name a = bytes_eq a.name name
 
 abbrev pub has_attribute : List ℕ → List AttributePair → Bool
 has_attribute name attributes = list_any (is_named name) attributes
+
+abbrev pub value_in : Option AttributePair → Option (List ℕ)
+value_in None = None
+value_in (Some a) = Some a.value
+
+-- the value of the first attribute of this name
+abbrev pub value_of : List ℕ → List AttributePair → Option (List ℕ)
+value_of name attributes = value_in (find (is_named name) attributes)
 
 abbrev pub with_missing : List AttributePair → List AttributePair → List AttributePair
 with_missing attributes [] = attributes

@@ -4,13 +4,12 @@ use Rattle.std.specs.Prelude.{Option, Some, None, unwrap_or}
 use Rattle.std.specs.Char.{to_ascii_lowercase}
 use Rattle.std.specs.Str.{bytes_eq}
 use Rattle.htmd_grammar.specs.ValueTrees.{AttributePair}
-use Rattle.htmd_grammar.specs.CharacterClasses.{is_among}
 use Rattle.htmd_html5_state.specs.Names.{ElementNameValue, html, svg, math}
 use Rattle.htmd_html5_state.specs.Sets.{is_math_text, is_svg_point}
-use Rattle.htmd_html5_state.specs.Documents.{NodeValue, is_named, attributes_at}
+use Rattle.htmd_html5_state.specs.Documents.{NodeValue, attributes_at, value_of}
 use Rattle.htmd_html5_state.specs.OpenElements.{OpenValue, pop}
 use Rattle.htmd_html5_state.specs.State.{StateValue, on_stack}
-use Rattle.htmd_html5_state.specs.Insertion.{insert_named}
+use Rattle.htmd_html5_state.specs.Insertion.{current, insert_named}
 use Rattle.htmd_html5_state.specs.declared.names.Namespace.{Namespace}
 use Rattle.htmd_html5_state.specs.declared.names.Namespace.TheVariants.{Svg, MathMl}
 
@@ -122,13 +121,13 @@ svg_attribute_names =
 abbrev pub math_attribute_names : List (List ℕ)
 math_attribute_names = codes "definitionURL" ∷ []
 
--- the name has the letters of this one
-abbrev pub is_capitalised : List ℕ → List ℕ → Bool
-is_capitalised name capitalised = bytes_eq (map to_ascii_lowercase capitalised) name
+-- the same letters, in any case
+abbrev pub is_in_any_case : List ℕ → List ℕ → Bool
+is_in_any_case s t = bytes_eq (map to_ascii_lowercase s) (map to_ascii_lowercase t)
 
 -- as it is written in the list
 abbrev pub capitalised : List (List ℕ) → List ℕ → List ℕ
-capitalised names name = unwrap_or (find (is_capitalised name) names) name
+capitalised names name = unwrap_or (find (λ known. is_in_any_case known name) names) name
 
 abbrev pub with_capitals : List (List ℕ) → AttributePair → AttributePair
 with_capitals names a = record { name = capitalised names a.name; value = a.value }
@@ -139,9 +138,12 @@ abbrev pub foreign_name : Namespace → List ℕ → ElementNameValue
 foreign_name Svg name = svg (capitalised svg_names name)
 foreign_name MathMl name = math name
 
+abbrev pub attribute_names : Namespace → List (List ℕ)
+attribute_names Svg = svg_attribute_names
+attribute_names MathMl = math_attribute_names
+
 abbrev pub foreign_attributes : Namespace → List AttributePair → List AttributePair
-foreign_attributes Svg attributes = map (with_capitals svg_attribute_names) attributes
-foreign_attributes MathMl attributes = map (with_capitals math_attribute_names) attributes
+foreign_attributes space attributes = map (with_capitals (attribute_names space)) attributes
 
 abbrev pub pop_if : Bool → List OpenValue → List OpenValue
 pop_if true stack = pop stack
@@ -163,6 +165,15 @@ is_html_name (math name) = false
 abbrev pub is_html : OpenValue → Bool
 is_html e = is_html_name e.name
 
+abbrev pub current_is_html : List OpenValue → Bool
+current_is_html stack = is_html (current stack)
+
+-- the namespace of an element that isn't HTML's
+abbrev pub namespace_of : ElementNameValue → Option Namespace
+namespace_of (html name) = None
+namespace_of (svg name) = Some Svg
+namespace_of (math name) = Some MathMl
+
 abbrev pub is_math_text_name : ElementNameValue → Bool
 is_math_text_name (math name) = is_math_text name
 is_math_text_name _ = false
@@ -179,19 +190,22 @@ is_annotation_name _ = false
 abbrev pub is_annotation : OpenValue → Bool
 is_annotation e = is_annotation_name e.name
 
-abbrev pub is_html_encoding : AttributePair → Bool
-is_html_encoding a =
-    is_among (codes "text/html" ∷ codes "application/xhtml+xml" ∷ []) (map to_ascii_lowercase a.value)
+abbrev pub is_html_encoding : List ℕ → Bool
+is_html_encoding value =
+    is_in_any_case (codes "text/html") value || is_in_any_case (codes "application/xhtml+xml") value
 
-abbrev pub has_html_encoding : Option AttributePair → Bool
-has_html_encoding None = false
-has_html_encoding (Some a) = is_html_encoding a
+abbrev pub has_html_value : Option (List ℕ) → Bool
+has_html_value None = false
+has_html_value (Some value) = is_html_encoding value
+
+abbrev pub has_html_encoding : List AttributePair → Bool
+has_html_encoding attributes = has_html_value (value_of (codes "encoding") attributes)
 
 abbrev pub is_point_name : List NodeValue → ℕ → ElementNameValue → Bool
 is_point_name nodes n (html name) = false
 is_point_name nodes n (svg name) = is_svg_point name
 is_point_name nodes n (math name) =
-    bytes_eq name (codes "annotation-xml") && has_html_encoding (find (is_named (codes "encoding")) (attributes_at nodes n))
+    bytes_eq name (codes "annotation-xml") && has_html_encoding (attributes_at nodes n)
 
 -- HTML integration points
 abbrev pub is_html_point : List NodeValue → OpenValue → Bool
@@ -209,8 +223,8 @@ leave_foreign nodes (e ∷ es) = if ends_foreign nodes e then e ∷ es else leav
 
 abbrev pub is_spelled_so : List ℕ → ElementNameValue → Bool
 is_spelled_so s (html name) = false
-is_spelled_so s (svg name) = bytes_eq (map to_ascii_lowercase name) s
-is_spelled_so s (math name) = bytes_eq (map to_ascii_lowercase name) s
+is_spelled_so s (svg name) = is_in_any_case name s
+is_spelled_so s (math name) = is_in_any_case name s
 
 -- what an end tag does: the mode's rules apply, an element is closed with all inside it, or nothing
 pub data ForeignEnd : Type 0 where

@@ -53,15 +53,18 @@ insert_behind n new (e ∷ entries) =
 
 -- ---- an element is put on the list
 
--- without the oldest of these
-abbrev pub without_oldest : List ℕ → List (Option ℕ) → List (Option ℕ)
-without_oldest [] entries = entries
-without_oldest (n ∷ []) entries = without_entry n entries
-without_oldest (n ∷ m ∷ ns) entries = without_oldest (m ∷ ns) entries
+abbrev pub last_of : List ℕ → Option ℕ
+last_of [] = None
+last_of (n ∷ []) = Some n
+last_of (n ∷ m ∷ ns) = last_of (m ∷ ns)
 
--- so that there is room for one more of so many
-abbrev pub with_room : ℕ → List ℕ → List (Option ℕ) → List (Option ℕ)
-with_room limit nodes entries = if nat_le limit (length nodes) then without_oldest nodes entries else entries
+-- the oldest of these, where there are so many
+abbrev pub one_too_many : ℕ → List ℕ → Option ℕ
+one_too_many limit nodes = if nat_le limit (length nodes) then last_of nodes else None
+
+abbrev pub without_some : Option ℕ → List (Option ℕ) → List (Option ℕ)
+without_some None entries = entries
+without_some (Some n) entries = without_entry n entries
 
 -- three of the same name and attributes at most: the Noah's Ark clause
 abbrev pub alike_limit : ℕ
@@ -76,14 +79,14 @@ is_alike nodes kind n = same_element (kind_at nodes n) kind
 
 abbrev pub with_room_for : List NodeValue → KindValue → List (Option ℕ) → List (Option ℕ)
 with_room_for nodes kind entries =
-    with_room alike_limit (filter (is_alike nodes kind) (since_marker entries)) entries
+    without_some (one_too_many alike_limit (filter (is_alike nodes kind) (since_marker entries))) entries
+
+abbrev pub with_room : List (Option ℕ) → List (Option ℕ)
+with_room entries = without_some (one_too_many formatting_limit (since_marker entries)) entries
 
 abbrev pub push_entry : List NodeValue → ℕ → List (Option ℕ) → List (Option ℕ)
-push_entry nodes n entries =
-    let alike = with_room_for nodes (kind_at nodes n) entries in
-    Some n ∷ with_room formatting_limit (since_marker alike) alike
+push_entry nodes n entries = Some n ∷ with_room (with_room_for nodes (kind_at nodes n) entries)
 
--- the current node, which is new
 abbrev pub push_formatting : ℕ → StateValue → StateValue
 push_formatting n s = on_formatting (push_entry s.nodes n) s
 
@@ -109,9 +112,11 @@ abbrev pub insert_like : KindValue → StateValue → StateValue
 insert_like (element name attributes) s = insert_named name attributes s
 insert_like _ s = s
 
+abbrev pub insert_copy : ℕ → StateValue → StateValue
+insert_copy n s = insert_like (kind_at s.nodes n) s
+
 abbrev pub reopen : ℕ → StateValue → StateValue
-reopen n s =
-    on_formatting (λ entries. Some (length s.nodes) ∷ entries) (insert_like (kind_at s.nodes n) s)
+reopen n s = on_formatting (λ entries. Some (length s.nodes) ∷ entries) (insert_copy n s)
 
 -- the last of these first
 abbrev pub reopen_all : List ℕ → StateValue → StateValue

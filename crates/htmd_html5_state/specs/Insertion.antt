@@ -5,7 +5,8 @@ use Rattle.htmd_html5_tokens.specs.declared.tokens.Content.TheVariants.{Raw}
 use Rattle.htmd_html5_tokens.specs.declared.tokens.RawElement.{RawElement}
 use Rattle.htmd_html5_state.specs.Names.{ElementNameValue, NameValue, html, other, known}
 use Rattle.htmd_html5_state.specs.Documents.{NodeValue, KindValue, element, comment, doctype, parent_at, add, add_text}
-use Rattle.htmd_html5_state.specs.Documents.{Place, last_in, before_in}
+use Rattle.htmd_html5_state.specs.Documents.{last_in, before_in}
+use Rattle.htmd_html5_state.specs.declared.document.Place.{Place}
 use Rattle.htmd_html5_state.specs.OpenElements.{OpenValue, is_in, pop}
 use Rattle.htmd_html5_state.specs.State.{StateValue, on_nodes, on_stack}
 use Rattle.htmd_html5_state.specs.declared.names.TagName.TheVariants.{Table, Template}
@@ -84,3 +85,7 @@ insert_void name attributes s = on_stack pop (insert_element name attributes s)
 -- an element of text alone (13.2.6.2)
 abbrev pub insert_raw : NameValue → RawElement → List AttributePair → StateValue → StateValue
 insert_raw name element attributes s = record (insert_element name attributes s) { content = Raw element }
+
+-- an element of HTML is open once more (13.2.6.4.6)
+abbrev pub open_again : ℕ → NameValue → StateValue → StateValue
+open_again n name s = on_stack (λ stack. opened n (html name) ∷ stack) s

@@ -318,10 +318,13 @@ abbrev pub known_or : List ℕ → Option TagName → NameValue
 known_or s None = other s
 known_or s (Some tag) = known tag
 
+abbrev pub known_name : List ℕ → Option TagName
+known_name [] = None
+known_name (b ∷ s) = find (is_spelled (b ∷ s)) (names_with b)
+
 -- the name that is spelled so, in lower case
 abbrev pub name_of_text : List ℕ → NameValue
-name_of_text [] = other []
-name_of_text (b ∷ s) = known_or (b ∷ s) (find (is_spelled (b ∷ s)) (names_with b))
+name_of_text s = known_or s (known_name s)
 
 -- ---- which are equal
 
@@ -339,6 +342,12 @@ same_element_name (html n) (html m) = same_name n m
 same_element_name (svg s) (svg v) = bytes_eq s v
 same_element_name (math s) (math v) = bytes_eq s v
 same_element_name _ _ = false
+
+abbrev pub is_tag : TagName → ElementNameValue → Bool
+is_tag tag (html (known t)) = same_tag t tag
+is_tag tag (html (other s)) = false
+is_tag tag (svg s) = false
+is_tag tag (math s) = false
 
 -- ---- what the program's names are
 

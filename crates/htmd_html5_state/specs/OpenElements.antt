@@ -6,7 +6,7 @@ use Rattle.htmd_html5_state.specs.Names.{ElementNameValue, NameValue, html, know
 use Rattle.htmd_html5_state.specs.Sets.{is_of, bounds}
 use Rattle.htmd_html5_state.specs.declared.sets.NameSet.{NameSet}
 use Rattle.htmd_html5_state.specs.declared.sets.Scope.{Scope}
-use Rattle.htmd_html5_state.specs.declared.sets.Scope.TheVariants.{Special}
+use Rattle.htmd_html5_state.specs.declared.sets.Scope.TheVariants.{Default, Special}
 
 -- an open element: its node and its name
 pub record OpenValue : Type 0 where
@@ -43,6 +43,41 @@ scope_has wanted scope (e ∷ es) = wanted e || (not (bounds scope e.name) && sc
 abbrev pub is_in_scope : NameSet → Scope → List OpenValue → Bool
 is_in_scope set scope stack = scope_has (is_in set) scope stack
 
+-- whether any other end tag of this name closes an element
+abbrev pub is_closable : NameValue → List OpenValue → Bool
+is_closable name stack = scope_has (has_name (html name)) Special stack
+
+abbrev pub current_name : List OpenValue → Option ElementNameValue
+current_name [] = None
+current_name (e ∷ es) = Some e.name
+
+abbrev pub is_empty : List OpenValue → Bool
+is_empty [] = true
+is_empty (e ∷ es) = false
+
+abbrev pub has_second : List OpenValue → Bool
+has_second [] = false
+has_second (e ∷ []) = false
+has_second (e ∷ f ∷ es) = true
+
+-- the outermost element
+abbrev pub first_open : List OpenValue → Option ℕ
+first_open [] = None
+first_open (e ∷ []) = Some e.node
+first_open (e ∷ f ∷ es) = first_open (f ∷ es)
+
+-- the element right inside it, where it is one of these
+abbrev pub second_open : NameSet → List OpenValue → Option ℕ
+second_open set [] = None
+second_open set (e ∷ []) = None
+second_open set (e ∷ f ∷ []) = if is_in set e then Some e.node else None
+second_open set (e ∷ f ∷ g ∷ es) = second_open set (f ∷ g ∷ es)
+
+-- an element is open, and neither it nor one inside it bounds a scope
+abbrev pub is_node_in_scope : ℕ → List OpenValue → Bool
+is_node_in_scope n [] = false
+is_node_in_scope n (e ∷ es) = not (bounds Default e.name) && (e.node == n || is_node_in_scope n es)
+
 -- ---- elements are popped
 
 abbrev pub pop : List OpenValue → List OpenValue
@@ -75,7 +110,7 @@ close set scope stack = if is_in_scope set scope stack then pop_until set stack 
 -- any other end tag (13.2.6.4.7)
 abbrev pub close_name : NameValue → List OpenValue → List OpenValue
 close_name name stack =
-    if scope_has (has_name (html name)) Special stack then pop_through (has_name (html name)) stack else stack
+    if is_closable name stack then pop_through (has_name (html name)) stack else stack
 
 -- all but the outermost
 abbrev pub outermost : List OpenValue → List OpenValue

@@ -45,6 +45,20 @@ abbrev pub template_mode : List InsertionMode → InsertionMode
 template_mode [] = InBody
 template_mode (mode ∷ modes) = mode
 
+abbrev pub has_modes : List InsertionMode → Bool
+has_modes [] = false
+has_modes (mode ∷ modes) = true
+
+abbrev pub push_template_mode : InsertionMode → StateValue → StateValue
+push_template_mode mode s = record s { template_modes = mode ∷ s.template_modes }
+
+abbrev pub pop_modes : List InsertionMode → List InsertionMode
+pop_modes [] = []
+pop_modes (mode ∷ modes) = modes
+
+abbrev pub pop_template_mode : StateValue → StateValue
+pop_template_mode s = record s { template_modes = pop_modes s.template_modes }
+
 -- a `select` in a table, with no `template` between
 abbrev pub select_mode : List OpenValue → InsertionMode
 select_mode outer = if is_in_scope (Only Table) TemplateScope outer then InSelectInTable else InSelect
