@@ -1,11 +1,11 @@
 -- The modes "after body" and "after after body" (HTML Standard, 13.2.6.4.19 and 13.2.6.4.22).
 use Rattle.std.specs.Prelude.{ℕ, List, Option, Some, None}
 use Rattle.htmd_html5_state.specs.Names.{NameValue, known}
+use Rattle.htmd_html5.specs.Tokens.{doctype, comment, StartTagValue, TokenValue, start_tag, end_tag, run, end_of_file}
 use Rattle.htmd_html5_state.specs.OpenElements.{first_open}
 use Rattle.htmd_html5_state.specs.State.{StateValue}
 use Rattle.htmd_html5_state.specs.Insertion.{insert_comment_in}
 use Rattle.htmd_html5_state.specs.declared.modes.InsertionMode.TheVariants.{InBody, AfterAfterBody}
-use Rattle.htmd_html5.specs.Tokens.{StartTagValue, TokenValue, start_tag, end_tag, run, comment, doctype, end_of_file}
 use Rattle.htmd_html5.specs.declared.tokens.RunKind.TheVariants.{White}
 use Rattle.htmd_html5.specs.Answers.{Answer, done, again}
 use Rattle.htmd_html5.specs.SharedRules.{with_mode, add_to_root}

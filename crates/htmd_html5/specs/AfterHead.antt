@@ -2,14 +2,15 @@
 use Rattle.std.specs.Prelude.{ℕ, List, [], Option, Some, None}
 use Rattle.htmd_grammar.specs.ValueTrees.{AttributePair}
 use Rattle.htmd_html5_state.specs.Names.{NameValue, known}
+use Rattle.htmd_html5.specs.Tokens.{doctype, comment, StartTagValue, TokenValue, start_tag, end_tag, run}
 use Rattle.htmd_html5_state.specs.OpenElements.{without}
 use Rattle.htmd_html5_state.specs.State.{StateValue, on_stack}
 use Rattle.htmd_html5_state.specs.Insertion.{insert_text, insert_comment, insert_element, open_again}
 use Rattle.htmd_html5_state.specs.declared.modes.InsertionMode.TheVariants.{InBody, InFrameset}
-use Rattle.htmd_html5.specs.Tokens.{StartTagValue, TokenValue, start_tag, end_tag, run, comment, doctype}
 use Rattle.htmd_html5.specs.declared.tokens.RunKind.TheVariants.{White}
 use Rattle.htmd_html5.specs.Answers.{Answer, done, again}
-use Rattle.htmd_html5.specs.SharedRules.{with_mode, insert_tag, no_frameset, add_to_root, end_template, insert_head_element}
+use Rattle.htmd_html5.specs.SharedRules.{with_mode, insert_tag, no_frameset, add_to_root, end_template}
+use Rattle.htmd_html5.specs.SharedRules.{insert_head_element}
 use Rattle.htmd_html5_state.specs.declared.names.TagName.TheVariants as tags
 
 abbrev pub with_body : NameValue → List AttributePair → StateValue → StateValue

@@ -1,18 +1,19 @@
 -- End tags in the mode "in body" (HTML Standard, 13.2.6.4.7): a rule for each name, and what the rules do.
 use Rattle.std.specs.Prelude.{ℕ, Bool, if◌then◌else◌, [], Option, Some, None}
 use Rattle.htmd_html5_state.specs.Names.{NameValue, known, other}
-use Rattle.htmd_html5_state.specs.OpenElements.{is_open, is_in_scope, pop_while, close, close_name, without, is_node_in_scope}
+use Rattle.htmd_html5_state.specs.OpenElements.{is_open, is_in_scope, is_node_in_scope, pop_while, close, close_name}
+use Rattle.htmd_html5_state.specs.OpenElements.{without}
 use Rattle.htmd_html5_state.specs.State.{StateValue, on_stack}
 use Rattle.htmd_html5_state.specs.Insertion.{insert_void}
 use Rattle.htmd_html5_state.specs.Formatting.{clear_to_marker, reconstruct}
 use Rattle.htmd_html5_state.specs.Adoption.{adoption_agency}
-use Rattle.htmd_html5_state.specs.declared.names.TagName.{TagName}
 use Rattle.htmd_html5_state.specs.declared.modes.InsertionMode.TheVariants.{AfterBody}
+use Rattle.htmd_html5_state.specs.declared.names.TagName.{TagName}
 use Rattle.htmd_html5_state.specs.declared.sets.NameSet.TheVariants.{Only, Headings, ImpliedEnd}
 use Rattle.htmd_html5_state.specs.declared.sets.Scope.TheVariants.{Default, ListItem, Button as ButtonScope}
+use Rattle.htmd_html5.specs.declared.body_ends.EndRule.{EndRule}
 use Rattle.htmd_html5.specs.Answers.{Answer, answer, done}
 use Rattle.htmd_html5.specs.SharedRules.{with_mode, no_frameset, close_paragraph, end_template}
-use Rattle.htmd_html5.specs.declared.body_ends.EndRule.{EndRule}
 use Rattle.htmd_html5_state.specs.declared.names.TagName.TheVariants as tags
 use Rattle.htmd_html5.specs.declared.body_ends.EndRule.TheVariants as rule
 

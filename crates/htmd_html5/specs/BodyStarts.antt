@@ -1,27 +1,33 @@
 -- Start tags in the mode "in body" (HTML Standard, 13.2.6.4.7): a rule for each name, and what the rules do.
-use Rattle.std.specs.Prelude.{ℕ, Bool, true, false, if◌then◌else◌, List, Option, Some, None, codes, is_some, map, find}
-use Rattle.htmd_grammar.specs.ValueTrees.{AttributePair}
-use Rattle.htmd_html5_state.specs.Names.{NameValue, known, other, text_of_name}
-use Rattle.htmd_html5_state.specs.Documents.{detach, is_named}
-use Rattle.htmd_html5_state.specs.OpenElements.{OpenValue, current_is, is_open, is_in_scope, pop, pop_while, close, outermost, without, second_open}
-use Rattle.htmd_html5_state.specs.State.{StateValue, on_nodes, on_stack, on_formatting}
-use Rattle.htmd_html5_state.specs.Insertion.{current}
-use Rattle.htmd_html5_state.specs.Formatting.{push_marker, insert_formatting, reconstruct, without_entry}
-use Rattle.htmd_html5_state.specs.Adoption.{formatting_element, adoption_agency}
-use Rattle.htmd_html5_state.specs.Foreign.{insert_foreign}
-use Rattle.htmd_html5_state.specs.declared.names.TagName.{TagName}
-use Rattle.htmd_html5_state.specs.declared.names.Namespace.TheVariants.{Svg, MathMl}
-use Rattle.htmd_html5_state.specs.declared.names.Namespace.{Namespace}
-use Rattle.htmd_html5_state.specs.declared.modes.InsertionMode.{InsertionMode}
-use Rattle.htmd_html5_state.specs.declared.modes.InsertionMode.TheVariants.{InTable, InCaption, InTableBody, InRow, InCell, InSelect, InSelectInTable, InFrameset}
-use Rattle.htmd_html5_state.specs.declared.sets.NameSet.TheVariants.{Only, Headings, DescriptionParts, ImpliedEnd, ImpliedEndInRuby}
-use Rattle.htmd_html5_state.specs.declared.sets.NameSet.{NameSet}
-use Rattle.htmd_html5_state.specs.declared.sets.Scope.TheVariants.{Default, Items}
-use Rattle.htmd_html5.specs.Tokens.{StartTagValue}
-use Rattle.htmd_html5.specs.SharedRules.{with_mode, insert_tag, insert_void_tag, insert_raw_tag, no_frameset, close_paragraph, add_to_root, insert_head_element}
+use Rattle.std.specs.Prelude.{ℕ, Bool, true, false, if◌then◌else◌, List, Option, Some, None, codes, is_some, map}
+use Rattle.std.specs.Prelude.{find}
 use Rattle.std.specs.Str.{bytes_eq}
 use Rattle.std.specs.Char.{to_ascii_lowercase}
+use Rattle.htmd_grammar.specs.ValueTrees.{AttributePair}
+use Rattle.htmd_html5_state.specs.Names.{NameValue, text_of_name, known, other}
+use Rattle.htmd_html5_state.specs.Documents.{detach, is_named, add_missing}
+use Rattle.htmd_html5.specs.Tokens.{StartTagValue}
+use Rattle.htmd_html5_state.specs.OpenElements.{OpenValue, current_is, is_open, is_in_scope, second_open, pop}
+use Rattle.htmd_html5_state.specs.OpenElements.{pop_while, close, outermost, without}
+use Rattle.htmd_html5_state.specs.State.{StateValue, on_nodes, on_stack, on_formatting}
+use Rattle.htmd_html5_state.specs.Insertion.{current}
+use Rattle.htmd_html5_state.specs.Formatting.{push_marker, without_entry, insert_formatting, reconstruct}
+use Rattle.htmd_html5_state.specs.Adoption.{formatting_element, adoption_agency}
+use Rattle.htmd_html5_state.specs.Foreign.{insert_foreign}
+use Rattle.htmd_html5_state.specs.declared.modes.InsertionMode.TheVariants.{InTable, InCaption, InTableBody, InRow}
+use Rattle.htmd_html5_state.specs.declared.modes.InsertionMode.TheVariants.{InCell, InSelect, InSelectInTable}
+use Rattle.htmd_html5_state.specs.declared.modes.InsertionMode.TheVariants.{InFrameset}
+use Rattle.htmd_html5_state.specs.declared.modes.InsertionMode.{InsertionMode}
+use Rattle.htmd_html5_state.specs.declared.names.TagName.{TagName}
+use Rattle.htmd_html5_state.specs.declared.names.Namespace.{Namespace}
+use Rattle.htmd_html5_state.specs.declared.names.Namespace.TheVariants.{Svg, MathMl}
+use Rattle.htmd_html5_state.specs.declared.sets.NameSet.TheVariants.{Only, Headings, DescriptionParts, ImpliedEnd}
+use Rattle.htmd_html5_state.specs.declared.sets.NameSet.TheVariants.{ImpliedEndInRuby}
+use Rattle.htmd_html5_state.specs.declared.sets.NameSet.{NameSet}
+use Rattle.htmd_html5_state.specs.declared.sets.Scope.TheVariants.{Default, Items}
 use Rattle.htmd_html5.specs.declared.body_starts.StartRule.{StartRule}
+use Rattle.htmd_html5.specs.SharedRules.{with_mode, insert_tag, insert_void_tag, insert_raw_tag, no_frameset}
+use Rattle.htmd_html5.specs.SharedRules.{close_paragraph, add_to_root, insert_head_element}
 use Rattle.htmd_html5_state.specs.declared.names.TagName.TheVariants as tags
 use Rattle.htmd_html5.specs.declared.body_starts.StartRule.TheVariants as rule
 use Rattle.htmd_html5_tokens.specs.declared.tokens.RawElement.TheVariants as raw

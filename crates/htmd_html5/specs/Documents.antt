@@ -1,23 +1,18 @@
 -- The document that a page denotes (HTML Standard, 13.2).
-use Rattle.std.specs.Prelude.{ℕ, Bool, true, false, not, if◌then◌else◌, List, [], ◌∷◌, length, suc, zero}
-use Rattle.htmd_html5_state.specs.OpenElements.{OpenValue}
+use Rattle.std.specs.Prelude.{ℕ, Bool, true, false, not, if◌then◌else◌, List, length, suc, zero}
+use Rattle.htmd_html5.specs.Layout.{document_of}
 use Rattle.htmd_html5_state.specs.State.{StateValue, initial_state}
-use Rattle.htmd_html5_state.specs.Foreign.{is_html}
+use Rattle.htmd_html5_state.specs.Foreign.{current_is_html}
 use Rattle.htmd_html5_tokens.specs.Tokens.{Read}
 use Rattle.htmd_html5_tokens.specs.NextToken.{next_token}
 use Rattle.htmd_html5_tokens.specs.Preprocessing.{preprocessed}
-use Rattle.htmd_html5.specs.Feeding.{feed}
-use Rattle.htmd_html5.specs.Layout.{document_of}
 use Rattle.htmd_tree.specs.Items.{Item, greatest_depth}
+use Rattle.htmd_html5.specs.Feeding.{feed}
 use Rattle.htmd_html5_tokens.specs.Tokens as tokens
 
--- foreign content: its CDATA sections are text
-abbrev pub is_in_foreign : List OpenValue → Bool
-is_in_foreign [] = false
-is_in_foreign (e ∷ es) = not (is_html e)
-
+-- the next token; in foreign content a CDATA section is text
 abbrev pub next_read : List ℕ → StateValue → Read
-next_read text s = next_token s.content (is_in_foreign s.stack) text
+next_read text s = next_token s.content (not (current_is_html s.stack)) text
 
 abbrev pub is_end : tokens.TokenValue → Bool
 is_end tokens.end_of_file = true

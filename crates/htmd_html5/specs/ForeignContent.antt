@@ -1,23 +1,24 @@
 -- Tokens in foreign content (HTML Standard, 13.2.6 and 13.2.6.5).
-use Rattle.std.specs.Prelude.{ℕ, Bool, true, false, not, ◌&&◌, ◌||◌, if◌then◌else◌, List, [], ◌∷◌, ◌++◌, codes}
+use Rattle.std.specs.Prelude.{ℕ, Bool, true, false, not, ◌&&◌, ◌||◌, if◌then◌else◌, List, [], ◌∷◌, ◌++◌, Option, Some}
+use Rattle.std.specs.Prelude.{None, codes}
 use Rattle.std.specs.List.{list_any}
+use Rattle.std.specs.Char.{encode_utf8}
 use Rattle.htmd_grammar.specs.CharacterClasses.{is_among}
 use Rattle.htmd_grammar.specs.ValueTrees.{AttributePair}
-use Rattle.htmd_html5_state.specs.Names.{NameValue, known, other, ElementNameValue, html, svg, math, text_of_name}
-use Rattle.htmd_html5_state.specs.OpenElements.{OpenValue}
+use Rattle.htmd_html5_state.specs.Names.{NameValue, text_of_name, known, other}
+use Rattle.htmd_html5.specs.Tokens.{doctype, comment, StartTagValue, TokenValue, start_tag, end_tag, run, end_of_file}
 use Rattle.htmd_html5_state.specs.State.{StateValue, on_stack}
 use Rattle.htmd_html5_state.specs.Insertion.{current, insert_text, insert_comment}
-use Rattle.htmd_html5_state.specs.Foreign.{insert_foreign, is_html, is_math_text_point, is_annotation, is_html_point, leave_foreign, foreign_end, goes_by_mode, after_foreign_end, ForeignEnd}
+use Rattle.htmd_html5_state.specs.Foreign.{insert_foreign, current_is_html, namespace_of, is_math_text_point}
+use Rattle.htmd_html5_state.specs.Foreign.{is_annotation, is_html_point, leave_foreign, ForeignEnd, foreign_end}
+use Rattle.htmd_html5_state.specs.Foreign.{goes_by_mode, after_foreign_end}
 use Rattle.htmd_html5_state.specs.declared.names.TagName.{TagName}
-use Rattle.htmd_html5_state.specs.declared.names.Namespace.TheVariants.{Svg, MathMl}
 use Rattle.htmd_html5_state.specs.declared.names.Namespace.{Namespace}
-use Rattle.htmd_html5.specs.Tokens.{StartTagValue, TokenValue, start_tag, end_tag, run, comment, doctype, end_of_file}
-use Rattle.htmd_html5.specs.declared.tokens.RunKind.TheVariants.{White, Nulls, Characters}
+use Rattle.htmd_html5_tokens.specs.References.{replacement_character}
 use Rattle.htmd_html5.specs.declared.tokens.RunKind.{RunKind}
+use Rattle.htmd_html5.specs.declared.tokens.RunKind.TheVariants.{White, Nulls, Characters}
 use Rattle.htmd_html5.specs.Answers.{Answer, done}
 use Rattle.htmd_html5.specs.SharedRules.{no_frameset}
-use Rattle.std.specs.Char.{encode_utf8}
-use Rattle.htmd_html5_tokens.specs.References.{replacement_character}
 use Rattle.htmd_html5.specs.Modes.{by_mode_rules}
 use Rattle.htmd_html5_state.specs.declared.names.TagName.TheVariants as tags
 
@@ -53,20 +54,17 @@ is_for_html_point (run kind text) = true
 is_for_html_point (start_tag tag) = true
 is_for_html_point _ = false
 
-abbrev pub goes_to_html : TokenValue → OpenValue → StateValue → Bool
-goes_to_html token e s =
-    is_html e
-    || (is_math_text_point e && is_for_math_text token)
-    || (is_annotation e && is_for_annotation token)
-    || (is_html_point s.nodes e && is_for_html_point token)
-
-abbrev pub goes_foreign : TokenValue → List OpenValue → StateValue → Bool
-goes_foreign end_of_file stack s = false
-goes_foreign token [] s = false
-goes_foreign token (e ∷ es) s = not (goes_to_html token e s)
+-- HTML's rules apply, which is so where nothing is open, too
+abbrev pub goes_to_html : TokenValue → StateValue → Bool
+goes_to_html token s =
+    current_is_html s.stack
+    || (is_math_text_point (current s.stack) && is_for_math_text token)
+    || (is_annotation (current s.stack) && is_for_annotation token)
+    || (is_html_point s.nodes (current s.stack) && is_for_html_point token)
 
 abbrev pub is_foreign : TokenValue → StateValue → Bool
-is_foreign token s = goes_foreign token s.stack s
+is_foreign end_of_file s = false
+is_foreign token s = not (goes_to_html token s)
 
 -- ---- what they do there (13.2.6.5)
 
@@ -136,14 +134,14 @@ end_breaks_out _ = false
 abbrev pub break_out : TokenValue → StateValue → Answer
 break_out token s = by_mode_rules token (on_stack (leave_foreign s.nodes) s)
 
-abbrev pub namespace_of : ElementNameValue → Namespace
-namespace_of (html name) = MathMl
-namespace_of (svg name) = Svg
-namespace_of (math name) = MathMl
+-- an element in the namespace of the current node
+abbrev pub insert_alike : Option Namespace → StartTagValue → StateValue → StateValue
+insert_alike None tag s = s
+insert_alike (Some space) tag s =
+    insert_foreign space (text_of_name tag.name) tag.attributes tag.self_closing s
 
 abbrev pub start_foreign_element : StartTagValue → StateValue → StateValue
-start_foreign_element tag s =
-    insert_foreign (namespace_of (current s.stack).name) (text_of_name tag.name) tag.attributes tag.self_closing s
+start_foreign_element tag s = insert_alike (namespace_of (current s.stack).name) tag s
 
 abbrev pub start_in_foreign : StartTagValue → StateValue → Answer
 start_in_foreign tag s =

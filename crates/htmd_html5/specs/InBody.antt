@@ -1,18 +1,18 @@
 -- The mode "in body" (HTML Standard, 13.2.6.4.7).
 use Rattle.std.specs.Prelude.{ℕ, if◌then◌else◌, List}
+use Rattle.htmd_html5.specs.Tokens.{doctype, comment, TokenValue, start_tag, end_tag, run, end_of_file}
 use Rattle.htmd_html5_state.specs.OpenElements.{is_open}
 use Rattle.htmd_html5_state.specs.State.{StateValue}
 use Rattle.htmd_html5_state.specs.Insertion.{insert_text, insert_comment}
 use Rattle.htmd_html5_state.specs.Formatting.{reconstruct}
 use Rattle.htmd_html5_state.specs.Resetting.{has_modes}
 use Rattle.htmd_html5_state.specs.declared.sets.NameSet.TheVariants.{Only}
-use Rattle.htmd_html5.specs.Tokens.{TokenValue, start_tag, end_tag, run, comment, doctype, end_of_file}
-use Rattle.htmd_html5.specs.declared.tokens.RunKind.TheVariants.{White, Nulls, Characters}
 use Rattle.htmd_html5.specs.declared.tokens.RunKind.{RunKind}
+use Rattle.htmd_html5.specs.declared.tokens.RunKind.TheVariants.{White, Nulls, Characters}
 use Rattle.htmd_html5.specs.Answers.{Answer, done, again}
 use Rattle.htmd_html5.specs.SharedRules.{no_frameset, leave_template}
-use Rattle.htmd_html5.specs.BodyEnds.{end_in_body}
 use Rattle.htmd_html5.specs.BodyStarts.{start_in_body}
+use Rattle.htmd_html5.specs.BodyEnds.{end_in_body}
 use Rattle.htmd_html5_state.specs.declared.names.TagName.TheVariants as tags
 
 -- the end of the file ends the templates that are open (13.2.6.4.18)

@@ -1,17 +1,17 @@
 -- The mode "in caption" (HTML Standard, 13.2.6.4.11).
 use Rattle.std.specs.Prelude.{Bool, if◌then◌else◌}
 use Rattle.htmd_html5_state.specs.Names.{NameValue, known}
+use Rattle.htmd_html5.specs.Tokens.{StartTagValue, TokenValue, start_tag, end_tag}
 use Rattle.htmd_html5_state.specs.OpenElements.{is_in_scope, pop_until}
 use Rattle.htmd_html5_state.specs.State.{StateValue, on_stack}
 use Rattle.htmd_html5_state.specs.Formatting.{clear_to_marker}
 use Rattle.htmd_html5_state.specs.declared.modes.InsertionMode.TheVariants.{InTable}
 use Rattle.htmd_html5_state.specs.declared.sets.NameSet.TheVariants.{Only}
 use Rattle.htmd_html5_state.specs.declared.sets.Scope.TheVariants.{Table as TableScope}
-use Rattle.htmd_html5.specs.Tokens.{StartTagValue, TokenValue, start_tag, end_tag}
 use Rattle.htmd_html5.specs.Answers.{Answer, answer, done}
 use Rattle.htmd_html5.specs.SharedRules.{with_mode}
-use Rattle.htmd_html5.specs.BodyEnds.{end_in_body}
 use Rattle.htmd_html5.specs.BodyStarts.{start_in_body}
+use Rattle.htmd_html5.specs.BodyEnds.{end_in_body}
 use Rattle.htmd_html5.specs.InBody.{in_body}
 use Rattle.htmd_html5_state.specs.declared.names.TagName.TheVariants as tags
 

@@ -1,12 +1,12 @@
 -- The mode "in column group" (HTML Standard, 13.2.6.4.12).
 use Rattle.std.specs.Prelude.{Bool, if◌then◌else◌}
 use Rattle.htmd_html5_state.specs.Names.{NameValue, known}
+use Rattle.htmd_html5.specs.Tokens.{doctype, comment, StartTagValue, TokenValue, start_tag, end_tag, run, end_of_file}
 use Rattle.htmd_html5_state.specs.OpenElements.{current_is, pop}
 use Rattle.htmd_html5_state.specs.State.{StateValue, on_stack}
 use Rattle.htmd_html5_state.specs.Insertion.{insert_text, insert_comment}
 use Rattle.htmd_html5_state.specs.declared.modes.InsertionMode.TheVariants.{InTable}
 use Rattle.htmd_html5_state.specs.declared.sets.NameSet.TheVariants.{Only}
-use Rattle.htmd_html5.specs.Tokens.{StartTagValue, TokenValue, start_tag, end_tag, run, comment, doctype, end_of_file}
 use Rattle.htmd_html5.specs.declared.tokens.RunKind.TheVariants.{White}
 use Rattle.htmd_html5.specs.Answers.{Answer, answer, done}
 use Rattle.htmd_html5.specs.SharedRules.{with_mode, insert_void_tag, add_to_root, end_template, insert_head_element}

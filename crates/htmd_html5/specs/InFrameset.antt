@@ -2,14 +2,14 @@
 -- 13.2.6.4.23).
 use Rattle.std.specs.Prelude.{ℕ, if◌then◌else◌, List}
 use Rattle.htmd_html5_state.specs.Names.{NameValue, known}
-use Rattle.htmd_html5_state.specs.OpenElements.{current_is, pop, has_second}
+use Rattle.htmd_html5.specs.Tokens.{doctype, comment, StartTagValue, TokenValue, start_tag, end_tag, run, end_of_file}
+use Rattle.htmd_html5_state.specs.OpenElements.{current_is, has_second, pop}
 use Rattle.htmd_html5_state.specs.State.{StateValue, on_stack}
-use Rattle.htmd_html5_state.specs.Insertion.{insert_text, insert_comment, insert_comment_in}
+use Rattle.htmd_html5_state.specs.Insertion.{insert_text, insert_comment_in, insert_comment}
 use Rattle.htmd_html5_state.specs.declared.modes.InsertionMode.TheVariants.{AfterFrameset, AfterAfterFrameset}
 use Rattle.htmd_html5_state.specs.declared.sets.NameSet.TheVariants.{Only}
-use Rattle.htmd_html5.specs.Tokens.{StartTagValue, TokenValue, start_tag, end_tag, run, comment, doctype, end_of_file}
-use Rattle.htmd_html5.specs.declared.tokens.RunKind.TheVariants.{White}
 use Rattle.htmd_html5.specs.declared.tokens.RunKind.{RunKind}
+use Rattle.htmd_html5.specs.declared.tokens.RunKind.TheVariants.{White}
 use Rattle.htmd_html5.specs.Answers.{Answer, done}
 use Rattle.htmd_html5.specs.SharedRules.{with_mode, insert_tag, insert_void_tag, add_to_root, insert_head_element}
 use Rattle.htmd_html5.specs.InBody.{run_in_body}

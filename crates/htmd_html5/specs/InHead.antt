@@ -1,14 +1,15 @@
 -- The mode "in head" (HTML Standard, 13.2.6.4.4).
 use Rattle.std.specs.Prelude.{if◌then◌else◌}
 use Rattle.htmd_html5_state.specs.Names.{NameValue, known}
+use Rattle.htmd_html5.specs.Tokens.{doctype, comment, StartTagValue, TokenValue, start_tag, end_tag, run}
 use Rattle.htmd_html5_state.specs.OpenElements.{pop}
 use Rattle.htmd_html5_state.specs.State.{StateValue, on_stack}
 use Rattle.htmd_html5_state.specs.Insertion.{insert_text, insert_comment}
 use Rattle.htmd_html5_state.specs.declared.modes.InsertionMode.TheVariants.{InHeadNoscript, AfterHead}
-use Rattle.htmd_html5.specs.Tokens.{StartTagValue, TokenValue, start_tag, end_tag, run, comment, doctype}
 use Rattle.htmd_html5.specs.declared.tokens.RunKind.TheVariants.{White}
 use Rattle.htmd_html5.specs.Answers.{Answer, done, again}
-use Rattle.htmd_html5.specs.SharedRules.{with_mode, insert_tag, insert_raw_tag, add_to_root, end_template, insert_head_element}
+use Rattle.htmd_html5.specs.SharedRules.{with_mode, insert_tag, insert_raw_tag, add_to_root, end_template}
+use Rattle.htmd_html5.specs.SharedRules.{insert_head_element}
 use Rattle.htmd_html5_state.specs.declared.names.TagName.TheVariants as tags
 use Rattle.htmd_html5_tokens.specs.declared.tokens.RawElement.TheVariants as raw
 

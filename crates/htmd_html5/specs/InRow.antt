@@ -1,14 +1,14 @@
 -- The mode "in row" (HTML Standard, 13.2.6.4.14).
 use Rattle.std.specs.Prelude.{Bool, if◌then◌else◌}
 use Rattle.htmd_html5_state.specs.Names.{NameValue, known}
+use Rattle.htmd_html5.specs.Tokens.{StartTagValue, TokenValue, start_tag, end_tag}
 use Rattle.htmd_html5_state.specs.OpenElements.{is_in_scope, pop, clear_to}
 use Rattle.htmd_html5_state.specs.State.{StateValue, on_stack}
 use Rattle.htmd_html5_state.specs.Formatting.{push_marker}
-use Rattle.htmd_html5_state.specs.declared.names.TagName.{TagName}
 use Rattle.htmd_html5_state.specs.declared.modes.InsertionMode.TheVariants.{InTableBody, InCell}
+use Rattle.htmd_html5_state.specs.declared.names.TagName.{TagName}
 use Rattle.htmd_html5_state.specs.declared.sets.NameSet.TheVariants.{Only, TableRowContext}
 use Rattle.htmd_html5_state.specs.declared.sets.Scope.TheVariants.{Table as TableScope}
-use Rattle.htmd_html5.specs.Tokens.{StartTagValue, TokenValue, start_tag, end_tag}
 use Rattle.htmd_html5.specs.Answers.{Answer, answer, done}
 use Rattle.htmd_html5.specs.SharedRules.{with_mode, insert_tag}
 use Rattle.htmd_html5.specs.InTable.{start_in_table, end_in_table, in_table}

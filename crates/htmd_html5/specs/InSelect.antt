@@ -2,6 +2,7 @@
 -- 13.2.6.4.17 then).
 use Rattle.std.specs.Prelude.{ℕ, Bool, ◌&&◌, if◌then◌else◌, List}
 use Rattle.htmd_html5_state.specs.Names.{NameValue, known}
+use Rattle.htmd_html5.specs.Tokens.{doctype, comment, StartTagValue, TokenValue, start_tag, end_tag, run, end_of_file}
 use Rattle.htmd_html5_state.specs.OpenElements.{OpenValue, current_is, is_in_scope, pop, pop_until}
 use Rattle.htmd_html5_state.specs.State.{StateValue, on_stack}
 use Rattle.htmd_html5_state.specs.Insertion.{insert_text, insert_comment}
@@ -9,9 +10,8 @@ use Rattle.htmd_html5_state.specs.Resetting.{reset_insertion_mode}
 use Rattle.htmd_html5_state.specs.declared.names.TagName.{TagName}
 use Rattle.htmd_html5_state.specs.declared.sets.NameSet.TheVariants.{Only}
 use Rattle.htmd_html5_state.specs.declared.sets.Scope.TheVariants.{Table as TableScope, Select as SelectScope}
-use Rattle.htmd_html5.specs.Tokens.{StartTagValue, TokenValue, start_tag, end_tag, run, comment, doctype, end_of_file}
-use Rattle.htmd_html5.specs.declared.tokens.RunKind.TheVariants.{Nulls}
 use Rattle.htmd_html5.specs.declared.tokens.RunKind.{RunKind}
+use Rattle.htmd_html5.specs.declared.tokens.RunKind.TheVariants.{Nulls}
 use Rattle.htmd_html5.specs.Answers.{Answer, answer, done, again}
 use Rattle.htmd_html5.specs.SharedRules.{insert_tag, add_to_root, end_template, insert_head_element}
 use Rattle.htmd_html5.specs.BodyStarts.{close_option}

@@ -1,9 +1,12 @@
 -- The modes "in table" and "in table text" (HTML Standard, 13.2.6.4.9 and 13.2.6.4.10).
-use Rattle.std.specs.Prelude.{ℕ, Bool, true, false, not, ◌||◌, if◌then◌else◌, List, [], length, suc, zero, filter, is_some}
+use Rattle.std.specs.Prelude.{ℕ, Bool, true, false, not, ◌||◌, if◌then◌else◌, List, [], length, suc, zero, filter}
+use Rattle.std.specs.Prelude.{is_some}
 use Rattle.std.specs.List.{list_all}
 use Rattle.htmd_grammar.specs.CharacterClasses.{is_empty}
 use Rattle.htmd_grammar.specs.ValueTrees.{AttributePair}
+use Rattle.htmd_text.specs.WhiteSpace.{is_ascii_white_space}
 use Rattle.htmd_html5_state.specs.Names.{NameValue, known}
+use Rattle.htmd_html5.specs.Tokens.{doctype, comment, StartTagValue, TokenValue, start_tag, end_tag, run, end_of_file}
 use Rattle.htmd_html5_state.specs.OpenElements.{is_in_scope, pop, pop_until, clear_to}
 use Rattle.htmd_html5_state.specs.State.{StateValue, on_stack}
 use Rattle.htmd_html5_state.specs.Insertion.{insert_text, insert_comment, insert_element}
@@ -12,13 +15,11 @@ use Rattle.htmd_html5_state.specs.Resetting.{reset_insertion_mode}
 use Rattle.htmd_html5_state.specs.declared.modes.InsertionMode.TheVariants.{InCaption, InColumnGroup, InTableBody}
 use Rattle.htmd_html5_state.specs.declared.sets.NameSet.TheVariants.{Only, TableContext}
 use Rattle.htmd_html5_state.specs.declared.sets.Scope.TheVariants.{Table as TableScope}
-use Rattle.htmd_html5.specs.Tokens.{StartTagValue, TokenValue, start_tag, end_tag, run, comment, doctype, end_of_file}
-use Rattle.htmd_html5.specs.Runs.{first_kind, first_run, behind_first_run, is_null}
+use Rattle.htmd_html5.specs.Runs.{is_null, first_kind, first_run, behind_first_run}
 use Rattle.htmd_html5.specs.Answers.{Answer, answer, done, again}
 use Rattle.htmd_html5.specs.SharedRules.{with_mode, insert_tag, insert_void_tag, end_template, insert_head_element}
-use Rattle.htmd_text.specs.WhiteSpace.{is_ascii_white_space}
+use Rattle.htmd_html5.specs.BodyStarts.{is_in_template, with_form, is_hidden, start_in_body}
 use Rattle.htmd_html5.specs.BodyEnds.{end_in_body}
-use Rattle.htmd_html5.specs.BodyStarts.{start_in_body, is_in_template, with_form, is_hidden}
 use Rattle.htmd_html5.specs.InBody.{end_of_file_in_body, run_in_body}
 use Rattle.htmd_html5_state.specs.declared.names.TagName.TheVariants as tags
 

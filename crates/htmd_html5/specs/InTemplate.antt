@@ -1,10 +1,11 @@
 -- The mode "in template" (HTML Standard, 13.2.6.4.18).
 use Rattle.htmd_html5_state.specs.Names.{NameValue, known}
-use Rattle.htmd_html5_state.specs.State.{StateValue}
-use Rattle.htmd_html5_state.specs.Resetting.{pop_template_mode, push_template_mode}
-use Rattle.htmd_html5_state.specs.declared.modes.InsertionMode.{InsertionMode}
-use Rattle.htmd_html5_state.specs.declared.modes.InsertionMode.TheVariants.{InBody, InTable, InColumnGroup, InTableBody, InRow}
 use Rattle.htmd_html5.specs.Tokens.{StartTagValue, TokenValue, start_tag, end_tag, end_of_file}
+use Rattle.htmd_html5_state.specs.State.{StateValue}
+use Rattle.htmd_html5_state.specs.Resetting.{push_template_mode, pop_template_mode}
+use Rattle.htmd_html5_state.specs.declared.modes.InsertionMode.TheVariants.{InBody, InTable, InColumnGroup}
+use Rattle.htmd_html5_state.specs.declared.modes.InsertionMode.TheVariants.{InTableBody, InRow}
+use Rattle.htmd_html5_state.specs.declared.modes.InsertionMode.{InsertionMode}
 use Rattle.htmd_html5.specs.Answers.{Answer, done, again}
 use Rattle.htmd_html5.specs.SharedRules.{with_mode, end_template, insert_head_element}
 use Rattle.htmd_html5.specs.InBody.{end_of_file_in_template, in_body}

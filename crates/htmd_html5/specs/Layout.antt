@@ -1,9 +1,12 @@
 -- The nodes of a document in document order, as a tree has them, to a depth. An element at that depth keeps no children:
 -- they come right behind it, in order, as its siblings, and texts that are siblings there are one.
-use Rattle.std.specs.Prelude.{ℕ, Bool, ◌==◌, if◌then◌else◌, List, [], ◌∷◌, ◌++◌, length, Option, Some, None, suc, zero, ◌+◌, is_some, map}
+use Rattle.std.specs.Prelude.{ℕ, Bool, ◌==◌, if◌then◌else◌, List, [], ◌∷◌, ◌++◌, length, Option, Some, None, suc}
+use Rattle.std.specs.Prelude.{zero, ◌+◌, is_some, map}
 use Rattle.htmd_html5_state.specs.Names.{text_of_element_name}
-use Rattle.htmd_html5_state.specs.Documents.{NodeValue, KindValue, kind_at, children_at, text_of, document, doctype, text, comment, element}
-use Rattle.htmd_tree.specs.Items.{Data, document_node, doctype_node, text_node, comment_node, element_node, Item, document_item, new_item, depth_at}
+use Rattle.htmd_html5_state.specs.Documents.{KindValue, NodeValue, kind_at, children_at, text_of, with_kind, document}
+use Rattle.htmd_html5_state.specs.Documents.{doctype, text, comment, element}
+use Rattle.htmd_tree.specs.Items.{Data, document_node, doctype_node, text_node, comment_node, element_node, Item}
+use Rattle.htmd_tree.specs.Items.{document_item, new_item, depth_at}
 
 -- a node that is to come, and the number of its parent in the tree
 pub record Coming : Type 0 where
@@ -45,44 +48,60 @@ behind_next_texts nodes under (c ∷ cs) =
 
 -- ---- the items
 
+-- the nodes that are left, the items so far, and what comes next
 pub record Layout : Type 0 where
+  pub nodes : List NodeValue
   pub items : List Item
   pub work : List Coming
 
-abbrev pub with_item : Data → Coming → List Coming → List Item → Layout
-with_item new c work items = record { items = items ++ new_item items c.under new ∷ []; work = work }
+abbrev pub with_item : Data → Coming → Layout → Layout
+with_item new c l = record l { items = l.items ++ new_item l.items c.under new ∷ [] }
 
-abbrev pub with_text : Bool → List ℕ → Coming → List NodeValue → List Coming → List Item → Layout
-with_text deepest s c nodes work items =
-    if deepest
-    then with_item (text_node (s ++ next_texts nodes c.under work)) c (behind_next_texts nodes c.under work) items
-    else with_item (text_node s) c work items
+-- with the texts that come next
+abbrev pub joined : List ℕ → Coming → Layout → List ℕ
+joined s c l = s ++ next_texts l.nodes c.under l.work
+
+abbrev pub behind_joined : Coming → Layout → Layout
+behind_joined c l = record l { work = behind_next_texts l.nodes c.under l.work }
+
+abbrev pub with_text : Bool → List ℕ → Coming → Layout → Layout
+with_text deepest s c l =
+    if deepest then with_item (text_node (joined s c l)) c (behind_joined c l) else with_item (text_node s) c l
 
 -- the item under which the children of a new item come
-abbrev pub parent_of_children : Bool → Coming → List Item → ℕ
-parent_of_children deepest c items = if deepest then c.under else length items
+abbrev pub parent_of_children : Bool → Coming → Layout → ℕ
+parent_of_children deepest c l = if deepest then c.under else length l.items
 
-abbrev pub with_kind_of : Bool → KindValue → Coming → List NodeValue → List Coming → List Item → Layout
-with_kind_of deepest (text s) c nodes work items = with_text deepest s c nodes work items
-with_kind_of deepest kind c nodes work items =
-    with_item (data_of_kind kind) c
-    (map (coming (parent_of_children deepest c items)) (children_at nodes c.node) ++ work) items
+abbrev pub with_children_under : ℕ → ℕ → Layout → Layout
+with_children_under under n l = record l { work = map (coming under) (children_at l.nodes n) ++ l.work }
 
-abbrev pub next_layout : ℕ → List NodeValue → Coming → List Coming → List Item → Layout
-next_layout limit nodes c work items =
-    with_kind_of (is_deepest limit items c.under) (kind_at nodes c.node) c nodes work items
+-- a Document in a document is nothing
+abbrev pub with_kind_of : Bool → KindValue → Coming → Layout → Layout
+with_kind_of deepest document c l = l
+with_kind_of deepest (text s) c l = with_text deepest s c l
+with_kind_of deepest kind c l =
+    with_children_under (parent_of_children deepest c l) c.node (with_item (data_of_kind kind) c l)
 
-abbrev pub next_layout_of : ℕ → List NodeValue → Layout → List Coming → Layout
-next_layout_of limit nodes layout [] = layout
-next_layout_of limit nodes layout (c ∷ work) = next_layout limit nodes c work layout.items
+-- a node isn't laid out twice
+abbrev pub without_node : ℕ → Layout → Layout
+without_node n l = record l { nodes = with_kind n document l.nodes }
+
+abbrev pub put_node : ℕ → Coming → Layout → Layout
+put_node limit c l =
+    with_kind_of (is_deepest limit l.items c.under) (kind_at l.nodes c.node) c (without_node c.node l)
+
+abbrev pub put_next : ℕ → List Coming → Layout → Layout
+put_next limit [] l = l
+put_next limit (c ∷ work) l = put_node limit c (record l { work = work })
 
 -- with so many more nodes at most
-abbrev pub layout_within : ℕ → ℕ → List NodeValue → Layout → Layout
-layout_within limit zero nodes layout = layout
-layout_within limit (suc k) nodes layout = layout_within limit k nodes (next_layout_of limit nodes layout layout.work)
+abbrev pub layout_within : ℕ → ℕ → Layout → Layout
+layout_within limit zero l = l
+layout_within limit (suc k) l = layout_within limit k (put_next limit l.work l)
 
 abbrev pub first_layout : List NodeValue → Layout
-first_layout nodes = record { items = document_item ∷ []; work = map (coming 0) (children_at nodes 0) }
+first_layout nodes =
+    with_children_under 0 0 (record { nodes = nodes; items = document_item ∷ []; work = [] })
 
 abbrev pub document_of : ℕ → List NodeValue → List Item
-document_of limit nodes = (layout_within limit (length nodes) nodes (first_layout nodes)).items
+document_of limit nodes = (layout_within limit (length nodes) (first_layout nodes)).items

@@ -30,4 +30,5 @@ pub mod Processing
 pub mod Texts
 pub mod Feeding
 pub mod Layout
+pub mod LayoutViews
 pub mod Documents

@@ -1,10 +1,10 @@
 -- A token is processed by the rules of one mode after another (HTML Standard, 13.2.6).
 use Rattle.std.specs.Prelude.{ℕ, if◌then◌else◌, length, suc, zero, ◌+◌}
-use Rattle.htmd_html5_state.specs.State.{StateValue}
 use Rattle.htmd_html5.specs.Tokens.{TokenValue}
+use Rattle.htmd_html5_state.specs.State.{StateValue}
 use Rattle.htmd_html5.specs.Answers.{Answer}
 use Rattle.htmd_html5.specs.Modes.{by_mode_rules}
-use Rattle.htmd_html5.specs.ForeignContent.{in_foreign_content, is_foreign}
+use Rattle.htmd_html5.specs.ForeignContent.{is_foreign, in_foreign_content}
 
 abbrev pub by_rules : TokenValue → StateValue → Answer
 by_rules token s = if is_foreign token s then in_foreign_content token s else by_mode_rules token s

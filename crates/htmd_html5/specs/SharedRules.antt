@@ -1,22 +1,21 @@
 -- Rules that many modes share.
-use Rattle.std.specs.Prelude.{ℕ, Bool, true, false, if◌then◌else◌, List, [], ◌∷◌, Option, Some, None}
+use Rattle.std.specs.Prelude.{ℕ, false, if◌then◌else◌, List, ◌∷◌, Option, Some, None}
 use Rattle.htmd_grammar.specs.ValueTrees.{AttributePair}
-use Rattle.htmd_html5_state.specs.Names.{NameValue, known, other}
+use Rattle.htmd_html5_state.specs.Names.{NameValue, known}
 use Rattle.htmd_html5_state.specs.Documents.{add_missing}
-use Rattle.htmd_html5_state.specs.OpenElements.{is_open, close, pop, pop_until, clear_to, is_in_scope, first_open}
+use Rattle.htmd_html5.specs.Tokens.{StartTagValue}
+use Rattle.htmd_html5_state.specs.OpenElements.{is_open, first_open, pop_until, close}
 use Rattle.htmd_html5_state.specs.State.{StateValue, on_nodes, on_stack}
 use Rattle.htmd_html5_state.specs.Insertion.{insert_element, insert_void, insert_raw}
 use Rattle.htmd_html5_state.specs.Formatting.{push_marker, clear_to_marker}
-use Rattle.htmd_html5_state.specs.Resetting.{reset_insertion_mode, pop_template_mode}
-use Rattle.htmd_html5_state.specs.declared.names.TagName.TheVariants as tags
-use Rattle.htmd_html5_state.specs.declared.modes.InsertionMode.{InsertionMode}
+use Rattle.htmd_html5_state.specs.Resetting.{pop_template_mode, reset_insertion_mode}
 use Rattle.htmd_html5_state.specs.declared.modes.InsertionMode.TheVariants.{InTemplate}
-use Rattle.htmd_html5_state.specs.declared.sets.NameSet.{NameSet}
+use Rattle.htmd_html5_state.specs.declared.modes.InsertionMode.{InsertionMode}
 use Rattle.htmd_html5_state.specs.declared.sets.NameSet.TheVariants.{Only}
 use Rattle.htmd_html5_state.specs.declared.sets.Scope.TheVariants.{Button as ButtonScope}
 use Rattle.htmd_html5_tokens.specs.declared.tokens.RawElement.{RawElement}
+use Rattle.htmd_html5_state.specs.declared.names.TagName.TheVariants as tags
 use Rattle.htmd_html5_tokens.specs.declared.tokens.RawElement.TheVariants as raw
-use Rattle.htmd_html5.specs.Tokens.{StartTagValue}
 
 abbrev pub with_mode : InsertionMode → StateValue → StateValue
 with_mode mode s = record s { mode = mode }

@@ -1,12 +1,12 @@
 -- Texts, run by run; in a table itself all that is left is taken at once (HTML Standard, 13.2.6.4.10).
 use Rattle.std.specs.Prelude.{ℕ, Bool, true, false, ◌&&◌, if◌then◌else◌, List, [], length, suc, zero}
 use Rattle.htmd_grammar.specs.CharacterClasses.{is_empty}
+use Rattle.htmd_html5.specs.Tokens.{TokenValue, run}
 use Rattle.htmd_html5_state.specs.OpenElements.{current_is}
 use Rattle.htmd_html5_state.specs.State.{StateValue}
-use Rattle.htmd_html5_state.specs.declared.modes.InsertionMode.{InsertionMode}
 use Rattle.htmd_html5_state.specs.declared.modes.InsertionMode.TheVariants.{InTable, InTableBody, InRow}
+use Rattle.htmd_html5_state.specs.declared.modes.InsertionMode.{InsertionMode}
 use Rattle.htmd_html5_state.specs.declared.sets.NameSet.TheVariants.{Fostering}
-use Rattle.htmd_html5.specs.Tokens.{TokenValue, run}
 use Rattle.htmd_html5.specs.Runs.{first_kind, first_run, behind_first_run}
 use Rattle.htmd_html5.specs.Answers.{Answer}
 use Rattle.htmd_html5.specs.InTable.{table_text}

@@ -20,8 +20,7 @@ fn put_head(
     ensures { OnOk result (state.new
         ≡ spec.with_head (name_of name) (pairs_of attributes.items) state.old) }
 {
-    state.insert_element(name, attributes)?;
-    let head = state.current_node();
+    let head = state.insert_element(name, attributes)?;
     state.set_head(Some(head));
     state.set_mode(InsertionMode::InHead);
     Ok(())

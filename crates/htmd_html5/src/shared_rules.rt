@@ -13,7 +13,8 @@ use std::alloc::AllocError;
 pub(crate) fn insert_tag(state: &mut HtmlState, tag: StartTag) -> Result<(), AllocError>
     ensures { OnOk result (state.new ≡ spec.insert_tag (tag_of tag) state.old) }
 {
-    state.insert_element(tag.name, tag.attributes)
+    state.insert_element(tag.name, tag.attributes)?;
+    Ok(())
 }
 
 /// The element of a tag, closed at once.

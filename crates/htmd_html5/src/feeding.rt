@@ -1,0 +1,94 @@
+//! What a token of the tokenizer does.
+ghost use Rattle.std.specs.Prelude.{◌≡◌, OnOk};
+ghost use Rattle.htmd_html5_state.specs.Names.{name_of};
+ghost use Rattle.htmd_html5.specs.Feeding as spec;
+ghost use Rattle.htmd_html5_tokens.specs.Tokens.{value_of};
+
+use crate::processing::{process_comment, process_doctype, process_end, process_end_of_file, process_start};
+use crate::texts::put_text;
+use crate::tokens::StartTag;
+use htmd_html5_state::{HtmlName, HtmlState};
+use htmd_html5_tokens::{Content, RawElement, Token};
+use std::alloc::AllocError;
+
+/// Whether an element of text alone is open, up to its end tag: the mode "text".
+fn is_text_mode(state: &HtmlState) -> bool
+    ensures { result ≡ spec.is_text_mode state.now.content }
+{
+    match state.content() {
+        Content::Normal | Content::Raw(RawElement::Plaintext) => false,
+        Content::Raw(_) => true,
+    }
+}
+
+fn feed_text(state: &mut HtmlState, text: &str) -> Result<(), AllocError>
+    ensures { OnOk result (state.new ≡ spec.feed_text text.now state.old) }
+{
+    if !is_text_mode(state) {
+        return put_text(state, text);
+    }
+    if text.is_empty() {
+        return Ok(());
+    }
+    state.insert_text(text)
+}
+
+/// The text, without a line feed at its front where that is dropped.
+fn without_line_feed(text: &str, skips: bool) -> &str
+    ensures { result.now ≡ spec.without_line_feed skips text.now }
+{
+    match text.strip_prefix('\n') {
+        Some(rest) if skips => rest,
+        _ => text,
+    }
+}
+
+/// Closes the element of text alone that is open. Gives whether one is.
+fn leave_text_mode(state: &mut HtmlState) -> bool
+    ensures found { result ≡ spec.is_text_mode state.old.content }
+    ensures value { state.new ≡ spec.out_of_text_mode state.old }
+{
+    let found = is_text_mode(state);
+    if found {
+        state.pop();
+        state.set_content(Content::Normal);
+    }
+    found
+}
+
+fn feed_end_tag(state: &mut HtmlState, name: &HtmlName) -> Result<(), AllocError>
+    ensures { OnOk result (state.new ≡ spec.feed_end_tag (name_of name.now) state.old) }
+{
+    if leave_text_mode(state) {
+        return Ok(());
+    }
+    process_end(state, name)
+}
+
+/// A token.
+pub(crate) fn feed(state: &mut HtmlState, token: Token) -> Result<(), AllocError>
+    ensures { OnOk result (state.new ≡ spec.feed (value_of token) state.old) }
+{
+    let skips = state.skips_line_feed();
+    state.set_skips_line_feed(false);
+    match token {
+        Token::Text(text) => feed_text(state, without_line_feed(text.as_str(), skips)),
+        Token::StartTag(tag) => {
+            leave_text_mode(state);
+            process_start(state, StartTag::of(tag))
+        }
+        Token::EndTag(tag) => feed_end_tag(state, &HtmlName::from_text(tag.name)),
+        Token::Comment(text) => {
+            leave_text_mode(state);
+            process_comment(state, text)
+        }
+        Token::Doctype { quirks } => {
+            leave_text_mode(state);
+            process_doctype(state, quirks)
+        }
+        Token::EndOfFile => {
+            leave_text_mode(state);
+            process_end_of_file(state)
+        }
+    }
+}

@@ -1,0 +1,215 @@
+//! Tokens in foreign content.
+ghost use Rattle.std.specs.Prelude.{◌≡◌, is_some, string_bytes, IfOk, IfSome, OnOk};
+ghost use Rattle.htmd_html5_state.specs.Names.{name_of};
+ghost use Rattle.htmd_html5.specs.Answers.{answer};
+ghost use Rattle.htmd_html5.specs.ForeignContent as spec;
+ghost use Rattle.htmd_html5.specs.Tokens.{tag_of, start_tag, end_tag, run, comment, doctype};
+ghost use Rattle.htmd_tree.specs.Views.{pair_of, pairs_of};
+
+use crate::modes::{end_by_mode, start_by_mode};
+use crate::tokens::{RunKind, StartTag};
+use htmd_html5_state::{HtmlName, HtmlState, TagName};
+use htmd_tree::Attribute;
+use std::alloc::{AllocError, Global};
+
+// ---- which tokens go there
+
+fn is_glyph(name: &HtmlName) -> bool
+    ensures { result ≡ spec.is_glyph (name_of name.now) }
+{
+    matches!(name, HtmlName::Known(TagName::MGlyph | TagName::MalignMark))
+}
+
+fn is_svg_name(name: &HtmlName) -> bool
+    ensures { result ≡ spec.is_svg_name (name_of name.now) }
+{
+    matches!(name, HtmlName::Known(TagName::Svg))
+}
+
+/// Whether a start tag goes to foreign content.
+pub(crate) fn is_start_foreign(state: &HtmlState, tag: &StartTag) -> bool
+    ensures { result ≡ spec.is_foreign (start_tag (tag_of tag.now)) state.now }
+{
+    !(state.current_is_html()
+        || (state.current_is_math_text_point() && !is_glyph(&tag.name))
+        || (state.current_is_annotation() && is_svg_name(&tag.name))
+        || state.current_is_html_point())
+}
+
+/// Whether an end tag, a comment or a doctype goes to foreign content.
+pub(crate) fn is_in_foreign(state: &HtmlState) -> bool
+    ensures end { spec.IsForeignIf end_tag state.now result }
+    ensures comment { spec.IsForeignIf comment state.now result }
+    ensures doctype { spec.IsForeignIf doctype state.now result }
+{
+    !state.current_is_html()
+}
+
+/// Whether text goes to foreign content.
+pub(crate) fn is_text_foreign(state: &HtmlState) -> bool
+    ensures { spec.IsTextForeignIf state.now result }
+{
+    !(state.current_is_html()
+        || state.current_is_math_text_point()
+        || state.current_is_html_point())
+}
+
+// ---- what they do there
+
+/// Whether this is a start tag of HTML that ends foreign content.
+fn breaks_out(tag: TagName) -> bool
+    ensures { result ≡ spec.breaks_out tag }
+{
+    matches!(
+        tag,
+        TagName::B
+            | TagName::Big
+            | TagName::BlockQuote
+            | TagName::Body
+            | TagName::Br
+            | TagName::Center
+            | TagName::Code
+            | TagName::Dd
+            | TagName::Div
+            | TagName::Dl
+            | TagName::Dt
+            | TagName::Em
+            | TagName::Embed
+            | TagName::H1
+            | TagName::H2
+            | TagName::H3
+            | TagName::H4
+            | TagName::H5
+            | TagName::H6
+            | TagName::Head
+            | TagName::Hr
+            | TagName::I
+            | TagName::Img
+            | TagName::Li
+            | TagName::Listing
+            | TagName::Menu
+            | TagName::Meta
+            | TagName::NoBr
+            | TagName::Ol
+            | TagName::P
+            | TagName::Pre
+            | TagName::Ruby
+            | TagName::S
+            | TagName::Small
+            | TagName::Span
+            | TagName::Strong
+            | TagName::Strike
+            | TagName::Sub
+            | TagName::Sup
+            | TagName::Table
+            | TagName::Tt
+            | TagName::U
+            | TagName::Ul
+            | TagName::Var
+    )
+}
+
+fn is_font_attribute(attribute: &Attribute) -> bool
+    ensures { result ≡ spec.is_font_attribute (pair_of attribute.now) }
+{
+    matches!(attribute.name.as_str(), "color" | "face" | "size")
+}
+
+fn has_font_attribute(attributes: &[Attribute]) -> bool
+    ensures { result ≡ spec.has_font_attribute (pairs_of attributes.now) }
+{
+    attributes.iter().any(is_font_attribute)
+}
+
+fn tag_breaks_out(tag: &StartTag) -> bool
+    ensures { result ≡ spec.tag_breaks_out (name_of tag.now.name) (pairs_of tag.now.attributes.items) }
+{
+    match &tag.name {
+        HtmlName::Known(TagName::Font) => has_font_attribute(tag.attributes.as_slice()),
+        HtmlName::Known(name) => breaks_out(*name),
+        HtmlName::Other(_) => false,
+    }
+}
+
+fn end_breaks_out(name: &HtmlName) -> bool
+    ensures { result ≡ spec.end_breaks_out (name_of name.now) }
+{
+    matches!(name, HtmlName::Known(TagName::Br | TagName::P))
+}
+
+/// An element in the namespace of the current node.
+fn insert_alike(state: &mut HtmlState, tag: StartTag) -> Result<(), AllocError>
+    ensures { OnOk result (state.new ≡ spec.start_foreign_element (tag_of tag) state.old) }
+{
+    match state.current_namespace() {
+        Some(space) => {
+            state.insert_foreign(space, tag.name.text(), tag.attributes, tag.self_closing)
+        }
+        None => Ok(()),
+    }
+}
+
+/// A start tag in foreign content. Gives it back where it is to be processed again.
+pub(crate) fn start_in_foreign(
+    state: &mut HtmlState,
+    tag: StartTag,
+) -> Result<Option<StartTag>, AllocError>
+    ensures answer { IfOk result (λ again. answer state.new (is_some again)
+        ≡ spec.start_in_foreign (tag_of tag) state.old) }
+    ensures same { IfOk result (λ again. IfSome again (λ t. tag_of t ≡ tag_of tag)) }
+{
+    if tag_breaks_out(&tag) {
+        state.leave_foreign();
+        return start_by_mode(state, tag);
+    }
+    insert_alike(state, tag)?;
+    Ok(None)
+}
+
+/// An end tag in foreign content. Gives whether it is to be processed again.
+pub(crate) fn end_in_foreign(state: &mut HtmlState, name: &HtmlName) -> Result<bool, AllocError>
+    ensures { IfOk result (λ again. answer state.new again
+        ≡ spec.end_in_foreign (name_of name.now) state.old) }
+{
+    if end_breaks_out(name) {
+        state.leave_foreign();
+        return end_by_mode(state, name);
+    }
+    if state.close_foreign(name.text()) {
+        return end_by_mode(state, name);
+    }
+    Ok(false)
+}
+
+/// U+FFFD for each character.
+fn replacements(alloc: Global, text: &str) -> Result<String, AllocError>
+    ensures { IfOk result (λ replaced. string_bytes replaced ≡ spec.replacements text.now) }
+{
+    let mut replaced = String::new(alloc);
+    for _ in text.as_bytes() {
+        replaced.push('\u{fffd}')?;
+    }
+    Ok(replaced)
+}
+
+/// A run in foreign content.
+pub(crate) fn put_run_in_foreign(
+    state: &mut HtmlState,
+    kind: RunKind,
+    text: &str,
+) -> Result<(), AllocError>
+    ensures { OnOk result (state.new ≡ spec.run_in_foreign kind text.now state.old) }
+{
+    match kind {
+        RunKind::White => state.insert_text(text),
+        RunKind::Nulls => {
+            let replaced = replacements(state.alloc(), text)?;
+            state.insert_text(replaced.as_str())
+        }
+        RunKind::Characters => {
+            state.insert_text(text)?;
+            state.set_frameset_ok(false);
+            Ok(())
+        }
+    }
+}
