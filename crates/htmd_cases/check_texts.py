@@ -1,23 +1,33 @@
 #!/usr/bin/env python3
-"""Checks the answers to cases that ask for the Markdown of a text, from the rules for texts in docs/CONVERSION.md.
+"""Checks the answers to cases that ask for the Markdown of texts, from the rules for texts in docs/CONVERSION.md.
 
     crates/htmd_cases/check_texts.py
 
-Each rule below is written from the sentence of the section 'Text' that its comment quotes, and not from the code or the
-definitions. The rows are those of the stored run and of the families in `data` whose setting is `text`, or `program` with
-the option `--text`. A row with a setting that isn't known here counts as failed. It needs Python 3.8.
+Each rule below is written from the sentence that its comment quotes, and not from the code or the definitions. The rows
+are those of the stored run and of the families in `data` that ask for the Markdown of one text (the setting `text`, or
+`program` with the option `--text`), or of HTML that is paragraphs and texts between them and nothing else, with any
+settings but Guarded and skipped tags. A row of one text with a setting that isn't known here counts as failed.
 
-The last line is 'N rows, M failed'; the status is 0 only if there are rows and none failed.
+It needs Python 3.8. The last line is 'N rows, M failed'; the status is 0 only if there are rows and none failed.
 """
 import os
 import re
 import sys
 import unicodedata
+from html.entities import html5
 
 FOLDER = os.path.dirname(os.path.abspath(__file__))
 CODES = {"\\": "\\", "n": "\n", "r": "\r", "t": "\t", "0": "\0"}
 # What Markdown writes the same whatever these options of the program say of pages and of HTML.
 IDLE_OPTIONS = {"--text", "--body", "--no-scripting", "--faithful", "--explain"}
+PARAGRAPHS = re.compile(r"(?:<p>[^<\0]*</p>|[^<\0])*")
+# "`&`, a name and `;` are a character, for these 44 names" (docs/GRAMMAR.md, Characters and references)
+NAMES = (
+    "amp lt gt quot apos nbsp copy reg deg middot laquo raquo frac12 times agrave auml ccedil egrave eacute ouml uuml "
+    "szlig ndash mdash lsquo rsquo ldquo rdquo bull hellip euro trade iexcl cent pound yen sect plusmn micro para "
+    "iquest aacute iacute ntilde"
+).split(" ")
+REFERENCE = re.compile(r"&(?:#|([A-Za-z0-9]+);)")
 
 
 def decoded(code):
@@ -36,11 +46,15 @@ def is_numeric(character):
 
 
 def number_dot(text):
-    """The place of the dot of a number that begins the text, where a space follows, or nothing."""
+    # "before the last dot of a number that begins it, if a space follows. The number is an ASCII digit and any numeric
+    # characters, and one or more dots."
     end = 0
     while end < len(text) and is_numeric(text[end]):
         end += 1
-    return end if end > 0 and text[end : end + 2] == ". " else None
+    dots = len(text[end:]) - len(text[end:].lstrip("."))
+    if text[:1] in tuple("0123456789") and dots and text[end + dots :].startswith(" "):
+        return end + dots - 1
+    return None
 
 
 def begins_block(text):
@@ -63,7 +77,6 @@ def escaped(text):
             marked.add(place)
     if begins_block(text):
         marked.add(0)
-    # "before the dot of a number that begins it, if a space follows"
     if number_dot(text) is not None:
         marked.add(number_dot(text))
     return "".join(("\\" if place in marked else "") + character for place, character in enumerate(text))
@@ -71,11 +84,27 @@ def escaped(text):
 
 def markdown(text):
     # "At the beginning of a block, and after a space, that space goes; before a block it goes too."
-    # "These rules look at each text of the page by itself, after its white space is squeezed and its first space is
+    # "These rules look at each text of the page by itself, after its white space is squeezed and its first space
     # dropped."
     text = squeezed(text)
     text = escaped(text[1:] if text.startswith(" ") else text)
     return text[:-1] if text.endswith(" ") else text
+
+
+def paragraphs(html):
+    """The texts of HTML that is paragraphs and texts between them; nothing for other HTML or refused references."""
+    names = {found.group(1) for found in REFERENCE.finditer(html)}
+    if not PARAGRAPHS.fullmatch(html) or not names <= set(NAMES):
+        return None
+    # "U+FEFF at the very beginning means nothing." (docs/GRAMMAR.md, The document)
+    html = html[1:] if html.startswith("\ufeff") else html
+    texts = re.split("</?p>", html)
+    return [REFERENCE.sub(lambda found: html5[found.group(1) + ";"], text) for text in texts]
+
+
+def markdown_of_paragraphs(texts):
+    # "The content of `p` is put between blank lines." "Where blocks meet, at most one blank line stands between them."
+    return "\n\n".join(filter(None, map(markdown, texts)))
 
 
 def question(settings):
@@ -95,7 +124,7 @@ def lines(name):
 
 
 def rows():
-    """Each row that asks for the Markdown of a text: where it is, its settings, the text and the answer."""
+    """Each row: where it is, its settings, the text and the answer."""
     for number, (case, answer) in enumerate(zip(lines("stdin"), lines("stdout")), 1):
         settings, text = case.split("\t")
         yield f"stdin:{number}", settings, text, answer
@@ -106,16 +135,25 @@ def rows():
                 yield f"data/{family}:{number}", settings, text, answer
 
 
+def answer_by_rules(settings, text):
+    """What the rules answer to a case; `...` if it asks for something else, nothing if its settings aren't known."""
+    words = settings.split(" ")
+    if "text" in words or "--text" in words:
+        end = question(settings)
+        return None if end is None else markdown(text) + end
+    asks_for_more = words[0] in ("read", "tree", "program") or "Guarded" in settings or "skip_tags" in settings
+    texts = None if asks_for_more else paragraphs(text)
+    return ... if texts is None else markdown_of_paragraphs(texts)
+
+
 def main():
     count = failed = 0
     for place, settings, text, answer in rows():
-        words = settings.split(" ")
-        if "text" not in words and "--text" not in words:
+        found = answer_by_rules(settings, decoded(text))
+        if found is ...:
             continue
         count += 1
-        end = question(settings)
-        found = None if end is None else "=" + markdown(decoded(text)) + end
-        if found != "=" + decoded(answer[1:]) or answer[0] != "=":
+        if answer[0] != "=" or found != decoded(answer[1:]):
             failed += 1
             print(f"{place}: the row says {answer!r}, the rules say {found!r}")
     print(f"{count} rows, {failed} failed")
