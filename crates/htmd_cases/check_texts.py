@@ -18,6 +18,7 @@ from html.entities import html5
 
 FOLDER = os.path.dirname(os.path.abspath(__file__))
 CODES = {"\\": "\\", "n": "\n", "r": "\r", "t": "\t", "0": "\0"}
+NAMES_OF_CODES = {character: name for name, character in CODES.items()}
 # What Markdown writes the same whatever these options of the program say of pages and of HTML.
 IDLE_OPTIONS = {"--text", "--body", "--no-scripting", "--faithful", "--explain"}
 PARAGRAPHS = re.compile(r"(?:<p>[^<\0]*</p>|[^<\0])*")
@@ -33,6 +34,10 @@ REFERENCE = re.compile(r"&(?:#|([A-Za-z0-9]+);)")
 def decoded(code):
     """A text of a case: a backslash stands before the letter of some characters."""
     return re.sub(r"\\(.)", lambda found: CODES[found.group(1)], code, flags=re.DOTALL)
+
+
+def encoded(text):
+    return re.sub(r"[\\\n\r\t\0]", lambda found: "\\" + NAMES_OF_CODES[found.group(0)], text)
 
 
 def squeezed(text):
@@ -153,9 +158,10 @@ def main():
         if found is ...:
             continue
         count += 1
-        if answer[0] != "=" or found != decoded(answer[1:]):
+        by_rules = "settings that aren't known" if found is None else "=" + encoded(found)
+        if by_rules != answer:
             failed += 1
-            print(f"{place}: the row says {answer!r}, the rules say {found!r}")
+            print(f"{place}: the row has\n{answer}\nthe rules give\n{by_rules}")
     print(f"{count} rows, {failed} failed")
     return 0 if count and not failed else 1
 
