@@ -37,6 +37,7 @@ def decoded(code):
 
 
 def encoded(text):
+    """A text as a case has it."""
     return re.sub(r"[\\\n\r\t\0]", lambda found: "\\" + NAMES_OF_CODES[found.group(0)], text)
 
 
@@ -46,7 +47,7 @@ def squeezed(text):
 
 
 def is_numeric(character):
-    # "A character is numeric where its general category is Nd, Nl or No" (docs/DECISIONS.md, Texts)
+    # "A character is numeric if its general category is Nd, Nl or No" (docs/DECISIONS.md, Texts)
     return unicodedata.category(character) in ("Nd", "Nl", "No")
 
 
