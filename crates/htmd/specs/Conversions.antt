@@ -6,6 +6,7 @@ use Rattle.htmd_grammar.specs.Rules.{project}
 use Rattle.htmd_grammar.specs.Faults.{IsFault}
 use Rattle.htmd_grammar.specs.declared.fault.FaultKind.{FaultKind}
 use Rattle.htmd_tree.specs.Items.{Item}
+use Rattle.htmd_html5.specs.Documents.{html5_document}
 use Rattle.htmd_tree.specs.Bodies.{body_part, body_place}
 use Rattle.htmd_tree.specs.Layout.{document_items}
 use Rattle.htmd_tree.specs.declared.reader.ReadError.{ReadError}
@@ -48,3 +49,7 @@ IsMarkdownOfPage config scripting page text = IsMarkdownOf config scripting (bod
 abbrev pub IsPageRefused : Bool → List ℕ → ℕ → FaultKind → Type 0
 IsPageRefused scripting page place kind =
     (within : ℕ) × (place ≡ body_place page + within) × IsRefused scripting (body_part page) within kind
+
+-- the Markdown of any page, as the HTML Standard reads it
+abbrev pub html5_markdown : Config → Bool → List ℕ → List ℕ
+html5_markdown config scripting html = markdown config (html5_document scripting html) 0

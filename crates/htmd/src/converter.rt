@@ -5,7 +5,7 @@ ghost use Rattle.htmd_grammar.specs.declared.fault.FaultKind.{FaultKind};
 ghost use Rattle.htmd.specs.Handling.{of_functions};
 ghost use Rattle.htmd.specs.Choice.{no_handler, with_handler, with_options};
 ghost use Rattle.htmd.specs.Conversions.{IsRefused, IsMarkdownOf, IsTreeOf, IsMarkdownOfPage};
-ghost use Rattle.htmd.specs.Conversions.{IsPageRefused};
+ghost use Rattle.htmd.specs.Conversions.{IsPageRefused, html5_markdown};
 ghost use Rattle.htmd.specs.Defaults.{default_options};
 ghost use Rattle.htmd.specs.Markdown.{markdown};
 
@@ -17,6 +17,7 @@ use crate::element_handler::registrar::Registrar;
 use crate::element_handler::registry::Registry;
 use crate::element_handler::{ElementHandler, ElementHandlers};
 use crate::options::Options;
+use htmd_html5::parse_html5;
 use htmd_tree::{NodeId, Tree, body_of, read_html};
 use std::alloc::{AllocError, Global};
 
@@ -123,6 +124,17 @@ impl<R: Registry> HtmlToMarkdown<R> {
             }),
             other => other,
         }
+    }
+
+    /// The Markdown of any page, as browsers read it: that of the whole Document by the HTML Standard. No page is
+    /// refused. An `Err` is out of memory.
+    pub fn convert_html5(&self, alloc: Global, html: &str) -> Result<String, AllocError>
+        requires ready { R.ready (handlers_of self.now) }
+        ensures ok { IfOk result (λ text. string_bytes text
+            ≡ html5_markdown (R.config (handlers_of self.now)) (scripting_of self.now) html.now) }
+    {
+        let tree = parse_html5(alloc, html, self.scripting)?;
+        self.tree_to_markdown(alloc, &tree, tree.root())
     }
 
     /// The Markdown of a node that is handed over by itself. It refuses for want of memory alone, and

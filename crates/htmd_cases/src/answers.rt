@@ -1,12 +1,14 @@
 //! The answer to a case: `=` and a text, or `!`, the byte place and the kind of a refusal.
 use crate::encoding::push_encoded;
 use crate::faults::LineFault;
+use crate::nodes::rows_of;
 use crate::program::push_run;
 use crate::settings::{Question, Settings};
 use crate::trees::tree_of;
 use htmd::options::{Options, TranslationMode};
 use htmd::{ConvertError, FaultKind, HtmlToMarkdown, HtmlToMarkdownBuilder};
 use htmd_cli::{Input, Mode, Output, RunError, run};
+use htmd_html5::parse_html5;
 use htmd_tree::{ReadError, read_html, serialize};
 use std::alloc::{AllocError, Global};
 
@@ -24,7 +26,11 @@ pub(crate) fn push_answer(
         }
         Question::Read => push_page(alloc, answers, settings.scripting, text),
         Question::Program => push_run(alloc, answers, &settings.words, text),
-        Question::Tree | Question::Convert => push_markdown(alloc, answers, settings, text),
+        Question::Nodes => {
+            let tree = parse_html5(alloc, text, settings.scripting)?;
+            push_text(answers, &rows_of(alloc, &tree)?)
+        }
+        Question::Tree | Question::Html5 | Question::Convert => push_markdown(alloc, answers, settings, text),
     }
 }
 
@@ -85,6 +91,7 @@ fn push_markdown(
     let converter = builder.build();
     match question {
         Question::Tree => push_tree(alloc, answers, &converter, text),
+        Question::Html5 => push_text(answers, &converter.convert_html5(alloc, text)?),
         _ => push_conversion(alloc, answers, &converter, text),
     }
 }

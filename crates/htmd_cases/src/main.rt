@@ -9,6 +9,7 @@ mod cases;
 mod encoding;
 mod families;
 mod faults;
+mod nodes;
 mod options;
 mod program;
 mod settings;

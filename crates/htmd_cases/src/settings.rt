@@ -13,6 +13,10 @@ pub(crate) enum Question {
     Read,
     /// the Markdown of the tree that has this text as its outline
     Tree,
+    /// the tree of this text, as browsers read it
+    Nodes,
+    /// the Markdown of this text, as browsers read it
+    Html5,
     /// what the program makes of this text
     Program,
     /// the Markdown of the Document that this text denotes
@@ -47,6 +51,8 @@ impl Settings {
                 "text" => settings.question = Question::Text,
                 "read" => settings.question = Question::Read,
                 "tree" => settings.question = Question::Tree,
+                "nodes" => settings.question = Question::Nodes,
+                "html5" => settings.question = Question::Html5,
                 "program" => settings.question = Question::Program,
                 _ if word.starts_with("--") => {
                     settings.words.push(String::from_str(alloc, word)?)?;

@@ -10,6 +10,8 @@ pub record Chosen : Type 0 where
   pub text : Bool
   -- the input is a whole page, of which the body is converted
   pub body : Bool
+  -- the input is any page, as browsers read it
+  pub html5 : Bool
   pub scripting : Bool
   pub options : Options
   -- elements of these names give nothing
@@ -20,6 +22,7 @@ abbrev pub chosen_by : Settings → Chosen
 chosen_by settings = record {
   text = settings.text;
   body = settings.body;
+  html5 = settings.html5;
   scripting = settings.scripting;
   options = settings.options;
   skipped = map (λ t. t.now) settings.skipped.now;
@@ -34,6 +37,7 @@ abbrev pub nothing_chosen : Chosen
 nothing_chosen = record {
   text = false;
   body = false;
+  html5 = false;
   scripting = true;
   options = default_options;
   skipped = [];

@@ -39,6 +39,7 @@ option_after _ value options = options
 abbrev pub effect_of : Setting → List ℕ → Option (Asked → Asked)
 effect_of setting.Text value = Some (chooses (λ chosen. record chosen { text = true }))
 effect_of setting.Body value = Some (chooses (λ chosen. record chosen { body = true }))
+effect_of setting.Html5 value = Some (chooses (λ chosen. record chosen { html5 = true }))
 effect_of setting.Rows value = Some takes_rows
 effect_of setting.NoScripting value = Some (chooses (λ chosen. record chosen { scripting = false }))
 effect_of (setting.Translation mode) value = Some (sets (λ options. record options { translation_mode = mode }))
@@ -72,6 +73,7 @@ asked_in request = record {
   chosen = record {
     text = request.text;
     body = request.body;
+    html5 = request.html5;
     scripting = request.scripting;
     options = request.options;
     skipped = map (λ name. name.now) request.skipped.items;

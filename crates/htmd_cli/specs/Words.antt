@@ -106,6 +106,7 @@ abbrev pub words : List Word
 words =
     plain (codes "--text") (chooses (λ chosen. record chosen { text = true }))
     ∷ plain (codes "--body") (chooses (λ chosen. record chosen { body = true }))
+    ∷ plain (codes "--html5") (chooses (λ chosen. record chosen { html5 = true }))
     ∷ plain (codes "--rows") takes_rows
     ∷ plain (codes "--faithful") (sets (λ options. record options { translation_mode = translation.Faithful }))
     ∷ plain (codes "--guarded") (sets (λ options. record options { translation_mode = translation.Guarded }))

@@ -5,7 +5,7 @@ ghost use Rattle.htmd_cli.specs.Conversion.{way_by};
 ghost use Rattle.htmd_cli.specs.Fields.{null, written_field};
 ghost use Rattle.htmd_cli.specs.Rows.{IsFieldAnswer, IsPageAnswer, IsRowAnswer};
 
-use crate::conversion::{Conversion, markdown_by};
+use crate::conversion::{Conversion, markdown_by, text_of};
 use crate::faults::RunError;
 use crate::fields::{NULL, read_field, write_field};
 use crate::lines::fields_of;
@@ -91,10 +91,12 @@ fn page_markdown<H: Registry>(
     ensures refused { IfOk result (λ outcome. IfErr outcome
         (λ _. IsPageAnswer (way_by H.config conversion.now) page.now null)) }
 {
-    let Ok(text) = str::from_utf8(page) else {
-        return Ok(Err(RunError::NotUtf8));
+    let text = match text_of(alloc, page, conversion.html5 && !conversion.text) {
+        Ok(text) => text,
+        Err(RunError::Memory) => return Err(AllocError),
+        Err(error) => return Ok(Err(error)),
     };
-    match markdown_by(alloc, conversion, text) {
+    match markdown_by(alloc, conversion, &text) {
         Ok(markdown) => Ok(Ok(markdown)),
         Err(ConvertError::Refused { place, kind }) => Ok(Err(RunError::Refused { place, kind })),
         Err(ConvertError::Memory) => Err(AllocError),

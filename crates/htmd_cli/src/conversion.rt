@@ -6,18 +6,22 @@ ghost use Rattle.htmd.specs.FaultKind.{FaultKind};
 ghost use Rattle.htmd_cli.specs.Conversion.{HasMarkdown, IsInputRefused, IsMarkdownBy, IsRefusedBy, skipping, way_by};
 ghost use Rattle.htmd_cli.specs.Settings.{chosen_by};
 
+use crate::decoding::decoded;
+use crate::faults::RunError;
 use crate::paragraph::paragraph;
 use crate::settings::Settings;
 use htmd::element_handler::{Registrar, Registry};
 use htmd::options::Options;
 use htmd::{ConvertError, HtmlToMarkdown, HtmlToMarkdownBuilder};
 use std::alloc::{AllocError, Global};
+use std::borrow::CowStr;
 
 /// What an input is taken for, and what converts it.
 #[derive(Drop)]
 pub(crate) struct Conversion<'a, H> {
     pub(crate) text: bool,
     pub(crate) body: bool,
+    pub(crate) html5: bool,
     pub(crate) converter: &'a HtmlToMarkdown<H>,
 }
 
@@ -45,6 +49,21 @@ pub(crate) fn converter_of<H: Registrar + Drop>(
     Ok(converter)
 }
 
+/// The text that an input holds: any bytes are read as browsers read them, where that is asked for, else UTF-8 alone.
+pub(crate) fn text_of(alloc: Global, input: &[u8], any: bool) -> Result<CowStr<'_>, RunError>
+    ensures ok { IfOk result (λ text. IsReadable any input.now × (cow_str_bytes text ≡ text_in any input.now)) }
+    ensures not_utf8 { IsErrOf result RunError.NotUtf8 → ¬ IsReadable any input.now }
+    ensures others { IfErr result (λ error. error ≡ RunError.NotUtf8 ⊎ error ≡ RunError.Memory) }
+{
+    if any {
+        return Ok(decoded(alloc, input)?);
+    }
+    match str::from_utf8(input) {
+        Ok(text) => Ok(CowStr::Borrowed(text)),
+        Err(_) => Err(RunError::NotUtf8),
+    }
+}
+
 /// The Markdown of an input.
 pub(crate) fn markdown_by<H: Registry>(
     alloc: Global,
@@ -63,6 +82,9 @@ pub(crate) fn markdown_by<H: Registry>(
     if conversion.text {
         let tree = paragraph(alloc, input)?;
         return Ok(converter.tree_to_markdown(alloc, &tree, tree.root())?);
+    }
+    if conversion.html5 {
+        return Ok(converter.convert_html5(alloc, input)?);
     }
     if conversion.body {
         return converter.convert_page(alloc, input);
@@ -92,6 +114,7 @@ pub(crate) fn markdown_of(
     let conversion = Conversion {
         text: settings.text,
         body: settings.body,
+        html5: settings.html5,
         converter: &converter,
     };
     markdown_by(alloc, &conversion, input)

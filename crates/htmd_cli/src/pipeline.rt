@@ -10,7 +10,7 @@ ghost use Rattle.htmd_cli.specs.Failures.{FailsAtErr};
 ghost use Rattle.htmd_cli.specs.Runs.{Converts, IsConvertible};
 ghost use Rattle.htmd_cli.specs.Settings.{chosen_by, chosen_in};
 
-use crate::conversion::markdown_of;
+use crate::conversion::{markdown_of, text_of};
 use crate::faults::{Failed, RunError};
 use crate::settings::{Mode, Settings, settings_of};
 use crate::sinks::{Sink, write_all};
@@ -167,10 +167,8 @@ fn converted(alloc: Global, input: &[u8], settings: Settings<'_>) -> Result<Stri
         → IsUtf8 input.now }
     ensures others { IfErr result (λ error. error ≢ RunError.Read × error ≢ RunError.Write) }
 {
-    let Ok(text) = str::from_utf8(input) else {
-        return Err(RunError::NotUtf8);
-    };
-    Ok(markdown_of(alloc, text, settings)?)
+    let text = text_of(alloc, input, settings.html5 && !settings.text)?;
+    Ok(markdown_of(alloc, &text, settings)?)
 }
 
 // Writes the Markdown and a line feed, and flushes.

@@ -110,6 +110,7 @@ fn convert<R: Source, W: Sink, E: Sink>(
     let settings = Settings {
         text: request.text,
         body: request.body,
+        html5: request.html5,
         scripting: request.scripting,
         options: request.options,
         skipped: request.skipped.as_slice(),

@@ -71,6 +71,7 @@ pub fn run_rows<R: Source, W: Sink, E: Sink>(
     let conversion = Conversion {
         text: settings.text,
         body: settings.body,
+        html5: settings.html5,
         converter: &converter,
     };
     answer_all(alloc, &conversion, source, sink, errors, explains)

@@ -16,10 +16,14 @@ pub struct Mode {
 /// What a run takes its input for, and how it converts it.
 #[derive(Drop)]
 pub struct Settings<'a> {
-    /// The input is the text of one paragraph, and not HTML. Then `body` and `scripting` say nothing.
+    /// The input is the text of one paragraph, and not HTML. Then `body`, `html5` and `scripting` say
+    /// nothing.
     pub text: bool,
     /// The input is a whole page, of which what stands between the tags of its body is converted.
     pub body: bool,
+    /// The input is any page, as browsers read it: bytes that aren't UTF-8 are decoded, and nothing is refused. Then
+    /// `body` says nothing.
+    pub html5: bool,
     /// The content of `noscript` is one text, else it is nodes.
     pub scripting: bool,
     pub options: Options,
@@ -39,6 +43,7 @@ pub(crate) fn settings_of(mode: Mode) -> Settings<'static>
     Settings {
         text: mode.text,
         body: false,
+        html5: false,
         scripting: true,
         options: Options {
             translation_mode,

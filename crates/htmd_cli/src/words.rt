@@ -22,6 +22,7 @@ pub(crate) enum Notice {
 pub(crate) enum Setting {
     Text,
     Body,
+    Html5,
     Rows,
     NoScripting,
     Translation(TranslationMode),
@@ -45,7 +46,7 @@ pub(crate) enum Setting {
 pub(crate) type Word = (&'static str, &'static str, Setting, &'static str);
 
 /// The words that are known.
-pub(crate) const WORDS: [Word; 32] = [
+pub(crate) const WORDS: [Word; 33] = [
     (
         "--text",
         "",
@@ -57,6 +58,12 @@ pub(crate) const WORDS: [Word; 32] = [
         "",
         Setting::Body,
         "the input is a whole page: what stands between the tags of its body is converted",
+    ),
+    (
+        "--html5",
+        "",
+        Setting::Html5,
+        "the input is any page or piece of one, read as browsers read it; none is refused",
     ),
     (
         "--rows",
@@ -245,6 +252,7 @@ pub(crate) const WORDS: [Word; 32] = [
 pub(crate) struct Request<'a> {
     pub(crate) text: bool,
     pub(crate) body: bool,
+    pub(crate) html5: bool,
     pub(crate) rows: bool,
     pub(crate) scripting: bool,
     pub(crate) options: Options,
@@ -364,6 +372,7 @@ impl<'a> Request<'a> {
         Request {
             text: false,
             body: false,
+            html5: false,
             rows: false,
             scripting: true,
             options: Options::default(),
@@ -381,6 +390,7 @@ impl<'a> Request<'a> {
         match setting {
             Setting::Text => self.text = true,
             Setting::Body => self.body = true,
+            Setting::Html5 => self.html5 = true,
             Setting::Rows => self.rows = true,
             Setting::NoScripting => self.scripting = false,
             Setting::Explain => self.explains = true,

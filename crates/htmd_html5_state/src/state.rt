@@ -1,5 +1,5 @@
 //! The state of tree construction, and the steps that change one part of it.
-ghost use Rattle.std.specs.Prelude.{◌≡◌, IfOk, OnOk};
+ghost use Rattle.std.specs.Prelude.{◌≡◌, ◌<◌, ◌^◌, length, IfOk, OnOk};
 ghost use Rattle.htmd_html5_state.specs.Documents as documents;
 ghost use Rattle.htmd_html5_state.specs.Formatting as list;
 ghost use Rattle.htmd_html5_state.specs.Insertion as insertion;
@@ -216,6 +216,19 @@ impl HtmlState {
     }
 
     // ---- what is open
+
+    /// The allocator.
+    pub fn alloc(&self) -> Global {
+        self.alloc
+    }
+
+    /// How many elements are open.
+    pub fn open_count(&self) -> usize
+        ensures value { result ≡ length self.now.stack }
+        ensures small { result < 2 ^ 63 }
+    {
+        self.stack.as_slice().len()
+    }
 
     /// Whether nothing is open.
     pub fn is_empty(&self) -> bool
