@@ -92,8 +92,7 @@ marks_more xs i x d marks is_new seen set new key l e k n u h w =
     ∙ ap (λ (y : Attribute). not (is_among seen (string_bytes y.name))) e in
     let q : key.now ≡ string_bytes (get_or xs i d).name = k ∙ ap (λ (y : Attribute). string_bytes y.name) e in
     let step : are_first seen (pairs_of (drop i xs)) ≡ is_new ∷ are_first (key.now ∷ seen) (pairs_of (drop (i + 1) xs)) =
-    rw (drop_more xs i d l, m, q) refl in
-    (
+    rw (drop_more xs i d l, m, q) refl in (
       key.now ∷ seen,
       name_added set new key seen u h,
       append_assoc marks (is_new ∷ []) _ ∙ ap (λ y. marks ++ y) (sym step) ∙ w,
@@ -116,8 +115,8 @@ pub marked_more : (xs : List SpelledAttribute) (i : ℕ) (x d : SpelledAttribute
 marked_more xs i x d [] rest mark before after whole l e f k w = absurd (cc)
 marked_more xs i x d (m ∷ marks) rest mark before after whole l e f k w =
     let step : those_marked (map attribute_of (all_spelled_of (drop i xs))) (m ∷ marks)
-        ≡ if_marked m (attribute_of (spelled_of (get_or xs i d)))
-        ++ those_marked (map attribute_of (all_spelled_of (drop (i + 1) xs))) marks =
+    ≡ if_marked m (attribute_of (spelled_of (get_or xs i d)))
+    ++ those_marked (map attribute_of (all_spelled_of (drop (i + 1) xs))) marks =
     rw (drop_more xs i d l) refl in
     let p : ◌≡◌ {A = Bool × List Bool} (mark, rest) (m, marks) = cc in
     let q : mark ≡ m = ap (λ (x : Bool × List Bool). x.0) p in

@@ -72,10 +72,10 @@ pub record NamedReference : Type 0 where
   pub characters : List ℕ
 
 -- a row of a table
-abbrev row_of : record {now : List ℕ} × record {now : List ℕ} → NamedReference
+abbrev row_of : record { now : List ℕ } × record { now : List ℕ } → NamedReference
 row_of r = record { name = r.0.now; characters = r.1.now }
 
-abbrev rows_of : List (record {now : List ℕ} × record {now : List ℕ}) → List NamedReference
+abbrev rows_of : List (record { now : List ℕ } × record { now : List ℕ }) → List NamedReference
 rows_of rows = map row_of rows
 
 -- the same of a row that the program has

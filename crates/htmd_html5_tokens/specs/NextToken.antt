@@ -29,7 +29,7 @@ goes_on (b ∷ s) = not (b == greater_than_sign)
 -- behind `<`: a letter, `!`, `?`, or `/` and any character but `>`
 abbrev pub is_markup : List ℕ → Bool
 is_markup [] = false
-is_markup (b ∷ s) = 
+is_markup (b ∷ s) =
     is_ascii_alphabetic b || (b == exclamation_mark) || (b == question_mark) || (b == slash && goes_on s)
 
 abbrev pub begins_markup : List ℕ → Bool

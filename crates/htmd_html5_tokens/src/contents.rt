@@ -141,11 +141,7 @@ fn push_special<'a>(
 }
 
 /// Puts what comes next in a text behind others: plain characters, or one other piece. What is left is answered.
-fn push_next<'a>(
-    held: &mut String,
-    text: &'a str,
-    reading: Reading,
-) -> Result<&'a str, AllocError>
+fn push_next<'a>(held: &mut String, text: &'a str, reading: Reading) -> Result<&'a str, AllocError>
     requires { 0 < length text.now }
     ensures pushed { IfOk result (λ rest. HasPushed reading (string_bytes held.old) text.now (string_bytes held.new)
         rest.now) }

@@ -82,8 +82,7 @@ static LOOSE_BEGINNINGS: [&str; 2] = [
 ];
 
 /// A system identifier that means quirks mode.
-const QUIRKY_SYSTEM_IDENTIFIER: &str =
-    "http://www.ibm.com/data/dtd/v11/ibmxhtml1-transitional.dtd";
+const QUIRKY_SYSTEM_IDENTIFIER: &str = "http://www.ibm.com/data/dtd/v11/ibmxhtml1-transitional.dtd";
 
 /// Whether the text is this, which is given in lower case, in any ASCII case.
 fn is_in_any_case(text: &str, other: &str) -> bool
