@@ -1,5 +1,5 @@
--- The named character references (HTML Standard, 13.5): names less their `;`, by their first letter, and what they stand
--- for. The tables themselves are in `src/names`.
+-- The named character references (HTML Standard, 13.5): names less their `;`, by their first letter, and what they
+-- stand for. The tables themselves are in `src/names`.
 use Rattle.std.specs.Prelude.{ℕ, Bool, ◌==◌, if◌then◌else◌, List, [], ◌∷◌, Option, Some, None, map}
 use Rattle.std.specs.Str.{bytes_eq}
 use Rattle.std.specs.Char.{is_ascii_uppercase}
@@ -147,7 +147,7 @@ small_names b =
     if b == 0x7A then rows_of SMALL_Z else
     []
 
--- the names that may stand without `;`: Each stands before those that it begins with, so the first with which a text
+-- the names that may stand without `;`; each stands before those that it begins with, so the first with which a text
 -- begins is the longest.
 unfoldable pub old_names : List NamedReference
 old_names = rows_of OLD_NAMES

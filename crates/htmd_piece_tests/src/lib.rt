@@ -26,4 +26,6 @@ mod tables;
 #[cfg(test)]
 mod texts;
 #[cfg(test)]
+mod tokens;
+#[cfg(test)]
 mod trees;
