@@ -169,7 +169,7 @@ found_in (q ∷ rows) s r a e =
     (ap (λ (x : NamedReference). begins_with x.name s) (sym k) ∙ t, ap is_ascii_name (sym k) ∙ h.0))
     (λ t. let f = rw t at e in found_in rows s r h.1 f)
 
--- the longest of the old names with which a text begins stands in it, and the text may be cut after it
+-- the old name with which a text begins stands in it, and the text may be cut after it
 pub old_front : (s : List ℕ) (r : NamedReference) → Some r ≡ longest_old s → IsUtf8 s
     → (length r.name ≤ length s) × IsCharBoundary s (length r.name)
 old_front s r e u =

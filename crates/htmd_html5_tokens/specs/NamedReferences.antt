@@ -147,8 +147,7 @@ small_names b =
     if b == 0x7A then rows_of SMALL_Z else
     []
 
--- the names that may stand without `;`; each stands before those that it begins with, so the first with which a text
--- begins is the longest.
+-- the names that may stand without `;`; none begins another, so a text begins with one of them at most
 unfoldable pub old_names : List NamedReference
 old_names = rows_of OLD_NAMES
 
@@ -167,5 +166,6 @@ abbrev pub first_in : List NamedReference → List ℕ → Option NamedReference
 first_in [] s = None
 first_in (r ∷ rows) s = if begins_with r.name s then Some r else first_in rows s
 
+-- the one that may stand without `;`
 abbrev pub longest_old : List ℕ → Option NamedReference
 longest_old s = first_in old_names s

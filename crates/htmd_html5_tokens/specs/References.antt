@@ -68,7 +68,7 @@ abbrev pub goes_on : List ℕ → Bool
 goes_on [] = false
 goes_on (b ∷ s) = b == equals_sign || is_ascii_alphanumeric b
 
--- the longest of the names that may stand without `;`
+-- the name that may stand without `;` with which a text begins, if there is one
 abbrev pub old_reference : Bool → Option NamedReference → List ℕ → Piece
 old_reference in_value None s = ampersand_itself
 old_reference in_value (Some r) s =
@@ -81,7 +81,7 @@ reference_or n None other = other
 reference_or n (Some characters) other = record { following = n; characters = characters }
 
 -- after `&`: No name goes on after `;`, so one that ends there is the longest, and it is all letters and digits before
--- that. Else the longest name that may stand without `;` counts.
+-- that. Else a name that may stand without `;` counts.
 abbrev pub reference_by_name : Bool → List ℕ → Piece
 reference_by_name in_value s =
     if first_is semicolon (behind_run is_ascii_alphanumeric s)

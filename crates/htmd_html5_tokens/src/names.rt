@@ -136,7 +136,7 @@ fn first_in(
     None
 }
 
-/// The longest of the names that may stand without `;` with which the text begins, and what it stands for.
+/// The name that may stand without `;` with which the text begins, and what it stands for. There is one at most.
 #[tactic(auto, unfolding(crate::specs::NamedReferences::old_names))]
 pub(crate) fn longest_old(text: &[u8]) -> Option<(&'static str, &'static str)>
     ensures { option_map loan_row result ≡ spec.longest_old text.now }
