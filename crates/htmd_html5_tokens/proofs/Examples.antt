@@ -1,4 +1,5 @@
 -- Tokens of small texts, from the HTML Standard.
+use lib.Utf8.{encode}
 use Rattle.std.proofs.Common.{◌≡◌, ℕ, Bool, true, false, List, [], ◌∷◌, ◌++◌, refl}
 use Rattle.std.specs.Prelude.{codes, not, ◌&&◌}
 use Rattle.std.specs.List.{list_all, list_any}
@@ -80,6 +81,7 @@ token-end_tag = refl
 
 token-null_in_names : token (codes "<a" ++ 0 ∷ codes " b" ++ 0 ∷ codes "=" ++ 0 ∷ codes ">")
     ≡ start_tag (tag (codes "a" ++ replacement) (pair (codes "b" ++ replacement) replacement ∷ []))
+unfolding encode
 token-null_in_names = refl
 
 -- a text that ends in a tag
@@ -125,7 +127,7 @@ token-reference_in_value = refl
 
 token-references_by_number : token (codes "&#65;&#x41 &#0;&#xD800;&#x110000;&#x80;&#;")
     ≡ text (codes "AA " ++ replacement ++ replacement ++ replacement ++ euro ++ codes "&#;")
-unfolding character_numbered
+unfolding character_numbered encode
 token-references_by_number = refl
 
 -- ---- texts
@@ -154,6 +156,7 @@ token-comment_ended_at_once : token (codes "<!-->-->") ≡ comment []
 token-comment_ended_at_once = refl
 
 token-comment_to_the_end : token (codes "<!--a-" ++ 0 ∷ codes "--") ≡ comment (codes "a-" ++ replacement)
+unfolding encode
 token-comment_to_the_end = refl
 
 token-question_mark : token (codes "<?a>") ≡ comment (codes "?a")
@@ -189,7 +192,7 @@ token-doctype_with_system = refl
 
 token_in-title : token_in Title (codes "a&copy;" ++ 0 ∷ codes "</b></TITLE>")
     ≡ text (codes "a" ++ copyright ++ replacement ++ codes "</b>")
-unfolding small_names old_names
+unfolding small_names old_names encode
 token_in-title = refl
 
 token_in-style : token_in Style (codes "&copy;</styles></style>") ≡ text (codes "&copy;</styles>")

@@ -160,7 +160,7 @@ fn push_next<'a>(held: &mut String, text: &'a str, reading: Reading) -> Result<&
 pub(crate) fn decoded(alloc: Global, text: &str, reading: Reading) -> Result<String, AllocError>
     ensures { IfOk result (λ t. string_bytes t ≡ spec.decoded reading 0 text.now) }
 {
-    let mut held = String::new(alloc);
+    let mut held = String::with_capacity(alloc, text.len())?;
     let mut rest = text;
     while !rest.is_empty() {
         rest = push_next(&mut held, rest, reading)?;
