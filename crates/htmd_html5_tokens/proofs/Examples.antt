@@ -8,7 +8,7 @@ use Rattle.std.specs.Char.{is_ascii_alphanumeric}
 use Rattle.htmd_grammar.specs.CharacterClasses.{begins_with}
 use Rattle.htmd_grammar.specs.ValueTrees.{AttributePair}
 use Rattle.htmd_html5_tokens.specs.Preprocessing.{preprocessed}
-use Rattle.htmd_html5_tokens.specs.Tokens.{TagValue, TokenValue, Read, start_tag, end_tag, text, comment, doctype, end_of_file}
+use Rattle.htmd_html5_tokens.specs.Tokens.{TagValue, TokenValue, start_tag, end_tag, text, comment, doctype, end_of_file}
 use Rattle.htmd_html5_tokens.specs.NamedReferences.{NamedReference, capital_names, small_names, old_names}
 use Rattle.htmd_html5_tokens.specs.References.{character_numbered}
 use Rattle.htmd_html5_tokens.specs.Doctypes.{quirky_identifiers, quirky_beginnings, loose_beginnings}

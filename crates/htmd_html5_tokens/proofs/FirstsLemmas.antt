@@ -1,5 +1,5 @@
 -- Attributes that are the first of their name.
-use Rattle.std.proofs.Common.{◌≡◌, ℕ, ◌+◌, ◌<◌, Bool, true, false, not, ◌&&◌, ◌||◌, List, [], ◌∷◌, ◌++◌, length, drop, get_or, map}
+use Rattle.std.proofs.Common.{◌≡◌, ℕ, ◌+◌, ◌<◌, Bool, true, false, not, List, [], ◌∷◌, ◌++◌, length, drop, get_or, map}
 use Rattle.std.proofs.Common.{refl, sym, ◌∙◌, ap, append_assoc, string_bytes, arith, Some, None}
 use Rattle.std.proofs.lemmas.Bool.{and_parts}
 use Rattle.std.proofs.lemmas.Bool.Decides.{nat_tests}
@@ -16,7 +16,7 @@ use Rattle.htmd_grammar.specs.ValueTrees.{AttributePair}
 use Rattle.htmd_grammar.specs.CharacterClasses.{is_among, are_distinct}
 use Rattle.htmd_grammar.specs.Tags.{attribute_names}
 use Rattle.htmd_tree.specs.declared.tree.Attribute.{Attribute}
-use Rattle.htmd_tree.specs.Views.{pair_of, pairs_of}
+use Rattle.htmd_tree.specs.Views.{pairs_of}
 use Rattle.htmd_tree.proofs.NamesLemmas.{HasNames, name_added}
 use Rattle.htmd_html5_tokens.specs.Tags.{attribute_of, firsts}
 use Rattle.htmd_html5_tokens.specs.Firsts.{are_first, split_mark, if_marked, those_marked}

@@ -1,5 +1,5 @@
 -- References by number and by name, and where a text may be cut after one.
-use Rattle.std.proofs.Common.{◌≡◌, ◌⊎◌, ℕ, zero, suc, ◌+◌, ◌-◌, ◌<◌, ◌≤◌, min, Bool, true, false, cond, List, [], ◌∷◌, length, take}
+use Rattle.std.proofs.Common.{◌≡◌, ◌⊎◌, ℕ, suc, ◌+◌, ◌-◌, ◌<◌, ◌≤◌, min, Bool, true, false, List, [], ◌∷◌, length, take}
 use Rattle.std.proofs.Common.{drop, get_or, refl, ap, sym, ◌∙◌, arith, inl, inr, subst, Some, None}
 use Rattle.std.proofs.lemmas.Bool.{cases_lt, and_parts}
 use Rattle.std.proofs.lemmas.Bool.Decides.{nat_tests}
@@ -8,7 +8,7 @@ use Rattle.std.proofs.lemmas.Slice.{between_to_end}
 use Rattle.std.proofs.lemmas.Str.{IsCharBoundary-after_ascii}
 use Rattle.std.specs.Char.{encode_utf8, InScalarRange, OutOfScalarRange, is_ascii_alphanumeric}
 use Rattle.std.specs.List.{list_all, slice_index}
-use Rattle.std.specs.Prelude.{nat_lt, ◌&&◌, ◌==◌}
+use Rattle.std.specs.Prelude.{nat_lt}
 use Rattle.std.specs.Str.{IsUtf8, IsCharBoundary}
 use Rattle.htmd_text.proofs.Cases.{test}
 use Rattle.htmd_grammar.specs.CharacterClasses.{is_empty, first_is, begins_with, leading_run}

@@ -1,7 +1,6 @@
 -- Pieces that denote nothing.
-use Rattle.std.proofs.Common.{◌≡◌, ℕ, zero, suc, ◌<◌, ◌≤◌, Bool, true, false, List, [], ◌∷◌, length, drop, refl, sym, ap, ◌∙◌}
+use Rattle.std.proofs.Common.{◌≡◌, ℕ, zero, suc, ◌<◌, ◌≤◌, Bool, List, [], ◌∷◌, length, drop, refl, sym, ap, ◌∙◌}
 use Rattle.std.proofs.Common.{arith, codes, Option, Some, None, length-drop}
-use Rattle.std.specs.Prelude.{◌&&◌}
 use Rattle.std.proofs.lemmas.Bool.{and_parts}
 use Rattle.htmd_text.proofs.Cases.{test}
 use Rattle.htmd_grammar.specs.CharacterClasses.{begins_with, is_empty}

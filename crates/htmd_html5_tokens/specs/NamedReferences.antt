@@ -1,6 +1,6 @@
 -- The named character references (HTML Standard, 13.5): names less their `;`, by their first letter, and what they
 -- stand for. The tables themselves are in `src/names`.
-use Rattle.std.specs.Prelude.{ℕ, Bool, ◌==◌, if◌then◌else◌, List, [], ◌∷◌, Option, Some, None, map}
+use Rattle.std.specs.Prelude.{ℕ, ◌==◌, if◌then◌else◌, List, [], ◌∷◌, Option, Some, None, map}
 use Rattle.std.specs.Str.{bytes_eq}
 use Rattle.std.specs.Char.{is_ascii_uppercase}
 use Rattle.std.specs.Borrow.{Bor}

@@ -1,10 +1,10 @@
 -- The next token (HTML Standard, 13.2.5), of a text whose line ends are line feeds.
-use Rattle.std.specs.Prelude.{ℕ, zero, suc, Bool, true, false, not, ◌&&◌, ◌||◌, ◌==◌, if◌then◌else◌, List, [], ◌∷◌}
+use Rattle.std.specs.Prelude.{ℕ, zero, suc, Bool, false, not, ◌&&◌, ◌||◌, ◌==◌, if◌then◌else◌, List, [], ◌∷◌}
 use Rattle.std.specs.Prelude.{drop, take, length, codes, Option, Some, None}
 use Rattle.std.specs.Char.{is_ascii_alphabetic}
 use Rattle.htmd_text.specs.Characters.{exclamation_mark, slash, less_than_sign, greater_than_sign, question_mark}
 use Rattle.htmd_grammar.specs.CharacterClasses.{is_empty, first_is, begins_with, begins_in_any_case, up_to, onward}
-use Rattle.htmd_html5_tokens.specs.Tokens.{TokenValue, text, end_of_file, Read}
+use Rattle.htmd_html5_tokens.specs.Tokens.{text, end_of_file, Read}
 use Rattle.htmd_html5_tokens.specs.Contents.{decoded}
 use Rattle.htmd_html5_tokens.specs.Tags.{read_tag}
 use Rattle.htmd_html5_tokens.specs.Comments.{read_comment, read_bogus_comment}

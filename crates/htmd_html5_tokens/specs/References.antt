@@ -1,6 +1,6 @@
 -- Character references (HTML Standard, 13.2.5.72 to 13.2.5.80). A reference begins with `&`; what follows that is
 -- given.
-use Rattle.std.specs.Prelude.{ℕ, zero, suc, ◌+◌, ◌-◌, Bool, false, ◌&&◌, ◌||◌, ◌==◌, nat_lt, if◌then◌else◌, List, [], ◌∷◌}
+use Rattle.std.specs.Prelude.{ℕ, suc, ◌+◌, ◌-◌, Bool, false, ◌&&◌, ◌||◌, ◌==◌, nat_lt, if◌then◌else◌, List, [], ◌∷◌}
 use Rattle.std.specs.Prelude.{length, drop, slice_index, Option, Some, None, codes}
 use Rattle.std.specs.Char.{encode_utf8, is_ascii_digit, is_ascii_hexdigit, is_ascii_alphanumeric}
 use Rattle.htmd_text.specs.Characters.{number_sign, ampersand, semicolon, equals_sign}

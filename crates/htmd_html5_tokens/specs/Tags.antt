@@ -1,8 +1,7 @@
 -- Start tags and end tags (HTML Standard, 13.2.5.8 and 13.2.5.32 to 13.2.5.40).
 use Rattle.std.specs.Prelude.{ℕ, zero, suc, Bool, true, false, not, ◌&&◌, ◌||◌, ◌==◌, if◌then◌else◌, List, [], ◌∷◌, map}
 use Rattle.std.specs.Prelude.{drop, length}
-use Rattle.std.specs.Char.{is_ascii_alphabetic}
-use Rattle.htmd_text.specs.Characters.{quotation_mark, apostrophe, slash, less_than_sign, equals_sign}
+use Rattle.htmd_text.specs.Characters.{quotation_mark, apostrophe, slash, equals_sign}
 use Rattle.htmd_text.specs.Characters.{greater_than_sign}
 use Rattle.htmd_text.specs.WhiteSpace.{is_ascii_white_space}
 use Rattle.htmd_grammar.specs.ValueTrees.{AttributePair}

@@ -1,5 +1,5 @@
 -- The name ends before an ASCII character.
-use Rattle.std.proofs.Common.{◌∙◌, sym}
+use Rattle.std.proofs.Common.{◌∙◌}
 use Rattle.htmd_html5_tokens.proofs.TagsLemmas.{attribute_cut, attribute_split}
 use Rattle.htmd_html5_tokens.proofs.attributes.attribute.Goals as goal
 

@@ -1,5 +1,5 @@
 -- What the reference stands for, and what it leaves.
-use Rattle.std.proofs.Common.{◌≡◌, ◌∙◌, ap}
+use Rattle.std.proofs.Common.{◌∙◌, ap}
 use Rattle.std.specs.String.{string_bytes}
 use Rattle.htmd_html5_tokens.specs.References.{after_ampersand}
 use Rattle.htmd_html5_tokens.specs.ReferenceViews.{characters_of}

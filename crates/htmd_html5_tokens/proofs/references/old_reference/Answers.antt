@@ -1,5 +1,4 @@
 -- A text may be cut after a name with which it begins.
-use Rattle.std.proofs.Common.{arith}
 use Rattle.std.proofs.lemmas.Str.{IsCharBoundary-start}
 use Rattle.htmd_html5_tokens.proofs.ReferencesLemmas.{old_front}
 use Rattle.htmd_html5_tokens.proofs.references.old_reference.Goals as goal
