@@ -15,7 +15,8 @@ use Rattle.std.proofs.lemmas.Str.{chars-append, IsUtf8-append}
 use Rattle.htmd_text.specs.Characters.{space, line_feed}
 use Rattle.htmd_text.specs.Trims.{trimmed_start, is_space, is_line_feed}
 use Rattle.htmd_text.proofs.PlainTextLemmas.{chars_ascii}
-use Rattle.htmd_markdown.specs.GuardedText.{begins_block, begins_line, last_line_back, may_stand_before}
+use Rattle.htmd_laws.specs.TextLaws.{begins_block}
+use Rattle.htmd_markdown.specs.GuardedText.{begins_line, last_line_back, may_stand_before}
 use Rattle.htmd_laws.proofs.Utf8Cuts.{around, behind, alone}
 use Rattle.htmd_laws.proofs.TextEnds.{first_cut, start_stays}
 use Rattle.htmd_laws.proofs.BlockBeginnings.{no_block-nil, no_block-append, no_block-cut, no_block-space, no_block-stays}
