@@ -29,6 +29,7 @@ fn batch_time(rt: &HostRuntime, input: &str) -> Result<Duration, Fault> {
     let settings = Settings {
         text: false,
         body: false,
+        html5: false,
         scripting: true,
         options: Options::default(),
         skipped: &[],

@@ -42,11 +42,11 @@ by_text way input text items start t i s e =
     ∙ ap (markdown way.config (paragraph input)) s))
 
 -- a way, part by part
-abbrev pub way_with : Bool → Bool → Bool → Config → Way
-way_with text body scripting config =
-    record { text = text; body = body; scripting = scripting; config = config }
+abbrev pub way_with : Bool → Bool → Bool → Bool → Config → Way
+way_with text body html5 scripting config =
+    record { text = text; body = body; html5 = html5; scripting = scripting; config = config }
 
 -- equal handlers and the same scripting
-pub way_same : (text body a b : Bool) (k l : Config) → a ≡ b → k ≡ l
-    → way_with text body a k ≡ way_with text body b l
-way_same text body a b k l e f = rw (e, f) refl
+pub way_same : (text body html5 a b : Bool) (k l : Config) → a ≡ b → k ≡ l
+    → way_with text body html5 a k ≡ way_with text body html5 b l
+way_same text body html5 a b k l e f = rw (e, f) refl

@@ -1,5 +1,5 @@
 -- The Markdown of an input by what is chosen, and what a refusal of it says.
-use Rattle.std.specs.Prelude.{◌≡◌, ℕ, Bool, List, [], ◌∷◌, ◌++◌, codes, MatchBool}
+use Rattle.std.specs.Prelude.{◌≡◌, ◌&&◌, ℕ, Bool, not, if◌then◌else◌, List, [], ◌∷◌, ◌++◌, codes, MatchBool, IsUtf8}
 use Rattle.htmd.specs.Characters.{line_feed}
 use Rattle.htmd.specs.FaultKind.{FaultKind}
 use Rattle.htmd.specs.Items.{Item, document_item, new_item, element_node, text_node}
@@ -7,9 +7,10 @@ use Rattle.htmd.specs.Choice.{Config, no_handler, with_handler, with_options}
 use Rattle.htmd.specs.Defaults.{default_options}
 use Rattle.htmd.specs.BuiltIn.{built_in}
 use Rattle.htmd.specs.Markdown.{markdown}
-use Rattle.htmd.specs.Conversions.{IsMarkdownOf, IsMarkdownOfPage, IsRefused, IsPageRefused}
+use Rattle.htmd.specs.Conversions.{IsMarkdownOf, IsMarkdownOfPage, IsRefused, IsPageRefused, html5_markdown}
 use Rattle.htmd.specs.Converters.{handlers_of, scripting_of}
 use Rattle.htmd_cli.specs.declared.conversion.Conversion.{Conversion}
+use Rattle.htmd_cli.specs.Decoding.{decoded}
 use Rattle.htmd_cli.specs.Settings.{Chosen}
 
 -- the Document, and under it a `p`
@@ -42,6 +43,7 @@ paragraph_output config text = paragraph_markdown config text ++ line_feed ∷ [
 pub record Way : Type 0 where
   pub text : Bool
   pub body : Bool
+  pub html5 : Bool
   pub scripting : Bool
   pub config : Config
 
@@ -49,16 +51,31 @@ abbrev pub way_of : Chosen → Way
 way_of chosen = record {
   text = chosen.text;
   body = chosen.body;
+  html5 = chosen.html5;
   scripting = chosen.scripting;
   config = config_of chosen;
 }
 
--- this is the Markdown of an input: of one paragraph where it is taken for a text, else of a page's body or of all
+-- the bytes of an input are read as browsers read them, and no page is refused
+abbrev pub reads_any : Way → Bool
+reads_any way = way.html5 && not way.text
+
+-- the bytes hold a text: any do where all are read, else UTF-8 alone
+abbrev pub IsReadable : Bool → List ℕ → Type 0
+IsReadable any bytes = MatchBool any ⊤ (IsUtf8 bytes)
+
+-- the text that they hold
+abbrev pub text_in : Bool → List ℕ → List ℕ
+text_in any bytes = if any then decoded bytes else bytes
+
+-- this is the Markdown of an input: of one paragraph where it is taken for a text, else of any page as browsers read it,
+-- of a page's body or of all
 abbrev pub IsMarkdownBy : Way → List ℕ → List ℕ → Type 0
 IsMarkdownBy way input text =
     MatchBool way.text (text ≡ paragraph_markdown way.config input)
+    (MatchBool way.html5 (text ≡ html5_markdown way.config way.scripting input)
     (MatchBool way.body (IsMarkdownOfPage way.config way.scripting input text)
-    (IsMarkdownOf way.config way.scripting input text))
+    (IsMarkdownOf way.config way.scripting input text)))
 
 -- the same by what is chosen
 abbrev pub HasMarkdown : Chosen → List ℕ → List ℕ → Type 0
@@ -78,6 +95,7 @@ abbrev pub way_by : {H : Type 0} → (H → Config) → Conversion H → Way
 way_by config conversion = record {
   text = conversion.text;
   body = conversion.body;
+  html5 = conversion.html5;
   scripting = scripting_of conversion.converter.now;
   config = config (handlers_of conversion.converter.now);
 }

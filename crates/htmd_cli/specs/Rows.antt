@@ -8,20 +8,22 @@ use Rattle.htmd.specs.FaultKind.{FaultKind}
 use Rattle.htmd_cli.specs.Words.{Asked}
 use Rattle.htmd_cli.specs.Runs.{Converts}
 use Rattle.htmd_cli.specs.Failures.{AppendsSome}
-use Rattle.htmd_cli.specs.Conversion.{Way, way_of, IsMarkdownBy, IsRefusedBy}
+use Rattle.htmd_cli.specs.Conversion.{Way, way_of, IsMarkdownBy, IsReadable, IsRefusedBy, reads_any, text_in}
 use Rattle.htmd_cli.specs.Fields.{null, read_field, written_field}
 use Rattle.htmd_cli.specs.Lines.{rows, other_fields, last_field}
 
--- the page is UTF-8, and this is its Markdown as a field
+-- the page holds a text, and this is its Markdown as a field
 abbrev pub IsConverted : Way → List ℕ → List ℕ → Type 0
 IsConverted way page field =
-    IsUtf8 page × (markdown : List ℕ) × IsMarkdownBy way page markdown × (field ≡ written_field markdown)
+    IsReadable (reads_any way) page × (markdown : List ℕ) × IsMarkdownBy way (text_in (reads_any way) page) markdown
+    × (field ≡ written_field markdown)
 
--- the page is no UTF-8, or it is HTML outside the grammar
+-- the page is no UTF-8, or it is HTML outside the grammar; where any page is read, none is refused
 abbrev pub IsRefusedPage : Way → List ℕ → Type 0
 IsRefusedPage way page =
-    (¬ IsUtf8 page)
-    ⊎ (IsUtf8 page × (way.text ≡ false) × (place : ℕ) × (kind : FaultKind) × IsRefusedBy way page place kind)
+    MatchBool (reads_any way) ⊥
+    ((¬ IsUtf8 page)
+    ⊎ (IsUtf8 page × (way.text ≡ false) × (place : ℕ) × (kind : FaultKind) × IsRefusedBy way page place kind))
 
 -- this is written for a page: its Markdown, or null where it is refused
 abbrev pub IsPageAnswer : Way → List ℕ → List ℕ → Type 0

@@ -91,10 +91,8 @@ fn page_markdown<H: Registry>(
     ensures refused { IfOk result (λ outcome. IfErr outcome
         (λ _. IsPageAnswer (way_by H.config conversion.now) page.now null)) }
 {
-    let text = match text_of(alloc, page, conversion.html5 && !conversion.text) {
-        Ok(text) => text,
-        Err(RunError::Memory) => return Err(AllocError),
-        Err(error) => return Ok(Err(error)),
+    let Some(text) = text_of(alloc, page, conversion.html5 && !conversion.text)? else {
+        return Ok(Err(RunError::NotUtf8));
     };
     match markdown_by(alloc, conversion, &text) {
         Ok(markdown) => Ok(Ok(markdown)),

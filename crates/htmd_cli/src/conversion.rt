@@ -1,13 +1,14 @@
 //! The conversion of an input by settings.
-ghost use Rattle.std.specs.Prelude.{◌≡◌, ℕ, false, map, Err, IfOk, string_bytes};
+ghost use Rattle.std.specs.Prelude.{◌≡◌, ℕ, false, map, Err, None, IfOk, IfSome, IsUtf8, string_bytes};
+ghost use Rattle.std.specs.Cow.{cow_str_bytes};
 ghost use Rattle.htmd.specs.Choice.{with_options};
 ghost use Rattle.htmd.specs.Converters.{handlers_of, handlers_built, scripting_of};
 ghost use Rattle.htmd.specs.FaultKind.{FaultKind};
-ghost use Rattle.htmd_cli.specs.Conversion.{HasMarkdown, IsInputRefused, IsMarkdownBy, IsRefusedBy, skipping, way_by};
+ghost use Rattle.htmd_cli.specs.Conversion.{HasMarkdown, IsInputRefused, IsMarkdownBy, IsReadable, IsRefusedBy};
+ghost use Rattle.htmd_cli.specs.Conversion.{skipping, text_in, way_by};
 ghost use Rattle.htmd_cli.specs.Settings.{chosen_by};
 
 use crate::decoding::decoded;
-use crate::faults::RunError;
 use crate::paragraph::paragraph;
 use crate::settings::Settings;
 use htmd::element_handler::{Registrar, Registry};
@@ -49,18 +50,23 @@ pub(crate) fn converter_of<H: Registrar + Drop>(
     Ok(converter)
 }
 
-/// The text that an input holds: any bytes are read as browsers read them, where that is asked for, else UTF-8 alone.
-pub(crate) fn text_of(alloc: Global, input: &[u8], any: bool) -> Result<CowStr<'_>, RunError>
-    ensures ok { IfOk result (λ text. IsReadable any input.now × (cow_str_bytes text ≡ text_in any input.now)) }
-    ensures not_utf8 { IsErrOf result RunError.NotUtf8 → ¬ IsReadable any input.now }
-    ensures others { IfErr result (λ error. error ≡ RunError.NotUtf8 ⊎ error ≡ RunError.Memory) }
+/// The text that the bytes of an input hold: any bytes do where all are read, else UTF-8 alone. An `Err` is want of
+/// memory.
+pub(crate) fn text_of(
+    alloc: Global,
+    input: &[u8],
+    any: bool,
+) -> Result<Option<CowStr<'_>>, AllocError>
+    ensures some { IfOk result (λ found. IfSome found
+        (λ text. IsReadable any input.now × (cow_str_bytes text ≡ text_in any input.now))) }
+    ensures none { IfOk result (λ found. found ≡ None → (any ≡ false) × (¬ IsUtf8 input.now)) }
 {
     if any {
-        return Ok(decoded(alloc, input)?);
+        return Ok(Some(decoded(alloc, input)?));
     }
     match str::from_utf8(input) {
-        Ok(text) => Ok(CowStr::Borrowed(text)),
-        Err(_) => Err(RunError::NotUtf8),
+        Ok(text) => Ok(Some(CowStr::Borrowed(text))),
+        Err(_) => Ok(None),
     }
 }
 
@@ -75,6 +81,8 @@ pub(crate) fn markdown_by<H: Registry>(
         (λ markdown. IsMarkdownBy (way_by H.config conversion.now) input.now (string_bytes markdown)) }
     ensures refused_html { (place : ℕ) (kind : FaultKind) → result ≡ Err (ConvertError.Refused place kind)
         → conversion.now.text ≡ false }
+    ensures refused_strict { (place : ℕ) (kind : FaultKind) → result ≡ Err (ConvertError.Refused place kind)
+        → conversion.now.html5 ≡ false }
     ensures refused { (place : ℕ) (kind : FaultKind) → result ≡ Err (ConvertError.Refused place kind)
         → IsRefusedBy (way_by H.config conversion.now) input.now place kind }
 {
@@ -102,6 +110,8 @@ pub(crate) fn markdown_of(
         (λ markdown. HasMarkdown (chosen_by settings.entry) input.now (string_bytes markdown)) }
     ensures refused_html { (place : ℕ) (kind : FaultKind) → result ≡ Err (ConvertError.Refused place kind)
         → settings.entry.text ≡ false }
+    ensures refused_strict { (place : ℕ) (kind : FaultKind) → result ≡ Err (ConvertError.Refused place kind)
+        → settings.entry.html5 ≡ false }
     ensures refused { (place : ℕ) (kind : FaultKind) → result ≡ Err (ConvertError.Refused place kind)
         → IsInputRefused (chosen_by settings.entry) input.now place kind }
 {

@@ -5,7 +5,7 @@ ghost use Rattle.std.specs.Io.KnownBytes.{Appends, Consumes, IsAtEnd};
 ghost use Rattle.htmd.specs.Characters.{line_feed};
 ghost use Rattle.htmd.specs.FaultKind.{FaultKind};
 ghost use Rattle.htmd.specs.Conversions.{IsRefused};
-ghost use Rattle.htmd_cli.specs.Conversion.{HasMarkdown, IsInputRefused};
+ghost use Rattle.htmd_cli.specs.Conversion.{HasMarkdown, IsInputRefused, IsReadable, reads_any, text_in, way_of};
 ghost use Rattle.htmd_cli.specs.Failures.{FailsAtErr};
 ghost use Rattle.htmd_cli.specs.Runs.{Converts, IsConvertible};
 ghost use Rattle.htmd_cli.specs.Settings.{chosen_by, chosen_in};
@@ -69,10 +69,14 @@ pub fn run_with<R: Source, W: Sink>(
     ensures end_not_utf8 { IsErrOf result RunError.NotUtf8 → IsAtEnd (R.remaining source.new) }
     ensures not_utf8 { IsErrOf result RunError.NotUtf8 →
         IfSome (R.remaining source.old) (λ input. ¬ IsUtf8 input) }
+    ensures not_utf8_strict { IsErrOf result RunError.NotUtf8
+        → reads_any (way_of (chosen_by settings.entry)) ≡ false }
     ensures end_refused { (place : ℕ) (kind : FaultKind) → result ≡ Err (RunError.Refused place kind)
         → IsAtEnd (R.remaining source.new) }
     ensures refused_html { (place : ℕ) (kind : FaultKind) → result ≡ Err (RunError.Refused place kind)
         → settings.entry.text ≡ false }
+    ensures refused_strict { (place : ℕ) (kind : FaultKind) → result ≡ Err (RunError.Refused place kind)
+        → settings.entry.html5 ≡ false }
     ensures refused { (place : ℕ) (kind : FaultKind) → result ≡ Err (RunError.Refused place kind)
         → IfSome (R.remaining source.old)
         (λ input. IsInputRefused (chosen_by settings.entry) input place kind) }
@@ -106,10 +110,14 @@ pub(crate) fn run_over<R: Source, W: Sink>(
     ensures end_not_utf8 { IsErrOf result RunError.NotUtf8 → IsAtEnd (R.remaining source.new) }
     ensures not_utf8 { IsErrOf result RunError.NotUtf8 →
         IfSome (R.remaining source.old) (λ input. ¬ IsUtf8 input) }
+    ensures not_utf8_strict { IsErrOf result RunError.NotUtf8
+        → reads_any (way_of (chosen_by settings.entry)) ≡ false }
     ensures end_refused { (place : ℕ) (kind : FaultKind) → result ≡ Err (RunError.Refused place kind)
         → IsAtEnd (R.remaining source.new) }
     ensures refused_html { (place : ℕ) (kind : FaultKind) → result ≡ Err (RunError.Refused place kind)
         → settings.entry.text ≡ false }
+    ensures refused_strict { (place : ℕ) (kind : FaultKind) → result ≡ Err (RunError.Refused place kind)
+        → settings.entry.html5 ≡ false }
     ensures refused { (place : ℕ) (kind : FaultKind) → result ≡ Err (RunError.Refused place kind)
         → IfSome (R.remaining source.old)
         (λ input. IsInputRefused (chosen_by settings.entry) input place kind) }
@@ -154,20 +162,27 @@ fn read_all<R: Source>(source: &mut R, input: &mut Vec<u8>) -> Result<(), RunErr
     }
 }
 
-// The Markdown of an input that is UTF-8.
+// The Markdown of the text that an input holds.
 fn converted(alloc: Global, input: &[u8], settings: Settings<'_>) -> Result<String, RunError>
-    ensures ok { IfOk result (λ markdown.
-        IsUtf8 input.now × HasMarkdown (chosen_by settings.entry) input.now (string_bytes markdown)) }
+    ensures ok { IfOk result (λ markdown. IsReadable (reads_any (way_of (chosen_by settings.entry))) input.now
+        × HasMarkdown (chosen_by settings.entry)
+        (text_in (reads_any (way_of (chosen_by settings.entry))) input.now) (string_bytes markdown)) }
     ensures not_utf8 { IsErrOf result RunError.NotUtf8 → ¬ IsUtf8 input.now }
+    ensures not_utf8_strict { IsErrOf result RunError.NotUtf8
+        → reads_any (way_of (chosen_by settings.entry)) ≡ false }
     ensures refused_html { (place : ℕ) (kind : FaultKind) → result ≡ Err (RunError.Refused place kind)
         → settings.entry.text ≡ false }
+    ensures refused_strict { (place : ℕ) (kind : FaultKind) → result ≡ Err (RunError.Refused place kind)
+        → settings.entry.html5 ≡ false }
     ensures refused { (place : ℕ) (kind : FaultKind) → result ≡ Err (RunError.Refused place kind)
         → IsInputRefused (chosen_by settings.entry) input.now place kind }
     ensures utf8_refused { (place : ℕ) (kind : FaultKind) → result ≡ Err (RunError.Refused place kind)
         → IsUtf8 input.now }
     ensures others { IfErr result (λ error. error ≢ RunError.Read × error ≢ RunError.Write) }
 {
-    let text = text_of(alloc, input, settings.html5 && !settings.text)?;
+    let Some(text) = text_of(alloc, input, settings.html5 && !settings.text)? else {
+        return Err(RunError::NotUtf8);
+    };
     Ok(markdown_of(alloc, &text, settings)?)
 }
 
