@@ -1,5 +1,5 @@
 -- The Markdown of an input by what is chosen, and what a refusal of it says.
-use Rattle.std.specs.Prelude.{◌≡◌, ◌&&◌, ℕ, Bool, not, if◌then◌else◌, List, [], ◌∷◌, ◌++◌, codes, MatchBool, IsUtf8}
+use Rattle.std.specs.Prelude.{◌≡◌, ◌&&◌, ℕ, Bool, not, if◌then◌else◌, List, [], ◌∷◌, ◌++◌, codes, MatchBool, IsUtf8, ⊤}
 use Rattle.htmd.specs.Characters.{line_feed}
 use Rattle.htmd.specs.FaultKind.{FaultKind}
 use Rattle.htmd.specs.Items.{Item, document_item, new_item, element_node, text_node}
