@@ -42,27 +42,22 @@ fn end_rule(tag: TagName) -> EndRule
         | TagName::Article
         | TagName::Aside
         | TagName::BlockQuote
-        | TagName::Button
         | TagName::Center
-        | TagName::Dd
         | TagName::Details
         | TagName::Dialog
         | TagName::Dir
         | TagName::Div
         | TagName::Dl
-        | TagName::Dt
         | TagName::FieldSet
         | TagName::FigCaption
         | TagName::Figure
         | TagName::Footer
         | TagName::Header
         | TagName::HGroup
-        | TagName::Listing
         | TagName::Main
         | TagName::Menu
         | TagName::Nav
         | TagName::Ol
-        | TagName::Pre
         | TagName::Search
         | TagName::Section
         | TagName::Summary
@@ -71,19 +66,18 @@ fn end_rule(tag: TagName) -> EndRule
     }
 }
 
+#[tactic(auto, unfolding(crate::specs::BodyEnds::text_end_rule))]
 fn text_end_rule(tag: TagName) -> EndRule
     ensures { result ≡ spec.text_end_rule tag }
 {
     match tag {
+        TagName::Button | TagName::Dd | TagName::Dt | TagName::Listing | TagName::Pre =>
+            EndRule::Block,
         TagName::Form => EndRule::Form,
         TagName::P => EndRule::Paragraph,
         TagName::Li => EndRule::ListItem,
-        TagName::H1
-        | TagName::H2
-        | TagName::H3
-        | TagName::H4
-        | TagName::H5
-        | TagName::H6 => EndRule::Heading,
+        TagName::H1 | TagName::H2 | TagName::H3 | TagName::H4 | TagName::H5 | TagName::H6 =>
+            EndRule::Heading,
         TagName::A
         | TagName::B
         | TagName::Big
@@ -133,7 +127,9 @@ fn end_form(state: &mut HtmlState)
     }
     let form = state.form();
     state.set_form(None);
-    if let Some(form) = form && state.is_node_in_scope(form) {
+    if let Some(form) = form
+        && state.is_node_in_scope(form)
+    {
         state.pop_while(NameSet::ImpliedEnd);
         state.remove_open(form);
     }

@@ -5,8 +5,14 @@ ghost use Rattle.htmd_html5.specs.Answers.{answer};
 ghost use Rattle.htmd_html5.specs.Processing as spec;
 ghost use Rattle.htmd_html5.specs.Tokens.{tag_of, start_tag, end_tag, run, comment, doctype, end_of_file};
 
-use crate::foreign_content::{end_in_foreign, is_in_foreign, is_start_foreign, is_text_foreign, put_run_in_foreign, start_in_foreign};
-use crate::modes::{end_by_mode, end_file_by_mode, put_comment_by_mode, put_doctype_by_mode, put_run_by_mode, start_by_mode};
+use crate::foreign_content::{
+    end_in_foreign, is_in_foreign, is_start_foreign, is_text_foreign, put_run_in_foreign,
+    start_in_foreign,
+};
+use crate::modes::{
+    end_by_mode, end_file_by_mode, put_comment_by_mode, put_doctype_by_mode, put_run_by_mode,
+    start_by_mode,
+};
 use crate::tokens::{RunKind, StartTag};
 use htmd_html5_state::{HtmlName, HtmlState};
 use std::alloc::AllocError;
@@ -38,7 +44,7 @@ pub(crate) fn process_start(state: &mut HtmlState, tag: StartTag) -> Result<(), 
     ensures { OnOk result (state.new ≡ spec.process (start_tag (tag_of tag)) state.old) }
 {
     let mut tag = tag;
-    for _ in 0..turns(state) {
+    for _turn in 0..turns(state) {
         match start_by_rules(state, tag)? {
             Some(again) => tag = again,
             None => return Ok(()),
@@ -62,7 +68,7 @@ fn end_by_rules(state: &mut HtmlState, name: &HtmlName) -> Result<bool, AllocErr
 pub(crate) fn process_end(state: &mut HtmlState, name: &HtmlName) -> Result<(), AllocError>
     ensures { OnOk result (state.new ≡ spec.process (end_tag (name_of name.now)) state.old) }
 {
-    for _ in 0..turns(state) {
+    for _turn in 0..turns(state) {
         if !end_by_rules(state, name)? {
             return Ok(());
         }
@@ -87,6 +93,7 @@ pub(crate) fn put_run_by_rules(
 }
 
 /// A comment.
+#[tactic(auto, using(crate::proofs::ProcessingLemmas::process_once))]
 pub(crate) fn process_comment(state: &mut HtmlState, text: String) -> Result<(), AllocError>
     ensures { OnOk result (state.new ≡ spec.process (comment (string_bytes text)) state.old) }
 {
@@ -97,6 +104,7 @@ pub(crate) fn process_comment(state: &mut HtmlState, text: String) -> Result<(),
 }
 
 /// A doctype.
+#[tactic(auto, using(crate::proofs::ProcessingLemmas::process_once))]
 pub(crate) fn process_doctype(state: &mut HtmlState, quirks: bool) -> Result<(), AllocError>
     ensures { OnOk result (state.new ≡ spec.process (doctype quirks) state.old) }
 {
@@ -110,7 +118,7 @@ pub(crate) fn process_doctype(state: &mut HtmlState, quirks: bool) -> Result<(),
 pub(crate) fn process_end_of_file(state: &mut HtmlState) -> Result<(), AllocError>
     ensures { OnOk result (state.new ≡ spec.process end_of_file state.old) }
 {
-    for _ in 0..turns(state) {
+    for _turn in 0..turns(state) {
         if !end_file_by_mode(state)? {
             return Ok(());
         }

@@ -1,5 +1,5 @@
 //! The state of tree construction, and the steps that change one part of it.
-ghost use Rattle.std.specs.Prelude.{◌≡◌, ◌<◌, ◌^◌, length, IfOk, OnOk};
+ghost use Rattle.std.specs.Prelude.{◌≡◌, IfOk, OnOk, length};
 ghost use Rattle.htmd_html5_state.specs.Documents as documents;
 ghost use Rattle.htmd_html5_state.specs.Formatting as list;
 ghost use Rattle.htmd_html5_state.specs.Insertion as insertion;
@@ -215,19 +215,18 @@ impl HtmlState {
         self.template_modes.pop();
     }
 
-    // ---- what is open
-
-    /// The allocator.
+    /// What new texts and attributes are allocated by.
     pub fn alloc(&self) -> Global {
         self.alloc
     }
 
+    // ---- what is open
+
     /// How many elements are open.
     pub fn open_count(&self) -> usize
-        ensures value { result ≡ length self.now.stack }
-        ensures small { result < 2 ^ 63 }
+        ensures { result ≡ length self.now.stack }
     {
-        self.stack.as_slice().len()
+        self.stack.len()
     }
 
     /// Whether nothing is open.
@@ -380,11 +379,7 @@ impl HtmlState {
     }
 
     /// Gives an element the attributes that it doesn't have yet.
-    pub fn add_missing(
-        &mut self,
-        node: usize,
-        attributes: Vec<Attribute>,
-    ) -> Result<(), AllocError>
+    pub fn add_missing(&mut self, node: usize, attributes: Vec<Attribute>) -> Result<(), AllocError>
         ensures { OnOk result (self.new
             ≡ spec.on_nodes (documents.add_missing node (pairs_of attributes.items)) self.old) }
     {
