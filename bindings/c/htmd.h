@@ -32,8 +32,8 @@ extern "C" {
 /* reader: how the text is read */
 enum {
     HTMD_STRICT = 0, /* all of it, by the strict grammar */
-    HTMD_PAGE = 1    /* of a page what stands between the tags of its body, by the same grammar */
-    /* 2 is kept for a reader of any HTML, and is a bad option until it is there */
+    HTMD_PAGE = 1,   /* of a page what stands between the tags of its body, by the same grammar */
+    HTMD_HTML5 = 2   /* any page, as browsers read it; none is refused */
 };
 
 /* mode: what becomes of what Markdown has no form for, and how much of a text is escaped */

@@ -1,5 +1,5 @@
 /* Tells how many microseconds a conversion of a file takes at best, by the options that the Python package has without
- * any word: Guarded, of a page. */
+ * any word: Guarded, of any page. */
 #define _POSIX_C_SOURCE 199309L
 #include "htmd.h"
 
@@ -23,7 +23,7 @@ int main(int count, char **words) {
     fclose(file);
     htmd_options options;
     htmd_default_options(&options);
-    options.reader = HTMD_PAGE;
+    options.reader = HTMD_HTML5;
     options.mode = HTMD_GUARDED;
     double best = 1e9;
     for (int round = 0; round < ROUNDS; round++) {

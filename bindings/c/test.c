@@ -106,6 +106,14 @@ static void test_readers(void) {
     options.reader = HTMD_PAGE;
     struct answer answer = call(page, strlen(page), &options, ROOM);
     CHECK(says(&answer, "# Hi"));
+    const char *broken = "<ul><li>a<li>b</ul><p>x<b>y<p>z";
+    answer = call(broken, strlen(broken), &options, ROOM);
+    CHECK(answer.status == HTMD_REFUSED && answer.place == 9 && answer.kind == HTMD_NOT_ALLOWED_HERE);
+    options.reader = HTMD_HTML5;
+    answer = call(broken, strlen(broken), &options, ROOM);
+    CHECK(says(&answer, "*   a\n*   b\n\nx**y**\n\n**z**"));
+    answer = call("\xff", 1, &options, ROOM);
+    CHECK(answer.status == HTMD_NOT_UTF8 && answer.place == 0);
 }
 
 static void test_options(void) {
@@ -152,7 +160,7 @@ static void test_modes(void) {
 
 /* Each number of each byte of the struct: all but the good ones answer the status for them, and write nothing. */
 static void test_numbers(void) {
-    const int counts[32] = {0, 2, 3, 2, 2, 3, 2, 3, 3, 2, 2, 2, 256, 256, 2};
+    const int counts[32] = {0, 3, 3, 2, 2, 3, 2, 3, 3, 2, 2, 2, 256, 256, 2};
     for (int at = 0; at < 32; at++) {
         for (int number = 0; number < 256; number++) {
             htmd_options options = defaults();
@@ -169,7 +177,7 @@ static void test_numbers(void) {
         }
     }
     htmd_options options = defaults();
-    options.reader = 2;
+    options.reader = 3;
     struct answer both = call("\xff", 1, &options, 8);
     CHECK(both.status == HTMD_BAD_OPTIONS);
 }
@@ -216,11 +224,10 @@ void *__wrap_malloc(size_t size) { return is_refused() ? NULL : __real_malloc(si
 void *__wrap_realloc(void *block, size_t size) { return is_refused() ? NULL : __real_realloc(block, size); }
 
 /* Each request of a call refused in turn: the call says so and writes nothing, or answers as ever. */
-static void test_memory(void) {
-    const char *html = "<h1>A <em>page</em></h1><ol start=9><li><a href=\"/x\" title=\"t\">one</a></li><li>b_c</li></ol>"
-                       "<table><tr><th>A</th></tr><tr><td>1|2</td></tr></table><pre><code>let</code></pre>";
+static void refuse_each(const char *html, uint8_t reader) {
     const uint8_t *text = (const uint8_t *)html;
     htmd_options options = defaults();
+    options.reader = reader;
     struct answer whole = call(html, strlen(html), &options, ROOM);
     CHECK(whole.status == HTMD_DONE);
     long refusals = 0;
@@ -240,6 +247,13 @@ static void test_memory(void) {
     }
     CHECK(refusals > 10);
     refused_request = 0;
+}
+
+static void test_memory(void) {
+    refuse_each("<h1>A <em>page</em></h1><ol start=9><li><a href=\"/x\" title=\"t\">one</a></li><li>b_c</li></ol>"
+                "<table><tr><th>A</th></tr><tr><td>1|2</td></tr></table><pre><code>let</code></pre>",
+                HTMD_STRICT);
+    refuse_each("<title>t</title><p>a<b>b<p>c</b>&copy d<table><tr><td>1<td>2<tr>x</table><ul><li>e<li>f", HTMD_HTML5);
 }
 #else
 static void test_memory(void) {}

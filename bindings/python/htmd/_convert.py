@@ -6,7 +6,7 @@ from typing import Literal, Mapping, Tuple, Union
 
 from htmd import _library
 
-Reader = Literal["page", "strict"]
+Reader = Literal["html5", "page", "strict"]
 Mode = Literal["guarded", "faithful", "pure"]
 HeadingStyle = Literal["atx", "setext"]
 HrStyle = Literal["asterisks", "dashes", "underscores"]
@@ -19,7 +19,7 @@ BulletListMarker = Literal["asterisk", "dash"]
 
 #: The words of each option, and their numbers in the struct.
 WORDS: Mapping[str, Mapping[str, int]] = {
-    "reader": {"strict": 0, "page": 1},
+    "reader": {"strict": 0, "page": 1, "html5": 2},
     "mode": {"pure": 0, "faithful": 1, "guarded": 2},
     "heading_style": {"atx": 0, "setext": 1},
     "hr_style": {"asterisks": 0, "dashes": 1, "underscores": 2},
@@ -58,7 +58,7 @@ def convert(
     html: Union[str, bytes],
     *,
     mode: Mode = "guarded",
-    reader: Reader = "page",
+    reader: Reader = "html5",
     scripting: bool = True,
     heading_style: HeadingStyle = "atx",
     hr_style: HrStyle = "asterisks",
@@ -76,11 +76,12 @@ def convert(
 
     mode: "guarded" for pages that someone reads, "faithful" for what stays HTML where Markdown has no form, "pure" for
         the Markdown of the Rust crate htmd
-    reader: "page" converts what stands between the tags of the body, "strict" the whole text
+    reader: "html5" reads any page as browsers do and refuses none; "page" reads what stands between the tags of the
+        body by a strict grammar, and "strict" the whole text
     scripting: whether the content of `noscript` is one text, as where scripts run, or nodes
 
     The other options are those of the library, by the words of its program. Raises `Refused` for a page outside the
-    grammar, `UnicodeError` for what is no UTF-8, `ValueError` and `TypeError` for an option that is not known, and
+    grammar (not with "html5"), `UnicodeError` for what is no UTF-8, `ValueError` and `TypeError` for an option that is not known, and
     `MemoryError`. Calls from several threads run side by side.
     """
     text = html.encode("utf-8") if isinstance(html, str) else html

@@ -67,6 +67,8 @@ class Conversions(unittest.TestCase):
         self.assertEqual(htmd.convert(""), "")
 
     def test_readers(self):
+        self.assertEqual(htmd.convert("<ul><li>a<li>b</ul><p>x<b>y<p>z"), "*   a\n*   b\n\nx**y**\n\n**z**")
+        self.assertEqual(htmd.convert(PAGE, reader="html5"), "# Hi")
         self.assertEqual(htmd.convert(PAGE, reader="page"), "# Hi")
         with self.assertRaises(htmd.Refused) as raised:
             htmd.convert(PAGE, reader="strict")
@@ -105,9 +107,14 @@ class Refusals(unittest.TestCase):
                 htmd.convert(html, reader="strict")
             self.assertEqual((raised.exception.kind, raised.exception.place), (kind, place))
 
+    def test_html5_refuses_nothing(self):
+        for kind, (html, _) in REFUSALS.items():
+            with self.subTest(kind=kind):
+                self.assertIsInstance(htmd.convert(html), str)
+
     def test_places(self):
         with self.assertRaises(htmd.Refused) as raised:
-            htmd.convert("<p>one</p>\n<p>\u00e4wo &nosuch; three</p>\n")
+            htmd.convert("<p>one</p>\n<p>\u00e4wo &nosuch; three</p>\n", reader="page")
         refused = raised.exception
         self.assertEqual((refused.place, refused.line, refused.column), (19, 2, 8))
         self.assertEqual(str(refused), "refused at byte 19: UnknownReference (line 2, column 8)")
@@ -152,7 +159,7 @@ class Threads(unittest.TestCase):
         with concurrent.futures.ThreadPoolExecutor(8) as pool:
             for _ in range(3):
                 self.assertEqual(list(pool.map(htmd.convert, rows)), alone)
-            refused = [pool.submit(htmd.convert, f"<p>{'a' * n}&no;") for n in range(100)]
+            refused = [pool.submit(htmd.convert, f"<p>{'a' * n}&no;", reader="page") for n in range(100)]
         for n, future in enumerate(refused):
             self.assertEqual((future.exception().place, future.exception().column), (3 + n, 4 + n))
 

@@ -4,11 +4,11 @@ use Rattle.std.specs.Prelude.{◌==◌}
 use Rattle.htmd.specs.declared.options.Options.{Options}
 use Rattle.htmd.specs.BuiltIn.{Row, with_rows, empty_config, built_in, built_in_rows}
 use Rattle.htmd.specs.Choice.{Config, with_handler, with_options}
-use Rattle.htmd.specs.Conversions.{IsMarkdownOf, IsMarkdownOfPage}
+use Rattle.htmd.specs.Conversions.{IsMarkdownOf, IsMarkdownOfPage, html5_markdown}
 use Rattle.htmd.specs.Defaults.{default_options}
 use Rattle.htmd_c.specs.declared.options.HtmdOptions.{HtmdOptions}
 use Rattle.htmd_c.specs.Answers.{config_of, IsMarkdownBy}
-use Rattle.htmd_c.specs.Options.{strict, is_scripting}
+use Rattle.htmd_c.specs.Options.{strict, page, is_scripting}
 
 with_options-with_rows : (rows : List Row) (config : Config) (options : Options)
     → with_options (with_rows rows config) options ≡ with_rows rows (with_options config options)
@@ -19,6 +19,12 @@ with_options-with_rows (r ∷ rs) config options = with_options-with_rows rs (wi
 pub built_in_with : (options : Options) → with_options (built_in default_options) options ≡ built_in options
 built_in_with options = with_options-with_rows built_in_rows (empty_config default_options) options
 
+-- the Markdown of a page by the reader that the struct says, which isn't the strict one
+abbrev IsOfPage : HtmdOptions → List ℕ → List ℕ → Type 0
+IsOfPage given html markdown =
+    MatchBool (given.reader == page) (IsMarkdownOfPage (config_of given) (is_scripting given) html markdown)
+    (markdown ≡ html5_markdown (config_of given) (is_scripting given) html)
+
 -- a conversion as the strict reader gives it
 pub by_strict : {E T : Type 0} (given : HtmdOptions) (html : List ℕ) (written : T → List ℕ) (r : Result T E)
     (config : Config) (scripting : Bool) → (given.reader == strict) ≡ true → config ≡ config_of given
@@ -26,17 +32,33 @@ pub by_strict : {E T : Type 0} (given : HtmdOptions) (html : List ℕ) (written 
     → IfOk r (λ s. IsMarkdownBy given html (written s))
 by_strict given html written r config scripting e k on h =
     subst (λ b. IfOk r (λ s. MatchBool b (IsMarkdownOf (config_of given) (is_scripting given) html (written s))
-    (IsMarkdownOfPage (config_of given) (is_scripting given) html (written s)))) (sym e)
+    (IsOfPage given html (written s)))) (sym e)
     (subst (λ c. IfOk r (λ s. IsMarkdownOf c (is_scripting given) html (written s))) k
     (subst (λ b. IfOk r (λ s. IsMarkdownOf config b html (written s))) on h))
 
--- as the reader of pages gives it
+-- as the reader of pages' bodies gives it
 pub by_page : {E T : Type 0} (given : HtmdOptions) (html : List ℕ) (written : T → List ℕ) (r : Result T E)
-    (config : Config) (scripting : Bool) → (given.reader == strict) ≡ false → config ≡ config_of given
-    → scripting ≡ is_scripting given → IfOk r (λ s. IsMarkdownOfPage config scripting html (written s))
+    (config : Config) (scripting : Bool) → (given.reader == strict) ≡ false → (given.reader == page) ≡ true
+    → config ≡ config_of given → scripting ≡ is_scripting given
+    → IfOk r (λ s. IsMarkdownOfPage config scripting html (written s))
     → IfOk r (λ s. IsMarkdownBy given html (written s))
-by_page given html written r config scripting e k on h =
+by_page given html written r config scripting e p k on h =
     subst (λ b. IfOk r (λ s. MatchBool b (IsMarkdownOf (config_of given) (is_scripting given) html (written s))
-    (IsMarkdownOfPage (config_of given) (is_scripting given) html (written s)))) (sym e)
+    (IsOfPage given html (written s)))) (sym e)
+    (subst (λ b. IfOk r (λ s. MatchBool b (IsMarkdownOfPage (config_of given) (is_scripting given) html (written s))
+    (written s ≡ html5_markdown (config_of given) (is_scripting given) html))) (sym p)
     (subst (λ c. IfOk r (λ s. IsMarkdownOfPage c (is_scripting given) html (written s))) k
-    (subst (λ b. IfOk r (λ s. IsMarkdownOfPage config b html (written s))) on h))
+    (subst (λ b. IfOk r (λ s. IsMarkdownOfPage config b html (written s))) on h)))
+
+-- as the reader of any page gives it
+pub by_html5 : (given : HtmdOptions) (html markdown : List ℕ) (config : Config) (scripting : Bool)
+    → (given.reader == strict) ≡ false → (given.reader == page) ≡ false → config ≡ config_of given
+    → scripting ≡ is_scripting given → markdown ≡ html5_markdown config scripting html
+    → IsMarkdownBy given html markdown
+by_html5 given html markdown config scripting e p k on h =
+    subst (λ b. MatchBool b (IsMarkdownOf (config_of given) (is_scripting given) html markdown)
+    (IsOfPage given html markdown)) (sym e)
+    (subst (λ b. MatchBool b (IsMarkdownOfPage (config_of given) (is_scripting given) html markdown)
+    (markdown ≡ html5_markdown (config_of given) (is_scripting given) html)) (sym p)
+    (subst (λ c. markdown ≡ html5_markdown c (is_scripting given) html) k
+    (subst (λ b. markdown ≡ html5_markdown config b html) on h)))

@@ -18,12 +18,15 @@ the_default_struct_has_scripting = refl
 a_page_in_guarded : is_good (record default_struct { reader = 1; mode = 2 }) ≡ true
 a_page_in_guarded = refl
 
+any_page_in_guarded : is_good (record default_struct { reader = 2; mode = 2 }) ≡ true
+any_page_in_guarded = refl
+
 two_is_guarded : options_of (record default_struct { mode = 2 }) ≡ record default_options { translation_mode = Guarded }
 two_is_guarded = refl
 
 -- and numbers that are not
-no_reader_two : is_good (record default_struct { reader = 2 }) ≡ false
-no_reader_two = refl
+no_reader_three : is_good (record default_struct { reader = 3 }) ≡ false
+no_reader_three = refl
 
 no_version_two : is_good (record default_struct { version = 2 }) ≡ false
 no_version_two = refl

@@ -1,12 +1,12 @@
 -- What a call answers.
-use Rattle.std.specs.Prelude.{◌≡◌, ◌==◌, ◌≤◌, ◌<◌, ◌++◌, ℕ, List, length, drop, MatchBool, IsUtf8}
+use Rattle.std.specs.Prelude.{◌≡◌, ◌==◌, ◌≤◌, ◌<◌, ◌++◌, ℕ, ⊥, List, length, drop, MatchBool, IsUtf8}
 use Rattle.htmd_grammar.specs.declared.fault.FaultKind.{FaultKind}
 use Rattle.htmd_grammar.specs.Faults.{number_of}
 use Rattle.htmd.specs.Choice.{Config}
 use Rattle.htmd.specs.BuiltIn.{built_in}
-use Rattle.htmd.specs.Conversions.{IsMarkdownOf, IsMarkdownOfPage, IsRefused, IsPageRefused}
+use Rattle.htmd.specs.Conversions.{IsMarkdownOf, IsMarkdownOfPage, IsRefused, IsPageRefused, html5_markdown}
 use Rattle.htmd_c.specs.declared.options.HtmdOptions.{HtmdOptions}
-use Rattle.htmd_c.specs.Options.{strict, options_of, is_scripting}
+use Rattle.htmd_c.specs.Options.{strict, page, options_of, is_scripting}
 
 -- the built-in handlers, by the options that the struct says
 abbrev pub config_of : HtmdOptions → Config
@@ -16,13 +16,14 @@ config_of given = built_in (options_of given)
 abbrev pub IsMarkdownBy : HtmdOptions → List ℕ → List ℕ → Type 0
 IsMarkdownBy given html markdown =
     MatchBool (given.reader == strict) (IsMarkdownOf (config_of given) (is_scripting given) html markdown)
-    (IsMarkdownOfPage (config_of given) (is_scripting given) html markdown)
+    (MatchBool (given.reader == page) (IsMarkdownOfPage (config_of given) (is_scripting given) html markdown)
+    (markdown ≡ html5_markdown (config_of given) (is_scripting given) html))
 
--- the text is refused by the reader that the struct says, with this place and this kind
+-- the text is refused by the reader that the struct says, with this place and this kind; the last reader refuses none
 abbrev pub IsRefusedBy : HtmdOptions → List ℕ → ℕ → FaultKind → Type 0
 IsRefusedBy given html place kind =
     MatchBool (given.reader == strict) (IsRefused (is_scripting given) html place kind)
-    (IsPageRefused (is_scripting given) html place kind)
+    (MatchBool (given.reader == page) (IsPageRefused (is_scripting given) html place kind) ⊥)
 
 -- the text has Markdown, all of which stands at the front of the buffer; what is behind it is as it was
 pub record IsWritten (given : HtmdOptions) (html before after : List ℕ) (needed : ℕ) : Type 0 where

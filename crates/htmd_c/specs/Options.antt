@@ -27,12 +27,15 @@ use Rattle.htmd_c.specs.declared.options.HtmdOptions.{HtmdOptions}
 abbrev pub version : ℕ
 version = 1
 
--- the readers: the text as it stands, and what stands between the tags of the body of a page
+-- the readers: the text as it stands, what stands between the tags of the body of a page, and any page as browsers read it
 abbrev pub strict : ℕ
 strict = 0
 
 abbrev pub page : ℕ
 page = 1
+
+abbrev pub html5 : ℕ
+html5 = 2
 
 -- the struct that a caller begins with
 abbrev pub default_struct : HtmdOptions
@@ -58,7 +61,7 @@ default_struct = record {
 -- what a text is read as, and what becomes of what Markdown has no form for, have numbers that are known
 abbrev pub is_reading_known : HtmdOptions → Bool
 is_reading_known given =
-    (given.version == version) && nat_lt given.reader 2 && nat_lt given.mode 3 && nat_lt given.scripting 2
+    (given.version == version) && nat_lt given.reader 3 && nat_lt given.mode 3 && nat_lt given.scripting 2
 
 -- the styles of single lines and links have numbers that are known
 abbrev pub are_lines_known : HtmdOptions → Bool

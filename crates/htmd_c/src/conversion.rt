@@ -6,7 +6,7 @@ ghost use Rattle.htmd_c.specs.Options.{is_good};
 ghost use Rattle.htmd_c.specs.Answers.{IsMarkdownBy, IsRefusedBy};
 ghost use Rattle.htmd_c.specs.declared.conversion.Failure.TheVariants.{Memory};
 
-use crate::options::{HtmdOptions, STRICT, is_good, options_of};
+use crate::options::{HtmdOptions, PAGE, STRICT, is_good, options_of};
 use htmd::{ConvertError, FaultKind, HtmlToMarkdown};
 use std::alloc::Global;
 
@@ -31,10 +31,12 @@ fn converted(alloc: Global, html: &str, options: &HtmdOptions) -> Result<String,
         .scripting_enabled(options.scripting == 1)
         .build();
     if options.reader == STRICT {
-        converter.convert(alloc, html)
-    } else {
-        converter.convert_page(alloc, html)
+        return converter.convert(alloc, html);
     }
+    if options.reader == PAGE {
+        return converter.convert_page(alloc, html);
+    }
+    Ok(converter.convert_html5(alloc, html)?)
 }
 
 /// The Markdown of bytes. The options are looked at first, then whether the bytes are UTF-8.

@@ -14,6 +14,9 @@ const VERSION: u8 = 1;
 /// The text is read as it stands.
 pub(crate) const STRICT: u8 = 0;
 
+/// What stands between the tags of a page's body is read.
+pub(crate) const PAGE: u8 = 1;
+
 /// What a conversion goes by, in numbers. A further field takes the place of a reserved byte, whose 0 then says what is
 /// done without it; a further value of a field is a number that is not good yet.
 #[repr(C)]
@@ -64,7 +67,7 @@ pub(crate) fn default_struct() -> HtmdOptions
 fn is_reading_known(given: &HtmdOptions) -> bool
     ensures { result ≡ spec.is_reading_known given.now }
 {
-    given.version == VERSION && given.reader < 2 && given.mode < 3 && given.scripting < 2
+    given.version == VERSION && given.reader < 3 && given.mode < 3 && given.scripting < 2
 }
 
 fn are_lines_known(given: &HtmdOptions) -> bool
