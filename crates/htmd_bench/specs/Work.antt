@@ -6,8 +6,10 @@ use Rattle.htmd_tree.specs.Items.{Item, children_of}
 use Rattle.htmd.specs.BuiltIn.{built_in}
 use Rattle.htmd.specs.Conversions.{IsTreeOf, IsMarkdownOf}
 use Rattle.htmd.specs.Defaults.{default_options}
+use Rattle.htmd_html5.specs.Documents.{html5_document}
 use Rattle.htmd_bench.specs.declared.work.Work.{Work}
-use Rattle.htmd_bench.specs.declared.work.Work.TheVariants.{Copy, Escape, Squeeze, Read, Walk, Convert}
+use Rattle.htmd_bench.specs.declared.work.Work.TheVariants.{Copy, Escape, Squeeze, Read, ReadAny, Walk}
+use Rattle.htmd_bench.specs.declared.work.Work.TheVariants.{Convert}
 
 -- the Markdown of the page has this length
 abbrev pub HasMarkdownLength : List ℕ → ℕ → Type 0
@@ -20,5 +22,6 @@ HasLength Copy s len = len ≡ length s
 HasLength Escape s len = len ≡ length (escaped_markdown s)
 HasLength Squeeze s len = len ≡ length (squeezed_text s)
 HasLength Read s len = (tree : List Item) × IsTreeOf true s tree × (len ≡ length (children_of tree 0))
+HasLength ReadAny s len = len ≡ length (children_of (html5_document true s) 0)
 HasLength Walk s len = HasMarkdownLength s len
 HasLength Convert s len = HasMarkdownLength s len

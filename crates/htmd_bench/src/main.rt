@@ -16,11 +16,12 @@ use crate::work::{Work, answer_len, speed_of};
 use std::{env, io};
 
 /// The works, in the order in which they are told.
-const WORKS: [Work; 6] = [
+const WORKS: [Work; 7] = [
     Work::Copy,
     Work::Escape,
     Work::Squeeze,
     Work::Read,
+    Work::ReadAny,
     Work::Walk,
     Work::Convert,
 ];

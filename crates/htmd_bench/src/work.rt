@@ -5,6 +5,7 @@ ghost use Rattle.htmd_bench.specs.Work.{HasLength};
 use crate::faults::Fault;
 use crate::speed::Speed;
 use htmd::{HtmlToMarkdown, convert};
+use htmd_html5::parse_html5;
 use htmd_text::{compress_whitespace, escape_if_needed};
 use htmd_tree::read_html;
 use std::alloc::{AllocError, Global};
@@ -17,6 +18,7 @@ pub(crate) enum Work {
     Escape,
     Squeeze,
     Read,
+    ReadAny,
     Walk,
     Convert,
 }
@@ -28,6 +30,7 @@ impl Work {
             Work::Escape => "escape_if_needed",
             Work::Squeeze => "compress_whitespace",
             Work::Read => "read_html",
+            Work::ReadAny => "parse_html5",
             Work::Walk => "tree_to_markdown",
             Work::Convert => "convert",
         }
@@ -44,6 +47,10 @@ pub(crate) fn answer_len(alloc: Global, work: Work, input: &str) -> Result<usize
         Work::Squeeze => Ok(compress_whitespace(alloc, input)?.as_str().len()),
         Work::Read => {
             let tree = read_html(alloc, input, true)?;
+            Ok(tree.children(tree.root()).len())
+        }
+        Work::ReadAny => {
+            let tree = parse_html5(alloc, input, true)?;
             Ok(tree.children(tree.root()).len())
         }
         Work::Walk => {
@@ -84,6 +91,11 @@ fn time_of(
         Work::Read => {
             let start = Instant::now(rt)?;
             let _tree = read_html(rt.alloc(), input, true)?;
+            Ok(start.elapsed(rt)?)
+        }
+        Work::ReadAny => {
+            let start = Instant::now(rt)?;
+            let _tree = parse_html5(rt.alloc(), input, true)?;
             Ok(start.elapsed(rt)?)
         }
         Work::Walk => walk_time(rt, input, registered),
