@@ -68,8 +68,8 @@ IsReadable any bytes = MatchBool any ⊤ (IsUtf8 bytes)
 abbrev pub text_in : Bool → List ℕ → List ℕ
 text_in any bytes = if any then decoded bytes else bytes
 
--- this is the Markdown of an input: of one paragraph where it is taken for a text, else of any page as browsers read it,
--- of a page's body or of all
+-- this is the Markdown of an input: of one paragraph where it is taken for a text, else of any page as browsers read
+-- it, of a page's body or of all
 abbrev pub IsMarkdownBy : Way → List ℕ → List ℕ → Type 0
 IsMarkdownBy way input text =
     MatchBool way.text (text ≡ paragraph_markdown way.config input)

@@ -17,8 +17,8 @@ TreesHoldTexts =
 abbrev pub text_by : Way → List ℕ → List ℕ
 text_by way input = text_in (reads_any way) input
 
--- the tree of a text by what an input is taken for: of one paragraph, of any page as browsers read it, of a page's body,
--- or of all
+-- the tree of a text by what an input is taken for: of one paragraph, of any page as browsers read it, of a page's
+-- body, or of all
 abbrev pub IsTreeBy : Way → List ℕ → List Item → Type 0
 IsTreeBy way text tree =
     MatchBool way.text (tree ≡ paragraph text)

@@ -97,9 +97,9 @@ pub fn text_stays_text()
     ensures lines { LinesBeginNoBlock }
 {}
 
-/// What a text denotes, or what an input is taken for, is a tree whose texts and values are UTF-8, as the text is; of any
-/// page as browsers read it, what is known of its Markdown says so. So whoever knows that a text is converted has what
-/// the laws of letters and of what is shown ask.
+/// What a text denotes, or what an input is taken for, is a tree whose texts and values are UTF-8, as the text is; of
+/// any page as browsers read it, what is known of its Markdown says so. So whoever knows that a text is converted has
+/// what the laws of letters and of what is shown ask.
 pub fn trees_hold_texts()
     ensures trees { TreesHoldTexts }
     ensures inputs { InputsHoldTexts }
@@ -123,9 +123,9 @@ pub fn every_letter_once()
 
 /// In Pure, with the built-in handlers, where no table stands, nothing that a reader sees is lost: the characters that
 /// are no white space, of all texts that are not below `br`, `hr` or `img`, stand in the content in their order, digits
-/// and punctuation too, whatever is put between them. So it is of the whole Markdown, of each text that is converted, of
-/// a page's body, of any page as browsers read it, of the input of a run and of the page of a row. A table is left out,
-/// since it drops cells.
+/// and punctuation too, whatever is put between them. So it is of the whole Markdown, of each text that is converted,
+/// of a page's body, of any page as browsers read it, of the input of a run and of the page of a row. A table is left
+/// out, since it drops cells.
 pub fn nothing_is_lost()
     ensures content { ShownInContent }
     ensures markdown { ShownInMarkdown }

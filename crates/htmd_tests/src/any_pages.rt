@@ -1,5 +1,5 @@
-//! Any page as browsers read it: by the converter, by the program in each encoding, and in rows. Pages whose answer is a
-//! text are the family `html5` of `htmd_cases`.
+//! Any page as browsers read it: by the converter, by the program in each encoding, and in rows. Pages whose answer is
+//! a text are the family `html5` of `htmd_cases`.
 use crate::calls::{called, strings};
 use crate::doubles::{Dripping, Narrow};
 use htmd::HtmlToMarkdown;
@@ -108,8 +108,8 @@ fn answers_each_failed_read(rt: HostRuntime) -> Result<(), Fail> {
     Ok(())
 }
 
-// The Markdown of `<p>a<p>b` and its line feed are five bytes, written one by one, and flushed. Each of these calls fails
-// in turn, of a row the same.
+// The Markdown of `<p>a<p>b` and its line feed are five bytes, written one by one, and flushed. Each of these calls
+// fails in turn, of a row the same.
 #[test]
 fn answers_each_failed_write(rt: HostRuntime) -> Result<(), Fail> {
     let table: [(&[&str], &str, &str); 2] = [
