@@ -5,7 +5,7 @@ use Rattle.htmd_grammar.specs.Documents.{ReadsDocument}
 use Rattle.htmd_grammar.specs.Rules.{project}
 use Rattle.htmd_grammar.specs.Faults.{IsFault}
 use Rattle.htmd_grammar.specs.declared.fault.FaultKind.{FaultKind}
-use Rattle.htmd_tree.specs.Items.{Item}
+use Rattle.htmd_tree.specs.Items.{Item, IsTree, HoldTexts}
 use Rattle.htmd_html5.specs.Documents.{html5_document}
 use Rattle.htmd_tree.specs.Bodies.{body_part, body_place}
 use Rattle.htmd_tree.specs.Layout.{document_items}
@@ -53,3 +53,9 @@ IsPageRefused scripting page place kind =
 -- the Markdown of any page, as the HTML Standard reads it
 abbrev pub html5_markdown : Config → Bool → List ℕ → List ℕ
 html5_markdown config scripting html = markdown config (html5_document scripting html) 0
+
+-- what the page is read as is a tree, its texts and values are UTF-8, and this is its Markdown
+pub record IsHtml5Markdown (config : Config) (scripting : Bool) (html : List ℕ) (text : List ℕ) : Type 0 where
+  pub is_tree : IsTree (html5_document scripting html)
+  pub holds_texts : HoldTexts (html5_document scripting html)
+  pub is_markdown : text ≡ html5_markdown config scripting html

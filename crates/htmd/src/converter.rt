@@ -5,7 +5,7 @@ ghost use Rattle.htmd_grammar.specs.declared.fault.FaultKind.{FaultKind};
 ghost use Rattle.htmd.specs.Handling.{of_functions};
 ghost use Rattle.htmd.specs.Choice.{no_handler, with_handler, with_options};
 ghost use Rattle.htmd.specs.Conversions.{IsRefused, IsMarkdownOf, IsTreeOf, IsMarkdownOfPage};
-ghost use Rattle.htmd.specs.Conversions.{IsPageRefused, html5_markdown};
+ghost use Rattle.htmd.specs.Conversions.{IsPageRefused, IsHtml5Markdown};
 ghost use Rattle.htmd.specs.Defaults.{default_options};
 ghost use Rattle.htmd.specs.Markdown.{markdown};
 
@@ -130,8 +130,8 @@ impl<R: Registry> HtmlToMarkdown<R> {
     /// refused. An `Err` is out of memory.
     pub fn convert_html5(&self, alloc: Global, html: &str) -> Result<String, AllocError>
         requires ready { R.ready (handlers_of self.now) }
-        ensures ok { IfOk result (λ text. string_bytes text
-            ≡ html5_markdown (R.config (handlers_of self.now)) (scripting_of self.now) html.now) }
+        ensures ok { IfOk result (λ text. IsHtml5Markdown (R.config (handlers_of self.now))
+            (scripting_of self.now) html.now (string_bytes text)) }
     {
         let tree = parse_html5(alloc, html, self.scripting)?;
         self.tree_to_markdown(alloc, &tree, tree.root())

@@ -2,8 +2,8 @@
 use htmd_tree::{Attribute, NodeData, NodeId, Tree};
 use std::alloc::{AllocError, Global};
 
-/// The rows of all nodes but the Document, in document order, with a line feed between two. A row begins with a bar and a
-/// space, and two more spaces for each node above it but the Document.
+/// The rows of all nodes but the Document, in document order, with a line feed between two. A row begins with a bar and
+/// a space, and two more spaces for each node above it but the Document.
 pub(crate) fn rows_of(alloc: Global, tree: &Tree) -> Result<String, AllocError> {
     let mut rows = String::new(alloc);
     let mut waiting = Vec::new(alloc);

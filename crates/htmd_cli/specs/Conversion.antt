@@ -7,7 +7,7 @@ use Rattle.htmd.specs.Choice.{Config, no_handler, with_handler, with_options}
 use Rattle.htmd.specs.Defaults.{default_options}
 use Rattle.htmd.specs.BuiltIn.{built_in}
 use Rattle.htmd.specs.Markdown.{markdown}
-use Rattle.htmd.specs.Conversions.{IsMarkdownOf, IsMarkdownOfPage, IsRefused, IsPageRefused, html5_markdown}
+use Rattle.htmd.specs.Conversions.{IsMarkdownOf, IsMarkdownOfPage, IsRefused, IsPageRefused, IsHtml5Markdown}
 use Rattle.htmd.specs.Converters.{handlers_of, scripting_of}
 use Rattle.htmd_cli.specs.declared.conversion.Conversion.{Conversion}
 use Rattle.htmd_cli.specs.Decoding.{decoded}
@@ -68,12 +68,12 @@ IsReadable any bytes = MatchBool any ⊤ (IsUtf8 bytes)
 abbrev pub text_in : Bool → List ℕ → List ℕ
 text_in any bytes = if any then decoded bytes else bytes
 
--- this is the Markdown of an input: of one paragraph where it is taken for a text, else of any page as browsers read it,
--- of a page's body or of all
+-- this is the Markdown of an input: of one paragraph where it is taken for a text, else of any page as browsers read
+-- it, of a page's body or of all
 abbrev pub IsMarkdownBy : Way → List ℕ → List ℕ → Type 0
 IsMarkdownBy way input text =
     MatchBool way.text (text ≡ paragraph_markdown way.config input)
-    (MatchBool way.html5 (text ≡ html5_markdown way.config way.scripting input)
+    (MatchBool way.html5 (IsHtml5Markdown way.config way.scripting input text)
     (MatchBool way.body (IsMarkdownOfPage way.config way.scripting input text)
     (IsMarkdownOf way.config way.scripting input text)))
 

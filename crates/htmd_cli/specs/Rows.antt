@@ -1,6 +1,6 @@
 -- The rows of a batch, and what is written for them.
 use Rattle.std.specs.Prelude.{◌≡◌, ◌⊎◌, ◌+◌, ◌-◌, ◌^◌, min, false, ℕ, List, [], ◌∷◌, ◌++◌, length, Option}
-use Rattle.std.specs.Prelude.{IfSome, IsUtf8, MatchBool, ⊥}
+use Rattle.std.specs.Prelude.{IfSome, IsUtf8, MatchBool}
 use Rattle.std.specs.Str.{bytes_eq}
 use Rattle.std.specs.Io.KnownBytes.{Appends}
 use Rattle.htmd.specs.Characters.{line_feed}

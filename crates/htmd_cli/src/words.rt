@@ -81,7 +81,7 @@ pub(crate) const WORDS: [Word; 33] = [
         "--guarded",
         "",
         Setting::Translation(TranslationMode::Guarded),
-        "nothing of the page's text is read as markup",
+        "a reader of the Markdown is to show what a browser shows of the page",
     ),
     (
         "--no-scripting",

@@ -4,6 +4,7 @@ ghost use Rattle.htmd.specs.BuiltIn.{built_in};
 ghost use Rattle.htmd.specs.Characters.{line_feed};
 ghost use Rattle.htmd.specs.Conversions.{DenotesNothing, IsMarkdownOf};
 ghost use Rattle.htmd.specs.Defaults.{default_options};
+ghost use Rattle.htmd_html5.specs.Documents.{html5_document};
 ghost use Rattle.htmd_laws.specs.Letters.{letters, said};
 
 use htmd::{ConvertError, HtmlToMarkdown, Tree, convert};
@@ -41,4 +42,14 @@ pub(crate) fn with_every_letter(alloc: Global, tree: &Tree) -> Result<String, Al
     every_letter_once();
     let converter = HtmlToMarkdown::new(alloc)?;
     converter.tree_to_markdown(alloc, tree, tree.root())
+}
+
+/// The Markdown of any page, as browsers read it: it says each letter of the page's tree once, in order.
+pub(crate) fn of_any_page(alloc: Global, html: &str) -> Result<String, AllocError>
+    ensures { IfOk result (λ text. letters (string_bytes text)
+        ≡ said default_options (html5_document true html.now) 0) }
+{
+    every_letter_once();
+    let converter = HtmlToMarkdown::new(alloc)?;
+    converter.convert_html5(alloc, html)
 }

@@ -11,7 +11,7 @@ mod settings;
 mod skipping;
 
 use abbreviations::spelled_out_page;
-use clauses::{as_file, is_html, with_every_letter};
+use clauses::{as_file, is_html, of_any_page, with_every_letter};
 use closures::shouted;
 use either::site_heading;
 use highlight::highlighted;
@@ -64,6 +64,10 @@ fn main(rt: HostRuntime) -> io::Result<()> {
             Ok(markdown) => println!(rt; "{markdown}")?,
             Err(error) => eprintln!(rt; "{error}")?,
         }
+    }
+    match of_any_page(alloc, "<ul><li>left<li>open") {
+        Ok(markdown) => println!(rt; "{markdown}")?,
+        Err(error) => eprintln!(rt; "{error}")?,
     }
     for html in ["<p>closed</p>", "<p>open"] {
         match is_html(alloc, html) {

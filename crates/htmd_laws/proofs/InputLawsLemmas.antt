@@ -9,7 +9,10 @@ use Rattle.htmd_tree.proofs.ItemsLemmas.{IsTree-added}
 use Rattle.htmd.specs.Choice.{Config}
 use Rattle.htmd.specs.Markdown.{markdown}
 use Rattle.htmd_cli.specs.Conversion.{Way, empty_paragraph, paragraph, paragraph_markdown, IsMarkdownBy}
-use Rattle.htmd_laws.specs.InputLaws.{TreesHoldTexts, IsTreeBy, InputsHoldTexts}
+use Rattle.htmd_cli.specs.Conversion.{IsReadable, reads_any}
+use Rattle.htmd_cli.specs.Decoding.{decoded}
+use Rattle.htmd_html5.specs.Documents.{html5_document}
+use Rattle.htmd_laws.specs.InputLaws.{TreesHoldTexts, IsTreeBy, InputsHoldTexts, text_by}
 use Rattle.htmd_laws.proofs.LaidTrees.{document_alone, with_first, none_hold, Holds}
 use Rattle.htmd_laws.proofs.TreesRead.{trees_hold, body_part_utf8}
 
@@ -47,23 +50,32 @@ paragraph_holds (b ∷ s) u =
 
 -- all of an input is converted, or the body of a page
 abbrev pub whole_way : Bool → Config → Way
-whole_way scripting config = record { text = false; body = false; scripting = scripting; config = config }
+whole_way scripting config = record { text = false; body = false; html5 = false; scripting = scripting; config = config }
 
 abbrev pub body_way : Bool → Config → Way
-body_way scripting config = record { text = false; body = true; scripting = scripting; config = config }
+body_way scripting config = record { text = false; body = true; html5 = false; scripting = scripting; config = config }
 
-held_by : (is_text is_body scripting : Bool) (config : Config) (input text : List ℕ) → IsUtf8 input
-    → let way : Way = record { text = is_text; body = is_body; scripting = scripting; config = config } in
-    IsMarkdownBy way input text
-    → (tree : List Item) × IsTreeBy way input tree × IsTree tree × HoldTexts tree × (text ≡ markdown config tree 0)
+held_in_paragraph : (config : Config) (input s : List ℕ) → IsUtf8 input → s ≡ paragraph_markdown config input
+    → (tree : List Item) × (tree ≡ paragraph input) × IsTree tree × HoldTexts tree × (s ≡ markdown config tree 0)
 unfolding paragraph_markdown
-held_by true is_body scripting config input text u h =
-    (paragraph input, refl, paragraph_is_tree input, paragraph_holds input u, h)
-held_by false true scripting config input text u h =
+held_in_paragraph config input s u h = (paragraph input, refl, paragraph_is_tree input, paragraph_holds input u, h)
+
+held_by : (is_text is_any is_body scripting : Bool) (config : Config) (input s : List ℕ)
+    → let way : Way =
+      record { text = is_text; body = is_body; html5 = is_any; scripting = scripting; config = config } in
+    IsReadable (reads_any way) input → IsMarkdownBy way (text_by way input) s
+    → (tree : List Item) × IsTreeBy way (text_by way input) tree × IsTree tree × HoldTexts tree
+    × (s ≡ markdown config tree 0)
+held_by true true is_body scripting config input s u h = held_in_paragraph config input s u h
+held_by true false is_body scripting config input s u h = held_in_paragraph config input s u h
+held_by false true is_body scripting config input s u h =
+    (html5_document scripting (decoded input), refl, h.is_tree, h.holds_texts, h.is_markdown)
+held_by false false true scripting config input s u h =
     let t = trees_hold_texts scripting (body_part input) h.0 (body_part_utf8 input u) h.1 in
     (h.0, h.1, t.0, t.1, h.2)
-held_by false false scripting config input text u h =
+held_by false false false scripting config input s u h =
     let t = trees_hold_texts scripting input h.0 u h.1 in (h.0, h.1, t.0, t.1, h.2)
 
 pub inputs_hold_texts : InputsHoldTexts
-inputs_hold_texts way input text u h = held_by way.text way.body way.scripting way.config input text u h
+inputs_hold_texts way input s u h =
+    held_by way.text way.html5 way.body way.scripting way.config input s u h

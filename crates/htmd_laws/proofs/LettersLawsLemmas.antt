@@ -36,7 +36,8 @@ use Rattle.htmd.specs.BuiltIn.{built_in}
 use Rattle.htmd.specs.Markdown.{walked_node, walked_content, append_texts, markdown}
 use Rattle.htmd_laws.specs.Letters.{letters, said_among, said_within, said, prefers_autolinks}
 use Rattle.htmd_laws.specs.Letters.{LettersOfContent, LettersOfMarkdown, LettersOfConversion, LettersOfPage}
-use Rattle.htmd_laws.specs.Letters.{LettersOfInput, LettersOfRow, SaysEveryLetterBy}
+use Rattle.htmd_laws.specs.Letters.{LettersOfAnyPage, LettersOfInput, LettersOfRow, SaysEveryLetterBy}
+use Rattle.htmd_html5.specs.Documents.{html5_document}
 use Rattle.htmd_cli.specs.Fields.{read_field}
 use Rattle.htmd_laws.proofs.FieldLawsLemmas.{fields_read_back}
 use Rattle.htmd_laws.proofs.InputLawsLemmas.{inputs_hold_texts, whole_way, body_way}
@@ -348,6 +349,11 @@ pub letters_of_markdown : LettersOfMarkdown
 letters_of_markdown options items start alone inlined plain =
     ap letters (markdown_is options items start inlined)
     ∙ letters_of_content options items start alone (ap prefers_autolinks inlined) plain
+
+pub letters_of_any_page : LettersOfAnyPage
+letters_of_any_page options scripting html s alone inlined h =
+    ap letters h.is_markdown
+    ∙ letters_of_markdown options (html5_document scripting html) 0 alone inlined h.holds_texts
 
 pub letters_of_input : LettersOfInput
 letters_of_input options way input s alone inlined same u h =

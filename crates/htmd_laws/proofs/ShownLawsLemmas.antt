@@ -22,7 +22,9 @@ use Rattle.htmd.specs.Outputs.{Conversion, conversion_of, Output, Context, conte
 use Rattle.htmd.specs.Outputs.{is_markdown_alone, is_markdown_alone_in, is_guarded_in}
 use Rattle.htmd.specs.Rendering.{with_result, written_within}
 use Rattle.htmd_laws.specs.Shown.{visible, IsPart, shown, shown_among, has_no_table, ShownInContent, ShownInMarkdown}
-use Rattle.htmd_laws.specs.Shown.{ShownInConversion, ShownInPage, ShownInInput, ShownInRow, LosesNothingBy}
+use Rattle.htmd_laws.specs.Shown.{ShownInConversion, ShownInPage, ShownInAnyPage, ShownInInput, ShownInRow}
+use Rattle.htmd_laws.specs.Shown.{LosesNothingBy}
+use Rattle.htmd_html5.specs.Documents.{html5_document}
 use Rattle.htmd_cli.specs.Fields.{read_field}
 use Rattle.htmd_laws.proofs.FieldLawsLemmas.{fields_read_back}
 use Rattle.htmd_laws.proofs.InputLawsLemmas.{inputs_hold_texts, whole_way, body_way}
@@ -164,6 +166,12 @@ shown_in_markdown options items start pure t plain l e =
     (append_texts (built_in options).handlers (walked_node (built_in options) items start).definitions) in
     subst (λ (x : List ℕ). IsPart (shown (tree_of items start)) x) (sym (counted_append of_visible content behind
     shows.utf8)) (part-before (shown (tree_of items start)) (visible content) (visible behind) shows.says)
+
+pub shown_in_any_page : ShownInAnyPage
+shown_in_any_page options scripting html s pure h no_table =
+    let items = html5_document scripting html in
+    subst (λ (x : List ℕ). IsPart (shown (tree_of items 0)) (visible x)) (sym h.is_markdown)
+    (shown_in_markdown options items 0 pure h.is_tree h.holds_texts (h.is_tree).not_empty no_table)
 
 pub shown_in_input : ShownInInput
 shown_in_input options way input s pure same u h =

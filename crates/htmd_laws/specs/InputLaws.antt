@@ -4,7 +4,8 @@ use Rattle.htmd_tree.specs.Items.{Item, IsTree, HoldTexts}
 use Rattle.htmd_tree.specs.Bodies.{body_part}
 use Rattle.htmd.specs.Markdown.{markdown}
 use Rattle.htmd.specs.Conversions.{IsTreeOf}
-use Rattle.htmd_cli.specs.Conversion.{Way, paragraph, IsMarkdownBy}
+use Rattle.htmd_html5.specs.Documents.{html5_document}
+use Rattle.htmd_cli.specs.Conversion.{Way, paragraph, IsMarkdownBy, IsReadable, reads_any, text_in}
 
 -- What a text in UTF-8 denotes is a tree whose texts and values are UTF-8.
 abbrev pub TreesHoldTexts : Type 0
@@ -12,15 +13,21 @@ TreesHoldTexts =
     (scripting : Bool) (html : List ℕ) (tree : List Item) → IsUtf8 html → IsTreeOf scripting html tree
     → IsTree tree × HoldTexts tree
 
--- the tree of an input by what that is taken for: of one paragraph, of a page's body, or of all
-abbrev pub IsTreeBy : Way → List ℕ → List Item → Type 0
-IsTreeBy way input tree =
-    MatchBool way.text (tree ≡ paragraph input)
-    (MatchBool way.body (IsTreeOf way.scripting (body_part input) tree) (IsTreeOf way.scripting input tree))
+-- the text that the bytes of an input hold
+abbrev pub text_by : Way → List ℕ → List ℕ
+text_by way input = text_in (reads_any way) input
 
--- The Markdown of an input in UTF-8 is that of such a tree, whose texts and values are UTF-8.
+-- the tree of a text by what an input is taken for: of one paragraph, of any page as browsers read it, of a page's
+-- body, or of all
+abbrev pub IsTreeBy : Way → List ℕ → List Item → Type 0
+IsTreeBy way text tree =
+    MatchBool way.text (tree ≡ paragraph text)
+    (MatchBool way.html5 (tree ≡ html5_document way.scripting text)
+    (MatchBool way.body (IsTreeOf way.scripting (body_part text) tree) (IsTreeOf way.scripting text tree)))
+
+-- The Markdown of the text that an input holds is that of such a tree, whose texts and values are UTF-8.
 abbrev pub InputsHoldTexts : Type 0
 InputsHoldTexts =
-    (way : Way) (input text : List ℕ) → IsUtf8 input → IsMarkdownBy way input text
-    → (tree : List Item) × IsTreeBy way input tree × IsTree tree × HoldTexts tree
-    × (text ≡ markdown way.config tree 0)
+    (way : Way) (input s : List ℕ) → IsReadable (reads_any way) input → IsMarkdownBy way (text_by way input) s
+    → (tree : List Item) × IsTreeBy way (text_by way input) tree × IsTree tree × HoldTexts tree
+    × (s ≡ markdown way.config tree 0)

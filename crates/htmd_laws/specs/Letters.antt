@@ -30,12 +30,13 @@ use Rattle.htmd.specs.TableOrder.{nodes_of_table}
 use Rattle.htmd.specs.Tables.{has_table_form}
 use Rattle.htmd.specs.BuiltIn.{built_in}
 use Rattle.htmd.specs.Markdown.{walked_content, markdown}
-use Rattle.htmd.specs.Conversions.{IsTreeOf, IsMarkdownOf, IsMarkdownOfPage}
+use Rattle.htmd.specs.Conversions.{IsTreeOf, IsMarkdownOf, IsMarkdownOfPage, IsHtml5Markdown}
 use Rattle.htmd_tree.specs.Bodies.{body_part}
-use Rattle.htmd_cli.specs.Conversion.{Way, IsMarkdownBy}
+use Rattle.htmd_html5.specs.Documents.{html5_document}
+use Rattle.htmd_cli.specs.Conversion.{Way, IsMarkdownBy, IsReadable, reads_any}
 use Rattle.htmd_cli.specs.Fields.{read_field}
 use Rattle.htmd_cli.specs.Rows.{IsConverted}
-use Rattle.htmd_laws.specs.InputLaws.{IsTreeBy}
+use Rattle.htmd_laws.specs.InputLaws.{IsTreeBy, text_by}
 
 -- ---- letters
 
@@ -179,17 +180,24 @@ LettersOfPage =
     → options.link_style ≡ Inlined → IsUtf8 page → IsMarkdownOfPage (built_in options) scripting page s
     → SaysEveryLetterOf options scripting (body_part page) s
 
--- the letters of the text are what the tree of the input says
+-- So it is of any page as browsers read it.
+abbrev pub LettersOfAnyPage : Type 0
+LettersOfAnyPage =
+    (options : Options) (scripting : Bool) (html s : List ℕ) → is_markdown_alone options ≡ true
+    → options.link_style ≡ Inlined → IsHtml5Markdown (built_in options) scripting html s
+    → letters s ≡ said options (html5_document scripting html) 0
+
+-- the letters of the Markdown are what the tree says of the text that the input holds
 abbrev pub SaysEveryLetterBy : Options → Way → List ℕ → List ℕ → Type 0
 SaysEveryLetterBy options way input s =
-    (tree : List Item) × IsTreeBy way input tree × (letters s ≡ said options tree 0)
+    (tree : List Item) × IsTreeBy way (text_by way input) tree × (letters s ≡ said options tree 0)
 
 -- So it is of the input of each run.
 abbrev pub LettersOfInput : Type 0
 LettersOfInput =
     (options : Options) (way : Way) (input s : List ℕ) → is_markdown_alone options ≡ true
-    → options.link_style ≡ Inlined → way.config ≡ built_in options → IsUtf8 input → IsMarkdownBy way input s
-    → SaysEveryLetterBy options way input s
+    → options.link_style ≡ Inlined → way.config ≡ built_in options → IsReadable (reads_any way) input
+    → IsMarkdownBy way (text_by way input) s → SaysEveryLetterBy options way input s
 
 -- So it is of the page of each row, in what its field says.
 abbrev pub LettersOfRow : Type 0

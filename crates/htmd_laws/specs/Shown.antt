@@ -10,12 +10,13 @@ use Rattle.htmd.specs.declared.options.Options.{Options}
 use Rattle.htmd.specs.declared.options.TranslationMode.TheVariants.{Pure}
 use Rattle.htmd.specs.BuiltIn.{built_in}
 use Rattle.htmd.specs.Markdown.{walked_content, markdown}
-use Rattle.htmd.specs.Conversions.{IsTreeOf, IsMarkdownOf, IsMarkdownOfPage}
+use Rattle.htmd.specs.Conversions.{IsTreeOf, IsMarkdownOf, IsMarkdownOfPage, IsHtml5Markdown}
 use Rattle.htmd_tree.specs.Bodies.{body_part}
-use Rattle.htmd_cli.specs.Conversion.{Way, IsMarkdownBy}
+use Rattle.htmd_html5.specs.Documents.{html5_document}
+use Rattle.htmd_cli.specs.Conversion.{Way, IsMarkdownBy, IsReadable, reads_any}
 use Rattle.htmd_cli.specs.Fields.{read_field}
 use Rattle.htmd_cli.specs.Rows.{IsConverted}
-use Rattle.htmd_laws.specs.InputLaws.{IsTreeBy}
+use Rattle.htmd_laws.specs.InputLaws.{IsTreeBy, text_by}
 
 -- ---- characters that a reader sees
 
@@ -98,17 +99,26 @@ ShownInPage =
     → IsUtf8 page → IsMarkdownOfPage (built_in options) scripting page s
     → LosesNothingOf scripting (body_part page) s
 
--- what the tree of the input shows stands in the text, if the tree has no table
+-- So it is of any page as browsers read it.
+abbrev pub ShownInAnyPage : Type 0
+ShownInAnyPage =
+    (options : Options) (scripting : Bool) (html s : List ℕ) → options.translation_mode ≡ Pure
+    → IsHtml5Markdown (built_in options) scripting html s
+    → let tree = tree_of (html5_document scripting html) 0 in
+    has_no_table tree ≡ true → IsPart (shown tree) (visible s)
+
+-- what the tree shows of the text that the input holds stands in the Markdown, if the tree has no table
 abbrev pub LosesNothingBy : Way → List ℕ → List ℕ → Type 0
 LosesNothingBy way input s =
-    (tree : List Item) × IsTreeBy way input tree
+    (tree : List Item) × IsTreeBy way (text_by way input) tree
     × (has_no_table (tree_of tree 0) ≡ true → IsPart (shown (tree_of tree 0)) (visible s))
 
 -- So it is of the input of each run.
 abbrev pub ShownInInput : Type 0
 ShownInInput =
     (options : Options) (way : Way) (input s : List ℕ) → options.translation_mode ≡ Pure
-    → way.config ≡ built_in options → IsUtf8 input → IsMarkdownBy way input s → LosesNothingBy way input s
+    → way.config ≡ built_in options → IsReadable (reads_any way) input → IsMarkdownBy way (text_by way input) s
+    → LosesNothingBy way input s
 
 -- So it is of the page of each row, in what its field says.
 abbrev pub ShownInRow : Type 0

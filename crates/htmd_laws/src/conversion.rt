@@ -8,9 +8,9 @@ ghost use Rattle.htmd_laws.specs.ListLaws.{EachItemTakesANumber, ItemsBeginInOne
 ghost use Rattle.htmd_laws.specs.ParagraphLaws.{ParagraphsReadBack};
 ghost use Rattle.htmd_laws.specs.InputLaws.{InputsHoldTexts, TreesHoldTexts};
 ghost use Rattle.htmd_laws.specs.Letters.{LettersOfContent, LettersOfMarkdown, LettersOfConversion, LettersOfPage};
-ghost use Rattle.htmd_laws.specs.Letters.{LettersOfInput, LettersOfRow};
+ghost use Rattle.htmd_laws.specs.Letters.{LettersOfAnyPage, LettersOfInput, LettersOfRow};
 ghost use Rattle.htmd_laws.specs.Shown.{ShownInContent, ShownInMarkdown, ShownInConversion, ShownInPage};
-ghost use Rattle.htmd_laws.specs.Shown.{ShownInInput, ShownInRow};
+ghost use Rattle.htmd_laws.specs.Shown.{ShownInAnyPage, ShownInInput, ShownInRow};
 ghost use Rattle.htmd_laws.specs.TextLaws.{TextStaysText, LinesBeginNoBlock};
 ghost use Rattle.htmd.specs.Views.{element_view};
 
@@ -97,8 +97,9 @@ pub fn text_stays_text()
     ensures lines { LinesBeginNoBlock }
 {}
 
-/// What a text denotes, or what an input is taken for, is a tree whose texts and values are UTF-8, as the text is. So
-/// whoever knows that a text is converted has what the laws of letters and of what is shown ask.
+/// What a text denotes, or what an input is taken for, is a tree whose texts and values are UTF-8, as the text is; of
+/// any page as browsers read it, what is known of its Markdown says so. So whoever knows that a text is converted has
+/// what the laws of letters and of what is shown ask.
 pub fn trees_hold_texts()
     ensures trees { TreesHoldTexts }
     ensures inputs { InputsHoldTexts }
@@ -107,27 +108,30 @@ pub fn trees_hold_texts()
 /// In Pure and in Guarded, with the built-in handlers, the letters of the content are what the tree says, in order:
 /// none is lost, doubled, moved or made up. A letter is a character that is no white space, no ASCII punctuation and no
 /// ASCII digit. What a tree says is one rule for each element. Where links stand inline the content is the whole
-/// Markdown, and so it is of each text that is converted, of a page's body, of the input of a run and of the page of a
-/// row; the style that prefers autolinks is left out, for there the content decides whether a link says its address once
-/// or twice.
+/// Markdown, and so it is of each text that is converted, of a page's body, of any page as browsers read it, of the
+/// input of a run and of the page of a row; the style that prefers autolinks is left out, for there the content decides
+/// whether a link says its address once or twice.
 pub fn every_letter_once()
     ensures content { LettersOfContent }
     ensures markdown { LettersOfMarkdown }
     ensures conversion { LettersOfConversion }
     ensures page { LettersOfPage }
+    ensures any_page { LettersOfAnyPage }
     ensures input { LettersOfInput }
     ensures row { LettersOfRow }
 {}
 
 /// In Pure, with the built-in handlers, where no table stands, nothing that a reader sees is lost: the characters that
 /// are no white space, of all texts that are not below `br`, `hr` or `img`, stand in the content in their order, digits
-/// and punctuation too, whatever is put between them. So it is of the whole Markdown, of each text that is converted, of
-/// a page's body, of the input of a run and of the page of a row. A table is left out, since it drops cells.
+/// and punctuation too, whatever is put between them. So it is of the whole Markdown, of each text that is converted,
+/// of a page's body, of any page as browsers read it, of the input of a run and of the page of a row. A table is left
+/// out, since it drops cells.
 pub fn nothing_is_lost()
     ensures content { ShownInContent }
     ensures markdown { ShownInMarkdown }
     ensures conversion { ShownInConversion }
     ensures page { ShownInPage }
+    ensures any_page { ShownInAnyPage }
     ensures input { ShownInInput }
     ensures row { ShownInRow }
 {}

@@ -4,6 +4,8 @@
 #![tactic(auto)]
 
 #[cfg(test)]
+mod any_pages;
+#[cfg(test)]
 mod batches;
 #[cfg(test)]
 mod builders;

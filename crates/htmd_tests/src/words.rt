@@ -15,6 +15,8 @@ fn refuses_words(rt: HostRuntime) -> Result<(), Fail> {
         "--TEXT",
         "--text=",
         "--body=1",
+        "--html5=1",
+        "--html",
         "page.html",
         "-h",
         "--skip",
@@ -75,7 +77,7 @@ fn shows_the_help(rt: HostRuntime) -> Result<(), Fail> {
             assert!(rt; line.contains(" "), "{line}");
         }
     }
-    assert_eq!(rt; lines, 32);
+    assert_eq!(rt; lines, 33);
     for line in [
         "--skip=TAG[,TAG..]                      elements of these names, in lower case, give nothing\n",
         "--link-style=inlined-prefer-autolinks   the same, but an address as its own text is an autolink\n",

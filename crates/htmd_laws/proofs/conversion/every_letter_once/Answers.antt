@@ -1,5 +1,5 @@
 use Rattle.htmd_laws.proofs.LettersLawsLemmas.{letters_of_content, letters_of_markdown, letters_of_conversion}
-use Rattle.htmd_laws.proofs.LettersLawsLemmas.{letters_of_page, letters_of_input, letters_of_row}
+use Rattle.htmd_laws.proofs.LettersLawsLemmas.{letters_of_page, letters_of_any_page, letters_of_input, letters_of_row}
 use Rattle.htmd_laws.proofs.conversion.every_letter_once.Goals as goal
 
 pub returns : goal.returns
@@ -8,6 +8,7 @@ returns c = record {
   markdown = letters_of_markdown;
   conversion = letters_of_conversion;
   page = letters_of_page;
+  any_page = letters_of_any_page;
   input = letters_of_input;
   row = letters_of_row;
 }

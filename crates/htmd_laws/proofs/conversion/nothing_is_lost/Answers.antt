@@ -1,5 +1,5 @@
 use Rattle.htmd_laws.proofs.ShownLawsLemmas.{shown_in_content, shown_in_markdown, shown_in_conversion, shown_in_page}
-use Rattle.htmd_laws.proofs.ShownLawsLemmas.{shown_in_input, shown_in_row}
+use Rattle.htmd_laws.proofs.ShownLawsLemmas.{shown_in_any_page, shown_in_input, shown_in_row}
 use Rattle.htmd_laws.proofs.conversion.nothing_is_lost.Goals as goal
 
 pub returns : goal.returns
@@ -8,6 +8,7 @@ returns c = record {
   markdown = shown_in_markdown;
   conversion = shown_in_conversion;
   page = shown_in_page;
+  any_page = shown_in_any_page;
   input = shown_in_input;
   row = shown_in_row;
 }

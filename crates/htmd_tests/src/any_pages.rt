@@ -1,0 +1,143 @@
+//! Any page as browsers read it: by the converter, by the program in each encoding, and in rows. Pages whose answer is
+//! a text are the family `html5` of `htmd_cases`.
+use crate::calls::{called, strings};
+use crate::doubles::{Dripping, Narrow};
+use htmd::HtmlToMarkdown;
+use htmd_cli::{Sink, Source, command};
+use std::alloc::{AllocError, Global};
+use std::test::Fail;
+
+const PAGE: &str = "<ul><li>a<li>b</ul><p>x<b>y<p>z";
+
+const MARKDOWN: &str = "*   a\n*   b\n\nx**y**\n\n**z**";
+
+// The Markdown of any page, where need be at a second try.
+fn asked(alloc: Global, converter: &HtmlToMarkdown, html: &str) -> Result<String, AllocError> {
+    match converter.convert_html5(alloc, html) {
+        Ok(markdown) => Ok(markdown),
+        Err(_) => converter.convert_html5(alloc, html),
+    }
+}
+
+// `checks/refused_memory`, a part of the gate, refuses each request of this test in turn; it passes whichever it is.
+#[test]
+fn converts_a_broken_page(rt: HostRuntime) -> Result<(), Fail> {
+    let converter = match HtmlToMarkdown::new(rt.alloc()) {
+        Ok(converter) => converter,
+        Err(_) => HtmlToMarkdown::new(rt.alloc())?,
+    };
+    let markdown = asked(rt.alloc(), &converter, PAGE)?;
+    assert_eq!(rt; markdown.as_str(), MARKDOWN);
+    Ok(())
+}
+
+// UTF-8, with its mark and without, UTF-16 in both orders, and windows-1252.
+#[test]
+fn reads_each_encoding(rt: HostRuntime) -> Result<(), Fail> {
+    let table: [(&[u8], &str); 8] = [
+        (b"<p>caf\xC3\xA9<p>\xE2\x82\xAC", "caf\u{E9}\n\n\u{20AC}\n"),
+        (b"\xEF\xBB\xBF<p>a", "a\n"),
+        (b"\xFE\xFF\0<\0p\0>\0\xE9\x20\xAC", "\u{E9}\u{20AC}\n"),
+        (b"\xFF\xFE<\0p\0>\0\xE9\0\xAC\x20", "\u{E9}\u{20AC}\n"),
+        (b"\xFF\xFEa\0\x3D\xD8\x00\xDE\x3D\xD8", "a\u{1F600}\u{FFFD}\n"),
+        (b"<p>caf\xE9<p>\x80", "caf\u{E9}\n\n\u{20AC}\n"),
+        (b"<p>\x93a\x94 \x81", "\u{201C}a\u{201D} \u{81}\n"),
+        (b"\xFF", "\u{FF}\n"),
+    ];
+    for (page, markdown) in table {
+        let answer = called(rt.alloc(), &["--html5"], page)?;
+        assert_eq!(rt; answer.stdout.as_str(), markdown, "{page:?}");
+        assert_eq!(rt; answer.stderr.as_str(), "");
+        assert_eq!(rt; answer.status, 0);
+        assert_eq!(rt; answer.unread, 0);
+    }
+    Ok(())
+}
+
+// Without the word, and of a text, only UTF-8 is read.
+#[test]
+fn reads_utf8_alone_otherwise(rt: HostRuntime) -> Result<(), Fail> {
+    let table: [&[&str]; 4] = [&[], &["--body"], &["--html5", "--text"], &["--text"]];
+    for words in table {
+        for page in [b"a\xE9".as_slice(), b"\xFE\xFF\0a"] {
+            let answer = called(rt.alloc(), words, page)?;
+            assert_eq!(rt; answer.stdout.as_str(), "", "{words:?}");
+            assert_eq!(rt; answer.stderr.as_str(), "htmd: not UTF-8\n");
+            assert_eq!(rt; answer.status, 1);
+        }
+    }
+    Ok(())
+}
+
+// No row is refused, and each is read in its own encoding.
+#[test]
+fn answers_rows(rt: HostRuntime) -> Result<(), Fail> {
+    let rows = b"1\t<p>a<p>b\n2\t<p><div>\n\\N\n4\t\\377\\376\\x61\\0\n5\t\xE9\n6\t<b>c\\n<i>d\\0\n";
+    let wanted = "1\ta\\n\\nb\n2\t\n\\N\n4\ta\n5\t\u{E9}\n6\t**c *d***\n";
+    for words in [["--html5", "--rows"], ["--rows", "--html5"]] {
+        let answer = called(rt.alloc(), words.as_slice(), rows)?;
+        assert_eq!(rt; answer.stdout.as_str(), wanted);
+        assert_eq!(rt; answer.stderr.as_str(), "");
+        assert_eq!(rt; answer.status, 0);
+    }
+    Ok(())
+}
+
+// A page of 31 bytes is read in 32 reads, the last one at its end. Each of them fails in turn.
+#[test]
+fn answers_each_failed_read(rt: HostRuntime) -> Result<(), Fail> {
+    let words = strings(rt.alloc(), &["--html5"])?;
+    for reads in 0..34 {
+        let mut source = Dripping::new(PAGE.as_bytes(), reads);
+        let mut sink = Narrow::new(rt.alloc(), 100);
+        let mut errors = Narrow::new(rt.alloc(), 100);
+        let status = command(
+            rt.alloc(),
+            words.as_slice(),
+            &mut source,
+            &mut sink,
+            &mut errors,
+        );
+        let fails = reads < 32;
+        assert_eq!(rt; status, u8::from(fails), "{reads}");
+        assert_eq!(rt; sink.bytes().is_empty(), fails);
+        let said = if fails { "htmd: read failed\n" } else { "" };
+        assert_eq!(rt; errors.bytes(), said.as_bytes());
+        assert_eq!(rt; source.failed(), fails);
+    }
+    Ok(())
+}
+
+// The Markdown of `<p>a<p>b` and its line feed are five bytes, written one by one, and flushed. Each of these calls
+// fails in turn, of a row the same.
+#[test]
+fn answers_each_failed_write(rt: HostRuntime) -> Result<(), Fail> {
+    let table: [(&[&str], &str, &str); 2] = [
+        (&["--html5"], "a\n\nb\n", "htmd: write failed\n"),
+        (
+            &["--html5", "--rows"],
+            "a\\n\\nb\n",
+            "htmd: row 1: write failed\n",
+        ),
+    ];
+    for (words, markdown, said) in table {
+        let words = strings(rt.alloc(), words)?;
+        for calls in 0..=markdown.len() {
+            let mut source = Dripping::new(b"<p>a<p>b", 100);
+            let mut sink = Narrow::new(rt.alloc(), calls);
+            let mut errors = Narrow::new(rt.alloc(), 100);
+            let status = command(
+                rt.alloc(),
+                words.as_slice(),
+                &mut source,
+                &mut sink,
+                &mut errors,
+            );
+            assert_eq!(rt; status, 1, "{calls}");
+            assert_eq!(rt; sink.bytes(), markdown.as_bytes().split_at(calls).0);
+            assert_eq!(rt; errors.bytes(), said.as_bytes());
+            assert!(rt; sink.failed());
+        }
+    }
+    Ok(())
+}
