@@ -4,7 +4,7 @@ use Rattle.std.specs.Prelude.{find}
 use Rattle.std.specs.Str.{bytes_eq}
 use Rattle.std.specs.Char.{to_ascii_lowercase}
 use Rattle.htmd_grammar.specs.ValueTrees.{AttributePair}
-use Rattle.htmd_html5_state.specs.Names.{NameValue, text_of_name, known, other}
+use Rattle.htmd_html5_state.specs.Names.{NameValue, known, other}
 use Rattle.htmd_html5_state.specs.Documents.{detach, is_named, add_missing}
 use Rattle.htmd_html5.specs.Tokens.{StartTagValue}
 use Rattle.htmd_html5_state.specs.OpenElements.{OpenValue, current_is, is_open, is_in_scope, second_open, pop}
@@ -13,7 +13,6 @@ use Rattle.htmd_html5_state.specs.State.{StateValue, on_nodes, on_stack, on_form
 use Rattle.htmd_html5_state.specs.Insertion.{current}
 use Rattle.htmd_html5_state.specs.Formatting.{push_marker, without_entry, insert_formatting, reconstruct}
 use Rattle.htmd_html5_state.specs.Adoption.{formatting_element, adoption_agency}
-use Rattle.htmd_html5_state.specs.Foreign.{insert_foreign}
 use Rattle.htmd_html5_state.specs.declared.modes.InsertionMode.TheVariants.{InTable, InCaption, InTableBody, InRow}
 use Rattle.htmd_html5_state.specs.declared.modes.InsertionMode.TheVariants.{InCell, InSelect, InSelectInTable}
 use Rattle.htmd_html5_state.specs.declared.modes.InsertionMode.TheVariants.{InFrameset}
@@ -26,8 +25,8 @@ use Rattle.htmd_html5_state.specs.declared.sets.NameSet.TheVariants.{ImpliedEndI
 use Rattle.htmd_html5_state.specs.declared.sets.NameSet.{NameSet}
 use Rattle.htmd_html5_state.specs.declared.sets.Scope.TheVariants.{Default, Items}
 use Rattle.htmd_html5.specs.declared.body_starts.StartRule.{StartRule}
-use Rattle.htmd_html5.specs.SharedRules.{with_mode, insert_tag, insert_void_tag, insert_raw_tag, no_frameset}
-use Rattle.htmd_html5.specs.SharedRules.{close_paragraph, add_to_root, insert_head_element}
+use Rattle.htmd_html5.specs.SharedRules.{with_mode, insert_tag, insert_void_tag, insert_raw_tag, insert_foreign_tag}
+use Rattle.htmd_html5.specs.SharedRules.{no_frameset, close_paragraph, add_to_root, insert_head_element}
 use Rattle.htmd_html5_state.specs.declared.names.TagName.TheVariants as tags
 use Rattle.htmd_html5.specs.declared.body_starts.StartRule.TheVariants as rule
 use Rattle.htmd_html5_tokens.specs.declared.tokens.RawElement.TheVariants as raw
@@ -305,8 +304,7 @@ start_ruby implied tag s =
     insert_tag tag (if is_in_scope (Only tags.Ruby) Default s.stack then on_stack (pop_while implied) s else s)
 
 abbrev pub start_foreign : Namespace → StartTagValue → StateValue → StateValue
-start_foreign space tag s =
-    insert_foreign space (text_of_name tag.name) tag.attributes tag.self_closing (reconstruct s)
+start_foreign space tag s = insert_foreign_tag space tag (reconstruct s)
 
 -- ---- text alone
 

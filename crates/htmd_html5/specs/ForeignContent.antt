@@ -9,16 +9,16 @@ use Rattle.htmd_html5_state.specs.Names.{NameValue, text_of_name, known, other}
 use Rattle.htmd_html5.specs.Tokens.{doctype, comment, StartTagValue, TokenValue, start_tag, end_tag, run, end_of_file}
 use Rattle.htmd_html5_state.specs.State.{StateValue, on_stack}
 use Rattle.htmd_html5_state.specs.Insertion.{current, insert_text, insert_comment}
-use Rattle.htmd_html5_state.specs.Foreign.{insert_foreign, current_is_html, namespace_of, is_math_text_point}
-use Rattle.htmd_html5_state.specs.Foreign.{is_annotation, is_html_point, leave_foreign, ForeignEnd, foreign_end}
-use Rattle.htmd_html5_state.specs.Foreign.{goes_by_mode, after_foreign_end}
+use Rattle.htmd_html5_state.specs.Foreign.{current_is_html, namespace_of, is_math_text_point, is_annotation}
+use Rattle.htmd_html5_state.specs.Foreign.{is_html_point, leave_foreign, ForeignEnd, foreign_end, goes_by_mode}
+use Rattle.htmd_html5_state.specs.Foreign.{after_foreign_end}
 use Rattle.htmd_html5_state.specs.declared.names.TagName.{TagName}
 use Rattle.htmd_html5_state.specs.declared.names.Namespace.{Namespace}
 use Rattle.htmd_html5_tokens.specs.References.{replacement_character}
 use Rattle.htmd_html5.specs.declared.tokens.RunKind.{RunKind}
 use Rattle.htmd_html5.specs.declared.tokens.RunKind.TheVariants.{White, Nulls, Characters}
 use Rattle.htmd_html5.specs.Answers.{Answer, done}
-use Rattle.htmd_html5.specs.SharedRules.{no_frameset}
+use Rattle.htmd_html5.specs.SharedRules.{insert_foreign_tag, no_frameset}
 use Rattle.htmd_html5.specs.Modes.{by_mode_rules}
 use Rattle.htmd_html5_state.specs.declared.names.TagName.TheVariants as tags
 
@@ -57,10 +57,10 @@ is_for_html_point _ = false
 -- HTML's rules apply, which is so where nothing is open, too
 abbrev pub goes_to_html : TokenValue → StateValue → Bool
 goes_to_html token s =
-    current_is_html s.stack
-    || (is_math_text_point (current s.stack) && is_for_math_text token)
-    || (is_annotation (current s.stack) && is_for_annotation token)
-    || (is_html_point s.nodes (current s.stack) && is_for_html_point token)
+    (is_for_math_text token && is_math_text_point (current s.stack))
+    || (is_for_annotation token && is_annotation (current s.stack))
+    || (is_for_html_point token && is_html_point s.nodes (current s.stack))
+    || current_is_html s.stack
 
 abbrev pub is_foreign : TokenValue → StateValue → Bool
 is_foreign end_of_file s = false
@@ -120,8 +120,11 @@ breaks_out _ = false
 abbrev pub is_font_attribute : AttributePair → Bool
 is_font_attribute a = is_among (codes "color" ∷ codes "face" ∷ codes "size" ∷ []) a.name
 
+abbrev pub has_font_attribute : List AttributePair → Bool
+has_font_attribute attributes = list_any is_font_attribute attributes
+
 abbrev pub tag_breaks_out : NameValue → List AttributePair → Bool
-tag_breaks_out (known tags.Font) attributes = list_any is_font_attribute attributes
+tag_breaks_out (known tags.Font) attributes = has_font_attribute attributes
 tag_breaks_out (known tag) attributes = breaks_out tag
 tag_breaks_out (other s) attributes = false
 
@@ -137,8 +140,7 @@ break_out token s = by_mode_rules token (on_stack (leave_foreign s.nodes) s)
 -- an element in the namespace of the current node
 abbrev pub insert_alike : Option Namespace → StartTagValue → StateValue → StateValue
 insert_alike None tag s = s
-insert_alike (Some space) tag s =
-    insert_foreign space (text_of_name tag.name) tag.attributes tag.self_closing s
+insert_alike (Some space) tag s = insert_foreign_tag space tag s
 
 abbrev pub start_foreign_element : StartTagValue → StateValue → StateValue
 start_foreign_element tag s = insert_alike (namespace_of (current s.stack).name) tag s

@@ -5,8 +5,8 @@ use Rattle.std.specs.Prelude.{zero, ◌+◌, is_some, map}
 use Rattle.htmd_html5_state.specs.Names.{text_of_element_name}
 use Rattle.htmd_html5_state.specs.Documents.{KindValue, NodeValue, kind_at, children_at, text_of, with_kind, document}
 use Rattle.htmd_html5_state.specs.Documents.{doctype, text, comment, element}
-use Rattle.htmd_tree.specs.Items.{Data, document_node, doctype_node, text_node, comment_node, element_node, Item}
-use Rattle.htmd_tree.specs.Items.{document_item, new_item, depth_at}
+use Rattle.htmd_tree.specs.Items.{Data, doctype_node, text_node, comment_node, element_node, Item, document_item}
+use Rattle.htmd_tree.specs.Items.{new_item, depth_at}
 
 -- a node that is to come, and the number of its parent in the tree
 pub record Coming : Type 0 where
@@ -15,13 +15,6 @@ pub record Coming : Type 0 where
 
 abbrev pub coming : ℕ → ℕ → Coming
 coming under node = record { node = node; under = under }
-
-abbrev pub data_of_kind : KindValue → Data
-data_of_kind document = document_node
-data_of_kind doctype = doctype_node
-data_of_kind (text s) = text_node s
-data_of_kind (comment s) = comment_node s
-data_of_kind (element name attributes) = element_node (text_of_element_name name) attributes
 
 -- a child of this item stands at the depth
 abbrev pub is_deepest : ℕ → List Item → ℕ → Bool
@@ -75,12 +68,17 @@ parent_of_children deepest c l = if deepest then c.under else length l.items
 abbrev pub with_children_under : ℕ → ℕ → Layout → Layout
 with_children_under under n l = record l { work = map (coming under) (children_at l.nodes n) ++ l.work }
 
+abbrev pub with_element : Bool → Data → Coming → Layout → Layout
+with_element deepest new c l = with_children_under (parent_of_children deepest c l) c.node (with_item new c l)
+
 -- a Document in a document is nothing
 abbrev pub with_kind_of : Bool → KindValue → Coming → Layout → Layout
 with_kind_of deepest document c l = l
+with_kind_of deepest doctype c l = with_item doctype_node c l
 with_kind_of deepest (text s) c l = with_text deepest s c l
-with_kind_of deepest kind c l =
-    with_children_under (parent_of_children deepest c l) c.node (with_item (data_of_kind kind) c l)
+with_kind_of deepest (comment s) c l = with_item (comment_node s) c l
+with_kind_of deepest (element name attributes) c l =
+    with_element deepest (element_node (text_of_element_name name) attributes) c l
 
 -- a node isn't laid out twice
 abbrev pub without_node : ℕ → Layout → Layout

@@ -1,7 +1,7 @@
 -- Rules that many modes share.
 use Rattle.std.specs.Prelude.{ℕ, false, if◌then◌else◌, List, ◌∷◌, Option, Some, None}
 use Rattle.htmd_grammar.specs.ValueTrees.{AttributePair}
-use Rattle.htmd_html5_state.specs.Names.{NameValue, known}
+use Rattle.htmd_html5_state.specs.Names.{NameValue, text_of_name, known}
 use Rattle.htmd_html5_state.specs.Documents.{add_missing}
 use Rattle.htmd_html5.specs.Tokens.{StartTagValue}
 use Rattle.htmd_html5_state.specs.OpenElements.{is_open, first_open, pop_until, close}
@@ -9,8 +9,10 @@ use Rattle.htmd_html5_state.specs.State.{StateValue, on_nodes, on_stack}
 use Rattle.htmd_html5_state.specs.Insertion.{insert_element, insert_void, insert_raw}
 use Rattle.htmd_html5_state.specs.Formatting.{push_marker, clear_to_marker}
 use Rattle.htmd_html5_state.specs.Resetting.{pop_template_mode, reset_insertion_mode}
+use Rattle.htmd_html5_state.specs.Foreign.{insert_foreign}
 use Rattle.htmd_html5_state.specs.declared.modes.InsertionMode.TheVariants.{InTemplate}
 use Rattle.htmd_html5_state.specs.declared.modes.InsertionMode.{InsertionMode}
+use Rattle.htmd_html5_state.specs.declared.names.Namespace.{Namespace}
 use Rattle.htmd_html5_state.specs.declared.sets.NameSet.TheVariants.{Only}
 use Rattle.htmd_html5_state.specs.declared.sets.Scope.TheVariants.{Button as ButtonScope}
 use Rattle.htmd_html5_tokens.specs.declared.tokens.RawElement.{RawElement}
@@ -29,6 +31,10 @@ insert_void_tag tag s = insert_void tag.name tag.attributes s
 
 abbrev pub insert_raw_tag : RawElement → StartTagValue → StateValue → StateValue
 insert_raw_tag element tag s = insert_raw tag.name element tag.attributes s
+
+-- the foreign element of a tag
+abbrev pub insert_foreign_tag : Namespace → StartTagValue → StateValue → StateValue
+insert_foreign_tag space tag s = insert_foreign space (text_of_name tag.name) tag.attributes tag.self_closing s
 
 -- frameset-ok is "not ok"
 abbrev pub no_frameset : StateValue → StateValue

@@ -6,7 +6,7 @@ ghost use Rattle.htmd_html5.specs.BodyStarts as spec;
 ghost use Rattle.htmd_html5.specs.Tokens.{tag_of};
 ghost use Rattle.htmd_tree.specs.Views.{pairs_of};
 
-use crate::shared_rules::{add_to_root, close_paragraph, insert_head_element, insert_raw_tag, insert_tag, insert_void_tag};
+use crate::shared_rules::{add_to_root, close_paragraph, insert_foreign_tag, insert_head_element, insert_raw_tag, insert_tag, insert_void_tag};
 use crate::tokens::StartTag;
 use htmd_html5_state::{HtmlName, HtmlState, InsertionMode, NameSet, Namespace, Scope, TagName};
 use htmd_html5_tokens::RawElement;
@@ -493,7 +493,7 @@ fn start_foreign(
     ensures { OnOk result (state.new ≡ spec.start_foreign space (tag_of tag) state.old) }
 {
     state.reconstruct()?;
-    state.insert_foreign(space, tag.name.text(), tag.attributes, tag.self_closing)
+    insert_foreign_tag(state, space, tag)
 }
 
 // ---- text alone

@@ -1,12 +1,14 @@
 //! Tokens in foreign content.
-ghost use Rattle.std.specs.Prelude.{◌≡◌, is_some, string_bytes, IfOk, IfSome, OnOk};
-ghost use Rattle.htmd_html5_state.specs.Names.{name_of};
+ghost use Rattle.std.specs.Prelude.{◌≡◌, ℕ, Bool, List, is_some, string_bytes, IfOk, IfSome, OnOk};
+ghost use Rattle.htmd_html5_state.specs.Names.{NameValue, name_of};
 ghost use Rattle.htmd_html5.specs.Answers.{answer};
 ghost use Rattle.htmd_html5.specs.ForeignContent as spec;
 ghost use Rattle.htmd_html5.specs.Tokens.{tag_of, start_tag, end_tag, run, comment, doctype};
+ghost use Rattle.htmd_html5.specs.declared.tokens.RunKind.{RunKind};
 ghost use Rattle.htmd_tree.specs.Views.{pair_of, pairs_of};
 
 use crate::modes::{end_by_mode, start_by_mode};
+use crate::shared_rules::insert_foreign_tag;
 use crate::tokens::{RunKind, StartTag};
 use htmd_html5_state::{HtmlName, HtmlState, TagName};
 use htmd_tree::Attribute;
@@ -38,16 +40,16 @@ pub(crate) fn is_start_foreign(state: &HtmlState, tag: &StartTag) -> bool
 
 /// Whether an end tag, a comment or a doctype goes to foreign content.
 pub(crate) fn is_in_foreign(state: &HtmlState) -> bool
-    ensures end { spec.IsForeignIf end_tag state.now result }
-    ensures comment { spec.IsForeignIf comment state.now result }
-    ensures doctype { spec.IsForeignIf doctype state.now result }
+    ensures ends { (name : NameValue) → result ≡ spec.is_foreign (end_tag name) state.now }
+    ensures comments { (text : List ℕ) → result ≡ spec.is_foreign (comment text) state.now }
+    ensures doctypes { (quirks : Bool) → result ≡ spec.is_foreign (doctype quirks) state.now }
 {
     !state.current_is_html()
 }
 
 /// Whether text goes to foreign content.
 pub(crate) fn is_text_foreign(state: &HtmlState) -> bool
-    ensures { spec.IsTextForeignIf state.now result }
+    ensures { (kind : RunKind) (text : List ℕ) → result ≡ spec.is_foreign (run kind text) state.now }
 {
     !(state.current_is_html()
         || state.current_is_math_text_point()
@@ -142,9 +144,7 @@ fn insert_alike(state: &mut HtmlState, tag: StartTag) -> Result<(), AllocError>
     ensures { OnOk result (state.new ≡ spec.start_foreign_element (tag_of tag) state.old) }
 {
     match state.current_namespace() {
-        Some(space) => {
-            state.insert_foreign(space, tag.name.text(), tag.attributes, tag.self_closing)
-        }
+        Some(space) => insert_foreign_tag(state, space, tag),
         None => Ok(()),
     }
 }

@@ -1,14 +1,16 @@
 //! The tree of a document: its nodes in document order, to the greatest depth.
-ghost use Rattle.std.specs.Prelude.{◌≡◌, ◌∷◌, ◌++◌, ◌<◌, length, string_bytes, IfOk, IfSome, OnOk, IsTrue};
-ghost use Rattle.htmd_html5_state.specs.Documents.{kind_at, with_kind, document};
+ghost use Rattle.std.specs.Prelude.{◌≡◌, ℕ, ⊤, length, map, option_map, string_bytes, IfOk, IfSome, IsErrOf, OnOk, Ok};
+ghost use Rattle.htmd_html5_state.specs.Documents.{kind_at};
+ghost use Rattle.htmd_html5_state.specs.Names.{element_name_of, text_of_element_name};
 ghost use Rattle.htmd_html5_state.specs.Views.{kind_of, nodes_of};
 ghost use Rattle.htmd_html5.specs.Layout as spec;
-ghost use Rattle.htmd_html5.specs.LayoutViews.{layout_of, AllMayHold, MayHold};
-ghost use Rattle.htmd_tree.specs.Items.{data_at, depth_at, greatest_depth, new_item};
-ghost use Rattle.htmd_tree.specs.Views.{data_of};
+ghost use Rattle.htmd_html5.specs.LayoutViews.{coming_of, layout_of, AllMayHold, MayHold};
+ghost use Rattle.htmd_tree.specs.Items.{comment_node, doctype_node, element_node, text_node, greatest_depth};
+ghost use Rattle.htmd_tree.specs.Views.{pairs_of};
+ghost use Rattle.htmd_tree.specs.declared.tree.TreeError.TheVariants.{TooDeep};
 
-use htmd_html5_state::{Node, NodeKind};
-use htmd_tree::{NodeId, Tree, TreeError};
+use htmd_html5_state::{ElementName, Node, NodeKind};
+use htmd_tree::{Attribute, NodeId, Tree, TreeError};
 use std::alloc::{AllocError, Global};
 use std::mem;
 
@@ -30,26 +32,26 @@ pub(crate) struct Layout {
     coming: Vec<Coming>,
 }
 
-impl Layout {
-    /// A new item of the tree: its number.
-    fn add(&mut self, under: NodeId, kind: NodeKind) -> Result<Option<NodeId>, AllocError> {
-        let added = match kind {
-            NodeKind::Document => return Ok(None),
-            NodeKind::Doctype => self.tree.add_doctype(under),
-            NodeKind::Text(text) => self.tree.add_text(under, text.as_str()),
-            NodeKind::Comment(text) => self.tree.add_comment(under, text.as_str()),
-            NodeKind::Element { name, attributes } => {
-                self.tree.add_element(under, name.text(), attributes)
-            }
-        };
-        match added {
-            Ok(id) => Ok(Some(id)),
-            Err(_) => Err(AllocError),
-        }
+/// The item that was added, where it doesn't stand too deep.
+fn item_of(added: Result<NodeId, TreeError>) -> Result<NodeId, AllocError>
+    requires { IsErrOf added TooDeep → ⊥ }
+    ensures { IfOk result (λ id. added ≡ Ok id) }
+{
+    match added {
+        Ok(id) => Ok(id),
+        Err(TreeError::Memory) => Err(AllocError),
+        Err(TreeError::TooDeep) => unreachable!(),
     }
+}
 
-    /// What a node is, which isn't laid out twice.
-    fn take_kind(&mut self, node: usize) -> NodeKind {
+impl Layout {
+    /// Takes what a node is, which isn't laid out twice.
+    fn take_kind(&mut self, node: usize) -> NodeKind
+        ensures kind { kind_of result ≡ kind_at (nodes_of self.old.nodes.items) node }
+        ensures value { layout_of self.new ≡ spec.without_node node (layout_of self.old) }
+        ensures tree { self.new.tree ≡ self.old.tree }
+        ensures coming { self.new.coming.items ≡ self.old.coming.items }
+    {
         if node >= self.nodes.len() {
             return NodeKind::Document;
         }
@@ -58,7 +60,13 @@ impl Layout {
     }
 
     /// The children of a node come next.
-    fn push_children(&mut self, node: usize, under: NodeId) -> Result<(), AllocError> {
+    fn push_children(&mut self, node: usize, under: NodeId) -> Result<(), AllocError>
+        requires may_hold { MayHold self.old.tree under }
+        requires holds { AllMayHold self.old.tree self.old.coming.items }
+        ensures value { OnOk result (layout_of self.new
+            ≡ spec.with_children_under under node (layout_of self.old)) }
+        ensures holds { OnOk result (AllMayHold self.new.tree self.new.coming.items) }
+    {
         if node < self.nodes.len() {
             let children = self.nodes[node].children.as_slice();
             for child in children.iter().rev() {
@@ -71,8 +79,18 @@ impl Layout {
         Ok(())
     }
 
+    /// Whether a child of this item stands at the greatest depth.
+    fn is_deepest(&self, under: NodeId) -> bool
+        requires { MayHold self.now.tree under }
+        ensures { result ≡ spec.is_deepest greatest_depth self.now.tree under }
+    {
+        self.tree.depth(under) + 1 == MAX_DEPTH
+    }
+
     /// The text that comes next, where it stands under this item.
-    fn next_text(&self, under: NodeId) -> Option<&str> {
+    fn next_text(&self, under: NodeId) -> Option<&str>
+        ensures { option_map (λ t. t.now) result ≡ next_text_of under (layout_of self.now) }
+    {
         let next = self.coming.last()?;
         if next.under != under {
             return None;
@@ -97,47 +115,60 @@ impl Layout {
         if self.is_deepest(under) {
             self.join_texts(under, &mut text)?;
         }
-        self.add(under, NodeKind::Text(text))?;
+        item_of(self.tree.add_text(under, text.as_str()))?;
         Ok(())
     }
 
-    /// Whether a child of this item stands at the greatest depth.
-    fn is_deepest(&self, under: NodeId) -> bool {
-        self.tree.depth(under) + 1 == MAX_DEPTH
-    }
-
-    fn put_other(&mut self, coming: Coming, kind: NodeKind) -> Result<(), AllocError> {
+    fn put_element(
+        &mut self,
+        coming: Coming,
+        name: &ElementName,
+        attributes: Vec<Attribute>,
+    ) -> Result<(), AllocError> {
         let deepest = self.is_deepest(coming.under);
-        let Some(id) = self.add(coming.under, kind)? else {
-            return Ok(());
-        };
-        let under = if deepest { coming.under } else { id };
+        let item = item_of(self.tree.add_element(coming.under, name.text(), attributes))?;
+        let under = if deepest { coming.under } else { item };
         self.push_children(coming.node, under)
     }
 
     fn put(&mut self, coming: Coming) -> Result<(), AllocError> {
+        let under = coming.under;
         match self.take_kind(coming.node) {
-            NodeKind::Text(text) => self.put_text(coming.under, text),
-            kind => self.put_other(coming, kind),
+            NodeKind::Document => {}
+            NodeKind::Doctype => {
+                item_of(self.tree.add_doctype(under))?;
+            }
+            NodeKind::Text(text) => self.put_text(under, text)?,
+            NodeKind::Comment(text) => {
+                item_of(self.tree.add_comment(under, text.as_str()))?;
+            }
+            NodeKind::Element { name, attributes } => self.put_element(coming, &name, attributes)?,
         }
+        Ok(())
     }
 }
 
-/// The tree of the nodes of a document, of which each is laid out once.
-pub(crate) fn lay_out(alloc: Global, nodes: Vec<Node>) -> Result<Tree, AllocError> {
+fn first_layout(alloc: Global, nodes: Vec<Node>) -> Result<Layout, AllocError> {
     let tree = match Tree::new(alloc) {
         Ok(tree) => tree,
         Err(_) => return Err(AllocError),
     };
-    let count = nodes.len();
-    let coming = Vec::new(alloc);
+    let root = tree.root();
     let mut layout = Layout {
         nodes,
         tree,
-        coming,
+        coming: Vec::new(alloc),
     };
-    let root = layout.tree.root();
     layout.push_children(0, root)?;
+    Ok(layout)
+}
+
+/// The tree of the nodes of a document, of which each is laid out once.
+pub(crate) fn lay_out(alloc: Global, nodes: Vec<Node>) -> Result<Tree, AllocError>
+    ensures { IfOk result (λ tree. tree ≡ spec.document_of greatest_depth (nodes_of nodes.items)) }
+{
+    let count = nodes.len();
+    let mut layout = first_layout(alloc, nodes)?;
     for _ in 0..count {
         let Some(coming) = layout.coming.pop() else {
             return Ok(layout.tree);

@@ -5,7 +5,7 @@ ghost use Rattle.htmd_html5.specs.SharedRules as spec;
 ghost use Rattle.htmd_html5.specs.Tokens.{tag_of};
 
 use crate::tokens::StartTag;
-use htmd_html5_state::{HtmlName, HtmlState, InsertionMode, NameSet, Scope, TagName};
+use htmd_html5_state::{HtmlName, HtmlState, InsertionMode, NameSet, Namespace, Scope, TagName};
 use htmd_html5_tokens::RawElement;
 use std::alloc::AllocError;
 
@@ -33,6 +33,22 @@ pub(crate) fn insert_raw_tag(
     ensures { OnOk result (state.new ≡ spec.insert_raw_tag element (tag_of tag) state.old) }
 {
     state.insert_raw(tag.name, element, tag.attributes)
+}
+
+/// The foreign element of a tag, closed at once where the tag ends in `/>`.
+pub(crate) fn insert_foreign_tag(
+    state: &mut HtmlState,
+    space: Namespace,
+    tag: StartTag,
+) -> Result<(), AllocError>
+    ensures { OnOk result (state.new ≡ spec.insert_foreign_tag space (tag_of tag) state.old) }
+{
+    let StartTag {
+        name,
+        attributes,
+        self_closing,
+    } = tag;
+    state.insert_foreign(space, name.text(), attributes, self_closing)
 }
 
 /// Closes a `p`, where one is in button scope.
