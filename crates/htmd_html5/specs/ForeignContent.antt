@@ -150,8 +150,8 @@ start_in_foreign tag s =
     if tag_breaks_out tag.name tag.attributes then break_out (start_tag tag) s else done (start_foreign_element tag s)
 
 abbrev pub end_foreign : NameValue → ForeignEnd → StateValue → Answer
-end_foreign name end s =
-    if goes_by_mode end then by_mode_rules (end_tag name) s else done (after_foreign_end end s)
+end_foreign name ending s =
+    if goes_by_mode ending then by_mode_rules (end_tag name) s else done (after_foreign_end ending s)
 
 abbrev pub end_in_foreign : NameValue → StateValue → Answer
 end_in_foreign name s =

@@ -186,7 +186,7 @@ fn replacements(alloc: Global, text: &str) -> Result<String, AllocError>
     ensures { IfOk result (λ replaced. string_bytes replaced ≡ spec.replacements text.now) }
 {
     let mut replaced = String::new(alloc);
-    for _ in text.as_bytes() {
+    for _byte in text.as_bytes() {
         replaced.push('\u{fffd}')?;
     }
     Ok(replaced)

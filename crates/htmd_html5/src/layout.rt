@@ -169,7 +169,7 @@ pub(crate) fn lay_out(alloc: Global, nodes: Vec<Node>) -> Result<Tree, AllocErro
 {
     let count = nodes.len();
     let mut layout = first_layout(alloc, nodes)?;
-    for _ in 0..count {
+    for _node in 0..count {
         let Some(coming) = layout.coming.pop() else {
             return Ok(layout.tree);
         };

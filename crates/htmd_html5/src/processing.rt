@@ -38,7 +38,7 @@ pub(crate) fn process_start(state: &mut HtmlState, tag: StartTag) -> Result<(), 
     ensures { OnOk result (state.new ≡ spec.process (start_tag (tag_of tag)) state.old) }
 {
     let mut tag = tag;
-    for _ in 0..turns(state) {
+    for _turn in 0..turns(state) {
         match start_by_rules(state, tag)? {
             Some(again) => tag = again,
             None => return Ok(()),
@@ -62,7 +62,7 @@ fn end_by_rules(state: &mut HtmlState, name: &HtmlName) -> Result<bool, AllocErr
 pub(crate) fn process_end(state: &mut HtmlState, name: &HtmlName) -> Result<(), AllocError>
     ensures { OnOk result (state.new ≡ spec.process (end_tag (name_of name.now)) state.old) }
 {
-    for _ in 0..turns(state) {
+    for _turn in 0..turns(state) {
         if !end_by_rules(state, name)? {
             return Ok(());
         }
@@ -110,7 +110,7 @@ pub(crate) fn process_doctype(state: &mut HtmlState, quirks: bool) -> Result<(),
 pub(crate) fn process_end_of_file(state: &mut HtmlState) -> Result<(), AllocError>
     ensures { OnOk result (state.new ≡ spec.process end_of_file state.old) }
 {
-    for _ in 0..turns(state) {
+    for _turn in 0..turns(state) {
         if !end_file_by_mode(state)? {
             return Ok(());
         }

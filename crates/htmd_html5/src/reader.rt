@@ -18,7 +18,7 @@ fn read_all(alloc: Global, state: &mut HtmlState, text: &str) -> Result<(), Allo
     ensures { OnOk result (state.new ≡ spec.read_all text.now state.old) }
 {
     let mut tokenizer = Tokenizer::new(text);
-    for _ in 0..text.len() {
+    for _token in 0..text.len() {
         let token = tokenizer.next(alloc, state.content(), !state.current_is_html())?;
         let ends = matches!(token, Token::EndOfFile);
         feed(state, token)?;

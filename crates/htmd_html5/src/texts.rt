@@ -29,7 +29,7 @@ fn take_part<'a>(state: &mut HtmlState, text: &'a str) -> Result<&'a str, AllocE
     ensures { IfOk result (λ rest. spec.taken state.new rest.now ≡ spec.take_part text.now state.old) }
 {
     let split = split_run(text);
-    for _ in 0..turns(state) {
+    for _turn in 0..turns(state) {
         if takes_all(state) {
             table_text(state, text)?;
             return Ok("");
