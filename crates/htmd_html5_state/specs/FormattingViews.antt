@@ -11,4 +11,4 @@ entries_of entries = reverse entries
 pub record IsNewest (n : ℕ) (entries : List (Option ℕ)) (i : ℕ) : Type 0 where
   pub within : i < length entries
   pub here : slice_get entries i ≡ Some (Some n)
-  pub behind : is_listed n (entries_of (drop (i + 1) entries)) ≡ false
+  pub after : is_listed n (entries_of (drop (i + 1) entries)) ≡ false

@@ -1,0 +1,2 @@
+-- Lists that are held in the other order; the stack of open elements, the list of active formatting elements, documents.
+pub mod StackLemmas
