@@ -211,7 +211,7 @@ fn is_html_encoding(value: &str) -> bool
 }
 
 fn has_html_encoding(kind: Option<&NodeKind>) -> bool
-    ensures { result ≡ spec.has_html_encoding (attributes_of (kind_seen kind)) }
+    ensures { result ≡ spec.has_html_encoding (attributes_of (kind_seen kind.entry)) }
 {
     let Some(NodeKind::Element { attributes, .. }) = kind else {
         return false;

@@ -38,7 +38,7 @@ impl Model for FormattingList {
 
 /// Whether both are elements of the same name and attributes.
 fn are_alike(this: Option<&NodeKind>, that: Option<&NodeKind>) -> bool
-    ensures { result ≡ same_element (kind_seen this) (kind_seen that) }
+    ensures { result ≡ same_element (kind_seen this.entry) (kind_seen that.entry) }
 {
     match (this, that) {
         (
@@ -54,7 +54,7 @@ fn are_alike(this: Option<&NodeKind>, that: Option<&NodeKind>) -> bool
 
 /// Whether it is an element of this name.
 fn is_element(kind: Option<&NodeKind>, tag: TagName) -> bool
-    ensures { result ≡ adoption.kind_is tag (kind_seen kind) }
+    ensures { result ≡ adoption.kind_is tag (kind_seen kind.entry) }
 {
     match kind {
         Some(NodeKind::Element { name, .. }) => name.is_tag(tag),
@@ -113,7 +113,7 @@ fn oldest_alike(
     kind: Option<&NodeKind>,
 ) -> Option<usize>
     ensures { result ≡ spec.one_too_many spec.alike_limit
-        (filter (spec.is_alike document.now (kind_seen kind)) (spec.since_marker (entries_of entries.now))) }
+        (filter (spec.is_alike document.now (kind_seen kind.entry)) (spec.since_marker (entries_of entries.now))) }
 {
     let mut count = 0;
     let mut oldest = None;
