@@ -9,7 +9,7 @@ use Rattle.htmd_html5_state.specs.Documents.{attach, move_children}
 use Rattle.htmd_html5_state.specs.OpenElements.{OpenValue, is_in, is_open_node, inside, around, pop, close_name}
 use Rattle.htmd_html5_state.specs.State.{StateValue, on_nodes, on_stack, on_formatting}
 use Rattle.htmd_html5_state.specs.Insertion.{current, opened, place}
-use Rattle.htmd_html5_state.specs.Formatting.{since_marker, is_listed, without_entry, replace_entry, insert_behind}
+use Rattle.htmd_html5_state.specs.Formatting.{since_marker, is_listed, without_entry, replace_entry, insert_after}
 use Rattle.htmd_html5_state.specs.declared.names.TagName.{TagName}
 use Rattle.htmd_html5_state.specs.declared.sets.NameSet.TheVariants.{Only}
 use Rattle.htmd_html5_state.specs.declared.sets.Scope.TheVariants.{Default, Special}
@@ -23,7 +23,7 @@ kind_is tag _ = false
 abbrev pub node_is : List NodeValue → TagName → ℕ → Bool
 node_is nodes tag n = kind_is tag (kind_at nodes n)
 
--- the newest formatting element of this name behind the last marker
+-- the newest formatting element of this name after the last marker
 abbrev pub formatting_element : TagName → StateValue → Option ℕ
 formatting_element tag s = find (node_is s.nodes tag) (since_marker s.formatting)
 
@@ -51,7 +51,7 @@ furthest_block (e ∷ es) = furthest_with e es (furthest_block es)
 
 -- ---- the elements between the furthest block and the formatting element
 
--- what has been made of them: the state, which copies are open, the last of them, and the first, behind which the
+-- what has been made of them: the state, which copies are open, the last of them, and the first, after which the
 -- bookmark is; without one it is where the formatting element stands
 pub record Chain : Type 0 where
   pub state : StateValue
@@ -81,7 +81,7 @@ with_copy e c = record {
   bookmark = Some (or_first c.bookmark (length c.state.nodes));
 }
 
--- so many may still be copied; those behind, and those that aren't on the list, go
+-- so many may still be copied; those after, and those that aren't on the list, go
 abbrev pub with_next : ℕ → OpenValue → Chain → Chain
 with_next left e c =
     if nat_lt 0 left && is_listed e.node c.state.formatting then with_copy e c
@@ -105,10 +105,10 @@ wrap_children formatting block nodes =
     put (length nodes) (last_in block)
     (move_children block (length nodes) (nodes ++ new_node (kind_at nodes formatting) ∷ []))
 
--- it takes the place of the formatting element, or stands behind the bookmark
+-- it takes the place of the formatting element, or stands after the bookmark
 abbrev pub with_bookmark : ℕ → ℕ → Option ℕ → List (Option ℕ) → List (Option ℕ)
 with_bookmark formatting copy None entries = replace_entry formatting copy entries
-with_bookmark formatting copy (Some first) entries = without_entry formatting (insert_behind first copy entries)
+with_bookmark formatting copy (Some first) entries = without_entry formatting (insert_after first copy entries)
 
 abbrev pub finish : ℕ → TagName → Furthest → Chain → StateValue → StateValue
 finish formatting tag f c s = record s {

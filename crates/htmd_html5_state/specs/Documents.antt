@@ -121,7 +121,7 @@ with_parents p (c ∷ cs) nodes = with_parents p cs (with_parent c (Some p) node
 abbrev pub append_children : ℕ → List ℕ → List NodeValue → List NodeValue
 append_children n more nodes = with_children n (children_at nodes n ++ more) nodes
 
--- all children of one node to another, behind those that it has
+-- all children of one node to another, after those that it has
 abbrev pub move_children : ℕ → ℕ → List NodeValue → List NodeValue
 move_children from to nodes =
     append_children to (children_at nodes from)

@@ -10,7 +10,7 @@ use Rattle.htmd_html5_state.specs.Insertion.{insert_element, insert_named}
 
 -- ---- the list
 
--- the elements behind the last marker
+-- the elements after the last marker
 abbrev pub since_marker : List (Option ℕ) → List ℕ
 since_marker [] = []
 since_marker (None ∷ entries) = []
@@ -20,13 +20,13 @@ abbrev pub push_marker : StateValue → StateValue
 push_marker s = on_formatting (λ entries. None ∷ entries) s
 
 -- up to the last marker, with it
-abbrev pub behind_marker : List (Option ℕ) → List (Option ℕ)
-behind_marker [] = []
-behind_marker (None ∷ entries) = entries
-behind_marker (Some n ∷ entries) = behind_marker entries
+abbrev pub after_marker : List (Option ℕ) → List (Option ℕ)
+after_marker [] = []
+after_marker (None ∷ entries) = entries
+after_marker (Some n ∷ entries) = after_marker entries
 
 abbrev pub clear_to_marker : StateValue → StateValue
-clear_to_marker s = on_formatting behind_marker s
+clear_to_marker s = on_formatting after_marker s
 
 abbrev pub is_entry : ℕ → Option ℕ → Bool
 is_entry n None = false
@@ -45,11 +45,11 @@ abbrev pub replace_entry : ℕ → ℕ → List (Option ℕ) → List (Option �
 replace_entry n by [] = []
 replace_entry n by (e ∷ entries) = if is_entry n e then Some by ∷ entries else e ∷ replace_entry n by entries
 
--- an element right behind another, that is: the next newer
-abbrev pub insert_behind : ℕ → ℕ → List (Option ℕ) → List (Option ℕ)
-insert_behind n new [] = []
-insert_behind n new (e ∷ entries) =
-    if is_entry n e then Some new ∷ e ∷ entries else e ∷ insert_behind n new entries
+-- an element right after another, that is: the next newer
+abbrev pub insert_after : ℕ → ℕ → List (Option ℕ) → List (Option ℕ)
+insert_after n new [] = []
+insert_after n new (e ∷ entries) =
+    if is_entry n e then Some new ∷ e ∷ entries else e ∷ insert_after n new entries
 
 -- ---- an element is put on the list
 
@@ -70,7 +70,7 @@ without_some (Some n) entries = without_entry n entries
 abbrev pub alike_limit : ℕ
 alike_limit = 3
 
--- so many elements behind the last marker at most: this isn't the standard's, and bounds what a page costs
+-- so many elements after the last marker at most: this isn't the standard's, and bounds what a page costs
 abbrev pub formatting_limit : ℕ
 formatting_limit = 16
 
@@ -101,11 +101,11 @@ closed_elements stack [] = []
 closed_elements stack (None ∷ entries) = []
 closed_elements stack (Some n ∷ entries) = if is_open_node n stack then [] else n ∷ closed_elements stack entries
 
-abbrev pub behind_closed : List OpenValue → List (Option ℕ) → List (Option ℕ)
-behind_closed stack [] = []
-behind_closed stack (None ∷ entries) = None ∷ entries
-behind_closed stack (Some n ∷ entries) =
-    if is_open_node n stack then Some n ∷ entries else behind_closed stack entries
+abbrev pub after_closed : List OpenValue → List (Option ℕ) → List (Option ℕ)
+after_closed stack [] = []
+after_closed stack (None ∷ entries) = None ∷ entries
+after_closed stack (Some n ∷ entries) =
+    if is_open_node n stack then Some n ∷ entries else after_closed stack entries
 
 -- an element like this one
 abbrev pub insert_like : KindValue → StateValue → StateValue
@@ -124,4 +124,4 @@ reopen_all [] s = s
 reopen_all (n ∷ ns) s = reopen n (reopen_all ns s)
 
 abbrev pub reconstruct : StateValue → StateValue
-reconstruct s = reopen_all (closed_elements s.stack s.formatting) (on_formatting (behind_closed s.stack) s)
+reconstruct s = reopen_all (closed_elements s.stack s.formatting) (on_formatting (after_closed s.stack) s)

@@ -84,7 +84,7 @@ insert_void name attributes s = on_stack pop (insert_element name attributes s)
 
 -- an element of text alone (13.2.6.2)
 abbrev pub insert_raw : NameValue → RawElement → List AttributePair → StateValue → StateValue
-insert_raw name element attributes s = record (insert_element name attributes s) { content = Raw element }
+insert_raw name raw attributes s = record (insert_element name attributes s) { content = Raw raw }
 
 -- an element of HTML is open once more (13.2.6.4.6)
 abbrev pub open_again : ℕ → NameValue → StateValue → StateValue

@@ -26,7 +26,7 @@ struct Chain {
     /// Innermost first.
     copies: Vec<OpenElement>,
     last: usize,
-    /// The first copy, behind which the bookmark is.
+    /// The first copy, after which the bookmark is.
     bookmark: Option<usize>,
 }
 
@@ -104,7 +104,7 @@ impl HtmlState {
         Ok(copy)
     }
 
-    /// Puts the copy on the list in the place of the formatting element, or behind the bookmark.
+    /// Puts the copy on the list in the place of the formatting element, or after the bookmark.
     fn replace_formatting(
         &mut self,
         formatting: usize,
@@ -116,7 +116,7 @@ impl HtmlState {
     {
         match bookmark {
             Some(first) => {
-                self.formatting.insert_behind(first, copy)?;
+                self.formatting.insert_after(first, copy)?;
                 self.formatting.remove(formatting);
             }
             None => self.formatting.replace(formatting, copy),

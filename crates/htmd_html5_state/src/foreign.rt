@@ -13,7 +13,7 @@ ghost use Rattle.htmd_html5_state.specs.ForeignViews.{end_of};
 use crate::attributes::value;
 use crate::document::{Document, NodeKind};
 use crate::names::{ElementName, Namespace};
-use crate::open_elements::OpenElement;
+use crate::open_elements::{OpenElement, split_innermost};
 use crate::sets::{is_math_text, is_svg_point};
 use crate::state::HtmlState;
 use htmd_tree::Attribute;
@@ -211,7 +211,7 @@ fn is_html_encoding(value: &str) -> bool
 }
 
 fn has_html_encoding(kind: Option<&NodeKind>) -> bool
-    ensures { result ≡ spec.has_html_encoding (attributes_of (kind_seen kind)) }
+    ensures { result ≡ spec.has_html_encoding (attributes_of (kind_seen kind.entry)) }
 {
     let Some(NodeKind::Element { attributes, .. }) = kind else {
         return false;
@@ -250,7 +250,7 @@ fn len_outside(document: &Document, elements: &[OpenElement]) -> usize
         ≡ spec.leave_foreign document.now (stack_of elements.now) }
 {
     let mut rest = elements;
-    while let [outer @ .., element] = rest {
+    while let Some((outer, element)) = split_innermost(rest) {
         if ends_foreign(document, element) {
             return rest.len();
         }
@@ -284,7 +284,7 @@ fn foreign_end(elements: &[OpenElement], name: &str) -> ForeignEnd
     ensures { end_of (stack_of elements.now) result ≡ spec.foreign_end name.now (stack_of elements.now) }
 {
     let mut rest = elements;
-    while let [outer @ .., element] = rest {
+    while let Some((outer, element)) = split_innermost(rest) {
         if outer.is_empty() {
             return ForeignEnd::Nothing;
         }

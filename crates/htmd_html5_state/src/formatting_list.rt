@@ -1,5 +1,5 @@
 //! The list of active formatting elements.
-ghost use Rattle.std.specs.Prelude.{◌≡◌, ◌∷◌, ◌<◌, [], true, false, Some, None, IfOk, OnOk, MatchOption, find, filter};
+ghost use Rattle.std.specs.Prelude.{◌≡◌, ◌∷◌, ◌++◌, ◌<◌, [], length, IfSome, true, false, Some, None, IfOk, OnOk, MatchOption, find, filter};
 ghost use Rattle.htmd_html5_state.specs.Adoption as adoption;
 ghost use Rattle.htmd_html5_state.specs.Documents.{same_element, kind_at};
 ghost use Rattle.htmd_html5_state.specs.Formatting as spec;
@@ -38,7 +38,7 @@ impl Model for FormattingList {
 
 /// Whether both are elements of the same name and attributes.
 fn are_alike(this: Option<&NodeKind>, that: Option<&NodeKind>) -> bool
-    ensures { result ≡ same_element (kind_seen this) (kind_seen that) }
+    ensures { result ≡ same_element (kind_seen this.entry) (kind_seen that.entry) }
 {
     match (this, that) {
         (
@@ -54,11 +54,24 @@ fn are_alike(this: Option<&NodeKind>, that: Option<&NodeKind>) -> bool
 
 /// Whether it is an element of this name.
 fn is_element(kind: Option<&NodeKind>, tag: TagName) -> bool
-    ensures { result ≡ adoption.kind_is tag (kind_seen kind) }
+    ensures { result ≡ adoption.kind_is tag (kind_seen kind.entry) }
 {
     match kind {
         Some(NodeKind::Element { name, .. }) => name.is_tag(tag),
         _ => false,
+    }
+}
+
+/// The newest entry, and those before it.
+fn split_newest(entries: &[Option<usize>]) -> Option<(&[Option<usize>], Option<usize>)>
+    ensures list { MatchOption result (entries_of entries.now ≡ [])
+        (λ p. entries_of entries.now ≡ p.1 ∷ entries_of p.0.now) }
+    ensures parts { MatchOption result (entries.now ≡ []) (λ p. entries.now ≡ p.0.now ++ p.1 ∷ []) }
+    ensures shorter { IfSome result (λ p. length p.0.now < length entries.now) }
+{
+    match entries {
+        [older @ .., entry] => Some((older, *entry)),
+        [] => None,
     }
 }
 
@@ -68,8 +81,8 @@ fn position(entries: &[Option<usize>], node: usize) -> Option<usize>
         (λ i. IsNewest node entries.now i) }
 {
     let mut rest = entries;
-    while let [older @ .., entry] = rest {
-        if *entry == Some(node) {
+    while let Some((older, entry)) = split_newest(rest) {
+        if entry == Some(node) {
             return Some(older.len());
         }
         rest = older;
@@ -83,8 +96,8 @@ fn newest(entries: &[Option<usize>], document: &Document, tag: TagName) -> Optio
         (spec.since_marker (entries_of entries.now)) }
 {
     let mut rest = entries;
-    while let [older @ .., entry] = rest {
-        let node = (*entry)?;
+    while let Some((older, entry)) = split_newest(rest) {
+        let node = entry?;
         if is_element(document.kind(node), tag) {
             return Some(node);
         }
@@ -100,15 +113,15 @@ fn oldest_alike(
     kind: Option<&NodeKind>,
 ) -> Option<usize>
     ensures { result ≡ spec.one_too_many spec.alike_limit
-        (filter (spec.is_alike document.now (kind_seen kind)) (spec.since_marker (entries_of entries.now))) }
+        (filter (spec.is_alike document.now (kind_seen kind.entry)) (spec.since_marker (entries_of entries.now))) }
 {
     let mut count = 0;
     let mut oldest = None;
     let mut rest = entries;
-    while let [older @ .., Some(node)] = rest {
-        if are_alike(document.kind(*node), kind) {
+    while let Some((older, Some(node))) = split_newest(rest) {
+        if are_alike(document.kind(node), kind) {
             count += 1;
-            oldest = Some(*node);
+            oldest = Some(node);
         }
         rest = older;
     }
@@ -122,9 +135,9 @@ fn oldest(entries: &[Option<usize>]) -> Option<usize>
     let mut count = 0;
     let mut oldest = None;
     let mut rest = entries;
-    while let [older @ .., Some(node)] = rest {
+    while let Some((older, Some(node))) = split_newest(rest) {
         count += 1;
-        oldest = Some(*node);
+        oldest = Some(node);
         rest = older;
     }
     if count < FORMATTING_LIMIT {
@@ -160,7 +173,7 @@ impl FormattingList {
 
     /// Takes all off up to the last marker, with it.
     pub(crate) fn clear_to_marker(&mut self)
-        ensures { self.new ≡ spec.behind_marker self.old }
+        ensures { self.new ≡ spec.after_marker self.old }
     {
         while let Some(entry) = self.entries.pop() {
             if entry.is_none() {
@@ -199,9 +212,9 @@ impl FormattingList {
         }
     }
 
-    /// Puts a node right behind another one: the next newer.
-    pub(crate) fn insert_behind(&mut self, node: usize, new: usize) -> Result<(), AllocError>
-        ensures { OnOk result (self.new ≡ spec.insert_behind node new self.old) }
+    /// Puts a node right after another one: the next newer.
+    pub(crate) fn insert_after(&mut self, node: usize, new: usize) -> Result<(), AllocError>
+        ensures { OnOk result (self.new ≡ spec.insert_after node new self.old) }
     {
         if let Some(index) = position(&self.entries, node) {
             self.entries.insert(index + 1, Some(new))?;
@@ -232,15 +245,15 @@ impl FormattingList {
     pub(crate) fn take_closed(
         &mut self,
         alloc: Global,
-        open: &OpenElements,
+        stack: &OpenElements,
     ) -> Result<Vec<usize>, AllocError>
-        ensures closed { IfOk result (λ v. v.items ≡ spec.closed_elements open.now self.old) }
-        ensures rest { OnOk result (self.new ≡ spec.behind_closed open.now self.old) }
+        ensures closed { IfOk result (λ v. v.items ≡ spec.closed_elements stack.now self.old) }
+        ensures rest { OnOk result (self.new ≡ spec.after_closed stack.now self.old) }
     {
         let mut closed = Vec::new(alloc);
         while let Some(Some(node)) = self.entries.last() {
             let node = *node;
-            if open.is_open_node(node) {
+            if stack.is_open_node(node) {
                 return Ok(closed);
             }
             closed.push(node)?;

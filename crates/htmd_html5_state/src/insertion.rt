@@ -10,7 +10,7 @@ ghost use Rattle.htmd_tree.specs.Views.{pairs_of};
 use crate::document::{Document, NodeKind, Place, last_in};
 use crate::foreign::{foreign_attributes, foreign_name};
 use crate::names::{ElementName, HtmlName, Namespace, TagName};
-use crate::open_elements::OpenElement;
+use crate::open_elements::{OpenElement, split_innermost};
 use crate::sets::NameSet;
 use crate::state::HtmlState;
 use htmd_html5_tokens::{Content, RawElement};
@@ -35,8 +35,8 @@ fn foster_place(document: &Document, elements: &[OpenElement]) -> Place
     ensures { result ≡ spec.foster_place document.now (stack_of elements.now) }
 {
     let mut rest = elements;
-    while let [outer @ .., element] = rest {
-        let [.., around] = outer else {
+    while let Some((outer, element)) = split_innermost(rest) {
+        let Some((_, around)) = split_innermost(outer) else {
             return last_in(element.node);
         };
         if element.name.is_tag(TagName::Template) {

@@ -1,5 +1,5 @@
 //! The stack of open elements.
-ghost use Rattle.std.specs.Prelude.{◌≡◌, ◌-◌, ◌∷◌, ◌++◌, [], length, drop, true, false, IfOk, OnOk, MatchOption, option_map};
+ghost use Rattle.std.specs.Prelude.{◌≡◌, ◌-◌, ◌<◌, ◌∷◌, ◌++◌, [], length, drop, true, false, IfOk, OnOk, IfSome, MatchOption, option_map};
 ghost use Rattle.std.specs.List.{list_any};
 ghost use Rattle.htmd_html5_state.specs.Names.{element_name_of, name_of, html};
 ghost use Rattle.htmd_html5_state.specs.OpenElements as spec;
@@ -44,13 +44,29 @@ pub(crate) struct Furthest {
     pub(crate) between: Vec<OpenElement>,
 }
 
+/// The innermost element, and those around it.
+pub(crate) fn split_innermost(elements: &[OpenElement]) -> Option<(&[OpenElement], &OpenElement)>
+    ensures stack { MatchOption result (stack_of elements.now ≡ [])
+        (λ p. stack_of elements.now ≡ open_of p.1.now ∷ stack_of p.0.now) }
+    ensures parts { MatchOption result (elements.now ≡ [])
+        (λ p. elements.now ≡ p.0.now ++ p.1.now ∷ []) }
+    ensures shorter { IfSome result (λ p. length p.0.now < length elements.now) }
+{
+    match elements {
+        [outer @ .., element] => Some((outer, element)),
+        [] => None,
+    }
+}
+
 fn holds_one(elements: &[OpenElement], set: NameSet) -> bool
     ensures { result ≡ spec.is_open set (stack_of elements.now) }
 {
-    for element in elements {
+    let mut rest = elements;
+    while let Some((outer, element)) = split_innermost(rest) {
         if set.holds(&element.name) {
             return true;
         }
+        rest = outer;
     }
     false
 }
@@ -59,7 +75,7 @@ fn holds_node(elements: &[OpenElement], node: usize) -> bool
     ensures { result ≡ spec.is_open_node node (stack_of elements.now) }
 {
     let mut rest = elements;
-    while let [outer @ .., element] = rest {
+    while let Some((outer, element)) = split_innermost(rest) {
         if element.node == node {
             return true;
         }
@@ -72,7 +88,7 @@ pub(crate) fn is_in_scope(elements: &[OpenElement], set: NameSet, scope: Scope) 
     ensures { result ≡ spec.is_in_scope set scope (stack_of elements.now) }
 {
     let mut rest = elements;
-    while let [outer @ .., element] = rest {
+    while let Some((outer, element)) = split_innermost(rest) {
         if set.holds(&element.name) {
             return true;
         }
@@ -88,7 +104,7 @@ fn is_closable(elements: &[OpenElement], name: &HtmlName) -> bool
     ensures { result ≡ spec.is_closable (name_of name.now) (stack_of elements.now) }
 {
     let mut rest = elements;
-    while let [outer @ .., element] = rest {
+    while let Some((outer, element)) = split_innermost(rest) {
         if element.name.is_html(name) {
             return true;
         }
@@ -105,7 +121,7 @@ fn is_bounded_inside(elements: &[OpenElement], node: usize) -> bool
     ensures { result ≡ list_any adoption.bounds_any (spec.inside node (stack_of elements.now)) }
 {
     let mut rest = elements;
-    while let [outer @ .., element] = rest {
+    while let Some((outer, element)) = split_innermost(rest) {
         if element.node == node {
             return false;
         }
@@ -122,7 +138,7 @@ fn is_node_in_scope(elements: &[OpenElement], node: usize) -> bool
     ensures { result ≡ spec.is_node_in_scope node (stack_of elements.now) }
 {
     let mut rest = elements;
-    while let [outer @ .., element] = rest {
+    while let Some((outer, element)) = split_innermost(rest) {
         if Scope::Default.is_bound(&element.name) {
             return false;
         }
@@ -140,7 +156,7 @@ fn position(elements: &[OpenElement], node: usize) -> Option<usize>
         (λ i. IsInnermost node elements.now i) }
 {
     let mut rest = elements;
-    while let [outer @ .., element] = rest {
+    while let Some((outer, element)) = split_innermost(rest) {
         if element.node == node {
             return Some(outer.len());
         }
@@ -236,6 +252,12 @@ impl OpenElements {
             [.., second, _] => set.holds(&second.name),
             _ => false,
         }
+    }
+
+    pub(crate) fn len(&self) -> usize
+        ensures { result ≡ length self.now }
+    {
+        self.elements.len()
     }
 
     pub(crate) fn is_empty(&self) -> bool

@@ -6,7 +6,7 @@ ghost use Rattle.htmd_html5_state.specs.Resetting as spec;
 
 use crate::modes::InsertionMode;
 use crate::names::{ElementName, HtmlName, TagName};
-use crate::open_elements::{OpenElement, is_in_scope};
+use crate::open_elements::{OpenElement, is_in_scope, split_innermost};
 use crate::sets::{NameSet, Scope};
 use crate::state::HtmlState;
 
@@ -72,7 +72,7 @@ impl HtmlState {
         ensures { result ≡ spec.mode_of (stack_of elements.now) self.now }
     {
         let mut rest = elements;
-        while let [outer @ .., element] = rest {
+        while let Some((outer, element)) = split_innermost(rest) {
             if let Some(mode) = self.mode_for_name(&element.name, outer) {
                 return mode;
             }

@@ -1,5 +1,5 @@
 //! The state of tree construction, and the steps that change one part of it.
-ghost use Rattle.std.specs.Prelude.{◌≡◌, IfOk, OnOk};
+ghost use Rattle.std.specs.Prelude.{◌≡◌, IfOk, OnOk, length};
 ghost use Rattle.htmd_html5_state.specs.Documents as documents;
 ghost use Rattle.htmd_html5_state.specs.Formatting as list;
 ghost use Rattle.htmd_html5_state.specs.Insertion as insertion;
@@ -215,7 +215,19 @@ impl HtmlState {
         self.template_modes.pop();
     }
 
+    /// What new texts and attributes are allocated by.
+    pub fn alloc(&self) -> Global {
+        self.alloc
+    }
+
     // ---- what is open
+
+    /// How many elements are open.
+    pub fn open_count(&self) -> usize
+        ensures { result ≡ length self.now.stack }
+    {
+        self.stack.len()
+    }
 
     /// Whether nothing is open.
     pub fn is_empty(&self) -> bool

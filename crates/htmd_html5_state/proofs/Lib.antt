@@ -1,0 +1,5 @@
+-- Lists that are held in the other order; the stack of open elements, the list of active formatting elements, documents.
+pub mod StackLemmas
+pub mod FormattingLemmas
+pub mod DocumentLemmas
+mod Examples
