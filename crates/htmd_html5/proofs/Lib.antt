@@ -2,3 +2,4 @@
 pub mod RunLemmas
 pub mod ProcessingLemmas
 pub mod TextsLemmas
+mod Examples

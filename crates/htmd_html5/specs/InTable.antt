@@ -15,6 +15,8 @@ use Rattle.htmd_html5_state.specs.Resetting.{reset_insertion_mode}
 use Rattle.htmd_html5_state.specs.declared.modes.InsertionMode.TheVariants.{InCaption, InColumnGroup, InTableBody}
 use Rattle.htmd_html5_state.specs.declared.sets.NameSet.TheVariants.{Only, TableContext}
 use Rattle.htmd_html5_state.specs.declared.sets.Scope.TheVariants.{Table as TableScope}
+use Rattle.htmd_html5.specs.declared.tokens.RunKind.{RunKind}
+use Rattle.htmd_html5.specs.declared.tokens.RunKind.TheVariants.{Nulls}
 use Rattle.htmd_html5.specs.Runs.{is_null, first_kind, first_run, behind_first_run}
 use Rattle.htmd_html5.specs.Answers.{Answer, answer, done, again}
 use Rattle.htmd_html5.specs.SharedRules.{with_mode, insert_tag, insert_void_tag, end_template, insert_head_element}
@@ -27,6 +29,11 @@ use Rattle.htmd_html5_state.specs.declared.names.TagName.TheVariants as tags
 
 abbrev pub without_nulls : List ℕ → List ℕ
 without_nulls text = filter (λ b. not (is_null b)) text
+
+-- what is kept of a run
+abbrev pub kept_of : RunKind → List ℕ → List ℕ
+kept_of Nulls text = []
+kept_of _ text = text
 
 abbrev pub fostered : (StateValue → StateValue) → StateValue → StateValue
 fostered step s = record (step (record s { foster_parenting = true })) { foster_parenting = false }

@@ -34,6 +34,11 @@ abbrev pub next_texts : List NodeValue → ℕ → List Coming → List ℕ
 next_texts nodes under [] = []
 next_texts nodes under (c ∷ cs) = or_text (text_under nodes under c) (next_texts nodes under cs)
 
+-- the text that comes next, where it stands under the item
+abbrev pub next_text : List NodeValue → ℕ → List Coming → Option (List ℕ)
+next_text nodes under [] = None
+next_text nodes under (c ∷ cs) = text_under nodes under c
+
 abbrev pub behind_next_texts : List NodeValue → ℕ → List Coming → List Coming
 behind_next_texts nodes under [] = []
 behind_next_texts nodes under (c ∷ cs) =
@@ -47,36 +52,38 @@ pub record Layout : Type 0 where
   pub items : List Item
   pub work : List Coming
 
-abbrev pub with_item : Data → Coming → Layout → Layout
-with_item new c l = record l { items = l.items ++ new_item l.items c.under new ∷ [] }
+abbrev pub with_item : Data → ℕ → Layout → Layout
+with_item new under l = record l { items = l.items ++ new_item l.items under new ∷ [] }
 
 -- with the texts that come next
-abbrev pub joined : List ℕ → Coming → Layout → List ℕ
-joined s c l = s ++ next_texts l.nodes c.under l.work
+abbrev pub joined : List ℕ → ℕ → Layout → List ℕ
+joined s under l = s ++ next_texts l.nodes under l.work
 
-abbrev pub behind_joined : Coming → Layout → Layout
-behind_joined c l = record l { work = behind_next_texts l.nodes c.under l.work }
+abbrev pub behind_joined : ℕ → Layout → Layout
+behind_joined under l = record l { work = behind_next_texts l.nodes under l.work }
 
-abbrev pub with_text : Bool → List ℕ → Coming → Layout → Layout
-with_text deepest s c l =
-    if deepest then with_item (text_node (joined s c l)) c (behind_joined c l) else with_item (text_node s) c l
+abbrev pub with_text : Bool → List ℕ → ℕ → Layout → Layout
+with_text deepest s under l =
+    if deepest then with_item (text_node (joined s under l)) under (behind_joined under l)
+    else with_item (text_node s) under l
 
 -- the item under which the children of a new item come
-abbrev pub parent_of_children : Bool → Coming → Layout → ℕ
-parent_of_children deepest c l = if deepest then c.under else length l.items
+abbrev pub parent_of_children : Bool → ℕ → Layout → ℕ
+parent_of_children deepest under l = if deepest then under else length l.items
 
 abbrev pub with_children_under : ℕ → ℕ → Layout → Layout
 with_children_under under n l = record l { work = map (coming under) (children_at l.nodes n) ++ l.work }
 
 abbrev pub with_element : Bool → Data → Coming → Layout → Layout
-with_element deepest new c l = with_children_under (parent_of_children deepest c l) c.node (with_item new c l)
+with_element deepest new c l =
+    with_children_under (parent_of_children deepest c.under l) c.node (with_item new c.under l)
 
 -- a Document in a document is nothing
 abbrev pub with_kind_of : Bool → KindValue → Coming → Layout → Layout
 with_kind_of deepest document c l = l
-with_kind_of deepest doctype c l = with_item doctype_node c l
-with_kind_of deepest (text s) c l = with_text deepest s c l
-with_kind_of deepest (comment s) c l = with_item (comment_node s) c l
+with_kind_of deepest doctype c l = with_item doctype_node c.under l
+with_kind_of deepest (text s) c l = with_text deepest s c.under l
+with_kind_of deepest (comment s) c l = with_item (comment_node s) c.under l
 with_kind_of deepest (element name attributes) c l =
     with_element deepest (element_node (text_of_element_name name) attributes) c l
 

@@ -1,5 +1,5 @@
 //! The modes "in table" and "in table text".
-ghost use Rattle.std.specs.Prelude.{◌≡◌, is_some, length, string_bytes, IfOk, IfSome, OnOk};
+ghost use Rattle.std.specs.Prelude.{◌≡◌, ◌++◌, is_some, length, string_bytes, IfOk, IfSome, OnOk};
 ghost use Rattle.std.specs.List.{list_all};
 ghost use Rattle.htmd_text.specs.WhiteSpace.{is_ascii_white_space};
 ghost use Rattle.htmd_html5_state.specs.Names.{name_of};
@@ -29,16 +29,26 @@ fn is_white(text: &str) -> bool
     text.as_bytes().iter().all(|byte| byte.is_ascii_whitespace())
 }
 
+fn push_unless_nulls(kept: &mut String, kind: RunKind, run: &str) -> Result<(), AllocError>
+    ensures { OnOk result (string_bytes kept.new
+        ≡ string_bytes kept.old ++ spec.kept_of kind run.now) }
+{
+    match kind {
+        RunKind::Nulls => Ok(()),
+        RunKind::White | RunKind::Characters => kept.push_str(run),
+    }
+}
+
 fn without_nulls(alloc: Global, text: &str) -> Result<String, AllocError>
     ensures { IfOk result (λ kept. string_bytes kept ≡ spec.without_nulls text.now) }
 {
     let mut kept = String::with_capacity(alloc, text.len())?;
     let mut rest = text;
-    while let Some((before, behind)) = rest.split_once('\0') {
-        kept.push_str(before)?;
-        rest = behind;
+    while !rest.is_empty() {
+        let split = split_run(rest);
+        push_unless_nulls(&mut kept, split.kind, split.run)?;
+        rest = split.rest;
     }
-    kept.push_str(rest)?;
     Ok(kept)
 }
 

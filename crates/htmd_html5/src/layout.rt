@@ -4,7 +4,7 @@ ghost use Rattle.htmd_html5_state.specs.Documents.{kind_at};
 ghost use Rattle.htmd_html5_state.specs.Names.{element_name_of, text_of_element_name};
 ghost use Rattle.htmd_html5_state.specs.Views.{kind_of, nodes_of};
 ghost use Rattle.htmd_html5.specs.Layout as spec;
-ghost use Rattle.htmd_html5.specs.LayoutViews.{coming_of, layout_of, AllMayHold, MayHold};
+ghost use Rattle.htmd_html5.specs.LayoutViews.{coming_of, layout_of, work_of, AllMayHold, MayHold};
 ghost use Rattle.htmd_tree.specs.Items.{comment_node, doctype_node, element_node, text_node, greatest_depth};
 ghost use Rattle.htmd_tree.specs.Views.{pairs_of};
 ghost use Rattle.htmd_tree.specs.declared.tree.TreeError.TheVariants.{TooDeep};
@@ -89,7 +89,8 @@ impl Layout {
 
     /// The text that comes next, where it stands under this item.
     fn next_text(&self, under: NodeId) -> Option<&str>
-        ensures { option_map (λ t. t.now) result ≡ next_text_of under (layout_of self.now) }
+        ensures { option_map (λ t. t.now) result
+            ≡ spec.next_text (nodes_of self.now.nodes.items) under (work_of self.now.coming.items) }
     {
         let next = self.coming.last()?;
         if next.under != under {
@@ -102,7 +103,14 @@ impl Layout {
     }
 
     /// Puts the texts that come next under this item behind a text.
-    fn join_texts(&mut self, under: NodeId, text: &mut String) -> Result<(), AllocError> {
+    fn join_texts(&mut self, under: NodeId, text: &mut String) -> Result<(), AllocError>
+        requires holds { AllMayHold self.old.tree self.old.coming.items }
+        ensures text { OnOk result (string_bytes text.new
+            ≡ spec.joined (string_bytes text.old) under (layout_of self.old)) }
+        ensures value { OnOk result (layout_of self.new
+            ≡ spec.behind_joined under (layout_of self.old)) }
+        ensures holds { AllMayHold self.new.tree self.new.coming.items }
+    {
         while let Some(next) = self.next_text(under) {
             text.push_str(next)?;
             self.coming.pop();
@@ -110,7 +118,14 @@ impl Layout {
         Ok(())
     }
 
-    fn put_text(&mut self, under: NodeId, text: String) -> Result<(), AllocError> {
+    fn put_text(&mut self, under: NodeId, text: String) -> Result<(), AllocError>
+        requires may_hold { MayHold self.old.tree under }
+        requires holds { AllMayHold self.old.tree self.old.coming.items }
+        ensures value { OnOk result (layout_of self.new
+            ≡ spec.with_text (spec.is_deepest greatest_depth self.old.tree under) (string_bytes text) under
+            (layout_of self.old)) }
+        ensures holds { OnOk result (AllMayHold self.new.tree self.new.coming.items) }
+    {
         let mut text = text;
         if self.is_deepest(under) {
             self.join_texts(under, &mut text)?;
@@ -124,14 +139,28 @@ impl Layout {
         coming: Coming,
         name: &ElementName,
         attributes: Vec<Attribute>,
-    ) -> Result<(), AllocError> {
+    ) -> Result<(), AllocError>
+        requires may_hold { MayHold self.old.tree coming.under }
+        requires holds { AllMayHold self.old.tree self.old.coming.items }
+        ensures value { OnOk result (layout_of self.new
+            ≡ spec.with_element (spec.is_deepest greatest_depth self.old.tree coming.under)
+            (element_node (text_of_element_name (element_name_of name.now)) (pairs_of attributes.items))
+            (coming_of coming) (layout_of self.old)) }
+        ensures holds { OnOk result (AllMayHold self.new.tree self.new.coming.items) }
+    {
         let deepest = self.is_deepest(coming.under);
         let item = item_of(self.tree.add_element(coming.under, name.text(), attributes))?;
         let under = if deepest { coming.under } else { item };
         self.push_children(coming.node, under)
     }
 
-    fn put(&mut self, coming: Coming) -> Result<(), AllocError> {
+    fn put(&mut self, coming: Coming) -> Result<(), AllocError>
+        requires may_hold { MayHold self.old.tree coming.under }
+        requires holds { AllMayHold self.old.tree self.old.coming.items }
+        ensures value { OnOk result (layout_of self.new
+            ≡ spec.put_node greatest_depth (coming_of coming) (layout_of self.old)) }
+        ensures holds { OnOk result (AllMayHold self.new.tree self.new.coming.items) }
+    {
         let under = coming.under;
         match self.take_kind(coming.node) {
             NodeKind::Document => {}
@@ -148,10 +177,13 @@ impl Layout {
     }
 }
 
-fn first_layout(alloc: Global, nodes: Vec<Node>) -> Result<Layout, AllocError> {
-    let tree = match Tree::new(alloc) {
-        Ok(tree) => tree,
-        Err(_) => return Err(AllocError),
+/// A tree of the Document alone, whose children come next.
+fn first_layout(alloc: Global, nodes: Vec<Node>) -> Result<Layout, AllocError>
+    ensures value { IfOk result (λ l. layout_of l ≡ spec.first_layout (nodes_of nodes.items)) }
+    ensures holds { IfOk result (λ l. AllMayHold l.tree l.coming.items) }
+{
+    let Ok(tree) = Tree::new(alloc) else {
+        return Err(AllocError);
     };
     let root = tree.root();
     let mut layout = Layout {

@@ -1,0 +1,56 @@
+-- Worked rows: pages and their trees.
+use Rattle.std.proofs.Common.{◌≡◌, ℕ, List, [], codes, true, false, refl}
+use Rattle.htmd_grammar.specs.ValueTrees.{ValueTree, ValueForest, text, element, none, more, doctype}
+use Rattle.htmd_tree.specs.Items.{Item}
+use Rattle.htmd_tree.specs.Layout.{document_items}
+use Rattle.htmd_html5.specs.Documents.{html5_document, state_behind}
+use Rattle.htmd_html5.specs.Layout.{document_of}
+
+-- an element without attributes
+abbrev with : List ℕ → ValueForest → ValueTree
+with name children = element name [] children
+
+abbrev one : ValueTree → ValueForest
+one tree = more tree none
+
+-- a page whose body holds this
+abbrev page : ValueForest → List Item
+page content =
+    document_items (one (with (codes "html")
+    (more (with (codes "head") none) (one (with (codes "body") content)))))
+
+nothing : html5_document true (codes "") ≡ page none
+unfolding html5_document
+nothing = refl
+
+a_paragraph_ends_another : html5_document true (codes "<p>a<p>b")
+    ≡ page (more (with (codes "p") (one (text (codes "a")))) (one (with (codes "p") (one (text (codes "b"))))))
+unfolding html5_document
+a_paragraph_ends_another = refl
+
+-- the adoption agency
+formatting_goes_on_in_a_block : html5_document true (codes "<b>a<p>b</b>c")
+    ≡ page (more (with (codes "b") (one (text (codes "a"))))
+    (one (with (codes "p") (more (with (codes "b") (one (text (codes "b")))) (one (text (codes "c")))))))
+unfolding html5_document
+formatting_goes_on_in_a_block = refl
+
+-- foster parenting
+text_leaves_a_table : html5_document true (codes "<table>a<tr><td>b")
+    ≡ page (more (text (codes "a"))
+    (one (with (codes "table") (one (with (codes "tbody") (one (with (codes "tr")
+    (one (with (codes "td") (one (text (codes "b")))))))))))
+unfolding html5_document
+text_leaves_a_table = refl
+
+html_leaves_foreign_content : html5_document true (codes "<svg><g><p>a")
+    ≡ page (more (with (codes "svg") (one (with (codes "g") none))) (one (with (codes "p") (one (text (codes "a"))))))
+unfolding html5_document
+html_leaves_foreign_content = refl
+
+-- at the deepest level, here the fourth, an element keeps no children, and texts are joined
+the_deepest_level : document_of 4 (state_behind true (codes "<i><u>a</u>b<s>c</s></i>d")).nodes
+    ≡ page (more (with (codes "i")
+    (more (with (codes "u") none) (more (text (codes "ab")) (more (with (codes "s") none) (one (text (codes "c")))))))
+    (one (text (codes "d"))))
+the_deepest_level = refl
