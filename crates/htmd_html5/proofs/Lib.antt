@@ -1,5 +1,7 @@
--- Lemmas of the proofs: runs of a text; tokens that are processed again; texts; the layout of a tree.
+-- Lemmas of the proofs: runs of a text; tokens that are processed again; texts; texts in tables; the tokens of a text.
 pub mod RunLemmas
 pub mod ProcessingLemmas
 pub mod TextsLemmas
+pub mod InTableLemmas
+pub mod DocumentsLemmas
 mod Examples

@@ -1,14 +1,37 @@
 -- What is processed by one set of rules, and again or not.
-use Rattle.std.proofs.Common.{◌≡◌, ℕ, suc, true, false, List, ap, sym}
+use Rattle.std.proofs.Common.{◌≡◌, ◌∙◌, ℕ, zero, suc, ◌+◌, ◌-◌, ◌<◌, true, false, ap, sym, subst, arith}
 use Rattle.htmd_html5_state.specs.State.{StateValue}
 use Rattle.htmd_html5.specs.Answers.{Answer, answer}
 use Rattle.htmd_html5.specs.Tokens.{TokenValue}
 use Rattle.htmd_html5.specs.Processing.{by_rules, after_answer, process_within}
 
-pub process_again : (k : ℕ) (token : TokenValue) (s new : StateValue) → answer new true ≡ by_rules token s
+process_again : (k : ℕ) (token : TokenValue) (s new : StateValue) → answer new true ≡ by_rules token s
     → process_within (suc k) token s ≡ process_within k token new
 process_again k token s new e = ap (λ (a : Answer). after_answer (process_within k token) a) (sym e)
 
-pub process_done : (k : ℕ) (token : TokenValue) (s new : StateValue) → answer new false ≡ by_rules token s
+process_done : (k : ℕ) (token : TokenValue) (s new : StateValue) → answer new false ≡ by_rules token s
     → process_within (suc k) token s ≡ new
 process_done k token s new e = ap (λ (a : Answer). after_answer (process_within k token) a) (sym e)
+
+-- what is left to process in a turn is what was at first
+abbrev pub Rests : TokenValue → StateValue → StateValue → ℕ → ℕ → Type 0
+Rests token first s turn all = (k : ℕ) → k + turn ≡ all → process_within k token s ≡ process_within all token first
+
+pub rests_first : (token : TokenValue) (s : StateValue) (all : ℕ) → Rests token s s 0 all
+rests_first token s all k e =
+    let same : k ≡ all = omega arith in ap (λ n. process_within n token s) same
+
+pub rests_again : (token : TokenValue) (first s new : StateValue) (turn all : ℕ) → Rests token first s turn all
+    → answer new true ≡ by_rules token s → Rests token first new (turn + 1) all
+rests_again token first s new turn all r e k f =
+    let more : suc k + turn ≡ all = omega arith in sym (process_again k token s new e) ∙ r (suc k) more
+
+pub rests_done : (token : TokenValue) (first s new : StateValue) (turn all : ℕ) → Rests token first s turn all
+    → turn < all → answer new false ≡ by_rules token s → new ≡ process_within all token first
+rests_done token first s new turn all r l e =
+    let k = all - suc turn in
+    let more : suc k + turn ≡ all = omega arith in sym (process_done k token s new e) ∙ r (suc k) more
+
+pub rests_over : (token : TokenValue) (first s : StateValue) (turn all : ℕ) → Rests token first s turn all
+    → turn ≡ all → s ≡ process_within all token first
+rests_over token first s turn all r e = let none : 0 + turn ≡ all = omega arith in r 0 none

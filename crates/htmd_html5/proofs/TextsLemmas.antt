@@ -1,21 +1,19 @@
 -- Texts are taken part by part, each of at least one character.
-use Rattle.std.proofs.Common.{◌≡◌, ◌∙◌, ℕ, zero, suc, ◌<◌, ◌≤◌, Bool, true, false, List, [], ◌∷◌, length, refl, ap, sym, arith}
-use Rattle.std.proofs.Common.{if◌then◌else◌}
+use Rattle.std.proofs.Common.{◌≡◌, ◌∙◌, ℕ, zero, suc, ◌<◌, ◌≤◌, Bool, true, false, List, [], ◌∷◌, length, refl, ap, sym}
+use Rattle.std.proofs.Common.{arith}
 use Rattle.htmd_text.proofs.Cases.{test}
 use Rattle.htmd_text.specs.WhiteSpace.{is_ascii_white_space}
 use Rattle.htmd_grammar.specs.CharacterClasses.{behind_run}
 use Rattle.htmd_tree.proofs.TagPartsLemmas.{behind_within}
 use Rattle.htmd_html5_state.specs.State.{StateValue}
-use Rattle.htmd_html5.specs.Answers.{Answer, answer}
+use Rattle.htmd_html5.specs.Answers.{Answer}
 use Rattle.htmd_html5.specs.Runs.{is_of_kind, kind_of_byte, is_null, behind_first_run}
-use Rattle.htmd_html5.specs.Processing.{by_rules}
-use Rattle.htmd_html5.specs.Texts.{Taken, taken, take_within, take_part, takes_all, after_run, first_token, put_within, put_text}
-use Rattle.htmd_html5.specs.InTable.{table_text}
+use Rattle.htmd_html5.specs.Processing.{by_rules, turns}
+use Rattle.htmd_html5.specs.Texts.{Taken, take_within, take_part, takes_all, after_run, first_token, put_within, put_text}
 
 own_kind : (b : ℕ) → is_of_kind (kind_of_byte b) b ≡ true
 own_kind b =
-    test (is_ascii_white_space b) (λ e. rw (e, e) refl)
-    (λ e. test (is_null b) (λ n. rw (e, n, n) refl) (λ n. rw (e, n, e, n) refl))
+    test (is_ascii_white_space b) (λ e. simp e) (λ e. test (is_null b) (λ n. simp (e, n)) (λ n. simp (e, n)))
 
 -- behind the first run a text is shorter
 pub behind_shorter : (s : List ℕ) → 0 < length s → length (behind_first_run s) < length s
@@ -23,3 +21,42 @@ behind_shorter [] h = absurd (omega arith)
 behind_shorter (b ∷ s) h =
     let w = behind_within (is_of_kind (kind_of_byte b)) s in
     let own = own_kind b in rw own (omega arith)
+
+after_shorter : (go : StateValue → Taken) (rest : List ℕ) (a : Answer) (n : ℕ) → length rest < n
+    → ((s : StateValue) → length (go s).rest < n) → length (after_run go rest a).rest < n
+after_shorter go rest a n h g = test a.again (λ e. rw e (g a.state)) (λ e. rw e h)
+
+within_shorter : (k : ℕ) (text : List ℕ) (s : StateValue) → 0 < length text
+    → length (take_within k text s).rest < length text
+within_shorter zero text s h = behind_shorter text h
+within_shorter (suc k) text s h =
+    test (takes_all s) (λ e. rw e h)
+    (λ e. rw e (after_shorter (take_within k text) (behind_first_run text) (by_rules (first_token text) s) (length text)
+    (behind_shorter text h) (λ t. within_shorter k text t h)))
+
+-- behind its first part a text is shorter
+pub part_shorter : (text : List ℕ) (s : StateValue) → 0 < length text
+    → length (take_part text s).rest < length text
+part_shorter text s h = within_shorter (turns s) text s h
+
+put_nothing : (k : ℕ) (s : StateValue) → put_within k [] s ≡ s
+put_nothing zero s = refl
+put_nothing (suc k) s = refl
+
+put_same : (j k : ℕ) (text : List ℕ) (s : StateValue) → length text ≤ j → length text ≤ k
+    → put_within j text s ≡ put_within k text s
+put_same j k [] s h g = put_nothing j s ∙ sym (put_nothing k s)
+put_same zero k (b ∷ t) s h g = absurd (omega arith)
+put_same (suc j) zero (b ∷ t) s h g = absurd (omega arith)
+put_same (suc j) (suc k) (b ∷ t) s h g =
+    let l = part_shorter (b ∷ t) s (omega arith) in
+    put_same j k (take_part (b ∷ t) s).rest (take_part (b ∷ t) s).state (omega arith) (omega arith)
+
+-- a text is its first part, and then the rest
+pub put_part : (text : List ℕ) (s : StateValue) → 0 < length text
+    → put_text text s ≡ put_text (take_part text s).rest (take_part text s).state
+put_part [] s h = absurd (omega arith)
+put_part (b ∷ t) s h =
+    let l = part_shorter (b ∷ t) s h in
+    put_same (length t) (length (take_part (b ∷ t) s).rest) (take_part (b ∷ t) s).rest (take_part (b ∷ t) s).state
+    (omega arith) (omega arith)

@@ -3,6 +3,7 @@ ghost use Rattle.std.specs.Prelude.{◌≡◌, IfOk, OnOk};
 ghost use Rattle.std.specs.Cow.{cow_str_bytes};
 ghost use Rattle.htmd_html5.specs.Documents as spec;
 ghost use Rattle.htmd_html5_state.specs.State.{initial_state};
+ghost use Rattle.htmd_html5_tokens.specs.Tokens.{value_of};
 ghost use Rattle.htmd_html5_state.specs.Views.{nodes_of};
 
 use crate::feeding::feed;
@@ -13,6 +14,12 @@ use htmd_tree::Tree;
 use std::alloc::{AllocError, Global};
 use std::borrow::CowStr;
 
+fn is_end(token: &Token) -> bool
+    ensures { result ≡ spec.is_end (value_of token.now) }
+{
+    matches!(token, Token::EndOfFile)
+}
+
 /// Puts all tokens of a text into a state, of which each has at least one character.
 fn read_all(alloc: Global, state: &mut HtmlState, text: &str) -> Result<(), AllocError>
     ensures { OnOk result (state.new ≡ spec.read_all text.now state.old) }
@@ -20,7 +27,7 @@ fn read_all(alloc: Global, state: &mut HtmlState, text: &str) -> Result<(), Allo
     let mut tokenizer = Tokenizer::new(text);
     for _token in 0..text.len() {
         let token = tokenizer.next(alloc, state.content(), !state.current_is_html())?;
-        let ends = matches!(token, Token::EndOfFile);
+        let ends = is_end(&token);
         feed(state, token)?;
         if ends {
             return Ok(());

@@ -1,10 +1,7 @@
--- What is left to process is the same in all turns.
-use Rattle.std.proofs.Common.{◌≡◌, ℕ, ◌+◌}
+-- What is left to process is the same in each turn.
 use Rattle.htmd_html5.specs.Tokens.{end_of_file}
-use Rattle.htmd_html5.specs.Processing.{process, process_within}
+use Rattle.htmd_html5.proofs.ProcessingLemmas.{Rests}
 use Rattle.htmd_html5.proofs.processing.process_end_of_file.Given as goal
 
 abbrev pub invariant-loop-_turn : goal.invariant-loop-_turn
-invariant-loop-_turn l =
-    (k : ℕ) → k + l._turn ≡ l._turn-end
-    → process_within k end_of_file l.state ≡ process end_of_file l.fn.state.now
+invariant-loop-_turn l = Rests end_of_file l.fn.state.now l.state l._turn l._turn-end
