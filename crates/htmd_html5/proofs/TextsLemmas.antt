@@ -1,15 +1,17 @@
 -- Texts are taken part by part, each of at least one character.
 use Rattle.std.proofs.Common.{◌≡◌, ◌∙◌, ℕ, zero, suc, ◌<◌, ◌≤◌, Bool, true, false, List, [], ◌∷◌, length, refl, ap, sym}
-use Rattle.std.proofs.Common.{arith}
+use Rattle.std.proofs.Common.{arith, ◌+◌, ◌-◌}
 use Rattle.htmd_text.proofs.Cases.{test}
 use Rattle.htmd_text.specs.WhiteSpace.{is_ascii_white_space}
 use Rattle.htmd_grammar.specs.CharacterClasses.{behind_run}
 use Rattle.htmd_tree.proofs.TagPartsLemmas.{behind_within}
 use Rattle.htmd_html5_state.specs.State.{StateValue}
-use Rattle.htmd_html5.specs.Answers.{Answer}
+use Rattle.htmd_html5.specs.Answers.{Answer, answer}
 use Rattle.htmd_html5.specs.Runs.{is_of_kind, kind_of_byte, is_null, behind_first_run}
 use Rattle.htmd_html5.specs.Processing.{by_rules, turns}
-use Rattle.htmd_html5.specs.Texts.{Taken, take_within, take_part, takes_all, after_run, first_token, put_within, put_text}
+use Rattle.htmd_html5.specs.InTable.{table_text}
+use Rattle.htmd_html5.specs.Texts.{Taken, taken, take_within, take_part, takes_all, after_run, first_token, put_within}
+use Rattle.htmd_html5.specs.Texts.{put_text}
 
 own_kind : (b : ℕ) → is_of_kind (kind_of_byte b) b ≡ true
 own_kind b =
@@ -60,3 +62,43 @@ put_part (b ∷ t) s h =
     let l = part_shorter (b ∷ t) s h in
     put_same (length t) (length (take_part (b ∷ t) s).rest) (take_part (b ∷ t) s).rest (take_part (b ∷ t) s).state
     (omega arith) (omega arith)
+
+-- ---- the turns of a part
+
+-- what is left to take in a turn is what was at first
+abbrev pub Takes : List ℕ → StateValue → StateValue → ℕ → ℕ → Type 0
+Takes text first s turn all = (k : ℕ) → k + turn ≡ all → take_within k text s ≡ take_within all text first
+
+where_all : (k : ℕ) (text : List ℕ) (s : StateValue) → takes_all s ≡ true
+    → take_within (suc k) text s ≡ taken (table_text text s) []
+where_all k text s e = rw e refl
+
+elsewhere : (k : ℕ) (text : List ℕ) (s : StateValue) (a : Answer) → takes_all s ≡ false
+    → a ≡ by_rules (first_token text) s
+    → take_within (suc k) text s ≡ after_run (take_within k text) (behind_first_run text) a
+elsewhere k text s a e f = rw e (ap (λ (x : Answer). after_run (take_within k text) (behind_first_run text) x) (sym f))
+
+pub takes_first : (text : List ℕ) (s : StateValue) (all : ℕ) → Takes text s s 0 all
+takes_first text s all k e = let same : k ≡ all = omega arith in ap (λ n. take_within n text s) same
+
+pub takes_again : (text : List ℕ) (first s new : StateValue) (turn all : ℕ) → Takes text first s turn all
+    → takes_all s ≡ false → answer new true ≡ by_rules (first_token text) s → Takes text first new (turn + 1) all
+takes_again text first s new turn all r e f k g =
+    let more : suc k + turn ≡ all = omega arith in sym (elsewhere k text s (answer new true) e f) ∙ r (suc k) more
+
+pub takes_run : (text : List ℕ) (first s new : StateValue) (turn all : ℕ) → Takes text first s turn all
+    → turn < all → takes_all s ≡ false → answer new false ≡ by_rules (first_token text) s
+    → taken new (behind_first_run text) ≡ take_within all text first
+takes_run text first s new turn all r l e f =
+    let k = all - suc turn in
+    let more : suc k + turn ≡ all = omega arith in sym (elsewhere k text s (answer new false) e f) ∙ r (suc k) more
+
+pub takes_text : (text : List ℕ) (first s : StateValue) (turn all : ℕ) → Takes text first s turn all
+    → turn < all → takes_all s ≡ true → taken (table_text text s) [] ≡ take_within all text first
+takes_text text first s turn all r l e =
+    let k = all - suc turn in
+    let more : suc k + turn ≡ all = omega arith in sym (where_all k text s e) ∙ r (suc k) more
+
+pub takes_over : (text : List ℕ) (first s : StateValue) (turn all : ℕ) → Takes text first s turn all
+    → turn ≡ all → taken s (behind_first_run text) ≡ take_within all text first
+takes_over text first s turn all r e = let none : 0 + turn ≡ all = omega arith in r 0 none

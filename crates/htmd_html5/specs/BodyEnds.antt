@@ -20,7 +20,12 @@ use Rattle.htmd_html5.specs.declared.body_ends.EndRule.TheVariants as rule
 -- ---- which rule a name has
 
 -- what else stands in text
-abbrev pub text_end_rule : TagName → EndRule
+unfoldable pub text_end_rule : TagName → EndRule
+text_end_rule tags.Button = rule.Block
+text_end_rule tags.Dd = rule.Block
+text_end_rule tags.Dt = rule.Block
+text_end_rule tags.Listing = rule.Block
+text_end_rule tags.Pre = rule.Block
 text_end_rule tags.Form = rule.Form
 text_end_rule tags.P = rule.Paragraph
 text_end_rule tags.Li = rule.ListItem
@@ -59,27 +64,22 @@ end_rule tags.Address = rule.Block
 end_rule tags.Article = rule.Block
 end_rule tags.Aside = rule.Block
 end_rule tags.BlockQuote = rule.Block
-end_rule tags.Button = rule.Block
 end_rule tags.Center = rule.Block
-end_rule tags.Dd = rule.Block
 end_rule tags.Details = rule.Block
 end_rule tags.Dialog = rule.Block
 end_rule tags.Dir = rule.Block
 end_rule tags.Div = rule.Block
 end_rule tags.Dl = rule.Block
-end_rule tags.Dt = rule.Block
 end_rule tags.FieldSet = rule.Block
 end_rule tags.FigCaption = rule.Block
 end_rule tags.Figure = rule.Block
 end_rule tags.Footer = rule.Block
 end_rule tags.Header = rule.Block
 end_rule tags.HGroup = rule.Block
-end_rule tags.Listing = rule.Block
 end_rule tags.Main = rule.Block
 end_rule tags.Menu = rule.Block
 end_rule tags.Nav = rule.Block
 end_rule tags.Ol = rule.Block
-end_rule tags.Pre = rule.Block
 end_rule tags.Search = rule.Block
 end_rule tags.Section = rule.Block
 end_rule tags.Summary = rule.Block

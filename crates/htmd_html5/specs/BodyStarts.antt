@@ -34,7 +34,7 @@ use Rattle.htmd_html5_tokens.specs.declared.tokens.RawElement.TheVariants as raw
 -- ---- which rule a name has
 
 -- what else stands in text
-abbrev pub phrasing_rule : TagName → StartRule
+unfoldable pub phrasing_rule : TagName → StartRule
 phrasing_rule tags.TextArea = rule.TextArea
 phrasing_rule tags.Xmp = rule.Example
 phrasing_rule tags.Iframe = rule.InlineFrame
@@ -52,7 +52,7 @@ phrasing_rule tags.Svg = rule.Foreign Svg
 phrasing_rule _ = rule.Ordinary
 
 -- formatting and its kin
-abbrev pub formatting_rule : TagName → StartRule
+unfoldable pub formatting_rule : TagName → StartRule
 formatting_rule tags.Button = rule.Button
 formatting_rule tags.A = rule.Anchor
 formatting_rule tags.B = rule.Formatting
@@ -85,7 +85,7 @@ formatting_rule tags.Image = rule.Image
 formatting_rule tag = phrasing_rule tag
 
 -- blocks
-abbrev pub block_rule : TagName → StartRule
+unfoldable pub block_rule : TagName → StartRule
 block_rule tags.Address = rule.Block
 block_rule tags.Article = rule.Block
 block_rule tags.Aside = rule.Block
@@ -260,12 +260,12 @@ start_embedded tag s = no_frameset (push_marker (start_ordinary tag s))
 abbrev pub start_void : StartTagValue → StateValue → StateValue
 start_void tag s = no_frameset (insert_void_tag tag (reconstruct s))
 
-abbrev pub is_hidden_value : AttributePair → Bool
-is_hidden_value a = bytes_eq (map to_ascii_lowercase a.value) (codes "hidden")
+abbrev pub is_hidden_value : List ℕ → Bool
+is_hidden_value value = bytes_eq (map to_ascii_lowercase value) (codes "hidden")
 
 abbrev pub has_hidden_value : Option AttributePair → Bool
 has_hidden_value None = false
-has_hidden_value (Some a) = is_hidden_value a
+has_hidden_value (Some a) = is_hidden_value a.value
 
 abbrev pub has_hidden_type : List AttributePair → Bool
 has_hidden_type attributes = has_hidden_value (find (is_named (codes "type")) attributes)

@@ -42,27 +42,22 @@ fn end_rule(tag: TagName) -> EndRule
         | TagName::Article
         | TagName::Aside
         | TagName::BlockQuote
-        | TagName::Button
         | TagName::Center
-        | TagName::Dd
         | TagName::Details
         | TagName::Dialog
         | TagName::Dir
         | TagName::Div
         | TagName::Dl
-        | TagName::Dt
         | TagName::FieldSet
         | TagName::FigCaption
         | TagName::Figure
         | TagName::Footer
         | TagName::Header
         | TagName::HGroup
-        | TagName::Listing
         | TagName::Main
         | TagName::Menu
         | TagName::Nav
         | TagName::Ol
-        | TagName::Pre
         | TagName::Search
         | TagName::Section
         | TagName::Summary
@@ -71,10 +66,12 @@ fn end_rule(tag: TagName) -> EndRule
     }
 }
 
+#[tactic(auto, unfolding(crate::specs::BodyEnds::text_end_rule))]
 fn text_end_rule(tag: TagName) -> EndRule
     ensures { result ≡ spec.text_end_rule tag }
 {
     match tag {
+        TagName::Button | TagName::Dd | TagName::Dt | TagName::Listing | TagName::Pre => EndRule::Block,
         TagName::Form => EndRule::Form,
         TagName::P => EndRule::Paragraph,
         TagName::Li => EndRule::ListItem,

@@ -100,6 +100,7 @@ fn start_rule(tag: TagName) -> StartRule
     }
 }
 
+#[tactic(auto, unfolding(crate::specs::BodyStarts::block_rule))]
 fn block_rule(tag: TagName) -> StartRule
     ensures { result ≡ spec.block_rule tag }
 {
@@ -146,6 +147,7 @@ fn block_rule(tag: TagName) -> StartRule
     }
 }
 
+#[tactic(auto, unfolding(crate::specs::BodyStarts::formatting_rule))]
 fn formatting_rule(tag: TagName) -> StartRule
     ensures { result ≡ spec.formatting_rule tag }
 {
@@ -179,6 +181,7 @@ fn formatting_rule(tag: TagName) -> StartRule
     }
 }
 
+#[tactic(auto, unfolding(crate::specs::BodyStarts::phrasing_rule))]
 fn phrasing_rule(tag: TagName) -> StartRule
     ensures { result ≡ spec.phrasing_rule tag }
 {
