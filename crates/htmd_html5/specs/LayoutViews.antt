@@ -1,8 +1,8 @@
 -- What the program's layout is, and what holds of it.
-use Rattle.std.specs.Prelude.{◌≡◌, ℕ, true, List, length, map}
-use Rattle.htmd_html5.specs.Layout.{Coming, coming, Layout}
+use Rattle.std.specs.Prelude.{◌≡◌, ℕ, ◌<◌, List, map, reverse, length, true, All}
+use Rattle.htmd_tree.specs.Items.{Item, data_at, depth_at, greatest_depth, holds_children}
 use Rattle.htmd_html5_state.specs.Views.{nodes_of}
-use Rattle.htmd_tree.specs.Items.{Item, depth_at, greatest_depth}
+use Rattle.htmd_html5.specs.Layout.{Coming, Layout}
 use Rattle.htmd_html5.specs.declared.layout.Coming as program
 use Rattle.htmd_html5.specs.declared.layout.Layout as whole
 
@@ -11,7 +11,7 @@ coming_of c = record { node = c.node; under = c.under }
 
 -- the next last
 abbrev pub work_of : List program.Coming → List Coming
-work_of coming = reverse (map coming_of coming)
+work_of cs = reverse (map coming_of cs)
 
 abbrev pub layout_of : whole.Layout → Layout
 layout_of l = record { nodes = nodes_of l.nodes.items; items = l.tree; work = work_of l.coming.items }
@@ -24,4 +24,4 @@ pub record MayHold (items : List Item) (under : ℕ) : Type 0 where
 
 -- all that comes has such a parent
 abbrev pub AllMayHold : List Item → List program.Coming → Type 0
-AllMayHold items coming = All (λ (c : program.Coming). MayHold items c.under) coming
+AllMayHold items cs = All (λ (c : program.Coming). MayHold items c.under) cs

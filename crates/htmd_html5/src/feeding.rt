@@ -1,5 +1,7 @@
 //! What a token of the tokenizer does.
-ghost use Rattle.std.specs.Prelude.{◌≡◌, OnOk};
+ghost use Rattle.std.specs.Prelude.{◌≡◌, true, false, drop, MatchOption, OnOk};
+ghost use Rattle.htmd_text.specs.Characters.{line_feed};
+ghost use Rattle.htmd_grammar.specs.CharacterClasses.{first_is};
 ghost use Rattle.htmd_html5_state.specs.Names.{name_of};
 ghost use Rattle.htmd_html5.specs.Feeding as spec;
 ghost use Rattle.htmd_html5_tokens.specs.Tokens.{value_of};
@@ -33,13 +35,27 @@ fn feed_text(state: &mut HtmlState, text: &str) -> Result<(), AllocError>
     state.insert_text(text)
 }
 
+/// The text behind a line feed at its front.
+fn strip_line_feed(text: &str) -> Option<&str>
+    ensures { MatchOption result (first_is line_feed text.now ≡ false)
+        (λ rest. (first_is line_feed text.now ≡ true) × (rest.now ≡ drop 1 text.now)) }
+{
+    match text.as_bytes() {
+        [b'\n', ..] => Some(&text[1..]),
+        _ => None,
+    }
+}
+
 /// The text, without a line feed at its front where that is dropped.
 fn without_line_feed(text: &str, skips: bool) -> &str
     ensures { result.now ≡ spec.without_line_feed skips text.now }
 {
-    match text.strip_prefix('\n') {
-        Some(rest) if skips => rest,
-        _ => text,
+    if !skips {
+        return text;
+    }
+    match strip_line_feed(text) {
+        Some(rest) => rest,
+        None => text,
     }
 }
 
