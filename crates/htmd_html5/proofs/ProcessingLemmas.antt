@@ -3,7 +3,7 @@ use Rattle.std.proofs.Common.{◌≡◌, ◌∙◌, ℕ, zero, suc, ◌+◌, ◌
 use Rattle.htmd_html5_state.specs.State.{StateValue}
 use Rattle.htmd_html5.specs.Answers.{Answer, answer}
 use Rattle.htmd_html5.specs.Tokens.{TokenValue}
-use Rattle.htmd_html5.specs.Processing.{by_rules, after_answer, process_within}
+use Rattle.htmd_html5.specs.Processing.{by_rules, after_answer, process_within, process, turns}
 
 process_again : (k : ℕ) (token : TokenValue) (s new : StateValue) → answer new true ≡ by_rules token s
     → process_within (suc k) token s ≡ process_within k token new
@@ -35,3 +35,9 @@ rests_done token first s new turn all r l e =
 pub rests_over : (token : TokenValue) (first s : StateValue) (turn all : ℕ) → Rests token first s turn all
     → turn ≡ all → s ≡ process_within all token first
 rests_over token first s turn all r e = let none : 0 + turn ≡ all = omega arith in r 0 none
+
+-- what is processed once
+pub process_once : (token : TokenValue) (s new : StateValue) → answer new false ≡ by_rules token s
+    → new ≡ process token s
+process_once token s new e =
+    rests_done token s s new 0 (turns s) (rests_first token s (turns s)) (omega arith) e

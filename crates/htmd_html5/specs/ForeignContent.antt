@@ -68,21 +68,39 @@ is_foreign token s = not (goes_to_html token s)
 
 -- ---- what they do there (13.2.6.5)
 
--- HTML elements that end foreign content
+-- HTML elements in text that end foreign content
+unfoldable pub text_breaks_out : TagName → Bool
+text_breaks_out tags.B = true
+text_breaks_out tags.Big = true
+text_breaks_out tags.Br = true
+text_breaks_out tags.Code = true
+text_breaks_out tags.Em = true
+text_breaks_out tags.Embed = true
+text_breaks_out tags.I = true
+text_breaks_out tags.Img = true
+text_breaks_out tags.NoBr = true
+text_breaks_out tags.Ruby = true
+text_breaks_out tags.S = true
+text_breaks_out tags.Small = true
+text_breaks_out tags.Span = true
+text_breaks_out tags.Strong = true
+text_breaks_out tags.Strike = true
+text_breaks_out tags.Sub = true
+text_breaks_out tags.Sup = true
+text_breaks_out tags.Tt = true
+text_breaks_out tags.U = true
+text_breaks_out tags.Var = true
+text_breaks_out _ = false
+
+-- and other elements
 abbrev pub breaks_out : TagName → Bool
-breaks_out tags.B = true
-breaks_out tags.Big = true
 breaks_out tags.BlockQuote = true
 breaks_out tags.Body = true
-breaks_out tags.Br = true
 breaks_out tags.Center = true
-breaks_out tags.Code = true
 breaks_out tags.Dd = true
 breaks_out tags.Div = true
 breaks_out tags.Dl = true
 breaks_out tags.Dt = true
-breaks_out tags.Em = true
-breaks_out tags.Embed = true
 breaks_out tags.H1 = true
 breaks_out tags.H2 = true
 breaks_out tags.H3 = true
@@ -91,30 +109,16 @@ breaks_out tags.H5 = true
 breaks_out tags.H6 = true
 breaks_out tags.Head = true
 breaks_out tags.Hr = true
-breaks_out tags.I = true
-breaks_out tags.Img = true
 breaks_out tags.Li = true
 breaks_out tags.Listing = true
 breaks_out tags.Menu = true
 breaks_out tags.Meta = true
-breaks_out tags.NoBr = true
 breaks_out tags.Ol = true
 breaks_out tags.P = true
 breaks_out tags.Pre = true
-breaks_out tags.Ruby = true
-breaks_out tags.S = true
-breaks_out tags.Small = true
-breaks_out tags.Span = true
-breaks_out tags.Strong = true
-breaks_out tags.Strike = true
-breaks_out tags.Sub = true
-breaks_out tags.Sup = true
 breaks_out tags.Table = true
-breaks_out tags.Tt = true
-breaks_out tags.U = true
 breaks_out tags.Ul = true
-breaks_out tags.Var = true
-breaks_out _ = false
+breaks_out tag = text_breaks_out tag
 
 -- a `font` of HTML has one of these attributes
 abbrev pub is_font_attribute : AttributePair → Bool

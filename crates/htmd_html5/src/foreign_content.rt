@@ -1,9 +1,10 @@
 //! Tokens in foreign content.
-ghost use Rattle.std.specs.Prelude.{◌≡◌, ℕ, Bool, List, is_some, string_bytes, IfOk, IfSome, OnOk};
-ghost use Rattle.htmd_html5_state.specs.Names.{NameValue, name_of};
+ghost use Rattle.std.specs.Prelude.{◌≡◌, ℕ, List, is_some, not, string_bytes, IfOk, IfSome, OnOk};
+ghost use Rattle.htmd_html5_state.specs.Foreign.{current_is_html};
+ghost use Rattle.htmd_html5_state.specs.Names.{name_of};
 ghost use Rattle.htmd_html5.specs.Answers.{answer};
 ghost use Rattle.htmd_html5.specs.ForeignContent as spec;
-ghost use Rattle.htmd_html5.specs.Tokens.{tag_of, start_tag, end_tag, run, comment, doctype};
+ghost use Rattle.htmd_html5.specs.Tokens.{tag_of, start_tag, run};
 ghost use Rattle.htmd_html5.specs.declared.tokens.RunKind.{RunKind};
 ghost use Rattle.htmd_tree.specs.Views.{pair_of, pairs_of};
 
@@ -40,9 +41,7 @@ pub(crate) fn is_start_foreign(state: &HtmlState, tag: &StartTag) -> bool
 
 /// Whether an end tag, a comment or a doctype goes to foreign content.
 pub(crate) fn is_in_foreign(state: &HtmlState) -> bool
-    ensures ends { (name : NameValue) → result ≡ spec.is_foreign (end_tag name) state.now }
-    ensures comments { (text : List ℕ) → result ≡ spec.is_foreign (comment text) state.now }
-    ensures doctypes { (quirks : Bool) → result ≡ spec.is_foreign (doctype quirks) state.now }
+    ensures { result ≡ not (current_is_html state.now.stack) }
 {
     !state.current_is_html()
 }
@@ -58,43 +57,22 @@ pub(crate) fn is_text_foreign(state: &HtmlState) -> bool
 
 // ---- what they do there
 
-/// Whether this is a start tag of HTML that ends foreign content.
-fn breaks_out(tag: TagName) -> bool
-    ensures { result ≡ spec.breaks_out tag }
+/// Whether this is a start tag of HTML in text that ends foreign content.
+#[tactic(auto, unfolding(crate::specs::ForeignContent::text_breaks_out))]
+fn text_breaks_out(tag: TagName) -> bool
+    ensures { result ≡ spec.text_breaks_out tag }
 {
     matches!(
         tag,
         TagName::B
             | TagName::Big
-            | TagName::BlockQuote
-            | TagName::Body
             | TagName::Br
-            | TagName::Center
             | TagName::Code
-            | TagName::Dd
-            | TagName::Div
-            | TagName::Dl
-            | TagName::Dt
             | TagName::Em
             | TagName::Embed
-            | TagName::H1
-            | TagName::H2
-            | TagName::H3
-            | TagName::H4
-            | TagName::H5
-            | TagName::H6
-            | TagName::Head
-            | TagName::Hr
             | TagName::I
             | TagName::Img
-            | TagName::Li
-            | TagName::Listing
-            | TagName::Menu
-            | TagName::Meta
             | TagName::NoBr
-            | TagName::Ol
-            | TagName::P
-            | TagName::Pre
             | TagName::Ruby
             | TagName::S
             | TagName::Small
@@ -103,12 +81,43 @@ fn breaks_out(tag: TagName) -> bool
             | TagName::Strike
             | TagName::Sub
             | TagName::Sup
-            | TagName::Table
             | TagName::Tt
             | TagName::U
-            | TagName::Ul
             | TagName::Var
     )
+}
+
+/// Whether this is a start tag of HTML that ends foreign content.
+fn breaks_out(tag: TagName) -> bool
+    ensures { result ≡ spec.breaks_out tag }
+{
+    match tag {
+        TagName::BlockQuote
+        | TagName::Body
+        | TagName::Center
+        | TagName::Dd
+        | TagName::Div
+        | TagName::Dl
+        | TagName::Dt
+        | TagName::H1
+        | TagName::H2
+        | TagName::H3
+        | TagName::H4
+        | TagName::H5
+        | TagName::H6
+        | TagName::Head
+        | TagName::Hr
+        | TagName::Li
+        | TagName::Listing
+        | TagName::Menu
+        | TagName::Meta
+        | TagName::Ol
+        | TagName::P
+        | TagName::Pre
+        | TagName::Table
+        | TagName::Ul => true,
+        _ => text_breaks_out(tag),
+    }
 }
 
 fn is_font_attribute(attribute: &Attribute) -> bool
@@ -120,7 +129,12 @@ fn is_font_attribute(attribute: &Attribute) -> bool
 fn has_font_attribute(attributes: &[Attribute]) -> bool
     ensures { result ≡ spec.has_font_attribute (pairs_of attributes.now) }
 {
-    attributes.iter().any(is_font_attribute)
+    for attribute in attributes {
+        if is_font_attribute(attribute) {
+            return true;
+        }
+    }
+    false
 }
 
 fn tag_breaks_out(tag: &StartTag) -> bool
@@ -186,7 +200,8 @@ fn replacements(alloc: Global, text: &str) -> Result<String, AllocError>
     ensures { IfOk result (λ replaced. string_bytes replaced ≡ spec.replacements text.now) }
 {
     let mut replaced = String::new(alloc);
-    for _byte in text.as_bytes() {
+    let bytes = text.as_bytes();
+    for _byte in bytes {
         replaced.push('\u{fffd}')?;
     }
     Ok(replaced)

@@ -71,9 +71,12 @@ pub(crate) fn end_in_cell(state: &mut HtmlState, name: &HtmlName) -> Result<bool
             end_cell(state, *tag);
             Ok(false)
         }
-        HtmlName::Known(
-            tag @ (TagName::Table | TagName::TBody | TagName::TFoot | TagName::THead | TagName::Tr),
-        ) => Ok(leave_cell(state, NameSet::Only(*tag))),
+        HtmlName::Known(tag @ (TagName::Table | TagName::Tr)) => {
+            Ok(leave_cell(state, NameSet::Only(*tag)))
+        }
+        HtmlName::Known(tag @ (TagName::TBody | TagName::TFoot | TagName::THead)) => {
+            Ok(leave_cell(state, NameSet::Only(*tag)))
+        }
         HtmlName::Known(
             TagName::Body | TagName::Caption | TagName::Col | TagName::ColGroup | TagName::Html,
         ) => Ok(false),

@@ -159,16 +159,13 @@ pub(crate) fn end_in_select_in_table(state: &mut HtmlState, name: &HtmlName) -> 
     ensures { answer state.new result ≡ spec.end_in_select_in_table (name_of name.now) state.old }
 {
     match name {
-        HtmlName::Known(
-            tag @ (TagName::Caption
-            | TagName::Table
-            | TagName::TBody
-            | TagName::Td
-            | TagName::TFoot
-            | TagName::Th
-            | TagName::THead
-            | TagName::Tr),
-        ) => leave_select(state, *tag),
+        HtmlName::Known(tag @ (TagName::Caption | TagName::Table)) => leave_select(state, *tag),
+        HtmlName::Known(tag @ (TagName::TBody | TagName::TFoot | TagName::THead)) => {
+            leave_select(state, *tag)
+        }
+        HtmlName::Known(tag @ (TagName::Tr | TagName::Td | TagName::Th)) => {
+            leave_select(state, *tag)
+        }
         _ => {
             end_in_select(state, name);
             false

@@ -87,6 +87,7 @@ pub(crate) fn put_run_by_rules(
 }
 
 /// A comment.
+#[tactic(auto, using(crate::proofs::ProcessingLemmas::process_once))]
 pub(crate) fn process_comment(state: &mut HtmlState, text: String) -> Result<(), AllocError>
     ensures { OnOk result (state.new ≡ spec.process (comment (string_bytes text)) state.old) }
 {
@@ -97,6 +98,7 @@ pub(crate) fn process_comment(state: &mut HtmlState, text: String) -> Result<(),
 }
 
 /// A doctype.
+#[tactic(auto, using(crate::proofs::ProcessingLemmas::process_once))]
 pub(crate) fn process_doctype(state: &mut HtmlState, quirks: bool) -> Result<(), AllocError>
     ensures { OnOk result (state.new ≡ spec.process (doctype quirks) state.old) }
 {

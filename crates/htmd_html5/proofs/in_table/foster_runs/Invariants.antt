@@ -8,7 +8,7 @@ use Rattle.htmd_html5.proofs.in_table.foster_runs.Given as goal
 abbrev pub invariant-loop-rest : goal.invariant-loop-rest
 invariant-loop-rest l = record {
   text : shadow (Utf8 l.rest);
-  reads : foster_runs (length l.rest) l.rest l.state ≡ foster_runs (length l.text) l.text l.fn.state.now;
+  reads : foster_runs (length l.rest) l.rest l.state ≡ foster_runs (length l.text) l.text l.fn.state;
 }
 
 abbrev pub decreases-loop-rest : goal.decreases-loop-rest

@@ -4,5 +4,5 @@ use Rattle.htmd_html5_state.specs.Names.{name_of}
 use Rattle.htmd_html5.proofs.ProcessingLemmas.{Rests}
 use Rattle.htmd_html5.proofs.processing.process_end.Given as goal
 
-abbrev pub invariant-loop-_turn : goal.invariant-loop-_turn
-invariant-loop-_turn l = Rests (end_tag (name_of l.name)) l.fn.state.now l.state l._turn l._turn-end
+abbrev pub invariant-loop-turn : goal.invariant-loop-turn
+invariant-loop-turn l = Rests (end_tag (name_of l.name)) l.fn.state l.state l._turn l._turn-end

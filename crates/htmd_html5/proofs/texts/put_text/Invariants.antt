@@ -8,7 +8,7 @@ use Rattle.htmd_html5.proofs.texts.put_text.Given as goal
 abbrev pub invariant-loop-rest : goal.invariant-loop-rest
 invariant-loop-rest l = record {
   text : shadow (Utf8 l.rest);
-  reads : put_text l.rest l.state ≡ put_text l.text l.fn.state.now;
+  reads : put_text l.rest l.state ≡ put_text l.text l.fn.state;
 }
 
 abbrev pub decreases-loop-rest : goal.decreases-loop-rest

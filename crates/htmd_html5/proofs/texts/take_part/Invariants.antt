@@ -2,5 +2,5 @@
 use Rattle.htmd_html5.proofs.TextsLemmas.{Takes}
 use Rattle.htmd_html5.proofs.texts.take_part.Given as goal
 
-abbrev pub invariant-loop-_turn : goal.invariant-loop-_turn
-invariant-loop-_turn l = Takes l.text l.fn.state.now l.state l._turn l._turn-end
+abbrev pub invariant-loop-turn : goal.invariant-loop-turn
+invariant-loop-turn l = Takes l.text l.fn.state l.state l._turn l._turn-end
