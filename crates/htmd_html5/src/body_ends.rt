@@ -71,16 +71,13 @@ fn text_end_rule(tag: TagName) -> EndRule
     ensures { result ≡ spec.text_end_rule tag }
 {
     match tag {
-        TagName::Button | TagName::Dd | TagName::Dt | TagName::Listing | TagName::Pre => EndRule::Block,
+        TagName::Button | TagName::Dd | TagName::Dt | TagName::Listing | TagName::Pre =>
+            EndRule::Block,
         TagName::Form => EndRule::Form,
         TagName::P => EndRule::Paragraph,
         TagName::Li => EndRule::ListItem,
-        TagName::H1
-        | TagName::H2
-        | TagName::H3
-        | TagName::H4
-        | TagName::H5
-        | TagName::H6 => EndRule::Heading,
+        TagName::H1 | TagName::H2 | TagName::H3 | TagName::H4 | TagName::H5 | TagName::H6 =>
+            EndRule::Heading,
         TagName::A
         | TagName::B
         | TagName::Big
@@ -130,7 +127,9 @@ fn end_form(state: &mut HtmlState)
     }
     let form = state.form();
     state.set_form(None);
-    if let Some(form) = form && state.is_node_in_scope(form) {
+    if let Some(form) = form
+        && state.is_node_in_scope(form)
+    {
         state.pop_while(NameSet::ImpliedEnd);
         state.remove_open(form);
     }

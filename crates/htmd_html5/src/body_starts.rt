@@ -6,7 +6,10 @@ ghost use Rattle.htmd_html5.specs.BodyStarts as spec;
 ghost use Rattle.htmd_html5.specs.Tokens.{tag_of};
 ghost use Rattle.htmd_tree.specs.Views.{pairs_of};
 
-use crate::shared_rules::{add_to_root, close_paragraph, insert_foreign_tag, insert_head_element, insert_raw_tag, insert_tag, insert_void_tag};
+use crate::shared_rules::{
+    add_to_root, close_paragraph, insert_foreign_tag, insert_head_element, insert_raw_tag,
+    insert_tag, insert_void_tag,
+};
 use crate::tokens::StartTag;
 use htmd_html5_state::{HtmlName, HtmlState, InsertionMode, NameSet, Namespace, Scope, TagName};
 use htmd_html5_tokens::RawElement;
@@ -130,12 +133,8 @@ fn block_rule(tag: TagName) -> StartRule
         | TagName::Section
         | TagName::Summary
         | TagName::Ul => StartRule::Block,
-        TagName::H1
-        | TagName::H2
-        | TagName::H3
-        | TagName::H4
-        | TagName::H5
-        | TagName::H6 => StartRule::Heading,
+        TagName::H1 | TagName::H2 | TagName::H3 | TagName::H4 | TagName::H5 | TagName::H6 =>
+            StartRule::Heading,
         TagName::Pre | TagName::Listing => StartRule::Preformatted,
         TagName::Form => StartRule::Form,
         TagName::Li => StartRule::Item(NameSet::Only(TagName::Li)),
@@ -287,11 +286,7 @@ fn start_form(state: &mut HtmlState, tag: StartTag) -> Result<(), AllocError>
     Ok(())
 }
 
-fn start_item(
-    state: &mut HtmlState,
-    alike: NameSet,
-    tag: StartTag,
-) -> Result<(), AllocError>
+fn start_item(state: &mut HtmlState, alike: NameSet, tag: StartTag) -> Result<(), AllocError>
     ensures { OnOk result (state.new ≡ spec.start_item alike (tag_of tag) state.old) }
 {
     state.set_frameset_ok(false);
@@ -475,11 +470,7 @@ fn start_option(state: &mut HtmlState, tag: StartTag) -> Result<(), AllocError>
     start_ordinary(state, tag)
 }
 
-fn start_ruby(
-    state: &mut HtmlState,
-    implied: NameSet,
-    tag: StartTag,
-) -> Result<(), AllocError>
+fn start_ruby(state: &mut HtmlState, implied: NameSet, tag: StartTag) -> Result<(), AllocError>
     ensures { OnOk result (state.new ≡ spec.start_ruby implied (tag_of tag) state.old) }
 {
     if state.is_in_scope(NameSet::Only(TagName::Ruby), Scope::Default) {
@@ -488,11 +479,7 @@ fn start_ruby(
     insert_tag(state, tag)
 }
 
-fn start_foreign(
-    state: &mut HtmlState,
-    space: Namespace,
-    tag: StartTag,
-) -> Result<(), AllocError>
+fn start_foreign(state: &mut HtmlState, space: Namespace, tag: StartTag) -> Result<(), AllocError>
     ensures { OnOk result (state.new ≡ spec.start_foreign space (tag_of tag) state.old) }
 {
     state.reconstruct()?;
@@ -562,11 +549,7 @@ fn start_by(state: &mut HtmlState, rule: StartRule, tag: StartTag) -> Result<(),
 }
 
 /// Rules on what stands in text.
-fn start_in_text(
-    state: &mut HtmlState,
-    rule: StartRule,
-    tag: StartTag,
-) -> Result<(), AllocError>
+fn start_in_text(state: &mut HtmlState, rule: StartRule, tag: StartTag) -> Result<(), AllocError>
     ensures { OnOk result (state.new ≡ spec.start_in_text rule (tag_of tag) state.old) }
 {
     match rule {

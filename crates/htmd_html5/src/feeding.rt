@@ -6,7 +6,9 @@ ghost use Rattle.htmd_html5_state.specs.Names.{name_of};
 ghost use Rattle.htmd_html5.specs.Feeding as spec;
 ghost use Rattle.htmd_html5_tokens.specs.Tokens.{value_of};
 
-use crate::processing::{process_comment, process_doctype, process_end, process_end_of_file, process_start};
+use crate::processing::{
+    process_comment, process_doctype, process_end, process_end_of_file, process_start,
+};
 use crate::texts::put_text;
 use crate::tokens::StartTag;
 use htmd_html5_state::{HtmlName, HtmlState};

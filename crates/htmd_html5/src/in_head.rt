@@ -5,7 +5,9 @@ ghost use Rattle.htmd_html5.specs.Answers.{answer};
 ghost use Rattle.htmd_html5.specs.InHead as spec;
 ghost use Rattle.htmd_html5.specs.Tokens.{tag_of};
 
-use crate::shared_rules::{add_to_root, end_template, insert_head_element, insert_raw_tag, insert_tag};
+use crate::shared_rules::{
+    add_to_root, end_template, insert_head_element, insert_raw_tag, insert_tag,
+};
 use crate::tokens::StartTag;
 use htmd_html5_state::{HtmlName, HtmlState, InsertionMode, TagName};
 use htmd_html5_tokens::RawElement;

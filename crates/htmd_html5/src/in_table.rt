@@ -26,7 +26,9 @@ use std::alloc::{AllocError, Global};
 fn is_white(text: &str) -> bool
     ensures { result ≡ list_all is_ascii_white_space text.now }
 {
-    text.as_bytes().iter().all(|byte| byte.is_ascii_whitespace())
+    text.as_bytes()
+        .iter()
+        .all(|byte| byte.is_ascii_whitespace())
 }
 
 fn push_unless_nulls(kept: &mut String, kind: RunKind, run: &str) -> Result<(), AllocError>
@@ -53,11 +55,7 @@ fn without_nulls(alloc: Global, text: &str) -> Result<String, AllocError>
 }
 
 /// A run before the table.
-pub(crate) fn foster_run(
-    state: &mut HtmlState,
-    kind: RunKind,
-    text: &str,
-) -> Result<(), AllocError>
+pub(crate) fn foster_run(state: &mut HtmlState, kind: RunKind, text: &str) -> Result<(), AllocError>
     ensures { OnOk result (state.new ≡ spec.fostered (run_in_body kind text.now) state.old) }
 {
     state.set_foster_parenting(true);

@@ -25,11 +25,7 @@ fn mode_of_content(name: &HtmlName) -> InsertionMode
 {
     match name {
         HtmlName::Known(
-            TagName::Caption
-            | TagName::ColGroup
-            | TagName::TBody
-            | TagName::TFoot
-            | TagName::THead,
+            TagName::Caption | TagName::ColGroup | TagName::TBody | TagName::TFoot | TagName::THead,
         ) => InsertionMode::InTable,
         HtmlName::Known(TagName::Col) => InsertionMode::InColumnGroup,
         HtmlName::Known(TagName::Tr) => InsertionMode::InTableBody,

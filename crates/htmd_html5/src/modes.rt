@@ -15,11 +15,17 @@ use crate::in_body::{end_of_file_in_body, end_of_file_in_template, put_run_in_bo
 use crate::in_caption::{end_in_caption, start_in_caption};
 use crate::in_cell::{end_in_cell, start_in_cell};
 use crate::in_column_group::{end_columns, end_in_columns, start_in_columns};
-use crate::in_frameset::{end_after_frameset, end_in_frameset, put_run_behind_frameset, put_run_in_frameset, start_after_frameset, start_in_frameset};
+use crate::in_frameset::{
+    end_after_frameset, end_in_frameset, put_run_behind_frameset, put_run_in_frameset,
+    start_after_frameset, start_in_frameset,
+};
 use crate::in_head::{close_head, end_in_head, start_in_head};
 use crate::in_head_noscript::{close_noscript, end_in_noscript, start_in_noscript};
 use crate::in_row::{end_in_row, start_in_row};
-use crate::in_select::{end_in_select, end_in_select_in_table, put_run_in_select, start_in_select, start_in_select_in_table};
+use crate::in_select::{
+    end_in_select, end_in_select_in_table, put_run_in_select, start_in_select,
+    start_in_select_in_table,
+};
 use crate::in_table::{end_in_table, foster_run, start_in_table};
 use crate::in_table_body::{end_in_section, start_in_section};
 use crate::in_template::{end_in_template, start_in_template};
@@ -29,11 +35,7 @@ use htmd_html5_state::{HtmlName, HtmlState, InsertionMode};
 use std::alloc::AllocError;
 
 /// A start tag, in a mode that processes each once.
-fn start_once(
-    state: &mut HtmlState,
-    mode: InsertionMode,
-    tag: StartTag,
-) -> Result<(), AllocError>
+fn start_once(state: &mut HtmlState, mode: InsertionMode, tag: StartTag) -> Result<(), AllocError>
     ensures { OnOk result (state.new ≡ spec.start_once mode (tag_of tag) state.old) }
 {
     match mode {
@@ -82,11 +84,7 @@ pub(crate) fn start_by_mode(
 }
 
 /// An end tag, in a mode that processes each once.
-fn end_once(
-    state: &mut HtmlState,
-    mode: InsertionMode,
-    name: &HtmlName,
-) -> Result<(), AllocError>
+fn end_once(state: &mut HtmlState, mode: InsertionMode, name: &HtmlName) -> Result<(), AllocError>
     ensures { OnOk result (state.new ≡ spec.end_once mode (name_of name.now) state.old) }
 {
     match mode {
@@ -135,11 +133,7 @@ pub(crate) fn end_by_mode(state: &mut HtmlState, name: &HtmlName) -> Result<bool
 }
 
 /// White space before the body: it is dropped, or text.
-fn put_white_space(
-    state: &mut HtmlState,
-    mode: InsertionMode,
-    text: &str,
-) -> Result<(), AllocError>
+fn put_white_space(state: &mut HtmlState, mode: InsertionMode, text: &str) -> Result<(), AllocError>
     ensures { OnOk result (state.new ≡ spec.put_white_space mode text.now state.old) }
 {
     match mode {

@@ -5,8 +5,14 @@ ghost use Rattle.htmd_html5.specs.Answers.{answer};
 ghost use Rattle.htmd_html5.specs.Processing as spec;
 ghost use Rattle.htmd_html5.specs.Tokens.{tag_of, start_tag, end_tag, run, comment, doctype, end_of_file};
 
-use crate::foreign_content::{end_in_foreign, is_in_foreign, is_start_foreign, is_text_foreign, put_run_in_foreign, start_in_foreign};
-use crate::modes::{end_by_mode, end_file_by_mode, put_comment_by_mode, put_doctype_by_mode, put_run_by_mode, start_by_mode};
+use crate::foreign_content::{
+    end_in_foreign, is_in_foreign, is_start_foreign, is_text_foreign, put_run_in_foreign,
+    start_in_foreign,
+};
+use crate::modes::{
+    end_by_mode, end_file_by_mode, put_comment_by_mode, put_doctype_by_mode, put_run_by_mode,
+    start_by_mode,
+};
 use crate::tokens::{RunKind, StartTag};
 use htmd_html5_state::{HtmlName, HtmlState};
 use std::alloc::AllocError;
