@@ -8,7 +8,7 @@ use Rattle.htmd_html5_state.specs.OpenElements.{OpenValue, is_in_scope, close_na
 use Rattle.htmd_html5_state.specs.State.{StateValue, initial_state}
 use Rattle.htmd_html5_state.specs.Insertion.{opened, insert_text, insert_element}
 use Rattle.htmd_html5_state.specs.Formatting.{insert_formatting, reconstruct}
-use Rattle.htmd_html5_state.specs.Adoption.{adoption_agency}
+use Rattle.htmd_html5_state.specs.Adoption.{adoption_agency, move_last, wrap_children}
 use Rattle.htmd_html5_state.specs.Resetting.{reset_insertion_mode}
 use Rattle.htmd_html5_state.specs.Foreign.{insert_foreign}
 use Rattle.htmd_html5_state.specs.declared.names.TagName.{TagName}
@@ -110,6 +110,7 @@ misnested : adoption_agency B in_paragraph
       stack = is_open_as 3 P ∷ is_open_as 1 Body ∷ [];
       formatting = [];
     }
+unfolding move_last wrap_children
 misnested = refl
 
 -- in `<body><p><b></p>`

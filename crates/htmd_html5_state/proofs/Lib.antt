@@ -3,3 +3,5 @@ pub mod StackLemmas
 pub mod FormattingLemmas
 pub mod DocumentLemmas
 mod Examples
+pub mod NamesLemmas
+pub mod AdoptionLemmas

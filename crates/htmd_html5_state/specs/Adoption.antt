@@ -94,13 +94,13 @@ chain left (e ∷ es) c = chain (left - 1) es (with_next left e c)
 -- ---- one round, in which only what is around the formatting element is open
 
 -- what was made last goes to the common ancestor; no table stands inside the formatting element
-abbrev pub move_last : ℕ → StateValue → StateValue
+unfoldable pub move_last : ℕ → StateValue → StateValue
 move_last last s =
     let moved = on_nodes (detach last) s in
     on_nodes (put last (place moved)) moved
 
 -- a copy of the formatting element takes all children of the furthest block, and is its only child then
-abbrev pub wrap_children : ℕ → ℕ → List NodeValue → List NodeValue
+unfoldable pub wrap_children : ℕ → ℕ → List NodeValue → List NodeValue
 wrap_children formatting block nodes =
     put (length nodes) (last_in block)
     (move_children block (length nodes) (nodes ++ new_node (kind_at nodes formatting) ∷ []))

@@ -266,49 +266,49 @@ text_of_element_name (math s) = s
 -- the known names that begin with this letter
 abbrev pub names_with : ℕ → List TagName
 names_with b =
-        if b == 97 then A ∷ Address ∷ Applet ∷ Area ∷ Article ∷ Aside ∷ []
+    if b == 97 then A ∷ Address ∷ Applet ∷ Area ∷ Article ∷ Aside ∷ []
     else
-        if b == 98 then B ∷ Base ∷ BaseFont ∷ BgSound ∷ Big ∷ BlockQuote ∷ Body ∷ Br ∷ Button ∷ []
+    if b == 98 then B ∷ Base ∷ BaseFont ∷ BgSound ∷ Big ∷ BlockQuote ∷ Body ∷ Br ∷ Button ∷ []
     else
-        if b == 99 then Caption ∷ Center ∷ Code ∷ Col ∷ ColGroup ∷ []
+    if b == 99 then Caption ∷ Center ∷ Code ∷ Col ∷ ColGroup ∷ []
     else
-        if b == 100 then Dd ∷ Details ∷ Dialog ∷ Dir ∷ Div ∷ Dl ∷ Dt ∷ []
+    if b == 100 then Dd ∷ Details ∷ Dialog ∷ Dir ∷ Div ∷ Dl ∷ Dt ∷ []
     else
-        if b == 101 then Em ∷ Embed ∷ []
+    if b == 101 then Em ∷ Embed ∷ []
     else
-        if b == 102 then FieldSet ∷ FigCaption ∷ Figure ∷ Font ∷ Footer ∷ Form ∷ Frame ∷ FrameSet ∷ []
+    if b == 102 then FieldSet ∷ FigCaption ∷ Figure ∷ Font ∷ Footer ∷ Form ∷ Frame ∷ FrameSet ∷ []
     else
-        if b == 104 then H1 ∷ H2 ∷ H3 ∷ H4 ∷ H5 ∷ H6 ∷ Head ∷ Header ∷ HGroup ∷ Hr ∷ Html ∷ []
+    if b == 104 then H1 ∷ H2 ∷ H3 ∷ H4 ∷ H5 ∷ H6 ∷ Head ∷ Header ∷ HGroup ∷ Hr ∷ Html ∷ []
     else
-        if b == 105 then I ∷ Iframe ∷ Image ∷ Img ∷ Input ∷ []
+    if b == 105 then I ∷ Iframe ∷ Image ∷ Img ∷ Input ∷ []
     else
-        if b == 107 then KeyGen ∷ []
+    if b == 107 then KeyGen ∷ []
     else
-        if b == 108 then Li ∷ Link ∷ Listing ∷ []
+    if b == 108 then Li ∷ Link ∷ Listing ∷ []
     else
-        if b == 109 then Main ∷ MalignMark ∷ Marquee ∷ Math ∷ Menu ∷ Meta ∷ MGlyph ∷ []
+    if b == 109 then Main ∷ MalignMark ∷ Marquee ∷ Math ∷ Menu ∷ Meta ∷ MGlyph ∷ []
     else
-        if b == 110 then Nav ∷ NoBr ∷ NoEmbed ∷ NoFrames ∷ NoScript ∷ []
+    if b == 110 then Nav ∷ NoBr ∷ NoEmbed ∷ NoFrames ∷ NoScript ∷ []
     else
-        if b == 111 then Object ∷ Ol ∷ OptGroup ∷ OptionTag ∷ []
+    if b == 111 then Object ∷ Ol ∷ OptGroup ∷ OptionTag ∷ []
     else
-        if b == 112 then P ∷ Param ∷ PlainText ∷ Pre ∷ []
+    if b == 112 then P ∷ Param ∷ PlainText ∷ Pre ∷ []
     else
-        if b == 114 then Rb ∷ Rp ∷ Rt ∷ Rtc ∷ Ruby ∷ []
+    if b == 114 then Rb ∷ Rp ∷ Rt ∷ Rtc ∷ Ruby ∷ []
     else
-        if b == 115 then S ∷ Script ∷ Search ∷ Section ∷ Select ∷ Small ∷ Source ∷ Span ∷ Strike ∷ Strong ∷
-        Style ∷ Sub ∷ Summary ∷ Sup ∷ Svg ∷ []
+    if b == 115 then S ∷ Script ∷ Search ∷ Section ∷ Select ∷ Small ∷ Source ∷ Span ∷ Strike ∷ Strong ∷
+    Style ∷ Sub ∷ Summary ∷ Sup ∷ Svg ∷ []
     else
-        if b == 116 then Table ∷ TBody ∷ Td ∷ Template ∷ TextArea ∷ TFoot ∷ Th ∷ THead ∷ Title ∷ Tr ∷ Track ∷
-        Tt ∷ []
+    if b == 116 then Table ∷ TBody ∷ Td ∷ Template ∷ TextArea ∷ TFoot ∷ Th ∷ THead ∷ Title ∷ Tr ∷ Track ∷
+    Tt ∷ []
     else
-        if b == 117 then U ∷ Ul ∷ []
+    if b == 117 then U ∷ Ul ∷ []
     else
-        if b == 118 then Var ∷ []
+    if b == 118 then Var ∷ []
     else
-        if b == 119 then Wbr ∷ []
+    if b == 119 then Wbr ∷ []
     else
-        if b == 120 then Xmp ∷ []
+    if b == 120 then Xmp ∷ []
     else []
 
 abbrev pub is_spelled : List ℕ → TagName → Bool

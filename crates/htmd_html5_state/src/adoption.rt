@@ -58,11 +58,7 @@ impl HtmlState {
     }
 
     /// Copies the elements between the furthest block and the formatting element, or lets them go.
-    fn chain(
-        &mut self,
-        block: usize,
-        mut between: Vec<OpenElement>,
-    ) -> Result<Chain, AllocError>
+    fn chain(&mut self, block: usize, mut between: Vec<OpenElement>) -> Result<Chain, AllocError>
         ensures { IfOk result (λ c. chain_of c self.new
             ≡ spec.chain 3 (stack_of between.items) (spec.begin_chain block self.old)) }
     {
@@ -85,6 +81,7 @@ impl HtmlState {
     }
 
     /// Moves what was made last to the common ancestor.
+    #[tactic(auto, unfolding(crate::specs::Adoption::move_last))]
     fn move_last(&mut self, last: usize) -> Result<(), AllocError>
         ensures { OnOk result (self.new ≡ spec.move_last last self.old) }
     {
@@ -94,6 +91,7 @@ impl HtmlState {
     }
 
     /// Puts a copy of the formatting element between the furthest block and its children: the copy.
+    #[tactic(auto, unfolding(crate::specs::Adoption::wrap_children))]
     fn wrap_children(&mut self, formatting: usize, block: usize) -> Result<usize, AllocError>
         ensures number { IfOk result (λ n. n ≡ length self.old.nodes) }
         ensures ok { OnOk result (self.new ≡ on_nodes (spec.wrap_children formatting block) self.old) }
@@ -140,11 +138,12 @@ impl HtmlState {
             between,
         } = furthest;
         let block_node = block.node;
+        let chain = self.chain(block_node, between)?;
         let Chain {
             copies,
             last,
             bookmark,
-        } = self.chain(block_node, between)?;
+        } = chain;
         self.move_last(last)?;
         let copy = self.wrap_children(formatting, block_node)?;
         self.replace_formatting(formatting, copy, bookmark)?;

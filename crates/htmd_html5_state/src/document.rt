@@ -1,5 +1,5 @@
 //! Documents while they are made: nodes by number, each with its parent and its children.
-ghost use Rattle.std.specs.Prelude.{◌≡◌, ◌∷◌, ◌++◌, ◌≤◌, [], length, IfOk, OnOk, if◌then◌else◌, Some, None};
+ghost use Rattle.std.specs.Prelude.{◌≡◌, ◌∷◌, ◌++◌, ◌≤◌, [], length, IfOk, OnOk, MatchBool, Some, None};
 ghost use Rattle.htmd_html5_state.specs.Documents as spec;
 ghost use Rattle.htmd_html5_state.specs.Views.{kind_of, kind_seen, nodes_of};
 ghost use Rattle.htmd_tree.specs.Views.{pairs_of};
@@ -310,7 +310,8 @@ impl Document {
 
     /// Puts text at the end of a text. Gives false where the node is none.
     fn push_text(&mut self, node: usize, text: &str) -> Result<bool, AllocError>
-        ensures { IfOk result (λ b. spec.joined text.now node self.old ≡ (if b then Some self.new else None)) }
+        ensures { IfOk result (λ joins. MatchBool joins (spec.joined text.now node self.old ≡ Some self.new)
+            ((spec.joined text.now node self.old ≡ None) × (self.new ≡ self.old))) }
     {
         if node >= self.nodes.len() {
             return Ok(false);
@@ -323,11 +324,24 @@ impl Document {
         Ok(false)
     }
 
+    /// Puts text at the end of the text right before a place. Gives false where none stands there.
+    fn join_text(&mut self, text: &str, place: Place) -> Result<bool, AllocError>
+        ensures { IfOk result (λ joins. MatchBool joins
+            (spec.joined_to text.now (spec.preceding place self.old) self.old ≡ Some self.new)
+            ((spec.joined_to text.now (spec.preceding place self.old) self.old ≡ None)
+            × (self.new ≡ self.old))) }
+    {
+        match self.preceding(place) {
+            Some(node) => self.push_text(node, text),
+            None => Ok(false),
+        }
+    }
+
     /// Puts text at the end of the text right before a place, where one stands there, else as a new text.
     pub(crate) fn add_text(&mut self, text: &str, place: Place) -> Result<(), AllocError>
         ensures { OnOk result (self.new ≡ spec.add_text text.now place self.old) }
     {
-        if let Some(node) = self.preceding(place) && self.push_text(node, text)? {
+        if self.join_text(text, place)? {
             return Ok(());
         }
         let kind = NodeKind::Text(String::from_str(self.alloc, text)?);
@@ -346,7 +360,11 @@ impl Document {
     {
         if node < self.nodes.len() {
             let node = &mut self.nodes[node];
-            if let NodeKind::Element { attributes: had, .. } = &mut node.kind {
+            if let NodeKind::Element {
+                attributes: had,
+                ..
+            } = &mut node.kind
+            {
                 add_missing(had, attributes)?;
             }
         }

@@ -122,12 +122,25 @@ static SVG_ATTRIBUTES: [&str; 58] = [
 
 static MATH_ATTRIBUTES: [&str; 1] = ["definitionURL"];
 
+/// Whether they have the same letters.
+fn is_in_any_case(text: &str, other: &str) -> bool
+    ensures { result ≡ spec.is_in_any_case text.now other.now }
+{
+    text.eq_ignore_ascii_case(other)
+}
+
+fn svg_names() -> &'static [&'static str]
+    ensures { map (λ n. n.now) result.now ≡ spec.svg_names }
+{
+    &SVG_NAMES
+}
+
 /// The name as it is written in the list, where it stands there.
 fn capitalised<'a>(names: &'static [&'static str], name: &'a str) -> &'a str
     ensures { result.now ≡ spec.capitalised (map (λ n. n.now) names.now) name.now }
 {
     for known in names {
-        if known.eq_ignore_ascii_case(name) {
+        if is_in_any_case(known, name) {
             return *known;
         }
     }
@@ -145,7 +158,7 @@ pub(crate) fn foreign_name(
     match namespace {
         Namespace::Svg => Ok(ElementName::Svg(String::from_str(
             alloc,
-            capitalised(&SVG_NAMES, name),
+            capitalised(svg_names(), name),
         )?)),
         Namespace::MathMl => Ok(ElementName::Math(String::from_str(alloc, name)?)),
     }
@@ -207,7 +220,7 @@ fn is_annotation_name(name: &ElementName) -> bool
 fn is_html_encoding(value: &str) -> bool
     ensures { result ≡ spec.is_html_encoding value.now }
 {
-    value.eq_ignore_ascii_case("text/html") || value.eq_ignore_ascii_case("application/xhtml+xml")
+    is_in_any_case("text/html", value) || is_in_any_case("application/xhtml+xml", value)
 }
 
 fn has_html_encoding(kind: Option<&NodeKind>) -> bool
@@ -238,9 +251,7 @@ fn is_html_point(document: &Document, element: &OpenElement) -> bool
 fn ends_foreign(document: &Document, element: &OpenElement) -> bool
     ensures { result ≡ spec.ends_foreign document.now (open_of element.now) }
 {
-    is_html(&element.name)
-        || is_math_text_name(&element.name)
-        || is_html_point(document, element)
+    is_html(&element.name) || is_math_text_name(&element.name) || is_html_point(document, element)
 }
 
 /// How many elements are left where foreign content is left.
@@ -265,8 +276,8 @@ fn is_spelled_so(name: &ElementName, wanted: &str) -> bool
 {
     match name {
         ElementName::Html(_) => false,
-        ElementName::Svg(text) => text.as_str().eq_ignore_ascii_case(wanted),
-        ElementName::Math(text) => text.as_str().eq_ignore_ascii_case(wanted),
+        ElementName::Svg(text) => is_in_any_case(text.as_str(), wanted),
+        ElementName::Math(text) => is_in_any_case(text.as_str(), wanted),
     }
 }
 

@@ -43,10 +43,12 @@ fn are_alike(this: Option<&NodeKind>, that: Option<&NodeKind>) -> bool
     match (this, that) {
         (
             Some(NodeKind::Element { name, attributes }),
-            Some(NodeKind::Element {
-                name: wanted,
-                attributes: others,
-            }),
+            Some(
+                NodeKind::Element {
+                    name: wanted,
+                    attributes: others,
+                },
+            ),
         ) => name.is(wanted) && are_same(attributes, others),
         _ => false,
     }
@@ -75,6 +77,16 @@ fn split_newest(entries: &[Option<usize>]) -> Option<(&[Option<usize>], Option<u
     }
 }
 
+/// Whether it is the entry of this node.
+fn is_entry(entry: Option<usize>, node: usize) -> bool
+    ensures { result ≡ spec.is_entry node entry }
+{
+    match entry {
+        Some(listed) => listed == node,
+        None => false,
+    }
+}
+
 /// The place of the newest entry of a node.
 fn position(entries: &[Option<usize>], node: usize) -> Option<usize>
     ensures { MatchOption result (spec.is_listed node (entries_of entries.now) ≡ false)
@@ -82,7 +94,7 @@ fn position(entries: &[Option<usize>], node: usize) -> Option<usize>
 {
     let mut rest = entries;
     while let Some((older, entry)) = split_newest(rest) {
-        if entry == Some(node) {
+        if is_entry(entry, node) {
             return Some(older.len());
         }
         rest = older;
@@ -118,7 +130,10 @@ fn oldest_alike(
     let mut count = 0;
     let mut oldest = None;
     let mut rest = entries;
-    while let Some((older, Some(node))) = split_newest(rest) {
+    while let Some((older, entry)) = split_newest(rest) {
+        let Some(node) = entry else {
+            break;
+        };
         if are_alike(document.kind(node), kind) {
             count += 1;
             oldest = Some(node);
@@ -135,7 +150,10 @@ fn oldest(entries: &[Option<usize>]) -> Option<usize>
     let mut count = 0;
     let mut oldest = None;
     let mut rest = entries;
-    while let Some((older, Some(node))) = split_newest(rest) {
+    while let Some((older, entry)) = split_newest(rest) {
+        let Some(node) = entry else {
+            break;
+        };
         count += 1;
         oldest = Some(node);
         rest = older;

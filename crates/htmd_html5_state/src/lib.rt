@@ -1,5 +1,5 @@
-//! The state of tree construction and the steps on it (HTML Standard, 13.2.4 and 13.2.6): documents while they are made,
-//! the stack of open elements, the list of active formatting elements, and what the insertion modes do with them.
+//! The state of tree construction and the steps on it (HTML Standard, 13.2.4 and 13.2.6): documents while they are
+//! made, the stack of open elements, the list of active formatting elements, and what the insertion modes do with them.
 #![tactic(auto)]
 
 mod adoption;
@@ -21,9 +21,3 @@ pub use modes::InsertionMode;
 pub use names::{ElementName, HtmlName, Namespace, TagName};
 pub use sets::{NameSet, Scope};
 pub use state::HtmlState;
-
-#[cfg(test)]
-mod tests {
-    #[test]
-    fn nothing() {}
-}

@@ -270,26 +270,158 @@ impl TagName {
     }
 }
 
-static A_NAMES: [TagName; 6] = [TagName::A, TagName::Address, TagName::Applet, TagName::Area, TagName::Article, TagName::Aside];
-static B_NAMES: [TagName; 9] = [TagName::B, TagName::Base, TagName::BaseFont, TagName::BgSound, TagName::Big, TagName::BlockQuote, TagName::Body, TagName::Br, TagName::Button];
-static C_NAMES: [TagName; 5] = [TagName::Caption, TagName::Center, TagName::Code, TagName::Col, TagName::ColGroup];
-static D_NAMES: [TagName; 7] = [TagName::Dd, TagName::Details, TagName::Dialog, TagName::Dir, TagName::Div, TagName::Dl, TagName::Dt];
+static A_NAMES: [TagName; 6] = [
+    TagName::A,
+    TagName::Address,
+    TagName::Applet,
+    TagName::Area,
+    TagName::Article,
+    TagName::Aside,
+];
+
+static B_NAMES: [TagName; 9] = [
+    TagName::B,
+    TagName::Base,
+    TagName::BaseFont,
+    TagName::BgSound,
+    TagName::Big,
+    TagName::BlockQuote,
+    TagName::Body,
+    TagName::Br,
+    TagName::Button,
+];
+
+static C_NAMES: [TagName; 5] = [
+    TagName::Caption,
+    TagName::Center,
+    TagName::Code,
+    TagName::Col,
+    TagName::ColGroup,
+];
+
+static D_NAMES: [TagName; 7] = [
+    TagName::Dd,
+    TagName::Details,
+    TagName::Dialog,
+    TagName::Dir,
+    TagName::Div,
+    TagName::Dl,
+    TagName::Dt,
+];
+
 static E_NAMES: [TagName; 2] = [TagName::Em, TagName::Embed];
-static F_NAMES: [TagName; 8] = [TagName::FieldSet, TagName::FigCaption, TagName::Figure, TagName::Font, TagName::Footer, TagName::Form, TagName::Frame, TagName::FrameSet];
-static H_NAMES: [TagName; 11] = [TagName::H1, TagName::H2, TagName::H3, TagName::H4, TagName::H5, TagName::H6, TagName::Head, TagName::Header, TagName::HGroup, TagName::Hr, TagName::Html];
-static I_NAMES: [TagName; 5] = [TagName::I, TagName::Iframe, TagName::Image, TagName::Img, TagName::Input];
+
+static F_NAMES: [TagName; 8] = [
+    TagName::FieldSet,
+    TagName::FigCaption,
+    TagName::Figure,
+    TagName::Font,
+    TagName::Footer,
+    TagName::Form,
+    TagName::Frame,
+    TagName::FrameSet,
+];
+
+static H_NAMES: [TagName; 11] = [
+    TagName::H1,
+    TagName::H2,
+    TagName::H3,
+    TagName::H4,
+    TagName::H5,
+    TagName::H6,
+    TagName::Head,
+    TagName::Header,
+    TagName::HGroup,
+    TagName::Hr,
+    TagName::Html,
+];
+
+static I_NAMES: [TagName; 5] = [
+    TagName::I,
+    TagName::Iframe,
+    TagName::Image,
+    TagName::Img,
+    TagName::Input,
+];
+
 static K_NAMES: [TagName; 1] = [TagName::KeyGen];
+
 static L_NAMES: [TagName; 3] = [TagName::Li, TagName::Link, TagName::Listing];
-static M_NAMES: [TagName; 7] = [TagName::Main, TagName::MalignMark, TagName::Marquee, TagName::Math, TagName::Menu, TagName::Meta, TagName::MGlyph];
-static N_NAMES: [TagName; 5] = [TagName::Nav, TagName::NoBr, TagName::NoEmbed, TagName::NoFrames, TagName::NoScript];
-static O_NAMES: [TagName; 4] = [TagName::Object, TagName::Ol, TagName::OptGroup, TagName::OptionTag];
+
+static M_NAMES: [TagName; 7] = [
+    TagName::Main,
+    TagName::MalignMark,
+    TagName::Marquee,
+    TagName::Math,
+    TagName::Menu,
+    TagName::Meta,
+    TagName::MGlyph,
+];
+
+static N_NAMES: [TagName; 5] = [
+    TagName::Nav,
+    TagName::NoBr,
+    TagName::NoEmbed,
+    TagName::NoFrames,
+    TagName::NoScript,
+];
+
+static O_NAMES: [TagName; 4] = [
+    TagName::Object,
+    TagName::Ol,
+    TagName::OptGroup,
+    TagName::OptionTag,
+];
+
 static P_NAMES: [TagName; 4] = [TagName::P, TagName::Param, TagName::PlainText, TagName::Pre];
-static R_NAMES: [TagName; 5] = [TagName::Rb, TagName::Rp, TagName::Rt, TagName::Rtc, TagName::Ruby];
-static S_NAMES: [TagName; 15] = [TagName::S, TagName::Script, TagName::Search, TagName::Section, TagName::Select, TagName::Small, TagName::Source, TagName::Span, TagName::Strike, TagName::Strong, TagName::Style, TagName::Sub, TagName::Summary, TagName::Sup, TagName::Svg];
-static T_NAMES: [TagName; 12] = [TagName::Table, TagName::TBody, TagName::Td, TagName::Template, TagName::TextArea, TagName::TFoot, TagName::Th, TagName::THead, TagName::Title, TagName::Tr, TagName::Track, TagName::Tt];
+
+static R_NAMES: [TagName; 5] = [
+    TagName::Rb,
+    TagName::Rp,
+    TagName::Rt,
+    TagName::Rtc,
+    TagName::Ruby,
+];
+
+static S_NAMES: [TagName; 15] = [
+    TagName::S,
+    TagName::Script,
+    TagName::Search,
+    TagName::Section,
+    TagName::Select,
+    TagName::Small,
+    TagName::Source,
+    TagName::Span,
+    TagName::Strike,
+    TagName::Strong,
+    TagName::Style,
+    TagName::Sub,
+    TagName::Summary,
+    TagName::Sup,
+    TagName::Svg,
+];
+
+static T_NAMES: [TagName; 12] = [
+    TagName::Table,
+    TagName::TBody,
+    TagName::Td,
+    TagName::Template,
+    TagName::TextArea,
+    TagName::TFoot,
+    TagName::Th,
+    TagName::THead,
+    TagName::Title,
+    TagName::Tr,
+    TagName::Track,
+    TagName::Tt,
+];
+
 static U_NAMES: [TagName; 2] = [TagName::U, TagName::Ul];
+
 static V_NAMES: [TagName; 1] = [TagName::Var];
+
 static W_NAMES: [TagName; 1] = [TagName::Wbr];
+
 static X_NAMES: [TagName; 1] = [TagName::Xmp];
 
 /// The known names that begin with this letter.
@@ -420,7 +552,8 @@ impl ElementName {
         match (self, other) {
             (ElementName::Html(name), ElementName::Html(wanted)) => name.is(wanted),
             (ElementName::Svg(text), ElementName::Svg(wanted)) => text.as_str() == wanted.as_str(),
-            (ElementName::Math(text), ElementName::Math(wanted)) => text.as_str() == wanted.as_str(),
+            (ElementName::Math(text), ElementName::Math(wanted)) => text.as_str()
+                == wanted.as_str(),
             _ => false,
         }
     }

@@ -248,9 +248,12 @@ impl OpenElements {
     pub(crate) fn second_current_is(&self, set: NameSet) -> bool
         ensures { result ≡ spec.current_is set (spec.pop self.now) }
     {
-        match self.elements.as_slice() {
-            [.., second, _] => set.holds(&second.name),
-            _ => false,
+        let Some((outer, _)) = split_innermost(&self.elements) else {
+            return false;
+        };
+        match split_innermost(outer) {
+            Some((_, second)) => set.holds(&second.name),
+            None => false,
         }
     }
 

@@ -60,8 +60,16 @@ fn ends_by_implication(tag: TagName) -> bool
 {
     matches!(
         tag,
-        TagName::Dd | TagName::Dt | TagName::Li | TagName::OptGroup | TagName::OptionTag | TagName::P |
-            TagName::Rb | TagName::Rp | TagName::Rt | TagName::Rtc
+        TagName::Dd
+            | TagName::Dt
+            | TagName::Li
+            | TagName::OptGroup
+            | TagName::OptionTag
+            | TagName::P
+            | TagName::Rb
+            | TagName::Rp
+            | TagName::Rt
+            | TagName::Rtc
     )
 }
 
@@ -79,22 +87,89 @@ fn is_special(tag: TagName) -> bool
 {
     matches!(
         tag,
-        TagName::Address | TagName::Applet | TagName::Area | TagName::Article | TagName::Aside |
-            TagName::Base | TagName::BaseFont | TagName::BgSound | TagName::BlockQuote | TagName::Body |
-            TagName::Br | TagName::Button | TagName::Caption | TagName::Center | TagName::Col |
-            TagName::ColGroup | TagName::Dd | TagName::Details | TagName::Dir | TagName::Div | TagName::Dl |
-            TagName::Dt | TagName::Embed | TagName::FieldSet | TagName::FigCaption | TagName::Figure |
-            TagName::Footer | TagName::Form | TagName::Frame | TagName::FrameSet | TagName::H1 | TagName::H2
-            | TagName::H3 | TagName::H4 | TagName::H5 | TagName::H6 | TagName::Head | TagName::Header |
-            TagName::HGroup | TagName::Hr | TagName::Html | TagName::Iframe | TagName::Img | TagName::Input
-            | TagName::KeyGen | TagName::Li | TagName::Link | TagName::Listing | TagName::Main |
-            TagName::Marquee | TagName::Menu | TagName::Meta | TagName::Nav | TagName::NoEmbed |
-            TagName::NoFrames | TagName::NoScript | TagName::Object | TagName::Ol | TagName::P |
-            TagName::Param | TagName::PlainText | TagName::Pre | TagName::Script | TagName::Search |
-            TagName::Section | TagName::Select | TagName::Source | TagName::Style | TagName::Summary |
-            TagName::Table | TagName::TBody | TagName::Td | TagName::Template | TagName::TextArea |
-            TagName::TFoot | TagName::Th | TagName::THead | TagName::Title | TagName::Tr | TagName::Track |
-            TagName::Ul | TagName::Wbr | TagName::Xmp
+        TagName::Address
+            | TagName::Applet
+            | TagName::Area
+            | TagName::Article
+            | TagName::Aside
+            | TagName::Base
+            | TagName::BaseFont
+            | TagName::BgSound
+            | TagName::BlockQuote
+            | TagName::Body
+            | TagName::Br
+            | TagName::Button
+            | TagName::Caption
+            | TagName::Center
+            | TagName::Col
+            | TagName::ColGroup
+            | TagName::Dd
+            | TagName::Details
+            | TagName::Dir
+            | TagName::Div
+            | TagName::Dl
+            | TagName::Dt
+            | TagName::Embed
+            | TagName::FieldSet
+            | TagName::FigCaption
+            | TagName::Figure
+            | TagName::Footer
+            | TagName::Form
+            | TagName::Frame
+            | TagName::FrameSet
+            | TagName::H1
+            | TagName::H2
+            | TagName::H3
+            | TagName::H4
+            | TagName::H5
+            | TagName::H6
+            | TagName::Head
+            | TagName::Header
+            | TagName::HGroup
+            | TagName::Hr
+            | TagName::Html
+            | TagName::Iframe
+            | TagName::Img
+            | TagName::Input
+            | TagName::KeyGen
+            | TagName::Li
+            | TagName::Link
+            | TagName::Listing
+            | TagName::Main
+            | TagName::Marquee
+            | TagName::Menu
+            | TagName::Meta
+            | TagName::Nav
+            | TagName::NoEmbed
+            | TagName::NoFrames
+            | TagName::NoScript
+            | TagName::Object
+            | TagName::Ol
+            | TagName::P
+            | TagName::Param
+            | TagName::PlainText
+            | TagName::Pre
+            | TagName::Script
+            | TagName::Search
+            | TagName::Section
+            | TagName::Select
+            | TagName::Source
+            | TagName::Style
+            | TagName::Summary
+            | TagName::Table
+            | TagName::TBody
+            | TagName::Td
+            | TagName::Template
+            | TagName::TextArea
+            | TagName::TFoot
+            | TagName::Th
+            | TagName::THead
+            | TagName::Title
+            | TagName::Tr
+            | TagName::Track
+            | TagName::Ul
+            | TagName::Wbr
+            | TagName::Xmp
     )
 }
 
@@ -103,54 +178,46 @@ fn bounds_scope(tag: TagName) -> bool
 {
     matches!(
         tag,
-        TagName::Applet | TagName::Caption | TagName::Html | TagName::Marquee | TagName::Object |
-            TagName::Table | TagName::Td | TagName::Template | TagName::Th
+        TagName::Applet
+            | TagName::Caption
+            | TagName::Html
+            | TagName::Marquee
+            | TagName::Object
+            | TagName::Table
+            | TagName::Td
+            | TagName::Template
+            | TagName::Th
     )
 }
 
 fn is_description_part(tag: TagName) -> bool
     ensures { result ≡ spec.is_description_part tag }
 {
-    matches!(
-        tag,
-        TagName::Dd | TagName::Dt
-    )
+    matches!(tag, TagName::Dd | TagName::Dt)
 }
 
 fn is_cell(tag: TagName) -> bool
     ensures { result ≡ spec.is_cell tag }
 {
-    matches!(
-        tag,
-        TagName::Td | TagName::Th
-    )
+    matches!(tag, TagName::Td | TagName::Th)
 }
 
 fn is_table_section(tag: TagName) -> bool
     ensures { result ≡ spec.is_table_section tag }
 {
-    matches!(
-        tag,
-        TagName::TBody | TagName::TFoot | TagName::THead
-    )
+    matches!(tag, TagName::TBody | TagName::TFoot | TagName::THead)
 }
 
 fn is_option(tag: TagName) -> bool
     ensures { result ≡ spec.is_option tag }
 {
-    matches!(
-        tag,
-        TagName::OptGroup | TagName::OptionTag
-    )
+    matches!(tag, TagName::OptGroup | TagName::OptionTag)
 }
 
 fn is_table_context(tag: TagName) -> bool
     ensures { result ≡ spec.is_table_context tag }
 {
-    matches!(
-        tag,
-        TagName::Html | TagName::Table | TagName::Template
-    )
+    matches!(tag, TagName::Html | TagName::Table | TagName::Template)
 }
 
 fn is_table_body_context(tag: TagName) -> bool
@@ -165,10 +232,7 @@ fn is_table_body_context(tag: TagName) -> bool
 fn is_table_row_context(tag: TagName) -> bool
     ensures { result ≡ spec.is_table_row_context tag }
 {
-    matches!(
-        tag,
-        TagName::Html | TagName::Template | TagName::Tr
-    )
+    matches!(tag, TagName::Html | TagName::Template | TagName::Tr)
 }
 
 fn ends_in_ruby(tag: TagName) -> bool

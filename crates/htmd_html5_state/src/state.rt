@@ -379,11 +379,7 @@ impl HtmlState {
     }
 
     /// Gives an element the attributes that it doesn't have yet.
-    pub fn add_missing(
-        &mut self,
-        node: usize,
-        attributes: Vec<Attribute>,
-    ) -> Result<(), AllocError>
+    pub fn add_missing(&mut self, node: usize, attributes: Vec<Attribute>) -> Result<(), AllocError>
         ensures { OnOk result (self.new
             ≡ spec.on_nodes (documents.add_missing node (pairs_of attributes.items)) self.old) }
     {

@@ -1,12 +1,12 @@
--- How a text begins, and where it may be cut behind that, and before what ends a part of it.
+-- How a text begins, and where it may be cut: after that, and before what ends a part of it.
 use Rattle.std.proofs.Common.{◌≡◌, ℕ, zero, suc, ◌+◌, ◌<◌, ◌≤◌, Bool, true, false, List, [], ◌∷◌, length, take, drop, get_or}
-use Rattle.std.proofs.Common.{refl, ap, sym, ◌∙◌, subst, arith, codes}
+use Rattle.std.proofs.Common.{refl, ap, sym, ◌∙◌, subst, arith}
 use Rattle.std.proofs.lemmas.Bool.{and_parts}
 use Rattle.std.proofs.lemmas.Bool.Decides.{nat_tests}
 use Rattle.std.proofs.lemmas.List.{get_or-drop}
 use Rattle.std.proofs.lemmas.Str.{IsCharBoundary-from_take, IsUtf8-from_ascii}
-use Rattle.std.specs.List.{list_all, slice_index}
-use Rattle.std.specs.Prelude.{nat_lt, ◌==◌, ◌&&◌}
+use Rattle.std.specs.List.{list_all}
+use Rattle.std.specs.Prelude.{nat_lt, ◌==◌}
 use Rattle.std.specs.Str.{IsUtf8, IsCharBoundary, IsAscii}
 use Rattle.htmd_text.proofs.Cases.{test}
 use Rattle.htmd_grammar.specs.CharacterClasses.{begins_with, first_is, up_to, behind_run, is_empty}
@@ -42,11 +42,11 @@ ascii_all (b ∷ n) e zero =
 ascii_all (b ∷ n) e (suc i) =
     let h = and_parts (nat_lt b 128) (list_all (λ b. nat_lt b 128) n) e in ascii_all n h.1 i
 
--- a text may be cut behind ASCII characters with which it begins
-pub cut_behind_beginning : (p s : List ℕ) → IsUtf8 s → begins_with p s ≡ true
+-- a text may be cut after ASCII characters with which it begins
+pub cut_after_beginning : (p s : List ℕ) → IsUtf8 s → begins_with p s ≡ true
     → list_all (λ b. nat_lt b 128) p ≡ true
     → IsCharBoundary s (length p)
-cut_behind_beginning p s u e a =
+cut_after_beginning p s u e a =
     let f = begins_front p s e in
     let t : IsUtf8 (take (length p) s) = subst IsUtf8 (sym f.1) (IsUtf8-from_ascii p (ascii_all p a)) in
     IsCharBoundary-from_take s (length p) u f.0 t
@@ -91,7 +91,7 @@ markup_begins (b ∷ t) e =
     test (b == 60) (λ q. (omega arith, omega (arith, same b 60 q)))
     (λ q. absurd (let f : false ≡ true = rw q at e in cc))
 
--- behind a run of other characters stands the character or nothing
+-- a run of other characters is followed by the character or by nothing
 pub other_ends : (q : ℕ) (s : List ℕ) → first_is q (behind_run (is_other q) s) ≡ false
     → is_empty (behind_run (is_other q) s) ≡ true
 other_ends q [] e = refl

@@ -1,18 +1,18 @@
 -- How the characters of a text are read piece by piece.
-use Rattle.std.proofs.Common.{◌≡◌, ℕ, zero, suc, ◌+◌, ◌-◌, ◌<◌, ◌≤◌, Bool, true, false, not, ◌&&◌, List, [], ◌∷◌, ◌++◌, length}
+use Rattle.std.proofs.Common.{◌≡◌, ℕ, zero, suc, ◌<◌, Bool, true, false, not, ◌&&◌, List, [], ◌∷◌, ◌++◌, length}
 use Rattle.std.proofs.Common.{take, drop, get_or, refl, ap, sym, ◌∙◌, arith, append_assoc, subst, codes}
-use Rattle.std.proofs.lemmas.Bool.{and_parts, not-true}
+use Rattle.std.proofs.lemmas.Bool.{and_parts}
 use Rattle.std.proofs.lemmas.Bool.Decides.{nat_tests}
 use Rattle.std.proofs.lemmas.List.{drop_more}
-use Rattle.std.proofs.lemmas.Str.{IsUtf8-drop, IsCharBoundary-after_ascii}
+use Rattle.std.proofs.lemmas.Str.{IsCharBoundary-after_ascii}
 use Rattle.std.specs.Char.{encode_utf8}
 use Rattle.std.specs.Prelude.{◌==◌}
 use Rattle.std.specs.Str.{IsUtf8, IsCharBoundary}
 use Rattle.htmd_text.proofs.Cases.{test}
 use Rattle.htmd_grammar.specs.CharacterClasses.{leading_run, behind_run, begins_with}
 use Rattle.htmd_tree.proofs.CharacterClassesLemmas.{take_leading_run, drop_leading_run}
-use Rattle.htmd_html5_tokens.specs.References.{Piece, behind_ampersand, replacement_character}
-use Rattle.htmd_html5_tokens.specs.Contents.{has_references, is_text, is_value, piece_at, put, decoded}
+use Rattle.htmd_html5_tokens.specs.References.{Piece, after_ampersand, replacement_character}
+use Rattle.htmd_html5_tokens.specs.Contents.{has_references, is_text, is_value, piece_at, decoded}
 use Rattle.htmd_html5_tokens.specs.Plain.{is_plain, HasPushed}
 use Rattle.htmd_html5_tokens.specs.declared.contents.Reading.{Reading}
 use Rattle.htmd_html5_tokens.specs.declared.contents.Reading.TheVariants.{Text, EscapableRawText, RawText, AttributeValue}
@@ -20,7 +20,7 @@ use Rattle.htmd_html5_tokens.proofs.RunCuts.{cut_before_ascii}
 
 -- ---- pieces
 
--- behind so many bytes of a piece
+-- after so many bytes of a piece
 pub decoded_skip : (r : Reading) (n : ℕ) (s : List ℕ) → decoded r n s ≡ decoded r 0 (drop n s)
 decoded_skip r zero [] = refl
 decoded_skip r (suc n) [] = refl
@@ -28,7 +28,7 @@ decoded_skip r zero (b ∷ s) = refl
 decoded_skip r (suc n) (b ∷ s) = decoded_skip r n s
 
 abbrev itself : ℕ → Piece
-itself b = record { behind = 0; characters = b ∷ [] }
+itself b = record { following = 0; characters = b ∷ [] }
 
 -- a byte that is none of the three
 other_piece : (r : Reading) (b : ℕ) (s : List ℕ) → (b == 38) ≡ false → (b == 60) ≡ false → (b == 0) ≡ false
@@ -99,17 +99,17 @@ special_is_text AttributeValue b e k = absurd (let f : false ≡ true = sym (rw 
 
 -- a piece of `&`
 pub reference_pushed : (r : Reading) (before s after rest characters : List ℕ) (n : ℕ) → has_references r ≡ true
-    → ◌≡◌ {A = Piece} (record { behind = n; characters = characters }) (behind_ampersand (is_value r) s)
+    → ◌≡◌ {A = Piece} (record { following = n; characters = characters }) (after_ampersand (is_value r) s)
     → after ≡ before ++ characters → rest ≡ drop n s
     → HasPushed r before (38 ∷ s) after rest
 reference_pushed r before s after rest characters n h e f g =
-    let p : piece_at r 38 s ≡ record { behind = n; characters = characters } = rw h (sym e) in
+    let p : piece_at r 38 s ≡ record { following = n; characters = characters } = rw h (sym e) in
     rw (p, f, g, append_assoc, sym (decoded_skip r n s)) refl
 
 pub nothing_pushed : (before s rest : List ℕ) → begins_with (codes "/>") s ≡ true → rest ≡ drop 2 s
     → HasPushed Text before (60 ∷ s) before rest
 nothing_pushed before s rest e g =
-    let p : piece_at Text 60 s ≡ record { behind = 2; characters = [] } = rw e refl in
+    let p : piece_at Text 60 s ≡ record { following = 2; characters = [] } = rw e refl in
     rw (p, g, sym (decoded_skip Text 2 s)) refl
 
 pub less_than_pushed : (before s after : List ℕ) → begins_with (codes "/>") s ≡ false
@@ -130,27 +130,27 @@ pub null_pushed : (r : Reading) (b : ℕ) (before s after : List ℕ) → is_pla
     → HasPushed r before (b ∷ s) after s
 null_pushed r b before s after e amp less f =
     let h = null_is r b e amp less in
-    let p : piece_at r b s ≡ record { behind = 0; characters = encode_utf8 replacement_character } =
+    let p : piece_at r b s ≡ record { following = 0; characters = encode_utf8 replacement_character } =
     rw (h.0, h.1) refl in
     rw (p, f, append_assoc) refl
 
--- the text is its first character and what stands behind it
+-- the text is its first character and what follows it
 pub first_and_rest : (s rest : List ℕ) → 0 < length s → rest ≡ drop 1 s → s ≡ get_or s 0 0 ∷ rest
 first_and_rest s rest l e = rw e (drop_more s 0 0 l)
 
 same : (x y : ℕ) → (x == y) ≡ true → x ≡ y
 same x y h = grind (arith, nat_tests)
 
--- behind the two characters of `/>` the text may be cut
-pub cut_behind_slash : (s : List ℕ) → IsUtf8 s → begins_with (codes "/>") s ≡ true → IsCharBoundary s 2
-cut_behind_slash [] u e = absurd (cc)
-cut_behind_slash (b ∷ []) u e = absurd (let q = and_parts (b == 47) false e in let f = q.1 in cc)
-cut_behind_slash (b ∷ c ∷ s) u e =
+-- after the two characters of `/>` the text may be cut
+pub cut_after_slash : (s : List ℕ) → IsUtf8 s → begins_with (codes "/>") s ≡ true → IsCharBoundary s 2
+cut_after_slash [] u e = absurd (cc)
+cut_after_slash (b ∷ []) u e = absurd (let q = and_parts (b == 47) false e in let f = q.1 in cc)
+cut_after_slash (b ∷ c ∷ s) u e =
     let q = and_parts (b == 47) ((c == 62) && true) e in
     let r = and_parts (c == 62) true q.1 in
     IsCharBoundary-after_ascii (b ∷ c ∷ s) 1 u (omega arith) (omega (arith, same c 62 r.0))
 
--- behind a special character it may be cut, too
-pub cut_behind_special : (r : Reading) (s : List ℕ) → IsUtf8 s → 0 < length s → is_plain r (get_or s 0 0) ≡ false
+-- after a special character it may be cut, too
+pub cut_after_special : (r : Reading) (s : List ℕ) → IsUtf8 s → 0 < length s → is_plain r (get_or s 0 0) ≡ false
     → IsCharBoundary s 1
-cut_behind_special r s u l e = IsCharBoundary-after_ascii s 0 u l (special_is_ascii r (get_or s 0 0) e)
+cut_after_special r s u l e = IsCharBoundary-after_ascii s 0 u l (special_is_ascii r (get_or s 0 0) e)

@@ -8,9 +8,9 @@ use Rattle.htmd_grammar.specs.TagReading.{is_other}
 use Rattle.htmd_html5_tokens.specs.Doctypes.{quoted_by}
 use Rattle.htmd_html5_tokens.proofs.BeginningsLemmas.{other_ends}
 
-pub quote_lacks : (q : ℕ) (s behind : List ℕ) → behind ≡ behind_run (is_other q) s → first_is q behind ≡ false
+pub quote_lacks : (q : ℕ) (s after : List ℕ) → after ≡ behind_run (is_other q) s → first_is q after ≡ false
     → None ≡ quoted_by q s
-quote_lacks q s behind e f =
+quote_lacks q s after e f =
     let g = rw e at f in
     rw (other_ends q s g) refl
 

@@ -1,5 +1,5 @@
 -- Attributes that are the first of their name.
-use Rattle.std.proofs.Common.{◌≡◌, ℕ, ◌+◌, ◌<◌, Bool, true, false, not, ◌&&◌, ◌||◌, List, [], ◌∷◌, ◌++◌, length, drop, get_or, map}
+use Rattle.std.proofs.Common.{◌≡◌, ℕ, ◌+◌, ◌<◌, Bool, true, false, not, List, [], ◌∷◌, ◌++◌, length, drop, get_or, map}
 use Rattle.std.proofs.Common.{refl, sym, ◌∙◌, ap, append_assoc, string_bytes, arith, Some, None}
 use Rattle.std.proofs.lemmas.Bool.{and_parts}
 use Rattle.std.proofs.lemmas.Bool.Decides.{nat_tests}
@@ -16,7 +16,7 @@ use Rattle.htmd_grammar.specs.ValueTrees.{AttributePair}
 use Rattle.htmd_grammar.specs.CharacterClasses.{is_among, are_distinct}
 use Rattle.htmd_grammar.specs.Tags.{attribute_names}
 use Rattle.htmd_tree.specs.declared.tree.Attribute.{Attribute}
-use Rattle.htmd_tree.specs.Views.{pair_of, pairs_of}
+use Rattle.htmd_tree.specs.Views.{pairs_of}
 use Rattle.htmd_tree.proofs.NamesLemmas.{HasNames, name_added}
 use Rattle.htmd_html5_tokens.specs.Tags.{attribute_of, firsts}
 use Rattle.htmd_html5_tokens.specs.Firsts.{are_first, split_mark, if_marked, those_marked}
@@ -92,8 +92,7 @@ marks_more xs i x d marks is_new seen set new key l e k n u h w =
     ∙ ap (λ (y : Attribute). not (is_among seen (string_bytes y.name))) e in
     let q : key.now ≡ string_bytes (get_or xs i d).name = k ∙ ap (λ (y : Attribute). string_bytes y.name) e in
     let step : are_first seen (pairs_of (drop i xs)) ≡ is_new ∷ are_first (key.now ∷ seen) (pairs_of (drop (i + 1) xs)) =
-    rw (drop_more xs i d l, m, q) refl in
-    (
+    rw (drop_more xs i d l, m, q) refl in (
       key.now ∷ seen,
       name_added set new key seen u h,
       append_assoc marks (is_new ∷ []) _ ∙ ap (λ y. marks ++ y) (sym step) ∙ w,
@@ -116,8 +115,8 @@ pub marked_more : (xs : List SpelledAttribute) (i : ℕ) (x d : SpelledAttribute
 marked_more xs i x d [] rest mark before after whole l e f k w = absurd (cc)
 marked_more xs i x d (m ∷ marks) rest mark before after whole l e f k w =
     let step : those_marked (map attribute_of (all_spelled_of (drop i xs))) (m ∷ marks)
-        ≡ if_marked m (attribute_of (spelled_of (get_or xs i d)))
-        ++ those_marked (map attribute_of (all_spelled_of (drop (i + 1) xs))) marks =
+    ≡ if_marked m (attribute_of (spelled_of (get_or xs i d)))
+    ++ those_marked (map attribute_of (all_spelled_of (drop (i + 1) xs))) marks =
     rw (drop_more xs i d l) refl in
     let p : ◌≡◌ {A = Bool × List Bool} (mark, rest) (m, marks) = cc in
     let q : mark ≡ m = ap (λ (x : Bool × List Bool). x.0) p in

@@ -10,3 +10,4 @@ pub mod FirstsLemmas
 pub mod RawTextsLemmas
 pub mod SectionsLemmas
 pub mod NextTokenLemmas
+mod Examples

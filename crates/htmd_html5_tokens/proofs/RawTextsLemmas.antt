@@ -1,7 +1,6 @@
 -- How many bytes of a script are left.
 use Rattle.std.proofs.Common.{◌≡◌, ℕ, suc, ◌+◌, ◌-◌, ◌<◌, ◌≤◌, true, false, List, [], ◌∷◌, length, take, drop, get_or}
 use Rattle.std.proofs.Common.{refl, ap, sym, ◌∙◌, subst, arith, codes}
-use Rattle.std.proofs.lemmas.Bool.Decides.{nat_tests}
 use Rattle.std.proofs.lemmas.List.{drop_more}
 use Rattle.std.proofs.lemmas.Slice.{between_to_end}
 use Rattle.std.proofs.lemmas.Str.{IsCharBoundary-end}
@@ -9,7 +8,7 @@ use Rattle.std.specs.Prelude.{◌==◌}
 use Rattle.std.specs.Str.{IsCharBoundary}
 use Rattle.htmd_text.proofs.Cases.{test}
 use Rattle.htmd_grammar.specs.RawContent.{begins_own_end}
-use Rattle.htmd_html5_tokens.specs.RawTexts.{ends_script, escape_behind, script_len, own_text_len, raw_text_len}
+use Rattle.htmd_html5_tokens.specs.RawTexts.{ends_script, escape_after, script_len, own_text_len, raw_text_len}
 use Rattle.htmd_html5_tokens.specs.declared.raw_texts.Escape.{Escape}
 use Rattle.htmd_html5_tokens.specs.declared.raw_texts.Escape.TheVariants.{Unescaped, Escaped, DoublyEscaped}
 use Rattle.htmd_html5_tokens.specs.declared.tokens.RawElement.{RawElement}
@@ -35,11 +34,11 @@ module _ (s : List ℕ) (i : ℕ) (e : Escape) (l : i < length s) where
   all = between_to_end s i (length s) (omega arith) ∙ drop_more s i 0 l
 
   -- one more byte of it
-  pub script_more : (next : Escape) → ends_script e here ≡ false → next ≡ escape_behind e here
+  pub script_more : (next : Escape) → ends_script e here ≡ false → next ≡ escape_after e here
       → script_len e (drop i s) ≡ suc (script_len next (drop (i + 1) s))
   script_more next off same =
       let o : ends_script e (get_or s i 0 ∷ drop (i + 1) s) ≡ false = ap (ends_script e) (sym all) ∙ off in
-      let n : escape_behind e (get_or s i 0 ∷ drop (i + 1) s) ≡ next = ap (escape_behind e) (sym all) ∙ sym same in
+      let n : escape_after e (get_or s i 0 ∷ drop (i + 1) s) ≡ next = ap (escape_after e) (sym all) ∙ sym same in
       rw (drop_more s i 0 l, o, n) refl
 
   -- it ends
@@ -65,14 +64,14 @@ script_end_begins DoublyEscaped t h = absurd (cc)
 script_within : (e : Escape) (s : List ℕ) → script_len e s ≤ length s
 script_within e [] = omega arith
 script_within e (b ∷ s) =
-    let w = script_within (escape_behind e (b ∷ s)) s in
+    let w = script_within (escape_after e (b ∷ s)) s in
     test (ends_script e (b ∷ s)) (λ q. rw q (omega arith)) (λ q. rw q (omega arith))
 
 script_stops : (e : Escape) (s : List ℕ) → script_len e s < length s → get_or s (script_len e s) 0 < 128
 script_stops e [] l = absurd (omega arith)
 script_stops e (b ∷ s) l =
     test (ends_script e (b ∷ s)) (λ q. rw q ((script_end_begins e (b ∷ s) q).1))
-    (λ q. let m = rw q at l in rw q (script_stops (escape_behind e (b ∷ s)) s (omega arith)))
+    (λ q. let m = rw q at l in rw q (script_stops (escape_after e (b ∷ s)) s (omega arith)))
 
 script_cut : (s : List ℕ) (n : ℕ) → n ≡ script_len Unescaped s → IsCharBoundary s n
 script_cut s n e = (

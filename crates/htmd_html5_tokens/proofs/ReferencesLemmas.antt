@@ -1,5 +1,5 @@
--- References by number and by name, and where a text may be cut behind one.
-use Rattle.std.proofs.Common.{◌≡◌, ◌⊎◌, ℕ, zero, suc, ◌+◌, ◌-◌, ◌<◌, ◌≤◌, min, Bool, true, false, cond, List, [], ◌∷◌, length, take}
+-- References by number and by name, and where a text may be cut after one.
+use Rattle.std.proofs.Common.{◌≡◌, ◌⊎◌, ℕ, suc, ◌+◌, ◌-◌, ◌<◌, ◌≤◌, min, Bool, true, false, List, [], ◌∷◌, length, take}
 use Rattle.std.proofs.Common.{drop, get_or, refl, ap, sym, ◌∙◌, arith, inl, inr, subst, Some, None}
 use Rattle.std.proofs.lemmas.Bool.{cases_lt, and_parts}
 use Rattle.std.proofs.lemmas.Bool.Decides.{nat_tests}
@@ -8,7 +8,7 @@ use Rattle.std.proofs.lemmas.Slice.{between_to_end}
 use Rattle.std.proofs.lemmas.Str.{IsCharBoundary-after_ascii}
 use Rattle.std.specs.Char.{encode_utf8, InScalarRange, OutOfScalarRange, is_ascii_alphanumeric}
 use Rattle.std.specs.List.{list_all, slice_index}
-use Rattle.std.specs.Prelude.{nat_lt, ◌&&◌, ◌==◌}
+use Rattle.std.specs.Prelude.{nat_lt}
 use Rattle.std.specs.Str.{IsUtf8, IsCharBoundary}
 use Rattle.htmd_text.proofs.Cases.{test}
 use Rattle.htmd_grammar.specs.CharacterClasses.{is_empty, first_is, begins_with, leading_run}
@@ -18,9 +18,9 @@ use Rattle.htmd_tree.proofs.CharacterClassesLemmas.{take_leading_run, drop_leadi
 use Rattle.htmd_tree.proofs.RunsLemmas.{last_of, run_within}
 use Rattle.htmd_html5_tokens.specs.NamedReferences.{NamedReference, named, first_in, old_names, longest_old}
 use Rattle.htmd_html5_tokens.specs.References.{Piece, character_numbered, is_no_character, windows_characters}
-use Rattle.htmd_html5_tokens.specs.References.{semicolon_len, numbered, old_reference, behind_name}
+use Rattle.htmd_html5_tokens.specs.References.{semicolon_len, numbered, old_reference, reference_by_name}
 use Rattle.htmd_html5_tokens.specs.ReferenceViews.{IsAsciiTest}
-use Rattle.htmd_html5_tokens.proofs.BeginningsLemmas.{begins_front, cut_behind_beginning}
+use Rattle.htmd_html5_tokens.proofs.BeginningsLemmas.{begins_front, cut_after_beginning}
 
 -- ---- the character of a number
 
@@ -84,20 +84,20 @@ head_is b (c ∷ s) e = (omega arith, same)
     same : c ≡ b
     same = grind (arith, nat_tests)
 
--- the text may be cut behind an ASCII character
-pub cut_behind_first : (s : List ℕ) (i b : ℕ) → IsUtf8 s → b < 128 → first_is b (drop i s) ≡ true
+-- the text may be cut after an ASCII character
+pub cut_after_first : (s : List ℕ) (i b : ℕ) → IsUtf8 s → b < 128 → first_is b (drop i s) ≡ true
     → IsCharBoundary s (i + 1)
-cut_behind_first s i b u l e =
+cut_after_first s i b u l e =
     let h = head_is b (drop i s) e in
     let w : i < length s = omega (arith, h.0, length-drop i s) in
     let z : i + 0 ≡ i = omega arith in
     let at : get_or s i 0 ≡ b = ap (λ n. get_or s n 0) (sym z) ∙ sym (get_or-drop i s 0 0) ∙ h.1 in
     IsCharBoundary-after_ascii s i u w (omega (arith, at))
 
--- and behind a run of such that isn't empty
-cut_behind_run : (p : ℕ → Bool) (s : List ℕ) (from len : ℕ) → IsUtf8 s → IsAsciiTest p
+-- and after a run of such that isn't empty
+cut_after_run : (p : ℕ → Bool) (s : List ℕ) (from len : ℕ) → IsUtf8 s → IsAsciiTest p
     → len ≡ length (leading_run p (drop from s)) → (len ≡ 0 → ⊥) → IsCharBoundary s (from + len)
-cut_behind_run p s from len u a run z =
+cut_after_run p s from len u a run z =
     let k : length (leading_run p (drop from s)) ≡ suc (len - 1) = omega (arith, run) in
     let last = a (get_or (drop from s) (len - 1) 0) (last_of p (drop from s) (len - 1) k) in
     let at : get_or s (from + (len - 1)) 0 < 128 = omega (arith, get_or-drop from s (len - 1) 0, last) in
@@ -122,7 +122,7 @@ module _ (p : ℕ → Bool) (base from len : ℕ) (s : List ℕ) (run : len ≡ 
       → more ≡ semicolon_len (take (length s - (from + len)) (drop (from + len) s))
       → n ≡ min (number base 0 (take (from + len - from) (drop from s))) limit
       → v ≡ character_numbered n
-      → ◌≡◌ {A = Piece} (record { behind = from + len + more; characters = encode_utf8 v })
+      → ◌≡◌ {A = Piece} (record { following = from + len + more; characters = encode_utf8 v })
       (numbered p base from (drop from s))
   number_piece n v more z m e q =
       let filled : is_empty (leading_run p (drop from s)) ≡ false = filled_more _ (omega (arith, run)) in
@@ -144,10 +144,10 @@ module _ (p : ℕ → Bool) (base from len : ℕ) (s : List ℕ) (run : len ≡ 
       test (first_is 59 (drop (from + len) s))
       (λ t. let one = rw t at e in
       let k : from + len + 1 ≡ from + len + more = omega arith in
-      subst (IsCharBoundary s) k (cut_behind_first s (from + len) 59 u (omega arith) t))
+      subst (IsCharBoundary s) k (cut_after_first s (from + len) 59 u (omega arith) t))
       (λ t. let none = rw t at e in
       let k : from + len ≡ from + len + more = omega arith in
-      subst (IsCharBoundary s) k (cut_behind_run p s from len u a run z))
+      subst (IsCharBoundary s) k (cut_after_run p s from len u a run z))
 
 -- ---- names
 
@@ -169,12 +169,12 @@ found_in (q ∷ rows) s r a e =
     (ap (λ (x : NamedReference). begins_with x.name s) (sym k) ∙ t, ap is_ascii_name (sym k) ∙ h.0))
     (λ t. let f = rw t at e in found_in rows s r h.1 f)
 
--- the longest of the old names with which a text begins stands in it, and the text may be cut behind it
+-- the old name with which a text begins stands in it, and the text may be cut after it
 pub old_front : (s : List ℕ) (r : NamedReference) → Some r ≡ longest_old s → IsUtf8 s
     → (length r.name ≤ length s) × IsCharBoundary s (length r.name)
 old_front s r e u =
     let h = found_in old_names s r old_names_are_ascii (sym e) in
-    ((begins_front r.name s h.0).0, cut_behind_beginning r.name s u h.0 h.1)
+    ((begins_front r.name s h.0).0, cut_after_beginning r.name s u h.0 h.1)
 
 -- ---- a name with `;`
 
@@ -191,19 +191,19 @@ module _ (in_value : Bool) (s : List ℕ) (n : ℕ) (run : n ≡ length (leading
   semicolon_here b e = ap (first_is 59) (sym tail_here) ∙ sym e
 
   pub no_semicolon : (b : Bool) (piece : Piece) → b ≡ first_is 59 (take (length s - n) (drop n s)) → b ≡ false
-      → piece ≡ old_reference in_value (longest_old s) s → piece ≡ behind_name in_value s
+      → piece ≡ old_reference in_value (longest_old s) s → piece ≡ reference_by_name in_value s
   no_semicolon b piece e f same = rw (semicolon_here b e ∙ f) same
 
   pub name_missing : (b : Bool) (piece : Piece) → b ≡ first_is 59 (take (length s - n) (drop n s)) → b ≡ true
       → None ≡ named (take n s)
-      → piece ≡ old_reference in_value (longest_old s) s → piece ≡ behind_name in_value s
+      → piece ≡ old_reference in_value (longest_old s) s → piece ≡ reference_by_name in_value s
   name_missing b piece e f none_ same =
       let missing : named (leading_run is_ascii_alphanumeric s) ≡ None = ap named front_here ∙ sym none_ in
       rw (semicolon_here b e ∙ f, missing) same
 
   pub name_known : (b : Bool) (characters : List ℕ) → b ≡ first_is 59 (take (length s - n) (drop n s)) → b ≡ true
       → Some characters ≡ named (take n s)
-      → ◌≡◌ {A = Piece} (record { behind = n + 1; characters = characters }) (behind_name in_value s)
+      → ◌≡◌ {A = Piece} (record { following = n + 1; characters = characters }) (reference_by_name in_value s)
   name_known b characters e f some_ =
       let known : named (leading_run is_ascii_alphanumeric s) ≡ Some characters = ap named front_here ∙ sym some_ in
       let k : suc (length (leading_run is_ascii_alphanumeric s)) ≡ n + 1 = omega (arith, run) in
@@ -212,5 +212,5 @@ module _ (in_value : Bool) (s : List ℕ) (n : ℕ) (run : n ≡ length (leading
   pub name_cut : (b : Bool) → b ≡ first_is 59 (take (length s - n) (drop n s)) → b ≡ true → IsUtf8 s → n ≤ length s
       → IsCharBoundary s (n + 1)
   name_cut b e f u l =
-      cut_behind_first s n 59 u (omega arith)
+      cut_after_first s n 59 u (omega arith)
       (ap (first_is 59) (sym (between_to_end s n (length s) (omega arith))) ∙ sym e ∙ f)

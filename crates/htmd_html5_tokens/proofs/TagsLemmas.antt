@@ -1,8 +1,7 @@
 -- The parts of a tag, and that each is shorter than what it stands in.
 use Rattle.std.proofs.Common.{◌≡◌, ℕ, zero, suc, ◌+◌, ◌-◌, ◌<◌, ◌≤◌, Bool, true, false, List, [], ◌∷◌, ◌++◌, length, take}
 use Rattle.std.proofs.Common.{drop, get_or, refl, sym, ◌∙◌, ap, subst, arith, append_assoc, length-drop}
-use Rattle.std.proofs.lemmas.Bool.Decides.{nat_tests}
-use Rattle.std.proofs.lemmas.List.{drop_more, drop-drop}
+use Rattle.std.proofs.lemmas.List.{drop_more}
 use Rattle.std.proofs.lemmas.Slice.{between_to_end}
 use Rattle.std.proofs.lemmas.Str.{IsCharBoundary-from_rest}
 use Rattle.std.specs.Prelude.{◌==◌}
@@ -15,8 +14,8 @@ use Rattle.htmd_grammar.specs.TagReading.{TagPart, malformed, tag_end, attribute
 use Rattle.htmd_tree.proofs.CharacterClassesLemmas.{take_leading_run, drop_leading_run}
 use Rattle.htmd_tree.proofs.TagPartsLemmas.{behind_within}
 use Rattle.htmd_html5_tokens.specs.Tags.{is_attribute_name_byte, is_unquoted_byte, is_gap_byte, ends_in_slash}
-use Rattle.htmd_html5_tokens.specs.Tags.{value_part, behind_attribute_name, behind_gap, next_part}
-use Rattle.htmd_html5_tokens.specs.Tags.{TagForm, unended, ended, with_attribute, form_behind, form_within}
+use Rattle.htmd_html5_tokens.specs.Tags.{value_part, after_attribute_name, after_gap, next_part}
+use Rattle.htmd_html5_tokens.specs.Tags.{TagForm, unended, ended, with_attribute, form_after, form_within}
 use Rattle.htmd_html5_tokens.specs.TagViews.{with_attributes, attribute_part}
 use Rattle.htmd_html5_tokens.proofs.RunCuts.{cut_before_ascii, outside_attribute_name}
 
@@ -38,13 +37,13 @@ module _ (s : List ℕ) (n : ℕ) (filled : 0 < length s)
   whole = drop_more s 0 0 filled
 
   pub attribute_split : (name rest : List ℕ) → name ≡ take (1 + n) s → rest ≡ drop (1 + n) s
-      → behind_attribute_name name rest ≡ attribute_part s
+      → after_attribute_name name rest ≡ attribute_part s
   attribute_split name rest e f = go s n filled here whole e f
     where
       go : (s : List ℕ) (n : ℕ) → 0 < length s → n ≡ length (leading_run is_attribute_name_byte (drop 1 s))
           → s ≡ get_or s 0 0 ∷ drop 1 s
           → name ≡ take (1 + n) s → rest ≡ drop (1 + n) s
-          → behind_attribute_name name rest ≡ attribute_part s
+          → after_attribute_name name rest ≡ attribute_part s
       go [] n l h w e f = absurd (omega arith)
       go (b ∷ t) n l h w e f =
           let k : 1 + n ≡ suc n = omega arith in
@@ -64,24 +63,24 @@ ends_last (b ∷ c ∷ t) l =
     let k : suc (suc (length t)) - 1 ≡ suc (suc (length t) - 1) = omega arith in
     ends_last (c ∷ t) (omega arith) ∙ ap (λ n. get_or (b ∷ c ∷ t) n 0 == 47) (sym k)
 
--- behind a gap
-pub gap_nothing : (ends : Bool) (s : List ℕ) → length s ≡ 0 → malformed ≡ behind_gap ends s
+-- after a gap
+pub gap_nothing : (ends : Bool) (s : List ℕ) → length s ≡ 0 → malformed ≡ after_gap ends s
 gap_nothing ends [] e = refl
 gap_nothing ends (b ∷ s) e = absurd (omega arith)
 
 pub gap_end : (ends : Bool) (s rest : List ℕ) → first_is 62 s ≡ true → rest ≡ drop 1 s
-    → tag_end ends rest ≡ behind_gap ends s
+    → tag_end ends rest ≡ after_gap ends s
 gap_end ends [] rest e f = absurd (cc)
 gap_end ends (b ∷ s) rest e f = rw (e, f) refl
 
 pub gap_attribute : (ends : Bool) (s : List ℕ) → (length s ≡ 0 → ⊥) → first_is 62 s ≡ false
-    → attribute_part s ≡ behind_gap ends s
+    → attribute_part s ≡ after_gap ends s
 gap_attribute ends [] l e = absurd (l refl)
 gap_attribute ends (b ∷ s) l e = rw e refl
 
 -- ---- each part takes at least one character
 
--- one more than what is left behind a part
+-- one more than what is left after a part
 abbrev size_of : TagPart → ℕ
 size_of malformed = 0
 size_of (tag_end slash s) = suc (length s)
@@ -102,7 +101,7 @@ value_size name s =
     test (first_is 34 s) (λ e. rw e (omega arith))
     (λ e. test (first_is 39 s) (λ f. rw (e, f) (omega arith)) (λ f. rw (e, f) (omega arith)))
 
-name_size : (name s : List ℕ) → size_of (behind_attribute_name name s) ≤ suc (length s)
+name_size : (name s : List ℕ) → size_of (after_attribute_name name s) ≤ suc (length s)
 name_size name s =
     let sign : List ℕ = behind_run is_ascii_white_space s in
     let k = behind_within is_ascii_white_space s in
@@ -111,7 +110,7 @@ name_size name s =
     let v = value_size name (behind_run is_ascii_white_space (drop 1 sign)) in
     test (first_is 61 sign) (λ e. rw e (omega arith)) (λ e. rw e (omega arith))
 
-gap_size : (ends : Bool) (s : List ℕ) → size_of (behind_gap ends s) ≤ length s
+gap_size : (ends : Bool) (s : List ℕ) → size_of (after_gap ends s) ≤ length s
 gap_size ends [] = omega arith
 gap_size ends (b ∷ s) =
     let n = name_size (b ∷ leading_run is_attribute_name_byte s) (behind_run is_attribute_name_byte s) in
@@ -145,7 +144,7 @@ form_same (suc j) (suc k) s a b =
   where
     by_part : (p : TagPart) → p ≡ next_part s
         → ((rest : List ℕ) → length rest < length s → form_within j rest ≡ form_within k rest)
-        → form_behind p (form_within j) ≡ form_behind p (form_within k)
+        → form_after p (form_within j) ≡ form_after p (form_within k)
     by_part malformed e go = refl
     by_part (tag_end slash t) e go = refl
     by_part (attribute name value t) e go =
@@ -165,7 +164,7 @@ pub form_more : (s name value rest : List ℕ) (spelled : List AttributePair) (w
 form_more s name value rest spelled whole e h =
     let l = part_shorter s name value rest e in
     let g : form_within (suc (length s)) s ≡ with_attribute (pair name value) (form_within (length s) rest) =
-    sym (ap (λ (p : TagPart). form_behind p (form_within (length s))) e) in
+    sym (ap (λ (p : TagPart). form_after p (form_within (length s))) e) in
     let f : form_within (suc (length rest)) rest ≡ form_within (length s) rest =
     form_same (suc (length rest)) (length s) rest (omega arith) l in
     with_one_more spelled (pair name value) _
@@ -181,14 +180,14 @@ rest_with : (a : AttributePair) (f : TagForm) → size_of_rest (with_attribute a
 rest_with a unended = refl
 rest_with a (ended spelled slash s) = refl
 
--- what follows a tag is no longer than what stands behind its name
+-- what follows a tag is no longer than what follows its name
 pub form_size : (k : ℕ) (s : List ℕ) → size_of_rest (form_within k s) ≤ length s
 form_size zero s = omega arith
 form_size (suc k) s = by_part (next_part s) (part_size s) (λ rest. form_size k rest)
   where
     by_part : (p : TagPart) → size_of p ≤ length s
         → ((rest : List ℕ) → size_of_rest (form_within k rest) ≤ length rest)
-        → size_of_rest (form_behind p (form_within k)) ≤ length s
+        → size_of_rest (form_after p (form_within k)) ≤ length s
     by_part malformed l go = omega arith
     by_part (tag_end slash t) l go = omega arith
     by_part (attribute name value t) l go =

@@ -12,33 +12,33 @@ use Rattle.htmd_html5_tokens.specs.declared.contents.Reading.TheVariants.{RawTex
 abbrev pub comment_token : List ℕ → List ℕ → Read
 comment_token held s = record { token = comment (decoded RawText 0 held); rest = s }
 
--- `-->` or `--!>` ends a comment, and what of it stands at the end of the text
+-- `-->` or `--!>` ends a comment, and so does what of it stands at the end of the text
 abbrev pub ends_comment : List ℕ → Bool
 ends_comment s =
     begins_with (codes "-->") s || begins_with (codes "--!>") s
     || is_among (codes "-" ∷ codes "--" ∷ codes "--!" ∷ []) s
 
 -- what follows the end of a comment
-abbrev pub behind_comment_end : List ℕ → List ℕ
-behind_comment_end s =
+abbrev pub after_comment_end : List ℕ → List ℕ
+after_comment_end s =
     if begins_with (codes "-->") s then drop 3 s
     else if begins_with (codes "--!>") s then drop 4 s
     else []
 
--- a comment from behind its `<!--`, which `>` and `->` end at once
+-- a comment from after its `<!--` on, which `>` and `->` end at once (13.2.5.43 to 13.2.5.52)
 abbrev pub read_comment : List ℕ → Read
 read_comment s =
     if begins_with (codes ">") s then comment_token [] (drop 1 s)
     else if begins_with (codes "->") s then comment_token [] (drop 2 s)
-    else comment_token (up_to ends_comment s) (behind_comment_end (onward ends_comment s))
+    else comment_token (up_to ends_comment s) (after_comment_end (onward ends_comment s))
 
--- what stands before the first `>`, and what behind it
+-- what stands before the first `>`, and what follows it
 abbrev pub before_sign : List ℕ → List ℕ
 before_sign s = leading_run (is_other greater_than_sign) s
 
-abbrev pub behind_sign : List ℕ → List ℕ
-behind_sign s = drop 1 (behind_run (is_other greater_than_sign) s)
+abbrev pub after_sign : List ℕ → List ℕ
+after_sign s = drop 1 (behind_run (is_other greater_than_sign) s)
 
--- markup of no other kind is a comment up to `>`
+-- markup of no other kind is a comment up to `>` (13.2.5.41)
 abbrev pub read_bogus_comment : List ℕ → Read
-read_bogus_comment s = comment_token (before_sign s) (behind_sign s)
+read_bogus_comment s = comment_token (before_sign s) (after_sign s)

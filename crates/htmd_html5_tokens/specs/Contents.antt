@@ -4,7 +4,7 @@ use Rattle.std.specs.Prelude.{map}
 use Rattle.std.specs.Char.{encode_utf8, to_ascii_lowercase}
 use Rattle.htmd_text.specs.Characters.{null, ampersand, less_than_sign}
 use Rattle.htmd_grammar.specs.CharacterClasses.{begins_with}
-use Rattle.htmd_html5_tokens.specs.References.{Piece, replacement_character, behind_ampersand}
+use Rattle.htmd_html5_tokens.specs.References.{Piece, replacement_character, after_ampersand}
 use Rattle.htmd_html5_tokens.specs.declared.contents.Reading.{Reading}
 use Rattle.htmd_html5_tokens.specs.declared.contents.Reading.TheVariants.{
   Text,
@@ -37,18 +37,18 @@ is_value AttributeValue = true
 -- what begins with a byte, where these follow
 abbrev pub piece_at : Reading → ℕ → List ℕ → Piece
 piece_at reading b s =
-    if b == ampersand && has_references reading then behind_ampersand (is_value reading) s
+    if b == ampersand && has_references reading then after_ampersand (is_value reading) s
     else if b == less_than_sign && (is_text reading && begins_with (codes "/>") s)
-    then record { behind = 2; characters = [] }
+    then record { following = 2; characters = [] }
     else if b == null && not (is_text reading)
-    then record { behind = 0; characters = encode_utf8 replacement_character }
-    else record { behind = 0; characters = b ∷ [] }
+    then record { following = 0; characters = encode_utf8 replacement_character }
+    else record { following = 0; characters = b ∷ [] }
 
--- what a piece stands for, and then what the rest behind it does
+-- what a piece stands for, and then what the rest does
 abbrev pub put : Piece → (ℕ → List ℕ) → List ℕ
-put piece rest = piece.characters ++ rest piece.behind
+put piece rest = piece.characters ++ rest piece.following
 
--- what the characters stand for, behind so many bytes of a piece that began before
+-- what the characters stand for, but for so many bytes of a piece that began before
 abbrev pub decoded : Reading → ℕ → List ℕ → List ℕ
 decoded reading n [] = []
 decoded reading zero (b ∷ s) = put (piece_at reading b s) (λ n. decoded reading n s)

@@ -1,5 +1,5 @@
 -- Doctypes (HTML Standard, 13.2.5.53 to 13.2.5.68), and which of them mean quirks mode (13.2.6.4.1).
-use Rattle.std.specs.Prelude.{ℕ, Bool, true, false, not, ◌||◌, ◌==◌, if◌then◌else◌, List, [], ◌∷◌, drop, map}
+use Rattle.std.specs.Prelude.{ℕ, Bool, true, false, not, ◌||◌, if◌then◌else◌, List, [], ◌∷◌, drop, map}
 use Rattle.std.specs.Prelude.{Option, Some, None, codes}
 use Rattle.std.specs.List.{list_any}
 use Rattle.std.specs.Str.{bytes_eq}
@@ -9,7 +9,7 @@ use Rattle.htmd_text.specs.WhiteSpace.{is_ascii_white_space}
 use Rattle.htmd_grammar.specs.CharacterClasses.{is_empty, first_is, begins_in_any_case, leading_run, behind_run}
 use Rattle.htmd_grammar.specs.CharacterClasses.{is_among}
 use Rattle.htmd_grammar.specs.TagReading.{is_other}
-use Rattle.htmd_html5_tokens.specs.Comments.{before_sign, behind_sign}
+use Rattle.htmd_html5_tokens.specs.Comments.{before_sign, after_sign}
 use Rattle.htmd_html5_tokens.specs.Tokens.{doctype, Read}
 
 -- ---- identifiers that mean quirks mode, in lower case
@@ -112,12 +112,12 @@ is_quirky_system system = bytes_eq (map to_ascii_lowercase system) quirky_system
 -- what quotes hold at the beginning, and what follows them
 pub record Quoted : Type 0 where
   pub held : List ℕ
-  pub behind : List ℕ
+  pub rest : List ℕ
 
 abbrev pub quoted_by : ℕ → List ℕ → Option Quoted
 quoted_by quote s =
     if is_empty (behind_run (is_other quote) s) then None
-    else Some (record { held = leading_run (is_other quote) s; behind = drop 1 (behind_run (is_other quote) s) })
+    else Some (record { held = leading_run (is_other quote) s; rest = drop 1 (behind_run (is_other quote) s) })
 
 abbrev pub quoted : List ℕ → Option Quoted
 quoted s =
@@ -125,8 +125,8 @@ quoted s =
     else if first_is apostrophe s then quoted_by apostrophe (drop 1 s)
     else None
 
-abbrev pub behind_white : List ℕ → List ℕ
-behind_white s = behind_run is_ascii_white_space s
+abbrev pub after_white : List ℕ → List ℕ
+after_white s = behind_run is_ascii_white_space s
 
 abbrev pub means_quirks_by_system : Option Quoted → Bool
 means_quirks_by_system None = true
@@ -136,21 +136,21 @@ abbrev pub means_quirks_by_both : List ℕ → Option Quoted → Bool
 means_quirks_by_both public None = true
 means_quirks_by_both public (Some system) = is_quirky_system system.held || is_quirky public
 
--- behind the public identifier
-abbrev pub means_quirks_behind : List ℕ → List ℕ → Bool
-means_quirks_behind public s =
+-- after the public identifier (13.2.5.61, 13.2.5.62)
+abbrev pub means_quirks_after_public : List ℕ → List ℕ → Bool
+means_quirks_after_public public s =
     if is_empty s then is_quirky public || is_loose public else means_quirks_by_both public (quoted s)
 
 abbrev pub means_quirks_by_public : Option Quoted → Bool
 means_quirks_by_public None = true
-means_quirks_by_public (Some public) = means_quirks_behind public.held (behind_white public.behind)
+means_quirks_by_public (Some public) = means_quirks_after_public public.held (after_white public.rest)
 
--- behind the name
+-- after the name (13.2.5.56)
 abbrev pub means_quirks_by_identifiers : List ℕ → Bool
 means_quirks_by_identifiers s =
     if is_empty s then false
-    else if begins_in_any_case (codes "public") s then means_quirks_by_public (quoted (behind_white (drop 6 s)))
-    else if begins_in_any_case (codes "system") s then means_quirks_by_system (quoted (behind_white (drop 6 s)))
+    else if begins_in_any_case (codes "public") s then means_quirks_by_public (quoted (after_white (drop 6 s)))
+    else if begins_in_any_case (codes "system") s then means_quirks_by_system (quoted (after_white (drop 6 s)))
     else true
 
 abbrev pub is_black : ℕ → Bool
@@ -160,11 +160,11 @@ is_black b = not (is_ascii_white_space b)
 abbrev pub means_quirks_from_name : List ℕ → Bool
 means_quirks_from_name s =
     not (bytes_eq (map to_ascii_lowercase (leading_run is_black s)) (codes "html"))
-    || means_quirks_by_identifiers (behind_white (behind_run is_black s))
+    || means_quirks_by_identifiers (after_white (behind_run is_black s))
 
 abbrev pub means_quirks : List ℕ → Bool
-means_quirks s = means_quirks_from_name (behind_white s)
+means_quirks s = means_quirks_from_name (after_white s)
 
--- a doctype from behind its `<!DOCTYPE`
+-- a doctype from after its `<!DOCTYPE` on
 abbrev pub read_doctype : List ℕ → Read
-read_doctype s = record { token = doctype (means_quirks (before_sign s)); rest = behind_sign s }
+read_doctype s = record { token = doctype (means_quirks (before_sign s)); rest = after_sign s }

@@ -8,7 +8,7 @@ abbrev pub are_first : List (List ℕ) → List AttributePair → List Bool
 are_first before [] = []
 are_first before (a ∷ attributes) = not (is_among before a.name) ∷ are_first (a.name ∷ before) attributes
 
--- the first mark, and those behind it
+-- the first mark, and the others
 abbrev pub split_mark : List Bool → Option (Bool × List Bool)
 split_mark [] = None
 split_mark (mark ∷ marks) = Some (mark, marks)

@@ -1,5 +1,6 @@
--- The tokens of a page by the HTML Standard, in reading order: what is read, the tokens, references by name, references,
--- characters, tags, comments, doctypes, raw texts, the next token. The last serve private functions alone.
+-- The tokens of a page by the HTML Standard, in reading order: what is read, the tokens, references by name,
+-- references, characters, tags, comments, doctypes, raw texts, the next token. The last six serve private functions
+-- alone.
 pub mod Preprocessing
 pub mod Tokens
 pub mod NamedReferences

@@ -1,6 +1,6 @@
--- The named character references (HTML Standard, 13.5): names less their `;`, by their first letter, and what they stand
--- for. The tables themselves are in `src/names`.
-use Rattle.std.specs.Prelude.{ℕ, Bool, ◌==◌, if◌then◌else◌, List, [], ◌∷◌, Option, Some, None, map}
+-- The named character references (HTML Standard, 13.5): names less their `;`, by their first letter, and what they
+-- stand for. The tables themselves are in `src/names`.
+use Rattle.std.specs.Prelude.{ℕ, ◌==◌, if◌then◌else◌, List, [], ◌∷◌, Option, Some, None, map}
 use Rattle.std.specs.Str.{bytes_eq}
 use Rattle.std.specs.Char.{is_ascii_uppercase}
 use Rattle.std.specs.Borrow.{Bor}
@@ -72,10 +72,10 @@ pub record NamedReference : Type 0 where
   pub characters : List ℕ
 
 -- a row of a table
-abbrev row_of : record {now : List ℕ} × record {now : List ℕ} → NamedReference
+abbrev row_of : record { now : List ℕ } × record { now : List ℕ } → NamedReference
 row_of r = record { name = r.0.now; characters = r.1.now }
 
-abbrev rows_of : List (record {now : List ℕ} × record {now : List ℕ}) → List NamedReference
+abbrev rows_of : List (record { now : List ℕ } × record { now : List ℕ }) → List NamedReference
 rows_of rows = map row_of rows
 
 -- the same of a row that the program has
@@ -147,8 +147,7 @@ small_names b =
     if b == 0x7A then rows_of SMALL_Z else
     []
 
--- the names that may stand without `;`: Each stands before those that it begins with, so the first with which a text
--- begins is the longest.
+-- the names that may stand without `;`; none begins another, so a text begins with one of them at most
 unfoldable pub old_names : List NamedReference
 old_names = rows_of OLD_NAMES
 
@@ -167,5 +166,6 @@ abbrev pub first_in : List NamedReference → List ℕ → Option NamedReference
 first_in [] s = None
 first_in (r ∷ rows) s = if begins_with r.name s then Some r else first_in rows s
 
+-- the one that may stand without `;`
 abbrev pub longest_old : List ℕ → Option NamedReference
 longest_old s = first_in old_names s

@@ -1,10 +1,10 @@
 -- The next token (HTML Standard, 13.2.5), of a text whose line ends are line feeds.
-use Rattle.std.specs.Prelude.{ℕ, zero, suc, Bool, true, false, not, ◌&&◌, ◌||◌, ◌==◌, if◌then◌else◌, List, [], ◌∷◌}
+use Rattle.std.specs.Prelude.{ℕ, zero, suc, Bool, false, not, ◌&&◌, ◌||◌, ◌==◌, if◌then◌else◌, List, [], ◌∷◌}
 use Rattle.std.specs.Prelude.{drop, take, length, codes, Option, Some, None}
 use Rattle.std.specs.Char.{is_ascii_alphabetic}
 use Rattle.htmd_text.specs.Characters.{exclamation_mark, slash, less_than_sign, greater_than_sign, question_mark}
 use Rattle.htmd_grammar.specs.CharacterClasses.{is_empty, first_is, begins_with, begins_in_any_case, up_to, onward}
-use Rattle.htmd_html5_tokens.specs.Tokens.{TokenValue, text, end_of_file, Read}
+use Rattle.htmd_html5_tokens.specs.Tokens.{text, end_of_file, Read}
 use Rattle.htmd_html5_tokens.specs.Contents.{decoded}
 use Rattle.htmd_html5_tokens.specs.Tags.{read_tag}
 use Rattle.htmd_html5_tokens.specs.Comments.{read_comment, read_bogus_comment}
@@ -19,17 +19,17 @@ use Rattle.htmd_html5_tokens.specs.declared.tokens.RawElement.{RawElement}
 abbrev pub at_end : Read
 at_end = record { token = end_of_file; rest = [] }
 
--- ---- text
+-- ---- text (13.2.5.1)
 
--- behind `</`: any character but `>`; at its end `</` is text, and `</>` is nothing
+-- after `</`: any character but `>`; at the end of the text `</` is text, and `</>` is nothing (13.2.5.7)
 abbrev pub goes_on : List ℕ → Bool
 goes_on [] = false
 goes_on (b ∷ s) = not (b == greater_than_sign)
 
--- behind `<`: a letter, `!`, `?`, or `/` and any character but `>`
+-- after `<`: a letter, `!`, `?`, or `/` and any character but `>` (13.2.5.6)
 abbrev pub is_markup : List ℕ → Bool
 is_markup [] = false
-is_markup (b ∷ s) = 
+is_markup (b ∷ s) =
     is_ascii_alphabetic b || (b == exclamation_mark) || (b == question_mark) || (b == slash && goes_on s)
 
 abbrev pub begins_markup : List ℕ → Bool
@@ -51,46 +51,46 @@ abbrev pub ends_section : List ℕ → Bool
 ends_section s = begins_with (codes "]]>") s
 
 -- what follows the end of a section
-abbrev pub behind_section_end : List ℕ → List ℕ
-behind_section_end s = if begins_with (codes "]]>") s then drop 3 s else []
+abbrev pub after_section_end : List ℕ → List ℕ
+after_section_end s = if begins_with (codes "]]>") s then drop 3 s else []
 
--- a section from behind its `<![CDATA[`: its text is what it holds
+-- a section from after its `<![CDATA[` on: its text is what it holds
 abbrev pub read_section : List ℕ → Read
 read_section s =
-    record { token = text (up_to ends_section s); rest = behind_section_end (onward ends_section s) }
+    record { token = text (up_to ends_section s); rest = after_section_end (onward ends_section s) }
 
--- ---- what denotes nothing: `</>`, and in foreign content a CDATA section that holds nothing
+-- ---- empty pieces, which denote nothing: `</>`, and in foreign content a CDATA section that holds nothing
 
--- what stands behind a section from behind its `<![CDATA[`, where it holds nothing
-abbrev pub behind_empty_section : List ℕ → Option (List ℕ)
-behind_empty_section s =
+-- what follows a section that holds nothing, given from after its `<![CDATA[` on
+abbrev pub after_empty_section : List ℕ → Option (List ℕ)
+after_empty_section s =
     if is_empty s then Some s
     else if begins_with (codes "]]>") s then Some (drop 3 s)
     else None
 
-abbrev pub behind_empty_piece : Bool → List ℕ → Option (List ℕ)
-behind_empty_piece foreign s =
+abbrev pub after_empty_piece : Bool → List ℕ → Option (List ℕ)
+after_empty_piece foreign s =
     if begins_with (codes "</>") s then Some (drop 3 s)
-    else if begins_section foreign s then behind_empty_section (drop 9 s)
+    else if begins_section foreign s then after_empty_section (drop 9 s)
     else None
 
 abbrev pub or_else : List ℕ → Option (List ℕ) → (List ℕ → List ℕ) → List ℕ
 or_else s None go = s
 or_else s (Some rest) go = go rest
 
--- what stands behind at most so many such pieces
-abbrev pub behind_pieces : ℕ → List ℕ → Bool → List ℕ
-behind_pieces zero s foreign = s
-behind_pieces (suc k) s foreign =
-    or_else s (behind_empty_piece foreign s) (λ rest. behind_pieces k rest foreign)
+-- what follows empty pieces, at most so many
+abbrev pub after_pieces : ℕ → List ℕ → Bool → List ℕ
+after_pieces zero s foreign = s
+after_pieces (suc k) s foreign =
+    or_else s (after_empty_piece foreign s) (λ rest. after_pieces k rest foreign)
 
--- what stands behind all of them, each of which has at least one character
-abbrev pub behind_nothing : Bool → List ℕ → List ℕ
-behind_nothing foreign s = behind_pieces (length s) s foreign
+-- what follows all empty pieces at the beginning; each has at least one character
+abbrev pub after_empty_pieces : Bool → List ℕ → List ℕ
+after_empty_pieces foreign s = after_pieces (length s) s foreign
 
 -- ---- markup
 
--- behind `<!`
+-- markup from after its `<!` on (13.2.5.42)
 abbrev pub read_declaration : List ℕ → Read
 read_declaration s =
     if begins_with (codes "--") s then read_comment (drop 2 s)
@@ -101,7 +101,7 @@ abbrev pub begins_letter : List ℕ → Bool
 begins_letter [] = false
 begins_letter (b ∷ s) = is_ascii_alphabetic b
 
--- behind `<`
+-- markup from after its `<` on (13.2.5.6, 13.2.5.7)
 abbrev pub read_markup : List ℕ → Read
 read_markup s =
     if first_is exclamation_mark s then read_declaration (drop 1 s)
@@ -111,7 +111,7 @@ read_markup s =
 
 -- ---- the token
 
--- a token that isn't behind what denotes nothing
+-- the token at the beginning of a text, before which no empty piece stands
 abbrev pub read_piece : Bool → List ℕ → Read
 read_piece foreign s =
     if is_empty s then at_end
@@ -119,7 +119,7 @@ read_piece foreign s =
     else if begins_markup s then read_markup (drop 1 s)
     else read_text s
 
--- the text that such an element holds, and where there is none its end tag
+-- the text that a raw text element holds, and where there is none its end tag (13.2.5.2 to 13.2.5.5)
 abbrev pub read_held : Reading → List ℕ → List ℕ → Read
 read_held reading held s =
     if not (is_empty held) then text_token reading held s
@@ -132,5 +132,5 @@ read_raw element s =
 
 -- The flag says whether the adjusted current node is in foreign content.
 abbrev pub next_token : Content → Bool → List ℕ → Read
-next_token Normal foreign s = read_piece foreign (behind_nothing foreign s)
+next_token Normal foreign s = read_piece foreign (after_empty_pieces foreign s)
 next_token (Raw element) foreign s = read_raw element s

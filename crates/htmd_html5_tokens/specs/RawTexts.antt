@@ -1,6 +1,6 @@
 -- Elements that hold text alone, up to their own end tag (HTML Standard, 13.2.5.2 to 13.2.5.5 and 13.2.5.9 to
 -- 13.2.5.31).
-use Rattle.std.specs.Prelude.{ℕ, zero, suc, Bool, true, false, not, ◌&&◌, ◌==◌, if◌then◌else◌, List, [], ◌∷◌, length, codes}
+use Rattle.std.specs.Prelude.{ℕ, suc, Bool, false, ◌&&◌, ◌==◌, if◌then◌else◌, List, [], ◌∷◌, length, codes}
 use Rattle.htmd_text.specs.Characters.{less_than_sign}
 use Rattle.htmd_grammar.specs.CharacterClasses.{begins_with, up_to}
 use Rattle.htmd_grammar.specs.RawContent.{goes_on_with_name, begins_own_end}
@@ -67,9 +67,9 @@ begins_script (b ∷ s) = b == less_than_sign && goes_on_with_name (codes "scrip
 abbrev pub begins_script_end : List ℕ → Bool
 begins_script_end s = begins_own_end (codes "script") s
 
--- how a script is escaped behind the character with which this begins
-abbrev pub escape_behind : Escape → List ℕ → Escape
-escape_behind before s =
+-- how a script is escaped after the character with which this begins
+abbrev pub escape_after : Escape → List ℕ → Escape
+escape_after before s =
     if begins_with (codes "<!--") s then with_comment before
     else if begins_with (codes "-->") s then Unescaped
     else if begins_script_end s then with_end before
@@ -86,7 +86,7 @@ ends_script DoublyEscaped s = false
 abbrev pub script_len : Escape → List ℕ → ℕ
 script_len before [] = 0
 script_len before (b ∷ s) =
-    if ends_script before (b ∷ s) then 0 else suc (script_len (escape_behind before (b ∷ s)) s)
+    if ends_script before (b ∷ s) then 0 else suc (script_len (escape_after before (b ∷ s)) s)
 
 -- ---- how many bytes the element's text has
 

@@ -12,4 +12,4 @@ abbrev pub quoted_of : Option (Bor (List ℕ) × Bor (List ℕ)) → Option Quot
 quoted_of o = option_map pair o
   where
     pair : Bor (List ℕ) × Bor (List ℕ) → Quoted
-    pair p = record { held = p.0.now; behind = p.1.now }
+    pair p = record { held = p.0.now; rest = p.1.now }

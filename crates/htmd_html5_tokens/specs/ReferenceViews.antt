@@ -11,7 +11,7 @@ characters_of (One c) = encode_utf8 c
 characters_of (Named s) = s.now
 
 abbrev pub piece_of : Reference → Piece
-piece_of r = record { behind = r.behind; characters = characters_of r.characters }
+piece_of r = record { following = r.following; characters = characters_of r.characters }
 
 -- only ASCII passes
 abbrev pub IsAsciiTest : (ℕ → Bool) → Type 0

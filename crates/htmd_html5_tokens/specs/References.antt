@@ -1,6 +1,6 @@
--- Character references (HTML Standard, 13.2.5.72 to 13.2.5.80). A reference begins with `&`; what stands behind that is
+-- Character references (HTML Standard, 13.2.5.72 to 13.2.5.80). A reference begins with `&`; what follows that is
 -- given.
-use Rattle.std.specs.Prelude.{ℕ, zero, suc, ◌+◌, ◌-◌, Bool, false, ◌&&◌, ◌||◌, ◌==◌, nat_lt, if◌then◌else◌, List, [], ◌∷◌}
+use Rattle.std.specs.Prelude.{ℕ, suc, ◌+◌, ◌-◌, Bool, false, ◌&&◌, ◌||◌, ◌==◌, nat_lt, if◌then◌else◌, List, [], ◌∷◌}
 use Rattle.std.specs.Prelude.{length, drop, slice_index, Option, Some, None, codes}
 use Rattle.std.specs.Char.{encode_utf8, is_ascii_digit, is_ascii_hexdigit, is_ascii_alphanumeric}
 use Rattle.htmd_text.specs.Characters.{number_sign, ampersand, semicolon, equals_sign}
@@ -11,12 +11,12 @@ use Rattle.htmd_html5_tokens.specs.NamedReferences.{NamedReference, named, longe
 
 -- what begins at a place: how many of the bytes that follow belong to it, and the characters that it stands for
 pub record Piece : Type 0 where
-  pub behind : ℕ
+  pub following : ℕ
   pub characters : List ℕ
 
 -- `&` that begins no reference
 abbrev pub ampersand_itself : Piece
-ampersand_itself = record { behind = 0; characters = ampersand ∷ [] }
+ampersand_itself = record { following = 0; characters = ampersand ∷ [] }
 
 -- ---- references by number (13.2.5.80)
 
@@ -26,9 +26,9 @@ replacement_character = 0xFFFD
 -- what the numbers 0x80 to 0x9F stand for, in order: the characters of windows-1252
 abbrev pub windows_characters : List ℕ
 windows_characters =
-    0x20AC ∷ 0x81 ∷ 0x201A ∷ 0x192 ∷ 0x201E ∷ 0x2026 ∷ 0x2020 ∷ 0x2021 ∷ 0x2C6 ∷ 0x2030 ∷ 0x160 ∷ 0x2039 ∷ 0x152
-    ∷ 0x8D ∷ 0x17D ∷ 0x8F ∷ 0x90 ∷ 0x2018 ∷ 0x2019 ∷ 0x201C ∷ 0x201D ∷ 0x2022 ∷ 0x2013 ∷ 0x2014 ∷ 0x2DC ∷ 0x2122
-    ∷ 0x161 ∷ 0x203A ∷ 0x153 ∷ 0x9D ∷ 0x17E ∷ 0x178 ∷ []
+    0x20AC ∷ 0x81 ∷ 0x201A ∷ 0x192 ∷ 0x201E ∷ 0x2026 ∷ 0x2020 ∷ 0x2021 ∷ 0x2C6 ∷ 0x2030 ∷ 0x160
+    ∷ 0x2039 ∷ 0x152 ∷ 0x8D ∷ 0x17D ∷ 0x8F ∷ 0x90 ∷ 0x2018 ∷ 0x2019 ∷ 0x201C ∷ 0x201D ∷ 0x2022
+    ∷ 0x2013 ∷ 0x2014 ∷ 0x2DC ∷ 0x2122 ∷ 0x161 ∷ 0x203A ∷ 0x153 ∷ 0x9D ∷ 0x17E ∷ 0x178 ∷ []
 
 -- numbers that stand for no character: 0, those above U+10FFFF, and surrogates
 abbrev pub is_no_character : ℕ → Bool
@@ -45,18 +45,18 @@ character_numbered n =
 abbrev pub semicolon_len : List ℕ → ℕ
 semicolon_len s = if first_is semicolon s then 1 else 0
 
--- digits, at least one, behind so many bytes
+-- digits, at least one, after so many bytes (13.2.5.76 to 13.2.5.79)
 abbrev pub numbered : (ℕ → Bool) → ℕ → ℕ → List ℕ → Piece
 numbered is_digit base from s =
     if is_empty (leading_run is_digit s) then ampersand_itself
     else record {
-      behind = from + length (leading_run is_digit s) + semicolon_len (behind_run is_digit s);
+      following = from + length (leading_run is_digit s) + semicolon_len (behind_run is_digit s);
       characters = encode_utf8 (character_numbered (number base 0 (leading_run is_digit s)));
     }
 
--- behind `&#`: decimal digits, or `x` or `X` and hexadecimal digits
-abbrev pub behind_number_sign : List ℕ → Piece
-behind_number_sign s =
+-- after `&#`: decimal digits, or `x` or `X` and hexadecimal digits (13.2.5.75)
+abbrev pub after_number_sign : List ℕ → Piece
+after_number_sign s =
     if begins_in_any_case (codes "x") s
     then numbered is_ascii_hexdigit 16 2 (drop 1 s)
     else numbered is_ascii_digit 10 1 s
@@ -68,28 +68,28 @@ abbrev pub goes_on : List ℕ → Bool
 goes_on [] = false
 goes_on (b ∷ s) = b == equals_sign || is_ascii_alphanumeric b
 
--- the longest of the names that may stand without `;`
+-- the name that may stand without `;` with which a text begins, if there is one
 abbrev pub old_reference : Bool → Option NamedReference → List ℕ → Piece
 old_reference in_value None s = ampersand_itself
 old_reference in_value (Some r) s =
     if in_value && goes_on (drop (length r.name) s) then ampersand_itself
-    else record { behind = length r.name; characters = r.characters }
+    else record { following = length r.name; characters = r.characters }
 
 -- a name with `;`, which so many bytes take, and where there is none a name without
 abbrev pub reference_or : ℕ → Option (List ℕ) → Piece → Piece
 reference_or n None other = other
-reference_or n (Some characters) other = record { behind = n; characters = characters }
+reference_or n (Some characters) other = record { following = n; characters = characters }
 
--- behind `&`: No name goes on behind `;`, so one that ends there is the longest, and it is all letters and digits
--- before it. Else the longest name that may stand without `;` counts.
-abbrev pub behind_name : Bool → List ℕ → Piece
-behind_name in_value s =
+-- after `&`: No name goes on after `;`, so one that ends there is the longest, and it is all letters and digits before
+-- that. Else a name that may stand without `;` counts.
+abbrev pub reference_by_name : Bool → List ℕ → Piece
+reference_by_name in_value s =
     if first_is semicolon (behind_run is_ascii_alphanumeric s)
     then reference_or (suc (length (leading_run is_ascii_alphanumeric s)))
     (named (leading_run is_ascii_alphanumeric s)) (old_reference in_value (longest_old s) s)
     else old_reference in_value (longest_old s) s
 
--- behind `&`
-abbrev pub behind_ampersand : Bool → List ℕ → Piece
-behind_ampersand in_value s =
-    if first_is number_sign s then behind_number_sign (drop 1 s) else behind_name in_value s
+-- after `&` (13.2.5.72)
+abbrev pub after_ampersand : Bool → List ℕ → Piece
+after_ampersand in_value s =
+    if first_is number_sign s then after_number_sign (drop 1 s) else reference_by_name in_value s

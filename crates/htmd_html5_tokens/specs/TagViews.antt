@@ -3,7 +3,7 @@ use Rattle.std.specs.Prelude.{ℕ, List, [], ◌∷◌, ◌++◌, map}
 use Rattle.htmd_grammar.specs.ValueTrees.{AttributePair}
 use Rattle.htmd_grammar.specs.CharacterClasses.{leading_run, behind_run}
 use Rattle.htmd_grammar.specs.TagReading.{TagPart, malformed, tag_end, attribute}
-use Rattle.htmd_html5_tokens.specs.Tags.{behind_attribute_name, is_attribute_name_byte, TagForm, unended, ended}
+use Rattle.htmd_html5_tokens.specs.Tags.{after_attribute_name, is_attribute_name_byte, TagForm, unended, ended}
 use Rattle.htmd_html5_tokens.specs.declared.attributes.SpelledAttribute.{SpelledAttribute}
 use Rattle.htmd_html5_tokens.specs.declared.attributes.Part.{Part}
 use Rattle.htmd_html5_tokens.specs.declared.attributes.Part.TheVariants.{Unended, End, Attribute}
@@ -28,4 +28,4 @@ with_attributes spelled (ended more slash s) = ended (spelled ++ more) slash s
 abbrev pub attribute_part : List ℕ → TagPart
 attribute_part [] = malformed
 attribute_part (b ∷ s) =
-    behind_attribute_name (b ∷ leading_run is_attribute_name_byte s) (behind_run is_attribute_name_byte s)
+    after_attribute_name (b ∷ leading_run is_attribute_name_byte s) (behind_run is_attribute_name_byte s)

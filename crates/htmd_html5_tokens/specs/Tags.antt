@@ -1,8 +1,7 @@
 -- Start tags and end tags (HTML Standard, 13.2.5.8 and 13.2.5.32 to 13.2.5.40).
 use Rattle.std.specs.Prelude.{ℕ, zero, suc, Bool, true, false, not, ◌&&◌, ◌||◌, ◌==◌, if◌then◌else◌, List, [], ◌∷◌, map}
 use Rattle.std.specs.Prelude.{drop, length}
-use Rattle.std.specs.Char.{is_ascii_alphabetic}
-use Rattle.htmd_text.specs.Characters.{quotation_mark, apostrophe, slash, less_than_sign, equals_sign}
+use Rattle.htmd_text.specs.Characters.{quotation_mark, apostrophe, slash, equals_sign}
 use Rattle.htmd_text.specs.Characters.{greater_than_sign}
 use Rattle.htmd_text.specs.WhiteSpace.{is_ascii_white_space}
 use Rattle.htmd_grammar.specs.ValueTrees.{AttributePair}
@@ -14,15 +13,15 @@ use Rattle.htmd_html5_tokens.specs.declared.contents.Reading.TheVariants.{Attrib
 
 -- ---- what the parts of a tag are made of
 
--- a name goes on up to white space, `/` or `>`
+-- a name goes on up to white space, `/` or `>` (13.2.5.8)
 abbrev pub is_name_byte : ℕ → Bool
 is_name_byte b = not (is_ascii_white_space b || (b == slash) || (b == greater_than_sign))
 
--- behind its first character an attribute's name goes on up to `=`, too
+-- an attribute's name goes on, after its first character, up to `=` too (13.2.5.33)
 abbrev pub is_attribute_name_byte : ℕ → Bool
 is_attribute_name_byte b = is_name_byte b && not (b == equals_sign)
 
--- a value without quotes goes on up to white space or `>`
+-- a value without quotes goes on up to white space or `>` (13.2.5.38)
 abbrev pub is_unquoted_byte : ℕ → Bool
 is_unquoted_byte b = not (is_ascii_white_space b || (b == greater_than_sign))
 
@@ -38,33 +37,34 @@ ends_in_slash (b ∷ c ∷ s) = ends_in_slash (c ∷ s)
 
 -- ---- the next part: an attribute, or the end of the tag. It is `malformed` where the text ends before.
 
--- behind `=` and white space
+-- an attribute from its value on, after `=` and white space (13.2.5.35 to 13.2.5.38)
 abbrev pub value_part : List ℕ → List ℕ → TagPart
 value_part name s =
     if first_is quotation_mark s then quoted_value quotation_mark name (drop 1 s)
     else if first_is apostrophe s then quoted_value apostrophe name (drop 1 s)
     else attribute name (leading_run is_unquoted_byte s) (behind_run is_unquoted_byte s)
 
--- behind the name of an attribute
-abbrev pub behind_attribute_name : List ℕ → List ℕ → TagPart
-behind_attribute_name name s =
+-- an attribute from after its name on (13.2.5.34)
+abbrev pub after_attribute_name : List ℕ → List ℕ → TagPart
+after_attribute_name name s =
     if first_is equals_sign (behind_run is_ascii_white_space s)
     then value_part name (behind_run is_ascii_white_space (drop 1 (behind_run is_ascii_white_space s)))
     else attribute name [] s
 
--- behind a gap, which may end in `/`; any other character begins the name of an attribute, `=` too
-abbrev pub behind_gap : Bool → List ℕ → TagPart
-behind_gap ends [] = malformed
-behind_gap ends (b ∷ s) =
+-- after a gap, which may end in `/` (13.2.5.32, 13.2.5.40): any character but `>` begins the name of an attribute, `=`
+-- too
+abbrev pub after_gap : Bool → List ℕ → TagPart
+after_gap ends [] = malformed
+after_gap ends (b ∷ s) =
     if b == greater_than_sign then tag_end ends s
-    else behind_attribute_name (b ∷ leading_run is_attribute_name_byte s) (behind_run is_attribute_name_byte s)
+    else after_attribute_name (b ∷ leading_run is_attribute_name_byte s) (behind_run is_attribute_name_byte s)
 
 abbrev pub next_part : List ℕ → TagPart
-next_part s = behind_gap (ends_in_slash (leading_run is_gap_byte s)) (behind_run is_gap_byte s)
+next_part s = after_gap (ends_in_slash (leading_run is_gap_byte s)) (behind_run is_gap_byte s)
 
 -- ---- the attributes
 
--- what a tag is behind its name: nothing, where the text ends in it; or attributes as they are spelled, whether it ends
+-- what a tag is after its name: nothing, where the text ends in it; or attributes as they are spelled, whether it ends
 -- in `/>`, and what follows
 pub data TagForm : Type 0 where
   unended : TagForm
@@ -74,15 +74,15 @@ abbrev pub with_attribute : AttributePair → TagForm → TagForm
 with_attribute a unended = unended
 with_attribute a (ended spelled self_closing s) = ended (a ∷ spelled) self_closing s
 
-abbrev pub form_behind : TagPart → (List ℕ → TagForm) → TagForm
-form_behind malformed go = unended
-form_behind (tag_end self_closing s) go = ended [] self_closing s
-form_behind (attribute name value s) go = with_attribute (record { name = name; value = value }) (go s)
+abbrev pub form_after : TagPart → (List ℕ → TagForm) → TagForm
+form_after malformed go = unended
+form_after (tag_end self_closing s) go = ended [] self_closing s
+form_after (attribute name value s) go = with_attribute (record { name = name; value = value }) (go s)
 
 -- the form of a tag with less than so many attributes
 abbrev pub form_within : ℕ → List ℕ → TagForm
 form_within zero s = unended
-form_within (suc k) s = form_behind (next_part s) (form_within k)
+form_within (suc k) s = form_after (next_part s) (form_within k)
 
 -- every attribute takes at least one character
 abbrev pub tag_form : List ℕ → TagForm
@@ -96,7 +96,7 @@ abbrev pub unless : Bool → AttributePair → List AttributePair → List Attri
 unless true a attributes = attributes
 unless false a attributes = a ∷ attributes
 
--- of attributes of one name the first counts; those before have these names
+-- of attributes of one name the first counts (13.2.5.33); those before have these names
 abbrev pub firsts : List (List ℕ) → List AttributePair → List AttributePair
 firsts before [] = []
 firsts before (a ∷ attributes) = unless (is_among before a.name) a (firsts (a.name ∷ before) attributes)
@@ -123,6 +123,6 @@ tag_token kind name (ended spelled self_closing s) =
 abbrev pub tag_from_name : (TagValue → TokenValue) → List ℕ → Read
 tag_from_name kind s = tag_token kind (leading_run is_name_byte s) (tag_form (behind_run is_name_byte s))
 
--- a tag, from behind its `<`
+-- a tag from after its `<` on (13.2.5.6, 13.2.5.7)
 abbrev pub read_tag : List ℕ → Read
 read_tag s = if first_is slash s then tag_from_name end_tag (drop 1 s) else tag_from_name start_tag s

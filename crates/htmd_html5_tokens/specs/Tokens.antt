@@ -27,7 +27,7 @@ pub data TokenValue : Type 0 where
   doctype : Bool → TokenValue
   end_of_file : TokenValue
 
--- a token, and the text behind it
+-- a token, and the text after it
 pub record Read : Type 0 where
   pub token : TokenValue
   pub rest : List ℕ

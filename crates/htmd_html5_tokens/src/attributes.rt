@@ -1,4 +1,4 @@
-//! What stands in a tag behind its name: attributes, its `/` and its `>`.
+//! What stands in a tag after its name: attributes, its `/` and its `>`.
 ghost use Rattle.std.specs.Prelude.{◌≡◌, ◌<◌, false, length, IfOk, MatchOption};
 ghost use Rattle.htmd_grammar.specs.CharacterClasses.{is_empty};
 ghost use Rattle.htmd_grammar.specs.TagReading as reading;
@@ -15,7 +15,7 @@ pub(crate) struct SpelledAttribute<'a> {
     pub(crate) value: &'a str,
 }
 
-/// What comes next in a tag behind its name.
+/// What comes next in a tag after its name.
 #[derive(Drop)]
 pub(crate) enum Part<'a> {
     /// The text ends before.
@@ -30,7 +30,7 @@ pub(crate) enum Part<'a> {
     },
 }
 
-/// What stands behind the name of a tag, and what follows the tag.
+/// What stands in a tag after its name, and what follows the tag.
 #[derive(Drop)]
 pub(crate) struct TagForm<'a> {
     pub(crate) attributes: Vec<SpelledAttribute<'a>>,
@@ -43,8 +43,8 @@ fn quoted_value<'a>(name: &'a str, text: &'a str, quote: u8) -> Part<'a>
     requires { quote < 128 }
     ensures { part_of result ≡ reading.quoted_value quote name.now text.now }
 {
-    let (value, behind) = split_run(text, Class::Other(quote));
-    match strip_byte(behind, quote) {
+    let (value, after) = split_run(text, Class::Other(quote));
+    match strip_byte(after, quote) {
         Some(rest) => Part::Attribute {
             spelled: SpelledAttribute { name, value },
             rest,
@@ -53,7 +53,7 @@ fn quoted_value<'a>(name: &'a str, text: &'a str, quote: u8) -> Part<'a>
     }
 }
 
-/// Behind `=` and white space.
+/// An attribute from its value on, after `=` and white space.
 fn value_part<'a>(name: &'a str, text: &'a str) -> Part<'a>
     ensures { part_of result ≡ spec.value_part name.now text.now }
 {
@@ -70,9 +70,9 @@ fn value_part<'a>(name: &'a str, text: &'a str) -> Part<'a>
     }
 }
 
-/// Behind the name of an attribute.
-fn behind_name<'a>(name: &'a str, text: &'a str) -> Part<'a>
-    ensures { part_of result ≡ spec.behind_attribute_name name.now text.now }
+/// An attribute from after its name on.
+fn after_name<'a>(name: &'a str, text: &'a str) -> Part<'a>
+    ensures { part_of result ≡ spec.after_attribute_name name.now text.now }
 {
     let (_, sign) = split_run(text, Class::White);
     let Some(gap) = strip_byte(sign, b'=') else {
@@ -92,7 +92,7 @@ fn attribute(text: &str) -> Part<'_>
 {
     let len = 1 + run_len(&text.as_bytes()[1..], Class::AttributeName);
     let (name, rest) = text.split_at(len);
-    behind_name(name, rest)
+    after_name(name, rest)
 }
 
 /// Whether the last character is `/`.
@@ -109,28 +109,28 @@ fn ends_in_slash(bytes: &[u8]) -> bool
 pub(crate) fn next_part(text: &str) -> Part<'_>
     ensures { part_of result ≡ spec.next_part text.now }
 {
-    let (gap, behind) = split_run(text, Class::Gap);
-    if behind.is_empty() {
+    let (gap, after) = split_run(text, Class::Gap);
+    if after.is_empty() {
         return Part::Unended;
     }
-    match strip_byte(behind, b'>') {
+    match strip_byte(after, b'>') {
         Some(rest) => Part::End {
             slash: ends_in_slash(gap.as_bytes()),
             rest,
         },
-        None => attribute(behind),
+        None => attribute(after),
     }
 }
 
-/// The form of a tag from behind its name on. None where the text ends in the tag; an `Err` is want of memory.
+/// The form of a tag from after its name on. None where the text ends in the tag; an `Err` is out of memory.
 pub(crate) fn tag_form<'a>(alloc: Global, text: &'a str) -> Result<Option<TagForm<'a>>, AllocError>
     ensures { IfOk result (λ o. MatchOption o (spec.tag_form text.now ≡ spec.unended)
         (λ f. spec.tag_form text.now ≡ spec.ended (all_spelled_of f.attributes.items) f.slash f.rest.now)) }
 {
     let mut attributes = Vec::new(alloc);
-    let mut behind = text;
+    let mut after = text;
     loop {
-        match next_part(behind) {
+        match next_part(after) {
             Part::Unended => return Ok(None),
             Part::End { slash, rest } => {
                 return Ok(Some(TagForm {
@@ -141,7 +141,7 @@ pub(crate) fn tag_form<'a>(alloc: Global, text: &'a str) -> Result<Option<TagFor
             }
             Part::Attribute { spelled, rest } => {
                 attributes.push(spelled)?;
-                behind = rest;
+                after = rest;
             }
         }
     }

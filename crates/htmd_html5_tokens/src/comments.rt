@@ -49,8 +49,8 @@ fn split_comment(text: &str) -> (&str, &str)
 }
 
 /// What follows the end of a comment.
-fn behind_comment_end(text: &str) -> &str
-    ensures { result.now ≡ spec.behind_comment_end text.now }
+fn after_comment_end(text: &str) -> &str
+    ensures { result.now ≡ spec.after_comment_end text.now }
 {
     if let Some(rest) = strip(text, "-->") {
         return rest;
@@ -61,7 +61,7 @@ fn behind_comment_end(text: &str) -> &str
     }
 }
 
-/// A comment from behind its `<!--`, and what follows it.
+/// A comment from after its `<!--` on, and what follows it.
 pub(crate) fn read_comment(alloc: Global, text: &str) -> Result<(Token, &str), AllocError>
     ensures { IfOk result (λ r. read_of r ≡ spec.read_comment text.now) }
 {
@@ -72,13 +72,13 @@ pub(crate) fn read_comment(alloc: Global, text: &str) -> Result<(Token, &str), A
         return comment(alloc, "", rest);
     }
     let (held, end) = split_comment(text);
-    comment(alloc, held, behind_comment_end(end))
+    comment(alloc, held, after_comment_end(end))
 }
 
-/// What stands before the first `>`, and what behind it.
+/// What stands before the first `>`, and what follows it.
 pub(crate) fn split_at_sign(text: &str) -> (&str, &str)
     ensures held { result.0.now ≡ spec.before_sign text.now }
-    ensures rest { result.1.now ≡ spec.behind_sign text.now }
+    ensures rest { result.1.now ≡ spec.after_sign text.now }
 {
     let (held, end) = split_run(text, Class::Other(b'>'));
     match strip_byte(end, b'>') {

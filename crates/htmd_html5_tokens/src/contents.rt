@@ -49,7 +49,7 @@ fn plain_len(bytes: &[u8], reading: Reading) -> usize
     bytes.len()
 }
 
-/// Puts the plain characters with which the text begins behind others. What is left is answered.
+/// Appends the plain characters with which the text begins, and answers the rest.
 fn push_plain<'a>(
     held: &mut String,
     text: &'a str,
@@ -68,7 +68,7 @@ fn push_plain<'a>(
     Ok(rest)
 }
 
-/// Puts the characters of a reference behind others.
+/// Appends the characters of a reference.
 fn push_characters(held: &mut String, characters: Characters) -> Result<(), AllocError>
     ensures { OnOk result (string_bytes held.new ≡ string_bytes held.old ++ characters_of characters) }
 {
@@ -84,38 +84,38 @@ fn is_value(reading: Reading) -> bool
     matches!(reading, Reading::AttributeValue)
 }
 
-/// Puts what `&` begins behind others. What is left behind it is answered.
+/// Appends what `&` begins, and answers what follows it.
 fn push_reference<'a>(
     held: &mut String,
-    behind: &'a str,
+    after: &'a str,
     reading: Reading,
 ) -> Result<&'a str, AllocError>
     requires { spec.has_references reading ≡ true }
-    ensures pushed { IfOk result (λ rest. HasPushed reading (string_bytes held.old) (ampersand ∷ behind.now)
+    ensures pushed { IfOk result (λ rest. HasPushed reading (string_bytes held.old) (ampersand ∷ after.now)
         (string_bytes held.new) rest.now) }
     ensures text { IfOk result (λ rest. IsUtf8 rest.now) }
-    ensures within { IfOk result (λ rest. length rest.now ≤ length behind.now) }
+    ensures within { IfOk result (λ rest. length rest.now ≤ length after.now) }
 {
-    let reference = read_reference(behind, is_value(reading));
+    let reference = read_reference(after, is_value(reading));
     push_characters(held, reference.characters)?;
-    Ok(&behind[reference.behind..])
+    Ok(&after[reference.following..])
 }
 
-/// Puts what `<` begins in a text behind others. What is left behind it is answered.
-fn push_less_than<'a>(held: &mut String, behind: &'a str) -> Result<&'a str, AllocError>
-    ensures pushed { IfOk result (λ rest. HasPushed Text (string_bytes held.old) (less_than_sign ∷ behind.now)
+/// Appends what `<` begins in a text, and answers what follows it.
+fn push_less_than<'a>(held: &mut String, after: &'a str) -> Result<&'a str, AllocError>
+    ensures pushed { IfOk result (λ rest. HasPushed Text (string_bytes held.old) (less_than_sign ∷ after.now)
         (string_bytes held.new) rest.now) }
     ensures text { IfOk result (λ rest. IsUtf8 rest.now) }
-    ensures within { IfOk result (λ rest. length rest.now ≤ length behind.now) }
+    ensures within { IfOk result (λ rest. length rest.now ≤ length after.now) }
 {
-    if begins_with(behind.as_bytes(), b"/>") {
-        return Ok(&behind[2..]);
+    if begins_with(after.as_bytes(), b"/>") {
+        return Ok(&after[2..]);
     }
     held.push('<')?;
-    Ok(behind)
+    Ok(after)
 }
 
-/// Puts what the first character, which isn't plain, begins behind others. What is left is answered.
+/// Appends what the first character begins, which isn't plain, and answers what follows it.
 fn push_special<'a>(
     held: &mut String,
     text: &'a str,
@@ -129,23 +129,19 @@ fn push_special<'a>(
     ensures shorter { IfOk result (λ rest. length rest.now < length text.now) }
 {
     let first = text.as_bytes()[0];
-    let behind = &text[1..];
+    let after = &text[1..];
     match first {
-        b'&' => push_reference(held, behind, reading),
-        b'<' => push_less_than(held, behind),
+        b'&' => push_reference(held, after, reading),
+        b'<' => push_less_than(held, after),
         _ => {
             held.push('\u{fffd}')?;
-            Ok(behind)
+            Ok(after)
         }
     }
 }
 
-/// Puts what comes next in a text behind others: plain characters, or one other piece. What is left is answered.
-fn push_next<'a>(
-    held: &mut String,
-    text: &'a str,
-    reading: Reading,
-) -> Result<&'a str, AllocError>
+/// Appends what comes next in a text, plain characters or one other piece, and answers the rest.
+fn push_next<'a>(held: &mut String, text: &'a str, reading: Reading) -> Result<&'a str, AllocError>
     requires { 0 < length text.now }
     ensures pushed { IfOk result (λ rest. HasPushed reading (string_bytes held.old) text.now (string_bytes held.new)
         rest.now) }
@@ -164,7 +160,7 @@ fn push_next<'a>(
 pub(crate) fn decoded(alloc: Global, text: &str, reading: Reading) -> Result<String, AllocError>
     ensures { IfOk result (λ t. string_bytes t ≡ spec.decoded reading 0 text.now) }
 {
-    let mut held = String::new(alloc);
+    let mut held = String::with_capacity(alloc, text.len())?;
     let mut rest = text;
     while !rest.is_empty() {
         rest = push_next(&mut held, rest, reading)?;

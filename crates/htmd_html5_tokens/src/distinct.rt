@@ -36,7 +36,7 @@ fn are_pairwise_distinct(attributes: &[Attribute]) -> bool
     true
 }
 
-/// Whether no two attributes have one name. An `Err` is want of memory.
+/// Whether no two attributes have one name. An `Err` is out of memory.
 pub(crate) fn are_distinct(alloc: Global, attributes: &[Attribute]) -> Result<bool, AllocError>
     ensures { IfOk result (λ answer. answer
         ≡ classes.are_distinct (attribute_names (pairs_of attributes.now))) }
@@ -56,7 +56,7 @@ pub(crate) fn are_distinct(alloc: Global, attributes: &[Attribute]) -> Result<bo
     Ok(true)
 }
 
-/// Of each attribute, whether it is the first of its name. An `Err` is want of memory.
+/// Of each attribute, whether it is the first of its name. An `Err` is out of memory.
 pub(crate) fn first_marks(alloc: Global, attributes: &[Attribute]) -> Result<Vec<bool>, AllocError>
     ensures { IfOk result (λ marks. marks.items ≡ are_first [] (pairs_of attributes.now)) }
 {

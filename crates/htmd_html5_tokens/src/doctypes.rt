@@ -82,8 +82,7 @@ static LOOSE_BEGINNINGS: [&str; 2] = [
 ];
 
 /// A system identifier that means quirks mode.
-const QUIRKY_SYSTEM_IDENTIFIER: &str =
-    "http://www.ibm.com/data/dtd/v11/ibmxhtml1-transitional.dtd";
+const QUIRKY_SYSTEM_IDENTIFIER: &str = "http://www.ibm.com/data/dtd/v11/ibmxhtml1-transitional.dtd";
 
 /// Whether the text is this, which is given in lower case, in any ASCII case.
 fn is_in_any_case(text: &str, other: &str) -> bool
@@ -160,8 +159,8 @@ fn quoted_by(text: &str, quote: u8) -> Option<(&str, &str)>
     requires { quote < 128 }
     ensures { quoted_of result ≡ spec.quoted_by quote text.now }
 {
-    let (held, behind) = split_run(text, Class::Other(quote));
-    match strip_byte(behind, quote) {
+    let (held, after) = split_run(text, Class::Other(quote));
+    match strip_byte(after, quote) {
         Some(rest) => Some((held, rest)),
         None => None,
     }
@@ -171,67 +170,67 @@ fn quoted_by(text: &str, quote: u8) -> Option<(&str, &str)>
 fn quoted(text: &str) -> Option<(&str, &str)>
     ensures { quoted_of result ≡ spec.quoted text.now }
 {
-    if let Some(behind) = strip_byte(text, b'"') {
-        return quoted_by(behind, b'"');
+    if let Some(after) = strip_byte(text, b'"') {
+        return quoted_by(after, b'"');
     }
     match strip_byte(text, b'\'') {
-        Some(behind) => quoted_by(behind, b'\''),
+        Some(after) => quoted_by(after, b'\''),
         None => None,
     }
 }
 
-fn behind_white(text: &str) -> &str
-    ensures { result.now ≡ spec.behind_white text.now }
+fn after_white(text: &str) -> &str
+    ensures { result.now ≡ spec.after_white text.now }
 {
-    let (_, behind) = split_run(text, Class::White);
-    behind
+    let (_, after) = split_run(text, Class::White);
+    after
 }
 
-/// Whether a public identifier and what stands behind it mean quirks mode.
-fn means_quirks_behind(public: &str, behind: &str) -> bool
-    ensures { result ≡ spec.means_quirks_behind public.now behind.now }
+/// Whether a public identifier and what follows it mean quirks mode.
+fn means_quirks_after_public(public: &str, after: &str) -> bool
+    ensures { result ≡ spec.means_quirks_after_public public.now after.now }
 {
-    if behind.is_empty() {
+    if after.is_empty() {
         return is_quirky(public) || is_loose(public);
     }
-    match quoted(behind) {
+    match quoted(after) {
         Some((system, _)) => is_quirky_system(system) || is_quirky(public),
         None => true,
     }
 }
 
-/// Whether what stands behind the word `public` means quirks mode.
+/// Whether what follows the word `public` means quirks mode.
 fn means_quirks_by_public(text: &str) -> bool
-    ensures { result ≡ spec.means_quirks_by_public (spec.quoted (spec.behind_white text.now)) }
+    ensures { result ≡ spec.means_quirks_by_public (spec.quoted (spec.after_white text.now)) }
 {
-    match quoted(behind_white(text)) {
-        Some((public, behind)) => means_quirks_behind(public, behind_white(behind)),
+    match quoted(after_white(text)) {
+        Some((public, after)) => means_quirks_after_public(public, after_white(after)),
         None => true,
     }
 }
 
-/// Whether what stands behind the word `system` means quirks mode.
+/// Whether what follows the word `system` means quirks mode.
 fn means_quirks_by_system(text: &str) -> bool
-    ensures { result ≡ spec.means_quirks_by_system (spec.quoted (spec.behind_white text.now)) }
+    ensures { result ≡ spec.means_quirks_by_system (spec.quoted (spec.after_white text.now)) }
 {
-    match quoted(behind_white(text)) {
+    match quoted(after_white(text)) {
         Some((system, _)) => is_quirky_system(system),
         None => true,
     }
 }
 
-/// Whether what stands behind the name means quirks mode.
+/// Whether what follows the name means quirks mode.
 fn means_quirks_by_identifiers(text: &str) -> bool
     ensures { result ≡ spec.means_quirks_by_identifiers text.now }
 {
     if text.is_empty() {
         return false;
     }
-    if let Some(behind) = strip_in_any_case(text, "public") {
-        return means_quirks_by_public(behind);
+    if let Some(after) = strip_in_any_case(text, "public") {
+        return means_quirks_by_public(after);
     }
     match strip_in_any_case(text, "system") {
-        Some(behind) => means_quirks_by_system(behind),
+        Some(after) => means_quirks_by_system(after),
         None => true,
     }
 }
@@ -240,11 +239,11 @@ fn means_quirks_by_identifiers(text: &str) -> bool
 fn means_quirks(text: &str) -> bool
     ensures { result ≡ spec.means_quirks text.now }
 {
-    let (name, behind) = split_run(behind_white(text), Class::Black);
-    !is_in_any_case(name, "html") || means_quirks_by_identifiers(behind_white(behind))
+    let (name, after) = split_run(after_white(text), Class::Black);
+    !is_in_any_case(name, "html") || means_quirks_by_identifiers(after_white(after))
 }
 
-/// A doctype from behind its `<!DOCTYPE`, and what follows it.
+/// A doctype from after its `<!DOCTYPE` on, and what follows it.
 pub(crate) fn read_doctype(text: &str) -> (Token, &str)
     ensures { read_of result ≡ spec.read_doctype text.now }
 {

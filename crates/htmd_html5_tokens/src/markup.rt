@@ -52,15 +52,15 @@ pub(crate) fn read_text(alloc: Global, text: &str) -> Result<(Token, &str), Allo
     Ok((Token::Text(read), rest))
 }
 
-/// A comment, a doctype or what is read as a comment, from behind its `<!`, and what follows it.
+/// A comment, a doctype or what is read as a comment, from after its `<!` on, and what follows it.
 fn read_declaration(alloc: Global, text: &str) -> Result<(Token, &str), AllocError>
     ensures { IfOk result (λ r. read_of r ≡ spec.read_declaration text.now) }
 {
-    if let Some(behind) = strip(text, "--") {
-        return read_comment(alloc, behind);
+    if let Some(after) = strip(text, "--") {
+        return read_comment(alloc, after);
     }
     match strip_in_any_case(text, "doctype") {
-        Some(behind) => Ok(read_doctype(behind)),
+        Some(after) => Ok(read_doctype(after)),
         None => read_bogus_comment(alloc, text),
     }
 }
@@ -72,7 +72,7 @@ fn begins_letter(bytes: &[u8]) -> bool
     matches!(bytes, [first, ..] if first.is_ascii_alphabetic())
 }
 
-/// Markup from behind its `<`, and what follows it.
+/// Markup from after its `<` on, and what follows it.
 pub(crate) fn read_markup(alloc: Global, text: &str) -> Result<(Token, &str), AllocError>
     ensures { IfOk result (λ r. read_of r ≡ spec.read_markup text.now) }
 {

@@ -9,10 +9,20 @@ mod names_l_to_r;
 mod names_s_to_z;
 mod old_names;
 
-use crate::names::capital_names::{CAPITAL_A, CAPITAL_B, CAPITAL_C, CAPITAL_D, CAPITAL_E, CAPITAL_F, CAPITAL_G, CAPITAL_H, CAPITAL_I, CAPITAL_J, CAPITAL_K, CAPITAL_L, CAPITAL_M, CAPITAL_N, CAPITAL_O, CAPITAL_P, CAPITAL_Q, CAPITAL_R, CAPITAL_S, CAPITAL_T, CAPITAL_U, CAPITAL_V, CAPITAL_W, CAPITAL_X, CAPITAL_Y, CAPITAL_Z};
-use crate::names::names_a_to_k::{SMALL_A, SMALL_B, SMALL_C, SMALL_D, SMALL_E, SMALL_F, SMALL_G, SMALL_H, SMALL_I, SMALL_J, SMALL_K};
+use crate::names::capital_names::{
+    CAPITAL_A, CAPITAL_B, CAPITAL_C, CAPITAL_D, CAPITAL_E, CAPITAL_F, CAPITAL_G, CAPITAL_H,
+    CAPITAL_I, CAPITAL_J, CAPITAL_K, CAPITAL_L, CAPITAL_M, CAPITAL_N, CAPITAL_O, CAPITAL_P,
+    CAPITAL_Q, CAPITAL_R, CAPITAL_S, CAPITAL_T, CAPITAL_U, CAPITAL_V, CAPITAL_W, CAPITAL_X,
+    CAPITAL_Y, CAPITAL_Z,
+};
+use crate::names::names_a_to_k::{
+    SMALL_A, SMALL_B, SMALL_C, SMALL_D, SMALL_E, SMALL_F, SMALL_G, SMALL_H, SMALL_I, SMALL_J,
+    SMALL_K,
+};
 use crate::names::names_l_to_r::{SMALL_L, SMALL_M, SMALL_N, SMALL_O, SMALL_P, SMALL_Q, SMALL_R};
-use crate::names::names_s_to_z::{SMALL_S, SMALL_T, SMALL_U, SMALL_V, SMALL_W, SMALL_X, SMALL_Y, SMALL_Z};
+use crate::names::names_s_to_z::{
+    SMALL_S, SMALL_T, SMALL_U, SMALL_V, SMALL_W, SMALL_X, SMALL_Y, SMALL_Z,
+};
 use crate::names::old_names::OLD_NAMES;
 use crate::scan::begins_with;
 
@@ -89,10 +99,7 @@ fn small_rows(first: u8) -> &'static [(&'static str, &'static str)]
 }
 
 /// What the reference of this name stands for, where it is among these.
-fn named_in(
-    rows: &[(&'static str, &'static str)],
-    name: &[u8],
-) -> Option<&'static str>
+fn named_in(rows: &[(&'static str, &'static str)], name: &[u8]) -> Option<&'static str>
     ensures { option_map (λ t. t.now) result ≡ spec.named_in (loan_rows rows.now) name.now }
 {
     for (known, characters) in rows {
@@ -129,7 +136,7 @@ fn first_in(
     None
 }
 
-/// The longest of the names that may stand without `;` with which the text begins, and what it stands for.
+/// The name that may stand without `;` with which the text begins, and what it stands for. There is one at most.
 #[tactic(auto, unfolding(crate::specs::NamedReferences::old_names))]
 pub(crate) fn longest_old(text: &[u8]) -> Option<(&'static str, &'static str)>
     ensures { option_map loan_row result ≡ spec.longest_old text.now }

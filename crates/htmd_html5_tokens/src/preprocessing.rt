@@ -11,7 +11,7 @@ use std::alloc::{AllocError, Global};
 use std::borrow::CowStr;
 
 /// The text less a byte order mark at its beginning.
-fn behind_mark(text: &str) -> &str
+fn after_mark(text: &str) -> &str
     ensures { result.now ≡ behind_mark text.now }
 {
     match text.strip_prefix("\u{feff}") {
@@ -20,12 +20,12 @@ fn behind_mark(text: &str) -> &str
     }
 }
 
-/// Puts the line end of a CR behind lines: none where it is part of CR LF.
-fn push_line_end(lines: &mut String, behind: &str) -> Result<(), AllocError>
-    ensures { OnOk result (string_bytes lines.new ++ normalized behind.now
-        ≡ string_bytes lines.old ++ normalized (carriage_return ∷ behind.now)) }
+/// Appends the line end that a CR stands for: none where it is part of CR LF.
+fn push_line_end(lines: &mut String, after: &str) -> Result<(), AllocError>
+    ensures { OnOk result (string_bytes lines.new ++ normalized after.now
+        ≡ string_bytes lines.old ++ normalized (carriage_return ∷ after.now)) }
 {
-    if first_is(behind.as_bytes(), b'\n') {
+    if first_is(after.as_bytes(), b'\n') {
         Ok(())
     } else {
         lines.push('\n')
@@ -38,21 +38,21 @@ fn with_line_feeds(alloc: Global, text: &str) -> Result<String, AllocError>
 {
     let mut lines = String::with_capacity(alloc, text.len())?;
     let mut rest = text;
-    while let Some((line, behind)) = rest.split_once('\r') {
+    while let Some((line, after)) = rest.split_once('\r') {
         lines.push_str(line)?;
-        push_line_end(&mut lines, behind)?;
-        rest = behind;
+        push_line_end(&mut lines, after)?;
+        rest = after;
     }
     lines.push_str(rest)?;
     Ok(lines)
 }
 
 /// The text less a byte order mark at its beginning, with a line feed for each CR LF and each lone CR. Where it has no
-/// CR it is borrowed; an `Err` is want of memory.
+/// CR it is borrowed; an `Err` is out of memory.
 pub fn preprocess(alloc: Global, text: &str) -> Result<CowStr<'_>, AllocError>
     ensures { IfOk result (λ t. cow_str_bytes t ≡ spec.preprocessed text.now) }
 {
-    let marked = behind_mark(text);
+    let marked = after_mark(text);
     match marked.split_once('\r') {
         None => Ok(CowStr::Borrowed(marked)),
         Some(_) => Ok(CowStr::Owned(with_line_feeds(alloc, marked)?)),

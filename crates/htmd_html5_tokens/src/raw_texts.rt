@@ -32,7 +32,7 @@ fn goes_on_with_name(bytes: &[u8], name: &[u8]) -> bool
     let mut rest = bytes;
     for character in name {
         match rest {
-            [first, behind @ ..] if first.to_ascii_lowercase() == *character => rest = behind,
+            [first, after @ ..] if first.to_ascii_lowercase() == *character => rest = after,
             _ => return false,
         }
     }
@@ -44,7 +44,7 @@ fn begins_own_end(bytes: &[u8], name: &[u8]) -> bool
     ensures { result ≡ grammar.begins_own_end name.now bytes.now }
 {
     match bytes {
-        [b'<', b'/', behind @ ..] => goes_on_with_name(behind, name),
+        [b'<', b'/', after @ ..] => goes_on_with_name(after, name),
         _ => false,
     }
 }
@@ -65,7 +65,7 @@ fn begins_script(bytes: &[u8]) -> bool
     ensures { result ≡ spec.begins_script bytes.now }
 {
     match bytes {
-        [b'<', behind @ ..] => goes_on_with_name(behind, b"script"),
+        [b'<', after @ ..] => goes_on_with_name(after, b"script"),
         _ => false,
     }
 }
@@ -76,9 +76,9 @@ fn begins_script_end(bytes: &[u8]) -> bool
     begins_own_end(bytes, b"script")
 }
 
-/// How a script is escaped behind the character with which this begins.
-fn escape_behind(escape: Escape, bytes: &[u8]) -> Escape
-    ensures { result ≡ spec.escape_behind escape bytes.now }
+/// How a script is escaped after the character with which this begins.
+fn escape_after(escape: Escape, bytes: &[u8]) -> Escape
+    ensures { result ≡ spec.escape_after escape bytes.now }
 {
     if bytes.starts_with(b"<!--") {
         return match escape {
@@ -117,7 +117,7 @@ fn script_len(bytes: &[u8]) -> usize
         if ends_script(escape, rest) {
             return i;
         }
-        escape = escape_behind(escape, rest);
+        escape = escape_after(escape, rest);
     }
     bytes.len()
 }

@@ -31,17 +31,17 @@ pub(crate) enum Characters {
     Named(&'static str),
 }
 
-/// What `&` begins: the characters that it stands for, and how many bytes behind it belong to it.
+/// What `&` begins: the characters that it stands for, and how many of the bytes that follow belong to it.
 #[derive(Clone, Copy, Drop)]
 pub(crate) struct Reference {
     pub(crate) characters: Characters,
-    pub(crate) behind: usize,
+    pub(crate) following: usize,
 }
 
 /// `&` that begins no reference.
 const AMPERSAND_ITSELF: Reference = Reference {
     characters: Characters::One('&'),
-    behind: 0,
+    following: 0,
 };
 
 /// The value of a digit.
@@ -98,41 +98,41 @@ fn semicolon_len(bytes: &[u8]) -> usize
     if first_is(bytes, b';') { 1 } else { 0 }
 }
 
-/// A reference by a number, of whose digits there are so many behind so much.
-fn reference_by_number(behind: &str, from: usize, len: usize, base: u32) -> Reference
+/// A reference by a number, whose digits begin at `from` and are `len` many.
+fn reference_by_number(after: &str, from: usize, len: usize, base: u32) -> Reference
     requires small { base ≤ 16 }
     requires base { 0 < base }
-    requires within { from + len ≤ length behind.now }
-    ensures piece { (is_digit : ℕ → Bool) → len ≡ length (leading_run is_digit (drop from behind.now))
-        → piece_of result ≡ spec.numbered is_digit base from (drop from behind.now) }
-    ensures end { (is_digit : ℕ → Bool) → len ≡ length (leading_run is_digit (drop from behind.now))
-        → IsAsciiTest is_digit → IsCharBoundary behind.now result.behind }
+    requires within { from + len ≤ length after.now }
+    ensures piece { (is_digit : ℕ → Bool) → len ≡ length (leading_run is_digit (drop from after.now))
+        → piece_of result ≡ spec.numbered is_digit base from (drop from after.now) }
+    ensures end { (is_digit : ℕ → Bool) → len ≡ length (leading_run is_digit (drop from after.now))
+        → IsAsciiTest is_digit → IsCharBoundary after.now result.following }
 {
     if len == 0 {
         return AMPERSAND_ITSELF;
     }
-    let bytes = behind.as_bytes();
+    let bytes = after.as_bytes();
     let end = from + len;
     let value = character_numbered(number(&bytes[from..end], base));
     Reference {
         characters: Characters::One(value),
-        behind: end + semicolon_len(&bytes[end..]),
+        following: end + semicolon_len(&bytes[end..]),
     }
 }
 
-/// Behind `&#`.
-fn behind_number_sign(behind: &str) -> Reference
-    requires { first_is number_sign behind.now ≡ true }
-    ensures piece { piece_of result ≡ spec.behind_number_sign (drop 1 behind.now) }
-    ensures end { IsCharBoundary behind.now result.behind }
+/// What `&#` begins; the text begins with its `#`.
+fn after_number_sign(after: &str) -> Reference
+    requires { first_is number_sign after.now ≡ true }
+    ensures piece { piece_of result ≡ spec.after_number_sign (drop 1 after.now) }
+    ensures end { IsCharBoundary after.now result.following }
 {
-    let bytes = behind.as_bytes();
+    let bytes = after.as_bytes();
     if begins_in_any_case(&bytes[1..], b"x") {
         let len = hexdigits_len(&bytes[2..]);
-        reference_by_number(behind, 2, len, 16)
+        reference_by_number(after, 2, len, 16)
     } else {
         let len = digits_len(&bytes[1..]);
-        reference_by_number(behind, 1, len, 10)
+        reference_by_number(after, 1, len, 10)
     }
 }
 
@@ -144,11 +144,11 @@ fn goes_on(bytes: &[u8]) -> bool
 }
 
 /// A reference by a name without `;`, or `&` itself.
-fn old_reference(behind: &str, in_value: bool) -> Reference
-    ensures piece { piece_of result ≡ spec.old_reference in_value (longest_old behind.now) behind.now }
-    ensures end { IsCharBoundary behind.now result.behind }
+fn old_reference(after: &str, in_value: bool) -> Reference
+    ensures piece { piece_of result ≡ spec.old_reference in_value (longest_old after.now) after.now }
+    ensures end { IsCharBoundary after.now result.following }
 {
-    let bytes = behind.as_bytes();
+    let bytes = after.as_bytes();
     let Some((name, characters)) = longest_old(bytes) else {
         return AMPERSAND_ITSELF;
     };
@@ -157,37 +157,37 @@ fn old_reference(behind: &str, in_value: bool) -> Reference
     }
     Reference {
         characters: Characters::Named(characters),
-        behind: name.len(),
+        following: name.len(),
     }
 }
 
 /// A reference by a name, or `&` itself.
-fn behind_name(behind: &str, in_value: bool) -> Reference
-    ensures piece { piece_of result ≡ spec.behind_name in_value behind.now }
-    ensures end { IsCharBoundary behind.now result.behind }
+fn reference_by_name(after: &str, in_value: bool) -> Reference
+    ensures piece { piece_of result ≡ spec.reference_by_name in_value after.now }
+    ensures end { IsCharBoundary after.now result.following }
 {
-    let bytes = behind.as_bytes();
+    let bytes = after.as_bytes();
     let len = alphanumeric_len(bytes);
     if !first_is(&bytes[len..], b';') {
-        return old_reference(behind, in_value);
+        return old_reference(after, in_value);
     }
     match named(&bytes[..len]) {
         Some(characters) => Reference {
             characters: Characters::Named(characters),
-            behind: len + 1,
+            following: len + 1,
         },
-        None => old_reference(behind, in_value),
+        None => old_reference(after, in_value),
     }
 }
 
-/// What `&` and what stands behind it begin with: a reference, or `&` itself.
-pub(crate) fn read_reference(behind: &str, in_value: bool) -> Reference
-    ensures piece { piece_of result ≡ spec.behind_ampersand in_value behind.now }
-    ensures end { IsCharBoundary behind.now result.behind }
+/// What `&` begins where this text follows it: a reference, or `&` itself.
+pub(crate) fn read_reference(after: &str, in_value: bool) -> Reference
+    ensures piece { piece_of result ≡ spec.after_ampersand in_value after.now }
+    ensures end { IsCharBoundary after.now result.following }
 {
-    if first_is(behind.as_bytes(), b'#') {
-        behind_number_sign(behind)
+    if first_is(after.as_bytes(), b'#') {
+        after_number_sign(after)
     } else {
-        behind_name(behind, in_value)
+        reference_by_name(after, in_value)
     }
 }

@@ -17,7 +17,7 @@ pub(crate) fn begins_with(bytes: &[u8], characters: &[u8]) -> bool
     let mut rest = bytes;
     for character in characters {
         match rest {
-            [first, behind @ ..] if *first == *character => rest = behind,
+            [first, after @ ..] if *first == *character => rest = after,
             _ => return false,
         }
     }
@@ -31,7 +31,7 @@ pub(crate) fn begins_in_any_case(bytes: &[u8], characters: &[u8]) -> bool
     let mut rest = bytes;
     for character in characters {
         match rest {
-            [first, behind @ ..] if first.to_ascii_lowercase() == *character => rest = behind,
+            [first, after @ ..] if first.to_ascii_lowercase() == *character => rest = after,
             _ => return false,
         }
     }

@@ -1,4 +1,4 @@
-//! CDATA sections in foreign content, and what denotes nothing.
+//! CDATA sections in foreign content, and empty pieces, which denote nothing.
 ghost use Rattle.std.specs.Prelude.{◌≡◌, ◌≤◌, length, option_map, IfOk};
 ghost use Rattle.htmd_grammar.specs.CharacterClasses.{up_to, onward};
 ghost use Rattle.htmd_html5_tokens.specs.NextToken as spec;
@@ -36,8 +36,8 @@ fn split_section(text: &str) -> (&str, &str)
 }
 
 /// What follows the end of a section.
-fn behind_section_end(text: &str) -> &str
-    ensures { result.now ≡ spec.behind_section_end text.now }
+fn after_section_end(text: &str) -> &str
+    ensures { result.now ≡ spec.after_section_end text.now }
 {
     match strip(text, "]]>") {
         Some(rest) => rest,
@@ -45,18 +45,18 @@ fn behind_section_end(text: &str) -> &str
     }
 }
 
-/// A section from behind its `<![CDATA[`, and what follows it.
+/// A section from after its `<![CDATA[` on, and what follows it.
 pub(crate) fn read_section(alloc: Global, text: &str) -> Result<(Token, &str), AllocError>
     ensures { IfOk result (λ r. read_of r ≡ spec.read_section text.now) }
 {
     let (held, end) = split_section(text);
     let held = String::from_str(alloc, held)?;
-    Ok((Token::Text(held), behind_section_end(end)))
+    Ok((Token::Text(held), after_section_end(end)))
 }
 
-/// What stands behind a section from behind its `<![CDATA[`, where it holds nothing.
+/// What follows a section that holds nothing, given from after its `<![CDATA[` on.
 fn strip_empty_section(text: &str) -> Option<&str>
-    ensures { option_map (λ rest. rest.now) result ≡ spec.behind_empty_section text.now }
+    ensures { option_map (λ rest. rest.now) result ≡ spec.after_empty_section text.now }
 {
     if text.is_empty() {
         return Some(text);
@@ -64,9 +64,9 @@ fn strip_empty_section(text: &str) -> Option<&str>
     strip(text, "]]>")
 }
 
-/// What stands behind a piece that denotes nothing: `</>`, or an empty section.
-fn strip_nothing(text: &str, foreign: bool) -> Option<&str>
-    ensures { option_map (λ rest. rest.now) result ≡ spec.behind_empty_piece foreign text.now }
+/// What follows an empty piece: `</>`, or a section that holds nothing.
+fn strip_empty_piece(text: &str, foreign: bool) -> Option<&str>
+    ensures { option_map (λ rest. rest.now) result ≡ spec.after_empty_piece foreign text.now }
 {
     if let Some(rest) = strip(text, "</>") {
         return Some(rest);
@@ -80,13 +80,13 @@ fn strip_nothing(text: &str, foreign: bool) -> Option<&str>
     }
 }
 
-/// What stands behind all that denotes nothing.
-pub(crate) fn behind_nothing(text: &str, foreign: bool) -> &str
-    ensures { result.now ≡ spec.behind_nothing foreign text.now }
+/// What follows all empty pieces at the beginning.
+pub(crate) fn after_empty_pieces(text: &str, foreign: bool) -> &str
+    ensures { result.now ≡ spec.after_empty_pieces foreign text.now }
 {
     let mut rest = text;
-    while let Some(behind) = strip_nothing(rest, foreign) {
-        rest = behind;
+    while let Some(after) = strip_empty_piece(rest, foreign) {
+        rest = after;
     }
     rest
 }

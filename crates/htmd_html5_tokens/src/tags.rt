@@ -38,17 +38,17 @@ fn each_decoded(
     Ok(attributes)
 }
 
-/// The first mark, and those behind it.
+/// The first mark, and the others.
 fn split_mark(marks: &[bool]) -> Option<(bool, &[bool])>
     ensures { option_map (λ p. (p.0, p.1.now)) result ≡ split_mark marks.now }
 {
     match marks {
-        [mark, behind @ ..] => Some((*mark, behind)),
+        [mark, after @ ..] => Some((*mark, after)),
         [] => None,
     }
 }
 
-/// Puts what a spelled attribute denotes behind others, if it is marked.
+/// Appends what a spelled attribute denotes, if it is marked.
 fn push_marked(
     alloc: Global,
     attributes: &mut Vec<Attribute>,
@@ -76,11 +76,11 @@ fn marked_decoded(
     let mut attributes = Vec::new(alloc);
     let mut rest = marks;
     for attribute in spelled {
-        let Some((mark, behind)) = split_mark(rest) else {
+        let Some((mark, after)) = split_mark(rest) else {
             return Ok(attributes);
         };
         push_marked(alloc, &mut attributes, attribute, mark)?;
-        rest = behind;
+        rest = after;
     }
     Ok(attributes)
 }
@@ -118,8 +118,8 @@ fn make_tag(alloc: Global, name: &str, form: &TagForm<'_>) -> Result<Tag, AllocE
 fn tag_from_name(alloc: Global, text: &str, ends: bool) -> Result<(Token, &str), AllocError>
     ensures { IfOk result (λ r. read_of r ≡ spec.tag_from_name (if ends then end_tag else start_tag) text.now) }
 {
-    let (name, behind) = split_run(text, Class::Name);
-    let Some(form) = tag_form(alloc, behind)? else {
+    let (name, after) = split_run(text, Class::Name);
+    let Some(form) = tag_form(alloc, after)? else {
         return Ok((Token::EndOfFile, ""));
     };
     let tag = make_tag(alloc, name, &form)?;
@@ -130,7 +130,7 @@ fn tag_from_name(alloc: Global, text: &str, ends: bool) -> Result<(Token, &str),
     }
 }
 
-/// A tag from behind its `<`, and what follows it.
+/// A tag from after its `<` on, and what follows it.
 pub(crate) fn read_tag(alloc: Global, text: &str) -> Result<(Token, &str), AllocError>
     ensures { IfOk result (λ r. read_of r ≡ spec.read_tag text.now) }
 {

@@ -9,13 +9,13 @@ use crate::contents::decoded;
 use crate::markup::{begins_markup, read_markup, read_text};
 use crate::raw_texts::{raw_text_len, reading_of};
 use crate::runs::{strip, strip_byte};
-use crate::sections::{behind_nothing, read_section};
+use crate::sections::{after_empty_pieces, read_section};
 use crate::tags::read_tag;
 use crate::tokens::{Content, RawElement, Token};
 use std::alloc::{AllocError, Global};
 use std::marker::Model;
 
-/// What stands behind the beginning of a CDATA section, where one begins.
+/// What follows `<![CDATA[` where a CDATA section begins.
 fn strip_section(text: &str, foreign: bool) -> Option<&str>
     ensures { MatchOption result (spec.begins_section foreign text.now ≡ false)
         (λ rest. (spec.begins_section foreign text.now ≡ true) × (rest.now ≡ drop 9 text.now)) }
@@ -26,7 +26,7 @@ fn strip_section(text: &str, foreign: bool) -> Option<&str>
     strip(text, "<![CDATA[")
 }
 
-/// A token that isn't behind what denotes nothing, and what follows it.
+/// The token at the beginning of a text, before which no empty piece stands, and what follows it.
 fn read_piece(alloc: Global, text: &str, foreign: bool) -> Result<(Token, &str), AllocError>
     ensures { IfOk result (λ r. read_of r ≡ spec.read_piece foreign text.now) }
 {
@@ -75,7 +75,7 @@ fn next_token(
     ensures { IfOk result (λ r. read_of r ≡ spec.next_token content foreign text.now) }
 {
     match content {
-        Content::Normal => read_piece(alloc, behind_nothing(text, foreign), foreign),
+        Content::Normal => read_piece(alloc, after_empty_pieces(text, foreign), foreign),
         Content::Raw(element) => read_raw(alloc, text, element),
     }
 }
@@ -108,7 +108,7 @@ impl<'a> Tokenizer<'a> {
     }
 
     /// Takes the next token. `foreign` says whether the adjusted current node is in foreign content. At the end of the
-    /// text, and in a tag that the end cuts off, it is `EndOfFile`. An `Err` is want of memory, and takes nothing.
+    /// text, and in a tag that the end cuts off, it is `EndOfFile`. An `Err` is out of memory, and takes nothing.
     pub fn next(
         &mut self,
         alloc: Global,

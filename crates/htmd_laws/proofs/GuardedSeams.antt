@@ -79,7 +79,7 @@ begins_not x some never (b ∷ s) e =
     let here : b ≡ x = grind (arith, nat_tests) in
     never s (ap (λ k. is_guarded (k ∷ s)) (sym here) ∙ e))
 
-nothing_before : (out content : List ℕ) → is_guarded content ≡ true → before_content out content ≡ out
+pub nothing_before : (out content : List ℕ) → is_guarded content ≡ true → before_content out content ≡ out
 nothing_before out content e =
     let no_image : (ends_with exclamation_mark out && begins_with left_square_bracket content) ≡ false =
     and_right _ _ (begins_not left_square_bracket refl no_bracket content e) in
@@ -152,7 +152,7 @@ seam-guarded out content front e =
 
 -- ---- between blank lines
 
-wrapped-guarded : (s : List ℕ) → IsLine s → is_guarded (with_blank_lines s) ≡ true
+pub wrapped-guarded : (s : List ℕ) → IsLine s → is_guarded (with_blank_lines s) ≡ true
 wrapped-guarded s line =
     guarded-append (line_feed ∷ line_feed ∷ []) (s ++ line_feed ∷ line_feed ∷ []) refl
     (line-append s (line_feed ∷ []) line refl)

@@ -26,7 +26,6 @@ pub mod GuardedEnds
 pub mod GuardedSeams
 pub mod TextTrees
 pub mod TextElements
-pub mod TextLawsLemmas
 pub mod CountedTexts
 pub mod LettersLemmas
 pub mod LettersOfTexts
@@ -41,6 +40,11 @@ pub mod LettersOfElements
 pub mod FittingTrees
 pub mod SaidChildren
 pub mod LettersLawsLemmas
+pub mod BlockBeginnings
+pub mod TextLines
+pub mod GuardedLines
+pub mod TextWalks
+pub mod TextLawsLemmas
 pub mod ShownOfElements
 pub mod ShownTrees
 pub mod ShownLawsLemmas

@@ -1,5 +1,5 @@
-//! The names of references that may stand without `;`, and what they stand for (HTML Standard, 13.5). Each stands before
-//! those that it begins with, so the first with which a text begins is the longest.
+//! The names of references that may stand without `;`, and what they stand for (HTML Standard, 13.5). None begins
+//! another, so a text begins with one of them at most.
 
 pub(crate) static OLD_NAMES: [(&str, &str); 106] = [
     ("yuml", "\u{ff}"),

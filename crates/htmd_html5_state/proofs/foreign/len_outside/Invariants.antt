@@ -5,10 +5,10 @@ use Rattle.htmd_html5_state.specs.OpenViews.{stack_of}
 use Rattle.htmd_html5_state.specs.declared.open_elements.OpenElement.{OpenElement}
 use Rattle.htmd_html5_state.proofs.foreign.len_outside.Given as goal
 
-abbrev pub invariant-loop-rest : goal.invariant-loop-rest
-invariant-loop-rest l =
+abbrev pub invariant-loop-outer : goal.invariant-loop-outer
+invariant-loop-outer l =
     (inner : List OpenElement) × (l.elements ≡ l.rest ++ inner)
     × (leave_foreign l.document (stack_of l.rest) ≡ leave_foreign l.document (stack_of l.elements))
 
-abbrev pub decreases-loop-rest : goal.decreases-loop-rest
-decreases-loop-rest l = length l.rest
+abbrev pub decreases-loop-outer : goal.decreases-loop-outer
+decreases-loop-outer l = length l.rest

@@ -5,11 +5,11 @@ use Rattle.htmd_html5_state.specs.FormattingViews.{entries_of}
 use Rattle.htmd_html5_state.specs.Views.{kind_seen}
 use Rattle.htmd_html5_state.proofs.formatting_list.oldest_alike.Given as goal
 
-abbrev pub invariant-loop-rest : goal.invariant-loop-rest
-invariant-loop-rest l =
+abbrev pub invariant-loop-older : goal.invariant-loop-older
+invariant-loop-older l =
     (met : List ℕ) × (l.count ≡ length met) × (l.count + length l.rest ≤ length l.entries) × (l.oldest ≡ last_of met)
     × (met ++ filter (is_alike l.document (kind_seen l.kind)) (since_marker (entries_of l.rest))
     ≡ filter (is_alike l.document (kind_seen l.kind)) (since_marker (entries_of l.entries)))
 
-abbrev pub decreases-loop-rest : goal.decreases-loop-rest
-decreases-loop-rest l = length l.rest
+abbrev pub decreases-loop-older : goal.decreases-loop-older
+decreases-loop-older l = length l.rest

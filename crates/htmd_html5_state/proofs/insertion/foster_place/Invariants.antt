@@ -4,9 +4,9 @@ use Rattle.htmd_html5_state.specs.Insertion.{foster_place}
 use Rattle.htmd_html5_state.specs.OpenViews.{stack_of}
 use Rattle.htmd_html5_state.proofs.insertion.foster_place.Given as goal
 
-abbrev pub invariant-loop-rest : goal.invariant-loop-rest
-invariant-loop-rest l =
+abbrev pub invariant-loop-outer : goal.invariant-loop-outer
+invariant-loop-outer l =
     foster_place l.document (stack_of l.rest) ≡ foster_place l.document (stack_of l.elements)
 
-abbrev pub decreases-loop-rest : goal.decreases-loop-rest
-decreases-loop-rest l = length l.rest
+abbrev pub decreases-loop-outer : goal.decreases-loop-outer
+decreases-loop-outer l = length l.rest

@@ -5,9 +5,9 @@ use Rattle.htmd_html5_state.specs.OpenElements.{is_closable}
 use Rattle.htmd_html5_state.specs.OpenViews.{stack_of}
 use Rattle.htmd_html5_state.proofs.open_elements.is_closable.Given as goal
 
-abbrev pub invariant-loop-rest : goal.invariant-loop-rest
-invariant-loop-rest l =
+abbrev pub invariant-loop-outer : goal.invariant-loop-outer
+invariant-loop-outer l =
     is_closable (name_of l.name) (stack_of l.rest) ≡ is_closable (name_of l.name) (stack_of l.elements)
 
-abbrev pub decreases-loop-rest : goal.decreases-loop-rest
-decreases-loop-rest l = length l.rest
+abbrev pub decreases-loop-outer : goal.decreases-loop-outer
+decreases-loop-outer l = length l.rest

@@ -1,5 +1,5 @@
 -- The last character.
-use Rattle.std.proofs.Common.{sym, arith}
+use Rattle.std.proofs.Common.{sym}
 use Rattle.htmd_html5_tokens.proofs.TagsLemmas.{ends_last}
 use Rattle.htmd_html5_tokens.proofs.attributes.ends_in_slash.Goals as goal
 

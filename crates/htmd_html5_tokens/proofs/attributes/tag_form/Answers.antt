@@ -13,13 +13,13 @@ loop-attributes-smaller c = part_shorter _ _ _ _ c.in-Attribute.ensures
 pub loop-attributes-preserved : goal.loop-attributes-preserved
 loop-attributes-preserved c =
     let before = all_spelled_of c.loop-attributes.attributes.items in
-    let behind = c.in-Attribute.rest.now in
+    let after = c.in-Attribute.rest.now in
     let p : all_spelled_of c.push.new.self.items ≡ before ++ (spelled_of c.in-Attribute.spelled ∷ []) =
     ap all_spelled_of c.in_ok-push-in-Attribute.ensures.items ∙ map_push spelled_of _ _ in
     record {
       is_text = search rules;
       whole =
-          ap (λ (x : List AttributePair). with_attributes x (form_within (suc (length behind)) behind)) p
-          ∙ form_more c.loop-attributes.behind.now _ _ behind before _ c.in-Attribute.ensures
+          ap (λ (x : List AttributePair). with_attributes x (form_within (suc (length after)) after)) p
+          ∙ form_more c.loop-attributes.after.now _ _ after before _ c.in-Attribute.ensures
           c.loop-attributes.invariant.whole;
     }

@@ -8,10 +8,10 @@ use Rattle.htmd_html5_tokens.proofs.attributes.tag_form.Given as goal
 
 abbrev pub invariant-loop-attributes : goal.invariant-loop-attributes
 invariant-loop-attributes l = record {
-  is_text : shadow (Utf8 l.behind);
-  whole : with_attributes (all_spelled_of l.attributes.items) (form_within (suc (length l.behind)) l.behind)
+  is_text : shadow (Utf8 l.after);
+  whole : with_attributes (all_spelled_of l.attributes.items) (form_within (suc (length l.after)) l.after)
       ≡ form_within (suc (length l.text)) l.text;
 }
 
 abbrev pub decreases-loop-attributes : goal.decreases-loop-attributes
-decreases-loop-attributes l = length l.behind
+decreases-loop-attributes l = length l.after

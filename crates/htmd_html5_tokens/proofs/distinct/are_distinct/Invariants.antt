@@ -9,9 +9,9 @@ use Rattle.htmd_html5_tokens.proofs.distinct.are_distinct.Given as goal
 
 abbrev pub invariant-loop-rest : goal.invariant-loop-rest
 invariant-loop-rest l =
-    (behind : List Attribute) × (l.attributes ≡ l.rest ++ behind)
-    × (are_distinct (attribute_names (pairs_of behind)) ≡ true)
-    × HasNames l.names (attribute_names (pairs_of behind))
+    (after : List Attribute) × (l.attributes ≡ l.rest ++ after)
+    × (are_distinct (attribute_names (pairs_of after)) ≡ true)
+    × HasNames l.names (attribute_names (pairs_of after))
 
 abbrev pub decreases-loop-rest : goal.decreases-loop-rest
 decreases-loop-rest l = length l.rest

@@ -15,6 +15,6 @@ loop-attribute-preserved c =
       more.0,
       more.1,
       ap (λ x. x ++ are_first more.0 (pairs_of (drop (c.loop-attribute.attribute-index + 1) c.args.attributes.now)))
-      c.in_ok-push.ensures.items
-      ∙ more.2,
+          c.in_ok-push.ensures.items
+          ∙ more.2,
     )

@@ -1,5 +1,4 @@
 -- The quotes end or don't.
-use Rattle.std.proofs.Common.{sym}
 use Rattle.htmd_html5_tokens.proofs.DoctypesLemmas.{quote_lacks}
 use Rattle.htmd_html5_tokens.proofs.doctypes.quoted_by.Goals as goal
 

@@ -11,12 +11,12 @@ loop-line-preserved c =
     let parts = split_parts 13 c.loop-line.rest.now c.split_once.result c.split_once.ensures.cases (lit< tt) in
     let here = rw c.in-Some.is at parts in
     record {
-      text = behind_return c.loop-line.rest.now c.in-Some.line.now c.in-Some.behind.now c.loop-line.invariant.text
+      text = behind_return c.loop-line.rest.now c.in-Some.line.now c.in-Some.after.now c.loop-line.invariant.text
           here.0;
       reads = line_more (string_bytes c.loop-line.lines) c.in-Some.line.now (string_bytes c.push_line_end.new.lines)
-          c.loop-line.rest.now c.in-Some.behind.now c.args.text.now c.loop-line.invariant.reads here.0 here.1
+          c.loop-line.rest.now c.in-Some.after.now c.args.text.now c.loop-line.invariant.reads here.0 here.1
           (c.in_ok-push_line_end.ensures
-          ∙ ap (λ x. x ++ normalized (13 ∷ c.in-Some.behind.now)) c.in_ok-push_str.ensures.bytes);
+          ∙ ap (λ x. x ++ normalized (13 ∷ c.in-Some.after.now)) c.in_ok-push_str.ensures.bytes);
     }
 
 pub returns : goal.returns

@@ -11,6 +11,6 @@ returns-then-ends_script-clause-value c =
 
 pub loop-i-preserved : goal.loop-i-preserved
 loop-i-preserved c =
-    let more = script_more c.args.bytes.now c.loop-i.i c.loop-i.escape (omega arith) c.escape_behind-escape.result
-    (sym c.ends_script.ensures ∙ c.if-ends_script.false) c.escape_behind-escape.ensures in
+    let more = script_more c.args.bytes.now c.loop-i.i c.loop-i.escape (omega arith) c.escape_after-escape.result
+    (sym c.ends_script.ensures ∙ c.if-ends_script.false) c.escape_after-escape.ensures in
     omega (arith, more, c.loop-i.invariant)

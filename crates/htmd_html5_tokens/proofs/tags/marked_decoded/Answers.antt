@@ -27,5 +27,5 @@ pub loop-attribute-preserved : goal.loop-attribute-preserved
 loop-attribute-preserved c =
     marked_more c.args.spelled.now c.loop-attribute.attribute-index
     (get_or c.args.spelled.now c.loop-attribute.attribute-index no_attribute) no_attribute c.loop-attribute.rest.now
-    c.in-Some.behind.now c.in-Some.mark _ _ _ (omega arith) refl c.in-Some.ensures c.in_ok-push_marked.ensures
+    c.in-Some.after.now c.in-Some.mark _ _ _ (omega arith) refl c.in-Some.ensures c.in_ok-push_marked.ensures
     c.loop-attribute.invariant

@@ -1,6 +1,4 @@
 -- A raw text ends before `<`, or at the end.
-use Rattle.std.proofs.Common.{◌∙◌, ap}
-use Rattle.htmd_html5_tokens.specs.RawTexts.{raw_text_len}
 use Rattle.htmd_html5_tokens.proofs.RawTextsLemmas.{raw_cut}
 use Rattle.htmd_html5_tokens.proofs.tokenizer.split_raw.Goals as goal
 

@@ -5,10 +5,10 @@ use Rattle.htmd_html5_state.specs.OpenElements.{pop_through, has_name}
 use Rattle.htmd_html5_state.specs.OpenViews.{stack_of}
 use Rattle.htmd_html5_state.proofs.open_elements.OpenElements.pop_through.Given as goal
 
-abbrev pub invariant-loop-self : goal.invariant-loop-self
-invariant-loop-self l =
+abbrev pub invariant-loop-element : goal.invariant-loop-element
+invariant-loop-element l =
     pop_through (has_name (html (name_of l.name))) (stack_of l.self-inside.elements.items)
     ≡ pop_through (has_name (html (name_of l.name))) l.fn.self
 
-abbrev pub decreases-loop-self : goal.decreases-loop-self
-decreases-loop-self l = vec_len l.self-inside.elements
+abbrev pub decreases-loop-element : goal.decreases-loop-element
+decreases-loop-element l = vec_len l.self-inside.elements
