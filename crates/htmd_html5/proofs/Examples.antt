@@ -39,7 +39,7 @@ formatting_goes_on_in_a_block = refl
 text_leaves_a_table : html5_document true (codes "<table>a<tr><td>b")
     ≡ page (more (text (codes "a"))
     (one (with (codes "table") (one (with (codes "tbody") (one (with (codes "tr")
-    (one (with (codes "td") (one (text (codes "b")))))))))))
+    (one (with (codes "td") (one (text (codes "b"))))))))))))
 unfolding html5_document
 text_leaves_a_table = refl
 
