@@ -9,7 +9,7 @@ invariant-loop-next l = record {
   text : joined (string_bytes l.text) l.under (layout_of l.self)
       ≡ joined (string_bytes l.initial.text) l.under (layout_of l.initial.self);
   value : behind_joined l.under (layout_of l.self) ≡ behind_joined l.under (layout_of l.initial.self);
-  holds : AllMayHold l.self.tree l.self.coming.items
+  holds : AllMayHold l.self.tree l.self.coming.items;
 }
 
 abbrev pub decreases-loop-next : goal.decreases-loop-next
