@@ -12,6 +12,7 @@ use Rattle.htmd_tree.specs.Items.{Item, document_item, item_at, depth_at, elemen
 use Rattle.htmd_html5_state.specs.Documents.{NodeValue, children_at}
 use Rattle.htmd_html5.specs.Layout.{Coming, Layout, coming, text_under, or_text, next_text, next_texts, behind_next_texts}
 use Rattle.htmd_html5.specs.Layout.{is_deepest, put_node, put_next, layout_within, with_children_under}
+use Rattle.htmd_html5.specs.Layout.{first_layout, document_of}
 use Rattle.htmd_html5.specs.LayoutViews.{coming_of, coming_under, work_of, MayHold, AllMayHold}
 use Rattle.htmd_html5.specs.declared.layout.Coming as program
 
@@ -24,6 +25,10 @@ work_of-push cs c = rw (map_push coming_of cs c, reverse-append (map coming_of c
 pub work_of-pop : (cs rest : List program.Coming) (c : program.Coming) → cs ≡ rest ++ option_to_list (Some c)
     → work_of cs ≡ coming_of c ∷ work_of rest
 work_of-pop cs rest c e = ap work_of e ∙ work_of-push rest c
+
+pub work_of-none : (cs : List program.Coming) → length cs ≡ 0 → work_of cs ≡ []
+work_of-none [] e = refl
+work_of-none (c ∷ cs) e = absurd (omega arith)
 
 -- nodes that are put last first come in their order
 pub work_of-all : (cs : List program.Coming) (ns : List ℕ) (under : ℕ)
@@ -174,3 +179,9 @@ lays-none limit first now turn all r l e =
 pub lays-over : (limit : ℕ) (first now : Layout) (turn all : ℕ) → Lays limit first now turn all → turn ≡ all
     → now ≡ layout_within limit all first
 lays-over limit first now turn all r e = let none : 0 + turn ≡ all = omega arith in r 0 none
+
+-- all turns, as many as there are nodes
+pub whole-document : (limit : ℕ) (nodes : List NodeValue) (now : Layout) (all : ℕ)
+    → now ≡ layout_within limit all (first_layout nodes) → all ≡ length nodes → now.items ≡ document_of limit nodes
+whole-document limit nodes now all e count =
+    ap (λ (l : Layout). l.items) (e ∙ ap (λ n. layout_within limit n (first_layout nodes)) count)
