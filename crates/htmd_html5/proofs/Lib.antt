@@ -7,3 +7,4 @@ pub mod InTableLemmas
 pub mod DocumentsLemmas
 pub mod LayoutLemmas
 mod Examples
+mod LayoutExamples
