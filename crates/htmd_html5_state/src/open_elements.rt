@@ -1,5 +1,5 @@
 //! The stack of open elements.
-ghost use Rattle.std.specs.Prelude.{◌≡◌, ◌-◌, ◌<◌, ◌∷◌, ◌++◌, [], length, drop, true, false, IfOk, OnOk, IfSome, MatchOption, option_map};
+ghost use Rattle.std.specs.Prelude.{◌≡◌, ◌-◌, ◌<◌, ◌^◌, ◌∷◌, ◌++◌, [], length, drop, true, false, IfOk, OnOk, IfSome, MatchOption, option_map};
 ghost use Rattle.std.specs.List.{list_any};
 ghost use Rattle.htmd_html5_state.specs.Names.{element_name_of, name_of, html};
 ghost use Rattle.htmd_html5_state.specs.OpenElements as spec;
@@ -258,7 +258,8 @@ impl OpenElements {
     }
 
     pub(crate) fn len(&self) -> usize
-        ensures { result ≡ length self.now }
+        ensures value { result ≡ length self.now }
+        ensures small { result < 2 ^ 63 }
     {
         self.elements.len()
     }

@@ -1,5 +1,5 @@
 //! The state of tree construction, and the steps that change one part of it.
-ghost use Rattle.std.specs.Prelude.{◌≡◌, IfOk, OnOk, length};
+ghost use Rattle.std.specs.Prelude.{◌≡◌, ◌<◌, ◌^◌, IfOk, OnOk, length};
 ghost use Rattle.htmd_html5_state.specs.Documents as documents;
 ghost use Rattle.htmd_html5_state.specs.Formatting as list;
 ghost use Rattle.htmd_html5_state.specs.Insertion as insertion;
@@ -224,7 +224,8 @@ impl HtmlState {
 
     /// How many elements are open.
     pub fn open_count(&self) -> usize
-        ensures { result ≡ length self.now.stack }
+        ensures value { result ≡ length self.now.stack }
+        ensures small { result < 2 ^ 63 }
     {
         self.stack.len()
     }
