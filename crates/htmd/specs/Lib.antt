@@ -47,6 +47,9 @@ pub mod ListItems
 pub mod TableLayouts
 pub mod TableOrder
 pub mod Tables
+pub mod GuardedTableLayouts
+pub mod GuardedTableTexts
+pub mod TableElements
 pub mod TableCells
 pub mod TableParts
 pub mod LinkAttributes

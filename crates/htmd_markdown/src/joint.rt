@@ -1,0 +1,271 @@
+//! What is mended where a content meets the text so far, so that no sign of the one joins with a sign of the other into
+//! markup (CommonMark 0.31.2, 6.1, 6.2 and 6.4).
+ghost use Rattle.std.specs.Prelude.{◌≡◌, ◌≤◌, OnOk, length, string_bytes};
+ghost use Rattle.htmd_markdown.specs.Joints as spec;
+
+use htmd_text::runs::{leading_len, trailing_len};
+use std::alloc::AllocError;
+use unicode::properties::{GeneralCategory, GeneralCategoryGroup};
+
+/// What is mended where two texts meet.
+#[derive(Clone, Copy)]
+pub(crate) enum Joint {
+    /// Nothing.
+    AsTheyAre,
+    /// A backslash stands before the `!` that a bracket follows.
+    MarkBeforeBracket,
+    /// A space stands between them.
+    SpaceBetween,
+    /// The runs of so many `*` on both sides go.
+    RunsGo(usize),
+    /// So many bytes behind the run that begins the second go in front of it.
+    StartMoves(usize, usize),
+    /// So many bytes stand between two such runs, which both go.
+    StartLosesRuns(usize, usize),
+    /// So many bytes before the run that ends the first go behind it.
+    EndMoves(usize, usize),
+    /// So many bytes stand between two such runs, which both go.
+    EndLosesRuns(usize, usize),
+}
+
+/// Whether the character is a letter, a number or a combining mark.
+fn is_word_character(c: char) -> bool
+    ensures { result ≡ spec.is_word_character c }
+{
+    let category = GeneralCategory::for_char(c);
+    GeneralCategoryGroup::Letter.contains(category)
+        || GeneralCategoryGroup::Number.contains(category)
+        || GeneralCategoryGroup::Mark.contains(category)
+}
+
+/// Whether the character is document white space.
+fn is_white(c: char) -> bool
+    ensures { result ≡ spec.is_white c }
+{
+    matches!(c, '\t' | '\n' | '\r' | ' ')
+}
+
+/// Whether a mark beside the character may stand beside punctuation too.
+fn stands_apart(c: char) -> bool
+    ensures { result ≡ spec.stands_apart c }
+{
+    is_white(c)
+        || c.is_ascii_punctuation()
+        || GeneralCategoryGroup::Punctuation.contains(GeneralCategory::for_char(c))
+}
+
+/// Whether the character is no word character, no line feed, and may begin or end no piece of Markdown.
+fn is_plain_sign(c: char) -> bool
+    ensures { result ≡ spec.is_plain_sign c }
+{
+    !(is_word_character(c) || matches!(c, '\n' | '`' | '[' | '!' | '<' | '$' | '*'))
+}
+
+/// Whether a mark beside a sign, with the other character on its other side, is none to a reader.
+fn is_misplaced(sign: char, other: char) -> bool
+    ensures { result ≡ spec.is_misplaced sign other }
+{
+    !(is_word_character(sign) || is_white(sign)) && !stands_apart(other)
+}
+
+/// Whether what stands behind the text is escaped.
+fn escapes_next(text: &[u8]) -> bool
+    ensures { result ≡ spec.escapes_next text.now }
+{
+    trailing_len(text, b'\\') % 2 == 1
+}
+
+/// How many `*` end the text of which none is escaped.
+fn ending_run(text: &[u8]) -> usize
+    ensures bound { result ≤ length text.now }
+    ensures value { result ≡ spec.ending_run text.now }
+{
+    let run = trailing_len(text, b'*');
+    if run > 0 && escapes_next(&text[..text.len() - run]) {
+        return run - 1;
+    }
+    run
+}
+
+/// How many bytes of plain signs begin the text, with those that a backslash escapes.
+fn plain_start(text: &str) -> usize
+    ensures bound { result ≤ length text.now }
+    ensures value { result ≡ spec.plain_start text.now }
+{
+    let mut len = 0;
+    let mut is_escaped = false;
+    for c in text.chars() {
+        if !(is_plain_sign(c) || is_escaped && c.is_ascii_punctuation()) {
+            return len;
+        }
+        is_escaped = c == '\\' && !is_escaped;
+        len += c.len_utf8();
+    }
+    len
+}
+
+/// How many bytes of plain signs end the text, with those that a backslash escapes.
+fn plain_end(text: &str) -> usize
+    ensures bound { result ≤ length text.now }
+    ensures value { result ≡ spec.plain_end text.now }
+{
+    let bytes = text.as_bytes();
+    let mut characters = text.chars();
+    let mut start = text.len();
+    while let Some(c) = characters.next_back() {
+        let place = start - c.len_utf8();
+        if !(is_plain_sign(c) || c.is_ascii_punctuation() && escapes_next(&bytes[..place])) {
+            return text.len() - start;
+        }
+        start = place;
+    }
+    text.len()
+}
+
+/// Whether the text begins with a word character.
+fn begins_word(text: &str) -> bool
+    ensures { result ≡ spec.begins_word text.now }
+{
+    match text.chars().next() {
+        Some(c) => is_word_character(c),
+        None => false,
+    }
+}
+
+/// Whether the text ends with a word character.
+fn ends_word(text: &str) -> bool
+    ensures { result ≡ spec.ends_word text.now }
+{
+    match text.chars().next_back() {
+        Some(c) => is_word_character(c),
+        None => false,
+    }
+}
+
+/// What is mended behind a run of so many `*`, which this rest follows.
+fn joint_at_start(run: usize, rest: &str) -> Joint
+    ensures { result ≡ spec.joint_at_start run rest.now }
+{
+    let plain = plain_start(rest);
+    let behind = &rest[plain..];
+    if begins_word(behind) {
+        return Joint::StartMoves(run, plain);
+    }
+    if leading_len(behind.as_bytes(), b'*') == run {
+        return Joint::StartLosesRuns(run, plain);
+    }
+    Joint::SpaceBetween
+}
+
+/// What is mended before a run of so many `*`, before which this text stands.
+fn joint_at_end(run: usize, before: &str) -> Joint
+    ensures { result ≡ spec.joint_at_end run before.now }
+{
+    let plain = plain_end(before);
+    let head = &before[..before.len() - plain];
+    if ends_word(head) {
+        return Joint::EndMoves(run, plain);
+    }
+    if ending_run(head.as_bytes()) == run {
+        return Joint::EndLosesRuns(run, plain);
+    }
+    Joint::SpaceBetween
+}
+
+/// What is mended of runs of so many `*`, between these texts.
+fn joint_of_runs(ending: usize, beginning: usize, before: &str, rest: &str) -> Joint
+    ensures { result ≡ spec.joint_of_runs ending beginning before.now rest.now }
+{
+    if ending == 0 && beginning == 0 {
+        return Joint::AsTheyAre;
+    }
+    let (Some(last), Some(first)) = (before.chars().next_back(), rest.chars().next()) else {
+        return Joint::AsTheyAre;
+    };
+    if ending == beginning && !is_white(last) && !is_white(first) {
+        return Joint::RunsGo(ending);
+    }
+    if beginning > 0 && is_misplaced(first, last) {
+        return joint_at_start(beginning, rest);
+    }
+    if ending > 0 && is_misplaced(last, first) {
+        return joint_at_end(ending, before);
+    }
+    Joint::AsTheyAre
+}
+
+/// What is mended where a content meets the text so far.
+fn joint_of(out: &str, content: &str) -> Joint
+    ensures { result ≡ spec.joint_of out.now content.now }
+{
+    match (out.as_bytes().last(), content.as_bytes().first()) {
+        (Some(b'!'), Some(b'[')) => return Joint::MarkBeforeBracket,
+        (Some(b'`'), Some(b'`')) if !escapes_next(&out.as_bytes()[..out.len() - 1]) => {
+            return Joint::SpaceBetween;
+        }
+        _ => {}
+    }
+    let ending = ending_run(out.as_bytes());
+    let beginning = leading_len(content.as_bytes(), b'*');
+    joint_of_runs(
+        ending,
+        beginning,
+        &out[..out.len() - ending],
+        &content[beginning..],
+    )
+}
+
+/// Mends a text and the content that is put behind it, where they meet: a backslash or a space comes between, marks of
+/// emphasis go, or stand where a reader takes them for such.
+///
+/// Want of memory is the only error.
+pub fn mend_joint(out: &mut String, content: &mut String) -> Result<(), AllocError>
+    ensures out { OnOk result
+        (string_bytes out.new ≡ (spec.mended_ends (string_bytes out.old) (string_bytes content.old)).front) }
+    ensures content { OnOk result
+        (string_bytes content.new ≡ (spec.mended_ends (string_bytes out.old) (string_bytes content.old)).behind) }
+{
+    let joint = joint_of(out.as_str(), content.as_str());
+    mend(joint, out, content)
+}
+
+/// Mends a text and a content so.
+fn mend(joint: Joint, out: &mut String, content: &mut String) -> Result<(), AllocError> {
+    match joint {
+        Joint::AsTheyAre => {}
+        Joint::MarkBeforeBracket => {
+            out.truncate(out.len() - 1);
+            out.push_str("\\!")?;
+        }
+        Joint::SpaceBetween => out.push(' ')?,
+        Joint::RunsGo(run) => {
+            out.truncate(out.len() - run);
+            remove(content, 0, run);
+        }
+        Joint::StartMoves(run, plain) => {
+            out.push_str(&content[run..run + plain])?;
+            remove(content, run, run + plain);
+        }
+        Joint::StartLosesRuns(run, plain) => {
+            out.push_str(&content[run..run + plain])?;
+            remove(content, 0, run + plain + run);
+        }
+        Joint::EndMoves(run, plain) => {
+            let end = out.len() - run;
+            content.insert_str(0, &out[end - plain..end])?;
+            remove(out, end - plain, end);
+        }
+        Joint::EndLosesRuns(run, plain) => {
+            let end = out.len() - run;
+            out.truncate(end);
+            remove(out, end - plain - run, end - plain);
+        }
+    }
+    Ok(())
+}
+
+/// Takes a piece out of the text.
+fn remove(text: &mut String, from: usize, to: usize) {
+    let removed = text.replace_range(from..to, "");
+    prove!(removed.is_ok());
+}
