@@ -81,48 +81,59 @@ pub data TableLine : Type 0 where
 abbrev pub cells_of : List Item → ℕ → List ℕ
 cells_of items node = filter (has_tag cell_tags items) (children_of items node)
 
+-- a row, if it has cells
+abbrev pub row_of : Bool → Bool → List ℕ → List TableLine
+row_of in_head begins_group [] = []
+row_of in_head begins_group (cell ∷ cells) = row in_head begins_group (cell ∷ cells) ∷ []
+
+-- no row before this one was in its group, and this one is none
+abbrev pub begins_still : Bool → List ℕ → Bool
+begins_still begins_group [] = begins_group
+begins_still begins_group (cell ∷ cells) = false
+
 -- the rows of a part; the first of them begins a group
 abbrev pub section_rows : List Item → Bool → Bool → List ℕ → List TableLine
 section_rows items in_head begins_group [] = []
 section_rows items in_head begins_group (node ∷ nodes) =
-    row in_head begins_group (cells_of items node) ∷ section_rows items in_head false nodes
+    let cells = cells_of items node in
+    row_of in_head begins_group cells ++ section_rows items in_head (begins_still begins_group cells) nodes
 
 abbrev pub section_of : List Item → Bool → ℕ → List TableLine
 section_of items in_head node = section_rows items in_head true (tagged_children (codes "tr") items node)
 
 -- The lines of a table's children: rows right below the table are a group up to the next part.
 abbrev pub child_lines : TableChild → List Item → Bool → ℕ → List TableLine
-child_lines TableCaption items is_open node = caption node ∷ []
-child_lines TableHead items is_open node = section_of items true node
-child_lines TableSection items is_open node = section_of items false node
-child_lines DirectRow items is_open node = row false (not is_open) (cells_of items node) ∷ []
-child_lines OtherChild items is_open node = []
+child_lines TableCaption items begins_group node = caption node ∷ []
+child_lines TableHead items begins_group node = section_of items true node
+child_lines TableSection items begins_group node = section_of items false node
+child_lines DirectRow items begins_group node = row_of false begins_group (cells_of items node)
+child_lines OtherChild items begins_group node = []
 
--- whether a row right below the table would go on with a group
-abbrev pub open_behind : TableChild → Bool → Bool
-open_behind TableCaption is_open = is_open
-open_behind TableHead is_open = false
-open_behind TableSection is_open = false
-open_behind DirectRow is_open = true
-open_behind OtherChild is_open = is_open
+-- whether a row right below the table would begin a group behind such a child
+abbrev pub begins_behind : TableChild → List Item → Bool → ℕ → Bool
+begins_behind TableCaption items begins_group node = begins_group
+begins_behind TableHead items begins_group node = true
+begins_behind TableSection items begins_group node = true
+begins_behind DirectRow items begins_group node = begins_still begins_group (cells_of items node)
+begins_behind OtherChild items begins_group node = begins_group
 
 abbrev pub child_at : List Item → ℕ → TableChild
 child_at items node = table_child (tag_of (data_at items node))
 
 abbrev pub lines_among : List Item → Bool → List ℕ → List TableLine
-lines_among items is_open [] = []
-lines_among items is_open (node ∷ nodes) =
-    child_lines (child_at items node) items is_open node
-    ++ lines_among items (open_behind (child_at items node) is_open) nodes
+lines_among items begins_group [] = []
+lines_among items begins_group (node ∷ nodes) =
+    child_lines (child_at items node) items begins_group node
+    ++ lines_among items (begins_behind (child_at items node) items begins_group node) nodes
 
 abbrev pub table_lines : List Item → ℕ → List TableLine
-table_lines items node = lines_among items false (children_of items node)
+table_lines items node = lines_among items true (children_of items node)
 
 abbrev pub is_row : TableLine → Bool
 is_row (caption node) = false
 is_row (row in_head begins_group cells) = true
 
--- the table has explicit headers and a row, stands in no cell of another one, and holds nothing else to see
+-- the table has explicit headers and a row of cells, stands in no cell of another one, and holds nothing else to see
 abbrev pub is_written_as_table : List Item → ℕ → Bool
 is_written_as_table items node =
     has_table_form items node && table_fits (children_at items node) && list_any is_row (table_lines items node)

@@ -63,16 +63,12 @@ with_lines items texts (line ∷ lines) contents =
     let count = length (line_nodes line) in
     with_lines items (with_line items texts line (take count contents)) lines (drop count contents)
 
--- an empty header where there is none: by the line of dashes below it a reader knows a table
-abbrev pub some_headers : List (List ℕ) → List (List ℕ)
-some_headers [] = [] ∷ []
-some_headers (header ∷ headers) = header ∷ headers
-
--- the rows of the grid, of which the first is the header or not
+-- The rows of the grid, of which the first is the header, or none is: then an empty one stands above them, since by the
+-- line of dashes below it a reader knows a table.
 abbrev pub grid_text : Bool → List (List (List ℕ)) → List ℕ
 grid_text has_header [] = []
 grid_text has_header (cells ∷ rows) =
-    if has_header then guarded_table (some_headers cells) rows else guarded_table ([] ∷ []) (cells ∷ rows)
+    if has_header then guarded_table cells rows else guarded_table ([] ∷ []) (cells ∷ rows)
 
 -- a block and a blank line
 abbrev pub with_blank_line : List ℕ → List ℕ

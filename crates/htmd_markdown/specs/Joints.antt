@@ -2,7 +2,7 @@
 -- other into markup, and marks of emphasis stand where a reader takes them for such (CommonMark 0.31.2, 6.1, 6.2, 6.4).
 use Rattle.std.specs.Prelude.{ℕ, ◌+◌, ◌-◌, ◌%◌, Bool, true, false, not, ◌&&◌, ◌||◌, ◌==◌, nat_lt, if◌then◌else◌}
 use Rattle.std.specs.Prelude.{List, [], ◌∷◌, ◌++◌, length, take, drop, reverse, slice_index, codes, encode_utf8_all}
-use Rattle.std.specs.Char.{is_ascii_punctuation}
+use Rattle.std.specs.Char.{is_ascii_punctuation, is_whitespace}
 use Rattle.std.specs.List.{prefix_len, suffix_len}
 use Rattle.std.specs.Str.{chars}
 use Rattle.unicode.specs.declared.properties.GeneralCategoryGroup.TheVariants.{Letter, Mark, Number, Punctuation}
@@ -10,7 +10,6 @@ use Rattle.unicode.specs.GeneralCategory.{general_category}
 use Rattle.unicode.specs.GeneralCategoryGroup.{in_group}
 use Rattle.htmd_text.specs.Characters.{asterisk, backslash, exclamation_mark, grave_accent, left_square_bracket}
 use Rattle.htmd_text.specs.Characters.{line_feed, is_one_of}
-use Rattle.htmd_text.specs.WhiteSpace.{is_document_white_space}
 use Rattle.htmd_markdown.specs.declared.joint.Joint.{Joint}
 use Rattle.htmd_markdown.specs.declared.joint.Joint.TheVariants.{AsTheyAre, MarkBeforeBracket, SpaceBetween}
 use Rattle.htmd_markdown.specs.declared.joint.Joint.TheVariants.{RunsGo, StartMoves, StartLosesRuns}
@@ -25,13 +24,10 @@ is_word_character c =
     let category = general_category c in
     in_group Letter category || in_group Number category || in_group Mark category
 
-abbrev pub is_white : ℕ → Bool
-is_white c = is_document_white_space c
-
 -- beside white space or punctuation a mark may stand beside punctuation too
 abbrev pub stands_apart : ℕ → Bool
 stands_apart c =
-    is_white c || is_ascii_punctuation c || in_group Punctuation (general_category c)
+    is_whitespace c || is_ascii_punctuation c || in_group Punctuation (general_category c)
 
 -- no word character, no line feed, and nothing that may begin or end a piece of Markdown
 abbrev pub is_plain_sign : ℕ → Bool
@@ -94,7 +90,7 @@ plain_end s = length (encode_utf8_all (plain_signs_back (reverse (chars s))))
 -- A mark beside this sign and behind or before that character is none to a reader: he takes marks for such only where
 -- they flank a word.
 abbrev pub is_misplaced : ℕ → ℕ → Bool
-is_misplaced sign other = not (is_word_character sign || is_white sign) && not (stands_apart other)
+is_misplaced sign other = not (is_word_character sign || is_whitespace sign) && not (stands_apart other)
 
 -- the text begins, or ends, with a word character
 abbrev pub begins_word : List ℕ → Bool
@@ -127,7 +123,7 @@ joint_of_runs ending beginning (b ∷ before) (c ∷ rest) =
     let last = last_character (b ∷ before) in
     let first = first_character (c ∷ rest) in
     if (ending == 0) && (beginning == 0) then AsTheyAre
-    else (if (ending == beginning) && not (is_white last || is_white first)
+    else (if (ending == beginning) && not (is_whitespace last || is_whitespace first)
     then RunsGo ending
     else (if nat_lt 0 beginning && is_misplaced first last then joint_at_start beginning (c ∷ rest)
     else (if nat_lt 0 ending && is_misplaced last first then joint_at_end ending (b ∷ before) else AsTheyAre)))

@@ -140,7 +140,7 @@ pub fn write_guarded_autolink(
     ensures { IfOk result (λ s. string_bytes s ≡ spec.guarded_autolink content.now address.now) }
 {
     let mut link = String::with_capacity(alloc, address.len().saturating_add(4))?;
-    push_space_if(&mut link, begins_white(content))?;
+    push_space_if(&mut link, is_space_before(content))?;
     link.push('<')?;
     link.push_str(address)?;
     link.push('>')?;
@@ -153,7 +153,7 @@ fn push_link_text(out: &mut String, content: &str) -> Result<(), AllocError>
     ensures { OnOk result
         (string_bytes out.new ≡ string_bytes out.old ++ spec.guarded_link_text content.now) }
 {
-    push_space_if(out, begins_white(content))?;
+    push_space_if(out, is_space_before(content))?;
     out.push('[')?;
     push_one_line(out, content)?;
     out.push(']')
@@ -192,11 +192,13 @@ fn push_guarded_resource(
     out.push(')')
 }
 
-/// Whether a space or a line feed stands at the start.
-fn begins_white(content: &str) -> bool
-    ensures { result ≡ spec.begins_white content.now }
+/// Whether spaces or line feeds stand at the start, and not alone.
+fn is_space_before(content: &str) -> bool
+    ensures { result ≡ spec.is_space_before content.now }
 {
-    content.starts_with(' ') || content.starts_with('\n')
+    let bytes = content.as_bytes();
+    let begins_white = matches!(bytes, [b' ' | b'\n', ..]);
+    begins_white && !bytes.iter().all(|b| matches!(*b, b' ' | b'\n'))
 }
 
 /// Whether a space or a line feed stands at the end.

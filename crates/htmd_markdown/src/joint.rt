@@ -38,18 +38,11 @@ fn is_word_character(c: char) -> bool
         || GeneralCategoryGroup::Mark.contains(category)
 }
 
-/// Whether the character is document white space.
-fn is_white(c: char) -> bool
-    ensures { result ≡ spec.is_white c }
-{
-    matches!(c, '\t' | '\n' | '\r' | ' ')
-}
-
 /// Whether a mark beside the character may stand beside punctuation too.
 fn stands_apart(c: char) -> bool
     ensures { result ≡ spec.stands_apart c }
 {
-    is_white(c)
+    c.is_whitespace()
         || c.is_ascii_punctuation()
         || GeneralCategoryGroup::Punctuation.contains(GeneralCategory::for_char(c))
 }
@@ -65,7 +58,7 @@ fn is_plain_sign(c: char) -> bool
 fn is_misplaced(sign: char, other: char) -> bool
     ensures { result ≡ spec.is_misplaced sign other }
 {
-    !(is_word_character(sign) || is_white(sign)) && !stands_apart(other)
+    !(is_word_character(sign) || sign.is_whitespace()) && !stands_apart(other)
 }
 
 /// Whether what stands behind the text is escaped.
@@ -182,7 +175,7 @@ fn joint_of_runs(ending: usize, beginning: usize, before: &str, rest: &str) -> J
     let (Some(last), Some(first)) = (before.chars().next_back(), rest.chars().next()) else {
         return Joint::AsTheyAre;
     };
-    if ending == beginning && !is_white(last) && !is_white(first) {
+    if ending == beginning && !last.is_whitespace() && !first.is_whitespace() {
         return Joint::RunsGo(ending);
     }
     if beginning > 0 && is_misplaced(first, last) {

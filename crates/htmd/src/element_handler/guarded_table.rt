@@ -136,14 +136,13 @@ fn write_grid(
     has_header: bool,
     grid: &[Vec<String>],
 ) -> Result<String, AllocError> {
-    let empty_header = [String::new(alloc)];
     match grid {
         [] => Ok(String::new(alloc)),
-        [header, rows @ ..] if has_header && !header.is_empty() => {
-            write_guarded_table(alloc, header.as_slice(), rows)
+        [header, rows @ ..] if has_header => write_guarded_table(alloc, header.as_slice(), rows),
+        rows => {
+            let empty_header = [String::new(alloc)];
+            write_guarded_table(alloc, empty_header.as_slice(), rows)
         }
-        [_, rows @ ..] if has_header => write_guarded_table(alloc, empty_header.as_slice(), rows),
-        rows => write_guarded_table(alloc, empty_header.as_slice(), rows),
     }
 }
 

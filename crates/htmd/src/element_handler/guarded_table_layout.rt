@@ -119,34 +119,48 @@ fn table_fits(tree: &Tree, table: NodeId) -> bool
     true
 }
 
-/// Whether a part of a table has a row.
+/// Whether a row has a cell.
+fn has_cell(tree: &Tree, row: NodeId) -> bool {
+    for child in tree.children(row) {
+        if is_cell(tree, *child) {
+            return true;
+        }
+    }
+    false
+}
+
+/// Whether a part of a table has a row of cells.
 fn has_row_in(tree: &Tree, section: NodeId) -> bool {
     for child in tree.children(section) {
-        if has_tag(tree, *child, "tr") {
+        if has_tag(tree, *child, "tr") && has_cell(tree, *child) {
             return true;
         }
     }
     false
 }
 
-/// Whether a table has a row.
+/// Whether a child of a table is a row of cells, or has one.
+fn is_or_has_row(tree: &Tree, child: NodeId) -> bool {
+    match table_child(tree, child) {
+        TableChild::TableCaption => false,
+        TableChild::TableHead => has_row_in(tree, child),
+        TableChild::TableSection => has_row_in(tree, child),
+        TableChild::DirectRow => has_cell(tree, child),
+        TableChild::OtherChild => false,
+    }
+}
+
+/// Whether a table has a row of cells.
 fn has_row(tree: &Tree, table: NodeId) -> bool {
     for child in tree.children(table) {
-        let is_row_there = match table_child(tree, *child) {
-            TableChild::TableCaption => false,
-            TableChild::TableHead => has_row_in(tree, *child),
-            TableChild::TableSection => has_row_in(tree, *child),
-            TableChild::DirectRow => true,
-            TableChild::OtherChild => false,
-        };
-        if is_row_there {
+        if is_or_has_row(tree, *child) {
             return true;
         }
     }
     false
 }
 
-/// Whether a table is written as one: it has explicit headers and a row, stands in no cell of another one, and holds
+/// Whether a table is written as one: it has explicit headers and a row of cells, stands in no cell of another one, and holds
 /// nothing else to see.
 pub(crate) fn is_written_as_table(tree: &Tree, table: NodeId) -> bool
     requires { table < length tree.now }
@@ -167,41 +181,68 @@ fn cells_of(alloc: Global, tree: &Tree, row: NodeId) -> Result<Vec<NodeId>, Allo
     Ok(cells)
 }
 
-/// Puts a row.
-fn push_row(
-    alloc: Global,
-    tree: &Tree,
-    row: NodeId,
-    in_head: bool,
+/// The lines of a table so far, and whether the next row right below the table begins a group.
+#[derive(Drop)]
+struct Lines {
+    lines: Vec<TableLine>,
     begins_group: bool,
-    lines: &mut Vec<TableLine>,
-) -> Result<(), AllocError> {
-    let cells = cells_of(alloc, tree, row)?;
-    lines.push(TableLine::Row(TableRow {
-        in_head,
-        begins_group,
-        cells,
-    }))?;
-    Ok(())
 }
 
-/// Puts the rows of a part, of which the first begins a group.
-fn push_section(
-    alloc: Global,
-    tree: &Tree,
-    section: NodeId,
-    in_head: bool,
-    lines: &mut Vec<TableLine>,
-) -> Result<(), AllocError> {
-    let mut begins_group = true;
-    for child in tree.children(section) {
-        if !has_tag(tree, *child, "tr") {
-            continue;
+impl Lines {
+    /// Puts a row, if it has cells, and answers whether the next one of its group begins it.
+    fn push_row(
+        &mut self,
+        alloc: Global,
+        tree: &Tree,
+        row: NodeId,
+        in_head: bool,
+        begins_group: bool,
+    ) -> Result<bool, AllocError> {
+        let cells = cells_of(alloc, tree, row)?;
+        if cells.is_empty() {
+            return Ok(begins_group);
         }
-        push_row(alloc, tree, *child, in_head, begins_group, lines)?;
-        begins_group = false;
+        self.lines.push(TableLine::Row(TableRow {
+            in_head,
+            begins_group,
+            cells,
+        }))?;
+        Ok(false)
     }
-    Ok(())
+
+    /// Puts the rows of a part, of which the first begins a group.
+    fn push_section(
+        &mut self,
+        alloc: Global,
+        tree: &Tree,
+        section: NodeId,
+        in_head: bool,
+    ) -> Result<(), AllocError> {
+        let mut begins_group = true;
+        for child in tree.children(section) {
+            if !has_tag(tree, *child, "tr") {
+                continue;
+            }
+            begins_group = self.push_row(alloc, tree, *child, in_head, begins_group)?;
+        }
+        self.begins_group = true;
+        Ok(())
+    }
+
+    /// Puts what a child of a table holds.
+    fn push_child(&mut self, alloc: Global, tree: &Tree, child: NodeId) -> Result<(), AllocError> {
+        match table_child(tree, child) {
+            TableChild::TableCaption => self.lines.push(TableLine::Caption(child))?,
+            TableChild::TableHead => self.push_section(alloc, tree, child, true)?,
+            TableChild::TableSection => self.push_section(alloc, tree, child, false)?,
+            TableChild::DirectRow => {
+                let begins_group = self.begins_group;
+                self.begins_group = self.push_row(alloc, tree, child, false, begins_group)?;
+            }
+            TableChild::OtherChild => {}
+        }
+        Ok(())
+    }
 }
 
 /// The captions and rows of a table, in order. Rows right below the table are a group up to the next part.
@@ -210,27 +251,14 @@ pub(crate) fn table_lines(
     tree: &Tree,
     table: NodeId,
 ) -> Result<Vec<TableLine>, AllocError> {
-    let mut lines = Vec::new(alloc);
-    let mut is_open = false;
+    let mut lines = Lines {
+        lines: Vec::new(alloc),
+        begins_group: true,
+    };
     for child in tree.children(table) {
-        match table_child(tree, *child) {
-            TableChild::TableCaption => lines.push(TableLine::Caption(*child))?,
-            TableChild::TableHead => {
-                push_section(alloc, tree, *child, true, &mut lines)?;
-                is_open = false;
-            }
-            TableChild::TableSection => {
-                push_section(alloc, tree, *child, false, &mut lines)?;
-                is_open = false;
-            }
-            TableChild::DirectRow => {
-                push_row(alloc, tree, *child, false, !is_open, &mut lines)?;
-                is_open = true;
-            }
-            TableChild::OtherChild => {}
-        }
+        lines.push_child(alloc, tree, *child)?;
     }
-    Ok(lines)
+    Ok(lines.lines)
 }
 
 /// The captions and cells, in order.
