@@ -1,7 +1,7 @@
 -- Tables as `Tables` has them, with a backslash before each bar of a cell, where tables have them as extensions of
 -- CommonMark do (GitHub Flavored Markdown 0.29, 4.10).
 use Rattle.std.specs.Prelude.{ℕ, ◌+◌, Bool, false, not, ◌&&◌, ◌==◌, nat_lt, max, if◌then◌else◌, List, [], ◌∷◌, ◌++◌}
-use Rattle.std.specs.Prelude.{length, map, fold}
+use Rattle.std.specs.Prelude.{length, map}
 use Rattle.std.specs.List.{flat_map}
 use Rattle.std.specs.Str.{chars}
 use Rattle.htmd_text.specs.Characters.{line_feed, carriage_return, space, vertical_bar, backslash}
@@ -42,7 +42,8 @@ guarded_row cells widths = row_by guarded_cell cells widths
 
 -- how many characters a line of these widths has: a bar at its front, and in each column two spaces and a bar more
 abbrev pub line_width : List ℕ → ℕ
-line_width widths = fold (λ sum width. sum + width + 3) 1 widths
+line_width [] = 1
+line_width (width ∷ widths) = width + 3 + line_width widths
 
 -- the longest line that is padded
 abbrev pub longest_padded : ℕ

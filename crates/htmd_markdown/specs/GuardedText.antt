@@ -56,10 +56,10 @@ number_end s = first_place s + prefix_len is_ascii_digit (drop (first_place s) s
 abbrev pub is_block_sign : ℕ → Bool
 is_block_sign b = is_one_of (codes "-+=>|.)") b
 
--- such a character begins there, or the `:-` of a table's line of dashes (GitHub Flavored Markdown 0.29, 4.10)
-abbrev pub begins_with_sign : List ℕ → Bool
-begins_with_sign s =
-    is_block_sign (slice_index s 0) || ((slice_index s 0 == colon) && (slice_index s 1 == hyphen))
+-- such a character stands there, or the `:-` of a table's line of dashes (GitHub Flavored Markdown 0.29, 4.10)
+abbrev pub is_sign_at : List ℕ → ℕ → Bool
+is_sign_at s k =
+    is_block_sign (slice_index s k) || ((slice_index s k == colon) && (slice_index s (k + 1) == hyphen))
 
 -- what ends the marker of an ordered list item (CommonMark 0.31.2, 5.2)
 abbrev pub is_delimiter : ℕ → Bool
@@ -73,7 +73,7 @@ ends_or_has_space (b ∷ s) = b == space
 -- the places that get a backslash where the text begins a line
 abbrev pub is_block_mark : List ℕ → ℕ → Bool
 is_block_mark s k =
-    ((k == first_place s) && begins_with_sign (drop k s))
+    ((k == first_place s) && is_sign_at s k)
     || ((k == number_end s) && is_delimiter (slice_index s k) && ends_or_has_space (drop (k + 1) s))
 
 -- the places of a text that get a backslash
@@ -115,6 +115,6 @@ begins_heading s = slice_index s (first_place s) == number_sign
 -- its first character that is no space and no U+FEFF, or what stands there with a number before it, begins a block
 abbrev pub begins_block : List ℕ → Bool
 begins_block s =
-    begins_with_sign (drop (first_place s) s)
+    is_sign_at s (first_place s)
     || (is_delimiter (slice_index s (number_end s)) && ends_or_has_space (drop (number_end s + 1) s))
     || begins_heading s

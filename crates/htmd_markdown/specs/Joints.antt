@@ -15,6 +15,7 @@ use Rattle.htmd_markdown.specs.declared.joint.Joint.TheVariants.{AsTheyAre, Mark
 use Rattle.htmd_markdown.specs.declared.joint.Joint.TheVariants.{RunsGo, StartMoves, StartLosesRuns}
 use Rattle.htmd_markdown.specs.declared.joint.Joint.TheVariants.{EndMoves, EndLosesRuns}
 use Rattle.htmd_markdown.specs.CodeSpans.{begins_with, ends_with}
+use Rattle.htmd_markdown.specs.Titles.{is_filled}
 
 -- ---- characters
 
@@ -62,21 +63,21 @@ first_character s = slice_index (chars s) 0
 abbrev pub last_character : List ℕ → ℕ
 last_character s = slice_index (reverse (chars s)) 0
 
+-- a plain sign, or one that a backslash escapes
+abbrev pub is_plain_at : Bool → ℕ → Bool
+is_plain_at escaped c = is_plain_sign c || (is_ascii_punctuation c && escaped)
+
 -- the plain signs that begin these characters, with those that a backslash escapes
 abbrev pub plain_signs : Bool → List ℕ → List ℕ
 plain_signs escaped [] = []
 plain_signs escaped (c ∷ cs) =
-    if is_plain_sign c || (escaped && is_ascii_punctuation c)
-    then c ∷ plain_signs ((c == backslash) && not escaped) cs
-    else []
+    if is_plain_at escaped c then c ∷ plain_signs ((c == backslash) && not escaped) cs else []
 
 -- the same of characters from the end back
 abbrev pub plain_signs_back : List ℕ → List ℕ
 plain_signs_back [] = []
 plain_signs_back (c ∷ cs) =
-    if is_plain_sign c || (is_ascii_punctuation c && (prefix_len is_backslash cs % 2 == 1))
-    then c ∷ plain_signs_back cs
-    else []
+    if is_plain_at (prefix_len is_backslash cs % 2 == 1) c then c ∷ plain_signs_back cs else []
 
 -- how many bytes of plain signs begin a text, and end it
 abbrev pub plain_start : List ℕ → ℕ
@@ -92,12 +93,16 @@ plain_end s = length (encode_utf8_all (plain_signs_back (reverse (chars s))))
 abbrev pub is_misplaced : ℕ → ℕ → Bool
 is_misplaced sign other = not (is_word_character sign || is_whitespace sign) && not (stands_apart other)
 
+abbrev pub word_first : List ℕ → Bool
+word_first [] = false
+word_first (c ∷ cs) = is_word_character c
+
 -- the text begins, or ends, with a word character
 abbrev pub begins_word : List ℕ → Bool
-begins_word s = is_word_character (first_character s)
+begins_word s = word_first (chars s)
 
 abbrev pub ends_word : List ℕ → Bool
-ends_word s = is_word_character (last_character s)
+ends_word s = word_first (reverse (chars s))
 
 -- What is mended behind a run of so many `*`: the plain signs go in front of it where a word follows; where the same
 -- run follows, both go; else a space parts the run from what stands before it.
@@ -115,18 +120,18 @@ joint_at_end run before =
     if ends_word head then EndMoves run plain
     else (if ending_run head == run then EndLosesRuns run plain else SpaceBetween)
 
--- what is mended of runs of `*`, where one stands at the joint and something before and behind
+-- what is mended of runs of `*` between two texts that are not empty, and end and begin with these characters
+abbrev pub joint_between : ℕ → ℕ → ℕ → ℕ → List ℕ → List ℕ → Joint
+joint_between ending beginning last first before rest =
+    if (ending == beginning) && not (is_whitespace last) && not (is_whitespace first) then RunsGo ending
+    else (if nat_lt 0 beginning && is_misplaced first last then joint_at_start beginning rest
+    else (if nat_lt 0 ending && is_misplaced last first then joint_at_end ending before else AsTheyAre))
+
+-- what is mended of runs of `*`, where one stands at the joint, and something before it and behind it
 abbrev pub joint_of_runs : ℕ → ℕ → List ℕ → List ℕ → Joint
-joint_of_runs ending beginning [] rest = AsTheyAre
-joint_of_runs ending beginning (b ∷ before) [] = AsTheyAre
-joint_of_runs ending beginning (b ∷ before) (c ∷ rest) =
-    let last = last_character (b ∷ before) in
-    let first = first_character (c ∷ rest) in
-    if (ending == 0) && (beginning == 0) then AsTheyAre
-    else (if (ending == beginning) && not (is_whitespace last || is_whitespace first)
-    then RunsGo ending
-    else (if nat_lt 0 beginning && is_misplaced first last then joint_at_start beginning (c ∷ rest)
-    else (if nat_lt 0 ending && is_misplaced last first then joint_at_end ending (b ∷ before) else AsTheyAre)))
+joint_of_runs ending beginning before rest =
+    if ((ending == 0) && (beginning == 0)) || not (is_filled before && is_filled rest) then AsTheyAre
+    else joint_between ending beginning (last_character before) (first_character rest) before rest
 
 -- what is mended where a content meets the text so far
 abbrev pub joint_of : List ℕ → List ℕ → Joint

@@ -39,4 +39,5 @@ HasEqualColumns first spacing blocks text =
 
 -- In Guarded it begins there, but at least one and at most four characters behind its own dot.
 abbrev pub HasGuardedColumns : ℕ → ℕ → List Block → List ℕ → Type 0
-HasGuardedColumns first spacing blocks text = HasColumns (guarded_spaces spacing (highest_number first blocks)) first blocks text
+HasGuardedColumns first spacing blocks text =
+    HasColumns (guarded_spaces spacing (highest_number first blocks)) first blocks text

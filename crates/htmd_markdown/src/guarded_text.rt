@@ -156,7 +156,7 @@ fn block_mark(text: &str, begins_line: bool) -> Option<usize>
     }
     let bytes = text.as_bytes();
     let first = first_place(text);
-    if begins_with_sign(&bytes[first..]) {
+    if is_sign_at(bytes, first) {
         return Some(first);
     }
     let number_end = first + digits_len(&bytes[first..]);
@@ -166,12 +166,12 @@ fn block_mark(text: &str, begins_line: bool) -> Option<usize>
     }
 }
 
-/// Whether a line begins with a character that begins a block or underlines a heading, alone or with what stands before
-/// it, or with the `:-` of a table's line of dashes.
-fn begins_with_sign(bytes: &[u8]) -> bool
-    ensures { result ≡ spec.begins_with_sign bytes.now }
+/// Whether such a character stands there, or the `:-` of a table's line of dashes.
+fn is_sign_at(bytes: &[u8], place: usize) -> bool
+    requires { place ≤ length bytes.now }
+    ensures { result ≡ spec.is_sign_at bytes.now place }
 {
-    match bytes {
+    match &bytes[place..] {
         [b':', b'-', ..] => true,
         [first, ..] => is_block_sign(*first),
         [] => false,

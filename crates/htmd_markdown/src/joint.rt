@@ -1,7 +1,9 @@
 //! What is mended where a content meets the text so far, so that no sign of the one joins with a sign of the other into
 //! markup (CommonMark 0.31.2, 6.1, 6.2 and 6.4).
-ghost use Rattle.std.specs.Prelude.{◌≡◌, ◌≤◌, OnOk, length, string_bytes};
+ghost use Rattle.std.specs.Prelude.{◌≡◌, ◌≤◌, ◌-◌, ◌++◌, OnOk, length, take, drop, string_bytes};
+ghost use Rattle.std.specs.Str.{IsCharBoundary};
 ghost use Rattle.htmd_markdown.specs.Joints as spec;
+ghost use Rattle.htmd_markdown.specs.JointFits.{Fits, FitsStart, FitsEnd};
 
 use htmd_text::runs::{leading_len, trailing_len};
 use std::alloc::AllocError;
@@ -84,11 +86,13 @@ fn ending_run(text: &[u8]) -> usize
 fn plain_start(text: &str) -> usize
     ensures bound { result ≤ length text.now }
     ensures value { result ≡ spec.plain_start text.now }
+    ensures cut { IsCharBoundary text.now result }
 {
+    let mut characters = text.chars();
     let mut len = 0;
     let mut is_escaped = false;
-    for c in text.chars() {
-        if !(is_plain_sign(c) || is_escaped && c.is_ascii_punctuation()) {
+    while let Some(c) = characters.next() {
+        if !(is_plain_sign(c) || c.is_ascii_punctuation() && is_escaped) {
             return len;
         }
         is_escaped = c == '\\' && !is_escaped;
@@ -101,6 +105,7 @@ fn plain_start(text: &str) -> usize
 fn plain_end(text: &str) -> usize
     ensures bound { result ≤ length text.now }
     ensures value { result ≡ spec.plain_end text.now }
+    ensures cut { IsCharBoundary text.now (length text.now - result) }
 {
     let bytes = text.as_bytes();
     let mut characters = text.chars();
@@ -137,7 +142,8 @@ fn ends_word(text: &str) -> bool
 
 /// What is mended behind a run of so many `*`, which this rest follows.
 fn joint_at_start(run: usize, rest: &str) -> Joint
-    ensures { result ≡ spec.joint_at_start run rest.now }
+    ensures fits { FitsStart result run rest.now }
+    ensures value { result ≡ spec.joint_at_start run rest.now }
 {
     let plain = plain_start(rest);
     let behind = &rest[plain..];
@@ -152,7 +158,8 @@ fn joint_at_start(run: usize, rest: &str) -> Joint
 
 /// What is mended before a run of so many `*`, before which this text stands.
 fn joint_at_end(run: usize, before: &str) -> Joint
-    ensures { result ≡ spec.joint_at_end run before.now }
+    ensures fits { FitsEnd result run before.now }
+    ensures value { result ≡ spec.joint_at_end run before.now }
 {
     let plain = plain_end(before);
     let head = &before[..before.len() - plain];
@@ -165,16 +172,17 @@ fn joint_at_end(run: usize, before: &str) -> Joint
     Joint::SpaceBetween
 }
 
-/// What is mended of runs of so many `*`, between these texts.
-fn joint_of_runs(ending: usize, beginning: usize, before: &str, rest: &str) -> Joint
-    ensures { result ≡ spec.joint_of_runs ending beginning before.now rest.now }
+/// What is mended of runs of so many `*` between these texts, which end and begin with these characters.
+fn joint_between(
+    ending: usize,
+    beginning: usize,
+    last: char,
+    first: char,
+    before: &str,
+    rest: &str,
+) -> Joint
+    ensures { result ≡ spec.joint_between ending beginning last first before.now rest.now }
 {
-    if ending == 0 && beginning == 0 {
-        return Joint::AsTheyAre;
-    }
-    let (Some(last), Some(first)) = (before.chars().next_back(), rest.chars().next()) else {
-        return Joint::AsTheyAre;
-    };
     if ending == beginning && !last.is_whitespace() && !first.is_whitespace() {
         return Joint::RunsGo(ending);
     }
@@ -187,9 +195,23 @@ fn joint_of_runs(ending: usize, beginning: usize, before: &str, rest: &str) -> J
     Joint::AsTheyAre
 }
 
+/// What is mended of runs of so many `*` between these texts.
+fn joint_of_runs(ending: usize, beginning: usize, before: &str, rest: &str) -> Joint
+    ensures { result ≡ spec.joint_of_runs ending beginning before.now rest.now }
+{
+    if ending == 0 && beginning == 0 {
+        return Joint::AsTheyAre;
+    }
+    let (Some(last), Some(first)) = (before.chars().next_back(), rest.chars().next()) else {
+        return Joint::AsTheyAre;
+    };
+    joint_between(ending, beginning, last, first, before, rest)
+}
+
 /// What is mended where a content meets the text so far.
 fn joint_of(out: &str, content: &str) -> Joint
-    ensures { result ≡ spec.joint_of out.now content.now }
+    ensures fits { Fits result out.now content.now }
+    ensures value { result ≡ spec.joint_of out.now content.now }
 {
     match (out.as_bytes().last(), content.as_bytes().first()) {
         (Some(b'!'), Some(b'[')) => return Joint::MarkBeforeBracket,
@@ -223,42 +245,57 @@ pub fn mend_joint(out: &mut String, content: &mut String) -> Result<(), AllocErr
 }
 
 /// Mends a text and a content so.
-fn mend(joint: Joint, out: &mut String, content: &mut String) -> Result<(), AllocError> {
+fn mend(joint: Joint, out: &mut String, content: &mut String) -> Result<(), AllocError>
+    requires { Fits joint (string_bytes out.old) (string_bytes content.old) }
+    ensures out { OnOk result
+        (string_bytes out.new ≡ (spec.mended joint (string_bytes out.old) (string_bytes content.old)).front) }
+    ensures content { OnOk result
+        (string_bytes content.new ≡ (spec.mended joint (string_bytes out.old) (string_bytes content.old)).behind) }
+{
     match joint {
-        Joint::AsTheyAre => {}
+        Joint::AsTheyAre => Ok(()),
         Joint::MarkBeforeBracket => {
             out.truncate(out.len() - 1);
-            out.push_str("\\!")?;
+            out.push_str("\\!")
         }
-        Joint::SpaceBetween => out.push(' ')?,
+        Joint::SpaceBetween => out.push_str(" "),
         Joint::RunsGo(run) => {
             out.truncate(out.len() - run);
             remove(content, 0, run);
+            Ok(())
         }
         Joint::StartMoves(run, plain) => {
             out.push_str(&content[run..run + plain])?;
             remove(content, run, run + plain);
+            Ok(())
         }
         Joint::StartLosesRuns(run, plain) => {
             out.push_str(&content[run..run + plain])?;
             remove(content, 0, run + plain + run);
+            Ok(())
         }
         Joint::EndMoves(run, plain) => {
             let end = out.len() - run;
             content.insert_str(0, &out[end - plain..end])?;
             remove(out, end - plain, end);
+            Ok(())
         }
         Joint::EndLosesRuns(run, plain) => {
             let end = out.len() - run;
             out.truncate(end);
             remove(out, end - plain - run, end - plain);
+            Ok(())
         }
     }
-    Ok(())
 }
 
 /// Takes a piece out of the text.
-fn remove(text: &mut String, from: usize, to: usize) {
+fn remove(text: &mut String, from: usize, to: usize)
+    requires order { from ≤ to }
+    requires from { IsCharBoundary (string_bytes text.old) from }
+    requires to { IsCharBoundary (string_bytes text.old) to }
+    ensures { string_bytes text.new ≡ take from (string_bytes text.old) ++ drop to (string_bytes text.old) }
+{
     let removed = text.replace_range(from..to, "");
     prove!(removed.is_ok());
 }

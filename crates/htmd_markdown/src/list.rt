@@ -4,7 +4,7 @@ ghost use Rattle.std.specs.Option.{option_copied, option_map};
 ghost use Rattle.htmd_text.specs.Indents.{indented_text};
 ghost use Rattle.htmd_text.specs.Trims.{trimmed_start, is_line_feed};
 ghost use Rattle.htmd_markdown.specs.ListItems as items;
-ghost use Rattle.htmd_markdown.specs.ListColumns.{HasEqualColumns, HasGuardedColumns};
+ghost use Rattle.htmd_markdown.specs.ListColumns.{HasColumns, HasEqualColumns, HasGuardedColumns};
 ghost use Rattle.htmd_markdown.specs.Lists as spec;
 ghost use Rattle.htmd_markdown.specs.Numbering.{spaces_of};
 
@@ -195,8 +195,10 @@ fn write_numbered(
     spaces: Spaces,
     blocks: Vec<ListBlock>,
 ) -> Result<String, AllocError>
-    ensures { IfOk result (λ t. string_bytes t
+    ensures text { IfOk result (λ t. string_bytes t
         ≡ spec.ordered_list_by (spaces_of spaces) first (map spec.block_of blocks.items)) }
+    ensures columns { IfOk result
+        (λ t. HasColumns (spaces_of spaces) first (map spec.block_of blocks.items) (string_bytes t)) }
 {
     let mut number = first as usize;
     let mut texts = Vec::with_capacity(alloc, blocks.len())?;

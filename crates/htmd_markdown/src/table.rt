@@ -344,7 +344,9 @@ fn byte_width(byte: u8, is_escaped: bool, bars: Bars) -> usize
 }
 
 /// How many characters a line of these widths has, with its line feed, as far as a `usize` goes.
-fn line_room(widths: &[usize]) -> usize {
+fn line_room(widths: &[usize]) -> usize
+    ensures { result ≡ min (1 + guarded.line_width widths.now) usize.MAX }
+{
     let mut room: usize = 2;
     for width in widths {
         room = room.saturating_add(*width).saturating_add(3);

@@ -9,26 +9,17 @@ use Rattle.std.specs.Prelude.{String}
 use Rattle.std.specs.Global.{Global}
 use Rattle.std.specs.String.{string_bytes}
 use Rattle.htmd_markdown.specs.ListItems.{numbered_item}
-use Rattle.htmd_markdown.specs.ListColumns.{HasEqualColumns}
-use Rattle.htmd_markdown.specs.Lists.{item_count, block_of, numbered_blocks, highest_number, ordered_list}
+use Rattle.htmd_markdown.specs.ListColumns.{HasColumns}
+use Rattle.htmd_markdown.specs.Lists.{item_count, block_of, numbered_blocks, ordered_list_by}
+use Rattle.htmd_markdown.specs.Numbering.{spaces_of}
 use Rattle.htmd_markdown.specs.declared.list.ListBlock.{ListBlock}
 use Rattle.htmd_text.specs.Joins.{joined_blocks}
-use Rattle.htmd_markdown.proofs.ListColumnsLemmas.{columns_equal}
+use Rattle.htmd_markdown.proofs.ListColumnsLemmas.{columns_kept}
 use Rattle.htmd_markdown.proofs.ListsLemmas.{items_in, item_count-append, numbered_more}
-use Rattle.htmd_markdown.proofs.list.write_ordered_list.Goals as goal
+use Rattle.htmd_markdown.proofs.list.write_numbered.Goals as goal
 
 abbrev bytes_of : String Global → List ℕ
 bytes_of text = string_bytes text
-
-pub overflow_add-number : goal.overflow_add-number
-overflow_add-number c = omega (
-  arith,
-  items_in block_of c.deref.result.now,
-  c.item_count.ensures,
-  c.deref.ensures.len,
-  ap length c.deref.ensures.value,
-  c.args.blocks.small,
-)
 
 pub overflow_add-number-in-Item : goal.overflow_add-number-in-Item
 overflow_add-number-in-Item c =
@@ -40,9 +31,9 @@ overflow_add-number-in-Item c =
       arith,
       turn.0,
       c.loop-block.invariant.number,
+      c.ranges.first.fits,
       items_in block_of c.loop-block.yielded,
-      c.deref.ensures.len,
-      ap length c.deref.ensures.value,
+      c.args.blocks.small,
     )
 
 pub loop-block-preserved-in-Item : goal.loop-block-preserved-in-Item
@@ -53,9 +44,9 @@ loop-block-preserved-in-Item c =
     map_push block_of c.loop-block.yielded c.in-Some.block in
     let count = ap item_count more ∙ item_count-append before (block_of c.in-Some.block ∷ []) in
     let one = ap (λ block. item_count (block_of block ∷ [])) c.in-Item.is in
-    let numbers = numbered_blocks c.args.spacing c.saturating_sub-highest.result in
+    let numbers = numbered_blocks (spaces_of c.args.spaces) in
     let content = c.in_ok-write_numbered_item-in-Item.ensures
-    ∙ ap (numbered_item c.args.spacing c.saturating_sub-highest.result c.loop-block.number) c.deref-in-Item.ensures
+    ∙ ap (numbered_item (spaces_of c.args.spaces c.loop-block.number) c.loop-block.number) c.deref-in-Item.ensures
     in
     let text : numbers c.loop-block.number (block_of c.in-Some.block ∷ [])
     ≡ string_bytes c.in_ok-write_numbered_item-in-Item.field-0 ∷ [] =
@@ -67,7 +58,7 @@ loop-block-preserved-in-Item c =
           ∙ map_push bytes_of c.loop-block.texts.items c.in_ok-write_numbered_item-in-Item.field-0
           ∙ ap (λ l. l ++ bytes_of c.in_ok-write_numbered_item-in-Item.field-0 ∷ []) c.loop-block.invariant.texts
           ∙ sym (ap (numbers c.args.first) more
-          ∙ numbered_more c.args.spacing c.saturating_sub-highest.result c.args.first c.loop-block.number before
+          ∙ numbered_more (spaces_of c.args.spaces) c.args.first c.loop-block.number before
           (block_of c.in-Some.block) _ c.loop-block.invariant.number text);
       number = omega (arith, c.loop-block.invariant.number, count, one);
     }
@@ -80,7 +71,7 @@ loop-block-preserved c =
     map_push block_of c.loop-block.yielded c.in-Some.block in
     let count = ap item_count more ∙ item_count-append before (block_of c.in-Some.block ∷ []) in
     let none = ap (λ block. item_count (block_of block ∷ [])) c.in-Other.is in
-    let numbers = numbered_blocks c.args.spacing c.saturating_sub-highest.result in
+    let numbers = numbered_blocks (spaces_of c.args.spaces) in
     let text : numbers c.loop-block.number (block_of c.in-Some.block ∷ []) ≡ string_bytes c.in-Other.text ∷ [] =
     ap (λ block. numbers c.loop-block.number (block_of block ∷ [])) c.in-Other.is in
     record {
@@ -89,7 +80,7 @@ loop-block-preserved c =
           ∙ map_push bytes_of c.loop-block.texts.items c.in-Other.text
           ∙ ap (λ l. l ++ bytes_of c.in-Other.text ∷ []) c.loop-block.invariant.texts
           ∙ sym (ap (numbers c.args.first) more
-          ∙ numbered_more c.args.spacing c.saturating_sub-highest.result c.args.first c.loop-block.number before
+          ∙ numbered_more (spaces_of c.args.spaces) c.args.first c.loop-block.number before
           (block_of c.in-Some.block) _ c.loop-block.invariant.number text);
       number = omega (arith, c.loop-block.invariant.number, count, none);
     }
@@ -101,30 +92,19 @@ returns-clause-text c =
     let all = YieldsList-end yields c.loop-block.yielded _ c.loop-block.yielded_by c.next.result c.next.new.self
     c.in-None.is c.next.ensures.steps in
     let whole : c.loop-block.yielded ≡ c.args.blocks.items = sym (map-id c.loop-block.yielded) ∙ all.0 in
-    let given = ap (λ (blocks : List ListBlock). item_count (map block_of blocks)) c.deref.ensures.value in
-    let highest : c.saturating_sub-highest.result ≡ highest_number c.args.first (map block_of c.args.blocks.items) =
-    c.saturating_sub-highest.ensures ∙ ap (λ n. c.args.first + n - 1) (c.item_count.ensures ∙ given) in
     let texts =
-    ap (map bytes_of) c.deref-2.ensures.value
+    ap (map bytes_of) c.deref.ensures.value
     ∙ c.loop-block.invariant.texts
-    ∙ ap (λ (blocks : List ListBlock). numbered_blocks c.args.spacing c.saturating_sub-highest.result c.args.first
-    (map block_of blocks)) whole
-    ∙ ap (λ n. numbered_blocks c.args.spacing n c.args.first (map block_of c.args.blocks.items)) highest in
-    IfOk-weaker c.join_blocks.result _ (λ t. string_bytes t ≡ ordered_list c.args.first c.args.spacing
+    ∙ ap (λ (blocks : List ListBlock). numbered_blocks (spaces_of c.args.spaces) c.args.first (map block_of blocks))
+    whole in
+    IfOk-weaker c.join_blocks.result _ (λ t. string_bytes t ≡ ordered_list_by (spaces_of c.args.spaces) c.args.first
     (map block_of c.args.blocks.items)) (λ t e. e ∙ ap joined_blocks texts) c.join_blocks.ensures
 
 pub returns-clause-columns : goal.returns-clause-columns
 returns-clause-columns c =
     let blocks = map block_of c.args.blocks.items in
     let small : c.args.first + item_count blocks < 2 ^ 64 =
-    omega (
-      arith,
-      c.ranges.first.fits,
-      items_in block_of c.args.blocks.items,
-      c.deref.ensures.len,
-      ap length c.deref.ensures.value,
-      c.args.blocks.small,
-    ) in
-    IfOk-weaker c.join_blocks.result _ (λ t. HasEqualColumns c.args.first c.args.spacing blocks (string_bytes t))
-    (λ t e. subst (HasEqualColumns c.args.first c.args.spacing blocks) (sym e)
-    (columns_equal c.args.first c.args.spacing blocks small)) (returns-clause-text c)
+    omega (arith, c.ranges.first.fits, items_in block_of c.args.blocks.items, c.args.blocks.small) in
+    IfOk-weaker c.join_blocks.result _ (λ t. HasColumns (spaces_of c.args.spaces) c.args.first blocks (string_bytes t))
+    (λ t e. subst (HasColumns (spaces_of c.args.spaces) c.args.first blocks) (sym e)
+    (columns_kept (spaces_of c.args.spaces) c.args.first blocks small)) (returns-clause-text c)
