@@ -30,3 +30,5 @@ pub mod TableHeadersLemmas
 pub mod TableTextsLemmas
 mod Examples
 pub mod GuardedExamples
+pub mod ImagesLemmas
+pub mod SightsLemmas

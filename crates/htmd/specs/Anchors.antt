@@ -18,7 +18,7 @@ use Rattle.htmd.specs.Handling.{ElementView, ResultView, PlanView, raw_html, con
 use Rattle.htmd.specs.Handling.{HandlerMeaning}
 use Rattle.htmd.specs.Handling.{final_result, without_definitions}
 use Rattle.htmd.specs.Outputs.{is_guarded}
-use Rattle.htmd.specs.ElementPlans.{attributes_of}
+use Rattle.htmd.specs.ElementPlans.{attributes_of, is_tag_among}
 use Rattle.htmd.specs.AllText.{all_text_of}
 use Rattle.htmd.specs.Groups.{children_at}
 use Rattle.htmd.specs.LinkAttributes.{last_value, is_raw_unless_among, title_of}
@@ -58,7 +58,8 @@ abbrev mutual
   holds_image (doctype id) = false
   holds_image (text id s) = false
   holds_image (comment id s) = false
-  holds_image (element id name attributes children) = bytes_eq name (codes "img") || hold_image children
+  holds_image (element id name attributes children) =
+      is_tag_among (codes "img" ∷ []) (Some name) || hold_image children
 
   pub hold_image : NumberedForest → Bool
   hold_image none = false

@@ -1,18 +1,19 @@
 -- What a table holds in Guarded: its captions and its rows of cells, in their order, each cell with its spans.
-use Rattle.std.specs.Prelude.{ℕ, ◌==◌, Bool, true, false, not, ◌&&◌, ◌||◌, if◌then◌else◌, min, nat_lt, List, [], ◌∷◌, ◌++◌}
-use Rattle.std.specs.Prelude.{length, take, drop, Option, Some, None, codes, filter}
+use Rattle.std.specs.Prelude.{ℕ, ◌+◌, ◌-◌, ◌*◌, ◌==◌, Bool, true, false, not, ◌&&◌, ◌||◌, if◌then◌else◌, min, nat_lt, List, [], ◌∷◌, ◌++◌}
+use Rattle.std.specs.Prelude.{length, take, Option, Some, None, codes, filter, fold}
 use Rattle.std.specs.Char.{is_ascii_digit}
-use Rattle.std.specs.List.{list_all, list_any, prefix_len, flat_map}
+use Rattle.std.specs.List.{list_any, prefix_len, flat_map}
 use Rattle.std.specs.Option.{unwrap_or}
 use Rattle.std.specs.Str.{bytes_eq}
-use Rattle.std.specs.Str.Parse.{digits_value}
 use Rattle.htmd_text.specs.Characters.{tab, line_feed, form_feed, carriage_return, space, plus_sign, hyphen}
+use Rattle.htmd_text.specs.Characters.{digit_zero}
 use Rattle.htmd_text.specs.Trims.{trimmed_start}
 use Rattle.htmd_text.specs.WhiteSpace.{is_document_white_space}
 use Rattle.htmd_tree.specs.ValueTrees.{AttributePair}
-use Rattle.htmd_tree.specs.Items.{Item, data_at, children_of, tag_of}
+use Rattle.htmd_tree.specs.Items.{Item, Data, document_node, doctype_node, text_node, comment_node, element_node}
+use Rattle.htmd_tree.specs.Items.{data_at, children_of, tag_of}
 use Rattle.htmd_tree.specs.NumberedTrees.{NumberedTree, document, doctype, text, comment, element, NumberedForest, none}
-use Rattle.htmd_tree.specs.NumberedTrees.{more}
+use Rattle.htmd_tree.specs.NumberedTrees.{more, tree_of}
 use Rattle.htmd_tree.specs.Ancestors.{ancestor_of}
 use Rattle.htmd.specs.declared.element_handler.table_layout.TableChild.{TableChild}
 use Rattle.htmd.specs.declared.element_handler.table_layout.TableChild.TheVariants.{TableCaption, TableHead}
@@ -21,54 +22,96 @@ use Rattle.htmd.specs.Groups.{children_at}
 use Rattle.htmd.specs.ElementPlans.{is_tag_among, value_of_first}
 use Rattle.htmd.specs.OtherBlocks.{hidden_tags}
 use Rattle.htmd.specs.TableLayouts.{has_tag, tagged_children, table_child}
-use Rattle.htmd.specs.Tables.{cell_tags, has_table_form, tag_of_tree}
+use Rattle.htmd.specs.Tables.{cell_tags, has_table_form}
 
--- ---- what may stand in it
+-- ---- what else is to be seen in it
 
 abbrev mutual
-  -- nothing to see: white space, comments, elements that a browser doesn't show, and elements of no more than that
-  pub is_blank : NumberedTree → Bool
-  is_blank (document id children) = are_blank children
-  is_blank (doctype id) = true
-  is_blank (text id s) = list_all is_document_white_space s
-  is_blank (comment id s) = true
-  is_blank (element id name attributes children) =
-      is_tag_among hidden_tags (Some name) || (not (bytes_eq name (codes "img")) && are_blank children)
+  -- something is to be seen: a text with more than white space in it, or an image, in no element that a browser doesn't
+  -- show
+  pub is_seen : NumberedTree → Bool
+  is_seen (document id children) = are_seen children
+  is_seen (doctype id) = false
+  is_seen (text id s) = list_any (λ b. not (is_document_white_space b)) s
+  is_seen (comment id s) = false
+  is_seen (element id name attributes children) =
+      not (is_tag_among hidden_tags (Some name)) && (bytes_eq name (codes "img") || are_seen children)
 
-  pub are_blank : NumberedForest → Bool
-  are_blank none = true
-  are_blank (more tree trees) = is_blank tree && are_blank trees
+  pub are_seen : NumberedForest → Bool
+  are_seen none = false
+  are_seen (more tree trees) = is_seen tree || are_seen trees
 
-abbrev pub children_of_tree : NumberedTree → NumberedForest
-children_of_tree (document id children) = children
-children_of_tree (doctype id) = none
-children_of_tree (text id s) = none
-children_of_tree (comment id s) = none
-children_of_tree (element id name attributes children) = children
+-- of a node whose children don't decide it
+abbrev pub own_sight : Data → Option Bool
+own_sight document_node = None
+own_sight doctype_node = Some false
+own_sight (text_node s) = Some (list_any (λ b. not (is_document_white_space b)) s)
+own_sight (comment_node s) = Some false
+own_sight (element_node name attributes) =
+    if is_tag_among hidden_tags (Some name) then Some false
+    else (if bytes_eq name (codes "img") then Some true else None)
 
--- a row holds cells
-abbrev pub row_fits : NumberedForest → Bool
-row_fits none = true
-row_fits (more tree trees) = (is_tag_among cell_tags (tag_of_tree tree) || is_blank tree) && row_fits trees
+-- beside its cells something is to be seen in a row
+abbrev pub is_seen_in_row : List Item → ℕ → Bool
+is_seen_in_row items child = not (has_tag cell_tags items child) && is_seen (tree_of items child)
 
--- a part of a table holds rows
-abbrev pub section_fits : NumberedForest → Bool
-section_fits none = true
-section_fits (more tree trees) =
-    (if is_tag_among (codes "tr" ∷ []) (tag_of_tree tree) then row_fits (children_of_tree tree) else is_blank tree)
-    && section_fits trees
+abbrev pub row_shows_more : List Item → ℕ → Bool
+row_shows_more items node = list_any (is_seen_in_row items) (children_of items node)
 
-abbrev pub child_fits : TableChild → NumberedTree → Bool
-child_fits TableCaption tree = true
-child_fits TableHead tree = section_fits (children_of_tree tree)
-child_fits TableSection tree = section_fits (children_of_tree tree)
-child_fits DirectRow tree = row_fits (children_of_tree tree)
-child_fits OtherChild tree = is_blank tree
+-- the same of the rows of a part
+abbrev pub is_seen_in_section : List Item → ℕ → Bool
+is_seen_in_section items child =
+    if has_tag (codes "tr" ∷ []) items child then row_shows_more items child else is_seen (tree_of items child)
 
--- a table holds captions, parts and rows
-abbrev pub table_fits : NumberedForest → Bool
-table_fits none = true
-table_fits (more tree trees) = child_fits (table_child (tag_of_tree tree)) tree && table_fits trees
+abbrev pub section_shows_more : List Item → ℕ → Bool
+section_shows_more items node = list_any (is_seen_in_section items) (children_of items node)
+
+-- the same of the captions, parts and rows of a table
+abbrev pub child_shows_more : TableChild → List Item → ℕ → Bool
+child_shows_more TableCaption items child = false
+child_shows_more TableHead items child = section_shows_more items child
+child_shows_more TableSection items child = section_shows_more items child
+child_shows_more DirectRow items child = row_shows_more items child
+child_shows_more OtherChild items child = is_seen (tree_of items child)
+
+abbrev pub child_at : List Item → ℕ → TableChild
+child_at items node = table_child (tag_of (data_at items node))
+
+abbrev pub is_seen_in_table : List Item → ℕ → Bool
+is_seen_in_table items child = child_shows_more (child_at items child) items child
+
+abbrev pub table_shows_more : List Item → ℕ → Bool
+table_shows_more items node = list_any (is_seen_in_table items) (children_of items node)
+
+-- ---- whether it is written as a table
+
+-- a cell stands in the row
+abbrev pub has_cell : List Item → ℕ → Bool
+has_cell items node = list_any (has_tag cell_tags items) (children_of items node)
+
+abbrev pub is_filled_row : List Item → ℕ → Bool
+is_filled_row items child = has_tag (codes "tr" ∷ []) items child && has_cell items child
+
+abbrev pub has_row_in : List Item → ℕ → Bool
+has_row_in items node = list_any (is_filled_row items) (children_of items node)
+
+abbrev pub child_has_row : TableChild → List Item → ℕ → Bool
+child_has_row TableCaption items child = false
+child_has_row TableHead items child = has_row_in items child
+child_has_row TableSection items child = has_row_in items child
+child_has_row DirectRow items child = has_cell items child
+child_has_row OtherChild items child = false
+
+abbrev pub is_or_has_row : List Item → ℕ → Bool
+is_or_has_row items child = child_has_row (child_at items child) items child
+
+abbrev pub has_row : List Item → ℕ → Bool
+has_row items node = list_any (is_or_has_row items) (children_of items node)
+
+-- the table has explicit headers and a row of cells, stands in no cell of another one, and holds nothing else to see
+abbrev pub is_written_as_table : List Item → ℕ → Bool
+is_written_as_table items node =
+    has_table_form items node && not (table_shows_more items node) && has_row items node
 
 -- ---- its lines
 
@@ -117,9 +160,6 @@ begins_behind TableSection items begins_group node = true
 begins_behind DirectRow items begins_group node = begins_still begins_group (cells_of items node)
 begins_behind OtherChild items begins_group node = begins_group
 
-abbrev pub child_at : List Item → ℕ → TableChild
-child_at items node = table_child (tag_of (data_at items node))
-
 abbrev pub lines_among : List Item → Bool → List ℕ → List TableLine
 lines_among items begins_group [] = []
 lines_among items begins_group (node ∷ nodes) =
@@ -129,15 +169,6 @@ lines_among items begins_group (node ∷ nodes) =
 abbrev pub table_lines : List Item → ℕ → List TableLine
 table_lines items node = lines_among items true (children_of items node)
 
-abbrev pub is_row : TableLine → Bool
-is_row (caption node) = false
-is_row (row in_head begins_group cells) = true
-
--- the table has explicit headers and a row of cells, stands in no cell of another one, and holds nothing else to see
-abbrev pub is_written_as_table : List Item → ℕ → Bool
-is_written_as_table items node =
-    has_table_form items node && table_fits (children_at items node) && list_any is_row (table_lines items node)
-
 -- what is rendered, each node by itself
 abbrev pub line_nodes : TableLine → List ℕ
 line_nodes (caption node) = node ∷ []
@@ -146,17 +177,15 @@ line_nodes (row in_head begins_group cells) = cells
 abbrev pub nodes_of_lines : List TableLine → List ℕ
 nodes_of_lines lines = flat_map line_nodes lines
 
--- the row stands in `thead`, or all its cells are `th`
-abbrev pub is_header_row : List Item → TableLine → Bool
-is_header_row items (caption node) = false
-is_header_row items (row in_head begins_group cells) =
-    in_head || list_all (has_tag (codes "th" ∷ []) items) cells
+abbrev pub is_no_header : List Item → ℕ → Bool
+is_no_header items node = not (has_tag (codes "th" ∷ []) items node)
 
--- the first row is one
+-- the first row stands in `thead`, or all its cells are `th`
 abbrev pub begins_with_header : List Item → List TableLine → Bool
 begins_with_header items [] = false
-begins_with_header items (line ∷ lines) =
-    if is_row line then is_header_row items line else begins_with_header items lines
+begins_with_header items (caption node ∷ lines) = begins_with_header items lines
+begins_with_header items (row in_head begins_group cells ∷ lines) =
+    in_head || not (list_any (is_no_header items) cells)
 
 -- ---- spans (HTML, 4.9.11 and 2.3.4.2)
 
@@ -164,11 +193,15 @@ abbrev pub is_html_white_space : ℕ → Bool
 is_html_white_space b =
     (b == tab) || (b == line_feed) || (b == form_feed) || (b == carriage_return) || (b == space)
 
+-- the number of decimal digits
+abbrev pub number_of : List ℕ → ℕ
+number_of digits = fold (λ n digit. n * 10 + (digit - digit_zero)) 0 digits
+
 -- one or more digits begin the text: their number
 abbrev pub leading_number : List ℕ → Option ℕ
 leading_number s =
     let digits = take (prefix_len is_ascii_digit s) s in
-    if nat_lt 0 (length digits) then Some (digits_value 10 digits) else None
+    if nat_lt 0 (length digits) then Some (number_of digits) else None
 
 -- of a number behind a hyphen zero alone is none below it
 abbrev pub negated : Option ℕ → Option ℕ

@@ -1,6 +1,5 @@
 -- How a table is written in Guarded.
-use Rattle.std.specs.Prelude.{ℕ, Bool, true, ◌||◌, if◌then◌else◌, List, [], ◌∷◌, ◌++◌, length, map, take, drop, nat_lt}
-use Rattle.std.specs.Prelude.{filter}
+use Rattle.std.specs.Prelude.{ℕ, Bool, true, ◌||◌, if◌then◌else◌, List, [], ◌∷◌, ◌++◌, length, map, take, drop}
 use Rattle.std.specs.List.{flat_map, zip}
 use Rattle.htmd_text.specs.BlankLines.{blank_line}
 use Rattle.htmd_text.specs.Characters.{line_feed}
@@ -9,7 +8,6 @@ use Rattle.htmd_text.specs.WhiteSpace.{is_document_white_space}
 use Rattle.htmd_markdown.specs.OneLine.{one_line}
 use Rattle.htmd_markdown.specs.GuardedTables.{guarded_table}
 use Rattle.htmd_markdown.specs.TableGrids.{SpannedCell, SpannedRow, grid}
-use Rattle.htmd_markdown.specs.Titles.{is_filled}
 use Rattle.htmd_tree.specs.Items.{Item}
 use Rattle.htmd.specs.Handling.{ResultView}
 use Rattle.htmd.specs.Tables.{text_of_cell}
@@ -39,16 +37,27 @@ spanned_cell items node content = record {
 abbrev pub spanned_cells : List Item → List ℕ → List ResultView → List SpannedCell
 spanned_cells items nodes contents = map (λ p. spanned_cell items p.0 p.1) (zip nodes contents)
 
+-- a caption behind the rows so far, or before the first one
+abbrev pub put_caption : List SpannedRow → List ℕ → GuardedTexts → GuardedTexts
+put_caption [] caption texts =
+    record { before = texts.before ++ caption ∷ []; rows = texts.rows; behind = texts.behind }
+put_caption (row ∷ rows) caption texts =
+    record { before = texts.before; rows = texts.rows; behind = texts.behind ++ caption ∷ [] }
+
 -- one more caption; one that is empty is none
-abbrev pub with_captions : List (List ℕ) → GuardedTexts → GuardedTexts
-with_captions captions texts =
-    if nat_lt 0 (length texts.rows)
-    then record { before = texts.before; rows = texts.rows; behind = texts.behind ++ filter is_filled captions }
-    else record { before = texts.before ++ filter is_filled captions; rows = texts.rows; behind = texts.behind }
+abbrev pub with_caption : List ℕ → GuardedTexts → GuardedTexts
+with_caption [] texts = texts
+with_caption (b ∷ caption) texts = put_caption texts.rows (b ∷ caption) texts
+
+-- the content of a caption
+abbrev pub with_captions : List ResultView → GuardedTexts → GuardedTexts
+with_captions [] texts = texts
+with_captions (content ∷ []) texts = with_caption (text_of_cell content) texts
+with_captions (content ∷ next ∷ contents) texts = texts
 
 -- the contents of one more line
 abbrev pub with_line : List Item → GuardedTexts → TableLine → List ResultView → GuardedTexts
-with_line items texts (caption node) contents = with_captions (map text_of_cell contents) texts
+with_line items texts (caption node) contents = with_captions contents texts
 with_line items texts (row in_head begins_group cells) contents = record {
   before = texts.before;
   rows = texts.rows

@@ -73,3 +73,4 @@ pub mod Staying
 pub mod Walking
 pub mod TableViews
 pub mod PlainTexts
+pub mod GuardedTableViews

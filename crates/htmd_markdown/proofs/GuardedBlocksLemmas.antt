@@ -7,7 +7,7 @@ use Rattle.std.specs.Char.{is_ascii_digit}
 use Rattle.std.specs.List.{prefix_len}
 use Rattle.std.specs.Str.{chars, IsUtf8, NonePass, NoCharPasses}
 use Rattle.std.proofs.lemmas.Bool.{and_parts, and_from, or_left, or_right, cases_Bool, false_from_ne_true, cases_lt}
-use Rattle.std.proofs.lemmas.Bool.{false≢true, or_from, or_cases, cond-true, cond-false, leb-true, le-leb}
+use Rattle.std.proofs.lemmas.Bool.{false≢true, or_from, or_cases, cond-true, cond-false, leb-true, le-leb, eqb-true}
 use Rattle.std.proofs.lemmas.Bool.Decides.{nat_tests}
 use Rattle.std.proofs.lemmas.List.{get_or_past, get_or-drop, get_or_append_left, take-append-drop, drop_more}
 use Rattle.std.proofs.lemmas.List.{length-drop, length-append, take-take, get_or-append-add}
@@ -356,23 +356,24 @@ sign_is b e = grind (arith, nat_tests)
 shifted_place : (p s : List ℕ) (m : ℕ) → 0 < m → is_heading_place s m ≡ true
     → is_heading_place (p ++ s) (length p + m) ≡ true
 shifted_place p s m some e =
-    let none : (m == 0) ≡ false = grind (arith, nat_tests) in
-    let behind : ((get_or s (m - 1) 0 == space) || follows_byte_order_mark s m) ≡ true =
-    ap (λ b. b || ((get_or s (m - 1) 0 == space) || follows_byte_order_mark s m)) (sym none) ∙ e in
-    or_right (length p + m == 0) _
-    (⊎_elim
-    (λ (white : (get_or s (m - 1) 0 == space) ≡ true). or_left _ _ (ap (λ b. b == space) (at 1 (omega arith)) ∙ white))
+    let white = get_or s (m - 1) 0 == space in
+    ⊎_elim
+    (λ early.
+    or_left _ _ (or_right (length p + m == 0) _
+    (⊎_elim (λ none. absurd (omega (arith, some, eqb-true m 0 none)))
+    (λ here. ap (λ b. b == space) (at 1 (omega arith)) ∙ here)
+    (or_cases (m == 0) white early))))
     (λ mark.
-    let three = and_parts (nat_le 3 m) _ mark in
-    let far : 3 ≤ m = leb-true 3 m three.0 in
-    let first = and_parts (get_or s (m - 3) 0 == 0xEF) _ three.1 in
-    let second = and_parts (get_or s (m - 2) 0 == 0xBB) _ first.1 in
+    let top = and_parts _ (get_or s (m - 1) 0 == 0xBF) mark in
+    let second = and_parts _ (get_or s (m - 2) 0 == 0xBB) top.0 in
+    let first = and_parts (nat_le 3 m) _ second.0 in
+    let far : 3 ≤ m = leb-true 3 m first.0 in
     or_right _ _
-    (and_from _ _ (le-leb 3 (length p + m) (omega arith))
-    (and_from _ _ (ap (λ b. b == 0xEF) (at 3 far) ∙ first.0)
-    (and_from _ _ (ap (λ b. b == 0xBB) (at 2 (omega arith)) ∙ second.0)
-    (ap (λ b. b == 0xBF) (at 1 (omega arith)) ∙ second.1)))))
-    (or_cases (get_or s (m - 1) 0 == space) _ behind))
+    (and_from _ _ (and_from _ _ (and_from _ _ (le-leb 3 (length p + m) (omega arith))
+    (ap (λ b. b == 0xEF) (at 3 far) ∙ first.1))
+    (ap (λ b. b == 0xBB) (at 2 (omega arith)) ∙ second.1))
+    (ap (λ b. b == 0xBF) (at 1 (omega arith)) ∙ top.1)))
+    (or_cases ((m == 0) || white) (follows_byte_order_mark s m) e)
   where
     at : (i : ℕ) → i ≤ m → get_or (p ++ s) (length p + m - i) 0 ≡ get_or s (m - i) 0
     at i le = ap (λ n. get_or (p ++ s) n 0) (omega arith) ∙ get_or-append-add p s (m - i) 0
@@ -422,7 +423,7 @@ first_is_heading_place t text =
     (λ (some : 0 < first_place t).
     ap (λ l. is_heading_place l (first_place t)) (behind_front t text)
     ∙ blanks_end (chars t) (encode_utf8_all (drop (prefix_len is_blank (chars t)) (chars t))) some)
-    (λ (none : first_place t ≤ 0). or_left _ _ (eq-eqb (first_place t) 0 (omega arith)))
+    (λ (none : first_place t ≤ 0). or_left _ _ (or_left _ _ (eq-eqb (first_place t) 0 (omega arith))))
     (cases_lt 0 (first_place t))
 
 same_heading_place : (t w : List ℕ) (j : ℕ) → ((i : ℕ) → i < j + 1 → get_or t i 0 ≡ get_or w i 0)

@@ -45,3 +45,7 @@ pub mod TableLinesLemmas
 pub mod GuardedRowsLemmas
 pub mod ColumnsLemmas
 pub mod TableTextsLemmas
+pub mod JointsLemmas
+pub mod JointCutsLemmas
+pub mod TableGridsLemmas
+pub mod UnmendedLemmas

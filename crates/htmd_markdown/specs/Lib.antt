@@ -36,3 +36,4 @@ pub mod Rewriting
 pub mod CellBytes
 pub mod SpecialBytes
 pub mod Numbering
+pub mod JointFits

@@ -1,7 +1,7 @@
 //! Links, autolinks, references and link reference definitions, so written that a reader finds their parts again
 //! (CommonMark 0.31.2, 6.3, 6.5 and 4.7).
 ghost use Rattle.std.specs.Prelude.{◌≡◌, ◌++◌, IfOk, IfSome, OnOk, codes, string_bytes};
-ghost use Rattle.std.specs.List.{list_any};
+ghost use Rattle.std.specs.List.{list_all, list_any};
 ghost use Rattle.std.specs.Option.{option_copied};
 ghost use Rattle.htmd_markdown.specs.GuardedAddresses.{bare_address, closing, delimiters, HoldsGuarded};
 ghost use Rattle.htmd_text.specs.WhiteSpace.{squeezed_text};
@@ -192,13 +192,25 @@ fn push_guarded_resource(
     out.push(')')
 }
 
+/// Whether a space or a line feed stands at the start.
+fn begins_white(content: &str) -> bool
+    ensures { result ≡ spec.begins_white content.now }
+{
+    content.starts_with(' ') || content.starts_with('\n')
+}
+
+/// Whether there is nothing but spaces and line feeds.
+fn is_white_alone(content: &str) -> bool
+    ensures { result ≡ list_all spec.is_white content.now }
+{
+    content.as_bytes().iter().all(|b| matches!(*b, b' ' | b'\n'))
+}
+
 /// Whether spaces or line feeds stand at the start, and not alone.
 fn is_space_before(content: &str) -> bool
     ensures { result ≡ spec.is_space_before content.now }
 {
-    let bytes = content.as_bytes();
-    let begins_white = matches!(bytes, [b' ' | b'\n', ..]);
-    begins_white && !bytes.iter().all(|b| matches!(*b, b' ' | b'\n'))
+    begins_white(content) && !is_white_alone(content)
 }
 
 /// Whether a space or a line feed stands at the end.

@@ -3,7 +3,7 @@
 ghost use Rattle.std.specs.Prelude.{◌≡◌, ◌≤◌, ◌-◌, ◌++◌, OnOk, length, take, drop, string_bytes};
 ghost use Rattle.std.specs.Str.{IsCharBoundary};
 ghost use Rattle.htmd_markdown.specs.Joints as spec;
-ghost use Rattle.htmd_markdown.specs.JointFits.{Fits, FitsStart, FitsEnd};
+ghost use Rattle.htmd_markdown.specs.JointFits.{Fits};
 
 use htmd_text::runs::{leading_len, trailing_len};
 use std::alloc::AllocError;
@@ -142,8 +142,7 @@ fn ends_word(text: &str) -> bool
 
 /// What is mended behind a run of so many `*`, which this rest follows.
 fn joint_at_start(run: usize, rest: &str) -> Joint
-    ensures fits { FitsStart result run rest.now }
-    ensures value { result ≡ spec.joint_at_start run rest.now }
+    ensures { result ≡ spec.joint_at_start run rest.now }
 {
     let plain = plain_start(rest);
     let behind = &rest[plain..];
@@ -158,8 +157,7 @@ fn joint_at_start(run: usize, rest: &str) -> Joint
 
 /// What is mended before a run of so many `*`, before which this text stands.
 fn joint_at_end(run: usize, before: &str) -> Joint
-    ensures fits { FitsEnd result run before.now }
-    ensures value { result ≡ spec.joint_at_end run before.now }
+    ensures { result ≡ spec.joint_at_end run before.now }
 {
     let plain = plain_end(before);
     let head = &before[..before.len() - plain];
@@ -210,8 +208,7 @@ fn joint_of_runs(ending: usize, beginning: usize, before: &str, rest: &str) -> J
 
 /// What is mended where a content meets the text so far.
 fn joint_of(out: &str, content: &str) -> Joint
-    ensures fits { Fits result out.now content.now }
-    ensures value { result ≡ spec.joint_of out.now content.now }
+    ensures { result ≡ spec.joint_of out.now content.now }
 {
     match (out.as_bytes().last(), content.as_bytes().first()) {
         (Some(b'!'), Some(b'[')) => return Joint::MarkBeforeBracket,

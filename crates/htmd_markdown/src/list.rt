@@ -1,5 +1,5 @@
 //! List items and lists (CommonMark 0.31.2, 5.2 and 5.3).
-ghost use Rattle.std.specs.Prelude.{◌≡◌, ◌-◌, ◌<◌, true, ◌++◌, IfOk, OnOk, length, map, string_bytes};
+ghost use Rattle.std.specs.Prelude.{◌≡◌, ◌-◌, ◌<◌, ◌≤◌, true, ◌++◌, IfOk, OnOk, length, map, string_bytes};
 ghost use Rattle.std.specs.Option.{option_copied, option_map};
 ghost use Rattle.htmd_text.specs.Indents.{indented_text};
 ghost use Rattle.htmd_text.specs.Trims.{trimmed_start, is_line_feed};
@@ -236,7 +236,8 @@ fn item_count(blocks: &[ListBlock]) -> usize
 impl Spaces {
     /// How many stand behind the dot of the number.
     fn behind(self, number: usize) -> usize
-        ensures { result ≡ spaces_of self number }
+        ensures bound { result ≤ 275 }
+        ensures value { result ≡ spaces_of self number }
     {
         let aligned = self.spacing as usize + digits(self.highest).saturating_sub(digits(number));
         if self.is_guarded {

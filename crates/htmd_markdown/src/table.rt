@@ -138,8 +138,13 @@ fn write_table_of(
 fn narrow(widths: &mut Vec<usize>, bars: Bars)
     ensures { widths.new.items ≡ bytes.narrowed bars widths.old.items }
 {
-    if matches!(bars, Bars::Backslashes) && line_room(widths).saturating_sub(1) > LONGEST_PADDED {
-        widths.fill(NARROWEST);
+    match bars {
+        Bars::References => {}
+        Bars::Backslashes => {
+            if line_room(widths) > LONGEST_PADDED + 1 {
+                widths.fill(NARROWEST);
+            }
+        }
     }
 }
 

@@ -15,6 +15,7 @@ ghost use Rattle.htmd.specs.Views.{plan_view, element_view, result_view, answer_
 
 use super::link_attributes::{is_raw_unless_among, last_value};
 use super::plans::is_guarded;
+use super::table_layout::has_tag;
 use super::{Element, HandlerResult, Links, Plan};
 use crate::all_text::all_text;
 use crate::options::{LinkReferenceStyle, LinkStyle};
@@ -88,7 +89,10 @@ fn holds_image(tree: &Tree, node: NodeId) -> bool
     ensures { result ≡ spec.hold_image (children_at tree.now node) }
 {
     for child in tree.children(node) {
-        if tree.tag_name(*child) == Some("img") || holds_image(tree, *child) {
+        if has_tag(tree, *child, "img") {
+            return true;
+        }
+        if holds_image(tree, *child) {
             return true;
         }
     }

@@ -1,9 +1,13 @@
 //! What a table holds in Guarded: its captions and its rows of cells.
 
-ghost use Rattle.std.specs.Prelude.{◌≡◌, ◌<◌, ◌++◌, IfOk, OnOk, true, length, map};
+ghost use Rattle.std.specs.Prelude.{◌≡◌, ◌<◌, ◌++◌, not, IfOk, OnOk, All, true, length, map};
+ghost use Rattle.std.specs.List.{list_any};
+ghost use Rattle.htmd_text.specs.WhiteSpace.{is_document_white_space};
+ghost use Rattle.htmd_tree.specs.Items.{data_at, IsTree};
 ghost use Rattle.htmd_tree.specs.NumberedTrees.{tree_of};
 ghost use Rattle.htmd.specs.Groups.{children_at};
 ghost use Rattle.htmd.specs.GuardedTableLayouts as spec;
+ghost use Rattle.htmd.specs.GuardedTableViews.{line_view, lines_of};
 
 use super::other_block::is_hidden;
 use super::table::{has_table_form, is_cell};
@@ -26,101 +30,145 @@ pub(crate) struct TableRow {
     pub(crate) cells: Vec<NodeId>,
 }
 
-/// Whether nothing of a node is to be seen.
-fn is_blank(tree: &Tree, node: NodeId) -> bool
+/// Whether something of a node is to be seen, where its children don't decide.
+fn own_sight(tree: &Tree, node: NodeId) -> Option<bool>
     requires { node < length tree.now }
-    ensures { result ≡ spec.is_blank (tree_of tree.now node) }
+    ensures value { result ≡ spec.own_sight (data_at tree.now node) }
+    ensures tree { IsTree tree.now }
 {
     match tree.data(node) {
-        NodeData::Document => are_blank(tree, node),
-        NodeData::Doctype => true,
-        NodeData::Text(text) => is_white(text.as_bytes()),
-        NodeData::Comment(_) => true,
+        NodeData::Document => None,
+        NodeData::Doctype => Some(false),
+        NodeData::Text(text) => Some(has_more_than_white_space(text.as_bytes())),
+        NodeData::Comment(_) => Some(false),
         NodeData::Element { name, .. } => {
-            is_hidden(name.as_str()) || name.as_str() != "img" && are_blank(tree, node)
+            if is_hidden(name.as_str()) {
+                Some(false)
+            } else if name.as_str() == "img" {
+                Some(true)
+            } else {
+                None
+            }
         }
     }
 }
 
-/// Whether nothing of a node's children is to be seen.
-fn are_blank(tree: &Tree, node: NodeId) -> bool
+/// Whether something of a node's children is to be seen.
+fn are_seen(tree: &Tree, node: NodeId) -> bool
     requires { node < length tree.now }
-    ensures { result ≡ spec.are_blank (children_at tree.now node) }
+    ensures { result ≡ spec.are_seen (children_at tree.now node) }
 {
     for child in tree.children(node) {
-        if !is_blank(tree, *child) {
-            return false;
+        match own_sight(tree, *child) {
+            Some(false) => {}
+            Some(true) => return true,
+            None => {
+                if are_seen(tree, *child) {
+                    return true;
+                }
+            }
         }
     }
-    true
+    false
 }
 
-/// Whether the text is document white space alone.
-fn is_white(text: &[u8]) -> bool {
-    text.iter().all(|b| matches!(*b, b'\t' | b'\n' | b'\r' | b' '))
+/// Whether something of a node is to be seen.
+fn is_seen(tree: &Tree, node: NodeId) -> bool
+    requires { node < length tree.now }
+    ensures { result ≡ spec.is_seen (tree_of tree.now node) }
+{
+    match own_sight(tree, node) {
+        Some(is_seen) => is_seen,
+        None => are_seen(tree, node),
+    }
 }
 
-/// Whether a row holds cells alone.
-fn row_fits(tree: &Tree, row: NodeId) -> bool
+/// Whether the text holds another character than document white space.
+fn has_more_than_white_space(text: &[u8]) -> bool
+    ensures { result ≡ list_any (λ b. not (is_document_white_space b)) text.now }
+{
+    text.iter()
+        .any(|b| !matches!(*b, b'\t' | b'\n' | b'\r' | b' '))
+}
+
+/// Whether a node in a row is no cell and is to be seen.
+fn is_seen_in_row(tree: &Tree, child: NodeId) -> bool
+    requires { child < length tree.now }
+    ensures { result ≡ spec.is_seen_in_row tree.now child }
+{
+    !is_cell(tree, child) && is_seen(tree, child)
+}
+
+/// Whether something is to be seen in a row beside its cells.
+fn row_shows_more(tree: &Tree, row: NodeId) -> bool
     requires { row < length tree.now }
-    ensures { result ≡ spec.row_fits (children_at tree.now row) }
+    ensures { result ≡ spec.row_shows_more tree.now row }
 {
     for child in tree.children(row) {
-        if !is_cell(tree, *child) && !is_blank(tree, *child) {
-            return false;
+        if is_seen_in_row(tree, *child) {
+            return true;
         }
     }
-    true
+    false
 }
 
-/// Whether a node in a part of a table is a row of cells, or blank.
-fn section_child_fits(tree: &Tree, child: NodeId) -> bool {
+/// Whether something is to be seen of a node in a part of a table beside the cells of its rows.
+fn is_seen_in_section(tree: &Tree, child: NodeId) -> bool
+    requires { child < length tree.now }
+    ensures { result ≡ spec.is_seen_in_section tree.now child }
+{
     if has_tag(tree, child, "tr") {
-        row_fits(tree, child)
+        row_shows_more(tree, child)
     } else {
-        is_blank(tree, child)
+        is_seen(tree, child)
     }
 }
 
-/// Whether a part of a table holds rows alone.
-fn section_fits(tree: &Tree, section: NodeId) -> bool
+/// Whether something is to be seen in a part of a table beside its cells.
+fn section_shows_more(tree: &Tree, section: NodeId) -> bool
     requires { section < length tree.now }
-    ensures { result ≡ spec.section_fits (children_at tree.now section) }
+    ensures { result ≡ spec.section_shows_more tree.now section }
 {
     for child in tree.children(section) {
-        if !section_child_fits(tree, *child) {
-            return false;
+        if is_seen_in_section(tree, *child) {
+            return true;
         }
     }
-    true
+    false
 }
 
-/// Whether a node may stand in a table.
-fn child_fits(tree: &Tree, child: NodeId) -> bool {
+/// Whether something is to be seen of a child of a table beside captions and cells.
+fn is_seen_in_table(tree: &Tree, child: NodeId) -> bool
+    requires { child < length tree.now }
+    ensures { result ≡ spec.is_seen_in_table tree.now child }
+{
     match table_child(tree, child) {
-        TableChild::TableCaption => true,
-        TableChild::TableHead => section_fits(tree, child),
-        TableChild::TableSection => section_fits(tree, child),
-        TableChild::DirectRow => row_fits(tree, child),
-        TableChild::OtherChild => is_blank(tree, child),
+        TableChild::TableCaption => false,
+        TableChild::TableHead => section_shows_more(tree, child),
+        TableChild::TableSection => section_shows_more(tree, child),
+        TableChild::DirectRow => row_shows_more(tree, child),
+        TableChild::OtherChild => is_seen(tree, child),
     }
 }
 
-/// Whether a table holds captions, parts and rows alone.
-fn table_fits(tree: &Tree, table: NodeId) -> bool
+/// Whether something is to be seen in a table beside its captions and cells.
+fn table_shows_more(tree: &Tree, table: NodeId) -> bool
     requires { table < length tree.now }
-    ensures { result ≡ spec.table_fits (children_at tree.now table) }
+    ensures { result ≡ spec.table_shows_more tree.now table }
 {
     for child in tree.children(table) {
-        if !child_fits(tree, *child) {
-            return false;
+        if is_seen_in_table(tree, *child) {
+            return true;
         }
     }
-    true
+    false
 }
 
 /// Whether a row has a cell.
-fn has_cell(tree: &Tree, row: NodeId) -> bool {
+fn has_cell(tree: &Tree, row: NodeId) -> bool
+    requires { row < length tree.now }
+    ensures { result ≡ spec.has_cell tree.now row }
+{
     for child in tree.children(row) {
         if is_cell(tree, *child) {
             return true;
@@ -129,10 +177,21 @@ fn has_cell(tree: &Tree, row: NodeId) -> bool {
     false
 }
 
+/// Whether a node is a row that has cells.
+fn is_filled_row(tree: &Tree, node: NodeId) -> bool
+    requires { node < length tree.now }
+    ensures { result ≡ spec.is_filled_row tree.now node }
+{
+    has_tag(tree, node, "tr") && has_cell(tree, node)
+}
+
 /// Whether a part of a table has a row of cells.
-fn has_row_in(tree: &Tree, section: NodeId) -> bool {
+fn has_row_in(tree: &Tree, section: NodeId) -> bool
+    requires { section < length tree.now }
+    ensures { result ≡ spec.has_row_in tree.now section }
+{
     for child in tree.children(section) {
-        if has_tag(tree, *child, "tr") && has_cell(tree, *child) {
+        if is_filled_row(tree, *child) {
             return true;
         }
     }
@@ -140,7 +199,10 @@ fn has_row_in(tree: &Tree, section: NodeId) -> bool {
 }
 
 /// Whether a child of a table is a row of cells, or has one.
-fn is_or_has_row(tree: &Tree, child: NodeId) -> bool {
+fn is_or_has_row(tree: &Tree, child: NodeId) -> bool
+    requires { child < length tree.now }
+    ensures { result ≡ spec.is_or_has_row tree.now child }
+{
     match table_child(tree, child) {
         TableChild::TableCaption => false,
         TableChild::TableHead => has_row_in(tree, child),
@@ -151,7 +213,10 @@ fn is_or_has_row(tree: &Tree, child: NodeId) -> bool {
 }
 
 /// Whether a table has a row of cells.
-fn has_row(tree: &Tree, table: NodeId) -> bool {
+fn has_row(tree: &Tree, table: NodeId) -> bool
+    requires { table < length tree.now }
+    ensures { result ≡ spec.has_row tree.now table }
+{
     for child in tree.children(table) {
         if is_or_has_row(tree, *child) {
             return true;
@@ -166,11 +231,14 @@ pub(crate) fn is_written_as_table(tree: &Tree, table: NodeId) -> bool
     requires { table < length tree.now }
     ensures { result ≡ spec.is_written_as_table tree.now table }
 {
-    has_table_form(tree, table) && table_fits(tree, table) && has_row(tree, table)
+    has_table_form(tree, table) && !table_shows_more(tree, table) && has_row(tree, table)
 }
 
 /// The cells of a row.
-fn cells_of(alloc: Global, tree: &Tree, row: NodeId) -> Result<Vec<NodeId>, AllocError> {
+fn cells_of(alloc: Global, tree: &Tree, row: NodeId) -> Result<Vec<NodeId>, AllocError>
+    requires { row < length tree.now }
+    ensures { IfOk result (λ nodes. nodes.items ≡ spec.cells_of tree.now row) }
+{
     let mut cells = Vec::new(alloc);
     for child in tree.children(row) {
         if !is_cell(tree, *child) {
@@ -197,7 +265,13 @@ impl Lines {
         row: NodeId,
         in_head: bool,
         begins_group: bool,
-    ) -> Result<bool, AllocError> {
+    ) -> Result<bool, AllocError>
+        requires { row < length tree.now }
+        ensures lines { OnOk result (lines_of self.new ≡ lines_of self.old
+            ++ spec.row_of in_head begins_group (spec.cells_of tree.now row)) }
+        ensures begins { IfOk result (λ begins.
+            begins ≡ spec.begins_still begins_group (spec.cells_of tree.now row)) }
+    {
         let cells = cells_of(alloc, tree, row)?;
         if cells.is_empty() {
             return Ok(begins_group);
@@ -217,7 +291,12 @@ impl Lines {
         tree: &Tree,
         section: NodeId,
         in_head: bool,
-    ) -> Result<(), AllocError> {
+    ) -> Result<(), AllocError>
+        requires { section < length tree.now }
+        ensures lines { OnOk result
+            (lines_of self.new ≡ lines_of self.old ++ spec.section_of tree.now in_head section) }
+        ensures begins { OnOk result (self.new.begins_group ≡ true) }
+    {
         let mut begins_group = true;
         for child in tree.children(section) {
             if !has_tag(tree, *child, "tr") {
@@ -230,7 +309,13 @@ impl Lines {
     }
 
     /// Puts what a child of a table holds.
-    fn push_child(&mut self, alloc: Global, tree: &Tree, child: NodeId) -> Result<(), AllocError> {
+    fn push_child(&mut self, alloc: Global, tree: &Tree, child: NodeId) -> Result<(), AllocError>
+        requires { child < length tree.now }
+        ensures lines { OnOk result (lines_of self.new ≡ lines_of self.old
+            ++ spec.child_lines (spec.child_at tree.now child) tree.now self.old.begins_group child) }
+        ensures begins { OnOk result (self.new.begins_group
+            ≡ spec.begins_behind (spec.child_at tree.now child) tree.now self.old.begins_group child) }
+    {
         match table_child(tree, child) {
             TableChild::TableCaption => self.lines.push(TableLine::Caption(child))?,
             TableChild::TableHead => self.push_section(alloc, tree, child, true)?,
@@ -250,7 +335,10 @@ pub(crate) fn table_lines(
     alloc: Global,
     tree: &Tree,
     table: NodeId,
-) -> Result<Vec<TableLine>, AllocError> {
+) -> Result<Vec<TableLine>, AllocError>
+    requires { table < length tree.now }
+    ensures { IfOk result (λ lines. map line_view lines.items ≡ spec.table_lines tree.now table) }
+{
     let mut lines = Lines {
         lines: Vec::new(alloc),
         begins_group: true,
@@ -262,7 +350,10 @@ pub(crate) fn table_lines(
 }
 
 /// The captions and cells, in order.
-pub(crate) fn nodes_of_lines(alloc: Global, lines: &[TableLine]) -> Result<Vec<NodeId>, AllocError> {
+pub(crate) fn nodes_of_lines(alloc: Global, lines: &[TableLine]) -> Result<Vec<NodeId>, AllocError>
+    ensures { IfOk result
+        (λ nodes. nodes.items ≡ spec.nodes_of_lines (map line_view lines.now)) }
+{
     let mut nodes = Vec::new(alloc);
     for line in lines {
         match line {
@@ -273,27 +364,28 @@ pub(crate) fn nodes_of_lines(alloc: Global, lines: &[TableLine]) -> Result<Vec<N
     Ok(nodes)
 }
 
-impl TableRow {
-    /// Whether it stands in `thead`, or all its cells are `th`.
-    fn is_header(&self, tree: &Tree) -> bool {
-        if self.in_head {
-            return true;
+/// Whether all of these are `th`.
+fn are_headers(tree: &Tree, cells: &[NodeId]) -> bool
+    requires { All (λ cell. cell < length tree.now) cells.now }
+    ensures { result ≡ not (list_any (spec.is_no_header tree.now) cells.now) }
+{
+    for cell in cells {
+        if !has_tag(tree, *cell, "th") {
+            return false;
         }
-        for cell in &self.cells {
-            if !has_tag(tree, *cell, "th") {
-                return false;
-            }
-        }
-        true
     }
+    true
 }
 
-/// Whether the first row is a header.
-pub(crate) fn begins_with_header(tree: &Tree, lines: &[TableLine]) -> bool {
+/// Whether the first row stands in `thead`, or all its cells are `th`.
+pub(crate) fn begins_with_header(tree: &Tree, lines: &[TableLine]) -> bool
+    requires { All (λ node. node < length tree.now) (spec.nodes_of_lines (map line_view lines.now)) }
+    ensures { result ≡ spec.begins_with_header tree.now (map line_view lines.now) }
+{
     for line in lines {
         match line {
             TableLine::Caption(_) => {}
-            TableLine::Row(row) => return row.is_header(tree),
+            TableLine::Row(row) => return row.in_head || are_headers(tree, row.cells.as_slice()),
         }
     }
     false

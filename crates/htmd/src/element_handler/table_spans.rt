@@ -1,6 +1,8 @@
 //! How many columns and rows a cell takes (HTML, 4.9.11 and 2.3.4.2).
 
-ghost use Rattle.std.specs.Prelude.{◌≡◌, ◌<◌, min, length};
+ghost use Rattle.std.specs.Prelude.{◌≡◌, ◌≤◌, All, true, min, length};
+ghost use Rattle.std.specs.Char.{is_ascii_digit};
+ghost use Rattle.std.specs.List.{prefix_len};
 ghost use Rattle.std.specs.Option.{option_map, option_copied};
 ghost use Rattle.htmd_tree.specs.Views.{pairs_of};
 ghost use Rattle.htmd.specs.GuardedTableLayouts as spec;
@@ -54,7 +56,10 @@ fn html_number(text: &[u8]) -> Option<u16>
 }
 
 /// How many characters of white space begin the text.
-fn white_space_len(text: &[u8]) -> usize {
+fn white_space_len(text: &[u8]) -> usize
+    ensures bound { result ≤ length text.now }
+    ensures value { result ≡ prefix_len spec.is_html_white_space text.now }
+{
     for (len, b) in text.iter().enumerate() {
         if !matches!(*b, b'\t' | b'\n' | 0x0C | b'\r' | b' ') {
             return len;
@@ -67,19 +72,30 @@ fn white_space_len(text: &[u8]) -> usize {
 fn leading_number(text: &[u8]) -> Option<u16>
     ensures { result ≡ option_map (λ n. min n 65534) (spec.leading_number text.now) }
 {
-    let len = digits_len(text);
-    if len == 0 {
+    let digits = &text[..digits_len(text)];
+    if digits.is_empty() {
         return None;
     }
+    Some(number_of(digits))
+}
+
+/// The number of these digits, as far as a number of rows goes.
+fn number_of(digits: &[u8]) -> u16
+    requires { All (λ b. is_ascii_digit b ≡ true) digits.now }
+    ensures { result ≡ min (spec.number_of digits.now) 65534 }
+{
     let mut number: u32 = 0;
-    for digit in &text[..len] {
+    for digit in digits {
         number = (number * 10 + (*digit - b'0') as u32).min(MOST_ROWS as u32);
     }
-    Some(number as u16)
+    number as u16
 }
 
 /// How many ASCII digits begin the text.
-fn digits_len(text: &[u8]) -> usize {
+fn digits_len(text: &[u8]) -> usize
+    ensures bound { result ≤ length text.now }
+    ensures value { result ≡ prefix_len is_ascii_digit text.now }
+{
     for (len, b) in text.iter().enumerate() {
         if !b.is_ascii_digit() {
             return len;

@@ -15,7 +15,7 @@ returns c =
     let rows = c.args.rows.now in
     let rs = map row_texts rows in
     let ws = column_widths_by (width_of bars) (hs ∷ rs) in
-    let widths = c.loop-row.widths.items in
+    let widths = c.narrow.new.widths.items in
     let cut : widths ≡ narrowed bars (map held ws) =
     c.narrow.ensures ∙ ap (narrowed bars) (c.in_ok-widths.ensures
     ∙ ap (fold wider (held_widths bars hs)) (maps (held_widths bars) row_texts rows) ∙ held_columns bars hs rs) in

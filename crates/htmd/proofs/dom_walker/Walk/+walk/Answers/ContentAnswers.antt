@@ -72,14 +72,6 @@ content-returns-in_err-append_text-clause-err g t c =
     exit-err v e (λ o. Begins c.args.links.now c.args.links.now (content_of o c.args.links.now).definitions) _
     (λ n l. begins-start (grows-content (at n) (grows-within n v) c.args.links.now))
 
-pub content-returns-in_err-inside_line-clause-err : goal.content-returns-in_err-inside_line-clause-err
-content-returns-in_err-inside_line-clause-err g t c =
-    let v = conversion_of (g.R.Registry.config c.args.self.now.registry.now) c.args.self.now.tree.now in
-    let e = c.args.element.now in
-    let at : ℕ → Occurrence = λ n. occurrence_of n v e in
-    exit-err v e (λ o. Begins c.args.links.now c.args.links.now (content_of o c.args.links.now).definitions) _
-    (λ n l. begins-start (grows-content (at n) (grows-within n v) c.args.links.now))
-
 pub content-returns-in-Some-clause-ok : goal.content-returns-in-Some-clause-ok
 content-returns-in-Some-clause-ok g t c =
     let v = conversion_of (g.R.Registry.config c.args.self.now.registry.now) c.args.self.now.tree.now in
