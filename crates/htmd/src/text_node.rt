@@ -4,6 +4,8 @@ ghost use Rattle.std.specs.Prelude.{◌≡◌, ◌++◌, Bool, false, IsTrue, On
 ghost use Rattle.std.specs.Result.{is_ok};
 ghost use Rattle.htmd_text.specs.EscapeMarks.{escaped_markdown};
 ghost use Rattle.htmd_text.specs.WhiteSpace.{squeezed_text};
+ghost use Rattle.htmd_text.specs.Characters.{asterisk};
+ghost use Rattle.htmd_markdown.specs.CodeSpans.{ends_with};
 ghost use Rattle.htmd_markdown.specs.GuardedText.{guarded_text};
 ghost use Rattle.htmd_markdown.specs.Joints.{with_joint};
 ghost use Rattle.htmd.specs.OrdinaryText as spec;
@@ -164,6 +166,13 @@ fn append_preformatted(
     out.push_str(escaped.as_str())
 }
 
+/// Whether the text ends with `*`.
+fn ends_with_asterisk(text: &str) -> bool
+    ensures { result ≡ ends_with asterisk text.now }
+{
+    text.ends_with('*')
+}
+
 /// Puts a text behind another as Guarded does, and mends both where they meet: only behind a `*` is there anything to
 /// mend.
 fn push_guarded(
@@ -176,7 +185,7 @@ fn push_guarded(
     ensures { OnOk result (string_bytes out.new
         ≡ with_joint (string_bytes out.old) (guarded_text begins_line text.now)) }
 {
-    if out.as_bytes().last() != Some(&b'*') {
+    if !ends_with_asterisk(out) {
         return push_guarded_with_room(out, text, begins_line);
     }
     let mut written = spare.take(alloc);

@@ -56,8 +56,8 @@ signs_back [] = refl
 signs_back (c ∷ cs) =
     let plain = is_plain_at (prefix_len is_backslash cs % 2 == 1) c in
     ⊎_elim
-    (λ (yes : plain ≡ true). rw yes (ap (λ l. c ∷ l) (signs_back cs)))
-    (λ (no : plain ≡ false). rw no refl)
+    (λ (here : plain ≡ true). rw here (ap (λ l. c ∷ l) (signs_back cs)))
+    (λ (other : plain ≡ false). rw other refl)
     (cases_Bool plain)
 
 pub plain_start-cut : (s : List ℕ) → IsUtf8 s → IsCharBoundary s (plain_start s)

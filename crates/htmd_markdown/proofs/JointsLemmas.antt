@@ -34,7 +34,7 @@ plain_on-start text rest is_text e = record {
   within = omega arith;
   rest_is = sym e;
   is_text = subst (λ (l : List ℕ). IsUtf8 l) (sym e) is_text;
-  answer = ap plain_start (sym e);
+  answer = ap plain_start (sym e) ∙ omega arith;
 }
 
 pub plain_on-more : (text rest next : List ℕ) (len c : ℕ) (escaped : Bool) → rest ≡ encode_utf8 c ++ next
@@ -79,14 +79,14 @@ plain_on-end text (b ∷ rest) len escaped none was = absurd (omega arith)
 -- ---- backslashes at the end
 
 suffix_more : (p : ℕ → Bool) (xs : List ℕ) (b : ℕ) → p b ≡ true → suffix_len p (xs ++ b ∷ []) ≡ 1 + suffix_len p xs
-suffix_more p xs b yes =
-    ap (prefix_len p) (reverse-append xs (b ∷ [])) ∙ cond-true (p b) (1 + prefix_len p (reverse xs)) 0 yes
+suffix_more p xs b passes =
+    ap (prefix_len p) (reverse-append xs (b ∷ [])) ∙ cond-true (p b) (1 + prefix_len p (reverse xs)) 0 passes
 
 suffix_stops : (p : ℕ → Bool) (s : List ℕ) → 0 < length s → p (get_or s (length s - 1) 0) ≡ false
     → suffix_len p s ≡ 0
-suffix_stops p s some no =
+suffix_stops p s some fails =
     ap (suffix_len p) (sym (take_all (length s) s (omega arith)))
-    ∙ suffix_len-take_no p s (length s) 0 some (omega arith) no
+    ∙ suffix_len-take_no p s (length s) 0 some (omega arith) fails
 
 -- no character but the backslash ends with its byte
 other_ends : (xs : List ℕ) (c : ℕ) → is_backslash c ≡ false → suffix_len is_backslash (xs ++ encode_utf8 c) ≡ 0
@@ -117,16 +117,16 @@ backslashes_in (d ∷ ds) =
     ap encode_utf8_all (reverse-append (d ∷ []) ds) ∙ encodes-append (reverse ds) (d ∷ [])
     ∙ ap (λ l. encode_utf8_all (reverse ds) ++ l) (append-nil (encode_utf8 d)) in
     ⊎_elim
-    (λ (yes : is_backslash d ≡ true).
+    (λ (same : is_backslash d ≡ true).
     let is : d ≡ backslash = grind (arith, nat_tests) in
     let one : encode_utf8 d ≡ d ∷ [] = encode_ascii d (omega arith) in
     ap (suffix_len is_backslash) (turned ∙ ap (λ l. encode_utf8_all (reverse ds) ++ l) one)
-    ∙ suffix_more is_backslash (encode_utf8_all (reverse ds)) d yes
+    ∙ suffix_more is_backslash (encode_utf8_all (reverse ds)) d same
     ∙ ap (λ n. 1 + n) (backslashes_in ds)
-    ∙ sym (cond-true (is_backslash d) (1 + prefix_len is_backslash ds) 0 yes))
-    (λ (no : is_backslash d ≡ false).
-    ap (suffix_len is_backslash) turned ∙ other_ends (encode_utf8_all (reverse ds)) d no
-    ∙ sym (cond-false (is_backslash d) (1 + prefix_len is_backslash ds) 0 no))
+    ∙ sym (cond-true (is_backslash d) (1 + prefix_len is_backslash ds) 0 same))
+    (λ (other : is_backslash d ≡ false).
+    ap (suffix_len is_backslash) turned ∙ other_ends (encode_utf8_all (reverse ds)) d other
+    ∙ sym (cond-false (is_backslash d) (1 + prefix_len is_backslash ds) 0 other))
     (cases_Bool (is_backslash d))
 
 -- as many backslashes end a text as characters from its end back

@@ -62,8 +62,8 @@ unmended out content e none =
 
 -- no `*` ends the text
 pub no_ending : (out : List ℕ) → is_asterisk (get_or out (length out - 1) 0) ≡ false → ending_run out ≡ 0
-no_ending out no =
-    let none : suffix_len is_asterisk out ≡ 0 = stops out no in
+no_ending out other =
+    let none : suffix_len is_asterisk out ≡ 0 = stops out other in
     ap (λ n. cond (escapes_next (take (length out - n) out)) (n - 1) n) none
     ∙ by (escapes_next (take (length out - 0) out))
   where
@@ -71,14 +71,14 @@ no_ending out no =
     by true = refl
     by false = refl
     stops : (s : List ℕ) → is_asterisk (get_or s (length s - 1) 0) ≡ false → suffix_len is_asterisk s ≡ 0
-    stops [] no = refl
-    stops (b ∷ s) no =
+    stops [] other = refl
+    stops (b ∷ s) other =
         ap (suffix_len is_asterisk) (sym (take_all (length (b ∷ s)) (b ∷ s) (omega arith)))
-        ∙ suffix_len-take_no is_asterisk (b ∷ s) (length (b ∷ s)) 0 (omega arith) (omega arith) no
+        ∙ suffix_len-take_no is_asterisk (b ∷ s) (length (b ∷ s)) 0 (omega arith) (omega arith) other
 
 -- a guarded text behind a text that doesn't end with `*`
 pub text_unmended : (begins : Bool) (out s : List ℕ) → is_asterisk (get_or out (length out - 1) 0) ≡ false
     → out ++ guarded_text begins s ≡ with_joint out (guarded_text begins s)
-text_unmended begins out s no =
-    let both = unmended out (guarded_text begins s) (guarded-is_guarded begins s) (no_ending out no) in
+text_unmended begins out s other =
+    let both = unmended out (guarded_text begins s) (guarded-is_guarded begins s) (no_ending out other) in
     ap (λ (e : Ends). e.front ++ e.behind) (sym both)

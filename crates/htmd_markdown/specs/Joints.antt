@@ -165,7 +165,7 @@ mended (StartLosesRuns run plain) out content =
 mended (EndMoves run plain) out content =
     let before = take (length out - run) out in
     let head = take (length before - plain) before in
-    ends (head ++ drop (length before) out) (drop (length head) before ++ content)
+    ends (head ++ drop (length before) out) (take plain (drop (length head) out) ++ content)
 mended (EndLosesRuns run plain) out content =
     let before = take (length out - run) out in
     let head = take (length before - plain) before in

@@ -1,7 +1,8 @@
 //! What is mended where a content meets the text so far, so that no sign of the one joins with a sign of the other into
 //! markup (CommonMark 0.31.2, 6.1, 6.2 and 6.4).
-ghost use Rattle.std.specs.Prelude.{◌≡◌, ◌≤◌, ◌-◌, ◌++◌, OnOk, length, take, drop, string_bytes};
+ghost use Rattle.std.specs.Prelude.{◌≡◌, ◌==◌, ◌&&◌, not, ◌≤◌, ◌-◌, ◌++◌, OnOk, length, take, drop, string_bytes};
 ghost use Rattle.std.specs.Str.{IsCharBoundary};
+ghost use Rattle.htmd_text.specs.Characters.{backslash};
 ghost use Rattle.htmd_markdown.specs.Joints as spec;
 ghost use Rattle.htmd_markdown.specs.JointFits.{Fits};
 
@@ -82,6 +83,27 @@ fn ending_run(text: &[u8]) -> usize
     run
 }
 
+/// Whether the character is a plain sign, or one that a backslash escapes.
+fn is_plain_at(c: char, is_escaped: bool) -> bool
+    ensures { result ≡ spec.is_plain_at is_escaped c }
+{
+    is_plain_sign(c) || c.is_ascii_punctuation() && is_escaped
+}
+
+/// Whether the character, which is escaped or not, escapes the next one.
+fn is_escaping(c: char, is_escaped: bool) -> bool
+    ensures { result ≡ ((c == backslash) && not is_escaped) }
+{
+    c == '\\' && !is_escaped
+}
+
+/// The same behind a text.
+fn is_plain_behind(c: char, before: &[u8]) -> bool
+    ensures { result ≡ spec.is_plain_at (spec.escapes_next before.now) c }
+{
+    is_plain_sign(c) || c.is_ascii_punctuation() && escapes_next(before)
+}
+
 /// How many bytes of plain signs begin the text, with those that a backslash escapes.
 fn plain_start(text: &str) -> usize
     ensures bound { result ≤ length text.now }
@@ -92,10 +114,10 @@ fn plain_start(text: &str) -> usize
     let mut len = 0;
     let mut is_escaped = false;
     while let Some(c) = characters.next() {
-        if !(is_plain_sign(c) || c.is_ascii_punctuation() && is_escaped) {
+        if !is_plain_at(c, is_escaped) {
             return len;
         }
-        is_escaped = c == '\\' && !is_escaped;
+        is_escaped = is_escaping(c, is_escaped);
         len += c.len_utf8();
     }
     len
@@ -112,7 +134,7 @@ fn plain_end(text: &str) -> usize
     let mut start = text.len();
     while let Some(c) = characters.next_back() {
         let place = start - c.len_utf8();
-        if !(is_plain_sign(c) || c.is_ascii_punctuation() && escapes_next(&bytes[..place])) {
+        if !is_plain_behind(c, &bytes[..place]) {
             return text.len() - start;
         }
         start = place;

@@ -1,5 +1,5 @@
 //! List items and lists (CommonMark 0.31.2, 5.2 and 5.3).
-ghost use Rattle.std.specs.Prelude.{◌≡◌, ◌-◌, ◌<◌, ◌≤◌, true, ◌++◌, IfOk, OnOk, length, map, string_bytes};
+ghost use Rattle.std.specs.Prelude.{◌≡◌, ◌-◌, ◌<◌, ◌≤◌, ◌^◌, true, ◌++◌, IfOk, OnOk, length, map, string_bytes};
 ghost use Rattle.std.specs.Option.{option_copied, option_map};
 ghost use Rattle.htmd_text.specs.Indents.{indented_text};
 ghost use Rattle.htmd_text.specs.Trims.{trimmed_start, is_line_feed};
@@ -183,6 +183,7 @@ pub fn write_unnumbered_list(alloc: Global, blocks: Vec<ListBlock>) -> Result<St
 
 /// The number of the last item.
 fn highest_number(first: u32, blocks: &[ListBlock]) -> usize
+    requires { length blocks.now < 2 ^ 63 }
     ensures { result ≡ spec.highest_number first (map spec.block_of blocks.now) }
 {
     (first as usize + item_count(blocks)).saturating_sub(1)
@@ -239,13 +240,21 @@ impl Spaces {
         ensures bound { result ≤ 275 }
         ensures value { result ≡ spaces_of self number }
     {
-        let aligned = self.spacing as usize + digits(self.highest).saturating_sub(digits(number));
+        let aligned = aligned_spaces(self.spacing, self.highest, number);
         if self.is_guarded {
             aligned.min(4).max(1)
         } else {
             aligned
         }
     }
+}
+
+/// The spaces behind the dot of a number: one more than are asked for with each digit that the highest number has more.
+fn aligned_spaces(spacing: u8, highest: usize, number: usize) -> usize
+    ensures bound { result ≤ 275 }
+    ensures value { result ≡ items.aligned_spaces spacing highest number }
+{
+    spacing as usize + digits(highest).saturating_sub(digits(number))
 }
 
 /// An item in a line of its own: the number, a dot, the spaces behind it, and the content without line feeds at its

@@ -21,8 +21,8 @@ use Rattle.htmd_markdown.proofs.list.write_numbered.Goals as goal
 abbrev bytes_of : String Global → List ℕ
 bytes_of text = string_bytes text
 
-pub overflow_add-number-in-Item : goal.overflow_add-number-in-Item
-overflow_add-number-in-Item c =
+pub overflow_add-number : goal.overflow_add-number
+overflow_add-number c =
     let yields = YieldsList-from_vec {s = c.into_iter-block-iterator.result} c.args.blocks.items (search rules)
     (search rules) in
     let turn = YieldsList-turn yields c.loop-block.yielded _ c.loop-block.yielded_by c.next.result c.next.new.self
@@ -46,7 +46,7 @@ loop-block-preserved-in-Item c =
     let one = ap (λ block. item_count (block_of block ∷ [])) c.in-Item.is in
     let numbers = numbered_blocks (spaces_of c.args.spaces) in
     let content = c.in_ok-write_numbered_item-in-Item.ensures
-    ∙ ap (numbered_item (spaces_of c.args.spaces c.loop-block.number) c.loop-block.number) c.deref-in-Item.ensures
+    ∙ ap (numbered_item (spaces_of c.args.spaces c.loop-block.number) c.loop-block.number) c.deref.ensures
     in
     let text : numbers c.loop-block.number (block_of c.in-Some.block ∷ [])
     ≡ string_bytes c.in_ok-write_numbered_item-in-Item.field-0 ∷ [] =
@@ -93,7 +93,7 @@ returns-clause-text c =
     c.in-None.is c.next.ensures.steps in
     let whole : c.loop-block.yielded ≡ c.args.blocks.items = sym (map-id c.loop-block.yielded) ∙ all.0 in
     let texts =
-    ap (map bytes_of) c.deref.ensures.value
+    ap (map bytes_of) c.deref-2.ensures.value
     ∙ c.loop-block.invariant.texts
     ∙ ap (λ (blocks : List ListBlock). numbered_blocks (spaces_of c.args.spaces) c.args.first (map block_of blocks))
     whole in

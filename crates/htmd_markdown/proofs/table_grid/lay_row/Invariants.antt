@@ -7,4 +7,4 @@ use Rattle.htmd_markdown.proofs.table_grid.lay_row.Given as goal
 abbrev pub invariant-loop-cell : goal.invariant-loop-cell
 invariant-loop-cell l =
     (more : List SpannedCell) → laid_row l.above (map cell_view l.yielded ++ more)
-    ≡ map column_view l.columns.items ++ laid_row l.rest.now more
+    ≡ map column_view l.columns.items ++ laid_row l.rest more
