@@ -32,3 +32,4 @@ mod Examples
 pub mod GuardedExamples
 pub mod ImagesLemmas
 pub mod SightsLemmas
+pub mod GuardedNodesLemmas

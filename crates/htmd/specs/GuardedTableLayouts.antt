@@ -124,50 +124,53 @@ pub data TableLine : Type 0 where
 abbrev pub cells_of : List Item → ℕ → List ℕ
 cells_of items node = filter (has_tag cell_tags items) (children_of items node)
 
--- a row, if it has cells
-abbrev pub row_of : Bool → Bool → List ℕ → List TableLine
-row_of in_head begins_group [] = []
-row_of in_head begins_group (cell ∷ cells) = row in_head begins_group (cell ∷ cells) ∷ []
+-- the lines of a table so far, and whether the next row begins a group of rows
+pub record Lines : Type 0 where
+  pub lines : List TableLine
+  pub begins_group : Bool
 
--- no row before this one was in its group, and this one is none
-abbrev pub begins_still : Bool → List ℕ → Bool
-begins_still begins_group [] = begins_group
-begins_still begins_group (cell ∷ cells) = false
+abbrev pub with_caption_line : ℕ → Lines → Lines
+with_caption_line node so_far = record {
+  lines = so_far.lines ++ caption node ∷ [];
+  begins_group = so_far.begins_group;
+}
 
--- the rows of a part; the first of them begins a group
-abbrev pub section_rows : List Item → Bool → Bool → List ℕ → List TableLine
-section_rows items in_head begins_group [] = []
-section_rows items in_head begins_group (node ∷ nodes) =
-    let cells = cells_of items node in
-    row_of in_head begins_group cells ++ section_rows items in_head (begins_still begins_group cells) nodes
+-- cells, if any, are a row
+abbrev pub with_cells_line : Bool → List ℕ → Lines → Lines
+with_cells_line in_head [] so_far = so_far
+with_cells_line in_head (cell ∷ cells) so_far = record {
+  lines = so_far.lines ++ row in_head so_far.begins_group (cell ∷ cells) ∷ [];
+  begins_group = false;
+}
 
-abbrev pub section_of : List Item → Bool → ℕ → List TableLine
-section_of items in_head node = section_rows items in_head true (tagged_children (codes "tr") items node)
+abbrev pub with_row_line : List Item → Bool → Lines → ℕ → Lines
+with_row_line items in_head so_far node = with_cells_line in_head (cells_of items node) so_far
 
--- The lines of a table's children: rows right below the table are a group up to the next part.
-abbrev pub child_lines : TableChild → List Item → Bool → ℕ → List TableLine
-child_lines TableCaption items begins_group node = caption node ∷ []
-child_lines TableHead items begins_group node = section_of items true node
-child_lines TableSection items begins_group node = section_of items false node
-child_lines DirectRow items begins_group node = row_of false begins_group (cells_of items node)
-child_lines OtherChild items begins_group node = []
+abbrev pub with_new_group : Lines → Lines
+with_new_group so_far = record { lines = so_far.lines; begins_group = true }
 
--- whether a row right below the table would begin a group behind such a child
-abbrev pub begins_behind : TableChild → List Item → Bool → ℕ → Bool
-begins_behind TableCaption items begins_group node = begins_group
-begins_behind TableHead items begins_group node = true
-begins_behind TableSection items begins_group node = true
-begins_behind DirectRow items begins_group node = begins_still begins_group (cells_of items node)
-begins_behind OtherChild items begins_group node = begins_group
+-- the rows of a part are a group
+abbrev pub with_section_lines : List Item → Bool → ℕ → Lines → Lines
+with_section_lines items in_head node so_far =
+    with_new_group
+    (fold (with_row_line items in_head) (with_new_group so_far) (tagged_children (codes "tr") items node))
 
-abbrev pub lines_among : List Item → Bool → List ℕ → List TableLine
-lines_among items begins_group [] = []
-lines_among items begins_group (node ∷ nodes) =
-    child_lines (child_at items node) items begins_group node
-    ++ lines_among items (begins_behind (child_at items node) items begins_group node) nodes
+-- one more child of the table; rows right below it are a group up to the next part
+abbrev pub with_child_line : TableChild → List Item → Lines → ℕ → Lines
+with_child_line TableCaption items so_far node = with_caption_line node so_far
+with_child_line TableHead items so_far node = with_section_lines items true node so_far
+with_child_line TableSection items so_far node = with_section_lines items false node so_far
+with_child_line DirectRow items so_far node = with_row_line items false so_far node
+with_child_line OtherChild items so_far node = so_far
+
+abbrev pub with_child_lines : List Item → Lines → ℕ → Lines
+with_child_lines items so_far node = with_child_line (child_at items node) items so_far node
+
+abbrev pub no_lines : Lines
+no_lines = record { lines = []; begins_group = true }
 
 abbrev pub table_lines : List Item → ℕ → List TableLine
-table_lines items node = lines_among items true (children_of items node)
+table_lines items node = (fold (with_child_lines items) no_lines (children_of items node)).lines
 
 -- what is rendered, each node by itself
 abbrev pub line_nodes : TableLine → List ℕ

@@ -6,6 +6,7 @@ use Rattle.std.specs.Prelude.{◌≢◌, ◌==◌, ◌&&◌, ◌||◌, slice_ind
 use Rattle.std.specs.Char.{is_ascii_digit}
 use Rattle.std.specs.List.{prefix_len}
 use Rattle.std.specs.Str.{chars, IsUtf8, NonePass, NoCharPasses}
+use lib.Utf8.{encode}
 use Rattle.std.proofs.lemmas.Bool.{and_parts, and_from, or_left, or_right, cases_Bool, false_from_ne_true, cases_lt}
 use Rattle.std.proofs.lemmas.Bool.{false≢true, or_from, or_cases, cond-true, cond-false, leb-true, le-leb, eqb-true}
 use Rattle.std.proofs.lemmas.Bool.Decides.{nat_tests}
@@ -380,6 +381,7 @@ shifted_place p s m some e =
 
 one_blank : (c : ℕ) (rest : List ℕ) → is_blank c ≡ true
     → is_heading_place (encode_utf8 c ++ rest) (length (encode_utf8 c)) ≡ true
+unfolding encode
 one_blank c rest e =
     ⊎_elim
     (λ (white : (c == space) ≡ true).

@@ -24,7 +24,7 @@ use Rattle.htmd_markdown.proofs.TablesLemmas.{AreCells, padded_pushed, line_cell
 use Rattle.htmd_markdown.proofs.TableLinesLemmas.{Fit, Fitting, IsLine, AreLines, joined_lines, lines_alike}
 use Rattle.htmd_markdown.proofs.TableLinesLemmas.{IsLineCell, AreLineCells, is_table_line, characters_of_line}
 use Rattle.htmd_markdown.proofs.GuardedRowsLemmas.{uncut, AreUncut, row_uncut, line_cut}
-use Rattle.htmd_markdown.specs.GuardedTables.{guarded_cell, guarded_cell_width, line_width, longest_padded}
+use Rattle.htmd_markdown.specs.GuardedTables.{guarded_cell, guarded_cell_width, line_width, longest_padded, narrowest}
 use Rattle.htmd_markdown.specs.GuardedTables.{guarded_widths, guarded_table}
 use Rattle.htmd_markdown.specs.GuardedTableReading.{IsGuardedTableLine, IsGuardedEven, HasGuardedBars, cutting_bars}
 use Rattle.htmd_markdown.proofs.ColumnsLemmas.{Covers, CoversAll, covers_all, covers_length, line_fit, held_same}
@@ -296,8 +296,8 @@ guarded_widths-length : (ls : List (List (List ℕ)))
     → length (guarded_widths ls) ≡ length (spec.column_widths_by guarded_cell_width ls)
 guarded_widths-length ls =
     let ws = spec.column_widths_by guarded_cell_width ls in
-    cond_both (nat_lt longest_padded (line_width ws)) (map (λ _. 3) ws) ws (λ (l : List ℕ). length l ≡ length ws)
-    (λ _. length-map ws (λ _. 3)) (λ _. refl)
+    cond_both (nat_lt longest_padded (line_width ws)) (replicate (length ws) narrowest) ws
+    (λ (l : List ℕ). length l ≡ length ws) (λ _. length-replicate (length ws) narrowest) (λ _. refl)
 
 pub guarded_table_bars : {Z Y : Type 0} (headers : List (String Z)) (rows : List (Vec (String Z) Y))
     → HasGuardedBars (column_count (texts headers ∷ map row_texts rows))
@@ -379,9 +379,8 @@ held_short [] short = refl
 held_short (w ∷ ws) short =
     ap (λ n. n ∷ map held ws) (omega arith) ∙ ap (λ l. w ∷ l) (held_short ws (omega (arith, short)))
 
-narrow_same : (ws : List ℕ) → map (λ _. 3) (map held ws) ≡ map (λ _. 3) ws
-narrow_same [] = refl
-narrow_same (w ∷ ws) = ap (λ l. 3 ∷ l) (narrow_same ws)
+narrow_same : (ws : List ℕ) → replicate (length (map held ws)) narrowest ≡ replicate (length ws) narrowest
+narrow_same ws = ap (λ n. replicate n narrowest) (length-map ws held)
 
 held_narrowed : (ws : List ℕ) → narrowed Backslashes (map held ws) ≡ narrowed Backslashes ws
 held_narrowed ws =

@@ -1,7 +1,7 @@
 -- Tables as `Tables` has them, with a backslash before each bar of a cell, where tables have them as extensions of
 -- CommonMark do (GitHub Flavored Markdown 0.29, 4.10).
 use Rattle.std.specs.Prelude.{ℕ, ◌+◌, Bool, false, not, ◌&&◌, ◌==◌, nat_lt, max, if◌then◌else◌, List, [], ◌∷◌, ◌++◌}
-use Rattle.std.specs.Prelude.{length, map}
+use Rattle.std.specs.Prelude.{length, replicate}
 use Rattle.std.specs.List.{flat_map}
 use Rattle.std.specs.Str.{chars}
 use Rattle.htmd_text.specs.Characters.{line_feed, carriage_return, space, vertical_bar, backslash}
@@ -49,11 +49,15 @@ line_width (width ∷ widths) = width + 3 + line_width widths
 abbrev pub longest_padded : ℕ
 longest_padded = 100
 
+-- fewer dashes are no separator for each reader
+abbrev pub narrowest : ℕ
+narrowest = 3
+
 -- the widths of the columns: where a line would be too long, none is padded
 abbrev pub guarded_widths : List (List (List ℕ)) → List ℕ
 guarded_widths lines =
     let widths = column_widths_by guarded_cell_width lines in
-    if nat_lt longest_padded (line_width widths) then map (λ _. 3) widths else widths
+    if nat_lt longest_padded (line_width widths) then replicate (length widths) narrowest else widths
 
 abbrev pub guarded_table : List (List ℕ) → List (List (List ℕ)) → List ℕ
 guarded_table headers rows = table_of_widths_by guarded_cell (guarded_widths (headers ∷ rows)) headers rows

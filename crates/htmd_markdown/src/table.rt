@@ -1,6 +1,6 @@
 //! Tables: lines of cells between bars.
 ghost use Rattle.std.specs.Prelude.{◌≡◌, ◌≤◌, ◌+◌, ◌∷◌, ◌++◌, IfOk, OnOk, MatchOption, length, map, fold, min};
-ghost use Rattle.std.specs.Prelude.{string_bytes};
+ghost use Rattle.std.specs.Prelude.{replicate, string_bytes};
 ghost use Rattle.htmd_markdown.specs.Tables as spec;
 ghost use Rattle.htmd_markdown.specs.TableReading.{read_row, bars, column_count, IsEven};
 ghost use Rattle.htmd_markdown.specs.GuardedTables as guarded;
@@ -142,9 +142,18 @@ fn narrow(widths: &mut Vec<usize>, bars: Bars)
         Bars::References => {}
         Bars::Backslashes => {
             if line_room(widths) > LONGEST_PADDED + 1 {
-                widths.fill(NARROWEST);
+                narrow_all(widths);
             }
         }
+    }
+}
+
+/// Makes each column as narrow as a column may be.
+fn narrow_all(widths: &mut Vec<usize>)
+    ensures { widths.new.items ≡ replicate (length widths.old.items) guarded.narrowest }
+{
+    for i in 0..widths.len() {
+        widths[i] = NARROWEST;
     }
 }
 

@@ -1,13 +1,14 @@
 //! What a table holds in Guarded: its captions and its rows of cells.
 
-ghost use Rattle.std.specs.Prelude.{◌≡◌, ◌<◌, ◌++◌, not, IfOk, OnOk, All, true, length, map};
+ghost use Rattle.std.specs.Prelude.{◌≡◌, ◌<◌, ◌++◌, not, IfOk, OnOk, All, true, length, map, fold, codes};
 ghost use Rattle.std.specs.List.{list_any};
 ghost use Rattle.htmd_text.specs.WhiteSpace.{is_document_white_space};
 ghost use Rattle.htmd_tree.specs.Items.{data_at, IsTree};
 ghost use Rattle.htmd_tree.specs.NumberedTrees.{tree_of};
 ghost use Rattle.htmd.specs.Groups.{children_at};
 ghost use Rattle.htmd.specs.GuardedTableLayouts as spec;
-ghost use Rattle.htmd.specs.GuardedTableViews.{line_view, lines_of};
+ghost use Rattle.htmd.specs.GuardedTableViews.{line_view, lines_view};
+ghost use Rattle.htmd.specs.TableLayouts.{tagged_children};
 
 use super::other_block::is_hidden;
 use super::table::{has_table_form, is_cell};
@@ -257,34 +258,70 @@ struct Lines {
 }
 
 impl Lines {
-    /// Puts a row, if it has cells, and answers whether the next one of its group begins it.
+    /// A caption.
+    fn push_caption(&mut self, node: NodeId) -> Result<(), AllocError>
+        ensures { OnOk result (lines_view self.new ≡ spec.with_caption_line node (lines_view self.old)) }
+    {
+        self.lines.push(TableLine::Caption(node))?;
+        Ok(())
+    }
+
+    /// Cells, if any, are a row.
+    fn push_cells(&mut self, cells: Vec<NodeId>, in_head: bool) -> Result<(), AllocError>
+        ensures { OnOk result
+            (lines_view self.new ≡ spec.with_cells_line in_head cells.items (lines_view self.old)) }
+    {
+        if cells.is_empty() {
+            return Ok(());
+        }
+        let begins_group = self.begins_group;
+        self.lines.push(TableLine::Row(TableRow {
+            in_head,
+            begins_group,
+            cells,
+        }))?;
+        self.begins_group = false;
+        Ok(())
+    }
+
+    /// A row.
     fn push_row(
         &mut self,
         alloc: Global,
         tree: &Tree,
         row: NodeId,
         in_head: bool,
-        begins_group: bool,
-    ) -> Result<bool, AllocError>
+    ) -> Result<(), AllocError>
         requires { row < length tree.now }
-        ensures lines { OnOk result (lines_of self.new ≡ lines_of self.old
-            ++ spec.row_of in_head begins_group (spec.cells_of tree.now row)) }
-        ensures begins { IfOk result (λ begins.
-            begins ≡ spec.begins_still begins_group (spec.cells_of tree.now row)) }
+        ensures { OnOk result
+            (lines_view self.new ≡ spec.with_row_line tree.now in_head (lines_view self.old) row) }
     {
         let cells = cells_of(alloc, tree, row)?;
-        if cells.is_empty() {
-            return Ok(begins_group);
-        }
-        self.lines.push(TableLine::Row(TableRow {
-            in_head,
-            begins_group,
-            cells,
-        }))?;
-        Ok(false)
+        self.push_cells(cells, in_head)
     }
 
-    /// Puts the rows of a part, of which the first begins a group.
+    /// The rows of a part.
+    fn push_rows(
+        &mut self,
+        alloc: Global,
+        tree: &Tree,
+        section: NodeId,
+        in_head: bool,
+    ) -> Result<(), AllocError>
+        requires { section < length tree.now }
+        ensures { OnOk result (lines_view self.new ≡ fold (spec.with_row_line tree.now in_head)
+            (lines_view self.old) (tagged_children (codes "tr") tree.now section)) }
+    {
+        for child in tree.children(section) {
+            if !has_tag(tree, *child, "tr") {
+                continue;
+            }
+            self.push_row(alloc, tree, *child, in_head)?;
+        }
+        Ok(())
+    }
+
+    /// The rows of a part, which are a group.
     fn push_section(
         &mut self,
         alloc: Global,
@@ -293,40 +330,28 @@ impl Lines {
         in_head: bool,
     ) -> Result<(), AllocError>
         requires { section < length tree.now }
-        ensures lines { OnOk result
-            (lines_of self.new ≡ lines_of self.old ++ spec.section_of tree.now in_head section) }
-        ensures begins { OnOk result (self.new.begins_group ≡ true) }
+        ensures { OnOk result
+            (lines_view self.new ≡ spec.with_section_lines tree.now in_head section (lines_view self.old)) }
     {
-        let mut begins_group = true;
-        for child in tree.children(section) {
-            if !has_tag(tree, *child, "tr") {
-                continue;
-            }
-            begins_group = self.push_row(alloc, tree, *child, in_head, begins_group)?;
-        }
+        self.begins_group = true;
+        self.push_rows(alloc, tree, section, in_head)?;
         self.begins_group = true;
         Ok(())
     }
 
-    /// Puts what a child of a table holds.
+    /// What a child of a table holds.
     fn push_child(&mut self, alloc: Global, tree: &Tree, child: NodeId) -> Result<(), AllocError>
         requires { child < length tree.now }
-        ensures lines { OnOk result (lines_of self.new ≡ lines_of self.old
-            ++ spec.child_lines (spec.child_at tree.now child) tree.now self.old.begins_group child) }
-        ensures begins { OnOk result (self.new.begins_group
-            ≡ spec.begins_behind (spec.child_at tree.now child) tree.now self.old.begins_group child) }
+        ensures { OnOk result
+            (lines_view self.new ≡ spec.with_child_lines tree.now (lines_view self.old) child) }
     {
         match table_child(tree, child) {
-            TableChild::TableCaption => self.lines.push(TableLine::Caption(child))?,
-            TableChild::TableHead => self.push_section(alloc, tree, child, true)?,
-            TableChild::TableSection => self.push_section(alloc, tree, child, false)?,
-            TableChild::DirectRow => {
-                let begins_group = self.begins_group;
-                self.begins_group = self.push_row(alloc, tree, child, false, begins_group)?;
-            }
-            TableChild::OtherChild => {}
+            TableChild::TableCaption => self.push_caption(child),
+            TableChild::TableHead => self.push_section(alloc, tree, child, true),
+            TableChild::TableSection => self.push_section(alloc, tree, child, false),
+            TableChild::DirectRow => self.push_row(alloc, tree, child, false),
+            TableChild::OtherChild => Ok(()),
         }
-        Ok(())
     }
 }
 
@@ -356,12 +381,21 @@ pub(crate) fn nodes_of_lines(alloc: Global, lines: &[TableLine]) -> Result<Vec<N
 {
     let mut nodes = Vec::new(alloc);
     for line in lines {
-        match line {
-            TableLine::Caption(node) => nodes.push(*node)?,
-            TableLine::Row(row) => nodes.extend_from_slice(row.cells.as_slice())?,
-        }
+        push_nodes(&mut nodes, line)?;
     }
     Ok(nodes)
+}
+
+/// Puts the nodes of a line.
+fn push_nodes(nodes: &mut Vec<NodeId>, line: &TableLine) -> Result<(), AllocError>
+    ensures { OnOk result
+        (nodes.new.items ≡ nodes.old.items ++ spec.line_nodes (line_view line.now)) }
+{
+    match line {
+        TableLine::Caption(node) => nodes.push(*node)?,
+        TableLine::Row(row) => nodes.extend_from_slice(row.cells.as_slice())?,
+    }
+    Ok(())
 }
 
 /// Whether all of these are `th`.

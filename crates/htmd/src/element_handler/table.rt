@@ -5,7 +5,8 @@ ghost use Rattle.std.specs.List.{list_any, flat_map};
 ghost use Rattle.htmd_tree.specs.NumberedTrees.{tree_of};
 ghost use Rattle.htmd_tree.specs.Ancestors.{ancestors_of};
 ghost use Rattle.htmd.specs.Groups.{children_at};
-ghost use Rattle.htmd.specs.Handling.{IsProper};
+ghost use Rattle.htmd.specs.Handling.{IsProper, contents_of_each};
+ghost use Rattle.htmd.specs.GuardedTableLayouts.{nodes_of_lines, table_lines};
 ghost use Rattle.htmd.specs.TableLayouts as layouts;
 ghost use Rattle.htmd.specs.Tables as spec;
 ghost use Rattle.htmd.specs.TableElements as element;
@@ -118,7 +119,11 @@ fn is_left_out(element: &Element) -> bool
 }
 
 /// The captions and cells of a table that is written as one in Guarded, each by itself.
-fn plan_guarded(alloc: Global, element: &Element) -> Result<Request, AllocError> {
+fn plan_guarded(alloc: Global, element: &Element) -> Result<Request, AllocError>
+    ensures plan { IfOk result (λ p. request_view p ≡ contents_of_each
+        (nodes_of_lines (table_lines element.now.tree.now element.now.node))) }
+    ensures proper { IfOk result (λ p. IsProper element.now.tree.now element.now.node (request_view p)) }
+{
     let lines = table_lines(alloc, element.tree, element.node)?;
     Ok(Request::Each {
         nodes: nodes_of_lines(alloc, &lines)?,

@@ -13,7 +13,7 @@ use Rattle.htmd_tree.specs.NumberedTrees.{tree_of, height}
 use Rattle.htmd_tree.specs.Ancestors.{ancestor_of, ancestors_of}
 use Rattle.htmd_tree.proofs.NumberedTreesLemmas.{height_pos}
 use Rattle.htmd.specs.Handling.{ResultView}
-use Rattle.htmd.specs.OrdinaryText.{written_text}
+use Rattle.htmd.specs.OrdinaryText.{with_written_text}
 use Rattle.htmd.specs.Outputs.{Output, conversion_of, context_of, empty_output, is_guarded}
 use Rattle.htmd.specs.Children.{content_alone, descendant_tree}
 use Rattle.htmd.specs.Groups.{children_at}
@@ -131,7 +131,7 @@ walk_descendant-returns-clause-ok g t c =
     let alike = is_guarded (g.R.Registry.config c.args.self.now.registry.now).options in
     let guarded : c.is_guarded-is_guarded.result ≡ alike =
     c.is_guarded-is_guarded.ensures ∙ ap is_guarded c.options.ensures.value in
-    let written : Bool → List ℕ → List ℕ = λ m s. s ++ written_text m false false true s c.in-Some.text.now in
+    let written : Bool → List ℕ → List ℕ = λ m s. with_written_text m false false true s c.in-Some.text.now in
     λ n h.
     ap (λ s. put s c.empty_result-out.result.markdown_translated) (c.in_ok-append_text.ensures
     ∙ ap (λ m. written m (string_bytes c.empty_result-out.result.content)) guarded

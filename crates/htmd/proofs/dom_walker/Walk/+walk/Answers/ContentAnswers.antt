@@ -9,7 +9,7 @@ use Rattle.htmd_tree.specs.Items.{Item, element_node, data_at}
 use Rattle.htmd_tree.specs.NumberedTrees.{NumberedForest}
 use Rattle.htmd_tree.specs.Ancestors.{ancestor_of, ancestors_of}
 use Rattle.htmd_tree.specs.Views.{pairs_of}
-use Rattle.htmd.specs.OrdinaryText.{pre, parent_is_pre, written_text}
+use Rattle.htmd.specs.OrdinaryText.{pre, parent_is_pre, with_written_text}
 use Rattle.htmd.specs.Groups.{only_text, group_children, children_at}
 use Rattle.htmd.specs.Outputs.{Output, conversion_of, empty_output, is_guarded}
 use Rattle.htmd.specs.Children.{write_groups, trims_first}
@@ -93,7 +93,7 @@ content-returns-in-Some-clause-ok g t c =
     ≡ is_guarded (g.R.Registry.config c.args.self.now.registry.now).options =
     c.is_guarded.ensures ∙ ap is_guarded c.options.ensures.value in
     let written : Bool → Bool → Bool → Bool → List ℕ → List ℕ =
-    λ m p q b s. s ++ written_text m p q b s c.in-Some.text.now in
+    λ m p q b s. with_written_text m p q b s c.in-Some.text.now in
     let text = written (is_guarded (g.R.Registry.config c.args.self.now.registry.now).options) in
     let put : List ℕ → Bool → Output =
     λ s b. record { text = s; markdown_translated = b; definitions = c.args.links.now } in
