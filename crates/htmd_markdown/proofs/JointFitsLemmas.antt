@@ -1,7 +1,7 @@
 -- The places of what is mended stand in the texts.
 use Rattle.std.proofs.Common.{◌≡◌, ℕ, zero, suc, ◌+◌, ◌-◌, ◌<◌, ◌≤◌, Bool, true, false, List, [], ◌∷◌, ◌++◌, length}
 use Rattle.std.proofs.Common.{get_or, take, drop, refl, sym, ap, subst, ◌∙◌, arith}
-use Rattle.std.specs.Prelude.{◌==◌, not, ◌&&◌, ◌||◌}
+use Rattle.std.specs.Prelude.{◌==◌, not, ◌&&◌, ◌||◌, if◌then◌else◌}
 use Rattle.std.specs.Str.{IsUtf8, IsCharBoundary}
 use Rattle.std.proofs.lemmas.Bool.{and_parts, cond_both, eqb-true}
 use Rattle.std.proofs.lemmas.Bool.Decides.{nat_tests}
@@ -111,3 +111,19 @@ module _ (out content : List ℕ) (front : IsUtf8 out) (behind : IsUtf8 content)
       (λ _. cond_both (backquotes_meet out content) SpaceBetween _ Own (λ _. tt)
       (λ _. cond_both (has_no_run (ending_run out) (beginning_run content) || not (is_filled before && is_filled rest))
       AsTheyAre _ Own (λ _. tt) (λ _. between_fits (last_character before) (first_character rest))))
+
+-- what is mended between the ends as they are cut
+pub joint_told : (out content before rest : List ℕ) (ending beginning : ℕ) → meets_bracket out content ≡ false
+    → backquotes_meet out content ≡ false → ending ≡ ending_run out → beginning ≡ beginning_run content
+    → before ≡ take (length out - ending) out → rest ≡ drop beginning content
+    → joint_of_runs ending beginning before rest ≡ joint_of out content
+joint_told out content before rest ending beginning no_bracket no_backquotes end begin front behind =
+    let own = joint_of_runs (ending_run out) (beginning_run content) in
+    ap (λ n. joint_of_runs n beginning before rest) end
+    ∙ ap (λ n. joint_of_runs (ending_run out) n before rest) begin
+    ∙ ap (λ l. own l rest) (front ∙ ap (λ n. take (length out - n) out) end)
+    ∙ ap (own (take (length out - ending_run out) out)) (behind ∙ ap (λ n. drop n content) begin)
+    ∙ sym (ap (λ t. if t then MarkBeforeBracket else (if backquotes_meet out content then SpaceBetween
+    else own (take (length out - ending_run out) out) (drop (beginning_run content) content))) no_bracket
+    ∙ ap (λ t. if t then SpaceBetween
+    else own (take (length out - ending_run out) out) (drop (beginning_run content) content)) no_backquotes)

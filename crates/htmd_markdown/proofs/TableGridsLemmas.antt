@@ -16,8 +16,10 @@ drop_min n xs =
 
 drop_twice : {A : Type 0} (n m : ℕ) (xs : List A) → drop m (drop n xs) ≡ drop (n + m) xs
 drop_twice zero m xs = ap (λ n. drop n xs) (omega arith)
-drop_twice (suc n) m [] = drop_all m [] (omega arith)
-drop_twice (suc n) m (x ∷ xs) = drop_twice n m xs
+drop_twice (suc n) m [] = drop_all m [] (omega arith) ∙ sym (drop_all (suc n + m) [] (omega arith))
+drop_twice (suc n) m (x ∷ xs) =
+    let count : suc (n + m) ≡ suc n + m = omega arith in
+    drop_twice n m xs ∙ ap (λ k. drop k (x ∷ xs)) count
 
 pub columns_taken : (cell : SpannedCell) → length (columns_of cell) ≡ max cell.columns 1
 columns_taken cell = omega (arith, length-replicate (cell.columns - 1) (column [] cell.rows))
