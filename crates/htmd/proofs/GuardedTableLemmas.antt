@@ -1,6 +1,6 @@
 -- The lines of a table in Guarded, one after another.
 use Rattle.std.proofs.Common.{◌≡◌, ℕ, zero, suc, ◌+◌, ◌<◌, ◌≤◌, List, [], ◌∷◌, ◌++◌, length, get_or, take, drop, min, map}
-use Rattle.std.proofs.Common.{refl, sym, ap, ◌∙◌, All, subst}
+use Rattle.std.proofs.Common.{refl, sym, ap, ◌∙◌, arith, All, subst}
 use Rattle.std.proofs.lemmas.List.{drop_more, drop_all, take_all, take_min, drop_min}
 use Rattle.std.proofs.lemmas.List.Elements.{All-nil, All-cons, All-head, All-tail}
 use Rattle.std.proofs.lemmas.Grind.{flat_map-append}
@@ -10,7 +10,8 @@ use Rattle.htmd.specs.declared.element_handler.HandlerResult.{HandlerResult}
 use Rattle.htmd.specs.declared.element_handler.guarded_table_layout.TableLine as code
 use Rattle.htmd.specs.Handling.{ResultView}
 use Rattle.htmd.specs.GuardedTableLayouts.{line_nodes, nodes_of_lines}
-use Rattle.htmd.specs.GuardedTableTexts.{GuardedTexts, with_line, with_lines}
+use Rattle.htmd_markdown.specs.TableGrids.{SpannedRow}
+use Rattle.htmd.specs.GuardedTableTexts.{GuardedTexts, put_caption, with_caption, with_line, with_lines}
 use Rattle.htmd.specs.GuardedTableViews.{line_view}
 use Rattle.htmd.specs.Views.{results_view}
 use Rattle.htmd.proofs.ChildListsLemmas.{map_next}
@@ -76,3 +77,31 @@ pub lines_done : (items : List Item) (texts : GuardedTexts) (lines : List code.T
     → with_lines items texts (map line_view (drop i lines)) contents ≡ texts
 lines_done items texts lines i contents l =
     ap (λ ls. with_lines items texts ls contents) (lines_end lines i l)
+
+-- ---- captions
+
+pub no-caption : (s : List ℕ) (t : GuardedTexts) → length s ≡ 0 → with_caption s t ≡ t
+no-caption [] t e = refl
+no-caption (b ∷ s) t e = absurd (omega arith)
+
+pub caption-before : (s : List ℕ) (t : GuardedTexts) → 0 < length s → length t.rows ≡ 0
+    → with_caption s t ≡ (record { before = t.before ++ s ∷ []; rows = t.rows; behind = t.behind })
+caption-before [] t l e = absurd (omega arith)
+caption-before (b ∷ s) t l e = put t.rows e
+  where
+    put : (rows : List SpannedRow) → length rows ≡ 0
+        → put_caption rows (b ∷ s) t
+        ≡ (record { before = t.before ++ (b ∷ s) ∷ []; rows = t.rows; behind = t.behind })
+    put [] e = refl
+    put (row ∷ rows) e = absurd (omega arith)
+
+pub caption-behind : (s : List ℕ) (t : GuardedTexts) → 0 < length s → 0 < length t.rows
+    → with_caption s t ≡ (record { before = t.before; rows = t.rows; behind = t.behind ++ s ∷ [] })
+caption-behind [] t l e = absurd (omega arith)
+caption-behind (b ∷ s) t l e = put t.rows e
+  where
+    put : (rows : List SpannedRow) → 0 < length rows
+        → put_caption rows (b ∷ s) t
+        ≡ (record { before = t.before; rows = t.rows; behind = t.behind ++ (b ∷ s) ∷ [] })
+    put [] e = absurd (omega arith)
+    put (row ∷ rows) e = refl

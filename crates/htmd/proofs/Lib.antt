@@ -34,3 +34,4 @@ pub mod ImagesLemmas
 pub mod SightsLemmas
 pub mod GuardedNodesLemmas
 pub mod GuardedTableLemmas
+pub mod GuardedSpansLemmas
