@@ -33,3 +33,5 @@ pub mod GuardedExamples
 pub mod ImagesLemmas
 pub mod SightsLemmas
 pub mod GuardedNodesLemmas
+pub mod GuardedTableLemmas
+pub mod GuardedSpansLemmas
