@@ -32,7 +32,7 @@ pub(crate) fn row_span(attrs: &[Attribute]) -> u16
 
 /// The number of the value, 1 where there is none, and the greatest number of rows where it is greater.
 fn span_of(value: Option<&str>) -> u16
-    ensures { result ≡ min (spec.span_of (option_copied value)) 65534 }
+    ensures { result ≡ min (spec.span_of (option_copied value.entry)) 65534 }
 {
     let Some(value) = value else {
         return 1;
