@@ -5,7 +5,9 @@ use Rattle.std.specs.Prelude.{◌==◌, if◌then◌else◌}
 use Rattle.std.specs.Char.{is_ascii_digit}
 use Rattle.std.proofs.lemmas.Bool.{and_parts}
 use Rattle.std.proofs.lemmas.List.Elements.{All-get_or}
-use Rattle.std.proofs.lemmas.List.Sums.{fold_more}
+use Rattle.std.specs.List.{prefix_len}
+use Rattle.std.proofs.lemmas.List.{get_or-take, length-take}
+use Rattle.std.proofs.lemmas.List.Sums.{fold_more, prefix_len_passes}
 use Rattle.htmd_text.specs.Characters.{digit_zero}
 use Rattle.htmd.specs.GuardedTableLayouts as spec
 
@@ -19,6 +21,14 @@ pub digit-at : (digits : List ℕ) (i digit : ℕ) → All (λ b. is_ascii_digit
     → digit ≡ get_or digits i digit → (48 ≤ digit) × (digit ≤ 57)
 digit-at digits i digit a l e = digit-range digit
     (subst (λ b. is_ascii_digit b ≡ true) (sym e) (All-get_or (λ b. is_ascii_digit b ≡ true) digits i digit l a))
+
+-- the digits that begin a text
+pub digits-front : (s : List ℕ) (n : ℕ) → n ≡ prefix_len is_ascii_digit s
+    → All (λ b. is_ascii_digit b ≡ true) (take n s)
+digits-front s n e k d l =
+    let below : k < n = omega (arith, length-take n s) in
+    ap is_ascii_digit (get_or-take n s k d below)
+    ∙ prefix_len_passes is_ascii_digit s k d (subst (λ j. k < j) e below)
 
 -- what is cut at the greatest number stays so
 cut-goes-on : (n d : ℕ) → min (min n 65534 * 10 + d) 65534 ≡ min (n * 10 + d) 65534
