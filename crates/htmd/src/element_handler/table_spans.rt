@@ -55,13 +55,20 @@ fn html_number(text: &[u8]) -> Option<u16>
     }
 }
 
+/// Whether a byte is white space to HTML.
+fn is_html_white_space(b: u8) -> bool
+    ensures { result ≡ spec.is_html_white_space b }
+{
+    matches!(b, b'\t' | b'\n' | 0x0C | b'\r' | b' ')
+}
+
 /// How many characters of white space begin the text.
 fn white_space_len(text: &[u8]) -> usize
     ensures bound { result ≤ length text.now }
     ensures value { result ≡ prefix_len spec.is_html_white_space text.now }
 {
     for (len, b) in text.iter().enumerate() {
-        if !matches!(*b, b'\t' | b'\n' | 0x0C | b'\r' | b' ') {
+        if !is_html_white_space(*b) {
             return len;
         }
     }
