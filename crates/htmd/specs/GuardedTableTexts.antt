@@ -39,15 +39,14 @@ spanned_cells items nodes contents = map (λ p. spanned_cell items p.0 p.1) (zip
 
 -- a caption behind the rows so far, or before the first one
 abbrev pub put_caption : List SpannedRow → List ℕ → GuardedTexts → GuardedTexts
-put_caption [] caption texts =
-    record { before = texts.before ++ caption ∷ []; rows = texts.rows; behind = texts.behind }
-put_caption (row ∷ rows) caption texts =
-    record { before = texts.before; rows = texts.rows; behind = texts.behind ++ caption ∷ [] }
+put_caption [] s texts = record { before = texts.before ++ s ∷ []; rows = texts.rows; behind = texts.behind }
+put_caption (first ∷ rows) s texts =
+    record { before = texts.before; rows = texts.rows; behind = texts.behind ++ s ∷ [] }
 
 -- one more caption; one that is empty is none
 abbrev pub with_caption : List ℕ → GuardedTexts → GuardedTexts
 with_caption [] texts = texts
-with_caption (b ∷ caption) texts = put_caption texts.rows (b ∷ caption) texts
+with_caption (b ∷ s) texts = put_caption texts.rows (b ∷ s) texts
 
 -- the content of a caption
 abbrev pub with_captions : List ResultView → GuardedTexts → GuardedTexts

@@ -23,6 +23,7 @@ pub mod ParagraphTexts
 pub mod ParagraphSeams
 pub mod ParagraphLawsLemmas
 pub mod GuardedEnds
+pub mod GuardedRuns
 pub mod GuardedSeams
 pub mod TextTrees
 pub mod TextElements
