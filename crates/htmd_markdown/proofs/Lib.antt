@@ -49,3 +49,4 @@ pub mod JointsLemmas
 pub mod JointCutsLemmas
 pub mod TableGridsLemmas
 pub mod UnmendedLemmas
+pub mod JointFitsLemmas
