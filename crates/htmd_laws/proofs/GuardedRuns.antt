@@ -5,7 +5,7 @@ use Rattle.std.specs.Prelude.{◌==◌, ◌&&◌, ◌%◌, reverse}
 use Rattle.std.specs.Char.{is_ascii_punctuation}
 use Rattle.std.specs.List.{prefix_len, suffix_len}
 use Rattle.std.proofs.Math.Seq.{take-append_seam}
-use Rattle.std.proofs.lemmas.Bool.{and_parts, cases_Bool, cases_lt, cond-true, cond-false, false≢true, eqb-true}
+use Rattle.std.proofs.lemmas.Bool.{cases_Bool, cases_lt, cond-true, cond-false, false≢true, eqb-true}
 use Rattle.std.proofs.lemmas.List.{reverse-append, length-append, length-reverse}
 use Rattle.std.proofs.lemmas.List.Sums.{prefix_len-le-length, suffix_len-le-length}
 use Rattle.htmd_text.specs.Characters.{asterisk, backslash}
@@ -98,6 +98,14 @@ no_asterisk : (s : List ℕ) → is_guarded (asterisk ∷ s) ≡ true → ⊥
 no_asterisk [] e = false≢true e
 no_asterisk (c ∷ s) e = false≢true e
 
+-- a backslash that escapes nothing is markup
+bare : (b c : ℕ) (s : List ℕ) → is_backslash b ≡ true → is_ascii_punctuation c ≡ false
+    → is_guarded (b ∷ c ∷ s) ≡ true → ⊥
+bare b c s passes other e =
+    let here : is_guarded (backslash ∷ c ∷ s) ≡ true =
+    ap (λ x. is_guarded (x ∷ c ∷ s)) (sym (eqb-true b backslash passes)) ∙ e in
+    false≢true (rw other at here)
+
 -- in a guarded text each `*` stands behind a backslash that escapes it
 escaped_here : (s t : List ℕ) → is_guarded (s ++ asterisk ∷ t) ≡ true → escapes_next s ≡ true
 escaped_here [] t e = absurd (no_asterisk t e)
@@ -117,13 +125,6 @@ escaped_here (b ∷ c ∷ s) t e =
     (λ (fails : is_backslash b ≡ false).
     behind_other b (c ∷ s) fails (escaped_here (c ∷ s) t (guarded-tail b (c ∷ (s ++ asterisk ∷ t)) fails e)))
     (cases_Bool (is_backslash b))
-  where
-    bare : (b c : ℕ) (s : List ℕ) → is_backslash b ≡ true → is_ascii_punctuation c ≡ false
-        → is_guarded (b ∷ c ∷ s) ≡ true → ⊥
-    bare b c s passes other e =
-        let here : is_guarded (backslash ∷ c ∷ s) ≡ true =
-        ap (λ x. is_guarded (x ∷ c ∷ s)) (sym (eqb-true b backslash passes)) ∙ e in
-        false≢true (and_parts _ _ (rw other at here)).0
 
 -- ---- the end of a guarded text
 

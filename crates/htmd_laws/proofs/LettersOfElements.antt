@@ -11,7 +11,7 @@ use Rattle.htmd_tree.specs.Items.{Item, data_at, children_of}
 use Rattle.htmd_tree.specs.NumberedTrees.{NumberedTree, NumberedForest}
 use Rattle.htmd_tree.specs.Ancestors.{Ancestor, ancestor_of}
 use Rattle.htmd.specs.declared.options.Options.{Options}
-use Rattle.htmd.specs.Handling.{ElementView, nothing, content_of_children, contents_of_each, HandlerMeaning}
+use Rattle.htmd.specs.Handling.{ElementView, PlanView, nothing, content_of_children, contents_of_each, HandlerMeaning}
 use Rattle.htmd.specs.Choice.{indexes}
 use Rattle.htmd.specs.AllText.{text_or_all, all_text_of}
 use Rattle.htmd.specs.Groups.{only_text, groups_of, children_at}
@@ -19,17 +19,15 @@ use Rattle.htmd.specs.Outputs.{Conversion, conversion_of, Writes, is_markdown_al
 use Rattle.htmd.specs.ElementPlans.{tag_of, attributes_of, is_tag_among, markdown_plan, tag_at}
 use Rattle.htmd.specs.ElementPlans.{unless_faithful}
 use Rattle.htmd_markdown.specs.LineBreaks.{line_break}
-use Rattle.htmd_markdown.specs.ThematicBreaks.{thematic_break}
 use Rattle.htmd.specs.Children.{content_inside, content_alone, descendant_tree}
 use Rattle.htmd.specs.Elements.{Occurrence, Answer, content_of, contents_alone, plan_answer, answer_after}
 use Rattle.htmd.specs.Elements.{without_handler, occurrence_at, with_finish}
 use Rattle.htmd.specs.OtherBlocks.{other_blocks, other_block_plan, hidden_tags}
 use Rattle.htmd.specs.LineBreaks.{line_breaks, break_style_of}
-use Rattle.htmd.specs.ThematicBreaks.{thematic_breaks}
-use Rattle.htmd.specs.ThematicBreaks.{thematic_break_style_of}
+use Rattle.htmd.specs.ThematicBreaks.{thematic_breaks, thematic_break_plan, thematic_break_style_of}
 use Rattle.htmd.specs.Spans.{spans, formula_mark, formula_plan, is_read_in_formula}
 use Rattle.htmd_markdown.specs.GuardedCode.{fitting_language}
-use Rattle.htmd.specs.OneLineElements.{stands_in_line}
+use Rattle.htmd.specs.OneLineElements.{stands_in_line, is_in_line}
 use Rattle.htmd.specs.Code.{code, code_plan, guarded_code_plan, content_plan}
 use Rattle.htmd.specs.Preformatted.{preformatted_texts, preformatted_plan}
 use Rattle.htmd.specs.Preformatted.{block_plan, guarded_preformatted}
@@ -57,7 +55,7 @@ use Rattle.htmd.specs.Anchors.{anchors, anchor_address}
 use Rattle.htmd.specs.BuiltIn.{built_in}
 use Rattle.htmd_laws.specs.Letters.{said_of_image, said_of_formula, said_of_element, said_among, said_of_each, said_inside}
 use Rattle.htmd_laws.specs.Letters.{prefers_autolinks, letters, letters_if_any, said_of_code, said_of_pre, is_hidden}
-use Rattle.htmd_laws.proofs.LettersLemmas.{Says, says-own, says-is, is_filler}
+use Rattle.htmd_laws.proofs.LettersLemmas.{Says, says-own, says-nil, says-is, is_filler}
 use Rattle.htmd_laws.proofs.LettersOfTexts.{line_feed_of_white, says-trimmed}
 use Rattle.htmd_laws.proofs.LettersOfLinks.{IsTextIfAny}
 use Rattle.htmd_laws.proofs.LettersOfHandlers.{says-span_result}
@@ -115,9 +113,11 @@ module _ (options : Options) (alone : is_markdown_alone options ≡ true)
 
     rule_is_said : IsSaid (codes "hr")
     rule_is_said here =
-        planned_is_said of_letters at definitions (codes "hr") thematic_breaks
-        (markdown_plan (thematic_break (thematic_break_style_of at.view))) [] refl (rw alone refl)
-        (says-rule (thematic_break_style_of at.view))
+        planned_is_said of_letters at definitions (codes "hr") thematic_breaks (thematic_break_plan at.view) [] refl refl
+        (cond_both (is_in_line at.view) _ _
+        (λ (plan : PlanView). SaysResult of_letters (plan_answer thematic_breaks at definitions plan
+        (without_handler at definitions)).result [])
+        (λ _. says-blank_lines [] says-nil) (λ _. rw alone (says-rule (thematic_break_style_of at.view))))
 
     titled : IsTextIfAny (title_of at.view)
     titled = last_is_text (codes "title" ∷ []) (attributes_of at.view) (values id)

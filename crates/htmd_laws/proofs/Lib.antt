@@ -35,6 +35,7 @@ pub mod LettersOfLines
 pub mod LettersOfPieces
 pub mod LettersOfLinks
 pub mod LettersOfGuarded
+pub mod LettersOfJoints
 pub mod LettersOfHandlers
 pub mod LettersOfTables
 pub mod ElementsByTag
