@@ -38,6 +38,8 @@ pub mod LettersOfGuarded
 pub mod LettersOfJoints
 pub mod LettersOfHandlers
 pub mod LettersOfTables
+pub mod LettersOfGrids
+pub mod TableOrders
 pub mod ElementsByTag
 pub mod LettersOfElements
 pub mod FittingTrees
