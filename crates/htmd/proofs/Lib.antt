@@ -33,3 +33,4 @@ pub mod GuardedExamples
 pub mod ImagesLemmas
 pub mod SightsLemmas
 pub mod GuardedNodesLemmas
+pub mod TableOrdersLemmas

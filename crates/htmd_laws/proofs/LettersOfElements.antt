@@ -47,10 +47,11 @@ use Rattle.htmd.specs.TableLayouts.{nodes_of}
 use Rattle.htmd.specs.ElementPlans.{optional_markdown}
 use Rattle.htmd_laws.proofs.LettersOfTexts.{says-blank_lines}
 use Rattle.htmd_laws.proofs.LettersOfTables.{SayEach, all_of, says-table_text}
-use Rattle.htmd_laws.proofs.LettersOfGrids.{line_order, says-guarded_table}
-use Rattle.htmd_laws.proofs.TableOrders.{lines_in_order}
+use Rattle.htmd_laws.proofs.LettersOfGrids.{says-guarded_table}
+use Rattle.htmd.proofs.TableOrdersLemmas.{line_order, lines_in_order}
 use Rattle.htmd.specs.TableOrder.{nodes_of_table}
-use Rattle.htmd_laws.specs.Letters.{is_written, captions_and_cells}
+use Rattle.htmd_laws.specs.Letters.{is_written}
+use Rattle.htmd.specs.CaptionsAndCells.{captions_and_cells}
 use Rattle.htmd_laws.proofs.CountedTexts.{of_letters}
 use Rattle.htmd_laws.proofs.LettersLemmas.{says-of_nothing}
 use Rattle.htmd.specs.Images.{images, image_address, image_at}

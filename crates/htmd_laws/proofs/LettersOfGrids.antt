@@ -19,6 +19,7 @@ use Rattle.htmd.specs.Handling.{ResultView}
 use Rattle.htmd.specs.Tables.{text_of_cell}
 use Rattle.htmd.specs.GuardedTableLayouts.{TableLine, caption, row, line_nodes, nodes_of_lines, begins_with_header}
 use Rattle.htmd.specs.GuardedTableTexts.{GuardedTexts, no_guarded_texts, spanned_cell, spanned_cells, with_caption}
+use Rattle.htmd.proofs.TableOrdersLemmas.{line_cells, line_captions, line_order}
 use Rattle.htmd.specs.GuardedTableTexts.{with_lines, grid_text, with_blank_line, guarded_table_text, guarded_table_of}
 use Rattle.htmd_laws.proofs.CountedTexts.{of_letters}
 use Rattle.htmd_laws.proofs.LettersLemmas.{Says, says-own, says-nil, says-append, says-is, says-behind, says-before}
@@ -101,24 +102,7 @@ says-grid false (cells ∷ rows) p =
 
 -- ---- line by line
 
--- the cells of the lines, and their captions, and both in the order in which they are written: the captions before the
--- first row, the cells, and the later captions
-abbrev pub line_cells : List TableLine → List ℕ
-line_cells [] = []
-line_cells (caption node ∷ lines) = line_cells lines
-line_cells (row in_head begins_group cells ∷ lines) = cells ++ line_cells lines
-
-abbrev pub line_captions : List TableLine → List ℕ
-line_captions [] = []
-line_captions (caption node ∷ lines) = node ∷ line_captions lines
-line_captions (row in_head begins_group cells ∷ lines) = line_captions lines
-
-abbrev pub line_order : List TableLine → List ℕ
-line_order [] = []
-line_order (caption node ∷ lines) = node ∷ line_order lines
-line_order (row in_head begins_group cells ∷ lines) = (cells ++ line_cells lines) ++ line_captions lines
-
-texts_in : List (List ℕ) → List SpannedRow → List (List ℕ) → GuardedTexts
+abbrev texts_in : List (List ℕ) → List SpannedRow → List (List ℕ) → GuardedTexts
 texts_in x rows y = record { before = x; rows = rows; behind = y }
 
 rows_mapped : (rows : List SpannedRow) (last : SpannedRow)
@@ -168,7 +152,6 @@ module _ (f : ℕ → List ℕ) (items : List Item) where
       → SayRows (map cell_texts (first ∷ rest)) r → SayAll of_letters y h
       → Ordered (with_lines items (texts_in x (first ∷ rest) y) lines rs)
       ((b ++ (r ++ all_of f (line_cells lines))) ++ (h ++ all_of f (line_captions lines)))
-  unfolding texts_in
   after_row [] rs x y first rest b r h e p q s = record {
     b = b;
     r = r;
@@ -213,7 +196,6 @@ module _ (f : ℕ → List ℕ) (items : List Item) where
   before_row : (lines : List TableLine) (rs : List ResultView) (x : List (List ℕ)) (b : List ℕ)
       → SayEach f (nodes_of_lines lines) rs → SayAll of_letters x b
       → Ordered (with_lines items (texts_in x [] []) lines rs) (b ++ all_of f (line_order lines))
-  unfolding texts_in
   before_row [] rs x b e p = record {
     b = b;
     r = [];

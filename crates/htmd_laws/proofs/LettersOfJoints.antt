@@ -16,10 +16,6 @@ use Rattle.std.proofs.lemmas.Str.{IsUtf8-take, IsUtf8-drop, IsUtf8-past_char, en
 use Rattle.std.proofs.lemmas.Str.{IsCharBoundary-before_ascii}
 use Rattle.htmd_text.specs.Characters.{asterisk, exclamation_mark}
 use Rattle.htmd_markdown.specs.CodeSpans.{ends_with}
-use Rattle.htmd_markdown.specs.declared.joint.Joint.{Joint}
-use Rattle.htmd_markdown.specs.declared.joint.Joint.TheVariants.{AsTheyAre, MarkBeforeBracket, SpaceBetween}
-use Rattle.htmd_markdown.specs.declared.joint.Joint.TheVariants.{RunsGo, StartMoves, StartLosesRuns}
-use Rattle.htmd_markdown.specs.declared.joint.Joint.TheVariants.{EndMoves, EndLosesRuns}
 use Rattle.htmd_markdown.specs.Joints.{is_asterisk, ending_run, beginning_run, plain_start, plain_end, ends, Ends}
 use Rattle.htmd_markdown.specs.Joints.{joint_between, joint_at_start, joint_at_end, begins_word, ends_word, are_alike}
 use Rattle.htmd_markdown.specs.Joints.{is_run_misplaced, has_no_run, meets_bracket, backquotes_meet}
@@ -162,7 +158,7 @@ module _ (law : Law) (silent : PassesMarks law) where
     other = says-own content v
 
     marked : ends_with exclamation_mark out ≡ true
-        → Kept wanted (mended MarkBeforeBracket out content)
+        → Kept wanted (ends (take (length out - 1) out ++ codes "\\!") content)
     marked e =
         let n = length out - 1 in
         let last : get_or out n 0 ≡ exclamation_mark = eqb-true (get_or out n 0) exclamation_mark e in
@@ -191,10 +187,10 @@ module _ (law : Law) (silent : PassesMarks law) where
         drop_last (b ∷ []) l = refl
         drop_last (b ∷ c ∷ s) l = drop_last (c ∷ s) (omega arith)
 
-    spaced : Kept wanted (mended SpaceBetween out content)
+    spaced : Kept wanted (ends (out ++ codes " ") content)
     spaced = kept-all (says-before (codes " ") refl own) other refl
 
-    same : Kept wanted (mended AsTheyAre out content)
+    same : Kept wanted (ends out content)
     same = kept-all own other refl
 
     runs_go : Kept wanted (ends (take (length out - ending_run out) out) (drop (beginning_run content) content))
@@ -225,7 +221,8 @@ module _ (law : Law) (silent : PassesMarks law) where
         (holds-append law (counted law out) (counted law content) (counted law out) (counted law rest)
         (holds-own law (counted law out)) rest_is.says)
 
-    start_moves : Kept wanted (mended (StartMoves (beginning_run content) plain) out content)
+    start_moves : Kept wanted (ends (out ++ take plain rest)
+        (take (beginning_run content) content ++ drop (beginning_run content + plain) content))
     start_moves =
         let run = beginning_run content in
         kept-by (says-append own start_parts.first)
@@ -234,7 +231,8 @@ module _ (law : Law) (silent : PassesMarks law) where
         start_holds
 
     start_loses : beginning_run (drop plain rest) ≡ beginning_run content
-        → Kept wanted (mended (StartLosesRuns (beginning_run content) plain) out content)
+        → Kept wanted (ends (out ++ take plain rest)
+        (drop (beginning_run content + plain + beginning_run content) content))
     start_loses e =
         let run = beginning_run content in
         let place : drop (beginning_run (drop plain rest)) (drop plain rest) ≡ drop (run + plain + run) content =
@@ -246,10 +244,10 @@ module _ (law : Law) (silent : PassesMarks law) where
 
     at_start : Kept wanted (mended (joint_at_start (beginning_run content) rest) out content)
     at_start =
-        cond_both (begins_word (drop plain rest)) (StartMoves (beginning_run content) plain) _
+        cond_both (begins_word (drop plain rest)) _ _
         (λ j. Kept wanted (mended j out content)) (λ _. start_moves)
-        (λ _. cond_both (beginning_run (drop plain rest) == beginning_run content)
-        (StartLosesRuns (beginning_run content) plain) SpaceBetween (λ j. Kept wanted (mended j out content))
+        (λ _. cond_both (beginning_run (drop plain rest) == beginning_run content) _ _
+        (λ j. Kept wanted (mended j out content))
         (λ e. start_loses (eqb-true (beginning_run (drop plain rest)) (beginning_run content) e)) (λ _. spaced))
 
     -- ---- at the end
@@ -293,7 +291,7 @@ module _ (law : Law) (silent : PassesMarks law) where
     run_is : IsRun (drop (length before) out)
     run_is = ap (λ n. list_all is_asterisk (drop n out)) before_size ∙ ending out
 
-    end_moves : Kept wanted (mended (EndMoves run_behind signs) out content)
+    end_moves : Kept wanted (ends (head ++ drop (length before) out) (take signs (drop (length head) out) ++ content))
     end_moves =
         let n = length before - signs in
         let moved : drop n before ≡ take signs (drop (length head) out) =
@@ -305,7 +303,8 @@ module _ (law : Law) (silent : PassesMarks law) where
         (holds-as law wanted _ _ (append_assoc (counted law head) (counted law (drop n before)) (counted law content))
         end_holds)
 
-    end_loses : ending_run head ≡ run_behind → Kept wanted (mended (EndLosesRuns run_behind signs) out content)
+    end_loses : ending_run head ≡ run_behind
+        → Kept wanted (ends (take (length head - run_behind) head ++ drop (length head) before) content)
     end_loses e =
         kept-by
         (says-append
@@ -315,9 +314,9 @@ module _ (law : Law) (silent : PassesMarks law) where
 
     at_end : Kept wanted (mended (joint_at_end run_behind before) out content)
     at_end =
-        cond_both (ends_word head) (EndMoves run_behind signs) _ (λ j. Kept wanted (mended j out content))
+        cond_both (ends_word head) _ _ (λ j. Kept wanted (mended j out content))
         (λ _. end_moves)
-        (λ _. cond_both (ending_run head == run_behind) (EndLosesRuns run_behind signs) SpaceBetween
+        (λ _. cond_both (ending_run head == run_behind) _ _
         (λ j. Kept wanted (mended j out content))
         (λ e. end_loses (eqb-true (ending_run head) run_behind e)) (λ _. spaced))
 
@@ -327,23 +326,23 @@ module _ (law : Law) (silent : PassesMarks law) where
         → Kept wanted (mended (joint_between run_behind (beginning_run content) last first before rest) out content)
     between last first =
         let run = beginning_run content in
-        cond_both (are_alike run_behind run last first) (RunsGo run_behind) _ (λ j. Kept wanted (mended j out content))
+        cond_both (are_alike run_behind run last first) _ _ (λ j. Kept wanted (mended j out content))
         (λ e.
         let alike : run_behind ≡ run = eqb-true run_behind run (and_parts _ _ (and_parts _ _ e).0).0 in
         subst (λ n. Kept wanted (ends before (drop n content))) (sym alike) runs_go)
-        (λ _. cond_both (is_run_misplaced run first last) (joint_at_start run rest) _
+        (λ _. cond_both (is_run_misplaced run first last) _ _
         (λ j. Kept wanted (mended j out content)) (λ _. at_start)
-        (λ _. cond_both (is_run_misplaced run_behind last first) (joint_at_end run_behind before) AsTheyAre
+        (λ _. cond_both (is_run_misplaced run_behind last first) _ _
         (λ j. Kept wanted (mended j out content)) (λ _. at_end) (λ _. same)))
 
     pub mended_keeps : Kept wanted (mended_ends out content)
     mended_keeps =
-        cond_both (meets_bracket out content) MarkBeforeBracket _ (λ j. Kept wanted (mended j out content))
+        cond_both (meets_bracket out content) _ _ (λ j. Kept wanted (mended j out content))
         (λ e. marked (and_parts _ _ e).0)
-        (λ _. cond_both (backquotes_meet out content) SpaceBetween _ (λ j. Kept wanted (mended j out content))
+        (λ _. cond_both (backquotes_meet out content) _ _ (λ j. Kept wanted (mended j out content))
         (λ _. spaced)
         (λ _. cond_both (has_no_run run_behind (beginning_run content) || not (is_filled before && is_filled rest))
-        AsTheyAre _ (λ j. Kept wanted (mended j out content)) (λ _. same)
+        _ _ (λ j. Kept wanted (mended j out content)) (λ _. same)
         (λ _. between (last_character before) (first_character rest))))
 
   -- what a text holds, and what is put behind it

@@ -39,7 +39,6 @@ pub mod LettersOfJoints
 pub mod LettersOfHandlers
 pub mod LettersOfTables
 pub mod LettersOfGrids
-pub mod TableOrders
 pub mod ElementsByTag
 pub mod LettersOfElements
 pub mod FittingTrees

@@ -2,7 +2,6 @@
 use Rattle.std.specs.Prelude.{◌≡◌, ℕ, zero, suc, Bool, true, false, not, ◌&&◌, ◌||◌, if◌then◌else◌, List, [], ◌∷◌, ◌++◌}
 use Rattle.std.specs.Prelude.{filter, Option, Some, None, codes, IsUtf8}
 use Rattle.std.specs.Char.{is_whitespace, is_ascii_punctuation, is_ascii_digit}
-use Rattle.std.specs.List.{flat_map}
 use Rattle.std.specs.Str.{chars, bytes_eq}
 use Rattle.htmd_tree.specs.Items.{Item, children_of, HoldTexts}
 use Rattle.htmd_tree.specs.NumberedTrees.{NumberedTree, document, doctype, text, comment, element}
@@ -19,7 +18,6 @@ use Rattle.htmd.specs.LinkAttributes.{title_of}
 use Rattle.htmd.specs.Images.{image_address, alternative_text}
 use Rattle.htmd.specs.Anchors.{anchor_address}
 use Rattle.htmd_markdown.specs.GuardedCode.{fitting_language}
-use Rattle.htmd_markdown.specs.Titles.{is_filled}
 use Rattle.htmd.specs.AllText.{all_text_of}
 use Rattle.htmd.specs.Code.{language, shows_language}
 use Rattle.htmd.specs.Preformatted.{guarded_language}
@@ -27,11 +25,9 @@ use Rattle.htmd.specs.OneLineElements.{stands_in_line}
 use Rattle.htmd.specs.ElementPlans.{attributes_of, is_tag_among}
 use Rattle.htmd.specs.OtherBlocks.{hidden_tags}
 use Rattle.htmd.specs.Spans.{is_span, formula_mark, is_read_in_formula}
-use Rattle.htmd.specs.declared.element_handler.table_layout.TableChild.{TableChild}
-use Rattle.htmd.specs.declared.element_handler.table_layout.TableChild.TheVariants.{TableCaption, TableHead}
-use Rattle.htmd.specs.declared.element_handler.table_layout.TableChild.TheVariants.{TableSection, DirectRow, OtherChild}
-use Rattle.htmd.specs.GuardedTableLayouts.{cells_of, child_at, is_written_as_table}
-use Rattle.htmd.specs.TableLayouts.{layout_at, has_lines, tagged_children}
+use Rattle.htmd.specs.CaptionsAndCells.{captions_and_cells}
+use Rattle.htmd.specs.GuardedTableLayouts.{is_written_as_table}
+use Rattle.htmd.specs.TableLayouts.{layout_at, has_lines}
 use Rattle.htmd.specs.TableOrder.{nodes_of_table}
 use Rattle.htmd.specs.Tables.{has_table_form}
 use Rattle.htmd.specs.BuiltIn.{built_in}
@@ -114,41 +110,6 @@ said_among says (more tree trees) = says tree ++ said_among says trees
 abbrev pub said_of_each : (NumberedTree → List ℕ) → ElementView → List ℕ → List ℕ
 said_of_each says view [] = []
 said_of_each says view (d ∷ ds) = says (descendant_tree view.items view.text d) ++ said_of_each says view ds
-
--- ---- what a table says
-
--- the cells of a table's child, of either tag: of a row, or of the rows of a part
-abbrev pub cells_below : TableChild → List Item → ℕ → List ℕ
-cells_below TableCaption items child = []
-cells_below TableHead items child = flat_map (cells_of items) (tagged_children (codes "tr") items child)
-cells_below TableSection items child = flat_map (cells_of items) (tagged_children (codes "tr") items child)
-cells_below DirectRow items child = cells_of items child
-cells_below OtherChild items child = []
-
-abbrev pub caption_itself : TableChild → ℕ → List ℕ
-caption_itself TableCaption child = child ∷ []
-caption_itself TableHead child = []
-caption_itself TableSection child = []
-caption_itself DirectRow child = []
-caption_itself OtherChild child = []
-
-abbrev pub cells_among : List Item → List ℕ → List ℕ
-cells_among items [] = []
-cells_among items (child ∷ children) =
-    cells_below (child_at items child) items child ++ cells_among items children
-
-abbrev pub captions_among : List Item → List ℕ → List ℕ
-captions_among items [] = []
-captions_among items (child ∷ children) =
-    caption_itself (child_at items child) child ++ captions_among items children
-
--- the captions and all cells among the children of a table, in their order, but captions behind a cell last
-abbrev pub captions_and_cells : List Item → List ℕ → List ℕ
-captions_and_cells items [] = []
-captions_and_cells items (child ∷ children) =
-    if is_filled (cells_below (child_at items child) items child)
-    then cells_among items (child ∷ children) ++ captions_among items (child ∷ children)
-    else caption_itself (child_at items child) child ++ captions_and_cells items children
 
 -- it is written as a table
 abbrev pub is_written : ElementView → Bool

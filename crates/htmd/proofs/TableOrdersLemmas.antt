@@ -15,10 +15,26 @@ use Rattle.htmd.specs.TableLayouts.{tagged_children}
 use Rattle.htmd.specs.GuardedTableLayouts.{TableLine, caption, row, Lines, cells_of, with_cells_line, with_row_line}
 use Rattle.htmd.specs.GuardedTableLayouts.{with_new_group, with_child_line, with_child_lines, no_lines, child_at}
 use Rattle.htmd.specs.GuardedTableLayouts.{table_lines}
-use Rattle.htmd_laws.specs.Letters.{cells_below, caption_itself, cells_among, captions_among, captions_and_cells}
-use Rattle.htmd_laws.proofs.LettersOfGrids.{line_cells, line_captions, line_order}
+use Rattle.htmd.specs.CaptionsAndCells.{cells_below, caption_itself, cells_among, captions_among, captions_and_cells}
 
 -- ---- lines, one behind the other
+
+-- the cells of the lines, and their captions, and both in the order in which they are written: the captions before the
+-- first row, the cells, and the later captions
+abbrev pub line_cells : List TableLine → List ℕ
+line_cells [] = []
+line_cells (caption node ∷ lines) = line_cells lines
+line_cells (row in_head begins_group cells ∷ lines) = cells ++ line_cells lines
+
+abbrev pub line_captions : List TableLine → List ℕ
+line_captions [] = []
+line_captions (caption node ∷ lines) = node ∷ line_captions lines
+line_captions (row in_head begins_group cells ∷ lines) = line_captions lines
+
+abbrev pub line_order : List TableLine → List ℕ
+line_order [] = []
+line_order (caption node ∷ lines) = node ∷ line_order lines
+line_order (row in_head begins_group cells ∷ lines) = (cells ++ line_cells lines) ++ line_captions lines
 
 cells-append : (xs ys : List TableLine) → line_cells (xs ++ ys) ≡ line_cells xs ++ line_cells ys
 cells-append [] ys = refl
