@@ -231,16 +231,18 @@ module _ (items : List Item) where
   first_of_rows : (in_head : Bool) (nodes : List ℕ) (s : Lines) → is_filled (flat_map (cells_of items) nodes) ≡ true
       → HasRowBehind s.lines (fold (with_row_line items in_head) s nodes).lines
   first_of_rows in_head [] s e = absurd (false≢true e)
-  first_of_rows in_head (node ∷ nodes) s e = by (cells_of items node) refl e
+  first_of_rows in_head (node ∷ nodes) s e = by (cells_of items node) refl e (first_of_rows in_head nodes s)
     where
       by : (cells : List ℕ) → cells_of items node ≡ cells
           → is_filled (cells ++ flat_map (cells_of items) nodes) ≡ true
+          → (is_filled (flat_map (cells_of items) nodes) ≡ true
+          → HasRowBehind s.lines (fold (with_row_line items in_head) s nodes).lines)
           → HasRowBehind s.lines (fold (with_row_line items in_head) s (node ∷ nodes)).lines
-      by [] here more =
+      by [] here more next =
           subst (λ (cs : List ℕ). HasRowBehind s.lines
           (fold (with_row_line items in_head) (with_cells_line in_head cs s) nodes).lines) (sym here)
-          (first_of_rows in_head nodes s more)
-      by (c ∷ cells) here more =
+          (next more)
+      by (c ∷ cells) here more next =
           rows_stay s.lines in_head nodes (with_row_line items in_head s node)
           (first_row in_head (cells_of items node) s (ap is_filled here))
 

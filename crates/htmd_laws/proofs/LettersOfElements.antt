@@ -5,14 +5,14 @@ use Rattle.std.specs.Prelude.{◌||◌, ◌&&◌, option_and_then}
 use Rattle.std.specs.List.{list_all}
 use Rattle.std.specs.Str.{IsUtf8, bytes_eq}
 use Rattle.std.proofs.Math.Bool.{and_comm}
-use Rattle.std.proofs.lemmas.Bool.{cond_both, cond-false, or_from}
+use Rattle.std.proofs.lemmas.Bool.{cond_both, cond-true, cond-false, or_from, true≢false}
 use Rattle.std.proofs.lemmas.Bool.{and_left}
 use Rattle.htmd_tree.specs.Items.{Item, data_at, children_of}
 use Rattle.htmd_tree.specs.NumberedTrees.{NumberedTree, NumberedForest}
 use Rattle.htmd_tree.specs.Ancestors.{Ancestor, ancestor_of}
 use Rattle.htmd.specs.declared.options.Options.{Options}
 use Rattle.htmd.specs.Handling.{ElementView, PlanView, nothing, content_of_children, contents_of_each, HandlerMeaning}
-use Rattle.htmd.specs.Handling.{content_of_fallback}
+use Rattle.htmd.specs.Handling.{ResultView, content_of_fallback}
 use Rattle.htmd.specs.Choice.{indexes}
 use Rattle.htmd.specs.AllText.{text_or_all, all_text_of}
 use Rattle.htmd.specs.Groups.{only_text, groups_of, children_at}
@@ -22,7 +22,7 @@ use Rattle.htmd.specs.ElementPlans.{unless_faithful}
 use Rattle.htmd_markdown.specs.LineBreaks.{line_break}
 use Rattle.htmd.specs.Children.{content_inside, content_alone, descendant_tree}
 use Rattle.htmd.specs.Elements.{Occurrence, Answer, content_of, contents_alone, plan_answer, answer_after}
-use Rattle.htmd.specs.Elements.{without_handler, occurrence_at, with_finish}
+use Rattle.htmd.specs.Elements.{without_handler, occurrence_at, with_finish, answer_of}
 use Rattle.htmd.specs.OtherBlocks.{other_blocks, other_block_plan, hidden_tags}
 use Rattle.htmd.specs.LineBreaks.{line_breaks, break_style_of}
 use Rattle.htmd.specs.ThematicBreaks.{thematic_breaks, thematic_break_plan, thematic_break_style_of}
@@ -39,7 +39,7 @@ use Rattle.htmd_text.specs.BlankLines.{with_blank_lines}
 use Rattle.htmd_text.specs.Trims.{trimmed_text, some_text, is_line_feed}
 use Rattle.std.specs.Option.{option_map}
 use Rattle.htmd.specs.Tables.{has_table_form}
-use Rattle.htmd.specs.TableElements.{tables, table_plan}
+use Rattle.htmd.specs.TableElements.{tables, table_plan, is_left_out}
 use Rattle.htmd.specs.GuardedTableLayouts.{is_written_as_table, table_lines, nodes_of_lines}
 use Rattle.htmd.specs.TableLayouts.{has_lines}
 use Rattle.htmd.specs.TableLayouts.{layout_of}
@@ -254,9 +254,19 @@ module _ (options : Options) (alone : is_markdown_alone options ≡ true)
     TableGives plan l =
         SaysResult of_letters (plan_answer tables at definitions plan (without_handler at definitions)).result l
 
-    fallback_gives : TableGives content_of_fallback (said_among says (groups_of children))
+    fallback_gives : is_left_out at.view ≡ true
+        → TableGives content_of_fallback (said_among says (groups_of children))
     unfolding TableGives
-    fallback_gives = rw alone (within definitions)
+    fallback_gives left =
+        let passed_on : without_handler at definitions ≡ answer_of (content_of at definitions) =
+        cond-true (is_markdown_alone options) _ _ alone in
+        subst
+        (λ (a : Answer). SaysResult of_letters (plan_answer tables at definitions content_of_fallback a).result
+        (said_among says (groups_of children)))
+        (sym passed_on)
+        (cond_both (is_left_out at.view) _ _
+        (λ (r : Option ResultView). SaysResult of_letters r (said_among says (groups_of children)))
+        (λ _. within definitions) (λ other. absurd (true≢false (sym left ∙ other))))
 
     -- in Guarded
 
@@ -295,7 +305,7 @@ module _ (options : Options) (alone : is_markdown_alone options ≡ true)
         (cond written (said_of_each says at.view (captions_and_cells items (children_of items id)))
         (said_among says (groups_of children)))
     guarded_gives g true is = lines_give g
-    guarded_gives g false is = fallback_gives
+    guarded_gives g false is = fallback_gives (rw (alone, g, is) refl)
 
     -- in Pure
 
@@ -339,7 +349,7 @@ module _ (options : Options) (alone : is_markdown_alone options ≡ true)
         (cond (form && lines) (said_of_each says at.view (nodes_of_table (layout_of items id).parts))
         (said_among says (groups_of children)))
     pure_gives g true lines is has = parts_give g lines is has
-    pure_gives g false lines is has = fallback_gives
+    pure_gives g false lines is has = fallback_gives (rw (alone, g, is) refl)
 
     table_gives : (guarded : Bool) → is_guarded options ≡ guarded
         → TableGives (table_plan at.view) (said_inside says (codes "table") at.view children)

@@ -35,7 +35,7 @@ use Rattle.htmd_laws.proofs.LettersOfTexts.{document_of_white, says-trimmed}
 
 -- the texts of the cells of a row
 abbrev pub cell_texts : SpannedRow → List (List ℕ)
-cell_texts row = map (λ (c : SpannedCell). c.text) row.cells
+cell_texts line = map (λ (c : SpannedCell). c.text) line.cells
 
 -- columns that a cell above takes are empty
 say_below : (above : List ℕ) (columns : List Column) {l : List ℕ} → SayAll of_letters (texts_of columns) l
@@ -65,15 +65,15 @@ say_laid above (cell ∷ cells) p =
 say_grid : (above : List ℕ) (rows : List SpannedRow) {l : List ℕ} → SayRows (map cell_texts rows) l
     → SayRows (grid_below above rows) l
 say_grid above [] p = record { texts = tt; say = p.say }
-say_grid above (row ∷ rows) {l} p =
-    let columns = columns_of_row above row in
-    let first : SayAll of_letters (texts_of columns) (counted_of_all of_letters (cell_texts row)) =
-    say_laid (cond row.begins_group [] above) row.cells (say-own (cell_texts row) p.texts.0) in
+say_grid above (line ∷ rows) {l} p =
+    let columns = columns_of_row above line in
+    let first : SayAll of_letters (texts_of columns) (counted_of_all of_letters (cell_texts line)) =
+    say_laid (cond line.begins_group [] above) line.cells (say-own (cell_texts line) p.texts.0) in
     let more = say_grid (rows_of columns) rows (record { texts = p.texts.1; say = refl }) in
     record {
       texts = (first.texts, more.texts);
       say = ap (λ z. z ++ letters_of_rows (grid_below (rows_of columns) rows)) first.say
-          ∙ ap (λ z. counted_of_all of_letters (cell_texts row) ++ z) more.say ∙ p.say;
+          ∙ ap (λ z. counted_of_all of_letters (cell_texts line) ++ z) more.say ∙ p.say;
     }
 
 -- ---- the text of the grid
@@ -165,21 +165,25 @@ module _ (f : ℕ → List ℕ) (items : List Item) where
   after_row (caption node ∷ lines) (result ∷ rs) x y first rest b r h e p q s =
       by (text_of_cell result)
       (says-trimmed is_document_white_space document_of_white result.content e.0)
+      (λ z k own. after_row lines rs x z first rest b r k e.1 p q own)
     where
       by : (t : List ℕ) → Says of_letters t (f node)
+          → ((z : List (List ℕ)) (k : List ℕ) → SayAll of_letters z k
+          → Ordered (with_lines items (texts_in x (first ∷ rest) z) lines rs)
+          ((b ++ (r ++ all_of f (line_cells lines))) ++ (k ++ all_of f (line_captions lines))))
           → Ordered (with_lines items (with_caption t (texts_in x (first ∷ rest) y)) lines rs)
           ((b ++ (r ++ all_of f (line_cells lines))) ++ (h ++ (f node ++ all_of f (line_captions lines))))
-      by [] own =
+      by [] own next =
           ordered-is
           (ap (λ z. (b ++ (r ++ all_of f (line_cells lines))) ++ (h ++ (z ++ all_of f (line_captions lines))))
           (sym (says-of_nothing own)))
-          (after_row lines rs x y first rest b r h e.1 p q s)
-      by (c ∷ t) own =
+          (next y h s)
+      by (c ∷ t) own next =
           ordered-is
           (ap (λ z. (b ++ (r ++ all_of f (line_cells lines))) ++ z)
           (ap (λ z. (h ++ z) ++ all_of f (line_captions lines)) (append-nil (f node))
           ∙ append_assoc h (f node) (all_of f (line_captions lines))))
-          (after_row lines rs x (y ++ (c ∷ t) ∷ []) first rest b r (h ++ (f node ++ [])) e.1 p q
+          (next (y ++ (c ∷ t) ∷ []) (h ++ (f node ++ []))
           (say-append y ((c ∷ t) ∷ []) s (say-cons own say-none)))
   after_row (row in_head begins_group cells ∷ lines) rs x y first rest b r h e p q s =
       let split = each_split f cells (nodes_of_lines lines) rs e in
@@ -209,18 +213,21 @@ module _ (f : ℕ → List ℕ) (items : List Item) where
   before_row (caption node ∷ lines) (result ∷ rs) x b e p =
       by (text_of_cell result)
       (says-trimmed is_document_white_space document_of_white result.content e.0)
+      (λ z k own. before_row lines rs z k e.1 own)
     where
       by : (t : List ℕ) → Says of_letters t (f node)
+          → ((z : List (List ℕ)) (k : List ℕ) → SayAll of_letters z k
+          → Ordered (with_lines items (texts_in z [] []) lines rs) (k ++ all_of f (line_order lines)))
           → Ordered (with_lines items (with_caption t (texts_in x [] [])) lines rs)
           (b ++ (f node ++ all_of f (line_order lines)))
-      by [] own =
+      by [] own next =
           ordered-is (ap (λ z. b ++ (z ++ all_of f (line_order lines))) (sym (says-of_nothing own)))
-          (before_row lines rs x b e.1 p)
-      by (c ∷ t) own =
+          (next x b p)
+      by (c ∷ t) own next =
           ordered-is
           (ap (λ z. (b ++ z) ++ all_of f (line_order lines)) (append-nil (f node))
           ∙ append_assoc b (f node) (all_of f (line_order lines)))
-          (before_row lines rs (x ++ (c ∷ t) ∷ []) (b ++ (f node ++ [])) e.1
+          (next (x ++ (c ∷ t) ∷ []) (b ++ (f node ++ []))
           (say-append x ((c ∷ t) ∷ []) p (say-cons own say-none)))
   before_row (row in_head begins_group cells ∷ lines) rs x b e p =
       let split = each_split f cells (nodes_of_lines lines) rs e in

@@ -29,6 +29,13 @@ use Rattle.htmd_laws.proofs.LettersLemmas.{says-before, says-behind, says-cut_en
 use Rattle.htmd_laws.proofs.LettersOfTexts.{all_reads, backslash_holds}
 use Rattle.htmd_laws.proofs.LettersOfPieces.{says-seam}
 
+-- the last byte alone
+drop_last : (s : List ℕ) (n : ℕ) → length s ≡ suc n → drop n s ≡ get_or s n 0 ∷ []
+drop_last [] n e = absurd (omega (arith, e))
+drop_last (b ∷ []) zero e = refl
+drop_last (b ∷ c ∷ s) zero e = absurd (omega (arith, e))
+drop_last (b ∷ s) (suc n) e = drop_last s n (omega (arith, e))
+
 -- the law doesn't count `*`
 abbrev pub PassesMarks : Law → Type 0
 PassesMarks law = counts law asterisk ≡ false
@@ -60,7 +67,11 @@ run_first : (s : List ℕ) → IsRun (take (prefix_len is_asterisk s) s)
 run_first [] = refl
 run_first (b ∷ s) =
     cond_both (is_asterisk b) (1 + prefix_len is_asterisk s) 0 (λ n. IsRun (take n (b ∷ s)))
-    (λ e. and_from (is_asterisk b) _ e (run_first s)) (λ _. refl)
+    (λ e.
+    let one : suc (prefix_len is_asterisk s) ≡ 1 + prefix_len is_asterisk s = omega arith in
+    subst (λ (n : ℕ). IsRun (take n (b ∷ s))) one
+    (and_from (is_asterisk b) (list_all is_asterisk (take (prefix_len is_asterisk s) s)) e (run_first s)))
+    (λ _. refl)
 
 run_last : (s : List ℕ) (n : ℕ) → n ≤ suffix_len is_asterisk s → IsRun (drop (length s - n) s)
 run_last s n le =
@@ -129,7 +140,7 @@ module _ (law : Law) (silent : PassesMarks law) where
 
   -- ---- two texts that meet
 
-  record Kept (wanted : List ℕ) (both : Ends) : Type 0 where
+  pub record Kept (wanted : List ℕ) (both : Ends) : Type 0 where
     pub front : IsUtf8 both.front
     pub behind : IsUtf8 both.behind
     pub holds : Holds law wanted (counted law both.front ++ counted law both.behind)
@@ -164,7 +175,8 @@ module _ (law : Law) (silent : PassesMarks law) where
         let last : get_or out n 0 ≡ exclamation_mark = eqb-true (get_or out n 0) exclamation_mark e in
         let some : n < length out = some_last out last in
         let parts = parts_at out n u (IsCharBoundary-before_ascii out n some (omega (arith, last))) in
-        let sign : drop n out ≡ exclamation_mark ∷ [] = drop_last out some ∙ ap (λ b. b ∷ []) last in
+        let sign : drop n out ≡ exclamation_mark ∷ [] =
+        drop_last out n (omega (arith, some)) ∙ ap (λ b. b ∷ []) last in
         kept-by
         (says-append parts.first (says-in (backslash_holds law exclamation_mark)
         (says-ascii (codes "\\!") (fillers_ascii (codes "\\!") refl))))
@@ -182,10 +194,6 @@ module _ (law : Law) (silent : PassesMarks law) where
         some_last : (s : List ℕ) → get_or s (length s - 1) 0 ≡ exclamation_mark → length s - 1 < length s
         some_last [] e = absurd (omega (arith, e))
         some_last (b ∷ s) e = omega arith
-        drop_last : (s : List ℕ) → length s - 1 < length s → drop (length s - 1) s ≡ get_or s (length s - 1) 0 ∷ []
-        drop_last [] l = absurd (omega (arith, l))
-        drop_last (b ∷ []) l = refl
-        drop_last (b ∷ c ∷ s) l = drop_last (c ∷ s) (omega arith)
 
     spaced : Kept wanted (ends (out ++ codes " ") content)
     spaced = kept-all (says-before (codes " ") refl own) other refl

@@ -204,7 +204,7 @@ pub record SayRows (rows : List (List (List ℕ))) (l : List ℕ) : Type 0 where
   pub texts : AreRows rows
   pub say : letters_of_rows rows ≡ l
 
-rows-push : (rows : List (List (List ℕ))) (cells : List (List ℕ)) {l m : List ℕ} → SayRows rows l
+pub rows-push : (rows : List (List (List ℕ))) (cells : List (List ℕ)) {l m : List ℕ} → SayRows rows l
     → SayAll of_letters cells m
     → SayRows (rows ++ cells ∷ []) (l ++ m)
 rows-push [] cells {l} {m} p q = record {
