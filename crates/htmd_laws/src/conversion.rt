@@ -105,10 +105,9 @@ pub fn trees_hold_texts()
 /// In Pure and in Guarded, with the built-in handlers, the letters of the content are what the tree says, in order:
 /// none is lost, doubled, moved or made up. A letter is a character that is no white space, no ASCII punctuation and no
 /// ASCII digit. What a tree says is one rule for each element; in Guarded each cell of a table says what it holds. Where
-/// links stand inline the content is the whole
-/// Markdown, and so it is of each text that is converted, of a page's body, of the input of a run and of the page of a
-/// row; the style that prefers autolinks is left out, for there the content decides whether a link says its address once
-/// or twice.
+/// links stand inline the content is the whole Markdown, and so it is of each text that is converted, of a page's body,
+/// of the input of a run and of the page of a row; the style that prefers autolinks is left out, for there the content
+/// decides whether a link says its address once or twice.
 pub fn every_letter_once()
     ensures content { LettersOfContent }
     ensures markdown { LettersOfMarkdown }
