@@ -1,13 +1,13 @@
 -- No `*` at the end of a guarded text begins or ends emphasis: each stands behind a backslash.
-use Rattle.std.proofs.Common.{◌≡◌, ℕ, zero, suc, ◌+◌, ◌-◌, ◌<◌, ◌≤◌, Bool, true, false, cond, List, [], ◌∷◌, ◌++◌}
-use Rattle.std.proofs.Common.{length, take, refl, sym, ap, ◌∙◌, arith, subst, ⊎_elim, append_assoc}
-use Rattle.std.specs.Prelude.{◌==◌, ◌&&◌, ◌%◌, reverse}
+use Rattle.std.proofs.Common.{◌≡◌, ℕ, ◌+◌, ◌-◌, ◌<◌, ◌≤◌, Bool, true, false, cond, List, [], ◌∷◌, ◌++◌}
+use Rattle.std.proofs.Common.{length, take, refl, sym, ap, ◌∙◌, arith, ⊎_elim, append_assoc}
+use Rattle.std.specs.Prelude.{◌==◌, ◌%◌, reverse}
 use Rattle.std.specs.Char.{is_ascii_punctuation}
 use Rattle.std.specs.List.{prefix_len, suffix_len}
 use Rattle.std.proofs.Math.Seq.{take-append_seam}
 use Rattle.std.proofs.lemmas.Bool.{cases_Bool, cases_lt, cond-true, cond-false, false≢true, eqb-true}
 use Rattle.std.proofs.lemmas.List.{reverse-append, length-append, length-reverse}
-use Rattle.std.proofs.lemmas.List.Sums.{prefix_len-le-length, suffix_len-le-length}
+use Rattle.std.proofs.lemmas.List.Sums.{suffix_len-le-length}
 use Rattle.htmd_text.specs.Characters.{asterisk, backslash}
 use Rattle.htmd_markdown.specs.GuardedText.{is_guarded}
 use Rattle.htmd_markdown.specs.Joints.{is_asterisk, is_backslash, escapes_next, ending_run}

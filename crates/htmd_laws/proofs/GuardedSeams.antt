@@ -4,7 +4,7 @@ use Rattle.std.proofs.Common.{length, drop, take, refl, sym, ap, ◌∙◌, arit
 use Rattle.std.specs.Prelude.{◌==◌, ◌&&◌, ◌||◌, replicate}
 use Rattle.std.specs.List.{prefix_len, suffix_len}
 use Rattle.std.proofs.Math.Seq.{take-length}
-use Rattle.std.proofs.lemmas.Bool.{and_parts, and_right, cases_Bool, cond-false, cond_both}
+use Rattle.std.proofs.lemmas.Bool.{and_parts, cases_Bool, cond-false, cond_both}
 use Rattle.std.proofs.lemmas.Bool.Decides.{nat_tests}
 use Rattle.std.proofs.lemmas.List.{append-nil}
 use Rattle.std.proofs.lemmas.List.Sums.{prefix_len_passes}

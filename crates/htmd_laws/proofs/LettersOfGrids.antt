@@ -1,8 +1,8 @@
 -- The letters of tables in Guarded: of every cell, and of the captions.
-use Rattle.std.proofs.Common.{◌≡◌, ℕ, zero, suc, ◌+◌, ◌-◌, ◌≤◌, Bool, true, false, cond, List, [], ◌∷◌, ◌++◌}
-use Rattle.std.proofs.Common.{length, take, drop, map, refl, sym, ap, ◌∙◌, arith, subst, append_assoc}
+use Rattle.std.proofs.Common.{◌≡◌, ℕ, zero, suc, ◌+◌, ◌-◌, Bool, true, false, cond, List, [], ◌∷◌, ◌++◌}
+use Rattle.std.proofs.Common.{length, take, drop, map, refl, sym, ap, ◌∙◌, subst, append_assoc}
 use Rattle.std.specs.Prelude.{replicate}
-use Rattle.std.specs.List.{zip, prefix_len, flat_map}
+use Rattle.std.specs.List.{prefix_len}
 use Rattle.std.proofs.lemmas.Bool.{cond_both}
 use Rattle.std.proofs.lemmas.List.{append-nil, length-replicate}
 use Rattle.htmd_text.specs.BlankLines.{blank_line}
@@ -17,17 +17,17 @@ use Rattle.htmd_markdown.specs.TableGrids.{texts_of, rows_of, columns_of_row, gr
 use Rattle.htmd_tree.specs.Items.{Item}
 use Rattle.htmd.specs.Handling.{ResultView}
 use Rattle.htmd.specs.Tables.{text_of_cell}
-use Rattle.htmd.specs.GuardedTableLayouts.{TableLine, caption, row, line_nodes, nodes_of_lines, begins_with_header}
-use Rattle.htmd.specs.GuardedTableTexts.{GuardedTexts, no_guarded_texts, spanned_cell, spanned_cells, with_caption}
+use Rattle.htmd.specs.GuardedTableLayouts.{TableLine, caption, row, nodes_of_lines, begins_with_header}
+use Rattle.htmd.specs.GuardedTableTexts.{GuardedTexts, no_guarded_texts, spanned_cells, with_caption}
 use Rattle.htmd.proofs.TableOrdersLemmas.{line_cells, line_captions, line_order}
 use Rattle.htmd.specs.GuardedTableTexts.{with_lines, grid_text, with_blank_line, guarded_table_text, guarded_table_of}
 use Rattle.htmd_laws.proofs.CountedTexts.{of_letters}
 use Rattle.htmd_laws.proofs.LettersLemmas.{Says, says-own, says-nil, says-append, says-is, says-behind, says-before}
 use Rattle.htmd_laws.proofs.LettersLemmas.{says-of_nothing}
 use Rattle.htmd_laws.proofs.LettersOfGuarded.{says-in_one_line}
-use Rattle.htmd_laws.proofs.LettersOfLines.{AreTexts, counted_of_all, SayAll, say-own, say-none, say-cons, say-is, say-as}
+use Rattle.htmd_laws.proofs.LettersOfLines.{counted_of_all, SayAll, say-own, say-none, say-cons, say-is, say-as}
 use Rattle.htmd_laws.proofs.LettersOfLines.{says-flat}
-use Rattle.htmd_laws.proofs.LettersOfTables.{SayRows, letters_of_rows, AreRows, FitIn, rows-push, say-append, fit_in}
+use Rattle.htmd_laws.proofs.LettersOfTables.{SayRows, letters_of_rows, FitIn, rows-push, say-append, fit_in}
 use Rattle.htmd_laws.proofs.LettersOfTables.{says-table_of, says-guarded_cell, all_of, all-append, SayEach, each_split}
 use Rattle.htmd_laws.proofs.LettersOfTexts.{document_of_white, says-trimmed}
 

@@ -10,7 +10,7 @@ use Rattle.std.proofs.lemmas.List.{append-nil, take-append-drop}
 use Rattle.std.proofs.lemmas.Slice.Eq.{bytes_eq-Decides}
 use Rattle.std.proofs.lemmas.Str.{IsUtf8-past_char, encode_ascii}
 use Rattle.htmd_text.specs.BlankLines.{with_blank_lines}
-use Rattle.htmd_text.specs.Characters.{space, line_feed}
+use Rattle.htmd_text.specs.Characters.{space}
 use Rattle.htmd_text.specs.Trims.{trimmed_text, is_line_feed}
 use Rattle.htmd_markdown.specs.declared.emphasis.Emphasis.{Emphasis}
 use Rattle.htmd_markdown.specs.declared.line_break.BrStyle.{BrStyle}
@@ -53,7 +53,7 @@ use Rattle.htmd.specs.TableParts.{table_rows, table_parts}
 use Rattle.htmd.specs.Anchors.{anchor_address, finish_at, link_finish, guarded_link_finish}
 use Rattle.htmd_laws.specs.Letters.{letters, letters_if_any, said_of_address, prefers_autolinks}
 use Rattle.htmd_laws.proofs.CountedTexts.{Law, of_letters, counted}
-use Rattle.htmd_laws.proofs.LettersLemmas.{Says, says-own, says-nil, says-append, says-is, is_filler, says-fillers}
+use Rattle.htmd_laws.proofs.LettersLemmas.{Says, says-own, says-is, is_filler, says-fillers}
 use Rattle.htmd_laws.proofs.LettersLemmas.{says-behind, says-before}
 use Rattle.htmd_laws.proofs.LettersOfTexts.{line_feed_of_white, says-trimmed, says-blank_lines}
 use Rattle.htmd_laws.proofs.LettersOfLines.{AreTexts, say-cut, says-quote}
