@@ -49,6 +49,7 @@ pub mod TableOrder
 pub mod Tables
 pub mod GuardedTableLayouts
 pub mod GuardedTableTexts
+pub mod CaptionsAndCells
 pub mod TableElements
 pub mod TableCells
 pub mod TableParts

@@ -32,8 +32,8 @@ use Rattle.htmd.specs.BuiltIn.{built_in}
 use Rattle.htmd.specs.Markdown.{append_texts, walked_node, walked_content, markdown}
 use Rattle.htmd_laws.specs.TextLaws.{is_wrapped, is_passed_on, is_page_of_texts, TextStaysText}
 use Rattle.htmd.proofs.BeginningsLemmas.{result-definitions}
-use Rattle.htmd_laws.proofs.GuardedEnds.{IsLine, guarded-append, guarded-line, trimmed_end-line}
-use Rattle.htmd_laws.proofs.GuardedSeams.{seam-guarded, wrapped-seam, trimmed-line}
+use Rattle.htmd_laws.proofs.GuardedEnds.{IsLine, guarded-line, trimmed_end-line}
+use Rattle.htmd_laws.proofs.GuardedSeams.{joint-guarded, seam-guarded, wrapped-seam, trimmed-line}
 use Rattle.htmd_laws.proofs.TextTrees.{IsPart, Fits, AllFit, AreTexts, fits-groups, node-fits, children-fit}
 use Rattle.htmd_laws.proofs.TextElements.{Gives, wrapped_gives, passed_gives, passed_is_no_block, alone_in}
 use Rattle.htmd_laws.proofs.ParagraphTexts.{space_is_white}
@@ -156,7 +156,7 @@ module _ (options : Options) (guarded : is_guarded options ≡ true) (items : Li
       let begins = reader.begins_line out.text in
       let shown = without_first_space (context.trim || ends_with_space out.text) (squeezed_text s) in
       record {
-        guarded = rw guarded (guarded-append out.text (reader.guarded_text begins shown) e
+        guarded = rw guarded (joint-guarded out.text (reader.guarded_text begins shown) e
             (guarded-is_guarded begins shown));
         same = refl;
       }
