@@ -191,6 +191,7 @@ module _ (law : Law) (silent : PassesMarks law) where
         one_sign =
             ap (filter (counts law))
             (chars-IsAscii (exclamation_mark ∷ []) (fillers_ascii (exclamation_mark ∷ []) refl))
+
         some_last : (s : List ℕ) → get_or s (length s - 1) 0 ≡ exclamation_mark → length s - 1 < length s
         some_last [] e = absurd (omega (arith, e))
         some_last (b ∷ s) e = omega arith
