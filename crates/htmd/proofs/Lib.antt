@@ -35,3 +35,4 @@ pub mod SightsLemmas
 pub mod GuardedNodesLemmas
 pub mod GuardedTableLemmas
 pub mod GuardedSpansLemmas
+pub mod TableElementsLemmas
