@@ -14,6 +14,8 @@ pub mod CodeExamples
 pub mod FirstNumberLemmas
 pub mod ListsLemmas
 pub mod ListExamples
+pub mod JointExamples
+pub mod TableGridExamples
 pub mod AddressesLemmas
 pub mod FirstPlaceLemmas
 pub mod LineBeginningsLemmas
