@@ -121,7 +121,7 @@ pub ending_run-cut : (s : List ℕ) → (ending_run s ≤ length s) × IsCharBou
 ending_run-cut s = at (ending_run s) refl
   where
     at : (n : ℕ) → n ≡ ending_run s → (n ≤ length s) × IsCharBoundary s (length s - n)
-    at zero e = (omega arith, IsCharBoundary-end s)
+    at zero e = (omega arith, subst (λ (k : ℕ). IsCharBoundary s k) (omega arith) (IsCharBoundary-end s))
     at (suc n) e =
         let le = ending_run-le s in
         let within = suffix_len-le-length is_asterisk s in

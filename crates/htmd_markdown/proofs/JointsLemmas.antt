@@ -6,7 +6,7 @@ use Rattle.std.specs.Char.{IsScalar, len_utf8}
 use Rattle.std.specs.List.{prefix_len, suffix_len}
 use Rattle.std.specs.Str.{chars, IsUtf8, IsCharBoundary, NoCharPasses}
 use Rattle.std.proofs.Math.Seq.{take-append_seam}
-use Rattle.std.proofs.lemmas.Bool.{cases_Bool, cases_lt, cond-true, cond-false}
+use Rattle.std.proofs.lemmas.Bool.{cases_Bool, cases_lt, cond-true, cond-false, or_right, and_right}
 use Rattle.std.proofs.lemmas.Bool.Decides.{nat_tests}
 use Rattle.std.proofs.lemmas.List.{reverse-append, reverse-reverse, append-nil, length-append, length-take-le, take_all, take-take}
 use Rattle.std.proofs.lemmas.List.{get_or-append-add}
@@ -18,7 +18,9 @@ use Rattle.htmd_text.specs.Characters.{backslash}
 use Rattle.htmd_markdown.specs.Joints.{is_backslash, is_plain_at, plain_signs, plain_signs_back, plain_start}
 use Rattle.htmd_markdown.specs.Joints.{plain_end, escapes_next, first_character, last_character, begins_word, ends_word}
 use Rattle.htmd_markdown.specs.Joints.{word_first}
-use Rattle.htmd_markdown.specs.Joints.{is_word_character}
+use Rattle.htmd_markdown.specs.Joints.{is_word_character, has_no_run, joint_between, joint_of_runs}
+use Rattle.htmd_markdown.specs.declared.joint.Joint.TheVariants.{AsTheyAre}
+use Rattle.htmd_markdown.specs.Titles.{is_filled}
 use Rattle.htmd_markdown.proofs.LineBeginningsLemmas.{characters_of, before_character}
 
 -- ---- from the front
@@ -190,6 +192,16 @@ pub plain_told : (next : List ℕ) (c : ℕ) → IsUtf8 next
     → is_plain_at (prefix_len is_backslash (reverse (chars next)) % 2 == 1) c ≡ is_plain_at (escapes_next next) c
 plain_told next c text = ap (λ n. is_plain_at (n % 2 == 1) c) (sym (backslashes_back next text))
 
+-- the same, as it is asked of the bytes before the character
+pub plain_asked : (text rest next bytes : List ℕ) (start c : ℕ) → IsScalar c → rest ≡ next ++ encode_utf8 c
+    → PlainBack text rest start → bytes ≡ text → (size : ℕ) → size ≡ len_utf8 c → (told : Bool)
+    → told ≡ is_plain_at (escapes_next (take (start - size) bytes)) c → told ≡ is_plain_at (escapes_next next) c
+plain_asked text rest next bytes start c scalar e was same size is told asked =
+    let last = last_of text rest next start c scalar e was in
+    asked ∙ ap (λ l. is_plain_at (escapes_next (take (start - size) l)) c) same
+    ∙ ap (λ n. is_plain_at (escapes_next (take (start - n) text)) c) is
+    ∙ ap (λ l. is_plain_at (escapes_next l) c) last.front
+
 pub plain_back-more : (text rest next : List ℕ) (start c : ℕ) → IsScalar c → rest ≡ next ++ encode_utf8 c
     → is_plain_at (escapes_next next) c ≡ true → PlainBack text rest start
     → PlainBack text next (start - len_utf8 c)
@@ -261,3 +273,39 @@ ends_word-is s rest c text scalar e =
 pub ends_word-none : (s : List ℕ) → length s ≡ 0 → ends_word s ≡ false
 ends_word-none [] none = ap (λ l. word_first (reverse l)) chars-nil
 ends_word-none (b ∷ s) none = absurd (omega arith)
+
+-- ---- between two texts that are not empty
+
+filled_end : (s rest : List ℕ) (c : ℕ) → s ≡ rest ++ encode_utf8 c → is_filled s ≡ true
+filled_end [] rest c e =
+    absurd (omega (arith, ap length e, length-append rest (encode_utf8 c), length-encode c, len_utf8_bounds c))
+filled_end (b ∷ s) rest c e = refl
+
+filled_start : (s rest : List ℕ) (c : ℕ) → s ≡ encode_utf8 c ++ rest → is_filled s ≡ true
+filled_start [] rest c e =
+    absurd (omega (arith, ap length e, length-append (encode_utf8 c) rest, length-encode c, len_utf8_bounds c))
+filled_start (b ∷ s) rest c e = refl
+
+pub runs_filled : (ending beginning last first : ℕ) (before rest next more : List ℕ)
+    → has_no_run ending beginning ≡ false → IsUtf8 before → IsUtf8 rest → IsScalar last
+    → before ≡ next ++ encode_utf8 last → rest ≡ encode_utf8 first ++ more
+    → joint_between ending beginning last first before rest ≡ joint_of_runs ending beginning before rest
+runs_filled ending beginning last first before rest next more some text other scalar e f =
+    let filled : (has_no_run ending beginning || not (is_filled before && is_filled rest)) ≡ false =
+    rw (some, filled_end before next last e, filled_start rest more first f) refl in
+    sym (cond-false _ _ _ filled
+    ∙ ap (λ l. joint_between ending beginning l (first_character rest) before rest)
+    (last_is before next last text scalar e)
+    ∙ ap (λ k. joint_between ending beginning last k before rest) (first_is rest more first other f))
+
+pub runs_unfilled_end : (ending beginning : ℕ) (before rest : List ℕ) → length before ≡ 0
+    → AsTheyAre ≡ joint_of_runs ending beginning before rest
+runs_unfilled_end ending beginning [] rest none =
+    sym (cond-true _ _ _ (or_right (has_no_run ending beginning) _ refl))
+runs_unfilled_end ending beginning (b ∷ before) rest none = absurd (omega arith)
+
+pub runs_unfilled_start : (ending beginning : ℕ) (before rest : List ℕ) → length rest ≡ 0
+    → AsTheyAre ≡ joint_of_runs ending beginning before rest
+runs_unfilled_start ending beginning before [] none =
+    sym (cond-true _ _ _ (or_right (has_no_run ending beginning) _ (ap not (and_right (is_filled before) false refl))))
+runs_unfilled_start ending beginning before (b ∷ rest) none = absurd (omega arith)

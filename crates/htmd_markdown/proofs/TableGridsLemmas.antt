@@ -15,9 +15,11 @@ drop_min n xs =
     (cases_lt n (length xs))
 
 drop_twice : {A : Type 0} (n m : ℕ) (xs : List A) → drop m (drop n xs) ≡ drop (n + m) xs
-drop_twice zero m xs = refl
-drop_twice (suc n) m [] = drop_all m [] (omega arith)
-drop_twice (suc n) m (x ∷ xs) = drop_twice n m xs
+drop_twice zero m xs = ap (λ n. drop n xs) (omega arith)
+drop_twice (suc n) m [] = drop_all m [] (omega arith) ∙ sym (drop_all (suc n + m) [] (omega arith))
+drop_twice (suc n) m (x ∷ xs) =
+    let count : suc (n + m) ≡ suc n + m = omega arith in
+    drop_twice n m xs ∙ ap (λ k. drop k (x ∷ xs)) count
 
 pub columns_taken : (cell : SpannedCell) → length (columns_of cell) ≡ max cell.columns 1
 columns_taken cell = omega (arith, length-replicate (cell.columns - 1) (column [] cell.rows))
@@ -35,6 +37,6 @@ cell_laid columns rest free after cell cells taken is_free is_taken is_after =
     let place : after ≡ drop (kept + length own) rest =
     is_after ∙ drop_min taken free ∙ ap (drop taken) is_free ∙ drop_twice kept taken rest
     ∙ ap (λ n. drop (kept + n) rest) (is_taken ∙ sym (columns_taken cell)) in
-    ap (λ l. columns ++ (front ++ (own ++ laid_row l cells))) (sym place)
-    ∙ sym (append_assoc columns front (own ++ laid_row after cells))
-    ∙ sym (append_assoc (columns ++ front) own (laid_row after cells))
+    ap (λ l. columns ++ ((front ++ own) ++ laid_row l cells)) (sym place)
+    ∙ sym (append_assoc columns (front ++ own) (laid_row after cells))
+    ∙ ap (λ l. l ++ laid_row after cells) (sym (append_assoc columns front own))

@@ -3,7 +3,7 @@ use Rattle.std.proofs.Common.{◌≡◌, ℕ, zero, suc, ◌+◌, ◌-◌, ◌<�
 use Rattle.std.proofs.Common.{get_or, take, drop, refl, sym, ap, subst, ◌∙◌, arith, ⊎_elim}
 use Rattle.std.specs.Prelude.{◌==◌, not, ◌&&◌, ◌||◌, ◌%◌, reverse}
 use Rattle.std.specs.List.{prefix_len, suffix_len}
-use Rattle.std.proofs.lemmas.Bool.{and_right, cond-true, cond-false, false_from_ne_true, false≢true, cases_lt}
+use Rattle.std.proofs.lemmas.Bool.{and_left, and_right, cond-true, cond-false, false_from_ne_true, false≢true, cases_lt}
 use Rattle.std.proofs.lemmas.Bool.Decides.{nat_tests}
 use Rattle.std.proofs.lemmas.List.{take_all}
 use Rattle.std.proofs.lemmas.List.Sums.{suffix_len-take_no}
@@ -57,7 +57,7 @@ unmended out content e none =
     ∙ ap (λ n. joint_of_runs 0 n (take (length out - 0) out) (drop n content)) (guarded-beginning content e) in
     let joint : joint_of out content ≡ AsTheyAre =
     cond-false _ _ _ (and_right (ends_with exclamation_mark out) _ image)
-    ∙ cond-false _ _ _ (and_right _ _ span) ∙ runs in
+    ∙ cond-false _ _ _ (and_left _ _ (and_right (ends_with grave_accent out) _ span)) ∙ runs in
     ap (λ j. mended j out content) joint
 
 -- no `*` ends the text

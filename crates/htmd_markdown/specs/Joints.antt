@@ -120,26 +120,45 @@ joint_at_end run before =
     if ends_word head then EndMoves run plain
     else (if ending_run head == run then EndLosesRuns run plain else SpaceBetween)
 
+-- two runs of the same length, with no white space beside them
+abbrev pub are_alike : ℕ → ℕ → ℕ → ℕ → Bool
+are_alike ending beginning last first = (ending == beginning) && not (is_whitespace last) && not (is_whitespace first)
+
+-- a run is there, and misplaced
+abbrev pub is_run_misplaced : ℕ → ℕ → ℕ → Bool
+is_run_misplaced run sign other = nat_lt 0 run && is_misplaced sign other
+
 -- what is mended of runs of `*` between two texts that are not empty, and end and begin with these characters
 abbrev pub joint_between : ℕ → ℕ → ℕ → ℕ → List ℕ → List ℕ → Joint
 joint_between ending beginning last first before rest =
-    if (ending == beginning) && not (is_whitespace last) && not (is_whitespace first) then RunsGo ending
-    else (if nat_lt 0 beginning && is_misplaced first last then joint_at_start beginning rest
-    else (if nat_lt 0 ending && is_misplaced last first then joint_at_end ending before else AsTheyAre))
+    if are_alike ending beginning last first then RunsGo ending
+    else (if is_run_misplaced beginning first last then joint_at_start beginning rest
+    else (if is_run_misplaced ending last first then joint_at_end ending before else AsTheyAre))
 
--- what is mended of runs of `*`, where one stands at the joint, and something before it and behind it
+-- no run stands at the joint, or nothing before it or behind it
+abbrev pub has_no_run : ℕ → ℕ → Bool
+has_no_run ending beginning = (ending == 0) && (beginning == 0)
+
 abbrev pub joint_of_runs : ℕ → ℕ → List ℕ → List ℕ → Joint
 joint_of_runs ending beginning before rest =
-    if ((ending == 0) && (beginning == 0)) || not (is_filled before && is_filled rest) then AsTheyAre
+    if has_no_run ending beginning || not (is_filled before && is_filled rest) then AsTheyAre
     else joint_between ending beginning (last_character before) (first_character rest) before rest
+
+-- a bracket follows a `!`, which would make an image
+abbrev pub meets_bracket : List ℕ → List ℕ → Bool
+meets_bracket out content = ends_with exclamation_mark out && begins_with left_square_bracket content
+
+-- a backquote follows a backquote, which no backslash escapes
+abbrev pub backquotes_meet : List ℕ → List ℕ → Bool
+backquotes_meet out content =
+    ends_with grave_accent out && begins_with grave_accent content
+    && not (escapes_next (take (length out - 1) out))
 
 -- what is mended where a content meets the text so far
 abbrev pub joint_of : List ℕ → List ℕ → Joint
 joint_of out content =
-    if ends_with exclamation_mark out && begins_with left_square_bracket content then MarkBeforeBracket
-    else (if (ends_with grave_accent out && not (escapes_next (take (length out - 1) out)))
-    && begins_with grave_accent content
-    then SpaceBetween
+    if meets_bracket out content then MarkBeforeBracket
+    else (if backquotes_meet out content then SpaceBetween
     else joint_of_runs (ending_run out) (beginning_run content)
     (take (length out - ending_run out) out) (drop (beginning_run content) content))
 

@@ -192,6 +192,20 @@ fn joint_at_end(run: usize, before: &str) -> Joint
     Joint::SpaceBetween
 }
 
+/// Whether the runs have the same length, with no white space beside them.
+fn are_alike(ending: usize, beginning: usize, last: char, first: char) -> bool
+    ensures { result ≡ spec.are_alike ending beginning last first }
+{
+    ending == beginning && !last.is_whitespace() && !first.is_whitespace()
+}
+
+/// Whether a run is there, and misplaced.
+fn is_run_misplaced(run: usize, sign: char, other: char) -> bool
+    ensures { result ≡ spec.is_run_misplaced run sign other }
+{
+    run > 0 && is_misplaced(sign, other)
+}
+
 /// What is mended of runs of so many `*` between these texts, which end and begin with these characters.
 fn joint_between(
     ending: usize,
@@ -203,41 +217,66 @@ fn joint_between(
 ) -> Joint
     ensures { result ≡ spec.joint_between ending beginning last first before.now rest.now }
 {
-    if ending == beginning && !last.is_whitespace() && !first.is_whitespace() {
+    if are_alike(ending, beginning, last, first) {
         return Joint::RunsGo(ending);
     }
-    if beginning > 0 && is_misplaced(first, last) {
+    if is_run_misplaced(beginning, first, last) {
         return joint_at_start(beginning, rest);
     }
-    if ending > 0 && is_misplaced(last, first) {
+    if is_run_misplaced(ending, last, first) {
         return joint_at_end(ending, before);
     }
     Joint::AsTheyAre
+}
+
+/// Whether no run stands at the joint.
+fn has_no_run(ending: usize, beginning: usize) -> bool
+    ensures { result ≡ spec.has_no_run ending beginning }
+{
+    ending == 0 && beginning == 0
 }
 
 /// What is mended of runs of so many `*` between these texts.
 fn joint_of_runs(ending: usize, beginning: usize, before: &str, rest: &str) -> Joint
     ensures { result ≡ spec.joint_of_runs ending beginning before.now rest.now }
 {
-    if ending == 0 && beginning == 0 {
+    if has_no_run(ending, beginning) {
         return Joint::AsTheyAre;
     }
-    let (Some(last), Some(first)) = (before.chars().next_back(), rest.chars().next()) else {
+    let Some(last) = before.chars().next_back() else {
+        return Joint::AsTheyAre;
+    };
+    let Some(first) = rest.chars().next() else {
         return Joint::AsTheyAre;
     };
     joint_between(ending, beginning, last, first, before, rest)
+}
+
+/// Whether a bracket follows a `!`, which would make an image.
+fn meets_bracket(out: &str, content: &str) -> bool
+    ensures { result ≡ spec.meets_bracket out.now content.now }
+{
+    out.ends_with('!') && content.starts_with('[')
+}
+
+/// Whether a backquote follows a backquote, which no backslash escapes.
+fn backquotes_meet(out: &str, content: &str) -> bool
+    ensures { result ≡ spec.backquotes_meet out.now content.now }
+{
+    out.ends_with('`')
+        && content.starts_with('`')
+        && !escapes_next(&out.as_bytes()[..out.len().saturating_sub(1)])
 }
 
 /// What is mended where a content meets the text so far.
 fn joint_of(out: &str, content: &str) -> Joint
     ensures { result ≡ spec.joint_of out.now content.now }
 {
-    match (out.as_bytes().last(), content.as_bytes().first()) {
-        (Some(b'!'), Some(b'[')) => return Joint::MarkBeforeBracket,
-        (Some(b'`'), Some(b'`')) if !escapes_next(&out.as_bytes()[..out.len() - 1]) => {
-            return Joint::SpaceBetween;
-        }
-        _ => {}
+    if meets_bracket(out, content) {
+        return Joint::MarkBeforeBracket;
+    }
+    if backquotes_meet(out, content) {
+        return Joint::SpaceBetween;
     }
     let ending = ending_run(out.as_bytes());
     let beginning = leading_len(content.as_bytes(), b'*');

@@ -16,7 +16,7 @@ returns-then-not-is_plain_at-clause-bound c = c.loop-c.invariant.within
 pub returns-then-not-is_plain_at-clause-value : goal.returns-then-not-is_plain_at-clause-value
 returns-then-not-is_plain_at-clause-value c =
     plain_on-stop c.args.text.now c.loop-c.characters.rest.now c.next.new.self.rest.now c.loop-c.len c.in-Some.c
-    c.loop-c.is_escaped c.in-Some.ensures.steps (sym c.is_plain_at.ensures ∙ c.if-not-is_plain_at.true)
+    c.loop-c.is_escaped c.in-Some.ensures.steps.0 (sym c.is_plain_at.ensures ∙ c.if-not-is_plain_at.true)
     c.loop-c.invariant
 
 pub returns-then-not-is_plain_at-clause-cut : goal.returns-then-not-is_plain_at-clause-cut
@@ -30,7 +30,7 @@ returns-clause-bound c = c.loop-c.invariant.within
 pub returns-clause-value : goal.returns-clause-value
 returns-clause-value c =
     plain_on-end c.args.text.now c.loop-c.characters.rest.now c.loop-c.len c.loop-c.is_escaped
-    c.in_default.ensures.steps.0 c.loop-c.invariant
+    c.in_default.ensures.steps.0.0 c.loop-c.invariant
 
 pub returns-clause-cut : goal.returns-clause-cut
 returns-clause-cut c =
@@ -40,13 +40,13 @@ returns-clause-cut c =
 pub loop-c-preserved : goal.loop-c-preserved
 loop-c-preserved c =
     let more = plain_on-more c.args.text.now c.loop-c.characters.rest.now c.next.new.self.rest.now c.loop-c.len
-    c.in-Some.c c.loop-c.is_escaped c.in-Some.ensures.steps (sym c.is_plain_at.ensures ∙ c.if-not-is_plain_at.false)
+    c.in-Some.c c.loop-c.is_escaped c.in-Some.ensures.steps.0 (sym c.is_plain_at.ensures ∙ c.if-not-is_plain_at.false)
     c.loop-c.invariant in
     rw (c.is_escaping-is_escaped.ensures, c.len_utf8-len.ensures.value) more
 
 pub overflow_add-len : goal.overflow_add-len
 overflow_add-len c =
     let more = plain_on-more c.args.text.now c.loop-c.characters.rest.now c.next.new.self.rest.now c.loop-c.len
-    c.in-Some.c c.loop-c.is_escaped c.in-Some.ensures.steps (sym c.is_plain_at.ensures ∙ c.if-not-is_plain_at.false)
+    c.in-Some.c c.loop-c.is_escaped c.in-Some.ensures.steps.0 (sym c.is_plain_at.ensures ∙ c.if-not-is_plain_at.false)
     c.loop-c.invariant in
     omega (arith, more.within, c.len_utf8-len.ensures.value)

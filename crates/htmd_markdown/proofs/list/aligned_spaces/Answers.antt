@@ -3,8 +3,8 @@ use Rattle.std.proofs.Common.{arith}
 use Rattle.htmd_text.proofs.DigitsLemmas.{digits_le}
 use Rattle.htmd_markdown.proofs.list.aligned_spaces.Goals as goal
 
-pub overflow_add-spacing : goal.overflow_add-spacing
-overflow_add-spacing c = omega (
+pub overflow_add-result : goal.overflow_add-result
+overflow_add-result c = omega (
   arith,
   c.ranges.spacing.fits,
   digits_le c.args.highest (omega (arith, c.ranges.highest.fits)),
