@@ -362,7 +362,9 @@ pub(crate) fn table_lines(
     table: NodeId,
 ) -> Result<Vec<TableLine>, AllocError>
     requires { table < length tree.now }
-    ensures { IfOk result (λ lines. map line_view lines.items ≡ spec.table_lines tree.now table) }
+    ensures lines { IfOk result (λ lines. map line_view lines.items ≡ spec.table_lines tree.now table) }
+    ensures within { IfOk result (λ lines. All (λ node. node < length tree.now)
+        (spec.nodes_of_lines (map line_view lines.items))) }
 {
     let mut lines = Lines {
         lines: Vec::new(alloc),
