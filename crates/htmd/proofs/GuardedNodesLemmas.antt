@@ -30,7 +30,8 @@ module _ (items : List Item) (table : ℕ) where
   cells_below : (d : ℕ) → Own d → All Own (cells_of items d)
   cells_below d h = All-filter (has_tag cell_tags items) Own (children_of items d) (children_below items table d h)
 
-  more_below : (lines : List TableLine) (line : TableLine) → All Own (nodes_of_lines lines) → All Own (line_nodes line)
+  more_below : (lines : List TableLine) (line : TableLine) → All Own (nodes_of_lines lines)
+      → All Own (line_nodes line)
       → All Own (nodes_of_lines (lines ++ line ∷ []))
   more_below lines line p q =
       subst (All Own) (sym (flat_map-append line_nodes lines (line ∷ [])
@@ -63,8 +64,9 @@ module _ (items : List Item) (table : ℕ) where
 
   -- what a table asks for
   pub lines-proper : All Own (nodes_of_lines (table_lines items table))
-  lines-proper = fold_keeps Proper Own (with_child_lines items) (λ so_far d p h. kind_proper (child_at items d) so_far d p h)
-      no_lines (children_of items table) (λ i d l. absurd (omega arith)) (children_proper items table)
+  lines-proper = fold_keeps Proper Own (with_child_lines items)
+      (λ so_far d p h. kind_proper (child_at items d) so_far d p h) no_lines
+      (children_of items table) (λ i d l. absurd (omega arith)) (children_proper items table)
 
   -- so they stand in the tree
   pub lines-within : IsTree items → table < length items

@@ -35,4 +35,3 @@ pub mod SightsLemmas
 pub mod GuardedNodesLemmas
 pub mod GuardedTableLemmas
 pub mod GuardedSpansLemmas
-pub mod TableElementsLemmas

@@ -226,8 +226,8 @@ fn has_row(tree: &Tree, table: NodeId) -> bool
     false
 }
 
-/// Whether a table is written as one: it has explicit headers and a row of cells, stands in no cell of another one, and holds
-/// nothing else to see.
+/// Whether a table is written as one: it has explicit headers and a row of cells, stands in no cell of another one,
+/// and holds nothing else to see.
 pub(crate) fn is_written_as_table(tree: &Tree, table: NodeId) -> bool
     requires { table < length tree.now }
     ensures { result ≡ spec.is_written_as_table tree.now table }
