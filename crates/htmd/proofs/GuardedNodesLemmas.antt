@@ -4,8 +4,10 @@ use Rattle.std.proofs.Common.{Bool, true, false, codes, subst, fold, length}
 use Rattle.std.proofs.Math.Logic.{∥∥₁_elim}
 use Rattle.std.proofs.lemmas.Grind.{flat_map-append}
 use Rattle.std.proofs.lemmas.List.{append-nil}
-use Rattle.std.proofs.lemmas.List.Elements.{All-append, All-filter}
+use Rattle.std.proofs.Props.{props}
+use Rattle.std.proofs.lemmas.List.Elements.{All-append, All-filter, All-weaker}
 use Rattle.htmd_tree.specs.Items.{Item, children_of, IsBelow, IsTree}
+use Rattle.htmd_tree.proofs.NumberedTreesLemmas.{lower_below}
 use Rattle.htmd.specs.declared.element_handler.table_layout.TableChild.{TableChild}
 use Rattle.htmd.specs.declared.element_handler.table_layout.TableChild.TheVariants.{TableCaption, TableHead}
 use Rattle.htmd.specs.declared.element_handler.table_layout.TableChild.TheVariants.{TableSection, DirectRow, OtherChild}
@@ -28,7 +30,8 @@ module _ (items : List Item) (table : ℕ) where
   cells_below : (d : ℕ) → Own d → All Own (cells_of items d)
   cells_below d h = All-filter (has_tag cell_tags items) Own (children_of items d) (children_below items table d h)
 
-  more_below : (lines : List TableLine) (line : TableLine) → All Own (nodes_of_lines lines) → All Own (line_nodes line)
+  more_below : (lines : List TableLine) (line : TableLine) → All Own (nodes_of_lines lines)
+      → All Own (line_nodes line)
       → All Own (nodes_of_lines (lines ++ line ∷ []))
   more_below lines line p q =
       subst (All Own) (sym (flat_map-append line_nodes lines (line ∷ [])
@@ -61,5 +64,13 @@ module _ (items : List Item) (table : ℕ) where
 
   -- what a table asks for
   pub lines-proper : All Own (nodes_of_lines (table_lines items table))
-  lines-proper = fold_keeps Proper Own (with_child_lines items) (λ so_far d p h. kind_proper (child_at items d) so_far d p h)
-      no_lines (children_of items table) (λ i d l. absurd (omega arith)) (children_proper items table)
+  lines-proper = fold_keeps Proper Own (with_child_lines items)
+      (λ so_far d p h. kind_proper (child_at items d) so_far d p h) no_lines
+      (children_of items table) (λ i d l. absurd (omega arith)) (children_proper items table)
+
+  -- so they stand in the tree
+  pub lines-within : IsTree items → table < length items
+      → All (λ d. d < length items) (nodes_of_lines (table_lines items table))
+  lines-within t l = All-weaker Own (λ d. d < length items)
+      (λ d h. ∥∥₁_elim h (hlevel props) (λ b. (lower_below items table d t l b).1))
+      (nodes_of_lines (table_lines items table)) lines-proper

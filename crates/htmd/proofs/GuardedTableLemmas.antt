@@ -1,17 +1,15 @@
 -- The lines of a table in Guarded, one after another.
-use Rattle.std.proofs.Common.{◌≡◌, ℕ, zero, suc, ◌+◌, ◌<◌, ◌≤◌, List, [], ◌∷◌, ◌++◌, length, get_or, take, drop, min, map}
-use Rattle.std.proofs.Common.{refl, sym, ap, ◌∙◌, arith, All, subst}
-use Rattle.std.proofs.lemmas.List.{drop_more, drop_all, take_all, take_min, drop_min}
+use Rattle.std.proofs.Common.{◌≡◌, ℕ, ◌+◌, ◌<◌, ◌≤◌, List, [], ◌∷◌, ◌++◌, length, get_or, take, drop, min, map}
+use Rattle.std.proofs.Common.{sym, ap, ◌∙◌, All, subst}
+use Rattle.std.proofs.lemmas.List.{drop_more, drop_all, take_min, drop_min, append-nil}
 use Rattle.std.proofs.lemmas.List.Elements.{All-nil, All-cons, All-head, All-tail}
 use Rattle.std.proofs.lemmas.Grind.{flat_map-append}
-use Rattle.std.proofs.lemmas.List.{append-nil}
 use Rattle.htmd_tree.specs.Items.{Item}
 use Rattle.htmd.specs.declared.element_handler.HandlerResult.{HandlerResult}
 use Rattle.htmd.specs.declared.element_handler.guarded_table_layout.TableLine as code
 use Rattle.htmd.specs.Handling.{ResultView}
 use Rattle.htmd.specs.GuardedTableLayouts.{line_nodes, nodes_of_lines}
-use Rattle.htmd_markdown.specs.TableGrids.{SpannedRow}
-use Rattle.htmd.specs.GuardedTableTexts.{GuardedTexts, put_caption, with_caption, with_line, with_lines}
+use Rattle.htmd.specs.GuardedTableTexts.{GuardedTexts, with_line, with_lines}
 use Rattle.htmd.specs.GuardedTableViews.{line_view}
 use Rattle.htmd.specs.Views.{results_view}
 use Rattle.htmd.proofs.ChildListsLemmas.{map_next}
@@ -28,14 +26,16 @@ module _ {X : Type 0} (P : X → Type 0) where
   All-behind (x ∷ xs) ys a = All-behind xs ys (All-tail P x (xs ++ ys) a)
 
 -- the line that comes up, and the later ones
-pub lines_at : (lines : List code.TableLine) (i : ℕ) (x : code.TableLine) → i < length lines → x ≡ get_or lines i x
+pub lines_at : (lines : List code.TableLine) (i : ℕ) (x : code.TableLine)
+    → i < length lines → x ≡ get_or lines i x
     → map line_view (drop i lines) ≡ line_view x ∷ map line_view (drop (i + 1) lines)
 lines_at lines i x l e = ap (map line_view) (drop_more lines i x l ∙ ap (λ y. y ∷ drop (i + 1) lines) (sym e))
 
 pub lines_end : (lines : List code.TableLine) (i : ℕ) → length lines ≤ i → map line_view (drop i lines) ≡ []
 lines_end lines i l = ap (map line_view) (drop_all i lines l)
 
-pub nodes_at : (lines : List code.TableLine) (i : ℕ) (x : code.TableLine) → i < length lines → x ≡ get_or lines i x
+pub nodes_at : (lines : List code.TableLine) (i : ℕ) (x : code.TableLine) → i < length lines
+    → x ≡ get_or lines i x
     → nodes_of_lines (map line_view (take (i + 1) lines))
     ≡ nodes_of_lines (map line_view (take i lines)) ++ line_nodes (line_view x)
 nodes_at lines i x l e =
@@ -62,7 +62,7 @@ pub line_at : (items : List Item) (texts : GuardedTexts) (lines : List code.Tabl
     → behind ≡ drop (min (length (line_nodes (line_view x))) (length rest)) rest
     → with_lines items texts (map line_view (drop i lines)) (results_view rest)
     ≡ with_lines items (with_line items texts (line_view x) (results_view own))
-      (map line_view (drop (i + 1) lines)) (results_view behind)
+    (map line_view (drop (i + 1) lines)) (results_view behind)
 line_at items texts lines i x rest own behind l e f g =
     let n = length (line_nodes (line_view x)) in
     let later = map line_view (drop (i + 1) lines) in
@@ -77,31 +77,3 @@ pub lines_done : (items : List Item) (texts : GuardedTexts) (lines : List code.T
     → with_lines items texts (map line_view (drop i lines)) contents ≡ texts
 lines_done items texts lines i contents l =
     ap (λ ls. with_lines items texts ls contents) (lines_end lines i l)
-
--- ---- captions
-
-pub no-caption : (s : List ℕ) (t : GuardedTexts) → length s ≡ 0 → with_caption s t ≡ t
-no-caption [] t e = refl
-no-caption (b ∷ s) t e = absurd (omega arith)
-
-pub caption-before : (s : List ℕ) (t : GuardedTexts) → 0 < length s → length t.rows ≡ 0
-    → with_caption s t ≡ (record { before = t.before ++ s ∷ []; rows = t.rows; behind = t.behind })
-caption-before [] t l e = absurd (omega arith)
-caption-before (b ∷ s) t l e = put t.rows e
-  where
-    put : (rows : List SpannedRow) → length rows ≡ 0
-        → put_caption rows (b ∷ s) t
-        ≡ (record { before = t.before ++ (b ∷ s) ∷ []; rows = t.rows; behind = t.behind })
-    put [] e = refl
-    put (row ∷ rows) e = absurd (omega arith)
-
-pub caption-behind : (s : List ℕ) (t : GuardedTexts) → 0 < length s → 0 < length t.rows
-    → with_caption s t ≡ (record { before = t.before; rows = t.rows; behind = t.behind ++ s ∷ [] })
-caption-behind [] t l e = absurd (omega arith)
-caption-behind (b ∷ s) t l e = put t.rows e
-  where
-    put : (rows : List SpannedRow) → 0 < length rows
-        → put_caption rows (b ∷ s) t
-        ≡ (record { before = t.before; rows = t.rows; behind = t.behind ++ (b ∷ s) ∷ [] })
-    put [] e = absurd (omega arith)
-    put (row ∷ rows) e = refl

@@ -52,7 +52,8 @@ module _ (items : List Item) (t : IsTree items) where
   seen-any id ids e = seen_any (children_of items id) ∙ ap (list_any (is_seen_at items)) (sym e)
 
   -- a sight of its own decides
-  pub sight-own : (id : ℕ) → id < length items → (o : Option Bool) (b : Bool) → o ≡ own_sight (data_at items id)
+  pub sight-own : (id : ℕ) → id < length items → (o : Option Bool) (b : Bool)
+      → o ≡ own_sight (data_at items id)
       → o ≡ Some b → is_seen_at items id ≡ b
   sight-own id l o b told e =
       sight-open id l ∙ ap (λ x. by_sight x (are_seen (children_at items id))) (sym told ∙ e)

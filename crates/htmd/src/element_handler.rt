@@ -42,8 +42,8 @@ mod span;
 pub(crate) mod table;
 mod table_cell;
 pub(crate) mod table_layout;
-mod table_spans;
 mod table_part;
+mod table_spans;
 mod thematic_break;
 
 pub use element_handlers::{ElementHandlers, HandlerRefused};

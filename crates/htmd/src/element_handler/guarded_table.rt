@@ -15,9 +15,7 @@ use super::HandlerResult;
 use super::guarded_table_layout::{TableLine, begins_with_header, table_lines};
 use super::table::cell_text;
 use super::table_spans::{column_span, row_span};
-use htmd_markdown::{
-    SpannedCell, SpannedRow, lay_table, write_guarded_table, write_one_line,
-};
+use htmd_markdown::{SpannedCell, SpannedRow, lay_table, write_guarded_table, write_one_line};
 use htmd_text::TrimDocumentWhitespace;
 use htmd_tree::{Attribute, NodeData, NodeId, Tree};
 use std::alloc::{AllocError, Global};
@@ -107,7 +105,8 @@ impl GuardedTexts {
     ) -> Result<(), AllocError>
         requires { All (λ node. node < length tree.now) (line_nodes (line_view line.now)) }
         ensures { OnOk result (guarded_texts_view self.new
-            ≡ spec.with_line tree.now (guarded_texts_view self.old) (line_view line.now) (results_view contents.now)) }
+            ≡ spec.with_line tree.now (guarded_texts_view self.old) (line_view line.now)
+            (results_view contents.now)) }
     {
         match line {
             TableLine::Caption(_) => {
@@ -163,11 +162,7 @@ fn texts_of_lines(
 }
 
 /// The lines of a grid, of which the first is the header or not: then an empty one stands above it.
-fn write_grid(
-    alloc: Global,
-    has_header: bool,
-    grid: &[Vec<String>],
-) -> Result<String, AllocError>
+fn write_grid(alloc: Global, has_header: bool, grid: &[Vec<String>]) -> Result<String, AllocError>
     ensures { IfOk result (λ text. string_bytes text ≡ spec.grid_text has_header (map row_texts grid.now)) }
 {
     match grid {
@@ -201,11 +196,7 @@ fn push_block(out: &mut String, block: &str) -> Result<(), AllocError>
 }
 
 /// The captions before the first row, the table, and the later captions, with blank lines around each.
-fn write_texts(
-    alloc: Global,
-    has_header: bool,
-    texts: GuardedTexts,
-) -> Result<String, AllocError>
+fn write_texts(alloc: Global, has_header: bool, texts: GuardedTexts) -> Result<String, AllocError>
     ensures { IfOk result
         (λ text. string_bytes text ≡ spec.guarded_table_text has_header (guarded_texts_view texts)) }
 {

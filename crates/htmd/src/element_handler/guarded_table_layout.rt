@@ -226,8 +226,8 @@ fn has_row(tree: &Tree, table: NodeId) -> bool
     false
 }
 
-/// Whether a table is written as one: it has explicit headers and a row of cells, stands in no cell of another one, and holds
-/// nothing else to see.
+/// Whether a table is written as one: it has explicit headers and a row of cells, stands in no cell of another one,
+/// and holds nothing else to see.
 pub(crate) fn is_written_as_table(tree: &Tree, table: NodeId) -> bool
     requires { table < length tree.now }
     ensures { result ≡ spec.is_written_as_table tree.now table }
@@ -362,7 +362,9 @@ pub(crate) fn table_lines(
     table: NodeId,
 ) -> Result<Vec<TableLine>, AllocError>
     requires { table < length tree.now }
-    ensures { IfOk result (λ lines. map line_view lines.items ≡ spec.table_lines tree.now table) }
+    ensures lines { IfOk result (λ lines. map line_view lines.items ≡ spec.table_lines tree.now table) }
+    ensures within { IfOk result (λ lines. All (λ node. node < length tree.now)
+        (spec.nodes_of_lines (map line_view lines.items))) }
 {
     let mut lines = Lines {
         lines: Vec::new(alloc),

@@ -9,7 +9,7 @@ ghost use Rattle.htmd.specs.Handling.{IsProper, contents_of_each};
 ghost use Rattle.htmd.specs.GuardedTableLayouts.{nodes_of_lines, table_lines};
 ghost use Rattle.htmd.specs.TableLayouts as layouts;
 ghost use Rattle.htmd.specs.Tables as spec;
-ghost use Rattle.htmd.specs.TableElements as element;
+ghost use Rattle.htmd.specs.TableElements as handler;
 ghost use Rattle.htmd.specs.TableViews.{parts_view, texts_view};
 ghost use Rattle.htmd.specs.Views.{element_view, result_view, results_view, optional_result};
 ghost use Rattle.htmd.specs.Walking.{request_view, outcome_view};
@@ -110,7 +110,7 @@ pub(crate) fn has_table_form(tree: &Tree, table: NodeId) -> bool
 
 /// Whether the next handler is asked.
 fn is_left_out(element: &Element) -> bool
-    ensures { result ≡ element.is_left_out (element_view element.now) }
+    ensures { result ≡ handler.is_left_out (element_view element.now) }
 {
     if is_guarded(element.options) {
         return !is_written_as_table(element.tree, element.node);
@@ -133,7 +133,7 @@ fn plan_guarded(alloc: Global, element: &Element) -> Result<Request, AllocError>
 
 /// The captions and cells of a table, each by itself.
 pub(crate) fn plan(alloc: Global, element: &Element) -> Result<Request, AllocError>
-    ensures plan { IfOk result (λ p. request_view p ≡ element.table_plan (element_view element.now)) }
+    ensures plan { IfOk result (λ p. request_view p ≡ handler.table_plan (element_view element.now)) }
     ensures proper { IfOk result (λ p. IsProper element.now.tree.now element.now.node (request_view p)) }
 {
     if !is_plain(element) {
@@ -260,7 +260,7 @@ pub(crate) fn finish(
     content: HandlerResult,
 ) -> Result<Option<HandlerResult>, AllocError>
     ensures { IfOk result (λ r. optional_result r
-        ≡ element.table_result (element_view element.now) (result_view content)) }
+        ≡ handler.table_result (element_view element.now) (result_view content)) }
 {
     if is_left_out(element) {
         return Ok(Some(content));
@@ -282,7 +282,7 @@ pub(crate) fn finish_each(
     contents: &[HandlerResult],
 ) -> Result<Outcome, AllocError>
     ensures { IfOk result (λ outcome. outcome_view outcome
-        ≡ element.table_outcome (element_view element.now) (results_view contents.now)) }
+        ≡ handler.table_outcome (element_view element.now) (results_view contents.now)) }
 {
     if is_guarded(element.options) {
         let text = write_table_lines(alloc, element.tree, element.node, contents)?;

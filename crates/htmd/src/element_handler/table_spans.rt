@@ -20,7 +20,9 @@ const MOST_COLUMNS: u16 = 16;
 pub(crate) fn column_span(attrs: &[Attribute]) -> u8
     ensures { result ≡ spec.column_span (pairs_of attrs.now) }
 {
-    span_of(find_value(attrs, "colspan")).min(MOST_COLUMNS).max(1) as u8
+    span_of(find_value(attrs, "colspan"))
+        .min(MOST_COLUMNS)
+        .max(1) as u8
 }
 
 /// How many rows it takes; 0 stands for all further ones of its group.

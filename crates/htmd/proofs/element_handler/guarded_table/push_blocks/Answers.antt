@@ -17,7 +17,8 @@ loop-block-preserved c =
     let before = string_bytes c.args.out.now in
     c.in_ok-push_block.ensures
     ∙ ap (λ s. s ++ with_blank_line c.as_str.result.now) c.loop-block.invariant
-    ∙ ap (λ s. (before ++ flat_map with_blank_line (map bytes_of (take i blocks))) ++ with_blank_line s) c.as_str.ensures.value
+    ∙ ap (λ s. (before ++ flat_map with_blank_line (map bytes_of (take i blocks))) ++ with_blank_line s)
+    c.as_str.ensures.value
     ∙ flat_map_more with_blank_line before (map bytes_of (take i blocks)) (bytes_of c.block-item.result)
     ∙ ap (λ xs. before ++ flat_map with_blank_line xs)
     (sym (map_next bytes_of blocks i c.block-item.result c.loop-block-test.true c.block-item.is))

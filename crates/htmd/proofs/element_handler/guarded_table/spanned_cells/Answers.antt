@@ -15,7 +15,8 @@ use Rattle.htmd.proofs.element_handler.guarded_table.spanned_cells.Goals as goal
 pub spanned_cell-requires : goal.spanned_cell-requires
 spanned_cell-requires c =
     let yields = YieldsList-from_zip {s = c.into_iter-node-iterator.result}
-    (YieldsList-from_slice c.args.nodes.now (search rules)) (YieldsList-from_slice c.args.contents.now (search rules)) in
+    (YieldsList-from_slice c.args.nodes.now (search rules))
+    (YieldsList-from_slice c.args.contents.now (search rules)) in
     let turn = YieldsList-turn yields c.loop-node.yielded _ c.loop-node.yielded_by c.next.result c.next.new.self
     (c.in-Some.node, c.in-Some.content) c.in-Some.is c.next.ensures.steps in
     zip_first_all (λ node. node < length c.args.tree.now) c.args.nodes.now c.args.contents.now
@@ -23,7 +24,8 @@ spanned_cell-requires c =
 
 pub loop-node-preserved : goal.loop-node-preserved
 loop-node-preserved c =
-    let f : Bor ℕ × Bor HandlerResult → SpannedCell = λ p. spanned_cell c.args.tree.now p.0.now (result_view p.1.now) in
+    let f : Bor ℕ × Bor HandlerResult → SpannedCell =
+    λ p. spanned_cell c.args.tree.now p.0.now (result_view p.1.now) in
     ap (map cell_view) c.in_ok-push.ensures.items
     ∙ map_push cell_view c.loop-node.cells.items c.in_ok-spanned_cell.field-0
     ∙ ap (λ ys. ys ++ cell_view c.in_ok-spanned_cell.field-0 ∷ []) c.loop-node.invariant
@@ -33,7 +35,8 @@ loop-node-preserved c =
 pub returns : goal.returns
 returns c =
     let yields = YieldsList-from_zip {s = c.into_iter-node-iterator.result}
-    (YieldsList-from_slice c.args.nodes.now (search rules)) (YieldsList-from_slice c.args.contents.now (search rules)) in
+    (YieldsList-from_slice c.args.nodes.now (search rules))
+    (YieldsList-from_slice c.args.contents.now (search rules)) in
     let all = YieldsList-end yields c.loop-node.yielded _ c.loop-node.yielded_by c.next.result c.next.new.self
     c.in-None.is c.next.ensures.steps in
     let g : ℕ × HandlerResult → SpannedCell = λ p. spanned_cell c.args.tree.now p.0 (result_view p.1) in

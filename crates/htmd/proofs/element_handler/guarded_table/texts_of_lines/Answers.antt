@@ -19,7 +19,8 @@ loop-line-preserved c =
     let i = c.loop-line.line-index in
     let own = c.split_at.result.0.now in
     let behind = c.split_at.result.1.now in
-    let count : c.min.result ≡ min (length (line_nodes (line_view c.line-item.result))) (length rest) = search rules in
+    let count : c.min.result ≡ min (length (line_nodes (line_view c.line-item.result))) (length rest) =
+    search rules in
     record {
       texts =
           ap (λ t. with_lines items t (map line_view (drop (i + 1) lines)) (results_view behind)) c.in_ok-push.ensures

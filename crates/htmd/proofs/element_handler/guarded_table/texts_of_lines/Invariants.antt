@@ -1,4 +1,4 @@
-use Rattle.std.proofs.Common.{◌≡◌, ◌×◌, ◌<◌, drop, map, length, All}
+use Rattle.std.proofs.Common.{◌≡◌, ◌<◌, drop, map, length, All}
 use Rattle.htmd.specs.GuardedTableLayouts.{nodes_of_lines}
 use Rattle.htmd.specs.GuardedTableTexts.{with_lines, no_guarded_texts}
 use Rattle.htmd.specs.GuardedTableViews.{line_view, guarded_texts_view}

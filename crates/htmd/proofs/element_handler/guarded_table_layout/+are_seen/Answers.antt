@@ -49,10 +49,11 @@ loop-child-preserved t c =
     let w = child_within items c.args.node ids.result.now c.loop-child.child-index c.child-item.result
     ids.ensures.tree c.requires ids.ensures.value c.loop-child-test.true c.child-item.is in
     let unseen : is_seen_at items c.child-item.result ≡ false = elim c.match-own_sight.branch [
-    in-Some-false w2 ↦ sight-own items ids.ensures.tree c.child-item.result w c.own_sight.result _
-        c.own_sight.ensures.value (w2.in-Some-false.is ∙ ap Some w2.in-Some-false.field-0-test)
-    | in-None+else-are_seen w2 ↦ sight-below items ids.ensures.tree c.child-item.result w c.own_sight.result
-        c.own_sight.ensures.value w2.in-None.is ∙ sym w2.are_seen.ensures ∙ w2.if-are_seen.false ] in
+      | in-Some-false w2 ↦ sight-own items ids.ensures.tree c.child-item.result w c.own_sight.result _
+          c.own_sight.ensures.value (w2.in-Some-false.is ∙ ap Some w2.in-Some-false.field-0-test)
+      | in-None+else-are_seen w2 ↦ sight-below items ids.ensures.tree c.child-item.result w c.own_sight.result
+          c.own_sight.ensures.value w2.in-None.is ∙ sym w2.are_seen.ensures ∙ w2.if-are_seen.false
+    ] in
     none_more (is_seen_at items) ids.result.now c.loop-child.child-index c.child-item.result
     c.loop-child-test.true c.child-item.is c.loop-child.invariant unseen
 

@@ -20,7 +20,8 @@ loop-line-preserved c =
       header =
           sym (ap (spec.begins_with_header items) (lines_at lines i c.line-item.result c.loop-line-test.true
           c.line-item.is)
-          ∙ ap (λ x. spec.begins_with_header items (line_view x ∷ map line_view (drop (i + 1) lines))) c.in-Caption.is)
+          ∙ ap (λ x. spec.begins_with_header items (line_view x ∷ map line_view (drop (i + 1) lines)))
+          c.in-Caption.is)
           ∙ c.loop-line.invariant.header;
       within = later_within (λ node. node < length items) lines i c.line-item.result c.loop-line-test.true
           c.line-item.is c.loop-line.invariant.within;

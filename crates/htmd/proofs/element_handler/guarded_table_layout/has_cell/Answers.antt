@@ -21,8 +21,9 @@ returns-then-is_cell c =
 
 pub loop-child-preserved : goal.loop-child-preserved
 loop-child-preserved c =
-    none_more (has_tag cell_tags c.args.tree.now) c.children-child-items.result.now c.loop-child.child-index c.child-item.result
-    c.loop-child-test.true c.child-item.is c.loop-child.invariant (sym c.is_cell.ensures ∙ c.if-is_cell.false)
+    none_more (has_tag cell_tags c.args.tree.now) c.children-child-items.result.now
+    c.loop-child.child-index c.child-item.result c.loop-child-test.true c.child-item.is c.loop-child.invariant
+    (sym c.is_cell.ensures ∙ c.if-is_cell.false)
 
 pub returns : goal.returns
 returns c =

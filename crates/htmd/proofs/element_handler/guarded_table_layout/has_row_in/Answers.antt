@@ -20,8 +20,9 @@ returns-then-is_filled_row c =
 
 pub loop-child-preserved : goal.loop-child-preserved
 loop-child-preserved c =
-    none_more (is_filled_row c.args.tree.now) c.children-child-items.result.now c.loop-child.child-index c.child-item.result
-    c.loop-child-test.true c.child-item.is c.loop-child.invariant (sym c.is_filled_row.ensures ∙ c.if-is_filled_row.false)
+    none_more (is_filled_row c.args.tree.now) c.children-child-items.result.now
+    c.loop-child.child-index c.child-item.result c.loop-child-test.true c.child-item.is c.loop-child.invariant
+    (sym c.is_filled_row.ensures ∙ c.if-is_filled_row.false)
 
 pub returns : goal.returns
 returns c =

@@ -1,7 +1,8 @@
-use Rattle.std.proofs.Common.{sym, ap, ◌∙◌, fold}
+use Rattle.std.proofs.Common.{◌<◌, All, length, subst, sym, ap, ◌∙◌, fold}
 use Rattle.std.proofs.lemmas.List.{take_all}
-use Rattle.htmd.specs.GuardedTableLayouts.{Lines, with_child_lines, no_lines}
+use Rattle.htmd.specs.GuardedTableLayouts.{Lines, with_child_lines, no_lines, nodes_of_lines}
 use Rattle.htmd.proofs.ChildListsLemmas.{fold_next, child_within}
+use Rattle.htmd.proofs.GuardedNodesLemmas.{lines-within}
 use Rattle.htmd.proofs.element_handler.guarded_table_layout.table_lines.Goals as goal
 
 pub push_child-requires : goal.push_child-requires
@@ -17,9 +18,15 @@ loop-child-preserved c =
     ∙ sym (fold_next (with_child_lines c.args.tree.now) no_lines c.children-child-items.result.now
     c.loop-child.child-index c.child-item.result c.loop-child-test.true c.child-item.is)
 
-pub returns : goal.returns
-returns c =
+pub returns-clause-lines : goal.returns-clause-lines
+returns-clause-lines c =
     ap (λ (so_far : Lines). so_far.lines) (c.loop-child.invariant
     ∙ ap (fold (with_child_lines c.args.tree.now) no_lines)
     (take_all c.loop-child.child-index c.children-child-items.result.now c.loop-child-test.false
     ∙ c.children-child-items.ensures.value))
+
+pub returns-clause-within : goal.returns-clause-within
+returns-clause-within c =
+    subst (λ lines. All (λ node. node < length c.args.tree.now) (nodes_of_lines lines))
+    (sym (returns-clause-lines c))
+    (lines-within c.args.tree.now c.args.table c.children-child-items.ensures.tree c.requires)

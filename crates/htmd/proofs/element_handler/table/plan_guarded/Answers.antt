@@ -11,4 +11,4 @@ returns-clause-proper c =
     let node = c.args.element.now.node in
     subst (All (λ d. ∥ IsBelow items node d ∥₁)) (sym (c.in_ok-nodes_of_lines.ensures
     ∙ ap (λ ls. nodes_of_lines (map line_view ls)) c.deref.ensures.value
-    ∙ ap nodes_of_lines c.in_ok-lines.ensures)) (lines-proper items node)
+    ∙ ap nodes_of_lines c.in_ok-lines.ensures.lines)) (lines-proper items node)
