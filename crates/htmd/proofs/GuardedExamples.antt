@@ -14,7 +14,7 @@ use Rattle.htmd.specs.Spans.{is_read_in_formula}
 use Rattle.htmd.specs.OneLineElements.{stands_in_line, in_line_up}
 use Rattle.htmd.specs.GuardedTableTexts.{guarded_table_text, no_guarded_texts}
 use Rattle.htmd.specs.GuardedTableLayouts.{column_span, row_span}
-use Rattle.htmd.specs.GuardedTableTexts.{guarded_table_text}use Rattle.htmd.specs.Rendering.{written_within}
+use Rattle.htmd.specs.Rendering.{written_within}
 use Rattle.htmd.specs.Markdown.{markdown}
 
 no_image_at_a_seam : guarded_at_seam (codes "a!") (codes "[b](c)") ≡ codes "a\\![b](c)"
@@ -29,10 +29,7 @@ captions_apart = refl
 
 no_captions : guarded_table_text true no_guarded_texts ≡ codes "\n\n\n"
 no_captions = refl
-many_columns : column_span (record { name = codes "colspan"; value = codes " 17x" } ∷ []) ≡ 16
-many_columns = refl
-all_rows : row_span (record { name = codes "rowspan"; value = codes "0" } ∷ []) ≡ 0
-all_rows = refl
+
 many_columns : column_span (record { name = codes "colspan"; value = codes " 17x" } ∷ []) ≡ 16
 many_columns = refl
 
