@@ -1,5 +1,6 @@
--- Lemmas of runs, words, conversions and rows, and worked rows.
+-- Lemmas of runs, words, encodings, conversions and rows, and worked rows.
 pub mod AppendsLemmas
+pub mod DecodingLemmas
 pub mod ConversionLemmas
 pub mod RunsLemmas
 pub mod WordsLemmas

@@ -1,6 +1,9 @@
 -- The definitions that the contracts cite, in reading order; the last two are cited by private functions alone.
 pub mod Failures
 pub mod Settings
+pub mod Windows1252
+pub mod Utf16
+pub mod Decoding
 pub mod Conversion
 pub mod Runs
 pub mod Lines

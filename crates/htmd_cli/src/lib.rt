@@ -4,11 +4,12 @@
 //!
 //! `Source` and `Sink` are the two ends of a run, `Input` and `Output` make them of std's readers and
 //! writers, `run` converts by a mode and `run_with` by settings, and `command` is the whole program with
-//! its words and exit statuses.
+//! its words and exit statuses. `decoded` is the text of bytes of which nothing says how they are encoded.
 #![tactic(auto)]
 
 mod answers;
 mod conversion;
+mod decoding;
 mod explanations;
 mod faults;
 mod fields;
@@ -25,6 +26,7 @@ mod sources;
 mod values;
 mod words;
 
+pub use decoding::decoded;
 pub use faults::{Failed, RowFault, RunError};
 pub use fields::{read_field, write_field};
 pub use pipeline::{run, run_with};

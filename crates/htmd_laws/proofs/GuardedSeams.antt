@@ -63,19 +63,27 @@ trimmed-line s line =
 
 -- ---- nothing is mended where a guarded content meets a guarded text
 
-nothing_mended : (out content behind : List ℕ) → is_guarded (out ++ behind) ≡ true → is_guarded content ≡ true
+pub nothing_mended : (out content behind : List ℕ) → is_guarded (out ++ behind) ≡ true → is_guarded content ≡ true
     → guarded_at_seam out content ≡ joined_at_seam out content false
 nothing_mended out content behind front e =
     ap (λ (both : Ends). joined_at_seam both.front both.behind false)
     (unmended out content e (guarded-ending out behind front))
 
--- as it stands, behind a guarded text
+-- what is guarded may end here
+pub guarded_ended : (out : List ℕ) → is_guarded out ≡ true → is_guarded (out ++ []) ≡ true
+guarded_ended out front = ap is_guarded (append-nil out) ∙ front
+
+pub nothing_joined : (out content : List ℕ) → is_guarded out ≡ true → is_guarded content ≡ true
+    → with_joint out content ≡ out ++ content
+nothing_joined out content front e =
+    ap (λ (both : Ends). both.front ++ both.behind)
+    (unmended out content e (guarded-ending out [] (guarded_ended out front)))
+
+-- as it stands, after a guarded text
 pub joint-guarded : (out content : List ℕ) → is_guarded out ≡ true → is_guarded content ≡ true
     → is_guarded (with_joint out content) ≡ true
 joint-guarded out content front e =
-    ap (λ (both : Ends). is_guarded (both.front ++ both.behind))
-    (unmended out content e (guarded-ending out [] (ap is_guarded (append-nil out) ∙ front)))
-    ∙ guarded-append out content front e
+    ap is_guarded (nothing_joined out content front e) ∙ guarded-append out content front e
 
 -- ---- at a seam
 
@@ -135,14 +143,14 @@ joined_guarded a b out content ending front e =
 pub seam-guarded : (out content : List ℕ) → is_guarded out ≡ true → is_guarded content ≡ true
     → is_guarded (guarded_at_seam out content) ≡ true
 seam-guarded out content front e =
-    ap is_guarded (nothing_mended out content [] (ap is_guarded (append-nil out) ∙ front) e)
+    ap is_guarded (nothing_mended out content [] (guarded_ended out front) e)
     ∙ cond_both (false || (length out == 0)) _ _ (λ (l : List ℕ). is_guarded l ≡ true)
     (λ _. guarded-append out content front e)
     (λ _. joined_guarded (suffix_len is_line_feed out) (prefix_len is_line_feed content) out content refl front e)
 
 -- ---- between blank lines
 
-wrapped-guarded : (s : List ℕ) → IsLine s → is_guarded (with_blank_lines s) ≡ true
+pub wrapped-guarded : (s : List ℕ) → IsLine s → is_guarded (with_blank_lines s) ≡ true
 wrapped-guarded s line =
     guarded-append (line_feed ∷ line_feed ∷ []) (s ++ line_feed ∷ line_feed ∷ []) refl
     (line-append s (line_feed ∷ []) line refl)

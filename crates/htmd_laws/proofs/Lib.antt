@@ -27,7 +27,6 @@ pub mod GuardedRuns
 pub mod GuardedSeams
 pub mod TextTrees
 pub mod TextElements
-pub mod TextLawsLemmas
 pub mod CountedTexts
 pub mod LettersLemmas
 pub mod LettersOfTexts
@@ -44,6 +43,11 @@ pub mod LettersOfElements
 pub mod FittingTrees
 pub mod SaidChildren
 pub mod LettersLawsLemmas
+pub mod BlockBeginnings
+pub mod TextLines
+pub mod GuardedLines
+pub mod TextWalks
+pub mod TextLawsLemmas
 pub mod ShownOfElements
 pub mod ShownTrees
 pub mod ShownLawsLemmas

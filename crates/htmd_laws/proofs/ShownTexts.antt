@@ -33,7 +33,7 @@ plain_by true true b rest e h = h
 plain_by true false b rest e h = All-cons IsPlain space rest (λ _. refl) h
 plain_by false more b rest e h = All-cons IsPlain b rest (λ white. absurd (false≢true (sym e ∙ white))) h
 
-squeezed_is_plain : (s : List ℕ) → All IsPlain (squeezed_text s)
+pub squeezed_is_plain : (s : List ℕ) → All IsPlain (squeezed_text s)
 squeezed_is_plain [] = All-nil IsPlain
 squeezed_is_plain (b ∷ s) =
     plain_by (is_ascii_white_space b) (begins_with_white_space s) b (squeezed_text s) refl (squeezed_is_plain s)
@@ -109,7 +109,7 @@ shown_is_left s is =
     left_of (trimmed_end is_space s) (drop (length s - suffix_len is_space s) s) s (end_parts is_space s) is.some
     (end_passes is_space s) is.first
 
-white_too : (b : ℕ) → is_document_white_space b ≡ true → is_ascii_white_space b ≡ true
+pub white_too : (b : ℕ) → is_document_white_space b ≡ true → is_ascii_white_space b ≡ true
 white_too b e = grind (arith, nat_tests)
 
 no_white_space : (b : ℕ) → IsPlain b → is_space b ≡ false → is_document_white_space b ≡ false
@@ -156,7 +156,7 @@ backslashes_none marked k (b ∷ s) none =
     ap marked (omega arith) ∙ none (suc i) (omega arith)))
 
 -- what holds of a backslash and of each byte of the text holds of each byte that is written
-each_written : (P : ℕ → Type 0) (marked : ℕ → Bool) (k : ℕ) (s : List ℕ) → P backslash → All P s
+pub each_written : (P : ℕ → Type 0) (marked : ℕ → Bool) (k : ℕ) (s : List ℕ) → P backslash → All P s
     → All P (with_backslashes marked k s)
 each_written P marked k [] here all = All-nil P
 each_written P marked k (b ∷ s) here all =
@@ -278,7 +278,7 @@ plain_is_no_line_feed b plain =
     let same : is_line_feed b ≡ false = ap is_line_feed (plain (line_feed_is_white b e)) in
     false≢true (sym same ∙ e))
 
-plain_without : (s : List ℕ) → All IsPlain s → All IsNoLineFeed s
+pub plain_without : (s : List ℕ) → All IsPlain s → All IsNoLineFeed s
 plain_without s all = All-weaker IsPlain IsNoLineFeed plain_is_no_line_feed s all
 
 pub escaped_without : (s : List ℕ) → All IsPlain s → All IsNoLineFeed (escaped_markdown s)

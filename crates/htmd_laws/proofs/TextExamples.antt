@@ -1,7 +1,8 @@
 -- Worked examples of pages of texts in Guarded.
-use Rattle.std.proofs.Common.{◌≡◌, ℕ, List, [], ◌∷◌, ◌++◌, true, codes, refl}
+use Rattle.std.proofs.Common.{◌≡◌, ℕ, List, [], ◌∷◌, ◌++◌, true, false, codes, refl}
 use Rattle.std.specs.Str.{chars}
 use Rattle.htmd_text.specs.Blocks.{is_block}
+use Rattle.htmd_text.specs.Characters.{line_feed}
 use Rattle.htmd_tree.specs.Items.{Item, document_item, new_item, element_node, text_node}
 use Rattle.htmd_tree.specs.NumberedTrees.{tree_of, forest_from, value_tree}
 use Rattle.htmd_tree.specs.Ancestors.{ancestors_of, ancestors_up}
@@ -9,7 +10,7 @@ use Rattle.htmd.specs.BuiltIn.{built_in}
 use Rattle.htmd.specs.Rendering.{written_within}
 use Rattle.htmd.specs.Markdown.{markdown}
 use Rattle.htmd.proofs.GuardedExamples.{guarded}
-use Rattle.htmd_laws.specs.TextLaws.{is_page_of_texts}
+use Rattle.htmd_laws.specs.TextLaws.{is_page_of_texts, begins_no_block}
 
 -- a Document of these, each under its parent
 root : List Item
@@ -50,3 +51,26 @@ parted_reference_converted : markdown (built_in guarded) parted_reference 0 ≡ 
 unfolding chars markdown written_within tree_of forest_from ancestors_of ancestors_up is_block parted_reference
     with_text with_element root guarded
 parted_reference_converted = refl
+
+-- a number and its dot apart
+parted_number : List Item
+parted_number =
+    with_text 3 (codes ". x") (with_element 1 (codes "u") (with_text 1 (codes "1")
+    (with_element 0 (codes "p") root)))
+
+parted_number_converted : markdown (built_in guarded) parted_number 0 ≡ codes "1\\. x"
+unfolding chars markdown written_within tree_of forest_from ancestors_of ancestors_up is_block parted_number with_text
+    with_element root guarded
+parted_number_converted = refl
+
+escaped_lines : begins_no_block (codes "1\\. x" ++ line_feed ∷ codes "\\- y") ≡ true
+unfolding chars
+escaped_lines = refl
+
+bare_item : begins_no_block (codes "1\\. x" ++ line_feed ∷ codes "- y") ≡ false
+unfolding chars
+bare_item = refl
+
+bare_heading : begins_no_block (codes "# x") ≡ false
+unfolding chars
+bare_heading = refl

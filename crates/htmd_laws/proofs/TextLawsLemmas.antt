@@ -1,244 +1,115 @@
 -- In Guarded a page of texts has no markup.
-use Rattle.std.proofs.Common.{◌≡◌, ℕ, zero, suc, Bool, true, false, List, [], ◌∷◌, ◌++◌, Option, Some}
-use Rattle.std.proofs.Common.{codes, refl, ap, ◌∙◌, subst, arith, ⊎_elim}
-use Rattle.std.specs.Prelude.{◌||◌}
-use Rattle.std.proofs.lemmas.Bool.{or_cases, cond-true}
-use Rattle.std.proofs.lemmas.List.{append-nil}
+use Rattle.std.proofs.Common.{◌≡◌, ℕ, Bool, true, List, [], ◌∷◌, ◌++◌, refl, sym, ap, ◌∙◌, subst}
+use Rattle.std.specs.Str.{IsUtf8}
+use Rattle.std.proofs.lemmas.Str.{IsUtf8-append, IsUtf8-nil}
 use Rattle.htmd_text.specs.BlankLines.{with_blank_lines}
-use Rattle.htmd_text.specs.Blocks.{is_block}
 use Rattle.htmd_text.specs.Characters.{line_feed}
-use Rattle.htmd_text.specs.Trims.{trimmed_text, trimmed_end, is_space, is_line_feed}
+use Rattle.htmd_text.specs.Trims.{trimmed_text, is_space, is_line_feed}
 use Rattle.htmd_text.specs.WhiteSpace.{is_document_white_space, squeezed_text}
-use Rattle.htmd_tree.specs.ValueTrees.{AttributePair}
-use Rattle.htmd_tree.specs.Items.{Data, document_node, doctype_node, text_node, comment_node, element_node, Item}
-use Rattle.htmd_tree.specs.Items.{data_at}
-use Rattle.htmd_tree.specs.NumberedTrees.{NumberedTree, document, doctype, text, comment, element, NumberedForest, none}
-use Rattle.htmd_tree.specs.NumberedTrees.{more, with_children, forest_from, tree_of, height, tallest, value_tree}
-use Rattle.htmd_tree.specs.Ancestors.{Ancestor, ancestors_of}
+use Rattle.htmd_tree.specs.Items.{Item, HoldTexts, HoldsText, data_at, text_node}
 use Rattle.htmd_markdown.specs.GuardedText as reader
 use Rattle.htmd_markdown.proofs.GuardedReadingLemmas.{guarded-is_guarded}
-use Rattle.htmd.specs.declared.options.Options.{Options}
-use Rattle.htmd.specs.Handling.{ResultView}
-use Rattle.htmd.specs.Choice.{Config}
-use Rattle.htmd.specs.OrdinaryText.{pre, without_first_space}
-use Rattle.htmd.specs.Seams.{written_at_seam, guarded_at_seam, ends_with_space}
-use Rattle.htmd.specs.Groups.{groups_of}
-use Rattle.htmd.specs.Outputs.{Conversion, conversion_of, Output, Context, context_of, empty_output, is_guarded}
-use Rattle.htmd.specs.Outputs.{is_markdown_alone}
-use Rattle.htmd.specs.Children.{is_block_tree, before_child, trim_after, write_children, write_groups, trims_first}
-use Rattle.htmd.specs.Elements.{Occurrence, Answer, content_of, answer_after, occurrence_at}
-use Rattle.htmd.specs.Rendering.{with_result, write_text, write_node, written_within}
+use Rattle.htmd.specs.OrdinaryText.{without_first_space}
 use Rattle.htmd.specs.BuiltIn.{built_in}
-use Rattle.htmd.specs.Markdown.{append_texts, walked_node, walked_content, markdown}
-use Rattle.htmd_laws.specs.TextLaws.{is_wrapped, is_passed_on, is_page_of_texts, TextStaysText}
-use Rattle.htmd.proofs.BeginningsLemmas.{result-definitions}
+use Rattle.htmd.specs.Markdown.{walked_node}
+use Rattle.htmd_laws.specs.TextLaws.{TextStaysText, LinesBeginNoBlock, begins_no_block}
+use Rattle.htmd_markdown.specs.Joints.{with_joint}
 use Rattle.htmd_laws.proofs.GuardedEnds.{IsLine, guarded-line, trimmed_end-line}
-use Rattle.htmd_laws.proofs.GuardedSeams.{joint-guarded, seam-guarded, wrapped-seam, trimmed-line}
-use Rattle.htmd_laws.proofs.TextTrees.{IsPart, Fits, AllFit, AreTexts, fits-groups, node-fits, children-fit}
-use Rattle.htmd_laws.proofs.TextElements.{Gives, wrapped_gives, passed_gives, passed_is_no_block, alone_in}
+use Rattle.htmd_laws.proofs.GuardedSeams.{joint-guarded, seam-guarded, wrapped-seam, trimmed-line, wrapped-guarded}
+use Rattle.htmd_laws.proofs.GuardedSeams.{nothing_mended, nothing_joined, guarded_ended}
 use Rattle.htmd_laws.proofs.ParagraphTexts.{space_is_white}
-use Rattle.htmd.proofs.StayingLemmas.{before-definitions}
+use Rattle.htmd_laws.proofs.LettersLawsLemmas.{plain_at}
+use Rattle.htmd_laws.proofs.TextLines.{no_blocks-is}
+use Rattle.htmd_laws.proofs.GuardedLines.{IsFree, free-nil, free-spaces_cut, free-white_cut, free-trimmed, free-seam}
+use Rattle.htmd_laws.proofs.GuardedLines.{free-wrapped, free-text}
+use Rattle.htmd_laws.proofs.TextWalks.{IsKeptBy, walked_is_page, markdown_is}
 
--- ---- what stands before a child
+-- ---- no character is markup
 
--- The text before a block may have lost its spaces, and is guarded as a line only.
-abbrev IsFine : Bool → List ℕ → Type 0
-IsFine true s = IsLine s
-IsFine false s = reader.is_guarded s ≡ true
+abbrev IsWhole : List ℕ → Type 0
+IsWhole s = reader.is_guarded s ≡ true
 
-fine-line : (block : Bool) (s : List ℕ) → IsFine block s → IsLine s
-fine-line true s fine = fine
-fine-line false s fine = guarded-line s fine
+abbrev IsAny : List ℕ → Type 0
+IsAny s = Unit {0}
 
-fine-before : (block : Bool) (out : Output) → reader.is_guarded out.text ≡ true
-    → IsFine block (before_child block out).text
-fine-before true out e = trimmed_end-line is_space space_is_white out.text (guarded-line out.text e)
-fine-before false out e = e
+text_is_guarded : (out s : List ℕ) (begins goes : Bool) → IsWhole out
+    → IsWhole (with_joint out (reader.guarded_text begins (without_first_space goes (squeezed_text s))))
+text_is_guarded out s begins goes e =
+    let shown = without_first_space goes (squeezed_text s) in
+    joint-guarded out (reader.guarded_text begins shown) e (guarded-is_guarded begins shown)
 
--- ---- a result at its seam
-
-seam_text : (guarded whole : Bool) (out : Output) (r : Option ResultView) (definitions : List (List ℕ))
-    (result : ResultView) → guarded ≡ true → r ≡ Some result
-    → (with_result guarded out whole r definitions).text ≡ guarded_at_seam out.text result.content
-seam_text guarded whole out r definitions result e here =
-    ap (λ (x : Option ResultView). (with_result guarded out whole x definitions).text) here
-    ∙ ap (λ b. written_at_seam b out.text result.content whole) e
-
--- what is written is guarded, and defines nothing
-record IsKept (out before : Output) : Type 0 where
-  guarded : reader.is_guarded out.text ≡ true
-  same : out.definitions ≡ before.definitions
-
-kept-by : (out before : Output) → out ≡ before → reader.is_guarded before.text ≡ true → IsKept out before
-kept-by out before e fine = record {
-  guarded = ap (λ (o : Output). reader.is_guarded o.text) e ∙ fine;
-  same = ap (λ (o : Output). o.definitions) e;
+guarded_is_kept : IsKeptBy IsWhole IsLine IsAny
+guarded_is_kept = record {
+  start = refl;
+  line = guarded-line;
+  spaces_cut = λ s e. trimmed_end-line is_space space_is_white s (guarded-line s e);
+  white_cut = λ s e. trimmed_end-line is_document_white_space (λ b white. white) s (guarded-line s e);
+  trimmed = trimmed-line;
+  wrapped = wrapped-seam;
+  handed_on = seam-guarded;
+  written = λ out s goes e text. text_is_guarded out s (reader.begins_line out) goes e;
+  nothing = tt;
+  joined = λ s t first second. tt;
 }
-
-module _ (options : Options) (guarded : is_guarded options ≡ true) (items : List Item) where
-  abbrev config : Config
-  config = built_in options
-
-  abbrev conversion : Conversion
-  conversion = conversion_of config items
-
-  alone : is_markdown_alone options ≡ true
-  alone = alone_in options.translation_mode guarded
-
-  -- so many levels keep the text guarded
-  abbrev Keeps : ℕ → Type 0
-  Keeps n = (tree : NumberedTree) (context : Context) (out : Output) → Fits config items n tree
-      → IsFine (is_block_tree tree) out.text
-      → IsKept (written_within n conversion tree context out) out
-
-  keeps-children : (n : ℕ) → Keeps n → (inside : List Ancestor) (trees : NumberedForest) (trim : Bool)
-      (out : Output) → AllFit config items n trees → reader.is_guarded out.text ≡ true
-      → IsKept (write_children (written_within n conversion) inside trees trim out) out
-  keeps-children n keeps inside none trim out fit e = kept-by out out refl e
-  keeps-children n keeps inside (more tree trees) trim out fit e =
-      let block = is_block_tree tree in
-      let before = before_child block out in
-      let after = written_within n conversion tree (context_of inside (pre inside) trim) before in
-      let first : IsKept after before =
-      keeps tree (context_of inside (pre inside) trim) before fit.0 (fine-before block out e) in
-      let rest = keeps-children n keeps inside trees (trim_after block before after trim) after fit.1 first.guarded in
-      record { guarded = rest.guarded; same = rest.same ∙ first.same ∙ before-definitions block out }
-
-  keeps-groups : (n : ℕ) → Keeps n → (inside : List Ancestor) (children : NumberedForest) (out : Output)
-      → AllFit config items n children → reader.is_guarded out.text ≡ true
-      → IsKept (write_groups (written_within n conversion) inside children out) out
-  keeps-groups n keeps inside children out fit e =
-      keeps-children n keeps inside (groups_of children) (trims_first inside) out
-      (fits-groups config items n children fit) e
-
-  -- an answer whose text is guarded at the seam
-  keeps-answer : (whole : Bool) (out : Output) (answer : Answer) (s : List ℕ) (definitions : List (List ℕ))
-      → Gives answer s definitions → definitions ≡ out.definitions
-      → reader.is_guarded (guarded_at_seam out.text s) ≡ true
-      → IsKept (with_result (is_guarded options) out whole answer.result answer.definitions) out
-  keeps-answer whole out answer s definitions gives same e = record {
-    guarded = ap reader.is_guarded
-        (seam_text (is_guarded options) whole out answer.result answer.definitions
-        (record { content = s; markdown_translated = gives.has_text.0 }) guarded gives.has_text.1) ∙ e;
-    same = result-definitions (is_guarded options) out whole answer.result answer.definitions ∙ gives.same ∙ same;
-  }
-
-  keeps-element : (n : ℕ) → Keeps n → (id : ℕ) (name : List ℕ) (attributes : List AttributePair)
-      (children : NumberedForest) (context : Context) (out : Output)
-      → IsPart config items id name attributes → AllFit config items n children
-      → IsFine (is_block name) out.text
-      → IsKept (write_node (written_within n conversion) conversion (element id name attributes children)
-      context out) out
-  keeps-element n keeps id name attributes children context out part fit fine =
-      let write = written_within n conversion in
-      let inside : List Ancestor = record { tag = name; attributes = attributes } ∷ context.ancestors in
-      let at : Occurrence = occurrence_at write conversion id inside children in
-      let content = content_of at out.definitions in
-      let answer = answer_after 0 name at out.definitions in
-      let kept = keeps-groups n keeps inside children (empty_output out.definitions) fit refl in
-      ⊎_elim
-      (λ wraps. keeps-answer (pre context.ancestors) out answer
-      (with_blank_lines (trimmed_text is_line_feed content.text)) content.definitions
-      (wrapped_gives options guarded items write id inside children name attributes out.definitions wraps part.0)
-      kept.same
-      (wrapped-seam out.text (trimmed_text is_line_feed content.text) (fine-line (is_block name) out.text fine)
-      (trimmed-line content.text (guarded-line content.text kept.guarded))))
-      (λ passes. keeps-answer (pre context.ancestors) out answer content.text content.definitions
-      (passed_gives options guarded items write id inside children name attributes out.definitions passes part.0)
-      kept.same
-      (seam-guarded out.text content.text
-      (subst (λ b. IsFine b out.text) (passed_is_no_block options name attributes passes) fine) kept.guarded))
-      (or_cases (is_wrapped name) (is_passed_on config name attributes) part.1)
-
-  keeps-text : (s : List ℕ) (context : Context) (out : Output) → reader.is_guarded out.text ≡ true
-      → IsKept (write_text (is_guarded options) s context out) out
-  keeps-text s context out e =
-      let begins = reader.begins_line out.text in
-      let shown = without_first_space (context.trim || ends_with_space out.text) (squeezed_text s) in
-      record {
-        guarded = rw guarded (joint-guarded out.text (reader.guarded_text begins shown) e
-            (guarded-is_guarded begins shown));
-        same = refl;
-      }
-
-  keeps-within : (n : ℕ) → Keeps n
-  unfolding written_within
-  keeps-within zero tree context out fit fine = absurd fit
-  keeps-within (suc n) (document id children) context out fit fine = absurd fit
-  keeps-within (suc n) (doctype id) context out fit fine = kept-by out out refl fine
-  keeps-within (suc n) (text id s) context out fit fine = keeps-text s context out fine
-  keeps-within (suc n) (comment id s) context out fit fine =
-      kept-by _ out (cond-true (is_markdown_alone options) _ _ alone) fine
-  keeps-within (suc n) (element id name attributes children) context out fit fine =
-      keeps-element n (keeps-within n) id name attributes children context out fit.0 fit.1 fine
-
-  -- ---- a page
-
-  -- it is guarded as a line, and defines nothing
-  record IsPage (out : Output) : Type 0 where
-    line : IsLine out.text
-    none_defined : out.definitions ≡ []
-
-  start_is_fine : (block : Bool) → IsFine block []
-  start_is_fine true = refl
-  start_is_fine false = refl
-
-  node_alone : (n : ℕ) (tree : NumberedTree) (context : Context) → Fits config items n tree
-      → IsPage (written_within n conversion tree context (empty_output []))
-  node_alone n tree context fit =
-      let out = written_within n conversion tree context (empty_output []) in
-      let kept : IsKept out (empty_output []) =
-      keeps-within n tree context (empty_output []) fit (start_is_fine (is_block_tree tree)) in
-      record { line = guarded-line out.text kept.guarded; none_defined = kept.same }
-
-  -- at the end of the Document white space is cut
-  document_alone : (id : ℕ) (kids : NumberedForest) (context : Context) → AllFit config items (tallest kids) kids
-      → IsPage (written_within (height (document id kids)) conversion (document id kids) context (empty_output []))
-  unfolding written_within
-  document_alone id kids context fit =
-      let inside : List Ancestor = record { tag = codes "html"; attributes = [] } ∷ context.ancestors in
-      let out = write_groups (written_within (tallest kids) conversion) inside kids (empty_output []) in
-      let kept : IsKept out (empty_output []) =
-      keeps-groups (tallest kids) (keeps-within (tallest kids)) inside kids (empty_output []) fit refl in
-      record {
-        line = trimmed_end-line is_document_white_space (λ b white. white) out.text
-            (guarded-line out.text kept.guarded);
-        none_defined = kept.same;
-      }
-
-  node_is_page : (id : ℕ) (d : Data) (kids : NumberedForest) (context : Context) → data_at items id ≡ d
-      → AreTexts config items kids → is_page_of_texts config (value_tree (with_children id d kids)) ≡ true
-      → IsPage (written_within (height (with_children id d kids)) conversion (with_children id d kids) context
-      (empty_output []))
-  node_is_page id document_node kids context here are e =
-      document_alone id kids context (are e (tallest kids) (omega arith))
-  node_is_page id doctype_node kids context here are e = node_alone 1 (doctype id) context tt
-  node_is_page id (text_node s) kids context here are e = node_alone 1 (text id s) context tt
-  node_is_page id (comment_node s) kids context here are e = node_alone 1 (comment id s) context tt
-  node_is_page id (element_node name attributes) kids context here are e =
-      let tree = element id name attributes kids in
-      node_alone (height tree) tree context
-      (node-fits config items id (height tree) (element_node name attributes) kids here are e (omega arith))
-
-  walked_is_page : (start : ℕ) → is_page_of_texts config (value_tree (tree_of items start)) ≡ true
-      → IsPage (walked_node config items start)
-  unfolding tree_of
-  walked_is_page start e =
-      node_is_page start (data_at items start) (forest_from 0 items start)
-      (context_of (ancestors_of items start) false true) refl (children-fit config items start) e
-
-  -- no handler puts anything behind it
-  markdown_is : (start : ℕ) → (walked_node config items start).definitions ≡ []
-      → markdown config items start ≡ walked_content config items start
-  unfolding markdown
-  markdown_is start e =
-      ap (λ (l : List (List ℕ)). walked_content config items start
-      ++ trimmed_end is_line_feed (append_texts config.handlers l)) e
-      ∙ append-nil (walked_content config items start)
 
 pub text_stays_text : TextStaysText
 text_stays_text options items start guarded e =
-    let page = walked_is_page options guarded items start e in
+    let page = walked_is_page IsWhole IsLine IsAny guarded_is_kept options guarded items (λ id s here. tt) start e in
     ap (λ (l : List ℕ). reader.is_guarded (l ++ line_feed ∷ []))
-    (markdown_is options guarded items start page.none_defined)
+    (markdown_is options items start page.none_defined)
     ∙ trimmed-line (walked_node (built_in options) items start).text page.line
+
+-- ---- no line begins a block
+
+-- both are kept at once, for where a guarded content meets a guarded text nothing is mended
+abbrev IsWholeAndFree : List ℕ → Type 0
+IsWholeAndFree s = IsWhole s × IsFree s
+
+abbrev IsLineAndFree : List ℕ → Type 0
+IsLineAndFree s = IsLine s × IsFree s
+
+-- what is written for a text of the tree
+abbrev shown_after : List ℕ → List ℕ → Bool → List ℕ
+shown_after out s goes =
+    reader.guarded_text (reader.begins_line out) (without_first_space goes (squeezed_text s))
+
+lines_are_kept : IsKeptBy IsWholeAndFree IsLineAndFree IsUtf8
+lines_are_kept = record {
+  start = (refl, free-nil);
+  line = λ s e. (guarded-line s e.0, e.1);
+  spaces_cut = λ s e. (guarded_is_kept.spaces_cut s e.0, free-spaces_cut s e.1);
+  white_cut = λ s e. (guarded_is_kept.white_cut s e.0, free-white_cut s e.1);
+  trimmed = λ s e. (trimmed-line s e.0, free-trimmed s e.1);
+  wrapped = λ out s line e. (
+    wrapped-seam out s line.0 e.0,
+    free-seam out (with_blank_lines s)
+        (nothing_mended out (with_blank_lines s) (line_feed ∷ []) line.0 (wrapped-guarded s e.0)) line.1
+        (free-wrapped s e.1),
+  );
+  handed_on = λ out s before e. (
+    seam-guarded out s before.0 e.0,
+    free-seam out s (nothing_mended out s [] (guarded_ended out before.0) e.0) before.1 e.1,
+  );
+  written = λ out s goes e text. (
+    text_is_guarded out s (reader.begins_line out) goes e.0,
+    subst IsFree
+        (sym (nothing_joined out (shown_after out s goes) e.0
+        (guarded-is_guarded (reader.begins_line out) (without_first_space goes (squeezed_text s)))))
+        (free-text out s goes e.1 text),
+  );
+  nothing = IsUtf8-nil;
+  joined = IsUtf8-append;
+}
+
+text_at : (items : List Item) → HoldTexts items → (id : ℕ) (s : List ℕ) → data_at items id ≡ text_node s
+    → IsUtf8 s
+text_at items texts id s here = subst HoldsText here (plain_at items texts id)
+
+pub lines_begin_no_block : LinesBeginNoBlock
+lines_begin_no_block options items start guarded texts e =
+    let page =
+    walked_is_page IsWholeAndFree IsLineAndFree IsUtf8 lines_are_kept options guarded items (text_at items texts) start
+    e in
+    ap begins_no_block (markdown_is options items start page.none_defined)
+    ∙ no_blocks-is (trimmed_text is_line_feed (walked_node (built_in options) items start).text)
+    (free-trimmed (walked_node (built_in options) items start).text page.line.1).lines

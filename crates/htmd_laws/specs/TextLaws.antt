@@ -1,13 +1,15 @@
 -- The law of texts in Guarded.
 use Rattle.std.specs.Prelude.{◌≡◌, ℕ, Bool, true, false, not, ◌&&◌, ◌||◌, ◌==◌, List, [], ◌∷◌, ◌++◌, length, codes}
-use Rattle.std.specs.Prelude.{Some}
+use Rattle.std.specs.Prelude.{Some, ◌+◌, drop, slice_index}
+use Rattle.std.specs.List.{list_all, slice_split}
 use Rattle.std.specs.Option.{is_some}
 use Rattle.std.specs.Str.{bytes_eq}
 use Rattle.htmd_text.specs.Blocks.{is_block}
 use Rattle.htmd_text.specs.Characters.{line_feed}
+use Rattle.htmd_text.specs.Trims.{is_line_feed}
 use Rattle.htmd_tree.specs.ValueTrees.{AttributePair, ValueTree, document, doctype, text, comment, element}
 use Rattle.htmd_tree.specs.ValueTrees.{ValueForest, none, more}
-use Rattle.htmd_tree.specs.Items.{Item}
+use Rattle.htmd_tree.specs.Items.{Item, HoldTexts}
 use Rattle.htmd_tree.specs.NumberedTrees.{tree_of, value_tree}
 use Rattle.htmd_markdown.specs.GuardedText as reader
 use Rattle.htmd.specs.declared.options.Options.{Options}
@@ -81,3 +83,23 @@ TextStaysText =
     (options : Options) (items : List Item) (start : ℕ) → is_guarded options ≡ true
     → is_page_of_texts (built_in options) (value_tree (tree_of items start)) ≡ true
     → reader.is_guarded (markdown (built_in options) items start ++ line_feed ∷ []) ≡ true
+
+-- The first character of a line that is no space and no U+FEFF begins a list, a quote, a heading, an underline, a
+-- thematic break or a table, or with ASCII digits before it an ordered list.
+abbrev pub begins_block : List ℕ → Bool
+begins_block line =
+    reader.is_block_sign (slice_index line (reader.first_place line))
+    || (reader.is_delimiter (slice_index line (reader.number_end line))
+    && reader.ends_or_has_space (drop (reader.number_end line + 1) line))
+    || reader.begins_heading line
+
+-- no line of the text, cut at each line feed, begins a block
+abbrev pub begins_no_block : List ℕ → Bool
+begins_no_block s = list_all (λ line. not (begins_block line)) (slice_split is_line_feed s)
+
+-- Where the texts are UTF-8 too, no line of that Markdown begins a block.
+abbrev pub LinesBeginNoBlock : Type 0
+LinesBeginNoBlock =
+    (options : Options) (items : List Item) (start : ℕ) → is_guarded options ≡ true → HoldTexts items
+    → is_page_of_texts (built_in options) (value_tree (tree_of items start)) ≡ true
+    → begins_no_block (markdown (built_in options) items start) ≡ true

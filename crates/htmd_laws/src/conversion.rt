@@ -11,7 +11,7 @@ ghost use Rattle.htmd_laws.specs.Letters.{LettersOfContent, LettersOfMarkdown, L
 ghost use Rattle.htmd_laws.specs.Letters.{LettersOfInput, LettersOfRow};
 ghost use Rattle.htmd_laws.specs.Shown.{ShownInContent, ShownInMarkdown, ShownInConversion, ShownInPage};
 ghost use Rattle.htmd_laws.specs.Shown.{ShownInInput, ShownInRow};
-ghost use Rattle.htmd_laws.specs.TextLaws.{TextStaysText};
+ghost use Rattle.htmd_laws.specs.TextLaws.{TextStaysText, LinesBeginNoBlock};
 ghost use Rattle.htmd.specs.Views.{element_view};
 
 use htmd::Element;
@@ -90,9 +90,11 @@ pub fn paragraphs_read_back()
 
 /// In Guarded, where a node's tree holds texts alone, in elements that hand their content on or put it between blank
 /// lines, and all handlers are built in, nothing of its Markdown is read as markup: each character that could be stands
-/// behind a backslash, whatever elements part the text. So `&lt;<span>b></span>` gives `\<b>`.
+/// behind a backslash, whatever elements part the text. So `&lt;<span>b></span>` gives `\<b>`. And where the texts are
+/// UTF-8 no line of it begins a block: `1<u>. x</u>` gives `1\. x`.
 pub fn text_stays_text()
-    ensures { TextStaysText }
+    ensures marks { TextStaysText }
+    ensures lines { LinesBeginNoBlock }
 {}
 
 /// What a text denotes, or what an input is taken for, is a tree whose texts and values are UTF-8, as the text is. So

@@ -1,6 +1,6 @@
-//! Each function of `htmd_text`, each writer of `htmd_markdown`, and trees, bodies, the reader and the serialiser of
-//! `htmd_tree`, on rows of their rules. Expected values are written by hand from the rules, and never taken from the
-//! code.
+//! Each function of `htmd_text`, each writer of `htmd_markdown`, trees, bodies, the reader and the serialiser of
+//! `htmd_tree`, and the tokens of `htmd_html5_tokens`, on rows of their rules. Expected values are written by hand from
+//! the rules, and never taken from the code.
 #![tactic(auto)]
 
 #[cfg(test)]
@@ -25,5 +25,7 @@ mod reader;
 mod tables;
 #[cfg(test)]
 mod texts;
+#[cfg(test)]
+mod tokens;
 #[cfg(test)]
 mod trees;

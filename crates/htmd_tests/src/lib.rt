@@ -16,6 +16,8 @@ mod closures;
 #[cfg(test)]
 mod custom;
 #[cfg(test)]
+mod decoding;
+#[cfg(test)]
 mod depth;
 #[cfg(test)]
 mod doubles;

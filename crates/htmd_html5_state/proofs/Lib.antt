@@ -1,0 +1,7 @@
+-- Lists that are held in the other order; the stack of open elements, the list of active formatting elements, documents.
+pub mod StackLemmas
+pub mod FormattingLemmas
+pub mod DocumentLemmas
+mod Examples
+pub mod NamesLemmas
+pub mod AdoptionLemmas

@@ -1,0 +1,11 @@
+-- What is left decides.
+use Rattle.std.proofs.Common.{◌≡◌, length}
+use Rattle.htmd_html5_state.specs.OpenElements.{is_node_in_scope}
+use Rattle.htmd_html5_state.specs.OpenViews.{stack_of}
+use Rattle.htmd_html5_state.proofs.open_elements.is_node_in_scope.Given as goal
+
+abbrev pub invariant-loop-outer : goal.invariant-loop-outer
+invariant-loop-outer l = is_node_in_scope l.node (stack_of l.rest) ≡ is_node_in_scope l.node (stack_of l.elements)
+
+abbrev pub decreases-loop-outer : goal.decreases-loop-outer
+decreases-loop-outer l = length l.rest

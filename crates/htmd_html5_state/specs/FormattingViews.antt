@@ -1,0 +1,15 @@
+-- The list of active formatting elements as the program holds it, which is oldest first.
+use Rattle.std.specs.Prelude.{◌≡◌, ℕ, false, List, ◌∷◌, ◌++◌, reverse, length, Option, Some}
+use Rattle.htmd_html5_state.specs.Formatting.{is_listed}
+
+-- newest first
+abbrev pub entries_of : List (Option ℕ) → List (Option ℕ)
+entries_of entries = reverse entries
+
+-- the newest entry of a node stands at this place
+pub record IsNewest (n : ℕ) (entries : List (Option ℕ)) (i : ℕ) : Type 0 where
+  pub older : List (Option ℕ)
+  pub newer : List (Option ℕ)
+  pub whole : entries ≡ older ++ Some n ∷ newer
+  pub place : i ≡ length older
+  pub lacks : is_listed n (entries_of newer) ≡ false

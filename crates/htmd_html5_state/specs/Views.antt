@@ -1,0 +1,27 @@
+-- What the program's nodes, open elements and entries are.
+use Rattle.std.specs.Prelude.{ℕ, List, map, string_bytes, Option, Some, None}
+use Rattle.std.specs.Borrow.{Bor}
+use Rattle.htmd_tree.specs.Views.{pairs_of}
+use Rattle.htmd_html5_state.specs.Names.{element_name_of}
+use Rattle.htmd_html5_state.specs.Documents.{KindValue, NodeValue, document, doctype, text, comment, element}
+use Rattle.htmd_html5_state.specs.declared.document.Node.{Node}
+use Rattle.htmd_html5_state.specs.declared.document.NodeKind.{NodeKind}
+use Rattle.htmd_html5_state.specs.declared.document.NodeKind.TheVariants.{Document, Doctype, Text, Comment, Element}
+
+abbrev pub kind_of : NodeKind → KindValue
+kind_of Document = document
+kind_of Doctype = doctype
+kind_of (Text s) = text (string_bytes s)
+kind_of (Comment s) = comment (string_bytes s)
+kind_of (Element name attributes) = element (element_name_of name) (pairs_of attributes.items)
+
+-- where no node stands it is that of the Document
+abbrev pub kind_seen : Option (Bor NodeKind) → KindValue
+kind_seen None = document
+kind_seen (Some kind) = kind_of kind.now
+
+abbrev pub node_of : Node → NodeValue
+node_of node = record { kind = kind_of node.kind; parent = node.parent; children = node.children.items }
+
+abbrev pub nodes_of : List Node → List NodeValue
+nodes_of nodes = map node_of nodes

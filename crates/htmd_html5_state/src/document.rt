@@ -1,0 +1,373 @@
+//! Documents while they are made: nodes by number, each with its parent and its children.
+ghost use Rattle.std.specs.Prelude.{◌≡◌, ◌∷◌, ◌++◌, ◌≤◌, [], length, IfOk, OnOk, MatchBool, Some, None};
+ghost use Rattle.htmd_html5_state.specs.Documents as spec;
+ghost use Rattle.htmd_html5_state.specs.Views.{kind_of, kind_seen, nodes_of};
+ghost use Rattle.htmd_tree.specs.Views.{pairs_of};
+
+use crate::attributes::{add_missing, copy_all};
+use crate::names::ElementName;
+use htmd_tree::Attribute;
+use std::alloc::{AllocError, Global};
+use std::marker::Model;
+use std::mem;
+
+/// What a node is.
+#[derive(Debug, Drop)]
+pub enum NodeKind {
+    Document,
+    Doctype,
+    Text(String),
+    Comment(String),
+    Element {
+        name: ElementName,
+        attributes: Vec<Attribute>,
+    },
+}
+
+/// A node, with the numbers of its parent and its children.
+#[derive(Debug, Drop)]
+pub struct Node {
+    pub kind: NodeKind,
+    pub parent: Option<usize>,
+    pub children: Vec<usize>,
+}
+
+/// A place for a node: in its parent before a child, or as the last.
+#[derive(Debug, Clone, Copy)]
+pub(crate) struct Place {
+    pub(crate) parent: usize,
+    pub(crate) next: Option<usize>,
+}
+
+/// Nodes by number, of which 0 is the Document.
+#[derive(Drop)]
+pub(crate) struct Document {
+    alloc: Global,
+    nodes: Vec<Node>,
+}
+
+impl Model for Document {
+    ghost use Rattle.std.specs.Prelude.{List};
+    ghost use Rattle.htmd_html5_state.specs.Documents.{NodeValue};
+
+    ghost Value = { List NodeValue };
+
+    ghost use Rattle.htmd_html5_state.specs.Views.{nodes_of};
+
+    ghost view = { λ d. nodes_of d.nodes.items };
+}
+
+/// As the last child of a node.
+pub(crate) fn last_in(parent: usize) -> Place
+    ensures { result ≡ spec.last_in parent }
+{
+    Place { parent, next: None }
+}
+
+/// How many children stand before this one; all of them, where it is none.
+fn index_of(children: &[usize], child: usize) -> usize
+    ensures place { result ≡ spec.index_of child children.now }
+    ensures within { result ≤ length children.now }
+{
+    let mut rest = children;
+    while let [before @ .., last] = rest {
+        if *last == child {
+            return before.len();
+        }
+        rest = before;
+    }
+    children.len()
+}
+
+fn place_index(children: &[usize], next: Option<usize>) -> usize
+    ensures place { result ≡ spec.place_index next children.now }
+    ensures within { result ≤ length children.now }
+{
+    match next {
+        Some(next) => index_of(children, next),
+        None => children.len(),
+    }
+}
+
+impl NodeKind {
+    fn copy(&self, alloc: Global) -> Result<NodeKind, AllocError>
+        ensures { IfOk result (λ copy. kind_of copy ≡ kind_of self.now) }
+    {
+        match self {
+            NodeKind::Document => Ok(NodeKind::Document),
+            NodeKind::Doctype => Ok(NodeKind::Doctype),
+            NodeKind::Text(text) => Ok(NodeKind::Text(text.clone()?)),
+            NodeKind::Comment(text) => Ok(NodeKind::Comment(text.clone()?)),
+            NodeKind::Element { name, attributes } => Ok(NodeKind::Element {
+                name: name.copy()?,
+                attributes: copy_all(alloc, attributes)?,
+            }),
+        }
+    }
+}
+
+impl Document {
+    /// The Document alone.
+    pub(crate) fn new(alloc: Global) -> Result<Document, AllocError>
+        ensures { IfOk result (λ d. d ≡ spec.new_node spec.document ∷ []) }
+    {
+        let mut nodes = Vec::new(alloc);
+        nodes.push(Node {
+            kind: NodeKind::Document,
+            parent: None,
+            children: Vec::new(alloc),
+        })?;
+        Ok(Document { alloc, nodes })
+    }
+
+    pub(crate) fn into_nodes(self) -> Vec<Node>
+        ensures { nodes_of result.items ≡ self }
+    {
+        self.nodes
+    }
+
+    /// How many nodes there are: the number of the next.
+    pub(crate) fn len(&self) -> usize
+        ensures { result ≡ length self.now }
+    {
+        self.nodes.len()
+    }
+
+    /// What a node is; None where it isn't there.
+    pub(crate) fn kind(&self, node: usize) -> Option<&NodeKind>
+        ensures { kind_seen result ≡ spec.kind_at self.now node }
+    {
+        match self.nodes.get(node) {
+            Some(node) => Some(&node.kind),
+            None => None,
+        }
+    }
+
+    pub(crate) fn parent(&self, node: usize) -> Option<usize>
+        ensures { result ≡ spec.parent_at self.now node }
+    {
+        match self.nodes.get(node) {
+            Some(node) => node.parent,
+            None => None,
+        }
+    }
+
+    fn children(&self, node: usize) -> &[usize]
+        ensures { result.now ≡ spec.children_at self.now node }
+    {
+        match self.nodes.get(node) {
+            Some(node) => node.children.as_slice(),
+            None => &[],
+        }
+    }
+
+    fn set_parent(&mut self, node: usize, parent: Option<usize>)
+        ensures { self.new ≡ spec.with_parent node parent self.old }
+    {
+        if node < self.nodes.len() {
+            let node = &mut self.nodes[node];
+            node.parent = parent;
+        }
+    }
+
+    fn remove_child(&mut self, parent: usize, child: usize)
+        ensures { self.new ≡ spec.remove_child parent child self.old }
+    {
+        if parent < self.nodes.len() {
+            let node = &mut self.nodes[parent];
+            let index = index_of(node.children.as_slice(), child);
+            if index < node.children.len() {
+                node.children.remove(index);
+            }
+        }
+    }
+
+    fn put_child(&mut self, child: usize, place: Place) -> Result<(), AllocError>
+        ensures { OnOk result (self.new ≡ spec.put_child child place self.old) }
+    {
+        if place.parent < self.nodes.len() {
+            let node = &mut self.nodes[place.parent];
+            let index = place_index(node.children.as_slice(), place.next);
+            node.children.insert(index, child)?;
+        }
+        Ok(())
+    }
+
+    /// Takes a node out of its parent.
+    pub(crate) fn detach(&mut self, node: usize)
+        ensures { self.new ≡ spec.detach node self.old }
+    {
+        if let Some(parent) = self.parent(node) {
+            self.remove_child(parent, node);
+            self.set_parent(node, None);
+        }
+    }
+
+    /// Puts a node without a parent to a place. An `Err` leaves it open what is where, here and below.
+    pub(crate) fn put(&mut self, node: usize, place: Place) -> Result<(), AllocError>
+        ensures { OnOk result (self.new ≡ spec.put node place self.old) }
+    {
+        self.put_child(node, place)?;
+        self.set_parent(node, Some(place.parent));
+        Ok(())
+    }
+
+    /// Moves a node to a place.
+    pub(crate) fn attach(&mut self, node: usize, place: Place) -> Result<(), AllocError>
+        ensures { OnOk result (self.new ≡ spec.attach node place self.old) }
+    {
+        self.detach(node);
+        self.put(node, place)
+    }
+
+    /// A new node that stands nowhere: its number.
+    pub(crate) fn push(&mut self, kind: NodeKind) -> Result<usize, AllocError>
+        ensures number { IfOk result (λ n. n ≡ length self.old) }
+        ensures ok { OnOk result (self.new ≡ self.old ++ spec.new_node (kind_of kind) ∷ []) }
+    {
+        let number = self.nodes.len();
+        self.nodes.push(Node {
+            kind,
+            parent: None,
+            children: Vec::new(self.alloc),
+        })?;
+        Ok(number)
+    }
+
+    /// A new node that is like another one and stands nowhere: its number.
+    pub(crate) fn push_copy(&mut self, node: usize) -> Result<usize, AllocError>
+        ensures number { IfOk result (λ n. n ≡ length self.old) }
+        ensures ok { OnOk result (self.new
+            ≡ self.old ++ spec.new_node (spec.kind_at self.old node) ∷ []) }
+    {
+        let kind = match self.kind(node) {
+            Some(kind) => kind.copy(self.alloc)?,
+            None => NodeKind::Document,
+        };
+        self.push(kind)
+    }
+
+    /// A new node at a place: its number.
+    pub(crate) fn add(&mut self, kind: NodeKind, place: Place) -> Result<usize, AllocError>
+        ensures number { IfOk result (λ n. n ≡ length self.old) }
+        ensures ok { OnOk result (self.new ≡ spec.add (kind_of kind) place self.old) }
+    {
+        let number = self.push(kind)?;
+        self.put(number, place)?;
+        Ok(number)
+    }
+
+    /// Makes a node the parent of all children of another one.
+    fn set_parents(&mut self, children: &[usize], parent: usize)
+        ensures { self.new ≡ spec.with_parents parent children.now self.old }
+    {
+        for child in children {
+            self.set_parent(*child, Some(parent));
+        }
+    }
+
+    fn take_children(&mut self, node: usize) -> Vec<usize>
+        ensures taken { result.items ≡ spec.children_at self.old node }
+        ensures rest { self.new ≡ spec.with_children node [] self.old }
+    {
+        if node >= self.nodes.len() {
+            return Vec::new(self.alloc);
+        }
+        let node = &mut self.nodes[node];
+        mem::replace(&mut node.children, Vec::new(self.alloc))
+    }
+
+    fn append_children(&mut self, node: usize, children: &[usize]) -> Result<(), AllocError>
+        ensures { OnOk result (self.new ≡ spec.append_children node children.now self.old) }
+    {
+        if node < self.nodes.len() {
+            let node = &mut self.nodes[node];
+            node.children.extend_from_slice(children)?;
+        }
+        Ok(())
+    }
+
+    /// Moves all children of a node to the end of another one.
+    pub(crate) fn move_children(&mut self, from: usize, to: usize) -> Result<(), AllocError>
+        ensures { OnOk result (self.new ≡ spec.move_children from to self.old) }
+    {
+        let children = self.take_children(from);
+        self.set_parents(children.as_slice(), to);
+        self.append_children(to, children.as_slice())
+    }
+
+    /// The child right before a place.
+    fn preceding(&self, place: Place) -> Option<usize>
+        ensures { result ≡ spec.preceding place self.now }
+    {
+        let children = self.children(place.parent);
+        let index = place_index(children, place.next);
+        if index == 0 {
+            return None;
+        }
+        children.get(index - 1).copied()
+    }
+
+    /// Puts text at the end of a text. Gives false where the node is none.
+    fn push_text(&mut self, node: usize, text: &str) -> Result<bool, AllocError>
+        ensures { IfOk result (λ joins. MatchBool joins (spec.joined text.now node self.old ≡ Some self.new)
+            ((spec.joined text.now node self.old ≡ None) × (self.new ≡ self.old))) }
+    {
+        if node >= self.nodes.len() {
+            return Ok(false);
+        }
+        let node = &mut self.nodes[node];
+        if let NodeKind::Text(before) = &mut node.kind {
+            before.push_str(text)?;
+            return Ok(true);
+        }
+        Ok(false)
+    }
+
+    /// Puts text at the end of the text right before a place. Gives false where none stands there.
+    fn join_text(&mut self, text: &str, place: Place) -> Result<bool, AllocError>
+        ensures { IfOk result (λ joins. MatchBool joins
+            (spec.joined_to text.now (spec.preceding place self.old) self.old ≡ Some self.new)
+            ((spec.joined_to text.now (spec.preceding place self.old) self.old ≡ None)
+            × (self.new ≡ self.old))) }
+    {
+        match self.preceding(place) {
+            Some(node) => self.push_text(node, text),
+            None => Ok(false),
+        }
+    }
+
+    /// Puts text at the end of the text right before a place, where one stands there, else as a new text.
+    pub(crate) fn add_text(&mut self, text: &str, place: Place) -> Result<(), AllocError>
+        ensures { OnOk result (self.new ≡ spec.add_text text.now place self.old) }
+    {
+        if self.join_text(text, place)? {
+            return Ok(());
+        }
+        let kind = NodeKind::Text(String::from_str(self.alloc, text)?);
+        self.add(kind, place)?;
+        Ok(())
+    }
+
+    /// Gives an element the attributes that it doesn't have yet.
+    pub(crate) fn add_missing(
+        &mut self,
+        node: usize,
+        attributes: Vec<Attribute>,
+    ) -> Result<(), AllocError>
+        ensures { OnOk result (self.new
+            ≡ spec.add_missing node (pairs_of attributes.items) self.old) }
+    {
+        if node < self.nodes.len() {
+            let node = &mut self.nodes[node];
+            if let NodeKind::Element {
+                attributes: had,
+                ..
+            } = &mut node.kind
+            {
+                add_missing(had, attributes)?;
+            }
+        }
+        Ok(())
+    }
+}

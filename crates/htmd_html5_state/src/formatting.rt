@@ -1,0 +1,59 @@
+//! Formatting elements are inserted, and reconstructed.
+ghost use Rattle.std.specs.Prelude.{◌≡◌, OnOk};
+ghost use Rattle.htmd_html5_state.specs.Formatting as spec;
+ghost use Rattle.htmd_html5_state.specs.Names.{name_of};
+ghost use Rattle.htmd_tree.specs.Views.{pairs_of};
+
+use crate::attributes::copy_all;
+use crate::document::NodeKind;
+use crate::names::HtmlName;
+use crate::state::HtmlState;
+use htmd_tree::Attribute;
+use std::alloc::AllocError;
+
+impl HtmlState {
+    /// A formatting element, which is open and on the list then.
+    pub fn insert_formatting(
+        &mut self,
+        name: HtmlName,
+        attributes: Vec<Attribute>,
+    ) -> Result<(), AllocError>
+        ensures { OnOk result (self.new
+            ≡ spec.insert_formatting (name_of name) (pairs_of attributes.items) self.old) }
+    {
+        let node = self.insert_element(name, attributes)?;
+        self.formatting.add(&self.document, node)
+    }
+
+    /// An element like this one, which is open then.
+    fn insert_like(&mut self, node: usize) -> Result<(), AllocError>
+        ensures { OnOk result (self.new ≡ spec.insert_copy node self.old) }
+    {
+        if let Some(NodeKind::Element { name, attributes }) = self.document.kind(node) {
+            let name = name.copy()?;
+            let attributes = copy_all(self.alloc, attributes)?;
+            self.insert_named(name, attributes)?;
+        }
+        Ok(())
+    }
+
+    /// An element like this one, which is open and on the list then.
+    fn reopen(&mut self, node: usize) -> Result<(), AllocError>
+        ensures { OnOk result (self.new ≡ spec.reopen node self.old) }
+    {
+        let new = self.document.len();
+        self.insert_like(node)?;
+        self.formatting.push(new)
+    }
+
+    /// Reconstructs the active formatting elements: those that were closed open again.
+    pub fn reconstruct(&mut self) -> Result<(), AllocError>
+        ensures { OnOk result (self.new ≡ spec.reconstruct self.old) }
+    {
+        let mut closed = self.formatting.take_closed(self.alloc, &self.stack)?;
+        while let Some(node) = closed.pop() {
+            self.reopen(node)?;
+        }
+        Ok(())
+    }
+}

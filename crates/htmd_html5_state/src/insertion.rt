@@ -1,0 +1,203 @@
+//! Nodes are inserted.
+ghost use Rattle.std.specs.Prelude.{◌≡◌, IfOk, OnOk, length, string_bytes};
+ghost use Rattle.htmd_html5_state.specs.Documents.{parent_at};
+ghost use Rattle.htmd_html5_state.specs.Foreign as foreign;
+ghost use Rattle.htmd_html5_state.specs.Insertion as spec;
+ghost use Rattle.htmd_html5_state.specs.Names.{name_of, element_name_of};
+ghost use Rattle.htmd_html5_state.specs.OpenViews.{stack_of};
+ghost use Rattle.htmd_tree.specs.Views.{pairs_of};
+
+use crate::document::{Document, NodeKind, Place, last_in};
+use crate::foreign::{foreign_attributes, foreign_name};
+use crate::names::{ElementName, HtmlName, Namespace, TagName};
+use crate::open_elements::{OpenElement, split_innermost};
+use crate::sets::NameSet;
+use crate::state::HtmlState;
+use htmd_html5_tokens::{Content, RawElement};
+use htmd_tree::Attribute;
+use std::alloc::AllocError;
+
+/// The place by a table: before it in its parent, or else in the element that is open around it.
+fn place_by_table(document: &Document, table: usize, around: usize) -> Place
+    ensures { result ≡ spec.place_by_table table around (parent_at document.now table) }
+{
+    match document.parent(table) {
+        Some(parent) => Place {
+            parent,
+            next: Some(table),
+        },
+        None => last_in(around),
+    }
+}
+
+/// The place for a node that a table doesn't hold: by the innermost `template` or table.
+fn foster_place(document: &Document, elements: &[OpenElement]) -> Place
+    ensures { result ≡ spec.foster_place document.now (stack_of elements.now) }
+{
+    let mut rest = elements;
+    while let Some((outer, element)) = split_innermost(rest) {
+        let Some((_, around)) = split_innermost(outer) else {
+            return last_in(element.node);
+        };
+        if element.name.is_tag(TagName::Template) {
+            return last_in(element.node);
+        }
+        if element.name.is_tag(TagName::Table) {
+            return place_by_table(document, element.node, around.node);
+        }
+        rest = outer;
+    }
+    last_in(0)
+}
+
+impl HtmlState {
+    /// The appropriate place for a node.
+    pub(crate) fn place(&self) -> Place
+        ensures { result ≡ spec.place self.now }
+    {
+        if self.foster_parenting && self.stack.current_is(NameSet::Fostering) {
+            return foster_place(&self.document, self.stack.as_slice());
+        }
+        last_in(self.stack.current_node())
+    }
+
+    /// Text, at the end of the text before it where one stands there.
+    pub fn insert_text(&mut self, text: &str) -> Result<(), AllocError>
+        ensures { OnOk result (self.new ≡ spec.insert_text text.now self.old) }
+    {
+        let place = self.place();
+        self.document.add_text(text, place)
+    }
+
+    /// A comment, as the last child of a node.
+    pub fn insert_comment_in(&mut self, parent: usize, text: String) -> Result<(), AllocError>
+        ensures { OnOk result (self.new
+            ≡ spec.insert_comment_in parent (string_bytes text) self.old) }
+    {
+        self.document.add(NodeKind::Comment(text), last_in(parent))?;
+        Ok(())
+    }
+
+    /// A comment in the current node.
+    pub fn insert_comment(&mut self, text: String) -> Result<(), AllocError>
+        ensures { OnOk result (self.new ≡ spec.insert_comment (string_bytes text) self.old) }
+    {
+        let parent = self.stack.current_node();
+        self.insert_comment_in(parent, text)
+    }
+
+    /// A doctype in the Document.
+    pub fn insert_doctype(&mut self) -> Result<(), AllocError>
+        ensures { OnOk result (self.new ≡ spec.insert_doctype self.old) }
+    {
+        self.document.add(NodeKind::Doctype, last_in(0))?;
+        Ok(())
+    }
+
+    /// An element at a place, which is open then: its node.
+    fn insert_at(
+        &mut self,
+        place: Place,
+        name: ElementName,
+        attributes: Vec<Attribute>,
+    ) -> Result<usize, AllocError>
+        ensures number { IfOk result (λ n. n ≡ length self.old.nodes) }
+        ensures ok { OnOk result (self.new
+            ≡ spec.insert_at place (element_name_of name) (pairs_of attributes.items) self.old) }
+    {
+        let open_name = name.copy()?;
+        let kind = NodeKind::Element { name, attributes };
+        let node = self.document.add(kind, place)?;
+        self.stack.push(node, open_name)?;
+        Ok(node)
+    }
+
+    /// An element of any namespace, which is open then: its node.
+    pub(crate) fn insert_named(
+        &mut self,
+        name: ElementName,
+        attributes: Vec<Attribute>,
+    ) -> Result<usize, AllocError>
+        ensures number { IfOk result (λ n. n ≡ length self.old.nodes) }
+        ensures ok { OnOk result (self.new
+            ≡ spec.insert_named (element_name_of name) (pairs_of attributes.items) self.old) }
+    {
+        let place = self.place();
+        self.insert_at(place, name, attributes)
+    }
+
+    /// An element of HTML, which is open then: its node.
+    pub fn insert_element(
+        &mut self,
+        name: HtmlName,
+        attributes: Vec<Attribute>,
+    ) -> Result<usize, AllocError>
+        ensures number { IfOk result (λ n. n ≡ length self.old.nodes) }
+        ensures ok { OnOk result (self.new
+            ≡ spec.insert_element (name_of name) (pairs_of attributes.items) self.old) }
+    {
+        self.insert_named(ElementName::Html(name), attributes)
+    }
+
+    /// The element `html`, in the Document, which is open then.
+    pub fn insert_root(
+        &mut self,
+        name: HtmlName,
+        attributes: Vec<Attribute>,
+    ) -> Result<(), AllocError>
+        ensures { OnOk result (self.new
+            ≡ spec.insert_root (name_of name) (pairs_of attributes.items) self.old) }
+    {
+        self.insert_at(last_in(0), ElementName::Html(name), attributes)?;
+        Ok(())
+    }
+
+    /// An element of HTML that is closed at once.
+    pub fn insert_void(
+        &mut self,
+        name: HtmlName,
+        attributes: Vec<Attribute>,
+    ) -> Result<(), AllocError>
+        ensures { OnOk result (self.new
+            ≡ spec.insert_void (name_of name) (pairs_of attributes.items) self.old) }
+    {
+        self.insert_element(name, attributes)?;
+        self.stack.pop();
+        Ok(())
+    }
+
+    /// An element of text alone.
+    pub fn insert_raw(
+        &mut self,
+        name: HtmlName,
+        element: RawElement,
+        attributes: Vec<Attribute>,
+    ) -> Result<(), AllocError>
+        ensures { OnOk result (self.new
+            ≡ spec.insert_raw (name_of name) element (pairs_of attributes.items) self.old) }
+    {
+        self.insert_element(name, attributes)?;
+        self.set_content(Content::Raw(element));
+        Ok(())
+    }
+
+    /// An element of foreign content, whose tag has this name; it is closed at once where the tag ends in `/>`.
+    pub fn insert_foreign(
+        &mut self,
+        namespace: Namespace,
+        name: &str,
+        attributes: Vec<Attribute>,
+        self_closing: bool,
+    ) -> Result<(), AllocError>
+        ensures { OnOk result (self.new
+            ≡ foreign.insert_foreign namespace name.now (pairs_of attributes.items) self_closing self.old) }
+    {
+        let name = foreign_name(self.alloc, namespace, name)?;
+        let attributes = foreign_attributes(self.alloc, namespace, attributes)?;
+        self.insert_named(name, attributes)?;
+        if self_closing {
+            self.stack.pop();
+        }
+        Ok(())
+    }
+}

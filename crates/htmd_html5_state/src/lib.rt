@@ -1,0 +1,23 @@
+//! The state of tree construction and the steps on it (HTML Standard, 13.2.4 and 13.2.6): documents while they are
+//! made, the stack of open elements, the list of active formatting elements, and what the insertion modes do with them.
+#![tactic(auto)]
+
+mod adoption;
+mod attributes;
+mod document;
+mod foreign;
+mod formatting;
+mod formatting_list;
+mod insertion;
+mod modes;
+mod names;
+mod open_elements;
+mod resetting;
+mod sets;
+mod state;
+
+pub use document::{Node, NodeKind};
+pub use modes::InsertionMode;
+pub use names::{ElementName, HtmlName, Namespace, TagName};
+pub use sets::{NameSet, Scope};
+pub use state::HtmlState;

@@ -1,0 +1,580 @@
+//! The names of elements.
+ghost use Rattle.std.specs.Prelude.{◌≡◌, IfOk, find, string_bytes};
+ghost use Rattle.htmd_html5_state.specs.Names as spec;
+ghost use Rattle.htmd_html5_state.specs.Names.{name_of, element_name_of};
+
+use std::alloc::AllocError;
+
+/// A name of HTML of which a rule of parsing speaks.
+#[derive(Debug, Clone, Copy, PartialEq, Eq)]
+pub enum TagName {
+    A,
+    Address,
+    Applet,
+    Area,
+    Article,
+    Aside,
+    B,
+    Base,
+    BaseFont,
+    BgSound,
+    Big,
+    BlockQuote,
+    Body,
+    Br,
+    Button,
+    Caption,
+    Center,
+    Code,
+    Col,
+    ColGroup,
+    Dd,
+    Details,
+    Dialog,
+    Dir,
+    Div,
+    Dl,
+    Dt,
+    Em,
+    Embed,
+    FieldSet,
+    FigCaption,
+    Figure,
+    Font,
+    Footer,
+    Form,
+    Frame,
+    FrameSet,
+    H1,
+    H2,
+    H3,
+    H4,
+    H5,
+    H6,
+    Head,
+    Header,
+    HGroup,
+    Hr,
+    Html,
+    I,
+    Iframe,
+    Image,
+    Img,
+    Input,
+    KeyGen,
+    Li,
+    Link,
+    Listing,
+    Main,
+    MalignMark,
+    Marquee,
+    Math,
+    Menu,
+    Meta,
+    MGlyph,
+    Nav,
+    NoBr,
+    NoEmbed,
+    NoFrames,
+    NoScript,
+    Object,
+    Ol,
+    OptGroup,
+    OptionTag,
+    P,
+    Param,
+    PlainText,
+    Pre,
+    Rb,
+    Rp,
+    Rt,
+    Rtc,
+    Ruby,
+    S,
+    Script,
+    Search,
+    Section,
+    Select,
+    Small,
+    Source,
+    Span,
+    Strike,
+    Strong,
+    Style,
+    Sub,
+    Summary,
+    Sup,
+    Svg,
+    Table,
+    TBody,
+    Td,
+    Template,
+    TextArea,
+    TFoot,
+    Th,
+    THead,
+    Title,
+    Tr,
+    Track,
+    Tt,
+    U,
+    Ul,
+    Var,
+    Wbr,
+    Xmp,
+}
+
+/// A name of HTML.
+#[derive(Debug, PartialEq, Eq, Drop)]
+pub enum HtmlName {
+    Known(TagName),
+    Other(String),
+}
+
+/// The name of an element, with its namespace.
+#[derive(Debug, PartialEq, Eq, Drop)]
+pub enum ElementName {
+    Html(HtmlName),
+    Svg(String),
+    Math(String),
+}
+
+/// A namespace of foreign content.
+#[derive(Debug, Clone, Copy, PartialEq, Eq)]
+pub enum Namespace {
+    Svg,
+    MathMl,
+}
+
+impl TagName {
+    /// How it is spelled.
+    pub fn text(self) -> &'static str
+        ensures { result.now ≡ spec.spelling self }
+    {
+        match self {
+            TagName::A => "a",
+            TagName::Address => "address",
+            TagName::Applet => "applet",
+            TagName::Area => "area",
+            TagName::Article => "article",
+            TagName::Aside => "aside",
+            TagName::B => "b",
+            TagName::Base => "base",
+            TagName::BaseFont => "basefont",
+            TagName::BgSound => "bgsound",
+            TagName::Big => "big",
+            TagName::BlockQuote => "blockquote",
+            TagName::Body => "body",
+            TagName::Br => "br",
+            TagName::Button => "button",
+            TagName::Caption => "caption",
+            TagName::Center => "center",
+            TagName::Code => "code",
+            TagName::Col => "col",
+            TagName::ColGroup => "colgroup",
+            TagName::Dd => "dd",
+            TagName::Details => "details",
+            TagName::Dialog => "dialog",
+            TagName::Dir => "dir",
+            TagName::Div => "div",
+            TagName::Dl => "dl",
+            TagName::Dt => "dt",
+            TagName::Em => "em",
+            TagName::Embed => "embed",
+            TagName::FieldSet => "fieldset",
+            TagName::FigCaption => "figcaption",
+            TagName::Figure => "figure",
+            TagName::Font => "font",
+            TagName::Footer => "footer",
+            TagName::Form => "form",
+            TagName::Frame => "frame",
+            TagName::FrameSet => "frameset",
+            TagName::H1 => "h1",
+            TagName::H2 => "h2",
+            TagName::H3 => "h3",
+            TagName::H4 => "h4",
+            TagName::H5 => "h5",
+            TagName::H6 => "h6",
+            TagName::Head => "head",
+            TagName::Header => "header",
+            TagName::HGroup => "hgroup",
+            TagName::Hr => "hr",
+            TagName::Html => "html",
+            TagName::I => "i",
+            TagName::Iframe => "iframe",
+            TagName::Image => "image",
+            TagName::Img => "img",
+            TagName::Input => "input",
+            TagName::KeyGen => "keygen",
+            TagName::Li => "li",
+            TagName::Link => "link",
+            TagName::Listing => "listing",
+            TagName::Main => "main",
+            TagName::MalignMark => "malignmark",
+            TagName::Marquee => "marquee",
+            TagName::Math => "math",
+            TagName::Menu => "menu",
+            TagName::Meta => "meta",
+            TagName::MGlyph => "mglyph",
+            TagName::Nav => "nav",
+            TagName::NoBr => "nobr",
+            TagName::NoEmbed => "noembed",
+            TagName::NoFrames => "noframes",
+            TagName::NoScript => "noscript",
+            TagName::Object => "object",
+            TagName::Ol => "ol",
+            TagName::OptGroup => "optgroup",
+            TagName::OptionTag => "option",
+            TagName::P => "p",
+            TagName::Param => "param",
+            TagName::PlainText => "plaintext",
+            TagName::Pre => "pre",
+            TagName::Rb => "rb",
+            TagName::Rp => "rp",
+            TagName::Rt => "rt",
+            TagName::Rtc => "rtc",
+            TagName::Ruby => "ruby",
+            TagName::S => "s",
+            TagName::Script => "script",
+            TagName::Search => "search",
+            TagName::Section => "section",
+            TagName::Select => "select",
+            TagName::Small => "small",
+            TagName::Source => "source",
+            TagName::Span => "span",
+            TagName::Strike => "strike",
+            TagName::Strong => "strong",
+            TagName::Style => "style",
+            TagName::Sub => "sub",
+            TagName::Summary => "summary",
+            TagName::Sup => "sup",
+            TagName::Svg => "svg",
+            TagName::Table => "table",
+            TagName::TBody => "tbody",
+            TagName::Td => "td",
+            TagName::Template => "template",
+            TagName::TextArea => "textarea",
+            TagName::TFoot => "tfoot",
+            TagName::Th => "th",
+            TagName::THead => "thead",
+            TagName::Title => "title",
+            TagName::Tr => "tr",
+            TagName::Track => "track",
+            TagName::Tt => "tt",
+            TagName::U => "u",
+            TagName::Ul => "ul",
+            TagName::Var => "var",
+            TagName::Wbr => "wbr",
+            TagName::Xmp => "xmp",
+        }
+    }
+}
+
+static A_NAMES: [TagName; 6] = [
+    TagName::A,
+    TagName::Address,
+    TagName::Applet,
+    TagName::Area,
+    TagName::Article,
+    TagName::Aside,
+];
+
+static B_NAMES: [TagName; 9] = [
+    TagName::B,
+    TagName::Base,
+    TagName::BaseFont,
+    TagName::BgSound,
+    TagName::Big,
+    TagName::BlockQuote,
+    TagName::Body,
+    TagName::Br,
+    TagName::Button,
+];
+
+static C_NAMES: [TagName; 5] = [
+    TagName::Caption,
+    TagName::Center,
+    TagName::Code,
+    TagName::Col,
+    TagName::ColGroup,
+];
+
+static D_NAMES: [TagName; 7] = [
+    TagName::Dd,
+    TagName::Details,
+    TagName::Dialog,
+    TagName::Dir,
+    TagName::Div,
+    TagName::Dl,
+    TagName::Dt,
+];
+
+static E_NAMES: [TagName; 2] = [TagName::Em, TagName::Embed];
+
+static F_NAMES: [TagName; 8] = [
+    TagName::FieldSet,
+    TagName::FigCaption,
+    TagName::Figure,
+    TagName::Font,
+    TagName::Footer,
+    TagName::Form,
+    TagName::Frame,
+    TagName::FrameSet,
+];
+
+static H_NAMES: [TagName; 11] = [
+    TagName::H1,
+    TagName::H2,
+    TagName::H3,
+    TagName::H4,
+    TagName::H5,
+    TagName::H6,
+    TagName::Head,
+    TagName::Header,
+    TagName::HGroup,
+    TagName::Hr,
+    TagName::Html,
+];
+
+static I_NAMES: [TagName; 5] = [
+    TagName::I,
+    TagName::Iframe,
+    TagName::Image,
+    TagName::Img,
+    TagName::Input,
+];
+
+static K_NAMES: [TagName; 1] = [TagName::KeyGen];
+
+static L_NAMES: [TagName; 3] = [TagName::Li, TagName::Link, TagName::Listing];
+
+static M_NAMES: [TagName; 7] = [
+    TagName::Main,
+    TagName::MalignMark,
+    TagName::Marquee,
+    TagName::Math,
+    TagName::Menu,
+    TagName::Meta,
+    TagName::MGlyph,
+];
+
+static N_NAMES: [TagName; 5] = [
+    TagName::Nav,
+    TagName::NoBr,
+    TagName::NoEmbed,
+    TagName::NoFrames,
+    TagName::NoScript,
+];
+
+static O_NAMES: [TagName; 4] = [
+    TagName::Object,
+    TagName::Ol,
+    TagName::OptGroup,
+    TagName::OptionTag,
+];
+
+static P_NAMES: [TagName; 4] = [TagName::P, TagName::Param, TagName::PlainText, TagName::Pre];
+
+static R_NAMES: [TagName; 5] = [
+    TagName::Rb,
+    TagName::Rp,
+    TagName::Rt,
+    TagName::Rtc,
+    TagName::Ruby,
+];
+
+static S_NAMES: [TagName; 15] = [
+    TagName::S,
+    TagName::Script,
+    TagName::Search,
+    TagName::Section,
+    TagName::Select,
+    TagName::Small,
+    TagName::Source,
+    TagName::Span,
+    TagName::Strike,
+    TagName::Strong,
+    TagName::Style,
+    TagName::Sub,
+    TagName::Summary,
+    TagName::Sup,
+    TagName::Svg,
+];
+
+static T_NAMES: [TagName; 12] = [
+    TagName::Table,
+    TagName::TBody,
+    TagName::Td,
+    TagName::Template,
+    TagName::TextArea,
+    TagName::TFoot,
+    TagName::Th,
+    TagName::THead,
+    TagName::Title,
+    TagName::Tr,
+    TagName::Track,
+    TagName::Tt,
+];
+
+static U_NAMES: [TagName; 2] = [TagName::U, TagName::Ul];
+
+static V_NAMES: [TagName; 1] = [TagName::Var];
+
+static W_NAMES: [TagName; 1] = [TagName::Wbr];
+
+static X_NAMES: [TagName; 1] = [TagName::Xmp];
+
+/// The known names that begin with this letter.
+fn names_with(first: u8) -> &'static [TagName]
+    ensures { result.now ≡ spec.names_with first }
+{
+    match first {
+        b'a' => &A_NAMES,
+        b'b' => &B_NAMES,
+        b'c' => &C_NAMES,
+        b'd' => &D_NAMES,
+        b'e' => &E_NAMES,
+        b'f' => &F_NAMES,
+        b'h' => &H_NAMES,
+        b'i' => &I_NAMES,
+        b'k' => &K_NAMES,
+        b'l' => &L_NAMES,
+        b'm' => &M_NAMES,
+        b'n' => &N_NAMES,
+        b'o' => &O_NAMES,
+        b'p' => &P_NAMES,
+        b'r' => &R_NAMES,
+        b's' => &S_NAMES,
+        b't' => &T_NAMES,
+        b'u' => &U_NAMES,
+        b'v' => &V_NAMES,
+        b'w' => &W_NAMES,
+        b'x' => &X_NAMES,
+        _ => &[],
+    }
+}
+
+fn known_in(names: &[TagName], text: &str) -> Option<TagName>
+    ensures { result ≡ find (spec.is_spelled text.now) names.now }
+{
+    for name in names {
+        if text == name.text() {
+            return Some(*name);
+        }
+    }
+    None
+}
+
+/// The name of a rule that is spelled so.
+fn known(text: &str) -> Option<TagName>
+    ensures { result ≡ spec.known_name text.now }
+{
+    match text.as_bytes() {
+        [first, ..] => known_in(names_with(*first), text),
+        [] => None,
+    }
+}
+
+impl HtmlName {
+    /// The name that is spelled so, in lower case.
+    pub fn from_text(text: String) -> HtmlName
+        ensures { name_of result ≡ spec.name_of_text (string_bytes text) }
+    {
+        match known(text.as_str()) {
+            Some(name) => HtmlName::Known(name),
+            None => HtmlName::Other(text),
+        }
+    }
+
+    /// How it is spelled.
+    pub fn text(&self) -> &str
+        ensures { result.now ≡ spec.text_of_name (name_of self.now) }
+    {
+        match self {
+            HtmlName::Known(name) => name.text(),
+            HtmlName::Other(text) => text.as_str(),
+        }
+    }
+
+    pub(crate) fn copy(&self) -> Result<HtmlName, AllocError>
+        ensures { IfOk result (λ copy. name_of copy ≡ name_of self.now) }
+    {
+        match self {
+            HtmlName::Known(name) => Ok(HtmlName::Known(*name)),
+            HtmlName::Other(text) => Ok(HtmlName::Other(text.clone()?)),
+        }
+    }
+
+    pub(crate) fn is(&self, other: &HtmlName) -> bool
+        ensures { result ≡ spec.same_name (name_of self.now) (name_of other.now) }
+    {
+        match (self, other) {
+            (HtmlName::Known(name), HtmlName::Known(wanted)) => name.is(*wanted),
+            (HtmlName::Other(text), HtmlName::Other(wanted)) => text.as_str() == wanted.as_str(),
+            _ => false,
+        }
+    }
+}
+
+impl TagName {
+    pub(crate) fn is(self, other: TagName) -> bool
+        ensures { result ≡ spec.same_tag self other }
+    {
+        self == other
+    }
+}
+
+impl ElementName {
+    /// How it is spelled, less its namespace.
+    pub fn text(&self) -> &str
+        ensures { result.now ≡ spec.text_of_element_name (element_name_of self.now) }
+    {
+        match self {
+            ElementName::Html(name) => name.text(),
+            ElementName::Svg(text) => text.as_str(),
+            ElementName::Math(text) => text.as_str(),
+        }
+    }
+
+    pub(crate) fn copy(&self) -> Result<ElementName, AllocError>
+        ensures { IfOk result (λ copy. element_name_of copy ≡ element_name_of self.now) }
+    {
+        match self {
+            ElementName::Html(name) => Ok(ElementName::Html(name.copy()?)),
+            ElementName::Svg(text) => Ok(ElementName::Svg(text.clone()?)),
+            ElementName::Math(text) => Ok(ElementName::Math(text.clone()?)),
+        }
+    }
+
+    pub(crate) fn is(&self, other: &ElementName) -> bool
+        ensures { result ≡ spec.same_element_name (element_name_of self.now) (element_name_of other.now) }
+    {
+        match (self, other) {
+            (ElementName::Html(name), ElementName::Html(wanted)) => name.is(wanted),
+            (ElementName::Svg(text), ElementName::Svg(wanted)) => text.as_str() == wanted.as_str(),
+            (ElementName::Math(text), ElementName::Math(wanted)) => text.as_str()
+                == wanted.as_str(),
+            _ => false,
+        }
+    }
+
+    /// Whether it is this name of HTML.
+    pub(crate) fn is_html(&self, wanted: &HtmlName) -> bool
+        ensures { result ≡ spec.same_element_name (element_name_of self.now) (spec.html (name_of wanted.now)) }
+    {
+        match self {
+            ElementName::Html(name) => name.is(wanted),
+            _ => false,
+        }
+    }
+
+    /// Whether it is this name of HTML, which a rule speaks of.
+    pub(crate) fn is_tag(&self, tag: TagName) -> bool
+        ensures { result ≡ spec.is_tag tag (element_name_of self.now) }
+    {
+        match self {
+            ElementName::Html(HtmlName::Known(name)) => name.is(tag),
+            _ => false,
+        }
+    }
+}

@@ -1,0 +1,469 @@
+//! The stack of open elements.
+ghost use Rattle.std.specs.Prelude.{◌≡◌, ◌-◌, ◌<◌, ◌∷◌, ◌++◌, [], length, drop, true, false, IfOk, OnOk, IfSome, MatchOption, option_map};
+ghost use Rattle.std.specs.List.{list_any};
+ghost use Rattle.htmd_html5_state.specs.Names.{element_name_of, name_of, html};
+ghost use Rattle.htmd_html5_state.specs.OpenElements as spec;
+ghost use Rattle.htmd_html5_state.specs.Insertion as insertion;
+ghost use Rattle.htmd_html5_state.specs.Adoption as adoption;
+ghost use Rattle.htmd_html5_state.specs.OpenViews.{open_of, all_open_of, stack_of, furthest_of, is_special, IsInnermost, IsFirstSpecial};
+
+use crate::names::{ElementName, HtmlName};
+use crate::sets::{NameSet, Scope};
+use std::alloc::{AllocError, Global};
+use std::marker::Model;
+
+/// An open element: its node and its name.
+#[derive(Debug, Drop)]
+pub(crate) struct OpenElement {
+    pub(crate) node: usize,
+    pub(crate) name: ElementName,
+}
+
+/// The open elements, outermost first.
+#[derive(Drop)]
+pub(crate) struct OpenElements {
+    elements: Vec<OpenElement>,
+}
+
+impl Model for OpenElements {
+    ghost use Rattle.std.specs.Prelude.{List};
+    ghost use Rattle.htmd_html5_state.specs.OpenElements.{OpenValue};
+
+    ghost Value = { List OpenValue };
+
+    ghost use Rattle.htmd_html5_state.specs.OpenViews.{stack_of};
+
+    ghost view = { λ o. stack_of o.elements.items };
+}
+
+/// The furthest block, what is open inside it, and what is open around it, each outermost first.
+#[derive(Drop)]
+pub(crate) struct Furthest {
+    pub(crate) inner: Vec<OpenElement>,
+    pub(crate) block: OpenElement,
+    pub(crate) between: Vec<OpenElement>,
+}
+
+/// The innermost element, and those around it.
+pub(crate) fn split_innermost(elements: &[OpenElement]) -> Option<(&[OpenElement], &OpenElement)>
+    ensures stack { MatchOption result (stack_of elements.now ≡ [])
+        (λ p. stack_of elements.now ≡ open_of p.1.now ∷ stack_of p.0.now) }
+    ensures parts { MatchOption result (elements.now ≡ [])
+        (λ p. elements.now ≡ p.0.now ++ p.1.now ∷ []) }
+    ensures shorter { IfSome result (λ p. length p.0.now < length elements.now) }
+{
+    match elements {
+        [outer @ .., element] => Some((outer, element)),
+        [] => None,
+    }
+}
+
+fn holds_one(elements: &[OpenElement], set: NameSet) -> bool
+    ensures { result ≡ spec.is_open set (stack_of elements.now) }
+{
+    let mut rest = elements;
+    while let Some((outer, element)) = split_innermost(rest) {
+        if set.holds(&element.name) {
+            return true;
+        }
+        rest = outer;
+    }
+    false
+}
+
+fn holds_node(elements: &[OpenElement], node: usize) -> bool
+    ensures { result ≡ spec.is_open_node node (stack_of elements.now) }
+{
+    let mut rest = elements;
+    while let Some((outer, element)) = split_innermost(rest) {
+        if element.node == node {
+            return true;
+        }
+        rest = outer;
+    }
+    false
+}
+
+pub(crate) fn is_in_scope(elements: &[OpenElement], set: NameSet, scope: Scope) -> bool
+    ensures { result ≡ spec.is_in_scope set scope (stack_of elements.now) }
+{
+    let mut rest = elements;
+    while let Some((outer, element)) = split_innermost(rest) {
+        if set.holds(&element.name) {
+            return true;
+        }
+        if scope.is_bound(&element.name) {
+            return false;
+        }
+        rest = outer;
+    }
+    false
+}
+
+fn is_closable(elements: &[OpenElement], name: &HtmlName) -> bool
+    ensures { result ≡ spec.is_closable (name_of name.now) (stack_of elements.now) }
+{
+    let mut rest = elements;
+    while let Some((outer, element)) = split_innermost(rest) {
+        if element.name.is_html(name) {
+            return true;
+        }
+        if Scope::Special.is_bound(&element.name) {
+            return false;
+        }
+        rest = outer;
+    }
+    false
+}
+
+/// Whether one that is open inside a node bounds a scope.
+fn is_bounded_inside(elements: &[OpenElement], node: usize) -> bool
+    ensures { result ≡ list_any adoption.bounds_any (spec.inside node (stack_of elements.now)) }
+{
+    let mut rest = elements;
+    while let Some((outer, element)) = split_innermost(rest) {
+        if element.node == node {
+            return false;
+        }
+        if Scope::Default.is_bound(&element.name) {
+            return true;
+        }
+        rest = outer;
+    }
+    false
+}
+
+/// Whether the node is open, and neither it nor what is open inside it bounds a scope.
+fn is_node_in_scope(elements: &[OpenElement], node: usize) -> bool
+    ensures { result ≡ spec.is_node_in_scope node (stack_of elements.now) }
+{
+    let mut rest = elements;
+    while let Some((outer, element)) = split_innermost(rest) {
+        if Scope::Default.is_bound(&element.name) {
+            return false;
+        }
+        if element.node == node {
+            return true;
+        }
+        rest = outer;
+    }
+    false
+}
+
+/// The place of the innermost element with this node.
+fn position(elements: &[OpenElement], node: usize) -> Option<usize>
+    ensures { MatchOption result (spec.is_open_node node (stack_of elements.now) ≡ false)
+        (λ i. IsInnermost node elements.now i) }
+{
+    let mut rest = elements;
+    while let Some((outer, element)) = split_innermost(rest) {
+        if element.node == node {
+            return Some(outer.len());
+        }
+        rest = outer;
+    }
+    None
+}
+
+/// The place of the outermost special element.
+fn first_special(elements: &[OpenElement]) -> Option<usize>
+    ensures { MatchOption result (list_any is_special elements.now ≡ false)
+        (λ i. IsFirstSpecial elements.now i) }
+{
+    for (i, element) in elements.iter().enumerate() {
+        if Scope::Special.is_bound(&element.name) {
+            return Some(i);
+        }
+    }
+    None
+}
+
+/// The furthest block among what is open inside a formatting element.
+pub(crate) fn furthest_block(mut inside: Vec<OpenElement>) -> Result<Option<Furthest>, AllocError>
+    ensures { IfOk result (λ f. option_map furthest_of f
+        ≡ adoption.furthest_block (stack_of inside.items)) }
+{
+    let Some(index) = first_special(&inside) else {
+        return Ok(None);
+    };
+    let inner = inside.split_off(index + 1)?;
+    match inside.pop() {
+        Some(block) => Ok(Some(Furthest {
+            inner,
+            block,
+            between: inside,
+        })),
+        None => Ok(None),
+    }
+}
+
+impl OpenElements {
+    /// No element.
+    pub(crate) fn new(alloc: Global) -> OpenElements
+        ensures { result ≡ [] }
+    {
+        OpenElements {
+            elements: Vec::new(alloc),
+        }
+    }
+
+    /// The node of the current node; the Document where nothing is open.
+    pub(crate) fn current_node(&self) -> usize
+        ensures { result ≡ (insertion.current self.now).node }
+    {
+        match self.elements.last() {
+            Some(element) => element.node,
+            None => 0,
+        }
+    }
+
+    /// The name of the current node.
+    pub(crate) fn current_name(&self) -> Option<&ElementName>
+        ensures { option_map (λ n. element_name_of n.now) result ≡ spec.current_name self.now }
+    {
+        match self.elements.last() {
+            Some(element) => Some(&element.name),
+            None => None,
+        }
+    }
+
+    /// The open elements, outermost first.
+    pub(crate) fn as_slice(&self) -> &[OpenElement]
+        ensures { stack_of result.now ≡ self.now }
+    {
+        self.elements.as_slice()
+    }
+
+    /// Whether the current node is one of these.
+    pub(crate) fn current_is(&self, set: NameSet) -> bool
+        ensures { result ≡ spec.current_is set self.now }
+    {
+        match self.elements.last() {
+            Some(element) => set.holds(&element.name),
+            None => false,
+        }
+    }
+
+    /// Whether the element around the current node is one of these.
+    pub(crate) fn second_current_is(&self, set: NameSet) -> bool
+        ensures { result ≡ spec.current_is set (spec.pop self.now) }
+    {
+        let Some((outer, _)) = split_innermost(&self.elements) else {
+            return false;
+        };
+        match split_innermost(outer) {
+            Some((_, second)) => set.holds(&second.name),
+            None => false,
+        }
+    }
+
+    pub(crate) fn len(&self) -> usize
+        ensures { result ≡ length self.now }
+    {
+        self.elements.len()
+    }
+
+    pub(crate) fn is_empty(&self) -> bool
+        ensures { result ≡ spec.is_empty self.now }
+    {
+        self.elements.is_empty()
+    }
+
+    /// Whether more than one element is open.
+    pub(crate) fn has_second(&self) -> bool
+        ensures { result ≡ spec.has_second self.now }
+    {
+        self.elements.len() > 1
+    }
+
+    /// The outermost element.
+    pub(crate) fn first_open(&self) -> Option<usize>
+        ensures { result ≡ spec.first_open self.now }
+    {
+        match self.elements.as_slice() {
+            [first, ..] => Some(first.node),
+            [] => None,
+        }
+    }
+
+    /// The element right inside the outermost, where it is one of these.
+    pub(crate) fn second_open(&self, set: NameSet) -> Option<usize>
+        ensures { result ≡ spec.second_open set self.now }
+    {
+        match self.elements.as_slice() {
+            [_, second, ..] if set.holds(&second.name) => Some(second.node),
+            _ => None,
+        }
+    }
+
+    /// Whether one of these is open.
+    pub(crate) fn is_open(&self, set: NameSet) -> bool
+        ensures { result ≡ spec.is_open set self.now }
+    {
+        holds_one(&self.elements, set)
+    }
+
+    pub(crate) fn is_open_node(&self, node: usize) -> bool
+        ensures { result ≡ spec.is_open_node node self.now }
+    {
+        holds_node(&self.elements, node)
+    }
+
+    pub(crate) fn is_in_scope(&self, set: NameSet, scope: Scope) -> bool
+        ensures { result ≡ spec.is_in_scope set scope self.now }
+    {
+        is_in_scope(&self.elements, set, scope)
+    }
+
+    pub(crate) fn is_node_in_scope(&self, node: usize) -> bool
+        ensures { result ≡ spec.is_node_in_scope node self.now }
+    {
+        is_node_in_scope(&self.elements, node)
+    }
+
+    /// Whether an element that is open inside this node bounds a scope.
+    pub(crate) fn is_bounded_inside(&self, node: usize) -> bool
+        ensures { result ≡ list_any adoption.bounds_any (spec.inside node self.now) }
+    {
+        is_bounded_inside(&self.elements, node)
+    }
+
+    pub(crate) fn push(&mut self, node: usize, name: ElementName) -> Result<(), AllocError>
+        ensures { OnOk result (self.new ≡ insertion.opened node (element_name_of name) ∷ self.old) }
+    {
+        self.elements.push(OpenElement { node, name })?;
+        Ok(())
+    }
+
+    /// Pushes an element that was open.
+    pub(crate) fn push_element(&mut self, element: OpenElement) -> Result<(), AllocError>
+        ensures { OnOk result (self.new ≡ open_of element ∷ self.old) }
+    {
+        self.elements.push(element)?;
+        Ok(())
+    }
+
+    /// Pushes elements, of which the first gets innermost.
+    pub(crate) fn push_inside_out(
+        &mut self,
+        mut elements: Vec<OpenElement>,
+    ) -> Result<(), AllocError>
+        ensures { OnOk result (self.new ≡ all_open_of elements.items ++ self.old) }
+    {
+        while let Some(element) = elements.pop() {
+            self.elements.push(element)?;
+        }
+        Ok(())
+    }
+
+    /// Pushes elements, of which the last gets innermost.
+    pub(crate) fn append(&mut self, mut elements: Vec<OpenElement>) -> Result<(), AllocError>
+        ensures { OnOk result (self.new ≡ stack_of elements.items ++ self.old) }
+    {
+        self.elements.append(&mut elements)
+    }
+
+    pub(crate) fn pop(&mut self)
+        ensures { self.new ≡ spec.pop self.old }
+    {
+        self.elements.pop();
+    }
+
+    /// Pops until one of these has been popped.
+    pub(crate) fn pop_until(&mut self, set: NameSet)
+        ensures { self.new ≡ spec.pop_until set self.old }
+    {
+        while let Some(element) = self.elements.pop() {
+            if set.holds(&element.name) {
+                return;
+            }
+        }
+    }
+
+    /// Pops until an element of this name has been popped.
+    fn pop_through(&mut self, name: &HtmlName)
+        ensures { self.new ≡ spec.pop_through (spec.has_name (html (name_of name.now))) self.old }
+    {
+        while let Some(element) = self.elements.pop() {
+            if element.name.is_html(name) {
+                return;
+            }
+        }
+    }
+
+    /// Pops until the current node is one of these.
+    pub(crate) fn clear_to(&mut self, set: NameSet)
+        ensures { self.new ≡ spec.clear_to set self.old }
+    {
+        while !self.elements.is_empty() && !self.current_is(set) {
+            self.elements.pop();
+        }
+    }
+
+    /// Pops as long as the current node is one of these.
+    pub(crate) fn pop_while(&mut self, set: NameSet)
+        ensures { self.new ≡ spec.pop_while set self.old }
+    {
+        while self.current_is(set) {
+            self.elements.pop();
+        }
+    }
+
+    /// Pops until one of these has been popped, where one is in scope. Gives whether it is.
+    pub(crate) fn close(&mut self, set: NameSet, scope: Scope) -> bool
+        ensures found { result ≡ spec.is_in_scope set scope self.old }
+        ensures closed { self.new ≡ spec.close set scope self.old }
+    {
+        let found = self.is_in_scope(set, scope);
+        if found {
+            self.pop_until(set);
+        }
+        found
+    }
+
+    /// What any other end tag closes.
+    pub(crate) fn close_name(&mut self, name: &HtmlName)
+        ensures { self.new ≡ spec.close_name (name_of name.now) self.old }
+    {
+        if is_closable(&self.elements, name) {
+            self.pop_through(name);
+        }
+    }
+
+    /// Pops all but the outermost so many.
+    pub(crate) fn truncate(&mut self, len: usize)
+        ensures { self.new ≡ drop (length self.old - len) self.old }
+    {
+        self.elements.truncate(len);
+    }
+
+    /// Pops all but the outermost.
+    pub(crate) fn keep_outermost(&mut self)
+        ensures { self.new ≡ spec.outermost self.old }
+    {
+        self.elements.truncate(1);
+    }
+
+    /// Takes out the element of a node.
+    pub(crate) fn remove(&mut self, node: usize)
+        ensures { self.new ≡ spec.without node self.old }
+    {
+        if let Some(index) = position(&self.elements, node) {
+            self.elements.remove(index);
+        }
+    }
+
+    /// Pops the element of a node and all inside it: these, outermost first.
+    pub(crate) fn take_inside(&mut self, node: usize) -> Result<Vec<OpenElement>, AllocError>
+        requires { spec.is_open_node node self.old ≡ true }
+        ensures inside { IfOk result (λ v. stack_of v.items ≡ spec.inside node self.old) }
+        ensures around { OnOk result (self.new ≡ spec.around node self.old) }
+    {
+        let Some(index) = position(&self.elements, node) else {
+            unreachable!();
+        };
+        let inside = self.elements.split_off(index + 1)?;
+        self.elements.pop();
+        Ok(inside)
+    }
+}

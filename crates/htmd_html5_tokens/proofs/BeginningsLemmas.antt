@@ -1,0 +1,116 @@
+-- How a text begins, and where it may be cut: after that, and before what ends a part of it.
+use Rattle.std.proofs.Common.{◌≡◌, ℕ, zero, suc, ◌+◌, ◌<◌, ◌≤◌, Bool, true, false, List, [], ◌∷◌, length, take, drop, get_or}
+use Rattle.std.proofs.Common.{refl, ap, sym, ◌∙◌, subst, arith}
+use Rattle.std.proofs.lemmas.Bool.{and_parts}
+use Rattle.std.proofs.lemmas.Bool.Decides.{nat_tests}
+use Rattle.std.proofs.lemmas.List.{get_or-drop}
+use Rattle.std.proofs.lemmas.Str.{IsCharBoundary-from_take, IsUtf8-from_ascii}
+use Rattle.std.specs.List.{list_all}
+use Rattle.std.specs.Prelude.{nat_lt, ◌==◌}
+use Rattle.std.specs.Str.{IsUtf8, IsCharBoundary, IsAscii}
+use Rattle.htmd_text.proofs.Cases.{test}
+use Rattle.htmd_grammar.specs.CharacterClasses.{begins_with, first_is, up_to, behind_run, is_empty}
+use Rattle.htmd_grammar.specs.TagReading.{is_other}
+use Rattle.htmd_tree.proofs.CharacterClassesLemmas.{up_to-le-length, stops_at}
+use Rattle.htmd_html5_tokens.specs.Comments.{ends_comment}
+use Rattle.htmd_html5_tokens.specs.NextToken.{ends_section, begins_markup}
+
+pub begins_no_further : (cs s : List ℕ) → 0 < length cs → length s < 1 → begins_with cs s ≡ false
+begins_no_further [] s l m = absurd (omega arith)
+begins_no_further (c ∷ cs) [] l m = refl
+begins_no_further (c ∷ cs) (b ∷ s) l m = absurd (omega arith)
+
+-- a text that begins with a name
+pub begins_front : (n s : List ℕ) → begins_with n s ≡ true → (length n ≤ length s) × (take (length n) s ≡ n)
+begins_front [] s e = (omega arith, refl)
+begins_front (c ∷ n) [] e = absurd (cc)
+begins_front (c ∷ n) (b ∷ s) e =
+    let q = and_parts (b == c) (begins_with n s) e in
+    let h = begins_front n s q.1 in
+    (omega (arith, h.0), rw (same q.0, h.1) refl)
+  where
+    same : (b == c) ≡ true → b ≡ c
+    same h = grind (arith, nat_tests)
+
+low : (b : ℕ) → nat_lt b 128 ≡ true → b < 128
+low b e = grind (arith, nat_tests)
+
+ascii_all : (n : List ℕ) → list_all (λ b. nat_lt b 128) n ≡ true → IsAscii n
+ascii_all [] e i = omega arith
+ascii_all (b ∷ n) e zero =
+    let h = and_parts (nat_lt b 128) (list_all (λ b. nat_lt b 128) n) e in low b h.0
+ascii_all (b ∷ n) e (suc i) =
+    let h = and_parts (nat_lt b 128) (list_all (λ b. nat_lt b 128) n) e in ascii_all n h.1 i
+
+-- a text may be cut after ASCII characters with which it begins
+pub cut_after_beginning : (p s : List ℕ) → IsUtf8 s → begins_with p s ≡ true
+    → list_all (λ b. nat_lt b 128) p ≡ true
+    → IsCharBoundary s (length p)
+cut_after_beginning p s u e a =
+    let f = begins_front p s e in
+    let t : IsUtf8 (take (length p) s) = subst IsUtf8 (sym f.1) (IsUtf8-from_ascii p (ascii_all p a)) in
+    IsCharBoundary-from_take s (length p) u f.0 t
+
+-- ---- what ends a part of a text begins with an ASCII character, before which the text may be cut
+
+abbrev pub BeginsAscii : List ℕ → Type 0
+BeginsAscii t = (0 < length t) × (get_or t 0 0 < 128)
+
+pub cut_up_to : (stop : List ℕ → Bool) (s : List ℕ) (n : ℕ) → n ≡ length (up_to stop s)
+    → ((t : List ℕ) → stop t ≡ true → BeginsAscii t) → IsCharBoundary s n
+cut_up_to stop s n e h =
+    let w = up_to-le-length stop s in (
+      omega (arith, e),
+      λ l high.
+          let at : stop (drop n s) ≡ true =
+          ap (λ k. stop (drop k s)) e ∙ stops_at stop s (omega (arith, e)) in
+          let a = h (drop n s) at in
+          let z : n + 0 ≡ n = omega arith in
+          let b : get_or s n 0 < 128 = omega (arith, a.1, get_or-drop n s 0 0, ap (λ k. get_or s k 0) z) in
+          absurd (omega arith),
+    )
+
+pub same : (x y : ℕ) → (x == y) ≡ true → x ≡ y
+same x y h = grind (arith, nat_tests)
+
+pub comment_end_begins : (t : List ℕ) → ends_comment t ≡ true → BeginsAscii t
+comment_end_begins [] e = absurd (cc)
+comment_end_begins (b ∷ t) e =
+    test (b == 45) (λ q. (omega arith, omega (arith, same b 45 q)))
+    (λ q. absurd (let f : false ≡ true = rw q at e in cc))
+
+pub section_end_begins : (t : List ℕ) → ends_section t ≡ true → BeginsAscii t
+section_end_begins [] e = absurd (cc)
+section_end_begins (b ∷ t) e =
+    test (b == 93) (λ q. (omega arith, omega (arith, same b 93 q)))
+    (λ q. absurd (let f : false ≡ true = rw q at e in cc))
+
+pub markup_begins : (t : List ℕ) → begins_markup t ≡ true → BeginsAscii t
+markup_begins [] e = absurd (cc)
+markup_begins (b ∷ t) e =
+    test (b == 60) (λ q. (omega arith, omega (arith, same b 60 q)))
+    (λ q. absurd (let f : false ≡ true = rw q at e in cc))
+
+-- a run of other characters is followed by the character or by nothing
+pub other_ends : (q : ℕ) (s : List ℕ) → first_is q (behind_run (is_other q) s) ≡ false
+    → is_empty (behind_run (is_other q) s) ≡ true
+other_ends q [] e = refl
+other_ends q (b ∷ s) e =
+    test (b == q) (λ f. absurd (let g : true ≡ false = rw (f, f) at e in cc)) (λ f. let g = rw f at e in rw f (other_ends q s g))
+
+pub other_drops : (q : ℕ) (s : List ℕ) → first_is q (behind_run (is_other q) s) ≡ false
+    → behind_run (is_other q) s ≡ drop 1 (behind_run (is_other q) s)
+other_drops q s e = nothing (behind_run (is_other q) s) (other_ends q s e)
+  where
+    nothing : (t : List ℕ) → is_empty t ≡ true → t ≡ drop 1 t
+    nothing [] e = refl
+    nothing (b ∷ t) e = absurd (cc)
+
+-- what doesn't begin with a character of its own is nothing
+pub other_filled : (q : ℕ) (s : List ℕ) → first_is q (behind_run (is_other q) s) ≡ true
+    → is_empty (behind_run (is_other q) s) ≡ false
+other_filled q s e = filled (behind_run (is_other q) s) e
+  where
+    filled : (t : List ℕ) → first_is q t ≡ true → is_empty t ≡ false
+    filled [] e = absurd (cc)
+    filled (b ∷ t) e = refl

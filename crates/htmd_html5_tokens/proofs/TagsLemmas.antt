@@ -1,0 +1,194 @@
+-- The parts of a tag, and that each is shorter than what it stands in.
+use Rattle.std.proofs.Common.{◌≡◌, ℕ, zero, suc, ◌+◌, ◌-◌, ◌<◌, ◌≤◌, Bool, true, false, List, [], ◌∷◌, ◌++◌, length, take}
+use Rattle.std.proofs.Common.{drop, get_or, refl, sym, ◌∙◌, ap, subst, arith, append_assoc, length-drop}
+use Rattle.std.proofs.lemmas.List.{drop_more}
+use Rattle.std.proofs.lemmas.Slice.{between_to_end}
+use Rattle.std.proofs.lemmas.Str.{IsCharBoundary-from_rest}
+use Rattle.std.specs.Prelude.{◌==◌}
+use Rattle.std.specs.Str.{IsCharBoundary}
+use Rattle.htmd_text.specs.WhiteSpace.{is_ascii_white_space}
+use Rattle.htmd_text.proofs.Cases.{test}
+use Rattle.htmd_grammar.specs.ValueTrees.{AttributePair}
+use Rattle.htmd_grammar.specs.CharacterClasses.{is_empty, first_is, leading_run, behind_run}
+use Rattle.htmd_grammar.specs.TagReading.{TagPart, malformed, tag_end, attribute, is_other, quoted_value}
+use Rattle.htmd_tree.proofs.CharacterClassesLemmas.{take_leading_run, drop_leading_run}
+use Rattle.htmd_tree.proofs.TagPartsLemmas.{behind_within}
+use Rattle.htmd_html5_tokens.specs.Tags.{is_attribute_name_byte, is_unquoted_byte, is_gap_byte, ends_in_slash}
+use Rattle.htmd_html5_tokens.specs.Tags.{value_part, after_attribute_name, after_gap, next_part}
+use Rattle.htmd_html5_tokens.specs.Tags.{TagForm, unended, ended, with_attribute, form_after, form_within}
+use Rattle.htmd_html5_tokens.specs.TagViews.{with_attributes, attribute_part}
+use Rattle.htmd_html5_tokens.proofs.RunCuts.{cut_before_ascii, outside_attribute_name}
+
+-- ---- the name of an attribute
+
+module _ (s : List ℕ) (n : ℕ) (filled : 0 < length s)
+    (run : n ≡ length (leading_run is_attribute_name_byte (take (length s - 1) (drop 1 s)))) where
+  here : n ≡ length (leading_run is_attribute_name_byte (drop 1 s))
+  here =
+      run ∙ ap (λ t. length (leading_run is_attribute_name_byte t)) (between_to_end s 1 (length s) (omega arith))
+
+  pub attribute_cut : IsCharBoundary s (1 + n)
+  attribute_cut =
+      IsCharBoundary-from_rest s 1 n (omega arith)
+      (subst (IsCharBoundary (drop 1 s)) (sym here)
+      (cut_before_ascii is_attribute_name_byte (drop 1 s) outside_attribute_name))
+
+  whole : s ≡ get_or s 0 0 ∷ drop 1 s
+  whole = drop_more s 0 0 filled
+
+  pub attribute_split : (name rest : List ℕ) → name ≡ take (1 + n) s → rest ≡ drop (1 + n) s
+      → after_attribute_name name rest ≡ attribute_part s
+  attribute_split name rest e f = go s n filled here whole e f
+    where
+      go : (s : List ℕ) (n : ℕ) → 0 < length s → n ≡ length (leading_run is_attribute_name_byte (drop 1 s))
+          → s ≡ get_or s 0 0 ∷ drop 1 s
+          → name ≡ take (1 + n) s → rest ≡ drop (1 + n) s
+          → after_attribute_name name rest ≡ attribute_part s
+      go [] n l h w e f = absurd (omega arith)
+      go (b ∷ t) n l h w e f =
+          let k : 1 + n ≡ suc n = omega arith in
+          let front : name ≡ b ∷ leading_run is_attribute_name_byte t =
+          e ∙ ap (λ m. take m (b ∷ t)) k ∙ ap (λ m. b ∷ take m t) h
+          ∙ ap (λ u. b ∷ u) (take_leading_run is_attribute_name_byte t) in
+          let back : rest ≡ behind_run is_attribute_name_byte t =
+          f ∙ ap (λ m. drop m (b ∷ t)) k ∙ ap (λ m. drop m t) h ∙ drop_leading_run is_attribute_name_byte t in
+          rw (front, back) refl
+
+-- ---- the gap
+
+pub ends_last : (s : List ℕ) → 0 < length s → ends_in_slash s ≡ (get_or s (length s - 1) 0 == 47)
+ends_last [] l = absurd (omega arith)
+ends_last (b ∷ []) l = refl
+ends_last (b ∷ c ∷ t) l =
+    let k : suc (suc (length t)) - 1 ≡ suc (suc (length t) - 1) = omega arith in
+    ends_last (c ∷ t) (omega arith) ∙ ap (λ n. get_or (b ∷ c ∷ t) n 0 == 47) (sym k)
+
+-- after a gap
+pub gap_nothing : (ends : Bool) (s : List ℕ) → length s ≡ 0 → malformed ≡ after_gap ends s
+gap_nothing ends [] e = refl
+gap_nothing ends (b ∷ s) e = absurd (omega arith)
+
+pub gap_end : (ends : Bool) (s rest : List ℕ) → first_is 62 s ≡ true → rest ≡ drop 1 s
+    → tag_end ends rest ≡ after_gap ends s
+gap_end ends [] rest e f = absurd (cc)
+gap_end ends (b ∷ s) rest e f = rw (e, f) refl
+
+pub gap_attribute : (ends : Bool) (s : List ℕ) → (length s ≡ 0 → ⊥) → first_is 62 s ≡ false
+    → attribute_part s ≡ after_gap ends s
+gap_attribute ends [] l e = absurd (l refl)
+gap_attribute ends (b ∷ s) l e = rw e refl
+
+-- ---- each part takes at least one character
+
+-- one more than what is left after a part
+abbrev size_of : TagPart → ℕ
+size_of malformed = 0
+size_of (tag_end slash s) = suc (length s)
+size_of (attribute name value s) = suc (length s)
+
+quoted_size : (q : ℕ) (name s : List ℕ) → size_of (quoted_value q name s) ≤ suc (length s)
+quoted_size q name s =
+    let k = behind_within (is_other q) s in
+    let d = length-drop 1 (behind_run (is_other q) s) in
+    test (is_empty (behind_run (is_other q) s)) (λ e. rw e (omega arith)) (λ e. rw e (omega arith))
+
+value_size : (name s : List ℕ) → size_of (value_part name s) ≤ suc (length s)
+value_size name s =
+    let d = length-drop 1 s in
+    let two = quoted_size 34 name (drop 1 s) in
+    let one = quoted_size 39 name (drop 1 s) in
+    let none_ = behind_within is_unquoted_byte s in
+    test (first_is 34 s) (λ e. rw e (omega arith))
+    (λ e. test (first_is 39 s) (λ f. rw (e, f) (omega arith)) (λ f. rw (e, f) (omega arith)))
+
+name_size : (name s : List ℕ) → size_of (after_attribute_name name s) ≤ suc (length s)
+name_size name s =
+    let sign : List ℕ = behind_run is_ascii_white_space s in
+    let k = behind_within is_ascii_white_space s in
+    let d = length-drop 1 sign in
+    let l = behind_within is_ascii_white_space (drop 1 sign) in
+    let v = value_size name (behind_run is_ascii_white_space (drop 1 sign)) in
+    test (first_is 61 sign) (λ e. rw e (omega arith)) (λ e. rw e (omega arith))
+
+gap_size : (ends : Bool) (s : List ℕ) → size_of (after_gap ends s) ≤ length s
+gap_size ends [] = omega arith
+gap_size ends (b ∷ s) =
+    let n = name_size (b ∷ leading_run is_attribute_name_byte s) (behind_run is_attribute_name_byte s) in
+    let k = behind_within is_attribute_name_byte s in
+    test (b == 62) (λ e. rw e (omega arith)) (λ e. rw e (omega arith))
+
+part_size : (s : List ℕ) → size_of (next_part s) ≤ length s
+part_size s =
+    let b = gap_size (ends_in_slash (leading_run is_gap_byte s)) (behind_run is_gap_byte s) in
+    let c = behind_within is_gap_byte s in
+    omega arith
+
+pub part_shorter : (s name value rest : List ℕ) → attribute name value rest ≡ next_part s
+    → length rest < length s
+part_shorter s name value rest e =
+    let a : suc (length rest) ≡ size_of (next_part s) = ap size_of e in
+    let b = part_size s in
+    omega arith
+
+-- ---- the form of a tag
+
+abbrev pair : List ℕ → List ℕ → AttributePair
+pair name value = record { name = name; value = value }
+
+-- the number of attributes that may be read doesn't matter, once it is no less than that of characters
+form_same : (j k : ℕ) (s : List ℕ) → length s < j → length s < k → form_within j s ≡ form_within k s
+form_same zero k s a b = absurd (omega arith)
+form_same (suc j) zero s a b = absurd (omega arith)
+form_same (suc j) (suc k) s a b =
+    by_part (next_part s) refl (λ rest l. form_same j k rest (omega arith) (omega arith))
+  where
+    by_part : (p : TagPart) → p ≡ next_part s
+        → ((rest : List ℕ) → length rest < length s → form_within j rest ≡ form_within k rest)
+        → form_after p (form_within j) ≡ form_after p (form_within k)
+    by_part malformed e go = refl
+    by_part (tag_end slash t) e go = refl
+    by_part (attribute name value t) e go =
+        ap (with_attribute (pair name value)) (go t (part_shorter s name value t e))
+
+with_one_more : (spelled : List AttributePair) (a : AttributePair) (f : TagForm)
+    → with_attributes (spelled ++ (a ∷ [])) f ≡ with_attributes spelled (with_attribute a f)
+with_one_more spelled a unended = refl
+with_one_more spelled a (ended more slash s) =
+    ap (λ (x : List AttributePair). ended x slash s) (append_assoc spelled (a ∷ []) more)
+
+-- one more attribute
+pub form_more : (s name value rest : List ℕ) (spelled : List AttributePair) (whole : TagForm)
+    → attribute name value rest ≡ next_part s
+    → with_attributes spelled (form_within (suc (length s)) s) ≡ whole
+    → with_attributes (spelled ++ (pair name value ∷ [])) (form_within (suc (length rest)) rest) ≡ whole
+form_more s name value rest spelled whole e h =
+    let l = part_shorter s name value rest e in
+    let g : form_within (suc (length s)) s ≡ with_attribute (pair name value) (form_within (length s) rest) =
+    sym (ap (λ (p : TagPart). form_after p (form_within (length s))) e) in
+    let f : form_within (suc (length rest)) rest ≡ form_within (length s) rest =
+    form_same (suc (length rest)) (length s) rest (omega arith) l in
+    with_one_more spelled (pair name value) _
+    ∙ (ap (λ (x : TagForm). with_attributes spelled (with_attribute (pair name value) x)) f
+    ∙ (ap (with_attributes spelled) (sym g) ∙ h))
+
+-- what follows a tag
+abbrev pub size_of_rest : TagForm → ℕ
+size_of_rest unended = 0
+size_of_rest (ended spelled slash s) = length s
+
+rest_with : (a : AttributePair) (f : TagForm) → size_of_rest (with_attribute a f) ≡ size_of_rest f
+rest_with a unended = refl
+rest_with a (ended spelled slash s) = refl
+
+-- what follows a tag is no longer than what follows its name
+pub form_size : (k : ℕ) (s : List ℕ) → size_of_rest (form_within k s) ≤ length s
+form_size zero s = omega arith
+form_size (suc k) s = by_part (next_part s) (part_size s) (λ rest. form_size k rest)
+  where
+    by_part : (p : TagPart) → size_of p ≤ length s
+        → ((rest : List ℕ) → size_of_rest (form_within k rest) ≤ length rest)
+        → size_of_rest (form_after p (form_within k)) ≤ length s
+    by_part malformed l go = omega arith
+    by_part (tag_end slash t) l go = omega arith
+    by_part (attribute name value t) l go =
+        let e = rest_with (pair name value) (form_within k t) in let g = go t in omega arith

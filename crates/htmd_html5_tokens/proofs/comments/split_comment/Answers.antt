@@ -1,0 +1,22 @@
+-- The text may be cut there.
+use Rattle.std.proofs.Common.{◌∙◌, ap, take, drop, length}
+use Rattle.htmd_grammar.specs.CharacterClasses.{up_to}
+use Rattle.htmd_tree.proofs.CharacterClassesLemmas.{take_up_to, drop_up_to}
+use Rattle.htmd_html5_tokens.specs.Comments.{ends_comment}
+use Rattle.htmd_html5_tokens.proofs.BeginningsLemmas.{cut_up_to, comment_end_begins}
+use Rattle.htmd_html5_tokens.proofs.comments.split_comment.Goals as goal
+
+pub split_at-requires : goal.split_at-requires
+split_at-requires c =
+    let same = c.comment_len.ensures.value ∙ ap (λ s. length (up_to ends_comment s)) c.as_bytes.ensures.value in
+    cut_up_to ends_comment c.args.text.now c.comment_len.result same comment_end_begins
+
+pub returns-clause-held : goal.returns-clause-held
+returns-clause-held c =
+    let same = c.comment_len.ensures.value ∙ ap (λ s. length (up_to ends_comment s)) c.as_bytes.ensures.value in
+    c.split_at.ensures.front ∙ ap (λ n. take n c.args.text.now) same ∙ take_up_to ends_comment c.args.text.now
+
+pub returns-clause-rest : goal.returns-clause-rest
+returns-clause-rest c =
+    let same = c.comment_len.ensures.value ∙ ap (λ s. length (up_to ends_comment s)) c.as_bytes.ensures.value in
+    c.split_at.ensures.back ∙ ap (λ n. drop n c.args.text.now) same ∙ drop_up_to ends_comment c.args.text.now

@@ -1,0 +1,34 @@
+-- Distinct attributes all count, and of others those that are marked.
+use Rattle.std.proofs.Common.{◌≡◌, ◌∙◌, sym, ap, subst, List, [], map, true}
+use Rattle.std.specs.Result.{IfOk}
+use Rattle.htmd_grammar.specs.ValueTrees.{AttributePair}
+use Rattle.htmd_grammar.specs.CharacterClasses.{are_distinct}
+use Rattle.htmd_grammar.specs.Tags.{attribute_names}
+use Rattle.htmd_tree.specs.declared.tree.Attribute.{Attribute}
+use Rattle.htmd_tree.specs.Views.{pairs_of}
+use Rattle.htmd_html5_tokens.specs.Tags.{attribute_of, attributes_of, firsts}
+use Rattle.htmd_html5_tokens.specs.Firsts.{are_first, those_marked}
+use Rattle.htmd_html5_tokens.specs.TagViews.{all_spelled_of}
+use Rattle.htmd_html5_tokens.proofs.FirstsLemmas.{distinct_firsts, marked_firsts}
+use Rattle.htmd_html5_tokens.proofs.tags.attributes_of.Goals as goal
+
+pub returns-then-branch : goal.returns-then-branch
+returns-then-branch c =
+    let attributes = c.in_ok-attributes.attributes.items in
+    let distinct : are_distinct (attribute_names (pairs_of attributes)) ≡ true =
+    ap (λ (x : List Attribute). are_distinct (attribute_names (pairs_of x))) (sym c.as_slice.ensures.value)
+    ∙ sym c.in_ok-are_distinct.ensures ∙ c.if-branch.true in
+    distinct_firsts (pairs_of attributes) distinct
+    ∙ ap (λ (x : List AttributePair). firsts [] x) c.in_ok-attributes.ensures
+
+pub returns : goal.returns
+returns c =
+    let all = map attribute_of (all_spelled_of c.args.spelled.now) in
+    let marks : c.as_slice-3.result.now ≡ are_first [] all =
+    c.as_slice-3.ensures.value ∙ c.in_ok-marks.ensures
+    ∙ ap (λ (x : List Attribute). are_first [] (pairs_of x)) c.as_slice-2.ensures.value
+    ∙ ap (λ (x : List AttributePair). are_first [] x) c.in_ok-attributes.ensures in
+    let same : those_marked all c.as_slice-3.result.now ≡ attributes_of (all_spelled_of c.args.spelled.now) =
+    ap (those_marked all) marks ∙ marked_firsts [] all in
+    subst (λ (x : List AttributePair). IfOk c.marked_decoded.result (λ v. pairs_of v.items ≡ x)) same
+    c.marked_decoded.ensures

@@ -1,0 +1,22 @@
+-- How characters are appended to others.
+use Rattle.std.specs.Prelude.{◌≡◌, ℕ, Bool, not, ◌&&◌, ◌==◌, List, ◌++◌}
+use Rattle.htmd_text.specs.Characters.{null, ampersand, less_than_sign}
+use Rattle.htmd_html5_tokens.specs.Contents.{decoded}
+use Rattle.htmd_html5_tokens.specs.declared.contents.Reading.{Reading}
+use Rattle.htmd_html5_tokens.specs.declared.contents.Reading.TheVariants.{
+  Text,
+  EscapableRawText,
+  RawText,
+  AttributeValue,
+}
+
+-- a byte that stands for itself whatever follows
+abbrev pub is_plain : Reading → ℕ → Bool
+is_plain Text b = not (b == ampersand) && not (b == less_than_sign)
+is_plain EscapableRawText b = not (b == ampersand) && not (b == null)
+is_plain RawText b = not (b == null)
+is_plain AttributeValue b = not (b == ampersand) && not (b == null)
+
+-- what stands between two places of a text was appended
+abbrev pub HasPushed : Reading → List ℕ → List ℕ → List ℕ → List ℕ → Type 0
+HasPushed reading before s after rest = after ++ decoded reading 0 rest ≡ before ++ decoded reading 0 s

@@ -1,0 +1,8 @@
+-- What is read of a page (HTML Standard, 13.2.3.5): its text less a byte order mark at its beginning, with a line feed
+-- for each CR LF and each lone CR.
+use Rattle.std.specs.Prelude.{ℕ, List}
+use Rattle.htmd_grammar.specs.Comments.{normalized}
+use Rattle.htmd_grammar.specs.Documents.{behind_mark}
+
+abbrev pub preprocessed : List ℕ → List ℕ
+preprocessed s = normalized (behind_mark s)

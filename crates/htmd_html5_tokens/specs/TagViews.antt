@@ -1,0 +1,31 @@
+-- What the parts of a tag, as the program holds them, are.
+use Rattle.std.specs.Prelude.{ℕ, List, [], ◌∷◌, ◌++◌, map}
+use Rattle.htmd_grammar.specs.ValueTrees.{AttributePair}
+use Rattle.htmd_grammar.specs.CharacterClasses.{leading_run, behind_run}
+use Rattle.htmd_grammar.specs.TagReading.{TagPart, malformed, tag_end, attribute}
+use Rattle.htmd_html5_tokens.specs.Tags.{after_attribute_name, is_attribute_name_byte, TagForm, unended, ended}
+use Rattle.htmd_html5_tokens.specs.declared.attributes.SpelledAttribute.{SpelledAttribute}
+use Rattle.htmd_html5_tokens.specs.declared.attributes.Part.{Part}
+use Rattle.htmd_html5_tokens.specs.declared.attributes.Part.TheVariants.{Unended, End, Attribute}
+
+abbrev pub part_of : Part → TagPart
+part_of Unended = malformed
+part_of (End slash rest) = tag_end slash rest.now
+part_of (Attribute spelled rest) = attribute spelled.name.now spelled.value.now rest.now
+
+abbrev pub spelled_of : SpelledAttribute → AttributePair
+spelled_of a = record { name = a.name.now; value = a.value.now }
+
+abbrev pub all_spelled_of : List SpelledAttribute → List AttributePair
+all_spelled_of spelled = map spelled_of spelled
+
+-- attributes, and then a form
+abbrev pub with_attributes : List AttributePair → TagForm → TagForm
+with_attributes spelled unended = unended
+with_attributes spelled (ended more slash s) = ended (spelled ++ more) slash s
+
+-- an attribute, which begins with its name
+abbrev pub attribute_part : List ℕ → TagPart
+attribute_part [] = malformed
+attribute_part (b ∷ s) =
+    after_attribute_name (b ∷ leading_run is_attribute_name_byte s) (behind_run is_attribute_name_byte s)

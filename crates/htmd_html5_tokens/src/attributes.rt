@@ -1,0 +1,148 @@
+//! What stands in a tag after its name: attributes, its `/` and its `>`.
+ghost use Rattle.std.specs.Prelude.{◌≡◌, ◌<◌, false, length, IfOk, MatchOption};
+ghost use Rattle.htmd_grammar.specs.CharacterClasses.{is_empty};
+ghost use Rattle.htmd_grammar.specs.TagReading as reading;
+ghost use Rattle.htmd_html5_tokens.specs.Tags as spec;
+ghost use Rattle.htmd_html5_tokens.specs.TagViews.{part_of, all_spelled_of, attribute_part};
+
+use crate::runs::{Class, run_len, split_run, strip_byte};
+use std::alloc::{AllocError, Global};
+
+/// An attribute as it is spelled.
+#[derive(Clone, Copy, Drop)]
+pub(crate) struct SpelledAttribute<'a> {
+    pub(crate) name: &'a str,
+    pub(crate) value: &'a str,
+}
+
+/// What comes next in a tag after its name.
+#[derive(Drop)]
+pub(crate) enum Part<'a> {
+    /// The text ends before.
+    Unended,
+    End {
+        slash: bool,
+        rest: &'a str,
+    },
+    Attribute {
+        spelled: SpelledAttribute<'a>,
+        rest: &'a str,
+    },
+}
+
+/// What stands in a tag after its name, and what follows the tag.
+#[derive(Drop)]
+pub(crate) struct TagForm<'a> {
+    pub(crate) attributes: Vec<SpelledAttribute<'a>>,
+    pub(crate) slash: bool,
+    pub(crate) rest: &'a str,
+}
+
+/// A value between quotes, of which the first stands before the text.
+fn quoted_value<'a>(name: &'a str, text: &'a str, quote: u8) -> Part<'a>
+    requires { quote < 128 }
+    ensures { part_of result ≡ reading.quoted_value quote name.now text.now }
+{
+    let (value, after) = split_run(text, Class::Other(quote));
+    match strip_byte(after, quote) {
+        Some(rest) => Part::Attribute {
+            spelled: SpelledAttribute { name, value },
+            rest,
+        },
+        None => Part::Unended,
+    }
+}
+
+/// An attribute from its value on, after `=` and white space.
+fn value_part<'a>(name: &'a str, text: &'a str) -> Part<'a>
+    ensures { part_of result ≡ spec.value_part name.now text.now }
+{
+    if let Some(value) = strip_byte(text, b'"') {
+        return quoted_value(name, value, b'"');
+    }
+    if let Some(value) = strip_byte(text, b'\'') {
+        return quoted_value(name, value, b'\'');
+    }
+    let (value, rest) = split_run(text, Class::UnquotedValue);
+    Part::Attribute {
+        spelled: SpelledAttribute { name, value },
+        rest,
+    }
+}
+
+/// An attribute from after its name on.
+fn after_name<'a>(name: &'a str, text: &'a str) -> Part<'a>
+    ensures { part_of result ≡ spec.after_attribute_name name.now text.now }
+{
+    let (_, sign) = split_run(text, Class::White);
+    let Some(gap) = strip_byte(sign, b'=') else {
+        return Part::Attribute {
+            spelled: SpelledAttribute { name, value: "" },
+            rest: text,
+        };
+    };
+    let (_, value) = split_run(gap, Class::White);
+    value_part(name, value)
+}
+
+/// An attribute, which begins with its name, whatever its first character.
+fn attribute(text: &str) -> Part<'_>
+    requires { 0 < length text.now }
+    ensures { part_of result ≡ attribute_part text.now }
+{
+    let len = 1 + run_len(&text.as_bytes()[1..], Class::AttributeName);
+    let (name, rest) = text.split_at(len);
+    after_name(name, rest)
+}
+
+/// Whether the last character is `/`.
+fn ends_in_slash(bytes: &[u8]) -> bool
+    ensures { result ≡ spec.ends_in_slash bytes.now }
+{
+    match bytes {
+        [.., last] => *last == b'/',
+        [] => false,
+    }
+}
+
+/// The next attribute, or the end of the tag.
+pub(crate) fn next_part(text: &str) -> Part<'_>
+    ensures { part_of result ≡ spec.next_part text.now }
+{
+    let (gap, after) = split_run(text, Class::Gap);
+    if after.is_empty() {
+        return Part::Unended;
+    }
+    match strip_byte(after, b'>') {
+        Some(rest) => Part::End {
+            slash: ends_in_slash(gap.as_bytes()),
+            rest,
+        },
+        None => attribute(after),
+    }
+}
+
+/// The form of a tag from after its name on. None where the text ends in the tag; an `Err` is out of memory.
+pub(crate) fn tag_form<'a>(alloc: Global, text: &'a str) -> Result<Option<TagForm<'a>>, AllocError>
+    ensures { IfOk result (λ o. MatchOption o (spec.tag_form text.now ≡ spec.unended)
+        (λ f. spec.tag_form text.now ≡ spec.ended (all_spelled_of f.attributes.items) f.slash f.rest.now)) }
+{
+    let mut attributes = Vec::new(alloc);
+    let mut after = text;
+    loop {
+        match next_part(after) {
+            Part::Unended => return Ok(None),
+            Part::End { slash, rest } => {
+                return Ok(Some(TagForm {
+                    attributes,
+                    slash,
+                    rest,
+                }));
+            }
+            Part::Attribute { spelled, rest } => {
+                attributes.push(spelled)?;
+                after = rest;
+            }
+        }
+    }
+}

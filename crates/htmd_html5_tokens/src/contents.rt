@@ -1,0 +1,178 @@
+//! What characters stand for: texts, raw texts, values and names.
+ghost use Rattle.std.specs.Prelude.{◌≡◌, ◌<◌, ◌≤◌, ◌++◌, false, length, slice_index, string_bytes, IfOk, OnOk, ◌∷◌, true};
+ghost use Rattle.std.specs.Str.{IsUtf8};
+ghost use Rattle.htmd_grammar.specs.CharacterClasses.{leading_run};
+ghost use Rattle.htmd_html5_tokens.specs.Contents as spec;
+ghost use Rattle.htmd_html5_tokens.specs.ReferenceViews.{characters_of};
+ghost use Rattle.htmd_html5_tokens.specs.declared.contents.Reading.TheVariants.{Text};
+ghost use Rattle.htmd_text.specs.Characters.{ampersand, less_than_sign};
+ghost use Rattle.htmd_html5_tokens.specs.Plain.{is_plain, HasPushed};
+
+use crate::references::{Characters, read_reference};
+use crate::scan::begins_with;
+use std::alloc::{AllocError, Global};
+
+/// How characters are read.
+#[derive(Clone, Copy)]
+pub(crate) enum Reading {
+    /// outside raw text elements
+    Text,
+    /// in `title` and `textarea`
+    EscapableRawText,
+    /// in other raw text elements, in comments and in names
+    RawText,
+    AttributeValue,
+}
+
+/// Whether a character stands for itself, as its first byte tells.
+fn is_plain(byte: u8, reading: Reading) -> bool
+    ensures { result ≡ is_plain reading byte }
+{
+    match reading {
+        Reading::Text => byte != b'&' && byte != b'<',
+        Reading::RawText => byte != 0,
+        Reading::EscapableRawText | Reading::AttributeValue => byte != b'&' && byte != 0,
+    }
+}
+
+/// How many bytes at the beginning are plain.
+#[tactic(auto, using(htmd_tree::proofs::RunsLemmas::run_more, htmd_tree::proofs::RunsLemmas::run_stops))]
+fn plain_len(bytes: &[u8], reading: Reading) -> usize
+    ensures bound { result ≤ length bytes.now }
+    ensures value { result ≡ length (leading_run (is_plain reading) bytes.now) }
+{
+    for (len, byte) in bytes.iter().enumerate() {
+        if !is_plain(*byte, reading) {
+            return len;
+        }
+    }
+    bytes.len()
+}
+
+/// Appends the plain characters with which the text begins, and answers the rest.
+fn push_plain<'a>(
+    held: &mut String,
+    text: &'a str,
+    len: usize,
+    reading: Reading,
+) -> Result<&'a str, AllocError>
+    requires some { 0 < len }
+    requires plain { len ≡ length (leading_run (is_plain reading) text.now) }
+    ensures pushed { IfOk result (λ rest. HasPushed reading (string_bytes held.old) text.now (string_bytes held.new)
+        rest.now) }
+    ensures text { IfOk result (λ rest. IsUtf8 rest.now) }
+    ensures shorter { IfOk result (λ rest. length rest.now < length text.now) }
+{
+    let (front, rest) = text.split_at(len);
+    held.push_str(front)?;
+    Ok(rest)
+}
+
+/// Appends the characters of a reference.
+fn push_characters(held: &mut String, characters: Characters) -> Result<(), AllocError>
+    ensures { OnOk result (string_bytes held.new ≡ string_bytes held.old ++ characters_of characters) }
+{
+    match characters {
+        Characters::One(character) => held.push(character),
+        Characters::Named(text) => held.push_str(text),
+    }
+}
+
+fn is_value(reading: Reading) -> bool
+    ensures { result ≡ spec.is_value reading }
+{
+    matches!(reading, Reading::AttributeValue)
+}
+
+/// Appends what `&` begins, and answers what follows it.
+fn push_reference<'a>(
+    held: &mut String,
+    after: &'a str,
+    reading: Reading,
+) -> Result<&'a str, AllocError>
+    requires { spec.has_references reading ≡ true }
+    ensures pushed { IfOk result (λ rest. HasPushed reading (string_bytes held.old) (ampersand ∷ after.now)
+        (string_bytes held.new) rest.now) }
+    ensures text { IfOk result (λ rest. IsUtf8 rest.now) }
+    ensures within { IfOk result (λ rest. length rest.now ≤ length after.now) }
+{
+    let reference = read_reference(after, is_value(reading));
+    push_characters(held, reference.characters)?;
+    Ok(&after[reference.following..])
+}
+
+/// Appends what `<` begins in a text, and answers what follows it.
+fn push_less_than<'a>(held: &mut String, after: &'a str) -> Result<&'a str, AllocError>
+    ensures pushed { IfOk result (λ rest. HasPushed Text (string_bytes held.old) (less_than_sign ∷ after.now)
+        (string_bytes held.new) rest.now) }
+    ensures text { IfOk result (λ rest. IsUtf8 rest.now) }
+    ensures within { IfOk result (λ rest. length rest.now ≤ length after.now) }
+{
+    if begins_with(after.as_bytes(), b"/>") {
+        return Ok(&after[2..]);
+    }
+    held.push('<')?;
+    Ok(after)
+}
+
+/// Appends what the first character begins, which isn't plain, and answers what follows it.
+fn push_special<'a>(
+    held: &mut String,
+    text: &'a str,
+    reading: Reading,
+) -> Result<&'a str, AllocError>
+    requires more { 0 < length text.now }
+    requires special { is_plain reading (slice_index text.now 0) ≡ false }
+    ensures pushed { IfOk result (λ rest. HasPushed reading (string_bytes held.old) text.now (string_bytes held.new)
+        rest.now) }
+    ensures text { IfOk result (λ rest. IsUtf8 rest.now) }
+    ensures shorter { IfOk result (λ rest. length rest.now < length text.now) }
+{
+    let first = text.as_bytes()[0];
+    let after = &text[1..];
+    match first {
+        b'&' => push_reference(held, after, reading),
+        b'<' => push_less_than(held, after),
+        _ => {
+            held.push('\u{fffd}')?;
+            Ok(after)
+        }
+    }
+}
+
+/// Appends what comes next in a text, plain characters or one other piece, and answers the rest.
+fn push_next<'a>(held: &mut String, text: &'a str, reading: Reading) -> Result<&'a str, AllocError>
+    requires { 0 < length text.now }
+    ensures pushed { IfOk result (λ rest. HasPushed reading (string_bytes held.old) text.now (string_bytes held.new)
+        rest.now) }
+    ensures text { IfOk result (λ rest. IsUtf8 rest.now) }
+    ensures shorter { IfOk result (λ rest. length rest.now < length text.now) }
+{
+    let len = plain_len(text.as_bytes(), reading);
+    if len == 0 {
+        push_special(held, text, reading)
+    } else {
+        push_plain(held, text, len, reading)
+    }
+}
+
+/// What the characters of a text stand for.
+pub(crate) fn decoded(alloc: Global, text: &str, reading: Reading) -> Result<String, AllocError>
+    ensures { IfOk result (λ t. string_bytes t ≡ spec.decoded reading 0 text.now) }
+{
+    let mut held = String::with_capacity(alloc, text.len())?;
+    let mut rest = text;
+    while !rest.is_empty() {
+        rest = push_next(&mut held, rest, reading)?;
+    }
+    Ok(held)
+}
+
+/// The name of this spelling: in lower case, with U+FFFD for U+0000.
+pub(crate) fn name_of(alloc: Global, text: &str) -> Result<String, AllocError>
+    ensures { IfOk result (λ t. string_bytes t ≡ spec.name_of text.now) }
+{
+    let mut name = decoded(alloc, text, Reading::RawText)?;
+    name.make_ascii_lowercase();
+    Ok(name)
+}

@@ -1,0 +1,24 @@
+//! The tokens of any page, by the HTML Standard (13.2.5): its preprocessing, tags, texts with references, comments,
+//! doctypes and raw texts. Every text has tokens, and no text is refused: only memory may run out.
+#![tactic(auto)]
+
+mod attributes;
+mod comments;
+mod contents;
+mod distinct;
+mod doctypes;
+mod markup;
+mod names;
+mod preprocessing;
+mod raw_texts;
+mod references;
+mod runs;
+mod scan;
+mod sections;
+mod tags;
+mod tokenizer;
+mod tokens;
+
+pub use preprocessing::preprocess;
+pub use tokenizer::Tokenizer;
+pub use tokens::{Content, RawElement, Tag, Token};

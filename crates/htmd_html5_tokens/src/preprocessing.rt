@@ -1,0 +1,60 @@
+//! What is read of a page (HTML Standard, 13.2.3.5).
+ghost use Rattle.std.specs.Prelude.{◌≡◌, ◌++◌, ◌∷◌, IfOk, OnOk, string_bytes};
+ghost use Rattle.std.specs.Cow.{cow_str_bytes};
+ghost use Rattle.htmd_text.specs.Characters.{carriage_return};
+ghost use Rattle.htmd_grammar.specs.Comments.{normalized};
+ghost use Rattle.htmd_grammar.specs.Documents.{behind_mark};
+ghost use Rattle.htmd_html5_tokens.specs.Preprocessing as spec;
+
+use crate::scan::first_is;
+use std::alloc::{AllocError, Global};
+use std::borrow::CowStr;
+
+/// The text less a byte order mark at its beginning.
+fn after_mark(text: &str) -> &str
+    ensures { result.now ≡ behind_mark text.now }
+{
+    match text.strip_prefix("\u{feff}") {
+        Some(rest) => rest,
+        None => text,
+    }
+}
+
+/// Appends the line end that a CR stands for: none where it is part of CR LF.
+fn push_line_end(lines: &mut String, after: &str) -> Result<(), AllocError>
+    ensures { OnOk result (string_bytes lines.new ++ normalized after.now
+        ≡ string_bytes lines.old ++ normalized (carriage_return ∷ after.now)) }
+{
+    if first_is(after.as_bytes(), b'\n') {
+        Ok(())
+    } else {
+        lines.push('\n')
+    }
+}
+
+/// The text with a line feed for each CR LF and each lone CR.
+fn with_line_feeds(alloc: Global, text: &str) -> Result<String, AllocError>
+    ensures { IfOk result (λ t. string_bytes t ≡ normalized text.now) }
+{
+    let mut lines = String::with_capacity(alloc, text.len())?;
+    let mut rest = text;
+    while let Some((line, after)) = rest.split_once('\r') {
+        lines.push_str(line)?;
+        push_line_end(&mut lines, after)?;
+        rest = after;
+    }
+    lines.push_str(rest)?;
+    Ok(lines)
+}
+
+/// The text less a byte order mark at its beginning, with a line feed for each CR LF and each lone CR. Where it has no
+/// CR it is borrowed; an `Err` is out of memory.
+pub fn preprocess(alloc: Global, text: &str) -> Result<CowStr<'_>, AllocError>
+    ensures { IfOk result (λ t. cow_str_bytes t ≡ spec.preprocessed text.now) }
+{
+    let marked = after_mark(text);
+    match marked.split_once('\r') {
+        None => Ok(CowStr::Borrowed(marked)),
+        Some(_) => Ok(CowStr::Owned(with_line_feeds(alloc, marked)?)),
+    }
+}

@@ -1,0 +1,145 @@
+//! Elements that hold text alone, up to their own end tag.
+ghost use Rattle.std.specs.Prelude.{◌≡◌, ◌≤◌, [], length};
+ghost use Rattle.htmd_grammar.specs.RawContent as grammar;
+ghost use Rattle.htmd_html5_tokens.specs.RawTexts as spec;
+ghost use Rattle.htmd_html5_tokens.specs.declared.raw_texts.Escape.TheVariants.{Unescaped};
+
+use crate::contents::Reading;
+use crate::tokens::RawElement;
+
+/// How a script is escaped: `<!--` escapes it, and in an escaped one `<script` does so doubly.
+#[derive(Clone, Copy)]
+pub(crate) enum Escape {
+    Unescaped,
+    Escaped,
+    DoublyEscaped,
+}
+
+/// Whether a tag's name ends here: white space, `/` or `>`.
+fn ends_name(bytes: &[u8]) -> bool
+    ensures { result ≡ grammar.goes_on_with_name [] bytes.now }
+{
+    match bytes {
+        [first, ..] => first.is_ascii_whitespace() || *first == b'/' || *first == b'>',
+        [] => false,
+    }
+}
+
+/// Whether the text begins with this name, in any ASCII case, and it ends there.
+fn goes_on_with_name(bytes: &[u8], name: &[u8]) -> bool
+    ensures { result ≡ grammar.goes_on_with_name name.now bytes.now }
+{
+    let mut rest = bytes;
+    for character in name {
+        match rest {
+            [first, after @ ..] if first.to_ascii_lowercase() == *character => rest = after,
+            _ => return false,
+        }
+    }
+    ends_name(rest)
+}
+
+/// Whether the end tag of an element of this name begins here.
+fn begins_own_end(bytes: &[u8], name: &[u8]) -> bool
+    ensures { result ≡ grammar.begins_own_end name.now bytes.now }
+{
+    match bytes {
+        [b'<', b'/', after @ ..] => goes_on_with_name(after, name),
+        _ => false,
+    }
+}
+
+/// How many bytes stand before the end tag of an element of this name.
+fn own_text_len(bytes: &[u8], name: &[u8]) -> usize
+    ensures bound { result ≤ length bytes.now }
+    ensures value { result ≡ spec.own_text_len name.now bytes.now }
+{
+    let mut len = 0;
+    while len < bytes.len() && !begins_own_end(&bytes[len..], name) {
+        len += 1;
+    }
+    len
+}
+
+fn begins_script(bytes: &[u8]) -> bool
+    ensures { result ≡ spec.begins_script bytes.now }
+{
+    match bytes {
+        [b'<', after @ ..] => goes_on_with_name(after, b"script"),
+        _ => false,
+    }
+}
+
+fn begins_script_end(bytes: &[u8]) -> bool
+    ensures { result ≡ spec.begins_script_end bytes.now }
+{
+    begins_own_end(bytes, b"script")
+}
+
+/// How a script is escaped after the character with which this begins.
+fn escape_after(escape: Escape, bytes: &[u8]) -> Escape
+    ensures { result ≡ spec.escape_after escape bytes.now }
+{
+    if bytes.starts_with(b"<!--") {
+        return match escape {
+            Escape::Unescaped | Escape::Escaped => Escape::Escaped,
+            Escape::DoublyEscaped => Escape::DoublyEscaped,
+        };
+    }
+    if bytes.starts_with(b"-->") {
+        return Escape::Unescaped;
+    }
+    match escape {
+        Escape::DoublyEscaped if begins_script_end(bytes) => Escape::Escaped,
+        Escape::Escaped if begins_script(bytes) => Escape::DoublyEscaped,
+        _ => escape,
+    }
+}
+
+/// Whether a script ends here.
+fn ends_script(escape: Escape, bytes: &[u8]) -> bool
+    ensures { result ≡ spec.ends_script escape bytes.now }
+{
+    match escape {
+        Escape::DoublyEscaped => false,
+        Escape::Unescaped | Escape::Escaped => begins_script_end(bytes),
+    }
+}
+
+/// How many bytes stand before the end tag of a script.
+fn script_len(bytes: &[u8]) -> usize
+    ensures bound { result ≤ length bytes.now }
+    ensures value { result ≡ spec.script_len Unescaped bytes.now }
+{
+    let mut escape = Escape::Unescaped;
+    for i in 0..bytes.len() {
+        let rest = &bytes[i..];
+        if ends_script(escape, rest) {
+            return i;
+        }
+        escape = escape_after(escape, rest);
+    }
+    bytes.len()
+}
+
+/// How many bytes of the text belong to such an element.
+pub(crate) fn raw_text_len(bytes: &[u8], element: RawElement) -> usize
+    ensures bound { result ≤ length bytes.now }
+    ensures value { result ≡ spec.raw_text_len element bytes.now }
+{
+    match element {
+        RawElement::Plaintext => bytes.len(),
+        RawElement::Script => script_len(bytes),
+        _ => own_text_len(bytes, element.name().as_bytes()),
+    }
+}
+
+/// How the text of such an element is read.
+pub(crate) fn reading_of(element: RawElement) -> Reading
+    ensures { result ≡ spec.reading_of element }
+{
+    match element {
+        RawElement::Title | RawElement::Textarea => Reading::EscapableRawText,
+        _ => Reading::RawText,
+    }
+}

@@ -1,0 +1,66 @@
+//! The tokens of a page.
+ghost use Rattle.std.specs.Prelude.{◌≡◌};
+ghost use Rattle.htmd_html5_tokens.specs.RawTexts as raw;
+
+use htmd_tree::Attribute;
+
+/// A start tag or end tag. Of attributes of one name it has the first.
+#[derive(Debug, PartialEq, Eq, Drop)]
+pub struct Tag {
+    pub name: String,
+    pub attributes: Vec<Attribute>,
+    pub self_closing: bool,
+}
+
+/// What a page is made of.
+#[derive(Debug, PartialEq, Eq, Drop)]
+pub enum Token {
+    StartTag(Tag),
+    EndTag(Tag),
+    Text(String),
+    Comment(String),
+    Doctype { quirks: bool },
+    EndOfFile,
+}
+
+/// An element that holds text alone.
+#[derive(Debug, Clone, Copy, PartialEq, Eq)]
+pub enum RawElement {
+    Title,
+    Textarea,
+    Style,
+    Xmp,
+    Iframe,
+    Noembed,
+    Noframes,
+    Noscript,
+    Script,
+    Plaintext,
+}
+
+/// What is being read: pieces of all kinds, or the text of such an element and its end tag.
+#[derive(Debug, Clone, Copy, PartialEq, Eq)]
+pub enum Content {
+    Normal,
+    Raw(RawElement),
+}
+
+impl RawElement {
+    /// The name of its tags.
+    pub fn name(self) -> &'static str
+        ensures { result.now ≡ raw.name_of_element self }
+    {
+        match self {
+            RawElement::Title => "title",
+            RawElement::Textarea => "textarea",
+            RawElement::Style => "style",
+            RawElement::Xmp => "xmp",
+            RawElement::Iframe => "iframe",
+            RawElement::Noembed => "noembed",
+            RawElement::Noframes => "noframes",
+            RawElement::Noscript => "noscript",
+            RawElement::Script => "script",
+            RawElement::Plaintext => "plaintext",
+        }
+    }
+}

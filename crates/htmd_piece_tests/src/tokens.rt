@@ -1,0 +1,238 @@
+//! Tokens of texts, written by hand from the HTML Standard. `checks/refused_memory`, a part of the gate, refuses each
+//! request of the first test in turn.
+use htmd_html5_tokens::*;
+use htmd_tree::Attribute;
+use std::alloc::{AllocError, Global};
+use std::borrow::CowStr;
+use std::test::Fail;
+
+/// What a token is to be; a start tag has names and values, and says whether it ends in `/>`.
+#[derive(Debug, Clone, Copy)]
+enum Want {
+    Start(&'static str, &'static [(&'static str, &'static str)], bool),
+    End(&'static str),
+    Text(&'static str),
+    Comment(&'static str),
+    Doctype(bool),
+    EndOfFile,
+}
+
+fn has_pairs(attributes: &[Attribute], pairs: &[(&'static str, &'static str)]) -> bool {
+    if attributes.len() != pairs.len() {
+        return false;
+    }
+    for (attribute, (name, value)) in attributes.iter().zip(pairs.iter()) {
+        if attribute.name.as_str() != *name || attribute.value.as_str() != *value {
+            return false;
+        }
+    }
+    true
+}
+
+fn is_wanted(token: &Token, want: Want) -> bool {
+    match (token, want) {
+        (Token::StartTag(tag), Want::Start(name, pairs, self_closing)) => {
+            tag.name.as_str() == name
+                && has_pairs(tag.attributes.as_slice(), pairs)
+                && tag.self_closing == self_closing
+        }
+        (Token::EndTag(tag), Want::End(name)) => tag.name.as_str() == name,
+        (Token::Text(text), Want::Text(want)) => text.as_str() == want,
+        (Token::Comment(text), Want::Comment(want)) => text.as_str() == want,
+        (Token::Doctype { quirks }, Want::Doctype(want)) => *quirks == want,
+        (Token::EndOfFile, Want::EndOfFile) => true,
+        _ => false,
+    }
+}
+
+/// The next token, where need be at a second try.
+fn next(tokenizer: &mut Tokenizer<'_>, alloc: Global) -> Result<Token, AllocError> {
+    match tokenizer.next(alloc, Content::Normal, false) {
+        Ok(token) => Ok(token),
+        Err(_) => tokenizer.next(alloc, Content::Normal, false),
+    }
+}
+
+/// The text as it is read, where need be at a second try.
+fn read(alloc: Global, text: &str) -> Result<CowStr<'_>, AllocError> {
+    match preprocess(alloc, text) {
+        Ok(read) => Ok(read),
+        Err(_) => preprocess(alloc, text),
+    }
+}
+
+#[test]
+fn takes_each_kind(rt: HostRuntime) -> Result<(), Fail> {
+    let alloc = rt.alloc();
+    let page =
+        "\u{feff}<!DOCTYPE html>\r\n<!--c-->\r<P Id='&lt;' ID=2 class>a&amp;b&copy</p><br/></>&notit;</>\0";
+    let text = read(alloc, page)?;
+    let mut tokenizer = Tokenizer::new(&text);
+    for want in [
+        Want::Doctype(false),
+        Want::Text("\n"),
+        Want::Comment("c"),
+        Want::Text("\n"),
+        Want::Start("p", &[("id", "<"), ("class", "")], false),
+        Want::Text("a&b\u{a9}"),
+        Want::End("p"),
+        Want::Start("br", &[], true),
+        Want::Text("\u{ac}it;\0"),
+        Want::EndOfFile,
+        Want::EndOfFile,
+    ] {
+        let token = next(&mut tokenizer, alloc)?;
+        assert!(rt; is_wanted(&token, want), "{token:?}");
+    }
+    assert_eq!(rt; tokenizer.left(), 0);
+    Ok(())
+}
+
+#[test]
+fn takes_what_is_wrong(rt: HostRuntime) -> Result<(), Fail> {
+    let alloc = rt.alloc();
+    for (text, want) in [
+        (
+            "<a\0B \0c=\0>",
+            Want::Start("a\u{fffd}b", &[("\u{fffd}c", "\u{fffd}")], false),
+        ),
+        (
+            "<a =b c=d/ e='&amp=1&amp;=&amp'f>",
+            Want::Start(
+                "a",
+                &[("=b", ""), ("c", "d/"), ("e", "&amp=1&=&"), ("f", "")],
+                false,
+            ),
+        ),
+        (
+            "&#0;&#xD800;&#x110000;&#99999999999;&#x80;&#",
+            Want::Text("\u{fffd}\u{fffd}\u{fffd}\u{fffd}\u{20ac}&#"),
+        ),
+        ("<", Want::Text("<")),
+        ("</", Want::Text("</")),
+        ("<a", Want::EndOfFile),
+        ("<a b", Want::EndOfFile),
+        ("<a b=", Want::EndOfFile),
+        ("<a b='c>d", Want::EndOfFile),
+        ("</a ", Want::EndOfFile),
+        ("<!", Want::Comment("")),
+        ("<!-", Want::Comment("-")),
+        ("<!--", Want::Comment("")),
+        ("<!-->-->", Want::Comment("")),
+        ("<!--a--!>", Want::Comment("a")),
+        ("<!--a\0--", Want::Comment("a\u{fffd}")),
+        ("<?a>", Want::Comment("?a")),
+        ("</ a>", Want::Comment(" a")),
+        ("<![CDATA[a]]>", Want::Comment("[CDATA[a]]")),
+        ("<!doctypehtml>", Want::Doctype(false)),
+        ("<!DOCTYPE>", Want::Doctype(true)),
+        (
+            "<!DOCTYPE html PUBLIC \"-//W3C//DTD HTML 4.01 Transitional//EN\">",
+            Want::Doctype(true),
+        ),
+        (
+            "<!DOCTYPE html PUBLIC '-//W3C//DTD HTML 4.01 Transitional//EN' ''>",
+            Want::Doctype(false),
+        ),
+    ] {
+        let token = Tokenizer::new(text).next(alloc, Content::Normal, false)?;
+        assert!(rt; is_wanted(&token, want), "{text}: {token:?}");
+    }
+    Ok(())
+}
+
+#[test]
+fn takes_raw_texts_and_sections(rt: HostRuntime) -> Result<(), Fail> {
+    let alloc = rt.alloc();
+    for (content, foreign, text, want) in [
+        (
+            Content::Raw(RawElement::Title),
+            false,
+            "a&lt;\0</b></TITLE>",
+            Want::Text("a<\u{fffd}</b>"),
+        ),
+        (
+            Content::Raw(RawElement::Style),
+            false,
+            "a&lt;\0</styles></style",
+            Want::Text("a&lt;\u{fffd}</styles></style"),
+        ),
+        (
+            Content::Raw(RawElement::Script),
+            false,
+            "<!--<script></script></script>--></script>",
+            Want::Text("<!--<script></script>"),
+        ),
+        (
+            Content::Raw(RawElement::Script),
+            false,
+            "<!--<script>--></script>",
+            Want::Text("<!--<script>-->"),
+        ),
+        (
+            Content::Raw(RawElement::Script),
+            false,
+            "</script/>",
+            Want::End("script"),
+        ),
+        (
+            Content::Raw(RawElement::Plaintext),
+            false,
+            "</plaintext>",
+            Want::Text("</plaintext>"),
+        ),
+        (Content::Raw(RawElement::Xmp), false, "", Want::EndOfFile),
+        (
+            Content::Normal,
+            true,
+            "<![CDATA[]]><![CDATA[a]]&lt;\0]]>b",
+            Want::Text("a]]&lt;\0"),
+        ),
+        (Content::Normal, true, "<![CDATA[a]]", Want::Text("a]]")),
+    ] {
+        let token = Tokenizer::new(text).next(alloc, content, foreign)?;
+        assert!(rt; is_wanted(&token, want), "{text}: {token:?}");
+    }
+    Ok(())
+}
+
+/// A start tag with a thousand attributes, twice.
+fn with_many_attributes(alloc: Global) -> Result<String, Fail> {
+    let mut html = String::from_str(alloc, "<p")?;
+    for i in 0..2000_u32 {
+        let attribute = format!(in alloc; " a{}={i}", i % 1000)?;
+        html.push_str(attribute.as_str())?;
+    }
+    html.push('>')?;
+    Ok(html)
+}
+
+#[test]
+fn takes_a_thousand_attributes(rt: HostRuntime) -> Result<(), Fail> {
+    let html = with_many_attributes(rt.alloc())?;
+    let token = Tokenizer::new(html.as_str()).next(rt.alloc(), Content::Normal, false)?;
+    let Token::StartTag(tag) = token else {
+        return Err(Fail::from("it is a start tag"));
+    };
+    assert_eq!(rt; tag.attributes.len(), 1000);
+    for (i, attribute) in tag.attributes.iter().enumerate() {
+        let number = format!(in rt.alloc(); "{i}")?;
+        assert_eq!(rt; attribute.value.as_str(), number.as_str());
+    }
+    Ok(())
+}
+
+#[test]
+fn takes_many_references(rt: HostRuntime) -> Result<(), Fail> {
+    let mut text = String::new(rt.alloc());
+    for _ in 0..100_000 {
+        text.push_str("&amp")?;
+    }
+    let token = Tokenizer::new(text.as_str()).next(rt.alloc(), Content::Normal, false)?;
+    let Token::Text(read) = token else {
+        return Err(Fail::from("it is a text"));
+    };
+    assert_eq!(rt; read.len(), 100_000);
+    assert!(rt; read.as_bytes().iter().all(|byte| *byte == b'&'));
+    Ok(())
+}
