@@ -1,6 +1,6 @@
 -- All text below a node, as the loop over its children finds it.
 use Rattle.std.proofs.Common.{◌≡◌, ℕ, ◌+◌, ◌<◌, List, [], ◌∷◌, ◌++◌, length, get_or, drop, sym, ap, ◌∙◌}
-use Rattle.std.proofs.Common.{true, false, cond, codes}
+use Rattle.std.proofs.Common.{true, false, cond, codes, Some}
 use Rattle.std.proofs.lemmas.List.{drop_more, append_assoc}
 use Rattle.std.specs.Str.{bytes_eq}
 use Rattle.htmd_text.specs.Characters.{line_feed}
@@ -11,6 +11,8 @@ use Rattle.htmd_tree.specs.NumberedTrees.{with_children, tree_of, forest_of}
 use Rattle.htmd_tree.proofs.NumberedTreesLemmas.{tree-open}
 use Rattle.htmd.specs.AllText.{all_text, all_text_among}
 use Rattle.htmd.specs.Groups.{children_at}
+use Rattle.htmd.specs.ElementPlans.{is_tag_among}
+use Rattle.htmd.specs.OtherBlocks.{hidden_tags}
 
 module _ (items : List Item) where
   abbrev said : List ℕ → List ℕ
@@ -47,7 +49,8 @@ module _ (items : List Item) where
 
     element_said : (name : List ℕ) (attributes : List AttributePair)
         → data_at items id ≡ element_node name attributes
-        → cond (bytes_eq name (codes "br")) (line_feed ∷ []) (all_text_among (children_at items id))
+        → cond (bytes_eq name (codes "br")) (line_feed ∷ [])
+        (cond (is_tag_among hidden_tags (Some name)) [] (all_text_among (children_at items id)))
         ≡ all_text (tree_of items id)
     element_said name attributes e = sym (ap all_text (tree-open items id t l)
         ∙ ap (λ d. all_text (with_children id d (children_at items id))) e)
@@ -56,12 +59,26 @@ module _ (items : List Item) where
         → data_at items id ≡ element_node name attributes → bytes_eq name (codes "br") ≡ true
         → line_feed ∷ [] ≡ all_text (tree_of items id)
     break_said name attributes e b =
-        sym (ap (λ x. cond x (line_feed ∷ []) (all_text_among (children_at items id))) b)
-        ∙ element_said name attributes e
+        let rest = cond (is_tag_among hidden_tags (Some name)) [] (all_text_among (children_at items id)) in
+        sym (ap (λ x. cond x (line_feed ∷ []) rest) b) ∙ element_said name attributes e
+
+    no_break : (name : List ℕ) (attributes : List AttributePair)
+        → data_at items id ≡ element_node name attributes → bytes_eq name (codes "br") ≡ false
+        → cond (is_tag_among hidden_tags (Some name)) [] (all_text_among (children_at items id))
+        ≡ all_text (tree_of items id)
+    no_break name attributes e b =
+        let rest = cond (is_tag_among hidden_tags (Some name)) [] (all_text_among (children_at items id)) in
+        sym (ap (λ x. cond x (line_feed ∷ []) rest) b) ∙ element_said name attributes e
+
+    pub hidden_said : (name : List ℕ) (attributes : List AttributePair)
+        → data_at items id ≡ element_node name attributes → bytes_eq name (codes "br") ≡ false
+        → is_tag_among hidden_tags (Some name) ≡ true → [] ≡ all_text (tree_of items id)
+    hidden_said name attributes e b h =
+        sym (ap (λ x. cond x [] (all_text_among (children_at items id))) h) ∙ no_break name attributes e b
 
     pub other_said : (name : List ℕ) (attributes : List AttributePair)
         → data_at items id ≡ element_node name attributes → bytes_eq name (codes "br") ≡ false
+        → is_tag_among hidden_tags (Some name) ≡ false
         → all_text_among (children_at items id) ≡ all_text (tree_of items id)
-    other_said name attributes e b =
-        sym (ap (λ x. cond x (line_feed ∷ []) (all_text_among (children_at items id))) b)
-        ∙ element_said name attributes e
+    other_said name attributes e b h =
+        sym (ap (λ x. cond x [] (all_text_among (children_at items id))) h) ∙ no_break name attributes e b

@@ -12,7 +12,8 @@ use Rattle.htmd.specs.BuiltIn.{built_in}
 use Rattle.htmd.specs.Seams.{guarded_at_seam}
 use Rattle.htmd.specs.Spans.{is_read_in_formula}
 use Rattle.htmd.specs.OneLineElements.{stands_in_line, in_line_up}
-use Rattle.htmd.specs.Tables.{guarded_captions}
+use Rattle.htmd.specs.GuardedTableTexts.{guarded_table_text, no_guarded_texts}
+use Rattle.htmd.specs.GuardedTableLayouts.{column_span, row_span}
 use Rattle.htmd.specs.Rendering.{written_within}
 use Rattle.htmd.specs.Markdown.{markdown}
 
@@ -22,11 +23,18 @@ no_image_at_a_seam = refl
 spans_apart_at_a_seam : guarded_at_seam (codes "`a`") (codes "`b`") ≡ codes "`a` `b`"
 spans_apart_at_a_seam = refl
 
-captions_apart : guarded_captions (codes "S" ∷ codes "T" ∷ []) ≡ codes "S\nT\n\n"
+captions_apart : guarded_table_text true (record { before = codes "S" ∷ []; rows = []; behind = codes "T" ∷ [] })
+    ≡ codes "\n\nS\n\n\nT\n\n"
 captions_apart = refl
 
-no_captions : guarded_captions [] ≡ []
+no_captions : guarded_table_text true no_guarded_texts ≡ codes "\n\n\n"
 no_captions = refl
+
+many_columns : column_span (record { name = codes "colspan"; value = codes " 17x" } ∷ []) ≡ 16
+many_columns = refl
+
+all_rows : row_span (record { name = codes "rowspan"; value = codes "0" } ∷ []) ≡ 0
+all_rows = refl
 
 read_in_formula : is_read_in_formula (codes "a<b") ≡ true
 read_in_formula = refl

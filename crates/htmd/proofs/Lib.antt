@@ -30,3 +30,9 @@ pub mod TableHeadersLemmas
 pub mod TableTextsLemmas
 mod Examples
 pub mod GuardedExamples
+pub mod ImagesLemmas
+pub mod SightsLemmas
+pub mod GuardedNodesLemmas
+pub mod GuardedTableLemmas
+pub mod GuardedSpansLemmas
+pub mod TableOrdersLemmas

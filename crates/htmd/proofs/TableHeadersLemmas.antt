@@ -48,10 +48,10 @@ shows_header_deeper items id =
     is_header (tree_of items id) || (not (is_table (tree_of items id)) && has_header_below (tree_of items id))
 
 module _ (items : List Item) (t : IsTree items) where
-  tree_tag : (id : ℕ) → id < length items → tag_of_tree (tree_of items id) ≡ tag_of (data_at items id)
+  pub tree_tag : (id : ℕ) → id < length items → tag_of_tree (tree_of items id) ≡ tag_of (data_at items id)
   tree_tag id l = ap tag_of_tree (tree-open items id t l) ∙ tag-put id (data_at items id) (children_at items id)
 
-  no_children : (id : ℕ) (ids : List ℕ) → id < length items → ids ≡ children_of items id
+  pub no_children : (id : ℕ) (ids : List ℕ) → id < length items → ids ≡ children_of items id
       → holds_children (data_at items id) ≡ false → ids ≡ []
   no_children id [] l e h = refl
   no_children id (k ∷ ids) l e h =

@@ -27,7 +27,7 @@ fold_keeps P Q f step b (x ∷ xs) p q =
     fold_keeps P Q f step (f b x) xs (step b x p (q 0 x (omega arith))) (λ i d l. q (suc i) d (omega arith))
 
 module _ (items : List Item) (table : ℕ) where
-  abbrev Below : ℕ → Type 0
+  abbrev pub Below : ℕ → Type 0
   Below d = ∥ IsBelow items table d ∥₁
 
   abbrev Proper : Layout → Type 0
@@ -36,19 +36,19 @@ module _ (items : List Item) (table : ℕ) where
   Below-prop : (d : ℕ) → IsProp (Below d)
   Below-prop d = hlevel props
 
-  one : (d : ℕ) → Below d → All Below (d ∷ [])
+  pub one : (d : ℕ) → Below d → All Below (d ∷ [])
   one d h = All-from_get_or Below (d ∷ []) d (λ i l. first i l)
     where
       first : (i : ℕ) → i < 1 → Below (get_or (d ∷ []) i d)
       first zero l = h
       first (suc i) l = absurd (omega arith)
 
-  children_below : (d : ℕ) → Below d → All Below (children_of items d)
+  pub children_below : (d : ℕ) → Below d → All Below (children_of items d)
   children_below d h = All-from_get_or Below (children_of items d) 0
       (λ i l. ∥∥₁_elim h (Below-prop (get_or (children_of items d) i 0))
       (λ b. ∣ deeper b (Contains-get_or (children_of items d) i 0 l) ∣₁))
 
-  tagged_below : (tag : List ℕ) (d : ℕ) → Below d → All Below (tagged_children tag items d)
+  pub tagged_below : (tag : List ℕ) (d : ℕ) → Below d → All Below (tagged_children tag items d)
   tagged_below tag d h = All-filter (has_tag (tag ∷ []) items) Below (children_of items d) (children_below d h)
 
   if_none-below : (ds es : List ℕ) → All Below ds → All Below es → All Below (if_none ds es)

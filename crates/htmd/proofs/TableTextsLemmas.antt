@@ -9,12 +9,12 @@ use Rattle.htmd.specs.Tables.{TableTexts, with_part, with_parts}
 use Rattle.htmd.specs.TableViews.{parts_view}
 use Rattle.htmd.specs.Views.{result_view, results_view}
 
-map-take : (n : ℕ) (xs : List HandlerResult) → results_view (take n xs) ≡ take n (results_view xs)
+pub map-take : (n : ℕ) (xs : List HandlerResult) → results_view (take n xs) ≡ take n (results_view xs)
 map-take zero xs = refl
 map-take (suc n) [] = refl
 map-take (suc n) (x ∷ xs) = ap (λ ys. result_view x ∷ ys) (map-take n xs)
 
-map-drop : (n : ℕ) (xs : List HandlerResult) → results_view (drop n xs) ≡ drop n (results_view xs)
+pub map-drop : (n : ℕ) (xs : List HandlerResult) → results_view (drop n xs) ≡ drop n (results_view xs)
 map-drop zero xs = refl
 map-drop (suc n) [] = refl
 map-drop (suc n) (x ∷ xs) = map-drop n xs

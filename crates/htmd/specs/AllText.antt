@@ -6,16 +6,19 @@ use Rattle.htmd_tree.specs.NumberedTrees.{NumberedTree, document, doctype, text,
 use Rattle.htmd_tree.specs.NumberedTrees.{NumberedForest, none, more}
 use Rattle.htmd.specs.Handling.{ElementView}
 use Rattle.htmd.specs.Groups.{children_at}
+use Rattle.htmd.specs.ElementPlans.{is_tag_among}
+use Rattle.htmd.specs.OtherBlocks.{hidden_tags}
 
 abbrev mutual
-  -- the texts in order, and a line feed for each `br`
+  -- the texts in order, and a line feed for each `br`; nothing of what a browser doesn't show
   pub all_text : NumberedTree → List ℕ
   all_text (document id children) = all_text_among children
   all_text (doctype id) = []
   all_text (text id s) = s
   all_text (comment id s) = []
   all_text (element id name attributes children) =
-      if bytes_eq name (codes "br") then line_feed ∷ [] else all_text_among children
+      if bytes_eq name (codes "br") then line_feed ∷ []
+      else (if is_tag_among hidden_tags (Some name) then [] else all_text_among children)
 
   pub all_text_among : NumberedForest → List ℕ
   all_text_among none = []

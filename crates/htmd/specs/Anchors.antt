@@ -1,6 +1,6 @@
 -- The handler of a, and the definitions that its references name.
-use Rattle.std.specs.Prelude.{ℕ, Bool, ◌+◌, ◌&&◌, if◌then◌else◌, List, [], ◌∷◌, length, Option, Some, None, codes}
-use Rattle.std.specs.Option.{unwrap_or}
+use Rattle.std.specs.Prelude.{ℕ, Bool, false, not, ◌+◌, ◌&&◌, ◌||◌, if◌then◌else◌, List, [], ◌∷◌, length, Option, Some, None, codes}
+use Rattle.std.specs.Option.{is_some, unwrap_or}
 use Rattle.std.specs.Str.{bytes_eq}
 use Rattle.htmd_text.specs.Characters.{line_feed}
 use Rattle.htmd_text.specs.BlankLines.{with_blank_lines}
@@ -10,14 +10,17 @@ use Rattle.htmd_text.specs.WhiteSpace.{is_document_white_space}
 use Rattle.htmd_markdown.specs.Links.{inline_link, autolink, reference, definition}
 use Rattle.htmd_markdown.specs.GuardedLinks.{guarded_link, is_autolink_address, guarded_autolink, guarded_reference}
 use Rattle.htmd_markdown.specs.GuardedLinks.{guarded_definition}
+use Rattle.htmd_tree.specs.NumberedTrees.{NumberedTree, document, doctype, text, comment, element}
+use Rattle.htmd_tree.specs.NumberedTrees.{NumberedForest, none, more}
 use Rattle.htmd.specs.declared.options.LinkStyle.{LinkStyle}
 use Rattle.htmd.specs.declared.options.LinkStyle.TheVariants.{Inlined, InlinedPreferAutolinks, Referenced}
 use Rattle.htmd.specs.Handling.{ElementView, ResultView, PlanView, raw_html, content_of_children, Finish}
 use Rattle.htmd.specs.Handling.{HandlerMeaning}
 use Rattle.htmd.specs.Handling.{final_result, without_definitions}
 use Rattle.htmd.specs.Outputs.{is_guarded}
-use Rattle.htmd.specs.ElementPlans.{attributes_of}
+use Rattle.htmd.specs.ElementPlans.{attributes_of, is_tag_among}
 use Rattle.htmd.specs.AllText.{all_text_of}
+use Rattle.htmd.specs.Groups.{children_at}
 use Rattle.htmd.specs.LinkAttributes.{last_value, is_raw_unless_among, title_of}
 use Rattle.htmd.specs.ElementPlans.{markdown_result}
 
@@ -48,11 +51,27 @@ link_finish InlinedPreferAutolinks view content address definitions =
     (unwrap_or (autolink content address) (inline_link content address (title_of view))))
 link_finish Referenced view content address definitions = reference_finish view content address definitions
 
--- In Guarded an autolink stands where all text, without white space at its ends, is the address, and that is an
--- absolute URI that is read as it stands.
+abbrev mutual
+  -- an image stands there
+  pub holds_image : NumberedTree → Bool
+  holds_image (document id children) = hold_image children
+  holds_image (doctype id) = false
+  holds_image (text id s) = false
+  holds_image (comment id s) = false
+  holds_image (element id name attributes children) =
+      is_tag_among (codes "img" ∷ []) (Some name) || hold_image children
+
+  pub hold_image : NumberedForest → Bool
+  hold_image none = false
+  hold_image (more tree trees) = holds_image tree || hold_image trees
+
+-- In Guarded an autolink stands where no image stands below, and all text, without white space at its ends, is the
+-- address, and that is an absolute URI that is read as it stands.
 abbrev pub is_autolinked : ElementView → List ℕ → Bool
 is_autolinked view address =
-    bytes_eq (trimmed_text is_document_white_space (all_text_of view)) address && is_autolink_address address
+    bytes_eq (trimmed_text is_document_white_space (all_text_of view)) address
+    && is_autolink_address address
+    && (is_some view.text || not (hold_image (children_at view.items view.node)))
 
 -- the links of Guarded: a reference always by its number
 abbrev pub guarded_link_finish : LinkStyle → ElementView → List ℕ → List ℕ → List (List ℕ) → Finish

@@ -26,7 +26,7 @@ use Rattle.htmd.specs.Code.{code}
 use Rattle.htmd.specs.Preformatted.{preformatted_texts}
 use Rattle.htmd.specs.Lists.{lists}
 use Rattle.htmd.specs.ListItems.{list_items}
-use Rattle.htmd.specs.Tables.{tables}
+use Rattle.htmd.specs.TableElements.{tables}
 use Rattle.htmd.specs.TableCells.{cells}
 use Rattle.htmd.specs.TableParts.{table_rows, table_parts}
 use Rattle.htmd.specs.Images.{images}

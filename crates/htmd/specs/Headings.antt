@@ -4,7 +4,8 @@ use Rattle.std.specs.Str.{bytes_eq}
 use Rattle.htmd_markdown.specs.Headings.{heading, guarded_heading}
 use Rattle.htmd.specs.Handling.{ElementView, ResultView, HandlerMeaning, of_plan}
 use Rattle.htmd.specs.Outputs.{is_guarded}
-use Rattle.htmd.specs.ElementPlans.{tag_of, plain_plan, markdown_result}
+use Rattle.htmd.specs.ElementPlans.{tag_of, plain_plan, markdown_result, wrapped_result}
+use Rattle.htmd.specs.OneLineElements.{is_in_line}
 
 -- the level that a tag names
 abbrev pub level_of : List ℕ → ℕ
@@ -17,7 +18,8 @@ level_of tag =
 
 abbrev pub heading_result : ElementView → ResultView → Option ResultView
 heading_result view content =
-    markdown_result ((if is_guarded view.options then guarded_heading else heading)
+    if is_in_line view then wrapped_result view content
+    else markdown_result ((if is_guarded view.options then guarded_heading else heading)
     view.options.heading_style (level_of (tag_of view)) content.content)
 
 abbrev pub headings : HandlerMeaning

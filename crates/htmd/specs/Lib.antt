@@ -47,6 +47,10 @@ pub mod ListItems
 pub mod TableLayouts
 pub mod TableOrder
 pub mod Tables
+pub mod GuardedTableLayouts
+pub mod GuardedTableTexts
+pub mod CaptionsAndCells
+pub mod TableElements
 pub mod TableCells
 pub mod TableParts
 pub mod LinkAttributes
@@ -70,3 +74,4 @@ pub mod Staying
 pub mod Walking
 pub mod TableViews
 pub mod PlainTexts
+pub mod GuardedTableViews

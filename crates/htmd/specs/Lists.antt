@@ -3,7 +3,8 @@ use Rattle.std.specs.Prelude.{ℕ, Bool, false, not, ◌&&◌, ◌||◌, if◌th
 use Rattle.std.specs.Prelude.{map}
 use Rattle.std.specs.List.{list_any, zip}
 use Rattle.std.specs.Str.{bytes_eq}
-use Rattle.htmd_markdown.specs.Lists.{first_number, Block, item, other, ordered_list, guarded_ordered_list, list_block}
+use Rattle.htmd_markdown.specs.Lists.{first_number, Block, item, other, ordered_list, guarded_ordered_list}
+use Rattle.htmd_markdown.specs.Lists.{unnumbered_list, list_block}
 use Rattle.htmd_tree.specs.ValueTrees.{AttributePair}
 use Rattle.htmd_tree.specs.Items.{Item, data_at, children_of}
 use Rattle.htmd.specs.Handling.{ElementView, ResultView, PlanView, raw_html, content_of_children, HandlerMeaning}
@@ -11,6 +12,7 @@ use Rattle.htmd.specs.Handling.{contents_of_each, final_result, without_definiti
 use Rattle.htmd.specs.Outputs.{is_markdown_alone, is_guarded}
 use Rattle.htmd.specs.ElementPlans.{tag_of, attributes_of, parent_tag, value_of_first, are_markdown, raw_block_result}
 use Rattle.htmd.specs.ElementPlans.{is_raw_html_due, is_tag_among, optional_markdown}
+use Rattle.htmd.specs.OneLineElements.{is_in_line}
 use Rattle.htmd_tree.specs.Items as tree
 
 -- how many attributes a list may have: `start`, where it stands first
@@ -70,7 +72,8 @@ first_number_of view = first_number (value_of_first (codes "start") (attributes_
 -- the items behind their numbers, and the other children's contents, as the mode writes them
 abbrev pub ordered_text : ElementView → List Block → List ℕ
 ordered_text view blocks =
-    (if is_guarded view.options then guarded_ordered_list else ordered_list)
+    if is_in_line view then unnumbered_list blocks
+    else (if is_guarded view.options then guarded_ordered_list else ordered_list)
     (first_number_of view) view.options.ol_number_spacing blocks
 
 abbrev pub numbered_list : ElementView → List ResultView → ResultView

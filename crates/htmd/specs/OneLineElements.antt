@@ -7,8 +7,8 @@ use Rattle.htmd_tree.specs.Ancestors.{Ancestor, ancestor_of}
 use Rattle.htmd.specs.declared.options.Options.{Options}
 use Rattle.htmd.specs.Outputs.{is_guarded}
 use Rattle.htmd.specs.LinkAttributes.{is_among, last_value}
-use Rattle.htmd.specs.Tables.{has_table_form}
-use Rattle.htmd.specs.TableLayouts.{layout_of, has_lines}
+use Rattle.htmd.specs.Handling.{ElementView}
+use Rattle.htmd.specs.GuardedTableLayouts.{is_written_as_table}
 
 abbrev pub heading_tags : List (List ℕ)
 heading_tags = codes "h1" ∷ codes "h2" ∷ codes "h3" ∷ codes "h4" ∷ codes "h5" ∷ codes "h6" ∷ []
@@ -16,10 +16,6 @@ heading_tags = codes "h1" ∷ codes "h2" ∷ codes "h3" ∷ codes "h4" ∷ codes
 -- `a` with an address
 abbrev pub is_link : Ancestor → Bool
 is_link a = bytes_eq a.tag (codes "a") && is_some (last_value (codes "href" ∷ []) a.attributes)
-
--- a table with explicit headers, in no cell of another one, that has a line to write
-abbrev pub is_written_as_table : List Item → ℕ → Bool
-is_written_as_table items node = has_table_form items node && has_lines (layout_of items node)
 
 -- a heading, a link, or a table that is written as a table
 abbrev pub is_one_line_tag : Ancestor → List Item → ℕ → Bool
@@ -52,3 +48,7 @@ known_in_line options items id = is_guarded options && stands_in_line items id
 abbrev pub known_in_line_inside : Options → List Item → ℕ → Bool
 known_in_line_inside options items id =
     is_guarded options && (is_in_one_line items id || stands_in_line items id)
+
+-- In Guarded what stands in one line is no block: it gives its content alone.
+abbrev pub is_in_line : ElementView → Bool
+is_in_line view = known_in_line view.options view.items view.node

@@ -1,11 +1,12 @@
 -- How the text of a text node is written.
-use Rattle.std.specs.Prelude.{ℕ, Bool, false, ◌&&◌, ◌||◌, if◌then◌else◌, List, [], ◌∷◌, drop, codes}
+use Rattle.std.specs.Prelude.{ℕ, Bool, false, ◌&&◌, ◌||◌, if◌then◌else◌, List, [], ◌∷◌, ◌++◌, drop, codes}
 use Rattle.std.specs.List.{list_any}
 use Rattle.std.specs.Str.{bytes_eq}
 use Rattle.htmd_text.specs.EscapeMarks.{escaped_markdown, escaped_pre_text}
 use Rattle.htmd_text.specs.WhiteSpace.{squeezed_text}
 use Rattle.htmd_tree.specs.Ancestors.{Ancestor}
 use Rattle.htmd_markdown.specs.GuardedText.{guarded_text, begins_line}
+use Rattle.htmd_markdown.specs.Joints.{with_joint}
 use Rattle.htmd.specs.Seams.{begins_with_space, ends_with_space}
 
 abbrev pub is_pre_or_code : Ancestor → Bool
@@ -38,9 +39,14 @@ abbrev pub guarded_ordinary_text : Bool → List ℕ → List ℕ → List ℕ
 guarded_ordinary_text trim out s =
     guarded_text (begins_line out) (without_first_space (trim || ends_with_space out) (squeezed_text s))
 
--- The text of a node behind the text so far, by whether the mode is Guarded, the text preformatted, its parent `pre`,
--- and by the trim flag. In Guarded no text is preformatted.
-abbrev pub written_text : Bool → Bool → Bool → Bool → List ℕ → List ℕ → List ℕ
-written_text guarded preformatted in_pre trim out s =
-    if guarded then guarded_ordinary_text trim out s
-    else (if preformatted then preformatted_text in_pre s else ordinary_text trim out s)
+-- what the text of a node adds to the text so far, where the mode is not Guarded
+abbrev pub written_text : Bool → Bool → Bool → List ℕ → List ℕ → List ℕ
+written_text preformatted in_pre trim out s =
+    if preformatted then preformatted_text in_pre s else ordinary_text trim out s
+
+-- The text so far with the text of a node behind it, by whether the mode is Guarded, the text preformatted, its parent
+-- `pre`, and by the trim flag. In Guarded no text is preformatted, and both are mended where they meet.
+abbrev pub with_written_text : Bool → Bool → Bool → Bool → List ℕ → List ℕ → List ℕ
+with_written_text guarded preformatted in_pre trim out s =
+    if guarded then with_joint out (guarded_ordinary_text trim out s)
+    else out ++ written_text preformatted in_pre trim out s

@@ -10,8 +10,8 @@ use Rattle.htmd_tree.specs.Ancestors.{Ancestor, ancestor_of, ancestors_of}
 use Rattle.htmd_tree.specs.Serialisation.{comment_of}
 use Rattle.htmd.specs.Handling.{ResultView}
 use Rattle.htmd.specs.Seams.{written_at_seam}
-use Rattle.htmd.specs.OrdinaryText.{pre, parent_is_pre, written_text}
-use Rattle.htmd.specs.Outputs.{Conversion, Output, push_text, Context, Writes, is_markdown_alone, is_guarded}
+use Rattle.htmd.specs.OrdinaryText.{pre, parent_is_pre, with_written_text}
+use Rattle.htmd.specs.Outputs.{Conversion, Output, push_text, replace_text, Context, Writes, is_markdown_alone, is_guarded}
 use Rattle.htmd.specs.Children.{write_groups}
 use Rattle.htmd.specs.Elements.{Answer, answer_after, occurrence_at}
 
@@ -40,8 +40,8 @@ end_of_document markdown_translated out = record {
 }
 
 abbrev pub write_text : Bool → List ℕ → Context → Output → Output
-write_text guarded s context out = push_text out
-    (written_text guarded context.preformatted (parent_is_pre context.ancestors) context.trim out.text s)
+write_text guarded s context out = replace_text
+    (with_written_text guarded context.preformatted (parent_is_pre context.ancestors) context.trim out.text s) out
 
 abbrev pub write_node : Writes → Conversion → Writes
 write_node write conversion (document id children) context out =

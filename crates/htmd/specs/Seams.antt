@@ -1,10 +1,10 @@
 -- How a text is put behind another one.
 use Rattle.std.specs.Prelude.{ℕ, ◌+◌, min, max, Bool, false, ◌&&◌, ◌||◌, ◌==◌, nat_lt, if◌then◌else◌, List, ◌++◌}
 use Rattle.std.specs.Prelude.{length}
-use Rattle.std.specs.Prelude.{drop, replicate, ◌-◌, take, codes}
+use Rattle.std.specs.Prelude.{drop, replicate}
 use Rattle.std.specs.List.{prefix_len, suffix_len}
-use Rattle.htmd_text.specs.Characters.{line_feed, exclamation_mark, left_square_bracket, grave_accent}
-use Rattle.htmd_markdown.specs.CodeSpans.{begins_with, ends_with}
+use Rattle.htmd_text.specs.Characters.{line_feed}
+use Rattle.htmd_markdown.specs.Joints.{mended_ends}
 use Rattle.htmd_text.specs.Trims.{trimmed_start, trimmed_end, is_line_feed, is_space}
 
 abbrev pub begins_with_space : List ℕ → Bool
@@ -33,17 +33,9 @@ joined_at_seam out content whole =
     then out ++ content
     else joined_texts (suffix_len is_line_feed out) (prefix_len is_line_feed content) out content
 
--- In Guarded the text so far gets a backslash before the `!` at its end where a bracket follows, which would make an
--- image (CommonMark 0.31.2, 6.4), and a space where a backquote would meet a backquote (6.1).
-abbrev pub before_content : List ℕ → List ℕ → List ℕ
-before_content out content =
-    if ends_with exclamation_mark out && begins_with left_square_bracket content
-    then take (length out - 1) out ++ codes "\\!"
-    else (if ends_with grave_accent out && begins_with grave_accent content then out ++ codes " " else out)
-
--- content behind a text in Guarded: never whole, since no text is preformatted there
+-- content behind a text in Guarded: mended where they meet, and never whole, since no text is preformatted there
 abbrev pub guarded_at_seam : List ℕ → List ℕ → List ℕ
-guarded_at_seam out content = joined_at_seam (before_content out content) content false
+guarded_at_seam out content = let both = mended_ends out content in joined_at_seam both.front both.behind false
 
 -- content behind a text, by whether the mode is Guarded
 abbrev pub written_at_seam : Bool → List ℕ → List ℕ → Bool → List ℕ

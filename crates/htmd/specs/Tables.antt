@@ -1,4 +1,4 @@
--- The handler of table.
+-- What a table is, and how it is written in Pure and Faithful.
 use Rattle.std.specs.Prelude.{ℕ, Bool, false, not, ◌&&◌, ◌||◌, if◌then◌else◌, List, [], ◌∷◌, length, Option, Some, None}
 use Rattle.std.specs.Prelude.{true, codes, ◌++◌, map, take, drop}
 use Rattle.std.specs.List.{list_any, flat_map}
@@ -70,17 +70,6 @@ abbrev pub has_table_form : List Item → ℕ → Bool
 has_table_form items node =
     has_explicit_headers (children_at items node) && not (list_any is_cell (above.ancestors_of items node))
 
--- Where no HTML is written, a table without that form is no table.
-abbrev pub is_left_out : ElementView → Bool
-is_left_out view = is_markdown_alone view.options && not (has_table_form view.items view.node)
-
--- the captions and cells, each by itself
-abbrev pub table_plan : ElementView → PlanView
-table_plan view =
-    unless_attributes view
-    (if is_left_out view then content_of_fallback
-    else contents_of_each (nodes_of (layout_at view).parts))
-
 -- the texts of a table's parts; whether all of its cells are Markdown
 pub record TableTexts : Type 0 where
   pub captions : List (List ℕ)
@@ -129,43 +118,3 @@ in_line s = s ++ line_feed ∷ []
 abbrev pub table_text : TableTexts → List ℕ
 table_text texts =
     (blank_line ++ flat_map in_line texts.captions) ++ in_line (table texts.headers texts.rows)
-
--- the captions of Guarded: a blank line parts them from the table, which would be read as their paragraph
-abbrev pub guarded_captions : List (List ℕ) → List ℕ
-guarded_captions [] = []
-guarded_captions (caption ∷ captions) = in_line (flat_map in_line (caption ∷ captions))
-
--- the headers of Guarded, an empty one where there are none: by the line of dashes below them a reader knows a table
-abbrev pub guarded_headers : List (List ℕ) → List (List ℕ)
-guarded_headers [] = [] ∷ []
-guarded_headers (header ∷ headers) = header ∷ headers
-
-abbrev pub guarded_table_text : TableTexts → List ℕ
-guarded_table_text texts =
-    (blank_line ++ guarded_captions texts.captions)
-    ++ in_line (guarded_table (guarded_headers texts.headers) texts.rows)
-
--- in Faithful a table with a cell that isn't Markdown is raw HTML; without headers and rows the children's
--- content is asked for
-abbrev pub table_outcome : ElementView → List ResultView → OutcomeView
-table_outcome view contents =
-    let texts = with_parts no_texts (layout_at view).parts contents in
-    if is_markdown_alone view.options || texts.markdown_translated
-    then (if has_lines (layout_at view)
-    then final_result (markdown_result ((if is_guarded view.options then guarded_table_text else table_text) texts))
-    else children_too)
-    else final_result (Some (raw_block_result view))
-
--- what the next handler gives stays as it is; the children's content stands between blank lines
-abbrev pub table_result : ElementView → ResultView → Option ResultView
-table_result view content =
-    if is_left_out view then Some content
-    else optional_markdown (option_map with_blank_lines (some_text (trimmed_text is_line_feed content.content)))
-
-abbrev pub tables : HandlerMeaning
-tables = record {
-  plan = table_plan;
-  finish = λ view content definitions. without_definitions (table_result view content);
-  finish_each = table_outcome;
-  append = λ definitions. None;
-}

@@ -6,10 +6,12 @@ ghost use Rattle.htmd.specs.Groups.{children_at};
 ghost use Rattle.htmd.specs.Views.{element_view};
 
 use crate::element_handler::Element;
+use crate::element_handler::other_block::is_hidden;
 use htmd_tree::{NodeData, NodeId, Tree};
 use std::alloc::{AllocError, Global};
 
-/// All text of an element: the one text that it shows, or the texts below it in order, and a line feed for each `br`.
+/// All text of an element: the one text that it shows, or the texts below it in order, and a line feed for each `br`;
+/// nothing of what a browser doesn't show.
 pub(crate) fn all_text(alloc: Global, element: &Element) -> Result<String, AllocError>
     ensures { IfOk result (λ text. string_bytes text ≡ spec.all_text_of (element_view element.now)) }
 {
@@ -36,7 +38,7 @@ fn push_text_below(out: &mut String, tree: &Tree, node: NodeId) -> Result<(), Al
             NodeData::Element { name, .. } => {
                 if name.as_str() == "br" {
                     out.push('\n')?;
-                } else {
+                } else if !is_hidden(name.as_str()) {
                     push_text_below(out, tree, *child)?;
                 }
             }

@@ -132,50 +132,44 @@ impl<'a, R: Registry> Walk<'a, R> {
     }
 
     /// In Guarded, whether what stands below an element is written in one line.
-    fn is_line_inside(&self, element: &Element) -> Result<bool, AllocError>
+    fn is_line_inside(&self, element: &Element) -> bool
         requires tree { element.now.tree.now ≡ self.now.tree.now }
         requires options { element.now.options.now ≡ (R.config self.now.registry.now).options }
-        ensures { IfOk result (λ inside. inside ≡ known_in_line_inside (R.config self.now.registry.now).options
-            self.now.tree.now element.now.node) }
+        ensures { result ≡ known_in_line_inside (R.config self.now.registry.now).options
+            self.now.tree.now element.now.node }
     {
         if element.is_in_line {
-            return Ok(true);
+            return true;
         }
         if !is_guarded(element.options) {
-            return Ok(false);
+            return false;
         }
-        is_in_one_line(self.alloc, self.tree, element.node)
+        is_in_one_line(self.tree, element.node)
     }
 
     /// In Guarded, whether a node stands in one line; it does where it is below the node of which it is known that what
     /// stands below it does or does not.
-    fn is_line_below(
-        &self,
-        above: NodeId,
-        inside_line: bool,
-        node: NodeId,
-    ) -> Result<bool, AllocError>
+    fn is_line_below(&self, above: NodeId, inside_line: bool, node: NodeId) -> bool
         requires above { above < length self.now.tree.now }
         requires within { node < length self.now.tree.now }
         requires line { inside_line ≡ known_in_line_inside (R.config self.now.registry.now).options
             self.now.tree.now above }
-        ensures { IfOk result (λ below. below ≡ known_in_line (R.config self.now.registry.now).options
-            self.now.tree.now node) }
+        ensures { result ≡ known_in_line (R.config self.now.registry.now).options self.now.tree.now node }
     {
         if !is_guarded(self.registry.options()) {
-            return Ok(false);
+            return false;
         }
         let mut at = node;
         while let Some(parent) = self.tree.parent(at) {
             if parent == above {
-                return Ok(inside_line);
+                return inside_line;
             }
-            if is_in_one_line(self.alloc, self.tree, parent)? {
-                return Ok(true);
+            if is_in_one_line(self.tree, parent) {
+                return true;
             }
             at = parent;
         }
-        Ok(false)
+        false
     }
 
     /// What the handlers of an element's tag make of it, from the one after so many newer ones on.
@@ -214,7 +208,7 @@ impl<'a, R: Registry> Walk<'a, R> {
                         .finish(self.alloc, index, element, content, links)
                 }
                 Plan::Descendant(below) => {
-                    let inside_line = self.is_line_inside(element)?;
+                    let inside_line = self.is_line_inside(element);
                     let content = self.walk_descendant(element, inside_line, below, links)?;
                     self.registry
                         .finish(self.alloc, index, element, content, links)
@@ -344,7 +338,7 @@ impl<'a, R: Registry> Walk<'a, R> {
         ensures err { ElementBegins (R.config self.now.registry.now) self.now.tree.now element.now
             (λ at. (contents_alone at nodes.now links.old).definitions) links.old links.new result }
     {
-        let inside_line = self.is_line_inside(element)?;
+        let inside_line = self.is_line_inside(element);
         let mut results = Vec::with_capacity(self.alloc, nodes.len())?;
         for node in nodes {
             let result = self.walk_kept(element, inside_line, *node, may_keep, remembered, links)?;
@@ -387,7 +381,7 @@ impl<'a, R: Registry> Walk<'a, R> {
             )?;
             return Ok(out);
         }
-        let inside_line = self.is_line_inside(element)?;
+        let inside_line = self.is_line_inside(element);
         self.walk_children(element.node, inside_pre, inside_line, &mut out, links)?;
         Ok(out)
     }
@@ -470,7 +464,7 @@ impl<'a, R: Registry> Walk<'a, R> {
             (option_copied element.now.text) below links.old write).definitions) links.old links.new result }
     {
         let Some(text) = element.text else {
-            let is_in_line = self.is_line_below(element.node, inside_line, below)?;
+            let is_in_line = self.is_line_below(element.node, inside_line, below);
             return self.walk_alone(below, is_in_line, links);
         };
         let mut out = empty_result(self.alloc, self.spare);
@@ -533,7 +527,7 @@ impl<'a, R: Registry> Walk<'a, R> {
             tree: self.tree,
             options: self.registry.options(),
             text: text_shown(self.tree, below, None),
-            is_in_line: self.is_line_below(element.node, inside_line, below)?,
+            is_in_line: self.is_line_below(element.node, inside_line, below),
             pre_language: language_above(self.tree, below),
         };
         let is_inside_pre = is_inside_pre(self.tree, below);
@@ -691,7 +685,7 @@ pub(crate) fn tree_to_markdown<R: Registry>(
     let spare = SpareTexts::new(alloc);
     let walk = Walk::new(registry, alloc, tree, &spare);
     let mut links = Links::new(alloc);
-    let is_in_line = is_known_in_line(registry.options(), alloc, tree, node)?;
+    let is_in_line = is_known_in_line(registry.options(), tree, node);
     let mut markdown = walk.walk_alone(node, is_in_line, &mut links)?.content;
     trim_newlines(&mut markdown);
     let mut appended = registry.append(alloc, &links)?;
@@ -729,7 +723,7 @@ pub(crate) fn handle_element<R: Registry>(
         tree,
         options: registry.options(),
         text: text_shown(tree, node, None),
-        is_in_line: is_known_in_line(registry.options(), alloc, tree, node)?,
+        is_in_line: is_known_in_line(registry.options(), tree, node),
         pre_language: language_above(tree, node),
     };
     let inside_pre = is_inside_pre(tree, node) || is_pre_or_code(tree, node);

@@ -3,9 +3,10 @@
 ghost use Rattle.std.specs.Prelude.{◌≡◌, ◌++◌, ◌&&◌, ◌==◌, OnOk, string_bytes};
 ghost use Rattle.std.specs.List.{prefix_len, suffix_len};
 ghost use Rattle.htmd_text.specs.Trims.{is_line_feed};
-ghost use Rattle.htmd.specs.Seams.{begins_with_space, ends_with_space, joined_texts, joined_at_seam, before_content};
+ghost use Rattle.htmd.specs.Seams.{begins_with_space, ends_with_space, joined_texts, joined_at_seam};
 ghost use Rattle.htmd.specs.Seams.{written_at_seam};
 
+use htmd_markdown::mend_joint;
 use htmd_text::runs::{leading_len, trailing_len};
 use std::alloc::AllocError;
 
@@ -49,22 +50,7 @@ fn append_content(out: &mut String, content: &mut String, whole: bool) -> Result
     out.push_str(rest)
 }
 
-/// Puts behind a text what keeps it apart from a content in Guarded: a `!` at its end gets a backslash
-/// before a bracket, and a space stands between two backquotes.
-fn part_from_content(out: &mut String, content: &str) -> Result<(), AllocError>
-    ensures { OnOk result (string_bytes out.new ≡ before_content (string_bytes out.old) content.now) }
-{
-    match (out.as_bytes().last(), content.as_bytes().first()) {
-        (Some(b'!'), Some(b'[')) => {
-            out.truncate(out.len() - 1);
-            out.push_str("\\!")
-        }
-        (Some(b'`'), Some(b'`')) => out.push(' '),
-        _ => Ok(()),
-    }
-}
-
-/// Puts content behind a text, whole or at a seam; in Guarded never whole, and kept apart. What is left of the content
+/// Puts content behind a text, whole or at a seam; in Guarded never whole, and mended where both meet. What is left of the content
 /// is of no use but for its memory.
 pub(crate) fn append_normalized_content(
     out: &mut String,
@@ -76,7 +62,7 @@ pub(crate) fn append_normalized_content(
         ≡ written_at_seam is_guarded (string_bytes out.old) (string_bytes content.old) whole) }
 {
     if is_guarded {
-        part_from_content(out, content.as_str())?;
+        mend_joint(out, content)?;
         return append_content(out, content, false);
     }
     append_content(out, content, whole)

@@ -4,12 +4,15 @@ ghost use Rattle.std.specs.Prelude.{◌≡◌, ◌++◌, Bool, false, IsTrue, On
 ghost use Rattle.std.specs.Result.{is_ok};
 ghost use Rattle.htmd_text.specs.EscapeMarks.{escaped_markdown};
 ghost use Rattle.htmd_text.specs.WhiteSpace.{squeezed_text};
+ghost use Rattle.htmd_text.specs.Characters.{asterisk};
+ghost use Rattle.htmd_markdown.specs.CodeSpans.{ends_with};
 ghost use Rattle.htmd_markdown.specs.GuardedText.{guarded_text};
+ghost use Rattle.htmd_markdown.specs.Joints.{with_joint};
 ghost use Rattle.htmd.specs.OrdinaryText as spec;
 ghost use Rattle.htmd.specs.PlainTexts.{is_plain_byte, stays_plain, may_begin, begins_plain};
 
 use crate::spare_texts::SpareTexts;
-use htmd_markdown::{begins_line, push_guarded_text};
+use htmd_markdown::{begins_line, mend_joint, push_guarded_text};
 use htmd_text::runs::{leading_len, trailing_len};
 use htmd_text::{escape_if_needed, escape_pre_text_if_needed, is_squeezed, push_squeezed};
 use std::alloc::{AllocError, Global};
@@ -163,6 +166,36 @@ fn append_preformatted(
     out.push_str(escaped.as_str())
 }
 
+/// Whether the text ends with `*`.
+fn ends_with_asterisk(text: &str) -> bool
+    ensures { result ≡ ends_with asterisk text.now }
+{
+    text.ends_with('*')
+}
+
+/// Puts a text behind another as Guarded does, and mends both where they meet: only behind a `*` is there anything to
+/// mend.
+fn push_guarded(
+    alloc: Global,
+    out: &mut String,
+    text: &str,
+    begins_line: bool,
+    spare: &SpareTexts,
+) -> Result<(), AllocError>
+    ensures { OnOk result (string_bytes out.new
+        ≡ with_joint (string_bytes out.old) (guarded_text begins_line text.now)) }
+{
+    if !ends_with_asterisk(out) {
+        return push_guarded_with_room(out, text, begins_line);
+    }
+    let mut written = spare.take(alloc);
+    push_guarded_text(&mut written, text, begins_line)?;
+    mend_joint(out, &mut written)?;
+    out.push_str(written.as_str())?;
+    spare.keep(alloc, written);
+    Ok(())
+}
+
 /// Squeezed, without its first space where a space is not wanted, and escaped as Guarded does.
 fn append_guarded(
     alloc: Global,
@@ -172,16 +205,17 @@ fn append_guarded(
     spare: &SpareTexts,
 ) -> Result<(), AllocError>
     ensures { OnOk result (string_bytes out.new
-        ≡ string_bytes out.old ++ spec.guarded_ordinary_text trim (string_bytes out.old) text.now) }
+        ≡ with_joint (string_bytes out.old) (spec.guarded_ordinary_text trim (string_bytes out.old) text.now)) }
 {
     let goes = trim || trailing_len(out.as_bytes(), b' ') > 0;
     let begins = begins_line(out.as_str());
     if is_squeezed(text) {
-        return push_guarded_with_room(out, without_first_space(text, goes), begins);
+        return push_guarded(alloc, out, without_first_space(text, goes), begins, spare);
     }
     let mut squeezed = spare.take(alloc);
     push_squeezed(&mut squeezed, text)?;
-    push_guarded_with_room(out, without_first_space(squeezed.as_str(), goes), begins)?;
+    let shown = without_first_space(squeezed.as_str(), goes);
+    push_guarded(alloc, out, shown, begins, spare)?;
     spare.keep(alloc, squeezed);
     Ok(())
 }
@@ -196,8 +230,8 @@ pub(crate) fn append_text(
     spare: &SpareTexts,
     out: &mut String,
 ) -> Result<(), AllocError>
-    ensures { OnOk result (string_bytes out.new ≡ string_bytes out.old
-        ++ spec.written_text is_guarded context.preformatted in_pre context.trim (string_bytes out.old) text.now) }
+    ensures { OnOk result (string_bytes out.new ≡ spec.with_written_text is_guarded context.preformatted in_pre
+        context.trim (string_bytes out.old) text.now) }
 {
     if is_guarded {
         return append_guarded(alloc, out, text, context.trim, spare);

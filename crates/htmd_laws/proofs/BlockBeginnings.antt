@@ -43,48 +43,28 @@ number_is (b ∷ s) =
     (λ (other : is_ascii_digit b ≡ false). rw other refl)
     (cases_Bool (is_ascii_digit b))
 
--- the first character that is no space is `#`
-abbrev begins_sign : List ℕ → Bool
-begins_sign [] = false
-begins_sign (b ∷ s) = cond (b == space) (begins_sign s) (b == number_sign)
-
-sign_is : (s : List ℕ) → begins_heading s ≡ begins_sign s
-sign_is [] = refl
-sign_is (b ∷ s) =
-    ⊎_elim
-    (λ (here : (b == space) ≡ true).
-    let n = prefix_len (λ c. c == space) s in
-    let one : prefix_len (λ c. c == space) (b ∷ s) ≡ suc n =
-    cond-true (b == space) (1 + n) 0 here ∙ omega arith in
-    ap (λ k. slice_index (b ∷ s) k == number_sign) one
-    ∙ sign_is s ∙ sym (cond-true (b == space) (begins_sign s) _ here))
-    (λ (other : (b == space) ≡ false). rw other refl)
-    (cases_Bool (b == space))
-
 -- behind the spaces and U+FEFF at the front
 abbrev behind_blanks : List ℕ → List ℕ
 behind_blanks s = drop (first_place s) s
 
--- what stands there begins an item or a quote, or underlines a heading
+-- what stands there begins a block
 abbrev begins_item : List ℕ → Bool
-begins_item s = is_block_sign (slice_index s 0) || begins_number s
+begins_item s = is_block_sign (slice_index s 0) || begins_number s || (slice_index s 0 == number_sign)
 
-block_is : (s : List ℕ) → begins_block s ≡ (begins_item (behind_blanks s) || begins_sign s)
+block_is : (s : List ℕ) → begins_block s ≡ begins_item (behind_blanks s)
 block_is s =
     let n = first_place s in
     let d = prefix_len is_ascii_digit (drop n s) in
-    let sign : is_block_sign (slice_index s n) ≡ is_block_sign (slice_index (drop n s) 0) =
-    ap is_block_sign (ap (λ k. get_or s k 0) (omega arith) ∙ sym (get_or-drop n s 0 0)) in
+    let first : slice_index s n ≡ slice_index (drop n s) 0 =
+    ap (λ k. get_or s k 0) (omega arith) ∙ sym (get_or-drop n s 0 0) in
     let number : (is_delimiter (slice_index s (number_end s)) && ends_or_has_space (drop (number_end s + 1) s))
     ≡ begins_number (drop n s) =
     ap (λ b. is_delimiter b && ends_or_has_space (drop (n + d + 1) s)) (sym (get_or-drop n s d 0))
     ∙ ap (λ l. is_delimiter (get_or (drop n s) d 0) && ends_or_has_space l)
     (ap (λ k. drop k s) (omega arith) ∙ sym (drop-drop (d + 1) n s))
     ∙ number_is (drop n s) in
-    ap (λ b. (b || (is_delimiter (slice_index s (number_end s)) && ends_or_has_space (drop (number_end s + 1) s)))
-    || begins_heading s) sign
-    ∙ ap (λ b. (is_block_sign (slice_index (drop n s) 0) || b) || begins_heading s) number
-    ∙ ap (λ b. begins_item (drop n s) || b) (sign_is s)
+    ap (λ b. (is_block_sign (slice_index s n) || b) || (slice_index s n == number_sign)) number
+    ∙ ap (λ b. (is_block_sign b || begins_number (drop n s)) || (b == number_sign)) first
 
 -- ---- a character in front
 
@@ -175,19 +155,9 @@ item_on : (s t : List ℕ) → 0 < length s → begins_item s ≡ false → begi
     → begins_item (s ++ t) ≡ false
 item_on [] t some e behind = absurd (omega arith)
 item_on (b ∷ s) t some e behind =
-    let parts = or_parts (is_block_sign b) (begins_number (b ∷ s)) e in
-    or_from (is_block_sign b) _ parts.0 (number_on (b ∷ s) t parts.1 behind)
-
-sign_on : (s t : List ℕ) → begins_sign s ≡ false → begins_sign t ≡ false → begins_sign (s ++ t) ≡ false
-sign_on [] t e behind = behind
-sign_on (b ∷ s) t e behind =
-    ⊎_elim
-    (λ (here : (b == space) ≡ true).
-    cond-true (b == space) _ _ here
-    ∙ sign_on s t (sym (cond-true (b == space) (begins_sign s) _ here) ∙ e) behind)
-    (λ (other : (b == space) ≡ false).
-    cond-false (b == space) _ _ other ∙ sym (cond-false (b == space) (begins_sign s) _ other) ∙ e)
-    (cases_Bool (b == space))
+    let parts = or_parts _ (b == number_sign) e in
+    let front = or_parts (is_block_sign b) (begins_number (b ∷ s)) parts.0 in
+    or_from _ _ (or_from (is_block_sign b) _ front.0 (number_on (b ∷ s) t front.1 behind)) parts.1
 
 some_front : (c : ℕ) (s : List ℕ) → 0 < length (encode_utf8 c ++ s)
 some_front c s = omega (arith, length-append (encode_utf8 c) s, some_bytes c)
@@ -235,35 +205,24 @@ no_number (b ∷ s) e =
     (λ low.
     ⊎_elim (λ (blank : is_blank b ≡ true). no_number_at b s (blank_is_no_number b blank))
     (λ (other : is_blank b ≡ false).
-    (or_parts (is_block_sign b) (begins_number (b ∷ s)) (ap begins_item (sym (ascii_behind b s low other)) ∙ e)).1)
+    (or_parts (is_block_sign b) (begins_number (b ∷ s))
+    (or_parts _ (b == number_sign) (ap begins_item (sym (ascii_behind b s low other)) ∙ e)).0).1)
     (cases_Bool (is_blank b)))
     (λ high. no_number_at b s (high_is_no_number b high))
     (cases_lt b 128)
 
-abbrev NoBlock : List ℕ → Type 0
-NoBlock s = (begins_item (behind_blanks s) ≡ false) × (begins_sign s ≡ false)
-
-parts_of : (s : List ℕ) → begins_block s ≡ false → NoBlock s
-parts_of s e = or_parts (begins_item (behind_blanks s)) (begins_sign s) (sym (block_is s) ∙ e)
-
-none_by : (s : List ℕ) → NoBlock s → begins_block s ≡ false
-none_by s none = block_is s ∙ or_from _ _ none.0 none.1
-
 pub no_block-nil : begins_block [] ≡ false
-no_block-nil = none_by [] (ap begins_item blanks_nil, refl)
+no_block-nil = block_is [] ∙ ap begins_item blanks_nil
 
 -- what follows begins no block either
 pub no_block-append : (s t : List ℕ) → IsUtf8 s → begins_block s ≡ false → begins_block t ≡ false
     → begins_block (s ++ t) ≡ false
 no_block-append s t text e behind =
-    let here : NoBlock (encode_utf8_all text.0) =
-    parts_of (encode_utf8_all text.0) (ap begins_block text.1.1 ∙ e) in
-    let next = parts_of t behind in
-    ap (λ l. begins_block (l ++ t)) (sym text.1.1)
-    ∙ none_by (encode_utf8_all text.0 ++ t) (
-      items_on text.0 t text.1.0 here.0 next.0 (no_number t next.0),
-      sign_on (encode_utf8_all text.0) t here.1 next.1,
-    )
+    let here : begins_item (behind_blanks (encode_utf8_all text.0)) ≡ false =
+    sym (block_is (encode_utf8_all text.0)) ∙ ap begins_block text.1.1 ∙ e in
+    let next = sym (block_is t) ∙ behind in
+    ap (λ l. begins_block (l ++ t)) (sym text.1.1) ∙ block_is (encode_utf8_all text.0 ++ t)
+    ∙ items_on text.0 t text.1.0 here next (no_number t next)
 
 -- ---- without a space at its end, or at its front
 
@@ -288,20 +247,9 @@ number_cut (b ∷ s) e =
 item_cut : (s : List ℕ) → 0 < length s → begins_item (s ++ space ∷ []) ≡ false → begins_item s ≡ false
 item_cut [] some e = absurd (omega arith)
 item_cut (b ∷ s) some e =
-    let parts = or_parts (is_block_sign b) (begins_number (b ∷ (s ++ space ∷ []))) e in
-    or_from (is_block_sign b) _ parts.0 (number_cut (b ∷ s) parts.1)
-
-sign_cut : (s : List ℕ) → begins_sign (s ++ space ∷ []) ≡ false → begins_sign s ≡ false
-sign_cut [] e = refl
-sign_cut (b ∷ s) e =
-    ⊎_elim
-    (λ (here : (b == space) ≡ true).
-    cond-true (b == space) _ _ here
-    ∙ sign_cut s (sym (cond-true (b == space) (begins_sign (s ++ space ∷ [])) _ here) ∙ e))
-    (λ (other : (b == space) ≡ false).
-    cond-false (b == space) _ _ other
-    ∙ sym (cond-false (b == space) (begins_sign (s ++ space ∷ [])) _ other) ∙ e)
-    (cases_Bool (b == space))
+    let parts = or_parts _ (b == number_sign) e in
+    let front = or_parts (is_block_sign b) (begins_number (b ∷ (s ++ space ∷ []))) parts.0 in
+    or_from _ _ (or_from (is_block_sign b) _ front.0 (number_cut (b ∷ s) front.1)) parts.1
 
 items_cut : (cs : List ℕ) → all_scalars cs ≡ true
     → begins_item (behind_blanks (encode_utf8_all cs ++ space ∷ [])) ≡ false
@@ -329,16 +277,16 @@ pub no_block-cut : (s : List ℕ) → IsUtf8 s → begins_block (s ++ space ∷ 
     → begins_block s ≡ false
 no_block-cut s text e =
     let here = encode_utf8_all text.0 in
-    let whole : NoBlock (here ++ space ∷ []) =
-    parts_of (here ++ space ∷ []) (ap (λ l. begins_block (l ++ space ∷ [])) text.1.1 ∙ e) in
-    ap begins_block (sym text.1.1) ∙ none_by here (items_cut text.0 text.1.0 whole.0, sign_cut here whole.1)
+    let whole : begins_item (behind_blanks (here ++ space ∷ [])) ≡ false =
+    sym (block_is (here ++ space ∷ [])) ∙ ap (λ l. begins_block (l ++ space ∷ [])) text.1.1 ∙ e in
+    ap begins_block (sym text.1.1) ∙ block_is here ∙ items_cut text.0 text.1.0 whole
 
 pub no_block-space : (s : List ℕ) → begins_block (space ∷ s) ≡ begins_block s
 no_block-space s =
     let past : behind_blanks (space ∷ s) ≡ behind_blanks s =
     ap (λ x. behind_blanks (x ++ s)) (sym (encode_ascii space (omega arith)))
     ∙ blanks_past space s (low_scalar space (omega arith)) refl in
-    block_is (space ∷ s) ∙ ap (λ l. begins_item l || begins_sign s) past ∙ sym (block_is s)
+    block_is (space ∷ s) ∙ ap begins_item past ∙ sym (block_is s)
 
 -- ---- a line that has more than blanks and digits
 
@@ -357,9 +305,6 @@ digit_leads c e = (grind (arith, nat_tests), or_right _ _ e)
 
 digit_is_low : (b : ℕ) → 128 ≤ b → is_ascii_digit b ≡ false
 digit_is_low b high = grind (arith, nat_tests)
-
-space_is_low : (b : ℕ) → 128 ≤ b → (b == space) ≡ false
-space_is_low b high = grind (arith, nat_tests)
 
 number_stays : (cs t : List ℕ) → begins_number (encode_utf8_all cs) ≡ false → AllLead cs ≡ false
     → begins_number (encode_utf8_all cs ++ t) ≡ false
@@ -386,7 +331,12 @@ item_of : (s t : List ℕ) → 0 < length s → begins_item s ≡ false → begi
     → begins_item (s ++ t) ≡ false
 item_of [] t some e number = absurd (omega arith)
 item_of (b ∷ s) t some e number =
-    or_from (is_block_sign b) _ (or_parts (is_block_sign b) (begins_number (b ∷ s)) e).0 number
+    let parts = or_parts _ (b == number_sign) e in
+    or_from _ _ (or_from (is_block_sign b) _ (or_parts (is_block_sign b) (begins_number (b ∷ s)) parts.0).0 number)
+    parts.1
+
+number_of : (s : List ℕ) → begins_item s ≡ false → begins_number s ≡ false
+number_of s e = (or_parts (is_block_sign (slice_index s 0)) (begins_number s) (or_parts _ _ e).0).1
 
 items_stay : (cs t : List ℕ) → all_scalars cs ≡ true
     → begins_item (behind_blanks (encode_utf8_all cs)) ≡ false
@@ -407,41 +357,16 @@ items_stay (c ∷ cs) t scalars e more =
     ap begins_item (sym (blanks_none c s parts.0 other)) ∙ e in
     ap begins_item (blanks_none c (s ++ t) parts.0 other ∙ sym apart)
     ∙ item_of (encode_utf8 c ++ s) t (some_front c s) here
-    (number_stays (c ∷ cs) t (or_parts _ (begins_number (encode_utf8 c ++ s)) here).1 more))
+    (number_stays (c ∷ cs) t (number_of (encode_utf8 c ++ s) here) more))
     (cases_Bool (is_blank c))
-
-sign_stays : (cs t : List ℕ) → begins_sign (encode_utf8_all cs) ≡ false → AllLead cs ≡ false
-    → begins_sign (encode_utf8_all cs ++ t) ≡ false
-sign_stays [] t e more = absurd (false≢true (sym more))
-sign_stays (c ∷ cs) t e more =
-    let s = encode_utf8_all cs in
-    ⊎_elim
-    (λ (here : (c == space) ≡ true).
-    let low : c < 128 = grind (arith, nat_tests) in
-    let one : encode_utf8 c ++ s ≡ c ∷ s = ap (λ x. x ++ s) (encode_ascii c low) in
-    let leads : is_leading c ≡ true = grind (arith, nat_tests) in
-    ap (λ l. begins_sign (l ++ t)) one ∙ cond-true (c == space) _ _ here
-    ∙ sign_stays cs t (sym (cond-true (c == space) (begins_sign s) _ here) ∙ ap begins_sign (sym one) ∙ e)
-    (later_leads c cs leads more))
-    (λ (other : (c == space) ≡ false).
-    let first = first_byte c in
-    let whole : encode_utf8 c ++ s ≡ first.byte ∷ (first.rest ++ s) = ap (λ x. x ++ s) first.whole in
-    let no_space = first.same (λ b. b == space) space_is_low other in
-    ap (λ l. begins_sign (l ++ t)) whole ∙ cond-false (first.byte == space) _ _ no_space
-    ∙ sym (cond-false (first.byte == space) (begins_sign (first.rest ++ s)) _ no_space)
-    ∙ ap begins_sign (sym whole) ∙ e)
-    (cases_Bool (c == space))
 
 -- whatever follows, such a line begins no block
 pub no_block-stays : (s t : List ℕ) → IsUtf8 s → begins_block s ≡ false
     → list_all is_leading (chars s) ≡ false
     → begins_block (s ++ t) ≡ false
 no_block-stays s t text e more =
-    let here : NoBlock (encode_utf8_all text.0) =
-    parts_of (encode_utf8_all text.0) (ap begins_block text.1.1 ∙ e) in
+    let here : begins_item (behind_blanks (encode_utf8_all text.0)) ≡ false =
+    sym (block_is (encode_utf8_all text.0)) ∙ ap begins_block text.1.1 ∙ e in
     let rest : AllLead text.0 ≡ false = ap AllLead (chars_from_encodes text.0 s text text.1.1) ∙ more in
-    ap (λ l. begins_block (l ++ t)) (sym text.1.1)
-    ∙ none_by (encode_utf8_all text.0 ++ t) (
-      items_stay text.0 t text.1.0 here.0 rest,
-      sign_stays text.0 t here.1 rest,
-    )
+    ap (λ l. begins_block (l ++ t)) (sym text.1.1) ∙ block_is (encode_utf8_all text.0 ++ t)
+    ∙ items_stay text.0 t text.1.0 here rest

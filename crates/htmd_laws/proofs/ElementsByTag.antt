@@ -31,8 +31,9 @@ use Rattle.htmd.specs.Headings.{headings}
 use Rattle.htmd.specs.Emphases.{emphasis_of}
 use Rattle.htmd_markdown.specs.GuardedLinks.{guarded_image}
 use Rattle.htmd_markdown.specs.Links.{image}
-use Rattle.htmd_markdown.specs.ListItems.{guarded_spacing}
-use Rattle.htmd_markdown.specs.Lists.{Block, ordered_list, guarded_ordered_list, guarded_first_number, highest_number}
+use Rattle.htmd_markdown.specs.ListItems.{aligned_spaces, guarded_spaces}
+use Rattle.htmd.specs.OneLineElements.{is_in_line}
+use Rattle.htmd_markdown.specs.Lists.{Block, block_text, ordered_list, guarded_ordered_list, guarded_first_number, highest_number}
 use Rattle.htmd.specs.Code.{code}
 use Rattle.htmd.specs.Code.{language, language_of}
 use Rattle.htmd.specs.Code.{language_at}
@@ -49,7 +50,7 @@ use Rattle.htmd_laws.specs.Letters.{said_of_image, said_of_each}
 use Rattle.htmd_laws.specs.Letters.{letters, letters_if_any}
 use Rattle.htmd_laws.proofs.LettersLemmas.{Says, says-as}
 use Rattle.htmd_laws.proofs.LettersOfLines.{SayAll, say-none, say-cons}
-use Rattle.htmd_laws.proofs.LettersOfLinks.{IsTextIfAny, text_of_block, says-ordered, says-image}
+use Rattle.htmd_laws.proofs.LettersOfLinks.{IsTextIfAny, says-ordered, says-unnumbered_list, says-image}
 use Rattle.htmd_laws.proofs.LettersOfHandlers.{SaysResult, AreValues, last_is_text, language_is_text, either_text}
 use Rattle.htmd_laws.proofs.LettersOfHandlers.{KeepsContent}
 use Rattle.htmd_laws.proofs.LettersOfHandlers.{keeps_paragraphs, keeps_quotes, keeps_parts, keeps_pages, keeps_cells}
@@ -481,9 +482,9 @@ pub each_of_all : (law : Law) (at : Occurrence) (says : NumberedTree → List �
 each_of_all law at says [] each = tt
 each_of_all law at says (d ∷ ds) each = (each d, each_of_all law at says ds each)
 
-block_text : (tag : Option (List ℕ)) (s : List ℕ) → s ≡ text_of_block (block_of_child tag s)
-block_text tag s =
-    cond_both (is_tag_among (codes "li" ∷ []) tag) _ _ (λ b. s ≡ text_of_block b) (λ _. refl) (λ _. refl)
+child_text : (tag : Option (List ℕ)) (s : List ℕ) → s ≡ block_text (block_of_child tag s)
+child_text tag s =
+    cond_both (is_tag_among (codes "li" ∷ []) tag) _ _ (λ b. s ≡ block_text b) (λ _. refl) (λ _. refl)
 
 module _ (law : Law) (options : Options) (alone : is_markdown_alone options ≡ true) (items : List Item)
     (write : Writes) (id : ℕ) (inside : List Ancestor) (children : NumberedForest)
@@ -492,24 +493,26 @@ module _ (law : Law) (options : Options) (alone : is_markdown_alone options ≡ 
   list_at = occurrence_at write (conversion_of (built_in options) items) id inside children
 
   blocks_say : (ds : List ℕ) (before : List (List ℕ)) → EachSays law list_at says ds
-      → SayAll law (map text_of_block (blocks_of_list items ds (contents_alone list_at ds before).results))
+      → SayAll law (map block_text (blocks_of_list items ds (contents_alone list_at ds before).results))
       (said_of_each says list_at.view ds)
   blocks_say [] before each = say-none
   blocks_say (d ∷ ds) before each =
       let child = descendant_tree items (only_text children) d in
       let out = content_alone write (conversion_of (built_in options) items) child d before in
-      say-cons (says-as (block_text (tree.tag_of (data_at items d)) out.text) (each.0 before))
+      say-cons (says-as (child_text (tree.tag_of (data_at items d)) out.text) (each.0 before))
       (blocks_say ds out.definitions each.1)
 
-  ordered_says : (blocks : List Block) (l : List ℕ) → SayAll law (map text_of_block blocks) l
+  ordered_says : (blocks : List Block) (l : List ℕ) → SayAll law (map block_text blocks) l
       → Says law (ordered_text list_at.view blocks) l
   ordered_says blocks l p =
       let first = first_number_of list_at.view in
       let spacing = options.ol_number_spacing in
-      cond_both (is_guarded options) guarded_ordered_list ordered_list
+      let number = guarded_first_number first (highest_number first blocks) in
+      cond_both (is_in_line list_at.view) _ _ (λ (t : List ℕ). Says law t l) (λ _. says-unnumbered_list blocks p)
+      (λ _. cond_both (is_guarded options) guarded_ordered_list ordered_list
       (λ (f : ℕ → ℕ → List Block → List ℕ). Says law (f first spacing blocks) l)
-      (λ _. says-ordered (guarded_first_number first (highest_number first blocks)) (guarded_spacing spacing) blocks
-      p) (λ _. says-ordered first spacing blocks p)
+      (λ _. says-ordered (guarded_spaces spacing (highest_number number blocks)) number blocks p)
+      (λ _. says-ordered (aligned_spaces spacing (highest_number first blocks)) first blocks p))
 
   pub ordered_gives : (definitions : List (List ℕ)) → EachSays law list_at says (children_of items id)
       → SaysResult law (plan_answer lists list_at definitions (contents_of_each (children_of items id))

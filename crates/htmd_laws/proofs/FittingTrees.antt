@@ -3,6 +3,8 @@ use Rattle.std.proofs.Common.{◌≡◌, ℕ, true, List, [], ◌∷◌, ◌++�
 use Rattle.std.proofs.Common.{Some, None, codes, refl}
 use Rattle.std.specs.Str.{IsUtf8, bytes_eq}
 use Rattle.std.proofs.lemmas.Bool.{cond_both}
+use Rattle.htmd.specs.ElementPlans.{is_tag_among}
+use Rattle.htmd.specs.OtherBlocks.{hidden_tags}
 use Rattle.std.proofs.lemmas.Str.{IsUtf8-append, IsUtf8-nil}
 use Rattle.htmd_text.specs.Characters.{line_feed}
 use Rattle.htmd_tree.specs.ValueTrees.{AttributePair}
@@ -107,7 +109,8 @@ module _ (Fit : ℕ → List ℕ → NumberedForest → Type 0)
     all_text_fits (element i name attributes c) fit =
         cond_both (bytes_eq name (codes "br")) _ _ IsUtf8 (λ _. (says-fillers {law = of_letters}
         (line_feed ∷ []) refl).utf8)
-        (λ _. all_text_fits_among c fit.1)
+        (λ _. cond_both (is_tag_among hidden_tags (Some name)) _ _ IsUtf8 (λ _. IsUtf8-nil)
+        (λ _. all_text_fits_among c fit.1))
 
     pub all_text_fits_among : (trees : NumberedForest) → AllFit trees → IsUtf8 (all_text_among trees)
     all_text_fits_among none all = IsUtf8-nil

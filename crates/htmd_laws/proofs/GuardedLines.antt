@@ -1,10 +1,10 @@
 -- Content of which no line begins a block, at a seam, between blank lines, and behind a text.
 use Rattle.std.proofs.Common.{◌≡◌, ℕ, zero, suc, ◌+◌, ◌-◌, ◌<◌, min, max, Bool, true, false, List, [], ◌∷◌, ◌++◌, length}
 use Rattle.std.proofs.Common.{drop, refl, sym, subst, arith, All, ⊎_elim}
-use Rattle.std.specs.Prelude.{◌&&◌, ◌||◌, ◌==◌, replicate}
+use Rattle.std.specs.Prelude.{◌&&◌, ◌||◌, ◌==◌, replicate, slice_index}
 use Rattle.std.specs.List.{list_all, prefix_len, suffix_len}
 use Rattle.std.specs.Str.{IsUtf8}
-use Rattle.std.proofs.lemmas.Bool.{and_parts, and_from, cases_Bool, cond_both, false≢true}
+use Rattle.std.proofs.lemmas.Bool.{and_parts, and_from, or_parts, or_from, cases_Bool, cond_both, false≢true}
 use Rattle.std.proofs.lemmas.Bool.Decides.{nat_tests}
 use Rattle.std.proofs.lemmas.List.Sums.{prefix_len_passes}
 use Rattle.std.proofs.lemmas.List.Elements.{All-nil, All-cons, All-head, All-tail, All-take, All-drop, All-append, All-weaker}
@@ -13,11 +13,13 @@ use Rattle.htmd_text.specs.BlankLines.{with_blank_lines, blank_line}
 use Rattle.htmd_text.specs.Characters.{backslash, line_feed, space}
 use Rattle.htmd_text.specs.Trims.{trimmed_start, trimmed_end, trimmed_text, is_line_feed, is_space}
 use Rattle.htmd_text.specs.WhiteSpace.{is_document_white_space, squeezed_text}
+use Rattle.htmd_markdown.specs.GuardedText as reader
 use Rattle.htmd_markdown.specs.GuardedText.{guarded_text, is_guarded_mark, begins_line}
+use Rattle.htmd_laws.specs.TextLaws.{begins_block}
 use Rattle.htmd_markdown.proofs.GuardedBlocksLemmas.{guarded-begins_no_block}
 use Rattle.htmd.specs.OrdinaryText.{without_first_space}
 use Rattle.htmd.specs.Seams.{begins_with_space, ends_with_space, joined_texts, joined_at_seam}
-use Rattle.htmd.specs.Seams.{before_content, guarded_at_seam}
+use Rattle.htmd.specs.Seams.{guarded_at_seam}
 use Rattle.htmd_laws.proofs.Utf8Cuts.{alone}
 use Rattle.htmd_laws.proofs.TextEnds.{Passes, end_parts, end_passes}
 use Rattle.htmd_laws.proofs.ShownTexts.{IsPlain, squeezed_is_plain, each_written, plain_without, white_too, IsNoLineFeed}
@@ -144,11 +146,11 @@ joined_free a b out content p q =
     (free-feeds (min (a + b) (max 2 a))))
     (free-start content q))
 
--- where nothing is put before the content
-pub free-seam : (out content : List ℕ) → before_content out content ≡ out → IsFree out → IsFree content
-    → IsFree (guarded_at_seam out content)
+-- where nothing is mended
+pub free-seam : (out content : List ℕ) → guarded_at_seam out content ≡ joined_at_seam out content false → IsFree out
+    → IsFree content → IsFree (guarded_at_seam out content)
 free-seam out content same p q =
-    subst (λ (l : List ℕ). IsFree (joined_at_seam l content false)) (sym same)
+    subst IsFree (sym same)
     (cond_both (false || (length out == 0)) _ _ IsFree (λ _. free-append out content p q)
     (λ _. joined_free (suffix_len is_line_feed out) (prefix_len is_line_feed content) out content p q))
 
@@ -170,6 +172,18 @@ plain_is_fit : (b : ℕ) → IsPlain b → IsFit b
 plain_is_fit b plain white =
     subst (λ (c : ℕ). is_cut c ≡ true) (sym (plain (white_too b white))) refl
 
+-- the law asks for less: `:` before `-` is no fact of a whole line
+begins_none : (s : List ℕ) → reader.begins_block s ≡ false → begins_block s ≡ false
+begins_none s e =
+    let k = reader.first_place s in
+    let number = reader.is_delimiter (slice_index s (reader.number_end s))
+    && reader.ends_or_has_space (drop (reader.number_end s + 1) s) in
+    let parts = or_parts (reader.is_sign_at s k || number) (reader.begins_heading s) e in
+    let front = or_parts (reader.is_sign_at s k) number parts.0 in
+    let sign = (or_parts (reader.is_block_sign (slice_index s k)) _ front.0).0 in
+    or_from (reader.is_block_sign (slice_index s k) || number) (reader.begins_heading s)
+    (or_from (reader.is_block_sign (slice_index s k)) number sign front.1) parts.1
+
 pub free-text : (out s : List ℕ) (goes : Bool) → IsFree out → IsUtf8 s
     → IsFree (out ++ guarded_text (begins_line out) (without_first_space goes (squeezed_text s)))
 free-text out s goes p text =
@@ -187,7 +201,7 @@ free-text out s goes p text =
       lines = ⊎_elim
           (λ (yes : begins_line out ≡ true).
           no_blocks-append out t p.utf8 p.lines
-          (no_blocks-one_line t feedless (guarded-begins_no_block begins shown yes is_text)))
+          (no_blocks-one_line t feedless (begins_none t (guarded-begins_no_block begins shown yes is_text))))
           (λ (no : begins_line out ≡ false). no_blocks-stay out t p.utf8 p.lines no feedless)
           (cases_Bool (begins_line out));
       utf8 = IsUtf8-append out t p.utf8 is_text;

@@ -4,20 +4,21 @@ use Rattle.std.proofs.Common.{length, drop, take, refl, sym, ap, ◌∙◌, arit
 use Rattle.std.specs.Prelude.{◌==◌, ◌&&◌, ◌||◌, replicate}
 use Rattle.std.specs.List.{prefix_len, suffix_len}
 use Rattle.std.proofs.Math.Seq.{take-length}
-use Rattle.std.proofs.lemmas.Bool.{and_parts, and_right, cases_Bool, cond-false, cond_both, false≢true}
-use Rattle.std.proofs.lemmas.Bool.{false_from_ne_true}
+use Rattle.std.proofs.lemmas.Bool.{and_parts, cases_Bool, cond-false, cond_both}
 use Rattle.std.proofs.lemmas.Bool.Decides.{nat_tests}
 use Rattle.std.proofs.lemmas.List.{append-nil}
 use Rattle.std.proofs.lemmas.List.Sums.{prefix_len_passes}
 use Rattle.htmd_text.specs.BlankLines.{with_blank_lines}
-use Rattle.htmd_text.specs.Characters.{backslash, exclamation_mark, left_square_bracket, grave_accent, line_feed}
+use Rattle.htmd_text.specs.Characters.{backslash, line_feed}
 use Rattle.htmd_text.specs.Trims.{trimmed_start, trimmed_end, trimmed_text, is_line_feed, is_space}
 use Rattle.htmd_text.specs.WhiteSpace.{is_document_white_space}
-use Rattle.htmd_markdown.specs.CodeSpans.{begins_with, ends_with}
 use Rattle.htmd_markdown.specs.GuardedText.{is_guarded}
+use Rattle.htmd_markdown.specs.Joints.{Ends, with_joint}
+use Rattle.htmd_markdown.proofs.UnmendedLemmas.{unmended}
 use Rattle.htmd.specs.Seams.{begins_with_space, ends_with_space, joined_by_line_feeds, joined_texts, joined_at_seam}
-use Rattle.htmd.specs.Seams.{before_content, guarded_at_seam}
+use Rattle.htmd.specs.Seams.{guarded_at_seam}
 use Rattle.htmd_laws.proofs.TextEnds.{first_cut, start_stays}
+use Rattle.htmd_laws.proofs.GuardedRuns.{guarded-ending}
 use Rattle.htmd_laws.proofs.GuardedEnds.{IsLine, guarded-append, guarded-line, line-append, trimmed_end-line, guarded-tail}
 
 -- ---- line feeds
@@ -60,32 +61,29 @@ pub trimmed-line : (s : List ℕ) → IsLine s → IsLine (trimmed_text is_line_
 trimmed-line s line =
     trimmed_end-line is_line_feed feed_is_white (trimmed_start is_line_feed s) (start_on s (line_feed ∷ []) line)
 
--- ---- a guarded content begins with no bracket and no backquote
+-- ---- nothing is mended where a guarded content meets a guarded text
 
-no_bracket : (s : List ℕ) → is_guarded (left_square_bracket ∷ s) ≡ true → ⊥
-no_bracket [] e = false≢true e
-no_bracket (c ∷ s) e = false≢true e
+pub nothing_mended : (out content behind : List ℕ) → is_guarded (out ++ behind) ≡ true → is_guarded content ≡ true
+    → guarded_at_seam out content ≡ joined_at_seam out content false
+nothing_mended out content behind front e =
+    ap (λ (both : Ends). joined_at_seam both.front both.behind false)
+    (unmended out content e (guarded-ending out behind front))
 
-no_backquote : (s : List ℕ) → is_guarded (grave_accent ∷ s) ≡ true → ⊥
-no_backquote [] e = false≢true e
-no_backquote (c ∷ s) e = false≢true e
+-- what is guarded may end here
+pub guarded_ended : (out : List ℕ) → is_guarded out ≡ true → is_guarded (out ++ []) ≡ true
+guarded_ended out front = ap is_guarded (append-nil out) ∙ front
 
-begins_not : (x : ℕ) → (x == 0) ≡ false → ((s : List ℕ) → is_guarded (x ∷ s) ≡ true → ⊥)
-    → (content : List ℕ)
-    → is_guarded content ≡ true → begins_with x content ≡ false
-begins_not x some never [] e = grind (arith, nat_tests)
-begins_not x some never (b ∷ s) e =
-    false_from_ne_true (b == x) (λ same.
-    let here : b ≡ x = grind (arith, nat_tests) in
-    never s (ap (λ k. is_guarded (k ∷ s)) (sym here) ∙ e))
+pub nothing_joined : (out content : List ℕ) → is_guarded out ≡ true → is_guarded content ≡ true
+    → with_joint out content ≡ out ++ content
+nothing_joined out content front e =
+    ap (λ (both : Ends). both.front ++ both.behind)
+    (unmended out content e (guarded-ending out [] (guarded_ended out front)))
 
-pub nothing_before : (out content : List ℕ) → is_guarded content ≡ true → before_content out content ≡ out
-nothing_before out content e =
-    let no_image : (ends_with exclamation_mark out && begins_with left_square_bracket content) ≡ false =
-    and_right _ _ (begins_not left_square_bracket refl no_bracket content e) in
-    let no_span : (ends_with grave_accent out && begins_with grave_accent content) ≡ false =
-    and_right _ _ (begins_not grave_accent refl no_backquote content e) in
-    cond-false _ _ _ no_image ∙ cond-false _ _ _ no_span
+-- as it stands, after a guarded text
+pub joint-guarded : (out content : List ℕ) → is_guarded out ≡ true → is_guarded content ≡ true
+    → is_guarded (with_joint out content) ≡ true
+joint-guarded out content front e =
+    ap is_guarded (nothing_joined out content front e) ∙ guarded-append out content front e
 
 -- ---- at a seam
 
@@ -145,7 +143,7 @@ joined_guarded a b out content ending front e =
 pub seam-guarded : (out content : List ℕ) → is_guarded out ≡ true → is_guarded content ≡ true
     → is_guarded (guarded_at_seam out content) ≡ true
 seam-guarded out content front e =
-    ap (λ (l : List ℕ). is_guarded (joined_at_seam l content false)) (nothing_before out content e)
+    ap is_guarded (nothing_mended out content [] (guarded_ended out front) e)
     ∙ cond_both (false || (length out == 0)) _ _ (λ (l : List ℕ). is_guarded l ≡ true)
     (λ _. guarded-append out content front e)
     (λ _. joined_guarded (suffix_len is_line_feed out) (prefix_len is_line_feed content) out content refl front e)
@@ -167,7 +165,7 @@ wrapped-seam out s line inside =
     let content = with_blank_lines s in
     let e : is_guarded content ≡ true = wrapped-guarded s inside in
     let rest = line_feed ∷ (s ++ line_feed ∷ line_feed ∷ []) in
-    ap (λ (l : List ℕ). is_guarded (joined_at_seam l content false)) (nothing_before out content e)
+    ap is_guarded (nothing_mended out content (line_feed ∷ []) line e)
     ∙ cond_both (false || (length out == 0)) _ _ (λ (l : List ℕ). is_guarded l ≡ true)
     (λ _. line-append out rest line (guarded-tail line_feed rest refl e))
     (λ _. joined_lines (suffix_len is_line_feed out) (prefix_len is_line_feed content) out content

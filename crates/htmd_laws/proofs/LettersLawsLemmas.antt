@@ -46,7 +46,7 @@ use Rattle.htmd_laws.proofs.LettersLemmas.{Says, says-nil, says-is}
 use Rattle.htmd_laws.proofs.LettersOfTexts.{document_of_white, line_feed_of_white, says-trimmed_end}
 use Rattle.htmd_laws.proofs.LettersOfTexts.{says-trimmed}
 use Rattle.htmd_laws.proofs.LettersOfPieces.{says-seam}
-use Rattle.htmd_laws.proofs.LettersOfGuarded.{says-guarded_seam}
+use Rattle.htmd_laws.proofs.LettersOfJoints.{says-guarded_seam}
 use Rattle.htmd_laws.proofs.LettersOfLinks.{IsTextIfAny}
 use Rattle.htmd_laws.proofs.LettersOfHandlers.{SaysResult, AreValues}
 use Rattle.htmd_laws.proofs.LettersOfElements.{element_is_said}
@@ -166,7 +166,7 @@ module _ (options : Options) (alone : is_markdown_alone options ≡ true)
   result_is_said out whole None definitions l m p q = says-is (sym (append-nil l) ∙ ap (λ z. l ++ z) (sym q)) p
   result_is_said out whole (Some result) definitions l m p q =
       cond_both (is_guarded options) _ _ (λ (t : List ℕ). Says of_letters t (l ++ m))
-      (λ _. says-guarded_seam out.text result.content p q) (λ _. says-seam out.text result.content whole p q)
+      (λ _. says-guarded_seam of_letters refl out.text result.content l m p q) (λ _. says-seam out.text result.content whole p q)
 
   within_is_said : (n : ℕ) → AreSaid n
   unfolding written_within said_within
@@ -177,7 +177,7 @@ module _ (options : Options) (alone : is_markdown_alone options ≡ true)
       children out l fit p)
   within_is_said (suc n) (doctype id) context out l fit p = says-is (sym (append-nil l)) p
   within_is_said (suc n) (text id s) context out l fit p =
-      text_is_said of_letters (is_guarded options) s context out l fit p
+      text_is_said of_letters (is_guarded options) s context out l (λ _. refl) fit p
   within_is_said (suc n) (comment id s) context out l fit p = rw alone (says-is (sym (append-nil l)) p)
   within_is_said (suc n) (element id name attributes children) context out l fit p =
       let write = written_within n conversion in

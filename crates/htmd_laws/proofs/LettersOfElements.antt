@@ -5,13 +5,14 @@ use Rattle.std.specs.Prelude.{◌||◌, ◌&&◌, option_and_then}
 use Rattle.std.specs.List.{list_all}
 use Rattle.std.specs.Str.{IsUtf8, bytes_eq}
 use Rattle.std.proofs.Math.Bool.{and_comm}
-use Rattle.std.proofs.lemmas.Bool.{cond_both, cond-false, or_from}
+use Rattle.std.proofs.lemmas.Bool.{cond_both, cond-true, cond-false, or_from, true≢false}
 use Rattle.std.proofs.lemmas.Bool.{and_left}
 use Rattle.htmd_tree.specs.Items.{Item, data_at, children_of}
 use Rattle.htmd_tree.specs.NumberedTrees.{NumberedTree, NumberedForest}
 use Rattle.htmd_tree.specs.Ancestors.{Ancestor, ancestor_of}
 use Rattle.htmd.specs.declared.options.Options.{Options}
-use Rattle.htmd.specs.Handling.{ElementView, nothing, content_of_children, contents_of_each, HandlerMeaning}
+use Rattle.htmd.specs.Handling.{ElementView, PlanView, nothing, content_of_children, contents_of_each, HandlerMeaning}
+use Rattle.htmd.specs.Handling.{ResultView, content_of_fallback}
 use Rattle.htmd.specs.Choice.{indexes}
 use Rattle.htmd.specs.AllText.{text_or_all, all_text_of}
 use Rattle.htmd.specs.Groups.{only_text, groups_of, children_at}
@@ -19,17 +20,15 @@ use Rattle.htmd.specs.Outputs.{Conversion, conversion_of, Writes, is_markdown_al
 use Rattle.htmd.specs.ElementPlans.{tag_of, attributes_of, is_tag_among, markdown_plan, tag_at}
 use Rattle.htmd.specs.ElementPlans.{unless_faithful}
 use Rattle.htmd_markdown.specs.LineBreaks.{line_break}
-use Rattle.htmd_markdown.specs.ThematicBreaks.{thematic_break}
 use Rattle.htmd.specs.Children.{content_inside, content_alone, descendant_tree}
 use Rattle.htmd.specs.Elements.{Occurrence, Answer, content_of, contents_alone, plan_answer, answer_after}
-use Rattle.htmd.specs.Elements.{without_handler, occurrence_at, with_finish}
+use Rattle.htmd.specs.Elements.{without_handler, occurrence_at, with_finish, answer_of}
 use Rattle.htmd.specs.OtherBlocks.{other_blocks, other_block_plan, hidden_tags}
 use Rattle.htmd.specs.LineBreaks.{line_breaks, break_style_of}
-use Rattle.htmd.specs.ThematicBreaks.{thematic_breaks}
-use Rattle.htmd.specs.ThematicBreaks.{thematic_break_style_of}
+use Rattle.htmd.specs.ThematicBreaks.{thematic_breaks, thematic_break_plan, thematic_break_style_of}
 use Rattle.htmd.specs.Spans.{spans, formula_mark, formula_plan, is_read_in_formula}
 use Rattle.htmd_markdown.specs.GuardedCode.{fitting_language}
-use Rattle.htmd.specs.OneLineElements.{stands_in_line}
+use Rattle.htmd.specs.OneLineElements.{stands_in_line, is_in_line}
 use Rattle.htmd.specs.Code.{code, code_plan, guarded_code_plan, content_plan}
 use Rattle.htmd.specs.Preformatted.{preformatted_texts, preformatted_plan}
 use Rattle.htmd.specs.Preformatted.{block_plan, guarded_preformatted}
@@ -39,16 +38,20 @@ use Rattle.htmd.specs.Lists.{lists}
 use Rattle.htmd_text.specs.BlankLines.{with_blank_lines}
 use Rattle.htmd_text.specs.Trims.{trimmed_text, some_text, is_line_feed}
 use Rattle.std.specs.Option.{option_map}
-use Rattle.htmd.specs.Tables.{tables, table_plan, has_table_form}
+use Rattle.htmd.specs.Tables.{has_table_form}
+use Rattle.htmd.specs.TableElements.{tables, table_plan, is_left_out}
+use Rattle.htmd.specs.GuardedTableLayouts.{is_written_as_table, table_lines, nodes_of_lines}
 use Rattle.htmd.specs.TableLayouts.{has_lines}
 use Rattle.htmd.specs.TableLayouts.{layout_of}
 use Rattle.htmd.specs.TableLayouts.{nodes_of}
-use Rattle.htmd.specs.Tables.{TableTexts, no_texts, with_parts, table_text, guarded_table_text}
 use Rattle.htmd.specs.ElementPlans.{optional_markdown}
 use Rattle.htmd_laws.proofs.LettersOfTexts.{says-blank_lines}
-use Rattle.htmd_laws.proofs.LettersOfTables.{SayEach, all_of, says-table_text, says-guarded_table_text}
+use Rattle.htmd_laws.proofs.LettersOfTables.{SayEach, all_of, says-table_text}
+use Rattle.htmd_laws.proofs.LettersOfGrids.{says-guarded_table}
+use Rattle.htmd.proofs.TableOrdersLemmas.{line_order, lines_in_order}
 use Rattle.htmd.specs.TableOrder.{nodes_of_table}
 use Rattle.htmd_laws.specs.Letters.{is_written}
+use Rattle.htmd.specs.CaptionsAndCells.{captions_and_cells}
 use Rattle.htmd_laws.proofs.CountedTexts.{of_letters}
 use Rattle.htmd_laws.proofs.LettersLemmas.{says-of_nothing}
 use Rattle.htmd.specs.Images.{images, image_address, image_at}
@@ -57,7 +60,7 @@ use Rattle.htmd.specs.Anchors.{anchors, anchor_address}
 use Rattle.htmd.specs.BuiltIn.{built_in}
 use Rattle.htmd_laws.specs.Letters.{said_of_image, said_of_formula, said_of_element, said_among, said_of_each, said_inside}
 use Rattle.htmd_laws.specs.Letters.{prefers_autolinks, letters, letters_if_any, said_of_code, said_of_pre, is_hidden}
-use Rattle.htmd_laws.proofs.LettersLemmas.{Says, says-own, says-is, is_filler}
+use Rattle.htmd_laws.proofs.LettersLemmas.{Says, says-own, says-nil, says-is, is_filler}
 use Rattle.htmd_laws.proofs.LettersOfTexts.{line_feed_of_white, says-trimmed}
 use Rattle.htmd_laws.proofs.LettersOfLinks.{IsTextIfAny}
 use Rattle.htmd_laws.proofs.LettersOfHandlers.{says-span_result}
@@ -115,9 +118,11 @@ module _ (options : Options) (alone : is_markdown_alone options ≡ true)
 
     rule_is_said : IsSaid (codes "hr")
     rule_is_said here =
-        planned_is_said of_letters at definitions (codes "hr") thematic_breaks
-        (markdown_plan (thematic_break (thematic_break_style_of at.view))) [] refl (rw alone refl)
-        (says-rule (thematic_break_style_of at.view))
+        planned_is_said of_letters at definitions (codes "hr") thematic_breaks (thematic_break_plan at.view) [] refl refl
+        (cond_both (is_in_line at.view) _ _
+        (λ (plan : PlanView). SaysResult of_letters (plan_answer thematic_breaks at definitions plan
+        (without_handler at definitions)).result [])
+        (λ _. says-blank_lines [] says-nil) (λ _. rw alone (says-rule (thematic_break_style_of at.view))))
 
     titled : IsTextIfAny (title_of at.view)
     titled = last_is_text (codes "title" ∷ []) (attributes_of at.view) (values id)
@@ -244,35 +249,132 @@ module _ (options : Options) (alone : is_markdown_alone options ≡ true)
     between_lines [] l p = says-of_nothing p
     between_lines (b ∷ s) l p = says-blank_lines (b ∷ s) p
 
-    table_gives : (form lines : Bool) → has_table_form items id ≡ form → has_lines (layout_of items id) ≡ lines
-        → SaysResult of_letters (plan_answer tables at definitions (table_plan at.view)
-        (without_handler at definitions)).result
-        (said_inside says (codes "table") at.view children)
-    table_gives false lines is has = rw (alone, is, alone, is) (within definitions)
-    table_gives true true is has =
+    -- what the handler gives by this plan, what is said is this
+    TableGives : PlanView → List ℕ → Type 0
+    TableGives plan l =
+        SaysResult of_letters (plan_answer tables at definitions plan (without_handler at definitions)).result l
+
+    fallback_gives : is_left_out at.view ≡ true
+        → TableGives content_of_fallback (said_among says (groups_of children))
+    unfolding TableGives
+    fallback_gives left =
+        let passed_on : without_handler at definitions ≡ answer_of (content_of at definitions) =
+        cond-true (is_markdown_alone options) _ _ alone in
+        subst
+        (λ (a : Answer). SaysResult of_letters (plan_answer tables at definitions content_of_fallback a).result
+        (said_among says (groups_of children)))
+        (sym passed_on)
+        (cond_both (is_left_out at.view) _ _
+        (λ (r : Option ResultView). SaysResult of_letters r (said_among says (groups_of children)))
+        (λ _. within definitions) (λ other. absurd (true≢false (sym left ∙ other))))
+
+    -- in Guarded
+
+    guarded_plan : is_guarded options ≡ true → (written : Bool) → is_written_as_table items id ≡ written
+        → table_plan at.view
+        ≡ cond written (contents_of_each (nodes_of_lines (table_lines items id))) content_of_fallback
+    guarded_plan g true is = rw (alone, g, is) refl
+    guarded_plan g false is = rw (alone, g, is) refl
+
+    guarded_inside : is_guarded options ≡ true → (written : Bool) → is_written_as_table items id ≡ written
+        → said_inside says (codes "table") at.view children
+        ≡ cond written (said_of_each says at.view (captions_and_cells items (children_of items id)))
+        (said_among says (groups_of children))
+    guarded_inside g true is = rw (g, is) refl
+    guarded_inside g false is = rw (g, is) refl
+
+    lines_give : is_guarded options ≡ true
+        → TableGives (contents_of_each (nodes_of_lines (table_lines items id)))
+        (said_of_each says at.view (captions_and_cells items (children_of items id)))
+    unfolding TableGives
+    lines_give g =
+        let lines = table_lines items id in
+        let nodes = nodes_of_lines lines in
+        let order : all_of said_here (line_order lines)
+        ≡ said_of_each says at.view (captions_and_cells items (children_of items id)) =
+        ap (all_of said_here) (lines_in_order items id)
+        ∙ same_list (captions_and_cells items (children_of items id)) in
+        rw g
+        (says-is order
+        (says-guarded_table said_here items lines (contents_alone at nodes definitions).results
+        (each_gives nodes definitions)))
+
+    guarded_gives : is_guarded options ≡ true → (written : Bool) → is_written_as_table items id ≡ written
+        → TableGives
+        (cond written (contents_of_each (nodes_of_lines (table_lines items id))) content_of_fallback)
+        (cond written (said_of_each says at.view (captions_and_cells items (children_of items id)))
+        (said_among says (groups_of children)))
+    guarded_gives g true is = lines_give g
+    guarded_gives g false is = fallback_gives (rw (alone, g, is) refl)
+
+    -- in Pure
+
+    pure_plan : is_guarded options ≡ false → (form : Bool) → has_table_form items id ≡ form
+        → table_plan at.view
+        ≡ cond form (contents_of_each (nodes_of (layout_of items id).parts)) content_of_fallback
+    pure_plan g true is = rw (alone, g, is) refl
+    pure_plan g false is = rw (alone, g, is) refl
+
+    pure_inside : is_guarded options ≡ false → (form lines : Bool) → has_table_form items id ≡ form
+        → has_lines (layout_of items id) ≡ lines
+        → said_inside says (codes "table") at.view children
+        ≡ cond (form && lines) (said_of_each says at.view (nodes_of_table (layout_of items id).parts))
+        (said_among says (groups_of children))
+    pure_inside g true true is has = rw (g, is, has) refl
+    pure_inside g true false is has = rw (g, is, has) refl
+    pure_inside g false lines is has = rw (g, is) refl
+
+    parts_give : is_guarded options ≡ false → (lines : Bool) → has_table_form items id ≡ true
+        → has_lines (layout_of items id) ≡ lines
+        → TableGives (contents_of_each (nodes_of (layout_of items id).parts))
+        (cond lines (said_of_each says at.view (nodes_of_table (layout_of items id).parts))
+        (said_among says (groups_of children)))
+    unfolding TableGives
+    parts_give g true is has =
         let parts = (layout_of items id).parts in
-        let results = (contents_alone at (nodes_of parts) definitions).results in
-        let each = each_gives (nodes_of parts) definitions in
-        rw (alone, is, alone, has)
+        rw (g, alone, has)
         (says-is (same_list (nodes_of_table parts))
-        (cond_both (is_guarded options) guarded_table_text table_text
-        (λ (f : TableTexts → List ℕ). Says of_letters (f (with_parts no_texts parts results))
-        (all_of said_here (nodes_of_table parts)))
-        (λ _. says-guarded_table_text said_here parts results each)
-        (λ _. says-table_text said_here parts results each)))
-    table_gives true false is has =
-        let parts = (layout_of items id).parts in
-        let before = (contents_alone at (nodes_of parts) definitions).definitions in
+        (says-table_text said_here parts (contents_alone at (nodes_of parts) definitions).results
+        (each_gives (nodes_of parts) definitions)))
+    parts_give g false is has =
+        let before = (contents_alone at (nodes_of (layout_of items id).parts) definitions).definitions in
         let out = content_of at before in
-        rw (alone, is, alone, has, alone, is)
+        rw (g, alone, has, alone, g, is)
         (between_lines (trimmed_text is_line_feed out.text) (said_among says (groups_of children))
         (says-trimmed is_line_feed line_feed_of_white out.text (within before)))
 
+    pure_gives : is_guarded options ≡ false → (form lines : Bool) → has_table_form items id ≡ form
+        → has_lines (layout_of items id) ≡ lines
+        → TableGives (cond form (contents_of_each (nodes_of (layout_of items id).parts)) content_of_fallback)
+        (cond (form && lines) (said_of_each says at.view (nodes_of_table (layout_of items id).parts))
+        (said_among says (groups_of children)))
+    pure_gives g true lines is has = parts_give g lines is has
+    pure_gives g false lines is has = fallback_gives (rw (alone, g, is) refl)
+
+    table_gives : (guarded : Bool) → is_guarded options ≡ guarded
+        → TableGives (table_plan at.view) (said_inside says (codes "table") at.view children)
+    table_gives true g =
+        let written = is_written_as_table items id in
+        subst (λ (plan : PlanView). TableGives plan (said_inside says (codes "table") at.view children))
+        (sym (guarded_plan g written refl))
+        (subst (λ (l : List ℕ). TableGives
+        (cond written (contents_of_each (nodes_of_lines (table_lines items id))) content_of_fallback) l)
+        (sym (guarded_inside g written refl)) (guarded_gives g written refl))
+    table_gives false g =
+        let form = has_table_form items id in
+        let lines = has_lines (layout_of items id) in
+        subst (λ (plan : PlanView). TableGives plan (said_inside says (codes "table") at.view children))
+        (sym (pure_plan g form refl))
+        (subst (λ (l : List ℕ). TableGives
+        (cond form (contents_of_each (nodes_of (layout_of items id).parts)) content_of_fallback) l)
+        (sym (pure_inside g form lines refl refl)) (pure_gives g form lines refl refl))
+
     table_is_said : IsSaid (codes "table")
+    unfolding TableGives
     table_is_said here =
         planned_is_said of_letters at definitions (codes "table") tables (table_plan at.view) (said_inside says
         (codes "table") at.view children)
-        refl refl (table_gives (has_table_form items id) (has_lines (layout_of items id)) refl refl)
+        refl refl (table_gives (is_guarded options) refl)
 
     plainly_said : (name : List ℕ) → IsPlain name → is_named hidden_tags name ≡ false
         → said_of_element name at.view (said_inside says name at.view children)

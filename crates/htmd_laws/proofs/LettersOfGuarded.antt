@@ -1,23 +1,21 @@
 -- The letters of the pieces of Markdown that Guarded writes.
-use Rattle.std.proofs.Common.{◌≡◌, ℕ, ◌-◌, Bool, true, false, cond, List, [], ◌∷◌, ◌++◌, length, take, drop, refl}
+use Rattle.std.proofs.Common.{◌≡◌, ℕ, Bool, true, false, cond, List, [], ◌∷◌, ◌++◌, refl}
 use Rattle.std.proofs.Common.{sym, ◌∙◌}
-use Rattle.std.proofs.Common.{subst, arith, append_assoc, Option, Some, None, codes, map}
+use Rattle.std.proofs.Common.{arith, append_assoc, Option, Some, None, codes, map}
 use Rattle.std.specs.Prelude.{◌&&◌, ◌==◌, slice_index, filter, unwrap_or}
 use Rattle.std.specs.Char.{is_ascii}
 use Rattle.std.specs.Fmt.{decimal}
 use Rattle.std.specs.List.{list_all, slice_split}
 use Rattle.std.specs.Str.{IsUtf8}
-use Rattle.std.proofs.lemmas.Bool.{and_parts, cond_both, eqb-true, ltb-true}
+use Rattle.std.proofs.lemmas.Bool.{and_parts, cond_both, ltb-true}
 use Rattle.std.proofs.lemmas.Bool.Decides.{nat_tests}
-use Rattle.std.proofs.lemmas.List.{append-nil, take-append-drop}
-use Rattle.htmd_text.specs.Characters.{space, line_feed, carriage_return, exclamation_mark, left_square_bracket}
-use Rattle.htmd_text.specs.Characters.{grave_accent}
+use Rattle.std.proofs.lemmas.List.{append-nil}
+use Rattle.htmd_text.specs.Characters.{space, line_feed, carriage_return}
 use Rattle.htmd_text.specs.Trims.{trimmed_text, is_line_feed, is_space}
 use Rattle.htmd_text.specs.WhiteSpace.{is_document_white_space, squeezed_text}
 use Rattle.htmd_markdown.specs.declared.emphasis.Emphasis.{Emphasis}
 use Rattle.htmd_markdown.specs.declared.fence.CodeBlockFence.{CodeBlockFence}
 use Rattle.htmd_markdown.specs.declared.heading.HeadingStyle.{HeadingStyle}
-use Rattle.htmd_markdown.specs.CodeSpans.{begins_with, ends_with}
 use Rattle.htmd_markdown.specs.Emphases.{emphasised_text, holds_blank_line, guarded_emphasis}
 use Rattle.htmd_markdown.specs.FenceReading.{is_line_end}
 use Rattle.htmd_markdown.specs.GuardedAddresses.{guarded_among, bare_address, needs_brackets, guarded_destination}
@@ -34,21 +32,20 @@ use Rattle.htmd_markdown.specs.OneLine.{with_spaces_between, one_line}
 use Rattle.htmd_markdown.specs.Titles.{is_filled}
 use Rattle.htmd_markdown.proofs.GuardedAddressesLemmas.{mark_is_ascii}
 use Rattle.htmd_markdown.proofs.GuardedMarksLemmas.{mark_is_punctuation}
-use Rattle.htmd.specs.Seams.{before_content, guarded_at_seam}
 use Rattle.htmd_laws.specs.Letters.{letters, letters_if_any}
 use Rattle.htmd_laws.proofs.CountedTexts.{Law, of_letters}
-use Rattle.htmd_laws.proofs.LettersLemmas.{says-of_nothing, says-as, says-cut_end, fillers_silent}
+use Rattle.htmd_laws.proofs.LettersLemmas.{says-of_nothing}
 use Rattle.htmd_laws.proofs.LettersLemmas.{Says, says-own, says-nil, says-append, says-is, is_filler, says-fillers}
 use Rattle.htmd_laws.proofs.LettersLemmas.{says-behind, says-before}
 use Rattle.htmd_laws.proofs.LettersOfTexts.{document_of_white, space_of_white, return_of_white}
 use Rattle.htmd_laws.proofs.LettersOfTexts.{says-trimmed, says-squeezed, says-marked, punctuation_low, says-edited, Edited}
 use Rattle.htmd_laws.proofs.LettersOfTexts.{IsEdit, same_edit, filling_edit, OfWhite}
-use Rattle.htmd_laws.proofs.LettersOfLines.{SayAll, say-mapped, says-joined, say-cut, last_reads, Keeps}
-use Rattle.htmd_laws.proofs.LettersOfPieces.{SaysIfAny, says-seam, says-emphasised, says-heading, spaces_if, says-code_span}
+use Rattle.htmd_laws.proofs.LettersOfLines.{SayAll, say-mapped, says-joined, say-cut, Keeps}
+use Rattle.htmd_laws.proofs.LettersOfPieces.{SaysIfAny, says-emphasised, says-heading, spaces_if, says-code_span}
 use Rattle.htmd_laws.proofs.LettersOfPieces.{says-fenced}
 use Rattle.htmd_laws.proofs.LettersOfLinks.{says-decimal, say-filled, IsTextIfAny, says-own_if_any, says-in_brackets}
 
--- ---- marks and seams
+-- ---- marks
 
 pub says-guarded_text : {law : Law} (begins : Bool) → Keeps law (guarded_text begins)
 says-guarded_text begins s l p =
@@ -60,31 +57,6 @@ says-guarded_among : (characters : List ℕ) → list_all is_ascii characters �
 says-guarded_among characters ascii s l p =
     says-marked (address.is_guarded_mark characters s) s
     (λ i m e. ltb-true (slice_index s i) 128 (mark_is_ascii characters s i ascii e)) p
-
--- one character of a text at its end goes
-says-last_cut : (c : ℕ) → is_filler c ≡ true → (s : List ℕ) {l : List ℕ} → ends_with c s ≡ true
-    → Says of_letters s l
-    → Says of_letters (take (length s - 1) s) l
-says-last_cut c fills s {l} e p =
-    let last = last_reads is_filler s
-    (subst (λ (x : ℕ). is_filler x ≡ true) (sym (eqb-true (slice_index s (length s - 1)) c e)) fills) in
-    says-cut_end (take (length s - 1) s) (drop (length s - 1) s) l last (fillers_silent (drop (length s - 1) s) last)
-    (says-as (sym (take-append-drop (length s - 1) s)) p)
-
-says-before_content : (out content : List ℕ) {l : List ℕ} → Says of_letters out l
-    → Says of_letters (before_content out content) l
-says-before_content out content {l} p =
-    cond_both (ends_with exclamation_mark out && begins_with left_square_bracket content) _ _
-    (λ (t : List ℕ). Says of_letters t l)
-    (λ e. says-before (codes "\\!") refl (says-last_cut exclamation_mark refl out (and_parts _ _ e).0 p))
-    (λ _. cond_both (ends_with grave_accent out && begins_with grave_accent content) _ _ (λ
-    (t : List ℕ). Says of_letters t l)
-    (λ _. says-before (codes " ") refl p) (λ _. p))
-
-pub says-guarded_seam : (out content : List ℕ) {l m : List ℕ} → Says of_letters out l
-    → Says of_letters content m → Says of_letters (guarded_at_seam out content) (l ++ m)
-says-guarded_seam out content p q =
-    says-seam (before_content out content) content false (says-before_content out content p) q
 
 -- ---- line ends
 

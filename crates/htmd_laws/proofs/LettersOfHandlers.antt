@@ -10,7 +10,7 @@ use Rattle.std.proofs.lemmas.List.{append-nil, take-append-drop}
 use Rattle.std.proofs.lemmas.Slice.Eq.{bytes_eq-Decides}
 use Rattle.std.proofs.lemmas.Str.{IsUtf8-past_char, encode_ascii}
 use Rattle.htmd_text.specs.BlankLines.{with_blank_lines}
-use Rattle.htmd_text.specs.Characters.{space, line_feed}
+use Rattle.htmd_text.specs.Characters.{space}
 use Rattle.htmd_text.specs.Trims.{trimmed_text, is_line_feed}
 use Rattle.htmd_markdown.specs.declared.emphasis.Emphasis.{Emphasis}
 use Rattle.htmd_markdown.specs.declared.line_break.BrStyle.{BrStyle}
@@ -20,7 +20,7 @@ use Rattle.htmd_markdown.specs.declared.thematic_break.HrStyle.TheVariants.{Dash
 use Rattle.htmd_markdown.specs.declared.heading.HeadingStyle.{HeadingStyle}
 use Rattle.htmd_markdown.specs.Emphases.{emphasised_text}
 use Rattle.htmd_markdown.specs.Headings.{heading, guarded_heading}
-use Rattle.htmd_markdown.specs.ListItems.{guarded_spacing}
+use Rattle.htmd_markdown.specs.ListItems.{guarded_spacing, guarded_bullet_item}
 use Rattle.htmd_markdown.specs.LineBreaks.{line_break}
 use Rattle.htmd_markdown.specs.Lists.{list_block}
 use Rattle.htmd_markdown.specs.ThematicBreaks.{thematic_break}
@@ -47,12 +47,13 @@ use Rattle.htmd.specs.Code.{first_language, language_of_class, classes_of}
 use Rattle.htmd.specs.Lists.{lists, is_in_item, list_result}
 use Rattle.htmd.specs.ListItems.{list_items, is_in_ordered, bullet_item_of}
 use Rattle.htmd.specs.ListItems.{list_tags}
+use Rattle.htmd.specs.OneLineElements.{is_in_line}
 use Rattle.htmd.specs.TableCells.{cells}
 use Rattle.htmd.specs.TableParts.{table_rows, table_parts}
 use Rattle.htmd.specs.Anchors.{anchor_address, finish_at, link_finish, guarded_link_finish}
 use Rattle.htmd_laws.specs.Letters.{letters, letters_if_any, said_of_address, prefers_autolinks}
 use Rattle.htmd_laws.proofs.CountedTexts.{Law, of_letters, counted}
-use Rattle.htmd_laws.proofs.LettersLemmas.{Says, says-own, says-nil, says-append, says-is, is_filler, says-fillers}
+use Rattle.htmd_laws.proofs.LettersLemmas.{Says, says-own, says-is, is_filler, says-fillers}
 use Rattle.htmd_laws.proofs.LettersLemmas.{says-behind, says-before}
 use Rattle.htmd_laws.proofs.LettersOfTexts.{line_feed_of_white, says-trimmed, says-blank_lines}
 use Rattle.htmd_laws.proofs.LettersOfLines.{AreTexts, say-cut, says-quote}
@@ -147,9 +148,11 @@ keeps_paragraphs tag = record {
 }
 
 pub keeps_quotes : {law : Law} (tag : List ℕ) → KeepsContent law tag quotes
-keeps_quotes tag = record {
+keeps_quotes {law} tag = record {
   planned = λ view alone here. rw alone refl;
-  finished = λ view content definitions l alone p. says-quote content.content l p;
+  finished = λ view content definitions l alone p.
+      cond_both (is_in_line view) _ _ (λ (r : Option ResultView). SaysResult law r l)
+      (λ _. wrapped content.content l p) (λ _. says-quote content.content l p);
 }
 
 pub keeps_parts : {law : Law} (tag : List ℕ) → KeepsContent law tag parts_of_page
@@ -188,21 +191,20 @@ says-item_of {law} view s {l} p =
     let marker = view.options.bullet_list_marker in
     let spacing = view.options.ul_bullet_spacing in
     cond_both (is_guarded view.options) _ _ (λ (t : List ℕ). Says law t l)
-    (λ _. says-is (append-nil l)
-    (says-append (says-bullet marker (guarded_spacing spacing) s p) (end_of_line (is_tag_among list_tags (parent_tag
-    view)))))
+    (λ _.
+    let own = says-bullet marker (guarded_spacing spacing) s p in
+    cond_both (is_tag_among list_tags (parent_tag view)) _ _ (λ (t : List ℕ). Says law t l) (λ _. own)
+    (λ _. wrapped (guarded_bullet_item marker spacing s) l own))
     (λ _. says-bullet marker spacing s p)
-  where
-    end_of_line : (b : Bool) → Says law (cond b [] (line_feed ∷ [])) []
-    end_of_line true = says-nil
-    end_of_line false = says-fillers (line_feed ∷ []) refl
 
 pub keeps_items : {law : Law} (tag : List ℕ) → KeepsContent law tag list_items
 keeps_items {law} tag = record {
   planned = λ view alone here. rw alone refl;
   finished = λ view content definitions l alone p.
-      cond_both (is_in_ordered view) _ _ (λ (t : List ℕ). Says law t l) (λ _. says-unnumbered content.content p)
-      (λ _. says-item_of view content.content p);
+      cond_both (is_in_line view) _ _ (λ (r : Option ResultView). SaysResult law r l)
+      (λ _. wrapped content.content l p)
+      (λ _. cond_both (is_in_ordered view) _ _ (λ (t : List ℕ). Says law t l)
+      (λ _. says-unnumbered content.content p) (λ _. says-item_of view content.content p));
 }
 
 pub keeps_headings : {law : Law} (tag : List ℕ) → KeepsContent law tag headings
@@ -211,9 +213,12 @@ keeps_headings {law} tag = record {
   finished = λ view content definitions l alone p.
       let style = view.options.heading_style in
       let level = level_of (tag_of view) in
-      cond_both (is_guarded view.options) guarded_heading heading
+      cond_both (is_in_line view) _ _ (λ (r : Option ResultView). SaysResult law r l)
+      (λ _. wrapped content.content l p)
+      (λ _. cond_both (is_guarded view.options) guarded_heading heading
       (λ (f : HeadingStyle → ℕ → List ℕ → List ℕ). Says law (f style level content.content) l)
-      (λ _. says-guarded_heading style level content.content l p) (λ _. says-heading style level content.content p);
+      (λ _. says-guarded_heading style level content.content l p)
+      (λ _. says-heading style level content.content p));
 }
 
 pub keeps_emphasis : {law : Law} (emphasis : Emphasis) (tag : List ℕ) → KeepsContent law tag (emphasis_of emphasis)

@@ -22,8 +22,8 @@ use Rattle.htmd_markdown.specs.declared.list.BulletListMarker.{BulletListMarker}
 use Rattle.htmd_markdown.specs.declared.list.BulletListMarker.TheVariants.{Asterisk, Dash}
 use Rattle.htmd_markdown.specs.ListItems.{list_item, bullet, bullet_marker, bullet_item, unnumbered_item, number_marker}
 use Rattle.htmd_markdown.specs.ListItems.{numbered_item}
-use Rattle.htmd_markdown.specs.Lists.{Block, item, other, numbered_blocks, ordered_list, highest_number, list_block}
-use Rattle.htmd_markdown.specs.Lists.{between_line_feeds}
+use Rattle.htmd_markdown.specs.Lists.{Block, item, other, block_text, numbered_blocks, ordered_list_by, unnumbered_list}
+use Rattle.htmd_markdown.specs.Lists.{list_block, between_line_feeds}
 use Rattle.htmd_markdown.specs.Addresses.{escaped_among, parentheses, escaped_address, holds_space, opening_bracket}
 use Rattle.htmd_markdown.specs.Addresses.{closing_bracket}
 use Rattle.htmd_markdown.specs.Titles.{is_filled, filled_lines, tidied_text, description, title_text}
@@ -78,35 +78,34 @@ says-unnumbered s p =
     says-behind (line_feed ∷ []) refl
     (says-before (line_feed ∷ []) refl (says-trimmed_start is_document_white_space document_of_white s p))
 
-says-numbered : {law : Law} (spacing highest number : ℕ) (s : List ℕ) {l : List ℕ} → Says law s l
-    → Says law (numbered_item spacing highest number s) l
-says-numbered spacing highest number s p =
-    says-item (number_marker spacing highest number) (trimmed_start is_line_feed s)
+says-numbered : {law : Law} (spaces number : ℕ) (s : List ℕ) {l : List ℕ} → Says law s l
+    → Says law (numbered_item spaces number s) l
+says-numbered spaces number s p =
+    says-item (number_marker spaces number) (trimmed_start is_line_feed s)
     (says-append (says-decimal number) (says-behind (full_stop ∷ []) refl (says-many _ space refl)))
     (says-trimmed_start is_line_feed line_feed_of_white s p)
 
-abbrev pub text_of_block : Block → List ℕ
-text_of_block (item content) = content
-text_of_block (other text) = text
-
-say-numbered : {law : Law} (spacing highest number : ℕ) (blocks : List Block) {l : List ℕ}
-    → SayAll law (map text_of_block blocks) l
-    → SayAll law (numbered_blocks spacing highest number blocks) l
-say-numbered spacing highest number [] p = p
-say-numbered spacing highest number (item content ∷ blocks) p =
+say-numbered : {law : Law} (spaces : ℕ → ℕ) (number : ℕ) (blocks : List Block) {l : List ℕ}
+    → SayAll law (map block_text blocks) l
+    → SayAll law (numbered_blocks spaces number blocks) l
+say-numbered spaces number [] p = p
+say-numbered spaces number (item content ∷ blocks) p =
     say-in p.say
-    (say-cons (says-numbered spacing highest number content (says-own content p.texts.0))
-    (say-numbered spacing highest (suc number) blocks (say-own _ p.texts.1)))
-say-numbered spacing highest number (other text ∷ blocks) p =
+    (say-cons (says-numbered (spaces number) number content (says-own content p.texts.0))
+    (say-numbered spaces (suc number) blocks (say-own _ p.texts.1)))
+say-numbered spaces number (other text ∷ blocks) p =
     say-in p.say
     (say-cons (says-own text p.texts.0)
-    (say-numbered spacing highest number blocks (say-own _ p.texts.1)))
+    (say-numbered spaces number blocks (say-own _ p.texts.1)))
 
-pub says-ordered : {law : Law} (first spacing : ℕ) (blocks : List Block) {l : List ℕ}
-    → SayAll law (map text_of_block blocks) l
-    → Says law (ordered_list first spacing blocks) l
-says-ordered first spacing blocks p =
-    says-joined_blocks _ (say-numbered spacing (highest_number first blocks) first blocks p)
+pub says-ordered : {law : Law} (spaces : ℕ → ℕ) (first : ℕ) (blocks : List Block) {l : List ℕ}
+    → SayAll law (map block_text blocks) l
+    → Says law (ordered_list_by spaces first blocks) l
+says-ordered spaces first blocks p = says-joined_blocks _ (say-numbered spaces first blocks p)
+
+pub says-unnumbered_list : {law : Law} (blocks : List Block) {l : List ℕ} → SayAll law (map block_text blocks) l
+    → Says law (unnumbered_list blocks) l
+says-unnumbered_list blocks p = says-joined_blocks (map block_text blocks) p
 
 between_feeds : {law : Law} (n : ℕ) (s : List ℕ) {l : List ℕ} → Says law s l
     → SaysIfAny law (option_map (between_line_feeds n)

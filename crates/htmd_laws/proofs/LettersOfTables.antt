@@ -11,17 +11,16 @@ use Rattle.htmd_text.specs.BlankLines.{blank_line}
 use Rattle.htmd_text.specs.Characters.{space, line_feed, carriage_return, vertical_bar, hyphen, backslash}
 use Rattle.htmd_text.specs.Trims.{trimmed_text}
 use Rattle.htmd_text.specs.WhiteSpace.{is_document_white_space}
-use Rattle.htmd_markdown.specs.GuardedTables.{cell_line, is_escaping, escaped_bars, guarded_cell, guarded_cell_width}
-use Rattle.htmd_markdown.specs.GuardedTables.{guarded_table}
+use Rattle.htmd_markdown.specs.GuardedTables.{cell_line, is_escaping, escaped_bars, guarded_cell}
 use Rattle.htmd_markdown.specs.GuardedTables as guarded
 use Rattle.htmd_markdown.specs.Tables.{in_cell, normalised_cell, cell_width, line_cells_by, padded_cell}
 use Rattle.htmd_markdown.specs.Tables.{barred_cells, line}
 use Rattle.htmd_markdown.specs.Tables.{row_by, dashes, separator, wider, column_widths_by, head_by}
-use Rattle.htmd_markdown.specs.Tables.{table_by, table}
+use Rattle.htmd_markdown.specs.Tables.{table_of_widths_by, table_by, table}
 use Rattle.htmd.specs.Handling.{ResultView}
 use Rattle.htmd.specs.TableLayouts.{Part, nodes_of}
 use Rattle.htmd.specs.Tables.{TableTexts, no_texts, text_of_cell, with_part, with_parts, in_line}
-use Rattle.htmd.specs.Tables.{table_text, guarded_captions, guarded_headers, guarded_table_text}
+use Rattle.htmd.specs.Tables.{table_text}
 use Rattle.htmd.specs.TableOrder.{caption_nodes, header_nodes, row_nodes, captions_of, rows_of, last_headers}
 use Rattle.htmd.specs.TableOrder.{nodes_of_table}
 use Rattle.htmd.proofs.TableNodesLemmas.{each_kind}
@@ -172,7 +171,7 @@ wider_right [] vs = omega arith
 wider_right (w ∷ ws) [] = omega arith
 wider_right (w ∷ ws) (v ∷ vs) = omega (arith, wider_right ws vs)
 
-abbrev FitIn : ℕ → List (List (List ℕ)) → Type 0
+abbrev pub FitIn : ℕ → List (List (List ℕ)) → Type 0
 FitIn n [] = Unit {0}
 FitIn n (cells ∷ lines) = (length cells ≤ n) × FitIn n lines
 
@@ -182,7 +181,7 @@ grows width before [] = omega arith
 grows width before (cells ∷ lines) =
     omega (arith, wider_left before (map width cells), grows width (wider before (map width cells)) lines)
 
-fit_in : (width : List ℕ → ℕ) (before : List ℕ) (lines : List (List (List ℕ)))
+pub fit_in : (width : List ℕ → ℕ) (before : List ℕ) (lines : List (List (List ℕ)))
     → FitIn (length (fold wider before (map (map width) lines))) lines
 fit_in width before [] = tt
 fit_in width before (cells ∷ lines) =
@@ -205,7 +204,7 @@ pub record SayRows (rows : List (List (List ℕ))) (l : List ℕ) : Type 0 where
   pub texts : AreRows rows
   pub say : letters_of_rows rows ≡ l
 
-rows-push : (rows : List (List (List ℕ))) (cells : List (List ℕ)) {l m : List ℕ} → SayRows rows l
+pub rows-push : (rows : List (List (List ℕ))) (cells : List (List ℕ)) {l m : List ℕ} → SayRows rows l
     → SayAll of_letters cells m
     → SayRows (rows ++ cells ∷ []) (l ++ m)
 rows-push [] cells {l} {m} p q = record {
@@ -239,14 +238,21 @@ says-head written keeps (header ∷ headers) widths {l} fit p =
     says-is (append-nil l)
     (says-append (says-row written keeps (header ∷ headers) widths fit p) (says-separator widths))
 
-pub says-table : (written : List ℕ → List ℕ) → Keeps of_letters written
+-- with columns of such widths
+pub says-table_of : (written : List ℕ → List ℕ) → Keeps of_letters written
+    → (widths : List ℕ) (headers : List (List ℕ)) (rows : List (List (List ℕ))) {l m : List ℕ}
+    → FitIn (length widths) (headers ∷ rows) → SayAll of_letters headers l → SayRows rows m
+    → Says of_letters (table_of_widths_by written widths headers rows) (l ++ m)
+says-table_of written keeps widths headers rows fit p q =
+    says-append (says-head written keeps headers widths fit.0 p) (says-rows written keeps rows widths fit.1 q)
+
+says-table : (written : List ℕ → List ℕ) → Keeps of_letters written
     → (width : List ℕ → ℕ) (headers : List (List ℕ))
     (rows : List (List (List ℕ))) {l m : List ℕ} → SayAll of_letters headers l → SayRows rows m
     → Says of_letters (table_by written width headers rows) (l ++ m)
 says-table written keeps width headers rows p q =
-    let widths = column_widths_by width (headers ∷ rows) in
-    let fit = fit_in width [] (headers ∷ rows) in
-    says-append (says-head written keeps headers widths fit.0 p) (says-rows written keeps rows widths fit.1 q)
+    says-table_of written keeps (column_widths_by width (headers ∷ rows)) headers rows
+    (fit_in width [] (headers ∷ rows)) p q
 
 -- ---- part by part
 
@@ -267,7 +273,7 @@ module _ (f : ℕ → List ℕ) where
   SayEach (d ∷ ds) [] = ⊥
   SayEach (d ∷ ds) (r ∷ rs) = Says of_letters r.content (f d) × SayEach ds rs
 
-  each_split : (xs ys : List ℕ) (rs : List ResultView) → SayEach (xs ++ ys) rs
+  pub each_split : (xs ys : List ℕ) (rs : List ResultView) → SayEach (xs ++ ys) rs
       → SayEach xs (take (length xs) rs) × SayEach ys (drop (length xs) rs)
   each_split [] ys rs p = (none_left rs, p)
     where
@@ -379,27 +385,3 @@ module _ (f : ℕ → List ℕ) where
       (says-behind blank_line refl (says-flat in_line says-in_line texts.captions all.in_captions))
       (says-in_line (table texts.headers texts.rows) _
       (says-table normalised_cell says-normalised cell_width texts.headers texts.rows all.in_headers all.in_rows)))
-
-  says-captions : (captions : List (List ℕ)) {l : List ℕ} → SayAll of_letters captions l
-      → Says of_letters (guarded_captions captions) l
-  says-captions [] p = says-is p.say says-nil
-  says-captions (caption ∷ captions) {l} p =
-      says-in_line (flat_map in_line (caption ∷ captions)) l (says-flat in_line says-in_line (caption ∷ captions) p)
-
-  say-headers : (headers : List (List ℕ)) {l : List ℕ} → SayAll of_letters headers l
-      → SayAll of_letters (guarded_headers headers) l
-  say-headers [] p = say-is p.say (say-is (append-nil []) (say-cons says-nil say-none))
-  say-headers (header ∷ headers) p = p
-
-  pub says-guarded_table_text : (parts : List Part) (rs : List ResultView) → SayEach (nodes_of parts) rs
-      → Says of_letters (guarded_table_text (with_parts no_texts parts rs)) (all_of (nodes_of_table parts))
-  says-guarded_table_text parts rs e =
-      let texts = with_parts no_texts parts rs in
-      let all = table_says parts rs e in
-      let headers = guarded_headers texts.headers in
-      says-is (in_order parts)
-      (says-append
-      (says-behind blank_line refl (says-captions texts.captions all.in_captions))
-      (says-in_line (guarded_table headers texts.rows) _
-      (says-table guarded_cell says-guarded_cell guarded_cell_width headers texts.rows
-      (say-headers texts.headers all.in_headers) all.in_rows)))

@@ -208,7 +208,7 @@ squeezed law (b ∷ s) =
 pub says-squeezed : {law : Law} (s : List ℕ) {l : List ℕ} → Says law s l → Says law (squeezed_text s) l
 says-squeezed {law} s p = says-edited s (squeezed_text s) (squeezed law s) p
 
-backslash_holds : (law : Law) (b : ℕ) → Holds law (filter (counts law) (b ∷ []))
+pub backslash_holds : (law : Law) (b : ℕ) → Holds law (filter (counts law) (b ∷ []))
     (filter (counts law) (backslash ∷ b ∷ []))
 backslash_holds of_letters b = refl
 backslash_holds of_visible b =

@@ -23,6 +23,7 @@ pub mod ParagraphTexts
 pub mod ParagraphSeams
 pub mod ParagraphLawsLemmas
 pub mod GuardedEnds
+pub mod GuardedRuns
 pub mod GuardedSeams
 pub mod TextTrees
 pub mod TextElements
@@ -33,8 +34,10 @@ pub mod LettersOfLines
 pub mod LettersOfPieces
 pub mod LettersOfLinks
 pub mod LettersOfGuarded
+pub mod LettersOfJoints
 pub mod LettersOfHandlers
 pub mod LettersOfTables
+pub mod LettersOfGrids
 pub mod ElementsByTag
 pub mod LettersOfElements
 pub mod FittingTrees

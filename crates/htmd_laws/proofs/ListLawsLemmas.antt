@@ -21,13 +21,14 @@ use Rattle.htmd_text.specs.Characters.{line_feed, space, full_stop}
 use Rattle.htmd_text.specs.Digits.{digits}
 use Rattle.htmd_text.specs.Trims.{trimmed_start, trimmed_end, trimmed_text, some_text, is_line_feed}
 use Rattle.htmd_text.specs.Indents.{indented_text}
-use Rattle.htmd_markdown.specs.ListItems.{number_marker, guarded_spacing}
+use Rattle.htmd_markdown.specs.ListItems.{number_marker, aligned_spaces, guarded_spaces}
 use Rattle.htmd_markdown.specs.Lists.{Block, item, other, item_count, highest_number, first_number, ordered_list}
-use Rattle.htmd_markdown.specs.Lists.{list_block, between_line_feeds}
+use Rattle.htmd_markdown.specs.Lists.{ordered_list_by, list_block, between_line_feeds}
 use Rattle.htmd_markdown.specs.Lists.{guarded_ordered_list, guarded_first_number}
-use Rattle.htmd_markdown.specs.ListColumns.{item_content, StandsInColumn, HasEqualColumns}
+use Rattle.htmd_markdown.specs.ListColumns.{item_content, StandsInColumn, HasColumns, HasEqualColumns}
+use Rattle.htmd_markdown.specs.ListColumns.{HasGuardedColumns}
 use Rattle.htmd_markdown.proofs.ListsLemmas.{items_in, item_count-append}
-use Rattle.htmd_markdown.proofs.ListColumnsLemmas.{columns_equal, digit_first}
+use Rattle.htmd_markdown.proofs.ListColumnsLemmas.{columns_kept, columns_equal, digit_first}
 use Rattle.htmd_markdown.proofs.SpacedSpansLemmas.{one_more}
 use Rattle.htmd_tree.specs.Items.{Item, children_of, tag_of, data_at}
 use Rattle.htmd.specs.Handling.{ElementView, ResultView}
@@ -36,8 +37,9 @@ use Rattle.htmd.specs.Children.{content_alone, descendant_tree}
 use Rattle.htmd.specs.Elements.{Occurrence, contents_alone}
 use Rattle.htmd.specs.ElementPlans.{raw_block_result, are_markdown, attributes_of, value_of_first}
 use Rattle.htmd.specs.ElementPlans.{optional_markdown}
-use Rattle.htmd.specs.Lists.{block_of_child, blocks_of_list, blocks_of, first_number_of, is_in_item}
-use Rattle.htmd_laws.specs.ListLaws.{ItemsBeginInOneColumn, is_item, HasItemBehind, EachItemTakesANumber}
+use Rattle.htmd.specs.Lists.{block_of_child, blocks_of_list, blocks_of, first_number_of, is_in_item, ordered_text}
+use Rattle.htmd.specs.OneLineElements.{is_in_line}
+use Rattle.htmd_laws.specs.ListLaws.{BeginInColumns, ItemsBeginInOneColumn, is_item, HasItemBehind, EachItemTakesANumber}
 
 -- ---- line feeds are cut behind a text
 
@@ -148,23 +150,22 @@ spaces_end (suc count) = record {
   differs = refl;
 }
 
-marker_ends : (spacing highest number : ℕ) → Ends (number_marker spacing highest number)
-marker_ends spacing highest number =
-    ends_behind (decimal number) _ (spaces_end (spacing + (digits highest - digits number)))
+marker_ends : (spaces number : ℕ) → Ends (number_marker spaces number)
+marker_ends spaces number = ends_behind (decimal number) _ (spaces_end spaces)
 
 begins_behind : (s rest : List ℕ) → 0 < length s → is_line_feed (get_or s 0 0) ≡ false → Begins (s ++ rest)
 unfolding Begins
 begins_behind [] rest some differs = absurd (omega arith)
 begins_behind (b ∷ s) rest some differs = differs
 
-marker_begins : (spacing highest number : ℕ) (content behind : List ℕ) → number < 2 ^ 64
-    → Begins ((number_marker spacing highest number ++ content) ++ behind)
-marker_begins spacing highest number content behind small =
+marker_begins : (spaces number : ℕ) (content behind : List ℕ) → number < 2 ^ 64
+    → Begins ((number_marker spaces number ++ content) ++ behind)
+marker_begins spaces number content behind small =
     let numeral = (decimal_is_IsNumeral number small).0 in
     let digit = digit_at (decimal number) 0 numeral.1 numeral.0 in
-    let spaces = full_stop ∷ replicate (spacing + (digits highest - digits number)) space in
-    subst Begins (regrouped (decimal number) spaces content behind)
-    (begins_behind (decimal number) (spaces ++ (content ++ behind)) numeral.0
+    let rest = full_stop ∷ replicate spaces space in
+    subst Begins (regrouped (decimal number) rest content behind)
+    (begins_behind (decimal number) (rest ++ (content ++ behind)) numeral.0
     (digit_first (get_or (decimal number) 0 0) digit.0))
   where
     regrouped : (a b c d : List ℕ) → a ++ (b ++ (c ++ d)) ≡ ((a ++ b) ++ c) ++ d
@@ -234,22 +235,22 @@ stands_between false column marker content text width begins =
       width = width;
     }
 
-equal_between : (inside : Bool) (first spacing : ℕ) (blocks : List Block) → first + item_count blocks < 2 ^ 64
-    → HasEqualColumns first spacing blocks (between_line_feeds (cond inside 1 2)
-    (trimmed_text is_line_feed (ordered_list first spacing blocks)))
-equal_between inside first spacing blocks small = λ earlier later content split.
-    let highest = highest_number first blocks in
+kept_between : (inside : Bool) (spaces : ℕ → ℕ) (first : ℕ) (blocks : List Block)
+    → first + item_count blocks < 2 ^ 64
+    → HasColumns spaces first blocks (between_line_feeds (cond inside 1 2)
+    (trimmed_text is_line_feed (ordered_list_by spaces first blocks)))
+kept_between inside spaces first blocks small = λ earlier later content split.
     let number = first + item_count earlier in
-    let marker = number_marker spacing highest number in
-    let column = spacing + digits highest + 1 in
+    let marker = number_marker (spaces number) number in
+    let column = digits number + 1 + spaces number in
     let own = item_content column content in
-    let list = ordered_list first spacing blocks in
-    let stands = columns_equal first spacing blocks small earlier later content split in
+    let list = ordered_list_by spaces first blocks in
+    let stands = columns_kept spaces first blocks small earlier later content split in
     let count = ap item_count split ∙ item_count-append earlier (item content ∷ later) in
     let begins = begins_line marker own stands.before stands.behind
     (marked_ends marker (indented_text (trimmed_start is_line_feed content) column true)
-    (marker_ends spacing highest number))
-    (marker_begins spacing highest number own stands.behind (omega (arith, count))) in
+    (marker_ends (spaces number) number))
+    (marker_begins (spaces number) number own stands.behind (omega (arith, count))) in
     stands_between inside column marker own (trimmed_text is_line_feed list) stands.width
     (subst (λ (l : List ℕ). BeginsLine marker own (trimmed_text is_line_feed l)) (sym stands.whole) begins)
 
@@ -292,17 +293,15 @@ items_among view results =
       length-zip (children_of view.items view.node) results,
     )
 
--- a list that begins at such a number, with such a spacing
-in_columns : (markdown inside : Bool) (first spacing : ℕ) (blocks : List Block) (raw : ResultView)
-    → raw.markdown_translated ≡ false → first + item_count blocks < 2 ^ 64
-    → IfSome (cond markdown (optional_markdown (list_block inside (ordered_list first spacing blocks))) (Some raw))
-    (λ list. list.markdown_translated ≡ true → HasEqualColumns first spacing blocks list.content)
-in_columns markdown inside first spacing blocks raw is_raw small =
-    markdown_holds (HasEqualColumns first spacing blocks) markdown
-    (list_block inside (ordered_list first spacing blocks)) raw is_raw
-    (block_holds (HasEqualColumns first spacing blocks) (between_line_feeds (cond inside 1 2))
-    (trimmed_text is_line_feed (ordered_list first spacing blocks))
-    (equal_between inside first spacing blocks small))
+-- a list that keeps something between line feeds
+in_columns : (P : List ℕ → Type 0) (markdown inside : Bool) (list : List ℕ) (raw : ResultView)
+    → raw.markdown_translated ≡ false
+    → P (between_line_feeds (cond inside 1 2) (trimmed_text is_line_feed list))
+    → IfSome (cond markdown (optional_markdown (list_block inside list)) (Some raw))
+    (λ r. r.markdown_translated ≡ true → P r.content)
+in_columns P markdown inside list raw is_raw kept =
+    markdown_holds P markdown (list_block inside list) raw is_raw
+    (block_holds P (between_line_feeds (cond inside 1 2)) (trimmed_text is_line_feed list) kept)
 
 one_below : (test : Bool) (first : ℕ) → first < 2 ^ 31 → cond test 1 first < 2 ^ 31
 one_below true first below = omega arith
@@ -314,23 +313,39 @@ in_columns_of : (guarded markdown inside : Bool) (first spacing : ℕ) (blocks :
     → IfSome (cond markdown
     (optional_markdown (list_block inside ((cond guarded guarded_ordered_list ordered_list) first spacing blocks)))
     (Some raw))
-    (λ list. list.markdown_translated ≡ true
-    → HasEqualColumns (cond guarded (guarded_first_number first (highest_number first blocks)) first)
-    (cond guarded (guarded_spacing spacing) spacing) blocks list.content)
+    (λ list. list.markdown_translated ≡ true → BeginInColumns guarded first spacing blocks list.content)
 in_columns_of true markdown inside first spacing blocks raw is_raw below few =
     let number = guarded_first_number first (highest_number first blocks) in
     let small : number < 2 ^ 31 = one_below (nat_lt 9 (digits (highest_number first blocks))) first below in
-    in_columns markdown inside number (guarded_spacing spacing) blocks raw is_raw (omega (arith, few, small))
+    in_columns (HasGuardedColumns number spacing blocks) markdown inside (guarded_ordered_list first spacing blocks) raw
+    is_raw
+    (kept_between inside (guarded_spaces spacing (highest_number number blocks)) number blocks
+    (omega (arith, few, small)))
 in_columns_of false markdown inside first spacing blocks raw is_raw below few =
-    in_columns markdown inside first spacing blocks raw is_raw (omega (arith, few, below))
+    let list = ordered_list first spacing blocks in
+    in_columns (HasEqualColumns first spacing blocks) markdown inside list raw is_raw
+    (columns_equal first spacing blocks (between_line_feeds (cond inside 1 2) (trimmed_text is_line_feed list))
+    (kept_between inside (aligned_spaces spacing (highest_number first blocks)) first blocks (omega (arith, few, below))))
 
 pub items_begin : (view : ElementView) → length (children_of view.items view.node) < 2 ^ 63
     → ItemsBeginInOneColumn view
-items_begin view few results =
-    in_columns_of (is_guarded view.options) (is_markdown_alone view.options || are_markdown results) (is_in_item view)
-    (first_number_of view) view.options.ol_number_spacing (blocks_of view results) (raw_block_result view) refl
+items_begin view few results apart =
+    let blocks = blocks_of view results in
+    let markdown = is_markdown_alone view.options || are_markdown results in
+    let first = first_number_of view in
+    let spacing = view.options.ol_number_spacing in
+    let raw = raw_block_result view in
+    let written : ordered_text view blocks
+    ≡ (cond (is_guarded view.options) guarded_ordered_list ordered_list) first spacing blocks =
+    cond-false (is_in_line view) _ _ apart in
+    subst
+    (λ (text : List ℕ). IfSome (cond markdown (optional_markdown (list_block (is_in_item view) text)) (Some raw))
+    (λ list. list.markdown_translated ≡ true
+    → BeginInColumns (is_guarded view.options) first spacing blocks list.content))
+    (sym written)
+    (in_columns_of (is_guarded view.options) markdown (is_in_item view) first spacing blocks raw refl
     (first_below (value_of_first (codes "start") (attributes_of view)))
-    (omega (arith, few, items_among view results))
+    (omega (arith, few, items_among view results)))
 
 -- ---- each item takes a number
 

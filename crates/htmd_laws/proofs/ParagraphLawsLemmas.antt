@@ -25,7 +25,7 @@ use Rattle.htmd.specs.Groups.{Joint, joint_with, joint_of, both_join, is_joinabl
 use Rattle.htmd.specs.Groups.{in_front, groups_of}
 use Rattle.htmd.specs.Outputs.{Conversion, conversion_of, Output, context_of, empty_output, is_markdown_alone}
 use Rattle.htmd.specs.Outputs.{is_guarded}
-use Rattle.htmd.specs.OrdinaryText.{written_text}
+use Rattle.htmd.specs.OrdinaryText.{with_written_text}
 use Rattle.htmd.specs.Children.{trim_after, write_children, content_inside}
 use Rattle.htmd.specs.ElementPlans.{plain_plan}
 use Rattle.htmd.specs.Elements.{Occurrence, Answer, content_of, answer_after, first_answer, plan_answer, with_finish}
@@ -176,7 +176,7 @@ module _ (options : Options) (pure : is_guarded options ≡ false) (items : List
   content_is zero kids (Some s) h low = absurd (omega (arith, low, ap tallest h.1))
   content_is (suc n) kids (Some s) h low =
       ap (λ (f : NumberedForest). content_inside (written_within (suc n) conversion) inside f []) h.1
-      ∙ ap (λ b. so_far (written_text b false false true [] s)) pure
+      ∙ ap (λ b. so_far (with_written_text b false false true [] s)) pure
       ∙ ap (λ (l : List ℕ). so_far (escaped_markdown l)) (shown_is s)
 
   abbrev at : ℕ → ℕ → NumberedForest → Occurrence

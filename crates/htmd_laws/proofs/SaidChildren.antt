@@ -1,5 +1,5 @@
 -- What children hold, written one behind another, and what a text holds, by either law.
-use Rattle.std.proofs.Common.{ℕ, Bool, true, false, List, ◌++◌}
+use Rattle.std.proofs.Common.{◌≡◌, ℕ, Bool, true, false, List, ◌++◌}
 use Rattle.std.proofs.Common.{sym, append_assoc}
 use Rattle.std.specs.Prelude.{◌||◌}
 use Rattle.std.specs.Str.{IsUtf8}
@@ -22,6 +22,7 @@ use Rattle.htmd_laws.proofs.LettersOfTexts.{space_of_white, says-trimmed_end}
 use Rattle.htmd_laws.proofs.LettersOfTexts.{says-squeezed, says-escaped, says-escaped_pre}
 use Rattle.htmd_laws.proofs.LettersOfPieces.{says-first_space}
 use Rattle.htmd_laws.proofs.LettersOfGuarded.{says-guarded_text}
+use Rattle.htmd_laws.proofs.LettersOfJoints.{PassesMarks, says-joint}
 use Rattle.htmd_laws.proofs.CountedTexts.{Law, counted}
 use Rattle.htmd.specs.Outputs.{Writes}
 
@@ -51,15 +52,17 @@ module _ (law : Law) (write : Writes) (Fits : NumberedTree → Type 0) (says : N
       (children_are_said inside trees (trim_after block before after trim) after (l ++ says tree) fit.1 first)
 
 pub text_is_said : (law : Law) (guarded : Bool) (s : List ℕ) (context : Context) (out : Output) (l : List ℕ)
-    → IsUtf8 s → Says law out.text l → Says law (write_text guarded s context out).text (l ++ counted law s)
-text_is_said law guarded s context out l t p =
+    → (guarded ≡ true → PassesMarks law) → IsUtf8 s → Says law out.text l
+    → Says law (write_text guarded s context out).text (l ++ counted law s)
+text_is_said law guarded s context out l marks t p =
     let own = says-own {law = law} s t in
     let squeezed = says-first_space (context.trim || ends_with_space out.text) (squeezed_text s) (says-squeezed s
     own) in
-    says-append p
-    (cond_both guarded _ _ (λ (x : List ℕ). Says law x (counted law s))
-    (λ _. says-guarded_text (begins_line out.text) _ (counted law s) squeezed)
-    (λ _. cond_both context.preformatted _ _ (λ (x : List ℕ). Says law x (counted law s))
+    cond_both guarded _ _ (λ (x : List ℕ). Says law x (l ++ counted law s))
+    (λ e. says-joint law (marks e) out.text _ l (counted law s) p
+    (says-guarded_text (begins_line out.text) _ (counted law s) squeezed))
+    (λ _. says-append p
+    (cond_both context.preformatted _ _ (λ (x : List ℕ). Says law x (counted law s))
     (λ _. cond_both (parent_is_pre context.ancestors) _ _ (λ (x : List ℕ). Says law x (counted law s))
     (λ _. says-escaped_pre s own) (λ _. own))
     (λ _. says-escaped _ squeezed)))

@@ -1,6 +1,7 @@
 -- In Pure nothing that a reader sees is lost.
 use Rattle.std.proofs.Common.{◌≡◌, ℕ, zero, suc, ◌<◌, ◌≤◌, Bool, true, false, List, [], ◌∷◌, ◌++◌, length, Option}
 use Rattle.std.proofs.Common.{Some, None, codes, refl, sym, ap, ◌∙◌, arith, subst}
+use Rattle.std.proofs.lemmas.Bool.{true≢false}
 use Rattle.std.proofs.lemmas.List.{append-nil}
 use Rattle.htmd_text.specs.Trims.{trimmed_end, is_line_feed}
 use Rattle.htmd_text.specs.WhiteSpace.{is_document_white_space}
@@ -112,7 +113,8 @@ module _ (options : Options) (alone : is_markdown_alone options ≡ true) (ungua
       children out l fit.0 (omega (arith, fit.1)) p)
   within_is_shown (suc n) (doctype id) context out l fit p = says-is (sym (append-nil l)) p
   within_is_shown (suc n) (text id s) context out l fit p =
-      text_is_said of_visible (is_guarded options) s context out l fit.0 p
+      text_is_said of_visible (is_guarded options) s context out l
+      (λ guarded. absurd (true≢false (sym guarded ∙ unguarded))) fit.0 p
   within_is_shown (suc n) (comment id s) context out l fit p = rw alone (says-is (sym (append-nil l)) p)
   within_is_shown (suc n) (element id name attributes children) context out l fit p =
       let write = written_within n conversion in

@@ -13,7 +13,6 @@ use Rattle.htmd_tree.specs.Ancestors.{Ancestor, ancestor_of}
 use Rattle.htmd_markdown.specs.Addresses.{escaped_address}
 use Rattle.htmd_markdown.specs.LineBreaks.{line_break}
 use Rattle.htmd_markdown.specs.Links.{inline_link}
-use Rattle.htmd_markdown.specs.ThematicBreaks.{thematic_break}
 use Rattle.htmd.specs.declared.options.CodeBlockStyle.{CodeBlockStyle}
 use Rattle.htmd.specs.declared.options.CodeBlockStyle.TheVariants.{Indented, Fenced}
 use Rattle.htmd.specs.declared.options.LinkStyle.{LinkStyle}
@@ -29,10 +28,11 @@ use Rattle.htmd.specs.ElementPlans.{tag_of, attributes_of, markdown_plan}
 use Rattle.htmd.specs.Elements.{Occurrence, Answer, content_of, plan_answer, answer_after, without_handler}
 use Rattle.htmd.specs.Elements.{occurrence_at, with_finish}
 use Rattle.htmd.specs.Groups.{only_text}
-use Rattle.htmd.specs.Handling.{ElementView, ResultView, content_of_children, contents_of_each, HandlerMeaning}
+use Rattle.htmd.specs.Handling.{ElementView, PlanView, ResultView, content_of_children, contents_of_each, HandlerMeaning}
 use Rattle.htmd.specs.Images.{images, image_address, image_at}
 use Rattle.htmd.specs.LineBreaks.{line_breaks, break_style_of}
-use Rattle.htmd.specs.ThematicBreaks.{thematic_breaks, thematic_break_style_of}
+use Rattle.htmd.specs.OneLineElements.{is_in_line}
+use Rattle.htmd.specs.ThematicBreaks.{thematic_breaks, thematic_break_plan, thematic_break_style_of}
 use Rattle.htmd.specs.LinkAttributes.{title_of}
 use Rattle.htmd.specs.Lists.{lists}
 use Rattle.htmd.specs.Outputs.{Conversion, conversion_of, Writes, is_markdown_alone, is_guarded, result_of}
@@ -41,7 +41,8 @@ use Rattle.htmd.specs.Spans.{spans, formula_mark, formula_plan}
 use Rattle.htmd_laws.specs.Letters.{said_of_each}
 use Rattle.htmd_laws.specs.Shown.{visible, is_empty_element, shown, shown_among}
 use Rattle.htmd_laws.proofs.CountedTexts.{of_letters, of_visible}
-use Rattle.htmd_laws.proofs.LettersLemmas.{Says, shows-none, says-as, says-is, says-behind, says-before, is_filler}
+use Rattle.htmd_laws.proofs.LettersLemmas.{Says, says-nil, shows-none, says-as, says-is, says-behind, says-before, is_filler}
+use Rattle.htmd_laws.proofs.LettersOfTexts.{says-blank_lines}
 use Rattle.htmd_laws.proofs.LettersOfPieces.{SaysIfAny, says-indented_code, says-fenced, says-code_span}
 use Rattle.htmd_laws.proofs.LettersOfLinks.{IsTextIfAny, says-link, says-resource, says-reference}
 use Rattle.htmd_laws.proofs.LettersOfHandlers.{SaysResult, AreValues, last_is_text, KeepsContent, wrapped, says-break}
@@ -125,9 +126,11 @@ module _ (options : Options) (alone : is_markdown_alone options ≡ true) (plain
 
     thematic_break_shows : IsShown (codes "hr")
     thematic_break_shows here other =
-        planned_is_said of_visible at definitions (codes "hr") thematic_breaks
-        (markdown_plan (thematic_break (thematic_break_style_of at.view))) [] refl (rw alone refl)
-        (says-rule (thematic_break_style_of at.view))
+        planned_is_said of_visible at definitions (codes "hr") thematic_breaks (thematic_break_plan at.view) [] refl refl
+        (cond_both (is_in_line at.view) _ _
+        (λ (plan : PlanView). SaysResult of_visible (plan_answer thematic_breaks at definitions plan
+        (without_handler at definitions)).result [])
+        (λ _. says-blank_lines [] says-nil) (λ _. rw alone (says-rule (thematic_break_style_of at.view))))
 
     titled : IsTextIfAny (title_of at.view)
     titled = last_is_text (codes "title" ∷ []) (attributes_of at.view) (values id)

@@ -1,5 +1,5 @@
 -- In Guarded a page of texts has no markup.
-use Rattle.std.proofs.Common.{◌≡◌, ℕ, Bool, true, List, [], ◌∷◌, ◌++◌, refl, ap, ◌∙◌, subst}
+use Rattle.std.proofs.Common.{◌≡◌, ℕ, Bool, true, List, [], ◌∷◌, ◌++◌, refl, sym, ap, ◌∙◌, subst}
 use Rattle.std.specs.Str.{IsUtf8}
 use Rattle.std.proofs.lemmas.Str.{IsUtf8-append, IsUtf8-nil}
 use Rattle.htmd_text.specs.BlankLines.{with_blank_lines}
@@ -13,8 +13,10 @@ use Rattle.htmd.specs.OrdinaryText.{without_first_space}
 use Rattle.htmd.specs.BuiltIn.{built_in}
 use Rattle.htmd.specs.Markdown.{walked_node}
 use Rattle.htmd_laws.specs.TextLaws.{TextStaysText, LinesBeginNoBlock, begins_no_block}
-use Rattle.htmd_laws.proofs.GuardedEnds.{IsLine, guarded-append, guarded-line, trimmed_end-line}
-use Rattle.htmd_laws.proofs.GuardedSeams.{seam-guarded, wrapped-seam, trimmed-line, nothing_before, wrapped-guarded}
+use Rattle.htmd_markdown.specs.Joints.{with_joint}
+use Rattle.htmd_laws.proofs.GuardedEnds.{IsLine, guarded-line, trimmed_end-line}
+use Rattle.htmd_laws.proofs.GuardedSeams.{joint-guarded, seam-guarded, wrapped-seam, trimmed-line, wrapped-guarded}
+use Rattle.htmd_laws.proofs.GuardedSeams.{nothing_mended, nothing_joined, guarded_ended}
 use Rattle.htmd_laws.proofs.ParagraphTexts.{space_is_white}
 use Rattle.htmd_laws.proofs.LettersLawsLemmas.{plain_at}
 use Rattle.htmd_laws.proofs.TextLines.{no_blocks-is}
@@ -31,10 +33,10 @@ abbrev IsAny : List ℕ → Type 0
 IsAny s = Unit {0}
 
 text_is_guarded : (out s : List ℕ) (begins goes : Bool) → IsWhole out
-    → IsWhole (out ++ reader.guarded_text begins (without_first_space goes (squeezed_text s)))
+    → IsWhole (with_joint out (reader.guarded_text begins (without_first_space goes (squeezed_text s))))
 text_is_guarded out s begins goes e =
     let shown = without_first_space goes (squeezed_text s) in
-    guarded-append out (reader.guarded_text begins shown) e (guarded-is_guarded begins shown)
+    joint-guarded out (reader.guarded_text begins shown) e (guarded-is_guarded begins shown)
 
 guarded_is_kept : IsKeptBy IsWhole IsLine IsAny
 guarded_is_kept = record {
@@ -59,12 +61,17 @@ text_stays_text options items start guarded e =
 
 -- ---- no line begins a block
 
--- both are kept at once, for what is guarded lets nothing be put before it at a seam
+-- both are kept at once, for where a guarded content meets a guarded text nothing is mended
 abbrev IsWholeAndFree : List ℕ → Type 0
 IsWholeAndFree s = IsWhole s × IsFree s
 
 abbrev IsLineAndFree : List ℕ → Type 0
 IsLineAndFree s = IsLine s × IsFree s
+
+-- what is written for a text of the tree
+abbrev shown_after : List ℕ → List ℕ → Bool → List ℕ
+shown_after out s goes =
+    reader.guarded_text (reader.begins_line out) (without_first_space goes (squeezed_text s))
 
 lines_are_kept : IsKeptBy IsWholeAndFree IsLineAndFree IsUtf8
 lines_are_kept = record {
@@ -75,16 +82,20 @@ lines_are_kept = record {
   trimmed = λ s e. (trimmed-line s e.0, free-trimmed s e.1);
   wrapped = λ out s line e. (
     wrapped-seam out s line.0 e.0,
-    free-seam out (with_blank_lines s) (nothing_before out (with_blank_lines s) (wrapped-guarded s e.0)) line.1
+    free-seam out (with_blank_lines s)
+        (nothing_mended out (with_blank_lines s) (line_feed ∷ []) line.0 (wrapped-guarded s e.0)) line.1
         (free-wrapped s e.1),
   );
   handed_on = λ out s before e. (
     seam-guarded out s before.0 e.0,
-    free-seam out s (nothing_before out s e.0) before.1 e.1,
+    free-seam out s (nothing_mended out s [] (guarded_ended out before.0) e.0) before.1 e.1,
   );
   written = λ out s goes e text. (
     text_is_guarded out s (reader.begins_line out) goes e.0,
-    free-text out s goes e.1 text,
+    subst IsFree
+        (sym (nothing_joined out (shown_after out s goes) e.0
+        (guarded-is_guarded (reader.begins_line out) (without_first_space goes (squeezed_text s)))))
+        (free-text out s goes e.1 text),
   );
   nothing = IsUtf8-nil;
   joined = IsUtf8-append;

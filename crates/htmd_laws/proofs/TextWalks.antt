@@ -15,6 +15,7 @@ use Rattle.htmd_tree.specs.NumberedTrees.{NumberedTree, document, doctype, text,
 use Rattle.htmd_tree.specs.NumberedTrees.{more, with_children, forest_from, tree_of, height, tallest, value_tree}
 use Rattle.htmd_tree.specs.Ancestors.{Ancestor, ancestors_of}
 use Rattle.htmd_markdown.specs.GuardedText as reader
+use Rattle.htmd_markdown.specs.Joints.{with_joint}
 use Rattle.htmd.specs.declared.options.Options.{Options}
 use Rattle.htmd.specs.Handling.{ResultView}
 use Rattle.htmd.specs.Choice.{Config}
@@ -47,7 +48,8 @@ pub record IsKeptBy (Whole Line Text : List ℕ → Type 0) : Type 0 where
   pub wrapped : (out s : List ℕ) → Line out → Line s → Whole (guarded_at_seam out (with_blank_lines s))
   pub handed_on : (out s : List ℕ) → Whole out → Whole s → Whole (guarded_at_seam out s)
   pub written : (out s : List ℕ) (goes : Bool) → Whole out → Text s
-      → Whole (out ++ reader.guarded_text (reader.begins_line out) (without_first_space goes (squeezed_text s)))
+      → Whole (with_joint out
+      (reader.guarded_text (reader.begins_line out) (without_first_space goes (squeezed_text s))))
   pub nothing : Text []
   pub joined : (s t : List ℕ) → Text s → Text t → Text (s ++ t)
 

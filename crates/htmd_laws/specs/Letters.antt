@@ -25,6 +25,8 @@ use Rattle.htmd.specs.OneLineElements.{stands_in_line}
 use Rattle.htmd.specs.ElementPlans.{attributes_of, is_tag_among}
 use Rattle.htmd.specs.OtherBlocks.{hidden_tags}
 use Rattle.htmd.specs.Spans.{is_span, formula_mark, is_read_in_formula}
+use Rattle.htmd.specs.CaptionsAndCells.{captions_and_cells}
+use Rattle.htmd.specs.GuardedTableLayouts.{is_written_as_table}
 use Rattle.htmd.specs.TableLayouts.{layout_at, has_lines}
 use Rattle.htmd.specs.TableOrder.{nodes_of_table}
 use Rattle.htmd.specs.Tables.{has_table_form}
@@ -112,15 +114,21 @@ said_of_each says view (d ∷ ds) = says (descendant_tree view.items view.text d
 
 -- it is written as a table
 abbrev pub is_written : ElementView → Bool
-is_written view = has_table_form view.items view.node && has_lines (layout_at view)
+is_written view =
+    if is_guarded view.options then is_written_as_table view.items view.node
+    else has_table_form view.items view.node && has_lines (layout_at view)
 
--- The children in order, joined neighbours as one element. Those of `ol` never join, and of a table that is written as
--- one only its parts are there.
+-- what is there of a table that is written as one: in Guarded its captions and each cell, in Pure only its parts
+abbrev pub parts_said : ElementView → List ℕ
+parts_said view =
+    if is_guarded view.options then captions_and_cells view.items (children_of view.items view.node)
+    else nodes_of_table (layout_at view).parts
+
+-- The children in order, joined neighbours as one element. Those of `ol` never join.
 abbrev pub said_inside : (NumberedTree → List ℕ) → List ℕ → ElementView → NumberedForest → List ℕ
 said_inside says name view children =
     if bytes_eq name (codes "ol") then said_of_each says view (children_of view.items view.node)
-    else (if bytes_eq name (codes "table") && is_written view
-    then said_of_each says view (nodes_of_table (layout_at view).parts)
+    else (if bytes_eq name (codes "table") && is_written view then said_of_each says view (parts_said view)
     else said_among says (groups_of children))
 
 abbrev pub said_at : (NumberedTree → List ℕ) → Options → List Item → NumberedTree → List ℕ

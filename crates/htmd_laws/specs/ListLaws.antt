@@ -1,36 +1,33 @@
 -- The laws of ordered lists.
-use Rattle.std.specs.Prelude.{◌≡◌, ℕ, Bool, true, if◌then◌else◌, List, [], ◌∷◌, ◌++◌, length, codes, IfSome}
+use Rattle.std.specs.Prelude.{◌≡◌, ℕ, Bool, true, false, List, [], ◌∷◌, ◌++◌, length, codes, IfSome}
 use Rattle.std.specs.List.{filter}
 use Rattle.htmd_markdown.specs.Lists.{Block, item, item_count, highest_number, guarded_first_number}
-use Rattle.htmd_markdown.specs.ListItems.{guarded_spacing}
-use Rattle.htmd_markdown.specs.ListColumns.{HasEqualColumns}
+use Rattle.htmd_markdown.specs.ListColumns.{HasEqualColumns, HasGuardedColumns}
 use Rattle.htmd_tree.specs.Items.{Item, data_at, children_of, tag_of}
 use Rattle.htmd.specs.Handling.{ElementView, ResultView}
 use Rattle.htmd.specs.Outputs.{is_guarded}
 use Rattle.htmd.specs.ElementPlans.{is_tag_among}
 use Rattle.htmd.specs.Elements.{Occurrence, contents_alone}
+use Rattle.htmd.specs.OneLineElements.{is_in_line}
 use Rattle.htmd.specs.Lists.{ordered_result, blocks_of, first_number_of}
 
 -- ---- columns
 
--- the number of the first item and the spaces behind an item's dot, as the mode has them
-abbrev pub first_written : ElementView → List Block → ℕ
-first_written view blocks =
-    let first = first_number_of view in
-    if is_guarded view.options then guarded_first_number first (highest_number first blocks) else first
+-- Where the content of each item begins, as the mode has it: in one column, or in Guarded there, but at least one and at
+-- most four characters behind its own dot. In Guarded the list begins at 1 where a number would have too many digits.
+abbrev pub BeginInColumns : Bool → ℕ → ℕ → List Block → List ℕ → Type 0
+BeginInColumns true first spacing blocks text =
+    HasGuardedColumns (guarded_first_number first (highest_number first blocks)) spacing blocks text
+BeginInColumns false first spacing blocks text = HasEqualColumns first spacing blocks text
 
-abbrev pub spacing_written : ElementView → ℕ
-spacing_written view =
-    let spacing = view.options.ol_number_spacing in
-    if is_guarded view.options then guarded_spacing spacing else spacing
-
--- What the handler of ol makes of any results of its children, if it is Markdown, has the content of each item in the
--- column behind the spacing, the digits of the highest number and one character more.
+-- What the handler of ol makes of any results of its children, where it doesn't stand in one line, if it is Markdown, has
+-- the content of each item in the column behind the spacing, the digits of the highest number and one character more.
 abbrev pub ItemsBeginInOneColumn : ElementView → Type 0
 ItemsBeginInOneColumn view =
-    (results : List ResultView) → let blocks = blocks_of view results in IfSome (ordered_result view results)
+    (results : List ResultView) → is_in_line view ≡ false → IfSome (ordered_result view results)
     (λ list. list.markdown_translated ≡ true
-    → HasEqualColumns (first_written view blocks) (spacing_written view) blocks list.content)
+    → BeginInColumns (is_guarded view.options) (first_number_of view) view.options.ol_number_spacing
+    (blocks_of view results) list.content)
 
 -- ---- numbers
 

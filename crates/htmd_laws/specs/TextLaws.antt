@@ -84,8 +84,8 @@ TextStaysText =
     → is_page_of_texts (built_in options) (value_tree (tree_of items start)) ≡ true
     → reader.is_guarded (markdown (built_in options) items start ++ line_feed ∷ []) ≡ true
 
--- The first character of a line that is no space and no U+FEFF begins a list, a quote, an underline, a thematic break or
--- a table, or with ASCII digits before it an ordered list; or the first that is no space is the `#` of a heading.
+-- The first character of a line that is no space and no U+FEFF begins a list, a quote, a heading, an underline, a
+-- thematic break or a table, or with ASCII digits before it an ordered list.
 abbrev pub begins_block : List ℕ → Bool
 begins_block line =
     reader.is_block_sign (slice_index line (reader.first_place line))

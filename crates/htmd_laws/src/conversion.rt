@@ -65,9 +65,9 @@ pub fn links_hold_addresses()
     ensures { LinksHoldAddresses }
 {}
 
-/// Where what the built-in handler of `ol` gives is Markdown, the content of each item begins in its line after
-/// `ol_number_spacing` (in Guarded at least 1 and at most 4), the digits of the highest number and one character more.
-/// A list or quote around it may indent it then.
+/// Where what the built-in handler of `ol` gives is Markdown, and doesn't stand in one line, the content of each item
+/// begins in its line after `ol_number_spacing`, the digits of the highest number and one character more; in Guarded it
+/// does so, but at least one and at most four characters after its own dot. A list or quote around it may indent it then.
 pub fn items_begin_in_one_column(element: &Element)
     ensures { ItemsBeginInOneColumn (element_view element.now) }
 {
@@ -107,10 +107,10 @@ pub fn trees_hold_texts()
 
 /// In Pure and in Guarded, with the built-in handlers, the letters of the content are what the tree says, in order:
 /// none is lost, doubled, moved or made up. A letter is a character that is no white space, no ASCII punctuation and no
-/// ASCII digit. What a tree says is one rule for each element. Where links stand inline the content is the whole
-/// Markdown, and so it is of each text that is converted, of a page's body, of any page as browsers read it, of the
-/// input of a run and of the page of a row; the style that prefers autolinks is left out, for there the content decides
-/// whether a link says its address once or twice.
+/// ASCII digit. What a tree says is one rule for each element; in Guarded each cell of a table says what it holds. Where
+/// links stand inline the content is the whole Markdown, and so it is of each text that is converted, of a page's body,
+/// of any page as browsers read it, of the input of a run and of the page of a row; the style that prefers autolinks is
+/// left out, for there the content decides whether a link says its address once or twice.
 pub fn every_letter_once()
     ensures content { LettersOfContent }
     ensures markdown { LettersOfMarkdown }

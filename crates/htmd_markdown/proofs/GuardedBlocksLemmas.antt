@@ -1,26 +1,28 @@
 -- Where a guarded text begins a line, it begins no block.
 use Rattle.std.proofs.Common.{◌≡◌, ℕ, zero, suc, ◌+◌, ◌-◌, ◌<◌, ◌≤◌, Bool, true, false, cond}
 use Rattle.std.proofs.Common.{List, [], ◌∷◌, ◌++◌, length, get_or}
-use Rattle.std.proofs.Common.{take, drop, refl, eq-eqb, below_more, sym, ap, subst, ◌∙◌, arith, ⊎_elim}
-use Rattle.std.specs.Prelude.{◌≢◌, ◌==◌, ◌&&◌, ◌||◌, slice_index, encode_utf8_all, take_while}
+use Rattle.std.proofs.Common.{take, drop, refl, append_assoc, eq-eqb, below_more, sym, ap, subst, ◌∙◌, arith, ⊎_elim}
+use Rattle.std.specs.Prelude.{◌≢◌, ◌==◌, ◌&&◌, ◌||◌, slice_index, nat_le, encode_utf8, encode_utf8_all, take_while}
 use Rattle.std.specs.Char.{is_ascii_digit}
 use Rattle.std.specs.List.{prefix_len}
 use Rattle.std.specs.Str.{chars, IsUtf8, NonePass, NoCharPasses}
+use lib.Utf8.{encode}
 use Rattle.std.proofs.lemmas.Bool.{and_parts, and_from, or_left, or_right, cases_Bool, false_from_ne_true, cases_lt}
-use Rattle.std.proofs.lemmas.Bool.{false≢true, or_from, cond-true, cond-false}
+use Rattle.std.proofs.lemmas.Bool.{false≢true, or_from, or_cases, cond-true, cond-false, leb-true, le-leb, eqb-true}
 use Rattle.std.proofs.lemmas.Bool.Decides.{nat_tests}
 use Rattle.std.proofs.lemmas.List.{get_or_past, get_or-drop, get_or_append_left, take-append-drop, drop_more}
-use Rattle.std.proofs.lemmas.List.{length-drop, take-take}
+use Rattle.std.proofs.lemmas.List.{length-drop, length-append, take-take, get_or-append-add}
 use Rattle.std.proofs.Math.Seq.{take-append_seam}
 use Rattle.std.proofs.lemmas.List.Sums.{prefix_len_passes, prefix_len_is, take_while-cons}
 use Rattle.std.proofs.lemmas.Str.{encodes-append, encodes-chars, encodes_same, chars-append, NoCharPasses-byte}
 use Rattle.std.proofs.lemmas.Str.{IsUtf8-take, IsCharBoundary-before_ascii}
-use Rattle.htmd_text.specs.Characters.{backslash, number_sign, space}
+use Rattle.htmd_text.specs.Characters.{backslash, number_sign, space, colon, hyphen, byte_order_mark}
 use Rattle.htmd_text.specs.EscapeMarks.{with_backslashes}
 use Rattle.htmd_text.proofs.PlainTextLemmas.{chars_ascii}
 use Rattle.htmd_markdown.specs.GuardedText.{is_blank, first_place, number_end, is_block_sign, is_delimiter}
 use Rattle.htmd_markdown.specs.GuardedText.{ends_or_has_space, is_block_mark, is_guarded_mark, guarded_text}
-use Rattle.htmd_markdown.specs.GuardedText.{begins_heading, begins_block}
+use Rattle.htmd_markdown.specs.GuardedText.{begins_heading, begins_block, is_sign_at, is_heading_place}
+use Rattle.htmd_markdown.specs.GuardedText.{follows_byte_order_mark}
 use Rattle.htmd_markdown.proofs.GuardedMarksLemmas.{unmarked_parts}
 
 -- ---- up to the first backslash, the text stays as it was
@@ -213,24 +215,75 @@ source_first_place w n text lt le same in_w small stops =
     front_of : (j n : ℕ) (t w : List ℕ) → j ≤ n → take n t ≡ take n w → take j t ≡ take j w
     front_of j n t w le e = sym (take-take j n t le) ∙ ap (take j) e ∙ take-take j n w le
 
-no_sign : (w : List ℕ) → IsUtf8 (guarded_text true w)
-    → is_block_sign (slice_index (guarded_text true w) (first_place (guarded_text true w))) ≡ false
-no_sign w text = false_from_ne_true _ (λ e.
+-- such a character: ASCII, no blank, no backslash, and there
+abbrev SignFacts : ℕ → Type 0
+SignFacts b = (b < 128) × (is_blank b ≡ false) × ((b == backslash) ≡ false) × (b ≢ 0)
+
+colon_facts : (b : ℕ) → (b == colon) ≡ true → SignFacts b
+colon_facts b e = (
+  grind (arith, nat_tests),
+  grind (arith, nat_tests),
+  grind (arith, nat_tests),
+  λ none. absurd (false≢true (ap (λ x. x == colon) (sym none) ∙ e)),
+)
+
+hyphen_facts : (b : ℕ) → (b == hyphen) ≡ true → ((b == backslash) ≡ false) × (b ≢ 0)
+hyphen_facts b e =
+    (grind (arith, nat_tests), λ none. absurd (false≢true (ap (λ x. x == hyphen) (sym none) ∙ e)))
+
+-- where the bytes up to it stay, and it is one, it was marked
+sign_marked : (w : List ℕ) (n : ℕ) → IsUtf8 (guarded_text true w) → first_place (guarded_text true w) < n
+    → n ≤ length (guarded_text true w) → Same (is_guarded_mark true w) 0 w n
+    → SignFacts (get_or (guarded_text true w) (first_place (guarded_text true w)) 0)
+    → is_sign_at w (first_place (guarded_text true w)) ≡ true → ⊥
+sign_marked w n text lt le same facts sign =
+    let t = guarded_text true w in
+    let j = first_place t in
+    let byte : get_or t j 0 ≡ get_or w j 0 = same.bytes j lt in
+    let in_w = within_text w j (λ none. facts.3 (byte ∙ none)) in
+    let place = source_first_place w n text lt le same in_w facts.0 facts.1 in
+    let unmarked : is_guarded_mark true w j ≡ false = unmarked_at (is_guarded_mark true w) w n same j lt in
+    let here : is_block_mark w j ≡ true =
+    or_left _ _ (and_from (j == first_place w) _ (eq-eqb j (first_place w) (sym place)) sign) in
+    false≢true (sym (unmarked_parts true w j unmarked).3 ∙ here)
+
+no_block_sign : (w : List ℕ) → IsUtf8 (guarded_text true w)
+    → is_block_sign (slice_index (guarded_text true w) (first_place (guarded_text true w))) ≡ true → ⊥
+no_block_sign w text e =
     let t = guarded_text true w in
     let j = first_place t in
     let facts = sign_facts (get_or t j 0) e in
     let within = within_text t j facts.3 in
     let plain = below_more (λ i. (get_or t i 0 == backslash) ≡ false) j (blank_bytes t text) facts.2 in
     let same = same_to (is_guarded_mark true w) 0 w (j + 1) plain (omega arith) in
-    let byte : get_or t j 0 ≡ get_or w j 0 = same.bytes j (omega arith) in
-    let in_w = within_text w j (λ none. facts.3 (byte ∙ none)) in
-    let place = source_first_place w (j + 1) text (omega arith) (omega arith) same in_w facts.0 facts.1 in
-    let unmarked : is_guarded_mark true w j ≡ false =
-    unmarked_at (is_guarded_mark true w) w (j + 1) same j (omega arith) in
-    let here : is_block_mark w j ≡ true =
-    or_left _ _ (and_from (j == first_place w) _ (eq-eqb j (first_place w) (sym place))
-    (ap is_block_sign (sym byte) ∙ e)) in
-    absurd (false≢true (sym (unmarked_parts true w j unmarked).3 ∙ here)))
+    sign_marked w (j + 1) text (omega arith) (omega arith) same facts
+    (or_left _ _ (ap is_block_sign (sym (same.bytes j (omega arith))) ∙ e))
+
+no_colon : (w : List ℕ) → IsUtf8 (guarded_text true w)
+    → (slice_index (guarded_text true w) (first_place (guarded_text true w)) == colon) ≡ true
+    → (slice_index (guarded_text true w) (first_place (guarded_text true w) + 1) == hyphen) ≡ true → ⊥
+no_colon w text first second =
+    let t = guarded_text true w in
+    let j = first_place t in
+    let facts = colon_facts (get_or t j 0) first in
+    let next = hyphen_facts (get_or t (j + 1) 0) second in
+    let within = within_text t (j + 1) next.1 in
+    let one = below_more (λ i. (get_or t i 0 == backslash) ≡ false) j (blank_bytes t text) facts.2 in
+    let plain = below_more (λ i. (get_or t i 0 == backslash) ≡ false) (j + 1) one next.0 in
+    let same = same_to (is_guarded_mark true w) 0 w (j + 1 + 1) plain (omega arith) in
+    sign_marked w (j + 1 + 1) text (omega arith) (omega arith) same facts
+    (or_right _ _ (and_from _ _ (ap (λ b. b == colon) (sym (same.bytes j (omega arith))) ∙ first)
+    (ap (λ b. b == hyphen) (sym (same.bytes (j + 1) (omega arith))) ∙ second)))
+
+no_sign : (w : List ℕ) → IsUtf8 (guarded_text true w)
+    → is_sign_at (guarded_text true w) (first_place (guarded_text true w)) ≡ false
+no_sign w text = false_from_ne_true _ (λ e.
+    let t = guarded_text true w in
+    let j = first_place t in
+    absurd (⊎_elim (no_block_sign w text)
+    (λ both. let parts = and_parts (get_or t j 0 == colon) (get_or t (j + 1) 0 == hyphen) both in
+    no_colon w text parts.0 parts.1)
+    (or_cases (is_block_sign (get_or t j 0)) _ e)))
 
 -- ---- a number
 
@@ -300,33 +353,106 @@ no_number w text = false_from_ne_true _ (λ e.
 sign_is : (b : ℕ) → (b == number_sign) ≡ true → b ≡ number_sign
 sign_is b e = grind (arith, nat_tests)
 
-space_is_no_backslash : (b : ℕ) → (b == space) ≡ true → (b == backslash) ≡ false
-space_is_no_backslash b e = grind (arith, nat_tests)
+-- behind blanks stands a place of a heading
+shifted_place : (p s : List ℕ) (m : ℕ) → 0 < m → is_heading_place s m ≡ true
+    → is_heading_place (p ++ s) (length p + m) ≡ true
+shifted_place p s m some e =
+    let white = get_or s (m - 1) 0 == space in
+    ⊎_elim
+    (λ early.
+    or_left _ _ (or_right (length p + m == 0) _
+    (⊎_elim (λ none. absurd (omega (arith, some, eqb-true m 0 none)))
+    (λ here. ap (λ b. b == space) (at 1 (omega arith)) ∙ here)
+    (or_cases (m == 0) white early))))
+    (λ mark.
+    let top = and_parts _ (get_or s (m - 1) 0 == 0xBF) mark in
+    let second = and_parts _ (get_or s (m - 2) 0 == 0xBB) top.0 in
+    let first = and_parts (nat_le 3 m) _ second.0 in
+    let far : 3 ≤ m = leb-true 3 m first.0 in
+    or_right _ _
+    (and_from _ _ (and_from _ _ (and_from _ _ (le-leb 3 (length p + m) (omega arith))
+    (ap (λ b. b == 0xEF) (at 3 far) ∙ first.1))
+    (ap (λ b. b == 0xBB) (at 2 (omega arith)) ∙ second.1))
+    (ap (λ b. b == 0xBF) (at 1 (omega arith)) ∙ top.1)))
+    (or_cases ((m == 0) || white) (follows_byte_order_mark s m) e)
+  where
+    at : (i : ℕ) → i ≤ m → get_or (p ++ s) (length p + m - i) 0 ≡ get_or s (m - i) 0
+    at i le = ap (λ n. get_or (p ++ s) n 0) (omega arith) ∙ get_or-append-add p s (m - i) 0
 
-no_heading : (begins : Bool) (w : List ℕ) → begins_heading (guarded_text begins w) ≡ false
-no_heading begins w = false_from_ne_true _ (λ e.
+one_blank : (c : ℕ) (rest : List ℕ) → is_blank c ≡ true
+    → is_heading_place (encode_utf8 c ++ rest) (length (encode_utf8 c)) ≡ true
+unfolding encode
+one_blank c rest e =
+    ⊎_elim
+    (λ (white : (c == space) ≡ true).
+    let is : c ≡ space = grind (arith, nat_tests) in
+    subst (λ (x : ℕ). is_heading_place (encode_utf8 x ++ rest) (length (encode_utf8 x)) ≡ true) (sym is) refl)
+    (λ (mark : (c == byte_order_mark) ≡ true).
+    let is : c ≡ byte_order_mark = grind (arith, nat_tests) in
+    subst (λ (x : ℕ). is_heading_place (encode_utf8 x ++ rest) (length (encode_utf8 x)) ≡ true) (sym is) refl)
+    (or_cases (c == space) (c == byte_order_mark) e)
+
+blanks_end : (cs : List ℕ) (rest : List ℕ) → 0 < length (encode_utf8_all (take_while is_blank cs))
+    → is_heading_place (encode_utf8_all (take_while is_blank cs) ++ rest)
+    (length (encode_utf8_all (take_while is_blank cs))) ≡ true
+blanks_end [] rest some = absurd (omega arith)
+blanks_end (c ∷ cs) rest some =
+    ⊎_elim
+    (λ (blank : is_blank c ≡ true).
+    let whole : take_while is_blank (c ∷ cs) ≡ c ∷ take_while is_blank cs =
+    take_while-cons is_blank c cs ∙ cond-true (is_blank c) _ _ blank in
+    let tail = encode_utf8_all (take_while is_blank cs) in
+    subst (λ (l : List ℕ). is_heading_place (encode_utf8_all l ++ rest) (length (encode_utf8_all l)) ≡ true) (sym whole)
+    (⊎_elim
+    (λ (more : 0 < length tail).
+    ap (λ l. is_heading_place l (length (encode_utf8 c ++ tail))) (append_assoc (encode_utf8 c) tail rest)
+    ∙ ap (is_heading_place (encode_utf8 c ++ (tail ++ rest))) (length-append (encode_utf8 c) tail)
+    ∙ shifted_place (encode_utf8 c) (tail ++ rest) (length tail) more (blanks_end cs rest more))
+    (λ (none : length tail ≤ 0).
+    ap (λ l. is_heading_place l (length (encode_utf8 c ++ tail))) (append_assoc (encode_utf8 c) tail rest)
+    ∙ ap (is_heading_place (encode_utf8 c ++ (tail ++ rest)))
+    (length-append (encode_utf8 c) tail ∙ omega arith)
+    ∙ one_blank c (tail ++ rest) blank)
+    (cases_lt 0 (length tail))))
+    (λ (other : is_blank c ≡ false).
+    let none : take_while is_blank (c ∷ cs) ≡ [] = take_while-cons is_blank c cs ∙ cond-false (is_blank c) _ _ other in
+    absurd (omega (arith, some, ap (λ l. length (encode_utf8_all l)) none)))
+    (cases_Bool (is_blank c))
+
+first_is_heading_place : (t : List ℕ) → IsUtf8 t → is_heading_place t (first_place t) ≡ true
+first_is_heading_place t text =
+    ⊎_elim
+    (λ (some : 0 < first_place t).
+    ap (λ l. is_heading_place l (first_place t)) (behind_front t text)
+    ∙ blanks_end (chars t) (encode_utf8_all (drop (prefix_len is_blank (chars t)) (chars t))) some)
+    (λ (none : first_place t ≤ 0). or_left _ _ (or_left _ _ (eq-eqb (first_place t) 0 (omega arith))))
+    (cases_lt 0 (first_place t))
+
+same_heading_place : (t w : List ℕ) (j : ℕ) → ((i : ℕ) → i < j + 1 → get_or t i 0 ≡ get_or w i 0)
+    → is_heading_place t j ≡ is_heading_place w j
+same_heading_place t w j same =
+    rw (same (j - 1) (omega arith), same (j - 2) (omega arith), same (j - 3) (omega arith)) refl
+
+no_heading : (begins : Bool) (w : List ℕ) → IsUtf8 (guarded_text begins w)
+    → begins_heading (guarded_text begins w) ≡ false
+no_heading begins w text = false_from_ne_true _ (λ e.
     let t = guarded_text begins w in
-    let p : ℕ → Bool = λ b. b == space in
-    let q = prefix_len p t in
+    let q = first_place t in
     let sign : get_or t q 0 ≡ number_sign = sign_is (get_or t q 0) e in
     let within = within_text t q (λ none. absurd (omega (arith, sign, none))) in
-    let plain = below_more (λ i. (get_or t i 0 == backslash) ≡ false) q
-    (λ i lt. space_is_no_backslash (get_or t i 0) (prefix_len_passes p t i 0 lt)) (ap (λ b. b == backslash) sign) in
+    let plain = below_more (λ i. (get_or t i 0 == backslash) ≡ false) q (blank_bytes t text)
+    (ap (λ b. b == backslash) sign) in
     let same = same_to (is_guarded_mark begins w) 0 w (q + 1) plain (omega arith) in
     let unmarked : is_guarded_mark begins w q ≡ false =
     unmarked_at (is_guarded_mark begins w) w (q + 1) same q (omega arith) in
     let byte : (get_or w q 0 == number_sign) ≡ true =
     ap (λ b. b == number_sign) (sym (same.bytes q (omega arith))) ∙ e in
-    let before : ((q == 0) || (get_or w (q - 1) 0 == space)) ≡ true =
-    ⊎_elim (λ (some : 0 < q).
-    or_right (q == 0) _ (ap p (sym (same.bytes (q - 1) (omega arith)))
-    ∙ prefix_len_passes p t (q - 1) 0 (omega arith)))
-    (λ (none : q ≤ 0). or_left _ _ (eq-eqb q 0 (omega arith)))
-    (cases_lt 0 q) in
+    let before : is_heading_place w q ≡ true =
+    sym (same_heading_place t w q same.bytes) ∙ first_is_heading_place t text in
     absurd (false≢true (sym (unmarked_parts begins w q unmarked).2 ∙ and_from _ _ byte before)))
 
 pub guarded-begins_no_block : (begins : Bool) (w : List ℕ) → begins ≡ true → IsUtf8 (guarded_text begins w)
     → begins_block (guarded_text begins w) ≡ false
 guarded-begins_no_block false w e text = absurd (false≢true e)
 guarded-begins_no_block true w e text =
-    or_from _ _ (or_from _ _ (no_sign w text) (no_number w text)) (no_heading true w)
+    or_from _ _ (or_from _ _ (no_sign w text) (no_number w text)) (no_heading true w text)

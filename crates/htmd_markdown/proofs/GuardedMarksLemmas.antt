@@ -5,10 +5,11 @@ use Rattle.std.specs.Prelude.{◌==◌, ◌&&◌, ◌||◌, slice_index}
 use Rattle.std.specs.Char.{is_ascii, is_ascii_punctuation}
 use Rattle.std.proofs.lemmas.Bool.{or_cases, or_parts, and_parts}
 use Rattle.std.proofs.lemmas.Bool.Decides.{nat_tests}
-use Rattle.htmd_text.specs.Characters.{ampersand, number_sign, backslash}
+use Rattle.htmd_text.specs.Characters.{ampersand, number_sign, colon, backslash}
 use Rattle.htmd_text.proofs.MarksLemmas.{punctuation_is_ascii}
 use Rattle.htmd_markdown.specs.ReferenceLike.{is_reference_like}
 use Rattle.htmd_markdown.specs.GuardedText.{is_always_guarded, is_heading_mark, is_mark_anywhere, is_block_sign}
+use Rattle.htmd_markdown.specs.GuardedText.{is_sign_at}
 use Rattle.htmd_markdown.specs.GuardedText.{is_delimiter, is_block_mark, is_guarded_mark, first_place, number_end}
 use Rattle.htmd_markdown.specs.GuardedText.{ends_or_has_space}
 
@@ -24,6 +25,14 @@ sign_is_punctuation b rest e = let first = (and_parts (b == number_sign) rest e)
 
 block_is_punctuation : (b : ℕ) → is_block_sign b ≡ true → is_ascii_punctuation b ≡ true
 block_is_punctuation b e = grind (arith, nat_tests)
+
+colon_is_punctuation : (b : ℕ) (rest : Bool) → ((b == colon) && rest) ≡ true → is_ascii_punctuation b ≡ true
+colon_is_punctuation b rest e = let first = (and_parts (b == colon) rest e).0 in grind (arith, nat_tests)
+
+sign_at_is_punctuation : (s : List ℕ) (k : ℕ) → is_sign_at s k ≡ true → is_ascii_punctuation (slice_index s k) ≡ true
+sign_at_is_punctuation s k e =
+    let b = slice_index s k in
+    ⊎_elim (block_is_punctuation b) (colon_is_punctuation b _) (or_cases (is_block_sign b) _ e)
 
 delimiter_is_punctuation : (b : ℕ) → is_delimiter b ≡ true → is_ascii_punctuation b ≡ true
 delimiter_is_punctuation b e = grind (arith, nat_tests)
@@ -44,11 +53,11 @@ at_block_is_punctuation : (s : List ℕ) (k : ℕ) → is_block_mark s k ≡ tru
 at_block_is_punctuation s k e =
     let b = slice_index s k in
     ⊎_elim
-    (λ x. block_is_punctuation b (and_parts (k == first_place s) (is_block_sign b) x).1)
+    (λ x. sign_at_is_punctuation s k (and_parts (k == first_place s) (is_sign_at s k) x).1)
     (λ x. delimiter_is_punctuation b
     (and_parts (k == number_end s) (is_delimiter b)
     (and_parts ((k == number_end s) && is_delimiter b) (ends_or_has_space (drop (k + 1) s)) x).0).1)
-    (or_cases ((k == first_place s) && is_block_sign b) _ e)
+    (or_cases ((k == first_place s) && is_sign_at s k) _ e)
 
 -- what gets a backslash is ASCII punctuation
 pub mark_is_punctuation : (begins : Bool) (s : List ℕ) (k : ℕ) → is_guarded_mark begins s k ≡ true

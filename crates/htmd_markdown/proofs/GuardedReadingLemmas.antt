@@ -17,6 +17,7 @@ use Rattle.htmd_text.proofs.PlainTextLemmas.{tail_part, bare_first, escaped_firs
 use Rattle.htmd_text.proofs.UnescapeLemmas.{unescape_other, unescape_escaped}
 use Rattle.htmd_markdown.specs.ReferenceLike.{is_reference_like, behind_number, ends_reference}
 use Rattle.htmd_markdown.specs.GuardedText.{is_always_guarded, is_heading_mark, is_block_mark, is_guarded_mark}
+use Rattle.htmd_markdown.specs.GuardedText.{follows_byte_order_mark}
 use Rattle.htmd_markdown.specs.GuardedText.{guarded_text, begins_no_markup, is_guarded}
 use Rattle.htmd_markdown.proofs.GuardedMarksLemmas.{mark_is_punctuation, unmarked_is_no_backslash, unmarked_parts}
 
@@ -74,9 +75,11 @@ sign_unmarked begins w i before here =
     and_left _ _ (ap (λ x. x == ampersand) here) in
     let no_space : (slice_index w (suc i - 1) == space) ≡ false =
     ap (λ n. slice_index w n == space) (omega arith) ∙ ap (λ x. x == space) before in
+    let no_mark : follows_byte_order_mark w (suc i) ≡ false =
+    and_right _ _ (ap (λ n. slice_index w n == 0xBF) (omega arith) ∙ ap (λ x. x == 0xBF) before) in
     let later : (suc i == 0) ≡ false = grind (arith, nat_tests) in
     let heading : is_heading_mark w (suc i) ≡ false =
-    and_right (slice_index w (suc i) == number_sign) _ (or_from _ _ later no_space) in
+    and_right (slice_index w (suc i) == number_sign) _ (or_from _ _ (or_from _ _ later no_space) no_mark) in
     let block : (begins && is_block_mark w (suc i)) ≡ false = rw here (never_at_block begins _ _ _) in
     or_from _ _ (or_from _ _ (or_from _ _ always reference) heading) block
 

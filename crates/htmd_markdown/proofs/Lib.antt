@@ -14,6 +14,8 @@ pub mod CodeExamples
 pub mod FirstNumberLemmas
 pub mod ListsLemmas
 pub mod ListExamples
+pub mod JointExamples
+pub mod TableGridExamples
 pub mod AddressesLemmas
 pub mod FirstPlaceLemmas
 pub mod LineBeginningsLemmas
@@ -45,3 +47,8 @@ pub mod TableLinesLemmas
 pub mod GuardedRowsLemmas
 pub mod ColumnsLemmas
 pub mod TableTextsLemmas
+pub mod JointsLemmas
+pub mod JointCutsLemmas
+pub mod TableGridsLemmas
+pub mod UnmendedLemmas
+pub mod JointFitsLemmas

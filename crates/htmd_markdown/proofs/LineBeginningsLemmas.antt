@@ -23,7 +23,7 @@ one_character c scalar =
     chars_past_char (encode_utf8 c) [] c (IsUtf8-encode c scalar) (sym (append-nil (encode_utf8 c)))
     ∙ ap (λ l. c ∷ l) chars-nil
 
-characters_of : (whole rest : List ℕ) (c : ℕ) → IsUtf8 rest → IsScalar c → whole ≡ rest ++ encode_utf8 c
+pub characters_of : (whole rest : List ℕ) (c : ℕ) → IsUtf8 rest → IsScalar c → whole ≡ rest ++ encode_utf8 c
     → chars whole ≡ chars rest ++ c ∷ []
 characters_of whole rest c text scalar e =
     ap chars e ∙ chars-append rest (encode_utf8 c) text ∙ ap (λ l. chars rest ++ l) (one_character c scalar)
@@ -47,7 +47,7 @@ none_looked_at zero = refl
 none_looked_at (suc n) = refl
 
 -- what stands before a character is a text
-before_character : (whole rest : List ℕ) (c : ℕ) → IsUtf8 whole → IsScalar c → whole ≡ rest ++ encode_utf8 c
+pub before_character : (whole rest : List ℕ) (c : ℕ) → IsUtf8 whole → IsScalar c → whole ≡ rest ++ encode_utf8 c
     → IsUtf8 rest
 before_character whole rest c text scalar e =
     let cut = IsCharBoundary-at_seam whole rest (encode_utf8 c) e (IsUtf8-encode c scalar) in

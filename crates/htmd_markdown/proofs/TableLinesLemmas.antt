@@ -15,6 +15,7 @@ use Rattle.std.proofs.lemmas.Str.{IsUtf8-nil, IsUtf8-append, IsUtf8-from_ascii}
 use Rattle.htmd_text.specs.Characters.{line_feed, space, vertical_bar}
 use Rattle.htmd_markdown.specs.Tables as spec
 use Rattle.htmd_markdown.specs.TableReading.{IsTableLine}
+use Rattle.htmd_markdown.specs.GuardedTables.{line_width}
 use Rattle.htmd_markdown.specs.CellBytes.{bar}
 use Rattle.htmd_markdown.proofs.CellsLemmas.{lacks}
 use Rattle.htmd_markdown.proofs.CharacterCounts.{characters, characters-append, characters_are}
@@ -40,12 +41,6 @@ pub record IsLine (Own : List (List ℕ) → Type 0) (widths : List ℕ) (cells 
   pub each : AreLineCells cells
   pub own : Own cells
   pub count : length cells ≡ length widths
-  pub fit : Fit cells widths
-
--- how many characters a line has
-abbrev pub line_width : List ℕ → ℕ
-line_width [] = 1
-line_width (width ∷ widths) = width + 3 + line_width widths
 
 spaces_characters : (n : ℕ) → characters (replicate n space) ≡ n
 spaces_characters zero = refl
@@ -78,11 +73,11 @@ barred_characters (cell ∷ cells) (width ∷ widths) are same fit =
     omega (arith, here, own, more, rest)
 
 line_characters : {Own : List (List ℕ) → Type 0} (cells : List (List ℕ)) (widths : List ℕ)
-    → IsLine Own widths cells
+    → IsLine Own widths cells → Fit cells widths
     → characters (spec.line cells widths) ≡ line_width widths
-line_characters cells widths is =
+line_characters cells widths is fit =
     let one = characters-append bar (spec.barred_cells cells widths) in
-    let rest = barred_characters cells widths is.each is.count is.fit in
+    let rest = barred_characters cells widths is.each is.count fit in
     omega (arith, one, rest)
 
 spaces_ascii : (n i : ℕ) → slice_index (replicate n space) i < 128
@@ -133,16 +128,21 @@ line_lacks : (cells : List (List ℕ)) (widths : List ℕ) → AreLineCells cell
 line_lacks cells widths are = barred_lacks cells widths are
 
 pub characters_of_line : {Own : List (List ℕ) → Type 0} (cells : List (List ℕ)) (widths : List ℕ)
-    → IsLine Own widths cells → length (chars (spec.line cells widths)) ≡ line_width widths
-characters_of_line cells widths is =
-    sym (characters_are (spec.line cells widths) (line_text cells widths is.each)) ∙ line_characters cells widths is
+    → IsLine Own widths cells → Fit cells widths → length (chars (spec.line cells widths)) ≡ line_width widths
+characters_of_line cells widths is fit =
+    sym (characters_are (spec.line cells widths) (line_text cells widths is.each))
+    ∙ line_characters cells widths is fit
+
+-- what holds of the cells of a line, and that each fits its column
+abbrev pub Fitting : (List (List ℕ) → Type 0) → List ℕ → List (List ℕ) → Type 0
+Fitting Own widths cells = Own cells × Fit cells widths
 
 -- a line of the table, as the law of its lines says
-pub is_table_line : (widths : List ℕ) (cells : List (List ℕ)) → IsLine AreCells widths cells
+pub is_table_line : (widths : List ℕ) (cells : List (List ℕ)) → IsLine (Fitting AreCells widths) widths cells
     → IsTableLine (line_width widths) (length widths) (spec.line cells widths)
 is_table_line widths cells is = record {
-  characters = characters_of_line cells widths is;
-  bars = line_bars cells widths is.count is.own;
+  characters = characters_of_line cells widths is is.own.1;
+  bars = line_bars cells widths is.count is.own.0;
 }
 
 -- ---- lines of the text

@@ -1,12 +1,12 @@
 -- A table as its lines.
 use Rattle.std.proofs.Common.{◌≡◌, ℕ, zero, suc, ◌-◌, ◌<◌, ◌≤◌, true, false, List, [], ◌∷◌, ◌++◌, length, map, refl}
-use Rattle.std.proofs.Common.{sym, ap, ◌∙◌, subst, arith, append_assoc, length-append, codes}
-use Rattle.std.specs.Prelude.{not, ◌&&◌, ◌==◌, reverse, slice_index, replicate, String, Vec, string_bytes, All}
+use Rattle.std.proofs.Common.{sym, ap, ◌∙◌, subst, arith, append_assoc, length-append, codes, ◌+◌, ⊎_elim}
+use Rattle.std.specs.Prelude.{not, ◌&&◌, ◌==◌, nat_lt, reverse, slice_index, replicate, String, Vec, string_bytes, All}
 use Rattle.std.specs.List.{list_all, flat_map}
 use Rattle.std.specs.Str.{IsUtf8, chars}
 use Rattle.std.specs.Str.Lines.{lines}
 use Rattle.std.proofs.Common.{lit<}
-use Rattle.std.proofs.lemmas.Bool.{and_parts, not-true}
+use Rattle.std.proofs.lemmas.Bool.{and_parts, not-true, cond-true, cond-false, cond_both, cases_lt, lt-ltb, le-ltb}
 use Rattle.std.proofs.lemmas.List.{append-nil, length-map, length-replicate}
 use Rattle.std.proofs.lemmas.Str.{IsUtf8-nil, IsUtf8-string_bytes, IsUtf8-from_ascii, chars-IsAscii}
 use Rattle.htmd_text.specs.Characters.{line_feed, space, hyphen, vertical_bar}
@@ -15,17 +15,18 @@ use Rattle.htmd_markdown.specs.Tables as spec
 use Rattle.htmd_markdown.specs.TableReading.{column_count, IsTableLine, IsEven}
 use Rattle.htmd_markdown.specs.declared.table.Bars.{Bars}
 use Rattle.htmd_markdown.specs.declared.table.Bars.TheVariants.{References, Backslashes}
-use Rattle.htmd_markdown.specs.CellBytes.{bar, held, cell_of, width_of}
+use Rattle.htmd_markdown.specs.CellBytes.{bar, held, cell_of, width_of, narrowed}
 use Rattle.htmd_markdown.proofs.PiecesLemmas.{cell_is_text, guarded_is_text, guarded_lacks}
 use Rattle.htmd_markdown.specs.Tables.{texts, row_texts}
 use Rattle.htmd_markdown.proofs.TrimmedTexts.{Begins, reversed_passes}
 use Rattle.htmd_markdown.proofs.CellsLemmas.{IsCell, lacks, normalised_is_cell}
 use Rattle.htmd_markdown.proofs.TablesLemmas.{AreCells, padded_pushed, line_cells-length, row_cells}
-use Rattle.htmd_markdown.proofs.TableLinesLemmas.{Fit, IsLine, AreLines, joined_lines, lines_alike, line_width}
+use Rattle.htmd_markdown.proofs.TableLinesLemmas.{Fit, Fitting, IsLine, AreLines, joined_lines, lines_alike}
 use Rattle.htmd_markdown.proofs.TableLinesLemmas.{IsLineCell, AreLineCells, is_table_line, characters_of_line}
 use Rattle.htmd_markdown.proofs.GuardedRowsLemmas.{uncut, AreUncut, row_uncut, line_cut}
-use Rattle.htmd_markdown.specs.GuardedTables.{guarded_table}
-use Rattle.htmd_markdown.specs.GuardedTableReading.{IsGuardedTableLine, IsGuardedEven}
+use Rattle.htmd_markdown.specs.GuardedTables.{guarded_cell, guarded_cell_width, line_width, longest_padded, narrowest}
+use Rattle.htmd_markdown.specs.GuardedTables.{guarded_widths, guarded_table}
+use Rattle.htmd_markdown.specs.GuardedTableReading.{IsGuardedTableLine, IsGuardedEven, HasGuardedBars, cutting_bars}
 use Rattle.htmd_markdown.proofs.ColumnsLemmas.{Covers, CoversAll, covers_all, covers_length, line_fit, held_same}
 use Rattle.htmd_markdown.proofs.ColumnsLemmas.{columns_counted, AreTexts}
 
@@ -112,8 +113,12 @@ separator_line bars ws = record {
   each = dashes_line_cells ws;
   own = dashes_own bars ws;
   count = length-map ws spec.dashes;
-  fit = dashes_fit ws;
 }
+
+-- a line whose cells fit
+fitting : (bars : Bars) (ws : List ℕ) (cells : List (List ℕ)) → IsLine (Own bars) ws cells → Fit cells ws
+    → IsLine (Fitting (Own bars) ws) ws cells
+fitting bars ws cells is fit = record { each = is.each; own = (is.own, fit); count = is.count }
 
 -- ---- lines
 
@@ -166,42 +171,53 @@ row_own : {Z : Type 0} (bars : Bars) (columns : ℕ) (cells : List (String Z))
 row_own References columns cells = row_cells columns cells
 row_own Backslashes columns cells = row_uncut columns (texts cells)
 
-row_line : {Z : Type 0} (bars : Bars) (ws : List ℕ) (cells : List (String Z))
-    → Covers (map (width_of bars) (texts cells)) ws
+row_line : {Z : Type 0} (bars : Bars) (ws : List ℕ) (cells : List (String Z)) → length (texts cells) ≤ length ws
     → IsLine (Own bars) ws (spec.line_cells_by (cell_of bars) (length ws) (texts cells))
-row_line bars ws cells covers =
+row_line bars ws cells le =
     let missing = length ws - length (texts cells) in
     record {
       each = both_cells (map (cell_of bars) (texts cells)) (replicate missing []) (written_cells bars cells)
           (empty_cells missing);
       own = row_own bars (length ws) cells;
-      count = omega (
-        arith,
-        line_cells-length (cell_of bars) (length ws) (texts cells),
-        covers_length (map (width_of bars) (texts cells)) ws covers,
-        length-map (texts cells) (width_of bars),
-      );
-      fit = line_fit bars (texts cells) ws covers;
+      count = omega (arith, line_cells-length (cell_of bars) (length ws) (texts cells), le);
     }
 
-rows_lines : {Z Y : Type 0} (bars : Bars) (ws : List ℕ) (rows : List (Vec (String Z) Y))
-    → CoversAll (map (map (width_of bars)) (map row_texts rows)) ws
-    → AreLines (Own bars) ws (row_lines bars ws (map row_texts rows))
-rows_lines bars ws [] covers = tt
-rows_lines bars ws (cells ∷ rows) covers =
-    (row_line bars ws cells.items covers.0, rows_lines bars ws rows covers.1)
+covered : {Z : Type 0} (bars : Bars) (ws : List ℕ) (cells : List (String Z))
+    → Covers (map (width_of bars) (texts cells)) ws → length (texts cells) ≤ length ws
+covered bars ws cells covers =
+    omega (
+      arith,
+      covers_length (map (width_of bars) (texts cells)) ws covers,
+      length-map (texts cells) (width_of bars),
+    )
 
-lines_all : {Z Y : Type 0} (bars : Bars) (ws : List ℕ) (headers : List (String Z)) (rows : List (Vec (String Z) Y))
+fitting_row : {Z : Type 0} (bars : Bars) (ws : List ℕ) (cells : List (String Z))
+    → Covers (map (width_of bars) (texts cells)) ws
+    → IsLine (Fitting (Own bars) ws) ws (spec.line_cells_by (cell_of bars) (length ws) (texts cells))
+fitting_row bars ws cells covers =
+    fitting bars ws (spec.line_cells_by (cell_of bars) (length ws) (texts cells))
+    (row_line bars ws cells (covered bars ws cells covers)) (line_fit bars (texts cells) ws covers)
+
+fitting_rows : {Z Y : Type 0} (bars : Bars) (ws : List ℕ) (rows : List (Vec (String Z) Y))
+    → CoversAll (map (map (width_of bars)) (map row_texts rows)) ws
+    → AreLines (Fitting (Own bars) ws) ws (row_lines bars ws (map row_texts rows))
+fitting_rows bars ws [] covers = tt
+fitting_rows bars ws (cells ∷ rows) covers =
+    (fitting_row bars ws cells.items covers.0, fitting_rows bars ws rows covers.1)
+
+fitting_lines : {Z Y : Type 0} (bars : Bars) (ws : List ℕ) (headers : List (String Z)) (rows : List (Vec (String Z) Y))
     → CoversAll (map (map (width_of bars)) (texts headers ∷ map row_texts rows)) ws
-    → AreLines (Own bars) ws (all_lines bars ws (texts headers) (map row_texts rows))
-lines_all bars ws [] rows covers = rows_lines bars ws rows covers.1
-lines_all bars ws (header ∷ headers) rows covers =
-    (row_line bars ws (header ∷ headers) covers.0, (separator_line bars ws, rows_lines bars ws rows covers.1))
+    → AreLines (Fitting (Own bars) ws) ws (all_lines bars ws (texts headers) (map row_texts rows))
+fitting_lines bars ws [] rows covers = fitting_rows bars ws rows covers.1
+fitting_lines bars ws (header ∷ headers) rows covers = (
+  fitting_row bars ws (header ∷ headers) covers.0,
+  (fitting bars ws (map spec.dashes ws) (separator_line bars ws) (dashes_fit ws), fitting_rows bars ws rows covers.1),
+)
 
 -- what holds of each line of such a table holds of all its lines
 all_alike : {Z Y : Type 0} (bars : Bars) (P : ℕ → ℕ → List ℕ → Type 0) (headers : List (String Z))
     (rows : List (Vec (String Z) Y))
-    → ((ws : List ℕ) (cells : List (List ℕ)) → IsLine (Own bars) ws cells
+    → ((ws : List ℕ) (cells : List (List ℕ)) → IsLine (Fitting (Own bars) ws) ws cells
     → P (line_width ws) (length ws) (spec.line cells ws))
     → (width : ℕ) × All (P width (column_count (texts headers ∷ map row_texts rows)))
     (lines (spec.table_by (cell_of bars) (width_of bars) (texts headers) (map row_texts rows)))
@@ -209,8 +225,8 @@ all_alike bars P headers rows each =
     let ls = texts headers ∷ map row_texts rows in
     let ws = spec.column_widths_by (width_of bars) ls in
     let covers = covers_all [] (map (map (width_of bars)) ls) in
-    let alike = lines_alike (Own bars) (P (line_width ws) (length ws)) ws
-    (all_lines bars ws (texts headers) (map row_texts rows)) (each ws) (lines_all bars ws headers rows covers) in
+    let alike = lines_alike (Fitting (Own bars) ws) (P (line_width ws) (length ws)) ws
+    (all_lines bars ws (texts headers) (map row_texts rows)) (each ws) (fitting_lines bars ws headers rows covers) in
     let whole = table_joined bars ws (texts headers) (map row_texts rows) in (
       line_width ws,
       subst (λ (n : ℕ). All (P (line_width ws) n)
@@ -223,17 +239,82 @@ pub table_even : {Z Y : Type 0} (headers : List (String Z)) (rows : List (Vec (S
     → IsEven (column_count (texts headers ∷ map row_texts rows)) (spec.table (texts headers) (map row_texts rows))
 table_even headers rows = all_alike References IsTableLine headers rows is_table_line
 
-is_guarded_line : (ws : List ℕ) (cells : List (List ℕ)) → IsLine AreUncut ws cells
+is_guarded_line : (ws : List ℕ) (cells : List (List ℕ)) → IsLine (Fitting AreUncut ws) ws cells
     → IsGuardedTableLine (line_width ws) (length ws) (spec.line cells ws)
 is_guarded_line ws cells is = record {
-  characters = characters_of_line cells ws is;
-  bars = line_cut cells ws is.count is.own;
+  characters = characters_of_line cells ws is is.own.1;
+  bars = line_cut cells ws is.count is.own.0;
 }
 
+-- where no line passes the longest that is padded, all are equally long
 pub guarded_table_even : {Z Y : Type 0} (headers : List (String Z)) (rows : List (Vec (String Z) Y))
+    → line_width (spec.column_widths_by guarded_cell_width (texts headers ∷ map row_texts rows)) ≤ longest_padded
     → IsGuardedEven (column_count (texts headers ∷ map row_texts rows))
     (guarded_table (texts headers) (map row_texts rows))
-guarded_table_even headers rows = all_alike Backslashes IsGuardedTableLine headers rows is_guarded_line
+guarded_table_even headers rows short =
+    let ls = texts headers ∷ map row_texts rows in
+    let ws = spec.column_widths_by guarded_cell_width ls in
+    let padded : guarded_widths ls ≡ ws =
+    cond-false (nat_lt longest_padded (line_width ws)) _ _ (le-ltb longest_padded (line_width ws) short) in
+    subst (λ (l : List ℕ). IsGuardedEven (column_count ls)
+    (spec.table_of_widths_by guarded_cell l (texts headers) (map row_texts rows))) (sym padded)
+    (all_alike Backslashes IsGuardedTableLine headers rows is_guarded_line)
+
+-- ---- the bars of each line
+
+abbrev Within : ℕ → List (List (List ℕ)) → Type 0
+Within n [] = Unit {0}
+Within n (cells ∷ more) = (length cells ≤ n) × Within n more
+
+within_rows : {Z Y : Type 0} (bars : Bars) (ws : List ℕ) (rows : List (Vec (String Z) Y))
+    → Within (length ws) (map row_texts rows) → AreLines (Own bars) ws (row_lines bars ws (map row_texts rows))
+within_rows bars ws [] within = tt
+within_rows bars ws (cells ∷ rows) within =
+    (row_line bars ws cells.items within.0, within_rows bars ws rows within.1)
+
+within_lines : {Z Y : Type 0} (bars : Bars) (ws : List ℕ) (headers : List (String Z)) (rows : List (Vec (String Z) Y))
+    → Within (length ws) (texts headers ∷ map row_texts rows)
+    → AreLines (Own bars) ws (all_lines bars ws (texts headers) (map row_texts rows))
+within_lines bars ws [] rows within = within_rows bars ws rows within.1
+within_lines bars ws (header ∷ headers) rows within =
+    (row_line bars ws (header ∷ headers) within.0, (separator_line bars ws, within_rows bars ws rows within.1))
+
+within_covered : (bars : Bars) (ws : List ℕ) (n : ℕ) (ls : List (List (List ℕ))) → n ≡ length ws
+    → CoversAll (map (map (width_of bars)) ls) ws → Within n ls
+within_covered bars ws n [] same covers = tt
+within_covered bars ws n (cells ∷ ls) same covers = (
+  omega (
+    arith,
+    same,
+    covers_length (map (width_of bars) cells) ws covers.0,
+    length-map cells (width_of bars),
+  ),
+  within_covered bars ws n ls same covers.1,
+)
+
+guarded_widths-length : (ls : List (List (List ℕ)))
+    → length (guarded_widths ls) ≡ length (spec.column_widths_by guarded_cell_width ls)
+guarded_widths-length ls =
+    let ws = spec.column_widths_by guarded_cell_width ls in
+    cond_both (nat_lt longest_padded (line_width ws)) (replicate (length ws) narrowest) ws
+    (λ (l : List ℕ). length l ≡ length ws) (λ _. length-replicate (length ws) narrowest) (λ _. refl)
+
+pub guarded_table_bars : {Z Y : Type 0} (headers : List (String Z)) (rows : List (Vec (String Z) Y))
+    → HasGuardedBars (column_count (texts headers ∷ map row_texts rows))
+    (guarded_table (texts headers) (map row_texts rows))
+guarded_table_bars headers rows =
+    let ls = texts headers ∷ map row_texts rows in
+    let padded = spec.column_widths_by guarded_cell_width ls in
+    let ws = guarded_widths ls in
+    let covers = covers_all [] (map (map guarded_cell_width) ls) in
+    let within = within_covered Backslashes padded (length ws) ls (guarded_widths-length ls) covers in
+    let alike = lines_alike AreUncut (λ line. cutting_bars line ≡ length ws + 1) ws
+    (all_lines Backslashes ws (texts headers) (map row_texts rows))
+    (λ cells is. line_cut cells ws is.count is.own) (within_lines Backslashes ws headers rows within) in
+    let whole = table_joined Backslashes ws (texts headers) (map row_texts rows) in
+    subst (λ (n : ℕ). HasGuardedBars n (guarded_table (texts headers) (map row_texts rows)))
+    (guarded_widths-length ls ∙ columns_counted guarded_cell_width ls)
+    (subst (λ (s : List ℕ). HasGuardedBars (length ws) s) (sym whole) alike)
 
 -- ---- no width was cut
 
@@ -286,3 +367,42 @@ widths_held bars (header ∷ headers) rows fits =
 pub maps : {A B C : Type 0} (f : B → C) (g : A → B) (xs : List A) → map (λ x. f (g x)) xs ≡ map f (map g xs)
 maps f g [] = refl
 maps f g (x ∷ xs) = ap (λ l. f (g x) ∷ l) (maps f g xs)
+
+-- ---- narrow columns
+
+held_line : (ws : List ℕ) → line_width (map held ws) ≤ line_width ws
+held_line [] = omega arith
+held_line (w ∷ ws) = omega (arith, held_line ws)
+
+held_short : (ws : List ℕ) → line_width (map held ws) ≤ longest_padded → map held ws ≡ ws
+held_short [] short = refl
+held_short (w ∷ ws) short =
+    ap (λ n. n ∷ map held ws) (omega arith) ∙ ap (λ l. w ∷ l) (held_short ws (omega (arith, short)))
+
+narrow_same : (ws : List ℕ) → replicate (length (map held ws)) narrowest ≡ replicate (length ws) narrowest
+narrow_same ws = ap (λ n. replicate n narrowest) (length-map ws held)
+
+held_narrowed : (ws : List ℕ) → narrowed Backslashes (map held ws) ≡ narrowed Backslashes ws
+held_narrowed ws =
+    ⊎_elim
+    (λ (long : longest_padded < line_width (map held ws)).
+    cond-true (nat_lt longest_padded (line_width (map held ws))) _ _ (lt-ltb longest_padded _ long)
+    ∙ narrow_same ws
+    ∙ sym (cond-true (nat_lt longest_padded (line_width ws)) _ _
+    (lt-ltb longest_padded _ (omega (arith, long, held_line ws)))))
+    (λ (short : line_width (map held ws) ≤ longest_padded). ap (narrowed Backslashes) (held_short ws short))
+    (cases_lt longest_padded (line_width (map held ws)))
+
+-- what was written tells that its widths are those of the table
+pub widths_right : {Z Y : Type 0} (bars : Bars) (headers : List (String Z)) (rows : List (Vec (String Z) Y))
+    → let ws = spec.column_widths_by (width_of bars) (texts headers ∷ map row_texts rows) in
+    length (spec.table_of_widths_by (cell_of bars) (narrowed bars (map held ws)) (texts headers) (map row_texts rows))
+    ≤ 0xFFFF_FFFF_FFFF_FFFF → narrowed bars (map held ws) ≡ narrowed bars ws
+widths_right References headers rows fits = widths_held References headers rows fits
+widths_right Backslashes headers rows fits =
+    held_narrowed (spec.column_widths_by guarded_cell_width (texts headers ∷ map row_texts rows))
+
+-- one more column
+pub line_width_more : (ws : List ℕ) (w : ℕ) → line_width (ws ++ w ∷ []) ≡ line_width ws + (w + 3)
+line_width_more [] w = omega arith
+line_width_more (v ∷ ws) w = omega (arith, line_width_more ws w)

@@ -1,11 +1,11 @@
 -- Cells byte by byte, as the code goes through them; the contracts of private functions alone cite it.
 use Rattle.std.specs.Prelude.{◌≡◌, ◌==◌, if◌then◌else◌, ℕ, ◌<◌, Bool, not, ◌&&◌, List, [], ◌∷◌, ◌++◌, nat_le, nat_lt}
-use Rattle.std.specs.Prelude.{count_by, min, map}
+use Rattle.std.specs.Prelude.{count_by, min, map, length, replicate}
 use Rattle.htmd_text.specs.Characters.{vertical_bar, backslash, carriage_return}
 use Rattle.htmd_markdown.specs.declared.table.Bars.{Bars}
 use Rattle.htmd_markdown.specs.declared.table.Bars.TheVariants.{References, Backslashes}
-use Rattle.htmd_markdown.specs.Tables.{in_cell, normalised_cell, cell_width}
-use Rattle.htmd_markdown.specs.GuardedTables.{in_line, is_escaping, guarded_cell, guarded_cell_width}
+use Rattle.htmd_markdown.specs.Tables.{in_cell, normalised_cell, cell_width, column_widths_by}
+use Rattle.htmd_markdown.specs.GuardedTables.{in_line, is_escaping, guarded_cell, guarded_cell_width, line_width, longest_padded, narrowest}
 
 -- a number as far as a `usize` goes
 abbrev pub held : ℕ → ℕ
@@ -23,6 +23,15 @@ width_of Backslashes cell = guarded_cell_width cell
 
 abbrev pub held_widths : Bars → List (List ℕ) → List ℕ
 held_widths bars cells = map held (map (width_of bars) cells)
+
+-- columns of these widths, each as narrow as a column may be where the lines would be too long
+abbrev pub narrowed : Bars → List ℕ → List ℕ
+narrowed References widths = widths
+narrowed Backslashes widths = if nat_lt longest_padded (line_width widths) then replicate (length widths) narrowest else widths
+
+-- the widths of a table's columns
+abbrev pub widths_of : Bars → List (List (List ℕ)) → List ℕ
+widths_of bars lines = narrowed bars (column_widths_by (width_of bars) lines)
 
 abbrev pub bar : List ℕ
 bar = vertical_bar ∷ []

@@ -5,7 +5,7 @@ use Rattle.std.specs.Prelude.{length}
 use Rattle.std.specs.Prelude.{slice_index, Option, Some, None, codes}
 use Rattle.std.specs.Char.{is_ascii_alphabetic, is_ascii_alphanumeric}
 use Rattle.std.specs.Fmt.{decimal}
-use Rattle.std.specs.List.{list_any, prefix_len}
+use Rattle.std.specs.List.{list_all, list_any, prefix_len}
 use Rattle.htmd_text.specs.Characters.{line_feed, space, ampersand, colon, is_one_of}
 use Rattle.htmd_text.specs.Unescape.{unescape}
 use Rattle.htmd_text.specs.WhiteSpace.{squeezed_text}
@@ -27,9 +27,12 @@ begins_white content = is_white (slice_index content 0)
 abbrev pub ends_white : List ℕ → Bool
 ends_white content = is_white (slice_index content (length content - 1))
 
--- White space at either end of the content is kept as one space, outside of the link.
+-- White space at either end of the content is kept as one space, outside of the link; white space alone behind it.
+abbrev pub is_space_before : List ℕ → Bool
+is_space_before content = begins_white content && not (list_all is_white content)
+
 abbrev pub space_before : List ℕ → List ℕ
-space_before content = space_if (begins_white content)
+space_before content = space_if (is_space_before content)
 
 abbrev pub space_behind : List ℕ → List ℕ
 space_behind content = space_if (ends_white content)

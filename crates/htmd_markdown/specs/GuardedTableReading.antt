@@ -47,3 +47,7 @@ pub record IsGuardedTableLine (width columns : ℕ) (line : List ℕ) : Type 0 w
 -- are columns
 abbrev pub IsGuardedEven : ℕ → List ℕ → Type 0
 IsGuardedEven columns s = (width : ℕ) × All (IsGuardedTableLine width columns) (lines s)
+
+-- each line of the text has one such bar more than there are columns
+abbrev pub HasGuardedBars : ℕ → List ℕ → Type 0
+HasGuardedBars columns s = All (λ line. cutting_bars line ≡ columns + 1) (lines s)

@@ -1,11 +1,12 @@
 -- Text with so many backslashes that a reader of Markdown sees it as it stands, whatever its neighbours.
-use Rattle.std.specs.Prelude.{ℕ, ◌+◌, ◌-◌, Bool, true, not, ◌&&◌, ◌||◌, ◌==◌, List, [], ◌∷◌}
+use Rattle.std.specs.Prelude.{ℕ, ◌+◌, ◌-◌, Bool, true, not, ◌&&◌, ◌||◌, ◌==◌, nat_le, List, [], ◌∷◌}
 use Rattle.std.specs.Prelude.{length, take, drop}
 use Rattle.std.specs.Prelude.{reverse, slice_index, codes, encode_utf8_all, take_while}
 use Rattle.std.specs.List.{list_all, prefix_len}
 use Rattle.std.specs.Char.{is_ascii_digit}
 use Rattle.std.specs.Str.{chars}
-use Rattle.htmd_text.specs.Characters.{space, line_feed, ampersand, number_sign, byte_order_mark, is_one_of}
+use Rattle.htmd_text.specs.Characters.{space, line_feed, ampersand, number_sign, colon, hyphen, byte_order_mark}
+use Rattle.htmd_text.specs.Characters.{is_one_of}
 use Rattle.htmd_text.specs.EscapeMarks.{with_backslashes}
 use Rattle.htmd_text.specs.PlainText.{each_bare}
 use Rattle.htmd_markdown.specs.ReferenceLike.{is_reference_like}
@@ -15,9 +16,21 @@ use Rattle.htmd_markdown.specs.ReferenceLike.{is_reference_like}
 abbrev pub is_always_guarded : ℕ → Bool
 is_always_guarded b = is_one_of (codes "\\`*_[]<~") b
 
--- a `#` that begins the text or follows a space, as those that begin or close a heading (CommonMark 0.31.2, 4.2)
+-- right before this place stands U+FEFF, whose bytes are EF BB BF
+abbrev pub follows_byte_order_mark : List ℕ → ℕ → Bool
+follows_byte_order_mark s k =
+    nat_le 3 k
+    && (slice_index s (k - 3) == 0xEF)
+    && (slice_index s (k - 2) == 0xBB)
+    && (slice_index s (k - 1) == 0xBF)
+
+-- the place begins the text, or follows a space or U+FEFF
+abbrev pub is_heading_place : List ℕ → ℕ → Bool
+is_heading_place s k = (k == 0) || (slice_index s (k - 1) == space) || follows_byte_order_mark s k
+
+-- a `#` there, as those that begin or close a heading (CommonMark 0.31.2, 4.2)
 abbrev pub is_heading_mark : List ℕ → ℕ → Bool
-is_heading_mark s k = (slice_index s k == number_sign) && ((k == 0) || (slice_index s (k - 1) == space))
+is_heading_mark s k = (slice_index s k == number_sign) && is_heading_place s k
 
 -- the places that get a backslash wherever the text stands
 abbrev pub is_mark_anywhere : List ℕ → ℕ → Bool
@@ -43,6 +56,11 @@ number_end s = first_place s + prefix_len is_ascii_digit (drop (first_place s) s
 abbrev pub is_block_sign : ℕ → Bool
 is_block_sign b = is_one_of (codes "-+=>|.)") b
 
+-- such a character stands there, or the `:-` of a table's line of dashes (GitHub Flavored Markdown 0.29, 4.10)
+abbrev pub is_sign_at : List ℕ → ℕ → Bool
+is_sign_at s k =
+    is_block_sign (slice_index s k) || ((slice_index s k == colon) && (slice_index s (k + 1) == hyphen))
+
 -- what ends the marker of an ordered list item (CommonMark 0.31.2, 5.2)
 abbrev pub is_delimiter : ℕ → Bool
 is_delimiter b = is_one_of (codes ".)") b
@@ -55,7 +73,7 @@ ends_or_has_space (b ∷ s) = b == space
 -- the places that get a backslash where the text begins a line
 abbrev pub is_block_mark : List ℕ → ℕ → Bool
 is_block_mark s k =
-    ((k == first_place s) && is_block_sign (slice_index s k))
+    ((k == first_place s) && is_sign_at s k)
     || ((k == number_end s) && is_delimiter (slice_index s k) && ends_or_has_space (drop (k + 1) s))
 
 -- the places of a text that get a backslash
@@ -90,13 +108,13 @@ begins_no_markup (b ∷ s) = not (is_always_guarded b || ((b == ampersand) && is
 abbrev pub is_guarded : List ℕ → Bool
 is_guarded s = each_bare begins_no_markup s
 
--- its first character that is no space is `#`
+-- its first character that is no space and no U+FEFF is `#`
 abbrev pub begins_heading : List ℕ → Bool
-begins_heading s = slice_index s (prefix_len (λ b. b == space) s) == number_sign
+begins_heading s = slice_index s (first_place s) == number_sign
 
 -- its first character that is no space and no U+FEFF, or what stands there with a number before it, begins a block
 abbrev pub begins_block : List ℕ → Bool
 begins_block s =
-    is_block_sign (slice_index s (first_place s))
+    is_sign_at s (first_place s)
     || (is_delimiter (slice_index s (number_end s)) && ends_or_has_space (drop (number_end s + 1) s))
     || begins_heading s

@@ -15,6 +15,7 @@ pub mod Lists
 pub mod ListColumns
 pub mod ReferenceLike
 pub mod GuardedText
+pub mod Joints
 pub mod Addresses
 pub mod Titles
 pub mod OneLine
@@ -28,7 +29,11 @@ pub mod Tables
 pub mod TableReading
 pub mod GuardedTables
 pub mod GuardedTableReading
+pub mod TableGrids
+pub mod TableGridViews
 pub mod WrittenBytes
 pub mod Rewriting
 pub mod CellBytes
 pub mod SpecialBytes
+pub mod Numbering
+pub mod JointFits

@@ -31,21 +31,27 @@ bullet_item marker spacing content =
 abbrev pub unnumbered_item : List ℕ → List ℕ
 unnumbered_item content = line_feed ∷ trimmed_start is_document_white_space content ++ line_feed ∷ []
 
--- the number, a dot, and so many spaces as stand behind the highest number of the list, or more where that has more
--- digits
-abbrev pub number_marker : ℕ → ℕ → ℕ → List ℕ
-number_marker spacing highest number =
-    decimal number ++ full_stop ∷ replicate (spacing + (digits highest - digits number)) space
+-- the number, a dot, and so many spaces
+abbrev pub number_marker : ℕ → ℕ → List ℕ
+number_marker spaces number = decimal number ++ full_stop ∷ replicate spaces space
 
 -- the item of an ordered list, without line feeds at the start of its content
-abbrev pub numbered_item : ℕ → ℕ → ℕ → List ℕ → List ℕ
-numbered_item spacing highest number content =
-    list_item (number_marker spacing highest number) (trimmed_start is_line_feed content)
+abbrev pub numbered_item : ℕ → ℕ → List ℕ → List ℕ
+numbered_item spaces number content = list_item (number_marker spaces number) (trimmed_start is_line_feed content)
+
+-- the spaces behind the dot of a number: as many as stand behind the highest number of the list, or more where that has
+-- more digits
+abbrev pub aligned_spaces : ℕ → ℕ → ℕ → ℕ
+aligned_spaces spacing highest number = spacing + (digits highest - digits number)
 
 -- The spaces behind a marker, as many as are asked for but at least 1 and at most 4: with none there is no item, and
 -- with more than 4 its content is indented code.
 abbrev pub guarded_spacing : ℕ → ℕ
 guarded_spacing spacing = max 1 (min spacing 4)
+
+-- the spaces behind the dot of a number in Guarded, the alignment included
+abbrev pub guarded_spaces : ℕ → ℕ → ℕ → ℕ
+guarded_spaces spacing highest number = guarded_spacing (aligned_spaces spacing highest number)
 
 abbrev pub guarded_bullet_item : BulletListMarker → ℕ → List ℕ → List ℕ
 guarded_bullet_item marker spacing content = bullet_item marker (guarded_spacing spacing) content

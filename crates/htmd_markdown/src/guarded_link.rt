@@ -1,7 +1,7 @@
 //! Links, autolinks, references and link reference definitions, so written that a reader finds their parts again
 //! (CommonMark 0.31.2, 6.3, 6.5 and 4.7).
 ghost use Rattle.std.specs.Prelude.{◌≡◌, ◌++◌, IfOk, IfSome, OnOk, codes, string_bytes};
-ghost use Rattle.std.specs.List.{list_any};
+ghost use Rattle.std.specs.List.{list_all, list_any};
 ghost use Rattle.std.specs.Option.{option_copied};
 ghost use Rattle.htmd_markdown.specs.GuardedAddresses.{bare_address, closing, delimiters, HoldsGuarded};
 ghost use Rattle.htmd_text.specs.WhiteSpace.{squeezed_text};
@@ -140,7 +140,7 @@ pub fn write_guarded_autolink(
     ensures { IfOk result (λ s. string_bytes s ≡ spec.guarded_autolink content.now address.now) }
 {
     let mut link = String::with_capacity(alloc, address.len().saturating_add(4))?;
-    push_space_if(&mut link, begins_white(content))?;
+    push_space_if(&mut link, is_space_before(content))?;
     link.push('<')?;
     link.push_str(address)?;
     link.push('>')?;
@@ -153,7 +153,7 @@ fn push_link_text(out: &mut String, content: &str) -> Result<(), AllocError>
     ensures { OnOk result
         (string_bytes out.new ≡ string_bytes out.old ++ spec.guarded_link_text content.now) }
 {
-    push_space_if(out, begins_white(content))?;
+    push_space_if(out, is_space_before(content))?;
     out.push('[')?;
     push_one_line(out, content)?;
     out.push(']')
@@ -197,6 +197,23 @@ fn begins_white(content: &str) -> bool
     ensures { result ≡ spec.begins_white content.now }
 {
     content.starts_with(' ') || content.starts_with('\n')
+}
+
+/// Whether there is nothing but spaces and line feeds.
+fn is_white_alone(content: &str) -> bool
+    ensures { result ≡ list_all spec.is_white content.now }
+{
+    content
+        .as_bytes()
+        .iter()
+        .all(|b| matches!(*b, b' ' | b'\n'))
+}
+
+/// Whether spaces or line feeds stand at the start, and not alone.
+fn is_space_before(content: &str) -> bool
+    ensures { result ≡ spec.is_space_before content.now }
+{
+    begins_white(content) && !is_white_alone(content)
 }
 
 /// Whether a space or a line feed stands at the end.

@@ -48,9 +48,9 @@ fn is_blank(c: char) -> bool
 }
 
 /// The text with a backslash before each character that could be read as markup: `\`, backquote, `*`, `_`, `[`, `]`,
-/// `<`, `~`; an `&` that looks like the start of a character reference; a `#` at the front or behind a space; and where
-/// the text begins a line, a first character `-`, `+`, `=`, `>`, `|`, `.` or `)`, and the `.` or `)` of an ordered list
-/// item. An `Err` is want of memory.
+/// `<`, `~`; an `&` that looks like the start of a character reference; a `#` at the front or behind a space or U+FEFF; and
+/// where the text begins a line, a first character `-`, `+`, `=`, `>`, `|`, `.` or `)`, a `:` with a `-` behind it, and
+/// the `.` or `)` of an ordered list item. An `Err` is want of memory.
 pub fn write_guarded_text(
     alloc: Global,
     text: &str,
@@ -123,8 +123,21 @@ fn is_mark(bytes: &[u8], place: usize, block_mark: Option<usize>) -> bool
     let byte = bytes[place];
     is_always_guarded(byte)
         || byte == b'&' && is_reference_like(&bytes[place + 1..])
-        || byte == b'#' && (place == 0 || bytes[place - 1] == b' ')
+        || byte == b'#' && is_heading_place(bytes, place)
         || block_mark == Some(place)
+}
+
+/// Whether the place begins the text or follows a space or U+FEFF.
+fn is_heading_place(bytes: &[u8], place: usize) -> bool
+    requires { place < length bytes.now }
+    ensures { result ≡ spec.is_heading_place bytes.now place }
+{
+    place == 0
+        || bytes[place - 1] == b' '
+        || place >= 3
+            && bytes[place - 3] == 0xEF
+            && bytes[place - 2] == 0xBB
+            && bytes[place - 1] == 0xBF
 }
 
 /// Whether the character gets a backslash wherever it stands.
@@ -143,13 +156,25 @@ fn block_mark(text: &str, begins_line: bool) -> Option<usize>
     }
     let bytes = text.as_bytes();
     let first = first_place(text);
-    if first < bytes.len() && is_block_sign(bytes[first]) {
+    if is_sign_at(bytes, first) {
         return Some(first);
     }
     let number_end = first + digits_len(&bytes[first..]);
     match &bytes[number_end..] {
         [b'.' | b')'] | [b'.' | b')', b' ', ..] => Some(number_end),
         _ => None,
+    }
+}
+
+/// Whether such a character stands there, or the `:-` of a table's line of dashes.
+fn is_sign_at(bytes: &[u8], place: usize) -> bool
+    requires { place ≤ length bytes.now }
+    ensures { result ≡ spec.is_sign_at bytes.now place }
+{
+    match &bytes[place..] {
+        [b':', b'-', ..] => true,
+        [first, ..] => is_block_sign(*first),
+        [] => false,
     }
 }
 

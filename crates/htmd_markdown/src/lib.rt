@@ -14,6 +14,7 @@ mod guarded_text;
 mod guarded_title;
 mod heading;
 mod indented_code;
+mod joint;
 mod line_break;
 mod line_ends;
 mod link;
@@ -23,6 +24,7 @@ mod quote;
 mod reference_like;
 mod runs;
 mod table;
+mod table_grid;
 mod thematic_break;
 mod title;
 
@@ -39,6 +41,7 @@ pub use self::guarded_link::{
 pub use self::guarded_text::{begins_line, push_guarded_text, write_guarded_text};
 pub use self::heading::{HeadingStyle, write_guarded_heading, write_heading};
 pub use self::indented_code::write_indented_code;
+pub use self::joint::mend_joint;
 pub use self::line_break::{BrStyle, write_line_break};
 pub use self::link::{
     LinkReferenceStyle, write_autolink, write_definition, write_image, write_inline_link,
@@ -47,8 +50,10 @@ pub use self::link::{
 pub use self::list::{
     BulletListMarker, ListBlock, first_number, write_bullet_item, write_guarded_bullet_item,
     write_guarded_ordered_list, write_list_block, write_ordered_list, write_unnumbered_item,
+    write_unnumbered_list,
 };
 pub use self::one_line::write_one_line;
 pub use self::quote::write_quote;
 pub use self::table::{write_guarded_row, write_guarded_table, write_row, write_table};
+pub use self::table_grid::{SpannedCell, SpannedRow, lay_table};
 pub use self::thematic_break::{HrStyle, write_thematic_break};

@@ -1,11 +1,12 @@
 //! List items and lists (CommonMark 0.31.2, 5.2 and 5.3).
-ghost use Rattle.std.specs.Prelude.{◌≡◌, ◌-◌, ◌<◌, true, ◌++◌, IfOk, OnOk, length, map, string_bytes};
+ghost use Rattle.std.specs.Prelude.{◌≡◌, ◌-◌, ◌<◌, ◌≤◌, ◌^◌, true, ◌++◌, IfOk, OnOk, length, map, string_bytes};
 ghost use Rattle.std.specs.Option.{option_copied, option_map};
 ghost use Rattle.htmd_text.specs.Indents.{indented_text};
 ghost use Rattle.htmd_text.specs.Trims.{trimmed_start, is_line_feed};
 ghost use Rattle.htmd_markdown.specs.ListItems as items;
-ghost use Rattle.htmd_markdown.specs.ListColumns.{HasEqualColumns};
+ghost use Rattle.htmd_markdown.specs.ListColumns.{HasColumns, HasEqualColumns, HasGuardedColumns};
 ghost use Rattle.htmd_markdown.specs.Lists as spec;
+ghost use Rattle.htmd_markdown.specs.Numbering.{spaces_of};
 
 use htmd_text::runs::leading_len;
 use htmd_text::{
@@ -107,6 +108,14 @@ pub fn write_unnumbered_item(alloc: Global, content: &str) -> Result<String, All
     Ok(item)
 }
 
+/// The spaces behind a dot, where the highest number of the list has so many.
+#[derive(Clone, Copy)]
+pub(crate) struct Spaces {
+    spacing: u8,
+    highest: usize,
+    is_guarded: bool,
+}
+
 /// The blocks of an ordered list: each item behind its number, and the other texts as they are. The
 /// contents of all items begin in the same column, behind the highest number and so many spaces.
 pub fn write_ordered_list(
@@ -120,23 +129,17 @@ pub fn write_ordered_list(
     ensures columns { IfOk result
         (λ t. HasEqualColumns first spacing (map spec.block_of blocks.items) (string_bytes t)) }
 {
-    let mut number = first as usize;
-    let highest = (number + item_count(&blocks)).saturating_sub(1);
-    let mut texts = Vec::with_capacity(alloc, blocks.len())?;
-    for block in blocks {
-        match block {
-            ListBlock::Item(content) => {
-                texts.push(write_numbered_item(alloc, spacing, highest, number, &content)?)?;
-                number += 1;
-            }
-            ListBlock::Other(text) => texts.push(text)?,
-        }
-    }
-    join_blocks(alloc, &texts)
+    let spaces = Spaces {
+        spacing,
+        highest: highest_number(first, &blocks),
+        is_guarded: false,
+    };
+    write_numbered(alloc, first, spaces, blocks)
 }
 
-/// The blocks of an ordered list with at least one space behind each dot and at most four, which begins at 1 where
-/// its highest number would have more than nine digits, since such a number is none (CommonMark 0.31.2, 5.2).
+/// The blocks of an ordered list with at least one space behind each dot and at most four, those that align shorter
+/// numbers included: with none there is no item, and with more its content is indented code. It begins at 1 where its
+/// highest number would have more than nine digits, since such a number is none (CommonMark 0.31.2, 5.2).
 ///
 /// Want of memory is the only error.
 pub fn write_guarded_ordered_list(
@@ -147,14 +150,69 @@ pub fn write_guarded_ordered_list(
 ) -> Result<String, AllocError>
     ensures text { IfOk result (λ t. string_bytes t
         ≡ spec.guarded_ordered_list first spacing (map spec.block_of blocks.items)) }
-    ensures columns { IfOk result (λ t. HasEqualColumns
+    ensures columns { IfOk result (λ t. HasGuardedColumns
         (spec.guarded_first_number first
         (spec.highest_number first (map spec.block_of blocks.items)))
-        (items.guarded_spacing spacing) (map spec.block_of blocks.items) (string_bytes t)) }
+        spacing (map spec.block_of blocks.items) (string_bytes t)) }
 {
-    let highest = (first as usize + item_count(&blocks)).saturating_sub(1);
-    let first = guarded_first_number(first, highest);
-    write_ordered_list(alloc, first, guarded_spacing(spacing), blocks)
+    let first = guarded_first_number(first, highest_number(first, &blocks));
+    let spaces = Spaces {
+        spacing,
+        highest: highest_number(first, &blocks),
+        is_guarded: true,
+    };
+    write_numbered(alloc, first, spaces, blocks)
+}
+
+/// The contents of an ordered list's items, without numbers, and its other texts, as where a list stands in one line.
+///
+/// Want of memory is the only error.
+pub fn write_unnumbered_list(alloc: Global, blocks: Vec<ListBlock>) -> Result<String, AllocError>
+    ensures { IfOk result
+        (λ t. string_bytes t ≡ spec.unnumbered_list (map spec.block_of blocks.items)) }
+{
+    let mut texts = Vec::with_capacity(alloc, blocks.len())?;
+    for block in blocks {
+        match block {
+            ListBlock::Item(content) => texts.push(content)?,
+            ListBlock::Other(text) => texts.push(text)?,
+        }
+    }
+    join_blocks(alloc, &texts)
+}
+
+/// The number of the last item.
+fn highest_number(first: u32, blocks: &[ListBlock]) -> usize
+    requires { length blocks.now < 2 ^ 63 }
+    ensures { result ≡ spec.highest_number first (map spec.block_of blocks.now) }
+{
+    (first as usize + item_count(blocks)).saturating_sub(1)
+}
+
+/// Each item behind its number with its spaces, and the other texts as they are.
+fn write_numbered(
+    alloc: Global,
+    first: u32,
+    spaces: Spaces,
+    blocks: Vec<ListBlock>,
+) -> Result<String, AllocError>
+    ensures text { IfOk result (λ t. string_bytes t
+        ≡ spec.ordered_list_by (spaces_of spaces) first (map spec.block_of blocks.items)) }
+    ensures columns { IfOk result
+        (λ t. HasColumns (spaces_of spaces) first (map spec.block_of blocks.items) (string_bytes t)) }
+{
+    let mut number = first as usize;
+    let mut texts = Vec::with_capacity(alloc, blocks.len())?;
+    for block in blocks {
+        match block {
+            ListBlock::Item(content) => {
+                texts.push(write_numbered_item(alloc, spaces, number, &content)?)?;
+                number += 1;
+            }
+            ListBlock::Other(text) => texts.push(text)?,
+        }
+    }
+    join_blocks(alloc, &texts)
 }
 
 fn guarded_first_number(first: u32, highest: usize) -> u32
@@ -176,20 +234,42 @@ fn item_count(blocks: &[ListBlock]) -> usize
     count
 }
 
-/// An item in a line of its own: the number, a dot, so many spaces and one more for each digit that
-/// the highest number has more, and the content without line feeds at its start.
+impl Spaces {
+    /// How many stand behind the dot of the number.
+    fn behind(self, number: usize) -> usize
+        ensures bound { result ≤ 275 }
+        ensures value { result ≡ spaces_of self number }
+    {
+        let aligned = aligned_spaces(self.spacing, self.highest, number);
+        if self.is_guarded {
+            aligned.min(4).max(1)
+        } else {
+            aligned
+        }
+    }
+}
+
+/// The spaces behind the dot of a number: one more than are asked for with each digit that the highest number has more.
+fn aligned_spaces(spacing: u8, highest: usize, number: usize) -> usize
+    ensures bound { result ≤ 275 }
+    ensures value { result ≡ items.aligned_spaces spacing highest number }
+{
+    spacing as usize + digits(highest).saturating_sub(digits(number))
+}
+
+/// An item in a line of its own: the number, a dot, the spaces behind it, and the content without line feeds at its
+/// start.
 fn write_numbered_item(
     alloc: Global,
-    spacing: u8,
-    highest: usize,
+    spaces: Spaces,
     number: usize,
     content: &str,
 ) -> Result<String, AllocError>
     ensures { IfOk result
-        (λ t. string_bytes t ≡ items.numbered_item spacing highest number content.now) }
+        (λ t. string_bytes t ≡ items.numbered_item (spaces_of spaces number) number content.now) }
 {
     let content = without_line_feeds_before(content);
-    let spaces = spacing as usize + digits(highest).saturating_sub(digits(number));
+    let spaces = spaces.behind(number);
     let mut item = String::with_capacity(alloc, content.len() + spaces + 22)?;
     item.push('\n')?;
     write!(item, "{number}")?;

@@ -1,15 +1,22 @@
 //! Tables: lines of cells between bars.
 ghost use Rattle.std.specs.Prelude.{◌≡◌, ◌≤◌, ◌+◌, ◌∷◌, ◌++◌, IfOk, OnOk, MatchOption, length, map, fold, min};
-ghost use Rattle.std.specs.Prelude.{string_bytes};
+ghost use Rattle.std.specs.Prelude.{replicate, string_bytes};
 ghost use Rattle.htmd_markdown.specs.Tables as spec;
 ghost use Rattle.htmd_markdown.specs.TableReading.{read_row, bars, column_count, IsEven};
 ghost use Rattle.htmd_markdown.specs.GuardedTables as guarded;
 ghost use Rattle.htmd_markdown.specs.GuardedTableReading.{read_guarded_row, bars_read, cutting_bars, IsGuardedEven};
+ghost use Rattle.htmd_markdown.specs.GuardedTableReading.{HasGuardedBars};
 ghost use Rattle.htmd_markdown.specs.CellBytes as bytes;
 ghost use Rattle.std.specs.Str.{chars};
 
 use htmd_text::{TrimDocumentWhitespace, push_repeated};
 use std::alloc::{AllocError, Global};
+
+/// The longest line that is padded.
+const LONGEST_PADDED: usize = 100;
+
+/// Fewer dashes are no separator for each reader.
+const NARROWEST: usize = 3;
 
 /// What stands in a cell in place of a bar, so that the cell doesn't end there.
 #[derive(Clone, Copy)]
@@ -86,7 +93,8 @@ pub fn write_table(
 }
 
 /// The lines of a table as `write_table` writes them, with the rows of `write_guarded_row`, and each column at least 3
-/// characters wide, since fewer dashes are no separator for each reader.
+/// characters wide, since fewer dashes are no separator for each reader. Where a line would have more than 100 characters
+/// no cell is padded further.
 ///
 /// Want of memory is the only error.
 pub fn write_guarded_table(
@@ -96,8 +104,11 @@ pub fn write_guarded_table(
 ) -> Result<String, AllocError>
     ensures text { IfOk result (λ s. string_bytes s
         ≡ guarded.guarded_table (spec.texts headers.now) (map spec.row_texts rows.now)) }
-    ensures even { IfOk result (λ s. IsGuardedEven
+    ensures bars { IfOk result (λ s. HasGuardedBars
         (column_count (spec.texts headers.now ∷ map spec.row_texts rows.now)) (string_bytes s)) }
+    ensures even { let lines = spec.texts headers.now ∷ map spec.row_texts rows.now in
+        guarded.line_width (spec.column_widths_by guarded.guarded_cell_width lines) ≤ guarded.longest_padded
+        → IfOk result (λ s. IsGuardedEven (column_count lines) (string_bytes s)) }
 {
     write_table_of(alloc, Bars::Backslashes, headers, rows)
 }
@@ -109,16 +120,41 @@ fn write_table_of(
     headers: &[String],
     rows: &[Vec<String>],
 ) -> Result<String, AllocError>
-    ensures { IfOk result (λ s. string_bytes s ≡ spec.table_by (bytes.cell_of bars)
-        (bytes.width_of bars) (spec.texts headers.now) (map spec.row_texts rows.now)) }
+    ensures { IfOk result (λ s. string_bytes s ≡ spec.table_of_widths_by (bytes.cell_of bars)
+        (bytes.widths_of bars (spec.texts headers.now ∷ map spec.row_texts rows.now))
+        (spec.texts headers.now) (map spec.row_texts rows.now)) }
 {
-    let widths = column_widths(alloc, bars, headers, rows)?;
+    let mut widths = column_widths(alloc, bars, headers, rows)?;
+    narrow(&mut widths, bars);
     let mut text = String::with_capacity(alloc, table_room(&widths, headers, rows))?;
     push_head(&mut text, bars, headers, &widths)?;
     for row in rows {
         push_row(&mut text, bars, row, &widths)?;
     }
     Ok(text)
+}
+
+/// Makes each column as narrow as a column may be, where the lines would be too long.
+fn narrow(widths: &mut Vec<usize>, bars: Bars)
+    ensures { widths.new.items ≡ bytes.narrowed bars widths.old.items }
+{
+    match bars {
+        Bars::References => {}
+        Bars::Backslashes => {
+            if line_room(widths) > LONGEST_PADDED + 1 {
+                narrow_all(widths);
+            }
+        }
+    }
+}
+
+/// Makes each column as narrow as a column may be.
+fn narrow_all(widths: &mut Vec<usize>)
+    ensures { widths.new.items ≡ replicate (length widths.old.items) guarded.narrowest }
+{
+    for i in 0..widths.len() {
+        widths[i] = NARROWEST;
+    }
 }
 
 /// The widths of the columns, as far as a `usize` goes.
@@ -163,7 +199,7 @@ fn column_width(bars: Bars, cell: &str) -> usize
     let width = cell_width(bars, cell);
     match bars {
         Bars::References => width,
-        Bars::Backslashes => width.max(3),
+        Bars::Backslashes => width.max(NARROWEST),
     }
 }
 
@@ -322,7 +358,9 @@ fn byte_width(byte: u8, is_escaped: bool, bars: Bars) -> usize
 }
 
 /// How many characters a line of these widths has, with its line feed, as far as a `usize` goes.
-fn line_room(widths: &[usize]) -> usize {
+fn line_room(widths: &[usize]) -> usize
+    ensures { result ≡ min (1 + guarded.line_width widths.now) usize.MAX }
+{
     let mut room: usize = 2;
     for width in widths {
         room = room.saturating_add(*width).saturating_add(3);

@@ -1,9 +1,10 @@
 //! The handler of `a`, and the definitions that its references name.
 
-ghost use Rattle.std.specs.Prelude.{◌≡◌, ◌+◌, ◌∷◌, [], ◌++◌, IfOk, OnOk, OnErr, length, string_bytes};
+ghost use Rattle.std.specs.Prelude.{◌≡◌, ◌<◌, ◌+◌, ◌∷◌, [], ◌++◌, IfOk, OnOk, OnErr, length, string_bytes};
 ghost use Rattle.std.specs.Option.{option_copied, unwrap_or};
 ghost use Rattle.htmd_markdown.specs.Links as piece;
 ghost use Rattle.htmd_markdown.specs.GuardedLinks as guarded;
+ghost use Rattle.htmd.specs.Groups.{children_at};
 ghost use Rattle.htmd.specs.LinkAttributes.{title_of};
 ghost use Rattle.htmd.specs.ElementPlans.{markdown_result};
 ghost use Rattle.htmd.specs.Anchors as spec;
@@ -14,6 +15,7 @@ ghost use Rattle.htmd.specs.Views.{plan_view, element_view, result_view, answer_
 
 use super::link_attributes::{is_raw_unless_among, last_value};
 use super::plans::is_guarded;
+use super::table_layout::has_tag;
 use super::{Element, HandlerResult, Links, Plan};
 use crate::all_text::all_text;
 use crate::options::{LinkReferenceStyle, LinkStyle};
@@ -23,6 +25,7 @@ use htmd_markdown::{
     write_reference,
 };
 use htmd_text::TrimDocumentWhitespace;
+use htmd_tree::{NodeId, Tree};
 use std::alloc::{AllocError, Global};
 
 /// Where a link leads, and its title.
@@ -80,11 +83,31 @@ fn refer(
     Ok(reference)
 }
 
-/// Whether an autolink stands for the link in Guarded: all text is the address, which is read as it stands.
+/// Whether an image stands below a node.
+fn holds_image(tree: &Tree, node: NodeId) -> bool
+    requires { node < length tree.now }
+    ensures { result ≡ spec.hold_image (children_at tree.now node) }
+{
+    for child in tree.children(node) {
+        if has_tag(tree, *child, "img") {
+            return true;
+        }
+        if holds_image(tree, *child) {
+            return true;
+        }
+    }
+    false
+}
+
+/// Whether an autolink stands for the link in Guarded: no image stands below, and all text is the address, which is
+/// read as it stands.
 fn is_autolinked(alloc: Global, element: &Element, address: &str) -> Result<bool, AllocError>
     ensures { IfOk result (λ is. is ≡ spec.is_autolinked (element_view element.now) address.now) }
 {
     if !is_guarded_autolink(address) {
+        return Ok(false);
+    }
+    if element.text.is_none() && holds_image(element.tree, element.node) {
         return Ok(false);
     }
     let text = all_text(alloc, element)?;

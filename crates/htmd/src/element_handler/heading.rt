@@ -4,7 +4,7 @@ ghost use Rattle.std.specs.Prelude.{◌≡◌, IfOk};
 ghost use Rattle.htmd.specs.Headings.{level_of, heading_result};
 ghost use Rattle.htmd.specs.Views.{element_view, result_view, optional_result};
 
-use super::plans::is_guarded;
+use super::plans::{is_guarded, wrap};
 use super::{Element, HandlerResult};
 use htmd_markdown::{write_guarded_heading, write_heading};
 use std::alloc::{AllocError, Global};
@@ -23,7 +23,7 @@ fn level_of(tag: &str) -> u8
     }
 }
 
-/// The content as a heading of the level that the tag names.
+/// The content as a heading of the level that the tag names; in Guarded where it stands in one line alone.
 pub(crate) fn finish(
     alloc: Global,
     element: &Element,
@@ -32,6 +32,9 @@ pub(crate) fn finish(
     ensures { IfOk result
         (λ r. optional_result r ≡ heading_result (element_view element.now) (result_view content)) }
 {
+    if element.is_in_line {
+        return wrap(alloc, element, content);
+    }
     let style = element.options.heading_style;
     let level = level_of(element.tag);
     let content = content.content.as_str();

@@ -17,6 +17,7 @@ use super::registry::Request;
 use super::{Element, HandlerResult, Plan};
 use htmd_markdown::{
     ListBlock, first_number, write_guarded_ordered_list, write_list_block, write_ordered_list,
+    write_unnumbered_list,
 };
 use htmd_tree::{Attribute, NodeId, Tree};
 use std::alloc::{AllocError, Global};
@@ -143,7 +144,7 @@ fn number_of_first(element: &Element) -> u32
     first_number(find_value(element.attrs, "start"))
 }
 
-/// The items behind their numbers, and the other children's contents.
+/// The items behind their numbers, in Guarded where they stand in one line without, and the other children's contents.
 fn write_numbered(
     alloc: Global,
     element: &Element,
@@ -152,6 +153,9 @@ fn write_numbered(
     ensures { IfOk result (λ text. string_bytes text
         ≡ spec.ordered_text (element_view element.now) (map block_of blocks.items)) }
 {
+    if element.is_in_line {
+        return write_unnumbered_list(alloc, blocks);
+    }
     let spacing = element.options.ol_number_spacing;
     let first = number_of_first(element);
     if is_guarded(element.options) {

@@ -4,12 +4,13 @@ ghost use Rattle.std.specs.Prelude.{◌≡◌, IfOk, string_bytes};
 ghost use Rattle.htmd.specs.ListItems.{bullet_item_of, item_result};
 ghost use Rattle.htmd.specs.Views.{element_view, result_view, optional_result};
 
-use super::plans::{is_guarded, parent_tag};
+use super::plans::{is_guarded, parent_tag, wrap};
 use super::{Element, HandlerResult};
 use htmd_markdown::{write_bullet_item, write_guarded_bullet_item, write_unnumbered_item};
+use htmd_text::{surround_with_blank_lines, trim_newlines};
 use std::alloc::{AllocError, Global};
 
-/// The content behind a bullet; in Guarded it ends its line where it stands in no list.
+/// The content behind a bullet; in Guarded with blank lines around where it stands in no list.
 fn bullet_item(alloc: Global, element: &Element, content: &str) -> Result<String, AllocError>
     ensures { IfOk result (λ s. string_bytes s ≡ bullet_item_of (element_view element.now) content.now) }
 {
@@ -20,12 +21,13 @@ fn bullet_item(alloc: Global, element: &Element, content: &str) -> Result<String
     }
     let mut item = write_guarded_bullet_item(alloc, marker, spacing, content)?;
     if !matches!(parent_tag(element), Some("ul" | "ol" | "menu" | "dir")) {
-        item.push('\n')?;
+        trim_newlines(&mut item);
+        surround_with_blank_lines(&mut item)?;
     }
     Ok(item)
 }
 
-/// The content behind a bullet; under `ol` the list puts a number before it.
+/// The content behind a bullet; under `ol` the list puts a number before it. In Guarded it stands alone in one line.
 pub(crate) fn finish(
     alloc: Global,
     element: &Element,
@@ -34,6 +36,9 @@ pub(crate) fn finish(
     ensures { IfOk result
         (λ r. optional_result r ≡ item_result (element_view element.now) (result_view content)) }
 {
+    if element.is_in_line {
+        return wrap(alloc, element, content);
+    }
     let content = content.content.as_str();
     let text = if parent_tag(element) == Some("ol") {
         write_unnumbered_item(alloc, content)?

@@ -56,7 +56,7 @@ pub(crate) const TAGS: [&str; 43] = [
 ];
 
 /// Whether a browser doesn't show the elements of this name.
-fn is_hidden(tag: &str) -> bool
+pub(crate) fn is_hidden(tag: &str) -> bool
     ensures { result ≡ is_tag_among hidden_tags (Some tag.now) }
 {
     matches!(tag, "script" | "style" | "title" | "iframe" | "noframes")

@@ -5,19 +5,22 @@ ghost use Rattle.std.specs.List.{list_any, flat_map};
 ghost use Rattle.htmd_tree.specs.NumberedTrees.{tree_of};
 ghost use Rattle.htmd_tree.specs.Ancestors.{ancestors_of};
 ghost use Rattle.htmd.specs.Groups.{children_at};
-ghost use Rattle.htmd.specs.Handling.{IsProper};
-ghost use Rattle.htmd_markdown.specs.GuardedTables.{guarded_table};
+ghost use Rattle.htmd.specs.Handling.{IsProper, contents_of_each};
+ghost use Rattle.htmd.specs.GuardedTableLayouts.{nodes_of_lines, table_lines};
 ghost use Rattle.htmd.specs.TableLayouts as layouts;
 ghost use Rattle.htmd.specs.Tables as spec;
+ghost use Rattle.htmd.specs.TableElements as handler;
 ghost use Rattle.htmd.specs.TableViews.{parts_view, texts_view};
 ghost use Rattle.htmd.specs.Views.{element_view, result_view, results_view, optional_result};
 ghost use Rattle.htmd.specs.Walking.{request_view, outcome_view};
 
+use super::guarded_table::write_table_lines;
+use super::guarded_table_layout::{is_written_as_table, nodes_of_lines, table_lines};
 use super::plans::{are_markdown, is_guarded, is_markdown_alone, is_plain, raw_block_result};
 use super::registry::{Outcome, Request};
 use super::table_layout::{Part, PartKind, has_tag, layout_of, nodes_of};
 use super::{Element, HandlerResult, Plan};
-use htmd_markdown::{write_guarded_table, write_table};
+use htmd_markdown::write_table;
 use htmd_text::{TrimDocumentWhitespace, surround_with_blank_lines, trim_newlines};
 use htmd_tree::{NodeId, Tree};
 use std::alloc::{AllocError, Global};
@@ -75,7 +78,7 @@ fn has_explicit_headers(tree: &Tree, table: NodeId) -> bool
 }
 
 /// Whether a node is `td` or `th`.
-fn is_cell(tree: &Tree, node: NodeId) -> bool
+pub(crate) fn is_cell(tree: &Tree, node: NodeId) -> bool
     requires { node < length tree.now }
     ensures { result ≡ layouts.has_tag spec.cell_tags tree.now node }
 {
@@ -107,14 +110,30 @@ pub(crate) fn has_table_form(tree: &Tree, table: NodeId) -> bool
 
 /// Whether the next handler is asked.
 fn is_left_out(element: &Element) -> bool
-    ensures { result ≡ spec.is_left_out (element_view element.now) }
+    ensures { result ≡ handler.is_left_out (element_view element.now) }
 {
+    if is_guarded(element.options) {
+        return !is_written_as_table(element.tree, element.node);
+    }
     is_markdown_alone(element.options) && !has_table_form(element.tree, element.node)
+}
+
+/// The captions and cells of a table that is written as one in Guarded, each by itself.
+fn plan_guarded(alloc: Global, element: &Element) -> Result<Request, AllocError>
+    ensures plan { IfOk result (λ p. request_view p ≡ contents_of_each
+        (nodes_of_lines (table_lines element.now.tree.now element.now.node))) }
+    ensures proper { IfOk result (λ p. IsProper element.now.tree.now element.now.node (request_view p)) }
+{
+    let lines = table_lines(alloc, element.tree, element.node)?;
+    Ok(Request::Each {
+        nodes: nodes_of_lines(alloc, &lines)?,
+        may_ask_children: false,
+    })
 }
 
 /// The captions and cells of a table, each by itself.
 pub(crate) fn plan(alloc: Global, element: &Element) -> Result<Request, AllocError>
-    ensures plan { IfOk result (λ p. request_view p ≡ spec.table_plan (element_view element.now)) }
+    ensures plan { IfOk result (λ p. request_view p ≡ handler.table_plan (element_view element.now)) }
     ensures proper { IfOk result (λ p. IsProper element.now.tree.now element.now.node (request_view p)) }
 {
     if !is_plain(element) {
@@ -122,6 +141,9 @@ pub(crate) fn plan(alloc: Global, element: &Element) -> Result<Request, AllocErr
     }
     if is_left_out(element) {
         return Ok(Request::OfPlan(Plan::Fallback));
+    }
+    if is_guarded(element.options) {
+        return plan_guarded(alloc, element);
     }
     let layout = layout_of(alloc, element.tree, element.node)?;
     Ok(Request::Each {
@@ -131,7 +153,7 @@ pub(crate) fn plan(alloc: Global, element: &Element) -> Result<Request, AllocErr
 }
 
 /// The content without document white space at its ends.
-fn cell_text(alloc: Global, content: &HandlerResult) -> Result<String, AllocError>
+pub(crate) fn cell_text(alloc: Global, content: &HandlerResult) -> Result<String, AllocError>
     ensures { IfOk result (λ text. string_bytes text ≡ spec.text_of_cell (result_view content.now)) }
 {
     String::from_str(alloc, content.content.trim_document_whitespace())
@@ -232,40 +254,13 @@ fn write_texts(alloc: Global, texts: &TableTexts) -> Result<String, AllocError>
     Ok(text)
 }
 
-/// The headers, empty ones where there are none, and the rows, as Guarded writes them.
-fn write_guarded_lines(alloc: Global, texts: &TableTexts) -> Result<String, AllocError>
-    ensures { IfOk result (λ text. string_bytes text ≡ guarded_table
-        (spec.guarded_headers (texts_view texts.now).headers) (texts_view texts.now).rows) }
-{
-    if !texts.headers.is_empty() {
-        return write_guarded_table(alloc, &texts.headers, &texts.rows);
-    }
-    let empty_header = [String::new(alloc)];
-    write_guarded_table(alloc, empty_header.as_slice(), &texts.rows)
-}
-
-/// The captions, a blank line where there are any, and then the headers and rows, as Guarded writes them.
-fn write_guarded_texts(alloc: Global, texts: &TableTexts) -> Result<String, AllocError>
-    ensures { IfOk result (λ text. string_bytes text ≡ spec.guarded_table_text (texts_view texts.now)) }
-{
-    let lines = write_guarded_lines(alloc, texts)?;
-    let mut out = String::with_capacity(alloc, lines.len().saturating_add(4))?;
-    out.push_str("\n\n")?;
-    push_captions(&mut out, &texts.captions)?;
-    if !texts.captions.is_empty() {
-        out.push_str("\n")?;
-    }
-    push_line(&mut out, lines.as_str())?;
-    Ok(out)
-}
-
 /// What the next handler gave, as it is; or the children's content with blank lines around.
 pub(crate) fn finish(
     element: &Element,
     content: HandlerResult,
 ) -> Result<Option<HandlerResult>, AllocError>
     ensures { IfOk result (λ r. optional_result r
-        ≡ spec.table_result (element_view element.now) (result_view content)) }
+        ≡ handler.table_result (element_view element.now) (result_view content)) }
 {
     if is_left_out(element) {
         return Ok(Some(content));
@@ -287,8 +282,12 @@ pub(crate) fn finish_each(
     contents: &[HandlerResult],
 ) -> Result<Outcome, AllocError>
     ensures { IfOk result (λ outcome. outcome_view outcome
-        ≡ spec.table_outcome (element_view element.now) (results_view contents.now)) }
+        ≡ handler.table_outcome (element_view element.now) (results_view contents.now)) }
 {
+    if is_guarded(element.options) {
+        let text = write_table_lines(alloc, element.tree, element.node, contents)?;
+        return Ok(Outcome::Final(Some(HandlerResult::from_string(text))));
+    }
     let layout = layout_of(alloc, element.tree, element.node)?;
     let texts = texts_of_parts(alloc, &layout.parts, contents)?;
     if !is_markdown_alone(element.options) && !texts.markdown_translated {
@@ -298,10 +297,6 @@ pub(crate) fn finish_each(
     if !layout.has_lines() {
         return Ok(Outcome::ChildrenToo);
     }
-    let text = if is_guarded(element.options) {
-        write_guarded_texts(alloc, &texts)?
-    } else {
-        write_texts(alloc, &texts)?
-    };
+    let text = write_texts(alloc, &texts)?;
     Ok(Outcome::Final(Some(HandlerResult::from_string(text))))
 }

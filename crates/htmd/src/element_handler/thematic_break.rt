@@ -48,10 +48,13 @@ fn style_of(element: &Element) -> HrStyle
     }
 }
 
-/// A thematic break, unless the element has attributes that Markdown has no form for.
+/// A thematic break, unless the element has attributes that Markdown has no form for; in Guarded an empty block in one line.
 pub(crate) fn plan(alloc: Global, element: &Element) -> Result<Plan, AllocError>
     ensures { IfOk result (λ p. plan_view p ≡ thematic_breaks.plan (element_view element.now)) }
 {
+    if element.is_in_line {
+        return Ok(Plan::Text(HandlerResult::from_text(alloc, "\n\n\n\n")?));
+    }
     if !is_plain(element) {
         return Ok(Plan::RawHtml);
     }

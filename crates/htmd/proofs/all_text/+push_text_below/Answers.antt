@@ -3,16 +3,19 @@ use Rattle.std.proofs.lemmas.List.{append-nil}
 use Rattle.htmd_tree.specs.Views.{pairs_of, data_of}
 use Rattle.htmd_tree.proofs.ItemsLemmas.{child_read}
 use Rattle.htmd.specs.AllText.{all_text}
+use Rattle.htmd.specs.ElementPlans.{is_tag_among}
+use Rattle.htmd.specs.OtherBlocks.{hidden_tags}
 use Rattle.htmd.proofs.AllTextLemmas.{said-more, text_said, comment_said, doctype_said, document_said, break_said}
-use Rattle.htmd.proofs.AllTextLemmas.{other_said}
+use Rattle.htmd.proofs.AllTextLemmas.{hidden_said, other_said}
 use Rattle.htmd.proofs.ChildListsLemmas.{child_within}
-use Rattle.std.specs.Prelude.{codes}
+use Rattle.std.specs.Prelude.{codes, Some}
 use Rattle.std.specs.Str.{bytes_eq}
 use Rattle.htmd.proofs.all_text.+push_text_below.Goals as goal
 use Rattle.htmd.proofs.all_text.+push_text_below.Goals.{in-Text+in_ok-push_str-in-Text, in-Comment, in-Doctype}
 use Rattle.htmd.proofs.all_text.+push_text_below.Goals.{in-Document+in_ok-push_text_below-in-Document}
 use Rattle.htmd.proofs.all_text.+push_text_below.Goals.{in-Element+then-eq+in_ok-push-in-Element}
-use Rattle.htmd.proofs.all_text.+push_text_below.Goals.{in-Element+else-eq+in_ok-push_text_below-in-Element}
+use Rattle.htmd.proofs.all_text.+push_text_below.Goals.{in-Element+else-eq+then-not-is_hidden+in_ok-push_text_below-in-Element}
+use Rattle.htmd.proofs.all_text.+push_text_below.Goals.{in-Element+else-eq+else-not-is_hidden}
 
 pub data-requires : goal.data-requires
 data-requires t c =
@@ -29,8 +32,8 @@ push_text_below-requires t c =
     let within : c.child-item.result < length c.args.tree.now = below.1 in
     (search rules, within)
 
-pub push_text_below-requires-else-eq : goal.push_text_below-requires-else-eq
-push_text_below-requires-else-eq t c =
+pub push_text_below-requires-then-not-is_hidden : goal.push_text_below-requires-then-not-is_hidden
+push_text_below-requires-then-not-is_hidden t c =
     let below = child_read c.args.tree.now c.args.node c.children-child-items.result.now c.loop-child.child-index
     c.child-item.result c.children-child-items.ensures.tree c.requires c.children-child-items.ensures.value
     c.loop-child-test.true c.child-item.is in
@@ -68,10 +71,19 @@ loop-child-preserved t c =
           (pairs_of w'.in-Element.attrs.items) (here ∙ ap data_of w'.in-Element.is)
           (ap (λ s. bytes_eq s (codes "br")) (sym w'.as_str-in-Element.ensures.value) ∙ sym w'.eq.ensures
           ∙ w'.if-eq.true))
-      | in-Element+else-eq+in_ok-push_text_below-in-Element w' ↦ ap string_bytes w'.out-is
+      | in-Element+else-eq+then-not-is_hidden+in_ok-push_text_below-in-Element w' ↦ ap string_bytes w'.out-is
           ∙ w'.in_ok-push_text_below-in-Element.ensures
           ∙ ap (λ s. out ++ s) (other_said items tree id w (string_bytes w'.in-Element.name)
           (pairs_of w'.in-Element.attrs.items) (here ∙ ap data_of w'.in-Element.is)
           (ap (λ s. bytes_eq s (codes "br")) (sym w'.as_str-in-Element.ensures.value) ∙ sym w'.eq.ensures
-          ∙ w'.if-eq.false))
+          ∙ w'.if-eq.false)
+          (ap (λ s. is_tag_among hidden_tags (Some s)) (sym w'.as_str-else-eq.ensures.value)
+          ∙ sym w'.is_hidden.ensures ∙ w'.if-not-is_hidden.true))
+      | in-Element+else-eq+else-not-is_hidden w' ↦ ap string_bytes w'.out-is ∙ sym (append-nil out)
+          ∙ ap (λ s. out ++ s) (hidden_said items tree id w (string_bytes w'.in-Element.name)
+          (pairs_of w'.in-Element.attrs.items) (here ∙ ap data_of w'.in-Element.is)
+          (ap (λ s. bytes_eq s (codes "br")) (sym w'.as_str-in-Element.ensures.value) ∙ sym w'.eq.ensures
+          ∙ w'.if-eq.false)
+          (ap (λ s. is_tag_among hidden_tags (Some s)) (sym w'.as_str-else-eq.ensures.value)
+          ∙ sym w'.is_hidden.ensures ∙ w'.if-not-is_hidden.false))
     ]) c.loop-child.invariant

@@ -8,11 +8,11 @@ is_in_one_line-requires c =
     (sym c.in-Some.ensures.value) in
     omega (arith, up.before)
 
-pub returns-then-branch : goal.returns-then-branch
-returns-then-branch c =
+pub returns-then-is_in_one_line : goal.returns-then-is_in_one_line
+returns-then-is_in_one_line c =
     sym (stands-hit c.args.tree.now c.in-Some.ensures.tree c.loop-parent.at c.in-Some.parent
     c.loop-parent.invariant.within (sym c.in-Some.ensures.value)
-    (sym c.if-branch.true ∙ c.in_ok-is_in_one_line.ensures))
+    (sym c.if-is_in_one_line.true ∙ c.is_in_one_line.ensures))
     ∙ c.loop-parent.invariant.same
     ∙ known-guarded c.args.options.now c.args.tree.now c.args.node
     (sym c.if-not-is_guarded.false ∙ c.is_guarded.ensures)
@@ -28,7 +28,7 @@ loop-parent-preserved c =
     record {
       within = omega (arith, up.before);
       same = sym (stands-miss c.args.tree.now c.in-Some.ensures.tree c.loop-parent.at c.in-Some.parent
-          c.loop-parent.invariant.within p (sym c.if-branch.false ∙ c.in_ok-is_in_one_line.ensures))
+          c.loop-parent.invariant.within p (sym c.if-is_in_one_line.false ∙ c.is_in_one_line.ensures))
           ∙ c.loop-parent.invariant.same;
     }
 

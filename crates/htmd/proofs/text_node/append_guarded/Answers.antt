@@ -4,6 +4,7 @@ use Rattle.std.proofs.lemmas.Result.{on_ok_weaker}
 use Rattle.htmd_text.specs.WhiteSpace.{squeezed_text}
 use Rattle.htmd_text.specs.Trims.{is_space}
 use Rattle.htmd_markdown.specs.GuardedText.{guarded_text, begins_line}
+use Rattle.htmd_markdown.specs.Joints.{with_joint}
 use Rattle.htmd.specs.Seams.{ends_with_space}
 use Rattle.htmd.specs.OrdinaryText.{without_first_space}
 use Rattle.htmd.proofs.text_node.append_guarded.Goals as goal
@@ -23,9 +24,9 @@ returns-then-is_squeezed c =
     let rest = c.without_first_space.ensures
     ∙ ap (without_first_space c.if-trim.goes) (sym (c.is_squeezed.ensures.stays c.if-is_squeezed.true))
     ∙ ap (λ t. without_first_space t (squeezed_text c.args.text.now)) goes in
-    on_ok_weaker c.push_guarded_with_room.result
-    (λ h. h ∙ (ap (λ b. out ++ guarded_text b c.without_first_space.result.now) begins
-    ∙ ap (λ s. out ++ guarded_text (begins_line out) s) rest)) c.push_guarded_with_room.ensures
+    on_ok_weaker c.push_guarded.result
+    (λ h. h ∙ (ap (λ b. with_joint out (guarded_text b c.without_first_space.result.now)) begins
+    ∙ ap (λ s. with_joint out (guarded_text (begins_line out) s)) rest)) c.push_guarded.ensures
 
 pub returns : goal.returns
 returns c =
@@ -38,10 +39,10 @@ returns c =
     ] in
     let begins : c.begins_line-begins.result ≡ begins_line out =
     c.begins_line-begins.ensures ∙ ap begins_line c.as_str.ensures.value in
-    let rest = c.without_first_space-2.ensures
+    let rest = c.without_first_space-shown.ensures
     ∙ ap (without_first_space c.if-trim.goes) (c.as_str-2.ensures.value ∙ c.in_ok-push_squeezed.ensures
     ∙ ap (λ s. s ++ squeezed_text c.args.text.now) c.take-squeezed.ensures)
     ∙ ap (λ t. without_first_space t (squeezed_text c.args.text.now)) goes in
-    c.in_ok-push_guarded_with_room.ensures
-    ∙ (ap (λ b. out ++ guarded_text b c.without_first_space-2.result.now) begins
-    ∙ ap (λ s. out ++ guarded_text (begins_line out) s) rest)
+    c.in_ok-push_guarded.ensures
+    ∙ (ap (λ b. with_joint out (guarded_text b c.without_first_space-shown.result.now)) begins
+    ∙ ap (λ s. with_joint out (guarded_text (begins_line out) s)) rest)

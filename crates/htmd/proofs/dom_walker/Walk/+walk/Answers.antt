@@ -34,11 +34,6 @@ handle-returns-in_err-content-in-Children-clause-err = handlers.handle-returns-i
 pub handle-walk_descendant-requires : goal.handle-walk_descendant-requires
 handle-walk_descendant-requires = handlers.handle-walk_descendant-requires
 
-pub handle-returns-in_err-inside_line-in-Descendant-clause-err :
-    goal.handle-returns-in_err-inside_line-in-Descendant-clause-err
-handle-returns-in_err-inside_line-in-Descendant-clause-err =
-    handlers.handle-returns-in_err-inside_line-in-Descendant-clause-err
-
 pub handle-returns-in_err-content-in-Descendant-clause-err : goal.handle-returns-in_err-content-in-Descendant-clause-err
 handle-returns-in_err-content-in-Descendant-clause-err = handlers.handle-returns-in_err-content-in-Descendant-clause-err
 
@@ -112,11 +107,6 @@ raw_html-returns-in_err-raw-clause-err = contents.raw_html-returns-in_err-raw-cl
 pub content-returns-in_err-append_text-clause-err : goal.content-returns-in_err-append_text-clause-err
 content-returns-in_err-append_text-clause-err = contents.content-returns-in_err-append_text-clause-err
 
-pub content-returns-in_err-inside_line-clause-err :
-    goal.content-returns-in_err-inside_line-clause-err
-content-returns-in_err-inside_line-clause-err =
-    contents.content-returns-in_err-inside_line-clause-err
-
 pub content-returns-in-Some-clause-ok : goal.content-returns-in-Some-clause-ok
 content-returns-in-Some-clause-ok = contents.content-returns-in-Some-clause-ok
 
@@ -157,11 +147,6 @@ walk_children-loop-rest-preserved-in_ok-walk_node = children.walk_children-loop-
 
 pub walk_children-loop-rest-preserved : goal.walk_children-loop-rest-preserved
 walk_children-loop-rest-preserved = children.walk_children-loop-rest-preserved
-
-pub walk_each-returns-in_err-inside_line-clause-err :
-    goal.walk_each-returns-in_err-inside_line-clause-err
-walk_each-returns-in_err-inside_line-clause-err =
-    alone.walk_each-returns-in_err-inside_line-clause-err
 
 pub walk_each-returns-in_err-results-clause-err : goal.walk_each-returns-in_err-results-clause-err
 walk_each-returns-in_err-results-clause-err = alone.walk_each-returns-in_err-results-clause-err
@@ -216,11 +201,6 @@ walk_node-returns-in-Text-clause-ok = nodes.walk_node-returns-in-Text-clause-ok
 
 pub walk_node-returns-in-Text-clause-err : goal.walk_node-returns-in-Text-clause-err
 walk_node-returns-in-Text-clause-err = nodes.walk_node-returns-in-Text-clause-err
-
-pub walk_kept-returns-in_err-is_line_below-clause-err :
-    goal.walk_kept-returns-in_err-is_line_below-clause-err
-walk_kept-returns-in_err-is_line_below-clause-err =
-    alone.walk_kept-returns-in_err-is_line_below-clause-err
 
 pub walk_kept-returns-in_err-given-clause-err :
     goal.walk_kept-returns-in_err-given-clause-err

@@ -22,11 +22,11 @@ is_in_one_line-requires g c =
     (sym c.in-Some.ensures.value) in
     omega (arith, up.before)
 
-pub returns-then-branch : goal.returns-then-branch
-returns-then-branch g c =
+pub returns-then-is_in_one_line : goal.returns-then-is_in_one_line
+returns-then-is_in_one_line g c =
     sym (stands-hit c.args.self.now.tree.now c.in-Some.ensures.tree c.loop-parent.at c.in-Some.parent
     c.loop-parent.invariant.within (sym c.in-Some.ensures.value)
-    (sym c.if-branch.true ∙ c.in_ok-is_in_one_line.ensures))
+    (sym c.if-is_in_one_line.true ∙ c.is_in_one_line.ensures))
     ∙ c.loop-parent.invariant.same
     ∙ known-guarded (g.R.Registry.config c.args.self.now.registry.now).options c.args.self.now.tree.now c.args.node
     (sym c.if-not-is_guarded.false ∙ c.is_guarded.ensures ∙ ap is_guarded c.options.ensures.value)
@@ -42,7 +42,7 @@ loop-parent-preserved g c =
     record {
       within = omega (arith, up.before);
       same = sym (stands-miss c.args.self.now.tree.now c.in-Some.ensures.tree c.loop-parent.at c.in-Some.parent
-          c.loop-parent.invariant.within p (sym c.if-branch.false ∙ c.in_ok-is_in_one_line.ensures))
+          c.loop-parent.invariant.within p (sym c.if-is_in_one_line.false ∙ c.is_in_one_line.ensures))
           ∙ c.loop-parent.invariant.same;
     }
 

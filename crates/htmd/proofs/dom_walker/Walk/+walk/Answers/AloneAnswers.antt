@@ -13,7 +13,7 @@ use Rattle.htmd_tree.specs.NumberedTrees.{tree_of, height}
 use Rattle.htmd_tree.specs.Ancestors.{ancestor_of, ancestors_of}
 use Rattle.htmd_tree.proofs.NumberedTreesLemmas.{height_pos}
 use Rattle.htmd.specs.Handling.{ResultView}
-use Rattle.htmd.specs.OrdinaryText.{written_text}
+use Rattle.htmd.specs.OrdinaryText.{with_written_text}
 use Rattle.htmd.specs.Outputs.{Output, conversion_of, context_of, empty_output, is_guarded}
 use Rattle.htmd.specs.Children.{content_alone, descendant_tree}
 use Rattle.htmd.specs.Groups.{children_at}
@@ -131,7 +131,7 @@ walk_descendant-returns-clause-ok g t c =
     let alike = is_guarded (g.R.Registry.config c.args.self.now.registry.now).options in
     let guarded : c.is_guarded-is_guarded.result ≡ alike =
     c.is_guarded-is_guarded.ensures ∙ ap is_guarded c.options.ensures.value in
-    let written : Bool → List ℕ → List ℕ = λ m s. s ++ written_text m false false true s c.in-Some.text.now in
+    let written : Bool → List ℕ → List ℕ = λ m s. with_written_text m false false true s c.in-Some.text.now in
     λ n h.
     ap (λ s. put s c.empty_result-out.result.markdown_translated) (c.in_ok-append_text.ensures
     ∙ ap (λ m. written m (string_bytes c.empty_result-out.result.content)) guarded
@@ -142,15 +142,6 @@ walk_descendant-returns-clause-ok g t c =
     (let p = height_pos (tree_of c.args.self.now.tree.now c.args.below) in omega arith)
     ∙ (ap (λ j. content_alone (written_within n v) v (descendant_tree c.args.self.now.tree.now j c.args.below)
     c.args.below c.args.links.now) (sym (ap option_copied c.in-Some.is)))
-
-pub walk_each-returns-in_err-inside_line-clause-err : goal.walk_each-returns-in_err-inside_line-clause-err
-walk_each-returns-in_err-inside_line-clause-err g t c =
-    let v = conversion_of (g.R.Registry.config c.args.self.now.registry.now) c.args.self.now.tree.now in
-    let e = c.args.element.now in
-    let at : ℕ → Occurrence = λ n. occurrence_of n v e in
-    exit-err v e (λ o. Begins c.args.links.now c.args.links.now
-    (contents_alone o c.args.nodes.now c.args.links.now).definitions) _
-    (λ n l. begins-start (grows-contents (at n) (grows-within n v) c.args.nodes.now c.args.links.now))
 
 pub walk_each-returns-in_err-results-clause-err : goal.walk_each-returns-in_err-results-clause-err
 walk_each-returns-in_err-results-clause-err g t c =
@@ -174,7 +165,7 @@ walk_each-walk_kept-requires g t c κs within =
         (
           search rules,
           (
-            c.in_ok-inside_line.ensures,
+            c.is_line_inside-inside_line.ensures,
             (
               low.0,
               (
@@ -263,17 +254,6 @@ walk_each-loop-node-preserved g t c =
 not_some : {A : Type 0} (o : Option A) → is_some o ≡ false → o ≡ None
 not_some None e = refl
 not_some (Some x) e = cc
-
-pub walk_kept-returns-in_err-is_line_below-clause-err : goal.walk_kept-returns-in_err-is_line_below-clause-err
-walk_kept-returns-in_err-is_line_below-clause-err g t c =
-    let v = conversion_of (g.R.Registry.config c.args.self.now.registry.now) c.args.self.now.tree.now in
-    OnErr-always {P = AtNode v c.args.below
-    (λ write. Begins c.args.links.now c.args.links.now
-    (content_alone write v (descendant_tree c.args.self.now.tree.now (option_copied c.args.element.now.text)
-    c.args.below) c.args.below c.args.links.now).definitions)} _
-    (λ n h. begins-start (grows-within n v (descendant_tree c.args.self.now.tree.now
-    (option_copied c.args.element.now.text) c.args.below)
-    (context_of (ancestors_of c.args.self.now.tree.now c.args.below) false true) (empty_output c.args.links.now)))
 
 pub walk_kept-returns-in_err-given-clause-err : goal.walk_kept-returns-in_err-given-clause-err
 walk_kept-returns-in_err-given-clause-err g t c =

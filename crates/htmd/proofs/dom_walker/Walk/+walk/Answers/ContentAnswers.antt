@@ -9,7 +9,7 @@ use Rattle.htmd_tree.specs.Items.{Item, element_node, data_at}
 use Rattle.htmd_tree.specs.NumberedTrees.{NumberedForest}
 use Rattle.htmd_tree.specs.Ancestors.{ancestor_of, ancestors_of}
 use Rattle.htmd_tree.specs.Views.{pairs_of}
-use Rattle.htmd.specs.OrdinaryText.{pre, parent_is_pre, written_text}
+use Rattle.htmd.specs.OrdinaryText.{pre, parent_is_pre, with_written_text}
 use Rattle.htmd.specs.Groups.{only_text, group_children, children_at}
 use Rattle.htmd.specs.Outputs.{Output, conversion_of, empty_output, is_guarded}
 use Rattle.htmd.specs.Children.{write_groups, trims_first}
@@ -72,14 +72,6 @@ content-returns-in_err-append_text-clause-err g t c =
     exit-err v e (λ o. Begins c.args.links.now c.args.links.now (content_of o c.args.links.now).definitions) _
     (λ n l. begins-start (grows-content (at n) (grows-within n v) c.args.links.now))
 
-pub content-returns-in_err-inside_line-clause-err : goal.content-returns-in_err-inside_line-clause-err
-content-returns-in_err-inside_line-clause-err g t c =
-    let v = conversion_of (g.R.Registry.config c.args.self.now.registry.now) c.args.self.now.tree.now in
-    let e = c.args.element.now in
-    let at : ℕ → Occurrence = λ n. occurrence_of n v e in
-    exit-err v e (λ o. Begins c.args.links.now c.args.links.now (content_of o c.args.links.now).definitions) _
-    (λ n l. begins-start (grows-content (at n) (grows-within n v) c.args.links.now))
-
 pub content-returns-in-Some-clause-ok : goal.content-returns-in-Some-clause-ok
 content-returns-in-Some-clause-ok g t c =
     let v = conversion_of (g.R.Registry.config c.args.self.now.registry.now) c.args.self.now.tree.now in
@@ -101,7 +93,7 @@ content-returns-in-Some-clause-ok g t c =
     ≡ is_guarded (g.R.Registry.config c.args.self.now.registry.now).options =
     c.is_guarded.ensures ∙ ap is_guarded c.options.ensures.value in
     let written : Bool → Bool → Bool → Bool → List ℕ → List ℕ =
-    λ m p q b s. s ++ written_text m p q b s c.in-Some.text.now in
+    λ m p q b s. with_written_text m p q b s c.in-Some.text.now in
     let text = written (is_guarded (g.R.Registry.config c.args.self.now.registry.now).options) in
     let put : List ℕ → Bool → Output =
     λ s b. record { text = s; markdown_translated = b; definitions = c.args.links.now } in

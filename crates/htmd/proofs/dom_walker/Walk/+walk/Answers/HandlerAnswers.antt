@@ -95,18 +95,7 @@ handle-walk_descendant-requires g t c κs within =
     c.in-Descendant.below (request_view c.in_ok-plan.field-0) c.args.self.now.is_tree c.requires.tree
     c.args.element.now.within c.in_ok-plan.ensures.proper (ap request_view c.in-OfPlan.is
     ∙ ap plan_view c.in-Descendant.is) in
-    (search rules, (within, (search rules, (c.in_ok-inside_line-in-Descendant.ensures, (low.0, low.1)))))
-
-pub handle-returns-in_err-inside_line-in-Descendant-clause-err :
-    goal.handle-returns-in_err-inside_line-in-Descendant-clause-err
-handle-returns-in_err-inside_line-in-Descendant-clause-err g t c =
-    let v = conversion_of (g.R.Registry.config c.args.self.now.registry.now) c.args.self.now.tree.now in
-    let e = c.args.element.now in
-    let at : ℕ → Occurrence = λ n. occurrence_of n v e in
-    exit-err v e (λ o. Begins c.args.links.now c.args.links.now
-    (answer_after c.args.skipped c.args.element.now.tag.now o c.args.links.now).definitions) _
-    (λ n l. begins-start (grows-answer (at n) (grows-within n v) c.args.skipped c.args.element.now.tag.now
-    c.args.links.now))
+    (search rules, (within, (search rules, (c.is_line_inside-inside_line-in-Descendant.ensures, (low.0, low.1)))))
 
 pub handle-returns-in_err-content-in-Descendant-clause-err : goal.handle-returns-in_err-content-in-Descendant-clause-err
 handle-returns-in_err-content-in-Descendant-clause-err g t c =

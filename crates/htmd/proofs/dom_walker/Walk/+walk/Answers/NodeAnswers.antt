@@ -10,7 +10,7 @@ use Rattle.htmd_tree.specs.Items.{data_at, element_node}
 use Rattle.htmd_tree.specs.NumberedTrees.{tree_of, height}
 use Rattle.htmd_tree.specs.Ancestors.{ancestors_of}
 use Rattle.htmd_tree.specs.Views.{data_of, pairs_of}
-use Rattle.htmd.specs.OrdinaryText.{parent_is_pre, written_text}
+use Rattle.htmd.specs.OrdinaryText.{parent_is_pre, with_written_text}
 use Rattle.htmd.specs.Groups.{group_tree, group_children, children_at}
 use Rattle.htmd.specs.Outputs.{Output, conversion_of, context_of, is_markdown_alone, is_guarded}
 use Rattle.htmd.specs.Elements.{Answer, answer_after}
@@ -128,7 +128,7 @@ pub walk_node-returns-in-Text-clause-ok : goal.walk_node-returns-in-Text-clause-
 walk_node-returns-in-Text-clause-ok g t c =
     let v = conversion_of (g.R.Registry.config c.args.self.now.registry.now) c.args.self.now.tree.now in
     let text : Bool → Bool → List ℕ → List ℕ =
-    λ guarded q s. string_bytes c.args.out.now.content ++ written_text guarded c.args.context.preformatted q
+    λ guarded q s. with_written_text guarded c.args.context.preformatted q
     c.args.context.trim (string_bytes c.args.out.now.content) s in
     let guarded : c.is_guarded-is_guarded.result
     ≡ is_guarded (g.R.Registry.config c.args.self.now.registry.now).options =
