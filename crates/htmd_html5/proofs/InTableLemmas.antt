@@ -1,5 +1,5 @@
 -- Texts in tables, run by run.
-use Rattle.std.proofs.Common.{◌≡◌, ◌∙◌, ℕ, zero, suc, ◌<◌, ◌≤◌, true, false, List, [], ◌∷◌, ◌++◌, length, refl, ap, sym, arith}
+use Rattle.std.proofs.Common.{◌≡◌, ◌∙◌, ℕ, zero, suc, ◌<◌, ◌≤◌, true, false, List, [], ◌∷◌, ◌++◌, length, append_assoc, refl, ap, sym, arith}
 use Rattle.std.proofs.lemmas.Bool.Decides.{nat_tests}
 use Rattle.htmd_text.proofs.Cases.{test}
 use Rattle.htmd_text.specs.WhiteSpace.{is_ascii_white_space}
@@ -28,7 +28,7 @@ kept_whole kind (b ∷ s) h =
 
 kept_nulls : (s : List ℕ) → without_nulls s ≡ without_nulls (behind_run is_null s)
 kept_nulls [] = refl
-kept_nulls (b ∷ s) = test (is_null b) (λ e. rw e (kept_nulls s)) (λ e. rw e refl)
+kept_nulls (b ∷ s) = test (is_null b) (λ e. rw e (kept_nulls s)) (λ e. rw (e, e) refl)
 
 -- what is kept of a text is what is kept of its first run, and then of the rest
 pub kept_run : (kind : RunKind) (s : List ℕ) → without_nulls s
@@ -36,6 +36,21 @@ pub kept_run : (kind : RunKind) (s : List ℕ) → without_nulls s
 kept_run White s = kept_whole White s white_is_kept
 kept_run Nulls s = kept_nulls s
 kept_run Characters s = kept_whole Characters s character_is_kept
+
+-- one more run is kept
+pub kept_more : (kept new rest run after all : List ℕ) (kind : RunKind) → kind ≡ first_kind rest → run ≡ first_run rest
+    → after ≡ behind_first_run rest → new ≡ kept ++ kept_of kind run → kept ++ without_nulls rest ≡ all
+    → new ++ without_nulls after ≡ all
+kept_more kept new rest run after all kind k r a n e =
+    let this : kept_of kind run ≡ kept_of (first_kind rest) (first_run rest) =
+        ap (λ (x : RunKind). kept_of x run) k ∙ ap (λ (x : List ℕ). kept_of (first_kind rest) x) r in
+    let whole : kept_of kind run ++ without_nulls after ≡ without_nulls rest =
+        ap (λ (x : List ℕ). x ++ without_nulls after) this
+        ∙ ap (λ (x : List ℕ). kept_of (first_kind rest) (first_run rest) ++ without_nulls x) a
+        ∙ sym (kept_run (first_kind rest) rest) in
+    ap (λ (x : List ℕ). x ++ without_nulls after) n
+    ∙ append_assoc kept (kept_of kind run) (without_nulls after)
+    ∙ ap (λ (x : List ℕ). kept ++ x) whole ∙ e
 
 foster_nothing : (k : ℕ) (s : StateValue) → foster_runs k [] s ≡ s
 foster_nothing zero s = refl
@@ -61,3 +76,16 @@ foster_part (b ∷ t) s h =
     let l = behind_shorter (b ∷ t) h in
     foster_same (length t) (length (behind_first_run (b ∷ t))) (behind_first_run (b ∷ t))
     (fostered (run_in_body (first_kind (b ∷ t)) (first_run (b ∷ t))) s) (omega arith) (omega arith)
+
+-- one more run stands before the table
+pub foster_more : (rest run after : List ℕ) (kind : RunKind) (s new all : StateValue) → 0 < length rest
+    → kind ≡ first_kind rest → run ≡ first_run rest → after ≡ behind_first_run rest
+    → new ≡ fostered (run_in_body kind run) s → foster_runs (length rest) rest s ≡ all
+    → foster_runs (length after) after new ≡ all
+foster_more rest run after kind s new all h k r a n e =
+    let same : new ≡ fostered (run_in_body (first_kind rest) (first_run rest)) s =
+        n ∙ ap (λ (x : RunKind). fostered (run_in_body x run) s) k
+        ∙ ap (λ (x : List ℕ). fostered (run_in_body (first_kind rest) x) s) r in
+    ap (λ (x : List ℕ). foster_runs (length x) x new) a
+    ∙ ap (λ (x : StateValue). foster_runs (length (behind_first_run rest)) (behind_first_run rest) x) same
+    ∙ sym (foster_part rest s h) ∙ e

@@ -77,7 +77,7 @@ pub(crate) fn end_after_frameset(state: &mut HtmlState, name: &HtmlName)
     }
 }
 
-/// White space behind a frameset stands as in the body.
+/// White space after a frameset stands as in the body.
 pub(crate) fn put_run_behind_frameset(
     state: &mut HtmlState,
     kind: RunKind,
