@@ -1,6 +1,6 @@
 -- Worked rows: pages and their trees.
-use Rattle.std.proofs.Common.{◌≡◌, ℕ, List, [], codes, true, false, refl}
-use Rattle.htmd_grammar.specs.ValueTrees.{ValueTree, ValueForest, text, element, none, more, doctype}
+use Rattle.std.proofs.Common.{◌≡◌, ℕ, List, [], codes, true, refl}
+use Rattle.htmd_grammar.specs.ValueTrees.{ValueTree, ValueForest, text, element, none, more}
 use Rattle.htmd_tree.specs.Items.{Item}
 use Rattle.htmd_tree.specs.Layout.{document_items}
 use Rattle.htmd_html5_state.specs.Adoption.{move_last, wrap_children}

@@ -2,7 +2,6 @@
 use Rattle.std.proofs.Common.{◌≡◌, ◌∙◌, ℕ, zero, suc, ◌<◌, ◌≤◌, true, false, List, [], ◌∷◌, ◌++◌, length, append_assoc, refl, ap, sym, arith}
 use Rattle.std.proofs.lemmas.Bool.Decides.{nat_tests}
 use Rattle.htmd_text.proofs.Cases.{test}
-use Rattle.htmd_text.specs.WhiteSpace.{is_ascii_white_space}
 use Rattle.htmd_grammar.specs.CharacterClasses.{leading_run, behind_run}
 use Rattle.htmd_html5_state.specs.State.{StateValue}
 use Rattle.htmd_html5.specs.InBody.{run_in_body}
@@ -43,11 +42,11 @@ pub kept_more : (kept new rest run after all : List ℕ) (kind : RunKind) → ki
     → new ++ without_nulls after ≡ all
 kept_more kept new rest run after all kind k r a n e =
     let this : kept_of kind run ≡ kept_of (first_kind rest) (first_run rest) =
-        ap (λ (x : RunKind). kept_of x run) k ∙ ap (λ (x : List ℕ). kept_of (first_kind rest) x) r in
+    ap (λ (x : RunKind). kept_of x run) k ∙ ap (λ (x : List ℕ). kept_of (first_kind rest) x) r in
     let whole : kept_of kind run ++ without_nulls after ≡ without_nulls rest =
-        ap (λ (x : List ℕ). x ++ without_nulls after) this
-        ∙ ap (λ (x : List ℕ). kept_of (first_kind rest) (first_run rest) ++ without_nulls x) a
-        ∙ sym (kept_run (first_kind rest) rest) in
+    ap (λ (x : List ℕ). x ++ without_nulls after) this
+    ∙ ap (λ (x : List ℕ). kept_of (first_kind rest) (first_run rest) ++ without_nulls x) a
+    ∙ sym (kept_run (first_kind rest) rest) in
     ap (λ (x : List ℕ). x ++ without_nulls after) n
     ∙ append_assoc kept (kept_of kind run) (without_nulls after)
     ∙ ap (λ (x : List ℕ). kept ++ x) whole ∙ e
@@ -84,8 +83,8 @@ pub foster_more : (rest run after : List ℕ) (kind : RunKind) (s new all : Stat
     → foster_runs (length after) after new ≡ all
 foster_more rest run after kind s new all h k r a n e =
     let same : new ≡ fostered (run_in_body (first_kind rest) (first_run rest)) s =
-        n ∙ ap (λ (x : RunKind). fostered (run_in_body x run) s) k
-        ∙ ap (λ (x : List ℕ). fostered (run_in_body (first_kind rest) x) s) r in
+    n ∙ ap (λ (x : RunKind). fostered (run_in_body x run) s) k
+    ∙ ap (λ (x : List ℕ). fostered (run_in_body (first_kind rest) x) s) r in
     ap (λ (x : List ℕ). foster_runs (length x) x new) a
     ∙ ap (λ (x : StateValue). foster_runs (length (behind_first_run rest)) (behind_first_run rest) x) same
     ∙ sym (foster_part rest s h) ∙ e

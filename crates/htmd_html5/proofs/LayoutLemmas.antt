@@ -1,7 +1,7 @@
 -- Documents as the program lays them out.
-use Rattle.std.proofs.Common.{◌≡◌, ◌∙◌, ℕ, zero, suc, ◌+◌, ◌-◌, ◌<◌, ◌≤◌, true, false, List, [], ◌∷◌, ◌++◌, length, map, refl, ap, sym}
+use Rattle.std.proofs.Common.{◌≡◌, ◌∙◌, ℕ, zero, suc, ◌+◌, ◌-◌, ◌<◌, ◌≤◌, false, List, [], ◌∷◌, ◌++◌, length, map, refl, ap, sym}
 use Rattle.std.proofs.Common.{Option, Some, None, Result, OnOk, arith, subst}
-use Rattle.std.proofs.lemmas.List.{reverse-append, reverse-reverse, map_push, get_or_append_left, get_or_push, length_push, append_assoc, append-nil}
+use Rattle.std.proofs.lemmas.List.{reverse-append, map_push, get_or_append_left, get_or_push, length_push, append_assoc, append-nil}
 use Rattle.std.proofs.lemmas.Bool.Decides.{nat_tests}
 use Rattle.std.proofs.lemmas.List.Elements.{All-weaker, All-nil, All-cons, All-append}
 use Rattle.std.proofs.lemmas.Result.{on_ok_weaker}
@@ -10,7 +10,7 @@ use Rattle.std.specs.Prelude.{reverse, if◌then◌else◌}
 use Rattle.htmd_grammar.specs.ValueTrees.{AttributePair}
 use Rattle.htmd_tree.specs.Items.{Item, document_item, item_at, depth_at, element_node, holds_children, new_item, greatest_depth}
 use Rattle.htmd_html5_state.specs.Documents.{NodeValue, children_at}
-use Rattle.htmd_html5.specs.Layout.{Coming, Layout, coming, text_under, or_text, next_text, next_texts, behind_next_texts}
+use Rattle.htmd_html5.specs.Layout.{Coming, Layout, coming, or_text, next_text, next_texts, behind_next_texts}
 use Rattle.htmd_html5.specs.Layout.{is_deepest, put_node, put_next, layout_within, with_children_under}
 use Rattle.htmd_html5.specs.Layout.{first_layout, document_of}
 use Rattle.htmd_html5.specs.LayoutViews.{coming_of, coming_under, work_of, MayHold, AllMayHold}

@@ -1,5 +1,5 @@
 -- A node in each turn, until no more comes.
-use Rattle.std.proofs.Common.{◌≡◌, ◌≤◌, ◌∙◌, List, length, sym, arith, rules}
+use Rattle.std.proofs.Common.{◌≡◌, ◌≤◌, ◌∙◌, length, sym, arith, rules}
 use Rattle.std.proofs.lemmas.List.{length-map}
 use Rattle.htmd_tree.specs.Items.{greatest_depth}
 use Rattle.htmd_html5_state.specs.Views.{node_of, nodes_of}
