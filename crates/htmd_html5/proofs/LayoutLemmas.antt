@@ -1,17 +1,15 @@
 -- Documents as the program lays them out.
-use Rattle.std.proofs.Common.{◌≡◌, ◌∙◌, ℕ, zero, suc, ◌+◌, ◌-◌, ◌<◌, ◌≤◌, false, List, [], ◌∷◌, ◌++◌, length, map, refl, ap, sym}
-use Rattle.std.proofs.Common.{Option, Some, None, Result, OnOk, arith, subst}
-use Rattle.std.proofs.lemmas.List.{reverse-append, map_push, get_or_append_left, get_or_push, length_push, append_assoc, append-nil}
-use Rattle.std.proofs.lemmas.Bool.Decides.{nat_tests}
-use Rattle.std.proofs.lemmas.List.Elements.{All-weaker, All-nil, All-cons, All-append}
+use Rattle.std.proofs.Common.{◌≡◌, ◌∙◌, ℕ, zero, suc, ◌+◌, ◌-◌, ◌≤◌, List, [], ◌∷◌, ◌++◌, length, map, refl, ap, sym}
+use Rattle.std.proofs.Common.{Some, Result, OnOk, arith, subst}
+use Rattle.std.proofs.lemmas.List.{reverse-append, map_push, append_assoc, append-nil}
+use Rattle.std.proofs.lemmas.List.Elements.{All-nil, All-cons, All-append}
 use Rattle.std.proofs.lemmas.Result.{on_ok_weaker}
-use Rattle.std.specs.Option.{option_to_list, is_some}
-use Rattle.std.specs.Prelude.{reverse, if◌then◌else◌}
-use Rattle.htmd_grammar.specs.ValueTrees.{AttributePair}
-use Rattle.htmd_tree.specs.Items.{Item, document_item, item_at, depth_at, element_node, holds_children, new_item, greatest_depth}
+use Rattle.std.specs.Option.{option_to_list}
+use Rattle.std.specs.Prelude.{reverse}
+use Rattle.htmd_tree.specs.Items.{Item}
 use Rattle.htmd_html5_state.specs.Documents.{NodeValue, children_at}
-use Rattle.htmd_html5.specs.Layout.{Coming, Layout, coming, or_text, next_text, next_texts, behind_next_texts}
-use Rattle.htmd_html5.specs.Layout.{is_deepest, put_node, put_next, layout_within, with_children_under}
+use Rattle.htmd_html5.specs.Layout.{Coming, Layout, coming}
+use Rattle.htmd_html5.specs.Layout.{put_node, put_next, layout_within, with_children_under}
 use Rattle.htmd_html5.specs.Layout.{first_layout, document_of}
 use Rattle.htmd_html5.specs.LayoutViews.{coming_of, coming_under, work_of, MayHold, AllMayHold}
 use Rattle.htmd_html5.specs.declared.layout.Coming as program
@@ -61,50 +59,7 @@ children-pushed r l cs new ns n under w e h = on_ok_weaker r grown h
         ∙ (ap (λ (x : List ℕ). map (coming under) x ++ work_of cs) e
         ∙ ap (λ (x : List Coming). map (coming under) (children_at l.nodes n) ++ x) (sym w))))
 
--- ---- texts that are siblings
-
-pub texts-next : (nodes : List NodeValue) (under : ℕ) (c : Coming) (cs : List Coming) (s : List ℕ)
-    → next_text nodes under (c ∷ cs) ≡ Some s → next_texts nodes under (c ∷ cs) ≡ s ++ next_texts nodes under cs
-texts-next nodes under c cs s e = ap (λ (t : Option (List ℕ)). or_text t (next_texts nodes under cs)) e
-
-pub behind-next : (nodes : List NodeValue) (under : ℕ) (c : Coming) (cs : List Coming) (s : List ℕ)
-    → next_text nodes under (c ∷ cs) ≡ Some s → behind_next_texts nodes under (c ∷ cs) ≡ behind_next_texts nodes under cs
-behind-next nodes under c cs s e =
-    ap (λ (t : Option (List ℕ)). if is_some t then behind_next_texts nodes under cs else c ∷ cs) e
-
-pub texts-none : (nodes : List NodeValue) (under : ℕ) (cs : List Coming) → next_text nodes under cs ≡ None
-    → next_texts nodes under cs ≡ []
-texts-none nodes under [] e = refl
-texts-none nodes under (c ∷ cs) e = ap (λ (t : Option (List ℕ)). or_text t (next_texts nodes under cs)) e
-
-pub behind-none : (nodes : List NodeValue) (under : ℕ) (cs : List Coming) → next_text nodes under cs ≡ None
-    → behind_next_texts nodes under cs ≡ cs
-behind-none nodes under [] e = refl
-behind-none nodes under (c ∷ cs) e =
-    ap (λ (t : Option (List ℕ)). if is_some t then behind_next_texts nodes under cs else c ∷ cs) e
-
 -- ---- parents of what comes
-
-at_old : (items : List Item) (item : Item) (k : ℕ) → k < length items → item_at (items ++ item ∷ []) k ≡ item_at items k
-at_old items item k l = get_or_append_left items (item ∷ []) document_item k l
-
-may_hold-grown : (items : List Item) (item : Item) (under : ℕ) → MayHold items under → MayHold (items ++ item ∷ []) under
-may_hold-grown items item under m = record {
-  within = omega (arith, length_push items item, m.within);
-  holds = ap (λ (x : Item). holds_children x.node_data) (at_old items item under m.within) ∙ m.holds;
-  shallow = subst (λ (x : Item). x.depth < greatest_depth) (sym (at_old items item under m.within)) m.shallow;
-}
-
--- an item under which nodes come stays one while items are added
-pub may_hold-added : (items new : List Item) (item : Item) (under : ℕ) → new ≡ items ++ item ∷ []
-    → MayHold items under → MayHold new under
-may_hold-added items new item under e m = subst (λ (x : List Item). MayHold x under) (sym e) (may_hold-grown items item under m)
-
-pub all_may_hold-added : (items new : List Item) (item : Item) (cs : List program.Coming) → new ≡ items ++ item ∷ []
-    → AllMayHold items cs → AllMayHold new cs
-all_may_hold-added items new item cs e m =
-    All-weaker (λ (c : program.Coming). MayHold items c.under) (λ (c : program.Coming). MayHold new c.under)
-    (λ c h. may_hold-added items new item c.under e h) cs m
 
 all_under : (items : List Item) (ns : List ℕ) (under : ℕ) → MayHold items under
     → AllMayHold items (map (coming_under under) ns)
@@ -127,26 +82,6 @@ all_may_hold-pushed r items cs new ns under m h e = on_ok_weaker r grown e
   where
     grown : new ≡ cs ++ map (coming_under under) ns → AllMayHold items new
     grown e = subst (λ (x : List program.Coming). AllMayHold items x) (sym e) (all_may_hold-all items cs ns under m h)
-
--- an element above the deepest level
-pub may_hold-new : (items new : List Item) (under : ℕ) (name : List ℕ) (attributes : List AttributePair)
-    → new ≡ items ++ new_item items under (element_node name attributes) ∷ [] → MayHold items under
-    → is_deepest greatest_depth items under ≡ false → MayHold new (length items)
-may_hold-new items new under name attributes e m not_deepest =
-    subst (λ (x : List Item). MayHold x (length items)) (sym e) (record {
-      within = omega (arith, length_push items item);
-      holds = ap (λ (x : Item). holds_children x.node_data) at_new;
-      shallow = subst (λ (x : Item). x.depth < greatest_depth) (sym at_new) above;
-    })
-  where
-    item : Item
-    item = new_item items under (element_node name attributes)
-
-    at_new : item_at (items ++ item ∷ []) (length items) ≡ item
-    at_new = get_or_push items item document_item (length items) refl
-
-    above : depth_at items under + 1 < greatest_depth
-    above = let shallow = m.shallow in let other = not_deepest in grind (arith, nat_tests)
 
 -- ---- the turns
 

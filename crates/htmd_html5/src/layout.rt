@@ -115,7 +115,7 @@ impl Layout {
         }
     }
 
-    /// Puts the texts that come next under this item behind a text.
+    /// Puts the texts that come next under this item at the end of a text.
     fn join_texts(&mut self, under: NodeId, text: &mut String) -> Result<(), AllocError>
         requires holds { AllMayHold self.old.tree self.old.coming.items }
         ensures text { OnOk result (string_bytes text.new

@@ -1,10 +1,12 @@
 -- A node in each turn, until no more comes.
-use Rattle.std.proofs.Common.{◌≡◌, ◌≤◌, ◌∙◌, length, sym, arith, rules}
+use Rattle.std.proofs.Common.{◌≡◌, ◌≤◌, ◌∙◌, length, Some, sym, arith, rules}
 use Rattle.std.proofs.lemmas.List.{length-map}
+use Rattle.std.proofs.lemmas.List.Elements.{All-pop}
 use Rattle.htmd_tree.specs.Items.{greatest_depth}
 use Rattle.htmd_html5_state.specs.Views.{node_of, nodes_of}
 use Rattle.htmd_html5.specs.Layout.{first_layout}
-use Rattle.htmd_html5.specs.LayoutViews.{coming_of, layout_of, work_of}
+use Rattle.htmd_html5.specs.LayoutViews.{coming_of, layout_of, work_of, MayHold}
+use Rattle.htmd_html5.specs.declared.layout.Coming.{Coming}
 use Rattle.htmd_html5.proofs.LayoutLemmas.{lays-first, lays-next, lays-none, lays-over, work_of-pop, work_of-none}
 use Rattle.htmd_html5.proofs.LayoutLemmas.{whole-document}
 use Rattle.htmd_html5.proofs.layout.lay_out.Goals as goal
@@ -15,6 +17,12 @@ loop-node-init c = record {
       c.len-count.result c.in_ok-layout.ensures.value;
   holds = c.in_ok-layout.ensures.holds;
 }
+
+pub put-requires-clause-holds : goal.put-requires-clause-holds
+put-requires-clause-holds c =
+    let parts = All-pop (λ (x : Coming). MayHold c.loop-node.layout.tree x.under) c.loop-node.layout.coming.items
+    c.pop.new.self.items (Some c.in-Some.coming) c.in-Some.ensures.items c.loop-node.invariant.holds in
+    parts.0
 
 pub loop-node-preserved : goal.loop-node-preserved
 loop-node-preserved c =
