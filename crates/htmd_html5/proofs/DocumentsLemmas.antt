@@ -1,5 +1,5 @@
 -- The tokens of a text, one after another.
-use Rattle.std.proofs.Common.{◌≡◌, ◌∙◌, ℕ, zero, suc, ◌+◌, ◌-◌, ◌<◌, true, false, List, refl, ap, sym, subst, arith}
+use Rattle.std.proofs.Common.{◌≡◌, ◌∙◌, ℕ, suc, ◌+◌, ◌-◌, ◌<◌, true, false, List, refl, ap, sym, subst, arith}
 use Rattle.htmd_html5_state.specs.State.{StateValue}
 use Rattle.htmd_html5_tokens.specs.Tokens.{Read, TokenValue, end_of_file}
 use Rattle.htmd_html5.specs.Documents.{next_read, is_end, after_token, read_within}

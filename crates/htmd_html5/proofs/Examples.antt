@@ -1,12 +1,12 @@
 -- Worked rows: pages and their trees.
-use Rattle.std.proofs.Common.{◌≡◌, ℕ, List, [], codes, true, false, refl}
-use Rattle.htmd_grammar.specs.ValueTrees.{ValueTree, ValueForest, text, element, none, more, doctype}
+use Rattle.std.proofs.Common.{◌≡◌, ℕ, List, [], codes, true, refl}
+use Rattle.htmd_grammar.specs.ValueTrees.{ValueTree, ValueForest, text, element, none, more}
 use Rattle.htmd_tree.specs.Items.{Item}
 use Rattle.htmd_tree.specs.Layout.{document_items}
 use Rattle.htmd_html5_state.specs.Adoption.{move_last, wrap_children}
 use Rattle.htmd_html5.specs.BodyEnds.{text_end_rule}
 use Rattle.htmd_html5.specs.BodyStarts.{block_rule, formatting_rule, phrasing_rule}
-use Rattle.htmd_html5.specs.Documents.{html5_document, state_behind}
+use Rattle.htmd_html5.specs.Documents.{html5_document, state_after}
 use Rattle.htmd_html5.specs.Layout.{document_of}
 
 -- an element without attributes
@@ -52,7 +52,7 @@ unfolding html5_document block_rule formatting_rule phrasing_rule
 html_leaves_foreign_content = refl
 
 -- at the deepest level, here the fourth, an element keeps no children, and texts are joined
-the_deepest_level : document_of 4 (state_behind true (codes "<i><u>a</u>b<s>c</s></i>d")).nodes
+the_deepest_level : document_of 4 (state_after true (codes "<i><u>a</u>b<s>c</s></i>d")).nodes
     ≡ page (more (with (codes "i")
     (more (with (codes "u") none) (more (text (codes "ab")) (more (with (codes "s") none) (one (text (codes "c")))))))
     (one (text (codes "d"))))

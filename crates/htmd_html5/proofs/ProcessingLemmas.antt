@@ -1,5 +1,5 @@
 -- What is processed by one set of rules, and again or not.
-use Rattle.std.proofs.Common.{◌≡◌, ◌∙◌, ℕ, zero, suc, ◌+◌, ◌-◌, ◌<◌, true, false, refl, ap, sym, subst, arith}
+use Rattle.std.proofs.Common.{◌≡◌, ◌∙◌, ℕ, suc, ◌+◌, ◌-◌, ◌<◌, true, false, refl, ap, sym, arith}
 use Rattle.htmd_html5_state.specs.State.{StateValue}
 use Rattle.htmd_html5.specs.Answers.{Answer, answer}
 use Rattle.htmd_html5.specs.Tokens.{TokenValue}

@@ -1,13 +1,12 @@
 -- Texts are taken part by part, each of at least one character.
-use Rattle.std.proofs.Common.{◌≡◌, ◌∙◌, ℕ, zero, suc, ◌<◌, ◌≤◌, Bool, true, false, List, [], ◌∷◌, length, refl, ap, sym}
+use Rattle.std.proofs.Common.{◌≡◌, ◌∙◌, ℕ, zero, suc, ◌<◌, ◌≤◌, true, false, List, [], ◌∷◌, length, refl, ap, sym}
 use Rattle.std.proofs.Common.{arith, ◌+◌, ◌-◌, ◌==◌}
 use Rattle.htmd_text.proofs.Cases.{test}
 use Rattle.htmd_text.specs.WhiteSpace.{is_ascii_white_space}
-use Rattle.htmd_grammar.specs.CharacterClasses.{behind_run}
 use Rattle.htmd_tree.proofs.TagPartsLemmas.{behind_within}
 use Rattle.htmd_html5_state.specs.State.{StateValue}
 use Rattle.htmd_html5.specs.Answers.{Answer, answer}
-use Rattle.htmd_html5.specs.Runs.{is_of_kind, kind_of_byte, is_null, first_kind, first_run, behind_first_run}
+use Rattle.htmd_html5.specs.Runs.{is_of_kind, kind_of_byte, is_null, first_kind, first_run, after_first_run}
 use Rattle.htmd_html5.specs.Tokens.{run}
 use Rattle.htmd_html5.specs.declared.tokens.RunKind.{RunKind}
 use Rattle.htmd_html5.specs.Processing.{by_rules, turns}
@@ -19,10 +18,10 @@ own_kind : (b : ℕ) → is_of_kind (kind_of_byte b) b ≡ true
 own_kind b =
     test (is_ascii_white_space b) (λ e. simp e) (λ e. test (is_null b) (λ n. simp (e, n)) (λ n. simp (e, n)))
 
--- behind the first run a text is shorter
-pub behind_shorter : (s : List ℕ) → 0 < length s → length (behind_first_run s) < length s
-behind_shorter [] h = absurd (omega arith)
-behind_shorter (b ∷ s) h =
+-- after the first run a text is shorter
+pub first_run_shortens : (s : List ℕ) → 0 < length s → length (after_first_run s) < length s
+first_run_shortens [] h = absurd (omega arith)
+first_run_shortens (b ∷ s) h =
     let w = behind_within (is_of_kind (kind_of_byte b)) s in
     let own = own_kind b in rw own (omega arith)
 
@@ -30,8 +29,8 @@ pub some_left : (s : List ℕ) → (length s == 0) ≡ false → 0 < length s
 some_left [] e = cc
 some_left (b ∷ s) e = omega arith
 
-pub run_shorter : (s rest : List ℕ) → (length s == 0) ≡ false → rest ≡ behind_first_run s → length rest < length s
-run_shorter s rest e r = let l = behind_shorter s (some_left s e) in rw r l
+pub run_shorter : (s rest : List ℕ) → (length s == 0) ≡ false → rest ≡ after_first_run s → length rest < length s
+run_shorter s rest e r = let l = first_run_shortens s (some_left s e) in rw r l
 
 after_shorter : (go : StateValue → Taken) (rest : List ℕ) (a : Answer) (n : ℕ) → length rest < n
     → ((s : StateValue) → length (go s).rest < n) → length (after_run go rest a).rest < n
@@ -39,13 +38,13 @@ after_shorter go rest a n h g = test a.again (λ e. rw e (g a.state)) (λ e. rw 
 
 within_shorter : (k : ℕ) (text : List ℕ) (s : StateValue) → 0 < length text
     → length (take_within k text s).rest < length text
-within_shorter zero text s h = behind_shorter text h
+within_shorter zero text s h = first_run_shortens text h
 within_shorter (suc k) text s h =
     test (takes_all s) (λ e. rw e h)
-    (λ e. rw e (after_shorter (take_within k text) (behind_first_run text) (by_rules (first_token text) s) (length text)
-    (behind_shorter text h) (λ t. within_shorter k text t h)))
+    (λ e. rw e (after_shorter (take_within k text) (after_first_run text) (by_rules (first_token text) s) (length text)
+    (first_run_shortens text h) (λ t. within_shorter k text t h)))
 
--- behind its first part a text is shorter
+-- after its first part a text is shorter
 pub part_shorter : (text : List ℕ) (s : StateValue) → 0 < length text
     → length (take_part text s).rest < length text
 part_shorter text s h = within_shorter (turns s) text s h
@@ -96,8 +95,8 @@ where_all k text s e = rw e refl
 
 elsewhere : (k : ℕ) (text : List ℕ) (s : StateValue) (a : Answer) → takes_all s ≡ false
     → a ≡ by_rules (first_token text) s
-    → take_within (suc k) text s ≡ after_run (take_within k text) (behind_first_run text) a
-elsewhere k text s a e f = rw e (ap (λ (x : Answer). after_run (take_within k text) (behind_first_run text) x) (sym f))
+    → take_within (suc k) text s ≡ after_run (take_within k text) (after_first_run text) a
+elsewhere k text s a e f = rw e (ap (λ (x : Answer). after_run (take_within k text) (after_first_run text) x) (sym f))
 
 pub first_by_rules : (text part : List ℕ) (kind : RunKind) (s : StateValue) → kind ≡ first_kind text
     → part ≡ first_run text → by_rules (run kind part) s ≡ by_rules (first_token text) s
@@ -115,7 +114,7 @@ takes_again text first s new turn all r e f k g =
 
 pub takes_run : (text : List ℕ) (first s new : StateValue) (turn all : ℕ) → Takes text first s turn all
     → turn < all → takes_all s ≡ false → answer new false ≡ by_rules (first_token text) s
-    → taken new (behind_first_run text) ≡ take_within all text first
+    → taken new (after_first_run text) ≡ take_within all text first
 takes_run text first s new turn all r l e f =
     let k = all - suc turn in
     let more : suc k + turn ≡ all = omega arith in sym (elsewhere k text s (answer new false) e f) ∙ r (suc k) more
@@ -127,5 +126,5 @@ takes_text text first s turn all r l e =
     let more : suc k + turn ≡ all = omega arith in sym (where_all k text s e) ∙ r (suc k) more
 
 pub takes_over : (text : List ℕ) (first s : StateValue) (turn all : ℕ) → Takes text first s turn all
-    → turn ≡ all → taken s (behind_first_run text) ≡ take_within all text first
+    → turn ≡ all → taken s (after_first_run text) ≡ take_within all text first
 takes_over text first s turn all r e = let none : 0 + turn ≡ all = omega arith in r 0 none

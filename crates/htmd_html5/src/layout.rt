@@ -121,7 +121,7 @@ impl Layout {
         ensures text { OnOk result (string_bytes text.new
             ≡ spec.joined (string_bytes text.old) under (layout_of self.old)) }
         ensures value { OnOk result (layout_of self.new
-            ≡ spec.behind_joined under (layout_of self.old)) }
+            ≡ spec.after_joined under (layout_of self.old)) }
         ensures holds { AllMayHold self.new.tree self.new.coming.items }
     {
         while let Some(next) = self.next_text(under) {

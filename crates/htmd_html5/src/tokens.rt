@@ -99,7 +99,7 @@ fn run_len(bytes: &[u8], kind: RunKind) -> usize
 pub(crate) fn split_run(text: &str) -> Split<'_>
     ensures kind { result.kind ≡ runs.first_kind text.now }
     ensures run { result.run.now ≡ runs.first_run text.now }
-    ensures rest { result.rest.now ≡ runs.behind_first_run text.now }
+    ensures rest { result.rest.now ≡ runs.after_first_run text.now }
     ensures text { IsUtf8 result.rest.now }
 {
     let bytes = text.as_bytes();

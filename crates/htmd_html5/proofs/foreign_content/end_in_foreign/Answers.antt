@@ -13,7 +13,7 @@ returns-then-close_foreign c =
     let name = name_of c.args.name.now in
     let stays : end_breaks_out name ≡ false = sym c.end_breaks_out.ensures ∙ c.if-end_breaks_out.false in
     let goes : goes_by_mode (foreign_end c.text.result.now c.args.state.now.stack) ≡ true =
-        sym c.close_foreign.ensures.by_mode ∙ c.if-close_foreign.true in
+    sym c.close_foreign.ensures.by_mode ∙ c.if-close_foreign.true in
     let call = c.end_by_mode-then-close_foreign in
     subst (λ (a : Answer). IfOk call.result (λ again. answer call.new.state again ≡ a))
     (end_goes name c.text.result.now c.args.state.now c.close_foreign.new.self stays c.text.ensures goes

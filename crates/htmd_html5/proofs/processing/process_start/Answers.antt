@@ -1,5 +1,5 @@
 -- The turns of a token.
-use Rattle.std.proofs.Common.{◌≡◌, ◌∙◌, Option, ap, sym, arith}
+use Rattle.std.proofs.Common.{◌∙◌, Option, ap, sym, arith}
 use Rattle.std.specs.Prelude.{is_some}
 use Rattle.htmd_html5.specs.Tokens.{StartTagValue, start_tag, tag_of}
 use Rattle.htmd_html5.specs.Answers.{answer}

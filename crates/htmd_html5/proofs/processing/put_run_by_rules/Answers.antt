@@ -1,9 +1,8 @@
 -- In foreign content or out of it.
-use Rattle.std.proofs.Common.{◌≡◌, ◌∙◌, Bool, true, false, ap, sym, subst}
+use Rattle.std.proofs.Common.{◌≡◌, ◌∙◌, false, ap, sym, subst}
 use Rattle.std.specs.Prelude.{IfOk}
 use Rattle.htmd_html5_state.specs.State.{StateValue}
 use Rattle.htmd_html5.specs.Answers.{Answer, answer}
-use Rattle.htmd_html5.specs.ForeignContent.{is_foreign}
 use Rattle.htmd_html5.specs.Tokens.{run}
 use Rattle.htmd_html5.proofs.ProcessingLemmas.{by_foreign, by_html}
 use Rattle.htmd_html5.proofs.processing.put_run_by_rules.Goals as goal

@@ -15,8 +15,8 @@ returns-then-ends c =
     let rest = c.loop-token.tokenizer in
     let s = c.loop-token.state in
     let read : next_token c.content.result (not c.current_is_html.result) rest ≡ next_read rest s =
-        ap (λ (x : Content). next_token x (not c.current_is_html.result) rest) c.content.ensures
-        ∙ ap (λ (b : Bool). next_token s.content (not b) rest) c.current_is_html.ensures in
+    ap (λ (x : Content). next_token x (not c.current_is_html.result) rest) c.content.ensures
+    ∙ ap (λ (b : Bool). next_token s.content (not b) rest) c.current_is_html.ensures in
     turn_ends text c.args.state.now rest s c.feed.new.state (value_of c.in_ok-token.token) c.loop-token._token
     (length text) c.loop-token.invariant (omega arith)
     (c.in_ok-token.ensures.token ∙ ap (λ (r : Read). r.token) read) c.in_ok-feed.ensures
@@ -28,8 +28,8 @@ loop-token-preserved c =
     let rest = c.loop-token.tokenizer in
     let s = c.loop-token.state in
     let read : next_token c.content.result (not c.current_is_html.result) rest ≡ next_read rest s =
-        ap (λ (x : Content). next_token x (not c.current_is_html.result) rest) c.content.ensures
-        ∙ ap (λ (b : Bool). next_token s.content (not b) rest) c.current_is_html.ensures in
+    ap (λ (x : Content). next_token x (not c.current_is_html.result) rest) c.content.ensures
+    ∙ ap (λ (b : Bool). next_token s.content (not b) rest) c.current_is_html.ensures in
     turn_on text c.args.state.now rest c.next.new.self s c.feed.new.state (value_of c.in_ok-token.token)
     c.loop-token._token (length text) c.loop-token.invariant
     (c.in_ok-token.ensures.token ∙ ap (λ (r : Read). r.token) read)

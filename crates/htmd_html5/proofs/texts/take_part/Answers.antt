@@ -2,8 +2,7 @@
 use Rattle.std.proofs.Common.{◌≡◌, ◌∙◌, ℕ, Bool, true, false, List, [], ap, sym, arith}
 use Rattle.htmd_html5_state.specs.State.{StateValue}
 use Rattle.htmd_html5.specs.Answers.{answer}
-use Rattle.htmd_html5.specs.Processing.{by_rules}
-use Rattle.htmd_html5.specs.Texts.{first_token, taken, takes_all, take_within}
+use Rattle.htmd_html5.specs.Texts.{taken, takes_all, take_within}
 use Rattle.htmd_html5.proofs.TextsLemmas.{first_by_rules, takes_again, takes_run, takes_text, takes_over}
 use Rattle.htmd_html5.proofs.texts.take_part.Goals as goal
 

@@ -1,4 +1,4 @@
--- The text is cut behind its first run.
+-- The text is cut after its first run.
 use Rattle.std.proofs.Common.{◌≡◌, ◌∙◌, length, take, drop, sym, ap, subst}
 use Rattle.std.specs.Str.{IsCharBoundary, IsUtf8}
 use Rattle.std.proofs.lemmas.Str.{IsUtf8-drop}
