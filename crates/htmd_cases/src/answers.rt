@@ -30,7 +30,9 @@ pub(crate) fn push_answer(
             let tree = parse_html5(alloc, text, settings.scripting)?;
             push_text(answers, &rows_of(alloc, &tree)?)
         }
-        Question::Tree | Question::Html5 | Question::Convert => push_markdown(alloc, answers, settings, text),
+        Question::Tree | Question::Html5 | Question::Convert => push_markdown(
+            alloc, answers, settings, text,
+        ),
     }
 }
 

@@ -47,9 +47,17 @@ fn push_node(rows: &mut String, tree: &Tree, node: NodeId) -> Result<(), AllocEr
 }
 
 /// Puts a row for each attribute.
-fn push_attributes(rows: &mut String, depth: usize, attributes: &[Attribute]) -> Result<(), AllocError> {
+fn push_attributes(
+    rows: &mut String,
+    depth: usize,
+    attributes: &[Attribute],
+) -> Result<(), AllocError> {
     for attribute in attributes {
-        push_row(rows, depth, &[&attribute.name, "=\"", &attribute.value, "\""])?;
+        push_row(
+            rows,
+            depth,
+            &[&attribute.name, "=\"", &attribute.value, "\""],
+        )?;
     }
     Ok(())
 }

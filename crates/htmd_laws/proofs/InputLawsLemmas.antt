@@ -62,7 +62,7 @@ held_in_paragraph config input s u h = (paragraph input, refl, paragraph_is_tree
 
 held_by : (is_text is_any is_body scripting : Bool) (config : Config) (input s : List ℕ)
     → let way : Way =
-      record { text = is_text; body = is_body; html5 = is_any; scripting = scripting; config = config } in
+    record { text = is_text; body = is_body; html5 = is_any; scripting = scripting; config = config } in
     IsReadable (reads_any way) input → IsMarkdownBy way (text_by way input) s
     → (tree : List Item) × IsTreeBy way (text_by way input) tree × IsTree tree × HoldTexts tree
     × (s ≡ markdown config tree 0)

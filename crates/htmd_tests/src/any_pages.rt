@@ -39,7 +39,10 @@ fn reads_each_encoding(rt: HostRuntime) -> Result<(), Fail> {
         (b"\xEF\xBB\xBF<p>a", "a\n"),
         (b"\xFE\xFF\0<\0p\0>\0\xE9\x20\xAC", "\u{E9}\u{20AC}\n"),
         (b"\xFF\xFE<\0p\0>\0\xE9\0\xAC\x20", "\u{E9}\u{20AC}\n"),
-        (b"\xFF\xFEa\0\x3D\xD8\x00\xDE\x3D\xD8", "a\u{1F600}\u{FFFD}\n"),
+        (
+            b"\xFF\xFEa\0\x3D\xD8\x00\xDE\x3D\xD8",
+            "a\u{1F600}\u{FFFD}\n",
+        ),
         (b"<p>caf\xE9<p>\x80", "caf\u{E9}\n\n\u{20AC}\n"),
         (b"<p>\x93a\x94 \x81", "\u{201C}a\u{201D} \u{81}\n"),
         (b"\xFF", "\u{FF}\n"),
@@ -72,7 +75,8 @@ fn reads_utf8_alone_otherwise(rt: HostRuntime) -> Result<(), Fail> {
 // No row is refused, and each is read in its own encoding.
 #[test]
 fn answers_rows(rt: HostRuntime) -> Result<(), Fail> {
-    let rows = b"1\t<p>a<p>b\n2\t<p><div>\n\\N\n4\t\\377\\376\\x61\\0\n5\t\xE9\n6\t<b>c\\n<i>d\\0\n";
+    let rows =
+        b"1\t<p>a<p>b\n2\t<p><div>\n\\N\n4\t\\377\\376\\x61\\0\n5\t\xE9\n6\t<b>c\\n<i>d\\0\n";
     let wanted = "1\ta\\n\\nb\n2\t\n\\N\n4\ta\n5\t\u{E9}\n6\t**c *d***\n";
     for words in [["--html5", "--rows"], ["--rows", "--html5"]] {
         let answer = called(rt.alloc(), words.as_slice(), rows)?;
