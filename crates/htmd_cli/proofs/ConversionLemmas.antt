@@ -1,12 +1,13 @@
 -- What a conversion gives, by equal handlers and equal trees.
-use Rattle.std.proofs.Common.{◌≡◌, ◌∙◌, ap, ℕ, Bool, true, false, List, [], ◌∷◌, length, map, eqb, refl}
-use Rattle.std.proofs.Common.{MatchBool, arith}
+use Rattle.std.proofs.Common.{◌≡◌, ◌∙◌, ap, sym, subst, ℕ, Bool, true, false, not, ◌&&◌, List, [], ◌∷◌, length, map, eqb}
+use Rattle.std.proofs.Common.{MatchBool, arith, refl}
 use Rattle.std.proofs.lemmas.Bool.Decides.{nat_tests}
 use Rattle.std.specs.Borrow.{Bor}
 use Rattle.htmd.specs.Items.{Item}
 use Rattle.htmd.specs.Choice.{Config, no_handler, with_handler}
 use Rattle.htmd.specs.Markdown.{markdown}
 use Rattle.htmd_cli.specs.Conversion.{Way, paragraph, paragraph_markdown, skipping, IsMarkdownBy}
+use Rattle.htmd_cli.specs.Conversion.{IsReadable, reads_any, text_in}
 
 -- one equation after the other
 pub then_same : (x y z : Config) → x ≡ y → y ≡ z → x ≡ z
@@ -40,6 +41,19 @@ unfolding paragraph_markdown
 by_text way input text items start t i s e =
     match_true _ _ way.text t (e ∙ (ap (λ x. markdown way.config x start) i
     ∙ ap (markdown way.config (paragraph input)) s))
+
+-- which bytes are read, as far as the first of two tests decides it
+pub any_by : (html5 text first any : Bool) → html5 ≡ first → any ≡ (first && not text) → any ≡ (html5 && not text)
+any_by html5 text first any h e = e ∙ sym (ap (λ x. x && not text) h)
+
+-- the text that the bytes of an input hold has this Markdown, and so has the input
+pub of_readable : (way : Way) (any : Bool) (input text found s : List ℕ) → any ≡ reads_any way
+    → IsReadable any input × (text ≡ text_in any input) → found ≡ text → IsMarkdownBy way found s
+    → IsReadable (reads_any way) input × IsMarkdownBy way (text_in (reads_any way) input) s
+of_readable way any input text found s a (r, t) f m = (
+  subst (λ b. IsReadable b input) a r,
+  subst (λ x. IsMarkdownBy way x s) (f ∙ t ∙ ap (λ b. text_in b input) a) m,
+)
 
 -- a way, part by part
 abbrev pub way_with : Bool → Bool → Bool → Bool → Config → Way

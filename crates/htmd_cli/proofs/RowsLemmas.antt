@@ -1,12 +1,37 @@
 -- What is written for a field and a row.
-use Rattle.std.proofs.Common.{◌≡◌, ◌∙◌, ap, subst, ℕ, false, List, [], ◌∷◌, ◌++◌, Result, Ok, Err, OnOk, append_assoc}
+use Rattle.std.proofs.Common.{◌≡◌, ◌∙◌, ap, subst, refl, ℕ, Bool, false, not, ◌&&◌, List, [], ◌∷◌, ◌++◌}
+use Rattle.std.proofs.Common.{Result, Ok, Err, OnOk, append_assoc, inl, inr}
 use Rattle.std.specs.Str.{bytes_eq}
 use Rattle.htmd.specs.Characters.{line_feed}
-use Rattle.htmd_cli.specs.Conversion.{Way}
-use Rattle.htmd_cli.specs.Fields.{null, read_field}
+use Rattle.htmd.specs.FaultKind.{FaultKind}
+use Rattle.htmd_cli.specs.Conversion.{Way, IsMarkdownBy, IsReadable, IsRefusedBy, reads_any, text_in}
+use Rattle.htmd_cli.specs.Fields.{null, read_field, written_field}
 use Rattle.htmd_cli.specs.Lines.{other_fields, last_field}
 use Rattle.htmd_cli.specs.Rows.{IsPageAnswer, IsFieldAnswer, IsRowAnswer}
 use Rattle.htmd_cli.proofs.ConversionLemmas.{match_false}
+
+-- a page whose text has this Markdown
+pub page_answer : (way : Way) (page s : List ℕ)
+    → IsReadable (reads_any way) page × IsMarkdownBy way (text_in (reads_any way) page) s
+    → IsPageAnswer way page (written_field s)
+page_answer way page s (r, m) = inl (r, s, m, refl)
+
+-- a page whose text is outside the grammar, where no page is read otherwise
+pub page_refused : (way : Way) (any : Bool) (page text found : List ℕ) (place : ℕ) (kind : FaultKind)
+    → any ≡ reads_any way → IsReadable any page × (text ≡ text_in any page) → found ≡ text → way.text ≡ false
+    → way.html5 ≡ false → IsRefusedBy way found place kind → IsPageAnswer way page null
+page_refused way any page text found place kind a (r, t) f p q e =
+    let strict : reads_any way ≡ false = ap (λ x. x && not way.text) q in
+    inr (
+      match_false _ _ (reads_any way) strict (inr (
+        subst (λ b. IsReadable b page) (a ∙ strict) r,
+        p,
+        place,
+        kind,
+        subst (λ x. IsRefusedBy way x place kind) (f ∙ t ∙ ap (λ b. text_in b page) (a ∙ strict)) e,
+      )),
+      refl,
+    )
 
 -- a field that isn't null, by the page that it says
 pub field_answer : {T E : Type 0} (way : Way) (field page read before old new : List ℕ) (r : Result T E)
