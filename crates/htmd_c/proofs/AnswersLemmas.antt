@@ -4,7 +4,7 @@ use Rattle.std.specs.Prelude.{◌==◌}
 use Rattle.htmd.specs.declared.options.Options.{Options}
 use Rattle.htmd.specs.BuiltIn.{Row, with_rows, empty_config, built_in, built_in_rows}
 use Rattle.htmd.specs.Choice.{Config, with_handler, with_options}
-use Rattle.htmd.specs.Conversions.{IsMarkdownOf, IsMarkdownOfPage, html5_markdown}
+use Rattle.htmd.specs.Conversions.{IsMarkdownOf, IsMarkdownOfPage, IsHtml5Markdown}
 use Rattle.htmd.specs.Defaults.{default_options}
 use Rattle.htmd_c.specs.declared.options.HtmdOptions.{HtmdOptions}
 use Rattle.htmd_c.specs.Answers.{config_of, IsMarkdownBy}
@@ -23,7 +23,7 @@ built_in_with options = with_options-with_rows built_in_rows (empty_config defau
 abbrev IsOfPage : HtmdOptions → List ℕ → List ℕ → Type 0
 IsOfPage given html markdown =
     MatchBool (given.reader == page) (IsMarkdownOfPage (config_of given) (is_scripting given) html markdown)
-    (markdown ≡ html5_markdown (config_of given) (is_scripting given) html)
+    (IsHtml5Markdown (config_of given) (is_scripting given) html markdown)
 
 -- a conversion as the strict reader gives it
 pub by_strict : {E T : Type 0} (given : HtmdOptions) (html : List ℕ) (written : T → List ℕ) (r : Result T E)
@@ -46,19 +46,19 @@ by_page given html written r config scripting e p k on h =
     subst (λ b. IfOk r (λ s. MatchBool b (IsMarkdownOf (config_of given) (is_scripting given) html (written s))
     (IsOfPage given html (written s)))) (sym e)
     (subst (λ b. IfOk r (λ s. MatchBool b (IsMarkdownOfPage (config_of given) (is_scripting given) html (written s))
-    (written s ≡ html5_markdown (config_of given) (is_scripting given) html))) (sym p)
+    (IsHtml5Markdown (config_of given) (is_scripting given) html (written s)))) (sym p)
     (subst (λ c. IfOk r (λ s. IsMarkdownOfPage c (is_scripting given) html (written s))) k
     (subst (λ b. IfOk r (λ s. IsMarkdownOfPage config b html (written s))) on h)))
 
 -- as the reader of any page gives it
 pub by_html5 : (given : HtmdOptions) (html markdown : List ℕ) (config : Config) (scripting : Bool)
     → (given.reader == strict) ≡ false → (given.reader == page) ≡ false → config ≡ config_of given
-    → scripting ≡ is_scripting given → markdown ≡ html5_markdown config scripting html
+    → scripting ≡ is_scripting given → IsHtml5Markdown config scripting html markdown
     → IsMarkdownBy given html markdown
 by_html5 given html markdown config scripting e p k on h =
     subst (λ b. MatchBool b (IsMarkdownOf (config_of given) (is_scripting given) html markdown)
     (IsOfPage given html markdown)) (sym e)
     (subst (λ b. MatchBool b (IsMarkdownOfPage (config_of given) (is_scripting given) html markdown)
-    (markdown ≡ html5_markdown (config_of given) (is_scripting given) html)) (sym p)
-    (subst (λ c. markdown ≡ html5_markdown c (is_scripting given) html) k
-    (subst (λ b. markdown ≡ html5_markdown config b html) on h)))
+    (IsHtml5Markdown (config_of given) (is_scripting given) html markdown)) (sym p)
+    (subst (λ c. IsHtml5Markdown c (is_scripting given) html markdown) k
+    (subst (λ b. IsHtml5Markdown config b html markdown) on h)))

@@ -4,7 +4,7 @@ use Rattle.htmd_grammar.specs.declared.fault.FaultKind.{FaultKind}
 use Rattle.htmd_grammar.specs.Faults.{number_of}
 use Rattle.htmd.specs.Choice.{Config}
 use Rattle.htmd.specs.BuiltIn.{built_in}
-use Rattle.htmd.specs.Conversions.{IsMarkdownOf, IsMarkdownOfPage, IsRefused, IsPageRefused, html5_markdown}
+use Rattle.htmd.specs.Conversions.{IsMarkdownOf, IsMarkdownOfPage, IsRefused, IsPageRefused, IsHtml5Markdown}
 use Rattle.htmd_c.specs.declared.options.HtmdOptions.{HtmdOptions}
 use Rattle.htmd_c.specs.Options.{strict, page, options_of, is_scripting}
 
@@ -17,7 +17,7 @@ abbrev pub IsMarkdownBy : HtmdOptions → List ℕ → List ℕ → Type 0
 IsMarkdownBy given html markdown =
     MatchBool (given.reader == strict) (IsMarkdownOf (config_of given) (is_scripting given) html markdown)
     (MatchBool (given.reader == page) (IsMarkdownOfPage (config_of given) (is_scripting given) html markdown)
-    (markdown ≡ html5_markdown (config_of given) (is_scripting given) html))
+    (IsHtml5Markdown (config_of given) (is_scripting given) html markdown))
 
 -- the text is refused by the reader that the struct says, with this place and this kind; the last reader refuses none
 abbrev pub IsRefusedBy : HtmdOptions → List ℕ → ℕ → FaultKind → Type 0
