@@ -36,3 +36,4 @@ pub mod GuardedNodesLemmas
 pub mod GuardedTableLemmas
 pub mod GuardedSpansLemmas
 pub mod TableOrdersLemmas
+pub mod TableChildrenLemmas
