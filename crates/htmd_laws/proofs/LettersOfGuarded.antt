@@ -149,8 +149,9 @@ pub says-guarded_autolink : {law : Law} (s address : List ℕ) {l : List ℕ} �
     → Says law (guarded_autolink s address) l
 says-guarded_autolink s address {l} p =
     says-is (append-nil l)
-    (says-append (spaces_if (is_space_before s))
-    (says-behind (codes "<") refl (says-append p (says-behind (codes ">") refl (spaces_if (ends_white s))))))
+    (says-append
+    (says-before (codes ">") refl (says-append (says-before (codes "<") refl (spaces_if (is_space_before s))) p))
+    (spaces_if (ends_white s)))
 
 pub says-guarded_reference : {law : Law} (number : ℕ) (s : List ℕ) {l : List ℕ} → Says law s l
     → Says law (guarded_reference number s) l
