@@ -1,28 +1,28 @@
 -- The letters of elements.
 use Rattle.std.proofs.Common.{◌≡◌, ℕ, Bool, true, false, cond, List, [], ◌∷◌, ◌++◌, Option, Some, None}
 use Rattle.std.proofs.Common.{codes, refl, sym, ap, ◌∙◌, subst}
-use Rattle.std.specs.Prelude.{◌||◌, ◌&&◌, option_and_then}
+use Rattle.std.specs.Prelude.{◌||◌, ◌&&◌}
 use Rattle.std.specs.List.{list_all}
 use Rattle.std.specs.Str.{IsUtf8, bytes_eq}
 use Rattle.std.proofs.Math.Bool.{and_comm}
-use Rattle.std.proofs.lemmas.Bool.{cond_both, cond-true, cond-false, or_from, true≢false}
+use Rattle.std.proofs.lemmas.Bool.{cond_both, cond-false, or_from}
 use Rattle.std.proofs.lemmas.Bool.{and_left}
 use Rattle.htmd_tree.specs.Items.{Item, data_at, children_of}
 use Rattle.htmd_tree.specs.NumberedTrees.{NumberedTree, NumberedForest}
 use Rattle.htmd_tree.specs.Ancestors.{Ancestor, ancestor_of}
 use Rattle.htmd.specs.declared.options.Options.{Options}
 use Rattle.htmd.specs.Handling.{ElementView, PlanView, nothing, content_of_children, contents_of_each, HandlerMeaning}
-use Rattle.htmd.specs.Handling.{ResultView, content_of_fallback}
+use Rattle.htmd.specs.Handling.{content_of_fallback}
 use Rattle.htmd.specs.Choice.{indexes}
 use Rattle.htmd.specs.AllText.{text_or_all, all_text_of}
 use Rattle.htmd.specs.Groups.{only_text, groups_of, children_at}
 use Rattle.htmd.specs.Outputs.{Conversion, conversion_of, Writes, is_markdown_alone, is_guarded, result_of}
-use Rattle.htmd.specs.ElementPlans.{tag_of, attributes_of, is_tag_among, markdown_plan, tag_at}
+use Rattle.htmd.specs.ElementPlans.{tag_of, attributes_of, is_tag_among, markdown_plan}
 use Rattle.htmd.specs.ElementPlans.{unless_faithful}
 use Rattle.htmd_markdown.specs.LineBreaks.{line_break}
 use Rattle.htmd.specs.Children.{content_inside, content_alone, descendant_tree}
 use Rattle.htmd.specs.Elements.{Occurrence, Answer, content_of, contents_alone, plan_answer, answer_after}
-use Rattle.htmd.specs.Elements.{without_handler, occurrence_at, with_finish, answer_of}
+use Rattle.htmd.specs.Elements.{without_handler, occurrence_at, with_finish}
 use Rattle.htmd.specs.OtherBlocks.{other_blocks, other_block_plan, hidden_tags}
 use Rattle.htmd.specs.LineBreaks.{line_breaks, break_style_of}
 use Rattle.htmd.specs.ThematicBreaks.{thematic_breaks, thematic_break_plan, thematic_break_style_of}
@@ -32,7 +32,7 @@ use Rattle.htmd.specs.OneLineElements.{stands_in_line, is_in_line}
 use Rattle.htmd.specs.Code.{code, code_plan, guarded_code_plan, content_plan}
 use Rattle.htmd.specs.Preformatted.{preformatted_texts, preformatted_plan}
 use Rattle.htmd.specs.Preformatted.{block_plan, guarded_preformatted}
-use Rattle.htmd.specs.Code.{is_code_block, language, shows_language, language_of}
+use Rattle.htmd.specs.Code.{is_code_block, language, shows_language}
 use Rattle.htmd.specs.Preformatted.{guarded_language}
 use Rattle.htmd.specs.Lists.{lists}
 use Rattle.htmd_text.specs.BlankLines.{with_blank_lines}
@@ -63,7 +63,7 @@ use Rattle.htmd_laws.proofs.LettersLemmas.{Says, says-own, says-nil, says-is, is
 use Rattle.htmd_laws.proofs.LettersOfTexts.{line_feed_of_white, says-trimmed}
 use Rattle.htmd_laws.proofs.LettersOfLinks.{IsTextIfAny, says-own_if_any}
 use Rattle.htmd_laws.proofs.LettersOfHandlers.{says-span_result}
-use Rattle.htmd_laws.proofs.LettersOfHandlers.{SaysResult, AreValues, last_is_text, language_is_text, either_text}
+use Rattle.htmd_laws.proofs.LettersOfHandlers.{SaysResult, AreValues, last_is_text}
 use Rattle.htmd_laws.proofs.LettersOfHandlers.{KeepsContent}
 use Rattle.htmd_laws.proofs.LettersOfHandlers.{wrapped}
 use Rattle.htmd_laws.proofs.LettersOfGuarded.{says-guarded_code, says-guarded_span, says-guarded_block}

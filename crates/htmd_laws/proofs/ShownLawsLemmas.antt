@@ -7,8 +7,8 @@ use Rattle.std.proofs.lemmas.List.{append-nil}
 use Rattle.htmd_text.specs.Trims.{trimmed_end, is_line_feed}
 use Rattle.htmd_text.specs.WhiteSpace.{is_document_white_space}
 use Rattle.htmd_tree.specs.Items.{Item, data_at, children_of, IsTree, HoldsText, HoldTexts}
-use Rattle.htmd_tree.specs.NumberedTrees.{NumberedTree, document, doctype, text, comment, element, NumberedForest, none}
-use Rattle.htmd_tree.specs.NumberedTrees.{more, forest_of, tree_of, height, tallest}
+use Rattle.htmd_tree.specs.NumberedTrees.{NumberedTree, document, doctype, text, comment, element, NumberedForest}
+use Rattle.htmd_tree.specs.NumberedTrees.{forest_of, tree_of, height, tallest}
 use Rattle.htmd_tree.specs.Ancestors.{Ancestor, ancestors_of}
 use Rattle.htmd_tree.proofs.NumberedTreesLemmas.{height_pos}
 use Rattle.htmd.specs.declared.options.Options.{Options}

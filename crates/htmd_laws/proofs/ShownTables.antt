@@ -1,11 +1,11 @@
 -- What a table shows that is written as one in Guarded: its captions and its cells, and nothing else.
-use Rattle.std.proofs.Common.{◌≡◌, ℕ, zero, suc, ◌<◌, ◌≤◌, Bool, true, false, cond, List, [], ◌∷◌, ◌++◌, length, get_or}
+use Rattle.std.proofs.Common.{◌≡◌, ℕ, suc, ◌<◌, Bool, true, false, cond, List, [], ◌∷◌, ◌++◌, length, get_or}
 use Rattle.std.proofs.Common.{Option, Some, None, codes, refl, sym, ap, ◌∙◌, subst, arith, ⊎_elim}
-use Rattle.std.specs.Prelude.{◌⊎◌, ◌&&◌, ◌||◌, not, filter, fold}
+use Rattle.std.specs.Prelude.{◌⊎◌, ◌&&◌, not, filter, fold}
 use Rattle.std.specs.List.{list_any, list_all, flat_map}
-use Rattle.std.specs.Str.{chars, bytes_eq}
-use Rattle.std.proofs.lemmas.Bool.{cond_both, cond-true, cond-false, or_cases, or_parts, or_from, or_right, and_parts}
-use Rattle.std.proofs.lemmas.Bool.{and_from, not-true, true≢false, false≢true, false_from_ne_true}
+use Rattle.std.specs.Str.{bytes_eq}
+use Rattle.std.proofs.lemmas.Bool.{cond_both, cond-true, cond-false, or_cases, or_parts, or_right, and_parts}
+use Rattle.std.proofs.lemmas.Bool.{and_from, not-true, true≢false, false≢true}
 use Rattle.std.proofs.lemmas.List.{append-nil}
 use Rattle.std.proofs.lemmas.Slice.Eq.{bytes_eq-Decides}
 use Rattle.std.proofs.lemmas.Str.{chars-IsAscii}
@@ -15,7 +15,7 @@ use Rattle.htmd_markdown.specs.Titles.{is_filled}
 use Rattle.htmd_tree.specs.Items.{Data, document_node, doctype_node, text_node, comment_node, element_node, Item}
 use Rattle.htmd_tree.specs.Items.{data_at, children_of, IsTree, tag_of}
 use Rattle.htmd_tree.specs.NumberedTrees.{NumberedTree, document, doctype, text, comment, element, NumberedForest, none}
-use Rattle.htmd_tree.specs.NumberedTrees.{more, with_children, forest_of, tree_of, height, tallest}
+use Rattle.htmd_tree.specs.NumberedTrees.{more, with_children, forest_of, tree_of}
 use Rattle.htmd_tree.proofs.NumberedTreesLemmas.{tree-open, lower_child}
 use Rattle.htmd.specs.AllText.{all_text, all_text_among}
 use Rattle.htmd.specs.CaptionsAndCells.{cells_below, caption_itself, cells_among, captions_among, captions_and_cells}
@@ -32,7 +32,7 @@ use Rattle.htmd.specs.TableLayouts.{has_tag, tagged_children, table_child}
 use Rattle.htmd.specs.Tables.{cell_tags, has_table_form}
 use Rattle.htmd_laws.specs.Shown.{is_visible, visible, is_empty_element, shown, shown_among, is_named_among, is_caption}
 use Rattle.htmd_laws.specs.Shown.{is_of_rows, have_caption, captions_first}
-use Rattle.htmd_laws.proofs.CountedTexts.{Law, of_visible}
+use Rattle.htmd_laws.proofs.CountedTexts.{of_visible}
 use Rattle.htmd_laws.proofs.LettersLemmas.{Says, says-own, says-nil, says-append, says-is, says-fillers, shows-none, is_white}
 use Rattle.htmd_laws.proofs.LettersLemmas.{whites_fill, whites_silent, fillers_ascii}
 use Rattle.htmd_laws.proofs.LettersOfTexts.{document_of_white}

@@ -1,12 +1,12 @@
 -- What the handler of tables gives in Guarded, by either law: its captions and cells where the table is written as one,
 -- else what stands in it.
-use Rattle.std.proofs.Common.{◌≡◌, ℕ, Bool, true, false, cond, List, [], ◌∷◌, ◌++◌, refl, sym, ap, ◌∙◌, subst}
+use Rattle.std.proofs.Common.{◌≡◌, ℕ, Bool, true, false, cond, List, [], ◌∷◌, refl, sym, ap, ◌∙◌, subst}
 use Rattle.std.proofs.Common.{Option}
 use Rattle.std.proofs.lemmas.Bool.{cond_both, cond-true, true≢false}
 use Rattle.htmd_tree.specs.Items.{Item, children_of}
 use Rattle.htmd_tree.specs.NumberedTrees.{NumberedTree, NumberedForest}
 use Rattle.htmd_tree.specs.Ancestors.{Ancestor}
-use Rattle.htmd.proofs.TableOrdersLemmas.{line_order, lines_in_order}
+use Rattle.htmd.proofs.TableOrdersLemmas.{lines_in_order}
 use Rattle.htmd.specs.declared.options.Options.{Options}
 use Rattle.htmd.specs.BuiltIn.{built_in}
 use Rattle.htmd.specs.CaptionsAndCells.{captions_and_cells}

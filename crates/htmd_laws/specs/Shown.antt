@@ -3,18 +3,18 @@ use Rattle.std.specs.Prelude.{◌≡◌, ◌⊎◌, ℕ, ◌<◌, Bool, true, fa
 use Rattle.std.specs.Prelude.{◌==◌, filter, codes, length, IsUtf8, Some}
 use Rattle.std.specs.Char.{is_whitespace}
 use Rattle.std.specs.Str.{chars, bytes_eq}
+use Rattle.htmd_text.specs.Characters.{asterisk}
 use Rattle.htmd_tree.specs.Items.{Item, IsTree, HoldTexts}
 use Rattle.htmd_tree.specs.NumberedTrees.{NumberedTree, document, doctype, text, comment, element}
 use Rattle.htmd_tree.specs.NumberedTrees.{NumberedForest, none, more, tree_of}
+use Rattle.htmd_tree.specs.Bodies.{body_part}
 use Rattle.htmd.specs.declared.options.Options.{Options}
 use Rattle.htmd.specs.ElementPlans.{is_tag_among}
 use Rattle.htmd.specs.OtherBlocks.{hidden_tags}
 use Rattle.htmd.specs.Outputs.{is_markdown_alone, is_guarded}
-use Rattle.htmd_text.specs.Characters.{asterisk}
 use Rattle.htmd.specs.BuiltIn.{built_in}
 use Rattle.htmd.specs.Markdown.{walked_content, markdown}
 use Rattle.htmd.specs.Conversions.{IsTreeOf, IsMarkdownOf, IsMarkdownOfPage}
-use Rattle.htmd_tree.specs.Bodies.{body_part}
 use Rattle.htmd_cli.specs.Conversion.{Way, IsMarkdownBy}
 use Rattle.htmd_cli.specs.Fields.{read_field}
 use Rattle.htmd_cli.specs.Rows.{IsConverted}
