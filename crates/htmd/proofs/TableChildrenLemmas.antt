@@ -61,5 +61,5 @@ pub each_line : (items : List Item) (so_far : Lines) (child : ℕ) (P : Lines �
     → (has_tag row_tags items child ≡ true → P (with_row_line items false so_far child)) → P so_far
     → P (with_child_lines items so_far child)
 each_line items so_far child P caption part row other =
-    kind_cases (λ (kind : TableChild). P (with_child_line kind items so_far child)) (tag_of (data_at items child)) caption
-    (part true) (part false) row other
+    kind_cases (λ (kind : TableChild). P (with_child_line kind items so_far child)) (tag_of (data_at items child))
+    caption (part true) (part false) row other

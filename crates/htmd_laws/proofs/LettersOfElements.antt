@@ -258,8 +258,8 @@ module _ (options : Options) (alone : is_markdown_alone options ≡ true)
     guarded_gives g =
         let inside_it = said_among says (groups_of children) in
         subst (λ (l : List ℕ). TableGives (table_plan at.view) l) (sym (guarded_inside g _ refl))
-        (table_handler.guarded_table_gives of_letters options alone items write says id inside children definitions g inside_it
-        (within definitions) (λ _. each_of_all of_letters at says _ each))
+        (table_handler.guarded_table_gives of_letters options alone items write says id inside children definitions g
+        inside_it (within definitions) (λ _. each_of_all of_letters at says _ each))
 
     -- in Pure
 

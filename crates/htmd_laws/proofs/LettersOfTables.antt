@@ -215,7 +215,8 @@ rows-none {law} = rows-own [] tt
 
 pub rows-in : {law : Law} {rows : List (List (List ℕ))} {l m : List ℕ} → Holds law m l → SayRows law rows l
     → SayRows law rows m
-rows-in {law} {rows} {l} {m} h p = record { texts = p.texts; say = holds-then law m l (counted_of_rows law rows) h p.say }
+rows-in {law} {rows} {l} {m} h p =
+    record { texts = p.texts; say = holds-then law m l (counted_of_rows law rows) h p.say }
 
 pub rows-is : {law : Law} {rows : List (List (List ℕ))} {l m : List ℕ} → l ≡ m → SayRows law rows l
     → SayRows law rows m

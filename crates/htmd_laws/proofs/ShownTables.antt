@@ -149,7 +149,8 @@ are_among : (items : List Item) (ds : List ℕ) → ((k : ℕ) → k < length ds
 are_among items [] each = tt
 are_among items (d ∷ ds) each = (each 0 (omega arith), are_among items ds (λ k l. each (suc k) (omega arith)))
 
-pub children_among : (items : List Item) (id : ℕ) → IsTree items → id < length items → Among items (children_of items id)
+pub children_among : (items : List Item) (id : ℕ) → IsTree items → id < length items
+    → Among items (children_of items id)
 children_among items id t l = are_among items (children_of items id) (λ k m. (lower_child items id k t l m).1)
 
 -- a row is a part
@@ -364,7 +365,8 @@ module _ (guarded : Bool) (is_so : guarded ≡ true) (items : List Item) (t : Is
       by (text_node s) kids e = absurd (⊎_elim (λ f. false≢true f) (λ f. false≢true f) e)
       by (comment_node s) kids e = refl
       by (element_node name attributes) kids e = refl
-  no_text_alone (d ∷ next ∷ ds) e = not_alone guarded (tree_of items d) (tree_of items next) (forest_of (tree_of items) ds)
+  no_text_alone (d ∷ next ∷ ds) e =
+      not_alone guarded (tree_of items d) (tree_of items next) (forest_of (tree_of items) ds)
 
   -- it holds more than one text, and shows what its captions and cells show
   pub table_shows : (id : ℕ) → id < length items → is_written_as_table items id ≡ true

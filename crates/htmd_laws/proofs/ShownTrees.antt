@@ -114,25 +114,27 @@ module _ (guarded : Bool) where
       (or_cases (bytes_eq m n || (is_em m && is_em n)) (is_strong m && is_strong n) e)
 
   by_empty : (empty : Bool) (s t : List ℕ) → IsUtf8 s
-      → cond empty [] (visible guarded (s ++ t)) ≡ cond empty [] (visible guarded s) ++ cond empty [] (visible guarded t)
+      → cond empty [] (visible guarded (s ++ t))
+      ≡ cond empty [] (visible guarded s) ++ cond empty [] (visible guarded t)
   by_empty true s t utf8 = refl
   by_empty false s t utf8 = counted_append (of_visible guarded) s t utf8
 
   elements_join : (i j : ℕ) (m n : List ℕ) (a b : List AttributePair) (c d : NumberedForest) (o p : Option (List ℕ))
       → only_text c ≡ o → only_text d ≡ p → both_join (joint_with m a o) (joint_with n b p) ≡ true
       → IsUtf8 (joint_text (joint_with m a o))
-      → shown guarded (element i m a (with_only_text (joint_text (joint_with m a o) ++ joint_text (joint_with n b p)) c))
+      → shown guarded
+      (element i m a (with_only_text (joint_text (joint_with m a o) ++ joint_text (joint_with n b p)) c))
       ≡ shown guarded (element i m a c) ++ shown guarded (element j n b d)
   elements_join i j m n a b c d None p one other e utf8 = absurd (false≢true e)
   elements_join i j m n a b c d (Some s) None one other e utf8 = absurd (false≢true e)
   elements_join i j m n a b c d (Some s) (Some t) one other e utf8 =
       let same = alike_empty m n (and_parts (may_join m) (alike m n) (and_parts _ _ e).0).1 in
-      ap (λ z. cond (is_empty_element guarded m) [] z) (put_shows c s (s ++ t) one)
-      ∙ by_empty (is_empty_element guarded m) s t utf8
-      ∙ ap (λ empty. cond (is_empty_element guarded m) [] (visible guarded s) ++ cond empty [] (visible guarded t)) (sym same)
-      ∙ ap (λ z. cond (is_empty_element guarded m) [] z ++ cond (is_empty_element guarded n) [] (visible guarded t)) (sym (only_shows c s one))
-      ∙ ap (λ z. cond (is_empty_element guarded m) [] (shown_among guarded c) ++ cond (is_empty_element guarded n) [] z)
-      (sym (only_shows d t other))
+      let first = is_empty_element guarded m in
+      let second = is_empty_element guarded n in
+      ap (λ z. cond first [] z) (put_shows c s (s ++ t) one) ∙ by_empty first s t utf8
+      ∙ ap (λ empty. cond first [] (visible guarded s) ++ cond empty [] (visible guarded t)) (sym same)
+      ∙ ap (λ z. cond first [] z ++ cond second [] (visible guarded t)) (sym (only_shows c s one))
+      ∙ ap (λ z. cond first [] (shown_among guarded c) ++ cond second [] z) (sym (only_shows d t other))
 
   not_joined : (x : Option Joint) → both_join x None ≡ true → ⊥
   not_joined None e = false≢true e
@@ -167,7 +169,7 @@ module _ (guarded : Bool) where
   -- ---- among the items
 
   module _ (items : List Item) where
-    -- an element lies among the items, a table fits, and the children are those of its node unless they have been joined
+    -- an element lies among the items, a table fits, and the children are those of its node unless they were joined
     pub record Lies (id : ℕ) (name : List ℕ) (children : NumberedForest) : Type 0 where
       pub tag : (ancestor_of (data_at items id)).tag ≡ name
       pub within : id < length items
@@ -208,13 +210,15 @@ module _ (guarded : Bool) where
     front_shows tree none fit = refl
     front_shows tree (more first rest) fit =
         cond_both (is_joinable tree first) _ _
-        (λ (trees : NumberedForest). shown_among guarded trees ≡ shown guarded tree ++ shown_among guarded (more first rest))
+        (λ (trees : NumberedForest). shown_among guarded trees
+        ≡ shown guarded tree ++ shown_among guarded (more first rest))
         (λ e. ap (λ z. z ++ shown_among guarded rest)
         (trees_join tree first e (fitting.text_fits Lies lies_still tree fit))
         ∙ append_assoc (shown guarded tree) (shown guarded first) (shown_among guarded rest))
         (λ _. refl)
 
-    pub groups_show : (trees : NumberedForest) → AllFit trees → shown_among guarded (groups_of trees) ≡ shown_among guarded trees
+    pub groups_show : (trees : NumberedForest) → AllFit trees
+        → shown_among guarded (groups_of trees) ≡ shown_among guarded trees
     groups_show none fit = refl
     groups_show (more tree trees) fit =
         front_shows tree (groups_of trees) fit.0 ∙ ap (λ z. shown guarded tree ++ z) (groups_show trees fit.1)
@@ -250,7 +254,8 @@ module _ (guarded : Bool) where
         → all_tables_fit guarded (forest_of (tree_of items) ids) ≡ true → AllFit (forest_of (tree_of items) ids)
     all_fit [] each e = tt
     all_fit (id ∷ ids) each e =
-        let parts = and_parts (tables_fit guarded (tree_of items id)) (all_tables_fit guarded (forest_of (tree_of items) ids)) e in
+        let parts =
+        and_parts (tables_fit guarded (tree_of items id)) (all_tables_fit guarded (forest_of (tree_of items) ids)) e in
         (each 0 (omega arith) parts.0, all_fit ids (λ k l. each (suc k) (omega arith)) parts.1)
 
     module _ (t : IsTree items) (plain : (id : ℕ) → HoldsText (data_at items id)) where
@@ -285,7 +290,8 @@ module _ (guarded : Bool) where
       → said_of_each (shown guarded) view ids ≡ shown_among guarded (forest_of (tree_of view.items) ids)
   each_alone view [] e = refl
   each_alone view (d ∷ ds) e =
-      ap (λ (o : Option (List ℕ)). shown guarded (descendant_tree view.items o d) ++ said_of_each (shown guarded) view ds) e
+      ap (λ (o : Option (List ℕ)). shown guarded (descendant_tree view.items o d)
+      ++ said_of_each (shown guarded) view ds) e
       ∙ ap (λ z. shown guarded (tree_of view.items d) ++ z) (each_alone view ds e)
 
   pub each_shown : (view : ElementView) (ids : List ℕ) (text : Option (List ℕ)) → view.text ≡ text
@@ -294,8 +300,8 @@ module _ (guarded : Bool) where
   each_shown view ids None e f = each_alone view ids e
   each_shown view [] (Some s) e f = cc
   each_shown view (d ∷ []) (Some s) e f =
-      ap (λ (o : Option (List ℕ)). shown guarded (descendant_tree view.items o d) ++ []) e ∙ append-nil (visible guarded s)
-      ∙ sym (only_shows (more (tree_of view.items d) none) s f)
+      ap (λ (o : Option (List ℕ)). shown guarded (descendant_tree view.items o d) ++ []) e
+      ∙ append-nil (visible guarded s) ∙ sym (only_shows (more (tree_of view.items d) none) s f)
   each_shown view (d ∷ next ∷ ds) (Some s) e f =
       let none_there = not_alone (tree_of view.items d) (tree_of view.items next) (forest_of (tree_of view.items) ds) in
       absurd (apart (sym none_there ∙ f))

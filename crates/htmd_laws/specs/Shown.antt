@@ -85,7 +85,7 @@ captions_first (more tree trees) =
     if is_of_rows tree then not (have_caption trees) else captions_first trees
 
 abbrev mutual
-  -- No table stands there, for in Pure a table drops cells; in Guarded it drops none, and its captions are to stand first.
+  -- in Pure, where a table drops cells, no table stands there; in Guarded the captions of each table stand first
   pub tables_fit : Bool → NumberedTree → Bool
   tables_fit guarded (document id children) = all_tables_fit guarded children
   tables_fit guarded (doctype id) = true
