@@ -11,7 +11,7 @@ import sys
 import urllib.parse
 import xml.etree.ElementTree
 
-from commonmark_pages import WRITTEN, generated
+from commonmark_pages import SPACINGS, WRITTEN, generated, lists
 
 WHITE_SPACE = re.compile('[ \t\n\f\r]+')
 BLOCKS = set('''address article aside base basefont blockquote body caption center col colgroup dd details dialog dir
@@ -26,12 +26,14 @@ MADE_OF = {f'h{level}': (f'h{level}',) for level in range(1, 7)} | {
     'li': ('li',), 'blockquote': ('blockquote',), 'hr': ('hr',), 'table': ('table',), 'pre': ('pre',),
     'code': ('code', 'pre'), 'em': ('em', 'i'), 'strong': ('strong', 'b'), 'a': ('a',), 'img': ('img',), 'br': ('br',),
 }
+CELLS = {'td', 'th'}
 # The tags that cmark-gfm writes, and that aren't counted.
 UNCOUNTED = {'p', 'ul', 'ol', 'thead', 'tbody', 'tr', 'th', 'td'}
 
 
 class Shown(html.parser.HTMLParser):
-    """What a browser shows of HTML: its words, and of the elements outside of code the attributes that matter."""
+    """What a browser shows of HTML: its words, the characters of each cell of its outermost tables, and of the elements
+    outside of code the attributes that matter."""
 
     def __init__(self, text):
         super().__init__(convert_charrefs=True)
@@ -41,6 +43,8 @@ class Shown(html.parser.HTMLParser):
         self.titles = []
         self.addresses = []
         self.tags = collections.Counter()
+        self.tables = []
+        self.cell_from = 0
         self.feed(text)
         self.close()
         self.words = words(''.join(self.text))
@@ -56,6 +60,10 @@ class Shown(html.parser.HTMLParser):
                 self.add_link(tag, address, attributes)
         if tag not in VOID:
             self.open.append(tag)
+        if tag == 'table' and self.open.count('table') == 1:
+            self.tables.append([])
+        if tag in CELLS and self.is_outermost():
+            self.cell_from = len(self.text)
 
     def handle_startendtag(self, tag, pairs):
         self.handle_starttag(tag, pairs)
@@ -70,9 +78,21 @@ class Shown(html.parser.HTMLParser):
     def handle_endtag(self, tag):
         if tag in BLOCKS:
             self.text.append(' ')
+        if tag in CELLS and self.is_outermost():
+            self.add_cell()
         if tag in self.open:
             while self.open.pop() != tag:
                 pass
+
+    def is_outermost(self):
+        """Whether the innermost open cell is one of an outermost table."""
+        return self.open.count('table') == 1 and sum(self.open.count(tag) for tag in CELLS) == 1
+
+    def add_cell(self):
+        """A cell without text may stand for a span, or for a header that is missing."""
+        text = letters(words(''.join(self.text[self.cell_from:])))
+        if text:
+            self.tables[-1].append(text)
 
     def handle_data(self, data):
         if not HIDDEN & set(self.open):
@@ -110,6 +130,12 @@ def text_difference(page, answer):
     if letters(page.words).replace('*', '') == without_marks:
         return 'marks of emphasis show'
     return 'letters differ'
+
+
+def other_tables(page, answer):
+    """The tables of the answer, each as its cells, that aren't in this order tables of the page."""
+    left = iter(page.tables)
+    return [table for table in answer.tables if not any(table == other for other in left)]
 
 
 REFERENCE = re.compile('&(#[0-9]{1,7}|#[xX][0-9a-fA-F]{1,6}|[a-zA-Z][a-zA-Z0-9]*);')
@@ -154,6 +180,9 @@ def differences(html_text, markdown):
     kind = text_difference(page, answer)
     if kind:
         found[kind] = (page.words, answer.words)
+    cells = other_tables(page, answer)
+    if cells:
+        found['cells differ'] = (page.tables, cells)
     raw, extra = raw_pieces(markdown), tags_of_text(page, answer)
     if raw:
         found['raw HTML made of text'] = ([], raw)
@@ -178,19 +207,27 @@ def decoded(line):
 
 
 def by_driver(command, settings, pages):
-    cases = ''.join(f'{settings}\t{coded(page)}\n' for page in pages)
+    cases = ''.join(f'{settings}{spaced(" {}={}", spacing)}\t{coded(page)}\n' for page, spacing in pages)
     output = subprocess.run(command, input=cases.encode(), capture_output=True, check=True).stdout.decode()
     answers = output.split('\n')[:-1]
     if len(answers) != len(pages):
         sys.exit(f'{len(answers)} answers to {len(pages)} pages')
-    for page, answer in zip(pages, answers):
+    for (page, _), answer in zip(pages, answers):
         if not answer.startswith('='):
             sys.exit(f'refused {answer}: {page}')
     return [decoded(answer[1:]) for answer in answers]
 
 
-def by_program(command, page):
-    ran = subprocess.run(command, input=page.encode(), capture_output=True)
+def spaced(form, spacing):
+    """Both options of spaces in this form, where a spacing is asked for."""
+    if spacing is None:
+        return ''
+    return ''.join(form.format(name, spacing) for name in ('ul_bullet_spacing', 'ol_number_spacing'))
+
+
+def by_program(command, page, spacing=None):
+    options = spaced(' --{}={}', spacing).replace('_', '-').split()
+    ran = subprocess.run(command + options, input=page.encode(), capture_output=True)
     if ran.returncode != 0:
         sys.exit(f'{ran.stderr.decode()}{page}')
     return ran.stdout.decode()
@@ -214,14 +251,16 @@ def main():
     asked = parser.parse_args()
     command = [word for word in asked.command if word != '--'] or ['./htmd', '--guarded']
     pages = WRITTEN + generated(asked.seed, asked.pages)
+    asked_for = [(page, None) for page in pages] + [(page, spacing) for page in lists() for spacing in SPACINGS]
     with concurrent.futures.ThreadPoolExecutor() as pool:
         if asked.settings is not None:
-            answers = by_driver(command, asked.settings, pages)
+            answers = by_driver(command, asked.settings, asked_for)
         else:
             by_program(command, '')  # alone, since `./htmd` may have to build the program first
-            answers = list(pool.map(lambda page: by_program(command, page), pages))
-        compared = list(pool.map(differences, pages, answers))
-    tell(pages, answers, compared, asked.first)
+            answers = list(pool.map(lambda one: by_program(command, *one), asked_for))
+        compared = list(pool.map(differences, [page for page, _ in asked_for], answers))
+    tell(pages, answers, compared[:len(pages)], asked.first)
+    tell_lists(asked_for[len(pages):], compared[len(pages):])
 
 
 def tell(pages, answers, compared, first):
@@ -241,6 +280,13 @@ def tell(pages, answers, compared, first):
             wanted, has = compared[number][0][kind]
             print(f'  page {number}: {pages[number]!r}\n  Markdown: {answers[number]!r}')
             print(f'  of the page: {wanted}\n  rendered: {has}')
+
+
+def tell_lists(asked_for, compared):
+    differ = [(len(page), spacing) for (page, spacing), (found, _, _) in zip(asked_for, compared) if found]
+    print(f'\n{len(compared)} lists, with each spacing: {len(compared) - len(differ)} alike')
+    if differ:
+        print(f'  of the others, by length and spacing: {differ[:10]}')
 
 
 if __name__ == '__main__':

@@ -1,5 +1,5 @@
-"""Pages for `checks/commonmark`, in the strict grammar that the program reads: some written by hand, and as many as
-wanted by a generator of its own numbers, so that a seed gives the same pages everywhere."""
+"""Pages for `checks/commonmark`, in the strict grammar that the program reads: some written by hand, lists of many
+lengths, and as many as wanted by a generator of its own numbers, so that a seed gives the same pages everywhere."""
 
 WRITTEN = [
     # texts that look like markup, whole and in parts
@@ -46,6 +46,20 @@ WRITTEN = [
     '<table><tr><th>a</th></tr><tr><td>x<table><tr><th>b</th></tr><tr><td>c</td></tr></table></td></tr></table>',
     '<table><thead><tr></tr></thead><tr><td>a</td><td>b</td></tr></table>',
     '<ul><li><table><tr><th>a</th></tr><tr><td>b</td></tr></table></li></ul>x<table><tr><th>c</th></tr></table>y',
+    '<table><tr><th>a</th><td>b</td></tr><tr><th>c</th><td>d</td></tr></table>'
+    '<table><tr><td>a</td><th>b</th></tr><tr><td>c</td><td>d</td></tr></table>',
+    '<table><thead><tr><th>a</th></tr><tr><th>b</th><th>c</th></tr></thead><tbody><tr><td>d</td></tr></tbody>'
+    '<tfoot><tr><th>e</th><td>f</td></tr></tfoot></table>',
+    '<table><tr><th colspan="2">a</th><th rowspan="2">b</th></tr><tr><td>c</td><td>d</td></tr>'
+    '<tr><td rowspan="0">e</td><td>f</td></tr><tr><td colspan="20">g</td></tr></table>',
+    '<table><tr><th><h2>a</h2></th></tr><tr><td><ol><li>b</li><li>c</li></ol></td></tr>'
+    '<tr><td><blockquote>d</blockquote><hr><ul><li>e</li></ul></td></tr></table>',
+    '<table><tr><th>a</th></tr><tr><td>' + 'long words ' * 12 + '</td></tr></table>',
+    # marks beside words
+    '<p>name<b>(arg)</b>x <b>"q"</b>s a<i>.</i>b <i>a</i><i x>b</i> x<b><code>y</code></b>z '
+    '<b>!</b><a href="/x">a</a></p>',
+    '<p>他说<b>“你好。”</b>然后<i>《书》</i>是<b>（一）</b>个</p>'
+    '<p>これは<i>「日本語」</i>です<b>。</b>次</p>',
     # what a browser doesn't show, and the rest
     '<p>a</p><script>b < c</script><style>d</style><title>e</title><iframe>f</iframe><noframes>g</noframes><p>h</p>',
     '<p>a<!-- b -->c<wbr>d<sub>e</sub> <textarea>\n&lt;f></textarea><button>g</button><q>h</q></p>',
@@ -58,11 +72,23 @@ PIECES = [
     '<b>', '</p>', '<!--', '-->', '<?x', '<a@b.c>', '<https://e.x/>', '&', '&copy;', '&amp;', '&#35;', '&#x41;', '&T',
     'AT&T', 'copy;', ';', '!', '![', '[', ']', '](x)', '[x]: /y', '(', ')', '.', ':', ':-:', '"', "'", '$', '$x$',
     'http://e.x/a_b', 'x_y_z', '5*6*7', 'C#', '\xa0', '\ufeff', '…', '½', '.x', '+1', '!!', 'e.g.',
+    '(arg)', '"q"', ':-', '你好', '“你”', '。', '，', '日本語', '「日」', '（', '）',
 ]
 SPACES = ['', '', ' ', ' ', '  ', '\n', '\t', '\n\n ']
 ADDRESSES = ['/x', '/a b', '/a(b)', '/a\\b', '', '#y', '?a=1&b=2', '/&copy;', 'https://e.x/<z>', '/é', 'mailto:a@b.c']
 INLINE = ['b', 'strong', 'i', 'em', 'code', 'span', 'u', 'kbd', 'sub', 'abbr', 'small']
 SECTIONS = ['div', 'section', 'article', 'figure', 'details', 'center']
+
+
+# the items of lists, each with every spacing that the options allow
+LENGTHS = [1, 10, 100, 1000]
+SPACINGS = range(256)
+
+
+def lists():
+    """Lists of each length, numbered and not."""
+    return [f'<{tag}>' + ''.join(f'<li>item {number}</li>' for number in range(length)) + f'</{tag}>'
+            for tag in ('ol', 'ul') for length in LENGTHS]
 
 
 class Generator:
@@ -135,11 +161,20 @@ class Generator:
         items = ''.join(f'<li>{self.blocks(depth)}</li>' for _ in range(self.below(4)))
         return f'<{tag}{start}>{items}</{tag}>'
 
-    def row(self, depth, tag, columns):
-        cells = ''
-        for _ in range(columns):
-            content = self.blocks(depth) if depth and self.below(6) == 0 else self.inline(depth)
-            cells += f'<{tag}>{content}</{tag}>'
+    def spans(self):
+        """Mostly none."""
+        columns = f' colspan="{1 + self.below(3)}"' if self.below(8) == 0 else ''
+        rows = f' rowspan="{self.below(4)}"' if self.below(8) == 0 else ''
+        return columns + rows
+
+    def cell(self, depth, tag):
+        content = self.blocks(depth) if depth and self.below(6) == 0 else self.inline(depth)
+        return f'<{tag}{self.spans()}>{content}</{tag}>'
+
+    def row(self, depth, tag, columns, first_tag=None):
+        cells = self.cell(depth, first_tag or tag)
+        for _ in range(columns - 1):
+            cells += self.cell(depth, tag)
         return f'<tr>{cells}</tr>'
 
     def table(self, depth):
@@ -147,8 +182,10 @@ class Generator:
         caption = f'<caption>{self.inline(depth)}</caption>' if self.below(4) == 0 else ''
         head = self.row(depth, 'th', columns) if self.below(4) else ''
         if head and self.below(2):
-            head = f'<thead>{head}</thead>'
-        rows = ''.join(self.row(depth, 'td', columns) for _ in range(self.below(3)))
+            second = self.row(depth, 'th', columns) if self.below(3) == 0 else ''
+            head = f'<thead>{head}{second}</thead>'
+        first_tag = 'th' if self.below(4) == 0 else 'td'
+        rows = ''.join(self.row(depth, 'td', columns, first_tag) for _ in range(self.below(3)))
         return f'<table>{caption}{head}{rows}</table>'
 
     def heading(self, depth):

@@ -1,20 +1,19 @@
 -- The places of a joint are between characters.
 use Rattle.std.proofs.Common.{◌≡◌, ℕ, zero, suc, ◌+◌, ◌-◌, ◌<◌, ◌≤◌, Bool, true, false, List, [], ◌∷◌, ◌++◌, length}
-use Rattle.std.proofs.Common.{get_or, take, drop, refl, sym, ap, subst, ◌∙◌, arith, ⊎_elim, append_assoc}
-use Rattle.std.specs.Prelude.{◌==◌, not, ◌&&◌, ◌||◌, ◌%◌, reverse, encode_utf8, encode_utf8_all}
-use Rattle.std.specs.Char.{is_ascii_punctuation}
+use Rattle.std.proofs.Common.{get_or, take, drop, refl, sym, ap, subst, ◌∙◌, arith, ⊎_elim}
+use Rattle.std.specs.Prelude.{◌==◌, not, ◌&&◌, ◌%◌, reverse, encode_utf8, encode_utf8_all}
 use Rattle.std.specs.List.{prefix_len, suffix_len}
 use Rattle.std.specs.Str.{chars, IsUtf8, IsCharBoundary}
 use Rattle.std.proofs.Math.Seq.{drop-append_seam}
-use Rattle.std.proofs.lemmas.Bool.{cases_Bool, cases_lt, cond-true, cond-false, cond_both}
+use Rattle.std.proofs.lemmas.Bool.{cases_Bool, cases_lt, cond_both}
 use Rattle.std.proofs.lemmas.Bool.Decides.{nat_tests}
-use Rattle.std.proofs.lemmas.List.{reverse-append, reverse-reverse, append-nil, length-append, length-take-le}
-use Rattle.std.proofs.lemmas.List.{get_or-take, get_or-drop, get_or-reverse, length-reverse, take-append-drop}
+use Rattle.std.proofs.lemmas.List.{reverse-append, reverse-reverse, length-append, length-take-le}
+use Rattle.std.proofs.lemmas.List.{get_or-take, get_or-reverse}
 use Rattle.std.proofs.lemmas.List.Sums.{prefix_len_passes, prefix_len-le-length, suffix_len-le-length}
-use Rattle.std.proofs.lemmas.Str.{encodes-append, encodes-chars, IsUtf8-past_char, IsUtf8-take, IsUtf8-drop}
-use Rattle.std.proofs.lemmas.Str.{IsCharBoundary-from_drop, IsCharBoundary-from_rest, IsCharBoundary-after_ascii}
+use Rattle.std.proofs.lemmas.Str.{encodes-append, encodes-chars, IsUtf8-past_char}
+use Rattle.std.proofs.lemmas.Str.{IsCharBoundary-from_drop, IsCharBoundary-after_ascii}
 use Rattle.std.proofs.lemmas.Str.{IsCharBoundary-before_ascii, IsCharBoundary-start, IsCharBoundary-end}
-use Rattle.htmd_text.specs.Characters.{backslash, asterisk}
+use Rattle.htmd_text.specs.Characters.{backslash}
 use Rattle.htmd_markdown.specs.Joints.{is_asterisk, is_backslash, is_plain_at, plain_signs, plain_signs_back}
 use Rattle.htmd_markdown.specs.Joints.{plain_start, plain_end, escapes_next, ending_run, beginning_run}
 
@@ -127,10 +126,12 @@ ending_run-cut s = at (ending_run s) refl
         let within = suffix_len-le-length is_asterisk s in
         let turned = get_or-reverse s n 0 (omega arith) in
         let place : length s - 1 - n ≡ length s - suc n = omega arith in
-        let one = prefix_len_passes is_asterisk (reverse s) n 0 (omega arith) in
-        (omega arith, IsCharBoundary-before_ascii s (length s - suc n) (omega arith)
-        (asterisk_is_ascii (get_or s (length s - suc n) 0)
-        (ap (λ k. is_asterisk (get_or s k 0)) (sym place) ∙ ap is_asterisk (sym turned) ∙ one)))
+        let one = prefix_len_passes is_asterisk (reverse s) n 0 (omega arith) in (
+          omega arith,
+          IsCharBoundary-before_ascii s (length s - suc n) (omega arith)
+              (asterisk_is_ascii (get_or s (length s - suc n) 0)
+              (ap (λ k. is_asterisk (get_or s k 0)) (sym place) ∙ ap is_asterisk (sym turned) ∙ one)),
+        )
 
 -- a place of what stands before a place
 pub cut_in_front : (s : List ℕ) (n k : ℕ) → n ≤ length s → IsCharBoundary s n → IsCharBoundary (take n s) k
@@ -139,7 +140,7 @@ cut_in_front s n k le at inside =
     let size = length-take-le n s le in (
       omega (arith, inside.0, size),
       λ lt large.
-      ⊎_elim
+          ⊎_elim
           (λ (before : k < n).
           let same = get_or-take n s k 0 before in
           subst (λ (b : ℕ). 192 ≤ b) same

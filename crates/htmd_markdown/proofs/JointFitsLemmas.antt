@@ -1,10 +1,9 @@
 -- The places of what is mended stand in the texts.
-use Rattle.std.proofs.Common.{◌≡◌, ℕ, zero, suc, ◌+◌, ◌-◌, ◌<◌, ◌≤◌, Bool, true, false, List, [], ◌∷◌, ◌++◌, length}
-use Rattle.std.proofs.Common.{get_or, take, drop, refl, sym, ap, subst, ◌∙◌, arith}
+use Rattle.std.proofs.Common.{◌≡◌, ℕ, ◌+◌, ◌-◌, true, false, List, [], ◌∷◌, length}
+use Rattle.std.proofs.Common.{get_or, take, drop, sym, ap, subst, ◌∙◌, arith}
 use Rattle.std.specs.Prelude.{◌==◌, not, ◌&&◌, ◌||◌, if◌then◌else◌}
 use Rattle.std.specs.Str.{IsUtf8, IsCharBoundary}
 use Rattle.std.proofs.lemmas.Bool.{and_parts, cond_both, eqb-true}
-use Rattle.std.proofs.lemmas.Bool.Decides.{nat_tests}
 use Rattle.std.proofs.lemmas.List.{length-take-le}
 use Rattle.std.proofs.lemmas.List.Sums.{prefix_len-le-length}
 use Rattle.std.proofs.lemmas.Str.{IsUtf8-take, IsUtf8-drop, IsCharBoundary-from_rest, IsCharBoundary-before_ascii}
@@ -54,9 +53,12 @@ module _ (out content : List ℕ) (front : IsUtf8 out) (behind : IsUtf8 content)
       let is = eqb-true (beginning_run (drop plain rest)) run same in
       let third = beginning_run-cut (drop plain rest) (IsUtf8-drop rest plain text inner) in
       let deeper = IsCharBoundary-from_rest rest plain run inner.0
-      (subst (λ (n : ℕ). IsCharBoundary (drop plain rest) n) is third) in
-      (first, second, subst (λ (n : ℕ). IsCharBoundary content n) (omega arith)
-      (IsCharBoundary-from_rest content run (plain + run) le deeper)))
+      (subst (λ (n : ℕ). IsCharBoundary (drop plain rest) n) is third) in (
+        first,
+        second,
+        subst (λ (n : ℕ). IsCharBoundary content n) (omega arith)
+            (IsCharBoundary-from_rest content run (plain + run) le deeper),
+      ))
       (λ _. tt))
 
   end_fits : Own (joint_at_end (ending_run out) (take (length out - ending_run out) out))
@@ -82,11 +84,14 @@ module _ (out content : List ℕ) (front : IsUtf8 out) (behind : IsUtf8 content)
       let deeper = cut_in_front before (length before - plain) (length head - ending_run head) (omega arith) cut.1
       third.1 in
       let place = cut_in_front out (length out - run) (length head - ending_run head) (omega arith) run_cut.boundary
-      deeper in
-      (run_cut, second, record {
-        within = omega (arith, size, long, is, third.0, cut.0, run_cut.within);
-        boundary = subst (λ (n : ℕ). IsCharBoundary out n) (omega (arith, size, long, is, third.0, cut.0)) place;
-      }))
+      deeper in (
+        run_cut,
+        second,
+        record {
+          within = omega (arith, size, long, is, third.0, cut.0, run_cut.within);
+          boundary = subst (λ (n : ℕ). IsCharBoundary out n) (omega (arith, size, long, is, third.0, cut.0)) place;
+        },
+      ))
       (λ _. tt))
 
   between_fits : (last first : ℕ)

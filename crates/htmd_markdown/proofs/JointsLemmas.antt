@@ -4,7 +4,7 @@ use Rattle.std.proofs.Common.{get_or, take, drop, refl, sym, ap, subst, ◌∙�
 use Rattle.std.specs.Prelude.{◌==◌, not, ◌&&◌, ◌||◌, ◌%◌, reverse, encode_utf8, encode_utf8_all}
 use Rattle.std.specs.Char.{IsScalar, len_utf8}
 use Rattle.std.specs.List.{prefix_len, suffix_len}
-use Rattle.std.specs.Str.{chars, IsUtf8, IsCharBoundary, NoCharPasses}
+use Rattle.std.specs.Str.{chars, IsUtf8, NoCharPasses}
 use Rattle.std.proofs.Math.Seq.{take-append_seam}
 use Rattle.std.proofs.lemmas.Bool.{cases_Bool, cases_lt, cond-true, cond-false, or_right, and_right}
 use Rattle.std.proofs.lemmas.Bool.Decides.{nat_tests}
@@ -12,7 +12,7 @@ use Rattle.std.proofs.lemmas.List.{reverse-append, reverse-reverse, append-nil, 
 use Rattle.std.proofs.lemmas.List.{get_or-append-add}
 use Rattle.std.proofs.lemmas.List.Sums.{suffix_len-take_no}
 use Rattle.std.proofs.lemmas.Str.{chars_past_char, chars-nil, length-encode, encode_ascii, NoCharPasses-byte}
-use Rattle.std.proofs.lemmas.Str.{encodes-append, encodes-chars, chars-append, IsUtf8-encode, IsUtf8-past_char}
+use Rattle.std.proofs.lemmas.Str.{encodes-append, encodes-chars, IsUtf8-past_char}
 use Rattle.std.proofs.lemmas.Str.{len_utf8_bounds, drop_past_char}
 use Rattle.htmd_text.specs.Characters.{backslash}
 use Rattle.htmd_markdown.specs.Joints.{is_backslash, is_plain_at, plain_signs, plain_signs_back, plain_start}

@@ -21,7 +21,7 @@ use Rattle.htmd_text.specs.Indents.{indented_text}
 use Rattle.htmd_text.specs.Joins.{block_separator, join_block, joined_blocks}
 use Rattle.htmd_text.proofs.DigitsLemmas.{digits_more, digits_one}
 use Rattle.htmd_markdown.specs.ListItems.{number_marker, numbered_item, aligned_spaces}
-use Rattle.htmd_markdown.specs.Lists.{Block, item, item_count, numbered_blocks, highest_number, ordered_list}
+use Rattle.htmd_markdown.specs.Lists.{Block, item, item_count, numbered_blocks, highest_number}
 use Rattle.htmd_markdown.specs.Lists.{ordered_list_by}
 use Rattle.htmd_markdown.specs.ListColumns.{item_content, StandsInColumn, HasColumns, HasEqualColumns}
 use Rattle.htmd_markdown.proofs.ListsLemmas.{numbered-append, item_count-append}

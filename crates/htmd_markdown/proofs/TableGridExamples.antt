@@ -2,13 +2,13 @@
 use Rattle.std.proofs.Common.{◌≡◌, ℕ, List, [], ◌∷◌, true, false, refl, codes}
 use Rattle.htmd_markdown.specs.TableGrids.{SpannedCell, SpannedRow, grid}
 
-cell : List ℕ → ℕ → ℕ → SpannedCell
+abbrev cell : List ℕ → ℕ → ℕ → SpannedCell
 cell text columns rows = record { text = text; columns = columns; rows = rows }
 
-row : List SpannedCell → SpannedRow
+abbrev row : List SpannedCell → SpannedRow
 row cells = record { begins_group = false; cells = cells }
 
-first_row : List SpannedCell → SpannedRow
+abbrev first_row : List SpannedCell → SpannedRow
 first_row cells = record { begins_group = true; cells = cells }
 
 pub columns_kept : grid (row (cell (codes "AB") 2 1 ∷ []) ∷ row (cell (codes "A") 1 1 ∷ cell (codes "B") 1 1 ∷ []) ∷ [])

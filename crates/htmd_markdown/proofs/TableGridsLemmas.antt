@@ -1,12 +1,10 @@
 -- A table's grid, cell by cell and row by row.
-use Rattle.std.proofs.Common.{◌≡◌, ℕ, zero, suc, ◌+◌, ◌-◌, ◌<◌, ◌≤◌, List, [], ◌∷◌, ◌++◌, length, map, take, drop, min}
-use Rattle.std.proofs.Common.{max, refl, sym, ap, ◌∙◌, arith, append_assoc, ⊎_elim}
-use Rattle.std.specs.Prelude.{replicate}
+use Rattle.std.proofs.Common.{◌≡◌, ℕ, zero, suc, ◌+◌, ◌-◌, List, [], ◌∷◌, ◌++◌, length, map, take, drop, min}
+use Rattle.std.proofs.Common.{max, sym, ap, ◌∙◌, arith, append_assoc, ⊎_elim}
 use Rattle.std.specs.List.{prefix_len}
 use Rattle.std.proofs.lemmas.Bool.{cases_lt}
-use Rattle.std.proofs.lemmas.List.{length-replicate, drop_all, append-nil}
-use Rattle.htmd_markdown.specs.TableGrids.{SpannedCell, SpannedRow, Column, column, columns_of, goes_on, below, laid_row}
-use Rattle.htmd_markdown.specs.TableGrids.{texts_of, rows_of, columns_of_row, grid_below}
+use Rattle.std.proofs.lemmas.List.{length-replicate, drop_all}
+use Rattle.htmd_markdown.specs.TableGrids.{SpannedCell, Column, column, columns_of, goes_on, below, laid_row}
 
 drop_min : {A : Type 0} (n : ℕ) (xs : List A) → drop (min n (length xs)) xs ≡ drop n xs
 drop_min n xs =

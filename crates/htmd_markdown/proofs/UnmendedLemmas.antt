@@ -1,9 +1,9 @@
 -- Where there is nothing to mend.
-use Rattle.std.proofs.Common.{◌≡◌, ℕ, zero, suc, ◌+◌, ◌-◌, ◌<◌, ◌≤◌, Bool, true, false, cond, List, [], ◌∷◌, ◌++◌, length}
-use Rattle.std.proofs.Common.{get_or, take, drop, refl, sym, ap, subst, ◌∙◌, arith, ⊎_elim}
-use Rattle.std.specs.Prelude.{◌==◌, not, ◌&&◌, ◌||◌, ◌%◌, reverse}
+use Rattle.std.proofs.Common.{◌≡◌, ℕ, ◌+◌, ◌-◌, Bool, true, false, cond, List, [], ◌∷◌, ◌++◌, length}
+use Rattle.std.proofs.Common.{get_or, take, drop, refl, sym, ap, ◌∙◌, arith}
+use Rattle.std.specs.Prelude.{◌==◌}
 use Rattle.std.specs.List.{prefix_len, suffix_len}
-use Rattle.std.proofs.lemmas.Bool.{and_left, and_right, cond-true, cond-false, false_from_ne_true, false≢true, cases_lt}
+use Rattle.std.proofs.lemmas.Bool.{and_left, and_right, cond-false, false_from_ne_true, false≢true}
 use Rattle.std.proofs.lemmas.Bool.Decides.{nat_tests}
 use Rattle.std.proofs.lemmas.List.{take_all}
 use Rattle.std.proofs.lemmas.List.Sums.{suffix_len-take_no}
@@ -70,6 +70,7 @@ no_ending out other =
     by : (b : Bool) → cond b (0 - 1) 0 ≡ 0
     by true = refl
     by false = refl
+
     stops : (s : List ℕ) → is_asterisk (get_or s (length s - 1) 0) ≡ false → suffix_len is_asterisk s ≡ 0
     stops [] other = refl
     stops (b ∷ s) other =

@@ -1,5 +1,5 @@
 -- Where the places of a joint stand in its texts; the contracts of private functions alone cite it.
-use Rattle.std.specs.Prelude.{ℕ, ◌+◌, ◌-◌, ◌≤◌, List, length, take, drop}
+use Rattle.std.specs.Prelude.{ℕ, ◌+◌, ◌-◌, ◌≤◌, List, length}
 use Rattle.std.specs.Str.{IsCharBoundary}
 use Rattle.htmd_markdown.specs.declared.joint.Joint.{Joint}
 use Rattle.htmd_markdown.specs.declared.joint.Joint.TheVariants.{AsTheyAre, MarkBeforeBracket, SpaceBetween}

@@ -1,6 +1,6 @@
 -- How the text so far and what is put behind it meet in Guarded: so that no sign of the one joins with a sign of the
 -- other into markup, and marks of emphasis stand where a reader takes them for such (CommonMark 0.31.2, 6.1, 6.2, 6.4).
-use Rattle.std.specs.Prelude.{ℕ, ◌+◌, ◌-◌, ◌%◌, Bool, true, false, not, ◌&&◌, ◌||◌, ◌==◌, nat_lt, if◌then◌else◌}
+use Rattle.std.specs.Prelude.{ℕ, ◌+◌, ◌-◌, ◌%◌, Bool, false, not, ◌&&◌, ◌||◌, ◌==◌, nat_lt, if◌then◌else◌}
 use Rattle.std.specs.Prelude.{List, [], ◌∷◌, ◌++◌, length, take, drop, reverse, slice_index, codes, encode_utf8_all}
 use Rattle.std.specs.Char.{is_ascii_punctuation, is_whitespace}
 use Rattle.std.specs.List.{prefix_len, suffix_len}

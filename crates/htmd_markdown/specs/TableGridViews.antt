@@ -1,5 +1,5 @@
 -- What the cells and rows of the source stand for.
-use Rattle.std.specs.Prelude.{ℕ, List, map, string_bytes}
+use Rattle.std.specs.Prelude.{map, string_bytes}
 use Rattle.htmd_markdown.specs.declared.table_grid.SpannedCell as code
 use Rattle.htmd_markdown.specs.declared.table_grid.SpannedRow as codes
 use Rattle.htmd_markdown.specs.declared.table_grid.Column as codes_of_row

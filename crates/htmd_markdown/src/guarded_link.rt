@@ -203,7 +203,10 @@ fn begins_white(content: &str) -> bool
 fn is_white_alone(content: &str) -> bool
     ensures { result ≡ list_all spec.is_white content.now }
 {
-    content.as_bytes().iter().all(|b| matches!(*b, b' ' | b'\n'))
+    content
+        .as_bytes()
+        .iter()
+        .all(|b| matches!(*b, b' ' | b'\n'))
 }
 
 /// Whether spaces or line feeds stand at the start, and not alone.

@@ -102,11 +102,7 @@ fn push_below(alloc: Global, columns: &mut Vec<Column>, above: &[u16]) -> Result
 }
 
 /// Puts the columns that a cell takes.
-fn push_cell(
-    alloc: Global,
-    columns: &mut Vec<Column>,
-    cell: SpannedCell,
-) -> Result<(), AllocError>
+fn push_cell(alloc: Global, columns: &mut Vec<Column>, cell: SpannedCell) -> Result<(), AllocError>
     ensures { OnOk result (map column_view columns.new.items
         ≡ map column_view columns.old.items ++ spec.columns_of (cell_view cell)) }
 {

@@ -2,7 +2,6 @@ use Rattle.std.proofs.Common.{rules, arith, ◌<◌, ◌++◌, length, sym, ap, 
 use Rattle.std.proofs.lemmas.List.{append-nil}
 use Rattle.htmd_tree.specs.Views.{pairs_of, data_of}
 use Rattle.htmd_tree.proofs.ItemsLemmas.{child_read}
-use Rattle.htmd.specs.AllText.{all_text}
 use Rattle.htmd.specs.ElementPlans.{is_tag_among}
 use Rattle.htmd.specs.OtherBlocks.{hidden_tags}
 use Rattle.htmd.proofs.AllTextLemmas.{said-more, text_said, comment_said, doctype_said, document_said, break_said}

@@ -107,12 +107,3 @@ returns-clause-err g c =
     on_err_weaker c.handle.result
     (λ h. begins-to (h (height (tree_of c.new-walk.result.tree.now id)) (omega arith))
     (ap (λ (a : Answer). a.definitions) same)) c.handle.ensures.err
-
-pub returns-in_err-is_known_in_line-clause-err : goal.returns-in_err-is_known_in_line-clause-err
-unfolding handled
-returns-in_err-is_known_in_line-clause-err g c =
-    let v = conversion_of (g.R.Registry.config c.args.registry.now) c.args.tree.now in
-    let at = occurrence_in_tree v c.args.node c.args.markdown_translated in
-    OnErr-always _ (begins-start (grows-answer at
-    (grows-within (height (tree_of c.args.tree.now c.args.node)) v) c.args.skipped
-    (ancestor_of (data_at c.args.tree.now c.args.node)).tag c.args.links.now))

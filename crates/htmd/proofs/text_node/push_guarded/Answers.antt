@@ -13,7 +13,7 @@ returns-then-not-ends_with_asterisk c =
     let out = string_bytes c.args.out.now in
     on_ok_weaker c.push_guarded_with_room.result
     (λ h. h ∙ text_unmended c.args.begins_line out c.args.text.now
-    (ap (ends_with asterisk) (sym c.as_str.ensures.value) ∙ sym c.ends_with_asterisk.ensures
+    (ap (ends_with asterisk) (sym c.deref.ensures) ∙ sym c.ends_with_asterisk.ensures
     ∙ c.if-not-ends_with_asterisk.true)) c.push_guarded_with_room.ensures
 
 pub returns : goal.returns
@@ -23,6 +23,6 @@ returns c =
     let written : string_bytes c.push_guarded_text.new.out ≡ text =
     c.in_ok-push_guarded_text.ensures ∙ ap (λ s. s ++ text) c.take-written.ensures in
     c.in_ok-push_str.ensures.bytes
-    ∙ ap (λ s. string_bytes c.mend_joint.new.out ++ s) (c.as_str-2.ensures.value ∙ c.in_ok-mend_joint.ensures.content)
+    ∙ ap (λ s. string_bytes c.mend_joint.new.out ++ s) (c.as_str.ensures.value ∙ c.in_ok-mend_joint.ensures.content)
     ∙ ap (λ s. s ++ (mended_ends out (string_bytes c.push_guarded_text.new.out)).behind) c.in_ok-mend_joint.ensures.out
     ∙ ap (λ s. (mended_ends out s).front ++ (mended_ends out s).behind) written

@@ -1,6 +1,6 @@
 -- What stands at the ends of both.
-use Rattle.std.proofs.Common.{rules, length, sym, ap, ◌∙◌}
-use Rattle.htmd_markdown.proofs.JointsLemmas.{runs_filled, runs_unfilled_end, runs_unfilled_start}
+use Rattle.std.proofs.Common.{rules, sym, ◌∙◌}
+use Rattle.htmd_markdown.proofs.JointsLemmas.{runs_filled}
 use Rattle.htmd_markdown.proofs.joint.joint_of_runs.Goals as goal
 
 pub returns : goal.returns

@@ -1,7 +1,6 @@
 -- One more character.
-use Rattle.std.proofs.Common.{rules, ◌≡◌, ◌+◌, true, false, length, sym, subst, ◌∙◌, arith}
+use Rattle.std.proofs.Common.{sym, subst, ◌∙◌, arith}
 use Rattle.std.specs.Str.{IsCharBoundary}
-use Rattle.htmd_markdown.specs.Joints.{is_plain_at}
 use Rattle.htmd_markdown.proofs.JointCutsLemmas.{plain_start-cut}
 use Rattle.htmd_markdown.proofs.JointsLemmas.{plain_on-start, plain_on-more, plain_on-stop, plain_on-end}
 use Rattle.htmd_markdown.proofs.joint.plain_start.Goals as goal

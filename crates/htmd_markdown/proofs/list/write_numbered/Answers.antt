@@ -1,5 +1,5 @@
 -- One more block, and all of them joined.
-use Rattle.std.proofs.Common.{rules, ℕ, List, ◌≡◌, ◌+◌, ◌-◌, ◌<◌, ◌^◌, length, map, map-id, arith, ap, ◌∷◌, [], ◌++◌}
+use Rattle.std.proofs.Common.{rules, ℕ, List, ◌≡◌, ◌+◌, ◌<◌, ◌^◌, map, map-id, arith, ap, ◌∷◌, [], ◌++◌}
 use Rattle.std.proofs.Common.{◌∙◌, sym, subst}
 use Rattle.std.proofs.lemmas.Iterator.Adapters.{YieldsList-from_vec}
 use Rattle.std.proofs.lemmas.Iterator.Consumers.{YieldsList-turn, YieldsList-end}

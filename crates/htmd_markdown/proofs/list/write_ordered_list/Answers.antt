@@ -1,5 +1,5 @@
 -- Aligned numbers leave one column to all contents.
-use Rattle.std.proofs.Common.{map, length, ap, ◌∙◌, sym, subst, arith}
+use Rattle.std.proofs.Common.{map, length, ap, ◌∙◌, subst, arith}
 use Rattle.std.specs.String.{string_bytes}
 use Rattle.std.proofs.lemmas.Result.{IfOk-weaker}
 use Rattle.htmd_markdown.specs.Lists.{block_of, highest_number}

@@ -1,5 +1,5 @@
 -- All rows.
-use Rattle.std.proofs.Common.{rules, ◌≡◌, [], ◌++◌, map, map-id, sym, ap, ◌∙◌}
+use Rattle.std.proofs.Common.{rules, [], map, map-id, sym, ap, ◌∙◌}
 use Rattle.std.proofs.lemmas.Iterator.Adapters.{YieldsList-from_vec}
 use Rattle.std.proofs.lemmas.Iterator.Consumers.{YieldsList-end}
 use Rattle.std.proofs.lemmas.List.{append-nil}

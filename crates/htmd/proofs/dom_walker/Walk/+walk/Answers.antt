@@ -122,11 +122,6 @@ walk_alone-returns-in_err-walk_node-clause-err = alone.walk_alone-returns-in_err
 pub walk_descendant-returns-in_err-append_text-clause-err : goal.walk_descendant-returns-in_err-append_text-clause-err
 walk_descendant-returns-in_err-append_text-clause-err = alone.walk_descendant-returns-in_err-append_text-clause-err
 
-pub walk_descendant-returns-in_err-is_in_line-clause-err :
-    goal.walk_descendant-returns-in_err-is_in_line-clause-err
-walk_descendant-returns-in_err-is_in_line-clause-err =
-    alone.walk_descendant-returns-in_err-is_in_line-clause-err
-
 pub walk_descendant-returns-clause-ok : goal.walk_descendant-returns-clause-ok
 walk_descendant-returns-clause-ok = alone.walk_descendant-returns-clause-ok
 

@@ -108,17 +108,6 @@ walk_descendant-returns-in_err-append_text-clause-err g t c =
     c.args.below) (context_of (ancestors_of c.args.self.now.tree.now c.args.below) false true)
     (empty_output c.args.links.now)))
 
-pub walk_descendant-returns-in_err-is_in_line-clause-err : goal.walk_descendant-returns-in_err-is_in_line-clause-err
-walk_descendant-returns-in_err-is_in_line-clause-err g t c =
-    let v = conversion_of (g.R.Registry.config c.args.self.now.registry.now) c.args.self.now.tree.now in
-    OnErr-always {P = AtNode v c.args.below
-    (λ write. Begins c.args.links.now c.args.links.now
-    (content_alone write v (descendant_tree c.args.self.now.tree.now (option_copied c.args.element.now.text)
-    c.args.below) c.args.below c.args.links.now).definitions)} _ (λ n h.
-    begins-start (grows-within n v (descendant_tree c.args.self.now.tree.now (option_copied c.args.element.now.text)
-    c.args.below) (context_of (ancestors_of c.args.self.now.tree.now c.args.below) false true)
-    (empty_output c.args.links.now)))
-
 pub walk_descendant-returns-clause-ok : goal.walk_descendant-returns-clause-ok
 walk_descendant-returns-clause-ok g t c =
     let v = conversion_of (g.R.Registry.config c.args.self.now.registry.now) c.args.self.now.tree.now in
