@@ -36,4 +36,3 @@ pub mod GuardedNodesLemmas
 pub mod GuardedTableLemmas
 pub mod GuardedSpansLemmas
 pub mod TableOrdersLemmas
-pub mod TableChildrenLemmas

@@ -51,6 +51,7 @@ pub mod TextWalks
 pub mod TextLawsLemmas
 pub mod ShownOfElements
 pub mod ShownTrees
+pub mod TableChildren
 pub mod ShownTables
 pub mod ShownLawsLemmas
 pub mod OneParagraphLawsLemmas

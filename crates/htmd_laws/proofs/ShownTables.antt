@@ -37,9 +37,9 @@ use Rattle.htmd_laws.proofs.LettersLemmas.{Says, says-own, says-nil, says-append
 use Rattle.htmd_laws.proofs.LettersLemmas.{whites_fill, whites_silent, fillers_ascii}
 use Rattle.htmd_laws.proofs.LettersOfTexts.{document_of_white}
 use Rattle.htmd_laws.proofs.LettersOfTables.{all_of, all-append}
-use Rattle.htmd.proofs.TableChildrenLemmas.{caption_tags, row_tags, each_child, each_line}
 use Rattle.htmd_laws.proofs.ElementsByTag.{among}
 use Rattle.htmd_laws.proofs.SaidChildren.{AllOf}
+use Rattle.htmd_laws.proofs.TableChildren.{caption_tags, row_tags, each_child, each_line}
 use Rattle.htmd_laws.proofs.ShownTrees.{Fits, AllFit, IsLow, all_low, not_alone}
 
 -- ---- what isn't seen shows nothing
