@@ -1,7 +1,7 @@
 -- An element by its tag: which handler it has, and what is to be shown of each.
 use Rattle.std.proofs.Common.{◌≡◌, ℕ, Bool, true, false, cond, List, [], ◌∷◌, ◌++◌, Option, Some, None}
 use Rattle.std.proofs.Common.{codes, drop, map, refl, sym, ap, ◌∙◌, subst, ⊎_elim}
-use Rattle.std.specs.Prelude.{not}
+use Rattle.std.specs.Prelude.{not, option_and_then}
 use Rattle.std.specs.List.{list_any}
 use Rattle.std.specs.Str.{bytes_eq}
 use Rattle.std.proofs.lemmas.Bool.{cond_both, cond-true, cond-false, cases_Bool, or_cases, or_from, or_parts}
@@ -18,7 +18,8 @@ use Rattle.htmd.specs.Handling.{ElementView, PlanView, content_of_children, cont
 use Rattle.htmd.specs.Choice.{TagIndex, indexes, handlers_at}
 use Rattle.htmd.specs.Groups.{only_text}
 use Rattle.htmd.specs.Outputs.{conversion_of, Writes, is_markdown_alone, is_guarded, result_of}
-use Rattle.htmd.specs.ElementPlans.{tag_of, attributes_of, is_tag_among}
+use Rattle.htmd.specs.ElementPlans.{tag_of, attributes_of, is_tag_among, tag_at}
+use Rattle.htmd.specs.Preformatted.{guarded_language, language_of_code, only_node, without_comments}
 use Rattle.htmd.specs.OrdinaryText.{pre}
 use Rattle.htmd.specs.Children.{content_alone, descendant_tree}
 use Rattle.htmd.specs.Elements.{Occurrence, Answer, content_of, contents_alone, first_answer, plan_answer, answer_after}
@@ -72,11 +73,11 @@ IsOnly options tag handler =
 abbrev pub is_named : List (List ℕ) → List ℕ → Bool
 is_named tags name = list_any (λ tag. bytes_eq tag name) tags
 
-abbrev HoldsOfAll : (List ℕ → Type 0) → List (List ℕ) → Type 0
+abbrev pub HoldsOfAll : (List ℕ → Type 0) → List (List ℕ) → Type 0
 HoldsOfAll P [] = Unit {0}
 HoldsOfAll P (tag ∷ tags) = P tag × HoldsOfAll P tags
 
-among : (P : List ℕ → Type 0) (tags : List (List ℕ)) (name : List ℕ) → HoldsOfAll P tags
+pub among : (P : List ℕ → Type 0) (tags : List (List ℕ)) (name : List ℕ) → HoldsOfAll P tags
     → is_named tags name ≡ true → P name
 among P [] name all e = absurd (false≢true e)
 among P (tag ∷ tags) name all e =
@@ -462,6 +463,23 @@ module _ (items : List Item) (values : (id : ℕ) → AreValues (ancestor_of (da
       (language_at items (parent_at items view.node))
       (language_is_text (ancestor_of (data_at items view.node)).attributes (values view.node))
       (language_of_node (parent_at items view.node)))
+
+  child_language : (child : Option ℕ) → IsTextIfAny (option_and_then (language_of_code items) child)
+  child_language None = tt
+  child_language (Some child) =
+      cond_both (is_tag_among (codes "code" ∷ []) (tag_at items (Some child))) _ _ IsTextIfAny
+      (λ _. language_of_node (Some child)) (λ _. tt)
+
+  pub guarded_language_is_text : (view : ElementView) → view.items ≡ items → IsTextIfAny (guarded_language view)
+  guarded_language_is_text view same =
+      subst (λ (all : List Item). IsTextIfAny
+      (option_or (option_and_then (language_of_code all) (only_node (without_comments all (children_of all view.node))))
+      (language_of (ancestor_of (data_at all view.node)).attributes))) (sym same)
+      (either_text
+      (option_and_then (language_of_code items) (only_node (without_comments items (children_of items view.node))))
+      (language_of (ancestor_of (data_at items view.node)).attributes)
+      (child_language (only_node (without_comments items (children_of items view.node))))
+      (language_is_text (ancestor_of (data_at items view.node)).attributes (values view.node)))
 
 -- ---- ordered lists
 

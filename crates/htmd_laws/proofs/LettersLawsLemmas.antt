@@ -166,7 +166,8 @@ module _ (options : Options) (alone : is_markdown_alone options ≡ true)
   result_is_said out whole None definitions l m p q = says-is (sym (append-nil l) ∙ ap (λ z. l ++ z) (sym q)) p
   result_is_said out whole (Some result) definitions l m p q =
       cond_both (is_guarded options) _ _ (λ (t : List ℕ). Says of_letters t (l ++ m))
-      (λ _. says-guarded_seam of_letters refl out.text result.content l m p q) (λ _. says-seam out.text result.content whole p q)
+      (λ _. says-guarded_seam of_letters refl out.text result.content l m p q)
+      (λ _. says-seam out.text result.content whole p q)
 
   within_is_said : (n : ℕ) → AreSaid n
   unfolding written_within said_within

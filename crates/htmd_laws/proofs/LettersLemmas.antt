@@ -37,7 +37,7 @@ pub says-in : {law : Law} {s l m : List ℕ} → Holds law m l → Says law s l 
 says-in {law} {s} {l} {m} h p = record { utf8 = p.utf8; says = holds-then law m l (counted law s) h p.says }
 
 -- any text shows nothing at least
-pub shows-none : {s : List ℕ} → IsUtf8 s → Says of_visible s []
+pub shows-none : {guarded : Bool} {s : List ℕ} → IsUtf8 s → Says (of_visible guarded) s []
 shows-none text = record { utf8 = text; says = tt }
 
 pub says-of_nothing : {law : Law} {l : List ℕ} → Says law [] l → l ≡ []
@@ -130,7 +130,7 @@ whites_fill [] e = refl
 whites_fill (b ∷ s) e = let parts = and_parts (is_white b) (list_all is_white s) e in
     and_from (is_filler b) (list_all is_filler s) (white_fills b parts.0) (whites_fill s parts.1)
 
-whites_silent : (law : Law) (s : List ℕ) → list_all is_white s ≡ true → filter (counts law) s ≡ []
+pub whites_silent : (law : Law) (s : List ℕ) → list_all is_white s ≡ true → filter (counts law) s ≡ []
 whites_silent law [] e = refl
 whites_silent law (b ∷ s) e = let parts = and_parts (is_white b) (list_all is_white s) e in
     cond-false (counts law b) _ _ (white_silent law b parts.0) ∙ whites_silent law s parts.1

@@ -1,28 +1,28 @@
 -- The letters of elements.
 use Rattle.std.proofs.Common.{◌≡◌, ℕ, Bool, true, false, cond, List, [], ◌∷◌, ◌++◌, Option, Some, None}
 use Rattle.std.proofs.Common.{codes, refl, sym, ap, ◌∙◌, subst}
-use Rattle.std.specs.Prelude.{◌||◌, ◌&&◌, option_and_then}
+use Rattle.std.specs.Prelude.{◌||◌, ◌&&◌}
 use Rattle.std.specs.List.{list_all}
 use Rattle.std.specs.Str.{IsUtf8, bytes_eq}
 use Rattle.std.proofs.Math.Bool.{and_comm}
-use Rattle.std.proofs.lemmas.Bool.{cond_both, cond-true, cond-false, or_from, true≢false}
+use Rattle.std.proofs.lemmas.Bool.{cond_both, cond-false, or_from}
 use Rattle.std.proofs.lemmas.Bool.{and_left}
 use Rattle.htmd_tree.specs.Items.{Item, data_at, children_of}
 use Rattle.htmd_tree.specs.NumberedTrees.{NumberedTree, NumberedForest}
 use Rattle.htmd_tree.specs.Ancestors.{Ancestor, ancestor_of}
 use Rattle.htmd.specs.declared.options.Options.{Options}
 use Rattle.htmd.specs.Handling.{ElementView, PlanView, nothing, content_of_children, contents_of_each, HandlerMeaning}
-use Rattle.htmd.specs.Handling.{ResultView, content_of_fallback}
+use Rattle.htmd.specs.Handling.{content_of_fallback}
 use Rattle.htmd.specs.Choice.{indexes}
 use Rattle.htmd.specs.AllText.{text_or_all, all_text_of}
 use Rattle.htmd.specs.Groups.{only_text, groups_of, children_at}
 use Rattle.htmd.specs.Outputs.{Conversion, conversion_of, Writes, is_markdown_alone, is_guarded, result_of}
-use Rattle.htmd.specs.ElementPlans.{tag_of, attributes_of, is_tag_among, markdown_plan, tag_at}
+use Rattle.htmd.specs.ElementPlans.{tag_of, attributes_of, is_tag_among, markdown_plan}
 use Rattle.htmd.specs.ElementPlans.{unless_faithful}
 use Rattle.htmd_markdown.specs.LineBreaks.{line_break}
 use Rattle.htmd.specs.Children.{content_inside, content_alone, descendant_tree}
 use Rattle.htmd.specs.Elements.{Occurrence, Answer, content_of, contents_alone, plan_answer, answer_after}
-use Rattle.htmd.specs.Elements.{without_handler, occurrence_at, with_finish, answer_of}
+use Rattle.htmd.specs.Elements.{without_handler, occurrence_at, with_finish}
 use Rattle.htmd.specs.OtherBlocks.{other_blocks, other_block_plan, hidden_tags}
 use Rattle.htmd.specs.LineBreaks.{line_breaks, break_style_of}
 use Rattle.htmd.specs.ThematicBreaks.{thematic_breaks, thematic_break_plan, thematic_break_style_of}
@@ -32,23 +32,22 @@ use Rattle.htmd.specs.OneLineElements.{stands_in_line, is_in_line}
 use Rattle.htmd.specs.Code.{code, code_plan, guarded_code_plan, content_plan}
 use Rattle.htmd.specs.Preformatted.{preformatted_texts, preformatted_plan}
 use Rattle.htmd.specs.Preformatted.{block_plan, guarded_preformatted}
-use Rattle.htmd.specs.Code.{is_code_block, language, shows_language, language_of}
-use Rattle.htmd.specs.Preformatted.{language_of_code, guarded_language, only_node, without_comments}
+use Rattle.htmd.specs.Code.{is_code_block, language, shows_language}
+use Rattle.htmd.specs.Preformatted.{guarded_language}
 use Rattle.htmd.specs.Lists.{lists}
 use Rattle.htmd_text.specs.BlankLines.{with_blank_lines}
 use Rattle.htmd_text.specs.Trims.{trimmed_text, some_text, is_line_feed}
 use Rattle.std.specs.Option.{option_map}
 use Rattle.htmd.specs.Tables.{has_table_form}
-use Rattle.htmd.specs.TableElements.{tables, table_plan, is_left_out}
-use Rattle.htmd.specs.GuardedTableLayouts.{is_written_as_table, table_lines, nodes_of_lines}
+use Rattle.htmd.specs.TableElements.{tables, table_plan}
+use Rattle.htmd.specs.GuardedTableLayouts.{is_written_as_table}
 use Rattle.htmd.specs.TableLayouts.{has_lines}
 use Rattle.htmd.specs.TableLayouts.{layout_of}
 use Rattle.htmd.specs.TableLayouts.{nodes_of}
 use Rattle.htmd.specs.ElementPlans.{optional_markdown}
 use Rattle.htmd_laws.proofs.LettersOfTexts.{says-blank_lines}
 use Rattle.htmd_laws.proofs.LettersOfTables.{SayEach, all_of, says-table_text}
-use Rattle.htmd_laws.proofs.LettersOfGrids.{says-guarded_table}
-use Rattle.htmd.proofs.TableOrdersLemmas.{line_order, lines_in_order}
+use Rattle.htmd_laws.proofs.WrittenTables as table_handler
 use Rattle.htmd.specs.TableOrder.{nodes_of_table}
 use Rattle.htmd_laws.specs.Letters.{is_written}
 use Rattle.htmd.specs.CaptionsAndCells.{captions_and_cells}
@@ -62,15 +61,16 @@ use Rattle.htmd_laws.specs.Letters.{said_of_image, said_of_formula, said_of_elem
 use Rattle.htmd_laws.specs.Letters.{prefers_autolinks, letters, letters_if_any, said_of_code, said_of_pre, is_hidden}
 use Rattle.htmd_laws.proofs.LettersLemmas.{Says, says-own, says-nil, says-is, is_filler}
 use Rattle.htmd_laws.proofs.LettersOfTexts.{line_feed_of_white, says-trimmed}
-use Rattle.htmd_laws.proofs.LettersOfLinks.{IsTextIfAny}
+use Rattle.htmd_laws.proofs.LettersOfLinks.{IsTextIfAny, says-own_if_any}
 use Rattle.htmd_laws.proofs.LettersOfHandlers.{says-span_result}
-use Rattle.htmd_laws.proofs.LettersOfHandlers.{SaysResult, AreValues, last_is_text, language_is_text, either_text}
+use Rattle.htmd_laws.proofs.LettersOfHandlers.{SaysResult, AreValues, last_is_text}
 use Rattle.htmd_laws.proofs.LettersOfHandlers.{KeepsContent}
 use Rattle.htmd_laws.proofs.LettersOfHandlers.{wrapped}
 use Rattle.htmd_laws.proofs.LettersOfGuarded.{says-guarded_code, says-guarded_span, says-guarded_block}
+use Rattle.htmd_laws.proofs.LettersOfGuarded.{fitting_is_text}
 use Rattle.htmd_laws.proofs.LettersOfHandlers.{says-break, says-rule}
 use Rattle.htmd_laws.proofs.LettersOfHandlers.{code_is_said as code_says, link_is_said, formula_marks_fill, says-formula}
-use Rattle.htmd_laws.proofs.ElementsByTag.{language_of_node, shown_language, ordered_gives, each_of_all}
+use Rattle.htmd_laws.proofs.ElementsByTag.{shown_language, guarded_language_is_text, ordered_gives, each_of_all}
 use Rattle.htmd_laws.proofs.ElementsByTag.{IsOnly, is_named, IsPlain, by_tag, planned_is_said, either_is_said}
 use Rattle.htmd_laws.proofs.ElementsByTag.{kept_is_said, image_gives, unhandled_answer}
 
@@ -159,24 +159,16 @@ module _ (options : Options) (alone : is_markdown_alone options ≡ true)
         (shown_language items values at.view refl) options.code_block_style refl
         (is_code_block at.view) refl)))
 
-    child_language : (child : Option ℕ) → IsTextIfAny (option_and_then (language_of_code items) child)
-    child_language None = tt
-    child_language (Some child) =
-        cond_both (is_tag_among (codes "code" ∷ []) (tag_at items (Some child))) _ _ IsTextIfAny
-        (λ _. language_of_node items values (Some child)) (λ _. tt)
-
     guarded_pre_says : Says of_letters (guarded_preformatted at.view)
         (cond (stands_in_line items id) [] (letters_if_any (fitting_language (guarded_language at.view)))
         ++ letters (all_text_of at.view))
     guarded_pre_says =
         let s = all_text_of at.view in
         let said = says-own s all in
-        let child = only_node (without_comments items (children_of items id)) in
-        let text =
-        either_text (option_and_then (language_of_code items) child) (language_of (attributes_of at.view))
-        (child_language child) (language_is_text (attributes_of at.view) (values id)) in
         in_line_or (stands_in_line items id) _ _ _ _ (says-guarded_span s (letters s) said)
-        (says-blank_lines _ (says-guarded_block s (guarded_language at.view) options.code_block_fence said text))
+        (says-blank_lines _ (says-guarded_block s (guarded_language at.view) options.code_block_fence _ said
+        (says-own_if_any _ (fitting_is_text (guarded_language at.view)
+        (guarded_language_is_text items values at.view refl)))))
       where
         in_line_or : (b : Bool) (x y l m : List ℕ) → Says of_letters x m → Says of_letters y (l ++ m)
             → Says of_letters (cond b x y) (cond b [] l ++ m)
@@ -231,14 +223,13 @@ module _ (options : Options) (alone : is_markdown_alone options ≡ true)
     -- ---- tables
 
     abbrev said_here : ℕ → List ℕ
-    said_here d = says (descendant_tree items (only_text children) d)
+    said_here = table_handler.said_here of_letters options alone items write says id inside children definitions
 
     each_gives : (ds : List ℕ) (before : List (List ℕ))
-        → SayEach said_here ds (contents_alone at ds before).results
-    each_gives [] before = tt
-    each_gives (d ∷ ds) before =
-        let out = content_alone write conversion (descendant_tree items (only_text children) d) d before in
-        (each d before, each_gives ds out.definitions)
+        → SayEach said_here of_letters ds (contents_alone at ds before).results
+    each_gives ds before =
+        table_handler.each_gives of_letters options alone items write says id inside children definitions ds before
+        (each_of_all of_letters at says ds each)
 
     same_list : (ds : List ℕ) → all_of said_here ds ≡ said_of_each says at.view ds
     same_list [] = refl
@@ -250,62 +241,25 @@ module _ (options : Options) (alone : is_markdown_alone options ≡ true)
     between_lines (b ∷ s) l p = says-blank_lines (b ∷ s) p
 
     -- what the handler gives by this plan, what is said is this
-    TableGives : PlanView → List ℕ → Type 0
-    TableGives plan l =
-        SaysResult of_letters (plan_answer tables at definitions plan (without_handler at definitions)).result l
-
-    fallback_gives : is_left_out at.view ≡ true
-        → TableGives content_of_fallback (said_among says (groups_of children))
-    unfolding TableGives
-    fallback_gives left =
-        let passed_on : without_handler at definitions ≡ answer_of (content_of at definitions) =
-        cond-true (is_markdown_alone options) _ _ alone in
-        subst
-        (λ (a : Answer). SaysResult of_letters (plan_answer tables at definitions content_of_fallback a).result
-        (said_among says (groups_of children)))
-        (sym passed_on)
-        (cond_both (is_left_out at.view) _ _
-        (λ (r : Option ResultView). SaysResult of_letters r (said_among says (groups_of children)))
-        (λ _. within definitions) (λ other. absurd (true≢false (sym left ∙ other))))
+    abbrev TableGives : PlanView → List ℕ → Type 0
+    TableGives = table_handler.TableGives of_letters options alone items write says id inside children definitions
 
     -- in Guarded
 
-    guarded_plan : is_guarded options ≡ true → (written : Bool) → is_written_as_table items id ≡ written
-        → table_plan at.view
-        ≡ cond written (contents_of_each (nodes_of_lines (table_lines items id))) content_of_fallback
-    guarded_plan g true is = rw (alone, g, is) refl
-    guarded_plan g false is = rw (alone, g, is) refl
-
     guarded_inside : is_guarded options ≡ true → (written : Bool) → is_written_as_table items id ≡ written
         → said_inside says (codes "table") at.view children
-        ≡ cond written (said_of_each says at.view (captions_and_cells items (children_of items id)))
+        ≡ cond written (all_of said_here (captions_and_cells items (children_of items id)))
         (said_among says (groups_of children))
-    guarded_inside g true is = rw (g, is) refl
+    guarded_inside g true is = rw (g, is) (sym (same_list (captions_and_cells items (children_of items id))))
     guarded_inside g false is = rw (g, is) refl
 
-    lines_give : is_guarded options ≡ true
-        → TableGives (contents_of_each (nodes_of_lines (table_lines items id)))
-        (said_of_each says at.view (captions_and_cells items (children_of items id)))
-    unfolding TableGives
-    lines_give g =
-        let lines = table_lines items id in
-        let nodes = nodes_of_lines lines in
-        let order : all_of said_here (line_order lines)
-        ≡ said_of_each says at.view (captions_and_cells items (children_of items id)) =
-        ap (all_of said_here) (lines_in_order items id)
-        ∙ same_list (captions_and_cells items (children_of items id)) in
-        rw g
-        (says-is order
-        (says-guarded_table said_here items lines (contents_alone at nodes definitions).results
-        (each_gives nodes definitions)))
-
-    guarded_gives : is_guarded options ≡ true → (written : Bool) → is_written_as_table items id ≡ written
-        → TableGives
-        (cond written (contents_of_each (nodes_of_lines (table_lines items id))) content_of_fallback)
-        (cond written (said_of_each says at.view (captions_and_cells items (children_of items id)))
-        (said_among says (groups_of children)))
-    guarded_gives g true is = lines_give g
-    guarded_gives g false is = fallback_gives (rw (alone, g, is) refl)
+    guarded_gives : is_guarded options ≡ true
+        → TableGives (table_plan at.view) (said_inside says (codes "table") at.view children)
+    guarded_gives g =
+        let inside_it = said_among says (groups_of children) in
+        subst (λ (l : List ℕ). TableGives (table_plan at.view) l) (sym (guarded_inside g _ refl))
+        (table_handler.guarded_table_gives of_letters options alone items write says id inside children definitions g
+        inside_it (within definitions) (λ _. each_of_all of_letters at says _ each))
 
     -- in Pure
 
@@ -329,7 +283,6 @@ module _ (options : Options) (alone : is_markdown_alone options ≡ true)
         → TableGives (contents_of_each (nodes_of (layout_of items id).parts))
         (cond lines (said_of_each says at.view (nodes_of_table (layout_of items id).parts))
         (said_among says (groups_of children)))
-    unfolding TableGives
     parts_give g true is has =
         let parts = (layout_of items id).parts in
         rw (g, alone, has)
@@ -349,17 +302,13 @@ module _ (options : Options) (alone : is_markdown_alone options ≡ true)
         (cond (form && lines) (said_of_each says at.view (nodes_of_table (layout_of items id).parts))
         (said_among says (groups_of children)))
     pure_gives g true lines is has = parts_give g lines is has
-    pure_gives g false lines is has = fallback_gives (rw (alone, g, is) refl)
+    pure_gives g false lines is has =
+        table_handler.fallback_gives of_letters options alone items write says id inside children definitions
+        (said_among says (groups_of children)) (rw (alone, g, is) refl) (within definitions)
 
     table_gives : (guarded : Bool) → is_guarded options ≡ guarded
         → TableGives (table_plan at.view) (said_inside says (codes "table") at.view children)
-    table_gives true g =
-        let written = is_written_as_table items id in
-        subst (λ (plan : PlanView). TableGives plan (said_inside says (codes "table") at.view children))
-        (sym (guarded_plan g written refl))
-        (subst (λ (l : List ℕ). TableGives
-        (cond written (contents_of_each (nodes_of_lines (table_lines items id))) content_of_fallback) l)
-        (sym (guarded_inside g written refl)) (guarded_gives g written refl))
+    table_gives true g = guarded_gives g
     table_gives false g =
         let form = has_table_form items id in
         let lines = has_lines (layout_of items id) in
@@ -370,7 +319,6 @@ module _ (options : Options) (alone : is_markdown_alone options ≡ true)
         (sym (pure_inside g form lines refl refl)) (pure_gives g form lines refl refl))
 
     table_is_said : IsSaid (codes "table")
-    unfolding TableGives
     table_is_said here =
         planned_is_said of_letters at definitions (codes "table") tables (table_plan at.view) (said_inside says
         (codes "table") at.view children)

@@ -21,13 +21,15 @@ use Rattle.htmd.specs.GuardedTableLayouts.{TableLine, caption, row, nodes_of_lin
 use Rattle.htmd.specs.GuardedTableTexts.{GuardedTexts, no_guarded_texts, spanned_cells, with_caption}
 use Rattle.htmd.proofs.TableOrdersLemmas.{line_cells, line_captions, line_order}
 use Rattle.htmd.specs.GuardedTableTexts.{with_lines, grid_text, with_blank_line, guarded_table_text, guarded_table_of}
-use Rattle.htmd_laws.proofs.CountedTexts.{of_letters}
-use Rattle.htmd_laws.proofs.LettersLemmas.{Says, says-own, says-nil, says-append, says-is, says-behind, says-before}
+use Rattle.htmd_laws.proofs.CountedTexts.{Law}
+use Rattle.htmd_laws.proofs.LettersLemmas.{Says, says-own, says-nil, says-in, says-append, says-is, says-behind}
+use Rattle.htmd_laws.proofs.LettersLemmas.{says-before}
 use Rattle.htmd_laws.proofs.LettersLemmas.{says-of_nothing}
 use Rattle.htmd_laws.proofs.LettersOfGuarded.{says-in_one_line}
-use Rattle.htmd_laws.proofs.LettersOfLines.{counted_of_all, SayAll, say-own, say-none, say-cons, say-is, say-as}
+use Rattle.htmd_laws.proofs.LettersOfLines.{counted_of_all, SayAll, say-own, say-none, say-cons, say-in, say-is, say-as}
 use Rattle.htmd_laws.proofs.LettersOfLines.{says-flat}
-use Rattle.htmd_laws.proofs.LettersOfTables.{SayRows, letters_of_rows, FitIn, rows-push, say-append, fit_in}
+use Rattle.htmd_laws.proofs.LettersOfTables.{SayRows, rows-own, rows-none, rows-in, rows-cons, rows-push, FitIn, fit_in}
+use Rattle.htmd_laws.proofs.LettersOfTables.{say-append}
 use Rattle.htmd_laws.proofs.LettersOfTables.{says-table_of, says-guarded_cell, all_of, all-append, SayEach, each_split}
 use Rattle.htmd_laws.proofs.LettersOfTexts.{document_of_white, says-trimmed}
 
@@ -38,43 +40,40 @@ abbrev pub cell_texts : SpannedRow → List (List ℕ)
 cell_texts line = map (λ (c : SpannedCell). c.text) line.cells
 
 -- columns that a cell above takes are empty
-say_below : (above : List ℕ) (columns : List Column) {l : List ℕ} → SayAll of_letters (texts_of columns) l
-    → SayAll of_letters (texts_of (map below above ++ columns)) l
+say_below : {law : Law} (above : List ℕ) (columns : List Column) {l : List ℕ} → SayAll law (texts_of columns) l
+    → SayAll law (texts_of (map below above ++ columns)) l
 say_below [] columns p = p
 say_below (rows ∷ above) columns p = say-cons says-nil (say_below above columns p)
 
-say_empty_columns : (n rows : ℕ) (columns : List Column) {l : List ℕ} → SayAll of_letters (texts_of columns) l
-    → SayAll of_letters (texts_of (replicate n (column [] rows) ++ columns)) l
+say_empty_columns : {law : Law} (n rows : ℕ) (columns : List Column) {l : List ℕ}
+    → SayAll law (texts_of columns) l
+    → SayAll law (texts_of (replicate n (column [] rows) ++ columns)) l
 say_empty_columns zero rows columns p = p
 say_empty_columns (suc n) rows columns p = say-cons says-nil (say_empty_columns n rows columns p)
 
-say_laid : (above : List ℕ) (cells : List SpannedCell) {l : List ℕ}
-    → SayAll of_letters (map (λ (c : SpannedCell). c.text) cells) l
-    → SayAll of_letters (texts_of (laid_row above cells)) l
+say_laid : {law : Law} (above : List ℕ) (cells : List SpannedCell) {l : List ℕ}
+    → SayAll law (map (λ (c : SpannedCell). c.text) cells) l
+    → SayAll law (texts_of (laid_row above cells)) l
 say_laid above [] p =
-    say-is p.say (say-as (ap texts_of (append-nil (map below above))) (say_below above [] say-none))
+    say-in p.say (say-as (ap texts_of (append-nil (map below above))) (say_below above [] say-none))
 say_laid above (cell ∷ cells) p =
     let kept = prefix_len goes_on above in
     let later = laid_row (drop (kept + length (columns_of cell)) above) cells in
     let more = say_laid (drop (kept + length (columns_of cell)) above) cells (say-own _ p.texts.1) in
-    say-is p.say
+    say-in p.say
     (say-as (ap texts_of (sym (append_assoc (map below (take kept above)) (columns_of cell) later)))
     (say_below (take kept above) (columns_of cell ++ later)
     (say-cons (says-own cell.text p.texts.0) (say_empty_columns (cell.columns - 1) cell.rows later more))))
 
-say_grid : (above : List ℕ) (rows : List SpannedRow) {l : List ℕ} → SayRows (map cell_texts rows) l
-    → SayRows (grid_below above rows) l
-say_grid above [] p = record { texts = tt; say = p.say }
-say_grid above (line ∷ rows) {l} p =
+say_grid : {law : Law} (above : List ℕ) (rows : List SpannedRow) {l : List ℕ} → SayRows law (map cell_texts rows) l
+    → SayRows law (grid_below above rows) l
+say_grid above [] p = rows-in p.say rows-none
+say_grid {law} above (line ∷ rows) {l} p =
     let columns = columns_of_row above line in
-    let first : SayAll of_letters (texts_of columns) (counted_of_all of_letters (cell_texts line)) =
+    let first : SayAll law (texts_of columns) (counted_of_all law (cell_texts line)) =
     say_laid (cond line.begins_group [] above) line.cells (say-own (cell_texts line) p.texts.0) in
-    let more = say_grid (rows_of columns) rows (record { texts = p.texts.1; say = refl }) in
-    record {
-      texts = (first.texts, more.texts);
-      say = ap (λ z. z ++ letters_of_rows (grid_below (rows_of columns) rows)) first.say
-          ∙ ap (λ z. counted_of_all of_letters (cell_texts line) ++ z) more.say ∙ p.say;
-    }
+    rows-in p.say
+    (rows-cons first (say_grid (rows_of columns) rows (rows-own (map cell_texts rows) p.texts.1)))
 
 -- ---- the text of the grid
 
@@ -85,18 +84,17 @@ widths_fit lines =
     cond_both _ (replicate (length widths) narrowest) widths (λ (ws : List ℕ). FitIn (length ws) lines)
     (λ _. subst (λ (n : ℕ). FitIn n lines) (sym (length-replicate (length widths) narrowest)) fit) (λ _. fit)
 
-says-written : (headers : List (List ℕ)) (rows : List (List (List ℕ))) {l m : List ℕ} → SayAll of_letters headers l
-    → SayRows rows m → Says of_letters (guarded_table headers rows) (l ++ m)
+says-written : {law : Law} (headers : List (List ℕ)) (rows : List (List (List ℕ))) {l m : List ℕ}
+    → SayAll law headers l → SayRows law rows m → Says law (guarded_table headers rows) (l ++ m)
 says-written headers rows p q =
     says-table_of guarded_cell says-guarded_cell (guarded_widths (headers ∷ rows)) headers rows
     (widths_fit (headers ∷ rows)) p q
 
-says-grid : (has_header : Bool) (rows : List (List (List ℕ))) {l : List ℕ} → SayRows rows l
-    → Says of_letters (grid_text has_header rows) l
-says-grid has_header [] p = says-is p.say says-nil
+says-grid : {law : Law} (has_header : Bool) (rows : List (List (List ℕ))) {l : List ℕ} → SayRows law rows l
+    → Says law (grid_text has_header rows) l
+says-grid has_header [] p = says-in p.say says-nil
 says-grid true (cells ∷ rows) p =
-    says-is p.say
-    (says-written cells rows (say-own cells p.texts.0) (record { texts = p.texts.1; say = refl }))
+    says-in p.say (says-written cells rows (say-own cells p.texts.0) (rows-own rows p.texts.1))
 says-grid false (cells ∷ rows) p =
     says-written ([] ∷ []) (cells ∷ rows) (say-is (append-nil []) (say-cons says-nil say-none)) p
 
@@ -110,23 +108,23 @@ rows_mapped : (rows : List SpannedRow) (last : SpannedRow)
 rows_mapped [] last = refl
 rows_mapped (first ∷ rows) last = ap (λ l. cell_texts first ∷ l) (rows_mapped rows last)
 
-module _ (f : ℕ → List ℕ) (items : List Item) where
+module _ (law : Law) (f : ℕ → List ℕ) (items : List Item) where
   -- what is written says this
   record Ordered (texts : GuardedTexts) (l : List ℕ) : Type 0 where
     pub b : List ℕ
     pub r : List ℕ
     pub h : List ℕ
-    pub in_before : SayAll of_letters texts.before b
-    pub in_rows : SayRows (map cell_texts texts.rows) r
-    pub in_behind : SayAll of_letters texts.behind h
+    pub in_before : SayAll law texts.before b
+    pub in_rows : SayRows law (map cell_texts texts.rows) r
+    pub in_behind : SayAll law texts.behind h
     pub whole : (b ++ r) ++ h ≡ l
 
   ordered-is : {texts : GuardedTexts} {l m : List ℕ} → l ≡ m → Ordered texts l → Ordered texts m
   ordered-is {texts} e o = subst (λ (l : List ℕ). Ordered texts l) e o
 
   -- the cells of a row
-  say_cells : (ds : List ℕ) (rs : List ResultView) → SayEach f ds rs
-      → SayAll of_letters (map (λ (c : SpannedCell). c.text) (spanned_cells items ds rs)) (all_of f ds)
+  say_cells : (ds : List ℕ) (rs : List ResultView) → SayEach f law ds rs
+      → SayAll law (map (λ (c : SpannedCell). c.text) (spanned_cells items ds rs)) (all_of f ds)
   say_cells [] [] e = say-none
   say_cells [] (r ∷ rs) e = absurd e
   say_cells (d ∷ ds) [] e = absurd e
@@ -137,19 +135,19 @@ module _ (f : ℕ → List ℕ) (items : List Item) where
       (say_cells ds rs e.1)
 
   one_more_row : (rows : List SpannedRow) (begins_group : Bool) (cells : List ℕ) (own : List ResultView) {l : List ℕ}
-      → SayRows (map cell_texts rows) l → SayEach f cells own
-      → SayRows (map cell_texts
+      → SayRows law (map cell_texts rows) l → SayEach f law cells own
+      → SayRows law (map cell_texts
       (rows ++ (record { begins_group = begins_group; cells = spanned_cells items cells own }) ∷ []))
       (l ++ all_of f cells)
   one_more_row rows begins_group cells own {l} p e =
       let last : SpannedRow = record { begins_group = begins_group; cells = spanned_cells items cells own } in
-      subst (λ (s : List (List (List ℕ))). SayRows s (l ++ all_of f cells)) (rows_mapped rows last)
+      subst (λ (s : List (List (List ℕ))). SayRows law s (l ++ all_of f cells)) (rows_mapped rows last)
       (rows-push (map cell_texts rows) (cell_texts last) p (say_cells cells own e))
 
   -- behind a row captions stand last
   after_row : (lines : List TableLine) (rs : List ResultView) (x y : List (List ℕ)) (first : SpannedRow)
-      (rest : List SpannedRow) (b r h : List ℕ) → SayEach f (nodes_of_lines lines) rs → SayAll of_letters x b
-      → SayRows (map cell_texts (first ∷ rest)) r → SayAll of_letters y h
+      (rest : List SpannedRow) (b r h : List ℕ) → SayEach f law (nodes_of_lines lines) rs → SayAll law x b
+      → SayRows law (map cell_texts (first ∷ rest)) r → SayAll law y h
       → Ordered (with_lines items (texts_in x (first ∷ rest) y) lines rs)
       ((b ++ (r ++ all_of f (line_cells lines))) ++ (h ++ all_of f (line_captions lines)))
   after_row [] rs x y first rest b r h e p q s = record {
@@ -167,8 +165,8 @@ module _ (f : ℕ → List ℕ) (items : List Item) where
       (says-trimmed is_document_white_space document_of_white result.content e.0)
       (λ z k own. after_row lines rs x z first rest b r k e.1 p q own)
     where
-      by : (t : List ℕ) → Says of_letters t (f node)
-          → ((z : List (List ℕ)) (k : List ℕ) → SayAll of_letters z k
+      by : (t : List ℕ) → Says law t (f node)
+          → ((z : List (List ℕ)) (k : List ℕ) → SayAll law z k
           → Ordered (with_lines items (texts_in x (first ∷ rest) z) lines rs)
           ((b ++ (r ++ all_of f (line_cells lines))) ++ (k ++ all_of f (line_captions lines))))
           → Ordered (with_lines items (with_caption t (texts_in x (first ∷ rest) y)) lines rs)
@@ -186,7 +184,7 @@ module _ (f : ℕ → List ℕ) (items : List Item) where
           (next (y ++ (c ∷ t) ∷ []) (h ++ (f node ++ []))
           (say-append y ((c ∷ t) ∷ []) s (say-cons own say-none)))
   after_row (row in_head begins_group cells ∷ lines) rs x y first rest b r h e p q s =
-      let split = each_split f cells (nodes_of_lines lines) rs e in
+      let split = each_split f law cells (nodes_of_lines lines) rs e in
       let own = take (length cells) rs in
       ordered-is
       (ap (λ z. (b ++ z) ++ (h ++ all_of f (line_captions lines)))
@@ -198,14 +196,14 @@ module _ (f : ℕ → List ℕ) (items : List Item) where
 
   -- before the first row they stand first
   before_row : (lines : List TableLine) (rs : List ResultView) (x : List (List ℕ)) (b : List ℕ)
-      → SayEach f (nodes_of_lines lines) rs → SayAll of_letters x b
+      → SayEach f law (nodes_of_lines lines) rs → SayAll law x b
       → Ordered (with_lines items (texts_in x [] []) lines rs) (b ++ all_of f (line_order lines))
   before_row [] rs x b e p = record {
     b = b;
     r = [];
     h = [];
     in_before = p;
-    in_rows = record { texts = tt; say = refl };
+    in_rows = rows-none;
     in_behind = say-none;
     whole = append-nil (b ++ []);
   }
@@ -215,8 +213,8 @@ module _ (f : ℕ → List ℕ) (items : List Item) where
       (says-trimmed is_document_white_space document_of_white result.content e.0)
       (λ z k own. before_row lines rs z k e.1 own)
     where
-      by : (t : List ℕ) → Says of_letters t (f node)
-          → ((z : List (List ℕ)) (k : List ℕ) → SayAll of_letters z k
+      by : (t : List ℕ) → Says law t (f node)
+          → ((z : List (List ℕ)) (k : List ℕ) → SayAll law z k
           → Ordered (with_lines items (texts_in z [] []) lines rs) (k ++ all_of f (line_order lines)))
           → Ordered (with_lines items (with_caption t (texts_in x [] [])) lines rs)
           (b ++ (f node ++ all_of f (line_order lines)))
@@ -230,7 +228,7 @@ module _ (f : ℕ → List ℕ) (items : List Item) where
           (next (x ++ (c ∷ t) ∷ []) (b ++ (f node ++ []))
           (say-append x ((c ∷ t) ∷ []) p (say-cons own say-none)))
   before_row (row in_head begins_group cells ∷ lines) rs x b e p =
-      let split = each_split f cells (nodes_of_lines lines) rs e in
+      let split = each_split f law cells (nodes_of_lines lines) rs e in
       let own = take (length cells) rs in
       ordered-is
       (ap (λ z. (b ++ z) ++ all_of f (line_captions lines)) (sym (all-append f cells (line_cells lines)))
@@ -239,15 +237,15 @@ module _ (f : ℕ → List ℕ) (items : List Item) where
       (after_row lines (drop (length cells) rs) x []
       (record { begins_group = begins_group; cells = spanned_cells items cells own }) [] b (all_of f cells) []
       split.1 p
-      (one_more_row [] begins_group cells own (record { texts = tt; say = refl }) split.0) say-none)
+      (one_more_row [] begins_group cells own rows-none split.0) say-none)
 
   -- ---- the whole table
 
-  says-blank : (s l : List ℕ) → Says of_letters s l → Says of_letters (with_blank_line s) l
+  says-blank : (s l : List ℕ) → Says law s l → Says law (with_blank_line s) l
   says-blank s l p = says-before blank_line refl p
 
   says-texts : (has_header : Bool) (texts : GuardedTexts) (l : List ℕ) → Ordered texts l
-      → Says of_letters (guarded_table_text has_header texts) l
+      → Says law (guarded_table_text has_header texts) l
   says-texts has_header texts l o =
       says-is o.whole
       (says-append
@@ -256,8 +254,8 @@ module _ (f : ℕ → List ℕ) (items : List Item) where
       (says-grid has_header (grid texts.rows) (say_grid [] texts.rows o.in_rows))))
       (says-flat with_blank_line says-blank texts.behind o.in_behind))
 
-  pub says-guarded_table : (lines : List TableLine) (rs : List ResultView) → SayEach f (nodes_of_lines lines) rs
-      → Says of_letters (guarded_table_of items lines rs) (all_of f (line_order lines))
+  pub says-guarded_table : (lines : List TableLine) (rs : List ResultView) → SayEach f law (nodes_of_lines lines) rs
+      → Says law (guarded_table_of items lines rs) (all_of f (line_order lines))
   says-guarded_table lines rs e =
       says-texts (begins_with_header items lines) (with_lines items no_guarded_texts lines rs) _
       (before_row lines rs [] [] e say-none)

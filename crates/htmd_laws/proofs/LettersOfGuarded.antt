@@ -23,7 +23,8 @@ use Rattle.htmd_markdown.specs.GuardedAddresses as address
 use Rattle.htmd_markdown.specs.GuardedCode.{code_line, span_text, spaced_span, guarded_code, guarded_span_in_line}
 use Rattle.htmd_markdown.specs.GuardedCode.{fits_each_fence, fitting_language, code_lines, guarded_code_block}
 use Rattle.htmd_markdown.specs.GuardedLinks.{guarded_link_text, guarded_resource, guarded_link, guarded_description}
-use Rattle.htmd_markdown.specs.GuardedLinks.{guarded_image, guarded_reference}
+use Rattle.htmd_markdown.specs.GuardedLinks.{guarded_image, guarded_reference, guarded_autolink, is_space_before}
+use Rattle.htmd_markdown.specs.GuardedLinks.{ends_white}
 use Rattle.htmd_markdown.specs.GuardedText.{is_guarded_mark, guarded_text}
 use Rattle.htmd_markdown.specs.GuardedTitles.{title_part, title_line, guarded_title, guarded_title_text}
 use Rattle.htmd_markdown.specs.Headings.{guarded_style, guarded_heading}
@@ -43,7 +44,7 @@ use Rattle.htmd_laws.proofs.LettersOfTexts.{IsEdit, same_edit, filling_edit, OfW
 use Rattle.htmd_laws.proofs.LettersOfLines.{SayAll, say-mapped, says-joined, say-cut, Keeps}
 use Rattle.htmd_laws.proofs.LettersOfPieces.{SaysIfAny, says-emphasised, says-heading, spaces_if, says-code_span}
 use Rattle.htmd_laws.proofs.LettersOfPieces.{says-fenced}
-use Rattle.htmd_laws.proofs.LettersOfLinks.{says-decimal, say-filled, IsTextIfAny, says-own_if_any, says-in_brackets}
+use Rattle.htmd_laws.proofs.LettersOfLinks.{says-decimal, say-filled, IsTextIfAny, says-in_brackets}
 
 -- ---- marks
 
@@ -52,8 +53,8 @@ says-guarded_text begins s l p =
     says-marked (is_guarded_mark begins s) s
     (λ i m e. punctuation_low (slice_index s i) (mark_is_punctuation begins s i e)) p
 
-says-guarded_among : (characters : List ℕ) → list_all is_ascii characters ≡ true
-    → Keeps of_letters (guarded_among characters)
+says-guarded_among : {law : Law} (characters : List ℕ) → list_all is_ascii characters ≡ true
+    → Keeps law (guarded_among characters)
 says-guarded_among characters ascii s l p =
     says-marked (address.is_guarded_mark characters s) s
     (λ i m e. ltb-true (slice_index s i) 128 (mark_is_ascii characters s i ascii e)) p
@@ -63,23 +64,24 @@ says-guarded_among characters ascii s l p =
 line_end_fills : OfWhite is_line_end
 line_end_fills b e = grind (arith, nat_tests)
 
-line_ends_edited : (instead : List ℕ) → list_all is_filler instead ≡ true → (s : List ℕ)
-    → Edited of_letters s (line_ends_as instead s)
-line_ends_edited instead fills [] = refl
-line_ends_edited instead fills (b ∷ s) =
+line_ends_edited : (law : Law) (instead : List ℕ) → list_all is_filler instead ≡ true → (s : List ℕ)
+    → Edited law s (line_ends_as instead s)
+line_ends_edited law instead fills [] = refl
+line_ends_edited law instead fills (b ∷ s) =
     let rest = line_ends_as instead s in
-    let more = line_ends_edited instead fills s in
-    cond_both ((b == carriage_return) && (slice_index s 0 == line_feed)) _ _ (Edited of_letters (b ∷ s))
-    (λ e. ([], rest, filling_edit of_letters b [] (return_of_white b (and_parts _ _ e).0) refl, refl, more))
+    let more = line_ends_edited law instead fills s in
+    cond_both ((b == carriage_return) && (slice_index s 0 == line_feed)) _ _ (Edited law (b ∷ s))
+    (λ e. ([], rest, filling_edit law b [] (return_of_white b (and_parts _ _ e).0) refl, refl, more))
     (λ _. (cond (is_line_end b) instead (b ∷ []), rest, one, refl, more))
   where
-    one : IsEdit of_letters b (cond (is_line_end b) instead (b ∷ []))
-    one = cond_both (is_line_end b) instead (b ∷ []) (IsEdit of_letters b)
-        (λ e. filling_edit of_letters b instead (line_end_fills b e) fills) (λ _. same_edit of_letters b)
+    one : IsEdit law b (cond (is_line_end b) instead (b ∷ []))
+    one = cond_both (is_line_end b) instead (b ∷ []) (IsEdit law b)
+        (λ e. filling_edit law b instead (line_end_fills b e) fills) (λ _. same_edit law b)
 
-says-line_ends : (instead : List ℕ) → list_all is_filler instead ≡ true
-    → Keeps of_letters (line_ends_as instead)
-says-line_ends instead fills s l p = says-edited s (line_ends_as instead s) (line_ends_edited instead fills s) p
+says-line_ends : {law : Law} (instead : List ℕ) → list_all is_filler instead ≡ true
+    → Keeps law (line_ends_as instead)
+says-line_ends {law} instead fills s l p =
+    says-edited s (line_ends_as instead s) (line_ends_edited law instead fills s) p
 
 says-between_spaces : {law : Law} (parts : List (List ℕ)) {l : List ℕ} → SayAll law parts l
     → Says law (with_spaces_between parts) l
@@ -126,26 +128,33 @@ says-destination address {l} p =
     (says-guarded_among (codes "\\()<>") refl (bare_address address) l (says-line_ends [] refl address l p)))
     (bracket_if due (codes ">") refl))
 
-says-guarded_resource : (address : List ℕ) (title : Option (List ℕ)) → IsUtf8 address → IsTextIfAny title
+pub says-guarded_resource : (address : List ℕ) (title : Option (List ℕ)) → IsUtf8 address → IsTextIfAny title
     → Says of_letters (guarded_resource address title) (letters address ++ letters_if_any title)
 says-guarded_resource address title text titled =
     says-before (codes ")") refl
     (says-append (says-behind (codes "(") refl (says-destination address (says-own address text)))
     (says-title_behind title titled))
 
-says-link_text : (s : List ℕ) {l : List ℕ} → Says of_letters s l → Says of_letters (guarded_link_text s) l
+says-link_text : {law : Law} (s : List ℕ) {l : List ℕ} → Says law s l → Says law (guarded_link_text s) l
 says-link_text s {l} p = says-append (spaces_if _) (says-in_brackets (one_line s) (says-in_one_line s l p))
 
-pub says-guarded_link : (s address : List ℕ) (title : Option (List ℕ)) {l : List ℕ} → Says of_letters s l
-    → IsUtf8 address
-    → IsTextIfAny title
-    → Says of_letters (guarded_link s address title) (l ++ (letters address ++ letters_if_any title))
-says-guarded_link s address title {l} p text titled =
-    says-is (append-nil (l ++ (letters address ++ letters_if_any title)))
-    (says-append (says-append (says-link_text s p) (says-guarded_resource address title text titled)) (spaces_if _))
+-- a link to a place that is written so
+pub says-guarded_link : {law : Law} (s address : List ℕ) (title : Option (List ℕ)) {l m : List ℕ} → Says law s l
+    → Says law (guarded_resource address title) m → Says law (guarded_link s address title) (l ++ m)
+says-guarded_link s address title {l} {m} p q =
+    says-is (append-nil (l ++ m)) (says-append (says-append (says-link_text s p) q) (spaces_if _))
 
-pub says-guarded_reference : (number : ℕ) (s : List ℕ) {l : List ℕ} → Says of_letters s l
-    → Says of_letters (guarded_reference number s) l
+-- an autolink says its address, whatever its content
+pub says-guarded_autolink : {law : Law} (s address : List ℕ) {l : List ℕ} → Says law address l
+    → Says law (guarded_autolink s address) l
+says-guarded_autolink s address {l} p =
+    says-is (append-nil l)
+    (says-append
+    (says-before (codes ">") refl (says-append (says-before (codes "<") refl (spaces_if (is_space_before s))) p))
+    (spaces_if (ends_white s)))
+
+pub says-guarded_reference : {law : Law} (number : ℕ) (s : List ℕ) {l : List ℕ} → Says law s l
+    → Says law (guarded_reference number s) l
 says-guarded_reference number s {l} p =
     says-is (append-nil (l ++ []) ∙ append-nil l)
     (says-append
@@ -186,41 +195,38 @@ says-guarded_heading style level s l p =
 
 -- ---- code
 
-says-spaced_span : (before behind : Bool) → Keeps of_letters (spaced_span before behind)
+says-spaced_span : {law : Law} (before behind : Bool) → Keeps law (spaced_span before behind)
 says-spaced_span before behind s l p =
     says-is (append-nil l) (says-append (says-append (spaces_if before) (says-code_span false s p)) (spaces_if behind))
 
 -- of white space alone nothing is said
-unfilled : (s : List ℕ) {l : List ℕ} → is_filled s ≡ false → Says of_letters s l → [] ≡ l
+unfilled : {law : Law} (s : List ℕ) {l : List ℕ} → is_filled s ≡ false → Says law s l → [] ≡ l
 unfilled [] e p = sym (says-of_nothing p)
 unfilled (b ∷ s) e p = cc
 
-says-span_or : (before behind : Bool) (s blank : List ℕ) {l : List ℕ} → Says of_letters blank []
-    → Says of_letters s l
-    → Says of_letters (cond (is_filled (span_text s)) (spaced_span before behind (code_line s)) blank) l
-says-span_or before behind s blank {l} none p =
+says-span_or : {law : Law} (before behind : Bool) (s blank : List ℕ) {l : List ℕ} → Says law blank []
+    → Says law s l
+    → Says law (cond (is_filled (span_text s)) (spaced_span before behind (code_line s)) blank) l
+says-span_or {law} before behind s blank {l} none p =
     let line = says-line_ends (space ∷ []) refl s l p in
-    cond_both (is_filled (span_text s)) _ _ (λ (t : List ℕ). Says of_letters t l)
+    cond_both (is_filled (span_text s)) _ _ (λ (t : List ℕ). Says law t l)
     (λ _. says-spaced_span before behind (code_line s) l line)
     (λ e. says-is (unfilled (span_text s) e (says-trimmed is_document_white_space document_of_white (code_line s)
     line)) none)
 
-pub says-guarded_code : Keeps of_letters guarded_code
+pub says-guarded_code : {law : Law} → Keeps law guarded_code
 says-guarded_code s l p = says-span_or _ _ s _ (spaces_if (is_filled (code_line s))) p
 
-pub says-guarded_span : Keeps of_letters guarded_span_in_line
+pub says-guarded_span : {law : Law} → Keeps law guarded_span_in_line
 says-guarded_span s l p = says-span_or true true s _ (says-fillers (space ∷ []) refl) p
 
-fitting_is_text : (language : Option (List ℕ)) → IsTextIfAny language → IsTextIfAny (fitting_language language)
+pub fitting_is_text : (language : Option (List ℕ)) → IsTextIfAny language → IsTextIfAny (fitting_language language)
 fitting_is_text None text = tt
 fitting_is_text (Some s) text =
     cond_both (fits_each_fence s) (Some s) None IsTextIfAny (λ _. text) (λ _. tt)
 
-pub says-guarded_block : (s : List ℕ) (language : Option (List ℕ)) (fence : CodeBlockFence) {l : List ℕ}
-    → Says of_letters s l
-    → IsTextIfAny language
-    → Says of_letters (guarded_code_block s language fence) (letters_if_any (fitting_language language) ++ l)
-says-guarded_block s language fence {l} p text =
-    let fitting = fitting_language language in
-    says-fenced (code_lines s) fitting fence l (letters_if_any fitting) (says-line_ends (line_feed ∷ []) refl s l p)
-    (says-own_if_any fitting (fitting_is_text language text))
+pub says-guarded_block : {law : Law} (s : List ℕ) (language : Option (List ℕ)) (fence : CodeBlockFence)
+    (m : List ℕ) {l : List ℕ} → Says law s l → SaysIfAny law (fitting_language language) m
+    → Says law (guarded_code_block s language fence) (m ++ l)
+says-guarded_block s language fence m {l} p q =
+    says-fenced (code_lines s) (fitting_language language) fence l m (says-line_ends (line_feed ∷ []) refl s l p) q

@@ -62,7 +62,7 @@ use Rattle.htmd_laws.proofs.LettersOfPieces.{says-fenced}
 use Rattle.htmd_laws.proofs.LettersOfLinks.{IsTextIfAny, says-own_if_any, says-bullet, says-unnumbered, says-list}
 use Rattle.htmd_laws.proofs.LettersOfLinks.{says-link, says-reference, says-resource}
 use Rattle.htmd_laws.proofs.LettersOfGuarded.{says-guarded_link, says-guarded_reference, says-guarded_emphasis}
-use Rattle.htmd_laws.proofs.LettersOfGuarded.{says-guarded_heading}
+use Rattle.htmd_laws.proofs.LettersOfGuarded.{says-guarded_heading, says-guarded_resource}
 
 -- a result or nothing, and what it holds
 abbrev pub SaysResult : Law → Option ResultView → List ℕ → Type 0
@@ -291,7 +291,8 @@ link_is_said view content definitions l p Inlined e f (Some address) here text t
     (cond_both (is_guarded view.options) guarded_link_finish link_finish
     (λ finish. SaysResult of_letters (finish Inlined view content.content address definitions).result
     (l ++ (letters address ++ letters_if_any (title_of view))))
-    (λ _. says-guarded_link content.content address (title_of view) p text titled)
+    (λ _. says-guarded_link content.content address (title_of view) p
+    (says-guarded_resource address (title_of view) text titled))
     (λ _. says-link content.content address (title_of view) p (says-resource address (title_of view) text titled)))
 link_is_said view content definitions l p Referenced e f (Some address) here text titled =
     subst

@@ -1,6 +1,6 @@
 -- The letters of tables.
 use Rattle.std.proofs.Common.{◌≡◌, ℕ, zero, suc, ◌+◌, ◌-◌, ◌≤◌, Bool, true, false, cond, List, [], ◌∷◌, ◌++◌}
-use Rattle.std.proofs.Common.{length, take, drop, map, refl, sym, ap, ◌∙◌, arith, append_assoc, length-append, inr}
+use Rattle.std.proofs.Common.{length, take, drop, map, refl, sym, ap, ◌∙◌, arith, append_assoc, length-append, inr, subst}
 use Rattle.std.specs.Prelude.{◌==◌, ◌&&◌, not, replicate, fold}
 use Rattle.std.specs.List.{list_all, flat_map}
 use Rattle.std.specs.Str.{chars}
@@ -24,13 +24,14 @@ use Rattle.htmd.specs.Tables.{table_text}
 use Rattle.htmd.specs.TableOrder.{caption_nodes, header_nodes, row_nodes, captions_of, rows_of, last_headers}
 use Rattle.htmd.specs.TableOrder.{nodes_of_table}
 use Rattle.htmd.proofs.TableNodesLemmas.{each_kind}
-use Rattle.htmd_laws.specs.Letters.{letters}
-use Rattle.htmd_laws.proofs.LettersLemmas.{Says, says-own, says-nil, says-append, says-is, is_filler, says-many, says-behind}
+use Rattle.htmd_laws.proofs.LettersLemmas.{Says, says-own, says-nil, says-in, says-append, says-is, is_filler, says-many, says-behind}
 use Rattle.htmd_laws.proofs.LettersLemmas.{says-before, filler_ascii, fillers_ascii, fillers_silent}
-use Rattle.htmd_laws.proofs.CountedTexts.{of_letters}
+use Rattle.htmd_laws.proofs.CountedTexts.{Law, of_letters, counted, Holds, holds-own, holds-then, holds-append}
+use Rattle.htmd_laws.proofs.CountedTexts.{holds-of_nothing}
 use Rattle.htmd_laws.proofs.LettersOfTexts.{document_of_white, says-trimmed, Edited, says-edited, IsEdit, same_edit}
 use Rattle.htmd_laws.proofs.LettersOfTexts.{filling_edit, backslash_edit, line_feed_of_white, return_of_white}
-use Rattle.htmd_laws.proofs.LettersOfLines.{AreTexts, counted_of_all, SayAll, say-none, say-cons, say-is, say-mapped, Keeps}
+use Rattle.htmd_laws.proofs.LettersOfLines.{AreTexts, counted_of_all, SayAll, say-own, say-none, say-cons, say-is, say-in}
+use Rattle.htmd_laws.proofs.LettersOfLines.{say-mapped, Keeps}
 use Rattle.htmd_laws.proofs.LettersOfLines.{says-flat}
 
 -- ---- cells
@@ -68,76 +69,78 @@ says-normalised s l p =
 
 -- ---- cells of Guarded
 
-line_edit : (b : ℕ) → IsEdit of_letters b (guarded.in_line b)
-line_edit b =
-    cond_both (b == line_feed) _ _ (IsEdit of_letters b) (λ e. filling_edit of_letters b (space ∷ [])
+line_edit : (law : Law) (b : ℕ) → IsEdit law b (guarded.in_line b)
+line_edit law b =
+    cond_both (b == line_feed) _ _ (IsEdit law b) (λ e. filling_edit law b (space ∷ [])
     (line_feed_of_white b e) refl)
-    (λ _. cond_both (b == carriage_return) _ _ (IsEdit of_letters b) (λ e. filling_edit of_letters b []
+    (λ _. cond_both (b == carriage_return) _ _ (IsEdit law b) (λ e. filling_edit law b []
     (return_of_white b e) refl)
-    (λ _. same_edit of_letters b))
+    (λ _. same_edit law b))
 
-line_edits : (s : List ℕ) → Edited of_letters s (flat_map guarded.in_line s)
-line_edits [] = refl
-line_edits (b ∷ s) = (guarded.in_line b, flat_map guarded.in_line s, line_edit b, refl, line_edits s)
+line_edits : (law : Law) (s : List ℕ) → Edited law s (flat_map guarded.in_line s)
+line_edits law [] = refl
+line_edits law (b ∷ s) = (guarded.in_line b, flat_map guarded.in_line s, line_edit law b, refl, line_edits law s)
 
-bar_edits : (escaped : Bool) (s : List ℕ) → Edited of_letters s (escaped_bars escaped s)
-bar_edits escaped [] = refl
-bar_edits escaped (b ∷ s) =
+bar_edits : (law : Law) (escaped : Bool) (s : List ℕ) → Edited law s (escaped_bars escaped s)
+bar_edits law escaped [] = refl
+bar_edits law escaped (b ∷ s) =
     let due = (b == vertical_bar) && not escaped in (
       cond due (backslash ∷ b ∷ []) (b ∷ []),
       escaped_bars (is_escaping escaped b) s,
-      cond_both due _ _ (IsEdit of_letters b)
-          (λ e. backslash_edit of_letters b (filler_ascii b (bar_fills b (and_parts (b == vertical_bar) _ e).0)))
-          (λ _. same_edit of_letters b),
+      cond_both due _ _ (IsEdit law b)
+          (λ e. backslash_edit law b (filler_ascii b (bar_fills b (and_parts (b == vertical_bar) _ e).0)))
+          (λ _. same_edit law b),
       refl,
-      bar_edits (is_escaping escaped b) s,
+      bar_edits law (is_escaping escaped b) s,
     )
 
-pub says-guarded_cell : Keeps of_letters guarded_cell
-says-guarded_cell s l p =
+pub says-guarded_cell : {law : Law} → Keeps law guarded_cell
+says-guarded_cell {law} s l p =
     let whole = trimmed_text is_document_white_space s in
-    says-edited (cell_line s) (guarded_cell s) (bar_edits false (cell_line s))
-    (says-edited whole (cell_line s) (line_edits whole)
+    says-edited (cell_line s) (guarded_cell s) (bar_edits law false (cell_line s))
+    (says-edited whole (cell_line s) (line_edits law whole)
     (says-trimmed is_document_white_space document_of_white s p))
 
 -- ---- lines
 
-pub say-append : (ss rs : List (List ℕ)) {l m : List ℕ} → SayAll of_letters ss l → SayAll of_letters rs m
-    → SayAll of_letters (ss ++ rs) (l ++ m)
-say-append [] rs {l} {m} p q = say-is (ap (λ z. z ++ m) p.say) q
-say-append (s ∷ ss) rs {l} {m} p q =
-    say-is (sym (append_assoc (letters s) (counted_of_all of_letters ss) m) ∙ ap (λ z. z ++ m) p.say)
-    (say-cons (says-own s p.texts.0) (say-append ss rs (record { texts = p.texts.1; say = refl }) q))
+pub say-append : {law : Law} (ss rs : List (List ℕ)) {l m : List ℕ} → SayAll law ss l → SayAll law rs m
+    → SayAll law (ss ++ rs) (l ++ m)
+say-append {law} [] rs {l} {m} p q = say-is (ap (λ z. z ++ m) (sym (holds-of_nothing law l p.say))) q
+say-append {law} (s ∷ ss) rs {l} {m} p q =
+    let own = counted_of_all law (s ∷ ss) in
+    say-in (holds-append law l m own m p.say (holds-own law m))
+    (say-is (sym (append_assoc (counted law s) (counted_of_all law ss) m))
+    (say-cons (says-own s p.texts.0) (say-append ss rs (say-own ss p.texts.1) q)))
 
-say-empty : (n : ℕ) → SayAll of_letters (replicate n []) []
+say-empty : {law : Law} (n : ℕ) → SayAll law (replicate n []) []
 say-empty zero = say-none
 say-empty (suc n) = say-is (append-nil []) (say-cons says-nil (say-empty n))
 
-says-padded : (cell : List ℕ) (width : ℕ) {l : List ℕ} → Says of_letters cell l
-    → Says of_letters (padded_cell cell width) l
+says-padded : {law : Law} (cell : List ℕ) (width : ℕ) {l : List ℕ} → Says law cell l
+    → Says law (padded_cell cell width) l
 says-padded cell width {l} p =
     says-behind (space ∷ []) refl
     (says-is (append-nil l)
     (says-append p (says-before (space ∷ []) refl (says-many (width - length (chars cell)) space refl))))
 
-says-barred : (cells : List (List ℕ)) (widths : List ℕ) {l : List ℕ} → length cells ≤ length widths
-    → SayAll of_letters cells l → Says of_letters (barred_cells cells widths) l
-says-barred [] widths fit p = says-is p.say says-nil
+says-barred : {law : Law} (cells : List (List ℕ)) (widths : List ℕ) {l : List ℕ}
+    → length cells ≤ length widths → SayAll law cells l → Says law (barred_cells cells widths) l
+says-barred [] widths fit p = says-in p.say says-nil
 says-barred (cell ∷ cells) [] fit p = absurd (omega (arith, fit))
 says-barred (cell ∷ cells) (width ∷ widths) fit p =
-    says-is p.say
+    says-in p.say
     (says-append (says-padded cell width (says-own cell p.texts.0))
     (says-behind (vertical_bar ∷ []) refl
-    (says-barred cells widths (omega (arith, fit)) (record { texts = p.texts.1; say = refl }))))
+    (says-barred cells widths (omega (arith, fit)) (say-own cells p.texts.1))))
 
-says-line : (cells : List (List ℕ)) (widths : List ℕ) {l : List ℕ} → length cells ≤ length widths
-    → SayAll of_letters cells l
-    → Says of_letters (line cells widths) l
+says-line : {law : Law} (cells : List (List ℕ)) (widths : List ℕ) {l : List ℕ} → length cells ≤ length widths
+    → SayAll law cells l
+    → Says law (line cells widths) l
 says-line cells widths fit p = says-behind (vertical_bar ∷ []) refl (says-barred cells widths fit p)
 
-says-row : (written : List ℕ → List ℕ) → Keeps of_letters written
+says-row : {law : Law} (written : List ℕ → List ℕ) → Keeps law written
     → (cells : List (List ℕ)) (widths : List ℕ) {l : List ℕ}
-    → length cells ≤ length widths → SayAll of_letters cells l → Says of_letters (row_by written cells widths) l
+    → length cells ≤ length widths → SayAll law cells l → Says law (row_by written cells widths) l
 says-row written keeps cells widths {l} fit p =
     let missing = length widths - length cells in
     let pad : List (List ℕ) = replicate missing [] in
@@ -150,11 +153,11 @@ says-row written keeps cells widths {l} fit p =
     (say-is (append-nil l)
     (say-append (map written cells) (replicate missing []) (say-mapped written keeps cells p) (say-empty missing))))
 
-say-dashes : (widths : List ℕ) → SayAll of_letters (map dashes widths) []
+say-dashes : {law : Law} (widths : List ℕ) → SayAll law (map dashes widths) []
 say-dashes [] = say-none
 say-dashes (width ∷ widths) = say-is (append-nil []) (say-cons (says-many width hyphen refl) (say-dashes widths))
 
-says-separator : (widths : List ℕ) → Says of_letters (separator widths) []
+says-separator : {law : Law} (widths : List ℕ) → Says law (separator widths) []
 says-separator widths =
     let size : length (map dashes widths) ≡ length widths = length-map widths dashes in
     says-before (line_feed ∷ []) refl (says-line (map dashes widths) widths (omega (arith, size)) (say-dashes widths))
@@ -196,60 +199,77 @@ abbrev pub AreRows : List (List (List ℕ)) → Type 0
 AreRows [] = Unit {0}
 AreRows (cells ∷ rows) = AreTexts cells × AreRows rows
 
-abbrev pub letters_of_rows : List (List (List ℕ)) → List ℕ
-letters_of_rows [] = []
-letters_of_rows (cells ∷ rows) = counted_of_all of_letters cells ++ letters_of_rows rows
+abbrev pub counted_of_rows : Law → List (List (List ℕ)) → List ℕ
+counted_of_rows law [] = []
+counted_of_rows law (cells ∷ rows) = counted_of_all law cells ++ counted_of_rows law rows
 
-pub record SayRows (rows : List (List (List ℕ))) (l : List ℕ) : Type 0 where
+pub record SayRows (law : Law) (rows : List (List (List ℕ))) (l : List ℕ) : Type 0 where
   pub texts : AreRows rows
-  pub say : letters_of_rows rows ≡ l
+  pub say : Holds law l (counted_of_rows law rows)
 
-pub rows-push : (rows : List (List (List ℕ))) (cells : List (List ℕ)) {l m : List ℕ} → SayRows rows l
-    → SayAll of_letters cells m
-    → SayRows (rows ++ cells ∷ []) (l ++ m)
-rows-push [] cells {l} {m} p q = record {
-  texts = (q.texts, tt);
-  say = append-nil (counted_of_all of_letters cells) ∙ q.say ∙ ap (λ z. z ++ m) p.say;
+pub rows-own : {law : Law} (rows : List (List (List ℕ))) → AreRows rows → SayRows law rows (counted_of_rows law rows)
+rows-own {law} rows texts = record { texts = texts; say = holds-own law (counted_of_rows law rows) }
+
+pub rows-none : {law : Law} → SayRows law [] []
+rows-none {law} = rows-own [] tt
+
+pub rows-in : {law : Law} {rows : List (List (List ℕ))} {l m : List ℕ} → Holds law m l → SayRows law rows l
+    → SayRows law rows m
+rows-in {law} {rows} {l} {m} h p =
+    record { texts = p.texts; say = holds-then law m l (counted_of_rows law rows) h p.say }
+
+pub rows-is : {law : Law} {rows : List (List (List ℕ))} {l m : List ℕ} → l ≡ m → SayRows law rows l
+    → SayRows law rows m
+rows-is {law} {rows} e p = subst (λ (x : List ℕ). SayRows law rows x) e p
+
+pub rows-cons : {law : Law} {cells : List (List ℕ)} {rows : List (List (List ℕ))} {l m : List ℕ}
+    → SayAll law cells l → SayRows law rows m → SayRows law (cells ∷ rows) (l ++ m)
+rows-cons {law} {cells} {rows} {l} {m} p q = record {
+  texts = (p.texts, q.texts);
+  say = holds-append law l m (counted_of_all law cells) (counted_of_rows law rows) p.say q.say;
 }
-rows-push (first ∷ rows) cells {l} {m} p q =
-    let more = rows-push rows cells (record { texts = p.texts.1; say = refl }) q in
-    record {
-      texts = (p.texts.0, more.texts);
-      say = ap (λ z. counted_of_all of_letters first ++ z) more.say
-          ∙ sym (append_assoc (counted_of_all of_letters first) (letters_of_rows rows) m) ∙ ap (λ z. z ++ m) p.say;
-    }
 
-says-rows : (written : List ℕ → List ℕ) → Keeps of_letters written
+pub rows-push : {law : Law} (rows : List (List (List ℕ))) (cells : List (List ℕ)) {l m : List ℕ}
+    → SayRows law rows l → SayAll law cells m → SayRows law (rows ++ cells ∷ []) (l ++ m)
+rows-push {law} [] cells {l} {m} p q =
+    rows-is (append-nil m ∙ ap (λ z. z ++ m) (sym (holds-of_nothing law l p.say))) (rows-cons q rows-none)
+rows-push {law} (first ∷ rows) cells {l} {m} p q =
+    let own = counted_of_rows law (first ∷ rows) in
+    rows-in (holds-append law l m own m p.say (holds-own law m))
+    (rows-is (sym (append_assoc (counted_of_all law first) (counted_of_rows law rows) m))
+    (rows-cons (say-own first p.texts.0) (rows-push rows cells (rows-own rows p.texts.1) q)))
+
+says-rows : {law : Law} (written : List ℕ → List ℕ) → Keeps law written
     → (rows : List (List (List ℕ))) (widths : List ℕ) {l : List ℕ}
-    → FitIn (length widths) rows → SayRows rows l
-    → Says of_letters (flat_map (λ cells. row_by written cells widths) rows) l
-says-rows written keeps [] widths fit p = says-is p.say says-nil
+    → FitIn (length widths) rows → SayRows law rows l
+    → Says law (flat_map (λ cells. row_by written cells widths) rows) l
+says-rows written keeps [] widths fit p = says-in p.say says-nil
 says-rows written keeps (cells ∷ rows) widths fit p =
-    says-is p.say
-    (says-append (says-row written keeps cells widths fit.0 (record { texts = p.texts.0; say = refl }))
-    (says-rows written keeps rows widths fit.1 (record { texts = p.texts.1; say = refl })))
+    says-in p.say
+    (says-append (says-row written keeps cells widths fit.0 (say-own cells p.texts.0))
+    (says-rows written keeps rows widths fit.1 (rows-own rows p.texts.1)))
 
-says-head : (written : List ℕ → List ℕ) → Keeps of_letters written
+says-head : {law : Law} (written : List ℕ → List ℕ) → Keeps law written
     → (headers : List (List ℕ)) (widths : List ℕ) {l : List ℕ}
-    → length headers ≤ length widths → SayAll of_letters headers l
-    → Says of_letters (head_by written headers widths) l
-says-head written keeps [] widths fit p = says-is p.say says-nil
+    → length headers ≤ length widths → SayAll law headers l
+    → Says law (head_by written headers widths) l
+says-head written keeps [] widths fit p = says-in p.say says-nil
 says-head written keeps (header ∷ headers) widths {l} fit p =
     says-is (append-nil l)
     (says-append (says-row written keeps (header ∷ headers) widths fit p) (says-separator widths))
 
 -- with columns of such widths
-pub says-table_of : (written : List ℕ → List ℕ) → Keeps of_letters written
+pub says-table_of : {law : Law} (written : List ℕ → List ℕ) → Keeps law written
     → (widths : List ℕ) (headers : List (List ℕ)) (rows : List (List (List ℕ))) {l m : List ℕ}
-    → FitIn (length widths) (headers ∷ rows) → SayAll of_letters headers l → SayRows rows m
-    → Says of_letters (table_of_widths_by written widths headers rows) (l ++ m)
+    → FitIn (length widths) (headers ∷ rows) → SayAll law headers l → SayRows law rows m
+    → Says law (table_of_widths_by written widths headers rows) (l ++ m)
 says-table_of written keeps widths headers rows fit p q =
     says-append (says-head written keeps headers widths fit.0 p) (says-rows written keeps rows widths fit.1 q)
 
-says-table : (written : List ℕ → List ℕ) → Keeps of_letters written
+says-table : {law : Law} (written : List ℕ → List ℕ) → Keeps law written
     → (width : List ℕ → ℕ) (headers : List (List ℕ))
-    (rows : List (List (List ℕ))) {l m : List ℕ} → SayAll of_letters headers l → SayRows rows m
-    → Says of_letters (table_by written width headers rows) (l ++ m)
+    (rows : List (List (List ℕ))) {l m : List ℕ} → SayAll law headers l → SayRows law rows m
+    → Says law (table_by written width headers rows) (l ++ m)
 says-table written keeps width headers rows p q =
     says-table_of written keeps (column_widths_by width (headers ∷ rows)) headers rows
     (fit_in width [] (headers ∷ rows)) p q
@@ -267,25 +287,25 @@ module _ (f : ℕ → List ℕ) where
       ap (λ z. f x ++ z) (all-append xs ys) ∙ sym (append_assoc (f x) (all_of xs) (all_of ys))
 
   -- each of these nodes gives what it says
-  abbrev pub SayEach : List ℕ → List ResultView → Type 0
-  SayEach [] [] = Unit {0}
-  SayEach [] (r ∷ rs) = ⊥
-  SayEach (d ∷ ds) [] = ⊥
-  SayEach (d ∷ ds) (r ∷ rs) = Says of_letters r.content (f d) × SayEach ds rs
+  abbrev pub SayEach : Law → List ℕ → List ResultView → Type 0
+  SayEach law [] [] = Unit {0}
+  SayEach law [] (r ∷ rs) = ⊥
+  SayEach law (d ∷ ds) [] = ⊥
+  SayEach law (d ∷ ds) (r ∷ rs) = Says law r.content (f d) × SayEach law ds rs
 
-  pub each_split : (xs ys : List ℕ) (rs : List ResultView) → SayEach (xs ++ ys) rs
-      → SayEach xs (take (length xs) rs) × SayEach ys (drop (length xs) rs)
-  each_split [] ys rs p = (none_left rs, p)
+  pub each_split : (law : Law) (xs ys : List ℕ) (rs : List ResultView) → SayEach law (xs ++ ys) rs
+      → SayEach law xs (take (length xs) rs) × SayEach law ys (drop (length xs) rs)
+  each_split law [] ys rs p = (none_left rs, p)
     where
-      none_left : (rs : List ResultView) → SayEach [] (take 0 rs)
+      none_left : (rs : List ResultView) → SayEach law [] (take 0 rs)
       none_left [] = tt
       none_left (r ∷ rs) = tt
-  each_split (x ∷ xs) ys [] p = absurd p
-  each_split (x ∷ xs) ys (r ∷ rs) p =
-      let more = each_split xs ys rs p.1 in
+  each_split law (x ∷ xs) ys [] p = absurd p
+  each_split law (x ∷ xs) ys (r ∷ rs) p =
+      let more = each_split law xs ys rs p.1 in
       ((p.0, more.0), more.1)
 
-  cells_say : (ds : List ℕ) (rs : List ResultView) → SayEach ds rs
+  cells_say : (ds : List ℕ) (rs : List ResultView) → SayEach of_letters ds rs
       → SayAll of_letters (map text_of_cell rs) (all_of ds)
   cells_say [] [] p = say-none
   cells_say [] (r ∷ rs) p = absurd p
@@ -296,17 +316,14 @@ module _ (f : ℕ → List ℕ) where
   record SayTexts (texts : TableTexts) (captions headers rows : List ℕ) : Type 0 where
     in_captions : SayAll of_letters texts.captions captions
     in_headers : SayAll of_letters texts.headers headers
-    in_rows : SayRows texts.rows rows
-
-  rows-is : {rows : List (List (List ℕ))} {l m : List ℕ} → l ≡ m → SayRows rows l → SayRows rows m
-  rows-is e p = record { texts = p.texts; say = p.say ∙ e }
+    in_rows : SayRows of_letters texts.rows rows
 
   one_part : (p : Part) (own : List ResultView) (texts : TableTexts) (c r hs : List ℕ)
-      → SayEach p.nodes own → SayTexts texts c (all_of hs) r
+      → SayEach of_letters p.nodes own → SayTexts texts c (all_of hs) r
       → SayTexts (with_part texts p.kind own) (c ++ all_of (caption_nodes p []))
       (all_of (header_nodes p hs)) (r ++ all_of (row_nodes p []))
   one_part p own texts c r hs =
-      each_kind (λ (p : Part). SayEach p.nodes own → SayTexts texts c (all_of hs) r
+      each_kind (λ (p : Part). SayEach of_letters p.nodes own → SayTexts texts c (all_of hs) r
       → SayTexts (with_part texts p.kind own) (c ++ all_of (caption_nodes p []))
       (all_of (header_nodes p hs)) (r ++ all_of (row_nodes p [])))
       (λ nodes e p. record {
@@ -332,7 +349,7 @@ module _ (f : ℕ → List ℕ) where
       append_assoc l (all_of own) (all_of others) ∙ ap (λ z. l ++ z) (sym (all-append own others))
 
   parts_say : (parts : List Part) (rs : List ResultView) (texts : TableTexts) (c r hs : List ℕ)
-      → SayEach (nodes_of parts) rs → SayTexts texts c (all_of hs) r
+      → SayEach of_letters (nodes_of parts) rs → SayTexts texts c (all_of hs) r
       → SayTexts (with_parts texts parts rs) (c ++ all_of (captions_of parts))
       (all_of (last_headers hs parts)) (r ++ all_of (rows_of parts))
   parts_say [] rs texts c r hs e p = record {
@@ -341,7 +358,7 @@ module _ (f : ℕ → List ℕ) where
     in_rows = rows-is (sym (append-nil r)) p.in_rows;
   }
   parts_say (part ∷ parts) rs texts c r hs e p =
-      let split = each_split part.nodes (nodes_of parts) rs e in
+      let split = each_split of_letters part.nodes (nodes_of parts) rs e in
       let own = take (length part.nodes) rs in
       let rest = parts_say parts (drop (length part.nodes) rs) (with_part texts part.kind own)
       (c ++ all_of (caption_nodes part [])) (r ++ all_of (row_nodes part []))
@@ -353,13 +370,13 @@ module _ (f : ℕ → List ℕ) where
       }
 
   -- all parts of a table
-  table_says : (parts : List Part) (rs : List ResultView) → SayEach (nodes_of parts) rs
+  table_says : (parts : List Part) (rs : List ResultView) → SayEach of_letters (nodes_of parts) rs
       → SayTexts (with_parts no_texts parts rs) (all_of (captions_of parts))
       (all_of (last_headers [] parts))
       (all_of (rows_of parts))
   table_says parts rs e =
       parts_say parts rs no_texts [] [] [] e
-      (record { in_captions = say-none; in_headers = say-none; in_rows = record { texts = tt; say = refl } })
+      (record { in_captions = say-none; in_headers = say-none; in_rows = rows-none })
 
   in_order : (parts : List Part)
       → all_of (captions_of parts) ++ (all_of (last_headers [] parts) ++ all_of (rows_of parts))
@@ -375,7 +392,7 @@ module _ (f : ℕ → List ℕ) where
   says-in_line : Keeps of_letters in_line
   says-in_line s l p = says-before (line_feed ∷ []) refl p
 
-  pub says-table_text : (parts : List Part) (rs : List ResultView) → SayEach (nodes_of parts) rs
+  pub says-table_text : (parts : List Part) (rs : List ResultView) → SayEach of_letters (nodes_of parts) rs
       → Says of_letters (table_text (with_parts no_texts parts rs)) (all_of (nodes_of_table parts))
   says-table_text parts rs e =
       let texts = with_parts no_texts parts rs in

@@ -211,9 +211,9 @@ says-squeezed {law} s p = says-edited s (squeezed_text s) (squeezed law s) p
 pub backslash_holds : (law : Law) (b : ℕ) → Holds law (filter (counts law) (b ∷ []))
     (filter (counts law) (backslash ∷ b ∷ []))
 backslash_holds of_letters b = refl
-backslash_holds of_visible b =
-    part-behind (filter is_visible (b ∷ [])) (filter is_visible (b ∷ [])) backslash
-    (holds-own of_visible (filter is_visible (b ∷ [])))
+backslash_holds (of_visible guarded) b =
+    let own = filter (is_visible guarded) (b ∷ []) in
+    part-behind own own backslash (holds-own (of_visible guarded) own)
 
 pub backslash_edit : (law : Law) (b : ℕ) → b < 128 → IsEdit law b (backslash ∷ b ∷ [])
 backslash_edit law b low =

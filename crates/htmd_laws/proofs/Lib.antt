@@ -39,6 +39,7 @@ pub mod LettersOfHandlers
 pub mod LettersOfTables
 pub mod LettersOfGrids
 pub mod ElementsByTag
+pub mod WrittenTables
 pub mod LettersOfElements
 pub mod FittingTrees
 pub mod SaidChildren
@@ -50,6 +51,8 @@ pub mod TextWalks
 pub mod TextLawsLemmas
 pub mod ShownOfElements
 pub mod ShownTrees
+pub mod TableChildren
+pub mod ShownTables
 pub mod ShownLawsLemmas
 pub mod OneParagraphLawsLemmas
 mod ParagraphExamples

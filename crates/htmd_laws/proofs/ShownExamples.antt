@@ -1,15 +1,15 @@
--- What pages show in Pure, by example.
-use Rattle.std.proofs.Common.{◌≡◌, ℕ, false, List, [], ◌∷◌, refl, codes, inl, inr, ⊎_elim, arith}
+-- What pages show, by example.
+use Rattle.std.proofs.Common.{◌≡◌, ℕ, Bool, true, false, List, [], ◌∷◌, refl, codes, inl, inr, ⊎_elim, arith}
 use Rattle.std.specs.Str.{chars}
 use Rattle.htmd_tree.specs.ValueTrees.{ValueTree}
 use Rattle.htmd_tree.specs.NumberedTrees.{tree_of, forest_from}
 use Rattle.htmd_tree.specs.Layout.{document_items}
-use Rattle.htmd_laws.specs.Shown.{IsPart, shown, has_no_table}
+use Rattle.htmd_laws.specs.Shown.{IsPart, shown, tables_fit}
 use Rattle.htmd_laws.proofs.LettersExamples.{forest, say, tag_with, tag, leaf, pair, no_break_space}
 
--- a Document of these shows this
+-- in Pure a Document of these shows this
 abbrev PageShows : List ValueTree → List ℕ → Type 0
-PageShows trees characters = shown (tree_of (document_items (forest trees)) 0) ≡ characters
+PageShows trees characters = shown false (tree_of (document_items (forest trees)) 0) ≡ characters
 
 -- digits and punctuation are seen, white space isn't
 text_shows_digits : PageShows (say (codes "a, 1 b!") ∷ []) (codes "a,1b!")
@@ -60,12 +60,53 @@ script_shows_text : PageShows (leaf (codes "script") (codes "f();") ∷ []) (cod
 unfolding tree_of forest_from chars
 script_shows_text = refl
 
--- a table is left out, wherever it stands
-table_is_left_out :
-    has_no_table (tree_of (document_items (forest (tag (codes "p") (tag (codes "table") [] ∷ []) ∷ []))) 0)
-    ≡ false
+-- ---- in Guarded
+
+abbrev PageShowsGuarded : List ValueTree → List ℕ → Type 0
+PageShowsGuarded trees characters = shown true (tree_of (document_items (forest trees)) 0) ≡ characters
+
+-- `*` isn't counted
+guarded_text_shows_punctuation : PageShowsGuarded (say (codes "a*, 1") ∷ leaf (codes "i") (codes "b!") ∷ [])
+    (codes "a,1b!")
+unfolding tree_of forest_from chars
+guarded_text_shows_punctuation = refl
+
+hidden_script_shows_nothing :
+    PageShowsGuarded (leaf (codes "script") (codes "f();") ∷ say (codes "a") ∷ []) (codes "a")
+unfolding tree_of forest_from chars
+hidden_script_shows_nothing = refl
+
+-- each cell, of either tag and in each row
+abbrev rows : List ValueTree
+rows =
+    tag (codes "thead") (tag (codes "tr") (leaf (codes "th") (codes "1") ∷ leaf (codes "td") (codes "2") ∷ []) ∷ []) ∷
+    tag (codes "tr") (leaf (codes "th") (codes "3") ∷ leaf (codes "td") (codes "4") ∷ []) ∷ []
+
+table_shows_each_cell :
+    PageShowsGuarded (tag (codes "table") (leaf (codes "caption") (codes "c") ∷ rows) ∷ []) (codes "c1234")
+unfolding tree_of forest_from chars
+table_shows_each_cell = refl
+
+-- ---- tables that fit
+
+abbrev TablesFit : Bool → List ValueTree → Bool → Type 0
+TablesFit guarded trees fit = tables_fit guarded (tree_of (document_items (forest trees)) 0) ≡ fit
+
+-- in Pure a table is left out, wherever it stands
+table_is_left_out : TablesFit false (tag (codes "p") (tag (codes "table") [] ∷ []) ∷ []) false
 unfolding tree_of forest_from
 table_is_left_out = refl
+
+-- in Guarded it isn't, if a caption of it comes first
+caption_comes_first :
+    TablesFit true (tag (codes "table") (leaf (codes "caption") (codes "c") ∷ rows) ∷ []) true
+unfolding tree_of forest_from
+caption_comes_first = refl
+
+caption_comes_last :
+    TablesFit true (tag (codes "table") (tag (codes "tr") [] ∷ leaf (codes "caption") (codes "c") ∷ []) ∷ []) false
+unfolding tree_of forest_from
+caption_comes_last = refl
 
 -- ---- parts
 

@@ -121,11 +121,12 @@ pub fn every_letter_once()
     ensures row { LettersOfRow }
 {}
 
-/// In Pure, with the built-in handlers, where no table stands, nothing that a reader sees is lost: the characters that
-/// are no white space, of all texts that are not below `br`, `hr` or `img`, stand in the content in their order, digits
-/// and punctuation too, whatever is put between them. So it is of the whole Markdown, of each text that is converted,
-/// of a page's body, of any page as browsers read it, of the input of a run and of the page of a row. A table is left
-/// out, since it drops cells.
+/// In Pure and in Guarded, with the built-in handlers, nothing that a reader sees is lost: the characters that are no
+/// white space, of all texts that are not below `br`, `hr` or `img`, stand in the content in their order, digits and
+/// punctuation too, whatever is put between them. In Guarded `*` isn't counted, and what a browser doesn't show has no
+/// text. So it is of the whole Markdown, of each text that is converted, of a page's body, of any page as browsers read
+/// it, of the input of a run and of the page of a row. In Pure a table is left out, since it drops cells; in Guarded it
+/// drops none, and is left out only if a caption of it stands behind a row, for it is written behind the last one.
 pub fn nothing_is_lost()
     ensures content { ShownInContent }
     ensures markdown { ShownInMarkdown }
