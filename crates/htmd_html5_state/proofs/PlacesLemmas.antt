@@ -1,13 +1,13 @@
 -- Where open elements stand: what a place says of a scope, and what changes where an element is opened or closed.
 use Rattle.std.proofs.Common.{◌≡◌, ℕ, suc, ◌+◌, ◌<◌, ◌≤◌, Bool, true, false, not, ◌&&◌, ◌||◌, cond, List, [], ◌∷◌, length}
-use Rattle.std.proofs.Common.{get_or, set, drop, ◌-◌, Option, Some, None, vec_len, ◌++◌, refl, sym, ap, ◌∙◌, subst, arith}
+use Rattle.std.proofs.Common.{get_or, set, take, drop, ◌-◌, Option, Some, None, vec_len, ◌++◌, refl, sym, ap, ◌∙◌, subst, arith}
 use Rattle.std.proofs.lemmas.Bool.{true≢false, eqb-true}
 use Rattle.std.proofs.lemmas.Bool.Decides.{nat_tests}
 use Rattle.std.proofs.lemmas.List.{get_or-set_same, get_or-set_other, length-set, length-append, get_or_append_left}
 use Rattle.std.specs.HashMap.{get_by_text}
 use Rattle.std.specs.List.{list_any}
 use Rattle.std.specs.Map.{update}
-use Rattle.std.specs.Prelude.{◌==◌, nat_lt, nat_le, unwrap_or, is_some}
+use Rattle.std.specs.Prelude.{◌==◌, nat_lt, nat_le, unwrap_or, is_some, remove}
 use Rattle.std.specs.Str.{bytes_eq}
 use Rattle.htmd_grammar.proofs.NestingLemmas.{same_bytes}
 use Rattle.htmd_text.proofs.Cases.{test}
@@ -15,11 +15,13 @@ use Rattle.htmd_html5_state.specs.Adoption.{bounds_any}
 use Rattle.htmd_html5_state.specs.Names.{NameValue, ElementNameValue, html, svg, math, known, other, same_element_name}
 use Rattle.htmd_html5_state.specs.OpenElements.{OpenValue, is_in, is_node, has_name, inside, scope_has, is_node_in_scope}
 use Rattle.htmd_html5_state.specs.OpenElements.{is_open_node, pop}
+use Rattle.htmd_html5_state.specs.OpenViews.{open_of, stack_of}
 use Rattle.htmd_html5_state.specs.Places.{innermost, bounds_in, is_from, bound_of, name_place, has_room, innermost_named}
 use Rattle.htmd_html5_state.specs.Places.{place_of_name}
 use Rattle.htmd_html5_state.specs.Places.{IsAround, IsLinked, HasRoom, AllHaveRoom, IsPlaced}
 use Rattle.htmd_html5_state.specs.Sets.{bounds}
 use Rattle.htmd_html5_state.specs.declared.names.TagName.{TagName}
+use Rattle.htmd_html5_state.specs.declared.open_elements.OpenElement.{OpenElement}
 use Rattle.htmd_html5_state.specs.declared.places.Around.{Around}
 use Rattle.htmd_html5_state.specs.declared.places.Bounds.{Bounds}
 use Rattle.htmd_html5_state.specs.TagNumbers.{number}
@@ -30,6 +32,7 @@ use Rattle.htmd_html5_state.specs.declared.sets.Scope.{Scope}
 use Rattle.htmd_html5_state.specs.declared.sets.Scope.TheVariants.{Default}
 use Rattle.htmd_html5_state.specs.SetMembers.{members}
 use Rattle.htmd_html5_state.specs.declared.sets.NameSet.{NameSet}
+use Rattle.htmd_html5_state.proofs.StackLemmas.{stack-around, stack-removed}
 use Rattle.htmd_html5_state.proofs.TagLemmas.{same_name-true, only-named, in-members, is_several, number-tests}
 
 -- ---- what a place says
@@ -121,11 +124,11 @@ linked-set : (around : List Around) (i : ℕ) (a : Around) (es : List OpenValue)
     → IsLinked (set around i a) es
 linked-set around i a [] l h = tt
 linked-set around i a (e ∷ es) l h = (
-    omega (arith, h.0, length-set around i a),
-    (λ d. subst (λ (x : Around). IsAround x e es)
-        (sym (get_or-set_other around i (length es) a d (λ s. omega (arith, s, l)))) (h.1 d)),
-    linked-set around i a es (omega (arith, l)) h.2,
-  )
+  omega (arith, h.0, length-set around i a),
+  (λ d. subst (λ (x : Around). IsAround x e es)
+      (sym (get_or-set_other around i (length es) a d (λ s. omega (arith, s, l)))) (h.1 d)),
+  linked-set around i a es (omega (arith, l)) h.2,
+)
 
 -- popping, one after another, to a depth
 pub drop-pop : (len : ℕ) (es : List OpenValue) → len < length es
@@ -138,10 +141,10 @@ drop-pop len (e ∷ es) l =
 pub linked-push : (around : List Around) (a : Around) (e : OpenValue) (es : List OpenValue) → length es < length around
     → IsLinked around es → IsAround a e es → IsLinked (set around (length es) a) (e ∷ es)
 linked-push around a e es l h is = (
-    omega (arith, l, length-set around (length es) a),
-    (λ d. subst (λ (x : Around). IsAround x e es) (sym (get_or-set_same around (length es) a d l)) is),
-    linked-set around (length es) a es (omega arith) h,
-  )
+  omega (arith, l, length-set around (length es) a),
+  (λ d. subst (λ (x : Around). IsAround x e es) (sym (get_or-set_same around (length es) a d l)) is),
+  linked-set around (length es) a es (omega arith) h,
+)
 
 pub all_room-kept : (p q : Places) → ((e : OpenValue) → HasRoom p e → HasRoom q e) → (es : List OpenValue) → AllHaveRoom p es
     → AllHaveRoom q es
@@ -156,6 +159,19 @@ pub room-without : (p : Places) (xs ys : List OpenValue) (e : OpenValue) → All
     → AllHaveRoom p (xs ++ ys)
 room-without p [] ys e h = h.1
 room-without p (x ∷ xs) ys e h = (h.0, room-without p xs ys e h.1)
+
+pub room-at : (p : Places) (xs : List OpenElement) (i : ℕ) (x : OpenElement) → i < length xs → x ≡ get_or xs i x
+    → AllHaveRoom p (stack_of xs) → HasRoom p (open_of x)
+room-at p xs i x l is h =
+    room-in p (stack_of (drop (i + 1) xs)) (stack_of (take i xs)) (open_of x)
+    (subst (λ (es : List OpenValue). AllHaveRoom p es) (stack-around xs i x l is) h)
+
+pub room-removed : (p : Places) (xs : List OpenElement) (i : ℕ) (x : OpenElement) → i < length xs → x ≡ get_or xs i x
+    → AllHaveRoom p (stack_of xs) → AllHaveRoom p (stack_of (remove xs i))
+room-removed p xs i x l is h =
+    subst (λ (es : List OpenValue). AllHaveRoom p es) (sym (stack-removed xs i))
+    (room-without p (stack_of (drop (i + 1) xs)) (stack_of (take i xs)) (open_of x)
+    (subst (λ (es : List OpenValue). AllHaveRoom p es) (stack-around xs i x l is) h))
 
 -- what is held for each key, before and after
 module _ {K : Type 0} (f g : K → ℕ) (p : K → OpenValue → Bool) (e : OpenValue) (es : List OpenValue) where
@@ -174,10 +190,10 @@ module _ {K : Type 0} (f g : K → ℕ) (p : K → OpenValue → Bool) (e : Open
 pub linked-longer : (around more : List Around) (es : List OpenValue) → IsLinked around es → IsLinked (around ++ more) es
 linked-longer around more [] h = tt
 linked-longer around more (e ∷ es) h = (
-    omega (arith, h.0, length-append around more),
-    (λ d. subst (λ (x : Around). IsAround x e es) (sym (get_or_append_left around more d (length es) h.0)) (h.1 d)),
-    linked-longer around more es h.2,
-  )
+  omega (arith, h.0, length-append around more),
+  (λ d. subst (λ (x : Around). IsAround x e es) (sym (get_or_append_left around more d (length es) h.0)) (h.1 d)),
+  linked-longer around more es h.2,
+)
 
 -- the bounds among so many elements
 pub no-bounds : (b : Bounds) → ((scope : Scope) → bound_of b scope ≡ 0) → (depth : ℕ) → depth ≡ 0 → (es : List OpenValue)
@@ -292,6 +308,14 @@ pub kept-by : (p q : Places) → ((m : ElementNameValue) → has_room q.names m 
     → vec_len q.nodes ≡ vec_len p.nodes → (x : OpenValue) → HasRoom p x → HasRoom q x
 kept-by p q names nodes x h = record {
   name = names x.name ∙ h.name;
+  node = let l = h.node in omega (arith, l, nodes);
+}
+
+pub kept-more : (p q : Places)
+    → ((m : ElementNameValue) → has_room p.names m ≡ true → has_room q.names m ≡ true)
+    → vec_len p.nodes ≤ vec_len q.nodes → (x : OpenValue) → HasRoom p x → HasRoom q x
+kept-more p q names nodes x h = record {
+  name = names x.name h.name;
   node = let l = h.node in omega (arith, l, nodes);
 }
 

@@ -106,7 +106,9 @@ second_open-short set (x ∷ y ∷ xs) l = absurd (omega arith)
 pub outermost-drop : (es : List OpenValue) → drop (length es - 1) es ≡ outermost es
 outermost-drop [] = refl
 outermost-drop (e ∷ []) = refl
-outermost-drop (e ∷ f ∷ es) = outermost-drop (f ∷ es)
+outermost-drop (e ∷ f ∷ es) =
+    let s : length (e ∷ f ∷ es) - 1 ≡ suc (length (f ∷ es) - 1) = omega arith in
+    ap (λ (k : ℕ). drop k (e ∷ f ∷ es)) s ∙ outermost-drop (f ∷ es)
 
 -- ---- elements turned round
 

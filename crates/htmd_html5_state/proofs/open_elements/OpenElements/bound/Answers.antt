@@ -1,5 +1,5 @@
 -- That of the last element.
-use Rattle.std.proofs.Common.{◌≡◌, List, length, ap, ◌∙◌, subst}
+use Rattle.std.proofs.Common.{◌≡◌, List, length, ap, ◌∙◌, sym, arith, rules}
 use Rattle.htmd_html5_state.specs.OpenElements.{OpenValue}
 use Rattle.htmd_html5_state.specs.OpenViews.{stack_of}
 use Rattle.htmd_html5_state.specs.Places.{IsPlaced, innermost, bounds_in}
@@ -9,5 +9,6 @@ use Rattle.htmd_html5_state.proofs.open_elements.OpenElements.bound.Goals as goa
 pub returns : goal.returns
 returns c =
     let all = c.self.inside.elements.items in
-    c.bound.ensures (stack_of all) (length-stack_of all) c.self.invariant
+    let len : length all ≡ c.len.result = first_of (omega (arith, c.len.ensures), search rules) in
+    c.bound.ensures (stack_of all) (length-stack_of all ∙ len) c.self.invariant
     ∙ ap (innermost (bounds_in c.args.scope)) c.self.view_is
