@@ -1,5 +1,5 @@
 -- Where open elements stand: what a place says of a scope, and what changes where an element is opened or closed.
-use Rattle.std.proofs.Common.{◌≡◌, ℕ, suc, ◌+◌, ◌<◌, ◌≤◌, Bool, true, false, not, ◌&&◌, ◌||◌, cond, List, [], ◌∷◌, length}
+use Rattle.std.proofs.Common.{◌≡◌, ℕ, suc, ◌+◌, ◌<◌, ◌≤◌, Bool, true, false, ◌||◌, cond, List, [], ◌∷◌, length}
 use Rattle.std.proofs.Common.{get_or, set, take, drop, ◌-◌, Option, Some, None, vec_len, ◌++◌, refl, sym, ap, ◌∙◌, subst, arith}
 use Rattle.std.proofs.lemmas.Bool.{true≢false, eqb-true}
 use Rattle.std.proofs.lemmas.Bool.Decides.{nat_tests}
@@ -7,7 +7,7 @@ use Rattle.std.proofs.lemmas.List.{get_or-set_same, get_or-set_other, length-set
 use Rattle.std.specs.HashMap.{get_by_text}
 use Rattle.std.specs.List.{list_any}
 use Rattle.std.specs.Map.{update}
-use Rattle.std.specs.Prelude.{◌==◌, nat_lt, nat_le, unwrap_or, is_some, remove}
+use Rattle.std.specs.Prelude.{◌==◌, nat_lt, unwrap_or, is_some, remove}
 use Rattle.std.specs.Str.{bytes_eq}
 use Rattle.htmd_grammar.proofs.NestingLemmas.{same_bytes}
 use Rattle.htmd_text.proofs.Cases.{test}

@@ -1,18 +1,17 @@
 -- The stack of open elements as the program holds it.
-use Rattle.std.proofs.Common.{◌≡◌, ℕ, suc, ◌+◌, ◌-◌, ◌<◌, ◌≤◌, Bool, true, false, not, ◌&&◌, ◌||◌, List, [], ◌∷◌, ◌++◌, length}
-use Rattle.std.proofs.Common.{Option, Some, None, cond, take, drop, get_or, map, reverse, refl, sym, ap, ◌∙◌, subst, arith, add-one}
-use Rattle.std.proofs.lemmas.List.{take_more, reverse-reverse, map-append, reverse-append, append_assoc, append-nil, take_at, drop_at, length-append, length-drop}
-use Rattle.std.proofs.lemmas.List.{length_push, get_or_at, length-map, length-reverse, take-append-drop, drop_more, length-take-le}
+use Rattle.std.proofs.Common.{◌≡◌, ℕ, suc, ◌+◌, ◌-◌, ◌<◌, ◌≤◌, true, false, List, [], ◌∷◌, ◌++◌, length}
+use Rattle.std.proofs.Common.{Some, None, cond, take, drop, get_or, reverse, refl, sym, ap, ◌∙◌, arith, add-one}
+use Rattle.std.proofs.lemmas.List.{take_more, reverse-reverse, map-append, reverse-append, append_assoc, take_at, drop_at, length-append}
+use Rattle.std.proofs.lemmas.List.{length_push, length-map, length-reverse, take-append-drop, drop_more, length-take-le}
 use Rattle.std.proofs.lemmas.Bool.{true≢false, ne_eqb}
 use Rattle.std.proofs.lemmas.List.Folds.{list_any-append}
 use Rattle.std.proofs.lemmas.Bool.Decides.{nat_tests}
 use Rattle.std.specs.List.{list_any}
 use Rattle.std.specs.Prelude.{◌==◌, remove}
 use Rattle.htmd_text.proofs.Cases.{test}
-use Rattle.htmd_html5_state.specs.Names.{ElementNameValue}
-use Rattle.htmd_html5_state.specs.OpenElements.{OpenValue, is_in, is_open_node, is_node, inside, around, without}
+use Rattle.htmd_html5_state.specs.OpenElements.{OpenValue, is_in, is_open_node, is_node, without}
 use Rattle.htmd_html5_state.specs.OpenElements.{outermost, first_open, second_open}
-use Rattle.htmd_html5_state.specs.Adoption.{Furthest, furthest_block, furthest_with, is_special_element}
+use Rattle.htmd_html5_state.specs.Adoption.{Furthest, furthest_block, is_special_element}
 use Rattle.htmd_html5_state.specs.OpenViews.{open_of, all_open_of, stack_of, is_special, IsInnermost, IsFirstSpecial}
 use Rattle.htmd_html5_state.specs.declared.open_elements.OpenElement.{OpenElement}
 use Rattle.htmd_html5_state.specs.declared.sets.NameSet.{NameSet}

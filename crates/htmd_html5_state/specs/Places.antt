@@ -1,5 +1,5 @@
 -- Where open elements stand on the stack, counted from 1 at the outermost; 0 is nowhere. No public clause cites it.
-use Rattle.std.specs.Prelude.{◌≡◌, ℕ, suc, ◌<◌, ◌≤◌, Bool, true, false, ◌&&◌, nat_lt, nat_le, if◌then◌else◌, List, [], ◌∷◌}
+use Rattle.std.specs.Prelude.{◌≡◌, ℕ, suc, ◌<◌, ◌≤◌, Bool, true, ◌&&◌, nat_lt, nat_le, if◌then◌else◌, List, [], ◌∷◌}
 use Rattle.std.specs.Prelude.{length, get_or, unwrap_or, is_some, vec_len}
 use Rattle.std.specs.HashMap.{get_by_text}
 use Rattle.htmd_html5_state.specs.Names.{NameValue, ElementNameValue, html, svg, math, known, other}

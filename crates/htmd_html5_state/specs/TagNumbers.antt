@@ -237,12 +237,13 @@ number Xmp = 113
 -- all of them
 abbrev pub tags : List TagName
 tags =
-    A ∷ Address ∷ Applet ∷ Area ∷ Article ∷ Aside ∷ B ∷ Base ∷ BaseFont ∷ BgSound ∷ Big ∷ BlockQuote ∷ Body ∷
-    Br ∷ Button ∷ Caption ∷ Center ∷ Code ∷ Col ∷ ColGroup ∷ Dd ∷ Details ∷ Dialog ∷ Dir ∷ Div ∷ Dl ∷ Dt ∷ Em ∷
-    Embed ∷ FieldSet ∷ FigCaption ∷ Figure ∷ Font ∷ Footer ∷ Form ∷ Frame ∷ FrameSet ∷ H1 ∷ H2 ∷ H3 ∷ H4 ∷ H5 ∷
-    H6 ∷ Head ∷ Header ∷ HGroup ∷ Hr ∷ Html ∷ I ∷ Iframe ∷ Image ∷ Img ∷ Input ∷ KeyGen ∷ Li ∷ Link ∷ Listing ∷
-    Main ∷ MalignMark ∷ Marquee ∷ Math ∷ Menu ∷ Meta ∷ MGlyph ∷ Nav ∷ NoBr ∷ NoEmbed ∷ NoFrames ∷ NoScript ∷
-    Object ∷ Ol ∷ OptGroup ∷ OptionTag ∷ P ∷ Param ∷ PlainText ∷ Pre ∷ Rb ∷ Rp ∷ Rt ∷ Rtc ∷ Ruby ∷ S ∷ Script ∷
-    Search ∷ Section ∷ Select ∷ Small ∷ Source ∷ Span ∷ Strike ∷ Strong ∷ Style ∷ Sub ∷ Summary ∷ Sup ∷ Svg ∷
-    Table ∷ TBody ∷ Td ∷ Template ∷ TextArea ∷ TFoot ∷ Th ∷ THead ∷ Title ∷ Tr ∷ Track ∷ Tt ∷ U ∷ Ul ∷ Var ∷
-    Wbr ∷ Xmp ∷ []
+    A ∷ Address ∷ Applet ∷ Area ∷ Article ∷ Aside ∷ B ∷ Base ∷ BaseFont ∷ BgSound ∷ Big ∷
+    BlockQuote ∷ Body ∷ Br ∷ Button ∷ Caption ∷ Center ∷ Code ∷ Col ∷ ColGroup ∷ Dd ∷ Details ∷
+    Dialog ∷ Dir ∷ Div ∷ Dl ∷ Dt ∷ Em ∷ Embed ∷ FieldSet ∷ FigCaption ∷ Figure ∷ Font ∷
+    Footer ∷ Form ∷ Frame ∷ FrameSet ∷ H1 ∷ H2 ∷ H3 ∷ H4 ∷ H5 ∷ H6 ∷ Head ∷ Header ∷ HGroup ∷
+    Hr ∷ Html ∷ I ∷ Iframe ∷ Image ∷ Img ∷ Input ∷ KeyGen ∷ Li ∷ Link ∷ Listing ∷ Main ∷
+    MalignMark ∷ Marquee ∷ Math ∷ Menu ∷ Meta ∷ MGlyph ∷ Nav ∷ NoBr ∷ NoEmbed ∷ NoFrames ∷
+    NoScript ∷ Object ∷ Ol ∷ OptGroup ∷ OptionTag ∷ P ∷ Param ∷ PlainText ∷ Pre ∷ Rb ∷ Rp ∷
+    Rt ∷ Rtc ∷ Ruby ∷ S ∷ Script ∷ Search ∷ Section ∷ Select ∷ Small ∷ Source ∷ Span ∷ Strike ∷
+    Strong ∷ Style ∷ Sub ∷ Summary ∷ Sup ∷ Svg ∷ Table ∷ TBody ∷ Td ∷ Template ∷ TextArea ∷
+    TFoot ∷ Th ∷ THead ∷ Title ∷ Tr ∷ Track ∷ Tt ∷ U ∷ Ul ∷ Var ∷ Wbr ∷ Xmp ∷ []

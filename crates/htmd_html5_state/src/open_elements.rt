@@ -358,7 +358,8 @@ impl OpenElements {
 
     /// Pops the innermost element.
     fn pop_element(&mut self) -> Option<OpenElement>
-        ensures { MatchOption result ((self.old ≡ []) × (self.new ≡ [])) (λ e. self.old ≡ open_of e ∷ self.new) }
+        ensures { MatchOption result ((self.old ≡ []) × (self.new ≡ []))
+            (λ e. self.old ≡ open_of e ∷ self.new) }
     {
         let element = self.elements.pop()?;
         self.places.leave(self.elements.len(), &element);

@@ -194,7 +194,8 @@ impl NamePlaces {
     fn add(&mut self, text: String) -> Result<(), AllocError>
         requires { places.has_room self.old (html (other (string_bytes text))) ≡ false }
         ensures places { (m : NameValue) → places.name_place self.new m ≡ places.name_place self.old m }
-        ensures kept { (m : ElementNameValue) → places.has_room self.old m ≡ true → places.has_room self.new m ≡ true }
+        ensures kept { (m : ElementNameValue) → places.has_room self.old m ≡ true
+            → places.has_room self.new m ≡ true }
         ensures room { OnOk result (places.has_room self.new (html (other (string_bytes text))) ≡ true) }
     {
         self.others.insert(text, 0)?;
@@ -203,7 +204,8 @@ impl NamePlaces {
 
     fn make_room_for(&mut self, text: &String) -> Result<(), AllocError>
         ensures places { (m : NameValue) → places.name_place self.new m ≡ places.name_place self.old m }
-        ensures kept { (m : ElementNameValue) → places.has_room self.old m ≡ true → places.has_room self.new m ≡ true }
+        ensures kept { (m : ElementNameValue) → places.has_room self.old m ≡ true
+            → places.has_room self.new m ≡ true }
         ensures room { OnOk result (places.has_room self.new (html (other (string_bytes text.now))) ≡ true) }
     {
         if self.has_room(text.as_str()) {
@@ -216,7 +218,8 @@ impl NamePlaces {
     /// Makes room for the place of a name.
     fn make_room(&mut self, name: &ElementName) -> Result<(), AllocError>
         ensures places { (m : NameValue) → places.name_place self.new m ≡ places.name_place self.old m }
-        ensures kept { (m : ElementNameValue) → places.has_room self.old m ≡ true → places.has_room self.new m ≡ true }
+        ensures kept { (m : ElementNameValue) → places.has_room self.old m ≡ true
+            → places.has_room self.new m ≡ true }
         ensures room { OnOk result (places.has_room self.new (element_name_of name.now) ≡ true) }
     {
         match name {
@@ -339,8 +342,8 @@ impl Places {
     pub(crate) fn leave(&mut self, depth: usize, element: &OpenElement)
         requires room { places.HasRoom self.old (open_of element.now) }
         requires within { depth < vec_len self.old.around }
-        ensures placed { (es : List OpenValue) → length es ≡ depth → places.IsPlaced self.old (open_of element.now ∷ es)
-            → places.IsPlaced self.new es }
+        ensures placed { (es : List OpenValue) → length es ≡ depth
+            → places.IsPlaced self.old (open_of element.now ∷ es) → places.IsPlaced self.new es }
         ensures room { (e : OpenValue) → places.HasRoom self.old e → places.HasRoom self.new e }
         ensures len { vec_len self.new.around ≡ vec_len self.old.around }
     {

@@ -1,5 +1,5 @@
 -- One element more.
-use Rattle.std.proofs.Common.{◌≡◌, ◌∙◌, ℕ, List, length, take, sym, subst, arith}
+use Rattle.std.proofs.Common.{◌∙◌, ℕ, List, take, sym, subst, arith}
 use Rattle.htmd_html5_state.specs.OpenElements.{OpenValue}
 use Rattle.htmd_html5_state.specs.OpenViews.{stack_of}
 use Rattle.htmd_html5_state.specs.Places.{IsPlaced}

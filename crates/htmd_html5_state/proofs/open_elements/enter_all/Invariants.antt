@@ -1,5 +1,5 @@
 -- Those so far have their places.
-use Rattle.std.proofs.Common.{◌≡◌, ◌≤◌, length, take, vec_len}
+use Rattle.std.proofs.Common.{◌≡◌, take, vec_len}
 use Rattle.htmd_html5_state.specs.OpenViews.{stack_of}
 use Rattle.htmd_html5_state.specs.Places.{IsPlaced, AllHaveRoom}
 use Rattle.htmd_html5_state.proofs.open_elements.enter_all.Given as goal

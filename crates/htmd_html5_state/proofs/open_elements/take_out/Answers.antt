@@ -1,6 +1,5 @@
 -- Those that are left have room.
-use Rattle.std.proofs.Common.{◌≡◌, ◌∙◌, List, sym, ap, subst}
-use Rattle.htmd_html5_state.specs.OpenElements.{OpenValue}
+use Rattle.std.proofs.Common.{◌∙◌, List, sym, subst}
 use Rattle.htmd_html5_state.specs.OpenViews.{stack_of}
 use Rattle.htmd_html5_state.specs.Places.{AllHaveRoom}
 use Rattle.htmd_html5_state.specs.declared.open_elements.OpenElement.{OpenElement}

@@ -1,5 +1,5 @@
 -- One more follows.
-use Rattle.std.proofs.Common.{◌≡◌, List, sym, subst, arith}
+use Rattle.std.proofs.Common.{List, sym, subst, arith}
 use Rattle.htmd_html5_state.specs.Places.{IsLinked}
 use Rattle.htmd_html5_state.specs.declared.places.Around.{Around}
 use Rattle.htmd_html5_state.proofs.PlacesLemmas.{linked-longer}

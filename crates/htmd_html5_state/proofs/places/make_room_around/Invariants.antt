@@ -1,5 +1,5 @@
 -- What is added follows.
-use Rattle.std.proofs.Common.{◌≡◌, ◌≤◌, ◌+◌, ◌-◌, List, vec_len}
+use Rattle.std.proofs.Common.{◌≤◌, ◌+◌, ◌-◌, List, vec_len}
 use Rattle.htmd_html5_state.specs.OpenElements.{OpenValue}
 use Rattle.htmd_html5_state.specs.Places.{IsLinked}
 use Rattle.htmd_html5_state.proofs.places.make_room_around.Given as goal

@@ -1,8 +1,7 @@
 -- That of the last element.
-use Rattle.std.proofs.Common.{◌≡◌, List, length, ap, ◌∙◌, sym, arith, rules}
-use Rattle.htmd_html5_state.specs.OpenElements.{OpenValue}
+use Rattle.std.proofs.Common.{◌≡◌, length, ap, ◌∙◌, arith, rules}
 use Rattle.htmd_html5_state.specs.OpenViews.{stack_of}
-use Rattle.htmd_html5_state.specs.Places.{IsPlaced, innermost, bounds_in}
+use Rattle.htmd_html5_state.specs.Places.{innermost, bounds_in}
 use Rattle.htmd_html5_state.proofs.StackLemmas.{length-stack_of}
 use Rattle.htmd_html5_state.proofs.open_elements.OpenElements.bound.Goals as goal
 

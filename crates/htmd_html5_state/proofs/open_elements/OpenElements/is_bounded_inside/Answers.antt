@@ -1,5 +1,5 @@
 -- The bound stands further in than it.
-use Rattle.std.proofs.Common.{◌≡◌, ℕ, List, sym, ap, ◌∙◌, subst}
+use Rattle.std.proofs.Common.{ℕ, List, sym, ap, ◌∙◌, subst}
 use Rattle.std.specs.Prelude.{nat_lt}
 use Rattle.htmd_html5_state.specs.OpenElements.{OpenValue, is_node}
 use Rattle.htmd_html5_state.specs.Places.{IsPlaced, innermost}

@@ -1,5 +1,5 @@
 -- An element in scope stands no further out than its bound.
-use Rattle.std.proofs.Common.{◌≡◌, ℕ, List, sym, ap, ◌∙◌, subst}
+use Rattle.std.proofs.Common.{ℕ, List, sym, ap, ◌∙◌, subst}
 use Rattle.htmd_html5_state.specs.Names.{html, name_of}
 use Rattle.htmd_html5_state.specs.OpenElements.{OpenValue, has_name}
 use Rattle.htmd_html5_state.specs.Places.{IsPlaced, is_from, innermost, bounds_in}

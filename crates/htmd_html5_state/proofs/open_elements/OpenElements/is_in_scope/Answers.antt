@@ -1,5 +1,5 @@
 -- An element in scope stands no further out than its bound.
-use Rattle.std.proofs.Common.{◌≡◌, ℕ, List, sym, ap, ◌∙◌, subst}
+use Rattle.std.proofs.Common.{ℕ, List, sym, ap, ◌∙◌, subst}
 use Rattle.htmd_html5_state.specs.OpenElements.{OpenValue, is_in}
 use Rattle.htmd_html5_state.specs.Places.{IsPlaced, is_from, innermost}
 use Rattle.htmd_html5_state.proofs.PlacesLemmas.{scope-by_places}

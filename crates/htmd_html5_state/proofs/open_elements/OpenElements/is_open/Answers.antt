@@ -1,5 +1,5 @@
 -- An open element has a place.
-use Rattle.std.proofs.Common.{◌≡◌, List, sym, ◌∙◌, subst}
+use Rattle.std.proofs.Common.{List, sym, ◌∙◌, subst}
 use Rattle.htmd_html5_state.specs.OpenElements.{OpenValue, is_in}
 use Rattle.htmd_html5_state.specs.Places.{IsPlaced}
 use Rattle.htmd_html5_state.proofs.PlacesLemmas.{open-by_place}

@@ -1,5 +1,5 @@
 -- An open element has a place.
-use Rattle.std.proofs.Common.{◌≡◌, ℕ, List, sym, ap, ◌∙◌, subst}
+use Rattle.std.proofs.Common.{List, sym, ap, ◌∙◌, subst}
 use Rattle.std.specs.Prelude.{nat_lt}
 use Rattle.htmd_html5_state.specs.OpenElements.{OpenValue}
 use Rattle.htmd_html5_state.specs.Places.{IsPlaced}

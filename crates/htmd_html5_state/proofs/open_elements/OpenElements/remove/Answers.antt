@@ -1,5 +1,5 @@
 -- The innermost element goes.
-use Rattle.std.proofs.Common.{◌≡◌, ◌∙◌, sym, ap, false, rules, arith}
+use Rattle.std.proofs.Common.{◌≡◌, ◌∙◌, sym, ap, false, arith}
 use Rattle.htmd_html5_state.specs.OpenElements.{without, is_open_node}
 use Rattle.htmd_html5_state.specs.OpenViews.{stack_of, IsInnermost}
 use Rattle.htmd_html5_state.proofs.StackLemmas.{IsInnermost-without, without-none}

@@ -1,5 +1,5 @@
 -- The last of so many elements knows them.
-use Rattle.std.proofs.Common.{◌≡◌, ◌-◌, get_or, arith}
+use Rattle.std.proofs.Common.{arith}
 use Rattle.htmd_html5_state.proofs.PlacesLemmas.{linked-bounds}
 use Rattle.htmd_html5_state.proofs.places.Places.bounds.Goals as goal
 

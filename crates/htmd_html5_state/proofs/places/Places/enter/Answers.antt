@@ -1,5 +1,5 @@
 -- The element has its place, and knows those before.
-use Rattle.std.proofs.Common.{◌≡◌, ◌∙◌, ◌+◌, ℕ, List, refl, sym, ap, cond, get_or, set, arith}
+use Rattle.std.proofs.Common.{◌∙◌, ◌+◌, ℕ, List, refl, sym, ap, cond, get_or, set, arith}
 use Rattle.std.proofs.lemmas.List.{with_items_is}
 use Rattle.std.specs.Prelude.{◌==◌}
 use Rattle.std.specs.Vec.{with_item, with_items}
@@ -21,7 +21,8 @@ returns-clause-placed c = λ es len at.
       nodes = with_items p.nodes c.set_place.new.held;
       around = with_item p.around c.args.depth a;
     } in
-    placed-enter p q e es (kept-by p q c.put.ensures.room refl) at c.requires.room (c.args.depth + 1) (omega (arith, len)) a
+    placed-enter p q e es (kept-by p q c.put.ensures.room refl) at c.requires.room
+    (c.args.depth + 1) (omega (arith, len)) a
     (around-is p e es at (c.args.depth + 1) (omega (arith, len)) a c.place.ensures
     (c.place_at.ensures ∙ ap (λ (xs : List ℕ). get_or xs c.args.element.now.node 0) c.deref.ensures.value)
     (λ scope. c.with.ensures scope

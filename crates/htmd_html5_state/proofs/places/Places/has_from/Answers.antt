@@ -1,5 +1,5 @@
 -- A name, or one of several.
-use Rattle.std.proofs.Common.{◌≡◌, ◌∙◌, ap, sym, List}
+use Rattle.std.proofs.Common.{◌∙◌, ap, sym, List}
 use Rattle.std.specs.List.{list_any}
 use Rattle.htmd_html5_state.specs.Names.{known}
 use Rattle.htmd_html5_state.specs.OpenElements.{is_in}

@@ -1,5 +1,5 @@
 -- What was known of it is written back.
-use Rattle.std.proofs.Common.{◌≡◌, ◌∙◌, ℕ, List, refl, sym, ap, cond, get_or}
+use Rattle.std.proofs.Common.{◌∙◌, ℕ, List, refl, sym, ap, cond, get_or}
 use Rattle.std.proofs.lemmas.List.{with_items_is}
 use Rattle.std.specs.Prelude.{◌==◌}
 use Rattle.std.specs.Vec.{with_items}
