@@ -1,7 +1,9 @@
 -- Lists that are held in the other order; the stack of open elements, the list of active formatting elements, documents.
 pub mod StackLemmas
+pub mod PlacesLemmas
 pub mod FormattingLemmas
 pub mod DocumentLemmas
 mod Examples
 pub mod NamesLemmas
+pub mod TagLemmas
 pub mod AdoptionLemmas

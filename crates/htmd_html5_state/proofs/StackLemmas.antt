@@ -1,18 +1,17 @@
 -- The stack of open elements as the program holds it.
-use Rattle.std.proofs.Common.{◌≡◌, ℕ, suc, ◌+◌, ◌-◌, ◌<◌, ◌≤◌, Bool, true, false, not, ◌&&◌, ◌||◌, List, [], ◌∷◌, ◌++◌, length}
-use Rattle.std.proofs.Common.{Option, Some, None, cond, take, drop, get_or, map, reverse, refl, sym, ap, ◌∙◌, subst, arith, add-one}
-use Rattle.std.proofs.lemmas.List.{map-append, reverse-append, append_assoc, append-nil, take_at, drop_at, length-append, length-drop}
-use Rattle.std.proofs.lemmas.List.{length_push, get_or_at, length-map, length-reverse, take-append-drop, drop_more, length-take-le}
+use Rattle.std.proofs.Common.{◌≡◌, ℕ, suc, ◌+◌, ◌-◌, ◌<◌, ◌≤◌, true, false, List, [], ◌∷◌, ◌++◌, length}
+use Rattle.std.proofs.Common.{Some, None, cond, take, drop, get_or, reverse, refl, sym, ap, ◌∙◌, arith, add-one}
+use Rattle.std.proofs.lemmas.List.{take_more, reverse-reverse, map-append, reverse-append, append_assoc, take_at, drop_at, length-append}
+use Rattle.std.proofs.lemmas.List.{length_push, length-map, length-reverse, take-append-drop, drop_more, length-take-le}
 use Rattle.std.proofs.lemmas.Bool.{true≢false, ne_eqb}
 use Rattle.std.proofs.lemmas.List.Folds.{list_any-append}
 use Rattle.std.proofs.lemmas.Bool.Decides.{nat_tests}
 use Rattle.std.specs.List.{list_any}
 use Rattle.std.specs.Prelude.{◌==◌, remove}
 use Rattle.htmd_text.proofs.Cases.{test}
-use Rattle.htmd_html5_state.specs.Names.{ElementNameValue}
-use Rattle.htmd_html5_state.specs.OpenElements.{OpenValue, is_in, is_open_node, is_node, inside, around, without}
+use Rattle.htmd_html5_state.specs.OpenElements.{OpenValue, is_in, is_open_node, is_node, without}
 use Rattle.htmd_html5_state.specs.OpenElements.{outermost, first_open, second_open}
-use Rattle.htmd_html5_state.specs.Adoption.{Furthest, furthest_block, furthest_with, is_special_element}
+use Rattle.htmd_html5_state.specs.Adoption.{Furthest, furthest_block, is_special_element}
 use Rattle.htmd_html5_state.specs.OpenViews.{open_of, all_open_of, stack_of, is_special, IsInnermost, IsFirstSpecial}
 use Rattle.htmd_html5_state.specs.declared.open_elements.OpenElement.{OpenElement}
 use Rattle.htmd_html5_state.specs.declared.sets.NameSet.{NameSet}
@@ -35,18 +34,6 @@ pub length-stack_of : (xs : List OpenElement) → length (stack_of xs) ≡ lengt
 length-stack_of xs = length-reverse (all_open_of xs) ∙ length-map xs open_of
 
 -- ---- an element with those inside it and those around it
-
-pub inside-found : (n : ℕ) (xs ys : List OpenValue) (e : OpenValue) → is_open_node n xs ≡ false → e.node ≡ n
-    → inside n (xs ++ e ∷ ys) ≡ xs
-inside-found n [] ys e lacks is = grind (arith, nat_tests)
-inside-found n (x ∷ xs) ys e lacks is =
-    test (x.node == n) (λ t. grind (arith, nat_tests)) (λ t. rw (t, inside-found n xs ys e (rw t at lacks) is) refl)
-
-pub around-found : (n : ℕ) (xs ys : List OpenValue) (e : OpenValue) → is_open_node n xs ≡ false → e.node ≡ n
-    → around n (xs ++ e ∷ ys) ≡ ys
-around-found n [] ys e lacks is = grind (arith, nat_tests)
-around-found n (x ∷ xs) ys e lacks is =
-    test (x.node == n) (λ t. grind (arith, nat_tests)) (λ t. rw (t, around-found n xs ys e (rw t at lacks) is) refl)
 
 pub without-found : (n : ℕ) (xs ys : List OpenValue) (e : OpenValue) → is_open_node n xs ≡ false → e.node ≡ n
     → without n (xs ++ e ∷ ys) ≡ xs ++ ys
@@ -81,11 +68,6 @@ furthest-found (x ∷ inner) between e special lacks = rw (furthest-found inner 
 
 -- ---- the outermost elements
 
-outermost-push : (xs : List OpenValue) (e : OpenValue) → outermost (xs ++ e ∷ []) ≡ e ∷ []
-outermost-push [] e = refl
-outermost-push (x ∷ []) e = refl
-outermost-push (x ∷ y ∷ xs) e = outermost-push (y ∷ xs) e
-
 first_open-push : (xs : List OpenValue) (e : OpenValue) → first_open (xs ++ e ∷ []) ≡ Some e.node
 first_open-push [] e = refl
 first_open-push (x ∷ []) e = refl
@@ -97,10 +79,6 @@ second_open-push set [] f e = refl
 second_open-push set (x ∷ []) f e = refl
 second_open-push set (x ∷ y ∷ []) f e = refl
 second_open-push set (x ∷ y ∷ z ∷ xs) f e = second_open-push set (y ∷ z ∷ xs) f e
-
-pub outermost-take : (xs : List OpenElement) → stack_of (take 1 xs) ≡ outermost (stack_of xs)
-outermost-take [] = refl
-outermost-take (x ∷ xs) = sym (ap outermost (stack_of-append (x ∷ []) xs) ∙ outermost-push (stack_of xs) (open_of x))
 
 pub first_open-at : (xs : List OpenElement) (e : OpenElement) → 1 ≤ length xs → e ≡ get_or xs 0 e
     → first_open (stack_of xs) ≡ Some e.node
@@ -123,22 +101,64 @@ second_open-short set [] l = refl
 second_open-short set (x ∷ []) l = refl
 second_open-short set (x ∷ y ∷ xs) l = absurd (omega arith)
 
--- the outermost so many
-pub stack_of-take : (xs : List OpenElement) (n : ℕ) → stack_of (take n xs) ≡ drop (length (stack_of xs) - n) (stack_of xs)
-stack_of-take xs n =
-    sym (drop_at (stack_of (drop n xs)) (stack_of (take n xs)) (length (stack_of xs) - n) inner)
-    ∙ ap (drop (length (stack_of xs) - n)) (sym (stack_of-append (take n xs) (drop n xs)) ∙ ap stack_of (take-append-drop n xs))
-  where
-    inner : length (stack_of (drop n xs)) ≡ length (stack_of xs) - n
-    inner = omega (arith, length-stack_of (drop n xs), length-stack_of xs, length-drop n xs)
+-- all but the outermost
+pub outermost-drop : (es : List OpenValue) → drop (length es - 1) es ≡ outermost es
+outermost-drop [] = refl
+outermost-drop (e ∷ []) = refl
+outermost-drop (e ∷ f ∷ es) =
+    let s : length (e ∷ f ∷ es) - 1 ≡ suc (length (f ∷ es) - 1) = omega arith in
+    ap (λ (k : ℕ). drop k (e ∷ f ∷ es)) s ∙ outermost-drop (f ∷ es)
+
+-- ---- elements turned round
+
+map-turned : (xs : List OpenElement) → all_open_of (reverse xs) ≡ reverse (all_open_of xs)
+map-turned [] = refl
+map-turned (x ∷ xs) =
+    ap all_open_of (reverse-append (x ∷ []) xs)
+    ∙ (map-append open_of (reverse xs) (x ∷ [])
+    ∙ (ap (λ (ys : List OpenValue). ys ++ open_of x ∷ []) (map-turned xs)
+    ∙ sym (reverse-append (open_of x ∷ []) (all_open_of xs))))
+
+pub turned-is : (xs : List OpenElement) → all_open_of (reverse xs) ≡ stack_of xs
+turned-is xs = map-turned xs
+
+pub turned-back : (xs : List OpenElement) → stack_of (reverse xs) ≡ all_open_of xs
+turned-back xs = ap reverse (map-turned xs) ∙ reverse-reverse (all_open_of xs)
 
 -- ---- places in the stack
+
+-- one element further in
+pub stack-more : (xs : List OpenElement) (i : ℕ) (x : OpenElement) → i < length xs → x ≡ get_or xs i x
+    → stack_of (take (i + 1) xs) ≡ open_of x ∷ stack_of (take i xs)
+stack-more xs i x l is =
+    ap stack_of (take_more xs i x l)
+    ∙ (stack_of-push (take i xs) (get_or xs i x)
+    ∙ ap (λ (y : OpenElement). open_of y ∷ stack_of (take i xs)) (sym is))
+
+pub length-stack-take : (xs : List OpenElement) (i : ℕ) → i ≤ length xs → length (stack_of (take i xs)) ≡ i
+length-stack-take xs i l = length-stack_of (take i xs) ∙ length-take-le i xs l
+
+pub stack-around : (xs : List OpenElement) (i : ℕ) (x : OpenElement) → i < length xs → x ≡ get_or xs i x
+    → stack_of xs ≡ stack_of (drop (i + 1) xs) ++ open_of x ∷ stack_of (take i xs)
+stack-around xs i x l is =
+    ap stack_of (sym (take-append-drop i xs)
+    ∙ ap (λ (ys : List OpenElement). take i xs ++ ys) (drop_more xs i x l
+    ∙ ap (λ (y : OpenElement). y ∷ drop (i + 1) xs) (sym is)))
+    ∙ stack_of-around (take i xs) (drop (i + 1) xs) x
+
+pub take-removed : (xs : List OpenElement) (i : ℕ) → i ≤ length xs → take i (remove xs i) ≡ take i xs
+take-removed xs i l = take_at (take i xs) (drop (suc i) xs) i (length-take-le i xs l)
+
+pub stack-removed : (xs : List OpenElement) (i : ℕ) → stack_of (remove xs i) ≡ stack_of (drop (i + 1) xs) ++ stack_of (take i xs)
+stack-removed xs i =
+    stack_of-append (take i xs) (drop (suc i) xs)
+    ∙ ap (λ (k : ℕ). stack_of (drop k xs) ++ stack_of (take i xs)) (sym (add-one i))
 
 after-cut : (outer inner : List OpenElement) (e : OpenElement) → drop (suc (length outer)) (outer ++ e ∷ inner) ≡ inner
 after-cut [] inner e = refl
 after-cut (x ∷ outer) inner e = after-cut outer inner e
 
--- what is inside, what is around, and what is left without it
+-- what is left without it
 module _ (n : ℕ) (xs : List OpenElement) (i : ℕ) (at : IsInnermost n xs i) where
   dropped : drop (suc i) xs ≡ at.inner
   dropped =
@@ -152,17 +172,6 @@ module _ (n : ℕ) (xs : List OpenElement) (i : ℕ) (at : IsInnermost n xs i) w
 
   turned : stack_of xs ≡ stack_of at.inner ++ open_of at.element ∷ stack_of at.outer
   turned = ap stack_of at.whole ∙ stack_of-around at.outer at.inner at.element
-
-  pub IsInnermost-inside : stack_of (drop (i + 1) xs) ≡ inside n (stack_of xs)
-  IsInnermost-inside =
-      ap (λ (k : ℕ). stack_of (drop k xs)) (add-one i)
-      ∙ (ap stack_of dropped ∙ sym (ap (inside n) turned
-      ∙ inside-found n (stack_of at.inner) (stack_of at.outer) (open_of at.element) at.lacks at.has_node))
-
-  pub IsInnermost-around : stack_of (take i xs) ≡ around n (stack_of xs)
-  IsInnermost-around =
-      ap stack_of taken ∙ sym (ap (around n) turned
-      ∙ around-found n (stack_of at.inner) (stack_of at.outer) (open_of at.element) at.lacks at.has_node)
 
   pub IsInnermost-without : stack_of (remove xs i) ≡ without n (stack_of xs)
   IsInnermost-without =

@@ -13,6 +13,9 @@ pub mod Resetting
 pub mod Foreign
 pub mod Views
 pub mod OpenViews
+pub mod TagNumbers
+pub mod SetMembers
+pub mod Places
 pub mod FormattingViews
 pub mod AdoptionViews
 pub mod ForeignViews

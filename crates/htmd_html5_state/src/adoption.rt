@@ -160,7 +160,7 @@ impl HtmlState {
         ensures { IfOk result (λ more. round_of_answer more self.new
             ≡ spec.round_open tag formatting self.old) }
     {
-        let inside = self.stack.take_inside(formatting)?;
+        let inside = self.stack.take_inside(self.alloc, formatting)?;
         match furthest_block(inside)? {
             Some(furthest) => {
                 self.adopt(formatting, tag, furthest)?;

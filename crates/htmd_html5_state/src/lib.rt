@@ -12,6 +12,7 @@ mod insertion;
 mod modes;
 mod names;
 mod open_elements;
+mod places;
 mod resetting;
 mod sets;
 mod state;

@@ -1,7 +1,8 @@
 //! The names of elements.
-ghost use Rattle.std.specs.Prelude.{◌≡◌, IfOk, find, string_bytes};
+ghost use Rattle.std.specs.Prelude.{◌≡◌, ◌<◌, IfOk, find, string_bytes};
 ghost use Rattle.htmd_html5_state.specs.Names as spec;
 ghost use Rattle.htmd_html5_state.specs.Names.{name_of, element_name_of};
+ghost use Rattle.htmd_html5_state.specs.TagNumbers.{number};
 
 use std::alloc::AllocError;
 
@@ -123,6 +124,9 @@ pub enum TagName {
     Wbr,
     Xmp,
 }
+
+/// So many names are known.
+pub(crate) const TAGS: usize = 114;
 
 /// A name of HTML.
 #[derive(Debug, PartialEq, Eq, Drop)]
@@ -521,6 +525,14 @@ impl TagName {
         ensures { result ≡ spec.same_tag self other }
     {
         self == other
+    }
+
+    /// Its number among the known names.
+    pub(crate) fn number(self) -> usize
+        ensures value { result ≡ number self }
+        ensures within { result < 114 }
+    {
+        self as usize
     }
 }
 

@@ -1,13 +1,15 @@
 //! The stack of open elements.
-ghost use Rattle.std.specs.Prelude.{◌≡◌, ◌-◌, ◌<◌, ◌^◌, ◌∷◌, ◌++◌, [], length, drop, true, false, IfOk, OnOk, IfSome, MatchOption, option_map};
+ghost use Rattle.std.specs.Prelude.{◌≡◌, ◌-◌, ◌<◌, ◌≤◌, ◌^◌, ◌∷◌, ◌++◌, [], length, drop, take, remove, vec_len, true, false, IfOk, OnOk, IfSome, MatchOption, option_map};
 ghost use Rattle.std.specs.List.{list_any};
 ghost use Rattle.htmd_html5_state.specs.Names.{element_name_of, name_of, html};
 ghost use Rattle.htmd_html5_state.specs.OpenElements as spec;
 ghost use Rattle.htmd_html5_state.specs.Insertion as insertion;
 ghost use Rattle.htmd_html5_state.specs.Adoption as adoption;
+ghost use Rattle.htmd_html5_state.specs.Places.{IsPlaced, AllHaveRoom, innermost, bounds_in};
 ghost use Rattle.htmd_html5_state.specs.OpenViews.{open_of, all_open_of, stack_of, furthest_of, is_special, IsInnermost, IsFirstSpecial};
 
 use crate::names::{ElementName, HtmlName};
+use crate::places::{Places, is_from};
 use crate::sets::{NameSet, Scope};
 use std::alloc::{AllocError, Global};
 use std::marker::Model;
@@ -19,10 +21,11 @@ pub(crate) struct OpenElement {
     pub(crate) name: ElementName,
 }
 
-/// The open elements, outermost first.
+/// The open elements, outermost first, and where they stand.
 #[derive(Drop)]
 pub(crate) struct OpenElements {
     elements: Vec<OpenElement>,
+    places: Places,
 }
 
 impl Model for OpenElements {
@@ -34,6 +37,10 @@ impl Model for OpenElements {
     ghost use Rattle.htmd_html5_state.specs.OpenViews.{stack_of};
 
     ghost view = { λ o. stack_of o.elements.items };
+
+    ghost use Rattle.htmd_html5_state.specs.Places.{IsPlaced};
+
+    ghost invariant = { λ o. IsPlaced o.places (stack_of o.elements.items) };
 }
 
 /// The furthest block, what is open inside it, and what is open around it, each outermost first.
@@ -58,32 +65,7 @@ pub(crate) fn split_innermost(elements: &[OpenElement]) -> Option<(&[OpenElement
     }
 }
 
-fn holds_one(elements: &[OpenElement], set: NameSet) -> bool
-    ensures { result ≡ spec.is_open set (stack_of elements.now) }
-{
-    let mut rest = elements;
-    while let Some((outer, element)) = split_innermost(rest) {
-        if set.holds(&element.name) {
-            return true;
-        }
-        rest = outer;
-    }
-    false
-}
-
-fn holds_node(elements: &[OpenElement], node: usize) -> bool
-    ensures { result ≡ spec.is_open_node node (stack_of elements.now) }
-{
-    let mut rest = elements;
-    while let Some((outer, element)) = split_innermost(rest) {
-        if element.node == node {
-            return true;
-        }
-        rest = outer;
-    }
-    false
-}
-
+/// Whether one of these is in scope, found by a walk.
 pub(crate) fn is_in_scope(elements: &[OpenElement], set: NameSet, scope: Scope) -> bool
     ensures { result ≡ spec.is_in_scope set scope (stack_of elements.now) }
 {
@@ -94,56 +76,6 @@ pub(crate) fn is_in_scope(elements: &[OpenElement], set: NameSet, scope: Scope) 
         }
         if scope.is_bound(&element.name) {
             return false;
-        }
-        rest = outer;
-    }
-    false
-}
-
-fn is_closable(elements: &[OpenElement], name: &HtmlName) -> bool
-    ensures { result ≡ spec.is_closable (name_of name.now) (stack_of elements.now) }
-{
-    let mut rest = elements;
-    while let Some((outer, element)) = split_innermost(rest) {
-        if element.name.is_html(name) {
-            return true;
-        }
-        if Scope::Special.is_bound(&element.name) {
-            return false;
-        }
-        rest = outer;
-    }
-    false
-}
-
-/// Whether one that is open inside a node bounds a scope.
-fn is_bounded_inside(elements: &[OpenElement], node: usize) -> bool
-    ensures { result ≡ list_any adoption.bounds_any (spec.inside node (stack_of elements.now)) }
-{
-    let mut rest = elements;
-    while let Some((outer, element)) = split_innermost(rest) {
-        if element.node == node {
-            return false;
-        }
-        if Scope::Default.is_bound(&element.name) {
-            return true;
-        }
-        rest = outer;
-    }
-    false
-}
-
-/// Whether the node is open, and neither it nor what is open inside it bounds a scope.
-fn is_node_in_scope(elements: &[OpenElement], node: usize) -> bool
-    ensures { result ≡ spec.is_node_in_scope node (stack_of elements.now) }
-{
-    let mut rest = elements;
-    while let Some((outer, element)) = split_innermost(rest) {
-        if Scope::Default.is_bound(&element.name) {
-            return false;
-        }
-        if element.node == node {
-            return true;
         }
         rest = outer;
     }
@@ -197,6 +129,54 @@ pub(crate) fn furthest_block(mut inside: Vec<OpenElement>) -> Result<Option<Furt
     }
 }
 
+/// All but the outermost so many leave their places.
+fn leave_all(places: &mut Places, elements: &[OpenElement], len: usize)
+    requires within { len ≤ length elements.now }
+    requires placed { IsPlaced places.old (stack_of elements.now) }
+    ensures placed { IsPlaced places.new (stack_of (take len elements.now)) }
+    ensures room { AllHaveRoom places.new (stack_of elements.now) }
+    ensures around { vec_len places.new.around ≡ vec_len places.old.around }
+{
+    let mut left = elements.len();
+    while left > len {
+        left -= 1;
+        places.leave(left, &elements[left]);
+    }
+}
+
+/// All but the outermost so many take their places.
+fn enter_all(places: &mut Places, elements: &[OpenElement], len: usize)
+    requires within { len ≤ length elements.now }
+    requires placed { IsPlaced places.old (stack_of (take len elements.now)) }
+    requires room { AllHaveRoom places.old (stack_of elements.now) }
+    requires around { length elements.now ≤ vec_len places.old.around }
+    ensures { IsPlaced places.new (stack_of elements.now) }
+{
+    for i in len..elements.len() {
+        places.enter(i, &elements[i]);
+    }
+}
+
+/// Takes out an element.
+fn take_out(places: &mut Places, elements: &mut Vec<OpenElement>, index: usize)
+    requires within { index < length elements.old.items }
+    requires placed { IsPlaced places.old (stack_of elements.old.items) }
+    ensures items { elements.new.items ≡ remove elements.old.items index }
+    ensures placed { IsPlaced places.new (stack_of elements.new.items) }
+{
+    leave_all(places, elements, index);
+    elements.remove(index);
+    enter_all(places, elements, index);
+}
+
+fn reversed(mut elements: Vec<OpenElement>) -> Vec<OpenElement>
+    ensures turned { all_open_of result.items ≡ stack_of elements.items }
+    ensures back { stack_of result.items ≡ all_open_of elements.items }
+{
+    elements.reverse();
+    elements
+}
+
 impl OpenElements {
     /// No element.
     pub(crate) fn new(alloc: Global) -> OpenElements
@@ -204,6 +184,7 @@ impl OpenElements {
     {
         OpenElements {
             elements: Vec::new(alloc),
+            places: Places::new(alloc),
         }
     }
 
@@ -297,50 +278,61 @@ impl OpenElements {
         }
     }
 
+    /// The place of the innermost bound of a scope.
+    fn bound(&self, scope: Scope) -> usize
+        ensures { result ≡ innermost (bounds_in scope) self.now }
+    {
+        self.places.bound(self.elements.len(), scope)
+    }
+
     /// Whether one of these is open.
     pub(crate) fn is_open(&self, set: NameSet) -> bool
         ensures { result ≡ spec.is_open set self.now }
     {
-        holds_one(&self.elements, set)
+        self.places.has_from(set, 0)
     }
 
     pub(crate) fn is_open_node(&self, node: usize) -> bool
         ensures { result ≡ spec.is_open_node node self.now }
     {
-        holds_node(&self.elements, node)
+        self.places.node_place(node) > 0
     }
 
     pub(crate) fn is_in_scope(&self, set: NameSet, scope: Scope) -> bool
         ensures { result ≡ spec.is_in_scope set scope self.now }
     {
-        is_in_scope(&self.elements, set, scope)
+        self.places.has_from(set, self.bound(scope))
     }
 
+    /// Whether the node is open, and neither it nor what is open inside it bounds a scope.
     pub(crate) fn is_node_in_scope(&self, node: usize) -> bool
         ensures { result ≡ spec.is_node_in_scope node self.now }
     {
-        is_node_in_scope(&self.elements, node)
+        self.bound(Scope::Default) < self.places.node_place(node)
     }
 
     /// Whether an element that is open inside this node bounds a scope.
     pub(crate) fn is_bounded_inside(&self, node: usize) -> bool
         ensures { result ≡ list_any adoption.bounds_any (spec.inside node self.now) }
     {
-        is_bounded_inside(&self.elements, node)
+        self.places.node_place(node) < self.bound(Scope::Default)
     }
 
     pub(crate) fn push(&mut self, node: usize, name: ElementName) -> Result<(), AllocError>
         ensures { OnOk result (self.new ≡ insertion.opened node (element_name_of name) ∷ self.old) }
     {
-        self.elements.push(OpenElement { node, name })?;
-        Ok(())
+        self.push_element(OpenElement { node, name })
     }
 
     /// Pushes an element that was open.
     pub(crate) fn push_element(&mut self, element: OpenElement) -> Result<(), AllocError>
         ensures { OnOk result (self.new ≡ open_of element ∷ self.old) }
     {
-        self.elements.push(element)?;
+        let depth = self.elements.len();
+        self.places.make_room(depth, &element)?;
+        self.elements.reserve(1)?;
+        self.places.enter(depth, &element);
+        self.elements.push_reserved(element);
         Ok(())
     }
 
@@ -352,29 +344,39 @@ impl OpenElements {
         ensures { OnOk result (self.new ≡ all_open_of elements.items ++ self.old) }
     {
         while let Some(element) = elements.pop() {
-            self.elements.push(element)?;
+            self.push_element(element)?;
         }
         Ok(())
     }
 
     /// Pushes elements, of which the last gets innermost.
-    pub(crate) fn append(&mut self, mut elements: Vec<OpenElement>) -> Result<(), AllocError>
+    pub(crate) fn append(&mut self, elements: Vec<OpenElement>) -> Result<(), AllocError>
         ensures { OnOk result (self.new ≡ stack_of elements.items ++ self.old) }
     {
-        self.elements.append(&mut elements)
+        self.push_inside_out(reversed(elements))
+    }
+
+    /// Pops the innermost element.
+    fn pop_element(&mut self) -> Option<OpenElement>
+        ensures { MatchOption result ((self.old ≡ []) × (self.new ≡ []))
+            (λ e. self.old ≡ open_of e ∷ self.new) }
+    {
+        let element = self.elements.pop()?;
+        self.places.leave(self.elements.len(), &element);
+        Some(element)
     }
 
     pub(crate) fn pop(&mut self)
         ensures { self.new ≡ spec.pop self.old }
     {
-        self.elements.pop();
+        self.pop_element();
     }
 
     /// Pops until one of these has been popped.
     pub(crate) fn pop_until(&mut self, set: NameSet)
         ensures { self.new ≡ spec.pop_until set self.old }
     {
-        while let Some(element) = self.elements.pop() {
+        while let Some(element) = self.pop_element() {
             if set.holds(&element.name) {
                 return;
             }
@@ -385,7 +387,7 @@ impl OpenElements {
     fn pop_through(&mut self, name: &HtmlName)
         ensures { self.new ≡ spec.pop_through (spec.has_name (html (name_of name.now))) self.old }
     {
-        while let Some(element) = self.elements.pop() {
+        while let Some(element) = self.pop_element() {
             if element.name.is_html(name) {
                 return;
             }
@@ -396,8 +398,8 @@ impl OpenElements {
     pub(crate) fn clear_to(&mut self, set: NameSet)
         ensures { self.new ≡ spec.clear_to set self.old }
     {
-        while !self.elements.is_empty() && !self.current_is(set) {
-            self.elements.pop();
+        while !self.is_empty() && !self.current_is(set) {
+            self.pop();
         }
     }
 
@@ -406,7 +408,7 @@ impl OpenElements {
         ensures { self.new ≡ spec.pop_while set self.old }
     {
         while self.current_is(set) {
-            self.elements.pop();
+            self.pop();
         }
     }
 
@@ -422,11 +424,18 @@ impl OpenElements {
         found
     }
 
+    /// Whether any other end tag of this name closes an element.
+    fn is_closable(&self, name: &HtmlName) -> bool
+        ensures { result ≡ spec.is_closable (name_of name.now) self.now }
+    {
+        is_from(self.bound(Scope::Special), self.places.name_place(name))
+    }
+
     /// What any other end tag closes.
     pub(crate) fn close_name(&mut self, name: &HtmlName)
         ensures { self.new ≡ spec.close_name (name_of name.now) self.old }
     {
-        if is_closable(&self.elements, name) {
+        if self.is_closable(name) {
             self.pop_through(name);
         }
     }
@@ -435,36 +444,46 @@ impl OpenElements {
     pub(crate) fn truncate(&mut self, len: usize)
         ensures { self.new ≡ drop (length self.old - len) self.old }
     {
-        self.elements.truncate(len);
+        while self.len() > len {
+            self.pop();
+        }
     }
 
     /// Pops all but the outermost.
     pub(crate) fn keep_outermost(&mut self)
         ensures { self.new ≡ spec.outermost self.old }
     {
-        self.elements.truncate(1);
+        self.truncate(1);
     }
 
     /// Takes out the element of a node.
     pub(crate) fn remove(&mut self, node: usize)
         ensures { self.new ≡ spec.without node self.old }
     {
+        if !self.is_open_node(node) {
+            return;
+        }
         if let Some(index) = position(&self.elements, node) {
-            self.elements.remove(index);
+            take_out(&mut self.places, &mut self.elements, index);
         }
     }
 
     /// Pops the element of a node and all inside it: these, outermost first.
-    pub(crate) fn take_inside(&mut self, node: usize) -> Result<Vec<OpenElement>, AllocError>
-        requires { spec.is_open_node node self.old ≡ true }
+    pub(crate) fn take_inside(
+        &mut self,
+        alloc: Global,
+        node: usize,
+    ) -> Result<Vec<OpenElement>, AllocError>
         ensures inside { IfOk result (λ v. stack_of v.items ≡ spec.inside node self.old) }
         ensures around { OnOk result (self.new ≡ spec.around node self.old) }
     {
-        let Some(index) = position(&self.elements, node) else {
-            unreachable!();
-        };
-        let inside = self.elements.split_off(index + 1)?;
-        self.elements.pop();
-        Ok(inside)
+        let mut inside = Vec::new(alloc);
+        while let Some(element) = self.pop_element() {
+            if element.node == node {
+                return Ok(reversed(inside));
+            }
+            inside.push(element)?;
+        }
+        Ok(reversed(inside))
     }
 }

@@ -2,6 +2,7 @@
 ghost use Rattle.std.specs.Prelude.{◌≡◌, map};
 ghost use Rattle.htmd_grammar.specs.CharacterClasses as classes;
 ghost use Rattle.htmd_html5_state.specs.Names.{element_name_of};
+ghost use Rattle.htmd_html5_state.specs.SetMembers.{members};
 ghost use Rattle.htmd_html5_state.specs.Sets as spec;
 
 use crate::names::{ElementName, HtmlName, TagName};
@@ -244,6 +245,68 @@ fn ends_in_ruby(tag: TagName) -> bool
     }
 }
 
+static HEADINGS: [TagName; 6] = [
+    TagName::H1,
+    TagName::H2,
+    TagName::H3,
+    TagName::H4,
+    TagName::H5,
+    TagName::H6,
+];
+
+static DESCRIPTION_PARTS: [TagName; 2] = [TagName::Dd, TagName::Dt];
+
+static CELLS: [TagName; 2] = [TagName::Td, TagName::Th];
+
+static TABLE_SECTIONS: [TagName; 3] = [TagName::TBody, TagName::TFoot, TagName::THead];
+
+static OPTIONS: [TagName; 2] = [TagName::OptGroup, TagName::OptionTag];
+
+static IMPLIED_END: [TagName; 10] = [
+    TagName::Dd,
+    TagName::Dt,
+    TagName::Li,
+    TagName::OptGroup,
+    TagName::OptionTag,
+    TagName::P,
+    TagName::Rb,
+    TagName::Rp,
+    TagName::Rt,
+    TagName::Rtc,
+];
+
+static IMPLIED_END_IN_RUBY: [TagName; 9] = [
+    TagName::Dd,
+    TagName::Dt,
+    TagName::Li,
+    TagName::OptGroup,
+    TagName::OptionTag,
+    TagName::P,
+    TagName::Rb,
+    TagName::Rp,
+    TagName::Rt,
+];
+
+static FOSTERING: [TagName; 5] = [
+    TagName::Table,
+    TagName::TBody,
+    TagName::TFoot,
+    TagName::THead,
+    TagName::Tr,
+];
+
+static TABLE_CONTEXT: [TagName; 3] = [TagName::Html, TagName::Table, TagName::Template];
+
+static TABLE_BODY_CONTEXT: [TagName; 5] = [
+    TagName::Html,
+    TagName::TBody,
+    TagName::Template,
+    TagName::TFoot,
+    TagName::THead,
+];
+
+static TABLE_ROW_CONTEXT: [TagName; 3] = [TagName::Html, TagName::Template, TagName::Tr];
+
 impl NameSet {
     fn has(self, tag: TagName) -> bool
         ensures { result ≡ spec.has self tag }
@@ -261,6 +324,26 @@ impl NameSet {
             NameSet::TableContext => is_table_context(tag),
             NameSet::TableBodyContext => is_table_body_context(tag),
             NameSet::TableRowContext => is_table_row_context(tag),
+        }
+    }
+
+    /// The names of a set of several.
+    pub(crate) fn members(self) -> &'static [TagName]
+        ensures { result.now ≡ members self }
+    {
+        match self {
+            NameSet::Only(_) => &[],
+            NameSet::Headings => &HEADINGS,
+            NameSet::DescriptionParts => &DESCRIPTION_PARTS,
+            NameSet::Cells => &CELLS,
+            NameSet::TableSections => &TABLE_SECTIONS,
+            NameSet::Options => &OPTIONS,
+            NameSet::ImpliedEnd => &IMPLIED_END,
+            NameSet::ImpliedEndInRuby => &IMPLIED_END_IN_RUBY,
+            NameSet::Fostering => &FOSTERING,
+            NameSet::TableContext => &TABLE_CONTEXT,
+            NameSet::TableBodyContext => &TABLE_BODY_CONTEXT,
+            NameSet::TableRowContext => &TABLE_ROW_CONTEXT,
         }
     }
 

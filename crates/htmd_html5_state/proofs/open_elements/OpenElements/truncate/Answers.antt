@@ -1,12 +1,11 @@
--- The first elements that the program holds.
-use Rattle.std.proofs.Common.{◌∙◌, ◌-◌, List, length, drop, ap}
+-- One less is popped after it.
+use Rattle.std.proofs.Common.{◌∙◌, ◌-◌, List, length, drop, sym, ap, arith}
 use Rattle.htmd_html5_state.specs.OpenElements.{OpenValue}
-use Rattle.htmd_html5_state.specs.OpenViews.{stack_of}
-use Rattle.htmd_html5_state.proofs.StackLemmas.{stack_of-take}
+use Rattle.htmd_html5_state.proofs.PlacesLemmas.{drop-pop}
 use Rattle.htmd_html5_state.proofs.open_elements.OpenElements.truncate.Goals as goal
 
-pub returns : goal.returns
-returns c =
-    ap stack_of c.truncate.ensures.items
-    ∙ (stack_of-take c.self.inside.elements.items c.args.len
-    ∙ ap (λ (x : List OpenValue). drop (length x - c.args.len) x) c.self.view_is)
+pub loop-self-preserved : goal.loop-self-preserved
+loop-self-preserved c =
+    ap (λ (es : List OpenValue). drop (length es - c.args.len) es) c.pop.ensures
+    ∙ (sym (drop-pop c.args.len c.loop-self.self (omega (arith, c.loop-self-test.true, c.len.ensures.value)))
+    ∙ c.loop-self.invariant)

@@ -1,0 +1,370 @@
+-- Where open elements stand: what a place says of a scope, and what changes where an element is opened or closed.
+use Rattle.std.proofs.Common.{◌≡◌, ℕ, suc, ◌+◌, ◌<◌, ◌≤◌, Bool, true, false, ◌||◌, cond, List, [], ◌∷◌, length}
+use Rattle.std.proofs.Common.{get_or, set, take, drop, ◌-◌, Option, Some, None, vec_len, ◌++◌, refl, sym, ap, ◌∙◌, subst, arith}
+use Rattle.std.proofs.lemmas.Bool.{true≢false, eqb-true}
+use Rattle.std.proofs.lemmas.Bool.Decides.{nat_tests}
+use Rattle.std.proofs.lemmas.List.{get_or-set_same, get_or-set_other, length-set, length-append, get_or_append_left}
+use Rattle.std.specs.HashMap.{get_by_text}
+use Rattle.std.specs.List.{list_any}
+use Rattle.std.specs.Map.{update}
+use Rattle.std.specs.Prelude.{◌==◌, nat_lt, unwrap_or, is_some, remove}
+use Rattle.std.specs.Str.{bytes_eq}
+use Rattle.htmd_grammar.proofs.NestingLemmas.{same_bytes}
+use Rattle.htmd_text.proofs.Cases.{test}
+use Rattle.htmd_html5_state.specs.Adoption.{bounds_any}
+use Rattle.htmd_html5_state.specs.Names.{NameValue, ElementNameValue, html, svg, math, known, other, same_element_name}
+use Rattle.htmd_html5_state.specs.OpenElements.{OpenValue, is_in, is_node, has_name, inside, scope_has, is_node_in_scope}
+use Rattle.htmd_html5_state.specs.OpenElements.{is_open_node, pop}
+use Rattle.htmd_html5_state.specs.OpenViews.{open_of, stack_of}
+use Rattle.htmd_html5_state.specs.Places.{innermost, bounds_in, is_from, bound_of, name_place, has_room, innermost_named}
+use Rattle.htmd_html5_state.specs.Places.{place_of_name}
+use Rattle.htmd_html5_state.specs.Places.{IsAround, IsLinked, HasRoom, AllHaveRoom, IsPlaced}
+use Rattle.htmd_html5_state.specs.Sets.{bounds}
+use Rattle.htmd_html5_state.specs.declared.names.TagName.{TagName}
+use Rattle.htmd_html5_state.specs.declared.open_elements.OpenElement.{OpenElement}
+use Rattle.htmd_html5_state.specs.declared.places.Around.{Around}
+use Rattle.htmd_html5_state.specs.declared.places.Bounds.{Bounds}
+use Rattle.htmd_html5_state.specs.TagNumbers.{number}
+use Rattle.htmd_html5_state.specs.declared.places.NamePlaces.{NamePlaces}
+use Rattle.htmd_html5_state.specs.declared.places.Places.{Places}
+use Rattle.htmd_html5_state.specs.declared.sets.NameSet.TheVariants.{Only}
+use Rattle.htmd_html5_state.specs.declared.sets.Scope.{Scope}
+use Rattle.htmd_html5_state.specs.declared.sets.Scope.TheVariants.{Default}
+use Rattle.htmd_html5_state.specs.SetMembers.{members}
+use Rattle.htmd_html5_state.specs.declared.sets.NameSet.{NameSet}
+use Rattle.htmd_html5_state.proofs.StackLemmas.{stack-around, stack-removed}
+use Rattle.htmd_html5_state.proofs.TagLemmas.{same_name-true, only-named, in-members, is_several, number-tests}
+
+-- ---- what a place says
+
+pub innermost-within : (p : OpenValue → Bool) (es : List OpenValue) → innermost p es ≤ length es
+innermost-within p [] = omega arith
+innermost-within p (e ∷ es) =
+    test (p e) (λ t. rw t (omega arith)) (λ t. rw t (omega (arith, innermost-within p es)))
+
+pub scope-by_places : (p : OpenValue → Bool) (scope : Scope) (es : List OpenValue)
+    → scope_has p scope es ≡ is_from (innermost (bounds_in scope) es) (innermost p es)
+scope-by_places p scope [] = refl
+scope-by_places p scope (e ∷ es) =
+    let w = innermost-within (bounds_in scope) es in
+    let v = innermost-within p es in
+    test (p e)
+    (λ t. test (bounds scope e.name) (λ s. rw (t, s) (grind (arith, nat_tests))) (λ s. rw (t, s) (grind (arith, nat_tests, w))))
+    (λ t. test (bounds scope e.name) (λ s. rw (t, s) (grind (arith, nat_tests, v)))
+    (λ s. rw (t, s) (scope-by_places p scope es)))
+
+pub open-by_place : (p : OpenValue → Bool) (es : List OpenValue) → list_any p es ≡ is_from 0 (innermost p es)
+open-by_place p [] = refl
+open-by_place p (e ∷ es) = test (p e) (λ t. rw t (grind (arith, nat_tests))) (λ t. rw t (open-by_place p es))
+
+pub open_node-by_place : (n : ℕ) (es : List OpenValue) → is_open_node n es ≡ nat_lt 0 (innermost (is_node n) es)
+open_node-by_place n [] = refl
+open_node-by_place n (e ∷ es) =
+    test (e.node == n) (λ t. rw t (grind (arith, nat_tests))) (λ t. rw t (open_node-by_place n es))
+
+pub node-by_places : (n : ℕ) (es : List OpenValue)
+    → is_node_in_scope n es ≡ nat_lt (innermost (bounds_in Default) es) (innermost (is_node n) es)
+node-by_places n [] = refl
+node-by_places n (e ∷ es) =
+    let w = innermost-within (bounds_in Default) es in
+    let v = innermost-within (is_node n) es in
+    test (bounds Default e.name)
+    (λ t. test (e.node == n) (λ s. rw (t, s) (grind (arith, nat_tests))) (λ s. rw (t, s) (grind (arith, nat_tests, v))))
+    (λ t. test (e.node == n) (λ s. rw (t, s) (grind (arith, nat_tests, w)))
+    (λ s. rw (t, s) (node-by_places n es)))
+
+pub inside-by_places : (n : ℕ) (es : List OpenValue)
+    → list_any bounds_any (inside n es) ≡ nat_lt (innermost (is_node n) es) (innermost (bounds_in Default) es)
+inside-by_places n [] = refl
+inside-by_places n (e ∷ es) =
+    let w = innermost-within (bounds_in Default) es in
+    let v = innermost-within (is_node n) es in
+    test (bounds Default e.name)
+    (λ t. test (e.node == n) (λ s. rw (t, s) (grind (arith, nat_tests))) (λ s. rw (t, s) (grind (arith, nat_tests, v))))
+    (λ t. test (e.node == n) (λ s. rw (t, s) (grind (arith, nat_tests, w)))
+    (λ s. rw (t, s) (ap (λ (r : Bool). r || list_any bounds_any (inside n es)) t ∙ inside-by_places n es)))
+
+-- ---- one of several
+
+pub innermost-same : (p q : OpenValue → Bool) → ((e : OpenValue) → p e ≡ q e) → (es : List OpenValue)
+    → innermost p es ≡ innermost q es
+innermost-same p q same [] = refl
+innermost-same p q same (e ∷ es) = rw (same e, innermost-same p q same es) refl
+
+none-innermost : (es : List OpenValue) → innermost (λ e. false) es ≡ 0
+none-innermost [] = refl
+none-innermost (e ∷ es) = none-innermost es
+
+either : (b : ℕ) (p q : OpenValue → Bool) (es : List OpenValue)
+    → is_from b (innermost (λ e. p e || q e) es) ≡ is_from b (innermost p es) || is_from b (innermost q es)
+either b p q [] = refl
+either b p q (e ∷ es) =
+    let w = innermost-within p es in
+    let v = innermost-within q es in
+    test (p e)
+    (λ t. test (q e) (λ s. rw (t, s) (grind (arith, nat_tests))) (λ s. rw (t, s) (grind (arith, nat_tests, v))))
+    (λ t. test (q e) (λ s. rw (t, s) (grind (arith, nat_tests, w))) (λ s. rw (t, s) (either b p q es)))
+
+pub one_of : (b : ℕ) (ts : List TagName) (es : List OpenValue)
+    → is_from b (innermost (λ e. list_any (λ t. is_in (Only t) e) ts) es)
+    ≡ list_any (λ t. is_from b (innermost (is_in (Only t)) es)) ts
+one_of b [] es = rw (none-innermost es) (grind (arith, nat_tests))
+one_of b (t ∷ ts) es =
+    either b (is_in (Only t)) (λ e. list_any (λ u. is_in (Only u) e) ts) es
+    ∙ ap (λ (r : Bool). is_from b (innermost (is_in (Only t)) es) || r) (one_of b ts es)
+
+-- ---- an element is opened, or closed
+
+linked-within : (around : List Around) (es : List OpenValue) → IsLinked around es → length es ≤ length around
+linked-within around [] l = omega arith
+linked-within around (e ∷ es) l = omega (arith, l.0)
+
+-- what is written further in changes nothing
+linked-set : (around : List Around) (i : ℕ) (a : Around) (es : List OpenValue) → length es ≤ i → IsLinked around es
+    → IsLinked (set around i a) es
+linked-set around i a [] l h = tt
+linked-set around i a (e ∷ es) l h = (
+  omega (arith, h.0, length-set around i a),
+  (λ d. subst (λ (x : Around). IsAround x e es)
+      (sym (get_or-set_other around i (length es) a d (λ s. omega (arith, s, l)))) (h.1 d)),
+  linked-set around i a es (omega (arith, l)) h.2,
+)
+
+-- popping, one after another, to a depth
+pub drop-pop : (len : ℕ) (es : List OpenValue) → len < length es
+    → drop (length es - len) es ≡ drop (length (pop es) - len) (pop es)
+drop-pop len [] l = absurd (omega arith)
+drop-pop len (e ∷ es) l =
+    let s : length (e ∷ es) - len ≡ suc (length es - len) = omega (arith, l) in
+    ap (λ (k : ℕ). drop k (e ∷ es)) s
+
+pub linked-push : (around : List Around) (a : Around) (e : OpenValue) (es : List OpenValue) → length es < length around
+    → IsLinked around es → IsAround a e es → IsLinked (set around (length es) a) (e ∷ es)
+linked-push around a e es l h is = (
+  omega (arith, l, length-set around (length es) a),
+  (λ d. subst (λ (x : Around). IsAround x e es) (sym (get_or-set_same around (length es) a d l)) is),
+  linked-set around (length es) a es (omega arith) h,
+)
+
+pub all_room-kept : (p q : Places) → ((e : OpenValue) → HasRoom p e → HasRoom q e) → (es : List OpenValue) → AllHaveRoom p es
+    → AllHaveRoom q es
+all_room-kept p q kept [] h = tt
+all_room-kept p q kept (e ∷ es) h = (kept e h.0, all_room-kept p q kept es h.1)
+
+pub room-in : (p : Places) (xs ys : List OpenValue) (e : OpenValue) → AllHaveRoom p (xs ++ e ∷ ys) → HasRoom p e
+room-in p [] ys e h = h.0
+room-in p (x ∷ xs) ys e h = room-in p xs ys e h.1
+
+pub room-without : (p : Places) (xs ys : List OpenValue) (e : OpenValue) → AllHaveRoom p (xs ++ e ∷ ys)
+    → AllHaveRoom p (xs ++ ys)
+room-without p [] ys e h = h.1
+room-without p (x ∷ xs) ys e h = (h.0, room-without p xs ys e h.1)
+
+pub room-at : (p : Places) (xs : List OpenElement) (i : ℕ) (x : OpenElement) → i < length xs → x ≡ get_or xs i x
+    → AllHaveRoom p (stack_of xs) → HasRoom p (open_of x)
+room-at p xs i x l is h =
+    room-in p (stack_of (drop (i + 1) xs)) (stack_of (take i xs)) (open_of x)
+    (subst (λ (es : List OpenValue). AllHaveRoom p es) (stack-around xs i x l is) h)
+
+pub room-removed : (p : Places) (xs : List OpenElement) (i : ℕ) (x : OpenElement) → i < length xs → x ≡ get_or xs i x
+    → AllHaveRoom p (stack_of xs) → AllHaveRoom p (stack_of (remove xs i))
+room-removed p xs i x l is h =
+    subst (λ (es : List OpenValue). AllHaveRoom p es) (sym (stack-removed xs i))
+    (room-without p (stack_of (drop (i + 1) xs)) (stack_of (take i xs)) (open_of x)
+    (subst (λ (es : List OpenValue). AllHaveRoom p es) (stack-around xs i x l is) h))
+
+-- what is held for each key, before and after
+module _ {K : Type 0} (f g : K → ℕ) (p : K → OpenValue → Bool) (e : OpenValue) (es : List OpenValue) where
+  pub entered : ((k : K) → f k ≡ innermost (p k) es) → (place : ℕ) → place ≡ suc (length es)
+      → ((k : K) → g k ≡ cond (p k e) place (f k)) → (k : K) → g k ≡ innermost (p k) (e ∷ es)
+  entered held place at put k =
+      put k ∙ (ap (λ (x : ℕ). cond (p k e) x (f k)) at ∙ ap (λ (x : ℕ). cond (p k e) (suc (length es)) x) (held k))
+
+  pub left : ((k : K) → f k ≡ innermost (p k) (e ∷ es)) → (place : ℕ)
+      → ((k : K) → p k e ≡ true → place ≡ innermost (p k) es)
+      → ((k : K) → g k ≡ cond (p k e) place (f k)) → (k : K) → g k ≡ innermost (p k) es
+  left held place around put k =
+      test (p k e) (λ t. put k ∙ rw t (around k t)) (λ t. put k ∙ (rw t refl ∙ (held k ∙ rw t refl)))
+
+-- with room for more
+pub linked-longer : (around more : List Around) (es : List OpenValue) → IsLinked around es → IsLinked (around ++ more) es
+linked-longer around more [] h = tt
+linked-longer around more (e ∷ es) h = (
+  omega (arith, h.0, length-append around more),
+  (λ d. subst (λ (x : Around). IsAround x e es) (sym (get_or_append_left around more d (length es) h.0)) (h.1 d)),
+  linked-longer around more es h.2,
+)
+
+-- the bounds among so many elements
+pub no-bounds : (b : Bounds) → ((scope : Scope) → bound_of b scope ≡ 0) → (depth : ℕ) → depth ≡ 0 → (es : List OpenValue)
+    → length es ≡ depth → (scope : Scope) → bound_of b scope ≡ innermost (bounds_in scope) es
+no-bounds b none depth zero [] len scope = none scope
+no-bounds b none depth zero (e ∷ es) len scope = absurd (omega (arith, zero, len))
+
+pub linked-bounds : (around : List Around) (depth : ℕ) (a : Around) → a ≡ get_or around (depth - 1) a → 0 < depth
+    → (es : List OpenValue) → length es ≡ depth → IsLinked around es → (scope : Scope)
+    → bound_of a.bounds scope ≡ innermost (bounds_in scope) es
+linked-bounds around depth a read l [] len h scope = absurd (omega (arith, l, len))
+linked-bounds around depth a read l (e ∷ es) len h scope =
+    let at : depth - 1 ≡ length es = omega (arith, len) in
+    (subst (λ (x : Around). IsAround x e es) (sym (read ∙ ap (λ (k : ℕ). get_or around k a) at)) (h.1 a)).bounds scope
+
+named-place : (p : Places) (es : List OpenValue) → IsPlaced p es → (name : ElementNameValue)
+    → place_of_name p.names name ≡ innermost_named name es
+named-place p es at (html m) = at.names m
+named-place p es at (svg s) = refl
+named-place p es at (math s) = refl
+
+same-named : (name : ElementNameValue) (m : NameValue) (es : List OpenValue) → same_element_name name (html m) ≡ true
+    → innermost_named name es ≡ innermost (has_name (html m)) es
+same-named (html n) m es e = ap (λ (x : NameValue). innermost (has_name (html x)) es) (same_name-true n m e)
+same-named (svg s) m es e = absurd (true≢false (sym e))
+same-named (math s) m es e = absurd (true≢false (sym e))
+
+-- what is known of an element that is opened
+pub around-is : (p : Places) (e : OpenValue) (es : List OpenValue) → IsPlaced p es → (place : ℕ) → place ≡ suc (length es)
+    → (a : Around) → a.name ≡ place_of_name p.names e.name → a.node ≡ get_or p.nodes.items e.node 0
+    → ((scope : Scope) → bound_of a.bounds scope ≡ cond (bounds scope e.name) place (innermost (bounds_in scope) es))
+    → IsAround a e es
+around-is p e es at place here a name node bound = record {
+  name = name ∙ named-place p es at e.name;
+  node = node ∙ at.nodes e.node;
+  bounds = λ scope. bound scope
+      ∙ ap (λ (x : ℕ). cond (bounds scope e.name) x (innermost (bounds_in scope) es)) here;
+}
+
+module _ (p q : Places) (e : OpenValue) (es : List OpenValue) (kept : (x : OpenValue) → HasRoom p x → HasRoom q x) where
+  pub placed-enter : IsPlaced p es → HasRoom p e → (place : ℕ) → place ≡ suc (length es) → (a : Around) → IsAround a e es
+      → ((m : NameValue) → name_place q.names m
+      ≡ cond (same_element_name e.name (html m)) place (name_place p.names m))
+      → ((n : ℕ) → get_or q.nodes.items n 0 ≡ cond (e.node == n) place (get_or p.nodes.items n 0))
+      → q.around.items ≡ set p.around.items (length es) a → length es < vec_len p.around
+      → vec_len q.around ≡ vec_len p.around → IsPlaced q (e ∷ es)
+  placed-enter at room place here a is names nodes around within len = record {
+    names = entered (name_place p.names) (name_place q.names) (λ m. has_name (html m)) e es at.names place here names;
+    nodes = entered (λ n. get_or p.nodes.items n 0) (λ n. get_or q.nodes.items n 0) (λ n. is_node n) e es at.nodes place
+        here nodes;
+    linked = subst (λ (x : List Around). IsLinked x (e ∷ es)) (sym around)
+        (linked-push p.around.items a e es (omega (arith, within)) at.linked is);
+    within = omega (arith, within, len);
+    room = all_room-kept p q kept (e ∷ es) (room, at.room);
+  }
+
+  pub placed-leave : IsPlaced p (e ∷ es) → (a : Around) → a ≡ get_or p.around.items (length es) a
+      → ((m : NameValue) → name_place q.names m
+      ≡ cond (same_element_name e.name (html m)) a.name (name_place p.names m))
+      → ((n : ℕ) → get_or q.nodes.items n 0 ≡ cond (e.node == n) a.node (get_or p.nodes.items n 0))
+      → q.around.items ≡ p.around.items → vec_len q.around ≡ vec_len p.around → IsPlaced q es
+  placed-leave at a read names nodes around len =
+      let is : IsAround a e es = subst (λ (x : Around). IsAround x e es) (sym read) (at.linked.1 a) in
+      record {
+        names = left (name_place p.names) (name_place q.names) (λ m. has_name (html m)) e es at.names a.name
+            (λ m t. is.name ∙ same-named e.name m es t) names;
+        nodes = left (λ n. get_or p.nodes.items n 0) (λ n. get_or q.nodes.items n 0) (λ n. is_node n) e es at.nodes a.node
+            (λ n t. is.node ∙ ap (λ (x : ℕ). innermost (is_node x) es) (eqb-true e.node n t)) nodes;
+        linked = subst (λ (x : List Around). IsLinked x es) (sym around) at.linked.2;
+        within = let w = at.within in omega (arith, w, len);
+        room = all_room-kept p q kept es at.room.1;
+      }
+
+pub placed-kept : (p q : Places) → ((m : NameValue) → name_place q.names m ≡ name_place p.names m)
+    → ((n : ℕ) → get_or q.nodes.items n 0 ≡ get_or p.nodes.items n 0)
+    → ((es : List OpenValue) → IsLinked p.around.items es → IsLinked q.around.items es)
+    → vec_len p.around ≤ vec_len q.around
+    → ((x : OpenValue) → HasRoom p x → HasRoom q x) → (stack : List OpenValue) → IsPlaced p stack → IsPlaced q stack
+placed-kept p q names nodes linked longer kept stack at = record {
+  names = λ m. names m ∙ at.names m;
+  nodes = λ n. nodes n ∙ at.nodes n;
+  linked = linked stack at.linked;
+  within = let w = at.within in omega (arith, w, longer);
+  room = all_room-kept p q kept stack at.room;
+}
+
+-- ---- a name, or one of several
+
+pub only-from : (p : Places) (stack : List OpenValue) → IsPlaced p stack → (b : ℕ) (t : TagName)
+    → is_from b (name_place p.names (known t)) ≡ is_from b (innermost (is_in (Only t)) stack)
+only-from p stack at b t =
+    ap (is_from b) (at.names (known t)
+    ∙ sym (innermost-same (is_in (Only t)) (has_name (html (known t))) (only-named t) stack))
+
+list_any-same : (f g : TagName → Bool) → ((t : TagName) → f t ≡ g t) → (ts : List TagName) → list_any f ts ≡ list_any g ts
+list_any-same f g same [] = refl
+list_any-same f g same (t ∷ ts) = rw (same t, list_any-same f g same ts) refl
+
+pub several-from : (p : Places) (stack : List OpenValue) → IsPlaced p stack → (b : ℕ) (set : NameSet)
+    → is_several set ≡ true
+    → list_any (λ t. is_from b (name_place p.names (known t))) (members set) ≡ is_from b (innermost (is_in set) stack)
+several-from p stack at b set s =
+    list_any-same (λ t. is_from b (name_place p.names (known t))) (λ t. is_from b (innermost (is_in (Only t)) stack))
+    (only-from p stack at b) (members set)
+    ∙ (sym (one_of b (members set) stack)
+    ∙ ap (is_from b) (sym (innermost-same (is_in set) (λ e. list_any (λ t. is_in (Only t) e) (members set))
+    (in-members set s) stack)))
+
+-- ---- a place is written
+
+pub kept-by : (p q : Places) → ((m : ElementNameValue) → has_room q.names m ≡ has_room p.names m)
+    → vec_len q.nodes ≡ vec_len p.nodes → (x : OpenValue) → HasRoom p x → HasRoom q x
+kept-by p q names nodes x h = record {
+  name = names x.name ∙ h.name;
+  node = let l = h.node in omega (arith, l, nodes);
+}
+
+pub kept-more : (p q : Places)
+    → ((m : ElementNameValue) → has_room p.names m ≡ true → has_room q.names m ≡ true)
+    → vec_len p.nodes ≤ vec_len q.nodes → (x : OpenValue) → HasRoom p x → HasRoom q x
+kept-more p q names nodes x h = record {
+  name = names x.name h.name;
+  node = let l = h.node in omega (arith, l, nodes);
+}
+
+pub tag-put : (p q : NamePlaces) (t : TagName) (n place : ℕ) → n ≡ number t
+    → ((k : ℕ) → get_or q.tags k 0 ≡ cond (n == k) place (get_or p.tags k 0))
+    → ((s : List ℕ) → get_by_text q.others s ≡ get_by_text p.others s) → (m : NameValue)
+    → name_place q m ≡ cond (same_element_name (html (known t)) (html m)) place (name_place p m)
+tag-put p q t n place is put others (known u) =
+    put (number u)
+    ∙ ap (λ (r : Bool). cond r place (get_or p.tags (number u) 0))
+    (ap (λ (k : ℕ). k == number u) is ∙ number-tests t u)
+tag-put p q t n place is put others (other s) = ap (λ (o : Option ℕ). unwrap_or o 0) (others s)
+
+module _ (p q : NamePlaces) (bs : List ℕ) (place : ℕ) (tags : q.tags ≡ p.tags)
+    (updates : (s : List ℕ) → get_by_text q.others s ≡ update bytes_eq (get_by_text p.others) bs (Some place) s) where
+  pub other-put : (m : NameValue) → name_place q m
+      ≡ cond (same_element_name (html (other bs)) (html m)) place (name_place p m)
+  other-put (known u) = ap (λ (ts : List ℕ). get_or ts (number u) 0) tags
+  other-put (other s) =
+      ap (λ (o : Option ℕ). unwrap_or o 0) (updates s) ∙ test (bytes_eq bs s) (λ t. rw t refl) (λ t. rw t refl)
+
+  pub other-room : is_some (get_by_text p.others bs) ≡ true → (m : ElementNameValue) → has_room q m ≡ has_room p m
+  other-room held (html (known u)) = refl
+  other-room held (html (other s)) =
+      ap is_some (updates s)
+      ∙ test (bytes_eq bs s)
+      (λ t. rw t (sym (ap (λ (x : List ℕ). is_some (get_by_text p.others x)) (sym (same_bytes bs s t)) ∙ held)))
+      (λ t. rw t refl)
+  other-room held (svg s) = refl
+  other-room held (math s) = refl
+
+  pub other-kept : (m : ElementNameValue) → has_room p m ≡ true → has_room q m ≡ true
+  other-kept (html (known u)) h = refl
+  other-kept (html (other s)) h = ap is_some (updates s) ∙ test (bytes_eq bs s) (λ t. rw t refl) (λ t. rw t h)
+  other-kept (svg s) h = refl
+  other-kept (math s) h = refl
+
+none-zero : (o : Option ℕ) → is_some o ≡ false → unwrap_or o 0 ≡ 0
+none-zero None h = refl
+none-zero (Some n) h = absurd (true≢false h)
+
+-- a name is held that is nowhere
+pub other-added : (p q : NamePlaces) (bs : List ℕ) → q.tags ≡ p.tags
+    → ((s : List ℕ) → get_by_text q.others s ≡ update bytes_eq (get_by_text p.others) bs (Some 0) s)
+    → is_some (get_by_text p.others bs) ≡ false → (m : NameValue) → name_place q m ≡ name_place p m
+other-added p q bs tags updates none (known u) = ap (λ (ts : List ℕ). get_or ts (number u) 0) tags
+other-added p q bs tags updates none (other s) =
+    ap (λ (o : Option ℕ). unwrap_or o 0) (updates s)
+    ∙ test (bytes_eq bs s)
+    (λ t. rw t (sym (ap (λ (x : List ℕ). unwrap_or (get_by_text p.others x) 0) (sym (same_bytes bs s t))
+    ∙ none-zero (get_by_text p.others bs) none)))
+    (λ t. rw t refl)

@@ -1,0 +1,11 @@
+-- That of the name alone is written.
+use Rattle.std.proofs.Common.{refl}
+use Rattle.htmd_html5_state.specs.declared.places.NamePlaces.{NamePlaces}
+use Rattle.htmd_html5_state.proofs.PlacesLemmas.{tag-put}
+use Rattle.htmd_html5_state.proofs.places.NamePlaces.put_tag.Goals as goal
+
+pub returns-clause-places : goal.returns-clause-places
+returns-clause-places c =
+    let q : NamePlaces = record { tags = c.set_place.new.held; others = c.args.self.now.others } in
+    tag-put c.args.self.now q c.args.tag c.number.result c.args.place c.number.ensures.value c.set_place.ensures.places
+    (λ s. refl)

@@ -1,0 +1,9 @@
+-- The last of so many elements knows them.
+use Rattle.std.proofs.Common.{arith}
+use Rattle.htmd_html5_state.proofs.PlacesLemmas.{linked-bounds}
+use Rattle.htmd_html5_state.proofs.places.Places.bounds.Goals as goal
+
+pub returns : goal.returns
+returns c =
+    linked-bounds c.args.self.now.around.items c.args.depth c.index.result.now c.index.ensures
+    (omega (arith, c.if-depth-eq0.false))

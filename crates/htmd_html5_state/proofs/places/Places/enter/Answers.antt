@@ -1,0 +1,35 @@
+-- The element has its place, and knows those before.
+use Rattle.std.proofs.Common.{◌∙◌, ◌+◌, ℕ, List, refl, sym, ap, cond, get_or, set, arith}
+use Rattle.std.proofs.lemmas.List.{with_items_is}
+use Rattle.std.specs.Prelude.{◌==◌}
+use Rattle.std.specs.Vec.{with_item, with_items}
+use Rattle.htmd_html5_state.specs.OpenElements.{OpenValue}
+use Rattle.htmd_html5_state.specs.OpenViews.{open_of}
+use Rattle.htmd_html5_state.specs.Sets.{bounds}
+use Rattle.htmd_html5_state.specs.declared.places.Around.{Around}
+use Rattle.htmd_html5_state.specs.declared.places.Places.{Places}
+use Rattle.htmd_html5_state.proofs.PlacesLemmas.{around-is, placed-enter, kept-by}
+use Rattle.htmd_html5_state.proofs.places.Places.enter.Goals as goal
+
+pub returns-clause-placed : goal.returns-clause-placed
+returns-clause-placed c = λ es len at.
+    let p : Places = c.args.self.now in
+    let e : OpenValue = open_of c.args.element.now in
+    let a : Around = record { name = c.place.result; node = c.place_at.result; bounds = c.with.result } in
+    let q : Places = record {
+      names = c.put.new.self;
+      nodes = with_items p.nodes c.set_place.new.held;
+      around = with_item p.around c.args.depth a;
+    } in
+    placed-enter p q e es (kept-by p q c.put.ensures.room refl) at c.requires.room
+    (c.args.depth + 1) (omega (arith, len)) a
+    (around-is p e es at (c.args.depth + 1) (omega (arith, len)) a c.place.ensures
+    (c.place_at.ensures ∙ ap (λ (xs : List ℕ). get_or xs c.args.element.now.node 0) c.deref.ensures.value)
+    (λ scope. c.with.ensures scope
+    ∙ ap (λ (x : ℕ). cond (bounds scope e.name) (c.args.depth + 1) x) (c.bounds.ensures es len at.linked scope)))
+    c.put.ensures.places
+    (λ n. ap (λ (xs : List ℕ). get_or xs n 0)
+    (with_items_is p.nodes c.set_place.new.held (c.set_place.ensures.len ∙ c.deref_mut.ensures.len))
+    ∙ (c.set_place.ensures.places n
+    ∙ ap (λ (xs : List ℕ). cond (e.node == n) (c.args.depth + 1) (get_or xs n 0)) c.deref_mut.ensures.value))
+    (ap (λ (k : ℕ). set p.around.items k a) (sym len)) (omega (arith, len, c.requires.within)) refl

@@ -1,0 +1,102 @@
+-- Where open elements stand on the stack, counted from 1 at the outermost; 0 is nowhere. No public clause cites it.
+use Rattle.std.specs.Prelude.{◌≡◌, ℕ, suc, ◌<◌, ◌≤◌, Bool, true, ◌&&◌, nat_lt, nat_le, if◌then◌else◌, List, [], ◌∷◌}
+use Rattle.std.specs.Prelude.{length, get_or, unwrap_or, is_some, vec_len}
+use Rattle.std.specs.HashMap.{get_by_text}
+use Rattle.htmd_html5_state.specs.Names.{NameValue, ElementNameValue, html, svg, math, known, other}
+use Rattle.htmd_html5_state.specs.Sets.{bounds}
+use Rattle.htmd_html5_state.specs.OpenElements.{OpenValue, has_name, is_node}
+use Rattle.htmd_html5_state.specs.TagNumbers.{number}
+use Rattle.htmd_html5_state.specs.declared.sets.Scope.{Scope}
+use Rattle.htmd_html5_state.specs.declared.sets.Scope.TheVariants.{
+  Default,
+  ListItem,
+  Button as ButtonScope,
+  Table as TableScope,
+  Select,
+  Template as TemplateScope,
+  Special,
+  Items,
+}
+use Rattle.htmd_html5_state.specs.declared.places.Bounds.{Bounds}
+use Rattle.htmd_html5_state.specs.declared.places.Around.{Around}
+use Rattle.htmd_html5_state.specs.declared.places.NamePlaces.{NamePlaces}
+use Rattle.htmd_html5_state.specs.declared.places.Places.{Places}
+
+-- ---- where an element stands
+
+-- the place of the innermost element that passes
+abbrev pub innermost : (OpenValue → Bool) → List OpenValue → ℕ
+innermost p [] = 0
+innermost p (e ∷ es) = if p e then suc (length es) else innermost p es
+
+abbrev pub bounds_in : Scope → OpenValue → Bool
+bounds_in scope e = bounds scope e.name
+
+-- a place that is one, and no further out than this
+abbrev pub is_from : ℕ → ℕ → Bool
+is_from bound place = nat_lt 0 place && nat_le bound place
+
+-- ---- what the program holds
+
+abbrev pub bound_of : Bounds → Scope → ℕ
+bound_of b Default = b.general
+bound_of b ListItem = b.list_item
+bound_of b ButtonScope = b.button
+bound_of b TableScope = b.table
+bound_of b Select = b.select
+bound_of b TemplateScope = b.template
+bound_of b Special = b.special
+bound_of b Items = b.items
+
+abbrev pub name_place : NamePlaces → NameValue → ℕ
+name_place n (known tag) = get_or n.tags (number tag) 0
+name_place n (other s) = unwrap_or (get_by_text n.others s) 0
+
+-- names of foreign content have none
+abbrev pub place_of_name : NamePlaces → ElementNameValue → ℕ
+place_of_name n (html name) = name_place n name
+place_of_name n (svg s) = 0
+place_of_name n (math s) = 0
+
+-- the place of the name can be written
+abbrev pub has_room : NamePlaces → ElementNameValue → Bool
+has_room n (html (known tag)) = true
+has_room n (html (other s)) = is_some (get_by_text n.others s)
+has_room n (svg s) = true
+has_room n (math s) = true
+
+-- ---- what it is to hold
+
+-- the innermost of these elements that has the name
+abbrev pub innermost_named : ElementNameValue → List OpenValue → ℕ
+innermost_named (html name) es = innermost (has_name (html name)) es
+innermost_named (svg s) es = 0
+innermost_named (math s) es = 0
+
+-- of an element, and those around it
+pub record IsAround (a : Around) (e : OpenValue) (es : List OpenValue) : Type 0 where
+  pub name : a.name ≡ innermost_named e.name es
+  pub node : a.node ≡ innermost (is_node e.node) es
+  pub bounds : (scope : Scope) → bound_of a.bounds scope ≡ innermost (bounds_in scope) (e ∷ es)
+
+abbrev pub IsLinked : List Around → List OpenValue → Type 0
+IsLinked around [] = Unit {0}
+IsLinked around (e ∷ es) =
+    (length es < length around)
+    × ((d : Around) → IsAround (get_or around (length es) d) e es) × IsLinked around es
+
+pub record HasRoom (p : Places) (e : OpenValue) : Type 0 where
+  pub name : has_room p.names e.name ≡ true
+  pub node : e.node < vec_len p.nodes
+
+abbrev pub AllHaveRoom : Places → List OpenValue → Type 0
+AllHaveRoom p [] = Unit {0}
+AllHaveRoom p (e ∷ es) = HasRoom p e × AllHaveRoom p es
+
+-- the places of these elements
+pub record IsPlaced (p : Places) (stack : List OpenValue) : Type 0 where
+  pub names : (name : NameValue) → name_place p.names name ≡ innermost (has_name (html name)) stack
+  pub nodes : (n : ℕ) → get_or p.nodes.items n 0 ≡ innermost (is_node n) stack
+  pub linked : IsLinked p.around.items stack
+  pub within : length stack ≤ vec_len p.around
+  pub room : AllHaveRoom p stack

@@ -1,0 +1,408 @@
+//! Where open elements stand on the stack, so that what is asked of it needs no walk. A place is counted from 1 at the
+//! outermost element; 0 is nowhere.
+ghost use Rattle.std.specs.Prelude.{◌≡◌, ◌∷◌, [], ◌<◌, ◌≤◌, List, OnOk, cond, true, false, length, get_or, vec_len, string_bytes, ℕ, ◌==◌, if◌then◌else◌};
+ghost use Rattle.std.specs.HashMap.{get_by_text};
+ghost use Rattle.std.specs.List.{list_any};
+ghost use Rattle.htmd_html5_state.specs.Names.{NameValue, ElementNameValue, element_name_of, name_of, same_element_name, html, known, other};
+ghost use Rattle.htmd_html5_state.specs.OpenElements as spec;
+ghost use Rattle.htmd_html5_state.specs.OpenElements.{OpenValue};
+ghost use Rattle.htmd_html5_state.specs.OpenViews.{open_of};
+ghost use Rattle.htmd_html5_state.specs.Places as places;
+ghost use Rattle.htmd_html5_state.specs.Sets.{bounds};
+ghost use Rattle.htmd_html5_state.specs.declared.sets.Scope.{Scope};
+
+use crate::names::{ElementName, HtmlName, TAGS, TagName};
+use crate::open_elements::OpenElement;
+use crate::sets::{NameSet, Scope};
+use std::alloc::{AllocError, Global};
+use std::collections::HashMap;
+
+/// The place of the innermost bound of each scope.
+#[derive(Debug, Clone, Copy)]
+struct Bounds {
+    general: usize,
+    list_item: usize,
+    button: usize,
+    table: usize,
+    select: usize,
+    template: usize,
+    special: usize,
+    items: usize,
+}
+
+/// What is known of an open element: the places of the elements around it that have the same name and the same node,
+/// and of the bounds among it and those.
+#[derive(Debug, Clone, Copy)]
+struct Around {
+    name: usize,
+    node: usize,
+    bounds: Bounds,
+}
+
+/// The place of the innermost element of each name of HTML.
+#[derive(Drop)]
+struct NamePlaces {
+    tags: [usize; TAGS],
+    /// Of the names that no rule speaks of.
+    others: HashMap<String, usize>,
+}
+
+/// Where the open elements stand.
+#[derive(Drop)]
+pub(crate) struct Places {
+    names: NamePlaces,
+    /// The place of the innermost element of each node.
+    nodes: Vec<usize>,
+    /// For each open element from the outermost on; what follows means nothing.
+    around: Vec<Around>,
+}
+
+const NO_BOUNDS: Bounds = Bounds {
+    general: 0,
+    list_item: 0,
+    button: 0,
+    table: 0,
+    select: 0,
+    template: 0,
+    special: 0,
+    items: 0,
+};
+
+impl Bounds {
+    fn of(self, scope: Scope) -> usize
+        ensures { result ≡ places.bound_of self scope }
+    {
+        match scope {
+            Scope::Default => self.general,
+            Scope::ListItem => self.list_item,
+            Scope::Button => self.button,
+            Scope::Table => self.table,
+            Scope::Select => self.select,
+            Scope::Template => self.template,
+            Scope::Special => self.special,
+            Scope::Items => self.items,
+        }
+    }
+
+    /// The bound of a scope with an element more.
+    fn of_more(self, scope: Scope, name: &ElementName, place: usize) -> usize
+        ensures { result ≡ cond (bounds scope (element_name_of name.now)) place (places.bound_of self scope) }
+    {
+        if scope.is_bound(name) {
+            place
+        } else {
+            self.of(scope)
+        }
+    }
+
+    /// The bounds with an element more.
+    fn with(self, name: &ElementName, place: usize) -> Bounds
+        ensures { (scope : Scope) → places.bound_of result scope
+            ≡ cond (bounds scope (element_name_of name.now)) place (places.bound_of self scope) }
+    {
+        Bounds {
+            general: self.of_more(Scope::Default, name, place),
+            list_item: self.of_more(Scope::ListItem, name, place),
+            button: self.of_more(Scope::Button, name, place),
+            table: self.of_more(Scope::Table, name, place),
+            select: self.of_more(Scope::Select, name, place),
+            template: self.of_more(Scope::Template, name, place),
+            special: self.of_more(Scope::Special, name, place),
+            items: self.of_more(Scope::Items, name, place),
+        }
+    }
+}
+
+impl NamePlaces {
+    fn new(alloc: Global) -> NamePlaces
+        ensures { (name : NameValue) → places.name_place result name ≡ 0 }
+    {
+        NamePlaces {
+            tags: [0; TAGS],
+            others: HashMap::new(alloc),
+        }
+    }
+
+    fn tag_place(&self, tag: TagName) -> usize
+        ensures { result ≡ places.name_place self.now (known tag) }
+    {
+        self.tags[tag.number()]
+    }
+
+    fn other_place(&self, text: &str) -> usize
+        ensures { result ≡ places.name_place self.now (other text.now) }
+    {
+        self.others.get(text).copied().unwrap_or(0)
+    }
+
+    fn name_place(&self, name: &HtmlName) -> usize
+        ensures { result ≡ places.name_place self.now (name_of name.now) }
+    {
+        match name {
+            HtmlName::Known(tag) => self.tag_place(*tag),
+            HtmlName::Other(text) => self.other_place(text.as_str()),
+        }
+    }
+
+    fn place(&self, name: &ElementName) -> usize
+        ensures { result ≡ places.place_of_name self.now (element_name_of name.now) }
+    {
+        match name {
+            ElementName::Html(name) => self.name_place(name),
+            _ => 0,
+        }
+    }
+
+    fn put_tag(&mut self, tag: TagName, place: usize)
+        ensures places { (m : NameValue) → places.name_place self.new m
+            ≡ cond (same_element_name (html (known tag)) (html m)) place (places.name_place self.old m) }
+        ensures room { (m : ElementNameValue) → places.has_room self.new m ≡ places.has_room self.old m }
+    {
+        set_place(&mut self.tags, tag.number(), place);
+    }
+
+    fn put_other(&mut self, text: &str, place: usize)
+        requires { places.has_room self.old (html (other text.now)) ≡ true }
+        ensures places { (m : NameValue) → places.name_place self.new m
+            ≡ cond (same_element_name (html (other text.now)) (html m)) place (places.name_place self.old m) }
+        ensures room { (m : ElementNameValue) → places.has_room self.new m ≡ places.has_room self.old m }
+    {
+        if let Some(held) = self.others.get_mut(text) {
+            *held = place;
+        }
+    }
+
+    fn put(&mut self, name: &ElementName, place: usize)
+        requires { places.has_room self.old (element_name_of name.now) ≡ true }
+        ensures places { (m : NameValue) → places.name_place self.new m
+            ≡ cond (same_element_name (element_name_of name.now) (html m)) place (places.name_place self.old m) }
+        ensures room { (m : ElementNameValue) → places.has_room self.new m ≡ places.has_room self.old m }
+    {
+        match name {
+            ElementName::Html(HtmlName::Known(tag)) => self.put_tag(*tag, place),
+            ElementName::Html(HtmlName::Other(text)) => self.put_other(text.as_str(), place),
+            _ => {}
+        }
+    }
+
+    fn has_room(&self, text: &str) -> bool
+        ensures { result ≡ places.has_room self.now (html (other text.now)) }
+    {
+        self.others.contains_key(text)
+    }
+
+    fn add(&mut self, text: String) -> Result<(), AllocError>
+        requires { places.has_room self.old (html (other (string_bytes text))) ≡ false }
+        ensures places { (m : NameValue) → places.name_place self.new m ≡ places.name_place self.old m }
+        ensures kept { (m : ElementNameValue) → places.has_room self.old m ≡ true
+            → places.has_room self.new m ≡ true }
+        ensures room { OnOk result (places.has_room self.new (html (other (string_bytes text))) ≡ true) }
+    {
+        self.others.insert(text, 0)?;
+        Ok(())
+    }
+
+    fn make_room_for(&mut self, text: &String) -> Result<(), AllocError>
+        ensures places { (m : NameValue) → places.name_place self.new m ≡ places.name_place self.old m }
+        ensures kept { (m : ElementNameValue) → places.has_room self.old m ≡ true
+            → places.has_room self.new m ≡ true }
+        ensures room { OnOk result (places.has_room self.new (html (other (string_bytes text.now))) ≡ true) }
+    {
+        if self.has_room(text.as_str()) {
+            return Ok(());
+        }
+        let text = text.clone()?;
+        self.add(text)
+    }
+
+    /// Makes room for the place of a name.
+    fn make_room(&mut self, name: &ElementName) -> Result<(), AllocError>
+        ensures places { (m : NameValue) → places.name_place self.new m ≡ places.name_place self.old m }
+        ensures kept { (m : ElementNameValue) → places.has_room self.old m ≡ true
+            → places.has_room self.new m ≡ true }
+        ensures room { OnOk result (places.has_room self.new (element_name_of name.now) ≡ true) }
+    {
+        match name {
+            ElementName::Html(HtmlName::Other(text)) => self.make_room_for(text),
+            _ => Ok(()),
+        }
+    }
+}
+
+/// Whether a place is one, and no further out than this one.
+pub(crate) fn is_from(bound: usize, place: usize) -> bool
+    ensures { result ≡ places.is_from bound place }
+{
+    0 < place && bound <= place
+}
+
+fn place_at(held: &[usize], number: usize) -> usize
+    ensures { result ≡ get_or held.now number 0 }
+{
+    match held.get(number) {
+        Some(place) => *place,
+        None => 0,
+    }
+}
+
+fn make_room_for_node(nodes: &mut Vec<usize>, node: usize) -> Result<(), AllocError>
+    ensures places { (n : ℕ) → get_or nodes.new.items n 0 ≡ get_or nodes.old.items n 0 }
+    ensures longer { vec_len nodes.old ≤ vec_len nodes.new }
+    ensures room { OnOk result (node < vec_len nodes.new) }
+{
+    while nodes.len() <= node {
+        nodes.push(0)?;
+    }
+    Ok(())
+}
+
+fn make_room_around(around: &mut Vec<Around>, depth: usize) -> Result<(), AllocError>
+    ensures kept { (es : List OpenValue) → places.IsLinked around.old.items es
+        → places.IsLinked around.new.items es }
+    ensures longer { vec_len around.old ≤ vec_len around.new }
+    ensures room { OnOk result (depth < vec_len around.new) }
+{
+    while around.len() <= depth {
+        around.push(Around {
+            name: 0,
+            node: 0,
+            bounds: NO_BOUNDS,
+        })?;
+    }
+    Ok(())
+}
+
+fn set_place(held: &mut [usize], number: usize, place: usize)
+    requires { number < length held.old }
+    ensures places { (n : ℕ) → get_or held.new n 0 ≡ (if number == n then place else get_or held.old n 0) }
+    ensures len { length held.new ≡ length held.old }
+{
+    held[number] = place;
+}
+
+impl Places {
+    /// Nothing is open.
+    pub(crate) fn new(alloc: Global) -> Places
+        ensures { places.IsPlaced result [] }
+    {
+        Places {
+            names: NamePlaces::new(alloc),
+            nodes: Vec::new(alloc),
+            around: Vec::new(alloc),
+        }
+    }
+
+    /// Makes room for an element that is opened inside so many.
+    pub(crate) fn make_room(
+        &mut self,
+        depth: usize,
+        element: &OpenElement,
+    ) -> Result<(), AllocError>
+        ensures kept { (stack : List OpenValue) → places.IsPlaced self.old stack → places.IsPlaced self.new stack }
+        ensures room { OnOk result (places.HasRoom self.new (open_of element.now)) }
+        ensures within { OnOk result (depth < vec_len self.new.around) }
+    {
+        self.names.make_room(&element.name)?;
+        make_room_for_node(&mut self.nodes, element.node)?;
+        make_room_around(&mut self.around, depth)
+    }
+
+    /// The bounds among the outermost so many elements.
+    fn bounds(&self, depth: usize) -> Bounds
+        requires { depth ≤ vec_len self.now.around }
+        ensures { (es : List OpenValue) → length es ≡ depth → places.IsLinked self.now.around.items es
+            → (scope : Scope) → places.bound_of result scope ≡ places.innermost (places.bounds_in scope) es }
+    {
+        if depth == 0 {
+            return NO_BOUNDS;
+        }
+        self.around[depth - 1].bounds
+    }
+
+    /// An element is opened inside so many.
+    pub(crate) fn enter(&mut self, depth: usize, element: &OpenElement)
+        requires room { places.HasRoom self.old (open_of element.now) }
+        requires within { depth < vec_len self.old.around }
+        ensures placed { (es : List OpenValue) → length es ≡ depth → places.IsPlaced self.old es
+            → places.IsPlaced self.new (open_of element.now ∷ es) }
+        ensures room { (e : OpenValue) → places.HasRoom self.old e → places.HasRoom self.new e }
+        ensures len { vec_len self.new.around ≡ vec_len self.old.around }
+    {
+        let place = depth + 1;
+        self.around[depth] = Around {
+            name: self.names.place(&element.name),
+            node: place_at(&self.nodes, element.node),
+            bounds: self.bounds(depth).with(&element.name, place),
+        };
+        self.names.put(&element.name, place);
+        set_place(&mut self.nodes, element.node, place);
+    }
+
+    /// The innermost element is closed, which stands inside so many.
+    pub(crate) fn leave(&mut self, depth: usize, element: &OpenElement)
+        requires room { places.HasRoom self.old (open_of element.now) }
+        requires within { depth < vec_len self.old.around }
+        ensures placed { (es : List OpenValue) → length es ≡ depth
+            → places.IsPlaced self.old (open_of element.now ∷ es) → places.IsPlaced self.new es }
+        ensures room { (e : OpenValue) → places.HasRoom self.old e → places.HasRoom self.new e }
+        ensures len { vec_len self.new.around ≡ vec_len self.old.around }
+    {
+        let around = self.around[depth];
+        self.names.put(&element.name, around.name);
+        set_place(&mut self.nodes, element.node, around.node);
+    }
+
+    /// The place of the innermost element of a node.
+    pub(crate) fn node_place(&self, node: usize) -> usize
+        ensures { (stack : List OpenValue) → places.IsPlaced self.now stack
+            → result ≡ places.innermost (spec.is_node node) stack }
+    {
+        place_at(&self.nodes, node)
+    }
+
+    /// The place of the innermost bound of a scope, of so many open elements.
+    pub(crate) fn bound(&self, depth: usize, scope: Scope) -> usize
+        requires { depth ≤ vec_len self.now.around }
+        ensures { (stack : List OpenValue) → length stack ≡ depth → places.IsPlaced self.now stack
+            → result ≡ places.innermost (places.bounds_in scope) stack }
+    {
+        self.bounds(depth).of(scope)
+    }
+
+    /// The place of the innermost element of a name.
+    pub(crate) fn name_place(&self, name: &HtmlName) -> usize
+        ensures { (stack : List OpenValue) → places.IsPlaced self.now stack
+            → result ≡ places.innermost (spec.has_name (html (name_of name.now))) stack }
+    {
+        self.names.name_place(name)
+    }
+
+    fn tag_is_from(&self, tag: TagName, bound: usize) -> bool
+        ensures { result ≡ places.is_from bound (places.name_place self.now.names (known tag)) }
+    {
+        is_from(bound, self.names.tag_place(tag))
+    }
+
+    fn one_is_from(&self, tags: &[TagName], bound: usize) -> bool
+        ensures { result
+            ≡ list_any (λ t. places.is_from bound (places.name_place self.now.names (known t))) tags.now }
+    {
+        for tag in tags {
+            if self.tag_is_from(*tag, bound) {
+                return true;
+            }
+        }
+        false
+    }
+
+    /// Whether one of these stands no further out than this place.
+    pub(crate) fn has_from(&self, set: NameSet, bound: usize) -> bool
+        ensures { (stack : List OpenValue) → places.IsPlaced self.now stack
+            → result ≡ places.is_from bound (places.innermost (spec.is_in set) stack) }
+    {
+        match set {
+            NameSet::Only(tag) => self.tag_is_from(tag, bound),
+            _ => self.one_is_from(set.members(), bound),
+        }
+    }
+}
