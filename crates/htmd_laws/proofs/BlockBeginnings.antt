@@ -16,7 +16,7 @@ use Rattle.std.proofs.lemmas.Str.{length-encode, len_utf8_bounds, chars_from_enc
 use Rattle.std.proofs.Math.Utf8.{low_scalar}
 use Rattle.htmd_text.specs.Characters.{space, number_sign}
 use Rattle.htmd_markdown.specs.GuardedText.{is_blank, first_place, number_end, is_block_sign, is_delimiter}
-use Rattle.htmd_markdown.specs.GuardedText.{ends_or_has_space, begins_heading}
+use Rattle.htmd_markdown.specs.GuardedText.{ends_or_has_space}
 use Rattle.htmd_laws.specs.TextLaws.{begins_block}
 use Rattle.htmd_laws.proofs.LettersOfTexts.{bytes_high}
 
