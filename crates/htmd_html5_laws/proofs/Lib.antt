@@ -1,0 +1,5 @@
+-- The lemmas of the laws, each module over those before it.
+pub mod NodeTexts
+pub mod Keeping
+pub mod KeepingInsertion
+pub mod KeepingAdoption

@@ -1,0 +1,4 @@
+use Rattle.htmd_html5_laws.proofs.letters.no_letter_is_made_up.Goals as goal
+
+pub returns : goal.returns
+returns c = ?
