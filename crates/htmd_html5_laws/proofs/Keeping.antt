@@ -58,11 +58,11 @@ nothing = record { keeps = λ s h. kept_same h }
 
 pub by_test : {f g : StateValue → StateValue} (b : StateValue → Bool) → Keeps f → Keeps g
     → Keeps (λ s. if b s then f s else g s)
-by_test {f} {g} b yes no = record { keeps = λ s h. either (b s) s h }
+by_test {f} {g} b first second = record { keeps = λ s h. either (b s) s h }
   where
     either : (t : Bool) (s : StateValue) → Sound s → Kept s (if t then f s else g s)
-    either true s h = yes.keeps s h
-    either false s h = no.keeps s h
+    either true s h = first.keeps s h
+    either false s h = second.keeps s h
 
 pub by_state : {A : Type 0} {f : A → StateValue → StateValue} (a : StateValue → A) → ((x : A) → Keeps (f x))
     → Keeps (λ s. f (a s) s)

@@ -38,15 +38,20 @@ copy_kept n last s e h =
     ∙ kinds_new s.nodes (kind_at s.nodes n))
     (kept_new (replace_entry n (length s.nodes) s.formatting) (kind_at s.nodes n)
     (element_no_text (kind_at s.nodes n) (element_kind s.nodes n e)) h
-    (λ m l. or_new (kind_at s.nodes n) s.formatting m (length s.nodes) (element_kind s.nodes n e)
+    (λ m l. or_new (kinds s.nodes) (kind_at s.nodes n) s.formatting m (length s.nodes) (element_kind s.nodes n e)
     (sym (length-map s.nodes _)) (listed_replaced m n (length s.nodes) s.formatting l)))
 
 next_kept : (left : ℕ) (e : OpenValue) (c : Chain) → Sound c.state → Kept c.state (with_next left e c).state
 next_kept left e c h =
-    test (nat_lt 0 left && is_listed e.node c.state.formatting)
-    (λ t. rw t (copy_kept e.node c.last c.state
-    (h.listed e.node (and_parts (nat_lt 0 left) (is_listed e.node c.state.formatting) t).1) h))
-    (λ t. rw t ((without_entry_keeps e.node).keeps c.state h))
+    either (nat_lt 0 left && is_listed e.node c.state.formatting) refl
+  where
+    either : (t : Bool) → (nat_lt 0 left && is_listed e.node c.state.formatting) ≡ t
+        → Kept c.state
+        (if t then with_copy e c else record c { state = on_formatting (without_entry e.node) c.state }).state
+    either true t =
+        copy_kept e.node c.last c.state
+        (h.listed e.node (and_parts (nat_lt 0 left) (is_listed e.node c.state.formatting) t).1) h
+    either false t = (without_entry_keeps e.node).keeps c.state h
 
 chain_kept : (left : ℕ) (es : List OpenValue) (c : Chain) → Sound c.state → Kept c.state (chain left es c).state
 chain_kept left [] c h = kept_same h
@@ -91,7 +96,7 @@ finish_kept formatting tag f c s e h =
     kept_as (wrap_kinds formatting f.block.node s.nodes)
     (kept_new (with_bookmark formatting (length s.nodes) c.bookmark s.formatting) (kind_at s.nodes formatting)
     (element_no_text (kind_at s.nodes formatting) (element_kind s.nodes formatting e)) h
-    (λ m l. or_new (kind_at s.nodes formatting) s.formatting m (length s.nodes) (element_kind s.nodes formatting e)
+    (λ m l. or_new (kinds s.nodes) (kind_at s.nodes formatting) s.formatting m (length s.nodes) (element_kind s.nodes formatting e)
     (sym (length-map s.nodes _)) (listed_marked m formatting (length s.nodes) c.bookmark s.formatting l)))
 
 adopt_by_kept : (formatting : ℕ) (tag : TagName) (f : Furthest) (c : Chain) → ElementAt (kinds c.state.nodes) formatting

@@ -167,7 +167,7 @@ entry_is : (n m : ℕ) (e : Option ℕ) → is_entry n e ≡ true → is_entry m
 entry_is n m None p q = absurd (true≢false (sym p))
 entry_is n m (Some k) p q = sym (eqb-true k n p) ∙ eqb-true k m q
 
-listed_replaced : (n old new : ℕ) (entries : List (Option ℕ)) → is_listed n (replace_entry old new entries) ≡ true
+pub listed_replaced : (n old new : ℕ) (entries : List (Option ℕ)) → is_listed n (replace_entry old new entries) ≡ true
     → (n ≡ new) ⊎ (is_listed n entries ≡ true)
 listed_replaced n old new [] l = inr l
 listed_replaced n old new (e ∷ entries) l =
@@ -184,7 +184,7 @@ listed_replaced n old new (e ∷ entries) l =
     later (inl p) = inl p
     later (inr p) = inr (listed_more n e entries p)
 
-listed_inserted : (n old new : ℕ) (entries : List (Option ℕ)) → is_listed n (insert_after old new entries) ≡ true
+pub listed_inserted : (n old new : ℕ) (entries : List (Option ℕ)) → is_listed n (insert_after old new entries) ≡ true
     → (n ≡ new) ⊎ (is_listed n entries ≡ true)
 listed_inserted n old new [] l = inr l
 listed_inserted n old new (e ∷ entries) l =
@@ -198,11 +198,11 @@ listed_inserted n old new (e ∷ entries) l =
     later (inr p) = inr (listed_more n e entries p)
 
 -- a new number, which is an element's
-pub or_new : {ks : List KindValue} (k : KindValue) (entries : List (Option ℕ)) (n m : ℕ) → is_element k ≡ true
+pub or_new : (ks : List KindValue) (k : KindValue) (entries : List (Option ℕ)) (n m : ℕ) → is_element k ≡ true
     → m ≡ length ks → (n ≡ m) ⊎ (is_listed n entries ≡ true)
     → (is_listed n entries ≡ true) ⊎ ((n ≡ length ks) × (is_element k ≡ true))
-or_new k entries n m e is (inl p) = inr (p ∙ is, e)
-or_new k entries n m e is (inr l) = inl l
+or_new ks k entries n m e is (inl p) = inr (p ∙ is, e)
+or_new ks k entries n m e is (inr l) = inl l
 
 pub without_entry_keeps : (n : ℕ) → Keeps (on_formatting (without_entry n))
 without_entry_keeps n = untouched (λ s. refl) (λ s m l. listed_without m n s.formatting l)
@@ -229,18 +229,23 @@ pub insert_formatting_keeps : (name : NameValue) (attributes : List AttributePai
 insert_formatting_keeps name attributes = record {
   keeps = λ s h. kept_as (kinds_add (element (html name) attributes) (place s) s.nodes)
       (kept_new (insert_formatting name attributes s).formatting (element (html name) attributes) refl h
-      (λ n l. or_new (element (html name) attributes) s.formatting n (length s.nodes) refl (sym (length-map s.nodes _))
+      (λ n l. or_new (kinds s.nodes) (element (html name) attributes) s.formatting n (length s.nodes) refl (sym (length-map s.nodes _))
       (listed_pushed n (length s.nodes) (insert_element name attributes s).nodes s.formatting l)));
 }
 
 -- ---- elements are reconstructed
+
+-- each of these is an element
+abbrev EachAt : List KindValue → List ℕ → Type 0
+EachAt ks [] = Unit {0}
+EachAt ks (n ∷ ns) = ElementAt ks n × EachAt ks ns
 
 like_kept : (s : StateValue) (n : ℕ) (k : KindValue) → is_element k ≡ true → Sound s
     → Kept s (on_formatting (λ entries. Some (length s.nodes) ∷ entries) (insert_like k s))
 like_kept s n (element name attributes) e h =
     kept_as (kinds_add (element name attributes) (place s) s.nodes)
     (kept_new (Some (length s.nodes) ∷ s.formatting) (element name attributes) refl h
-    (λ m l. or_new (element name attributes) s.formatting m (length s.nodes) refl (sym (length-map s.nodes _))
+    (λ m l. or_new (kinds s.nodes) (element name attributes) s.formatting m (length s.nodes) refl (sym (length-map s.nodes _))
     (listed_first m (length s.nodes) s.formatting l)))
 like_kept s n (text t) e h = absurd (true≢false (sym e))
 like_kept s n document e h = absurd (true≢false (sym e))
@@ -250,20 +255,20 @@ like_kept s n (comment t) e h = absurd (true≢false (sym e))
 reopen_kept : (n : ℕ) (s : StateValue) → ElementAt (kinds s.nodes) n → Sound s → Kept s (reopen n s)
 reopen_kept n s e h = like_kept s n (kind_at s.nodes n) (ap is_element (kind_read s.nodes n) ∙ e) h
 
-reopen_all_kept : (ns : List ℕ) (s : StateValue) → All (ElementAt (kinds s.nodes)) ns → Sound s
+reopen_all_kept : (ns : List ℕ) (s : StateValue) → EachAt (kinds s.nodes) ns → Sound s
     → Kept s (reopen_all ns s)
 reopen_all_kept [] s all h = kept_same h
 reopen_all_kept (n ∷ ns) s all h =
     let before : Kept s (reopen_all ns s) = reopen_all_kept ns s all.1 h in
     kept_then before (reopen_kept n (reopen_all ns s) (before.stays n all.0) before.sound)
 
-closed_listed : {ks : List KindValue} (stack : List OpenValue) (entries : List (Option ℕ))
-    → ((n : ℕ) → is_listed n entries ≡ true → ElementAt ks n) → All (ElementAt ks) (closed_elements stack entries)
-closed_listed stack [] f = tt
-closed_listed stack (None ∷ entries) f = tt
-closed_listed {ks} stack (Some m ∷ entries) f =
+closed_listed : (ks : List KindValue) (stack : List OpenValue) (entries : List (Option ℕ))
+    → ((n : ℕ) → is_listed n entries ≡ true → ElementAt ks n) → EachAt ks (closed_elements stack entries)
+closed_listed ks stack [] f = tt
+closed_listed ks stack (None ∷ entries) f = tt
+closed_listed ks stack (Some m ∷ entries) f =
     test (is_open_node m stack) (λ t. rw t tt)
-    (λ t. rw t (f m (rw (own m) refl), closed_listed stack entries (λ n l. f n (listed_more n (Some m) entries l))))
+    (λ t. rw t (f m (rw (own m) refl), closed_listed ks stack entries (λ n l. f n (listed_more n (Some m) entries l))))
   where
     own : (n : ℕ) → (n == n) ≡ true
     own n = eq-eqb n n refl
@@ -271,7 +276,7 @@ closed_listed {ks} stack (Some m ∷ entries) f =
 pub reconstruct_keeps : Keeps reconstruct
 reconstruct_keeps = record {
   keeps = λ s h. reopen_all_kept (closed_elements s.stack s.formatting) (on_formatting (after_closed s.stack) s)
-      (closed_listed s.stack s.formatting h.listed)
+      (closed_listed (kinds s.nodes) s.stack s.formatting h.listed)
       (record { listed = λ n l. h.listed n (listed_closed n s.stack s.formatting l); utf8 = h.utf8 });
 }
 
