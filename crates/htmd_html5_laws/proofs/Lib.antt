@@ -3,3 +3,4 @@ pub mod NodeTexts
 pub mod Keeping
 pub mod KeepingInsertion
 pub mod KeepingAdoption
+pub mod KeepingRules
