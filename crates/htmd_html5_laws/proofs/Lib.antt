@@ -4,3 +4,6 @@ pub mod Keeping
 pub mod KeepingInsertion
 pub mod KeepingAdoption
 pub mod KeepingRules
+pub mod KeepingModes
+pub mod TextsPut
+pub mod Taking
