@@ -7,3 +7,7 @@ pub mod KeepingRules
 pub mod KeepingModes
 pub mod TextsPut
 pub mod Taking
+pub mod TakingRuns
+pub mod RunFacts
+pub mod TakingTexts
+pub mod TakingTokens

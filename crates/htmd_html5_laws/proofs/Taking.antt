@@ -1,7 +1,7 @@
 -- Steps on a state that put a text into it.
 use Rattle.std.proofs.Common.{◌≡◌, ◌∙◌, ℕ, zero, suc, ◌+◌, ◌≤◌, Bool, true, false, List, [], ◌∷◌, ◌++◌, length, get_or, set}
 use Rattle.std.proofs.Common.{Option, Some, None, refl, sym, ap, subst, arith, All}
-use Rattle.std.specs.Prelude.{IsUtf8}
+use Rattle.std.specs.Prelude.{IsUtf8, if◌then◌else◌}
 use Rattle.std.proofs.lemmas.Bool.{true≢false}
 use Rattle.htmd_html5_state.specs.Documents.{KindValue, NodeValue, document, doctype, text, comment, element, kind_at}
 use Rattle.htmd_html5_state.specs.Documents.{text_of, add_text, or_add, joined_to, joined_with, preceding}
@@ -135,3 +135,28 @@ offers_kept {c} {n} h = record {
   taken = λ s sound. kept_took n (h.keeps s sound);
   kept = λ s sound e. h.keeps s sound;
 }
+
+pub offers_by_test : {c n : ℕ} {f g : StateValue → Answer} (b : StateValue → Bool) → Offers c n f → Offers c n g
+    → Offers c n (λ s. if b s then f s else g s)
+offers_by_test {c} {n} {f} {g} b first second = record {
+  taken = λ s h. took (b s) s h;
+  kept = λ s h e. still (b s) s h e;
+}
+  where
+    took : (t : Bool) (s : StateValue) → Sound s → Took c n s (if t then f s else g s).state
+    took true s h = first.taken s h
+    took false s h = second.taken s h
+
+    still : (t : Bool) (s : StateValue) → Sound s → (if t then f s else g s).again ≡ true
+        → Kept s (if t then f s else g s).state
+    still true s h e = first.kept s h e
+    still false s h e = second.kept s h e
+
+-- what holds none of the characters counts for nothing
+pub takes_none : {c m n : ℕ} {f : StateValue → StateValue} → m ≡ 0 → Takes c m f → Takes c n f
+takes_none {c} {m} {n} {f} e h = record {
+  takes = λ s sound. more (h.takes s sound);
+}
+  where
+    more : {ks new : List KindValue} {entries : List (Option ℕ)} → TookIn c m ks new entries → TookIn c n ks new entries
+    more a = record { at_most = let f = a.at_most in omega arith; stays = a.stays; sound = a.sound }
