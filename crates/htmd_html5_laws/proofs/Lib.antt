@@ -11,3 +11,5 @@ pub mod TakingRuns
 pub mod RunFacts
 pub mod TakingTexts
 pub mod TakingTokens
+pub mod LaidTexts
+pub mod PageLettersLemmas

@@ -1,11 +1,11 @@
 -- The letters of a page, and those of the tree that it is read as.
-use Rattle.std.specs.Prelude.{◌≡◌, ℕ, zero, suc, ◌≤◌, Bool, true, not, ◌||◌, ◌==◌, if◌then◌else◌, List, [], ◌∷◌}
+use Rattle.std.specs.Prelude.{◌≡◌, ℕ, zero, suc, ◌<◌, ◌≤◌, Bool, true, not, ◌||◌, ◌==◌, if◌then◌else◌, List, [], ◌∷◌}
 use Rattle.std.specs.Prelude.{length, All, IsUtf8}
 use Rattle.std.specs.List.{count_by, sum_by}
 use Rattle.std.specs.Str.{chars}
 use Rattle.htmd_text.specs.WhiteSpace.{is_ascii_white_space}
 use Rattle.htmd_text.specs.Characters.{null}
-use Rattle.htmd_tree.specs.Items.{Item, Data, document_node, doctype_node, text_node, comment_node, element_node}
+use Rattle.htmd_tree.specs.Items.{Item, Data, document_node, doctype_node, text_node, comment_node, element_node, greatest_depth}
 use Rattle.htmd_html5_tokens.specs.Preprocessing.{preprocessed}
 use Rattle.htmd_html5_tokens.specs.References.{replacement_character}
 use Rattle.htmd_html5_tokens.specs.Tokens.{TokenValue, Read, text}
@@ -62,8 +62,13 @@ texts_of (item ∷ items) = with_text_in item.node_data (texts_of items)
 
 -- ---- the law
 
--- Each letter stands in the tree's texts at most as often as in those of the tokens.
+-- no node stands at the greatest depth, where texts that are siblings are joined
+abbrev pub IsShallow : List Item → Type 0
+IsShallow items = All (λ (item : Item). item.depth < greatest_depth) items
+
+-- Each letter stands in the tree's texts at most as often as in those of the tokens, which are UTF-8 as all strings are.
 abbrev pub NoLetterIsMadeUp : Type 0
 NoLetterIsMadeUp =
-    (scripting : Bool) (page : List ℕ) (c : ℕ) → All IsUtf8 (token_texts scripting page) → is_letter c ≡ true
+    (scripting : Bool) (page : List ℕ) (c : ℕ) → All IsUtf8 (token_texts scripting page)
+    → IsShallow (html5_document scripting page) → is_letter c ≡ true
     → occurrences_in c (texts_of (html5_document scripting page)) ≤ occurrences_in c (token_texts scripting page)
