@@ -1,7 +1,7 @@
 -- The tokens of a text, one after another.
-use Rattle.std.proofs.Common.{◌≡◌, ◌∙◌, ℕ, zero, suc, ◌+◌, ◌-◌, ◌<◌, true, false, List, refl, ap, sym, arith}
+use Rattle.std.proofs.Common.{◌≡◌, ◌∙◌, ℕ, suc, ◌+◌, ◌-◌, ◌<◌, true, false, List, refl, ap, sym, subst, arith}
 use Rattle.htmd_html5_state.specs.State.{StateValue}
-use Rattle.htmd_html5_tokens.specs.Tokens.{Read, end_of_file}
+use Rattle.htmd_html5_tokens.specs.Tokens.{Read, TokenValue, end_of_file}
 use Rattle.htmd_html5.specs.Documents.{next_read, is_end, after_token, read_within}
 use Rattle.htmd_html5.specs.Feeding.{feed}
 
@@ -37,3 +37,19 @@ reads_end text first rest s turn all r l e =
 pub reads_over : (text : List ℕ) (first : StateValue) (rest : List ℕ) (s : StateValue) (turn all : ℕ)
     → Reads text first rest s turn all → turn ≡ all → feed end_of_file s ≡ read_within all text first
 reads_over text first rest s turn all r e = let none : 0 + turn ≡ all = omega arith in r 0 none
+
+-- a turn of the program
+pub turn_on : (text : List ℕ) (first : StateValue) (rest after : List ℕ) (s new : StateValue) (token : TokenValue)
+    (turn all : ℕ) → Reads text first rest s turn all → token ≡ (next_read rest s).token
+    → after ≡ (next_read rest s).rest → new ≡ feed token s → is_end token ≡ false
+    → Reads text first after new (turn + 1) all
+turn_on text first rest after s new token turn all r t a n e =
+    let goes = reads_on text first rest s turn all r (ap is_end (sym t) ∙ e) in
+    subst (λ (x : StateValue). Reads text first after x (turn + 1) all) (sym (n ∙ ap (λ (x : TokenValue). feed x s) t))
+    (subst (λ (x : List ℕ). Reads text first x (feed (next_read rest s).token s) (turn + 1) all) (sym a) goes)
+
+pub turn_ends : (text : List ℕ) (first : StateValue) (rest : List ℕ) (s new : StateValue) (token : TokenValue)
+    (turn all : ℕ) → Reads text first rest s turn all → turn < all → token ≡ (next_read rest s).token
+    → new ≡ feed token s → is_end token ≡ true → new ≡ read_within all text first
+turn_ends text first rest s new token turn all r l t n e =
+    n ∙ ap (λ (x : TokenValue). feed x s) t ∙ reads_end text first rest s turn all r l (ap is_end (sym t) ∙ e)

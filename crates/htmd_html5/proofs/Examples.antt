@@ -1,9 +1,12 @@
 -- Worked rows: pages and their trees.
-use Rattle.std.proofs.Common.{◌≡◌, ℕ, List, [], codes, true, false, refl}
-use Rattle.htmd_grammar.specs.ValueTrees.{ValueTree, ValueForest, text, element, none, more, doctype}
+use Rattle.std.proofs.Common.{◌≡◌, ℕ, List, [], codes, true, refl}
+use Rattle.htmd_grammar.specs.ValueTrees.{ValueTree, ValueForest, text, element, none, more}
 use Rattle.htmd_tree.specs.Items.{Item}
 use Rattle.htmd_tree.specs.Layout.{document_items}
-use Rattle.htmd_html5.specs.Documents.{html5_document, state_behind}
+use Rattle.htmd_html5_state.specs.Adoption.{move_last, wrap_children}
+use Rattle.htmd_html5.specs.BodyEnds.{text_end_rule}
+use Rattle.htmd_html5.specs.BodyStarts.{block_rule, formatting_rule, phrasing_rule}
+use Rattle.htmd_html5.specs.Documents.{html5_document, state_after}
 use Rattle.htmd_html5.specs.Layout.{document_of}
 
 -- an element without attributes
@@ -25,32 +28,33 @@ nothing = refl
 
 a_paragraph_ends_another : html5_document true (codes "<p>a<p>b")
     ≡ page (more (with (codes "p") (one (text (codes "a")))) (one (with (codes "p") (one (text (codes "b"))))))
-unfolding html5_document
+unfolding html5_document block_rule
 a_paragraph_ends_another = refl
 
 -- the adoption agency
 formatting_goes_on_in_a_block : html5_document true (codes "<b>a<p>b</b>c")
     ≡ page (more (with (codes "b") (one (text (codes "a"))))
     (one (with (codes "p") (more (with (codes "b") (one (text (codes "b")))) (one (text (codes "c")))))))
-unfolding html5_document
+unfolding html5_document block_rule formatting_rule text_end_rule move_last wrap_children
 formatting_goes_on_in_a_block = refl
 
 -- foster parenting
 text_leaves_a_table : html5_document true (codes "<table>a<tr><td>b")
     ≡ page (more (text (codes "a"))
     (one (with (codes "table") (one (with (codes "tbody") (one (with (codes "tr")
-    (one (with (codes "td") (one (text (codes "b")))))))))))
-unfolding html5_document
+    (one (with (codes "td") (one (text (codes "b"))))))))))))
+unfolding html5_document block_rule
 text_leaves_a_table = refl
 
 html_leaves_foreign_content : html5_document true (codes "<svg><g><p>a")
     ≡ page (more (with (codes "svg") (one (with (codes "g") none))) (one (with (codes "p") (one (text (codes "a"))))))
-unfolding html5_document
+unfolding html5_document block_rule formatting_rule phrasing_rule
 html_leaves_foreign_content = refl
 
 -- at the deepest level, here the fourth, an element keeps no children, and texts are joined
-the_deepest_level : document_of 4 (state_behind true (codes "<i><u>a</u>b<s>c</s></i>d")).nodes
+the_deepest_level : document_of 4 (state_after true (codes "<i><u>a</u>b<s>c</s></i>d")).nodes
     ≡ page (more (with (codes "i")
     (more (with (codes "u") none) (more (text (codes "ab")) (more (with (codes "s") none) (one (text (codes "c")))))))
     (one (text (codes "d"))))
+unfolding block_rule formatting_rule text_end_rule
 the_deepest_level = refl

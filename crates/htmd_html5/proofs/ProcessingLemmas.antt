@@ -1,9 +1,20 @@
 -- What is processed by one set of rules, and again or not.
-use Rattle.std.proofs.Common.{◌≡◌, ◌∙◌, ℕ, zero, suc, ◌+◌, ◌-◌, ◌<◌, true, false, ap, sym, subst, arith}
+use Rattle.std.proofs.Common.{◌≡◌, ◌∙◌, ℕ, suc, ◌+◌, ◌-◌, ◌<◌, true, false, refl, ap, sym, arith}
 use Rattle.htmd_html5_state.specs.State.{StateValue}
 use Rattle.htmd_html5.specs.Answers.{Answer, answer}
 use Rattle.htmd_html5.specs.Tokens.{TokenValue}
+use Rattle.htmd_html5.specs.ForeignContent.{is_foreign, in_foreign_content}
+use Rattle.htmd_html5.specs.Modes.{by_mode_rules}
 use Rattle.htmd_html5.specs.Processing.{by_rules, after_answer, process_within, process, turns}
+
+-- in foreign content or out of it
+pub by_foreign : (token : TokenValue) (s : StateValue) → is_foreign token s ≡ true
+    → by_rules token s ≡ in_foreign_content token s
+by_foreign token s e = rw e refl
+
+pub by_html : (token : TokenValue) (s : StateValue) → is_foreign token s ≡ false
+    → by_rules token s ≡ by_mode_rules token s
+by_html token s e = rw e refl
 
 process_again : (k : ℕ) (token : TokenValue) (s new : StateValue) → answer new true ≡ by_rules token s
     → process_within (suc k) token s ≡ process_within k token new

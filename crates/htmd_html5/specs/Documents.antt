@@ -30,8 +30,8 @@ read_within (suc k) text s = after_token (read_within k) (next_read text s) s
 abbrev pub read_all : List ℕ → StateValue → StateValue
 read_all text s = read_within (length text) text s
 
-abbrev pub state_behind : Bool → List ℕ → StateValue
-state_behind scripting text = read_all (preprocessed text) (initial_state scripting)
+abbrev pub state_after : Bool → List ℕ → StateValue
+state_after scripting text = read_all (preprocessed text) (initial_state scripting)
 
 unfoldable pub html5_document : Bool → List ℕ → List Item
-html5_document scripting text = document_of greatest_depth (state_behind scripting text).nodes
+html5_document scripting text = document_of greatest_depth (state_after scripting text).nodes

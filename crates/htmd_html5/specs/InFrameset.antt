@@ -48,7 +48,7 @@ in_frameset (start_tag tag) s = done (start_in_frameset tag.name tag s)
 in_frameset (end_tag name) s = done (end_in_frameset name s)
 in_frameset end_of_file s = done s
 
--- ---- behind it
+-- ---- after it
 
 abbrev pub start_after_frameset : NameValue → StartTagValue → StateValue → StateValue
 start_after_frameset (known tags.Html) tag s = add_to_root tag s
@@ -68,12 +68,12 @@ after_frameset (end_tag name) s = done (end_after_frameset name s)
 after_frameset end_of_file s = done s
 
 -- white space stands as in the body
-abbrev pub run_behind_frameset : RunKind → List ℕ → StateValue → StateValue
-run_behind_frameset White text s = run_in_body White text s
-run_behind_frameset _ text s = s
+abbrev pub run_after_frameset : RunKind → List ℕ → StateValue → StateValue
+run_after_frameset White text s = run_in_body White text s
+run_after_frameset _ text s = s
 
 abbrev pub after_after_frameset : TokenValue → StateValue → Answer
-after_after_frameset (run kind text) s = done (run_behind_frameset kind text s)
+after_after_frameset (run kind text) s = done (run_after_frameset kind text s)
 after_after_frameset (comment text) s = done (insert_comment_in 0 text s)
 after_after_frameset (doctype quirks) s = done s
 after_after_frameset (start_tag tag) s = done (start_after_frameset tag.name tag s)

@@ -17,7 +17,7 @@ use Rattle.htmd_html5_state.specs.declared.sets.NameSet.TheVariants.{Only, Table
 use Rattle.htmd_html5_state.specs.declared.sets.Scope.TheVariants.{Table as TableScope}
 use Rattle.htmd_html5.specs.declared.tokens.RunKind.{RunKind}
 use Rattle.htmd_html5.specs.declared.tokens.RunKind.TheVariants.{Nulls}
-use Rattle.htmd_html5.specs.Runs.{is_null, first_kind, first_run, behind_first_run}
+use Rattle.htmd_html5.specs.Runs.{is_null, first_kind, first_run, after_first_run}
 use Rattle.htmd_html5.specs.Answers.{Answer, answer, done, again}
 use Rattle.htmd_html5.specs.SharedRules.{with_mode, insert_tag, insert_void_tag, end_template, insert_head_element}
 use Rattle.htmd_html5.specs.BodyStarts.{is_in_template, with_form, is_hidden, start_in_body}
@@ -43,7 +43,7 @@ abbrev pub foster_runs : ℕ → List ℕ → StateValue → StateValue
 foster_runs zero text s = s
 foster_runs (suc k) text s =
     if is_empty text then s
-    else foster_runs k (behind_first_run text) (fostered (run_in_body (first_kind text) (first_run text)) s)
+    else foster_runs k (after_first_run text) (fostered (run_in_body (first_kind text) (first_run text)) s)
 
 abbrev pub put_table_text : List ℕ → StateValue → StateValue
 put_table_text text s =

@@ -1,5 +1,5 @@
 -- The nodes of a document in document order, as a tree has them, to a depth. An element at that depth keeps no children:
--- they come right behind it, in order, as its siblings, and texts that are siblings there are one.
+-- they come right after it, in order, as its siblings, and texts that are siblings there are one.
 use Rattle.std.specs.Prelude.{ℕ, Bool, ◌==◌, if◌then◌else◌, List, [], ◌∷◌, ◌++◌, length, Option, Some, None, suc}
 use Rattle.std.specs.Prelude.{zero, ◌+◌, is_some, map}
 use Rattle.htmd_html5_state.specs.Names.{text_of_element_name}
@@ -39,10 +39,10 @@ abbrev pub next_text : List NodeValue → ℕ → List Coming → Option (List �
 next_text nodes under [] = None
 next_text nodes under (c ∷ cs) = text_under nodes under c
 
-abbrev pub behind_next_texts : List NodeValue → ℕ → List Coming → List Coming
-behind_next_texts nodes under [] = []
-behind_next_texts nodes under (c ∷ cs) =
-    if is_some (text_under nodes under c) then behind_next_texts nodes under cs else c ∷ cs
+abbrev pub after_next_texts : List NodeValue → ℕ → List Coming → List Coming
+after_next_texts nodes under [] = []
+after_next_texts nodes under (c ∷ cs) =
+    if is_some (text_under nodes under c) then after_next_texts nodes under cs else c ∷ cs
 
 -- ---- the items
 
@@ -59,12 +59,12 @@ with_item new under l = record l { items = l.items ++ new_item l.items under new
 abbrev pub joined : List ℕ → ℕ → Layout → List ℕ
 joined s under l = s ++ next_texts l.nodes under l.work
 
-abbrev pub behind_joined : ℕ → Layout → Layout
-behind_joined under l = record l { work = behind_next_texts l.nodes under l.work }
+abbrev pub after_joined : ℕ → Layout → Layout
+after_joined under l = record l { work = after_next_texts l.nodes under l.work }
 
 abbrev pub with_text : Bool → List ℕ → ℕ → Layout → Layout
 with_text deepest s under l =
-    if deepest then with_item (text_node (joined s under l)) under (behind_joined under l)
+    if deepest then with_item (text_node (joined s under l)) under (after_joined under l)
     else with_item (text_node s) under l
 
 -- the item under which the children of a new item come

@@ -9,6 +9,10 @@ use Rattle.htmd_html5.specs.declared.layout.Layout as whole
 abbrev pub coming_of : program.Coming → Coming
 coming_of c = record { node = c.node; under = c.under }
 
+-- the program's node that is to come
+abbrev pub coming_under : ℕ → ℕ → program.Coming
+coming_under under node = record { node = node; under = under }
+
 -- the next last
 abbrev pub work_of : List program.Coming → List Coming
 work_of cs = reverse (map coming_of cs)

@@ -52,7 +52,7 @@ end_once InFrameset name s = end_in_frameset name s
 end_once AfterFrameset name s = end_after_frameset name s
 end_once _ name s = s
 
--- white space before the body and behind it
+-- white space before the body and after it
 abbrev pub put_white_space : InsertionMode → List ℕ → StateValue → StateValue
 put_white_space Initial text s = s
 put_white_space BeforeHtml text s = s

@@ -25,5 +25,5 @@ is_of_kind Characters b = not (is_ascii_white_space b) && not (is_null b)
 abbrev pub first_run : List ℕ → List ℕ
 first_run s = leading_run (is_of_kind (first_kind s)) s
 
-abbrev pub behind_first_run : List ℕ → List ℕ
-behind_first_run s = behind_run (is_of_kind (first_kind s)) s
+abbrev pub after_first_run : List ℕ → List ℕ
+after_first_run s = behind_run (is_of_kind (first_kind s)) s

@@ -7,7 +7,7 @@ use Rattle.htmd_html5_state.specs.State.{StateValue}
 use Rattle.htmd_html5_state.specs.declared.modes.InsertionMode.TheVariants.{InTable, InTableBody, InRow}
 use Rattle.htmd_html5_state.specs.declared.modes.InsertionMode.{InsertionMode}
 use Rattle.htmd_html5_state.specs.declared.sets.NameSet.TheVariants.{Fostering}
-use Rattle.htmd_html5.specs.Runs.{first_kind, first_run, behind_first_run}
+use Rattle.htmd_html5.specs.Runs.{first_kind, first_run, after_first_run}
 use Rattle.htmd_html5.specs.Answers.{Answer}
 use Rattle.htmd_html5.specs.InTable.{table_text}
 use Rattle.htmd_html5.specs.Processing.{by_rules, turns}
@@ -36,10 +36,10 @@ abbrev pub first_token : List ℕ → TokenValue
 first_token text = run (first_kind text) (first_run text)
 
 abbrev pub take_within : ℕ → List ℕ → StateValue → Taken
-take_within zero text s = taken s (behind_first_run text)
+take_within zero text s = taken s (after_first_run text)
 take_within (suc k) text s =
     if takes_all s then taken (table_text text s) []
-    else after_run (take_within k text) (behind_first_run text) (by_rules (first_token text) s)
+    else after_run (take_within k text) (after_first_run text) (by_rules (first_token text) s)
 
 abbrev pub take_part : List ℕ → StateValue → Taken
 take_part text s = take_within (turns s) text s

@@ -37,7 +37,7 @@ fn feed_text(state: &mut HtmlState, text: &str) -> Result<(), AllocError>
     state.insert_text(text)
 }
 
-/// The text behind a line feed at its front.
+/// The text after a line feed at its front.
 fn strip_line_feed(text: &str) -> Option<&str>
     ensures { MatchOption result (first_is line_feed text.now ≡ false)
         (λ rest. (first_is line_feed text.now ≡ true) × (rest.now ≡ drop 1 text.now)) }

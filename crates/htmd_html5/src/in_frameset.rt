@@ -77,13 +77,13 @@ pub(crate) fn end_after_frameset(state: &mut HtmlState, name: &HtmlName)
     }
 }
 
-/// White space behind a frameset stands as in the body.
-pub(crate) fn put_run_behind_frameset(
+/// White space after a frameset stands as in the body.
+pub(crate) fn put_run_after_frameset(
     state: &mut HtmlState,
     kind: RunKind,
     text: &str,
 ) -> Result<(), AllocError>
-    ensures { OnOk result (state.new ≡ spec.run_behind_frameset kind text.now state.old) }
+    ensures { OnOk result (state.new ≡ spec.run_after_frameset kind text.now state.old) }
 {
     match kind {
         RunKind::White => put_run_in_body(state, kind, text),

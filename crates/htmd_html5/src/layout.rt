@@ -1,10 +1,10 @@
 //! The tree of a document: its nodes in document order, to the greatest depth.
-ghost use Rattle.std.specs.Prelude.{◌≡◌, ℕ, ⊤, length, map, option_map, string_bytes, IfOk, IfSome, IsErrOf, OnOk, Ok};
-ghost use Rattle.htmd_html5_state.specs.Documents.{kind_at};
+ghost use Rattle.std.specs.Prelude.{◌≡◌, ◌++◌, map, reverse, option_map, string_bytes, IfOk, IsErrOf, OnOk, Ok};
+ghost use Rattle.htmd_html5_state.specs.Documents.{children_at, kind_at};
 ghost use Rattle.htmd_html5_state.specs.Names.{element_name_of, text_of_element_name};
 ghost use Rattle.htmd_html5_state.specs.Views.{kind_of, nodes_of};
 ghost use Rattle.htmd_html5.specs.Layout as spec;
-ghost use Rattle.htmd_html5.specs.LayoutViews.{coming_of, layout_of, work_of, AllMayHold, MayHold};
+ghost use Rattle.htmd_html5.specs.LayoutViews.{coming_of, coming_under, layout_of, work_of, AllMayHold, MayHold};
 ghost use Rattle.htmd_tree.specs.Items.{comment_node, doctype_node, element_node, text_node, greatest_depth};
 ghost use Rattle.htmd_tree.specs.Views.{pairs_of};
 ghost use Rattle.htmd_tree.specs.declared.tree.TreeError.TheVariants.{TooDeep};
@@ -44,6 +44,27 @@ fn item_of(added: Result<NodeId, TreeError>) -> Result<NodeId, AllocError>
     }
 }
 
+/// The children of a node; none where it isn't there.
+fn children_of(nodes: &[Node], node: usize) -> &[usize]
+    ensures { result.now ≡ children_at (nodes_of nodes.now) node }
+{
+    match nodes.get(node) {
+        Some(node) => node.children.as_slice(),
+        None => &[],
+    }
+}
+
+/// Nodes come next under an item, the first of them first.
+fn push_all(coming: &mut Vec<Coming>, nodes: &[usize], under: NodeId) -> Result<(), AllocError>
+    ensures { OnOk result (coming.new.items
+        ≡ coming.old.items ++ map (coming_under under) (reverse nodes.now)) }
+{
+    for node in nodes.iter().rev() {
+        coming.push(Coming { node: *node, under })?;
+    }
+    Ok(())
+}
+
 impl Layout {
     /// Takes what a node is, which isn't laid out twice.
     fn take_kind(&mut self, node: usize) -> NodeKind
@@ -67,16 +88,8 @@ impl Layout {
             ≡ spec.with_children_under under node (layout_of self.old)) }
         ensures holds { OnOk result (AllMayHold self.new.tree self.new.coming.items) }
     {
-        if node < self.nodes.len() {
-            let children = self.nodes[node].children.as_slice();
-            for child in children.iter().rev() {
-                self.coming.push(Coming {
-                    node: *child,
-                    under,
-                })?;
-            }
-        }
-        Ok(())
+        let children = children_of(self.nodes.as_slice(), node);
+        push_all(&mut self.coming, children, under)
     }
 
     /// Whether a child of this item stands at the greatest depth.
@@ -102,13 +115,13 @@ impl Layout {
         }
     }
 
-    /// Puts the texts that come next under this item behind a text.
+    /// Puts the texts that come next under this item at the end of a text.
     fn join_texts(&mut self, under: NodeId, text: &mut String) -> Result<(), AllocError>
         requires holds { AllMayHold self.old.tree self.old.coming.items }
         ensures text { OnOk result (string_bytes text.new
             ≡ spec.joined (string_bytes text.old) under (layout_of self.old)) }
         ensures value { OnOk result (layout_of self.new
-            ≡ spec.behind_joined under (layout_of self.old)) }
+            ≡ spec.after_joined under (layout_of self.old)) }
         ensures holds { AllMayHold self.new.tree self.new.coming.items }
     {
         while let Some(next) = self.next_text(under) {

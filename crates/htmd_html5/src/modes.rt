@@ -16,7 +16,7 @@ use crate::in_caption::{end_in_caption, start_in_caption};
 use crate::in_cell::{end_in_cell, start_in_cell};
 use crate::in_column_group::{end_columns, end_in_columns, start_in_columns};
 use crate::in_frameset::{
-    end_after_frameset, end_in_frameset, put_run_behind_frameset, put_run_in_frameset,
+    end_after_frameset, end_in_frameset, put_run_after_frameset, put_run_in_frameset,
     start_after_frameset, start_in_frameset,
 };
 use crate::in_head::{close_head, end_in_head, start_in_head};
@@ -185,7 +185,7 @@ pub(crate) fn put_run_by_mode(
         InsertionMode::InFrameset | InsertionMode::AfterFrameset => {
             put_run_in_frameset(state, kind, text)?
         }
-        InsertionMode::AfterAfterFrameset => put_run_behind_frameset(state, kind, text)?,
+        InsertionMode::AfterAfterFrameset => put_run_after_frameset(state, kind, text)?,
         mode => match kind {
             RunKind::White => put_white_space(state, mode, text)?,
             RunKind::Nulls | RunKind::Characters => return leave_mode(state, mode),

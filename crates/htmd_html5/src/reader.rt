@@ -54,8 +54,8 @@ fn text_of<'a>(text: &'a CowStr<'_>) -> &'a str
     }
 }
 
-/// The tree of a page, as the HTML Standard reads it. No text is refused; an `Err` is want of memory. An element at
-/// level 1,024 keeps no children: they come right behind it.
+/// The tree of a page, as the HTML Standard reads it. No text is refused; an `Err` is out of memory. An element at
+/// level 1,024 keeps no children: they come right after it.
 pub fn parse_html5(alloc: Global, html: &str, scripting: bool) -> Result<Tree, AllocError>
     ensures ok { IfOk result (λ tree. tree ≡ spec.html5_document scripting html.now) }
 {

@@ -1,5 +1,6 @@
 //! Texts, run by run.
 ghost use Rattle.std.specs.Prelude.{◌≡◌, IfOk, OnOk};
+ghost use Rattle.std.specs.Str.{IsUtf8};
 ghost use Rattle.htmd_html5.specs.Texts as spec;
 
 use crate::in_table::table_text;
@@ -26,7 +27,8 @@ fn takes_all(state: &HtmlState) -> bool
 
 /// The first part of a text. Gives what is left.
 fn take_part<'a>(state: &mut HtmlState, text: &'a str) -> Result<&'a str, AllocError>
-    ensures { IfOk result (λ rest. spec.taken state.new rest.now ≡ spec.take_part text.now state.old) }
+    ensures value { IfOk result (λ rest. spec.taken state.new rest.now ≡ spec.take_part text.now state.old) }
+    ensures text { IfOk result (λ rest. IsUtf8 rest.now) }
 {
     let split = split_run(text);
     for _turn in 0..turns(state) {

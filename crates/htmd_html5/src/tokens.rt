@@ -1,5 +1,6 @@
 //! The tokens of tree construction.
 ghost use Rattle.std.specs.Prelude.{◌≡◌, ◌≤◌, length};
+ghost use Rattle.std.specs.Str.{IsUtf8};
 ghost use Rattle.htmd_grammar.specs.CharacterClasses.{leading_run};
 ghost use Rattle.htmd_html5.specs.Runs as runs;
 ghost use Rattle.htmd_html5.specs.Tokens.{tag_of};
@@ -98,7 +99,8 @@ fn run_len(bytes: &[u8], kind: RunKind) -> usize
 pub(crate) fn split_run(text: &str) -> Split<'_>
     ensures kind { result.kind ≡ runs.first_kind text.now }
     ensures run { result.run.now ≡ runs.first_run text.now }
-    ensures rest { result.rest.now ≡ runs.behind_first_run text.now }
+    ensures rest { result.rest.now ≡ runs.after_first_run text.now }
+    ensures text { IsUtf8 result.rest.now }
 {
     let bytes = text.as_bytes();
     let kind = first_kind(bytes);

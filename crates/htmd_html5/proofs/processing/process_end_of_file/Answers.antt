@@ -2,7 +2,7 @@
 use Rattle.std.proofs.Common.{◌≡◌, ◌∙◌, Bool, true, false, ap, sym, arith}
 use Rattle.htmd_html5.specs.Tokens.{end_of_file}
 use Rattle.htmd_html5.specs.Answers.{answer}
-use Rattle.htmd_html5.specs.Processing.{by_rules, process_within}
+use Rattle.htmd_html5.specs.Processing.{process_within}
 use Rattle.htmd_html5.proofs.ProcessingLemmas.{rests_again, rests_done, rests_over}
 use Rattle.htmd_html5.proofs.processing.process_end_of_file.Goals as goal
 

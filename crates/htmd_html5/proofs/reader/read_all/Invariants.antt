@@ -1,6 +1,4 @@
 -- What is left to read is the same in each turn.
-use denote.Shadow.{shadow}
-use denote.Text.{Utf8}
 use Rattle.htmd_html5.proofs.DocumentsLemmas.{Reads}
 use Rattle.htmd_html5.proofs.reader.read_all.Given as goal
 

@@ -1,6 +1,7 @@
--- The text is cut behind its first run.
+-- The text is cut after its first run.
 use Rattle.std.proofs.Common.{◌≡◌, ◌∙◌, length, take, drop, sym, ap, subst}
-use Rattle.std.specs.Str.{IsCharBoundary}
+use Rattle.std.specs.Str.{IsCharBoundary, IsUtf8}
+use Rattle.std.proofs.lemmas.Str.{IsUtf8-drop}
 use Rattle.htmd_grammar.specs.CharacterClasses.{leading_run, behind_run}
 use Rattle.htmd_html5.specs.Runs.{is_of_kind, first_kind}
 use Rattle.htmd_html5.specs.declared.tokens.RunKind.{RunKind}
@@ -34,3 +35,11 @@ returns-clause-rest c =
     let is : kind ≡ first_kind text = c.first_kind-kind.ensures ∙ ap first_kind c.as_bytes-bytes.ensures.value in
     c.split_at.ensures.back ∙ ap (λ n. drop n text) same ∙ drop_run (is_of_kind kind) text
     ∙ ap (λ (k : RunKind). behind_run (is_of_kind k) text) is
+
+pub returns-clause-text : goal.returns-clause-text
+returns-clause-text c =
+    let text = c.args.text.now in
+    let same = c.run_len.ensures.value
+    ∙ ap (λ s. length (leading_run (is_of_kind c.first_kind-kind.result) s)) c.as_bytes-bytes.ensures.value in
+    let cut = subst (IsCharBoundary text) (sym same) (run_cut c.first_kind-kind.result text c.utf8.text) in
+    subst IsUtf8 (sym c.split_at.ensures.back) (IsUtf8-drop text c.run_len.result c.utf8.text cut)
