@@ -11,7 +11,8 @@ use Rattle.htmd_html5_state.specs.declared.modes.InsertionMode.TheVariants.{InTa
 use Rattle.htmd_html5_state.specs.declared.modes.InsertionMode.{InsertionMode}
 use Rattle.htmd_html5_state.specs.declared.names.TagName.{TagName}
 use Rattle.htmd_html5_state.specs.declared.names.Namespace.{Namespace}
-use Rattle.htmd_html5_state.specs.declared.sets.NameSet.TheVariants.{Only, Headings, ImpliedEnd}
+use Rattle.htmd_html5_state.specs.declared.names.Namespace.TheVariants.{Svg, MathMl}
+use Rattle.htmd_html5_state.specs.declared.sets.NameSet.TheVariants.{Only, Headings, ImpliedEnd, ImpliedEndInRuby, DescriptionParts}
 use Rattle.htmd_html5_state.specs.declared.sets.NameSet.{NameSet}
 use Rattle.htmd_html5_state.specs.declared.sets.Scope.TheVariants.{Default, Items, ListItem, Button as ButtonScope}
 use Rattle.htmd_html5_tokens.specs.declared.tokens.RawElement.{RawElement}
@@ -27,11 +28,9 @@ use Rattle.htmd_html5.specs.BodyStarts.{start_separator, start_formatting, forge
 use Rattle.htmd_html5.specs.BodyStarts.{start_ordinary, start_button, start_embedded, start_void, is_hidden, start_input}
 use Rattle.htmd_html5.specs.BodyStarts.{start_image, mode_of_select, start_select, close_option, start_option, start_ruby}
 use Rattle.htmd_html5.specs.BodyStarts.{start_foreign, start_text_area, start_example, start_inline_frame, start_no_script}
-use Rattle.htmd_html5.specs.BodyStarts.{start_in_text, start_by, rule_of_start, start_in_body}
+use Rattle.htmd_html5.specs.BodyStarts.{start_by, rule_of_start, start_in_body, block_rule, formatting_rule, phrasing_rule}
 use Rattle.htmd_html5.specs.BodyEnds.{has_body, end_body, end_root, end_block, close_form, end_form, end_paragraph}
-use Rattle.htmd_html5.specs.BodyEnds.{end_embedded, line_break, end_by, end_rule, end_in_body}
-use Rattle.htmd_html5.specs.declared.body_starts.StartRule.{StartRule}
-use Rattle.htmd_html5.specs.declared.body_ends.EndRule.{EndRule}
+use Rattle.htmd_html5.specs.BodyEnds.{end_embedded, line_break, end_by, end_rule, text_end_rule, end_in_body}
 use Rattle.htmd_html5_laws.proofs.Keeping.{Keeps, Kept, Sound, after, nothing, by_test, by_state, untouched, on_stack_keeps}
 use Rattle.htmd_html5_laws.proofs.KeepingInsertion.{insert_element_keeps, insert_void_keeps, insert_raw_keeps, detach_keeps}
 use Rattle.htmd_html5_laws.proofs.KeepingInsertion.{insert_foreign_keeps, add_missing_keeps, without_entry_keeps}
@@ -39,8 +38,6 @@ use Rattle.htmd_html5_laws.proofs.KeepingInsertion.{push_marker_keeps, clear_to_
 use Rattle.htmd_html5_laws.proofs.KeepingInsertion.{reconstruct_keeps, pop_template_mode_keeps, reset_insertion_mode_keeps}
 use Rattle.htmd_html5_laws.proofs.KeepingAdoption.{adoption_agency_keeps}
 use Rattle.htmd_html5_state.specs.declared.names.TagName.TheVariants as tags
-use Rattle.htmd_html5.specs.declared.body_starts.StartRule.TheVariants as rule
-use Rattle.htmd_html5.specs.declared.body_ends.EndRule.TheVariants as ending
 use Rattle.htmd_html5_tokens.specs.declared.tokens.RawElement.TheVariants as raw
 
 -- ---- what a mode answers
@@ -249,45 +246,119 @@ start_no_script_keeps tag =
 
 -- ---- the rules of start tags
 
-start_in_text_keeps : (r : StartRule) (tag : StartTagValue) → Keeps (start_in_text r tag)
-start_in_text_keeps rule.Button tag = start_button_keeps tag
-start_in_text_keeps rule.Anchor tag = start_anchor_keeps tag
-start_in_text_keeps rule.Formatting tag = start_formatting_keeps tag
-start_in_text_keeps rule.NoBreak tag = start_no_break_keeps tag
-start_in_text_keeps rule.Embedded tag = start_embedded_keeps tag
-start_in_text_keeps rule.Void tag = start_void_keeps tag
-start_in_text_keeps rule.Input tag = start_input_keeps tag
-start_in_text_keeps rule.Part tag = insert_void_tag_keeps tag
-start_in_text_keeps rule.Image tag = start_image_keeps tag
-start_in_text_keeps rule.TextArea tag = start_text_area_keeps tag
-start_in_text_keeps rule.Example tag = start_example_keeps tag
-start_in_text_keeps rule.InlineFrame tag = start_inline_frame_keeps tag
-start_in_text_keeps rule.NoEmbed tag = insert_raw_tag_keeps raw.Noembed tag
-start_in_text_keeps rule.NoScript tag = start_no_script_keeps tag
-start_in_text_keeps rule.Select tag = start_select_keeps tag
-start_in_text_keeps rule.Option tag = start_option_keeps tag
-start_in_text_keeps (rule.Ruby implied) tag = start_ruby_keeps implied tag
-start_in_text_keeps (rule.Foreign space) tag = start_foreign_keeps space tag
-start_in_text_keeps _ tag = start_ordinary_keeps tag
-
-start_by_keeps : (r : StartRule) (tag : StartTagValue) → Keeps (start_by r tag)
-start_by_keeps rule.Root tag = add_to_root_keeps tag
-start_by_keeps rule.InHead tag = insert_head_element_keeps tag.name tag
-start_by_keeps rule.Body tag = add_to_body_keeps tag
-start_by_keeps rule.FrameSet tag = replace_body_keeps tag
-start_by_keeps rule.Ignored tag = nothing
-start_by_keeps rule.Block tag = start_block_keeps tag
-start_by_keeps rule.Heading tag = start_heading_keeps tag
-start_by_keeps rule.Preformatted tag = start_preformatted_keeps tag
-start_by_keeps rule.Form tag = start_form_keeps tag
-start_by_keeps (rule.Item alike) tag = start_item_keeps alike tag
-start_by_keeps rule.PlainText tag = start_plain_text_keeps tag
-start_by_keeps rule.Table tag = start_table_keeps tag
-start_by_keeps rule.Separator tag = start_separator_keeps tag
-start_by_keeps r tag = start_in_text_keeps r tag
+start_by_name_keeps : (name : NameValue) (tag : StartTagValue) → Keeps (start_by (rule_of_start name) tag)
+unfolding block_rule formatting_rule phrasing_rule
+start_by_name_keeps (known tags.Html) tag = add_to_root_keeps tag
+start_by_name_keeps (known tags.Base) tag = insert_head_element_keeps tag.name tag
+start_by_name_keeps (known tags.BaseFont) tag = insert_head_element_keeps tag.name tag
+start_by_name_keeps (known tags.BgSound) tag = insert_head_element_keeps tag.name tag
+start_by_name_keeps (known tags.Link) tag = insert_head_element_keeps tag.name tag
+start_by_name_keeps (known tags.Meta) tag = insert_head_element_keeps tag.name tag
+start_by_name_keeps (known tags.NoFrames) tag = insert_head_element_keeps tag.name tag
+start_by_name_keeps (known tags.Script) tag = insert_head_element_keeps tag.name tag
+start_by_name_keeps (known tags.Style) tag = insert_head_element_keeps tag.name tag
+start_by_name_keeps (known tags.Template) tag = insert_head_element_keeps tag.name tag
+start_by_name_keeps (known tags.Title) tag = insert_head_element_keeps tag.name tag
+start_by_name_keeps (known tags.Body) tag = add_to_body_keeps tag
+start_by_name_keeps (known tags.FrameSet) tag = replace_body_keeps tag
+start_by_name_keeps (known tags.Caption) tag = nothing
+start_by_name_keeps (known tags.Col) tag = nothing
+start_by_name_keeps (known tags.ColGroup) tag = nothing
+start_by_name_keeps (known tags.Frame) tag = nothing
+start_by_name_keeps (known tags.Head) tag = nothing
+start_by_name_keeps (known tags.TBody) tag = nothing
+start_by_name_keeps (known tags.Td) tag = nothing
+start_by_name_keeps (known tags.TFoot) tag = nothing
+start_by_name_keeps (known tags.Th) tag = nothing
+start_by_name_keeps (known tags.THead) tag = nothing
+start_by_name_keeps (known tags.Tr) tag = nothing
+start_by_name_keeps (known tags.Address) tag = start_block_keeps tag
+start_by_name_keeps (known tags.Article) tag = start_block_keeps tag
+start_by_name_keeps (known tags.Aside) tag = start_block_keeps tag
+start_by_name_keeps (known tags.BlockQuote) tag = start_block_keeps tag
+start_by_name_keeps (known tags.Center) tag = start_block_keeps tag
+start_by_name_keeps (known tags.Details) tag = start_block_keeps tag
+start_by_name_keeps (known tags.Dialog) tag = start_block_keeps tag
+start_by_name_keeps (known tags.Dir) tag = start_block_keeps tag
+start_by_name_keeps (known tags.Div) tag = start_block_keeps tag
+start_by_name_keeps (known tags.Dl) tag = start_block_keeps tag
+start_by_name_keeps (known tags.FieldSet) tag = start_block_keeps tag
+start_by_name_keeps (known tags.FigCaption) tag = start_block_keeps tag
+start_by_name_keeps (known tags.Figure) tag = start_block_keeps tag
+start_by_name_keeps (known tags.Footer) tag = start_block_keeps tag
+start_by_name_keeps (known tags.Header) tag = start_block_keeps tag
+start_by_name_keeps (known tags.HGroup) tag = start_block_keeps tag
+start_by_name_keeps (known tags.Main) tag = start_block_keeps tag
+start_by_name_keeps (known tags.Menu) tag = start_block_keeps tag
+start_by_name_keeps (known tags.Nav) tag = start_block_keeps tag
+start_by_name_keeps (known tags.Ol) tag = start_block_keeps tag
+start_by_name_keeps (known tags.P) tag = start_block_keeps tag
+start_by_name_keeps (known tags.Search) tag = start_block_keeps tag
+start_by_name_keeps (known tags.Section) tag = start_block_keeps tag
+start_by_name_keeps (known tags.Summary) tag = start_block_keeps tag
+start_by_name_keeps (known tags.Ul) tag = start_block_keeps tag
+start_by_name_keeps (known tags.H1) tag = start_heading_keeps tag
+start_by_name_keeps (known tags.H2) tag = start_heading_keeps tag
+start_by_name_keeps (known tags.H3) tag = start_heading_keeps tag
+start_by_name_keeps (known tags.H4) tag = start_heading_keeps tag
+start_by_name_keeps (known tags.H5) tag = start_heading_keeps tag
+start_by_name_keeps (known tags.H6) tag = start_heading_keeps tag
+start_by_name_keeps (known tags.Pre) tag = start_preformatted_keeps tag
+start_by_name_keeps (known tags.Listing) tag = start_preformatted_keeps tag
+start_by_name_keeps (known tags.Form) tag = start_form_keeps tag
+start_by_name_keeps (known tags.Li) tag = start_item_keeps (Only tags.Li) tag
+start_by_name_keeps (known tags.Dd) tag = start_item_keeps DescriptionParts tag
+start_by_name_keeps (known tags.Dt) tag = start_item_keeps DescriptionParts tag
+start_by_name_keeps (known tags.PlainText) tag = start_plain_text_keeps tag
+start_by_name_keeps (known tags.Table) tag = start_table_keeps tag
+start_by_name_keeps (known tags.Hr) tag = start_separator_keeps tag
+start_by_name_keeps (known tags.Button) tag = start_button_keeps tag
+start_by_name_keeps (known tags.A) tag = start_anchor_keeps tag
+start_by_name_keeps (known tags.B) tag = start_formatting_keeps tag
+start_by_name_keeps (known tags.Big) tag = start_formatting_keeps tag
+start_by_name_keeps (known tags.Code) tag = start_formatting_keeps tag
+start_by_name_keeps (known tags.Em) tag = start_formatting_keeps tag
+start_by_name_keeps (known tags.Font) tag = start_formatting_keeps tag
+start_by_name_keeps (known tags.I) tag = start_formatting_keeps tag
+start_by_name_keeps (known tags.S) tag = start_formatting_keeps tag
+start_by_name_keeps (known tags.Small) tag = start_formatting_keeps tag
+start_by_name_keeps (known tags.Strike) tag = start_formatting_keeps tag
+start_by_name_keeps (known tags.Strong) tag = start_formatting_keeps tag
+start_by_name_keeps (known tags.Tt) tag = start_formatting_keeps tag
+start_by_name_keeps (known tags.U) tag = start_formatting_keeps tag
+start_by_name_keeps (known tags.NoBr) tag = start_no_break_keeps tag
+start_by_name_keeps (known tags.Applet) tag = start_embedded_keeps tag
+start_by_name_keeps (known tags.Marquee) tag = start_embedded_keeps tag
+start_by_name_keeps (known tags.Object) tag = start_embedded_keeps tag
+start_by_name_keeps (known tags.Area) tag = start_void_keeps tag
+start_by_name_keeps (known tags.Br) tag = start_void_keeps tag
+start_by_name_keeps (known tags.Embed) tag = start_void_keeps tag
+start_by_name_keeps (known tags.Img) tag = start_void_keeps tag
+start_by_name_keeps (known tags.KeyGen) tag = start_void_keeps tag
+start_by_name_keeps (known tags.Wbr) tag = start_void_keeps tag
+start_by_name_keeps (known tags.Input) tag = start_input_keeps tag
+start_by_name_keeps (known tags.Param) tag = insert_void_tag_keeps tag
+start_by_name_keeps (known tags.Source) tag = insert_void_tag_keeps tag
+start_by_name_keeps (known tags.Track) tag = insert_void_tag_keeps tag
+start_by_name_keeps (known tags.Image) tag = start_image_keeps tag
+start_by_name_keeps (known tags.TextArea) tag = start_text_area_keeps tag
+start_by_name_keeps (known tags.Xmp) tag = start_example_keeps tag
+start_by_name_keeps (known tags.Iframe) tag = start_inline_frame_keeps tag
+start_by_name_keeps (known tags.NoEmbed) tag = insert_raw_tag_keeps raw.Noembed tag
+start_by_name_keeps (known tags.NoScript) tag = start_no_script_keeps tag
+start_by_name_keeps (known tags.Select) tag = start_select_keeps tag
+start_by_name_keeps (known tags.OptGroup) tag = start_option_keeps tag
+start_by_name_keeps (known tags.OptionTag) tag = start_option_keeps tag
+start_by_name_keeps (known tags.Rb) tag = start_ruby_keeps ImpliedEnd tag
+start_by_name_keeps (known tags.Rtc) tag = start_ruby_keeps ImpliedEnd tag
+start_by_name_keeps (known tags.Rp) tag = start_ruby_keeps ImpliedEndInRuby tag
+start_by_name_keeps (known tags.Rt) tag = start_ruby_keeps ImpliedEndInRuby tag
+start_by_name_keeps (known tags.Math) tag = start_foreign_keeps MathMl tag
+start_by_name_keeps (known tags.Svg) tag = start_foreign_keeps Svg tag
+start_by_name_keeps _ tag = start_ordinary_keeps tag
 
 pub start_in_body_keeps : (tag : StartTagValue) → Keeps (start_in_body tag)
-start_in_body_keeps tag = start_by_keeps (rule_of_start tag.name) tag
+start_in_body_keeps tag = start_by_name_keeps tag.name tag
 
 -- ---- end tags in the body
 
@@ -327,20 +398,69 @@ end_embedded_keeps tag =
 line_break_keeps : Keeps line_break
 line_break_keeps = after no_frameset_keeps (after (insert_void_keeps (known tags.Br) []) reconstruct_keeps)
 
-end_by_keeps : (r : EndRule) (tag : TagName) → KeepsAnswer (end_by r tag)
-end_by_keeps ending.Body tag = says end_body_keeps
-end_by_keeps ending.Root tag = says end_body_keeps
-end_by_keeps ending.Template tag = says end_template_keeps
-end_by_keeps ending.Block tag = says (end_block_keeps tag)
-end_by_keeps ending.Form tag = says end_form_keeps
-end_by_keeps ending.Paragraph tag = says end_paragraph_keeps
-end_by_keeps ending.ListItem tag = says (on_stack_keeps (close (Only tags.Li) ListItem))
-end_by_keeps ending.Heading tag = says (on_stack_keeps (close Headings Default))
-end_by_keeps ending.Formatting tag = says (adoption_agency_keeps tag)
-end_by_keeps ending.Embedded tag = says (end_embedded_keeps tag)
-end_by_keeps ending.LineBreak tag = says line_break_keeps
-end_by_keeps ending.Ordinary tag = says (on_stack_keeps (close_name (known tag)))
+end_by_name_keeps : (tag : TagName) → KeepsAnswer (end_by (end_rule tag) tag)
+unfolding text_end_rule
+end_by_name_keeps tags.Body = says end_body_keeps
+end_by_name_keeps tags.Html = says end_body_keeps
+end_by_name_keeps tags.Template = says end_template_keeps
+end_by_name_keeps tags.Address = says (end_block_keeps tags.Address)
+end_by_name_keeps tags.Article = says (end_block_keeps tags.Article)
+end_by_name_keeps tags.Aside = says (end_block_keeps tags.Aside)
+end_by_name_keeps tags.BlockQuote = says (end_block_keeps tags.BlockQuote)
+end_by_name_keeps tags.Center = says (end_block_keeps tags.Center)
+end_by_name_keeps tags.Details = says (end_block_keeps tags.Details)
+end_by_name_keeps tags.Dialog = says (end_block_keeps tags.Dialog)
+end_by_name_keeps tags.Dir = says (end_block_keeps tags.Dir)
+end_by_name_keeps tags.Div = says (end_block_keeps tags.Div)
+end_by_name_keeps tags.Dl = says (end_block_keeps tags.Dl)
+end_by_name_keeps tags.FieldSet = says (end_block_keeps tags.FieldSet)
+end_by_name_keeps tags.FigCaption = says (end_block_keeps tags.FigCaption)
+end_by_name_keeps tags.Figure = says (end_block_keeps tags.Figure)
+end_by_name_keeps tags.Footer = says (end_block_keeps tags.Footer)
+end_by_name_keeps tags.Header = says (end_block_keeps tags.Header)
+end_by_name_keeps tags.HGroup = says (end_block_keeps tags.HGroup)
+end_by_name_keeps tags.Main = says (end_block_keeps tags.Main)
+end_by_name_keeps tags.Menu = says (end_block_keeps tags.Menu)
+end_by_name_keeps tags.Nav = says (end_block_keeps tags.Nav)
+end_by_name_keeps tags.Ol = says (end_block_keeps tags.Ol)
+end_by_name_keeps tags.Search = says (end_block_keeps tags.Search)
+end_by_name_keeps tags.Section = says (end_block_keeps tags.Section)
+end_by_name_keeps tags.Summary = says (end_block_keeps tags.Summary)
+end_by_name_keeps tags.Ul = says (end_block_keeps tags.Ul)
+end_by_name_keeps tags.Button = says (end_block_keeps tags.Button)
+end_by_name_keeps tags.Dd = says (end_block_keeps tags.Dd)
+end_by_name_keeps tags.Dt = says (end_block_keeps tags.Dt)
+end_by_name_keeps tags.Listing = says (end_block_keeps tags.Listing)
+end_by_name_keeps tags.Pre = says (end_block_keeps tags.Pre)
+end_by_name_keeps tags.Form = says end_form_keeps
+end_by_name_keeps tags.P = says end_paragraph_keeps
+end_by_name_keeps tags.Li = says (on_stack_keeps (close (Only tags.Li) ListItem))
+end_by_name_keeps tags.H1 = says (on_stack_keeps (close Headings Default))
+end_by_name_keeps tags.H2 = says (on_stack_keeps (close Headings Default))
+end_by_name_keeps tags.H3 = says (on_stack_keeps (close Headings Default))
+end_by_name_keeps tags.H4 = says (on_stack_keeps (close Headings Default))
+end_by_name_keeps tags.H5 = says (on_stack_keeps (close Headings Default))
+end_by_name_keeps tags.H6 = says (on_stack_keeps (close Headings Default))
+end_by_name_keeps tags.A = says (adoption_agency_keeps tags.A)
+end_by_name_keeps tags.B = says (adoption_agency_keeps tags.B)
+end_by_name_keeps tags.Big = says (adoption_agency_keeps tags.Big)
+end_by_name_keeps tags.Code = says (adoption_agency_keeps tags.Code)
+end_by_name_keeps tags.Em = says (adoption_agency_keeps tags.Em)
+end_by_name_keeps tags.Font = says (adoption_agency_keeps tags.Font)
+end_by_name_keeps tags.I = says (adoption_agency_keeps tags.I)
+end_by_name_keeps tags.NoBr = says (adoption_agency_keeps tags.NoBr)
+end_by_name_keeps tags.S = says (adoption_agency_keeps tags.S)
+end_by_name_keeps tags.Small = says (adoption_agency_keeps tags.Small)
+end_by_name_keeps tags.Strike = says (adoption_agency_keeps tags.Strike)
+end_by_name_keeps tags.Strong = says (adoption_agency_keeps tags.Strong)
+end_by_name_keeps tags.Tt = says (adoption_agency_keeps tags.Tt)
+end_by_name_keeps tags.U = says (adoption_agency_keeps tags.U)
+end_by_name_keeps tags.Applet = says (end_embedded_keeps tags.Applet)
+end_by_name_keeps tags.Marquee = says (end_embedded_keeps tags.Marquee)
+end_by_name_keeps tags.Object = says (end_embedded_keeps tags.Object)
+end_by_name_keeps tags.Br = says line_break_keeps
+end_by_name_keeps tag = says (on_stack_keeps (close_name (known tag)))
 
 pub end_in_body_keeps : (name : NameValue) → KeepsAnswer (end_in_body name)
-end_in_body_keeps (known tag) = end_by_keeps (end_rule tag) tag
+end_in_body_keeps (known tag) = end_by_name_keeps tag
 end_in_body_keeps (other t) = says (on_stack_keeps (close_name (other t)))

@@ -8,7 +8,7 @@ use Rattle.std.proofs.lemmas.List.{get_or_append_left, length-append}
 use Rattle.htmd_grammar.specs.ValueTrees.{AttributePair}
 use Rattle.htmd_html5_state.specs.Names.{ElementNameValue, text_of_element_name}
 use Rattle.htmd_html5_state.specs.Documents.{KindValue, NodeValue, document, doctype, text, comment, element, kind_at}
-use Rattle.htmd_html5.specs.Layout.{Coming, Layout, with_item, joined, behind_joined, with_text, with_element, with_kind_of}
+use Rattle.htmd_html5.specs.Layout.{Coming, Layout, with_item, joined, after_joined, with_text, with_element, with_kind_of}
 use Rattle.htmd_html5.specs.Layout.{with_children_under, parent_of_children, without_node, put_node, put_next, layout_within}
 use Rattle.htmd_html5.specs.Layout.{first_layout, document_of, is_deepest}
 use Rattle.htmd_tree.specs.Items.{Item, Data, document_node, doctype_node, text_node, comment_node, element_node}

@@ -8,7 +8,6 @@ pub mod KeepingModes
 pub mod TextsPut
 pub mod Taking
 pub mod TakingRuns
-pub mod RunFacts
 pub mod TakingTexts
 pub mod TakingTokens
 pub mod LaidTexts

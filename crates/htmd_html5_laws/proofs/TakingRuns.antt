@@ -5,6 +5,7 @@ use Rattle.std.specs.Str.{chars}
 use Rattle.std.specs.Char.{encode_utf8}
 use Rattle.std.proofs.lemmas.Bool.{eqb-false, ne_eqb}
 use Rattle.std.proofs.lemmas.Str.{IsUtf8-nil, IsUtf8-append, chars-nil, chars_past_char}
+use Rattle.htmd_text.specs.WhiteSpace.{is_ascii_white_space}
 use Rattle.htmd_html5_tokens.specs.References.{replacement_character}
 use Rattle.htmd_html5_state.specs.State.{StateValue}
 use Rattle.htmd_html5_state.specs.Insertion.{insert_text}
@@ -16,8 +17,7 @@ use Rattle.htmd_html5_state.specs.declared.modes.InsertionMode.TheVariants.{InSe
 use Rattle.htmd_html5_state.specs.declared.modes.InsertionMode.TheVariants.{InFrameset, AfterFrameset, AfterAfterBody}
 use Rattle.htmd_html5_state.specs.declared.modes.InsertionMode.TheVariants.{AfterAfterFrameset}
 use Rattle.htmd_html5_state.specs.declared.modes.InsertionMode.{InsertionMode}
-use Rattle.htmd_html5.specs.declared.tokens.RunKind.{RunKind}
-use Rattle.htmd_html5.specs.declared.tokens.RunKind.TheVariants.{White, Nulls, Characters}
+use Rattle.htmd_html5.specs.Runs.{kind_of_byte, first_kind, is_null}
 use Rattle.htmd_html5.specs.Tokens.{TokenValue, run}
 use Rattle.htmd_html5.specs.Answers.{Answer}
 use Rattle.htmd_html5.specs.InBody.{run_in_body}
@@ -48,80 +48,163 @@ one_none c e =
     counted : c ≢ replacement_character → count_by (is_character c) (replacement_character ∷ chars []) ≡ 0
     counted n = rw chars-nil (rw (ne_eqb replacement_character c (λ q. n (sym q))) refl)
 
+-- the kinds are those of white space, of U+0000 and of a letter
+by_kind : (P : _ → Type 0) → P (kind_of_byte 32) → P (kind_of_byte 0) → P (kind_of_byte 97) → (b : ℕ) → P (kind_of_byte b)
+by_kind P white nulls characters b = either (is_ascii_white_space b) (is_null b)
+  where
+    either : (x y : Bool) → P (if x then kind_of_byte 32 else if y then kind_of_byte 0 else kind_of_byte 97)
+    either true y = white
+    either false true = nulls
+    either false false = characters
+
+pub by_first_kind : (P : _ → Type 0) → P (kind_of_byte 32) → P (kind_of_byte 0) → P (kind_of_byte 97) → (s : List ℕ)
+    → P (first_kind s)
+by_first_kind P white nulls characters [] = characters
+by_first_kind P white nulls characters (b ∷ s) = by_kind P white nulls characters b
+
 module _ (c : ℕ) where
-  pub run_in_body_takes : (kind : RunKind) (t : List ℕ) → IsUtf8 t → Takes c (occurrences c t) (run_in_body kind t)
-  run_in_body_takes White t u = takes_after (insert_text_takes c t u) reconstruct_keeps
-  run_in_body_takes Nulls t u = keeps_takes nothing
-  run_in_body_takes Characters t u =
-      after_takes no_frameset_keeps (takes_after (insert_text_takes c t u) reconstruct_keeps)
+  body_white : (t : List ℕ) → IsUtf8 t → Takes c (occurrences c t) (run_in_body (kind_of_byte 32) t)
+  body_white t u = takes_after (insert_text_takes c t u) reconstruct_keeps
 
-  in_body_offers : (kind : RunKind) (t : List ℕ) → IsUtf8 t → Offers c (occurrences c t) (in_mode InBody (run kind t))
-  in_body_offers kind t u = offers (run_in_body_takes kind t u)
+  body_nulls : (t : List ℕ) → Takes c (occurrences c t) (run_in_body (kind_of_byte 0) t)
+  body_nulls t = keeps_takes nothing
 
-  in_table_offers : (kind : RunKind) (t : List ℕ) → IsUtf8 t → Offers c (occurrences c t) (in_mode InTable (run kind t))
-  in_table_offers kind t u = offers (fostered_takes (run_in_body_takes kind t u))
+  body_characters : (t : List ℕ) → IsUtf8 t → Takes c (occurrences c t) (run_in_body (kind_of_byte 97) t)
+  body_characters t u = after_takes no_frameset_keeps (takes_after (insert_text_takes c t u) reconstruct_keeps)
 
-  -- white space is inserted
-  white : (t : List ℕ) → IsUtf8 t → Takes c (occurrences c t) (insert_text t)
-  white t u = insert_text_takes c t u
+  pub run_in_body_takes : (s t : List ℕ) → IsUtf8 t → Takes c (occurrences c t) (run_in_body (first_kind s) t)
+  run_in_body_takes s t u =
+      by_first_kind (λ kind. Takes c (occurrences c t) (run_in_body kind t)) (body_white t u) (body_nulls t)
+      (body_characters t u) s
 
-  in_mode_offers : (mode : InsertionMode) (kind : RunKind) (t : List ℕ) → IsUtf8 t
-      → Offers c (occurrences c t) (in_mode mode (run kind t))
-  in_mode_offers Initial White t u = offers_kept (says nothing)
-  in_mode_offers Initial Nulls t u = offers_kept leave_initial_keeps
-  in_mode_offers Initial Characters t u = offers_kept leave_initial_keeps
-  in_mode_offers BeforeHtml White t u = offers_kept (says nothing)
-  in_mode_offers BeforeHtml Nulls t u = offers_kept imply_root_keeps
-  in_mode_offers BeforeHtml Characters t u = offers_kept imply_root_keeps
-  in_mode_offers BeforeHead White t u = offers_kept (says nothing)
-  in_mode_offers BeforeHead Nulls t u = offers_kept imply_head_keeps
-  in_mode_offers BeforeHead Characters t u = offers_kept imply_head_keeps
-  in_mode_offers InHead White t u = offers (white t u)
-  in_mode_offers InHead Nulls t u = offers_kept (says close_head_keeps)
-  in_mode_offers InHead Characters t u = offers_kept (says close_head_keeps)
-  in_mode_offers InHeadNoscript White t u = offers (white t u)
-  in_mode_offers InHeadNoscript Nulls t u = offers_kept (says close_noscript_keeps)
-  in_mode_offers InHeadNoscript Characters t u = offers_kept (says close_noscript_keeps)
-  in_mode_offers AfterHead White t u = offers (white t u)
-  in_mode_offers AfterHead Nulls t u = offers_kept imply_body_keeps
-  in_mode_offers AfterHead Characters t u = offers_kept imply_body_keeps
-  in_mode_offers InBody kind t u = in_body_offers kind t u
-  in_mode_offers InTable kind t u = in_table_offers kind t u
-  in_mode_offers InCaption kind t u = in_body_offers kind t u
-  in_mode_offers InColumnGroup White t u = offers (white t u)
-  in_mode_offers InColumnGroup Nulls t u = offers_kept leave_columns_keeps
-  in_mode_offers InColumnGroup Characters t u = offers_kept leave_columns_keeps
-  in_mode_offers InTableBody kind t u = in_table_offers kind t u
-  in_mode_offers InRow kind t u = in_table_offers kind t u
-  in_mode_offers InCell kind t u = in_body_offers kind t u
-  in_mode_offers InSelect White t u = offers (white t u)
-  in_mode_offers InSelect Nulls t u = offers_kept (says nothing)
-  in_mode_offers InSelect Characters t u = offers (white t u)
-  in_mode_offers InSelectInTable White t u = offers (white t u)
-  in_mode_offers InSelectInTable Nulls t u = offers_kept (says nothing)
-  in_mode_offers InSelectInTable Characters t u = offers (white t u)
-  in_mode_offers InTemplate kind t u = in_body_offers kind t u
-  in_mode_offers AfterBody White t u = offers (run_in_body_takes White t u)
-  in_mode_offers AfterBody Nulls t u = offers_kept back_to_body_keeps
-  in_mode_offers AfterBody Characters t u = offers_kept back_to_body_keeps
-  in_mode_offers InFrameset White t u = offers (white t u)
-  in_mode_offers InFrameset Nulls t u = offers_kept (says nothing)
-  in_mode_offers InFrameset Characters t u = offers_kept (says nothing)
-  in_mode_offers AfterFrameset White t u = offers (white t u)
-  in_mode_offers AfterFrameset Nulls t u = offers_kept (says nothing)
-  in_mode_offers AfterFrameset Characters t u = offers_kept (says nothing)
-  in_mode_offers AfterAfterBody White t u = offers (run_in_body_takes White t u)
-  in_mode_offers AfterAfterBody Nulls t u = offers_kept back_to_body_keeps
-  in_mode_offers AfterAfterBody Characters t u = offers_kept back_to_body_keeps
-  in_mode_offers AfterAfterFrameset White t u = offers (run_in_body_takes White t u)
-  in_mode_offers AfterAfterFrameset Nulls t u = offers_kept (says nothing)
-  in_mode_offers AfterAfterFrameset Characters t u = offers_kept (says nothing)
+  -- what a mode answers to a run of each kind
+  record OffersEach (mode : InsertionMode) (t : List ℕ) : Type 0 where
+    white : Offers c (occurrences c t) (in_mode mode (run (kind_of_byte 32) t))
+    nulls : Offers c (occurrences c t) (in_mode mode (run (kind_of_byte 0) t))
+    characters : Offers c (occurrences c t) (in_mode mode (run (kind_of_byte 97) t))
 
-  by_mode_offers : (kind : RunKind) (t : List ℕ) → IsUtf8 t → Offers c (occurrences c t) (by_mode_rules (run kind t))
-  by_mode_offers kind t u = record {
-    taken = λ s h. (in_mode_offers s.mode kind t u).taken s h;
-    kept = λ s h e. (in_mode_offers s.mode kind t u).kept s h e;
+  in_mode_offers : (mode : InsertionMode) (t : List ℕ) → IsUtf8 t → OffersEach mode t
+  in_mode_offers Initial t u = record {
+    white = offers_kept (says nothing);
+    nulls = offers_kept leave_initial_keeps;
+    characters = offers_kept leave_initial_keeps;
   }
+  in_mode_offers BeforeHtml t u = record {
+    white = offers_kept (says nothing);
+    nulls = offers_kept imply_root_keeps;
+    characters = offers_kept imply_root_keeps;
+  }
+  in_mode_offers BeforeHead t u = record {
+    white = offers_kept (says nothing);
+    nulls = offers_kept imply_head_keeps;
+    characters = offers_kept imply_head_keeps;
+  }
+  in_mode_offers InHead t u = record {
+    white = offers (insert_text_takes c t u);
+    nulls = offers_kept (says close_head_keeps);
+    characters = offers_kept (says close_head_keeps);
+  }
+  in_mode_offers InHeadNoscript t u = record {
+    white = offers (insert_text_takes c t u);
+    nulls = offers_kept (says close_noscript_keeps);
+    characters = offers_kept (says close_noscript_keeps);
+  }
+  in_mode_offers AfterHead t u = record {
+    white = offers (insert_text_takes c t u);
+    nulls = offers_kept imply_body_keeps;
+    characters = offers_kept imply_body_keeps;
+  }
+  in_mode_offers InBody t u = record {
+    white = offers (body_white t u);
+    nulls = offers (body_nulls t);
+    characters = offers (body_characters t u);
+  }
+  in_mode_offers InTable t u = record {
+    white = offers (fostered_takes (body_white t u));
+    nulls = offers (fostered_takes (body_nulls t));
+    characters = offers (fostered_takes (body_characters t u));
+  }
+  in_mode_offers InCaption t u = record {
+    white = offers (body_white t u);
+    nulls = offers (body_nulls t);
+    characters = offers (body_characters t u);
+  }
+  in_mode_offers InColumnGroup t u = record {
+    white = offers (insert_text_takes c t u);
+    nulls = offers_kept leave_columns_keeps;
+    characters = offers_kept leave_columns_keeps;
+  }
+  in_mode_offers InTableBody t u = record {
+    white = offers (fostered_takes (body_white t u));
+    nulls = offers (fostered_takes (body_nulls t));
+    characters = offers (fostered_takes (body_characters t u));
+  }
+  in_mode_offers InRow t u = record {
+    white = offers (fostered_takes (body_white t u));
+    nulls = offers (fostered_takes (body_nulls t));
+    characters = offers (fostered_takes (body_characters t u));
+  }
+  in_mode_offers InCell t u = record {
+    white = offers (body_white t u);
+    nulls = offers (body_nulls t);
+    characters = offers (body_characters t u);
+  }
+  in_mode_offers InSelect t u = record {
+    white = offers (insert_text_takes c t u);
+    nulls = offers_kept (says nothing);
+    characters = offers (insert_text_takes c t u);
+  }
+  in_mode_offers InSelectInTable t u = record {
+    white = offers (insert_text_takes c t u);
+    nulls = offers_kept (says nothing);
+    characters = offers (insert_text_takes c t u);
+  }
+  in_mode_offers InTemplate t u = record {
+    white = offers (body_white t u);
+    nulls = offers (body_nulls t);
+    characters = offers (body_characters t u);
+  }
+  in_mode_offers AfterBody t u = record {
+    white = offers (body_white t u);
+    nulls = offers_kept back_to_body_keeps;
+    characters = offers_kept back_to_body_keeps;
+  }
+  in_mode_offers InFrameset t u = record {
+    white = offers (insert_text_takes c t u);
+    nulls = offers_kept (says nothing);
+    characters = offers_kept (says nothing);
+  }
+  in_mode_offers AfterFrameset t u = record {
+    white = offers (insert_text_takes c t u);
+    nulls = offers_kept (says nothing);
+    characters = offers_kept (says nothing);
+  }
+  in_mode_offers AfterAfterBody t u = record {
+    white = offers (body_white t u);
+    nulls = offers_kept back_to_body_keeps;
+    characters = offers_kept back_to_body_keeps;
+  }
+  in_mode_offers AfterAfterFrameset t u = record {
+    white = offers (body_white t u);
+    nulls = offers_kept (says nothing);
+    characters = offers_kept (says nothing);
+  }
+
+  by_mode_offers : (s t : List ℕ) → IsUtf8 t → Offers c (occurrences c t) (by_mode_rules (run (first_kind s) t))
+  by_mode_offers s t u =
+      by_first_kind (λ kind. Offers c (occurrences c t) (by_mode_rules (run kind t)))
+      (record {
+        taken = λ x h. (in_mode_offers x.mode t u).white.taken x h;
+        kept = λ x h e. (in_mode_offers x.mode t u).white.kept x h e;
+      })
+      (record {
+        taken = λ x h. (in_mode_offers x.mode t u).nulls.taken x h;
+        kept = λ x h e. (in_mode_offers x.mode t u).nulls.kept x h e;
+      })
+      (record {
+        taken = λ x h. (in_mode_offers x.mode t u).characters.taken x h;
+        kept = λ x h e. (in_mode_offers x.mode t u).characters.kept x h e;
+      }) s
 
   -- ---- foreign content
 
@@ -138,13 +221,14 @@ module _ (c : ℕ) where
       let f = one_none c e in
       omega arith
 
-  foreign_takes : (c == replacement_character) ≡ false → (kind : RunKind) (t : List ℕ) → IsUtf8 t
-      → Takes c (occurrences c t) (run_in_foreign kind t)
-  foreign_takes e White t u = insert_text_takes c t u
-  foreign_takes e Nulls t u = takes_none (replaced_none e t) (insert_text_takes c (replacements t) (replaced_utf8 t))
-  foreign_takes e Characters t u = after_takes no_frameset_keeps (insert_text_takes c t u)
+  foreign_takes : (c == replacement_character) ≡ false → (s t : List ℕ) → IsUtf8 t
+      → Takes c (occurrences c t) (run_in_foreign (first_kind s) t)
+  foreign_takes e s t u =
+      by_first_kind (λ kind. Takes c (occurrences c t) (run_in_foreign kind t)) (insert_text_takes c t u)
+      (takes_none (replaced_none e t) (insert_text_takes c (replacements t) (replaced_utf8 t)))
+      (after_takes no_frameset_keeps (insert_text_takes c t u)) s
 
-  pub by_rules_offers : (c == replacement_character) ≡ false → (kind : RunKind) (t : List ℕ) → IsUtf8 t
-      → Offers c (occurrences c t) (by_rules (run kind t))
-  by_rules_offers e kind t u =
-      offers_by_test (is_foreign (run kind t)) (offers (foreign_takes e kind t u)) (by_mode_offers kind t u)
+  pub by_rules_offers : (c == replacement_character) ≡ false → (s t : List ℕ) → IsUtf8 t
+      → Offers c (occurrences c t) (by_rules (run (first_kind s) t))
+  by_rules_offers e s t u =
+      offers_by_test (is_foreign (run (first_kind s) t)) (offers (foreign_takes e s t u)) (by_mode_offers s t u)

@@ -11,27 +11,27 @@ use Rattle.htmd_tree.proofs.RunsLemmas.{take_run, drop_run}
 use Rattle.htmd_html5_tokens.specs.References.{replacement_character}
 use Rattle.htmd_html5_state.specs.State.{StateValue}
 use Rattle.htmd_html5_state.specs.Insertion.{insert_text}
-use Rattle.htmd_html5.specs.declared.tokens.RunKind.{RunKind}
-use Rattle.htmd_html5.specs.declared.tokens.RunKind.TheVariants.{White, Nulls, Characters}
-use Rattle.htmd_html5.specs.Runs.{is_of_kind, first_kind, first_run, behind_first_run}
+use Rattle.htmd_html5.specs.Runs.{is_of_kind, first_kind, first_run, after_first_run}
 use Rattle.htmd_html5.specs.Answers.{Answer}
 use Rattle.htmd_html5.specs.InBody.{run_in_body}
 use Rattle.htmd_html5.specs.InTable.{without_nulls, kept_of, fostered, foster_runs, put_table_text, table_text}
 use Rattle.htmd_html5.specs.Processing.{by_rules, turns}
 use Rattle.htmd_html5.specs.Texts.{Taken, takes_all, taken, after_run, first_token, take_within, take_part, put_within, put_text}
+use Rattle.htmd_html5.proofs.RunLemmas.{run_cut}
+use Rattle.htmd_html5.proofs.TextsLemmas.{first_run_shortens}
+use Rattle.htmd_html5.proofs.InTableLemmas.{kept_run}
 use Rattle.htmd_html5_laws.specs.PageLetters.{occurrences}
 use Rattle.htmd_html5_laws.proofs.Keeping.{Sound, kept_same}
 use Rattle.htmd_html5_laws.proofs.TextsPut.{occurs_append, occurs_nil}
 use Rattle.htmd_html5_laws.proofs.Taking.{Took, Takes, TookIn, kept_took, took_then, fostered_takes, insert_text_takes, Offers}
-use Rattle.htmd_html5_laws.proofs.TakingRuns.{run_in_body_takes, by_rules_offers}
-use Rattle.htmd_html5_laws.proofs.RunFacts.{run_cut, behind_shorter, kept_run}
+use Rattle.htmd_html5_laws.proofs.TakingRuns.{by_first_kind, run_in_body_takes, by_rules_offers}
 
--- ---- a text is its first run, and what stands behind it
+-- ---- a text is its first run, and what stands after it
 
 pub record RunParts (c : ℕ) (s : List ℕ) : Type 0 where
   pub front : IsUtf8 (first_run s)
-  pub rest : IsUtf8 (behind_first_run s)
-  pub count : occurrences c s ≡ occurrences c (first_run s) + occurrences c (behind_first_run s)
+  pub rest : IsUtf8 (after_first_run s)
+  pub count : occurrences c s ≡ occurrences c (first_run s) + occurrences c (after_first_run s)
 
 pub run_parts : (c : ℕ) (s : List ℕ) → IsUtf8 s → RunParts c s
 run_parts c s u = record {
@@ -39,7 +39,7 @@ run_parts c s u = record {
   rest = subst IsUtf8 (drop_run (is_of_kind (first_kind s)) s) (IsUtf8-drop s _ u (run_cut (first_kind s) s u));
   count =
       ap (occurrences c) (back_split (is_of_kind (first_kind s)) s)
-      ∙ occurs_append c (first_run s) (behind_first_run s) front;
+      ∙ occurs_append c (first_run s) (after_first_run s) front;
 }
   where
     front : IsUtf8 (first_run s)
@@ -51,22 +51,23 @@ record Fewer (c : ℕ) (s t : List ℕ) : Type 0 where
   utf8 : IsUtf8 t
   fewer : occurrences c t ≤ occurrences c s
 
-kept_fewer : (c : ℕ) (kind : RunKind) (s : List ℕ) → IsUtf8 s → Fewer c s (kept_of kind s)
-kept_fewer c White s u = record { utf8 = u; fewer = omega arith }
-kept_fewer c Nulls s u = record { utf8 = IsUtf8-nil; fewer = let e = occurs_nil c in omega arith }
-kept_fewer c Characters s u = record { utf8 = u; fewer = omega arith }
+kept_fewer : (c : ℕ) (text s : List ℕ) → IsUtf8 s → Fewer c s (kept_of (first_kind text) s)
+kept_fewer c text s u =
+    by_first_kind (λ kind. Fewer c s (kept_of kind s)) (record { utf8 = u; fewer = omega arith })
+    (record { utf8 = IsUtf8-nil; fewer = let e = occurs_nil c in omega arith })
+    (record { utf8 = u; fewer = omega arith }) text
 
 nulls_go : (c k : ℕ) (s : List ℕ) → length s ≤ k → IsUtf8 s → Fewer c s (without_nulls s)
 nulls_go c k [] l u = record { utf8 = IsUtf8-nil; fewer = omega arith }
 nulls_go c zero (b ∷ s) l u = absurd (omega arith)
 nulls_go c (suc k) (b ∷ s) l u =
     let parts = run_parts c (b ∷ s) u in
-    let shorter = behind_shorter (b ∷ s) (omega arith) in
-    put parts (kept_fewer c (first_kind (b ∷ s)) (first_run (b ∷ s)) parts.front)
-    (nulls_go c k (behind_first_run (b ∷ s)) (omega arith) parts.rest)
+    let shorter = first_run_shortens (b ∷ s) (omega arith) in
+    put parts (kept_fewer c (b ∷ s) (first_run (b ∷ s)) parts.front)
+    (nulls_go c k (after_first_run (b ∷ s)) (omega arith) parts.rest)
   where
     put : RunParts c (b ∷ s) → Fewer c (first_run (b ∷ s)) (kept_of (first_kind (b ∷ s)) (first_run (b ∷ s)))
-        → Fewer c (behind_first_run (b ∷ s)) (without_nulls (behind_first_run (b ∷ s)))
+        → Fewer c (after_first_run (b ∷ s)) (without_nulls (after_first_run (b ∷ s)))
         → Fewer c (b ∷ s) (without_nulls (b ∷ s))
     put parts x y =
         subst (Fewer c (b ∷ s)) (sym (kept_run (first_kind (b ∷ s)) (b ∷ s)))
@@ -74,7 +75,7 @@ nulls_go c (suc k) (b ∷ s) l u =
           utf8 = IsUtf8-append _ _ x.utf8 y.utf8;
           fewer =
               let e = occurs_append c (kept_of (first_kind (b ∷ s)) (first_run (b ∷ s)))
-                  (without_nulls (behind_first_run (b ∷ s))) x.utf8 in
+                  (without_nulls (after_first_run (b ∷ s))) x.utf8 in
               let f = parts.count in
               let g = x.fewer in
               let h = y.fewer in
@@ -90,19 +91,19 @@ module _ (c : ℕ) (other : (c == replacement_character) ≡ false) where
   foster_took (suc k) text s u h =
       let parts = run_parts c text u in
       either (is_empty text) parts
-      (λ (t : StateValue). λ (sound : Sound t). foster_took k (behind_first_run text) t parts.rest sound)
+      (λ (t : StateValue). λ (sound : Sound t). foster_took k (after_first_run text) t parts.rest sound)
     where
       either : (b : Bool) → RunParts c text
           → ((t : StateValue) → Sound t
-              → Took c (occurrences c (behind_first_run text)) t (foster_runs k (behind_first_run text) t))
+              → Took c (occurrences c (after_first_run text)) t (foster_runs k (after_first_run text) t))
           → Took c (occurrences c text) s
           (if b then s
-          else foster_runs k (behind_first_run text) (fostered (run_in_body (first_kind text) (first_run text)) s))
+          else foster_runs k (after_first_run text) (fostered (run_in_body (first_kind text) (first_run text)) s))
       either true parts more = kept_took (occurrences c text) (kept_same h)
       either false parts more =
           let first : Took c (occurrences c (first_run text)) s
               (fostered (run_in_body (first_kind text) (first_run text)) s) =
-              (fostered_takes (run_in_body_takes c (first_kind text) (first_run text) parts.front)).takes s h in
+              (fostered_takes (run_in_body_takes c text (first_run text) parts.front)).takes s h in
           let e = parts.count in
           took_then (occurrences c text) (omega arith) first (more _ first.sound)
 
@@ -143,7 +144,7 @@ module _ (c : ℕ) (other : (c == replacement_character) ≡ false) where
       → Took c (occurrences c (first_run text)) s a.state
       → (a.again ≡ true → Took c 0 s a.state)
       → (Sound a.state → TookPart text a.state (take_within k text a.state))
-      → TookPart text s (after_run (take_within k text) (behind_first_run text) a)
+      → TookPart text s (after_run (take_within k text) (after_first_run text) a)
   run_took k text s a parts taking keeping more = either a.again refl
     where
       before : Took c 0 s a.state → TookPart text a.state (take_within k text a.state)
@@ -156,7 +157,7 @@ module _ (c : ℕ) (other : (c == replacement_character) ≡ false) where
       }
 
       either : (b : Bool) → a.again ≡ b
-          → TookPart text s (if b then take_within k text a.state else taken a.state (behind_first_run text))
+          → TookPart text s (if b then take_within k text a.state else taken a.state (after_first_run text))
       either true e = before (keeping e) (more taking.sound)
       either false e = record {
         count = occurrences c (first_run text);
@@ -177,11 +178,11 @@ module _ (c : ℕ) (other : (c == replacement_character) ≡ false) where
       either (takes_all s) (λ (t : StateValue). λ (sound : Sound t). within_took k text t u sound)
     where
       offer : Offers c (occurrences c (first_run text)) (by_rules (first_token text))
-      offer = by_rules_offers c other (first_kind text) (first_run text) (run_parts c text u).front
+      offer = by_rules_offers c other text (first_run text) (run_parts c text u).front
 
       either : (b : Bool) → ((t : StateValue) → Sound t → TookPart text t (take_within k text t))
           → TookPart text s (if b then taken (table_text text s) []
-          else after_run (take_within k text) (behind_first_run text) (by_rules (first_token text) s))
+          else after_run (take_within k text) (after_first_run text) (by_rules (first_token text) s))
       either true more = record {
         count = occurrences c text;
         took = table_took text s u h;

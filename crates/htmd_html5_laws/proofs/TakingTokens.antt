@@ -22,7 +22,7 @@ use Rattle.htmd_html5.specs.Tokens.{start_tag, end_tag, comment, doctype, end_of
 use Rattle.htmd_html5.specs.Processing.{process}
 use Rattle.htmd_html5.specs.Feeding.{is_text_mode, put_raw_text, feed_text, without_line_feed, with_nothing_skipped, close_raw}
 use Rattle.htmd_html5.specs.Feeding.{out_of_text_mode, feed_end_tag, named, feed_at, feed}
-use Rattle.htmd_html5.specs.Documents.{next_read, is_end, after_token, read_within, state_behind}
+use Rattle.htmd_html5.specs.Documents.{next_read, is_end, after_token, read_within, state_after}
 use Rattle.htmd_html5_laws.specs.PageLetters.{occurrences, occurrences_in, is_character, with_text_of, texts_after}
 use Rattle.htmd_html5_laws.specs.PageLetters.{texts_within, token_texts}
 use Rattle.htmd_html5_laws.proofs.NodeTexts.{kinds, texts}
@@ -209,7 +209,7 @@ module _ (c : ℕ) (other : (c == replacement_character) ≡ false) where
 
   -- the texts of the nodes hold a letter at most as often as those of the tokens
   pub state_texts : (scripting : Bool) (page : List ℕ) → All IsUtf8 (token_texts scripting page)
-      → occurrences_in c (texts (kinds (state_behind scripting page).nodes))
+      → occurrences_in c (texts (kinds (state_after scripting page).nodes))
       ≤ occurrences_in c (token_texts scripting page)
   state_texts scripting page all =
       let a = (read_took (length (preprocessed page)) (preprocessed page) (initial_state scripting)
