@@ -1,13 +1,11 @@
 -- Steps on a state that leave its texts as they are.
-use Rattle.std.proofs.Common.{◌≡◌, ◌∙◌, ℕ, zero, suc, ◌+◌, Bool, true, false, List, [], ◌∷◌, ◌++◌, length, map, get_or, set}
-use Rattle.std.proofs.Common.{Option, Some, None, refl, sym, ap, subst, arith, All, inl, inr, ◌⊎◌}
+use Rattle.std.proofs.Common.{◌≡◌, ◌∙◌, ℕ, Bool, true, false, List, [], ◌∷◌, ◌++◌, length, get_or}
+use Rattle.std.proofs.Common.{Option, refl, sym, ap, subst, All, inl, inr, ◌⊎◌}
 use Rattle.std.specs.Prelude.{if◌then◌else◌, IsUtf8}
-use Rattle.std.proofs.lemmas.Bool.{true≢false}
-use Rattle.htmd_text.proofs.Cases.{test}
-use Rattle.htmd_html5_state.specs.Documents.{KindValue, NodeValue, document}
+use Rattle.htmd_html5_state.specs.Documents.{KindValue, document}
 use Rattle.htmd_html5_state.specs.OpenElements.{OpenValue}
 use Rattle.htmd_html5_state.specs.State.{StateValue, on_stack}
-use Rattle.htmd_html5_state.specs.Formatting.{is_listed, is_entry}
+use Rattle.htmd_html5_state.specs.Formatting.{is_listed}
 use Rattle.htmd_html5_laws.proofs.NodeTexts.{kinds, texts, is_element, is_text, texts_new, element_before, kind_new}
 
 -- a node of these is an element

@@ -1,7 +1,7 @@
 -- The adoption agency leaves the texts as they are.
-use Rattle.std.proofs.Common.{◌≡◌, ◌∙◌, ℕ, zero, suc, ◌+◌, ◌-◌, Bool, true, false, List, [], ◌∷◌, ◌++◌, length, map, get_or}
-use Rattle.std.proofs.Common.{Option, Some, None, refl, sym, ap, subst, arith, All, inl, inr, ◌⊎◌}
-use Rattle.std.specs.Prelude.{if◌then◌else◌, ◌==◌, ◌&&◌, nat_lt, not, find}
+use Rattle.std.proofs.Common.{◌≡◌, ◌∙◌, ℕ, zero, suc, ◌-◌, Bool, true, false, List, [], ◌∷◌, ◌++◌, length}
+use Rattle.std.proofs.Common.{Option, Some, None, refl, sym, ap, subst, ◌⊎◌}
+use Rattle.std.specs.Prelude.{if◌then◌else◌, ◌&&◌, nat_lt, not, find}
 use Rattle.std.specs.List.{list_any}
 use Rattle.std.proofs.lemmas.Bool.{true≢false, and_parts}
 use Rattle.std.proofs.lemmas.List.{length-map}
@@ -19,9 +19,9 @@ use Rattle.htmd_html5_state.specs.Adoption.{wrap_children, with_bookmark, finish
 use Rattle.htmd_html5_state.specs.Adoption.{round_by, round_open, round_with, round_of, round, go_on, rounds}
 use Rattle.htmd_html5_state.specs.Adoption.{closes_at_once, adoption_agency}
 use Rattle.htmd_html5_state.specs.declared.names.TagName.{TagName}
-use Rattle.htmd_html5_laws.proofs.NodeTexts.{kinds, is_element, is_text, element_no_text, kinds_new, kinds_attach, kinds_put}
+use Rattle.htmd_html5_laws.proofs.NodeTexts.{kinds, is_element, element_no_text, kinds_new, kinds_attach, kinds_put}
 use Rattle.htmd_html5_laws.proofs.NodeTexts.{kinds_detach, kinds_move_children, kind_read}
-use Rattle.htmd_html5_laws.proofs.Keeping.{ElementAt, SoundIn, KeptIn, Sound, Kept, Keeps, kept_same, kept_then, kept_as}
+use Rattle.htmd_html5_laws.proofs.Keeping.{ElementAt, KeptIn, Sound, Kept, Keeps, kept_same, kept_then, kept_as}
 use Rattle.htmd_html5_laws.proofs.Keeping.{by_test, on_stack_keeps, kept_new}
 use Rattle.htmd_html5_laws.proofs.KeepingInsertion.{listed_without, listed_replaced, listed_inserted, or_new}
 use Rattle.htmd_html5_laws.proofs.KeepingInsertion.{without_entry_keeps}
@@ -96,7 +96,8 @@ finish_kept formatting tag f c s e h =
     kept_as (wrap_kinds formatting f.block.node s.nodes)
     (kept_new (with_bookmark formatting (length s.nodes) c.bookmark s.formatting) (kind_at s.nodes formatting)
     (element_no_text (kind_at s.nodes formatting) (element_kind s.nodes formatting e)) h
-    (λ m l. or_new (kinds s.nodes) (kind_at s.nodes formatting) s.formatting m (length s.nodes) (element_kind s.nodes formatting e)
+    (λ m l. or_new (kinds s.nodes) (kind_at s.nodes formatting) s.formatting m (length s.nodes)
+    (element_kind s.nodes formatting e)
     (sym (length-map s.nodes _)) (listed_marked m formatting (length s.nodes) c.bookmark s.formatting l)))
 
 adopt_by_kept : (formatting : ℕ) (tag : TagName) (f : Furthest) (c : Chain) → ElementAt (kinds c.state.nodes) formatting
@@ -110,7 +111,7 @@ adopt_kept : (formatting : ℕ) (tag : TagName) (f : Furthest) (s : StateValue) 
     → Sound s → Kept s (adopt formatting tag f s)
 adopt_kept formatting tag f s e h =
     let chained : Kept s (chain 3 f.between (begin_chain f.block.node s)).state =
-        chain_kept 3 f.between (begin_chain f.block.node s) h in
+    chain_kept 3 f.between (begin_chain f.block.node s) h in
     kept_then chained
     (adopt_by_kept formatting tag f (chain 3 f.between (begin_chain f.block.node s)) (chained.stays formatting e)
     chained.sound)
@@ -134,7 +135,8 @@ with_kept tag formatting s e h = either (not (is_open_node formatting s.stack))
   where
     other : (t : Bool) → Kept s (state_of (if t then last_round s else round_open tag formatting s))
     other true = kept_same h
-    other false = by_kept formatting tag (furthest_block (inside formatting s.stack)) (on_stack (around formatting) s) e h
+    other false =
+        by_kept formatting tag (furthest_block (inside formatting s.stack)) (on_stack (around formatting) s) e h
 
     either : (t : Bool) → Kept s (state_of (if t then last_round (on_formatting (without_entry formatting) s)
         else if list_any bounds_any (inside formatting s.stack) then last_round s else round_open tag formatting s))

@@ -1,7 +1,7 @@
 -- What is inserted that is no text, and what the list of active formatting elements becomes.
-use Rattle.std.proofs.Common.{◌≡◌, ◌∙◌, ℕ, zero, suc, ◌+◌, Bool, true, false, List, [], ◌∷◌, ◌++◌, length, map, get_or, set}
-use Rattle.std.proofs.Common.{Option, Some, None, refl, sym, ap, subst, arith, All, inl, inr, ◌⊎◌}
-use Rattle.std.specs.Prelude.{if◌then◌else◌, IsUtf8, ◌==◌}
+use Rattle.std.proofs.Common.{◌≡◌, ◌∙◌, ℕ, zero, suc, Bool, true, List, [], ◌∷◌, length, get_or, set}
+use Rattle.std.proofs.Common.{Option, Some, None, refl, sym, ap, subst, All, inl, inr, ◌⊎◌}
+use Rattle.std.specs.Prelude.{IsUtf8, ◌==◌}
 use Rattle.std.proofs.lemmas.Bool.{true≢false, eqb-true, eq-eqb}
 use Rattle.std.proofs.lemmas.List.{length-map}
 use Rattle.htmd_text.proofs.Cases.{test}
@@ -11,23 +11,22 @@ use Rattle.htmd_html5_state.specs.Names.{ElementNameValue, NameValue, html}
 use Rattle.htmd_html5_state.specs.Documents.{KindValue, NodeValue, document, doctype, text, comment, element, kind_at}
 use Rattle.htmd_html5_state.specs.Documents.{last_in, add_missing, kind_with_missing, detach}
 use Rattle.htmd_html5_state.specs.OpenElements.{OpenValue, pop}
-use Rattle.htmd_html5_state.specs.State.{StateValue, on_stack, on_formatting, on_nodes}
+use Rattle.htmd_html5_state.specs.State.{StateValue, on_formatting, on_nodes}
 use Rattle.htmd_html5_state.specs.Insertion.{insert_at, insert_named, insert_element, insert_root, insert_void, insert_raw}
 use Rattle.htmd_html5_state.specs.Insertion.{insert_comment_in, insert_comment, insert_doctype, open_again, place, current}
 use Rattle.htmd_html5_state.specs.Formatting.{is_listed, is_entry, without_entry, after_marker, replace_entry, insert_after}
 use Rattle.htmd_html5_state.specs.Formatting.{without_some, with_room, with_room_for, push_entry, push_marker}
-use Rattle.htmd_html5_state.specs.Formatting.{clear_to_marker, insert_formatting, push_formatting, closed_elements}
-use Rattle.htmd_html5_state.specs.Formatting.{after_closed, insert_like, insert_copy, reopen, reopen_all, reconstruct}
-use Rattle.htmd_html5_state.specs.Formatting.{one_too_many, alike_limit, formatting_limit, is_alike, since_marker}
+use Rattle.htmd_html5_state.specs.Formatting.{clear_to_marker, insert_formatting, closed_elements}
+use Rattle.htmd_html5_state.specs.Formatting.{after_closed, insert_like, reopen, reopen_all, reconstruct}
 use Rattle.htmd_html5_state.specs.OpenElements.{is_open_node}
 use Rattle.htmd_html5_state.specs.Foreign.{insert_foreign, foreign_name, foreign_attributes, pop_if}
 use Rattle.htmd_html5_state.specs.Resetting.{push_template_mode, pop_template_mode, reset_insertion_mode}
 use Rattle.htmd_html5_state.specs.declared.names.Namespace.{Namespace}
 use Rattle.htmd_html5_state.specs.declared.modes.InsertionMode.{InsertionMode}
-use Rattle.htmd_html5_laws.proofs.NodeTexts.{kinds, texts, with_text, is_element, is_text, kinds_add, kinds_detach}
+use Rattle.htmd_html5_laws.proofs.NodeTexts.{kinds, texts, with_text, is_element, kinds_add, kinds_detach}
 use Rattle.htmd_html5_laws.proofs.NodeTexts.{kinds_with_kind, kind_read, element_set, with_missing_element}
 use Rattle.htmd_html5_laws.proofs.Keeping.{ElementAt, SoundIn, KeptIn, Sound, Kept, Keeps, kept_same, kept_then, kept_as}
-use Rattle.htmd_html5_laws.proofs.Keeping.{after, nothing, by_test, by_state, untouched, on_stack_keeps, kept_new}
+use Rattle.htmd_html5_laws.proofs.Keeping.{after, by_state, untouched, on_stack_keeps, kept_new}
 
 -- ---- elements, comments and doctypes
 
@@ -38,7 +37,8 @@ insert_at_keeps at name attributes = record {
       (kept_new s.formatting (element name attributes) refl h (λ n l. inl l));
 }
 
-pub insert_named_keeps : (name : ElementNameValue) (attributes : List AttributePair) → Keeps (insert_named name attributes)
+pub insert_named_keeps : (name : ElementNameValue) (attributes : List AttributePair)
+    → Keeps (insert_named name attributes)
 insert_named_keeps name attributes = insert_at_keeps place name attributes
 
 pub insert_element_keeps : (name : NameValue) (attributes : List AttributePair) → Keeps (insert_element name attributes)
@@ -94,7 +94,8 @@ missing_texts [] n more = refl
 missing_texts (k ∷ ks) zero more = missing_text more k (texts ks)
 missing_texts (k ∷ ks) (suc n) more = ap (with_text k) (missing_texts ks n more)
 
-kept_missing : {ks : List KindValue} {entries : List (Option ℕ)} (n : ℕ) (more : List AttributePair) → SoundIn ks entries
+kept_missing : {ks : List KindValue} {entries : List (Option ℕ)} (n : ℕ) (more : List AttributePair)
+    → SoundIn ks entries
     → KeptIn ks (set ks n (kind_with_missing more (get_or ks n document))) entries
 kept_missing {ks} {entries} n more h = record {
   same = missing_texts ks n more;
@@ -116,7 +117,8 @@ add_missing_keeps n more = record {
 }
   where
     is : (nodes : List NodeValue)
-        → kinds (add_missing n more nodes) ≡ set (kinds nodes) n (kind_with_missing more (get_or (kinds nodes) n document))
+        → kinds (add_missing n more nodes)
+        ≡ set (kinds nodes) n (kind_with_missing more (get_or (kinds nodes) n document))
     is nodes =
         kinds_with_kind n (kind_with_missing more (kind_at nodes n)) nodes
         ∙ ap (λ k. set (kinds nodes) n (kind_with_missing more k)) (kind_read nodes n)
@@ -229,7 +231,8 @@ pub insert_formatting_keeps : (name : NameValue) (attributes : List AttributePai
 insert_formatting_keeps name attributes = record {
   keeps = λ s h. kept_as (kinds_add (element (html name) attributes) (place s) s.nodes)
       (kept_new (insert_formatting name attributes s).formatting (element (html name) attributes) refl h
-      (λ n l. or_new (kinds s.nodes) (element (html name) attributes) s.formatting n (length s.nodes) refl (sym (length-map s.nodes _))
+      (λ n l. or_new (kinds s.nodes) (element (html name) attributes) s.formatting n (length s.nodes) refl (sym
+      (length-map s.nodes _))
       (listed_pushed n (length s.nodes) (insert_element name attributes s).nodes s.formatting l)));
 }
 
@@ -245,7 +248,8 @@ like_kept : (s : StateValue) (n : ℕ) (k : KindValue) → is_element k ≡ true
 like_kept s n (element name attributes) e h =
     kept_as (kinds_add (element name attributes) (place s) s.nodes)
     (kept_new (Some (length s.nodes) ∷ s.formatting) (element name attributes) refl h
-    (λ m l. or_new (kinds s.nodes) (element name attributes) s.formatting m (length s.nodes) refl (sym (length-map s.nodes _))
+    (λ m l. or_new (kinds s.nodes) (element name attributes) s.formatting m (length s.nodes) refl (sym
+    (length-map s.nodes _))
     (listed_first m (length s.nodes) s.formatting l)))
 like_kept s n (text t) e h = absurd (true≢false (sym e))
 like_kept s n document e h = absurd (true≢false (sym e))

@@ -1,10 +1,10 @@
 -- Tokens that are no text leave the texts as they are, by the rules of each mode.
-use Rattle.std.proofs.Common.{◌≡◌, ◌∙◌, ℕ, zero, suc, Bool, true, false, List, [], ◌∷◌, Option, Some, None, refl}
-use Rattle.std.specs.Prelude.{if◌then◌else◌, is_some, not, ◌||◌, ◌&&◌}
+use Rattle.std.proofs.Common.{◌≡◌, ℕ, zero, suc, Bool, true, false, List, [], Option, Some, None, refl}
+use Rattle.std.specs.Prelude.{if◌then◌else◌, is_some, ◌||◌}
 use Rattle.std.proofs.lemmas.Bool.{true≢false}
 use Rattle.htmd_grammar.specs.ValueTrees.{AttributePair}
-use Rattle.htmd_html5_state.specs.Names.{NameValue, text_of_name, known, other}
-use Rattle.htmd_html5_state.specs.OpenElements.{is_open, first_open, pop_until, close, is_in_scope, pop, without, clear_to, current_is, has_second}
+use Rattle.htmd_html5_state.specs.Names.{NameValue, text_of_name, known}
+use Rattle.htmd_html5_state.specs.OpenElements.{is_open, first_open, pop_until, is_in_scope, pop, without, clear_to, current_is, has_second}
 use Rattle.htmd_html5_state.specs.State.{StateValue, on_stack}
 use Rattle.htmd_html5_state.specs.Insertion.{current}
 use Rattle.htmd_html5_state.specs.Resetting.{has_modes}
@@ -22,7 +22,7 @@ use Rattle.htmd_html5_state.specs.declared.names.TagName.{TagName}
 use Rattle.htmd_html5_state.specs.declared.names.Namespace.{Namespace}
 use Rattle.htmd_html5_state.specs.declared.sets.NameSet.TheVariants.{Only, TableContext, TableSections, TableBodyContext, TableRowContext, Cells}
 use Rattle.htmd_html5_state.specs.declared.sets.NameSet.{NameSet}
-use Rattle.htmd_html5_state.specs.declared.sets.Scope.TheVariants.{Table as TableScope, Select as SelectScope}
+use Rattle.htmd_html5_state.specs.declared.sets.Scope.TheVariants.{Table as TableScope}
 use Rattle.htmd_html5.specs.Tokens.{StartTagValue, TokenValue, start_tag, end_tag, run, comment, doctype, end_of_file}
 use Rattle.htmd_html5.specs.Answers.{Answer}
 use Rattle.htmd_html5.specs.Processing.{by_rules, after_answer, process_within, process, turns}
@@ -137,7 +137,8 @@ close_head_keeps = after (with_mode_keeps AfterHead) (on_stack_keeps pop)
 
 pub noscript_in_head_keeps : (tag : StartTagValue) → Keeps (noscript_in_head tag)
 noscript_in_head_keeps tag =
-    by_test (λ s. s.scripting) (insert_raw_tag_keeps raw.Noscript tag) (after (with_mode_keeps InHeadNoscript) (insert_tag_keeps tag))
+    by_test (λ s. s.scripting) (insert_raw_tag_keeps raw.Noscript tag) (after (with_mode_keeps InHeadNoscript)
+    (insert_tag_keeps tag))
 
 pub start_in_head_keeps : (name : NameValue) (tag : StartTagValue) → KeepsAnswer (start_in_head name tag)
 start_in_head_keeps (known tags.Html) tag = says (add_to_root_keeps tag)
@@ -196,7 +197,8 @@ put_frameset_keeps tag = after (with_mode_keeps InFrameset) (insert_tag_keeps ta
 pub insert_in_head_keeps : (head : Option ℕ) (tag : StartTagValue) → Keeps (insert_in_head head tag)
 insert_in_head_keeps None tag = insert_head_element_keeps tag.name tag
 insert_in_head_keeps (Some head) tag =
-    after (on_stack_keeps (without head)) (after (insert_head_element_keeps tag.name tag) (open_again_keeps head (known tags.Head)))
+    after (on_stack_keeps (without head)) (after (insert_head_element_keeps tag.name tag) (open_again_keeps head
+    (known tags.Head)))
 
 insert_late_keeps : (tag : StartTagValue) → Keeps (insert_late tag)
 insert_late_keeps tag = by_state (λ s. s.head) (λ head. insert_in_head_keeps head tag)
@@ -556,7 +558,8 @@ end_in_select_keeps (known tags.Select) = end_select_keeps
 end_in_select_keeps (known tags.Template) = end_template_keeps
 end_in_select_keeps _ = nothing
 
-pub start_in_select_in_table_keeps : (name : NameValue) (tag : StartTagValue) → KeepsAnswer (start_in_select_in_table name tag)
+pub start_in_select_in_table_keeps : (name : NameValue) (tag : StartTagValue)
+    → KeepsAnswer (start_in_select_in_table name tag)
 start_in_select_in_table_keeps (known tags.Caption) tag = says close_select_keeps
 start_in_select_in_table_keeps (known tags.Table) tag = says close_select_keeps
 start_in_select_in_table_keeps (known tags.TBody) tag = says close_select_keeps
@@ -829,7 +832,8 @@ after_after_frameset_keeps (comment text) e = says (insert_comment_in_keeps 0 te
 after_after_frameset_keeps (doctype quirks) e = says nothing
 after_after_frameset_keeps end_of_file e = says nothing
 
-pub in_mode_keeps : (mode : InsertionMode) (token : TokenValue) → is_run token ≡ false → KeepsAnswer (in_mode mode token)
+pub in_mode_keeps : (mode : InsertionMode) (token : TokenValue) → is_run token ≡ false
+    → KeepsAnswer (in_mode mode token)
 in_mode_keeps Initial token e = initial_keeps token e
 in_mode_keeps BeforeHtml token e = before_html_keeps token e
 in_mode_keeps BeforeHead token e = before_head_keeps token e
@@ -925,4 +929,3 @@ process_within_kept (suc k) token s e h =
 
 pub process_keeps : (token : TokenValue) → is_run token ≡ false → Keeps (process token)
 process_keeps token e = record { keeps = λ s h. process_within_kept (turns s) token s e h }
-

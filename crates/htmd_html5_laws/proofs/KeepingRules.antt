@@ -1,11 +1,11 @@
 -- The rules that many modes share, and those of start and end tags in the body, leave the texts as they are.
-use Rattle.std.proofs.Common.{ℕ, Bool, true, false, List, [], ◌∷◌, Option, Some, None, refl}
+use Rattle.std.proofs.Common.{ℕ, Bool, true, false, List, [], Option, Some, None, refl}
 use Rattle.std.specs.Prelude.{if◌then◌else◌, is_some}
 use Rattle.htmd_grammar.specs.ValueTrees.{AttributePair}
 use Rattle.htmd_html5_state.specs.Names.{NameValue, text_of_name, known, other}
-use Rattle.htmd_html5_state.specs.OpenElements.{is_open, first_open, pop_until, close, close_name, is_in_scope, pop, without}
+use Rattle.htmd_html5_state.specs.OpenElements.{is_open, first_open, pop_until, close, close_name, is_in_scope, without}
 use Rattle.htmd_html5_state.specs.OpenElements.{pop_while, outermost, is_node_in_scope}
-use Rattle.htmd_html5_state.specs.State.{StateValue, on_stack}
+use Rattle.htmd_html5_state.specs.State.{StateValue}
 use Rattle.htmd_html5_state.specs.Adoption.{formatting_element}
 use Rattle.htmd_html5_state.specs.declared.modes.InsertionMode.TheVariants.{InTable, InFrameset, AfterBody}
 use Rattle.htmd_html5_state.specs.declared.modes.InsertionMode.{InsertionMode}
@@ -26,10 +26,10 @@ use Rattle.htmd_html5.specs.BodyStarts.{replace_body, start_block, close_heading
 use Rattle.htmd_html5.specs.BodyStarts.{start_preformatted, with_form, start_form, start_item, start_plain_text, start_table}
 use Rattle.htmd_html5.specs.BodyStarts.{start_separator, start_formatting, forget, start_anchor, close_no_break, start_no_break}
 use Rattle.htmd_html5.specs.BodyStarts.{start_ordinary, start_button, start_embedded, start_void, is_hidden, start_input}
-use Rattle.htmd_html5.specs.BodyStarts.{start_image, mode_of_select, start_select, close_option, start_option, start_ruby}
+use Rattle.htmd_html5.specs.BodyStarts.{start_image, start_select, close_option, start_option, start_ruby}
 use Rattle.htmd_html5.specs.BodyStarts.{start_foreign, start_text_area, start_example, start_inline_frame, start_no_script}
 use Rattle.htmd_html5.specs.BodyStarts.{start_by, rule_of_start, start_in_body, block_rule, formatting_rule, phrasing_rule}
-use Rattle.htmd_html5.specs.BodyEnds.{has_body, end_body, end_root, end_block, close_form, end_form, end_paragraph}
+use Rattle.htmd_html5.specs.BodyEnds.{has_body, end_body, end_block, close_form, end_form, end_paragraph}
 use Rattle.htmd_html5.specs.BodyEnds.{end_embedded, line_break, end_by, end_rule, text_end_rule, end_in_body}
 use Rattle.htmd_html5_laws.proofs.Keeping.{Keeps, Kept, Sound, after, nothing, by_test, by_state, untouched, on_stack_keeps}
 use Rattle.htmd_html5_laws.proofs.KeepingInsertion.{insert_element_keeps, insert_void_keeps, insert_raw_keeps, detach_keeps}

@@ -1,18 +1,16 @@
 -- The texts of the tree hold what those of the nodes hold at most, where no item stands at the greatest depth.
 use Rattle.std.proofs.Common.{◌≡◌, ◌∙◌, ℕ, zero, suc, ◌+◌, ◌<◌, ◌≤◌, Bool, true, false, List, [], ◌∷◌, ◌++◌, length, get_or, set}
-use Rattle.std.proofs.Common.{Option, Some, None, refl, sym, ap, subst, arith, All}
-use Rattle.std.specs.Prelude.{◌==◌}
+use Rattle.std.proofs.Common.{refl, ap, subst, arith, All}
 use Rattle.std.proofs.Math.Seq.{get_or-append_seam}
-use Rattle.std.proofs.lemmas.Bool.{true≢false, eqb-true}
+use Rattle.std.proofs.lemmas.Bool.{eqb-true}
 use Rattle.std.proofs.lemmas.List.{get_or_append_left, length-append}
-use Rattle.htmd_grammar.specs.ValueTrees.{AttributePair}
-use Rattle.htmd_html5_state.specs.Names.{ElementNameValue, text_of_element_name}
+use Rattle.htmd_html5_state.specs.Names.{text_of_element_name}
 use Rattle.htmd_html5_state.specs.Documents.{KindValue, NodeValue, document, doctype, text, comment, element, kind_at}
-use Rattle.htmd_html5.specs.Layout.{Coming, Layout, with_item, joined, after_joined, with_text, with_element, with_kind_of}
-use Rattle.htmd_html5.specs.Layout.{with_children_under, parent_of_children, without_node, put_node, put_next, layout_within}
+use Rattle.htmd_html5.specs.Layout.{Coming, Layout, joined, with_text, with_kind_of}
+use Rattle.htmd_html5.specs.Layout.{without_node, put_node, put_next, layout_within}
 use Rattle.htmd_html5.specs.Layout.{first_layout, document_of, is_deepest}
 use Rattle.htmd_tree.specs.Items.{Item, Data, document_node, doctype_node, text_node, comment_node, element_node}
-use Rattle.htmd_tree.specs.Items.{document_item, new_item, depth_at}
+use Rattle.htmd_tree.specs.Items.{new_item, depth_at}
 use Rattle.htmd_html5_laws.specs.PageLetters.{occurrences, occurrences_in, with_text_in, texts_of}
 use Rattle.htmd_html5_laws.proofs.NodeTexts.{kinds, texts, with_text as with_node_text, kinds_with_kind, kind_read}
 use Rattle.htmd_html5_laws.proofs.TextsPut.{occurs_cons}
@@ -57,7 +55,8 @@ module _ (c : ℕ) where
   data_more (comment_node s) ts = omega arith
   data_more (element_node name attributes) ts = omega arith
 
-  item_more : (items : List Item) (item : Item) → in_items (items ++ item ∷ []) ≡ in_items items + in_data item.node_data
+  item_more : (items : List Item) (item : Item)
+      → in_items (items ++ item ∷ []) ≡ in_items items + in_data item.node_data
   unfolding in_items
   item_more [] item = data_more item.node_data [] ∙ omega arith
   item_more (first ∷ items) item =
@@ -66,7 +65,8 @@ module _ (c : ℕ) where
       let d = item_more items item in
       omega arith
 
-  kind_more : (k : KindValue) (ts : List (List ℕ)) → occurrences_in c (with_node_text k ts) ≡ in_kind k + occurrences_in c ts
+  kind_more : (k : KindValue) (ts : List (List ℕ))
+      → occurrences_in c (with_node_text k ts) ≡ in_kind k + occurrences_in c ts
   unfolding in_kind
   kind_more document ts = omega arith
   kind_more doctype ts = omega arith
@@ -90,8 +90,12 @@ module _ (c : ℕ) where
       → in_nodes (without_node n l).nodes + in_kind (kind_at nodes n) ≡ in_nodes nodes
   unfolding in_nodes
   node_taken nodes n l e =
-      ap (λ (x : List NodeValue). occurrences_in c (texts (kinds (without_node n (record l { nodes = x })).nodes)) + in_kind (kind_at nodes n)) e
-      ∙ (ap (λ (x : List KindValue). occurrences_in c (texts x) + in_kind (kind_at nodes n)) (kinds_with_kind n document nodes)
+      ap (λ (x : List NodeValue). occurrences_in c (texts (kinds (without_node n (record l {
+        nodes =
+            x;
+      })).nodes)) + in_kind (kind_at nodes n)) e
+      ∙ (ap (λ (x : List KindValue). occurrences_in c (texts x) + in_kind (kind_at nodes n))
+      (kinds_with_kind n document nodes)
       ∙ (ap (λ (k : KindValue). occurrences_in c (texts (set (kinds nodes) n document)) + in_kind k) (kind_read nodes n)
       ∙ kind_taken (kinds nodes) n))
 
@@ -102,10 +106,12 @@ module _ (c : ℕ) where
 
   -- what was put
   record Put (limit n : ℕ) (l new : Layout) : Type 0 where
-    fewer : All (Shallow limit) new.items → in_items new.items + in_nodes new.nodes ≤ in_items l.items + in_nodes l.nodes + n
+    fewer : All (Shallow limit) new.items
+        → in_items new.items + in_nodes new.nodes ≤ in_items l.items + in_nodes l.nodes + n
     before : All (Shallow limit) new.items → All (Shallow limit) l.items
 
-  item_put : (limit n : ℕ) (d : Data) (under : ℕ) (l new : Layout) → new.items ≡ l.items ++ new_item l.items under d ∷ []
+  item_put : (limit n : ℕ) (d : Data) (under : ℕ) (l new : Layout)
+      → new.items ≡ l.items ++ new_item l.items under d ∷ []
       → new.nodes ≡ l.nodes → in_data d ≡ n → Put limit n l new
   item_put limit n d under l new e same is = record {
     fewer = λ all.
@@ -113,7 +119,8 @@ module _ (c : ℕ) where
         let b : in_items new.items ≡ in_items (l.items ++ new_item l.items under d ∷ []) = ap in_items e in
         let f : in_nodes new.nodes ≡ in_nodes l.nodes = ap in_nodes same in
         omega arith;
-    before = λ all. front_all (Shallow limit) l.items (new_item l.items under d ∷ []) (subst (All (Shallow limit)) e all);
+    before =
+        λ all. front_all (Shallow limit) l.items (new_item l.items under d ∷ []) (subst (All (Shallow limit)) e all);
   }
 
   text_put : (limit : ℕ) (s : List ℕ) (under : ℕ) (l : Layout) (deepest : Bool)
@@ -125,7 +132,7 @@ module _ (c : ℕ) where
     fewer = λ all.
         let deep : depth_at l.items under + 1 ≡ limit = eqb-true (depth_at l.items under + 1) limit e in
         let shallow : depth_at l.items under + 1 < limit =
-            last_all (Shallow limit) l.items (new_item l.items under (text_node (joined s under l))) all in
+        last_all (Shallow limit) l.items (new_item l.items under (text_node (joined s under l))) all in
         absurd (omega arith);
     before = λ all.
         front_all (Shallow limit) l.items (new_item l.items under (text_node (joined s under l)) ∷ []) all;
@@ -166,7 +173,8 @@ module _ (c : ℕ) where
         before = λ all. first.before (later.before all);
       }
 
-  pub laid_texts : (limit : ℕ) (nodes : List NodeValue) → All (λ (item : Item). item.depth < limit) (document_of limit nodes)
+  pub laid_texts : (limit : ℕ) (nodes : List NodeValue)
+      → All (λ (item : Item). item.depth < limit) (document_of limit nodes)
       → occurrences_in c (texts_of (document_of limit nodes)) ≤ occurrences_in c (texts (kinds nodes))
   unfolding in_items in_nodes
   laid_texts limit nodes all =

@@ -1,15 +1,14 @@
 -- The texts among the nodes of a document, and what each step on nodes does to them.
-use Rattle.std.proofs.Common.{◌≡◌, ◌∙◌, ℕ, zero, suc, ◌+◌, Bool, true, false, List, [], ◌∷◌, ◌++◌, length, map, get_or, set}
-use Rattle.std.proofs.Common.{Option, Some, None, refl, sym, ap, subst, arith}
+use Rattle.std.proofs.Common.{◌≡◌, ◌∙◌, ℕ, zero, suc, Bool, true, false, List, [], ◌∷◌, ◌++◌, length, map, get_or, set}
+use Rattle.std.proofs.Common.{Option, Some, None, refl, sym, ap}
 use Rattle.std.proofs.Math.Seq.{map-set_same}
-use Rattle.std.proofs.lemmas.List.{map-set, get_or-map, map-append, length-map}
+use Rattle.std.proofs.lemmas.List.{map-set, map-append}
 use Rattle.std.proofs.lemmas.Bool.{true≢false}
-use Rattle.htmd_html5_state.specs.Names.{ElementNameValue}
 use Rattle.htmd_grammar.specs.ValueTrees.{AttributePair}
 use Rattle.htmd_html5_state.specs.Documents.{NodeValue, KindValue, document, doctype, text, comment, element}
 use Rattle.htmd_html5_state.specs.Documents.{new_node, kind_at, with_kind, with_parent, with_children, with_parents}
-use Rattle.htmd_html5_state.specs.Documents.{detach, detach_from, put, attach, add, move_children, append_children}
-use Rattle.htmd_html5_state.specs.Documents.{remove_child, put_child, add_missing, kind_with_missing, parent_at, children_at}
+use Rattle.htmd_html5_state.specs.Documents.{detach, detach_from, put, attach, add, move_children}
+use Rattle.htmd_html5_state.specs.Documents.{remove_child, put_child, kind_with_missing, parent_at, children_at}
 
 -- ---- what the nodes are
 
@@ -72,7 +71,8 @@ kinds_move_children from to nodes =
 
 -- ---- steps that add a node, or change what one is
 
-pub kinds_new : (nodes : List NodeValue) (kind : KindValue) → kinds (nodes ++ new_node kind ∷ []) ≡ kinds nodes ++ kind ∷ []
+pub kinds_new : (nodes : List NodeValue) (kind : KindValue)
+    → kinds (nodes ++ new_node kind ∷ []) ≡ kinds nodes ++ kind ∷ []
 kinds_new nodes kind = map-append kind_in nodes (new_node kind ∷ [])
 
 pub kinds_add : (kind : KindValue) (place : _) (nodes : List NodeValue)

@@ -1,14 +1,13 @@
 -- No letter is made up.
-use Rattle.std.proofs.Common.{◌≡◌, ◌∙◌, ℕ, ◌≤◌, Bool, true, false, List, refl, sym, ap, arith, All}
-use Rattle.std.specs.Prelude.{IsUtf8, ◌==◌, ◌||◌, not}
+use Rattle.std.proofs.Common.{◌≡◌, ℕ, Bool, true, false, refl, sym, arith}
+use Rattle.std.specs.Prelude.{◌==◌, ◌||◌, not}
 use Rattle.std.proofs.lemmas.Bool.{true≢false}
-use Rattle.htmd_text.proofs.Cases.{test}
 use Rattle.htmd_text.specs.Characters.{null}
 use Rattle.htmd_text.specs.WhiteSpace.{is_ascii_white_space}
 use Rattle.htmd_html5_tokens.specs.References.{replacement_character}
 use Rattle.htmd_html5.specs.Documents.{state_after, html5_document}
 use Rattle.htmd_tree.specs.Items.{greatest_depth}
-use Rattle.htmd_html5_laws.specs.PageLetters.{is_letter, IsShallow, occurrences_in, texts_of, token_texts, NoLetterIsMadeUp}
+use Rattle.htmd_html5_laws.specs.PageLetters.{is_letter, NoLetterIsMadeUp}
 use Rattle.htmd_html5_laws.proofs.TakingTokens.{state_texts}
 use Rattle.htmd_html5_laws.proofs.LaidTexts.{laid_texts}
 

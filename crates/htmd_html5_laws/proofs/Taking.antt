@@ -1,13 +1,12 @@
 -- Steps on a state that put a text into it.
-use Rattle.std.proofs.Common.{◌≡◌, ◌∙◌, ℕ, zero, suc, ◌+◌, ◌≤◌, Bool, true, false, List, [], ◌∷◌, ◌++◌, length, get_or, set}
-use Rattle.std.proofs.Common.{Option, Some, None, refl, sym, ap, subst, arith, All}
+use Rattle.std.proofs.Common.{◌≡◌, ◌∙◌, ℕ, ◌+◌, ◌≤◌, Bool, true, false, List, ◌++◌, get_or}
+use Rattle.std.proofs.Common.{Option, Some, None, refl, sym, ap, subst, arith}
 use Rattle.std.specs.Prelude.{IsUtf8, if◌then◌else◌}
 use Rattle.std.proofs.lemmas.Bool.{true≢false}
 use Rattle.htmd_html5_state.specs.Documents.{KindValue, NodeValue, document, doctype, text, comment, element, kind_at}
-use Rattle.htmd_html5_state.specs.Documents.{text_of, add_text, or_add, joined_to, joined_with, preceding}
+use Rattle.htmd_html5_state.specs.Documents.{text_of, or_add, joined_to, joined_with, preceding}
 use Rattle.htmd_html5_state.specs.State.{StateValue}
 use Rattle.htmd_html5_state.specs.Insertion.{insert_text, place}
-use Rattle.htmd_html5_state.specs.Formatting.{is_listed}
 use Rattle.htmd_html5.specs.Answers.{Answer, done}
 use Rattle.htmd_html5.specs.InTable.{fostered}
 use Rattle.htmd_html5_laws.specs.PageLetters.{occurrences, occurrences_in}
@@ -34,7 +33,8 @@ pub record Takes (c n : ℕ) (f : StateValue → StateValue) : Type 0 where
 pub kept_took : {c : ℕ} (n : ℕ) {ks new : List KindValue} {entries : List (Option ℕ)} → KeptIn ks new entries
     → TookIn c n ks new entries
 kept_took {c} n {ks} {new} {entries} h = record {
-  at_most = let e : occurrences_in c (texts new) ≡ occurrences_in c (texts ks) = ap (occurrences_in c) h.same in omega arith;
+  at_most = let e : occurrences_in c (texts new)
+      ≡ occurrences_in c (texts ks) = ap (occurrences_in c) h.same in omega arith;
   stays = h.stays;
   sound = h.sound;
 }

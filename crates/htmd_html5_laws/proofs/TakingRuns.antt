@@ -1,14 +1,12 @@
 -- A run of a text, by the rules of each mode: its characters are put into the texts at most.
-use Rattle.std.proofs.Common.{◌≡◌, ◌∙◌, ℕ, zero, suc, ◌+◌, ◌≤◌, Bool, true, false, List, [], ◌∷◌, ◌++◌, refl, sym, ap, subst, arith, ◌≢◌}
-use Rattle.std.specs.Prelude.{IsUtf8, if◌then◌else◌, count_by, ◌==◌, not, ◌||◌}
+use Rattle.std.proofs.Common.{◌≡◌, ◌∙◌, ℕ, Bool, true, false, List, [], ◌∷◌, refl, sym, ap, arith, ◌≢◌}
+use Rattle.std.specs.Prelude.{IsUtf8, if◌then◌else◌, count_by, ◌==◌}
 use Rattle.std.specs.Str.{chars}
 use Rattle.std.specs.Char.{encode_utf8}
 use Rattle.std.proofs.lemmas.Bool.{eqb-false, ne_eqb}
 use Rattle.std.proofs.lemmas.Str.{IsUtf8-nil, IsUtf8-append, chars-nil, chars_past_char}
 use Rattle.htmd_text.specs.WhiteSpace.{is_ascii_white_space}
 use Rattle.htmd_html5_tokens.specs.References.{replacement_character}
-use Rattle.htmd_html5_state.specs.State.{StateValue}
-use Rattle.htmd_html5_state.specs.Insertion.{insert_text}
 use Rattle.htmd_html5_state.specs.declared.modes.InsertionMode.TheVariants.{Initial, BeforeHtml, BeforeHead, InHead}
 use Rattle.htmd_html5_state.specs.declared.modes.InsertionMode.TheVariants.{InHeadNoscript, AfterHead, InBody}
 use Rattle.htmd_html5_state.specs.declared.modes.InsertionMode.TheVariants.{InTable, InCaption, InColumnGroup}
@@ -18,21 +16,20 @@ use Rattle.htmd_html5_state.specs.declared.modes.InsertionMode.TheVariants.{InFr
 use Rattle.htmd_html5_state.specs.declared.modes.InsertionMode.TheVariants.{AfterAfterFrameset}
 use Rattle.htmd_html5_state.specs.declared.modes.InsertionMode.{InsertionMode}
 use Rattle.htmd_html5.specs.Runs.{kind_of_byte, first_kind, is_null}
-use Rattle.htmd_html5.specs.Tokens.{TokenValue, run}
-use Rattle.htmd_html5.specs.Answers.{Answer}
+use Rattle.htmd_html5.specs.Tokens.{run}
 use Rattle.htmd_html5.specs.InBody.{run_in_body}
 use Rattle.htmd_html5.specs.Modes.{in_mode, by_mode_rules}
-use Rattle.htmd_html5.specs.ForeignContent.{is_foreign, replacements, run_in_foreign, in_foreign_content}
+use Rattle.htmd_html5.specs.ForeignContent.{is_foreign, replacements, run_in_foreign}
 use Rattle.htmd_html5.specs.Processing.{by_rules}
 use Rattle.htmd_html5_laws.specs.PageLetters.{occurrences, is_character}
-use Rattle.htmd_html5_laws.proofs.Keeping.{Sound, Kept, Keeps, nothing}
+use Rattle.htmd_html5_laws.proofs.Keeping.{nothing}
 use Rattle.htmd_html5_laws.proofs.KeepingInsertion.{reconstruct_keeps}
-use Rattle.htmd_html5_laws.proofs.KeepingRules.{KeepsAnswer, says, no_frameset_keeps}
+use Rattle.htmd_html5_laws.proofs.KeepingRules.{says, no_frameset_keeps}
 use Rattle.htmd_html5_laws.proofs.KeepingModes.{leave_initial_keeps, imply_root_keeps, imply_head_keeps, close_head_keeps}
 use Rattle.htmd_html5_laws.proofs.KeepingModes.{close_noscript_keeps, imply_body_keeps, leave_columns_keeps}
 use Rattle.htmd_html5_laws.proofs.KeepingModes.{back_to_body_keeps}
 use Rattle.htmd_html5_laws.proofs.TextsPut.{occurs_append, occurs_nil}
-use Rattle.htmd_html5_laws.proofs.Taking.{Took, Takes, keeps_takes, takes_after, after_takes, fostered_takes}
+use Rattle.htmd_html5_laws.proofs.Taking.{Takes, keeps_takes, takes_after, after_takes, fostered_takes}
 use Rattle.htmd_html5_laws.proofs.Taking.{insert_text_takes, Offers, offers, offers_kept, takes_none, offers_by_test}
 
 one_utf8 : IsUtf8 (encode_utf8 replacement_character)
@@ -42,14 +39,16 @@ one_utf8 = (replacement_character ∷ [], (refl, refl))
 one_none : (c : ℕ) → (c == replacement_character) ≡ false → occurrences c (encode_utf8 replacement_character) ≡ 0
 unfolding occurrences encode_utf8
 one_none c e =
-    ap (count_by (is_character c)) (chars_past_char (encode_utf8 replacement_character) [] replacement_character one_utf8 refl)
+    ap (count_by (is_character c)) (chars_past_char
+    (encode_utf8 replacement_character) [] replacement_character one_utf8 refl)
     ∙ counted (eqb-false c replacement_character e)
   where
     counted : c ≢ replacement_character → count_by (is_character c) (replacement_character ∷ chars []) ≡ 0
     counted n = rw chars-nil (rw (ne_eqb replacement_character c (λ q. n (sym q))) refl)
 
 -- the kinds are those of white space, of U+0000 and of a letter
-by_kind : (P : _ → Type 0) → P (kind_of_byte 32) → P (kind_of_byte 0) → P (kind_of_byte 97) → (b : ℕ) → P (kind_of_byte b)
+by_kind : (P : _ → Type 0) → P (kind_of_byte 32) → P (kind_of_byte 0) → P (kind_of_byte 97) → (b : ℕ)
+    → P (kind_of_byte b)
 by_kind P white nulls characters b = either (is_ascii_white_space b) (is_null b)
   where
     either : (x y : Bool) → P (if x then kind_of_byte 32 else if y then kind_of_byte 0 else kind_of_byte 97)

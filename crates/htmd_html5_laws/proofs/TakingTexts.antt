@@ -1,11 +1,11 @@
 -- A text, run by run: its characters are put into the texts at most.
-use Rattle.std.proofs.Common.{◌≡◌, ◌∙◌, ℕ, zero, suc, ◌+◌, ◌<◌, ◌≤◌, Bool, true, false, List, [], ◌∷◌, ◌++◌, length, take, drop}
-use Rattle.std.proofs.Common.{Option, Some, None, refl, sym, ap, subst, arith}
+use Rattle.std.proofs.Common.{◌≡◌, ◌∙◌, ℕ, zero, suc, ◌+◌, ◌≤◌, Bool, true, false, List, [], ◌∷◌, length}
+use Rattle.std.proofs.Common.{refl, sym, ap, subst, arith}
 use Rattle.std.specs.Prelude.{IsUtf8, if◌then◌else◌, ◌==◌}
 use Rattle.std.specs.List.{list_all}
 use Rattle.std.proofs.lemmas.Str.{IsUtf8-take, IsUtf8-drop, IsUtf8-nil, IsUtf8-append}
 use Rattle.htmd_text.specs.WhiteSpace.{is_ascii_white_space}
-use Rattle.htmd_grammar.specs.CharacterClasses.{leading_run, behind_run, is_empty}
+use Rattle.htmd_grammar.specs.CharacterClasses.{is_empty}
 use Rattle.htmd_grammar.proofs.TagReadingLemmas.{back_split}
 use Rattle.htmd_tree.proofs.RunsLemmas.{take_run, drop_run}
 use Rattle.htmd_html5_tokens.specs.References.{replacement_character}
@@ -23,7 +23,7 @@ use Rattle.htmd_html5.proofs.InTableLemmas.{kept_run}
 use Rattle.htmd_html5_laws.specs.PageLetters.{occurrences}
 use Rattle.htmd_html5_laws.proofs.Keeping.{Sound, kept_same}
 use Rattle.htmd_html5_laws.proofs.TextsPut.{occurs_append, occurs_nil}
-use Rattle.htmd_html5_laws.proofs.Taking.{Took, Takes, TookIn, kept_took, took_then, fostered_takes, insert_text_takes, Offers}
+use Rattle.htmd_html5_laws.proofs.Taking.{Took, Takes, kept_took, took_then, fostered_takes, insert_text_takes, Offers}
 use Rattle.htmd_html5_laws.proofs.TakingRuns.{by_first_kind, run_in_body_takes, by_rules_offers}
 
 -- ---- a text is its first run, and what stands after it
@@ -75,7 +75,7 @@ nulls_go c (suc k) (b ∷ s) l u =
           utf8 = IsUtf8-append _ _ x.utf8 y.utf8;
           fewer =
               let e = occurs_append c (kept_of (first_kind (b ∷ s)) (first_run (b ∷ s)))
-                  (without_nulls (after_first_run (b ∷ s))) x.utf8 in
+              (without_nulls (after_first_run (b ∷ s))) x.utf8 in
               let f = parts.count in
               let g = x.fewer in
               let h = y.fewer in
@@ -95,15 +95,15 @@ module _ (c : ℕ) (other : (c == replacement_character) ≡ false) where
     where
       either : (b : Bool) → RunParts c text
           → ((t : StateValue) → Sound t
-              → Took c (occurrences c (after_first_run text)) t (foster_runs k (after_first_run text) t))
+          → Took c (occurrences c (after_first_run text)) t (foster_runs k (after_first_run text) t))
           → Took c (occurrences c text) s
           (if b then s
           else foster_runs k (after_first_run text) (fostered (run_in_body (first_kind text) (first_run text)) s))
       either true parts more = kept_took (occurrences c text) (kept_same h)
       either false parts more =
           let first : Took c (occurrences c (first_run text)) s
-              (fostered (run_in_body (first_kind text) (first_run text)) s) =
-              (fostered_takes (run_in_body_takes c text (first_run text) parts.front)).takes s h in
+          (fostered (run_in_body (first_kind text) (first_run text)) s) =
+          (fostered_takes (run_in_body_takes c text (first_run text) parts.front)).takes s h in
           let e = parts.count in
           took_then (occurrences c text) (omega arith) first (more _ first.sound)
 
@@ -128,7 +128,7 @@ module _ (c : ℕ) (other : (c == replacement_character) ≡ false) where
       let gone = nulls_go c (length text) text (omega arith) u in
       let fewer = gone.fewer in
       let a : Took c (occurrences c (without_nulls text)) s (table_text text s) =
-          put_table_took (without_nulls text) s gone.utf8 h in
+      put_table_took (without_nulls text) s gone.utf8 h in
       took_then (occurrences c text) (omega arith) a (kept_took 0 (kept_same a.sound))
 
   -- ---- a part of a text
@@ -201,7 +201,8 @@ module _ (c : ℕ) (other : (c == replacement_character) ≡ false) where
       (λ (t : Taken). λ (v : IsUtf8 t.rest). λ (sound : Sound t.state). put_took k t.rest t.state v sound)
     where
       either : (b : Bool) → TookPart text s (take_part text s)
-          → ((t : Taken) → IsUtf8 t.rest → Sound t.state → Took c (occurrences c t.rest) t.state (put_within k t.rest t.state))
+          → ((t : Taken) → IsUtf8 t.rest → Sound t.state → Took c (occurrences c t.rest) t.state
+          (put_within k t.rest t.state))
           → Took c (occurrences c text) s
           (if b then s else put_within k (take_part text s).rest (take_part text s).state)
       either true p more = kept_took (occurrences c text) (kept_same h)

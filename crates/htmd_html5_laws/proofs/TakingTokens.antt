@@ -1,6 +1,6 @@
 -- The tokens of a page, one after another: the texts of the nodes hold what those of the tokens hold at most.
 use Rattle.std.proofs.Common.{◌≡◌, ◌∙◌, ℕ, zero, suc, ◌+◌, ◌≤◌, Bool, true, false, List, [], ◌∷◌, ◌++◌, length, drop}
-use Rattle.std.proofs.Common.{refl, sym, ap, subst, arith, All, cond}
+use Rattle.std.proofs.Common.{refl, sym, ap, arith, All, cond}
 use Rattle.std.specs.Prelude.{IsUtf8, if◌then◌else◌, ◌==◌, ◌&&◌, count_by}
 use Rattle.std.specs.Str.{chars}
 use Rattle.std.specs.Char.{encode_utf8}
@@ -14,22 +14,20 @@ use Rattle.htmd_html5_tokens.specs.References.{replacement_character}
 use Rattle.htmd_html5_tokens.specs.Preprocessing.{preprocessed}
 use Rattle.htmd_html5_tokens.specs.Tokens.{Read}
 use Rattle.htmd_html5_state.specs.Names.{NameValue, name_of_text}
-use Rattle.htmd_html5_state.specs.OpenElements.{pop}
-use Rattle.htmd_html5_state.specs.State.{StateValue, on_stack, initial_state}
+use Rattle.htmd_html5_state.specs.State.{StateValue, initial_state}
 use Rattle.htmd_html5_state.specs.Insertion.{insert_text}
 use Rattle.htmd_html5.specs.Texts.{put_text}
 use Rattle.htmd_html5.specs.Tokens.{start_tag, end_tag, comment, doctype, end_of_file}
-use Rattle.htmd_html5.specs.Processing.{process}
 use Rattle.htmd_html5.specs.Feeding.{is_text_mode, put_raw_text, feed_text, without_line_feed, with_nothing_skipped, close_raw}
 use Rattle.htmd_html5.specs.Feeding.{out_of_text_mode, feed_end_tag, named, feed_at, feed}
 use Rattle.htmd_html5.specs.Documents.{next_read, is_end, after_token, read_within, state_after}
 use Rattle.htmd_html5_laws.specs.PageLetters.{occurrences, occurrences_in, is_character, with_text_of, texts_after}
 use Rattle.htmd_html5_laws.specs.PageLetters.{texts_within, token_texts}
 use Rattle.htmd_html5_laws.proofs.NodeTexts.{kinds, texts}
-use Rattle.htmd_html5_laws.proofs.Keeping.{Sound, Keeps, after, nothing, by_test, by_state, untouched, on_stack_keeps, kept_same}
+use Rattle.htmd_html5_laws.proofs.Keeping.{Sound, Keeps, after, nothing, by_test, untouched, kept_same}
 use Rattle.htmd_html5_laws.proofs.KeepingModes.{process_keeps}
 use Rattle.htmd_html5_laws.proofs.TextsPut.{occurs_cons}
-use Rattle.htmd_html5_laws.proofs.Taking.{Took, Takes, kept_took, took_then, keeps_takes, insert_text_takes}
+use Rattle.htmd_html5_laws.proofs.Taking.{Took, kept_took, took_then, insert_text_takes}
 use Rattle.htmd_html5_laws.proofs.TakingTexts.{put_text_takes}
 use Rattle.htmd_html5_tokens.specs.Tokens as tokens
 
@@ -46,13 +44,14 @@ dropped c (b ∷ s) e u = record {
   utf8 = IsUtf8-past_char (b ∷ s) s line_feed u whole;
   fewer =
       let f : count_by (is_character c) (chars (b ∷ s)) ≡ count_by (is_character c) (line_feed ∷ chars s) =
-          ap (count_by (is_character c)) (chars_past_char (b ∷ s) s line_feed u whole) in
+      ap (count_by (is_character c)) (chars_past_char (b ∷ s) s line_feed u whole) in
       let g = sum_by-cons (λ x. cond (is_character c x) 1 0) line_feed (chars s) in
       omega arith;
 }
   where
     whole : b ∷ s ≡ encode_utf8 line_feed ++ s
-    whole = ap (λ x. x ∷ s) (eqb-true b line_feed e) ∙ ap (λ (x : List ℕ). x ++ s) (sym (encode_ascii line_feed (omega arith)))
+    whole = ap (λ x. x ∷ s) (eqb-true b line_feed e)
+        ∙ ap (λ (x : List ℕ). x ++ s) (sym (encode_ascii line_feed (omega arith)))
 
 shortened : (c : ℕ) (skips : Bool) (s : List ℕ) → IsUtf8 s → Shortened c s (without_line_feed skips s)
 shortened c skips s u = either (skips && first_is line_feed s) refl
@@ -77,7 +76,8 @@ with_nothing_skipped_keeps : Keeps with_nothing_skipped
 with_nothing_skipped_keeps = untouched (λ s. refl) (λ s n l. l)
 
 module _ (c : ℕ) (other : (c == replacement_character) ≡ false) where
-  raw_took : (text : List ℕ) (s : StateValue) → IsUtf8 text → Sound s → Took c (occurrences c text) s (put_raw_text text s)
+  raw_took : (text : List ℕ) (s : StateValue) → IsUtf8 text → Sound s
+      → Took c (occurrences c text) s (put_raw_text text s)
   raw_took text s u h = either (is_empty text) ((insert_text_takes c text u).takes s h)
     where
       either : (t : Bool) → Took c (occurrences c text) s (insert_text text s)
@@ -121,7 +121,7 @@ module _ (c : ℕ) (other : (c == replacement_character) ≡ false) where
       let short = shortened c skips text u in
       let fewer = short.fewer in
       let a : Took c (occurrences c (without_line_feed skips text)) s (feed_text (without_line_feed skips text) s) =
-          feed_text_took (without_line_feed skips text) s short.utf8 h in
+      feed_text_took (without_line_feed skips text) s short.utf8 h in
       took_then (occurrences c text) (omega arith) a (kept_took 0 (kept_same a.sound))
   fed (tokens.start_tag tag) skips s u h =
       kept_took 0 ((after (process_keeps (start_tag (named tag)) refl) out_of_text_mode_keeps).keeps s h)
@@ -133,7 +133,8 @@ module _ (c : ℕ) (other : (c == replacement_character) ≡ false) where
   fed tokens.end_of_file skips s u h =
       kept_took 0 ((after (process_keeps end_of_file refl) out_of_text_mode_keeps).keeps s h)
 
-  feed_took : (token : tokens.TokenValue) (s : StateValue) → TokenUtf8 token → Sound s → Took c (count token) s (feed token s)
+  feed_took : (token : tokens.TokenValue) (s : StateValue) → TokenUtf8 token → Sound s
+      → Took c (count token) s (feed token s)
   feed_took token s u h =
       let a : Took c 0 s (with_nothing_skipped s) = kept_took 0 (with_nothing_skipped_keeps.keeps s h) in
       took_then (count token) (omega arith) a (fed token s.skips_line_feed (with_nothing_skipped s) u a.sound)
@@ -145,7 +146,8 @@ module _ (c : ℕ) (other : (c == replacement_character) ≡ false) where
     others : All IsUtf8 more
     sum : occurrences_in c (with_text_of token more) ≡ count token + occurrences_in c more
 
-  texts_with : (token : tokens.TokenValue) (more : List (List ℕ)) → All IsUtf8 (with_text_of token more) → Texts token more
+  texts_with : (token : tokens.TokenValue) (more : List (List ℕ)) → All IsUtf8 (with_text_of token more)
+      → Texts token more
   unfolding count TokenUtf8
   texts_with (tokens.text text) more all = record {
     utf8 = All-head IsUtf8 text more all;
@@ -170,14 +172,15 @@ module _ (c : ℕ) (other : (c == replacement_character) ≡ false) where
   after_took : (k : ℕ) (read : Read) (s : StateValue) → Sound s
       → All IsUtf8 (texts_after (texts_within k) read s)
       → ((t : StateValue) → Sound t → All IsUtf8 (texts_within k read.rest t)
-          → Took c (occurrences_in c (texts_within k read.rest t)) t (read_within k read.rest t))
+      → Took c (occurrences_in c (texts_within k read.rest t)) t (read_within k read.rest t))
       → Took c (occurrences_in c (texts_after (texts_within k) read s)) s (after_token (read_within k) read s)
   after_took k read s h all more = either (is_end read.token) refl all
     where
       either : (b : Bool) → is_end read.token ≡ b
           → All IsUtf8 (if b then [] else with_text_of read.token (texts_within k read.rest (feed read.token s)))
           → Took c
-          (occurrences_in c (if b then [] else with_text_of read.token (texts_within k read.rest (feed read.token s)))) s
+          (occurrences_in c (if b then [] else with_text_of read.token (texts_within k read.rest
+          (feed read.token s)))) s
           (if b then feed read.token s else read_within k read.rest (feed read.token s))
       either true e all =
           let last = at_end read.token e in
@@ -213,5 +216,5 @@ module _ (c : ℕ) (other : (c == replacement_character) ≡ false) where
       ≤ occurrences_in c (token_texts scripting page)
   state_texts scripting page all =
       let a = (read_took (length (preprocessed page)) (preprocessed page) (initial_state scripting)
-          (initial_sound scripting) all).at_most in
+      (initial_sound scripting) all).at_most in
       omega arith

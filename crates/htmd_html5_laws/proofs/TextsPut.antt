@@ -1,15 +1,14 @@
 -- What texts hold when more is put into them.
-use Rattle.std.proofs.Common.{◌≡◌, ◌∙◌, ℕ, zero, suc, ◌+◌, ◌≤◌, Bool, true, false, List, [], ◌∷◌, ◌++◌, length, get_or, set}
-use Rattle.std.proofs.Common.{Option, Some, None, refl, sym, ap, subst, arith, All, cond}
+use Rattle.std.proofs.Common.{◌≡◌, ◌∙◌, ℕ, zero, suc, ◌+◌, List, [], ◌∷◌, ◌++◌, get_or, set}
+use Rattle.std.proofs.Common.{refl, sym, ap, subst, arith, All, cond}
 use Rattle.std.specs.Prelude.{IsUtf8, count_by}
 use Rattle.std.specs.Str.{chars}
-use Rattle.std.proofs.lemmas.Bool.{true≢false}
 use Rattle.std.proofs.lemmas.List.Sums.{sum_by-cons, sum_by-append, sum_by_push}
 use Rattle.std.proofs.lemmas.List.Elements.{All-nil, All-cons, All-head, All-tail, All-append}
 use Rattle.std.proofs.lemmas.Str.{chars-append, chars-nil, IsUtf8-append}
 use Rattle.htmd_html5_state.specs.Documents.{KindValue, document, doctype, text, comment, element}
 use Rattle.htmd_html5_laws.specs.PageLetters.{occurrences, occurrences_in, is_character}
-use Rattle.htmd_html5_laws.proofs.NodeTexts.{texts, with_text, is_element}
+use Rattle.htmd_html5_laws.proofs.NodeTexts.{texts, with_text}
 
 pub occurs_append : (c : ℕ) (s t : List ℕ) → IsUtf8 s → occurrences c (s ++ t) ≡ occurrences c s + occurrences c t
 unfolding occurrences

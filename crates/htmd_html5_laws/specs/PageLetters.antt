@@ -5,7 +5,7 @@ use Rattle.std.specs.List.{count_by, sum_by}
 use Rattle.std.specs.Str.{chars}
 use Rattle.htmd_text.specs.WhiteSpace.{is_ascii_white_space}
 use Rattle.htmd_text.specs.Characters.{null}
-use Rattle.htmd_tree.specs.Items.{Item, Data, document_node, doctype_node, text_node, comment_node, element_node, greatest_depth}
+use Rattle.htmd_tree.specs.Items.{Item, Data, text_node, greatest_depth}
 use Rattle.htmd_html5_tokens.specs.Preprocessing.{preprocessed}
 use Rattle.htmd_html5_tokens.specs.References.{replacement_character}
 use Rattle.htmd_html5_tokens.specs.Tokens.{TokenValue, Read, text}
@@ -66,7 +66,8 @@ texts_of (item ∷ items) = with_text_in item.node_data (texts_of items)
 abbrev pub IsShallow : List Item → Type 0
 IsShallow items = All (λ (item : Item). item.depth < greatest_depth) items
 
--- Each letter stands in the tree's texts at most as often as in those of the tokens, which are UTF-8 as all strings are.
+-- Each letter stands in the tree's texts at most as often as in those of the tokens, which are UTF-8 as all strings
+-- are.
 abbrev pub NoLetterIsMadeUp : Type 0
 NoLetterIsMadeUp =
     (scripting : Bool) (page : List ℕ) (c : ℕ) → All IsUtf8 (token_texts scripting page)
