@@ -12,3 +12,4 @@ pub mod TakingTexts
 pub mod TakingTokens
 pub mod LaidTexts
 pub mod PageLettersLemmas
+mod Examples
