@@ -1,0 +1,2 @@
+-- The laws of the lenient reader.
+pub mod PageLetters
