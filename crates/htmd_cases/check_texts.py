@@ -20,7 +20,7 @@ FOLDER = os.path.dirname(os.path.abspath(__file__))
 CODES = {"\\": "\\", "n": "\n", "r": "\r", "t": "\t", "0": "\0"}
 NAMES_OF_CODES = {character: name for name, character in CODES.items()}
 # What Markdown writes the same whatever these options of the program say of pages and of HTML.
-IDLE_OPTIONS = {"--text", "--body", "--no-scripting", "--faithful", "--explain"}
+IDLE_OPTIONS = {"--text", "--body", "--html5", "--no-scripting", "--faithful", "--explain"}
 PARAGRAPHS = re.compile(r"(?:<p>[^<\0]*</p>|[^<\0])*")
 # "`&`, a name and `;` are a character, for these 44 names" (docs/GRAMMAR.md, Characters and references)
 NAMES = (
@@ -147,7 +147,7 @@ def answer_by_rules(settings, text):
     if "text" in words or "--text" in words:
         end = question(settings)
         return None if end is None else markdown(text) + end
-    asks_for_more = words[0] in ("read", "tree", "program") or "Guarded" in settings or "skip_tags" in settings
+    asks_for_more = words[0] in ("read", "tree", "program", "html5", "nodes") or "Guarded" in settings or "skip_tags" in settings
     texts = None if asks_for_more else paragraphs(text)
     return ... if texts is None else markdown_of_paragraphs(texts)
 
