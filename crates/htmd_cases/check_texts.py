@@ -147,7 +147,9 @@ def answer_by_rules(settings, text):
     if "text" in words or "--text" in words:
         end = question(settings)
         return None if end is None else markdown(text) + end
-    asks_for_more = words[0] in ("read", "tree", "program", "html5", "nodes") or "Guarded" in settings or "skip_tags" in settings
+    asks_for_more = (
+        words[0] in ("read", "tree", "program", "html5", "nodes") or "Guarded" in settings or "skip_tags" in settings
+    )
     texts = None if asks_for_more else paragraphs(text)
     return ... if texts is None else markdown_of_paragraphs(texts)
 
