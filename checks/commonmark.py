@@ -142,8 +142,8 @@ REFERENCE = re.compile('&(#[0-9]{1,7}|#[xX][0-9a-fA-F]{1,6}|[a-zA-Z][a-zA-Z0-9]*
 
 
 def as_cmark_reads(value):
-    """A title or an address whose references stand behind backslashes as cmark-gfm reads it: it reads references first,
-    and drops the backslash then only where it stands before ASCII punctuation."""
+    """A title or an address whose references follow backslashes, as cmark-gfm reads it: it reads references first, and
+    then drops the backslash only before ASCII punctuation."""
     def read(found):
         character = html.unescape(found[0])
         if character == found[0]:

@@ -66,8 +66,8 @@ typedef struct htmd_options {
     uint8_t code_block_style;
     uint8_t code_block_fence;
     uint8_t bullet_list_marker;
-    uint8_t ul_bullet_spacing; /* any number; the spaces behind the marker of an item of a bullet list */
-    uint8_t ol_number_spacing; /* any number; the spaces behind the longest number of an ordered list */
+    uint8_t ul_bullet_spacing; /* any number; the spaces after the marker of an item of a bullet list */
+    uint8_t ol_number_spacing; /* any number; the spaces after the longest number of an ordered list */
     uint8_t preformatted_code; /* 1: the white space of a code span is kept; 0: it is not */
     uint8_t reserved[17];      /* 0 */
 } htmd_options;

@@ -1,4 +1,4 @@
-"""Tells how many microseconds `htmd.convert` takes of a file at best."""
+"""Tells how many microseconds `htmd.convert` takes for a file at best."""
 
 import sys
 import time

@@ -1,12 +1,14 @@
 #!/usr/bin/env python3
 """Checks the answers to cases that ask for the Markdown of texts, from the rules for texts in docs/CONVERSION.md.
 
-    crates/htmd_cases/check_texts.py
+    crates/htmd_cases/check_texts.py [--others]
 
 Each rule below is written from the sentence that its comment quotes, and not from the code or the definitions. The rows
 are those of the stored run and of the families in `data` that ask for the Markdown of one text (the setting `text`, or
 `program` with the option `--text`), or of HTML that is paragraphs and texts between them and nothing else, with any
 settings but Guarded and skipped tags. A row of one text with a setting that isn't known here counts as failed.
+
+With `--others` it checks nothing, and names each row that it doesn't know the answer to: a person has to judge these.
 
 It needs Python 3.8. The last line is 'N rows, M failed'; the status is 0 only if there are rows and none failed.
 """
@@ -154,7 +156,17 @@ def answer_by_rules(settings, text):
     return ... if texts is None else markdown_of_paragraphs(texts)
 
 
+def name_others():
+    """Names the rows that a person has to judge."""
+    others = [place for place, settings, text, answer in rows() if answer_by_rules(settings, decoded(text)) is ...]
+    print("\n".join(others))
+    print(f"{len(others)} rows for a person to judge")
+
+
 def main():
+    if sys.argv[1:] == ["--others"]:
+        name_others()
+        return 0
     count = failed = 0
     for place, settings, text, answer in rows():
         found = answer_by_rules(settings, decoded(text))

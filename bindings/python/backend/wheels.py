@@ -1,4 +1,4 @@
-"""Makes a wheel of the package, with the library that bindings/c/build has laid into it.
+"""Makes a wheel of the package, with the library that bindings/c/build has put into it.
 
 It needs nothing but Python, so that `pip install` needs no network.
 """
@@ -25,7 +25,7 @@ Requires-Python: >=3.8
 
 
 def build_wheel(wheel_directory, config_settings=None, metadata_directory=None):
-    """Writes the wheel into a folder, and answers its name."""
+    """Writes the wheel into a folder, and returns its name."""
     tag = "py3-none-" + sysconfig.get_platform().replace("-", "_").replace(".", "_")
     wheel = f"Wheel-Version: 1.0\nGenerator: {NAME}\nRoot-Is-Purelib: false\nTag: {tag}\n"
     parts = [(f"{NAME}/{name}", _content(name)) for name in FILES]
@@ -42,7 +42,7 @@ def build_wheel(wheel_directory, config_settings=None, metadata_directory=None):
 
 
 def build_sdist(sdist_directory, config_settings=None):
-    """There is none: the library is made of the repository, by its toolchain."""
+    """There is none: the library is built from the repository, by its toolchain."""
     raise RuntimeError("htmd has no source distribution: install it from its repository")
 
 

@@ -17,8 +17,8 @@ CodeBlockStyle = Literal["fenced", "indented"]
 CodeBlockFence = Literal["backticks", "tildes"]
 BulletListMarker = Literal["asterisk", "dash"]
 
-#: The words of each option, and their numbers in the struct.
-WORDS: Mapping[str, Mapping[str, int]] = {
+#: The values of each option, and their numbers in the struct.
+VALUES: Mapping[str, Mapping[str, int]] = {
     "reader": {"strict": 0, "page": 1, "html5": 2},
     "mode": {"pure": 0, "faithful": 1, "guarded": 2},
     "heading_style": {"atx": 0, "setext": 1},
@@ -31,15 +31,15 @@ WORDS: Mapping[str, Mapping[str, int]] = {
     "bullet_list_marker": {"asterisk": 0, "dash": 1},
 }
 
-# The bytes of the buffer beyond those of the page. Markdown that has no room is made a second time.
+# The bytes of the buffer beyond those of the page. Markdown that doesn't fit is made a second time.
 _SPARE = 1024
 
 
 class Refused(ValueError):
-    """The page is outside the grammar, and nothing of it was converted.
+    """The page is outside the strict grammar, and nothing of it was converted.
 
-    place: the byte of the page, as UTF-8 and from 0, where the first thing stands that is wrong
-    kind: what is wrong there, as `UnknownReference`; docs/GRAMMAR.md of the repository has all kinds
+    place: the byte of the page, in UTF-8 and from 0, where the first fault is
+    kind: what is wrong there, such as `UnknownReference`; docs/GRAMMAR.md of the repository has all kinds
     line, column: the same place in lines and characters, both from 1
     """
 
@@ -72,17 +72,27 @@ def convert(
     ol_number_spacing: int = 2,
     preformatted_code: bool = False,
 ) -> str:
-    """The Markdown of a page, a text or its bytes in UTF-8.
+    """Converts a page, a text or its bytes in UTF-8, to Markdown.
 
-    mode: "guarded" for pages that someone reads, "faithful" for what stays HTML where Markdown has no form, "pure" for
-        the Markdown of the Rust crate htmd
+    mode: "guarded" for pages that someone reads; "faithful" keeps HTML where Markdown has no form; "pure" gives the
+        Markdown of the Rust crate htmd
     reader: "html5" reads any page as browsers do and refuses none; "page" reads what stands between the tags of the
         body by a strict grammar, and "strict" the whole text
-    scripting: whether the content of `noscript` is one text, as where scripts run, or nodes
+    scripting: whether the content of `noscript` is one text, as in a browser that runs scripts, or elements
+    heading_style: "atx" or "setext"
+    hr_style: "asterisks", "dashes" or "underscores"
+    br_style: "two-spaces" or "backslash"
+    link_style: "inlined", "inlined-prefer-autolinks" or "referenced"
+    link_reference_style: "full", "collapsed" or "shortcut"
+    code_block_style: "fenced" or "indented"
+    code_block_fence: "backticks" or "tildes"
+    bullet_list_marker: "asterisk" or "dash"
+    ul_bullet_spacing, ol_number_spacing: the spaces after a bullet and after a number, 0 to 255
+    preformatted_code: whether the white space of code spans is kept
 
-    The other options are those of the library, by the words of its program. Raises `Refused` for a page outside the
-    grammar (not with "html5"), `UnicodeError` for what is no UTF-8, `ValueError` and `TypeError` for an option that is not known, and
-    `MemoryError`. Calls from several threads run side by side.
+    Raises `Refused` for a page outside the strict grammar (never with "html5"), `UnicodeError` for bytes that are not
+    UTF-8, `ValueError` and `TypeError` for an unknown option or value, and `MemoryError`. Calls from several threads
+    run side by side.
     """
     text = html.encode("utf-8") if isinstance(html, str) else html
     if not isinstance(text, bytes):
@@ -113,10 +123,10 @@ def convert(
 
 @functools.lru_cache(maxsize=64, typed=True)
 def _options(
-    scripting: bool, ul_bullet_spacing: int, ol_number_spacing: int, preformatted_code: bool, **words: str
+    scripting: bool, ul_bullet_spacing: int, ol_number_spacing: int, preformatted_code: bool, **values: str
 ) -> _library.Options:
     """The struct that says these options; it is never written again, so that threads may share it."""
-    numbers = {name: _number(name, word) for name, word in words.items()}
+    numbers = {name: _number(name, value) for name, value in values.items()}
     return _library.Options(
         version=_library.OPTIONS_VERSION,
         scripting=_flag("scripting", scripting),
@@ -127,11 +137,11 @@ def _options(
     )
 
 
-def _number(name: str, word: str) -> int:
-    known = WORDS[name]
-    if word not in known:
-        raise ValueError(f"{name} is {word!r}; known are {', '.join(map(repr, known))}")
-    return known[word]
+def _number(name: str, value: str) -> int:
+    known = VALUES[name]
+    if value not in known:
+        raise ValueError(f"{name} is {value!r}; known are {', '.join(map(repr, known))}")
+    return known[value]
 
 
 def _flag(name: str, value: bool) -> bool:
@@ -164,7 +174,7 @@ def _error(status: int, text: bytes, place: int, kind: int) -> Exception:
     if status == _library.REFUSED:
         return Refused(place, _library.KINDS[kind], *_line_and_column(text, place))
     if status == _library.NOT_UTF8:
-        return UnicodeDecodeError("utf-8", text, place, place + 1, "no UTF-8")
+        return UnicodeDecodeError("utf-8", text, place, place + 1, "not UTF-8")
     if status == _library.NO_MEMORY:
         return MemoryError()
     return RuntimeError(f"the library answers {status}")

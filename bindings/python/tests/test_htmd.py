@@ -13,7 +13,7 @@ HEADER = Path(__file__).parents[2] / "c" / "htmd.h"
 
 PAGE = "<!DOCTYPE html><html><head><title>t</title></head><body><h1>Hi</h1></body></html>"
 
-#: Of each kind a text, and the byte where it is refused.
+#: For each kind a text, and the byte where it is refused.
 REFUSALS = {
     "Nul": ("a\0b", 1),
     "MalformedTag": ("<p>a <b c</p>", 5),
@@ -32,7 +32,7 @@ REFUSALS = {
     "TooDeep": ("<div>" * 2000, 5110),
 }
 
-#: Of each word of each option a text and its Markdown, in the mode "pure".
+#: For each value of each option a text and its Markdown, in the mode "pure".
 OPTIONS = [
     ("heading_style", "atx", "<h1>A</h1>", "# A"),
     ("heading_style", "setext", "<h1>A</h1>", "A\n="),
@@ -132,7 +132,7 @@ class Refusals(unittest.TestCase):
             htmd.convert("<p>\ud800</p>")
 
     def test_unknown_options(self):
-        for name in _convert.WORDS:
+        for name in _convert.VALUES:
             with self.subTest(name=name), self.assertRaises(ValueError):
                 htmd.convert("", **{name: "no-such"})
         for name in ("ul_bullet_spacing", "ol_number_spacing"):
@@ -181,7 +181,7 @@ class Header(unittest.TestCase):
         version = re.search(r"#define HTMD_OPTIONS_VERSION (\d+)", self.text)
         self.assertEqual(int(version.group(1)), _library.OPTIONS_VERSION)
 
-    def test_words(self):
+    def test_values(self):
         prefixes = {
             "reader": "",
             "mode": "",
@@ -194,9 +194,9 @@ class Header(unittest.TestCase):
             "code_block_fence": "FENCE_",
             "bullet_list_marker": "BULLET_",
         }
-        for name, words in _convert.WORDS.items():
-            for word, number in words.items():
-                self.assertEqual(self.numbers[prefixes[name] + word.upper().replace("-", "_")], number)
+        for name, values in _convert.VALUES.items():
+            for value, number in values.items():
+                self.assertEqual(self.numbers[prefixes[name] + value.upper().replace("-", "_")], number)
 
     def test_struct(self):
         struct = self.text[self.text.index("typedef struct") :]

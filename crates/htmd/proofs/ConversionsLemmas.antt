@@ -10,12 +10,12 @@ use Rattle.htmd_tree.specs.declared.reader.ReadError.TheVariants as read
 use Rattle.htmd.specs.declared.conversion.ConvertError.{ConvertError}
 use Rattle.htmd.specs.declared.conversion.ConvertError.TheVariants as convert
 use Rattle.htmd_tree.specs.Bodies.{body_part, body_place, StandsAt}
-use Rattle.htmd.specs.BuiltIn.{built_in}
-use Rattle.htmd.specs.Choice.{Config}
-use Rattle.htmd.specs.Defaults.{default_options}
+use Rattle.htmd_walk.specs.BuiltIn.{built_in}
+use Rattle.htmd_walk.specs.Choice.{Config}
+use Rattle.htmd_walk.specs.Defaults.{default_options}
 use Rattle.htmd.specs.Conversions.{conversion_error, IsMarkdownOf, IsRefused, IsPageRefused}
 
--- a refusal to convert comes of a refusal to read, with its place and kind
+-- a refusal to convert comes from a refusal to read, with its place and kind
 refused_reading : (e : ReadError) (place : ℕ) (kind : FaultKind)
     → convert.Refused place kind ≡ conversion_error e → e ≡ read.Refused place kind
 refused_reading (read.Refused p k) place kind q = cc
@@ -49,7 +49,7 @@ place_within scripting html place kind r = within r.is_fault
         omega arith
     within (inr f) = let p = (f.1).place_is in omega arith
 
--- a refusal of the part is one of the page, as far behind
+-- a refusal of the part is one of the page, as many bytes later
 pub page_place : (part page : List ℕ) (start place : ℕ) → StandsAt part start page → place ≤ length part
     → start + place ≤ length page
 page_place part page start place s l =

@@ -13,8 +13,8 @@ use Rattle.htmd_tree.specs.declared.reader.ReadError.{ReadError}
 use Rattle.htmd_tree.specs.declared.reader.ReadError.TheVariants as read
 use Rattle.htmd.specs.declared.conversion.ConvertError.{ConvertError}
 use Rattle.htmd.specs.declared.conversion.ConvertError.TheVariants as convert
-use Rattle.htmd.specs.Choice.{Config}
-use Rattle.htmd.specs.Markdown.{markdown}
+use Rattle.htmd_walk.specs.Choice.{Config}
+use Rattle.htmd_walk.specs.Markdown.{markdown}
 
 -- the text denotes a document that is laid out as this tree; the flag says whether scripting is on
 abbrev pub IsTreeOf : Bool → List ℕ → List Item → Type 0
@@ -26,7 +26,7 @@ IsTreeOf scripting html tree =
 abbrev pub DenotesNothing : Bool → List ℕ → Type 0
 DenotesNothing scripting html = (t : ValueTree) → ReadsDocument (project scripting) html t → ⊥
 
--- the text denotes no document, and this place and kind are right of its first fault
+-- the text denotes no document, and this place and kind are right for its first fault
 pub record IsRefused (scripting : Bool) (html : List ℕ) (place : ℕ) (kind : FaultKind) : Type 0 where
   pub denotes_nothing : DenotesNothing scripting html
   pub is_fault : IsFault (project scripting) html place kind
@@ -41,11 +41,11 @@ abbrev pub conversion_error : ReadError → ConvertError
 conversion_error (read.Refused place kind) = convert.Refused place kind
 conversion_error read.Memory = convert.Memory
 
--- this is the Markdown of what stands between the tags of the page's body
+-- this is the Markdown of what is between the tags of the page's body
 abbrev pub IsMarkdownOfPage : Config → Bool → List ℕ → List ℕ → Type 0
 IsMarkdownOfPage config scripting page text = IsMarkdownOf config scripting (body_part page) text
 
--- what stands between the tags of the page's body denotes no document, and is refused at this place of the page
+-- what is between the tags of the page's body denotes no document, and is refused at this place of the page
 abbrev pub IsPageRefused : Bool → List ℕ → ℕ → FaultKind → Type 0
 IsPageRefused scripting page place kind =
     (within : ℕ) × (place ≡ body_place page + within) × IsRefused scripting (body_part page) within kind

@@ -2,9 +2,9 @@
 
 ghost use Rattle.std.specs.Prelude.{◌≡◌, ℕ, IfOk, Err, true, string_bytes};
 ghost use Rattle.htmd_grammar.specs.declared.fault.FaultKind.{FaultKind};
-ghost use Rattle.htmd.specs.BuiltIn.{built_in};
+ghost use Rattle.htmd_walk.specs.BuiltIn.{built_in};
 ghost use Rattle.htmd.specs.Conversions.{IsRefused, IsMarkdownOf, conversion_error};
-ghost use Rattle.htmd.specs.Defaults.{default_options};
+ghost use Rattle.htmd_walk.specs.Defaults.{default_options};
 ghost use Rattle.htmd.specs.declared.conversion.ConvertError.TheVariants.{Memory};
 
 use crate::converter::HtmlToMarkdown;
@@ -18,7 +18,7 @@ pub enum ConvertError {
     /// The text is outside the grammar: the byte place of its first fault, and the fault's kind.
     #[error("refused at byte {place}: {kind}")]
     Refused { place: usize, kind: FaultKind },
-    /// A request for memory was refused.
+    /// Out of memory.
     #[error("out of memory")]
     Memory,
 }
@@ -51,9 +51,9 @@ impl<T: Drop> From<AllocFailed<T>> for ConvertError {
 }
 
 /// The Markdown of a text of HTML, by a new converter: the built-in handlers, the default options and
-/// scripting on. Of a table that is written as one it drops `th` in body rows, `td` in the row that gives the headers
-/// where `th` stand in it, further rows of a `thead`, and each `thead` but the last. `Refused` for each text outside the
-/// grammar, with the byte place and the kind of its first fault; `Memory` where a growth was refused.
+/// scripting on. From a table that is written as one it drops each `th` in a body row, each `td` in the row that gives
+/// the headers if that row has a `th`, further rows of a `thead`, and each `thead` but the last. `Refused` for each
+/// text outside the grammar, with the byte place and the kind of its first fault; `Memory` when out of memory.
 pub fn convert(alloc: Global, html: &str) -> Result<String, ConvertError>
     ensures ok { IfOk result
         (λ text. IsMarkdownOf (built_in default_options) true html.now (string_bytes text)) }

@@ -2,26 +2,23 @@
 
 ghost use Rattle.std.specs.Prelude.{◌≡◌, ◌<◌, ℕ, true, None, Err, IfOk, IfErr, MatchResult, map, length, string_bytes};
 ghost use Rattle.htmd_grammar.specs.declared.fault.FaultKind.{FaultKind};
-ghost use Rattle.htmd.specs.Handling.{of_functions};
-ghost use Rattle.htmd.specs.Choice.{no_handler, with_handler, with_options};
+ghost use Rattle.htmd_walk.specs.Handling.{of_functions};
+ghost use Rattle.htmd_walk.specs.Choice.{no_handler, with_handler, with_options};
 ghost use Rattle.htmd.specs.Conversions.{IsRefused, IsMarkdownOf, IsTreeOf, IsMarkdownOfPage};
 ghost use Rattle.htmd.specs.Conversions.{IsPageRefused, IsHtml5Markdown};
-ghost use Rattle.htmd.specs.Defaults.{default_options};
-ghost use Rattle.htmd.specs.Markdown.{markdown};
+ghost use Rattle.htmd_walk.specs.Defaults.{default_options};
+ghost use Rattle.htmd_walk.specs.Markdown.{markdown};
 
 use crate::conversion::ConvertError;
-use crate::dom_walker;
-use crate::element_handler::fn_handler::Answering;
-use crate::element_handler::layered::Layered;
-use crate::element_handler::registrar::Registrar;
-use crate::element_handler::registry::Registry;
-use crate::element_handler::{ElementHandler, ElementHandlers};
-use crate::options::Options;
 use htmd_html5::parse_html5;
 use htmd_tree::{NodeId, Tree, body_of, read_html};
+use htmd_walk::element_handler::{
+    Answering, ElementHandler, ElementHandlers, Layered, Registrar, Registry,
+};
+use htmd_walk::options::Options;
 use std::alloc::{AllocError, Global};
 
-/// Converts trees to Markdown, by handlers that are registered for tags.
+/// Converts trees to Markdown with handlers that are registered for tags.
 #[derive(Drop)]
 pub struct HtmlToMarkdown<R = ElementHandlers> {
     handlers: R,
@@ -35,20 +32,20 @@ pub struct HtmlToMarkdownBuilder<R = ElementHandlers> {
     scripting: bool,
 }
 
-/// The request for memory was refused. This is the builder as it was.
+/// Out of memory, with the builder as it was.
 #[derive(Drop)]
 pub struct SkipRefused<R = ElementHandlers> {
     pub builder: HtmlToMarkdownBuilder<R>,
 }
 
-/// The request for memory was refused. This is the builder as it was, and the handler.
+/// Out of memory, with the builder as it was, and the handler.
 #[derive(Drop)]
 pub struct AddRefused {
     pub builder: HtmlToMarkdownBuilder,
     pub handler: Box<dyn ElementHandler>,
 }
 
-/// The request for memory was refused. This is the builder as it was, and the handler.
+/// Out of memory, with the builder as it was, and the handler.
 #[derive(Drop)]
 pub struct AddFnRefused<R, H> {
     pub builder: HtmlToMarkdownBuilder<R>,
@@ -57,10 +54,9 @@ pub struct AddFnRefused<R, H> {
 
 impl HtmlToMarkdown {
     ghost use Rattle.htmd.specs.Converters.{handlers_of, handlers_built, scripting_of, scripting_built};
-    ghost use Rattle.htmd.specs.BuiltIn.{built_in};
+    ghost use Rattle.htmd_walk.specs.BuiltIn.{built_in};
 
-    /// A converter with the built-in handlers, the default options and scripting on. It refuses for want of memory
-    /// alone.
+    /// A converter with the built-in handlers, the default options and scripting on. `Err` means out of memory.
     pub fn new(alloc: Global) -> Result<HtmlToMarkdown, AllocError>
         ensures scripting { IfOk result (λ converter. scripting_of converter ≡ true) }
         ensures handlers { let config = ⟦<ElementHandlers as Registry>⟧.config in
@@ -69,8 +65,7 @@ impl HtmlToMarkdown {
         Ok(HtmlToMarkdown::builder(alloc)?.build())
     }
 
-    /// A builder with the built-in handlers, the default options and scripting on. It refuses for want of memory
-    /// alone.
+    /// A builder with the built-in handlers, the default options and scripting on. `Err` means out of memory.
     pub fn builder(alloc: Global) -> Result<HtmlToMarkdownBuilder, AllocError>
         ensures scripting { IfOk result (λ builder. scripting_built builder ≡ true) }
         ensures handlers { let config = ⟦<ElementHandlers as Registry>⟧.config in
@@ -84,7 +79,7 @@ impl<R: Registry> HtmlToMarkdown<R> {
     ghost use Rattle.htmd.specs.Converters.{handlers_of, scripting_of};
 
     /// The tree of a text of HTML, by the strict grammar. `Refused` for each text outside the grammar, with the byte
-    /// place and the kind of its first fault; `Memory` where a growth was refused.
+    /// place and the kind of its first fault; `Memory` when out of memory.
     pub fn html_to_tree(&self, alloc: Global, html: &str) -> Result<Tree, ConvertError>
         ensures ok { IfOk result (λ tree. IsTreeOf (scripting_of self.now) html.now tree) }
         ensures refused { (place : ℕ) (kind : FaultKind) → result ≡ Err (ConvertError.Refused place kind)
@@ -93,7 +88,8 @@ impl<R: Registry> HtmlToMarkdown<R> {
         Ok(read_html(alloc, html, self.scripting)?)
     }
 
-    /// The Markdown of a text of HTML: of its tree, from the Document. It is refused as its tree is.
+    /// The Markdown of a text of HTML: of its tree, from the Document. `Refused` for each text outside the grammar,
+    /// with the byte place and the kind of its first fault; `Memory` when out of memory.
     pub fn convert(&self, alloc: Global, html: &str) -> Result<String, ConvertError>
         requires ready { R.ready (handlers_of self.now) }
         ensures ok { IfOk result (λ text. IsMarkdownOf (R.config (handlers_of self.now))
@@ -105,10 +101,11 @@ impl<R: Registry> HtmlToMarkdown<R> {
         Ok(self.tree_to_markdown(alloc, &tree, tree.root())?)
     }
 
-    /// The Markdown of a whole page: of what stands between the tags of its body, as `body_of` has it, or of the whole
-    /// text where no start tag of a body stands in it. It is refused as that text is; the place of a refusal counts in
-    /// the page. Where the body is cut at a wrong tag, as one in a comment or a script of its head, the right start tag
-    /// is refused at its place, if it stands in the part outside of comments and raw text (`body_of`).
+    /// The Markdown of a whole page: of what is between the tags of its body, as `body_of` gives it, or of the whole
+    /// text if it has no start tag of a body. `Refused` if that part is outside the grammar, with the kind of its first
+    /// fault and its byte place in the page; `Memory` when out of memory. If the body is cut at a wrong tag, such as
+    /// one in a comment or a script of its head, the right start tag is refused at its place, if it stands in the part
+    /// outside of comments and raw text (`body_of`). `Memory` when out of memory.
     pub fn convert_page(&self, alloc: Global, page: &str) -> Result<String, ConvertError>
         requires ready { R.ready (handlers_of self.now) }
         ensures ok { IfOk result (λ text. IsMarkdownOfPage (R.config (handlers_of self.now))
@@ -126,8 +123,8 @@ impl<R: Registry> HtmlToMarkdown<R> {
         }
     }
 
-    /// The Markdown of any page, as browsers read it: that of the whole Document by the HTML Standard. No page is
-    /// refused. An `Err` is out of memory.
+    /// The Markdown of any page, as browsers read it: of the whole Document by the HTML Standard. No page is refused;
+    /// `Err` means out of memory.
     pub fn convert_html5(&self, alloc: Global, html: &str) -> Result<String, AllocError>
         requires ready { R.ready (handlers_of self.now) }
         ensures ok { IfOk result (λ text. IsHtml5Markdown (R.config (handlers_of self.now))
@@ -137,8 +134,8 @@ impl<R: Registry> HtmlToMarkdown<R> {
         self.tree_to_markdown(alloc, &tree, tree.root())
     }
 
-    /// The Markdown of a node that is handed over by itself. It refuses for want of memory alone, and
-    /// neither the converter nor the tree is changed.
+    /// The Markdown of a node that is handed over by itself. `Err` means out of memory. Neither the converter nor the
+    /// tree is changed.
     pub fn tree_to_markdown(
         &self,
         alloc: Global,
@@ -150,16 +147,15 @@ impl<R: Registry> HtmlToMarkdown<R> {
         ensures { IfOk result
             (λ text. string_bytes text ≡ markdown (R.config (handlers_of self.now)) tree.now node) }
     {
-        dom_walker::tree_to_markdown(&self.handlers, alloc, tree, node)
+        htmd_walk::tree_to_markdown(&self.handlers, alloc, tree, node)
     }
 }
 
 impl HtmlToMarkdownBuilder {
     ghost use Rattle.htmd.specs.Converters.{handlers_of, handlers_built, scripting_of, scripting_built};
-    ghost use Rattle.htmd.specs.BuiltIn.{built_in};
+    ghost use Rattle.htmd_walk.specs.BuiltIn.{built_in};
 
-    /// A builder with the built-in handlers, the default options and scripting on. It refuses for want of memory
-    /// alone.
+    /// A builder with the built-in handlers, the default options and scripting on. `Err` means out of memory.
     pub fn new(alloc: Global) -> Result<HtmlToMarkdownBuilder, AllocError>
         ensures scripting { IfOk result (λ builder. scripting_built builder ≡ true) }
         ensures handlers { let config = ⟦<ElementHandlers as Registry>⟧.config in
@@ -172,8 +168,8 @@ impl HtmlToMarkdownBuilder {
         })
     }
 
-    /// The same, but this handler is asked first for these tags. It refuses for want of memory alone,
-    /// and hands back the builder as it was, and the handler.
+    /// The same builder, but this handler is asked first for these tags. `Err` means out of memory and hands back the
+    /// builder as it was, and the handler.
     pub fn add_handler(
         mut self,
         tags: &[&str],
@@ -203,7 +199,7 @@ impl HtmlToMarkdownBuilder {
 impl<R: Registrar> HtmlToMarkdownBuilder<R> {
     ghost use Rattle.htmd.specs.Converters.{handlers_of, handlers_built, scripting_built};
 
-    /// The same with these options.
+    /// The same builder with these options.
     pub fn options(mut self, options: Options) -> Self
         requires ready { R.ready (handlers_built self) }
         ensures config { R.config (handlers_built result) ≡ with_options (R.config (handlers_built self)) options }
@@ -214,8 +210,8 @@ impl<R: Registrar> HtmlToMarkdownBuilder<R> {
         self
     }
 
-    /// The same, but elements of these tags give nothing. It refuses for want of memory alone, and
-    /// hands back the builder as it was.
+    /// The same builder, but elements of these tags give nothing. `Err` means out of memory and hands back the builder
+    /// as it was.
     pub fn skip_tags(mut self, tags: &[&str]) -> Result<Self, SkipRefused<R>>
         requires tags { 0 < length tags.now }
         requires ready { R.ready (handlers_built self) }
@@ -234,9 +230,8 @@ impl<R: Registrar> HtmlToMarkdownBuilder<R> {
         }
     }
 
-    /// The same, but this handler of closures is asked first for these tags. The closures answer what
-    /// its rule names. It refuses for want of memory alone, and hands back the builder as it was, and
-    /// the handler.
+    /// The same builder, but this handler of closures is asked first for these tags. The closures answer what its rule
+    /// names. `Err` means out of memory and hands back the builder as it was, and the handler.
     pub fn add_fn_handler<H: Answering + Drop>(
         mut self,
         tags: &[&str],
@@ -274,7 +269,7 @@ impl<R: Registrar> HtmlToMarkdownBuilder<R> {
 impl<R: Registry> HtmlToMarkdownBuilder<R> {
     ghost use Rattle.htmd.specs.Converters.{handlers_of, handlers_built, scripting_of, scripting_built};
 
-    /// The same with scripting on or off: where it is on, the content of `noscript` is one text, else it is nodes.
+    /// The same builder with scripting on or off: if it is on, the content of `noscript` is one text, else it is nodes.
     pub fn scripting_enabled(mut self, scripting: bool) -> Self
         requires ready { R.ready (handlers_built self) }
         ensures config { R.config (handlers_built result) ≡ R.config (handlers_built self) }

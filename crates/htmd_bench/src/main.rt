@@ -1,8 +1,8 @@
-//! How fast texts are made and pages are converted. The program reads standard input whole and tells
-//! how large each answer is; with the word `--time` also how long it took, the best of several rounds,
-//! and with `--once` of a single one. With `--registered=N` the time of `tree_to_markdown` is that by a
-//! converter with so many registrations of tags that no page has. Where works are named, only those are done.
-//! With `--rows` the input is rows of a page each, and it tells how long they take as a batch and alone.
+//! How fast texts are made and pages are converted. The program reads all of standard input and tells how large each
+//! answer is; with the option `--time` also how long it took, the best of several rounds, and with `--once` of a single
+//! one. With `--registered=N` the time of `tree_to_markdown` is that of a converter with this many registrations of
+//! tags that no page has. If works are named, only those are done. With `--rows` the input is rows with a page each,
+//! and the program tells how long they take as a batch and alone.
 #![tactic(auto)]
 
 mod faults;
@@ -46,7 +46,7 @@ fn main(rt: HostRuntime) -> Result<(), Fault> {
         }
         let name = work.name();
         if is_timed {
-            // Before the length is found, so that of the first work the first round is done in new memory.
+            // Before the length is found, so that the first round of the first work is done in new memory.
             let speed = speed_of(&rt, work, &input, registered, rounds)?;
             let len = answer_len(rt.alloc(), work, &input)?;
             println!(rt; "{name}: {len}, {speed}")?;
@@ -58,7 +58,7 @@ fn main(rt: HostRuntime) -> Result<(), Fault> {
     Ok(())
 }
 
-/// Whether the word is among those that the program was called with.
+/// Whether the option is among those that the program was called with.
 fn has_word(rt: &HostRuntime, word: &str) -> io::Result<bool> {
     Ok(env::args(rt)?.skip(1).any(|each| each.as_str() == word))
 }

@@ -1,4 +1,4 @@
-//! How long a batch takes, beside the conversions of its pages alone.
+//! How long a batch takes, compared with only the conversions of its pages.
 
 use crate::faults::Fault;
 use crate::speed::Speed;
@@ -9,7 +9,7 @@ use std::io;
 use std::time::{Duration, Instant};
 
 /// Tells how long the rows of the input take as a batch, and how long `convert` takes on their pages by one
-/// converter: the best of so many rounds each. A row is a page alone, without escapes.
+/// converter: the best of this many rounds each. A row is a page alone, without escapes.
 pub(crate) fn tell_rows(rt: &HostRuntime, input: &str, rounds: u32) -> Result<(), Fault> {
     let mut batch = batch_time(rt, input)?;
     let mut alone = conversions_time(rt, input)?;

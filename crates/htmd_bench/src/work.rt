@@ -37,7 +37,7 @@ impl Work {
     }
 }
 
-/// Does the work, and tells how long the answer is: its bytes, or how many nodes stand right under the Document.
+/// Does the work, and tells how long the answer is: its bytes, or how many nodes are right under the Document.
 pub(crate) fn answer_len(alloc: Global, work: Work, input: &str) -> Result<usize, Fault>
     ensures { IfOk result (HasLength work input.now) }
 {
@@ -63,7 +63,7 @@ pub(crate) fn answer_len(alloc: Global, work: Work, input: &str) -> Result<usize
     }
 }
 
-/// How long the walk takes once by a converter with so many registrations of tags that no page has.
+/// How long the walk takes once with a converter that has this many registrations of tags that no page has.
 fn walk_time(rt: &HostRuntime, input: &str, registered: usize) -> Result<Duration, Fault> {
     let mut builder = HtmlToMarkdown::builder(rt.alloc())?;
     for number in 0..registered {
@@ -80,7 +80,7 @@ fn walk_time(rt: &HostRuntime, input: &str, registered: usize) -> Result<Duratio
     Ok(start.elapsed(rt)?)
 }
 
-/// How long the work takes once. Of a tree, the time to free it isn't counted.
+/// How long the work takes once. The time to free a tree isn't counted.
 fn time_of(
     rt: &HostRuntime,
     work: Work,

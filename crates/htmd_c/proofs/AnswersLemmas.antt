@@ -1,7 +1,7 @@
 -- What a conversion gives, by equal handlers.
 use Rattle.std.proofs.Common.{◌≡◌, sym, subst, refl, ℕ, Bool, true, false, List, [], ◌∷◌, Result, IfOk, MatchBool}
 use Rattle.std.specs.Prelude.{◌==◌}
-use Rattle.htmd.specs.declared.options.Options.{Options}
+use Rattle.htmd.specs.Options.{Options}
 use Rattle.htmd.specs.BuiltIn.{Row, with_rows, empty_config, built_in, built_in_rows}
 use Rattle.htmd.specs.Choice.{Config, with_handler, with_options}
 use Rattle.htmd.specs.Conversions.{IsMarkdownOf, IsMarkdownOfPage, IsHtml5Markdown}

@@ -1,10 +1,10 @@
 -- Worked examples of the definitions.
 use Rattle.std.proofs.Common.{◌≡◌, true, false, refl}
-use Rattle.htmd.specs.declared.options.TranslationMode.TheVariants.{Guarded}
+use Rattle.htmd.specs.TranslationMode.TheVariants.{Guarded}
 use Rattle.htmd.specs.Defaults.{default_options}
 use Rattle.htmd_c.specs.Options.{default_struct, is_good, is_scripting, options_of}
 
--- the struct that a caller begins with says the defaults
+-- the struct that a caller begins with stands for the defaults
 the_default_struct_is_good : is_good default_struct ≡ true
 the_default_struct_is_good = refl
 

@@ -8,7 +8,7 @@ use Rattle.htmd.specs.Conversions.{IsMarkdownOf, IsMarkdownOfPage, IsRefused, Is
 use Rattle.htmd_c.specs.declared.options.HtmdOptions.{HtmdOptions}
 use Rattle.htmd_c.specs.Options.{strict, page, options_of, is_scripting}
 
--- the built-in handlers, by the options that the struct says
+-- the built-in handlers, by the options that the struct stands for
 abbrev pub config_of : HtmdOptions → Config
 config_of given = built_in (options_of given)
 
@@ -25,7 +25,7 @@ IsRefusedBy given html place kind =
     MatchBool (given.reader == strict) (IsRefused (is_scripting given) html place kind)
     (MatchBool (given.reader == page) (IsPageRefused (is_scripting given) html place kind) ⊥)
 
--- the text has Markdown, all of which stands at the front of the buffer; what is behind it is as it was
+-- the text has Markdown, all of it at the front of the buffer; what follows it is as it was
 pub record IsWritten (given : HtmdOptions) (html before after : List ℕ) (needed : ℕ) : Type 0 where
   pub markdown : List ℕ
   pub is_utf8 : IsUtf8 html

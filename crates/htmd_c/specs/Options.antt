@@ -1,4 +1,4 @@
--- What the numbers of the struct of options mean. For each field 0 is the default of `convert`, but for the version,
+-- What the numbers of the struct of options mean. For each field 0 is the default of `convert`, except for the version,
 -- scripting, which is on by default, and the spacings.
 use Rattle.std.specs.Prelude.{ℕ, Bool, ◌&&◌, ◌==◌, nat_lt, if◌then◌else◌, replicate}
 use Rattle.std.specs.List.{list_all}
@@ -14,20 +14,20 @@ use Rattle.htmd.specs.CodeBlockFence.{CodeBlockFence}
 use Rattle.htmd.specs.CodeBlockFence.TheVariants.{Backticks, Tildes}
 use Rattle.htmd.specs.BulletListMarker.{BulletListMarker}
 use Rattle.htmd.specs.BulletListMarker.TheVariants.{Asterisk, Dash}
-use Rattle.htmd.specs.declared.options.LinkStyle.{LinkStyle}
-use Rattle.htmd.specs.declared.options.LinkStyle.TheVariants.{Inlined, InlinedPreferAutolinks, Referenced}
-use Rattle.htmd.specs.declared.options.CodeBlockStyle.{CodeBlockStyle}
-use Rattle.htmd.specs.declared.options.CodeBlockStyle.TheVariants.{Fenced, Indented}
-use Rattle.htmd.specs.declared.options.TranslationMode.{TranslationMode}
-use Rattle.htmd.specs.declared.options.TranslationMode.TheVariants.{Pure, Faithful, Guarded}
-use Rattle.htmd.specs.declared.options.Options.{Options}
+use Rattle.htmd.specs.LinkStyle.{LinkStyle}
+use Rattle.htmd.specs.LinkStyle.TheVariants.{Inlined, InlinedPreferAutolinks, Referenced}
+use Rattle.htmd.specs.CodeBlockStyle.{CodeBlockStyle}
+use Rattle.htmd.specs.CodeBlockStyle.TheVariants.{Fenced, Indented}
+use Rattle.htmd.specs.TranslationMode.{TranslationMode}
+use Rattle.htmd.specs.TranslationMode.TheVariants.{Pure, Faithful, Guarded}
+use Rattle.htmd.specs.Options.{Options}
 use Rattle.htmd_c.specs.declared.options.HtmdOptions.{HtmdOptions}
 
 -- the version of the struct that this library knows
 abbrev pub version : ℕ
 version = 1
 
--- the readers: the text as it stands, what stands between the tags of the body of a page, and any page as browsers read it
+-- the readers: the text as it stands, what is between the tags of the body of a page, and any page as browsers read it
 abbrev pub strict : ℕ
 strict = 0
 
@@ -107,7 +107,7 @@ code_block_fence n = if n == 1 then Tildes else Backticks
 abbrev pub bullet_list_marker : ℕ → BulletListMarker
 bullet_list_marker n = if n == 1 then Dash else Asterisk
 
--- the options that a good struct says
+-- the options that a good struct stands for
 abbrev pub options_of : HtmdOptions → Options
 options_of given = record {
   heading_style = heading_style given.heading_style;

@@ -14,7 +14,7 @@ use std::alloc::Global;
 #[derive(Drop)]
 pub(crate) enum Failure {
     BadOptions,
-    /// The place of the first byte that is no part of a character.
+    /// The place of the first byte that isn't part of a character.
     NotUtf8 { place: usize },
     Refused { place: usize, kind: FaultKind },
     Memory,
@@ -39,7 +39,7 @@ fn converted(alloc: Global, html: &str, options: &HtmdOptions) -> Result<String,
     Ok(converter.convert_html5(alloc, html)?)
 }
 
-/// The Markdown of bytes. The options are looked at first, then whether the bytes are UTF-8.
+/// The Markdown of bytes. The options are checked first, and then whether the bytes are UTF-8.
 pub(crate) fn markdown_of(
     alloc: Global,
     html: &[u8],

@@ -1,6 +1,6 @@
 //! The converter for C: exports over numbers and bytes, each a thin call. `bindings/c/htmd.h` declares them. A caller
-//! owes what the header says: no pointer is null, each names as many bytes as its length says, and what is written
-//! overlaps nothing else.
+//! must keep to what the header says: no pointer is null, each names as many bytes as its length says, and what is
+//! written overlaps nothing else.
 #![tactic(auto)]
 
 ghost use Rattle.std.specs.Prelude.{◌≡◌, ◌≢◌, ◌≤◌, ◌<◌, ◌+◌, ◌++◌, ◌↔◌, ℕ, false, IsUtf8, drop, length};
@@ -24,11 +24,11 @@ pub const DONE: u32 = 0;
 pub const TOO_SMALL: u32 = 1;
 /// The text is outside the grammar.
 pub const REFUSED: u32 = 2;
-/// The bytes are no UTF-8.
+/// The bytes are not UTF-8.
 pub const NOT_UTF8: u32 = 3;
-/// A request for memory was refused.
+/// Out of memory.
 pub const NO_MEMORY: u32 = 4;
-/// A number of the struct of options is none that its field may have.
+/// A field of the struct of options has a number that it may not have.
 pub const BAD_OPTIONS: u32 = 5;
 
 /// The options of `convert`: read as it stands, Pure, scripting on.
@@ -39,7 +39,7 @@ pub extern "C" fn htmd_default_options(options: &mut HtmdOptions)
     *options = default_struct();
 }
 
-// A text at the front of a buffer, if it has room.
+// Writes a text to the front of a buffer, if it has room.
 fn write_front(text: &[u8], out: &mut [u8]) -> u32
     ensures status { (result ≡ DONE) ↔ (length text.now ≤ length out.old) }
     ensures other_status { result ≢ DONE → result ≡ TOO_SMALL }
@@ -53,8 +53,8 @@ fn write_front(text: &[u8], out: &mut [u8]) -> u32
     DONE
 }
 
-/// The Markdown of bytes by the options, at the front of the buffer. The status says what was done; of the buffer
-/// nothing is written but by `DONE`, and `needed`, `place` and `kind` are 0 where they say nothing.
+/// Writes the Markdown of bytes by the options to the front of the buffer. The status says what was done; only `DONE`
+/// writes to the buffer, and `needed`, `place` and `kind` are 0 where they say nothing.
 #[unsafe(no_mangle)]
 pub extern "C" fn htmd_convert(
     alloc: Global,
@@ -103,8 +103,8 @@ pub extern "C" fn htmd_convert(
     }
 }
 
-/// The line and the column of a byte place in a text, both from 1, as `line_and_column` has them; both 0 where the bytes
-/// are no UTF-8.
+/// The line and the column of a byte place in a text, both from 1, as `line_and_column` gives them; both 0 if the bytes
+/// are not UTF-8.
 #[unsafe(no_mangle)]
 pub extern "C" fn htmd_line_and_column(
     html: &[u8],

@@ -14,11 +14,11 @@ const VERSION: u8 = 1;
 /// The text is read as it stands.
 pub(crate) const STRICT: u8 = 0;
 
-/// What stands between the tags of a page's body is read.
+/// What is between the tags of a page's body is read.
 pub(crate) const PAGE: u8 = 1;
 
-/// What a conversion goes by, in numbers. A further field takes the place of a reserved byte, whose 0 then says what is
-/// done without it; a further value of a field is a number that is not good yet.
+/// What a conversion goes by, in numbers. A new field will take the place of a reserved byte, whose 0 then stands for
+/// what is done without it; a new value of a field will be a number that is not good yet.
 #[repr(C)]
 #[derive(Debug, Clone, Copy)]
 pub struct HtmdOptions {
@@ -40,7 +40,7 @@ pub struct HtmdOptions {
     pub reserved: [u8; 17],
 }
 
-/// The struct that says what `convert` goes by.
+/// The struct for what `convert` goes by.
 pub(crate) fn default_struct() -> HtmdOptions
     ensures { result ≡ spec.default_struct }
 {
@@ -190,7 +190,7 @@ fn bullet_list_marker(number: u8) -> BulletListMarker
     }
 }
 
-/// The options that a good struct says.
+/// The options that a good struct stands for.
 pub(crate) fn options_of(given: &HtmdOptions) -> Options
     ensures { result ≡ spec.options_of given.now }
 {

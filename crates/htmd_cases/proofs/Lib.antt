@@ -1,1 +1,1 @@
--- No lemmas: the loop of `push_encoded` alone asks for a proof.
+-- No lemmas: only the loop of `push_encoded` asks for a proof.

@@ -12,7 +12,7 @@ use htmd_html5::parse_html5;
 use htmd_tree::{ReadError, read_html, serialize};
 use std::alloc::{AllocError, Global};
 
-/// Puts the answer to a text.
+/// Appends the answer to a text.
 pub(crate) fn push_answer(
     alloc: Global,
     answers: &mut String,
@@ -36,14 +36,14 @@ pub(crate) fn push_answer(
     }
 }
 
-/// Puts a text.
+/// Appends a text.
 fn push_text(answers: &mut String, text: &str) -> Result<(), LineFault> {
     answers.push('=')?;
     push_encoded(answers, text)?;
     Ok(())
 }
 
-/// Puts a refusal.
+/// Appends a refusal.
 fn push_refusal(
     alloc: Global,
     answers: &mut String,
@@ -55,7 +55,7 @@ fn push_refusal(
     Ok(())
 }
 
-/// Puts the HTML of the Document that a text denotes.
+/// Appends the HTML of the Document that a text denotes.
 fn push_page(
     alloc: Global,
     answers: &mut String,
@@ -72,7 +72,7 @@ fn push_page(
     }
 }
 
-/// Puts the Markdown of a text by the converter that the settings ask for.
+/// Appends the Markdown of a text by the converter that the settings ask for.
 fn push_markdown(
     alloc: Global,
     answers: &mut String,
@@ -98,7 +98,7 @@ fn push_markdown(
     }
 }
 
-/// Puts the Markdown of the Document that a text denotes; the same comes of its tree.
+/// Appends the Markdown of the Document that a text denotes; its tree gives the same.
 fn push_conversion(
     alloc: Global,
     answers: &mut String,
@@ -122,7 +122,7 @@ fn push_conversion(
     push_text(answers, &markdown)
 }
 
-/// Puts the Markdown of the tree that an outline shows; the same comes a second time.
+/// Appends the Markdown of the tree that an outline shows; a second conversion gives the same.
 fn push_tree(
     alloc: Global,
     answers: &mut String,
@@ -138,7 +138,7 @@ fn push_tree(
     push_text(answers, &markdown)
 }
 
-/// The same names, lent.
+/// The same names, borrowed.
 fn texts_of<'n>(alloc: Global, names: &'n [String]) -> Result<Vec<&'n str>, AllocError> {
     let mut texts = Vec::with_capacity(alloc, names.len())?;
     for name in names {
@@ -147,7 +147,7 @@ fn texts_of<'n>(alloc: Global, names: &'n [String]) -> Result<Vec<&'n str>, Allo
     Ok(texts)
 }
 
-/// The Markdown of one paragraph, as a run of the program writes it, less its line feed.
+/// The Markdown of one paragraph, as a run of the program writes it, without its line feed.
 fn paragraph_markdown(alloc: Global, text: &str, options: &Options) -> Result<String, LineFault> {
     let mode = Mode {
         text: true,

@@ -1,11 +1,11 @@
-//! Cases: one a line.
+//! Cases, one on each line.
 use crate::answers::push_answer;
 use crate::encoding::decode;
 use crate::faults::{Fault, LineFault};
 use crate::settings::Settings;
 use std::alloc::Global;
 
-/// Puts the answers to all the cases, a line each. The first line that is no case is the fault.
+/// Appends the answers to all the cases, one on each line. The first line that isn't a case is the fault.
 pub(crate) fn push_answers(alloc: Global, answers: &mut String, cases: &str) -> Result<(), Fault> {
     for (before, case) in cases.lines().enumerate() {
         if let Err(reason) = push_line(alloc, answers, case) {
@@ -18,14 +18,14 @@ pub(crate) fn push_answers(alloc: Global, answers: &mut String, cases: &str) -> 
     Ok(())
 }
 
-/// Puts the answer to one case, and a line feed.
+/// Appends the answer to one case, and a line feed.
 fn push_line(alloc: Global, answers: &mut String, case: &str) -> Result<(), LineFault> {
     push_case(alloc, answers, case)?;
     answers.push('\n')?;
     Ok(())
 }
 
-/// Puts the answer to one case.
+/// Appends the answer to one case.
 pub(crate) fn push_case(alloc: Global, answers: &mut String, case: &str) -> Result<(), LineFault> {
     let Some((words, code)) = case.split_once('\t') else {
         return Err(LineFault::NoTab);

@@ -5,7 +5,7 @@ ghost use Rattle.htmd_cases.specs.Encodings as spec;
 use crate::faults::LineFault;
 use std::alloc::{AllocError, Global};
 
-/// Puts a text as it stands in a line.
+/// Appends a text as it is written in a line.
 pub(crate) fn push_encoded(out: &mut String, text: &str) -> Result<(), AllocError>
     ensures { OnOk result
         (string_bytes out.new ≡ string_bytes out.old ++ spec.encoded_text text.now) }
@@ -16,7 +16,7 @@ pub(crate) fn push_encoded(out: &mut String, text: &str) -> Result<(), AllocErro
     Ok(())
 }
 
-/// Puts a character as it stands in a line.
+/// Appends a character as it is written in a line.
 fn push_encoded_char(out: &mut String, c: char) -> Result<(), AllocError>
     ensures { OnOk result
         (string_bytes out.new ≡ string_bytes out.old ++ spec.encoded_char c) }
@@ -31,7 +31,7 @@ fn push_encoded_char(out: &mut String, c: char) -> Result<(), AllocError>
     }
 }
 
-/// The text that stands in a line so.
+/// The text that is written in a line like this.
 pub(crate) fn decode(alloc: Global, code: &str) -> Result<String, LineFault> {
     let mut text = String::with_capacity(alloc, code.len())?;
     let mut rest = code.chars();

@@ -1,9 +1,9 @@
-//! Families: cases with their answers beside them, one a line.
+//! Families: cases with their answers beside them, one on each line.
 use crate::cases::push_case;
 use crate::faults::{Fault, LineFault};
 use std::alloc::Global;
 
-/// Puts how many cases a family has. The first line that is no case with its answer is the fault.
+/// Appends how many cases a family has. The first line that isn't a case with its answer is the fault.
 pub(crate) fn push_count(
     alloc: Global,
     answers: &mut String,
@@ -29,7 +29,7 @@ pub(crate) fn push_count(
     Ok(())
 }
 
-/// Puts the line that says how many cases there are.
+/// Appends the line that says how many cases there are.
 fn push_line(
     alloc: Global,
     answers: &mut String,
@@ -41,7 +41,7 @@ fn push_line(
     Ok(())
 }
 
-/// Asks a case, and compares the answer with the one behind it.
+/// Asks a case, and compares the answer with the one after it.
 fn expect_answer(alloc: Global, line: &str) -> Result<(), LineFault> {
     let Some((case, wanted)) = line.rsplit_once('\t') else {
         return Err(LineFault::NoTab);

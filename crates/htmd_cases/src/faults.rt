@@ -1,4 +1,4 @@
-//! Why a line is no case, or has no answer.
+//! Why a line isn't a case, or has no answer.
 ghost use Rattle.htmd_cases.specs.declared.faults.LineFault.TheVariants.{Memory};
 ghost use Rattle.std.specs.Prelude.{◌≡◌};
 

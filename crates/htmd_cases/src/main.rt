@@ -1,7 +1,8 @@
-//! A driver for cases. It reads a case a line, settings, a tab and a text, and writes the answer to each as a line;
-//! then it reads the files that its words name, each a family of cases with their answers, and writes how many each
-//! has. `README.md` says what the lines hold. All is read before anything is written: a line that is no case, or a case
-//! of a family with another answer than the one beside it, ends the program with status 1 and nothing written.
+//! A driver for cases. It reads one case on each line (settings, a tab and a text) and writes the answer to each as a
+//! line; then it reads the files that its arguments name, each a family of cases with their answers, and writes how
+//! many each has. `README.md` says what the lines hold. All is read before anything is written: a line that isn't a
+//! case, or a case of a family whose answer isn't the one beside it, ends the program with status 1 and nothing
+//! written.
 #![tactic(auto)]
 
 mod answers;
@@ -45,7 +46,7 @@ fn main(rt: HostRuntime) -> io::Result<ExitCode> {
     Ok(ExitCode::SUCCESS)
 }
 
-/// The answers to all the cases, a line each.
+/// The answers to all the cases, one on each line.
 fn answers_to(alloc: Global, cases: &str) -> Result<String, Fault> {
     let mut answers = String::new(alloc);
     push_answers(alloc, &mut answers, cases)?;

@@ -2,8 +2,8 @@
 use htmd_tree::{Attribute, NodeData, NodeId, Tree};
 use std::alloc::{AllocError, Global};
 
-/// The rows of all nodes but the Document, in document order, with a line feed between two. A row begins with a bar and
-/// a space, and two more spaces for each node above it but the Document.
+/// The rows of all nodes but the Document, in document order, with a line feed between each two. A row begins with a
+/// bar and a space, and two more spaces for each node above it but the Document.
 pub(crate) fn rows_of(alloc: Global, tree: &Tree) -> Result<String, AllocError> {
     let mut rows = String::new(alloc);
     let mut waiting = Vec::new(alloc);
@@ -18,7 +18,7 @@ pub(crate) fn rows_of(alloc: Global, tree: &Tree) -> Result<String, AllocError> 
     Ok(rows)
 }
 
-/// Puts the children of a node, the first one last.
+/// Adds the children of a node, the first one last.
 fn push_children(waiting: &mut Vec<NodeId>, tree: &Tree, node: NodeId) -> Result<(), AllocError> {
     if tree.contains(node) {
         for child in tree.children(node).iter().rev() {
@@ -28,7 +28,7 @@ fn push_children(waiting: &mut Vec<NodeId>, tree: &Tree, node: NodeId) -> Result
     Ok(())
 }
 
-/// Puts the rows of a node.
+/// Appends the rows of a node.
 fn push_node(rows: &mut String, tree: &Tree, node: NodeId) -> Result<(), AllocError> {
     if !tree.contains(node) {
         return Ok(());
@@ -46,7 +46,7 @@ fn push_node(rows: &mut String, tree: &Tree, node: NodeId) -> Result<(), AllocEr
     }
 }
 
-/// Puts a row for each attribute.
+/// Appends a row for each attribute.
 fn push_attributes(
     rows: &mut String,
     depth: usize,
@@ -62,7 +62,7 @@ fn push_attributes(
     Ok(())
 }
 
-/// Puts a row.
+/// Appends a row.
 fn push_row(rows: &mut String, depth: usize, parts: &[&str]) -> Result<(), AllocError> {
     if !rows.is_empty() {
         rows.push('\n')?;

@@ -4,7 +4,7 @@ use htmd::options::{
     LinkReferenceStyle, LinkStyle, Options, TranslationMode,
 };
 
-/// Sets a field of the options; whether there is such a field and it has such a value.
+/// Sets a field of the options, and answers whether there is such a field and it has such a value.
 pub(crate) fn set_field(options: &mut Options, field: &str, value: &str) -> bool {
     match field {
         "heading_style" => put(&mut options.heading_style, heading_style(value)),
@@ -26,7 +26,7 @@ pub(crate) fn set_field(options: &mut Options, field: &str, value: &str) -> bool
     }
 }
 
-/// Puts a value where there is one; whether there is.
+/// Puts a value if there is one, and answers whether there is.
 fn put<T: Copy>(place: &mut T, value: Option<T>) -> bool {
     match value {
         Some(value) => {
@@ -37,7 +37,7 @@ fn put<T: Copy>(place: &mut T, value: Option<T>) -> bool {
     }
 }
 
-/// What `true` and `false` say.
+/// What `true` and `false` mean.
 pub(crate) fn truth(value: &str) -> Option<bool> {
     match value {
         "true" => Some(true),

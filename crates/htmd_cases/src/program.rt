@@ -4,8 +4,8 @@ use crate::faults::LineFault;
 use htmd_cli::{Input, Output, command};
 use std::alloc::Global;
 
-/// Puts what the program writes of an input by these words. Where its status isn't 0 or it says something on standard
-/// error, it is the status and that.
+/// Appends what the program writes for an input with these options. If its status isn't 0 or it says something on
+/// standard error, that is the status and what it says.
 pub(crate) fn push_run(
     alloc: Global,
     answers: &mut String,

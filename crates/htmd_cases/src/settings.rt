@@ -4,7 +4,7 @@ use crate::options::{set_field, truth};
 use htmd::options::Options;
 use std::alloc::{AllocError, Global};
 
-/// What is asked of the text.
+/// What is asked about the text.
 #[derive(Clone, Copy)]
 pub(crate) enum Question {
     /// the Markdown of the paragraph that has this text
@@ -32,12 +32,12 @@ pub(crate) struct Settings {
     pub(crate) scripting: bool,
     /// the tags that are skipped, named in one call
     pub(crate) skipped: Vec<String>,
-    /// the words of the program
+    /// the options of the program
     pub(crate) words: Vec<String>,
 }
 
 impl Settings {
-    /// The settings that the words name, in any order. A word that is no setting is the fault.
+    /// The settings that the words name, in any order. A word that isn't a setting is the fault.
     pub(crate) fn of(alloc: Global, words: &str) -> Result<Settings, LineFault> {
         let mut settings = Settings {
             question: Question::Convert,
@@ -80,7 +80,7 @@ impl Settings {
         Err(LineFault::UnknownSetting(String::from_str(alloc, word)?))
     }
 
-    /// Sets the scripting; whether the value is one.
+    /// Sets the scripting, and answers whether the value is one.
     fn set_scripting(&mut self, value: &str) -> bool {
         let Some(scripting) = truth(value) else {
             return false;

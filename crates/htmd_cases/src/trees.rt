@@ -3,9 +3,9 @@ use crate::faults::LineFault;
 use htmd::{Attribute, NodeData, NodeId, Tree};
 use std::alloc::{AllocError, Global};
 
-/// The tree of an outline: its nodes in order, with a bar between two. Before a node stands a full stop for each node
-/// above it but the Document, a text begins with a quotation mark, and behind an element's name stand its attributes,
-/// as `NAME=VALUE` behind a space each.
+/// The tree of an outline: its nodes in order, with a bar between each two. A node has before it a full stop for each
+/// node above it but the Document, a text begins with a quotation mark, and an element's name is followed by its
+/// attributes, as `NAME=VALUE` after a space each.
 pub(crate) fn tree_of(alloc: Global, outline: &str) -> Result<Tree, LineFault> {
     let Ok(mut tree) = Tree::new(alloc) else {
         return Err(LineFault::Memory);
@@ -25,7 +25,7 @@ pub(crate) fn tree_of(alloc: Global, outline: &str) -> Result<Tree, LineFault> {
     Ok(tree)
 }
 
-/// Adds the node that is written so.
+/// Adds the node that is written like this.
 fn add_node(
     alloc: Global,
     tree: &mut Tree,
@@ -52,7 +52,7 @@ fn add_node(
     }
 }
 
-/// The attributes that are written with a space between two.
+/// The attributes that are written with a space between each two.
 fn attributes_of(alloc: Global, values: &str) -> Result<Vec<Attribute>, AllocError> {
     let mut attributes = Vec::new(alloc);
     for word in values.split_whitespace() {

@@ -5,7 +5,7 @@ use Rattle.std.proofs.lemmas.List.{take_rest}
 use Rattle.std.specs.Io.KnownBytes.{Appends}
 use Rattle.std.proofs.KnownBytes.{Appends-trans}
 
--- of the whole text all but the rest was appended
+-- all of the whole text but the rest was appended
 pub record AppendsBut (before now : Option (List ℕ)) (whole rest : List ℕ) : Type 0 where
   pub part : List ℕ
   pub split : whole ≡ part ++ rest

@@ -71,7 +71,7 @@ Answers-then way all middle rest a b c n m k p q = record {
       ∙ (ap (λ t. p.done ++ t) (q.ahead tail) ∙ sym (append_assoc p.done q.done (rest tail)));
 }
 
--- the same rows, otherwise said
+-- the same rows, said in another way
 pub Answers-like : (way : Way) (all all2 rest rest2 : List ℕ → List (List ℕ)) (a b c : List ℕ) (n m k : ℕ)
     → Answers way all rest a b n m → ((tail : List ℕ) → all2 tail ≡ all tail)
     → ((tail : List ℕ) → rest tail ≡ rest2 tail) → c ≡ b → k ≡ m → Answers way all2 rest2 a c n k
@@ -93,7 +93,7 @@ pub some_rest : {T E : Type 0} (way : Way) (all : List ℕ → List (List ℕ))
 some_rest way all rest a b n m (Ok x) p q = (rest x, p)
 some_rest way all rest a b n m (Err e) p q = q
 
--- where a call ends early, what is left is left
+-- if a call ends early, what is left is left
 pub stopped : {T E : Type 0} (way : Way) (all rest : List ℕ → List (List ℕ)) (a b : List ℕ) (n m : ℕ)
     (r : Result T E) → Answers way all rest a b n m
     → OnErr r ((left : List ℕ → List (List ℕ)) × Answers way all left a b n m)
@@ -134,7 +134,7 @@ pub lacks_on : (begun rest next : List ℕ) → next ≡ begun ++ rest → lacks
     → lacks line_feed rest ≡ true → lacks line_feed next ≡ true
 lacks_on begun rest next e o r = ap (lacks line_feed) e ∙ lacks-append line_feed begun rest o r
 
--- the last row, where no line feed ends it
+-- the last row, if no line feed ends it
 pub last_row : (begun : List ℕ) → 0 < length begun → lacks line_feed begun ≡ true
     → bytes_eq begun end_mark ≡ false → rows begun ≡ begun ∷ []
 last_row [] some o e = absurd (omega arith)
@@ -150,7 +150,7 @@ followed-none (b ∷ s) tail l = absurd (omega arith)
 
 -- ---- a batch
 
--- what was consumed was answered, but for the row that is open, and that was written
+-- what was consumed was answered, except for the row that is open, and that was written
 pub record Progress (way : Way) (before now : Option (List ℕ)) (empty full : Option (List ℕ)) (begun : List ℕ)
     (answered : ℕ) : Type 0 where
   pub consumed : List ℕ
@@ -159,7 +159,7 @@ pub record Progress (way : Way) (before now : Option (List ℕ)) (empty full : O
   pub put : Appends empty full written
   pub answers : Answers way (λ tail. rows (consumed ++ tail)) (rows_from begun) [] written 0 answered
 
--- the answers of a read behind those before it, while nothing waits
+-- the answers of a read after those before it, while nothing waits
 joined : (way : Way) (consumed written begun chunk waits after : List ℕ) (rest : List ℕ → List (List ℕ))
     (n m : ℕ) → Answers way (λ tail. rows (consumed ++ tail)) (rows_from begun) [] written 0 n → waits ≡ []
     → Answers way (λ tail. rows_from begun (followed chunk tail)) rest waits after n m
@@ -201,7 +201,7 @@ Progress-step way before was now empty held full begun chunk waits after n m nex
       (λ tail. refl) refl refl;
 }
 
--- what follows a chunk, where nothing follows an empty one
+-- what follows a chunk, if nothing follows an empty one
 follows : (chunk ys : List ℕ) → (length chunk ≡ 0 → ys ≡ []) → chunk ++ ys ≡ followed chunk ys
 follows [] ys f = f refl
 follows (b ∷ s) ys f = refl
@@ -323,7 +323,7 @@ nothing_yet way None sink = tt
 nothing_yet way (Some xs) sink =
     (0, [], ([], rows xs, refl, refl, refl), refl, Appends-nil sink)
 
--- the row that is begun, with its answer behind those that wait
+-- the row that is begun, with its answer after those that wait
 pub answered_row : (way : Way) (row read old new given answer : List ℕ) → read ≡ row
     → IsRowAnswer way read answer → new ≡ old ++ given → given ≡ answer
     → (written : List ℕ) × IsRowAnswer way row written × (new ≡ old ++ written)

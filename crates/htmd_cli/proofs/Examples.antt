@@ -48,12 +48,12 @@ fields_read = (refl, refl, refl)
 fields_written : written_field (codes "a\tb\\\n'") ≡ codes "a\\tb\\\\\\n'"
 fields_written = refl
 
--- a last line without a line feed is a row, an empty line is one, and behind the end mark there is none
+-- a last line without a line feed is a row, an empty line is one, and after the end mark there is none
 rows_split : (rows (codes "a\n\nb") ≡ codes "a" ∷ [] ∷ codes "b" ∷ [])
     × (rows (codes "a\n\\.\nb\n") ≡ codes "a" ∷ []) × (rows [] ≡ [])
 rows_split = (refl, refl, refl)
 
--- the last field begins behind the last tab
+-- the last field begins after the last tab
 row_parts : (other_fields (codes "1\ten\tx") ≡ codes "1\ten\t") × (last_field (codes "1\ten\tx") ≡ codes "x")
 row_parts = (refl, refl)
 
@@ -70,7 +70,7 @@ utf16_read : (utf16_text BigEndian (0 ∷ 0x41 ∷ []) ≡ codes "A")
 unfolding utf16_chars encode_utf8
 utf16_read = (refl, refl, refl)
 
--- a leading surrogate alone, a trailing one, an odd byte, and one after a leading surrogate: one error each
+-- a lone leading surrogate, a trailing one, an odd byte, and one after a leading surrogate: one error each
 utf16_errors : (utf16_text BigEndian (0xD8 ∷ 0 ∷ 0 ∷ 0x41 ∷ []) ≡ encode_utf8_all (0xFFFD ∷ 0x41 ∷ []))
     × (utf16_text BigEndian (0xDC ∷ 0 ∷ []) ≡ encode_utf8 0xFFFD)
     × (utf16_text BigEndian (0 ∷ 0x41 ∷ 0 ∷ []) ≡ encode_utf8_all (0x41 ∷ 0xFFFD ∷ []))

@@ -92,7 +92,7 @@ read_behind-drop zero s = refl
 read_behind-drop (suc n) [] = refl
 read_behind-drop (suc n) (b ∷ s) = read_behind-drop n s
 
--- bytes without a backslash say themselves
+-- bytes without a backslash stand for themselves
 pub read-plain : (f s : List ℕ) → lacks backslash f ≡ true → read_field (f ++ s) ≡ f ++ read_field s
 read-plain [] s p = refl
 read-plain (b ∷ f) s p =
@@ -102,7 +102,7 @@ read-whole : (f : List ℕ) → lacks backslash f ≡ true → read_field f ≡ 
 read-whole [] p = refl
 read-whole (b ∷ f) p = unless (b == backslash) (lacks backslash f) _ _ _ p (λ e. ap (λ t. b ∷ t) (read-whole f e))
 
--- an escape, and what stands behind it
+-- an escape, and what follows it
 pub read-escape : (s : List ℕ)
     → read_field (backslash ∷ s) ≡ escaped s ∷ read_field (drop (escape_length s) s)
 read-escape s = ap (λ t. escaped s ∷ t) (read_behind-drop (escape_length s) s)
@@ -130,7 +130,7 @@ read-step page page1 page2 front behind rest whole byte n found b l p q h =
     ∙ (ap (λ t. t ++ read_field (drop (escape_length behind) behind)) so_far
     ∙ (sym (read-on page front behind found.0) ∙ (ap (λ t. page ++ read_field t) (sym found.1) ∙ h)))
 
--- a page with all that is left, where that has no escape
+-- a page with all that is left, if that has no escape
 pub read-end : (page page1 rest whole : List ℕ) → lacks backslash rest ≡ true → page1 ≡ page ++ rest
     → page ++ read_field rest ≡ whole → page1 ≡ whole
 read-end page page1 rest whole p e h = e ∙ (ap (λ t. page ++ t) (sym (read-whole rest p)) ∙ h)
@@ -167,7 +167,7 @@ written-whole text place l h =
     h ∙ (ap (λ t. take place text ++ written_field t) (drop_all place text l)
     ∙ (append-nil (take place text) ∙ take_all place text l))
 
--- a row with what stands before the next escape, and with that one
+-- a row with what comes before the next escape, and with that one
 pub written-step : (row row1 row2 plain escape behind rest whole : List ℕ)
     → written_field rest ≡ plain ++ (escape ++ written_field behind)
     → row1 ≡ row ++ plain → row2 ≡ row1 ++ escape → row ++ written_field rest ≡ whole

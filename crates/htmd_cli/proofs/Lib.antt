@@ -1,4 +1,4 @@
--- Lemmas of runs, words, encodings, conversions and rows, and worked rows.
+-- Lemmas of runs, options, encodings, conversions and rows, and worked rows.
 pub mod AppendsLemmas
 pub mod DecodingLemmas
 pub mod ConversionLemmas

@@ -10,9 +10,9 @@ use Rattle.std.specs.Str.{bytes_eq}
 use Rattle.htmd.specs.Characters.{line_feed, tab}
 use Rattle.htmd_cli.specs.Lines.{lacks, lines, before_lines, rows, end_mark, other_fields, last_field}
 
--- ---- where a byte doesn't stand
+-- ---- where a byte doesn't occur
 
--- where a test fails, what stands behind it
+-- if a test fails, what follows it
 pub unless : {A : Type 0} (t x : Bool) (here there goal : A) → (if t then false else x) ≡ true
     → (x ≡ true → there ≡ goal) → (if t then here else there) ≡ goal
 unless true x here there goal p f = absurd (cc)
@@ -40,7 +40,7 @@ lacks-before b [] (suc n) h = refl
 lacks-before b (c ∷ l) (suc n) h =
     rw (ne_eqb c b (h 0 (omega arith))) (lacks-before b l n (λ k low. h (suc k) (omega arith)))
 
--- the same behind a place
+-- the same after a place
 pub lacks-behind : (b : ℕ) (l : List ℕ) (n : ℕ)
     → ((k : ℕ) → n ≤ k → k < length l → get_or l k 0 ≢ b) → lacks b (drop n l) ≡ true
 lacks-behind b [] zero h = refl
@@ -106,7 +106,7 @@ last_field-split : (a f : List ℕ) → lacks tab f ≡ true → last_field (a +
 last_field-split [] f p = last_field-whole f p
 last_field-split (c ∷ a) f p = rw (lacks-not (c ∷ a) f) (last_field-split a f p)
 
--- the fields before the last tab, and the field behind it
+-- the fields before the last tab, and the field after it
 pub others-at : (row : List ℕ) (place : ℕ) → place < length row → get_or row place 0 ≡ tab
     → lacks tab (drop (place + 1) row) ≡ true → take (place + 1) row ≡ other_fields row
 others-at row place l e p =

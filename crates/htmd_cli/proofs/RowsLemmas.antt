@@ -33,7 +33,7 @@ page_refused way any page text found place kind a (r, t) f p q e =
       refl,
     )
 
--- a field that isn't null, by the page that it says
+-- a field that isn't null, by the page that it stands for
 pub field_answer : {T E : Type 0} (way : Way) (field page read before old new : List ℕ) (r : Result T E)
     → bytes_eq field null ≡ false → page ≡ read → read ≡ before ++ read_field field → before ≡ []
     → OnOk r ((written : List ℕ) × IsPageAnswer way page written × (new ≡ old ++ written))

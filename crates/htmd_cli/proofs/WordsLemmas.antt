@@ -1,4 +1,4 @@
--- Words, their values and what they ask for, step by step.
+-- Options, their values and what they ask for, step by step.
 use Rattle.std.proofs.Common.{◌≡◌, ℕ, suc, ◌+◌, ◌<◌, Bool, true, false, ◌&&◌, ◌||◌, List, [], ◌∷◌, ◌++◌}
 use Rattle.std.proofs.Common.{length, drop, map, get_or, eqb, refl, sym, ◌∙◌, ap, arith, append_assoc}
 use Rattle.std.proofs.Common.{Option, Some, None, MatchOption}
@@ -34,7 +34,7 @@ number_goes_on n s i r l e = rw (drop_more s i 0 l) (ap (λ o. number_behind o (
 
 -- ---- names
 
--- with what stands before the first part, if it is filled
+-- with what comes before the first part, if it is filled
 abbrev pub are_filled : Bool → List (List ℕ) → Bool
 are_filled filled [] = true
 are_filled filled (part ∷ others) = (filled || is_filled part) && list_all is_filled others
@@ -90,14 +90,14 @@ value_behind n s true None e h =
 value_behind n s true (Some x) e h =
     (ap (begins_with n) h.1.1 ∙ begins_append n (drop h.0 s), h.2 ∙ ap (λ k. drop k s) h.1.0)
 
--- ---- all words
+-- ---- all options
 
 pub asked_first : (asked : Asked) (given : List (String Global)) → asked ≡ nothing_asked
     → asked_behind asked given ≡ asked_by given
 unfolding asked_by
 asked_first asked given e = ap (λ x. asked_behind x given) e
 
--- ---- names that are put on
+-- ---- names that are added
 
 abbrev texts : List (Bor (List ℕ)) → List (List ℕ)
 texts names = map (λ name. name.now) names

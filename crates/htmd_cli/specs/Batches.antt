@@ -1,4 +1,4 @@
--- How a batch goes from row to row; the contracts of private functions alone cite it.
+-- How a batch goes from row to row; only the contracts of private functions cite it.
 use Rattle.std.specs.Prelude.{◌≡◌, ◌+◌, Bool, if◌then◌else◌, ℕ, List, [], ◌∷◌, ◌++◌, length}
 use Rattle.htmd_cli.specs.Conversion.{Way}
 use Rattle.htmd_cli.specs.Lines.{rows}
@@ -19,11 +19,11 @@ pub record Answers (way : Way) (all rest : List ℕ → List (List ℕ)) (before
 abbrev pub rows_from : List ℕ → List ℕ → List (List ℕ)
 rows_from begun tail = rows (begun ++ tail)
 
--- the same where the data goes on, else none
+-- the same if the data goes on, else none
 abbrev pub rows_left : Bool → List ℕ → List ℕ → List (List ℕ)
 rows_left goes_on begun tail = if goes_on then rows_from begun tail else []
 
--- what was read, and what follows: nothing where nothing was read
+-- what was read, and what follows: nothing if nothing was read
 abbrev pub followed : List ℕ → List ℕ → List ℕ
 followed [] tail = []
 followed (b ∷ s) tail = (b ∷ s) ++ tail

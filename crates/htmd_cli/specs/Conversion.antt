@@ -22,7 +22,7 @@ abbrev pub paragraph : List ℕ → List Item
 paragraph [] = empty_paragraph
 paragraph (b ∷ s) = empty_paragraph ++ new_item empty_paragraph 1 (text_node (b ∷ s)) ∷ []
 
--- the handlers, but elements of these names give nothing
+-- the handlers, but elements with these names give nothing
 abbrev pub skipping : List (List ℕ) → Config → Config
 skipping [] config = config
 skipping (name ∷ names) config = with_handler config (name ∷ names) no_handler
@@ -60,7 +60,7 @@ way_of chosen = record {
 abbrev pub reads_any : Way → Bool
 reads_any way = way.html5 && not way.text
 
--- the bytes hold a text: any do where all are read, else UTF-8 alone
+-- the bytes hold a text: any bytes if all are read, else only UTF-8
 abbrev pub IsReadable : Bool → List ℕ → Type 0
 IsReadable any bytes = MatchBool any ⊤ (IsUtf8 bytes)
 

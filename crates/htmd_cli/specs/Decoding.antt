@@ -1,11 +1,11 @@
--- The text of bytes of which nothing says how they are encoded: the Encoding Standard, 6.1, "decode" and "BOM sniff".
+-- The text of bytes when nothing says how they are encoded: the Encoding Standard, 6.1, "decode" and "BOM sniff".
 use Rattle.std.specs.Prelude.{◌==◌, ◌&&◌, ℕ, if◌then◌else◌, List, [], ◌∷◌}
 use Rattle.std.specs.Str.{is_utf8}
 use Rattle.htmd_cli.specs.declared.decoding.ByteOrder.TheVariants.{BigEndian, LittleEndian}
 use Rattle.htmd_cli.specs.Utf16.{utf16_text}
 use Rattle.htmd_cli.specs.Windows1252.{windows_1252_text}
 
--- the text of bytes without a mark of UTF-16: themselves where they are UTF-8, and else windows-1252
+-- the text of bytes without a mark of UTF-16: themselves if they are UTF-8, else windows-1252
 abbrev pub unmarked : List ℕ → List ℕ
 unmarked bytes = if is_utf8 bytes then bytes else windows_1252_text bytes
 

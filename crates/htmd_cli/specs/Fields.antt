@@ -8,7 +8,7 @@ use Rattle.htmd.specs.Characters.{backslash, carriage_return, digit_zero, form_f
 abbrev pub null : List ℕ
 null = codes "\\N"
 
--- ---- the bytes that a field says
+-- ---- the bytes that a field stands for
 
 -- a letter, as its byte
 abbrev pub letter_a : ℕ
@@ -37,20 +37,20 @@ digit_value b =
     else if lies_from capital_a capital_f b then b - capital_a + 10
     else 16
 
--- how many digits of this base stand in front, at most so many
+-- how many digits of this base are in front, at most this many
 abbrev pub digits : ℕ → ℕ → List ℕ → ℕ
 digits base zero s = 0
 digits base (suc most) [] = 0
 digits base (suc most) (b ∷ s) = if nat_lt (digit_value b) base then suc (digits base most s) else 0
 
--- a number and then those digits, less all multiples of 256
+-- a number and then those digits, modulo 256
 abbrev pub number_behind : ℕ → ℕ → ℕ → List ℕ → ℕ
 number_behind n base zero s = n
 number_behind n base (suc most) [] = n
 number_behind n base (suc most) (b ∷ s) =
     if nat_lt (digit_value b) base then number_behind ((n * base + digit_value b) % 256) base most s else n
 
--- the byte that this one stands for behind a backslash: a control for b, f, n, r, t and v, else itself
+-- the byte that this one stands for after a backslash: a control for b, f, n, r, t and v, else itself
 abbrev pub named : ℕ → ℕ
 named b =
     if b == 0x62 then 8
@@ -61,8 +61,8 @@ named b =
     else if b == 0x76 then 11
     else b
 
--- the byte that is said by what stands behind a backslash: one to three octal digits, an x and one or two hexadecimal
--- ones, or one byte; a backslash at the end says itself
+-- the byte that the text after a backslash stands for: one to three octal digits, an x and one or two hexadecimal ones,
+-- or one byte; a backslash at the end stands for itself
 abbrev pub escaped : List ℕ → ℕ
 escaped [] = backslash
 escaped (b ∷ s) =
@@ -70,20 +70,20 @@ escaped (b ∷ s) =
     else if (b == letter_x) && nat_lt 0 (digits 16 2 s) then number_behind 0 16 2 s
     else named b
 
--- and how many bytes say it
+-- and how many bytes that text takes
 abbrev pub escape_length : List ℕ → ℕ
 escape_length [] = 0
 escape_length (b ∷ s) =
     if nat_lt (digit_value b) 8 then digits 8 3 (b ∷ s) else if b == letter_x then suc (digits 16 2 s) else 1
 
--- the bytes that a field says, where so many at its front belong to an escape before it
+-- the bytes that a field stands for, if this many at its front belong to an escape before it
 abbrev pub read_behind : ℕ → List ℕ → List ℕ
 read_behind n [] = []
 read_behind (suc n) (b ∷ s) = read_behind n s
 read_behind zero (b ∷ s) =
     if b == backslash then escaped s ∷ read_behind (escape_length s) s else b ∷ read_behind zero s
 
--- the bytes that a field says
+-- the bytes that a field stands for
 abbrev pub read_field : List ℕ → List ℕ
 read_field field = read_behind 0 field
 

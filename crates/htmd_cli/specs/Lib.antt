@@ -1,4 +1,4 @@
--- The definitions that the contracts cite, in reading order; the last two are cited by private functions alone.
+-- The definitions that the contracts cite, in reading order; the last two are cited only by private functions.
 pub mod Failures
 pub mod Settings
 pub mod Windows1252

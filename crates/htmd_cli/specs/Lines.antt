@@ -3,17 +3,17 @@ use Rattle.std.specs.Prelude.{◌==◌, if◌then◌else◌, ℕ, Bool, true, fa
 use Rattle.std.specs.Str.{bytes_eq}
 use Rattle.htmd.specs.Characters.{line_feed, tab}
 
--- no such byte stands in the text
+-- the text has no such byte
 abbrev pub lacks : ℕ → List ℕ → Bool
 lacks b [] = true
 lacks b (c ∷ s) = if c == b then false else lacks b s
 
--- the lines with a byte before the first one; a first line of that byte where there is none
+-- the lines with a byte before the first one; a first line of that byte if there is none
 abbrev pub before_lines : ℕ → List (List ℕ) → List (List ℕ)
 before_lines b [] = (b ∷ []) ∷ []
 before_lines b (line ∷ more) = (b ∷ line) ∷ more
 
--- the lines of a text, each without its line feed; what stands behind the last line feed is a line unless it is empty
+-- the lines of a text, each without its line feed; what follows the last line feed is a line unless it is empty
 abbrev pub lines : List ℕ → List (List ℕ)
 lines [] = []
 lines (b ∷ s) = if b == line_feed then [] ∷ lines s else before_lines b (lines s)
@@ -31,12 +31,12 @@ before_end (line ∷ more) = if bytes_eq line end_mark then [] else line ∷ bef
 abbrev pub rows : List ℕ → List (List ℕ)
 rows bytes = before_end (lines bytes)
 
--- what of a row stands before its last field: the other fields, each with the tab behind it
+-- the part of a row before its last field: the other fields, each with the tab after it
 abbrev pub other_fields : List ℕ → List ℕ
 other_fields [] = []
 other_fields (b ∷ s) = if lacks tab (b ∷ s) then [] else b ∷ other_fields s
 
--- what of a row stands behind its last tab
+-- the part of a row after its last tab
 abbrev pub last_field : List ℕ → List ℕ
 last_field [] = []
 last_field (b ∷ s) = if lacks tab (b ∷ s) then b ∷ s else last_field s

@@ -18,18 +18,18 @@ IsConverted way page field =
     IsReadable (reads_any way) page × (markdown : List ℕ) × IsMarkdownBy way (text_in (reads_any way) page) markdown
     × (field ≡ written_field markdown)
 
--- the page is no UTF-8, or it is HTML outside the grammar; where any page is read, none is refused
+-- the page isn't UTF-8, or it is HTML outside the grammar; if any page is read, none is refused
 abbrev pub IsRefusedPage : Way → List ℕ → Type 0
 IsRefusedPage way page =
     MatchBool (reads_any way) ⊥
     ((¬ IsUtf8 page)
     ⊎ (IsUtf8 page × (way.text ≡ false) × (place : ℕ) × (kind : FaultKind) × IsRefusedBy way page place kind))
 
--- this is written for a page: its Markdown, or null where it is refused
+-- this is written for a page: its Markdown, or null if it is refused
 abbrev pub IsPageAnswer : Way → List ℕ → List ℕ → Type 0
 IsPageAnswer way page field = IsConverted way page field ⊎ (IsRefusedPage way page × (field ≡ null))
 
--- this is written for a field: null for null, else what is written for the page that it says
+-- this is written for a field: null for null, else what is written for the page that it stands for
 abbrev pub IsFieldAnswer : Way → List ℕ → List ℕ → Type 0
 IsFieldAnswer way field answer =
     MatchBool (bytes_eq field null) (answer ≡ null) (IsPageAnswer way (read_field field) answer)
@@ -51,7 +51,7 @@ AreAnswers way (row ∷ more) written =
 abbrev pub rows_of : Way → List ℕ → List ℕ → Type 0
 rows_of way input = AreAnswers way (rows input)
 
--- this is written for the first rows of an input, so many of them
+-- this is written for the first rows of an input, this many of them
 abbrev pub FirstRowsOf : Way → List ℕ → ℕ → List ℕ → Type 0
 FirstRowsOf way input count written =
     (done : List (List ℕ)) × (more : List (List ℕ)) × (rows input ≡ done ++ more) × (length done ≡ count)

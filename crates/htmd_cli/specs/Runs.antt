@@ -1,4 +1,4 @@
--- What a run reads and writes, where the bytes of its source and sink are known.
+-- What a run reads and writes, if the bytes of its source and sink are known.
 use Rattle.std.specs.Prelude.{ℕ, List, [], ◌∷◌, ◌++◌, Option, IfSome}
 use Rattle.std.specs.Io.KnownBytes.{Appends}
 use Rattle.htmd.specs.Characters.{line_feed}

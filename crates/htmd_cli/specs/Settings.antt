@@ -1,7 +1,7 @@
 -- What a run is asked to do.
 use Rattle.std.specs.Prelude.{Bool, true, false, if◌then◌else◌, List, [], ℕ, map}
-use Rattle.htmd.specs.declared.options.Options.{Options}
-use Rattle.htmd.specs.declared.options.TranslationMode.TheVariants.{Pure, Faithful}
+use Rattle.htmd.specs.Options.{Options}
+use Rattle.htmd.specs.TranslationMode.TheVariants.{Pure, Faithful}
 use Rattle.htmd.specs.Defaults.{default_options}
 use Rattle.htmd_cli.specs.declared.settings.Settings.{Settings}
 
@@ -14,7 +14,7 @@ pub record Chosen : Type 0 where
   pub html5 : Bool
   pub scripting : Bool
   pub options : Options
-  -- elements of these names give nothing
+  -- elements with these names give nothing
   pub skipped : List (List ℕ)
 
 -- what settings choose
@@ -28,11 +28,11 @@ chosen_by settings = record {
   skipped = map (λ t. t.now) settings.skipped.now;
 }
 
--- the default options, but Faithful where that is asked for
+-- the default options, but Faithful if that is asked for
 abbrev pub options_of : Bool → Options
 options_of faithful = record default_options { translation_mode = if faithful then Faithful else Pure }
 
--- what is chosen where no word is given
+-- what is chosen if no option is given
 abbrev pub nothing_chosen : Chosen
 nothing_chosen = record {
   text = false;

@@ -9,11 +9,11 @@ abbrev pub code_unit : ByteOrder → ℕ → ℕ → ℕ
 code_unit BigEndian a b = a * 0x100 + b
 code_unit LittleEndian a b = b * 0x100 + a
 
--- an odd byte at the end is U+FFFD; where a leading surrogate waits for its partner there, the two are one error
+-- an odd byte at the end is U+FFFD; if a leading surrogate waits for its partner there, the two are one error
 abbrev pub odd_byte : Bool → List ℕ
 odd_byte waits = if waits then [] else 0xFFFD ∷ []
 
--- the code units of bytes, before which a leading surrogate waits or none does
+-- the code units of bytes, with a leading surrogate waiting before them or not
 abbrev pub code_units_after : Bool → ByteOrder → List ℕ → List ℕ
 code_units_after waits order [] = []
 code_units_after waits order (a ∷ []) = odd_byte waits

@@ -1,9 +1,9 @@
--- What the rows of the source's table of words mean; the contracts of private functions alone cite it.
+-- What the rows of the source's table of options mean; only the contracts of private functions cite it.
 use Rattle.std.specs.Prelude.{ℕ, Bool, true, false, if◌then◌else◌, List, Option, Some, None, option_map, unwrap_or}
 use Rattle.std.specs.Prelude.{is_some, map}
 use Rattle.std.specs.Borrow.{Bor}
 use Rattle.std.specs.List.{list_all}
-use Rattle.htmd.specs.declared.options.Options.{Options}
+use Rattle.htmd.specs.Options.{Options}
 use Rattle.htmd_cli.specs.declared.words.Setting.{Setting}
 use Rattle.htmd_cli.specs.declared.words.Setting.TheVariants as setting
 use Rattle.htmd_cli.specs.declared.words.Request.{Request}
@@ -17,7 +17,7 @@ takes_value setting.NumberSpacing = true
 takes_value setting.Skip = true
 takes_value _ = false
 
--- the options with what a setting sets, and as they are where it is of something else
+-- the options of the conversion with what a setting sets, and as they are if it is of something else
 abbrev pub option_after : Setting → List ℕ → Options → Options
 option_after (setting.Translation mode) value options = record options { translation_mode = mode }
 option_after (setting.Heading style) value options = record options { heading_style = style }
@@ -60,7 +60,7 @@ effect_of setting.Skip value = if list_all is_filled (parts value) then Some (sk
 effect_of setting.Explain value = Some (λ asked. asked)
 effect_of (setting.Show notice) value = Some shows_instead
 
--- a row of the source's table: the word, its setting and its line of help
+-- a row of the source's table: the option, its setting and its line of help
 abbrev pub Row : Type 0
 Row = Bor (List ℕ) × Bor (List ℕ) × Setting × Bor (List ℕ)
 

@@ -1,4 +1,4 @@
--- The program's words, and what they ask for.
+-- The program's command-line options, and what they ask for.
 use Rattle.std.specs.Prelude.{ℕ, ◌+◌, ◌-◌, ◌*◌, Bool, true, false, ◌&&◌, ◌==◌, nat_lt, if◌then◌else◌}
 use Rattle.std.specs.Prelude.{List, [], ◌∷◌, ◌++◌, length, drop, Option, Some, None, is_some, option_map}
 use Rattle.std.specs.Prelude.{option_and_then, codes}
@@ -16,13 +16,13 @@ use Rattle.htmd.specs.BrStyle.TheVariants as line_break
 use Rattle.htmd.specs.LinkReferenceStyle.TheVariants as reference
 use Rattle.htmd.specs.CodeBlockFence.TheVariants as fence
 use Rattle.htmd.specs.BulletListMarker.TheVariants as marker
-use Rattle.htmd.specs.declared.options.LinkStyle.TheVariants as link
-use Rattle.htmd.specs.declared.options.CodeBlockStyle.TheVariants as code_block
-use Rattle.htmd.specs.declared.options.TranslationMode.TheVariants as translation
-use Rattle.htmd.specs.declared.options.Options.{Options}
+use Rattle.htmd.specs.LinkStyle.TheVariants as link
+use Rattle.htmd.specs.CodeBlockStyle.TheVariants as code_block
+use Rattle.htmd.specs.TranslationMode.TheVariants as translation
+use Rattle.htmd.specs.Options.{Options}
 use Rattle.htmd_cli.specs.Settings.{Chosen, nothing_chosen}
 
--- what the words ask for: what is chosen, whether the source is rows with a page each, and whether the help or the
+-- what the options ask for: what is chosen, whether the source is rows with a page each, and whether the help or the
 -- version is shown in place of a conversion
 pub record Asked : Type 0 where
   pub chosen : Chosen
@@ -34,7 +34,7 @@ nothing_asked = record { chosen = nothing_chosen; rows = false; shows = false }
 
 -- ---- values
 
--- a number with a further decimal digit behind it, as far as a byte goes
+-- a number with a further decimal digit after it, as far as a byte goes
 abbrev pub with_digit : ℕ → ℕ → Option ℕ
 with_digit n b =
     if is_ascii_digit b && nat_lt (n * 10 + (b - digit_zero)) 256 then Some (n * 10 + (b - digit_zero)) else None
@@ -61,7 +61,7 @@ abbrev pub is_filled : List ℕ → Bool
 is_filled [] = false
 is_filled (b ∷ s) = true
 
--- ---- what a word does to what is asked so far
+-- ---- what an option does to what is asked so far
 
 abbrev pub chooses : (Chosen → Chosen) → Asked → Asked
 chooses change asked = record asked { chosen = change asked.chosen }
@@ -78,23 +78,23 @@ takes_rows asked = record asked { rows = true }
 abbrev pub skips : List (List ℕ) → Asked → Asked
 skips names = chooses (λ chosen. record chosen { skipped = chosen.skipped ++ names })
 
--- ---- the words
+-- ---- the options
 
--- a word: all of it, or where it takes a value what stands before that; and what it does
+-- an option: all of it, or if it takes a value, what comes before that; and what it does
 pub record Word : Type 0 where
   pub name : List ℕ
   pub takes_value : Bool
   pub effect : List ℕ → Option (Asked → Asked)
 
--- a word that is known as a whole
+-- an option that is known as a whole
 abbrev pub plain : List ℕ → (Asked → Asked) → Word
 plain name effect = record { name = name; takes_value = false; effect = λ value. Some effect }
 
--- a word that ends with a number from 0 to 255
+-- an option that ends with a number from 0 to 255
 abbrev pub numbered : List ℕ → (ℕ → Asked → Asked) → Word
 numbered name effect = record { name = name; takes_value = true; effect = λ value. option_map effect (number value) }
 
--- a word that ends with names between commas, none of them empty
+-- an option that ends with names between commas, none of them empty
 abbrev pub named : List ℕ → (List (List ℕ) → Asked → Asked) → Word
 named name effect = record {
   name = name;
@@ -150,11 +150,11 @@ words =
     ∷ plain (codes "--version") shows_instead
     ∷ []
 
--- the word is given: this name, or where it takes a value, this name and more
+-- the option is given: this name, or if it takes a value, this name and more
 abbrev pub is_given : List ℕ → Bool → List ℕ → Bool
 is_given name takes given = if takes then begins_with name given else bytes_eq given name
 
--- what a given word does, if it is known
+-- what a given option does, if it is known
 abbrev pub meaning : List Word → List ℕ → Option (Asked → Asked)
 meaning [] given = None
 meaning (word ∷ others) given =
@@ -171,11 +171,11 @@ abbrev pub after : Option (Asked → Asked) → Asked → Asked
 after None asked = asked
 after (Some effect) asked = effect asked
 
--- what is asked behind further words: of two for one field the last one counts
+-- what is asked after further options: of two for one field the last one counts
 abbrev pub asked_behind : Asked → List (String Global) → Asked
 asked_behind asked [] = asked
 asked_behind asked (given ∷ more) = asked_behind (after (meaning words (string_bytes given)) asked) more
 
--- what the words ask for
+-- what the options ask for
 unfoldable pub asked_by : List (String Global) → Asked
 asked_by given = asked_behind nothing_asked given

@@ -13,8 +13,8 @@ use htmd::ConvertError;
 use htmd::element_handler::Registry;
 use std::alloc::{AllocError, Global};
 
-/// Puts what is written for a row at the end of an answer, and the page of its last field at the end of
-/// an empty page. It is `Some` where that is refused.
+/// Appends what is written for a row to an answer, and the page of its last field to an empty page. The result is
+/// `Some` if that page is refused.
 pub(crate) fn answer_row<H: Registry>(
     alloc: Global,
     conversion: &Conversion<'_, H>,
@@ -79,7 +79,7 @@ fn answer_page<H: Registry>(
     }
 }
 
-// The Markdown of a page, or why it is refused. An `Err` is want of memory.
+// The Markdown of a page, or why it is refused. `Err` means out of memory.
 fn page_markdown<H: Registry>(
     alloc: Global,
     conversion: &Conversion<'_, H>,

@@ -26,7 +26,7 @@ pub(crate) struct Conversion<'a, H> {
     pub(crate) converter: &'a HtmlToMarkdown<H>,
 }
 
-/// The converter that a builder makes. An `Err` is want of memory.
+/// The converter that a builder makes. `Err` means out of memory.
 pub(crate) fn converter_of<H: Registrar + Drop>(
     builder: HtmlToMarkdownBuilder<H>,
     scripting: bool,
@@ -50,8 +50,7 @@ pub(crate) fn converter_of<H: Registrar + Drop>(
     Ok(converter)
 }
 
-/// The text that the bytes of an input hold: any bytes do where all are read, else UTF-8 alone. An `Err` is want of
-/// memory.
+/// The text that the bytes of an input hold: any bytes if all are read, else only UTF-8. `Err` means out of memory.
 pub(crate) fn text_of(
     alloc: Global,
     input: &[u8],

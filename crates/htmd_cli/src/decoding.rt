@@ -1,4 +1,4 @@
-//! The text of bytes of which nothing says how they are encoded.
+//! The text of bytes when nothing says how they are encoded.
 ghost use Rattle.std.specs.Prelude.{◌≡◌, IfOk, IsOkAnd, IsUtf8, string_bytes};
 ghost use Rattle.std.specs.Char.Utf16.{is_high_surrogate};
 ghost use Rattle.std.specs.Cow.{cow_str_bytes};
@@ -10,14 +10,14 @@ use self::ByteOrder::{BigEndian, LittleEndian};
 use std::alloc::{AllocError, Global};
 use std::borrow::CowStr;
 
-/// The text of bytes. Where they begin with U+FEFF in UTF-16, they are UTF-16, and that mark is left
-/// out; else they are the text itself where they are UTF-8, and a mark of it stays; else they are
-/// windows-1252. Nothing is refused: what isn't UTF-16 after a mark is U+FFFD.
+/// The text of bytes. If they begin with U+FEFF in UTF-16, they are UTF-16, and that mark is left out; else if they are
+/// UTF-8, they are the text itself, and a mark of it stays; else they are windows-1252. Nothing is refused: what isn't
+/// UTF-16 after a mark is U+FFFD. `Err` means out of memory.
 #[tactic(auto, using(crate::proofs::DecodingLemmas::first_byte_of_utf8))]
 pub fn decoded(alloc: Global, bytes: &[u8]) -> Result<CowStr<'_>, AllocError>
     ensures ok { IfOk result (λ text. cow_str_bytes text ≡ spec.decoded bytes.now) }
 
-    // Bytes that are UTF-8 are the text itself, and then no memory is asked for.
+    // Bytes that are UTF-8 are the text itself, and need no memory.
     ensures utf8 { IsUtf8 bytes.now → IsOkAnd result (λ text. cow_str_bytes text ≡ bytes.now) }
 {
     match bytes {
@@ -39,7 +39,7 @@ fn unmarked(alloc: Global, bytes: &[u8]) -> Result<CowStr<'_>, AllocError>
     }
 }
 
-// Which byte of a code unit stands first.
+// Which byte of a code unit comes first.
 #[derive(Clone, Copy)]
 enum ByteOrder {
     BigEndian,

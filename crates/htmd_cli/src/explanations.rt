@@ -1,56 +1,52 @@
-//! What the program says of a refused input, beside the line that it always writes.
+//! What the program says of a refused input, apart from the line that it always writes.
 use crate::faults::RunError;
 use htmd::{FaultKind, line_and_column};
 use std::fmt;
 use std::fmt::Write;
 use unicode::width::UnicodeWidthChar;
 
-/// A line is shown in so many columns of a terminal.
+/// A line is shown in this many columns of a terminal.
 const COLUMNS: usize = 100;
 
-/// What stands at the place of a fault, and what the grammar wants.
+/// What is at the place of a fault, and what the grammar wants.
 fn sentence(kind: FaultKind) -> &'static str {
     match kind {
-        FaultKind::Nul => "U+0000 stands here; no text of the grammar holds it.",
-        FaultKind::MalformedTag => {
-            "a tag begins here that is not of a tag's form; a < of a text is written &lt;."
-        }
+        FaultKind::Nul => "U+0000 is here; remove it.",
+        FaultKind::MalformedTag => { "this tag is malformed; write a < of the text as &lt;." }
         FaultKind::MalformedComment => {
-            "a comment begins here that no --> ends, or that holds --!>; it is wanted as <!-- text -->."
+            "this comment has no --> at its end, or --!> in it; write <!-- text -->."
         }
         FaultKind::MalformedDeclaration => {
-            "a declaration begins here; only a comment may, and <!DOCTYPE html> at the very beginning."
+            "only a comment may begin like this, or <!DOCTYPE html> at the very beginning."
         }
         FaultKind::UnknownReference => {
-            "an unknown &name; stands here, or in the tag that begins here; write the character, or &amp; for the &."
+            "an unknown &name; is here, or in the tag that begins here; write the character, or &amp; for the &."
         }
         FaultKind::BadNumber => {
-            "an &# stands here, or in the tag that begins here, with a number that no character has or no ; ends."
+            "an &# is here, or in the tag that begins here, with the number of no character, or without a ; at its end."
         }
         FaultKind::DuplicateAttribute => {
-            "a tag stands here with two attributes of one name; each name may stand once."
+            "this tag has two attributes of the same name; leave one out."
         }
         FaultKind::SelfClosing => {
-            "a tag with a / stands here; only elements without content, such as br, may have it."
+            "this tag ends in />; only elements that have no end tag, such as br, may."
         }
         FaultKind::TagOutside => {
-            "a tag stands here that has no place in a text; --body converts the body of a whole page."
+            "this tag has no place in a text; --body converts the body of a whole page."
         }
         FaultKind::NotAllowedHere => {
-            "an element begins here that may not stand in those that are open; close them first."
+            "this element may not stand in those that are open; close them first."
         }
-        FaultKind::StrayEndTag => {
-            "an end tag stands here that does not fit the innermost open element."
-        }
+        FaultKind::StrayEndTag => { "this end tag doesn't fit the innermost open element." }
         FaultKind::StrayText => {
-            "text stands here between the parts of a table; it may stand in a cell or in the caption."
+            "this text is between the parts of a table; put it into a cell or the caption."
         }
         FaultKind::Unclosed =>
-            "the input ends here, and an element is open; its end tag is wanted.",
+            "the input ends here, and an element is still open; write its end tag.",
         FaultKind::ScriptEscape => {
-            "a script begins here that holds <!-- and later <script; one of them has to go."
+            "this script has <!-- and later <script; take one of them out."
         }
-        FaultKind::TooDeep => "what begins here stands more than 1024 levels deep.",
+        FaultKind::TooDeep => "what begins here is more than 1024 levels deep.",
     }
 }
 
@@ -70,7 +66,7 @@ fn columns(text: &str) -> usize {
     sum
 }
 
-/// The end of a text, less as much of its front as lets no more than so many columns stand.
+/// The end of a text, cut at its front so that it takes no more than this many columns.
 fn last_columns(text: &str, most: usize) -> &str {
     let mut left = columns(text);
     let mut rest = text.chars();
@@ -83,7 +79,7 @@ fn last_columns(text: &str, most: usize) -> &str {
     rest.as_str()
 }
 
-/// The line in which a place stands: what of it stands before the place, and what behind.
+/// The line that a place is in: its part before the place, and its part after it.
 fn line_at(input: &str, place: usize) -> (&str, &str) {
     let Some((before, behind)) = input.split_at_checked(place) else {
         return ("", input);
@@ -100,7 +96,7 @@ fn line_at(input: &str, place: usize) -> (&str, &str) {
     (front, rest)
 }
 
-/// Writes so many columns of a text.
+/// Writes this many columns of a text.
 fn write_columns<W: Write>(out: &mut W, text: &str, most: usize) -> fmt::Result {
     let mut left = most;
     for character in text.chars() {
@@ -138,7 +134,7 @@ fn write_front<W: Write>(out: &mut W, front: &str) -> fmt::Result {
     Ok(())
 }
 
-/// Writes where and why an input is refused, or where it is no UTF-8, and nothing of any other error.
+/// Writes where and why an input is refused, or where it is not UTF-8; it writes nothing for any other error.
 pub(crate) fn explain<W: Write>(out: &mut W, error: &RunError, input: &[u8]) -> fmt::Result {
     match (error, str::from_utf8(input)) {
         (RunError::Refused { place, kind }, Ok(text)) => {

@@ -20,7 +20,7 @@ pub enum RunError {
     /// The input is not UTF-8.
     #[error("not UTF-8")]
     NotUtf8,
-    /// A growth was refused for want of memory.
+    /// Out of memory.
     #[error("out of memory")]
     Memory,
     /// The source failed.

@@ -5,10 +5,10 @@ ghost use Rattle.htmd_cli.specs.Fields as spec;
 use crate::lines::parted;
 use std::alloc::AllocError;
 
-/// What a field is that has no value.
+/// The field that stands for no value.
 pub(crate) const NULL: &[u8] = b"\\N";
 
-/// Puts the bytes that a field says at the end of a page.
+/// Appends the bytes that a field stands for to a page. `Err` means out of memory.
 pub fn read_field(field: &[u8], page: &mut Vec<u8>) -> Result<(), AllocError>
     ensures { OnOk result (page.new.items ≡ page.old.items ++ spec.read_field field.now) }
 {
@@ -23,7 +23,7 @@ pub fn read_field(field: &[u8], page: &mut Vec<u8>) -> Result<(), AllocError>
     Ok(())
 }
 
-// The byte that is said by what stands behind a backslash, and how many bytes say it.
+// The byte that the text after a backslash stands for, and how many bytes that text takes.
 fn escape(behind: &[u8]) -> (u8, usize)
     ensures byte { result.0 ≡ spec.escaped behind.now }
     ensures count { result.1 ≡ spec.escape_length behind.now }
@@ -44,7 +44,7 @@ fn escape(behind: &[u8]) -> (u8, usize)
     }
 }
 
-// The byte that a letter behind a backslash stands for, or else itself.
+// The byte that a letter after a backslash stands for, or else itself.
 fn named(byte: u8) -> u8
     ensures { result ≡ spec.named byte }
 {
@@ -71,7 +71,7 @@ fn digit_value(byte: u8) -> u8
     }
 }
 
-// The number that digits at the front of the bytes write, less all multiples of 256, and how many digits it has.
+// The number that digits at the front of the bytes write, modulo 256, and how many digits it has.
 fn number(bytes: &[u8], base: u8, most: usize) -> (u8, usize)
     requires base { base ≤ 16 }
     requires most { most < 4 }
@@ -91,7 +91,7 @@ fn number(bytes: &[u8], base: u8, most: usize) -> (u8, usize)
     (value as u8, count)
 }
 
-/// Writes bytes as a field at the end of a row.
+/// Appends bytes as a field to a row. `Err` means out of memory.
 pub fn write_field(text: &[u8], row: &mut Vec<u8>) -> Result<(), AllocError>
     ensures { OnOk result (row.new.items ≡ row.old.items ++ spec.written_field text.now) }
 {
@@ -105,7 +105,7 @@ pub fn write_field(text: &[u8], row: &mut Vec<u8>) -> Result<(), AllocError>
     Ok(())
 }
 
-// What stands before the first byte that is escaped, that byte's escape, and what stands behind it.
+// What comes before the first byte that is escaped, that byte's escape, and what follows it.
 fn next_escape(text: &[u8]) -> Option<(&[u8], &[u8], &[u8])>
     ensures parts { MatchOption result (spec.written_field text.now ≡ text.now)
         (λ parts. spec.written_field text.now

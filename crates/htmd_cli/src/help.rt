@@ -6,20 +6,20 @@ use crate::sinks::{Sink, write_all};
 use crate::words::{WORDS, Word};
 
 const USAGE: &str = "\
-Usage: htmd [WORD..] < page.html > page.md
+Usage: htmd [OPTION..] < page.html > page.md
 
-Converts the page on standard input into Markdown on standard output. The name of a file is no word.
-Of two words for one thing the last one counts.
+Reads a page from standard input and writes it as Markdown to standard output; it takes no file names.
+If two options set the same thing, the last one counts. For most pages take --html5 --guarded.
 
 ";
 
 /// The crate that is ported, and its version.
 const VERSION: &str = "htmd 0.5.6, ported to Rattle\n";
 
-/// Each line of the help begins with a word, in a column of so many characters.
+/// Each line of the help begins with an option, in a column of this many characters.
 const COLUMN: &str = "                                        ";
 
-// Writes the usage, and each word with its line.
+// Writes the usage, and each option with its line.
 pub(crate) fn write_help<W: Sink>(sink: &mut W) -> Result<(), Failed>
     ensures { FailsAtErr result (W.has_failed sink.old) (W.has_failed sink.new) }
 {
@@ -30,7 +30,7 @@ pub(crate) fn write_help<W: Sink>(sink: &mut W) -> Result<(), Failed>
     sink.flush()
 }
 
-// Writes a word with its line.
+// Writes an option with its line.
 fn write_word<W: Sink>(sink: &mut W, word: &Word) -> Result<(), Failed>
     ensures { FailsAtErr result (W.has_failed sink.old) (W.has_failed sink.new) }
 {

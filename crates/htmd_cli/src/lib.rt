@@ -2,9 +2,9 @@
 //! read, and writes the Markdown and one line feed to a sink. What is written is a stated function of
 //! what was read, and nothing is written before the conversion has succeeded.
 //!
-//! `Source` and `Sink` are the two ends of a run, `Input` and `Output` make them of std's readers and
-//! writers, `run` converts by a mode and `run_with` by settings, and `command` is the whole program with
-//! its words and exit statuses. `decoded` is the text of bytes of which nothing says how they are encoded.
+//! `Source` and `Sink` are the two ends of a run, `Input` and `Output` make them from std's readers and
+//! writers, `run` converts by a mode and `run_with` by settings, and `command` is the whole program with its
+//! options and exit statuses. `decoded` is the text of bytes when nothing says how they are encoded.
 #![tactic(auto)]
 
 mod answers;

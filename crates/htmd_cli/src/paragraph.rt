@@ -19,7 +19,7 @@ fn tree_of(alloc: Global, text: &str) -> Result<Tree, TreeError>
     Ok(tree)
 }
 
-// The same; an `Err` is want of memory.
+// The same; `Err` means out of memory.
 pub(crate) fn paragraph(alloc: Global, text: &str) -> Result<Tree, AllocError>
     ensures { IfOk result (λ tree. tree ≡ paragraph text.now) }
 {

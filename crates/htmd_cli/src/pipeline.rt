@@ -19,9 +19,9 @@ use std::alloc::Global;
 
 /// Reads the whole source, then converts it, then writes the Markdown and one line feed to the sink
 /// and flushes it. The source and the sink must not have failed before. The first fault is answered:
-/// `Read` and `Write` where the source or the sink failed, `NotUtf8` where all was read and isn't UTF-8,
-/// `Refused` where it is HTML outside the grammar, `Memory` where a growth was refused. Before the
-/// conversion has succeeded the sink is not touched; after `Write` nothing is said of how much went out.
+/// `Read` or `Write` if the source or the sink failed, `NotUtf8` if all was read and isn't UTF-8,
+/// `Refused` if it is HTML outside the grammar, `Memory` when out of memory. The sink is not touched
+/// before the conversion has succeeded; after `Write` nothing is known of how much went out.
 pub fn run<R: Source, W: Sink>(
     alloc: Global,
     source: &mut R,
@@ -54,7 +54,8 @@ pub fn run<R: Source, W: Sink>(
     run_with(alloc, source, sink, settings_of(mode))
 }
 
-/// The same by settings.
+/// The same by settings; each `Err` means what it means for `run`. Where any page is read, neither `NotUtf8` nor
+/// `Refused` comes.
 pub fn run_with<R: Source, W: Sink>(
     alloc: Global,
     source: &mut R,
@@ -93,7 +94,7 @@ pub fn run_with<R: Source, W: Sink>(
     run_over(alloc, source, sink, settings, &mut input)
 }
 
-// The same, and what was read is left in the empty input.
+// The same; what was read is left in the input, which is empty before.
 pub(crate) fn run_over<R: Source, W: Sink>(
     alloc: Global,
     source: &mut R,

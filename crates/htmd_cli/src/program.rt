@@ -1,4 +1,4 @@
-//! The program: its words, its statuses, and its lines on the sink for errors.
+//! The program: its options, its statuses, and its lines on the sink for errors.
 ghost use Rattle.std.specs.Prelude.{◌≡◌, ◌≢◌, ◌≤◌, ◌↔◌, false, true};
 ghost use Rattle.std.specs.Io.KnownBytes.{IsAtEnd, Keeps};
 ghost use Rattle.htmd_cli.specs.Failures.{FailsAtErr};
@@ -18,15 +18,15 @@ use crate::rows::run_rows;
 use crate::settings::Settings;
 use crate::sinks::Sink;
 use crate::sources::Source;
-use crate::words::{Notice, Request, are_known, request_of};
+use crate::words::{Notice, Request, are_known, first_unknown, request_of};
 use std::alloc::Global;
 use std::fmt::Write;
 
-/// The program: reads its words, converts the source into the sink, and answers the exit status. 0 is
-/// success, 1 a run that did not succeed and 2 a word that is not known. Where the words ask for the help
-/// or the version, that is written to the sink in place of the Markdown, and nothing is read. What went
-/// wrong is a line on the sink for errors, and where `--explain` is given, of an input that is refused or
-/// isn't UTF-8 also where and why; faults of that sink are passed over. The source and the sink must not
+/// The program: reads its options, converts the source into the sink, and answers the exit status. 0 is
+/// success, 1 a run that did not succeed and 2 an option that is not known. If the options ask for the
+/// help or the version, that is written to the sink in place of the Markdown, and nothing is read. What
+/// went wrong is a line on the sink for errors; with `--explain`, if an input is refused or isn't UTF-8,
+/// that sink also gets where and why. Faults of that sink are ignored. The source and the sink must not
 /// have failed before.
 pub fn command<R: Source, W: Sink, E: Sink>(
     alloc: Global,
@@ -53,7 +53,7 @@ pub fn command<R: Source, W: Sink, E: Sink>(
     ensures status { result ≤ 2 }
 {
     if !are_known(words) {
-        let _ = writeln!(Lines { sink: errors }, "htmd: unknown word");
+        say_unknown(errors, first_unknown(words));
         return 2;
     }
     let request = match request_of(alloc, words) {
@@ -67,6 +67,16 @@ pub fn command<R: Source, W: Sink, E: Sink>(
         },
         None => convert(alloc, request, source, sink, errors),
     }
+}
+
+// Says that a word is unknown, and which.
+fn say_unknown<E: Sink>(errors: &mut E, word: &str) {
+    let mut lines = Lines { sink: errors };
+    let _ = writeln!(lines, "htmd: unknown word");
+    let _ = writeln!(
+        lines,
+        "htmd: '{word}' is not an option, or not with this value: see --help"
+    );
 }
 
 // Says what went wrong, and answers the status.

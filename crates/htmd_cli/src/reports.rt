@@ -26,7 +26,7 @@ impl<E: Sink> Write for Lines<'_, E> {
     }
 }
 
-/// Says which page of a batch is refused, and if it is wanted where and why.
+/// Says which page of a batch is refused, and if that is wanted, where and why.
 pub(crate) fn report<E: Sink>(
     errors: &mut E,
     row: u64,

@@ -29,10 +29,10 @@ const BUFFER_SIZE: usize = 65536;
 const END_MARK: &[u8] = b"\\.";
 
 /// Reads rows, and writes each again with the Markdown of its last field in that field's place. Rows go
-/// out before the next read, and of a row that isn't answered nothing is written. A page that is refused
-/// is a line on the sink for errors, and the row's last field is then null; with `explains` there is more
-/// of it there. An `Err` has the number of the row at which the run ended, from 1: the first one that
-/// isn't answered, and after `Write` the last one that is.
+/// out before the next read, and nothing is written of a row that isn't answered. A page that is refused
+/// gets a line on the sink for errors, and the row's last field is then null; with `explains` that sink
+/// gets more. An `Err` has the number of the row at which the run ended, from 1: the first one that
+/// isn't answered, or after `Write` the last one that is.
 pub fn run_rows<R: Source, W: Sink, E: Sink>(
     alloc: Global,
     source: &mut R,
@@ -77,7 +77,7 @@ pub fn run_rows<R: Source, W: Sink, E: Sink>(
     answer_all(alloc, &conversion, source, sink, errors, explains)
 }
 
-// Want of memory before the first row.
+// Out of memory before the first row.
 fn first_row_fault() -> RowFault
     ensures row { result.row ≡ 1 }
     ensures error { result.error ≡ RunError.Memory }
@@ -88,7 +88,7 @@ fn first_row_fault() -> RowFault
     }
 }
 
-// The fault where the answers to so many rows can't be written.
+// The fault when the answers to this many rows can't be written.
 fn write_fault(answered: u64) -> RowFault
     ensures row { result.row ≡ counted answered }
     ensures error { result.error ≡ RunError.Write }
@@ -142,7 +142,7 @@ fn answer_all<H: Registry, R: Source, W: Sink, E: Sink>(
             Err(AllocError) => return Err(batch.fault(RunError::Memory)),
         }
     }
-    // No source is read so often.
+    // No source is read this many times.
     Err(batch.fault(RunError::Memory))
 }
 
@@ -186,7 +186,7 @@ impl Batch {
         }
     }
 
-    // Takes what was read; none is the end. It is false where no row follows.
+    // Takes what was read; no bytes mean the end. It is false if no row follows.
     fn take_read<H: Registry, E: Sink>(
         &mut self,
         alloc: Global,
@@ -240,7 +240,7 @@ impl Batch {
         self.answer_open(alloc, conversion, errors, explains)
     }
 
-    // Answers each row that ends in these bytes, and keeps what stands behind. It is false where the data ends.
+    // Answers each row that ends in these bytes, and keeps what follows. It is false if the data ends.
     fn take<H: Registry, E: Sink>(
         &mut self,
         alloc: Global,

@@ -16,22 +16,21 @@ pub struct Mode {
 /// What a run takes its input for, and how it converts it.
 #[derive(Drop)]
 pub struct Settings<'a> {
-    /// The input is the text of one paragraph, and not HTML. Then `body`, `html5` and `scripting` say
-    /// nothing.
+    /// The input is the text of one paragraph, and not HTML. Then `body`, `html5` and `scripting` have no effect.
     pub text: bool,
-    /// The input is a whole page, of which what stands between the tags of its body is converted.
+    /// The input is a whole page, and what is between the tags of its body is converted.
     pub body: bool,
     /// The input is any page, as browsers read it: bytes that aren't UTF-8 are decoded, and nothing is refused. Then
-    /// `body` says nothing.
+    /// `body` has no effect.
     pub html5: bool,
     /// The content of `noscript` is one text, else it is nodes.
     pub scripting: bool,
     pub options: Options,
-    /// Elements of these names give nothing. The names of elements are in lower case.
+    /// Elements with these names give nothing. The names of elements are in lower case.
     pub skipped: &'a [&'a str],
 }
 
-// The settings of a mode: the default options but for what it names, scripting on, and no element skipped.
+// The settings of a mode: the default options except for what it names, scripting on, and no element skipped.
 pub(crate) fn settings_of(mode: Mode) -> Settings<'static>
     ensures { chosen_by result ≡ chosen_in mode.text mode.faithful }
 {

@@ -9,14 +9,14 @@ use std::io::{ErrorKind, Read};
 
 /// What a run reads from.
 pub trait Source {
-    // The bytes that reads will give from here on, where they are known.
+    // The bytes that reads will give from here on, if they are known.
     ghost remaining: { Self → Option (List ℕ) } = { λ _. None };
 
     // Whether a read has failed.
     ghost has_failed: { Self → Bool };
 
-    /// Puts bytes at the front of the buffer and answers how many. None into a buffer that isn't
-    /// empty is the end.
+    /// Puts bytes at the front of the buffer and answers how many. No bytes in a buffer that isn't empty mean the end.
+    /// `Err` means a failed read.
     fn read(&mut self, buffer: &mut [u8]) -> Result<usize, Failed>
         ensures bound { ReadsAtMost result buffer.new }
         ensures bytes { ReadConsumes (remaining self.old) (remaining self.new) result buffer.new }

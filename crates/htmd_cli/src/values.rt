@@ -1,4 +1,4 @@
-//! The values of words: numbers, and names between commas.
+//! The values of options: numbers, and names between commas.
 ghost use Rattle.std.specs.Prelude.{◌≡◌, ◌++◌, map, OnOk, None, Some};
 ghost use Rattle.std.specs.List.{list_all};
 ghost use Rattle.htmd_cli.specs.Words as spec;
@@ -22,7 +22,7 @@ pub(crate) fn number(text: &str) -> Option<u8>
     Some(number)
 }
 
-/// The number with a further digit behind it.
+/// The number with a further digit after it.
 fn with_digit(number: u8, byte: u8) -> Option<u8>
     ensures { result ≡ spec.with_digit number byte }
 {
@@ -49,7 +49,7 @@ pub(crate) fn are_names(text: &str) -> bool
     is_filled
 }
 
-/// Puts on the parts between the commas of a text.
+/// Adds the parts between the commas of a text.
 pub(crate) fn push_names<'a>(names: &mut Vec<&'a str>, text: &'a str) -> Result<(), AllocError>
     ensures { OnOk result (map (λ name. name.now) names.new.items
         ≡ map (λ name. name.now) names.old.items ++ spec.parts text.now) }

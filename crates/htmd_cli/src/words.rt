@@ -1,4 +1,4 @@
-//! The program's words.
+//! The program's command-line options.
 ghost use Rattle.std.specs.Prelude.{◌≡◌, true, false, None, is_some, map, length, drop, MatchOption, OnOk, IfOk};
 ghost use Rattle.htmd_cli.specs.Words as spec;
 ghost use Rattle.htmd_cli.specs.WordRows.{takes_value, effect_of, option_after, word_of, asked_in};
@@ -17,7 +17,7 @@ pub(crate) enum Notice {
     Version,
 }
 
-/// What a word sets.
+/// What an option sets.
 #[derive(Clone, Copy, Drop)]
 pub(crate) enum Setting {
     Text,
@@ -42,58 +42,58 @@ pub(crate) enum Setting {
     Show(Notice),
 }
 
-/// A word, or what of it stands before its value; what that value is; what it sets; what the help says of it.
+/// An option, or its part before the value; what that value is; what it sets; what the help says of it.
 pub(crate) type Word = (&'static str, &'static str, Setting, &'static str);
 
-/// The words that are known.
+/// The options that are known.
 pub(crate) const WORDS: [Word; 33] = [
     (
         "--text",
         "",
         Setting::Text,
-        "the input is the text of one paragraph, and not HTML",
+        "the input is the text of one paragraph, not HTML",
     ),
     (
         "--body",
         "",
         Setting::Body,
-        "the input is a whole page: what stands between the tags of its body is converted",
+        "the input is a whole page, of which what is between the tags of its body is converted",
     ),
     (
         "--html5",
         "",
         Setting::Html5,
-        "the input is any page or piece of one, read as browsers read it; none is refused",
+        "reads any page or piece of one as browsers read it, and refuses none",
     ),
     (
         "--rows",
         "",
         Setting::Rows,
-        "lines with fields between tabs are read and written, the last field being the page",
+        "reads and writes lines with fields between tabs; the last field is the page",
     ),
     (
         "--faithful",
         "",
         Setting::Translation(TranslationMode::Faithful),
-        "what Markdown has no form for is written as HTML",
+        "writes as HTML what Markdown has no form for",
     ),
     (
         "--guarded",
         "",
         Setting::Translation(TranslationMode::Guarded),
-        "a reader of the Markdown is to show what a browser shows of the page",
+        "writes Markdown of which a reader shows what a browser shows of the page",
     ),
     (
         "--no-scripting",
         "",
         Setting::NoScripting,
-        "the content of noscript is elements, and not one text",
+        "reads the content of noscript as elements, not as one text",
     ),
     (
         "--skip=",
         "TAG[,TAG..]",
         Setting::Skip,
-        "elements of these names, in lower case, give nothing",
+        "leaves out elements of these names, in lower case",
     ),
     (
         "--heading-style=atx",
@@ -213,41 +213,41 @@ pub(crate) const WORDS: [Word; 33] = [
         "--ul-bullet-spacing=",
         "N",
         Setting::BulletSpacing,
-        "so many spaces stand behind a bullet, 0 to 255 (default 3)",
+        "spaces after a bullet, 0 to 255 (default 3)",
     ),
     (
         "--ol-number-spacing=",
         "N",
         Setting::NumberSpacing,
-        "so many spaces stand behind an item's number, 0 to 255 (default 2)",
+        "spaces after an item's number, 0 to 255 (default 2)",
     ),
     (
         "--preformatted-code",
         "",
         Setting::PreformattedCode,
-        "the white space of code spans is kept",
+        "keeps the white space of code spans",
     ),
     (
         "--explain",
         "",
         Setting::Explain,
-        "a refused input is shown at its place, with what is wrong there",
+        "shows the place of a refused input, and what is wrong there",
     ),
     (
         "--help",
         "",
         Setting::Show(Notice::Help),
-        "these lines are written, and nothing is read",
+        "writes these lines, and reads nothing",
     ),
     (
         "--version",
         "",
         Setting::Show(Notice::Version),
-        "the version is written, and nothing is read",
+        "writes the version, and reads nothing",
     ),
 ];
 
-/// What the words ask for.
+/// What the options ask for.
 #[derive(Drop)]
 pub(crate) struct Request<'a> {
     pub(crate) text: bool,
@@ -270,7 +270,7 @@ fn takes_value(setting: Setting) -> bool
     )
 }
 
-/// The value that the word gives, where it is this row's: nothing, or what stands behind its name.
+/// The value that the option gives, if it is this row's: nothing, or what follows its name.
 fn value_in<'a>(given: &'a str, name: &str, setting: Setting) -> Option<&'a str>
     ensures { MatchOption result
         (spec.is_given name.now (takes_value setting) given.now ≡ false)
@@ -286,7 +286,7 @@ fn value_in<'a>(given: &'a str, name: &str, setting: Setting) -> Option<&'a str>
     None
 }
 
-/// What the word sets by one of these rows, and its value.
+/// What the option sets by one of these rows, and its value.
 fn setting_in<'a>(given: &'a str, rows: &[Word]) -> Option<(Setting, &'a str)>
     ensures { MatchOption result (spec.meaning (map word_of rows.now) given.now ≡ None)
         (λ found. spec.meaning (map word_of rows.now) given.now ≡ effect_of found.0 found.1.now) }
@@ -299,7 +299,7 @@ fn setting_in<'a>(given: &'a str, rows: &[Word]) -> Option<(Setting, &'a str)>
     None
 }
 
-/// What the word sets, and its value.
+/// What the option sets, and its value.
 fn setting_of(given: &str) -> Option<(Setting, &str)>
     ensures { MatchOption result (spec.meaning spec.words given.now ≡ None)
         (λ found. spec.meaning spec.words given.now ≡ effect_of found.0 found.1.now) }
@@ -327,7 +327,7 @@ fn is_known(given: &str) -> bool
     }
 }
 
-/// Whether all words are known. It takes no memory, so that want of it stands for no unknown word.
+/// Whether all options are known. It takes no memory, so running out of it is never taken for an unknown option.
 pub(crate) fn are_known(words: &[String]) -> bool
     ensures { result ≡ spec.are_known words.now }
 {
@@ -339,7 +339,17 @@ pub(crate) fn are_known(words: &[String]) -> bool
     true
 }
 
-/// Sets one of the options, and leaves them as they are where the setting is of something else.
+/// The first word that isn't known, for a line that names it.
+pub(crate) fn first_unknown(words: &[String]) -> &str {
+    for word in words {
+        if !is_known(word.as_str()) {
+            return word.as_str();
+        }
+    }
+    ""
+}
+
+/// Sets one of the options of the conversion, and leaves them as they are if the setting is of something else.
 fn set_option(options: &mut Options, setting: Setting, value: &str)
     ensures { options.new ≡ option_after setting value.now options.old }
 {
@@ -365,7 +375,7 @@ fn set_option(options: &mut Options, setting: Setting, value: &str)
 }
 
 impl<'a> Request<'a> {
-    /// What is asked where there is no word.
+    /// What is asked without any option.
     fn new(alloc: Global) -> Request<'a>
         ensures { asked_in result ≡ spec.nothing_asked }
     {
@@ -382,7 +392,7 @@ impl<'a> Request<'a> {
         }
     }
 
-    /// Sets what a word sets.
+    /// Sets what an option sets.
     fn set(&mut self, setting: Setting, value: &'a str) -> Result<(), AllocError>
         requires value { is_some (effect_of setting value.now) ≡ true }
         ensures { OnOk result (asked_in self.new ≡ spec.after (effect_of setting value.now) (asked_in self.old)) }
@@ -402,7 +412,7 @@ impl<'a> Request<'a> {
     }
 }
 
-/// What the words ask for. An `Err` is want of memory.
+/// What the options ask for. `Err` means out of memory.
 pub(crate) fn request_of(alloc: Global, words: &[String]) -> Result<Request<'_>, AllocError>
     requires { spec.are_known words.now ≡ true }
     ensures { IfOk result (λ request. asked_in request ≡ spec.asked_by words.now) }

@@ -1,1 +1,1 @@
--- No lemmas: clauses of two callers alone ask for a proof.
+-- No lemmas: only clauses of two callers ask for a proof.

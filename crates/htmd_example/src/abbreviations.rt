@@ -1,4 +1,4 @@
-//! A handler of one's own that reads an attribute: behind what stands in `abbr` comes its `title`, in parentheses.
+//! A handler of your own that reads an attribute: after what is in `abbr` comes its `title`, in parentheses.
 ghost use Rattle.std.specs.Prelude.{Some, None, codes};
 ghost use Rattle.htmd.specs.Handling.{content_of_children};
 ghost use Rattle.htmd.specs.ElementPlans.{attributes_of, value_of_first};

@@ -1,4 +1,4 @@
-//! Callers with clauses of their own: what they say rests on the clauses `ok` and `refused` of `convert`, and on a law.
+//! Callers with clauses of their own: they rest on the clauses `ok` and `refused` of `convert`, and on a law.
 ghost use Rattle.std.specs.Prelude.{◌≡◌, ◌++◌, ◌∷◌, [], ℕ, List, Ok, IfOk, true, false, string_bytes};
 ghost use Rattle.htmd.specs.BuiltIn.{built_in};
 ghost use Rattle.htmd.specs.Characters.{line_feed};
@@ -11,7 +11,7 @@ use htmd::{ConvertError, HtmlToMarkdown, Tree, convert};
 use htmd_laws::conversion::every_letter_once;
 use std::alloc::{AllocError, Global};
 
-/// The Markdown of a text, and a line feed behind it.
+/// The Markdown of a text, and a line feed after it.
 pub(crate) fn as_file(alloc: Global, html: &str) -> Result<String, ConvertError>
     ensures { IfOk result (λ file. (markdown : List ℕ)
         × IsMarkdownOf (built_in default_options) true html.now markdown

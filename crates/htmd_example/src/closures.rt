@@ -1,4 +1,4 @@
-//! A handler of two closures, one of which keeps a text: it is put behind what stands in `b`.
+//! A handler of two closures, one of which keeps a text: it is put after what is in `b`.
 ghost use Rattle.std.specs.Prelude.{◌≡◌, ◌++◌, Option, Some, IfOk, codes, string_bytes};
 ghost use Rattle.htmd.specs.Handling.{content_of_children};
 ghost use Rattle.htmd.specs.Views.{optional_result};
@@ -7,7 +7,7 @@ use htmd::element_handler::{Element, FnHandler, HandlerResult, HandlerRule, Plan
 use htmd::{ConvertError, HtmlToMarkdown};
 use std::alloc::{AllocError, Global};
 
-/// Names what the closures mean: the content, and behind it an exclamation mark.
+/// Names what the closures mean: the content, and after it an exclamation mark.
 #[derive(Drop)]
 struct Louder;
 

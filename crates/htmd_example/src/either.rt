@@ -22,7 +22,7 @@ struct Site<R> {
     converter: HtmlToMarkdown<R>,
 }
 
-/// The Markdown of a heading, behind the name of a site.
+/// The Markdown of a heading, after the name of a site.
 pub(crate) fn site_heading(alloc: Global) -> Result<String, ConvertError> {
     let site = Site {
         name: "tea",

@@ -1,4 +1,4 @@
-//! A handler of one's own: what stands in `mark` is put between two pairs of equal signs.
+//! A handler of your own: what is in `mark` is put between two pairs of equal signs.
 ghost use Rattle.std.specs.Prelude.{◌++◌, Some, None, true, codes};
 ghost use Rattle.htmd.specs.Handling.{content_of_children};
 

@@ -2,7 +2,7 @@
 use htmd::{ConvertError, HtmlToMarkdown};
 use std::alloc::Global;
 
-/// The Markdown of a page without what stands in `aside` and `nav`.
+/// The Markdown of a page without what is in `aside` and `nav`.
 pub(crate) fn without_asides(alloc: Global) -> Result<String, ConvertError> {
     let Ok(builder) = HtmlToMarkdown::builder(alloc)?.skip_tags(&["aside", "nav"]) else {
         return Err(ConvertError::Memory);

@@ -182,7 +182,7 @@ module _ (rules : Rules) (outer : Context) where
     stops_not rules.scripting p b s after st e,
   )
 
-  -- the pieces of a text, after so many bytes
+  -- the pieces of a text, after this many bytes
   pub pieces_read : (f : OpenElement) (gs : List OpenElement) (x : List ℕ) (n : ℕ) (run after u : List ℕ)
       → IsNamed f
       → holds_raw_text rules.scripting f.name ≡ false → is_too_deep rules outer (f ∷ gs) ≡ false
@@ -278,7 +278,7 @@ module _ (rules : Rules) (outer : Context) where
       let n = letter_not b l in
       rw (f, k, l, n.0, n.1, n.3, or-false (is_table_part (map to_ascii_lowercase name)), i, t, e) refl
 
-  -- a start tag, where no implied `tbody` ends
+  -- a start tag, if no implied `tbody` ends
   pub start_step_is : (fs : List OpenElement) (name r x : List ℕ) (spelled attributes : List AttributePair)
       (present : Bool) → holds_text_alone rules.scripting (parent_name (names_of outer fs)) ≡ false
       → is_tag_name name ≡ true → IsTagRest spelled present r

@@ -14,7 +14,7 @@ use Rattle.htmd_grammar.specs.declared.fault.FaultKind.{FaultKind}
 use Rattle.htmd_grammar.proofs.ViablePrefixes.{refused, sound_end}
 use Rattle.htmd_grammar.proofs.RightFaults.{faults_are_right}
 
--- at most so many steps, up to a fault
+-- at most this many steps, up to a fault
 abbrev go_on : State → (State → State) → Step → State
 go_on st go (Ok a) = go a
 go_on st go (Err kind) = st

@@ -1,4 +1,4 @@
--- A piece is the same where the text is cut off behind it, and a line feed is one whatever follows it.
+-- A piece is the same where the text is cut off after it, and a line feed is one whatever follows it.
 use Rattle.std.proofs.Common.{Bool, List, [], ap, append_assoc, arith, codes, cond, drop, false}
 use Rattle.std.proofs.Common.{inl, inr, length, length-append, not, refl, subst, suc, sym, true, zero, ℕ, ◌&&◌, ◌++◌}
 use Rattle.std.proofs.Common.{◌+◌, ◌∙◌, ◌∷◌, ◌≡◌, ◌≤◌, ◌⊎◌}
@@ -23,7 +23,7 @@ use Rattle.htmd_grammar.proofs.ReferencesLemmas.{Fits, drop_cut, piece_fits, sta
 use Rattle.htmd_grammar.proofs.TagReadingLemmas.{back_split, front_all, front_cut}
 use Rattle.htmd_grammar.proofs.TagSpellingLemmas.{at_head}
 
--- a run that `;` ends, and what stands behind it
+-- a run that `;` ends, and what follows it
 abbrev Ended : (ℕ → Bool) → List ℕ → Type 0
 Ended p s = (s ≡ (leading_run p s ++ 59 ∷ []) ++ drop 1 (behind_run p s))
     × ((x : List ℕ) → (leading_run p ((leading_run p s ++ 59 ∷ []) ++ x) ≡ leading_run p s)
@@ -77,7 +77,7 @@ number_cut p base k m s v e h =
     size true u q = sym (stands_same (suc (k + length (leading_run p s))) m u v q).0
     size false u q = absurd (cc)
 
--- the bytes behind the first one, what is left, and that nothing else matters
+-- the bytes after the first one, what is left, and that nothing else matters
 abbrev pub Cuts : (List ℕ → Piece) → ℕ → List ℕ → List ℕ → Type 0
 Cuts read m v s = (w r : List ℕ) × (s ≡ w ++ r) × (length w ≡ m) × ((x z : List ℕ) → r ≡ x ++ z
     → read (w ++ x) ≡ stands m v)
@@ -127,7 +127,7 @@ sharp_cut (b ∷ s) v m e =
             → behind_number_sign (b ∷ y) ≡ number_at is_ascii_digit 10 1 (b ∷ y)
         plain b y t = rw t refl
 
--- a run that nothing ends is ended by nothing where it is cut off
+-- a run that nothing ends is ended by nothing if it is cut off
 no_end : (p : ℕ → Bool) (x z : List ℕ)
     → (first_is 59 (behind_run p (x ++ z)) && not (first_is 59 (x ++ z))) ≡ false
     → (first_is 59 (behind_run p x) && not (first_is 59 x)) ≡ false
@@ -272,7 +272,7 @@ piece_white names b s v after m e l n = elim (if_then (b == 38) (behind_ampersan
 abbrev pub IsLineFeedPiece : ℕ → List ℕ → ℕ → Type 0
 IsLineFeedPiece b s m = piece_at [] b s ≡ stands m (10 ∷ [])
 
--- what stands for a line feed does so with more behind, and is not shorter then
+-- what stands for a line feed does so with more after it, and is not shorter then
 line_feed_over : (b : ℕ) (s x : List ℕ) (m : ℕ) → IsLineFeedPiece b s m
     → (n : ℕ) × IsLineFeedPiece b (s ++ x) n
     × (m ≤ n)
@@ -323,7 +323,7 @@ drop_length (suc n) (b ∷ s) = let i = drop_length n s in omega arith
 dropped_is : (b : ℕ) (s : List ℕ) (m : ℕ) → IsLineFeedPiece b s m → after_line_feed [] (b ∷ s) ≡ drop m s
 dropped_is b s m e = ap (λ (p : Piece). less_line_feed p b s) e
 
--- where nothing is dropped, nothing is where the text is cut off
+-- if nothing is dropped, nothing is where the text is cut off
 kept_front : (x z : List ℕ) → after_line_feed [] (x ++ z) ≡ x ++ z → after_line_feed [] x ≡ x
 kept_front [] z e = refl
 kept_front (b ∷ x) z e = elim (line_feed_or_not b x) [
@@ -378,7 +378,7 @@ kept_whole (b ∷ i) x z n e = elim (line_feed_or_not b i) [
   | inr w ↦ absurd (let q = sym w ∙ n in cc)
 ]
 
--- what follows keeps the line feed that was dropped, where the text is cut off too
+-- what follows keeps the line feed that was dropped, if the text is cut off too
 pub kept_cut : (n i x z : List ℕ) → content_of n i ≡ [] → IsKept n i (x ++ z) → IsKept n i x
 kept_cut n i x z e k = test (drops_line_feed n)
     (λ d.

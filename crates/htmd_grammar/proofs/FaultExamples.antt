@@ -21,7 +21,7 @@ use Rattle.htmd_grammar.specs.declared.fault.FaultKind.TheVariants.{UnknownRefer
 use Rattle.htmd_grammar.proofs.RightFaults.{faults_are_right}
 use Rattle.htmd_grammar.proofs.ComputedSteps.{steps, steps_reach}
 
--- a fault of the project's rules, as computed by so many steps
+-- a fault of the project's rules, as computed by this many steps
 fault_of : (rules : Rules) (n : ℕ) (s : List ℕ) (place : ℕ) (kind : FaultKind) → lacks null s ≡ true
     → step rules above_body (steps rules n (started s)) ≡ Err kind
     → (is_empty (steps rules n (started s)).rest && nat_le (length (steps rules n (started s)).stack) 1) ≡ false
@@ -113,7 +113,7 @@ unknown_before_number : IsFault (project true) (codes "<i a=&#0; b=&bad;>") 0 Un
 unfolding step is_allowed is_void may_be_numbered encode
 unknown_before_number = fault_of (project true) 60 (codes "<i a=&#0; b=&bad;>") 0 UnknownReference refl refl refl refl
 
--- in content that holds text alone a reference is asked, a tag is not
+-- in content that holds only text a reference is asked, a tag is not
 unknown_in_title : IsFault (project true) (codes "<title></i>&bogus;") 11 UnknownReference
 unfolding step is_allowed is_void may_be_numbered encode
 unknown_in_title = fault_of (project true) 60 (codes "<title></i>&bogus;") 11 UnknownReference refl refl refl refl
@@ -269,7 +269,7 @@ deep_raw_text : IsFault two_levels (codes "<b><script>x") 11 TooDeep
 unfolding step is_allowed is_void may_be_numbered encode
 deep_raw_text = fault_of two_levels 60 (codes "<b><script>x") 11 TooDeep refl refl refl refl
 
--- a line feed that is dropped is no text
+-- a line feed that is dropped isn't text
 dropped_line_feed : IsFault two_levels (codes "<b><pre>\nx") 9 TooDeep
 unfolding step is_allowed is_void may_be_numbered encode
 dropped_line_feed = fault_of two_levels 60 (codes "<b><pre>\nx") 9 TooDeep refl refl refl refl

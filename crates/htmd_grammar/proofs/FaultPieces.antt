@@ -167,7 +167,7 @@ values_wrong names (a ∷ spelled) d k =
 
 -- ---- tags
 
--- the name of the tag whose text behind `<` is given, and what is read behind it
+-- the name of the tag whose text after `<` is given, and what is read after it
 abbrev pub name_read : List ℕ → List ℕ
 name_read w = map to_ascii_lowercase (leading_run is_tag_name_byte w)
 

@@ -136,7 +136,7 @@ module _ (rules : Rules) (outer : Context) where
   last_no_title p c l (comment v) (more w us) s h e = last_no_title p c l w us h.1 h.5 e
   last_no_title p c l (element n attributes ks) (more w us) s h e = last_no_title p c l w us h.1 h.5 e
 
-  -- where two nodes stand is no `title`
+  -- there is no `title` where there are two nodes
   two_no_title : (p : List ℕ) (c : Context) (l m : Bool) (u : ValueTree) (us : ValueForest) (t : ValueTree)
       (s b : List ℕ) → ReadsForest rules (p ∷ c) l (more u us) s → ReadsTree rules (p ∷ c) m t b
       → (ends_in_text (more u us) ≡ true → IsTextTree t ≡ false)
@@ -146,7 +146,7 @@ module _ (rules : Rules) (outer : Context) where
       (test (ends_in_text (more u us)) (λ x. absurd (let z = e x in cc)) (λ x. x)))
       (λ y. node_no_title rules p t c m b y n)
 
-  -- a part of the table that begins a text begins it with more behind
+  -- a part of the table that begins a text begins it with more after it
   pub part_stays : (v : ValueTree) (vs : ValueForest) (p : List ℕ) (c : Context) (l : Bool) (s b : List ℕ)
       → holds_text_alone rules.scripting p ≡ false → ReadsForest rules (p ∷ c) l (more v vs) s
       → is_table_part (tag_name_at s) ≡ true → is_table_part (tag_name_at (s ++ b)) ≡ true

@@ -31,7 +31,7 @@ among_passes P (m ∷ names) n e l =
     test (bytes_eq n m) (λ t. ap P (same_bytes n m t) ∙ k.0)
     (λ t. let w = rw t at e in among_passes P names n w k.1)
 
--- the elements that hold text alone, whatever scripting is
+-- the elements that hold only text, with scripting on or off
 abbrev pub text_alone_names : List (List ℕ)
 text_alone_names =
     codes "title" ∷ codes "textarea" ∷ codes "script" ∷ codes "style" ∷ codes "iframe" ∷ codes "noembed"
@@ -125,7 +125,7 @@ pub tbody_not_void : is_void (codes "tbody") ≡ false
 unfolding is_void
 tbody_not_void = refl
 
--- nothing but text stands in an element that holds text alone
+-- an element that holds only text has only text in it
 pub no_text_alone : (z : Bool) (p : List ℕ) (c : Context) (n : List ℕ) → is_allowed z (p ∷ c) n ≡ true
     → holds_text_alone z p ≡ false
 no_text_alone z p c n a = (allowed_parts z (p ∷ c) n a).1

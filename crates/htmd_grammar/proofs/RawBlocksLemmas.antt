@@ -45,7 +45,7 @@ raw_html_from-no_blank_line after (c ∷ cs) =
     (λ a. rw (y, a, y) (raw_html_from-no_blank_line true cs)))
     (λ n. rw (n, n) (raw_html_from-no_blank_line (after && is_whitespace c) cs))
 
--- a line feed behind white space behind a line feed is found
+-- a line feed after white space after a line feed is found
 found_behind : (between behind : List ℕ) → list_all is_whitespace between ≡ true
     → has_blank_line_from true (between ++ line_feed ∷ behind) ≡ true
 found_behind [] behind w = refl
@@ -68,7 +68,7 @@ none_found cs e b =
     false≢true (sym e ∙ (ap has_blank_line b.text ∙ found false b.before b.between b.behind b.white))
 
 module _ (total : Bool) (c : ℕ) (cs : List ℕ) where
-  -- a line feed behind a line feed
+  -- a line feed after a line feed
   pub found_here : c ≡ line_feed → has_blank_line_from true (c ∷ cs) ≡ total → true ≡ total
   found_here e h = let y : eqb c line_feed ≡ true = grind (arith, nat_tests) in rw y at h
 
@@ -87,7 +87,7 @@ pub has_blank_line-turn : (s rest : List ℕ) (c : ℕ) (after total : Bool) →
 has_blank_line-turn s rest c after total u e h = ap (has_blank_line_from after) (sym (chars_past_char s rest c u e))
     ∙ h
 
--- what holds no blank line behind a line feed holds none anywhere
+-- what holds no blank line after a line feed holds none anywhere
 none_afresh : (after : Bool) (cs : List ℕ) → has_blank_line_from after cs ≡ false
     → has_blank_line_from false cs ≡ false
 none_afresh after [] h = refl
@@ -96,7 +96,7 @@ none_afresh after (c ∷ cs) h =
     (λ y. rw y (or_parts after (has_blank_line_from true cs) (rw y at h)).1)
     (λ n. rw n (none_afresh (after && is_whitespace c) cs (rw n at h)))
 
--- a line feed would make a blank line behind white space
+-- a line feed would make a blank line after white space
 begins_none : (after : Bool) (cs : List ℕ) → has_blank_line_from after cs ≡ false
     → (after && begins_line cs) ≡ false
 begins_none after [] h = and-false after

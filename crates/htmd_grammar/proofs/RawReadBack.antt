@@ -1,4 +1,4 @@
--- What stands between the blank lines of a block of raw HTML has references in place of some line feeds.
+-- What is between the blank lines of a block of raw HTML has references in place of some line feeds.
 use Rattle.std.proofs.Common.{List, [], ap, arith, codes, eqb, false, length, length-append, not, refl, subst, sym}
 use Rattle.std.proofs.Common.{true, ℕ, ◌++◌, ◌∙◌, ◌∷◌, ◌≡◌}
 use Rattle.std.proofs.lemmas.Bool.{eqb-true, and_parts}
@@ -39,7 +39,7 @@ same_parts (x ∷ a) (y ∷ c) b d e l =
     let i = same_parts a c b d (cc) (omega arith) in
     (rw (h, i.0) refl, i.1)
 
--- what stands between blank lines
+-- what is between blank lines
 between_same : (s t : List ℕ) → with_blank_lines s ≡ with_blank_lines t → s ≡ t
 between_same s t e =
     let p = (same_parts (codes "\n\n") (codes "\n\n") (s ++ codes "\n\n") (t ++ codes "\n\n") e refl).1 in

@@ -20,7 +20,7 @@ use Rattle.htmd_grammar.proofs.ReferencedLineFeeds.{refers_same}
 use Rattle.htmd_grammar.proofs.ComputedSteps.{Denotes, denotes, steps, steps_reach}
 use Rattle.htmd_grammar.proofs.Subtrees.{project_has, reads_back}
 
--- line feeds written as references where the flag says so, and as they are behind the last flag
+-- line feeds written as references where the flag says so, and as they are after the last flag
 abbrev referred : List Bool → List ℕ → List ℕ
 referred [] s = s
 referred (f ∷ flags) [] = []
@@ -80,7 +80,7 @@ source_reads = sound_end (project true) source content
     end : steps (project true) 60 (started source) ≡ finished content
     end = refl
 
--- every second line feed behind another one is a reference
+-- every second line feed after another one is a reference
 abbrev table_text : List ℕ
 table_text = referred (false ∷ false ∷ true ∷ false ∷ true ∷ false ∷ []) (serialisation table)
 

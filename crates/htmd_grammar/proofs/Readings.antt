@@ -233,7 +233,7 @@ module _ (rules : Rules) (outer : Context) where
       let n = not_begun rules.names w run h.begun (so_far (f ∷ gs) w run rest h) in
       (goes_on f.name w rest n h.text_goes, full_front w rest n)
 
-  -- in the midst of a text too, what has been read is a front, with the text so far as a tree
+  -- even in the middle of a text, what has been read is a front, with the text so far as a tree
   pub middle_front : (f : OpenElement) (gs : List OpenElement) (l : Bool) (s w run rest : List ℕ)
       → (c : IsConf rules outer (f ∷ gs) s (w ++ rest)) → Middle (f ∷ gs) w run rest
       → IsFront rules outer l (with_tree (f ∷ gs) (text run)) (s ++ w)
@@ -275,7 +275,7 @@ module _ (rules : Rules) (outer : Context) where
   named_front f [] l s h i = absurd (let q = h.0 in cc)
   named_front f (g ∷ gs) l s h i = elim (h.5).2 [ inl w ↦ absurd (let q = w.0 in cc) | inr w ↦ w.2 ]
 
-  -- what stands behind the piece
+  -- what follows the piece
   character_ok : (fs : List OpenElement) (run s : List ℕ) (o : Piece) (b : State)
       → character_step rules outer fs run s o ≡ Ok b
       → (m : ℕ) × (v : List ℕ) × (o ≡ stands m v)

@@ -17,7 +17,7 @@ use Rattle.htmd_grammar.proofs.TagReadingLemmas.{back_split}
 use Rattle.htmd_grammar.proofs.TagSpellingLemmas.{at_head}
 use Rattle.htmd_text.proofs.Cases.{test}
 
--- what is in no piece behind its first byte
+-- what is in no piece after its first byte
 pub record IsBound (c : ℕ) : Type 0 where
   no_letter : is_ascii_alphanumeric c ≡ false
   no_digit : is_ascii_digit c ≡ false
@@ -94,7 +94,7 @@ piece_over names b s t = piece_bound 60 less_bounds names b s t
 pub stands_same : (n m : ℕ) (v w : List ℕ) → stands n v ≡ stands m w → (n ≡ m) × (v ≡ w)
 stands_same n m v w e = (cc, cc)
 
--- the bytes of the piece behind its first one
+-- the bytes of the piece after its first one
 abbrev pub Fits : ℕ → List ℕ → Type 0
 Fits n s = (w r : List ℕ) × (s ≡ w ++ r) × (length w ≡ n) × (lacks 60 w ≡ true) × (lacks 38 w ≡ true)
 

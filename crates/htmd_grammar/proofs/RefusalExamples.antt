@@ -10,7 +10,7 @@ use Rattle.htmd_grammar.specs.declared.fault.FaultKind.TheVariants.{BadNumber, M
 use Rattle.htmd_grammar.specs.declared.fault.FaultKind.TheVariants.{MalformedTag, NotAllowedHere, StrayText, TooDeep}
 use Rattle.htmd_grammar.proofs.ComputedSteps.{Refuses, refuses}
 
--- the project's names, and so many levels below the Document
+-- the project's names, and this many levels below the Document
 abbrev shallow_rules : ℕ → Rules
 shallow_rules n = record { names = named_characters; depth = n; scripting = true }
 

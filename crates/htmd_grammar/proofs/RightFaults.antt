@@ -30,7 +30,7 @@ use Rattle.htmd_grammar.proofs.TreeTexts.{IsTextTree, node_no_title}
 use Rattle.htmd_text.proofs.Cases.{test}
 
 module _ (rules : Rules) where
-  -- where elements could stand, a list of trees ends with something else than a text
+  -- if elements could stand there, a list of trees ends with something other than a text
   elements_could : (p : List ℕ) (c : Context) (l : Bool) (t : ValueTree) (ts : ValueForest) (s : List ℕ)
       → ReadsForest rules (p ∷ c) l (more t ts) s → ends_in_text (more t ts) ≡ false
       → holds_text_alone rules.scripting p ≡ false
@@ -51,7 +51,7 @@ module _ (rules : Rules) where
       later (comment v) e = e
       later (element n attributes children) e = e
 
-  -- an element that holds text alone holds a text or nothing
+  -- an element that holds only text holds a text or nothing
   text_or_nothing : (p : List ℕ) (c : Context) (l : Bool) (ts : ValueForest) (s : List ℕ)
       → ReadsForest rules (p ∷ c) l ts s → holds_text_alone rules.scripting p ≡ true
       → ends_in_text ts ≡ false

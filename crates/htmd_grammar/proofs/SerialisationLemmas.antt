@@ -11,7 +11,7 @@ use Rattle.htmd_grammar.specs.Serialisation.{is_no_break_space, text_byte, value
 use Rattle.htmd_grammar.specs.SerialiserSteps.{escaped_html_char}
 use Rattle.htmd_text.proofs.Cases.{test}
 
--- one more piece of a text is behind what was written
+-- one more piece of a text is after what was written
 pub turn : (out new piece rest total : List ℕ) → new ≡ out ++ piece → out ++ (piece ++ rest) ≡ total
     → new ++ rest ≡ total
 turn out new piece rest total e h = ap (λ x. x ++ rest) e ∙ (append_assoc out piece rest ∙ h)

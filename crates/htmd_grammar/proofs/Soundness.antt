@@ -74,7 +74,7 @@ module _ (rules : Rules) (outer : Context) where
   abbrev pub flag : List OpenElement → List ℕ → Bool
   flag fs s = not (holds_text_alone rules.scripting (parent_name (names_of outer fs))) && ends_rows s
 
-  -- behind the start tag all that is dropped has been dropped
+  -- after the start tag all that is dropped has been dropped
   abbrev pub First : (fs : List OpenElement) (l : Bool) (s rest : List ℕ) → IsFront rules outer l fs s → Type 0
   First [] l s rest h = ⊤
   First (f ∷ gs) l s rest h = f.children ≡ none → IsKept f.name (content_so_far rules outer f gs l s h) rest
@@ -132,7 +132,7 @@ module _ (rules : Rules) (outer : Context) where
             (go (shallow fs w.0))
       ]
 
-  -- the flag means nothing where text goes on
+  -- the flag means nothing if text goes on
   pub no_flag : (f : OpenElement) (gs : List OpenElement) (s : List ℕ)
       → ends_text rules.scripting f.name s ≡ false
       → flag (f ∷ gs) s ≡ false
@@ -205,7 +205,7 @@ module _ (rules : Rules) (outer : Context) where
       → holds_parts p ≡ true → list_all is_ascii_white_space u ≡ true
   strict_white p u e t = test (list_all is_ascii_white_space u) (λ q. q) (λ q. let w = rw (t, q) at e in absurd (cc))
 
-  -- where a text is added, an earlier tree begins with `<`
+  -- if a text is added, an earlier tree begins with `<`
   holds_tag : (p : List ℕ) (c : Context) (l : Bool) (u : ValueTree) (us : ValueForest) (s : List ℕ)
       → ReadsForest rules (p ∷ c) l (more u us) s → ends_in_text (more u us) ≡ false
       → (x t : List ℕ) × (s ≡ x ++ (60 ∷ t))
@@ -332,7 +332,7 @@ module _ (rules : Rules) (outer : Context) where
         },
       )
 
-  -- what stands behind `<` in a comment
+  -- what follows `<` in a comment
   sound_comment : (f : OpenElement) (gs : List OpenElement) (s x : List ℕ) (st : State)
       → IsConf (f ∷ gs) s (60 ∷ 33 ∷ 45 ∷ 45 ∷ x) → holds_text_alone rules.scripting f.name ≡ false
       → (o : Option (List ℕ × List ℕ)) → before_comment_end x ≡ o

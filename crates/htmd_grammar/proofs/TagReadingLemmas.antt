@@ -169,7 +169,7 @@ valued_bare key (b ∷ body) r n l h =
     let c = front_cut is_unquoted_byte (b ∷ body) r l h in
     (rw w.0 refl, rw (c.0, c.1, w.1, w.2) refl)
 
--- a tag goes on behind its name
+-- a tag goes on after its name
 pub rest_full : (attributes : List AttributePair) (present : Bool) (s : List ℕ) → IsTagRest attributes present s
     → s ≢ []
 rest_full [] present s h e = ended h.0 (optional_slash present) (sym h.1 ∙ e)

@@ -86,7 +86,7 @@ bare_spelled key s key2 body rest e =
 abbrev Value : List ℕ → List ℕ → List ℕ → List ℕ → List ℕ → Type 0
 Value key s key2 body rest = (key ≡ key2) × (value : List ℕ) × (s ≡ value ++ rest) × Spelt value body rest
 
--- behind `=` and white space
+-- after `=` and white space
 valued_spelled : (key s t key2 body rest eq : List ℕ) → s ≡ eq ++ t → IsEqualsSign eq
     → value_part key t ≡ attribute key2 body rest → Value key s key2 body rest
 valued_spelled key s t key2 body rest eq e q h =
@@ -296,7 +296,7 @@ value_of value spelled rest r y (inr (inr h)) q =
     let b = halts_cut is_unquoted_byte r y (ap (halts is_unquoted_byte) (sym q) ∙ h.5) in
     inr (inr (h.0, h.1, h.2, h.3, (front_cut is_unquoted_byte spelled r h.4 b).0))
 
--- what is read as the tag behind its name, is that
+-- what is read as the tag after its name, is that
 pub tag_spelled : (k : ℕ) (s x : List ℕ) (attributes : List AttributePair) (slash : Bool)
     → form_within k s ≡ form attributes slash x
     → (r : List ℕ) × (s ≡ r ++ x) × IsTagRest attributes slash r

@@ -69,7 +69,7 @@ module _ (names : Names) where
       let w = values_parts a.name (decode names 0 a.value) (decode_values names spelled) attributes e in
       ap (λ (y : List (List ℕ)). a.name ∷ y) (decoded_names spelled w.1 w.3) ∙ ap attribute_names (sym w.4)
 
-  -- attributes, spelled so
+  -- attributes, spelled like this
   abbrev Spells : List AttributePair → List ℕ → Type 0
   Spells attributes x = (spelled : List AttributePair) × IsTagRest spelled false x
       × (decode_values names spelled ≡ Some attributes)

@@ -39,7 +39,7 @@ some_end x r e = cc
 mark_end : (s : List ℕ) → IsEndOf (behind_mark s) s
 mark_end s = test (begins_with byte_order_mark s) (λ t. rw t (drop_end 3 s)) (λ t. rw t (whole_end s))
 
--- behind `<!doctype`, white space, `html`, white space and `>`
+-- after `<!doctype`, white space, `html`, white space and `>`
 doctype_left : (s r : List ℕ) → behind_doctype s ≡ Some r → IsEndOf r s
 doctype_left s r e = elim (if_then (begins_in_any_case (codes "<!doctype") s) _ None (Some r) e) [
   | inl w ↦ end_of_end r (drop 9 s) s (at_space (drop 9 s) w.1) (drop_end 9 s)

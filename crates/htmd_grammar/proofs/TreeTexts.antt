@@ -64,7 +64,7 @@ module _ (rules : Rules) where
       let k = name_head (t.2).0 (t.2).3 in
       ap begins_markup ((t.2).2 ∙ ap (λ (y : List ℕ). 60 ∷ (y ++ (t.2).1)) k.2) ∙ rw k.3 refl
 
-  -- a node that is no text begins with markup
+  -- a node that isn't text begins with markup
   pub node_stops : (t : ValueTree) (c : Context) (last : Bool) (s : List ℕ) → IsTextTree t ≡ false
       → ReadsTree rules c last t s → begins_markup s ≡ true
   node_stops (document ks) c last s e h = absurd h

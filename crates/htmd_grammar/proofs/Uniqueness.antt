@@ -22,11 +22,11 @@ use Rattle.htmd_grammar.proofs.NestingLemmas.{one_name, same_bytes, text_alone_p
 use Rattle.htmd_grammar.proofs.TextLemmas.{Stops, begins_name-lower, name_cut}
 use Rattle.htmd_text.proofs.Cases.{test}
 
--- what ends any text there, and is no tag
+-- what ends any text there, and isn't a tag
 abbrev bar : Bool → List ℕ → List ℕ
 bar z p = if holds_text_alone z p then 60 ∷ 47 ∷ (p ++ 32 ∷ []) else codes "</table"
 
--- the name of an element that holds text alone
+-- the name of an element that holds only text
 small_name : (z : Bool) (p : List ℕ) → holds_text_alone z p ≡ true
     → (is_tag_name p ≡ true) × (map to_ascii_lowercase p ≡ p)
 small_name z p t = (

@@ -114,7 +114,7 @@ module _ (rules : Rules) where
   unfolding step
   at_end content = rw (and_false rules.scripting) refl
 
-  -- where a step finds a fault before the end, no tree is denoted
+  -- if a step finds a fault before the end, no tree is denoted
   pub refused : (s : List ℕ) (st : State) (k : FaultKind) → Reaches rules above_body (started s) st
       → step rules above_body st ≡ Err k → ((content : ValueForest) → st ≡ finished content → ⊥)
       → (content : ValueForest) → reads rules below_body (body_text s) content → ⊥

@@ -42,7 +42,7 @@ begins_in_any_case [] s = true
 begins_in_any_case (p ∷ ps) [] = false
 begins_in_any_case (p ∷ ps) (b ∷ s) = (to_ascii_lowercase b == p) && begins_in_any_case ps s
 
--- the longest beginning of characters that pass a test, and what stands behind it
+-- the longest beginning of characters that pass a test, and what follows it
 abbrev pub leading_run : (ℕ → Bool) → List ℕ → List ℕ
 leading_run p [] = []
 leading_run p (b ∷ s) = if p b then b ∷ leading_run p s else []
@@ -51,7 +51,7 @@ abbrev pub behind_run : (ℕ → Bool) → List ℕ → List ℕ
 behind_run p [] = []
 behind_run p (b ∷ s) = if p b then behind_run p s else b ∷ s
 
--- the beginning up to the first place where the test holds of the rest, and that rest
+-- the beginning up to the first place where the test holds for the rest, and that rest
 abbrev pub up_to : (List ℕ → Bool) → List ℕ → List ℕ
 up_to stop [] = []
 up_to stop (b ∷ s) = if stop (b ∷ s) then [] else b ∷ up_to stop s
@@ -76,7 +76,7 @@ lacks b s = list_all (λ c. not (c == b)) s
 
 -- ---- classes
 
--- behind the first letter of a tag name: letters, digits, `-`, `_`, `.`, `:`
+-- after the first letter of a tag name: letters, digits, `-`, `_`, `.`, `:`
 abbrev pub is_tag_name_byte : ℕ → Bool
 is_tag_name_byte b = is_ascii_alphanumeric b || (b == hyphen) || (b == underscore) || (b == full_stop) || (b == colon)
 
@@ -92,7 +92,7 @@ is_attribute_name_byte b =
     || (b == less_than_sign)
     || (b == slash) || (b == greater_than_sign) || (b == equals_sign))
 
--- one of the controls U+0080 to U+009F, which are two bytes in UTF-8, stands in the text
+-- the text has one of the controls U+0080 to U+009F, which are two bytes in UTF-8
 abbrev pub holds_control : List ℕ → Bool
 holds_control [] = false
 holds_control (b ∷ []) = false
@@ -114,7 +114,7 @@ is_unquoted_byte b =
 abbrev pub is_among : List (List ℕ) → List ℕ → Bool
 is_among names n = list_any (bytes_eq n) names
 
--- no name stands there twice
+-- no name is there twice
 abbrev pub are_distinct : List (List ℕ) → Bool
 are_distinct [] = true
 are_distinct (n ∷ ns) = not (is_among ns n) && are_distinct ns

@@ -13,7 +13,7 @@ normalized (b ∷ s) =
     then normalized s
     else (if b == carriage_return then line_feed else b) ∷ normalized s
 
--- what stands before the first `-->`, and what follows it
+-- what comes before the first `-->`, and what follows it
 abbrev pub before_comment_end : List ℕ → Option (List ℕ × List ℕ)
 before_comment_end [] = None
 before_comment_end (b ∷ s) =
@@ -44,6 +44,6 @@ white_space_and_name [] = None
 white_space_and_name (b ∷ s) = if is_ascii_white_space b then doctype_name (behind_run is_ascii_white_space s)
     else None
 
--- what stands behind the doctype with which the text begins
+-- what follows the doctype with which the text begins
 abbrev pub behind_doctype : List ℕ → Option (List ℕ)
 behind_doctype s = if begins_in_any_case (codes "<!doctype") s then white_space_and_name (drop 9 s) else None

@@ -12,7 +12,7 @@ use Rattle.htmd_grammar.specs.Grammar.{reads}
 abbrev pub byte_order_mark : List ℕ
 byte_order_mark = 0xEF ∷ 0xBB ∷ 0xBF ∷ []
 
--- the text less a byte order mark at its beginning, which denotes nothing
+-- the text without a byte order mark at its beginning, which denotes nothing
 abbrev pub behind_mark : List ℕ → List ℕ
 behind_mark s = if begins_with byte_order_mark s then drop 3 s else s
 
@@ -30,17 +30,17 @@ skeleton content =
     more (element (codes "html") []
     (more (element (codes "head") [] none) (more (element (codes "body") [] content) none))) none
 
--- a Doctype stands first where the text begins with one
+-- a Doctype comes first if the text begins with one
 abbrev pub with_doctype : Option (List ℕ) → ValueForest → ValueForest
 with_doctype None trees = trees
 with_doctype (Some rest) trees = more doctype trees
 
--- what stands behind the doctype, if there is one
+-- what follows the doctype, if there is one
 abbrev pub behind_prelude : Option (List ℕ) → List ℕ → List ℕ
 behind_prelude None s = s
 behind_prelude (Some rest) s = rest
 
--- the content of the text, behind its byte order mark and its doctype
+-- the content of the text, after its byte order mark and its doctype
 abbrev pub body_text : List ℕ → List ℕ
 body_text s = behind_prelude (behind_doctype (behind_mark s)) (behind_mark s)
 

@@ -54,7 +54,7 @@ number_of Unclosed = 13
 number_of ScriptEscape = 14
 number_of TooDeep = 15
 
--- ---- what stands at the beginning of a text
+-- ---- what is at the beginning of a text
 
 -- `<` and a letter, or `</`
 abbrev pub begins_tag : List ℕ → Bool
@@ -76,7 +76,7 @@ HasComment s = (this rest u : List ℕ) × (s ≡ this ++ rest) × IsComment thi
 abbrev pub HasPiece : Names → List ℕ → Piece → Type 0
 HasPiece names s piece = (b : ℕ) × (rest : List ℕ) × (s ≡ b ∷ rest) × (piece_at names b rest ≡ piece)
 
--- somewhere in the value stands a reference by a number that isn't right
+-- somewhere in the value is a reference by a number that isn't right
 abbrev pub is_bad_number : Piece → Bool
 is_bad_number (stands n v) = false
 is_bad_number (wrong BadNumber) = true
@@ -100,11 +100,11 @@ module _ (rules : Rules) (fs : List OpenElement) (s : List ℕ) where
   abbrev parent : List ℕ
   parent = Rattle.htmd_grammar.specs.Nesting.parent_name here
 
-  -- markup stands there
+  -- there is markup
   abbrev pub IsMarkup : Type 0
   IsMarkup = ends_text rules.scripting parent s ≡ true
 
-  -- text stands there
+  -- there is text
   abbrev pub IsText : Type 0
   IsText = (s ≢ []) × (ends_text rules.scripting parent s ≡ false)
 
@@ -167,7 +167,7 @@ module _ (rules : Rules) (fs : List OpenElement) (s : List ℕ) where
 
 -- ---- a refusal
 
--- the first U+0000 stands at the place
+-- the first U+0000 is at the place
 pub record IsFirstNul (text : List ℕ) (place : ℕ) : Type 0 where
   pub before : List ℕ
   pub behind : List ℕ
@@ -175,7 +175,7 @@ pub record IsFirstNul (text : List ℕ) (place : ℕ) : Type 0 where
   pub place_is : length before ≡ place
   pub first : lacks null before ≡ true
 
--- What stands before the place is a viable prefix, what stands there is of this kind and of no lower one.
+-- What comes before the place is a viable prefix, what is there is of this kind and of no lower one.
 pub record IsPieceFault (rules : Rules) (text : List ℕ) (place : ℕ) (kind : FaultKind) : Type 0 where
   pub innermost : OpenElement
   pub opened : List OpenElement

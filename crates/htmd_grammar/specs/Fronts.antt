@@ -1,5 +1,5 @@
 -- A beginning of a text that reads as whole pieces by itself, with the elements that are open at its end. It may cut
--- a character or reference of the text in two (`&am` is itself a text): no refusal stands there (`faults_are_one`).
+-- a character or reference of the text in two (`&am` is itself a text): there is no refusal there (`faults_are_one`).
 use Rattle.std.specs.Prelude.{◌≡◌, ◌⊎◌, ℕ, ◌≤◌, Bool, true, false, ◌&&◌, if◌then◌else◌, List, [], ◌∷◌, ◌++◌, length}
 use Rattle.std.specs.Prelude.{codes}
 use Rattle.htmd_grammar.specs.ValueTrees.{text, ValueForest, none, more}
@@ -51,7 +51,7 @@ with_text f run = if is_empty run then f else with_children f (more (text run) n
 abbrev pub IsKept : List ℕ → List ℕ → List ℕ → Type 0
 IsKept n inner behind = content_of n (inner ++ behind) ≡ content_of n inner ++ behind
 
--- the end tags of the open elements, but for the outermost, which no text closes
+-- the end tags of the open elements, except for the outermost, which no text closes
 abbrev pub end_tags : List OpenElement → List ℕ
 end_tags [] = []
 end_tags (f ∷ []) = []
@@ -65,7 +65,7 @@ pub record IsViablePrefix (rules : Rules) (f : OpenElement) (fs : List OpenEleme
     pub rows : f.implied ≡ true → begins_with_row f.children ≡ true
     -- an implied `tbody` that ends there is closed
     pub no_more_rows : (f.implied && ends_rows behind) ≡ false
-    -- a line feed that is dropped stands before the place
+    -- a line feed that is dropped is before the place
     pub dropped : f.children ≡ none
         → IsKept f.name (content_so_far rules above_body f fs (ends_rows behind) before pieces) behind
     pub complete : (ts : ValueForest) × reads rules below_body (before ++ end_tags (f ∷ fs)) ts

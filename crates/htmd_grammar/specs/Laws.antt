@@ -22,12 +22,12 @@ abbrev pub StepsReadAll : Rules → Type 0
 StepsReadAll rules = (s : List ℕ) (content : ValueForest) → reads rules below_body (body_text s) content
     → ReachesEnd rules s content
 
--- sound: where the steps reach the end, the text denotes what they read
+-- sound: if the steps reach the end, the text denotes what they read
 abbrev pub StepsReadRightly : Rules → Type 0
 StepsReadRightly rules = (s : List ℕ) (content : ValueForest) → ReachesEnd rules s content
     → reads rules below_body (body_text s) content
 
--- where a step finds a fault before the end, the text denotes nothing
+-- if a step finds a fault before the end, the text denotes nothing
 abbrev pub FaultsRefuse : Rules → Type 0
 FaultsRefuse rules =
     (s : List ℕ) (st : State) (kind : FaultKind) → Reaches rules above_body (started s) st
@@ -35,7 +35,7 @@ FaultsRefuse rules =
     → ((content : ValueForest) → st ≡ finished content → ⊥)
     → (content : ValueForest) → reads rules below_body (body_text s) content → ⊥
 
--- what has been read is a viable prefix, also in the midst of a text, but where an implied `tbody` is about to end
+-- what has been read is a viable prefix, even in the middle of a text, except where an implied `tbody` is about to end
 abbrev pub PrefixesAreViable : Rules → Type 0
 PrefixesAreViable rules =
     (s : List ℕ) (f : OpenElement) (fs : List OpenElement) (run rest : List ℕ)
@@ -46,7 +46,7 @@ PrefixesAreViable rules =
 -- ---- refusals
 
 -- Where a step finds a fault, and the text goes on or an element is open, the fault's kind is right of the place
--- behind which so much is left.
+-- after which this much is left.
 abbrev pub FaultsAreRight : Rules → Type 0
 FaultsAreRight rules =
     (s : List ℕ) (st : State) (kind : FaultKind) (place : ℕ) → lacks null s ≡ true

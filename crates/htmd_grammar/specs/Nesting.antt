@@ -30,7 +30,7 @@ is_outside n =
 
 -- ---- paragraphs, headings, and what doesn't stand in itself
 
--- what doesn't stand under an open `p`
+-- what may not stand under an open `p`
 abbrev pub closes_paragraph : List ℕ → Bool
 closes_paragraph n =
     is_among (codes "address" ∷ codes "article" ∷ codes "aside" ∷ codes "blockquote" ∷ codes "center"
@@ -44,7 +44,7 @@ closes_paragraph n =
     ∷ codes "menu" ∷ codes "nav" ∷ codes "ol" ∷ codes "p" ∷ codes "pre" ∷ codes "search" ∷ codes "section"
     ∷ codes "summary" ∷ codes "table" ∷ codes "ul" ∷ codes "xmp" ∷ []) n
 
--- what doesn't stand under an element of its own name
+-- what may not stand under an element with its own name
 abbrev pub excludes_itself : List ℕ → Bool
 excludes_itself n =
     is_among (codes "a" ∷ codes "button" ∷ codes "form" ∷ codes "nobr" ∷ codes "select" ∷ codes "option"
@@ -87,7 +87,7 @@ is_tbody n = is_among (codes "tbody" ∷ []) n
 abbrev pub is_row : List ℕ → Bool
 is_row n = is_among (codes "tr" ∷ []) n
 
--- what stands in a `table` only, and ends an implied `tbody`
+-- what is in a `table` only, and ends an implied `tbody`
 abbrev pub is_table_part : List ℕ → Bool
 is_table_part n =
     is_among (codes "caption" ∷ codes "colgroup" ∷ codes "thead" ∷ codes "tbody" ∷ codes "tfoot" ∷ []) n
@@ -95,7 +95,7 @@ is_table_part n =
 abbrev pub holds_rows : List ℕ → Bool
 holds_rows n = is_among (codes "thead" ∷ codes "tbody" ∷ codes "tfoot" ∷ []) n
 
--- between the parts of a table stand only these parts, comments and ASCII white space
+-- between the parts of a table there are only these parts, comments and ASCII white space
 abbrev pub holds_parts : List ℕ → Bool
 holds_parts n =
     is_among (codes "table" ∷ codes "thead" ∷ codes "tbody" ∷ codes "tfoot" ∷ codes "tr" ∷ codes "colgroup"
@@ -119,7 +119,7 @@ fits_select parent n =
 
 -- ---- all of them
 
--- an element of this name may stand here
+-- an element with this name may stand here
 unfoldable pub is_allowed : Bool → Context → List ℕ → Bool
 is_allowed scripting c n =
     not (is_outside n)

@@ -68,7 +68,7 @@ end_tag_name_at (b ∷ c ∷ s) =
 abbrev pub ends_rows : List ℕ → Bool
 ends_rows s = is_table_part (tag_name_at s) || bytes_eq (end_tag_name_at s) (codes "table")
 
--- somewhere in the value stands a reference by an unknown name
+-- somewhere in the value is a reference by an unknown name
 abbrev pub is_unknown : Piece → Bool
 is_unknown (stands n v) = false
 is_unknown (wrong UnknownReference) = true

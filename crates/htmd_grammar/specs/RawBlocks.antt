@@ -18,8 +18,8 @@ begins_line [] = false
 begins_line (c ∷ cs) = c == line_feed
 
 -- The characters of a text from left to right, where `after` says that a line end was written as it is, and nothing but
--- white space since. A line end behind one is written by references, CR LF by two, and what follows starts afresh. A
--- lone CR is no line end, and what follows it starts afresh too.
+-- white space since. A line end after one is written by references, CR LF by two, and what follows starts afresh. A
+-- lone CR isn't a line end, and what follows it starts afresh too.
 abbrev pub without_blank_lines : Bool → List ℕ → List ℕ
 without_blank_lines after [] = []
 without_blank_lines after (c ∷ cs) =
@@ -37,7 +37,7 @@ raw_block s = with_blank_lines (encode_utf8_all (without_blank_lines false (char
 
 -- ---- blank lines
 
--- two line feeds have white space alone between them
+-- two line feeds have only white space between them
 pub record HasBlankLine (cs : List ℕ) : Type 0 where
   pub before : List ℕ
   pub between : List ℕ
@@ -50,7 +50,7 @@ pub record HasBlankLine (cs : List ℕ) : Type 0 where
 abbrev pub has_carriage_return : List ℕ → Bool
 has_carriage_return s = list_any (λ c. c == carriage_return) (chars s)
 
--- Each line feed behind a raw one, with white space alone between them, is written as a reference, and that one is not
+-- Each line feed after a raw one, with only white space between them, is written as a reference, and that one is not
 -- raw.
 abbrev pub raw_html_from : Bool → List ℕ → List ℕ
 raw_html_from after [] = []

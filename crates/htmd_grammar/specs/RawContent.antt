@@ -1,5 +1,5 @@
--- Elements that hold text alone, up to their own end tag (HTML Standard, 13.1.2, raw text and escapable raw text
--- elements), and what stands in them.
+-- Elements that hold only text, up to their own end tag (HTML Standard, 13.1.2, raw text and escapable raw text
+-- elements), and what is in them.
 use Rattle.std.specs.Prelude.{ℕ, Bool, false, ◌&&◌, ◌||◌, ◌==◌, if◌then◌else◌, List, [], ◌∷◌, Option, Some, None, codes}
 use Rattle.std.specs.Char.{to_ascii_lowercase, is_ascii_alphabetic}
 use Rattle.htmd_text.specs.Characters.{exclamation_mark, slash, less_than_sign, greater_than_sign, question_mark}
@@ -9,14 +9,14 @@ use Rattle.htmd_grammar.specs.Comments.{normalized}
 use Rattle.htmd_grammar.specs.Rules.{Rules}
 use Rattle.htmd_grammar.specs.References.{decode, after_line_feed}
 
--- text without references; `noscript` where scripting is on
+-- text without references; `noscript` if scripting is on
 abbrev pub holds_raw_text : Bool → List ℕ → Bool
 holds_raw_text scripting n =
     is_among (codes "script" ∷ codes "style" ∷ codes "iframe" ∷ codes "noembed" ∷ codes "noframes"
     ∷ codes "xmp" ∷ []) n
     || (scripting && is_among (codes "noscript" ∷ []) n)
 
--- text alone, with references or without
+-- only text, with references or without
 abbrev pub holds_text_alone : Bool → List ℕ → Bool
 holds_text_alone scripting n = is_among (codes "title" ∷ codes "textarea" ∷ []) n || holds_raw_text scripting n
 
@@ -43,7 +43,7 @@ begins_markup [] = false
 begins_markup (b ∷ []) = false
 begins_markup (b ∷ c ∷ s) = is_markup b c
 
--- what ends a text in an element of this name
+-- what ends a text in an element with this name
 abbrev pub ends_text : Bool → List ℕ → List ℕ → Bool
 ends_text scripting n s = if holds_text_alone scripting n then begins_own_end n s else begins_markup s
 
@@ -57,7 +57,7 @@ has_script_escape (b ∷ s) =
 abbrev pub raw_text_of : List ℕ → List ℕ → Option (List ℕ)
 raw_text_of n s = if is_among (codes "script" ∷ []) n && has_script_escape s then None else Some (normalized s)
 
--- what a text in an element of this name denotes
+-- what a text in an element with this name denotes
 abbrev pub text_of : Rules → List ℕ → List ℕ → Option (List ℕ)
 text_of rules n s = if holds_raw_text rules.scripting n then raw_text_of n s else decode rules.names 0 s
 
@@ -65,6 +65,6 @@ text_of rules n s = if holds_raw_text rules.scripting n then raw_text_of n s els
 abbrev pub drops_line_feed : List ℕ → Bool
 drops_line_feed n = is_among (codes "pre" ∷ codes "textarea" ∷ []) n
 
--- the content of an element of this name, less that line feed
+-- the content of an element with this name, without that line feed
 abbrev pub content_of : List ℕ → List ℕ → List ℕ
 content_of n s = if drops_line_feed n then after_line_feed [] s else s

@@ -1,4 +1,4 @@
--- What the serialiser writes of a plain element of a tree that was read is read as that element, also with references
+-- What the serialiser writes of a plain element of a tree that was read is read as that element, even with references
 -- in place of some line feeds. Plain: without carriage returns, comments, `pre`, `textarea` and raw text elements.
 use Rattle.std.specs.Prelude.{◌≡◌, ◌⊎◌, ℕ, Bool, true, false, not, ◌&&◌, ◌||◌, List, [], ◌∷◌, codes}
 use Rattle.std.specs.List.{list_all}
@@ -60,7 +60,7 @@ pub record DenotesAlone (rules : Rules) (c : Context) (x : List ℕ) (ts : Value
   pub denotes : reads rules c x ts
   pub alone : (us : ValueForest) → reads rules c x us → us ≡ ts
 
--- an element that stands below these trees, under some parent, and is plain
+-- an element that is below these trees, under some parent, and is plain
 pub record IsPlainElement (c : Context) (ts : ValueForest) (d : Context) (t : ValueTree) : Type 0 where
   pub parent : List ℕ
   pub above : Context
@@ -80,7 +80,7 @@ ReadsBack rules =
     → (d : Context) (t : ValueTree) → IsPlainElement c ts d t
     → (x : List ℕ) → RefersToLineFeeds (serialisation t) x → DenotesAlone rules d x (more t none)
 
--- The same of what stands between the blank lines of a block of its raw HTML.
+-- The same of what is between the blank lines of a block of its raw HTML.
 abbrev pub RawBlockReadsBack : Rules → Type 0
 RawBlockReadsBack rules =
     (c : Context) (s : List ℕ) (ts : ValueForest) → reads rules c s ts

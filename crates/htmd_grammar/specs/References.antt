@@ -23,7 +23,7 @@ Names = List NamedCharacter
 
 -- what begins at a byte of a text
 pub data Piece : Type 0 where
-  -- a character or a reference: so many bytes behind the first one belong to it, and it stands for these
+  -- a character or a reference: this many bytes after the first one belong to it, and it stands for these
   stands : ℕ → List ℕ → Piece
   -- a reference that isn't right
   wrong : FaultKind → Piece
@@ -35,7 +35,7 @@ abbrev pub digit_value : ℕ → ℕ
 digit_value b =
     if is_ascii_digit b then b - digit_zero else to_ascii_lowercase b - small_letter_a + 10
 
--- what digits mean in a base, behind others
+-- what digits mean in a base, after others
 abbrev pub number : ℕ → ℕ → List ℕ → ℕ
 number base sum [] = sum
 number base sum (b ∷ s) = number base (base * sum + digit_value b) s
@@ -57,7 +57,7 @@ number_at is_digit base n s =
     then numbered (suc (n + length (leading_run is_digit s))) (number base 0 (leading_run is_digit s))
     else wrong BadNumber
 
--- behind `&#`: decimal digits, or `x` or `X` and hexadecimal digits
+-- after `&#`: decimal digits, or `x` or `X` and hexadecimal digits
 abbrev pub behind_number_sign : List ℕ → Piece
 behind_number_sign [] = wrong BadNumber
 behind_number_sign (b ∷ s) =
@@ -71,7 +71,7 @@ abbrev pub named : ℕ → Option ℕ → Piece
 named n None = wrong UnknownReference
 named n (Some c) = stands n (encode_utf8 c)
 
--- behind `&`: a number, or ASCII letters or digits and `;`, which are a name. Any other `&` is itself.
+-- after `&`: a number, or ASCII letters or digits and `;`, which are a name. Any other `&` is itself.
 abbrev pub behind_ampersand : Names → List ℕ → Piece
 behind_ampersand names s =
     if first_is number_sign s
@@ -83,7 +83,7 @@ behind_ampersand names s =
 
 -- ---- runs
 
--- the character or reference that begins with this byte, where these follow
+-- the character or reference that begins with this byte, if these follow
 abbrev pub piece_at : Names → ℕ → List ℕ → Piece
 piece_at names b s =
     if b == ampersand
@@ -96,12 +96,12 @@ abbrev pub behind : List ℕ → Option (List ℕ) → Option (List ℕ)
 behind v None = None
 behind v (Some u) = Some (v ++ u)
 
--- what a piece stands for, and then what the rest behind it denotes
+-- what a piece stands for, and then what the rest after it denotes
 abbrev pub put : Piece → (ℕ → Option (List ℕ)) → Option (List ℕ)
 put (wrong kind) rest = None
 put (stands n v) rest = behind v (rest n)
 
--- what characters and references denote, behind so many bytes of one that began before
+-- what characters and references denote, after this many bytes of one that began before
 abbrev pub decode : Names → ℕ → List ℕ → Option (List ℕ)
 decode names n [] = Some []
 decode names zero (b ∷ s) = put (piece_at names b s) (λ n. decode names n s)
@@ -113,7 +113,7 @@ abbrev pub less_line_feed : Piece → ℕ → List ℕ → List ℕ
 less_line_feed (wrong kind) b s = b ∷ s
 less_line_feed (stands n v) b s = if bytes_eq v (line_feed ∷ []) then drop n s else b ∷ s
 
--- the text less a line feed at its beginning, written or by reference
+-- the text without a line feed at its beginning, written or by reference
 abbrev pub after_line_feed : Names → List ℕ → List ℕ
 after_line_feed names [] = []
 after_line_feed names (b ∷ s) = less_line_feed (piece_at names b s) b s

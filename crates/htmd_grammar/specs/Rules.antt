@@ -7,7 +7,7 @@ pub record NamedCharacter : Type 0 where
   pub name : List ℕ
   pub character : ℕ
 
--- the character of this name
+-- the character with this name
 abbrev pub character_named : List NamedCharacter → List ℕ → Option ℕ
 character_named [] n = None
 character_named (entry ∷ entries) n = if bytes_eq n entry.name then Some entry.character
@@ -44,7 +44,7 @@ named_characters =
     ∷ named (codes "micro") 0xB5 ∷ named (codes "para") 0xB6 ∷ named (codes "iquest") 0xBF
     ∷ named (codes "aacute") 0xE1 ∷ named (codes "iacute") 0xED ∷ named (codes "ntilde") 0xF1 ∷ []
 
--- nodes stand at most so many levels below the Document
+-- nodes stand at most this many levels below the Document
 abbrev pub greatest_depth : ℕ
 greatest_depth = 1024
 

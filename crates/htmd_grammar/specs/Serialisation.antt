@@ -90,6 +90,6 @@ abbrev mutual
   all_markup_of raw none = []
   all_markup_of raw (more tree trees) = markup_of raw tree ++ all_markup_of raw trees
 
--- the serialisation of a tree: a text that stands alone is never raw
+-- the serialisation of a tree: a text by itself is never raw
 abbrev pub serialisation : ValueTree → List ℕ
 serialisation tree = markup_of false tree

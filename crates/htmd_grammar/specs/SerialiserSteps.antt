@@ -8,7 +8,7 @@ abbrev pub escaped_html_char : (ℕ → List ℕ) → ℕ → List ℕ
 escaped_html_char byte c =
     if c == no_break_space then codes "&nbsp;" else (if is_ascii c then byte c else encode_utf8 c)
 
--- Whether two line feeds have white space alone between them, where `after` says that a line feed came, and nothing but
+-- Whether two line feeds have only white space between them, where `after` says that a line feed came, and nothing but
 -- white space since.
 abbrev pub has_blank_line_from : Bool → List ℕ → Bool
 has_blank_line_from after [] = false

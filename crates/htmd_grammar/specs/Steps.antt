@@ -1,5 +1,5 @@
 -- What the reader does from piece to piece: one character or one reference at a time, the tests in the order of the
--- kinds of fault. So each fault stands at the beginning of what is left.
+-- kinds of fault. So each fault is at the beginning of what is left.
 use Rattle.std.specs.Prelude.{◌≡◌, ℕ, suc, Bool, true, false, not, ◌&&◌, ◌||◌, ◌==◌, nat_lt, if◌then◌else◌, List, []}
 use Rattle.std.specs.Prelude.{◌∷◌, ◌++◌, length, map, drop, Option, Some, None, Result, Ok, Err, codes}
 use Rattle.std.specs.List.{list_any, list_all}
@@ -91,7 +91,7 @@ module _ (rules : Rules) (outer : Context) where
 
   -- ---- start tags
 
-  -- an element opens, or a void one stands there
+  -- an element opens, or there is a void one
   abbrev pub open_step : List OpenElement → List ℕ → List AttributePair → List ℕ → Step
   open_step fs n attributes rest =
       if not (is_allowed rules.scripting (names_of outer fs) n) then fault NotAllowedHere
@@ -139,7 +139,7 @@ module _ (rules : Rules) (outer : Context) where
   close_step (f ∷ g ∷ fs) n rest = if bytes_eq f.name n then between (with_tree (g ∷ fs) (closed f)) rest
       else fault StrayEndTag
 
-  -- behind the name of an end tag
+  -- after the name of an end tag
   abbrev pub name_step : List OpenElement → List ℕ → List ℕ → Step
   name_step fs n s =
       if first_is greater_than_sign (behind_run is_ascii_white_space s)
@@ -154,7 +154,7 @@ module _ (rules : Rules) (outer : Context) where
 
   -- ---- all of them
 
-  -- behind `<`
+  -- after `<`
   abbrev pub markup_step : List OpenElement → List ℕ → Step
   markup_step fs [] = fault MalformedTag
   markup_step fs (c ∷ s) =

@@ -11,7 +11,7 @@ use Rattle.htmd_grammar.specs.CharacterClasses.{is_attribute_name, is_unquoted_b
 -- what comes next in a tag
 pub data TagPart : Type 0 where
   malformed : TagPart
-  -- the end of the tag: whether `/` stands there, and what follows the tag
+  -- the end of the tag: whether it has `/`, and what follows the tag
   tag_end : Bool → List ℕ → TagPart
   -- an attribute: its name and value as they are spelled, and what follows it
   attribute : List ℕ → List ℕ → List ℕ → TagPart
@@ -29,26 +29,26 @@ unquoted_value name s =
     if is_empty (leading_run is_unquoted_byte s) then malformed
     else attribute name (leading_run is_unquoted_byte s) (behind_run is_unquoted_byte s)
 
--- behind `=` and white space
+-- after `=` and white space
 abbrev pub value_part : List ℕ → List ℕ → TagPart
 value_part name s =
     if first_is quotation_mark s then quoted_value quotation_mark name (drop 1 s)
     else if first_is apostrophe s then quoted_value apostrophe name (drop 1 s)
     else unquoted_value name s
 
--- behind the name of an attribute
+-- after the name of an attribute
 abbrev pub behind_attribute_name : List ℕ → List ℕ → TagPart
 behind_attribute_name name s =
     if first_is equals_sign (behind_run is_ascii_white_space s)
     then value_part name (behind_run is_ascii_white_space (drop 1 (behind_run is_ascii_white_space s)))
     else attribute name [] s
 
--- behind `/`
+-- after `/`
 abbrev pub behind_slash : List ℕ → TagPart
 behind_slash [] = malformed
 behind_slash (b ∷ s) = if b == greater_than_sign then tag_end true s else malformed
 
--- behind white space, which there may be
+-- after white space, which there may be
 abbrev pub behind_gap : Bool → List ℕ → TagPart
 behind_gap white [] = malformed
 behind_gap white (b ∷ s) =
@@ -63,8 +63,8 @@ behind_gap white (b ∷ s) =
 abbrev pub next_part : List ℕ → TagPart
 next_part s = behind_gap (not (is_empty (leading_run is_ascii_white_space s))) (behind_run is_ascii_white_space s)
 
--- what stands behind the name of a start tag: nothing of its form, or attributes with their values as they are spelled,
--- whether `/` stands there, and what follows the tag
+-- what follows the name of a start tag: nothing of its form, or attributes with their values as they are spelled,
+-- whether it has `/`, and what follows the tag
 pub data TagForm : Type 0 where
   no_form : TagForm
   form : List AttributePair → Bool → List ℕ → TagForm
@@ -79,7 +79,7 @@ form_behind malformed go = no_form
 form_behind (tag_end present s) go = form [] present s
 form_behind (attribute name value s) go = with_attribute name value (go s)
 
--- the form of a tag with less than so many attributes
+-- the form of a tag with fewer than this many attributes
 abbrev pub form_within : ℕ → List ℕ → TagForm
 form_within zero s = no_form
 form_within (suc k) s = form_behind (next_part s) (form_within k)

@@ -17,7 +17,7 @@ IsEqualsSign s =
     (left right : List ℕ) × (s ≡ left ++ (equals_sign ∷ right))
     × (list_all is_ascii_white_space left ≡ true) × (list_all is_ascii_white_space right ≡ true)
 
--- What stands between an attribute's name and the rest of its tag gives it the value v, as it is spelled: nothing (the
+-- What is between an attribute's name and the rest of its tag gives it the value v, as it is spelled: nothing (the
 -- value is empty), or `=` and a value in quotation marks or apostrophes, or `=` and an unquoted value, the longest run.
 abbrev pub IsValue : List ℕ → List ℕ → List ℕ → Type 0
 IsValue s rest v =
@@ -31,7 +31,7 @@ IsValue s rest v =
 abbrev pub optional_slash : Bool → List ℕ
 optional_slash present = if present then slash ∷ [] else []
 
--- A start tag behind its name: attributes, each behind white space, their names in lower case and their values as
+-- A start tag after its name: attributes, each after white space, their names in lower case and their values as
 -- they are spelled; then optional white space, an optional `/`, and `>`.
 abbrev pub IsTagRest : List AttributePair → Bool → List ℕ → Type 0
 IsTagRest [] present s =
@@ -70,7 +70,7 @@ IsStartTag names tag n attributes =
     × (decode_values names spelled ≡ Some attributes) × (are_distinct (attribute_names spelled) ≡ true)
     × (present ≡ true → is_void n ≡ true)
 
--- an end tag of this name
+-- an end tag with this name
 abbrev pub IsEndTag : List ℕ → List ℕ → Type 0
 IsEndTag tag n =
     (name gap : List ℕ) × (tag ≡ less_than_sign ∷ slash ∷ (name ++ (gap ++ greater_than_sign ∷ [])))

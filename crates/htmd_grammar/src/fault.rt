@@ -4,17 +4,16 @@ ghost use Rattle.htmd_grammar.specs.FaultNames.{fault_name};
 
 use std::fmt;
 
-/// The kind of a refusal: what stands at its place. Of two that fit the same piece it is the one with
-/// the lower number.
+/// The kind of a refusal: what is at its place. If two kinds fit the same piece, it is the one with the lower number.
 #[derive(Clone, Copy, Debug, PartialEq, Eq)]
 pub enum FaultKind {
-    /// U+0000 stands in the text; the place is the first one.
+    /// The text has U+0000; the place is that of the first one.
     Nul = 1,
     /// `<` and a letter, or `</`, that begins no tag.
     MalformedTag = 2,
     /// `<!--` that begins no comment.
     MalformedComment = 3,
-    /// Any other `<!` that is no doctype in its place, or `<?`.
+    /// Any other `<!` that isn't a doctype in its place, or `<?`.
     MalformedDeclaration = 4,
     /// A character reference by a name that isn't known; in a tag the place is the tag's `<`.
     UnknownReference = 5,
@@ -22,7 +21,7 @@ pub enum FaultKind {
     BadNumber = 6,
     /// A start tag with one attribute name twice.
     DuplicateAttribute = 7,
-    /// A start tag with `/`, of an element that isn't void.
+    /// A start tag with `/` of an element that isn't void.
     SelfClosing = 8,
     /// A tag named `html`, `head`, `body`, `frameset`, `frame`, `template`, `plaintext`, `listing` or `image`.
     TagOutside = 9,
@@ -32,7 +31,7 @@ pub enum FaultKind {
     StrayEndTag = 11,
     /// Text other than white space between the parts of a table.
     StrayText = 12,
-    /// The text ends with an element open; the place is the text's length.
+    /// The text ends while an element is open; the place is the text's length.
     Unclosed = 13,
     /// The content of a `script` that holds `<!--` and later `<script`; the place is its start.
     ScriptEscape = 14,

@@ -6,9 +6,9 @@ ghost use Rattle.htmd_grammar.specs.Laws.{StepsReadAll, StepsReadRightly, Faults
 ghost use Rattle.htmd_grammar.specs.Laws.{FaultsAreRight, FaultsRefuseDocuments, RestIsAnEnd};
 ghost use Rattle.htmd_grammar.specs.ReadBack.{ReadsBack, RawBlockReadsBack};
 
-/// Of trees that were read: what the serialiser writes of an element without carriage returns, comments, `pre`,
-/// `textarea` and raw text elements is read as that element alone, in the context of its ancestors, also with
-/// references in place of some line feeds; and so is the block of its raw HTML.
+/// For trees that were read: what the serialiser writes of an element without carriage returns, comments, `pre`,
+/// `textarea` and raw text elements is read as that element alone, in the context of its ancestors, even with
+/// references in place of some line feeds. The same holds for the block of its raw HTML.
 pub fn raw_html_reads_back()
     ensures serialisation { (scripting : Bool) → ReadsBack (project scripting) }
     ensures block { (scripting : Bool) → RawBlockReadsBack (project scripting) }
@@ -24,8 +24,8 @@ pub fn steps_read_the_grammar()
     ensures fronts { (rules : Rules) → PrefixesAreViable rules }
 {}
 
-/// Where the steps of a reader stop before the end, what stands there is of the fault's kind and of no lower one,
-/// what stands before it is a viable prefix, and the text denotes nothing. What is left there is an end of the text.
+/// If the steps of a reader stop before the end, what is there is of the fault's kind and of no lower one, what comes
+/// before it is a viable prefix, and the text denotes nothing. What is left there is an end of the text.
 pub fn faults_are_right()
     ensures right { (rules : Rules) → FaultsAreRight rules }
     ensures refused { (rules : Rules) → FaultsRefuseDocuments rules }

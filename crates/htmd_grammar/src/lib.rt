@@ -1,5 +1,5 @@
-//! The strict grammar of HTML: which texts it has, what tree each denotes, what the first fault of any
-//! other text is, and the laws of these definitions that a reader calls.
+//! The strict grammar of HTML: which texts it has, what tree each denotes, what the first fault of any other text is,
+//! and the laws of these definitions that a reader calls.
 #![tactic(auto)]
 
 mod fault;

@@ -44,7 +44,7 @@ work_of-all cs (n ∷ ns) under =
         ∙ (ap (λ (x : List program.Coming). cs ++ x) (map_push (coming_under under) (reverse ns) n)
         ∙ sym (append_assoc cs (map (coming_under under) (reverse ns)) (coming_under under n ∷ [])))
 
--- the children of a node, where nothing fails
+-- the children of a node, if nothing fails
 pub children-pushed : {T E : Type 0} (r : Result T E) (l : Layout) (cs new : List program.Coming) (ns : List ℕ)
     (n under : ℕ) → l.work ≡ work_of cs → ns ≡ children_at l.nodes n
     → OnOk r (new ≡ cs ++ map (coming_under under) (reverse ns))

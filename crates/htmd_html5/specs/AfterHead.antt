@@ -22,7 +22,7 @@ imply_body s = again (with_body (known tags.Body) [] s)
 abbrev pub put_frameset : StartTagValue → StateValue → StateValue
 put_frameset tag s = with_mode InFrameset (insert_tag tag s)
 
--- an element of the head, which is open for that alone
+-- an element of the head; the head is open only for that
 abbrev pub insert_in_head : Option ℕ → StartTagValue → StateValue → StateValue
 insert_in_head None tag s = insert_head_element tag.name tag s
 insert_in_head (Some head) tag s =

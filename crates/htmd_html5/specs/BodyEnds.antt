@@ -19,7 +19,7 @@ use Rattle.htmd_html5.specs.declared.body_ends.EndRule.TheVariants as rule
 
 -- ---- which rule a name has
 
--- what else stands in text
+-- what else is in text
 unfoldable pub text_end_rule : TagName → EndRule
 text_end_rule tags.Button = rule.Block
 text_end_rule tags.Dd = rule.Block

@@ -33,7 +33,7 @@ use Rattle.htmd_html5_tokens.specs.declared.tokens.RawElement.TheVariants as raw
 
 -- ---- which rule a name has
 
--- what else stands in text
+-- what else is in text
 unfoldable pub phrasing_rule : TagName → StartRule
 phrasing_rule tags.TextArea = rule.TextArea
 phrasing_rule tags.Xmp = rule.Example
@@ -161,7 +161,7 @@ start_rule tag = block_rule tag
 abbrev pub is_in_template : StateValue → Bool
 is_in_template s = is_open (Only tags.Template) s.stack
 
--- `body`, where it is the second open element
+-- `body`, if it is the second open element
 abbrev pub open_body : StateValue → Option ℕ
 open_body s = second_open (Only tags.Body) s.stack
 
@@ -246,7 +246,7 @@ close_no_break s = if is_in_scope (Only tags.NoBr) Default s.stack then adoption
 abbrev pub start_no_break : StartTagValue → StateValue → StateValue
 start_no_break tag s = start_formatting tag (close_no_break (reconstruct s))
 
--- ---- what stands in text
+-- ---- what is in text
 
 abbrev pub start_ordinary : StartTagValue → StateValue → StateValue
 start_ordinary tag s = insert_tag tag (reconstruct s)
@@ -306,7 +306,7 @@ start_ruby implied tag s =
 abbrev pub start_foreign : Namespace → StartTagValue → StateValue → StateValue
 start_foreign space tag s = insert_foreign_tag space tag (reconstruct s)
 
--- ---- text alone
+-- ---- only text
 
 abbrev pub start_text_area : StartTagValue → StateValue → StateValue
 start_text_area tag s = no_frameset (skip_line_feed (insert_raw_tag raw.Textarea tag s))
@@ -317,13 +317,13 @@ start_example tag s = no_frameset (insert_raw_tag raw.Xmp tag (reconstruct (clos
 abbrev pub start_inline_frame : StartTagValue → StateValue → StateValue
 start_inline_frame tag s = insert_raw_tag raw.Iframe tag (no_frameset s)
 
--- with scripts `noscript` holds text alone
+-- with scripting on, `noscript` holds only text
 abbrev pub start_no_script : StartTagValue → StateValue → StateValue
 start_no_script tag s = if s.scripting then insert_raw_tag raw.Noscript tag s else start_ordinary tag s
 
 -- ---- the rules
 
--- what stands in text
+-- what is in text
 abbrev pub start_in_text : StartRule → StartTagValue → StateValue → StateValue
 start_in_text rule.Button tag s = start_button tag s
 start_in_text rule.Anchor tag s = start_anchor tag s

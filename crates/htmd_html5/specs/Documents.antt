@@ -22,7 +22,7 @@ abbrev pub after_token : (List ℕ → StateValue → StateValue) → Read → S
 after_token go read s =
     if is_end read.token then feed read.token s else go read.rest (feed read.token s)
 
--- all tokens of a text, each of which has at least one character
+-- all tokens of a text; each has at least one character
 abbrev pub read_within : ℕ → List ℕ → StateValue → StateValue
 read_within zero text s = feed tokens.end_of_file s
 read_within (suc k) text s = after_token (read_within k) (next_read text s) s

@@ -15,7 +15,7 @@ use Rattle.htmd_html5.specs.Texts.{put_text}
 use Rattle.htmd_html5_tokens.specs.declared.tokens.RawElement.TheVariants as raw
 use Rattle.htmd_html5_tokens.specs.Tokens as tokens
 
--- an element of text alone is open, up to its end tag
+-- an element of only text is open, up to its end tag
 abbrev pub is_text_mode : Content → Bool
 is_text_mode Normal = false
 is_text_mode (Raw raw.Plaintext) = false

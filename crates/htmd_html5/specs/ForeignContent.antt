@@ -54,7 +54,7 @@ is_for_html_point (run kind text) = true
 is_for_html_point (start_tag tag) = true
 is_for_html_point _ = false
 
--- HTML's rules apply, which is so where nothing is open, too
+-- HTML's rules apply, even if nothing is open
 abbrev pub goes_to_html : TokenValue → StateValue → Bool
 goes_to_html token s =
     (is_for_math_text token && is_math_text_point (current s.stack))

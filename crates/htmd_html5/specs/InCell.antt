@@ -23,7 +23,7 @@ close_cell cells s = with_mode InRow (clear_to_marker (on_stack (pop_until cells
 abbrev pub end_cell : TagName → StateValue → StateValue
 end_cell tag s = if is_in_scope (Only tag) TableScope s.stack then close_cell (Only tag) s else s
 
--- what can't stand in a cell ends it first, where these are in scope
+-- what can't stand in a cell ends it first, if these are in scope
 abbrev pub leave_cell : NameSet → StateValue → Answer
 leave_cell wanted s = if is_in_scope wanted TableScope s.stack then again (close_cell Cells s) else done s
 

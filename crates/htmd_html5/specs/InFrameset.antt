@@ -67,7 +67,7 @@ after_frameset (start_tag tag) s = done (start_after_frameset tag.name tag s)
 after_frameset (end_tag name) s = done (end_after_frameset name s)
 after_frameset end_of_file s = done s
 
--- white space stands as in the body
+-- white space is inserted as in the body
 abbrev pub run_after_frameset : RunKind → List ℕ → StateValue → StateValue
 run_after_frameset White text s = run_in_body White text s
 run_after_frameset _ text s = s

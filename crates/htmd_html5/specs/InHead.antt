@@ -16,7 +16,7 @@ use Rattle.htmd_html5_tokens.specs.declared.tokens.RawElement.TheVariants as raw
 abbrev pub close_head : StateValue → StateValue
 close_head s = with_mode AfterHead (on_stack pop s)
 
--- with scripts `noscript` holds text alone
+-- with scripting on, `noscript` holds only text
 abbrev pub noscript_in_head : StartTagValue → StateValue → StateValue
 noscript_in_head tag s =
     if s.scripting then insert_raw_tag raw.Noscript tag s else with_mode InHeadNoscript (insert_tag tag s)

@@ -25,7 +25,7 @@ use Rattle.htmd_html5.specs.BodyEnds.{end_in_body}
 use Rattle.htmd_html5.specs.InBody.{end_of_file_in_body, run_in_body}
 use Rattle.htmd_html5_state.specs.declared.names.TagName.TheVariants as tags
 
--- ---- text, of which all that comes is taken at once
+-- ---- text, which is taken all at once
 
 abbrev pub without_nulls : List ℕ → List ℕ
 without_nulls text = filter (λ b. not (is_null b)) text
@@ -38,7 +38,7 @@ kept_of _ text = text
 abbrev pub fostered : (StateValue → StateValue) → StateValue → StateValue
 fostered step s = record (step (record s { foster_parenting = true })) { foster_parenting = false }
 
--- text that isn't all white space stands before the table, run by run
+-- text that isn't all white space goes before the table, run by run
 abbrev pub foster_runs : ℕ → List ℕ → StateValue → StateValue
 foster_runs zero text s = s
 foster_runs (suc k) text s =
@@ -88,7 +88,7 @@ end_table s = if has_table s then close_table s else s
 abbrev pub start_another_table : StateValue → Answer
 start_another_table s = answer (end_table s) (has_table s)
 
--- ---- what else stands there
+-- ---- what else comes there
 
 abbrev pub start_table_input : StartTagValue → StateValue → StateValue
 start_table_input tag s = if is_hidden tag then insert_void_tag tag s else fostered (start_in_body tag) s

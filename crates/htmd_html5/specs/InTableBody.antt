@@ -28,7 +28,7 @@ close_section s = with_mode InTable (on_stack pop (to_section s))
 abbrev pub imply_row : StateValue → StateValue
 imply_row s = start_row (known tags.Tr) [] s
 
--- where one of these is in scope
+-- if one of these is in scope
 abbrev pub end_section : NameSet → StateValue → StateValue
 end_section wanted s = if is_in_scope wanted TableScope s.stack then close_section s else s
 

@@ -11,7 +11,7 @@ use Rattle.htmd_html5.specs.SharedRules.{with_mode, end_template, insert_head_el
 use Rattle.htmd_html5.specs.InBody.{end_of_file_in_template, in_body}
 use Rattle.htmd_html5_state.specs.declared.names.TagName.TheVariants as tags
 
--- the mode for what stands in the template
+-- the mode for what is in the template
 abbrev pub with_template_mode : InsertionMode → StateValue → StateValue
 with_template_mode mode s = push_template_mode mode (pop_template_mode (with_mode mode s))
 

@@ -16,7 +16,7 @@ pub record Coming : Type 0 where
 abbrev pub coming : ℕ → ℕ → Coming
 coming under node = record { node = node; under = under }
 
--- a child of this item stands at the depth
+-- a child of this item is at the depth
 abbrev pub is_deepest : ℕ → List Item → ℕ → Bool
 is_deepest limit items under = depth_at items under + 1 == limit
 
@@ -34,7 +34,7 @@ abbrev pub next_texts : List NodeValue → ℕ → List Coming → List ℕ
 next_texts nodes under [] = []
 next_texts nodes under (c ∷ cs) = or_text (text_under nodes under c) (next_texts nodes under cs)
 
--- the text that comes next, where it stands under the item
+-- the text that comes next, if it is under the item
 abbrev pub next_text : List NodeValue → ℕ → List Coming → Option (List ℕ)
 next_text nodes under [] = None
 next_text nodes under (c ∷ cs) = text_under nodes under c
@@ -99,7 +99,7 @@ abbrev pub put_next : ℕ → List Coming → Layout → Layout
 put_next limit [] l = l
 put_next limit (c ∷ work) l = put_node limit c (record l { work = work })
 
--- with so many more nodes at most
+-- with this many more nodes at most
 abbrev pub layout_within : ℕ → ℕ → Layout → Layout
 layout_within limit zero l = l
 layout_within limit (suc k) l = layout_within limit k (put_next limit l.work l)

@@ -1,4 +1,4 @@
--- What the program's layout is, and what holds of it.
+-- What the program's layout is, and what holds for it.
 use Rattle.std.specs.Prelude.{◌≡◌, ℕ, ◌<◌, List, map, reverse, length, true, All}
 use Rattle.htmd_tree.specs.Items.{Item, data_at, depth_at, greatest_depth, holds_children}
 use Rattle.htmd_html5_state.specs.Views.{nodes_of}

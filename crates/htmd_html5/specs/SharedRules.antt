@@ -40,7 +40,7 @@ insert_foreign_tag space tag s = insert_foreign space (text_of_name tag.name) ta
 abbrev pub no_frameset : StateValue → StateValue
 no_frameset s = record s { frameset_ok = false }
 
--- a `p` is closed, where one is in button scope (13.2.6.4.7)
+-- a `p` is closed, if one is in button scope (13.2.6.4.7)
 abbrev pub close_paragraph : StateValue → StateValue
 close_paragraph s = on_stack (close (Only tags.P) ButtonScope) s
 

@@ -51,7 +51,7 @@ fn put_frameset(state: &mut HtmlState, tag: StartTag) -> Result<(), AllocError>
     Ok(())
 }
 
-/// An element of the head after the head: it is open for that alone.
+/// An element of the head after the head; the head is open only for that element.
 fn insert_late(state: &mut HtmlState, tag: StartTag) -> Result<(), AllocError>
     ensures { OnOk result (state.new ≡ spec.insert_late (tag_of tag) state.old) }
 {

@@ -25,7 +25,7 @@ enum StartRule {
     InHead,
     Body,
     FrameSet,
-    /// Tags that stand elsewhere alone.
+    /// Tags that may only stand elsewhere.
     Ignored,
     Block,
     Heading,
@@ -211,7 +211,7 @@ fn rule_of_start(name: &HtmlName) -> StartRule
 
 // ---- the structure of the page
 
-/// Gives the body what attributes it doesn't have yet.
+/// Gives the body the attributes that it doesn't have yet.
 fn add_to_body(state: &mut HtmlState, tag: StartTag) -> Result<(), AllocError>
     ensures { OnOk result (state.new ≡ spec.add_to_body (tag_of tag) state.old) }
 {
@@ -301,7 +301,7 @@ fn start_plain_text(state: &mut HtmlState, tag: StartTag) -> Result<(), AllocErr
     insert_raw_tag(state, RawElement::Plaintext, tag)
 }
 
-/// In quirks mode a `p` holds tables.
+/// In quirks mode a `p` may hold tables.
 fn start_table(state: &mut HtmlState, tag: StartTag) -> Result<(), AllocError>
     ensures { OnOk result (state.new ≡ spec.start_table (tag_of tag) state.old) }
 {
@@ -354,7 +354,7 @@ fn start_no_break(state: &mut HtmlState, tag: StartTag) -> Result<(), AllocError
     start_formatting(state, tag)
 }
 
-// ---- what stands in text
+// ---- what is in text
 
 fn start_ordinary(state: &mut HtmlState, tag: StartTag) -> Result<(), AllocError>
     ensures { OnOk result (state.new ≡ spec.start_ordinary (tag_of tag) state.old) }
@@ -431,7 +431,7 @@ fn start_image(state: &mut HtmlState, tag: StartTag) -> Result<(), AllocError>
     )
 }
 
-/// The mode in a `select`, of which one is for tables.
+/// The mode in a `select`; there is one for a `select` in a table.
 fn mode_of_select(mode: InsertionMode) -> InsertionMode
     ensures { result ≡ spec.mode_of_select mode }
 {
@@ -486,7 +486,7 @@ fn start_foreign(state: &mut HtmlState, space: Namespace, tag: StartTag) -> Resu
     insert_foreign_tag(state, space, tag)
 }
 
-// ---- text alone
+// ---- only text
 
 fn start_text_area(state: &mut HtmlState, tag: StartTag) -> Result<(), AllocError>
     ensures { OnOk result (state.new ≡ spec.start_text_area (tag_of tag) state.old) }
@@ -514,7 +514,7 @@ fn start_inline_frame(state: &mut HtmlState, tag: StartTag) -> Result<(), AllocE
     insert_raw_tag(state, RawElement::Iframe, tag)
 }
 
-/// With scripts `noscript` holds text alone.
+/// With scripting on, `noscript` holds only text.
 fn start_no_script(state: &mut HtmlState, tag: StartTag) -> Result<(), AllocError>
     ensures { OnOk result (state.new ≡ spec.start_no_script (tag_of tag) state.old) }
 {
@@ -548,7 +548,7 @@ fn start_by(state: &mut HtmlState, rule: StartRule, tag: StartTag) -> Result<(),
     }
 }
 
-/// Rules on what stands in text.
+/// Rules on what is in text.
 fn start_in_text(state: &mut HtmlState, rule: StartRule, tag: StartTag) -> Result<(), AllocError>
     ensures { OnOk result (state.new ≡ spec.start_in_text rule (tag_of tag) state.old) }
 {

@@ -15,7 +15,7 @@ use htmd_html5_state::{HtmlName, HtmlState};
 use htmd_html5_tokens::{Content, RawElement, Token};
 use std::alloc::AllocError;
 
-/// Whether an element of text alone is open, up to its end tag: the mode "text".
+/// Whether an element of only text is open, up to its end tag: the mode "text".
 fn is_text_mode(state: &HtmlState) -> bool
     ensures { result ≡ spec.is_text_mode state.now.content }
 {
@@ -48,7 +48,7 @@ fn strip_line_feed(text: &str) -> Option<&str>
     }
 }
 
-/// The text, without a line feed at its front where that is dropped.
+/// The text, without a line feed at its front if that is dropped.
 fn without_line_feed(text: &str, skips: bool) -> &str
     ensures { result.now ≡ spec.without_line_feed skips text.now }
 {
@@ -61,7 +61,7 @@ fn without_line_feed(text: &str, skips: bool) -> &str
     }
 }
 
-/// Closes the element of text alone that is open. Gives whether one is.
+/// Closes the element of only text that is open. Gives whether one is.
 fn leave_text_mode(state: &mut HtmlState) -> bool
     ensures found { result ≡ spec.is_text_mode state.old.content }
     ensures value { state.new ≡ spec.out_of_text_mode state.old }

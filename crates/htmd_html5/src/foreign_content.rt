@@ -163,7 +163,7 @@ fn insert_alike(state: &mut HtmlState, tag: StartTag) -> Result<(), AllocError>
     }
 }
 
-/// A start tag in foreign content. Gives it back where it is to be processed again.
+/// A start tag in foreign content. Gives it back if it is to be processed again.
 pub(crate) fn start_in_foreign(
     state: &mut HtmlState,
     tag: StartTag,

@@ -20,7 +20,7 @@ fn end_cell(state: &mut HtmlState, tag: TagName)
     }
 }
 
-/// Closes the cell, where one of these is in scope. Gives whether one is.
+/// Closes the cell if one of these is in scope. Gives whether one is.
 fn leave_cell(state: &mut HtmlState, wanted: NameSet) -> bool
     ensures { answer state.new result ≡ spec.leave_cell wanted state.old }
 {

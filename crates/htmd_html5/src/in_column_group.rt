@@ -10,7 +10,7 @@ use crate::tokens::StartTag;
 use htmd_html5_state::{HtmlName, HtmlState, InsertionMode, NameSet, TagName};
 use std::alloc::AllocError;
 
-/// Closes the column group, where it is the current node. Gives whether it is.
+/// Closes the column group if it is the current node. Gives whether it is.
 pub(crate) fn end_columns(state: &mut HtmlState) -> bool
     ensures found { result ≡ spec.has_columns state.old }
     ensures value { state.new ≡ spec.end_columns state.old }

@@ -77,7 +77,7 @@ pub(crate) fn end_after_frameset(state: &mut HtmlState, name: &HtmlName)
     }
 }
 
-/// White space after a frameset stands as in the body.
+/// White space after a frameset is inserted as in the body.
 pub(crate) fn put_run_after_frameset(
     state: &mut HtmlState,
     kind: RunKind,

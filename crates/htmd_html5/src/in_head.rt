@@ -20,7 +20,7 @@ pub(crate) fn close_head(state: &mut HtmlState)
     state.set_mode(InsertionMode::AfterHead);
 }
 
-/// With scripts `noscript` holds text alone.
+/// With scripting on, `noscript` holds only text.
 fn put_noscript(state: &mut HtmlState, tag: StartTag) -> Result<(), AllocError>
     ensures { OnOk result (state.new ≡ spec.noscript_in_head (tag_of tag) state.old) }
 {

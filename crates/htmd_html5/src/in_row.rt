@@ -34,7 +34,7 @@ fn end_row(state: &mut HtmlState) -> bool
     found
 }
 
-/// The same, where a section is in scope.
+/// The same, if a section is in scope.
 fn end_row_of(state: &mut HtmlState, section: TagName) -> bool
     ensures { answer state.new result ≡ spec.leave_row_of section state.old }
 {

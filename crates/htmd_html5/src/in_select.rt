@@ -144,7 +144,7 @@ pub(crate) fn start_in_select_in_table(
     }
 }
 
-/// Closes the `select`, where an element of this name is in scope. Gives whether one is.
+/// Closes the `select` if an element with this name is in scope. Gives whether one is.
 fn leave_select(state: &mut HtmlState, tag: TagName) -> bool
     ensures { answer state.new result ≡ spec.leave_select_in tag state.old }
 {

@@ -20,7 +20,7 @@ use htmd_html5_state::{HtmlName, HtmlState, InsertionMode, NameSet, Scope, TagNa
 use htmd_tree::Attribute;
 use std::alloc::{AllocError, Global};
 
-// ---- text, of which all that comes is taken at once
+// ---- text, which is taken all at once
 
 /// Whether each character is white space.
 fn is_white(text: &str) -> bool
@@ -162,9 +162,9 @@ fn end_table(state: &mut HtmlState) -> bool
     found
 }
 
-// ---- what else stands there
+// ---- what else comes there
 
-/// What isn't for a table stands before it.
+/// What isn't for a table goes before it.
 fn foster_start(state: &mut HtmlState, tag: StartTag) -> Result<(), AllocError>
     ensures { OnOk result (state.new ≡ spec.fostered (start_in_body (tag_of tag)) state.old) }
 {

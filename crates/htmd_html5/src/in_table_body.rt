@@ -35,7 +35,7 @@ fn imply_row(state: &mut HtmlState) -> Result<(), AllocError>
     start_row(state, HtmlName::Known(TagName::Tr), attributes)
 }
 
-/// Closes the section, where one of these is in scope. Gives whether one is.
+/// Closes the section if one of these is in scope. Gives whether one is.
 fn end_section(state: &mut HtmlState, wanted: NameSet) -> bool
     ensures found { result ≡ is_in_scope wanted Table state.old.stack }
     ensures value { state.new ≡ spec.end_section wanted state.old }

@@ -10,7 +10,7 @@ use crate::tokens::StartTag;
 use htmd_html5_state::{HtmlName, HtmlState, InsertionMode, TagName};
 use std::alloc::AllocError;
 
-/// The mode for what stands in the template.
+/// The mode for what is in the template.
 fn set_template_mode(state: &mut HtmlState, mode: InsertionMode) -> Result<(), AllocError>
     ensures { OnOk result (state.new ≡ spec.with_template_mode mode state.old) }
 {
@@ -19,7 +19,7 @@ fn set_template_mode(state: &mut HtmlState, mode: InsertionMode) -> Result<(), A
     state.push_template_mode(mode)
 }
 
-/// The mode in which an element of this name stands.
+/// The mode for the content in which an element with this name stands.
 fn mode_of_content(name: &HtmlName) -> InsertionMode
     ensures { result ≡ spec.mode_of_content (name_of name.now) }
 {

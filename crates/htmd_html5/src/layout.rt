@@ -32,7 +32,7 @@ pub(crate) struct Layout {
     coming: Vec<Coming>,
 }
 
-/// The item that was added, where it doesn't stand too deep.
+/// The item that was added, unless it is too deep.
 fn item_of(added: Result<NodeId, TreeError>) -> Result<NodeId, AllocError>
     requires { IsErrOf added TooDeep → ⊥ }
     ensures { IfOk result (λ id. added ≡ Ok id) }
@@ -44,7 +44,7 @@ fn item_of(added: Result<NodeId, TreeError>) -> Result<NodeId, AllocError>
     }
 }
 
-/// The children of a node; none where it isn't there.
+/// The children of a node; none if there is no such node.
 fn children_of(nodes: &[Node], node: usize) -> &[usize]
     ensures { result.now ≡ children_at (nodes_of nodes.now) node }
 {
@@ -66,7 +66,7 @@ fn push_all(coming: &mut Vec<Coming>, nodes: &[usize], under: NodeId) -> Result<
 }
 
 impl Layout {
-    /// Takes what a node is, which isn't laid out twice.
+    /// Takes what a node is; no node is laid out twice.
     fn take_kind(&mut self, node: usize) -> NodeKind
         ensures kind { kind_of result ≡ kind_at (nodes_of self.old.nodes.items) node }
         ensures value { layout_of self.new ≡ spec.without_node node (layout_of self.old) }
@@ -92,7 +92,7 @@ impl Layout {
         push_all(&mut self.coming, children, under)
     }
 
-    /// Whether a child of this item stands at the greatest depth.
+    /// Whether a child of this item is at the greatest depth.
     fn is_deepest(&self, under: NodeId) -> bool
         requires { MayHold self.now.tree under }
         ensures { result ≡ spec.is_deepest greatest_depth self.now.tree under }
@@ -100,7 +100,7 @@ impl Layout {
         self.tree.depth(under) + 1 == MAX_DEPTH
     }
 
-    /// The text that comes next, where it stands under this item.
+    /// The text that comes next, if it is under this item.
     fn next_text(&self, under: NodeId) -> Option<&str>
         ensures { option_map (λ t. t.now) result
             ≡ spec.next_text (nodes_of self.now.nodes.items) under (work_of self.now.coming.items) }
@@ -115,7 +115,7 @@ impl Layout {
         }
     }
 
-    /// Puts the texts that come next under this item at the end of a text.
+    /// Appends the texts that come next under this item to a text.
     fn join_texts(&mut self, under: NodeId, text: &mut String) -> Result<(), AllocError>
         requires holds { AllMayHold self.old.tree self.old.coming.items }
         ensures text { OnOk result (string_bytes text.new
@@ -190,7 +190,7 @@ impl Layout {
     }
 }
 
-/// A tree of the Document alone, whose children come next.
+/// A tree that holds only the Document, whose children come next.
 fn first_layout(alloc: Global, nodes: Vec<Node>) -> Result<Layout, AllocError>
     ensures value { IfOk result (λ l. layout_of l ≡ spec.first_layout (nodes_of nodes.items)) }
     ensures holds { IfOk result (λ l. AllMayHold l.tree l.coming.items) }
@@ -208,7 +208,7 @@ fn first_layout(alloc: Global, nodes: Vec<Node>) -> Result<Layout, AllocError>
     Ok(layout)
 }
 
-/// The tree of the nodes of a document, of which each is laid out once.
+/// The tree of the nodes of a document; each is laid out once.
 pub(crate) fn lay_out(alloc: Global, nodes: Vec<Node>) -> Result<Tree, AllocError>
     ensures { IfOk result (λ tree. tree ≡ spec.document_of greatest_depth (nodes_of nodes.items)) }
 {

@@ -1,5 +1,5 @@
-//! Any page as browsers read it: the parsing of the HTML Standard (13.2). No text is refused, and the tree of each has at
-//! most 1,024 levels.
+//! Any page as browsers read it: the parsing of the HTML Standard (13.2). No text is refused, and each tree has at most
+//! 1,024 levels.
 #![tactic(auto)]
 
 mod after_body;

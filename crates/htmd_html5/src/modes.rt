@@ -34,7 +34,7 @@ use crate::tokens::{RunKind, StartTag};
 use htmd_html5_state::{HtmlName, HtmlState, InsertionMode};
 use std::alloc::AllocError;
 
-/// A start tag, in a mode that processes each once.
+/// A start tag, in a mode that processes each only once.
 fn start_once(state: &mut HtmlState, mode: InsertionMode, tag: StartTag) -> Result<(), AllocError>
     ensures { OnOk result (state.new ≡ spec.start_once mode (tag_of tag) state.old) }
 {
@@ -47,7 +47,7 @@ fn start_once(state: &mut HtmlState, mode: InsertionMode, tag: StartTag) -> Resu
     }
 }
 
-/// A start tag by the rules of the mode. Gives it back where it is to be processed again.
+/// A start tag by the rules of the mode. Gives it back if it is to be processed again.
 pub(crate) fn start_by_mode(
     state: &mut HtmlState,
     tag: StartTag,
@@ -83,7 +83,7 @@ pub(crate) fn start_by_mode(
     }
 }
 
-/// An end tag, in a mode that processes each once.
+/// An end tag, in a mode that processes each only once.
 fn end_once(state: &mut HtmlState, mode: InsertionMode, name: &HtmlName) -> Result<(), AllocError>
     ensures { OnOk result (state.new ≡ spec.end_once mode (name_of name.now) state.old) }
 {
@@ -145,7 +145,7 @@ fn put_white_space(state: &mut HtmlState, mode: InsertionMode, text: &str) -> Re
     }
 }
 
-/// What any other run does in a mode that then processes it again. Gives whether it is.
+/// What any other run does in a mode that then has it processed again. Gives whether it is.
 fn leave_mode(state: &mut HtmlState, mode: InsertionMode) -> Result<bool, AllocError>
     ensures { IfOk result (λ again. answer state.new again ≡ spec.leave_mode mode state.old) }
 {

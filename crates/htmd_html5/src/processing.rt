@@ -17,7 +17,7 @@ use crate::tokens::{RunKind, StartTag};
 use htmd_html5_state::{HtmlName, HtmlState};
 use std::alloc::AllocError;
 
-/// More modes than these process no token one after another without closing an element.
+/// At most this many modes process a token one after another without closing an element.
 const MODES: usize = 23;
 
 /// Enough turns for a token: each goes forward in the order of the modes or closes an element.

@@ -20,7 +20,7 @@ fn is_end(token: &Token) -> bool
     matches!(token, Token::EndOfFile)
 }
 
-/// Puts all tokens of a text into a state, of which each has at least one character.
+/// Feeds all tokens of a text to a state. Each token has at least one character.
 fn read_all(alloc: Global, state: &mut HtmlState, text: &str) -> Result<(), AllocError>
     ensures { OnOk result (state.new ≡ spec.read_all text.now state.old) }
 {
@@ -54,7 +54,7 @@ fn text_of<'a>(text: &'a CowStr<'_>) -> &'a str
     }
 }
 
-/// The tree of a page, as the HTML Standard reads it. No text is refused; an `Err` is out of memory. An element at
+/// The tree of a page, as the HTML Standard reads it. No text is refused; `Err` means out of memory. An element at
 /// level 1,024 keeps no children: they come right after it.
 pub fn parse_html5(alloc: Global, html: &str, scripting: bool) -> Result<Tree, AllocError>
     ensures ok { IfOk result (λ tree. tree ≡ spec.html5_document scripting html.now) }

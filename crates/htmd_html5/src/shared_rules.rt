@@ -24,7 +24,7 @@ pub(crate) fn insert_void_tag(state: &mut HtmlState, tag: StartTag) -> Result<()
     state.insert_void(tag.name, tag.attributes)
 }
 
-/// The element of a tag, which holds text alone.
+/// The element of a tag, which holds only text.
 pub(crate) fn insert_raw_tag(
     state: &mut HtmlState,
     element: RawElement,
@@ -35,7 +35,7 @@ pub(crate) fn insert_raw_tag(
     state.insert_raw(tag.name, element, tag.attributes)
 }
 
-/// The foreign element of a tag, closed at once where the tag ends in `/>`.
+/// The foreign element of a tag, closed at once if the tag ends in `/>`.
 pub(crate) fn insert_foreign_tag(
     state: &mut HtmlState,
     space: Namespace,
@@ -51,14 +51,14 @@ pub(crate) fn insert_foreign_tag(
     state.insert_foreign(space, name.text(), attributes, self_closing)
 }
 
-/// Closes a `p`, where one is in button scope.
+/// Closes a `p` if one is in button scope.
 pub(crate) fn close_paragraph(state: &mut HtmlState)
     ensures { state.new ≡ spec.close_paragraph state.old }
 {
     state.close(NameSet::Only(TagName::P), Scope::Button);
 }
 
-/// Gives the outermost element what attributes of a start tag of `html` it doesn't have yet.
+/// Gives the outermost element the attributes of a start tag of `html` that it doesn't have yet.
 pub(crate) fn add_to_root(state: &mut HtmlState, tag: StartTag) -> Result<(), AllocError>
     ensures { OnOk result (state.new ≡ spec.add_to_root (tag_of tag) state.old) }
 {

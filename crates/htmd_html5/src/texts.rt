@@ -18,7 +18,7 @@ fn is_table_mode(mode: InsertionMode) -> bool
     )
 }
 
-/// Whether all the text that is left stands in a table itself.
+/// Whether all the text that is left is in a table itself.
 fn takes_all(state: &HtmlState) -> bool
     ensures { result ≡ spec.takes_all state.now }
 {

@@ -1,8 +1,14 @@
--- Which characters are letters, and the texts of a tree.
+-- Which characters are letters, the texts of a tree, and pages whose letters are lost.
 use Rattle.std.proofs.Common.{◌≡◌, true, false, [], ◌∷◌, refl}
 use Rattle.std.specs.Prelude.{codes, Some}
 use Rattle.htmd_tree.specs.Items.{document_item, text_node, comment_node}
-use Rattle.htmd_html5_laws.specs.PageLetters.{is_letter, texts_of}
+use Rattle.htmd_html5_state.specs.Adoption.{move_last, wrap_children}
+use Rattle.htmd_html5.specs.BodyEnds.{text_end_rule}
+use Rattle.htmd_html5.specs.BodyStarts.{block_rule, formatting_rule, phrasing_rule}
+use Rattle.htmd_html5.specs.Documents.{state_after}
+use Rattle.htmd_html5_laws.specs.PageLetters.{is_letter, texts_of, token_texts}
+use Rattle.htmd_html5_laws.specs.DocumentLetters.{node_texts, all_texts_are_taken}
+use Rattle.htmd_html5_laws.specs.KeptLetters.{is_whole}
 
 a_is_one : is_letter 0x61 ≡ true
 a_is_one = refl
@@ -22,3 +28,37 @@ the_replacement_is_none = refl
 texts_alone : texts_of (document_item ∷ record { parent = Some 0; depth = 1; node_data = text_node (codes "a") }
     ∷ record { parent = Some 0; depth = 1; node_data = comment_node (codes "b") } ∷ []) ≡ codes "a" ∷ []
 texts_alone = refl
+
+-- ---- texts that are taken
+
+frames_drop_text : all_texts_are_taken true (codes "<frameset>x") ≡ false
+unfolding block_rule formatting_rule phrasing_rule
+frames_drop_text = refl
+
+columns_of_a_template_drop_text : all_texts_are_taken true (codes "<template><col>x") ≡ false
+unfolding block_rule formatting_rule phrasing_rule
+columns_of_a_template_drop_text = refl
+
+text_ends_a_column_group : all_texts_are_taken true (codes "<table><colgroup>x") ≡ true
+unfolding block_rule formatting_rule phrasing_rule
+text_ends_a_column_group = refl
+
+-- the texts of a page, and of its document
+texts_of_a_page : token_texts true (codes "<table>a<td>b") ≡ codes "a" ∷ codes "b" ∷ []
+unfolding block_rule formatting_rule phrasing_rule
+texts_of_a_page = refl
+
+texts_of_a_document : node_texts (state_after true (codes "<table>a<td>b")).nodes ≡ codes "a" ∷ codes "b" ∷ []
+unfolding block_rule formatting_rule phrasing_rule
+texts_of_a_document = refl
+
+-- ---- documents in one piece
+
+formatting_is_in_one_piece : is_whole (state_after true (codes "<b>a<p>b</b>c")).nodes ≡ true
+unfolding block_rule formatting_rule phrasing_rule text_end_rule move_last wrap_children
+formatting_is_in_one_piece = refl
+
+frames_take_the_place_of_the_body : is_whole (state_after true (codes "<div><style>x</style><frameset>")).nodes
+    ≡ false
+unfolding block_rule formatting_rule phrasing_rule
+frames_take_the_place_of_the_body = refl

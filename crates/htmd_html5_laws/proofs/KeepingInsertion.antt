@@ -1,9 +1,8 @@
--- What is inserted that is no text, and what the list of active formatting elements becomes.
+-- What is inserted that isn't text, and what the list of active formatting elements becomes.
 use Rattle.std.proofs.Common.{◌≡◌, ◌∙◌, ℕ, zero, suc, Bool, true, List, [], ◌∷◌, length, get_or, set}
 use Rattle.std.proofs.Common.{Option, Some, None, refl, sym, ap, subst, All, inl, inr, ◌⊎◌}
 use Rattle.std.specs.Prelude.{IsUtf8, ◌==◌}
 use Rattle.std.proofs.lemmas.Bool.{true≢false, eqb-true, eq-eqb}
-use Rattle.std.proofs.lemmas.List.{length-map}
 use Rattle.htmd_text.proofs.Cases.{test}
 use Rattle.htmd_grammar.specs.ValueTrees.{AttributePair}
 use Rattle.htmd_html5_tokens.specs.declared.tokens.RawElement.{RawElement}
@@ -25,30 +24,42 @@ use Rattle.htmd_html5_state.specs.declared.names.Namespace.{Namespace}
 use Rattle.htmd_html5_state.specs.declared.modes.InsertionMode.{InsertionMode}
 use Rattle.htmd_html5_laws.proofs.NodeTexts.{kinds, texts, with_text, is_element, kinds_add, kinds_detach}
 use Rattle.htmd_html5_laws.proofs.NodeTexts.{kinds_with_kind, kind_read, element_set, with_missing_element}
-use Rattle.htmd_html5_laws.proofs.Keeping.{ElementAt, SoundIn, KeptIn, Sound, Kept, Keeps, kept_same, kept_then, kept_as}
-use Rattle.htmd_html5_laws.proofs.Keeping.{after, by_state, untouched, on_stack_keeps, kept_new}
+use Rattle.htmd_html5_laws.proofs.Forests.{forest_add, forest_detach, forest_with_kind}
+use Rattle.htmd_html5_laws.proofs.OpenNodes.{pop_fewer, pop_if_fewer}
+use Rattle.htmd_html5_laws.proofs.Keeping.{ElementAt, IsRooted, Held, as_head, as_entry, as_open, SoundIn, Sound, Kept, Keeps}
+use Rattle.htmd_html5_laws.proofs.Keeping.{held_in, held_opened, kept_same, kept_then, after, by_state, kept_kinds}
+use Rattle.htmd_html5_laws.proofs.Keeping.{sound_held, untouched, on_stack_keeps, IsElement, kept_new}
 
 -- ---- elements, comments and doctypes
+
+-- what is held is a new element, or was held before
+pub opened_new : {nodes : List NodeValue} {head : Option ℕ} {entries : List (Option ℕ)} {stack : List OpenValue}
+    (k : KindValue) (n : ℕ) → is_element k ≡ true → SoundIn nodes head entries stack
+    → (n ≡ length nodes) ⊎ Held n head entries stack → IsElement nodes k n
+opened_new k n e h (inl p) = inl (p, e)
+opened_new k n e h (inr l) = inr (h.held n l)
 
 pub insert_at_keeps : (at : StateValue → _) (name : ElementNameValue) (attributes : List AttributePair)
     → Keeps (λ s. insert_at (at s) name attributes s)
 insert_at_keeps at name attributes = record {
-  keeps = λ s h. kept_as (kinds_add (element name attributes) (at s) s.nodes)
-      (kept_new s.formatting (element name attributes) refl h (λ n l. inl l));
+  keeps = λ s h. kept_new (element name attributes) (kinds_add (element name attributes) (at s) s.nodes) refl
+      (forest_add (element name attributes) (at s) s.nodes h.forest) h
+      (λ n l. opened_new (element name attributes) n refl h (held_opened (length s.nodes) name s.stack l));
 }
 
 pub insert_named_keeps : (name : ElementNameValue) (attributes : List AttributePair)
     → Keeps (insert_named name attributes)
 insert_named_keeps name attributes = insert_at_keeps place name attributes
 
-pub insert_element_keeps : (name : NameValue) (attributes : List AttributePair) → Keeps (insert_element name attributes)
+pub insert_element_keeps : (name : NameValue) (attributes : List AttributePair)
+    → Keeps (insert_element name attributes)
 insert_element_keeps name attributes = insert_named_keeps (html name) attributes
 
 pub insert_root_keeps : (name : NameValue) (attributes : List AttributePair) → Keeps (insert_root name attributes)
 insert_root_keeps name attributes = insert_at_keeps (λ s. last_in 0) (html name) attributes
 
 pub insert_void_keeps : (name : NameValue) (attributes : List AttributePair) → Keeps (insert_void name attributes)
-insert_void_keeps name attributes = after (on_stack_keeps pop) (insert_element_keeps name attributes)
+insert_void_keeps name attributes = after (on_stack_keeps pop pop_fewer) (insert_element_keeps name attributes)
 
 pub insert_raw_keeps : (name : NameValue) (raw : RawElement) (attributes : List AttributePair)
     → Keeps (insert_raw name raw attributes)
@@ -56,8 +67,8 @@ insert_raw_keeps name raw attributes = record { keeps = λ s h. (insert_element_
 
 pub insert_comment_in_keeps : (parent : ℕ) (s : List ℕ) → Keeps (insert_comment_in parent s)
 insert_comment_in_keeps parent c = record {
-  keeps = λ s h. kept_as (kinds_add (comment c) (last_in parent) s.nodes)
-      (kept_new s.formatting (comment c) refl h (λ n l. inl l));
+  keeps = λ s h. kept_new (comment c) (kinds_add (comment c) (last_in parent) s.nodes) refl
+      (forest_add (comment c) (last_in parent) s.nodes h.forest) h (λ n l. inr (h.held n l));
 }
 
 pub insert_comment_keeps : (s : List ℕ) → Keeps (insert_comment s)
@@ -65,18 +76,18 @@ insert_comment_keeps c = by_state (λ s. (current s.stack).node) (λ n. insert_c
 
 pub insert_doctype_keeps : Keeps insert_doctype
 insert_doctype_keeps = record {
-  keeps = λ s h. kept_as (kinds_add doctype (last_in 0) s.nodes)
-      (kept_new s.formatting doctype refl h (λ n l. inl l));
+  keeps = λ s h. kept_new doctype (kinds_add doctype (last_in 0) s.nodes) refl
+      (forest_add doctype (last_in 0) s.nodes h.forest) h (λ n l. inr (h.held n l));
 }
 
 pub insert_foreign_keeps : (space : Namespace) (name : List ℕ) (attributes : List AttributePair) (closes : Bool)
     → Keeps (insert_foreign space name attributes closes)
 insert_foreign_keeps space name attributes closes =
-    after (on_stack_keeps (pop_if closes))
+    after (on_stack_keeps (pop_if closes) (pop_if_fewer closes))
     (insert_named_keeps (foreign_name space name) (foreign_attributes space attributes))
 
 pub detach_keeps : (n : ℕ) → Keeps (on_nodes (detach n))
-detach_keeps n = untouched (λ s. kinds_detach n s.nodes) (λ s m l. l)
+detach_keeps n = record { keeps = λ s h. kept_kinds (kinds_detach n s.nodes) (forest_detach n s.nodes h.forest) h }
 
 -- ---- attributes that an element lacks
 
@@ -94,27 +105,14 @@ missing_texts [] n more = refl
 missing_texts (k ∷ ks) zero more = missing_text more k (texts ks)
 missing_texts (k ∷ ks) (suc n) more = ap (with_text k) (missing_texts ks n more)
 
-kept_missing : {ks : List KindValue} {entries : List (Option ℕ)} (n : ℕ) (more : List AttributePair)
-    → SoundIn ks entries
-    → KeptIn ks (set ks n (kind_with_missing more (get_or ks n document))) entries
-kept_missing {ks} {entries} n more h = record {
-  same = missing_texts ks n more;
-  stays = stays;
-  sound = record {
-    listed = λ m l. stays m (h.listed m l);
-    utf8 = subst (All IsUtf8) (sym (missing_texts ks n more)) h.utf8;
-  };
-}
-  where
-    stays : (m : ℕ) → ElementAt ks m → ElementAt (set ks n (kind_with_missing more (get_or ks n document))) m
-    stays m e =
-        element_set ks n m (kind_with_missing more (get_or ks n document))
-        (λ f. with_missing_element more (get_or ks n document) ∙ f) e
+rooted_missing : (ks : List KindValue) (n : ℕ) (more : List AttributePair) → IsRooted ks
+    → IsRooted (set ks n (kind_with_missing more (get_or ks n document)))
+rooted_missing [] n more r = absurd (true≢false r)
+rooted_missing (k ∷ ks) zero more r = with_missing_element more k ∙ r
+rooted_missing (k ∷ ks) (suc n) more r = r
 
 pub add_missing_keeps : (n : ℕ) (more : List AttributePair) → Keeps (on_nodes (add_missing n more))
-add_missing_keeps n more = record {
-  keeps = λ s h. kept_as (is s.nodes) (kept_missing n more h);
-}
+add_missing_keeps n more = record { keeps = λ s h. kept s h }
   where
     is : (nodes : List NodeValue)
         → kinds (add_missing n more nodes)
@@ -122,6 +120,25 @@ add_missing_keeps n more = record {
     is nodes =
         kinds_with_kind n (kind_with_missing more (kind_at nodes n)) nodes
         ∙ ap (λ k. set (kinds nodes) n (kind_with_missing more k)) (kind_read nodes n)
+
+    stays : (nodes : List NodeValue) (m : ℕ) → ElementAt (kinds nodes) m
+        → ElementAt (kinds (add_missing n more nodes)) m
+    stays nodes m e =
+        subst (λ (ks : List KindValue). ElementAt ks m) (sym (is nodes))
+        (element_set (kinds nodes) n m (kind_with_missing more (get_or (kinds nodes) n document))
+        (λ f. with_missing_element more (get_or (kinds nodes) n document) ∙ f) e)
+
+    kept : (s : StateValue) → Sound s → Kept s (on_nodes (add_missing n more) s)
+    kept s h = record {
+      same = ap texts (is s.nodes) ∙ missing_texts (kinds s.nodes) n more;
+      stays = stays s.nodes;
+      sound = record {
+        held = λ m l. stays s.nodes m (h.held m l);
+        utf8 = subst (All IsUtf8) (sym (ap texts (is s.nodes) ∙ missing_texts (kinds s.nodes) n more)) h.utf8;
+        forest = forest_with_kind n (kind_with_missing more (kind_at s.nodes n)) s.nodes h.forest;
+        root = subst IsRooted (sym (is s.nodes)) (rooted_missing (kinds s.nodes) n more h.root);
+      };
+    }
 
 -- ---- the list of active formatting elements
 
@@ -169,7 +186,8 @@ entry_is : (n m : ℕ) (e : Option ℕ) → is_entry n e ≡ true → is_entry m
 entry_is n m None p q = absurd (true≢false (sym p))
 entry_is n m (Some k) p q = sym (eqb-true k n p) ∙ eqb-true k m q
 
-pub listed_replaced : (n old new : ℕ) (entries : List (Option ℕ)) → is_listed n (replace_entry old new entries) ≡ true
+pub listed_replaced : (n old new : ℕ) (entries : List (Option ℕ)) → is_listed n (replace_entry old new entries)
+    ≡ true
     → (n ≡ new) ⊎ (is_listed n entries ≡ true)
 listed_replaced n old new [] l = inr l
 listed_replaced n old new (e ∷ entries) l =
@@ -186,7 +204,8 @@ listed_replaced n old new (e ∷ entries) l =
     later (inl p) = inl p
     later (inr p) = inr (listed_more n e entries p)
 
-pub listed_inserted : (n old new : ℕ) (entries : List (Option ℕ)) → is_listed n (insert_after old new entries) ≡ true
+pub listed_inserted : (n old new : ℕ) (entries : List (Option ℕ)) → is_listed n (insert_after old new entries)
+    ≡ true
     → (n ≡ new) ⊎ (is_listed n entries ≡ true)
 listed_inserted n old new [] l = inr l
 listed_inserted n old new (e ∷ entries) l =
@@ -199,21 +218,21 @@ listed_inserted n old new (e ∷ entries) l =
     later (inl p) = inl p
     later (inr p) = inr (listed_more n e entries p)
 
--- a new number, which is an element's
-pub or_new : (ks : List KindValue) (k : KindValue) (entries : List (Option ℕ)) (n m : ℕ) → is_element k ≡ true
-    → m ≡ length ks → (n ≡ m) ⊎ (is_listed n entries ≡ true)
-    → (is_listed n entries ≡ true) ⊎ ((n ≡ length ks) × (is_element k ≡ true))
-or_new ks k entries n m e is (inl p) = inr (p ∙ is, e)
-or_new ks k entries n m e is (inr l) = inl l
-
 pub without_entry_keeps : (n : ℕ) → Keeps (on_formatting (without_entry n))
-without_entry_keeps n = untouched (λ s. refl) (λ s m l. listed_without m n s.formatting l)
+without_entry_keeps n = untouched (λ s. refl)
+    (λ s m l. held_in s.formatting s.stack (listed_without m n s.formatting) (λ e. e) l)
 
 pub push_marker_keeps : Keeps push_marker
-push_marker_keeps = untouched (λ s. refl) (λ s n l. l)
+push_marker_keeps = untouched (λ s. refl) (λ s n l. held_in s.formatting s.stack (λ e. e) (λ e. e) l)
 
 pub clear_to_marker_keeps : Keeps clear_to_marker
-clear_to_marker_keeps = untouched (λ s. refl) (λ s n l. listed_after_marker n s.formatting l)
+clear_to_marker_keeps = untouched (λ s. refl)
+    (λ s n l. held_in s.formatting s.stack (listed_after_marker n s.formatting) (λ e. e) l)
+
+pub entry_or_held : {n m : ℕ} {head : Option ℕ} {entries : List (Option ℕ)} {stack : List OpenValue}
+    → (n ≡ m) ⊎ (is_listed n entries ≡ true) → (n ≡ m) ⊎ Held n head entries stack
+entry_or_held (inl p) = inl p
+entry_or_held (inr l) = inr (as_entry l)
 
 listed_pushed : (n m : ℕ) (nodes : List NodeValue) (entries : List (Option ℕ))
     → is_listed n (push_entry nodes m entries) ≡ true → (n ≡ m) ⊎ (is_listed n entries ≡ true)
@@ -226,14 +245,24 @@ listed_pushed n m nodes entries l =
     further (inr p) = inr (listed_without_some n _ entries
         (listed_without_some n _ (with_room_for nodes (kind_at nodes m) entries) p))
 
+-- the same of all numbers that are held
+held_pushed : {n m : ℕ} {head : Option ℕ} {stack : List OpenValue} (nodes : List NodeValue)
+    (entries : List (Option ℕ))
+    → (n ≡ m) ⊎ Held n head (push_entry nodes m entries) stack → (n ≡ m) ⊎ Held n head entries stack
+held_pushed {n} {m} nodes entries (inl p) = inl p
+held_pushed {n} {m} nodes entries (inr (as_head e)) = inr (as_head e)
+held_pushed {n} {m} nodes entries (inr (as_entry e)) = entry_or_held (listed_pushed n m nodes entries e)
+held_pushed {n} {m} nodes entries (inr (as_open e)) = inr (as_open e)
+
 pub insert_formatting_keeps : (name : NameValue) (attributes : List AttributePair)
     → Keeps (insert_formatting name attributes)
 insert_formatting_keeps name attributes = record {
-  keeps = λ s h. kept_as (kinds_add (element (html name) attributes) (place s) s.nodes)
-      (kept_new (insert_formatting name attributes s).formatting (element (html name) attributes) refl h
-      (λ n l. or_new (kinds s.nodes) (element (html name) attributes) s.formatting n (length s.nodes) refl (sym
-      (length-map s.nodes _))
-      (listed_pushed n (length s.nodes) (insert_element name attributes s).nodes s.formatting l)));
+  keeps = λ s h. kept_new (element (html name) attributes)
+      (kinds_add (element (html name) attributes) (place s) s.nodes) refl
+      (forest_add (element (html name) attributes) (place s) s.nodes h.forest) h
+      (λ n l. opened_new (element (html name) attributes) n refl h
+      (held_pushed (insert_element name attributes s).nodes s.formatting
+      (held_opened (length s.nodes) (html name) s.stack l)));
 }
 
 -- ---- elements are reconstructed
@@ -243,14 +272,20 @@ abbrev EachAt : List KindValue → List ℕ → Type 0
 EachAt ks [] = Unit {0}
 EachAt ks (n ∷ ns) = ElementAt ks n × EachAt ks ns
 
+held_first : {n m : ℕ} {head : Option ℕ} {stack : List OpenValue} (entries : List (Option ℕ))
+    → (n ≡ m) ⊎ Held n head (Some m ∷ entries) stack → (n ≡ m) ⊎ Held n head entries stack
+held_first {n} {m} entries (inl p) = inl p
+held_first {n} {m} entries (inr (as_head e)) = inr (as_head e)
+held_first {n} {m} entries (inr (as_entry e)) = entry_or_held (listed_first n m entries e)
+held_first {n} {m} entries (inr (as_open e)) = inr (as_open e)
+
 like_kept : (s : StateValue) (n : ℕ) (k : KindValue) → is_element k ≡ true → Sound s
     → Kept s (on_formatting (λ entries. Some (length s.nodes) ∷ entries) (insert_like k s))
 like_kept s n (element name attributes) e h =
-    kept_as (kinds_add (element name attributes) (place s) s.nodes)
-    (kept_new (Some (length s.nodes) ∷ s.formatting) (element name attributes) refl h
-    (λ m l. or_new (kinds s.nodes) (element name attributes) s.formatting m (length s.nodes) refl (sym
-    (length-map s.nodes _))
-    (listed_first m (length s.nodes) s.formatting l)))
+    kept_new (element name attributes) (kinds_add (element name attributes) (place s) s.nodes) refl
+    (forest_add (element name attributes) (place s) s.nodes h.forest) h
+    (λ m l. opened_new (element name attributes) m refl h
+    (held_first s.formatting (held_opened (length s.nodes) name s.stack l)))
 like_kept s n (text t) e h = absurd (true≢false (sym e))
 like_kept s n document e h = absurd (true≢false (sym e))
 like_kept s n doctype e h = absurd (true≢false (sym e))
@@ -272,7 +307,11 @@ closed_listed ks stack [] f = tt
 closed_listed ks stack (None ∷ entries) f = tt
 closed_listed ks stack (Some m ∷ entries) f =
     test (is_open_node m stack) (λ t. rw t tt)
-    (λ t. rw t (f m (rw (own m) refl), closed_listed ks stack entries (λ n l. f n (listed_more n (Some m) entries l))))
+    (λ t. rw t (
+      f m (rw (own m) refl),
+      closed_listed ks stack entries
+          (λ n l. f n (listed_more n (Some m) entries l)),
+    ))
   where
     own : (n : ℕ) → (n == n) ≡ true
     own n = eq-eqb n n refl
@@ -280,14 +319,21 @@ closed_listed ks stack (Some m ∷ entries) f =
 pub reconstruct_keeps : Keeps reconstruct
 reconstruct_keeps = record {
   keeps = λ s h. reopen_all_kept (closed_elements s.stack s.formatting) (on_formatting (after_closed s.stack) s)
-      (closed_listed (kinds s.nodes) s.stack s.formatting h.listed)
-      (record { listed = λ n l. h.listed n (listed_closed n s.stack s.formatting l); utf8 = h.utf8 });
+      (closed_listed (kinds s.nodes) s.stack s.formatting (λ n l. h.held n (as_entry l)))
+      (sound_held (λ n l. h.held n (held_in s.formatting s.stack (listed_closed n s.stack s.formatting) (λ e. e) l))
+      h);
 }
 
--- ---- what is no node
+-- ---- what isn't a node
 
-pub open_again_keeps : (n : ℕ) (name : NameValue) → Keeps (open_again n name)
-open_again_keeps n name = untouched (λ s. refl) (λ s m l. l)
+pub open_again_kept : (n : ℕ) (name : NameValue) (s : StateValue) → ElementAt (kinds s.nodes) n → Sound s
+    → Kept s (open_again n name s)
+open_again_kept n name s e h =
+    kept_same (sound_held (λ m l. here m (held_opened n (html name) s.stack l)) h)
+  where
+    here : (m : ℕ) → (m ≡ n) ⊎ Held m s.head s.formatting s.stack → ElementAt (kinds s.nodes) m
+    here m (inl p) = subst (λ (x : ℕ). ElementAt (kinds s.nodes) x) (sym p) e
+    here m (inr l) = h.held m l
 
 pub push_template_mode_keeps : (mode : InsertionMode) → Keeps (push_template_mode mode)
 push_template_mode_keeps mode = untouched (λ s. refl) (λ s n l. l)

@@ -1,181 +1,149 @@
--- The texts of the tree hold what those of the nodes hold at most, where no item stands at the greatest depth.
-use Rattle.std.proofs.Common.{◌≡◌, ◌∙◌, ℕ, zero, suc, ◌+◌, ◌<◌, ◌≤◌, Bool, true, false, List, [], ◌∷◌, ◌++◌, length, get_or, set}
-use Rattle.std.proofs.Common.{refl, ap, subst, arith, All}
-use Rattle.std.proofs.Math.Seq.{get_or-append_seam}
-use Rattle.std.proofs.lemmas.Bool.{eqb-true}
-use Rattle.std.proofs.lemmas.List.{get_or_append_left, length-append}
+-- The texts of the tree hold what those of the nodes hold at most.
+use Rattle.std.proofs.Common.{◌≡◌, ℕ, zero, suc, ◌+◌, ◌≤◌, Bool, true, false, List, [], ◌∷◌}
+use Rattle.std.proofs.Common.{◌++◌, length, refl, sym, ap, subst, arith, cond, map, Option}
+use Rattle.std.specs.Prelude.{if◌then◌else◌, IsUtf8}
+use Rattle.std.proofs.lemmas.Bool.{true≢false}
 use Rattle.htmd_html5_state.specs.Names.{text_of_element_name}
 use Rattle.htmd_html5_state.specs.Documents.{KindValue, NodeValue, document, doctype, text, comment, element, kind_at}
-use Rattle.htmd_html5.specs.Layout.{Coming, Layout, joined, with_text, with_kind_of}
-use Rattle.htmd_html5.specs.Layout.{without_node, put_node, put_next, layout_within}
-use Rattle.htmd_html5.specs.Layout.{first_layout, document_of, is_deepest}
-use Rattle.htmd_tree.specs.Items.{Item, Data, document_node, doctype_node, text_node, comment_node, element_node}
-use Rattle.htmd_tree.specs.Items.{new_item, depth_at}
-use Rattle.htmd_html5_laws.specs.PageLetters.{occurrences, occurrences_in, with_text_in, texts_of}
-use Rattle.htmd_html5_laws.proofs.NodeTexts.{kinds, texts, with_text as with_node_text, kinds_with_kind, kind_read}
-use Rattle.htmd_html5_laws.proofs.TextsPut.{occurs_cons}
-
--- ---- lists of items
-
-front_all : {X : Type 0} (P : X → Type 0) (xs ys : List X) → All P (xs ++ ys) → All P xs
-front_all P xs ys h k d lt =
-    let n = length-append xs ys in subst P (get_or_append_left xs ys d k lt) (h k d (omega arith))
-
-last_all : {X : Type 0} (P : X → Type 0) (xs : List X) (y : X) → All P (xs ++ y ∷ []) → P y
-last_all P xs y h =
-    let n = length-append xs (y ∷ []) in subst P (get_or-append_seam xs y [] y) (h (length xs) y (omega arith))
+use Rattle.htmd_html5_state.specs.Documents.{node_at, children_at, with_kind}
+use Rattle.htmd_html5_state.specs.OpenElements.{OpenValue}
+use Rattle.htmd_html5.specs.Layout.{Coming, coming, Layout, next_texts, with_text, with_kind_of, without_node, put_next}
+use Rattle.htmd_html5.specs.Layout.{layout_within, first_layout, document_of, is_deepest}
+use Rattle.htmd_tree.specs.Items.{Data, doctype_node, text_node, comment_node, element_node, new_item}
+use Rattle.htmd_html5_laws.specs.PageLetters.{occurrences, occurrences_in, texts_of}
+use Rattle.htmd_html5_laws.proofs.NodeTexts.{kinds, texts, is_element}
+use Rattle.htmd_html5_laws.proofs.NodeParts.{children_of_kind}
+use Rattle.htmd_html5_laws.proofs.Forests.{IsForest}
+use Rattle.htmd_html5_laws.proofs.Keeping.{IsRooted, SoundIn}
+use Rattle.htmd_html5_laws.proofs.TextsPut.{occurs_append}
+use Rattle.htmd_html5_laws.proofs.NodeWeights.{all_children, children_once, TextsUtf8, marked_utf8, nodes_utf8, in_data}
+use Rattle.htmd_html5_laws.proofs.NodeWeights.{in_kind, in_items, in_nodes, item_more, weigh, weigh_work, under}
+use Rattle.htmd_html5_laws.proofs.NodeWeights.{under_all, weigh_append, weigh_coming, weigh_fewer, work_fewer}
+use Rattle.htmd_html5_laws.proofs.NodeWeights.{under_taken, weigh_once, under_children, joined_same}
 
 module _ (c : ℕ) where
-  -- how often the character stands in an item, and in a node
-  in_data : Data → ℕ
-  in_data document_node = 0
-  in_data doctype_node = 0
-  in_data (text_node s) = occurrences c s
-  in_data (comment_node s) = 0
-  in_data (element_node name attributes) = 0
-
-  in_kind : KindValue → ℕ
-  in_kind document = 0
-  in_kind doctype = 0
-  in_kind (text s) = occurrences c s
-  in_kind (comment s) = 0
-  in_kind (element name attributes) = 0
-
-  in_items : List Item → ℕ
-  in_items items = occurrences_in c (texts_of items)
-
-  in_nodes : List NodeValue → ℕ
-  in_nodes nodes = occurrences_in c (texts (kinds nodes))
-
-  data_more : (d : Data) (ts : List (List ℕ)) → occurrences_in c (with_text_in d ts) ≡ in_data d + occurrences_in c ts
-  unfolding in_data
-  data_more document_node ts = omega arith
-  data_more doctype_node ts = omega arith
-  data_more (text_node s) ts = occurs_cons c s ts
-  data_more (comment_node s) ts = omega arith
-  data_more (element_node name attributes) ts = omega arith
-
-  item_more : (items : List Item) (item : Item)
-      → in_items (items ++ item ∷ []) ≡ in_items items + in_data item.node_data
-  unfolding in_items
-  item_more [] item = data_more item.node_data [] ∙ omega arith
-  item_more (first ∷ items) item =
-      let a = data_more first.node_data (texts_of (items ++ item ∷ [])) in
-      let b = data_more first.node_data (texts_of items) in
-      let d = item_more items item in
-      omega arith
-
-  kind_more : (k : KindValue) (ts : List (List ℕ))
-      → occurrences_in c (with_node_text k ts) ≡ in_kind k + occurrences_in c ts
-  unfolding in_kind
-  kind_more document ts = omega arith
-  kind_more doctype ts = omega arith
-  kind_more (text s) ts = occurs_cons c s ts
-  kind_more (comment s) ts = omega arith
-  kind_more (element name attributes) ts = omega arith
-
-  kind_taken : (ks : List KindValue) (n : ℕ)
-      → occurrences_in c (texts (set ks n document)) + in_kind (get_or ks n document) ≡ occurrences_in c (texts ks)
-  unfolding in_kind
-  kind_taken [] n = omega arith
-  kind_taken (k ∷ ks) zero = let a = kind_more k (texts ks) in omega arith
-  kind_taken (k ∷ ks) (suc n) =
-      let a = kind_more k (texts ks) in
-      let b = kind_more k (texts (set ks n document)) in
-      let d = kind_taken ks n in
-      omega arith
-
-  -- a node is taken
-  node_taken : (nodes : List NodeValue) (n : ℕ) (l : Layout) → l.nodes ≡ nodes
-      → in_nodes (without_node n l).nodes + in_kind (kind_at nodes n) ≡ in_nodes nodes
-  unfolding in_nodes
-  node_taken nodes n l e =
-      ap (λ (x : List NodeValue). occurrences_in c (texts (kinds (without_node n (record l {
-        nodes =
-            x;
-      })).nodes)) + in_kind (kind_at nodes n)) e
-      ∙ (ap (λ (x : List KindValue). occurrences_in c (texts x) + in_kind (kind_at nodes n))
-      (kinds_with_kind n document nodes)
-      ∙ (ap (λ (k : KindValue). occurrences_in c (texts (set (kinds nodes) n document)) + in_kind k) (kind_read nodes n)
-      ∙ kind_taken (kinds nodes) n))
-
   -- ---- a step
 
-  abbrev Shallow : ℕ → Item → Type 0
-  Shallow limit item = item.depth < limit
+  -- what the items hold, and what is still to come
+  abbrev pub in_layout : Layout → ℕ
+  in_layout l = in_items c l.items + weigh_work c l.nodes l.work + under_all c l.nodes l.nodes
 
-  -- what was put
-  record Put (limit n : ℕ) (l new : Layout) : Type 0 where
-    fewer : All (Shallow limit) new.items
-        → in_items new.items + in_nodes new.nodes ≤ in_items l.items + in_nodes l.nodes + n
-    before : All (Shallow limit) new.items → All (Shallow limit) l.items
+  -- what was put held so much
+  record Put (n : ℕ) (l new : Layout) : Type 0 where
+    fewer : in_layout new ≤ in_layout l + n
+    utf8 : TextsUtf8 new.nodes
 
-  item_put : (limit n : ℕ) (d : Data) (under : ℕ) (l new : Layout)
-      → new.items ≡ l.items ++ new_item l.items under d ∷ []
-      → new.nodes ≡ l.nodes → in_data d ≡ n → Put limit n l new
-  item_put limit n d under l new e same is = record {
-    fewer = λ all.
-        let a = item_more l.items (new_item l.items under d) in
-        let b : in_items new.items ≡ in_items (l.items ++ new_item l.items under d ∷ []) = ap in_items e in
-        let f : in_nodes new.nodes ≡ in_nodes l.nodes = ap in_nodes same in
+  -- one item, for a node that was taken
+  item_put : (n m : ℕ) (d : Data) (at : ℕ) (l new : Layout)
+      → new.items ≡ l.items ++ new_item l.items at d ∷ [] → new.nodes ≡ with_kind m document l.nodes
+      → in_data c d + weigh_work c new.nodes new.work ≤ n + weigh_work c (with_kind m document l.nodes) l.work
+      → TextsUtf8 l.nodes → Put n l new
+  item_put n m d at l new e same more h = record {
+    fewer =
+        let a = item_more c l.items (new_item l.items at d) in
+        let b : in_items c new.items ≡ in_items c (l.items ++ new_item l.items at d ∷ []) = ap (in_items c) e in
+        let f = under_taken c m l.nodes in
+        let g : under_all c new.nodes new.nodes
+        ≡ under_all c (with_kind m document l.nodes) (with_kind m document l.nodes) =
+        ap (λ (x : List NodeValue). under_all c x x) same in
+        let w = work_fewer c m l.nodes l.work in
         omega arith;
-    before =
-        λ all. front_all (Shallow limit) l.items (new_item l.items under d ∷ []) (subst (All (Shallow limit)) e all);
+    utf8 = subst TextsUtf8 (sym same) (marked_utf8 m l.nodes h);
   }
 
-  text_put : (limit : ℕ) (s : List ℕ) (under : ℕ) (l : Layout) (deepest : Bool)
-      → is_deepest limit l.items under ≡ deepest → Put limit (occurrences c s) l (with_text deepest s under l)
+  text_put : (m : ℕ) (s : List ℕ) (at : ℕ) (l : Layout) (deepest : Bool) → IsUtf8 s → TextsUtf8 l.nodes
+      → Put (occurrences c s) l (with_text deepest s at (without_node m l))
   unfolding in_data
-  text_put limit s under l false e =
-      item_put limit (occurrences c s) (text_node s) under l (with_text false s under l) refl refl refl
-  text_put limit s under l true e = record {
-    fewer = λ all.
-        let deep : depth_at l.items under + 1 ≡ limit = eqb-true (depth_at l.items under + 1) limit e in
-        let shallow : depth_at l.items under + 1 < limit =
-        last_all (Shallow limit) l.items (new_item l.items under (text_node (joined s under l))) all in
-        absurd (omega arith);
-    before = λ all.
-        front_all (Shallow limit) l.items (new_item l.items under (text_node (joined s under l)) ∷ []) all;
+  text_put m s at l false u h =
+      item_put (occurrences c s) m (text_node s) at l (with_text false s at (without_node m l)) refl refl
+      (omega arith) h
+  text_put m s at l true u h =
+      let a = occurs_append c s (next_texts (with_kind m document l.nodes) at l.work) u in
+      let b = joined_same c (with_kind m document l.nodes) at l.work (marked_utf8 m l.nodes h) in
+      item_put (occurrences c s) m (text_node (s ++ next_texts (with_kind m document l.nodes) at l.work)) at l
+      (with_text true s at (without_node m l)) refl refl (omega arith) h
+
+  element_put : (m : ℕ) (d : Data) (at u : ℕ) (l : Layout) (name : _) (attributes : _)
+      → in_data c d ≡ 0 → kind_at l.nodes m ≡ element name attributes → TextsUtf8 l.nodes
+      → Put 0 l (record l {
+        nodes = with_kind m document l.nodes;
+        items = l.items ++ new_item l.items at d ∷ [];
+        work = map (coming u) (children_at (with_kind m document l.nodes) m) ++ l.work;
+      })
+  element_put m d at u l name attributes none e h = record {
+    fewer =
+        let a = item_more c l.items (new_item l.items at d) in
+        let b = under_taken c m l.nodes in
+        let f = weigh_coming c (with_kind m document l.nodes) u (children_at (with_kind m document l.nodes) m) l.work in
+        let g : weigh c (with_kind m document l.nodes) (children_at (with_kind m document l.nodes) m)
+        ≡ weigh c (with_kind m document l.nodes) (children_at l.nodes m) =
+        ap (weigh c (with_kind m document l.nodes)) (children_of_kind m m document l.nodes) in
+        let i = weigh_fewer c m l.nodes (children_at l.nodes m) in
+        let j : under c l.nodes (node_at l.nodes m) ≡ weigh c l.nodes (children_at l.nodes m) =
+        ap (λ (k : KindValue). cond (is_element k) (weigh c l.nodes (children_at l.nodes m)) 0) e in
+        let w = work_fewer c m l.nodes l.work in
+        omega arith;
+    utf8 = marked_utf8 m l.nodes h;
   }
 
-  kind_put : (limit : ℕ) (k : KindValue) (coming : Coming) (l : Layout)
-      → Put limit (in_kind k) l (with_kind_of (is_deepest limit l.items coming.under) k coming l)
+  kind_put : (k : KindValue) (x : Coming) (l : Layout) (deepest : Bool) → kind_at l.nodes x.node ≡ k
+      → TextsUtf8 l.nodes → Put (in_kind c k) l (with_kind_of deepest k x (without_node x.node l))
   unfolding in_kind in_data
-  kind_put limit document coming l = record { fewer = λ all. omega arith; before = λ all. all }
-  kind_put limit doctype coming l = item_put limit 0 doctype_node coming.under l _ refl refl refl
-  kind_put limit (text s) coming l = text_put limit s coming.under l (is_deepest limit l.items coming.under) refl
-  kind_put limit (comment s) coming l = item_put limit 0 (comment_node s) coming.under l _ refl refl refl
-  kind_put limit (element name attributes) coming l =
-      item_put limit 0 (element_node (text_of_element_name name) attributes) coming.under l _ refl refl refl
+  kind_put document x l deepest e h = record {
+    fewer =
+        let a = under_taken c x.node l.nodes in let w = work_fewer c x.node l.nodes l.work in omega arith;
+    utf8 = marked_utf8 x.node l.nodes h;
+  }
+  kind_put doctype x l deepest e h = item_put 0 x.node doctype_node x.under l _ refl refl (omega arith) h
+  kind_put (text s) x l deepest e h = text_put x.node s x.under l deepest (h x.node s e) h
+  kind_put (comment s) x l deepest e h = item_put 0 x.node (comment_node s) x.under l _ refl refl (omega arith) h
+  kind_put (element name attributes) x l deepest e h =
+      element_put x.node (element_node (text_of_element_name name) attributes) x.under
+      (if deepest then x.under else length l.items) l name attributes refl e h
 
-  put_one : (limit : ℕ) (coming : Coming) (l : Layout) → Put limit 0 l (put_node limit coming l)
-  put_one limit coming l =
-      let p = kind_put limit (kind_at l.nodes coming.node) coming (without_node coming.node l) in
-      let t = node_taken l.nodes coming.node l refl in
-      record { fewer = λ all. let f = p.fewer all in omega arith; before = λ all. p.before all }
+  put_first : (limit : ℕ) (work : List Coming) (l : Layout) → l.work ≡ work → TextsUtf8 l.nodes
+      → Put 0 l (put_next limit work l)
+  put_first limit [] l e h = record { fewer = omega arith; utf8 = h }
+  put_first limit (x ∷ work) l e h =
+      let p = kind_put (kind_at l.nodes x.node) x (record l { work = work })
+      (is_deepest limit l.items x.under) refl h in
+      let f : weigh_work c l.nodes l.work ≡ in_kind c (kind_at l.nodes x.node) + weigh_work c l.nodes work =
+      ap (weigh_work c l.nodes) e in
+      record { fewer = let g = p.fewer in omega arith; utf8 = p.utf8 }
 
-  put_first : (limit : ℕ) (work : List Coming) (l : Layout) → Put limit 0 l (put_next limit work l)
-  put_first limit [] l = record { fewer = λ all. omega arith; before = λ all. all }
-  put_first limit (coming ∷ work) l =
-      let p = put_one limit coming (record l { work = work }) in
-      record { fewer = λ all. p.fewer all; before = λ all. p.before all }
+  put_all : (limit k : ℕ) (l : Layout) → TextsUtf8 l.nodes → in_layout (layout_within limit k l) ≤ in_layout l
+  put_all limit zero l h = omega arith
+  put_all limit (suc k) l h =
+      let first = put_first limit l.work l refl h in
+      let later = put_all limit k (put_next limit l.work l) first.utf8 in
+      let f = first.fewer in
+      omega arith
 
-  put_all : (limit k : ℕ) (l : Layout) → Put limit 0 l (layout_within limit k l)
-  put_all limit zero l = record { fewer = λ all. omega arith; before = λ all. all }
-  put_all limit (suc k) l =
-      let first = put_first limit l.work l in
-      let later = put_all limit k (put_next limit l.work l) in
-      record {
-        fewer = λ all.
-            let f = first.fewer (later.before all) in
-            let g = later.fewer all in
-            omega arith;
-        before = λ all. first.before (later.before all);
-      }
+  -- ---- the whole document
 
-  pub laid_texts : (limit : ℕ) (nodes : List NodeValue)
-      → All (λ (item : Item). item.depth < limit) (document_of limit nodes)
+  first_held : (nodes : List NodeValue) → IsRooted (kinds nodes) → IsForest nodes
+      → in_layout (first_layout nodes) ≤ in_nodes c nodes
+  unfolding in_items
+  first_held [] root forest = absurd (true≢false root)
+  first_held (x ∷ nodes) root forest =
+      let a = weigh_coming c (x ∷ nodes) 0 x.children [] in
+      let b = under_children c (x ∷ nodes) nodes in
+      let d = weigh_append c (x ∷ nodes) x.children (all_children nodes) in
+      let e = weigh_once c (x.children ++ all_children nodes) (x ∷ nodes)
+      (λ n. children_once n (x ∷ nodes) forest) in
+      let f : under c (x ∷ nodes) x ≡ 0 =
+      ap (λ (t : Bool). cond t (weigh c (x ∷ nodes) x.children) 0) root in
+      omega arith
+
+  pub items_held : (l : Layout) → in_items c l.items ≤ in_layout l
+  items_held l = omega arith
+
+  pub laid_texts : (limit : ℕ) (nodes : List NodeValue) {head : Option ℕ} {entries : List (Option ℕ)}
+      {stack : List OpenValue} → SoundIn nodes head entries stack
       → occurrences_in c (texts_of (document_of limit nodes)) ≤ occurrences_in c (texts (kinds nodes))
   unfolding in_items in_nodes
-  laid_texts limit nodes all =
-      let f = (put_all limit (length nodes) (first_layout nodes)).fewer all in omega arith
+  laid_texts limit nodes h =
+      let a = first_held nodes h.root h.forest in
+      let b = put_all limit (length nodes) (first_layout nodes) (nodes_utf8 nodes h.utf8) in
+      let d = items_held (layout_within limit (length nodes) (first_layout nodes)) in
+      omega arith

@@ -1,15 +1,37 @@
 -- The lemmas of the laws, each module over those before it.
+pub mod Utf8Parts
+pub mod Utf8Contents
+pub mod Utf8Tokens
 pub mod NodeTexts
+pub mod NodeParts
+pub mod Forests
+pub mod OpenNodes
 pub mod Keeping
 pub mod KeepingInsertion
 pub mod KeepingAdoption
 pub mod KeepingRules
+pub mod KeepingStarts
+pub mod KeepingBodyEnds
+pub mod KeepingHead
+pub mod KeepingTables
+pub mod KeepingSelect
+pub mod KeepingEnds
 pub mod KeepingModes
 pub mod TextsPut
 pub mod Taking
 pub mod TakingRuns
 pub mod TakingTexts
+pub mod FedTokens
 pub mod TakingTokens
+pub mod LetterLemmas
+pub mod PuttingRuns
+pub mod PuttingTexts
+pub mod PuttingTokens
+pub mod NodeWeights
 pub mod LaidTexts
+pub mod PendingNodes
+pub mod WholeTexts
+pub mod WholeTrees
+pub mod KeptLettersLemmas
 pub mod PageLettersLemmas
 mod Examples

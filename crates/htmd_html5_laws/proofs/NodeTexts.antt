@@ -8,6 +8,7 @@ use Rattle.htmd_grammar.specs.ValueTrees.{AttributePair}
 use Rattle.htmd_html5_state.specs.Documents.{NodeValue, KindValue, document, doctype, text, comment, element}
 use Rattle.htmd_html5_state.specs.Documents.{new_node, kind_at, with_kind, with_parent, with_children, with_parents}
 use Rattle.htmd_html5_state.specs.Documents.{detach, detach_from, put, attach, add, move_children}
+use Rattle.htmd_html5_laws.specs.DocumentLetters.{with_text_at, node_texts}
 use Rattle.htmd_html5_state.specs.Documents.{remove_child, put_child, kind_with_missing, parent_at, children_at}
 
 -- ---- what the nodes are
@@ -36,14 +37,16 @@ texts (k ∷ ks) = with_text k (texts ks)
 
 -- ---- steps that leave what the nodes are
 
-pub kinds_with_parent : (n : ℕ) (p : Option ℕ) (nodes : List NodeValue) → kinds (with_parent n p nodes) ≡ kinds nodes
+pub kinds_with_parent : (n : ℕ) (p : Option ℕ) (nodes : List NodeValue) → kinds (with_parent n p nodes)
+    ≡ kinds nodes
 kinds_with_parent n p nodes = map-set_same kind_in nodes n _ (new_node document) refl
 
 pub kinds_with_children : (n : ℕ) (cs : List ℕ) (nodes : List NodeValue)
     → kinds (with_children n cs nodes) ≡ kinds nodes
 kinds_with_children n cs nodes = map-set_same kind_in nodes n _ (new_node document) refl
 
-pub kinds_detach_from : (p : Option ℕ) (n : ℕ) (nodes : List NodeValue) → kinds (detach_from p n nodes) ≡ kinds nodes
+pub kinds_detach_from : (p : Option ℕ) (n : ℕ) (nodes : List NodeValue) → kinds (detach_from p n nodes)
+    ≡ kinds nodes
 kinds_detach_from None n nodes = refl
 kinds_detach_from (Some p) n nodes =
     kinds_with_parent n None (remove_child p n nodes) ∙ kinds_with_children p _ nodes
@@ -58,12 +61,14 @@ kinds_put n place nodes =
 pub kinds_attach : (n : ℕ) (place : _) (nodes : List NodeValue) → kinds (attach n place nodes) ≡ kinds nodes
 kinds_attach n place nodes = kinds_put n place (detach n nodes) ∙ kinds_detach n nodes
 
-pub kinds_with_parents : (p : ℕ) (cs : List ℕ) (nodes : List NodeValue) → kinds (with_parents p cs nodes) ≡ kinds nodes
+pub kinds_with_parents : (p : ℕ) (cs : List ℕ) (nodes : List NodeValue) → kinds (with_parents p cs nodes)
+    ≡ kinds nodes
 kinds_with_parents p [] nodes = refl
 kinds_with_parents p (c ∷ cs) nodes =
     kinds_with_parents p cs (with_parent c (Some p) nodes) ∙ kinds_with_parent c (Some p) nodes
 
-pub kinds_move_children : (from to : ℕ) (nodes : List NodeValue) → kinds (move_children from to nodes) ≡ kinds nodes
+pub kinds_move_children : (from to : ℕ) (nodes : List NodeValue) → kinds (move_children from to nodes)
+    ≡ kinds nodes
 kinds_move_children from to nodes =
     kinds_with_children to _ (with_parents to (children_at nodes from) (with_children from [] nodes))
     ∙ (kinds_with_parents to (children_at nodes from) (with_children from [] nodes)
@@ -132,7 +137,8 @@ kind_new [] k = refl
 kind_new (x ∷ ks) k = kind_new ks k
 
 pub element_set : (ks : List KindValue) (n m : ℕ) (k : KindValue)
-    → (is_element (get_or ks n document) ≡ true → is_element k ≡ true) → is_element (get_or ks m document) ≡ true
+    → (is_element (get_or ks n document) ≡ true → is_element k ≡ true) → is_element (get_or ks m document)
+    ≡ true
     → is_element (get_or (set ks n k) m document) ≡ true
 element_set [] n m k h e = e
 element_set (x ∷ ks) zero zero k h e = h e
@@ -147,3 +153,16 @@ with_missing_element more (text s) = refl
 with_missing_element more document = refl
 with_missing_element more doctype = refl
 with_missing_element more (comment s) = refl
+
+-- ---- the texts of the nodes, as the laws have them
+
+with_text_same : (k : KindValue) (ts : List (List ℕ)) → with_text_at k ts ≡ with_text k ts
+with_text_same (text s) ts = refl
+with_text_same document ts = refl
+with_text_same doctype ts = refl
+with_text_same (comment s) ts = refl
+with_text_same (element name attributes) ts = refl
+
+pub texts_same : (nodes : List NodeValue) → node_texts nodes ≡ texts (kinds nodes)
+texts_same [] = refl
+texts_same (x ∷ nodes) = ap (with_text_at x.kind) (texts_same nodes) ∙ with_text_same x.kind (texts (kinds nodes))

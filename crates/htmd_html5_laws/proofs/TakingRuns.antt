@@ -25,9 +25,10 @@ use Rattle.htmd_html5_laws.specs.PageLetters.{occurrences, is_character}
 use Rattle.htmd_html5_laws.proofs.Keeping.{nothing}
 use Rattle.htmd_html5_laws.proofs.KeepingInsertion.{reconstruct_keeps}
 use Rattle.htmd_html5_laws.proofs.KeepingRules.{says, no_frameset_keeps}
-use Rattle.htmd_html5_laws.proofs.KeepingModes.{leave_initial_keeps, imply_root_keeps, imply_head_keeps, close_head_keeps}
-use Rattle.htmd_html5_laws.proofs.KeepingModes.{close_noscript_keeps, imply_body_keeps, leave_columns_keeps}
-use Rattle.htmd_html5_laws.proofs.KeepingModes.{back_to_body_keeps}
+use Rattle.htmd_html5_laws.proofs.KeepingHead.{leave_initial_keeps, imply_root_keeps, imply_head_keeps}
+use Rattle.htmd_html5_laws.proofs.KeepingHead.{close_head_keeps, close_noscript_keeps, imply_body_keeps}
+use Rattle.htmd_html5_laws.proofs.KeepingTables.{leave_columns_keeps}
+use Rattle.htmd_html5_laws.proofs.KeepingEnds.{back_to_body_keeps}
 use Rattle.htmd_html5_laws.proofs.TextsPut.{occurs_append, occurs_nil}
 use Rattle.htmd_html5_laws.proofs.Taking.{Takes, keeps_takes, takes_after, after_takes, fostered_takes}
 use Rattle.htmd_html5_laws.proofs.Taking.{insert_text_takes, Offers, offers, offers_kept, takes_none, offers_by_test}
@@ -36,7 +37,8 @@ one_utf8 : IsUtf8 (encode_utf8 replacement_character)
 unfolding encode_utf8
 one_utf8 = (replacement_character ∷ [], (refl, refl))
 
-one_none : (c : ℕ) → (c == replacement_character) ≡ false → occurrences c (encode_utf8 replacement_character) ≡ 0
+one_none : (c : ℕ) → (c == replacement_character) ≡ false → occurrences c (encode_utf8 replacement_character)
+    ≡ 0
 unfolding occurrences encode_utf8
 one_none c e =
     ap (count_by (is_character c)) (chars_past_char
@@ -56,7 +58,8 @@ by_kind P white nulls characters b = either (is_ascii_white_space b) (is_null b)
     either false true = nulls
     either false false = characters
 
-pub by_first_kind : (P : _ → Type 0) → P (kind_of_byte 32) → P (kind_of_byte 0) → P (kind_of_byte 97) → (s : List ℕ)
+pub by_first_kind : (P : _ → Type 0) → P (kind_of_byte 32) → P (kind_of_byte 0) → P (kind_of_byte 97)
+    → (s : List ℕ)
     → P (first_kind s)
 by_first_kind P white nulls characters [] = characters
 by_first_kind P white nulls characters (b ∷ s) = by_kind P white nulls characters b
@@ -210,9 +213,10 @@ module _ (c : ℕ) where
   -- this is what U+FFFD isn't
   pub replaced_utf8 : (t : List ℕ) → IsUtf8 (replacements t)
   replaced_utf8 [] = IsUtf8-nil
-  replaced_utf8 (b ∷ t) = IsUtf8-append (encode_utf8 replacement_character) (replacements t) one_utf8 (replaced_utf8 t)
+  replaced_utf8 (b ∷ t) = IsUtf8-append (encode_utf8 replacement_character) (replacements t) one_utf8
+      (replaced_utf8 t)
 
-  replaced_none : (c == replacement_character) ≡ false → (t : List ℕ) → occurrences c (replacements t) ≡ 0
+  pub replaced_none : (c == replacement_character) ≡ false → (t : List ℕ) → occurrences c (replacements t) ≡ 0
   replaced_none e [] = occurs_nil c
   replaced_none e (b ∷ t) =
       let a = occurs_append c (encode_utf8 replacement_character) (replacements t) one_utf8 in

@@ -10,7 +10,8 @@ use Rattle.htmd_html5_state.specs.Documents.{KindValue, document, doctype, text,
 use Rattle.htmd_html5_laws.specs.PageLetters.{occurrences, occurrences_in, is_character}
 use Rattle.htmd_html5_laws.proofs.NodeTexts.{texts, with_text}
 
-pub occurs_append : (c : ℕ) (s t : List ℕ) → IsUtf8 s → occurrences c (s ++ t) ≡ occurrences c s + occurrences c t
+pub occurs_append : (c : ℕ) (s t : List ℕ) → IsUtf8 s → occurrences c (s ++ t)
+    ≡ occurrences c s + occurrences c t
 unfolding occurrences
 occurs_append c s t u =
     ap (count_by (is_character c)) (chars-append s t u)
@@ -26,7 +27,8 @@ occurs_cons c t ts = sum_by-cons (occurrences c) t ts
 
 -- ---- a text more
 
-with_push : (k : KindValue) (ts : List (List ℕ)) (t : List ℕ) → with_text k (ts ++ t ∷ []) ≡ with_text k ts ++ t ∷ []
+with_push : (k : KindValue) (ts : List (List ℕ)) (t : List ℕ) → with_text k (ts ++ t ∷ []) ≡ with_text k ts
+    ++ t ∷ []
 with_push (text s) ts t = refl
 with_push document ts t = refl
 with_push doctype ts t = refl
@@ -74,14 +76,15 @@ grown_in_text c doctype before t ks e u all = absurd (cc)
 grown_in_text c (comment s) before t ks e u all = absurd (cc)
 grown_in_text c (element name attributes) before t ks e u all = absurd (cc)
 
-all_under : (k : KindValue) (ts : List (List ℕ)) → All IsUtf8 (with_text k ts) → All IsUtf8 ts
+pub all_under : (k : KindValue) (ts : List (List ℕ)) → All IsUtf8 (with_text k ts) → All IsUtf8 ts
 all_under (text s) ts all = All-tail IsUtf8 s ts all
 all_under document ts all = all
 all_under doctype ts all = all
 all_under (comment s) ts all = all
 all_under (element name attributes) ts all = all
 
-grown_under : (c n : ℕ) (k : KindValue) (ks new : List KindValue) → All IsUtf8 (texts (k ∷ ks)) → Grown c n ks new
+grown_under : (c n : ℕ) (k : KindValue) (ks new : List KindValue) → All IsUtf8 (texts (k ∷ ks))
+    → Grown c n ks new
     → Grown c n (k ∷ ks) (k ∷ new)
 grown_under c n (text s) ks new all g = record {
   grows =
@@ -96,7 +99,8 @@ grown_under c n doctype ks new all g = record { grows = g.grows; utf8 = g.utf8 }
 grown_under c n (comment s) ks new all g = record { grows = g.grows; utf8 = g.utf8 }
 grown_under c n (element name attributes) ks new all g = record { grows = g.grows; utf8 = g.utf8 }
 
-pub grown_at : (c : ℕ) (ks : List KindValue) (n : ℕ) (before t : List ℕ) → get_or ks n document ≡ text before → IsUtf8 t
+pub grown_at : (c : ℕ) (ks : List KindValue) (n : ℕ) (before t : List ℕ) → get_or ks n document ≡ text before
+    → IsUtf8 t
     → All IsUtf8 (texts ks) → Grown c (occurrences c t) ks (set ks n (text (before ++ t)))
 grown_at c [] n before t e u all = absurd (cc)
 grown_at c (k ∷ ks) zero before t e u all = grown_in_text c k before t ks e u all

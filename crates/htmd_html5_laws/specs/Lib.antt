@@ -1,2 +1,4 @@
 -- The laws of the lenient reader.
 pub mod PageLetters
+pub mod DocumentLetters
+pub mod KeptLetters

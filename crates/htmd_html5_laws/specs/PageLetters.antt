@@ -1,11 +1,11 @@
 -- The letters of a page, and those of the tree that it is read as.
-use Rattle.std.specs.Prelude.{◌≡◌, ℕ, zero, suc, ◌<◌, ◌≤◌, Bool, true, not, ◌||◌, ◌==◌, if◌then◌else◌, List, [], ◌∷◌}
+use Rattle.std.specs.Prelude.{◌≡◌, ℕ, zero, suc, ◌≤◌, Bool, true, not, ◌||◌, ◌==◌, if◌then◌else◌, List, [], ◌∷◌}
 use Rattle.std.specs.Prelude.{length, All, IsUtf8}
 use Rattle.std.specs.List.{count_by, sum_by}
 use Rattle.std.specs.Str.{chars}
 use Rattle.htmd_text.specs.WhiteSpace.{is_ascii_white_space}
 use Rattle.htmd_text.specs.Characters.{null}
-use Rattle.htmd_tree.specs.Items.{Item, Data, text_node, greatest_depth}
+use Rattle.htmd_tree.specs.Items.{Item, Data, text_node}
 use Rattle.htmd_html5_tokens.specs.Preprocessing.{preprocessed}
 use Rattle.htmd_html5_tokens.specs.References.{replacement_character}
 use Rattle.htmd_html5_tokens.specs.Tokens.{TokenValue, Read, text}
@@ -15,14 +15,14 @@ use Rattle.htmd_html5.specs.Documents.{next_read, is_end, html5_document}
 
 -- ---- letters
 
--- no white space, and neither U+0000, which goes, nor U+FFFD, which comes for it
+-- not white space, and neither U+0000, which goes, nor U+FFFD, which replaces it
 abbrev pub is_letter : ℕ → Bool
 is_letter c = not (is_ascii_white_space c || (c == null) || (c == replacement_character))
 
 abbrev pub is_character : ℕ → ℕ → Bool
 is_character c d = d == c
 
--- how often a character stands in a text
+-- how many times a character stands in a text
 unfoldable pub occurrences : ℕ → List ℕ → ℕ
 occurrences c s = count_by (is_character c) (chars s)
 
@@ -60,16 +60,14 @@ abbrev pub texts_of : List Item → List (List ℕ)
 texts_of [] = []
 texts_of (item ∷ items) = with_text_in item.node_data (texts_of items)
 
--- ---- the law
+-- ---- the laws
 
--- no node stands at the greatest depth, where texts that are siblings are joined
-abbrev pub IsShallow : List Item → Type 0
-IsShallow items = All (λ (item : Item). item.depth < greatest_depth) items
+-- the texts of the tokens of a page in UTF-8 are in UTF-8
+abbrev pub TokensAreUtf8 : Type 0
+TokensAreUtf8 = (scripting : Bool) (page : List ℕ) → IsUtf8 page → All IsUtf8 (token_texts scripting page)
 
--- Each letter stands in the tree's texts at most as often as in those of the tokens, which are UTF-8 as all strings
--- are.
+-- Each letter of a page in UTF-8 stands in the tree's texts at most as often as in those of the tokens.
 abbrev pub NoLetterIsMadeUp : Type 0
 NoLetterIsMadeUp =
-    (scripting : Bool) (page : List ℕ) (c : ℕ) → All IsUtf8 (token_texts scripting page)
-    → IsShallow (html5_document scripting page) → is_letter c ≡ true
+    (scripting : Bool) (page : List ℕ) (c : ℕ) → IsUtf8 page → is_letter c ≡ true
     → occurrences_in c (texts_of (html5_document scripting page)) ≤ occurrences_in c (token_texts scripting page)

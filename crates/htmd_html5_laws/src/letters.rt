@@ -1,8 +1,27 @@
 //! The letters of a page and of its tree.
-ghost use Rattle.htmd_html5_laws.specs.PageLetters.{NoLetterIsMadeUp};
+ghost use Rattle.htmd_html5_laws.specs.DocumentLetters.{LettersAreTaken};
+ghost use Rattle.htmd_html5_laws.specs.KeptLetters.{LettersAreKept};
+ghost use Rattle.htmd_html5_laws.specs.PageLetters.{NoLetterIsMadeUp, TokensAreUtf8};
+
+/// The texts of the tokens of a page in UTF-8 are in UTF-8.
+pub fn tokens_are_utf8()
+    ensures { TokensAreUtf8 }
+{}
 
 /// No letter is made up: each letter stands in the texts of the tree at most as often as in those of the page's tokens.
-/// A letter is a character that is no white space, and neither U+0000 nor U+FFFD.
+/// A letter is a character that isn't white space, U+0000 or U+FFFD.
 pub fn no_letter_is_made_up()
     ensures { NoLetterIsMadeUp }
+{}
+
+/// Letters are taken: where no text comes to a state that drops text, each letter stands in the texts of the document
+/// that is made of the page as often as in those of the page's tokens.
+pub fn letters_are_taken()
+    ensures { LettersAreTaken }
+{}
+
+/// Letters are kept: where no text comes to a state that drops text, and the document that is made of the page is in one
+/// piece, each letter stands in the texts of the tree as often as in those of the page's tokens.
+pub fn letters_are_kept()
+    ensures { LettersAreKept }
 {}

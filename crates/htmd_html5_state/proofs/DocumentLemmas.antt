@@ -30,7 +30,7 @@ nodes_of-set ns n old new f l read is =
     map-set node_of ns n new
     ∙ ap (λ (x : NodeValue). set (nodes_of ns) n x) (is ∙ ap f (sym (node_at-read ns n old l read)))
 
--- where none stands, nothing changes
+-- if there is none, nothing changes
 pub nodes_of-past : (ns : List Node) (n : ℕ) (x : NodeValue) → length ns ≤ n → slice_set (nodes_of ns) n x ≡ nodes_of ns
 nodes_of-past ns n x l = set_past (nodes_of ns) n x (omega (arith, length-map ns node_of))
 

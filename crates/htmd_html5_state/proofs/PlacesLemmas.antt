@@ -195,7 +195,7 @@ linked-longer around more (e ∷ es) h = (
   linked-longer around more es h.2,
 )
 
--- the bounds among so many elements
+-- the bounds among this many elements
 pub no-bounds : (b : Bounds) → ((scope : Scope) → bound_of b scope ≡ 0) → (depth : ℕ) → depth ≡ 0 → (es : List OpenValue)
     → length es ≡ depth → (scope : Scope) → bound_of b scope ≡ innermost (bounds_in scope) es
 no-bounds b none depth zero [] len scope = none scope

@@ -275,7 +275,7 @@ at-all p (t ∷ ts) zero d e h = test (p t) (λ r. r) (λ r. absurd (true≢fals
 at-all p (t ∷ ts) (suc n) d e h =
     at-all p ts n d e (test (p t) (λ r. rw r at h) (λ r. absurd (true≢false (sym h ∙ rw r refl))))
 
--- what is so of each is so
+-- what holds for each holds for all
 for-all : (p : TagName → Bool) → p A ≡ true → list_all p tags ≡ true → (t : TagName) → p t ≡ true
 for-all p e h t = ap p (sym (tag_at t)) ∙ at-all p tags (number t) A e h
 

@@ -23,7 +23,7 @@ kind_is tag _ = false
 abbrev pub node_is : List NodeValue → TagName → ℕ → Bool
 node_is nodes tag n = kind_is tag (kind_at nodes n)
 
--- the newest formatting element of this name after the last marker
+-- the newest formatting element with this name after the last marker
 abbrev pub formatting_element : TagName → StateValue → Option ℕ
 formatting_element tag s = find (node_is s.nodes tag) (since_marker s.formatting)
 
@@ -52,7 +52,7 @@ furthest_block (e ∷ es) = furthest_with e es (furthest_block es)
 -- ---- the elements between the furthest block and the formatting element
 
 -- what has been made of them: the state, which copies are open, the last of them, and the first, after which the
--- bookmark is; without one it is where the formatting element stands
+-- bookmark is; without one it is where the formatting element is
 pub record Chain : Type 0 where
   pub state : StateValue
   pub copies : List OpenValue
@@ -81,7 +81,7 @@ with_copy e c = record {
   bookmark = Some (or_first c.bookmark (length c.state.nodes));
 }
 
--- so many may still be copied; those after, and those that aren't on the list, go
+-- this many may still be copied; those after, and those that aren't on the list, go
 abbrev pub with_next : ℕ → OpenValue → Chain → Chain
 with_next left e c =
     if nat_lt 0 left && is_listed e.node c.state.formatting then with_copy e c
@@ -93,7 +93,7 @@ chain left (e ∷ es) c = chain (left - 1) es (with_next left e c)
 
 -- ---- one round, in which only what is around the formatting element is open
 
--- what was made last goes to the common ancestor; no table stands inside the formatting element
+-- what was made last goes to the common ancestor; no table is inside the formatting element
 unfoldable pub move_last : ℕ → StateValue → StateValue
 move_last last s =
     let moved = on_nodes (detach last) s in
@@ -105,7 +105,7 @@ wrap_children formatting block nodes =
     put (length nodes) (last_in block)
     (move_children block (length nodes) (nodes ++ new_node (kind_at nodes formatting) ∷ []))
 
--- it takes the place of the formatting element, or stands after the bookmark
+-- it takes the place of the formatting element, or goes after the bookmark
 abbrev pub with_bookmark : ℕ → ℕ → Option ℕ → List (Option ℕ) → List (Option ℕ)
 with_bookmark formatting copy None entries = replace_entry formatting copy entries
 with_bookmark formatting copy (Some first) entries = without_entry formatting (insert_after first copy entries)
@@ -156,7 +156,7 @@ abbrev pub go_on : (StateValue → StateValue) → Round → StateValue
 go_on more (last_round s) = s
 go_on more (goes_on s) = more s
 
--- at most so many rounds
+-- at most this many rounds
 abbrev pub rounds : ℕ → TagName → StateValue → StateValue
 rounds zero tag s = s
 rounds (suc k) tag s = go_on (rounds k tag) (round tag s)

@@ -72,7 +72,7 @@ before_in parent next = record { parent = parent; next = Some next }
 abbrev pub is_number : ℕ → ℕ → Bool
 is_number n m = m == n
 
--- how many children stand before this one: all of them, where it is none; and no node stands there twice
+-- how many children are before this one: all of them if it isn't a child; and no node is there twice
 abbrev pub index_of : ℕ → List ℕ → ℕ
 index_of n [] = 0
 index_of n (c ∷ cs) = if not (c == n) || list_any (is_number n) cs then suc (index_of n cs) else 0
@@ -106,7 +106,7 @@ put_child n place nodes =
 abbrev pub put : ℕ → Place → List NodeValue → List NodeValue
 put n place nodes = with_parent n (Some place.parent) (put_child n place nodes)
 
--- a node to a place, from where it stands
+-- a node to a place, from where it is
 abbrev pub attach : ℕ → Place → List NodeValue → List NodeValue
 attach n place nodes = put n place (detach n nodes)
 
@@ -142,7 +142,7 @@ abbrev pub joined_with : List ℕ → ℕ → Option (List ℕ) → List NodeVal
 joined_with s n None nodes = None
 joined_with s n (Some before) nodes = Some (with_kind n (text (before ++ s)) nodes)
 
--- at the end of a text; nothing where the node is none
+-- at the end of a text; nothing if the node is none
 abbrev pub joined : List ℕ → ℕ → List NodeValue → Option (List NodeValue)
 joined s n nodes = joined_with s n (text_of (kind_at nodes n)) nodes
 
@@ -154,7 +154,7 @@ abbrev pub or_add : List ℕ → Place → List NodeValue → Option (List NodeV
 or_add s place nodes None = add (text s) place nodes
 or_add s place nodes (Some new) = new
 
--- at the end of the text right before the place, where one stands there, else as a new text (13.2.6.1)
+-- at the end of the text right before the place if there is one, else as a new text (13.2.6.1)
 abbrev pub add_text : List ℕ → Place → List NodeValue → List NodeValue
 add_text s place nodes = or_add s place nodes (joined_to s (preceding place nodes) nodes)
 
@@ -170,7 +170,7 @@ abbrev pub value_in : Option AttributePair → Option (List ℕ)
 value_in None = None
 value_in (Some a) = Some a.value
 
--- the value of the first attribute of this name
+-- the value of the first attribute with this name
 abbrev pub value_of : List ℕ → List AttributePair → Option (List ℕ)
 value_of name attributes = value_in (find (is_named name) attributes)
 
@@ -195,7 +195,7 @@ same_attribute a b = bytes_eq a.name b.name && bytes_eq a.value b.value
 abbrev pub has_pair : List AttributePair → AttributePair → Bool
 has_pair attributes a = list_any (same_attribute a) attributes
 
--- in any order; no name stands twice in either
+-- in any order; no name is twice in either
 abbrev pub same_attributes : List AttributePair → List AttributePair → Bool
 same_attributes these those = (length these == length those) && list_all (has_pair those) these
 

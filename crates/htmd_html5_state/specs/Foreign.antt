@@ -149,7 +149,7 @@ abbrev pub pop_if : Bool → List OpenValue → List OpenValue
 pop_if true stack = pop stack
 pop_if false stack = stack
 
--- a foreign element, which is closed at once where its tag ends in `/>`
+-- a foreign element, which is closed at once if its tag ends in `/>`
 abbrev pub insert_foreign : Namespace → List ℕ → List AttributePair → Bool → StateValue → StateValue
 insert_foreign space name attributes self_closing s =
     on_stack (pop_if self_closing)

@@ -5,7 +5,7 @@ use Rattle.htmd_html5_state.specs.OpenElements.{OpenValue}
 use Rattle.htmd_html5_state.specs.declared.foreign.ForeignEnd.{ForeignEnd as Answer}
 use Rattle.htmd_html5_state.specs.declared.foreign.ForeignEnd.TheVariants.{ByMode, Closes, Nothing}
 
--- of this stack so many outermost elements stay open
+-- this many outermost elements of this stack stay open
 abbrev pub end_of : List OpenValue → Answer → ForeignEnd
 end_of stack ByMode = by_mode
 end_of stack (Closes len) = closed_to (drop (length stack - len) stack)

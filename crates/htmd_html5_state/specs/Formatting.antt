@@ -58,7 +58,7 @@ last_of [] = None
 last_of (n ∷ []) = Some n
 last_of (n ∷ m ∷ ns) = last_of (m ∷ ns)
 
--- the oldest of these, where there are so many
+-- the oldest of these, if there are this many
 abbrev pub one_too_many : ℕ → List ℕ → Option ℕ
 one_too_many limit nodes = if nat_le limit (length nodes) then last_of nodes else None
 
@@ -70,7 +70,7 @@ without_some (Some n) entries = without_entry n entries
 abbrev pub alike_limit : ℕ
 alike_limit = 3
 
--- so many elements after the last marker at most: this isn't the standard's, and bounds what a page costs
+-- at most this many elements after the last marker: not in the standard, it bounds what a page costs
 abbrev pub formatting_limit : ℕ
 formatting_limit = 16
 

@@ -6,7 +6,7 @@ use Rattle.htmd_html5_state.specs.Formatting.{is_listed}
 abbrev pub entries_of : List (Option ℕ) → List (Option ℕ)
 entries_of entries = reverse entries
 
--- the newest entry of a node stands at this place
+-- the newest entry of a node is at this place
 pub record IsNewest (n : ℕ) (entries : List (Option ℕ)) (i : ℕ) : Type 0 where
   pub older : List (Option ℕ)
   pub newer : List (Option ℕ)

@@ -18,12 +18,12 @@ use Rattle.htmd_html5_state.specs.declared.sets.NameSet.TheVariants.{Only, Foste
 abbrev pub opened : ℕ → ElementNameValue → OpenValue
 opened n name = record { node = n; name = name }
 
--- the current node, and the Document where nothing is open
+-- the current node, and the Document if nothing is open
 abbrev pub current : List OpenValue → OpenValue
 current [] = opened 0 (html (other []))
 current (e ∷ es) = e
 
--- before a table in its parent; in what is open around it, where it has none
+-- before a table in its parent; if it has none, in what is open around it
 abbrev pub place_by_table : ℕ → ℕ → Option ℕ → Place
 place_by_table table around None = last_in around
 place_by_table table around (Some parent) = before_in parent table
@@ -82,7 +82,7 @@ insert_root name attributes s = insert_at (last_in 0) (html name) attributes s
 abbrev pub insert_void : NameValue → List AttributePair → StateValue → StateValue
 insert_void name attributes s = on_stack pop (insert_element name attributes s)
 
--- an element of text alone (13.2.6.2)
+-- an element of only text (13.2.6.2)
 abbrev pub insert_raw : NameValue → RawElement → List AttributePair → StateValue → StateValue
 insert_raw name raw attributes s = record (insert_element name attributes s) { content = Raw raw }
 

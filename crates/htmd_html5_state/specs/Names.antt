@@ -1,4 +1,4 @@
--- The names of elements: of HTML those of which a rule speaks, and all others; and those of foreign content.
+-- The names of elements: of HTML those that a rule mentions, and all others; and those of foreign content.
 use Rattle.std.specs.Prelude.{ℕ, Bool, true, false, ◌==◌, if◌then◌else◌, List, [], ◌∷◌, codes, string_bytes, Option}
 use Rattle.std.specs.Prelude.{Some, None, find}
 use Rattle.std.specs.Str.{bytes_eq}
@@ -257,7 +257,7 @@ abbrev pub text_of_name : NameValue → List ℕ
 text_of_name (known tag) = spelling tag
 text_of_name (other s) = s
 
--- the name less its namespace, as it stands in the tree
+-- the name without its namespace, as it stands in the tree
 abbrev pub text_of_element_name : ElementNameValue → List ℕ
 text_of_element_name (html name) = text_of_name name
 text_of_element_name (svg s) = s
@@ -322,7 +322,7 @@ abbrev pub known_name : List ℕ → Option TagName
 known_name [] = None
 known_name (b ∷ s) = find (is_spelled (b ∷ s)) (names_with b)
 
--- the name that is spelled so, in lower case
+-- the name that is spelled like this, in lower case
 abbrev pub name_of_text : List ℕ → NameValue
 name_of_text s = known_or s (known_name s)
 

@@ -35,7 +35,7 @@ is_open set stack = list_any (is_in set) stack
 abbrev pub is_open_node : ℕ → List OpenValue → Bool
 is_open_node n stack = list_any (is_node n) stack
 
--- an element that passes stands within the scope
+-- an element that passes is within the scope
 abbrev pub scope_has : (OpenValue → Bool) → Scope → List OpenValue → Bool
 scope_has wanted scope [] = false
 scope_has wanted scope (e ∷ es) = wanted e || (not (bounds scope e.name) && scope_has wanted scope es)
@@ -43,7 +43,7 @@ scope_has wanted scope (e ∷ es) = wanted e || (not (bounds scope e.name) && sc
 abbrev pub is_in_scope : NameSet → Scope → List OpenValue → Bool
 is_in_scope set scope stack = scope_has (is_in set) scope stack
 
--- whether any other end tag of this name closes an element
+-- whether any other end tag with this name closes an element
 abbrev pub is_closable : NameValue → List OpenValue → Bool
 is_closable name stack = scope_has (has_name (html name)) Special stack
 
@@ -66,7 +66,7 @@ first_open [] = None
 first_open (e ∷ []) = Some e.node
 first_open (e ∷ f ∷ es) = first_open (f ∷ es)
 
--- the element right inside it, where it is one of these
+-- the element right inside it, if it is one of these
 abbrev pub second_open : NameSet → List OpenValue → Option ℕ
 second_open set [] = None
 second_open set (e ∷ []) = None
@@ -103,7 +103,7 @@ abbrev pub pop_while : NameSet → List OpenValue → List OpenValue
 pop_while set [] = []
 pop_while set (e ∷ es) = if is_in set e then pop_while set es else e ∷ es
 
--- where one of these is in scope, until one has been popped
+-- if one of these is in scope, until one has been popped
 abbrev pub close : NameSet → Scope → List OpenValue → List OpenValue
 close set scope stack = if is_in_scope set scope stack then pop_until set stack else stack
 

@@ -24,7 +24,7 @@ furthest_of f = record {
   between = stack_of f.between.items;
 }
 
--- the innermost element with this node stands at this place
+-- the innermost element with this node is at this place
 pub record IsInnermost (n : ℕ) (elements : List OpenElement) (i : ℕ) : Type 0 where
   pub outer : List OpenElement
   pub element : OpenElement
@@ -37,7 +37,7 @@ pub record IsInnermost (n : ℕ) (elements : List OpenElement) (i : ℕ) : Type 
 abbrev pub is_special : OpenElement → Bool
 is_special e = is_special_element (open_of e)
 
--- the outermost special element stands at this place
+-- the outermost special element is at this place
 pub record IsFirstSpecial (elements : List OpenElement) (i : ℕ) : Type 0 where
   pub outer : List OpenElement
   pub element : OpenElement

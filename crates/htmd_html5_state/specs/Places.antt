@@ -32,7 +32,7 @@ innermost p (e ∷ es) = if p e then suc (length es) else innermost p es
 abbrev pub bounds_in : Scope → OpenValue → Bool
 bounds_in scope e = bounds scope e.name
 
--- a place that is one, and no further out than this
+-- a place that is somewhere, and no further out than this
 abbrev pub is_from : ℕ → ℕ → Bool
 is_from bound place = nat_lt 0 place && nat_le bound place
 

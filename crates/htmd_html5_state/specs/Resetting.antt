@@ -70,7 +70,7 @@ unless_outermost mode (e ∷ es) = Some mode
 abbrev pub html_mode : StateValue → InsertionMode
 html_mode s = if is_some s.head then AfterHead else BeforeHead
 
--- the mode for an element of this name, with what is open around it
+-- the mode for an element with this name, with what is open around it
 abbrev pub mode_for : TagName → List OpenValue → StateValue → Option InsertionMode
 mode_for Select outer s = Some (select_mode outer)
 mode_for Td outer s = unless_outermost InCell outer

@@ -377,7 +377,7 @@ is_select _ = false
 abbrev pub is_math_bound : List ℕ → Bool
 is_math_bound s = is_math_text s || bytes_eq s (codes "annotation-xml")
 
--- an element of this name bounds the scope
+-- an element with this name bounds the scope
 abbrev pub bounds : Scope → ElementNameValue → Bool
 bounds scope (html (known tag)) = bounds_known scope tag
 bounds scope (html (other s)) = is_select scope

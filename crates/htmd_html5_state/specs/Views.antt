@@ -15,7 +15,7 @@ kind_of (Text s) = text (string_bytes s)
 kind_of (Comment s) = comment (string_bytes s)
 kind_of (Element name attributes) = element (element_name_of name) (pairs_of attributes.items)
 
--- where no node stands it is that of the Document
+-- where there is no node, it is that of the Document
 abbrev pub kind_seen : Option (Bor NodeKind) → KindValue
 kind_seen None = document
 kind_seen (Some kind) = kind_of kind.now

@@ -14,10 +14,10 @@ use crate::sets::NameSet;
 use crate::state::HtmlState;
 use std::alloc::AllocError;
 
-/// The algorithm has so many rounds at most.
+/// The algorithm has at most this many rounds.
 const ROUNDS: usize = 8;
 
-/// So many elements between are copied at most.
+/// At most this many of the elements between are copied.
 const COPIED: usize = 3;
 
 /// What has been made of the elements between the furthest block and the formatting element.
@@ -39,14 +39,14 @@ impl HtmlState {
             && !self.formatting.is_listed(self.stack.current_node())
     }
 
-    /// The newest formatting element of this name since the last marker.
+    /// The newest formatting element with this name since the last marker.
     pub fn formatting_element(&self, tag: TagName) -> Option<usize>
         ensures { result ≡ spec.formatting_element tag self.now }
     {
         self.formatting.newest(&self.document, tag)
     }
 
-    /// Puts a copy in the place of an element on the list, and moves what was made last into it: the copy.
+    /// Puts a copy in place of an element on the list, and moves what was made last into it. Gives the copy.
     fn copy_into(&mut self, node: usize, last: usize) -> Result<usize, AllocError>
         ensures number { IfOk result (λ n. n ≡ length self.old.nodes) }
         ensures ok { OnOk result (self.new ≡ spec.copy_into node last self.old) }
@@ -90,7 +90,7 @@ impl HtmlState {
         self.document.put(last, place)
     }
 
-    /// Puts a copy of the formatting element between the furthest block and its children: the copy.
+    /// Puts a copy of the formatting element between the furthest block and its children. Gives the copy.
     #[tactic(auto, unfolding(crate::specs::Adoption::wrap_children))]
     fn wrap_children(&mut self, formatting: usize, block: usize) -> Result<usize, AllocError>
         ensures number { IfOk result (λ n. n ≡ length self.old.nodes) }
@@ -102,7 +102,7 @@ impl HtmlState {
         Ok(copy)
     }
 
-    /// Puts the copy on the list in the place of the formatting element, or after the bookmark.
+    /// Puts the copy on the list in place of the formatting element, or after the bookmark.
     fn replace_formatting(
         &mut self,
         formatting: usize,
@@ -191,7 +191,7 @@ impl HtmlState {
         self.round_open(tag, formatting)
     }
 
-    /// What an end tag of a formatting element does.
+    /// What an end tag of a formatting element does. `Err` means out of memory.
     pub fn adoption_agency(&mut self, tag: TagName) -> Result<(), AllocError>
         ensures { OnOk result (self.new ≡ spec.adoption_agency tag self.old) }
     {

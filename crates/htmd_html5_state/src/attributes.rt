@@ -41,7 +41,7 @@ fn has_attribute(attributes: &[Attribute], name: &str) -> bool
     false
 }
 
-/// The value of the first attribute of this name.
+/// The value of the first attribute with this name.
 pub(crate) fn value<'a>(attributes: &'a [Attribute], name: &str) -> Option<&'a str>
     ensures { option_map (λ v. v.now) result ≡ spec.value_of name.now (pairs_of attributes.now) }
 {
@@ -53,7 +53,7 @@ pub(crate) fn value<'a>(attributes: &'a [Attribute], name: &str) -> Option<&'a s
     None
 }
 
-/// Adds those of which no attribute has the name.
+/// Adds those whose name no attribute has.
 pub(crate) fn add_missing(
     attributes: &mut Vec<Attribute>,
     more: Vec<Attribute>,

@@ -39,7 +39,7 @@ pub(crate) struct Place {
     pub(crate) next: Option<usize>,
 }
 
-/// Nodes by number, of which 0 is the Document.
+/// Nodes by number; 0 is the Document.
 #[derive(Drop)]
 pub(crate) struct Document {
     alloc: Global,
@@ -64,7 +64,7 @@ pub(crate) fn last_in(parent: usize) -> Place
     Place { parent, next: None }
 }
 
-/// How many children stand before this one; all of them, where it is none.
+/// How many children are before this one; all of them if it isn't a child.
 fn index_of(children: &[usize], child: usize) -> usize
     ensures place { result ≡ spec.index_of child children.now }
     ensures within { result ≤ length children.now }
@@ -107,7 +107,7 @@ impl NodeKind {
 }
 
 impl Document {
-    /// The Document alone.
+    /// Only the Document.
     pub(crate) fn new(alloc: Global) -> Result<Document, AllocError>
         ensures { IfOk result (λ d. d ≡ spec.new_node spec.document ∷ []) }
     {
@@ -133,7 +133,7 @@ impl Document {
         self.nodes.len()
     }
 
-    /// What a node is; None where it isn't there.
+    /// What a node is; None if there is no such node.
     pub(crate) fn kind(&self, node: usize) -> Option<&NodeKind>
         ensures { kind_seen result ≡ spec.kind_at self.now node }
     {
@@ -203,7 +203,7 @@ impl Document {
         }
     }
 
-    /// Puts a node without a parent to a place. An `Err` leaves it open what is where, here and below.
+    /// Puts a node without a parent at a place. After an `Err` it is unknown what is where, here and below.
     pub(crate) fn put(&mut self, node: usize, place: Place) -> Result<(), AllocError>
         ensures { OnOk result (self.new ≡ spec.put node place self.old) }
     {
@@ -220,7 +220,7 @@ impl Document {
         self.put(node, place)
     }
 
-    /// A new node that stands nowhere: its number.
+    /// A new node that is at no place yet. Gives its number.
     pub(crate) fn push(&mut self, kind: NodeKind) -> Result<usize, AllocError>
         ensures number { IfOk result (λ n. n ≡ length self.old) }
         ensures ok { OnOk result (self.new ≡ self.old ++ spec.new_node (kind_of kind) ∷ []) }
@@ -234,7 +234,7 @@ impl Document {
         Ok(number)
     }
 
-    /// A new node that is like another one and stands nowhere: its number.
+    /// A new node that is like another one and is at no place yet. Gives its number.
     pub(crate) fn push_copy(&mut self, node: usize) -> Result<usize, AllocError>
         ensures number { IfOk result (λ n. n ≡ length self.old) }
         ensures ok { OnOk result (self.new
@@ -247,7 +247,7 @@ impl Document {
         self.push(kind)
     }
 
-    /// A new node at a place: its number.
+    /// A new node at a place. Gives its number.
     pub(crate) fn add(&mut self, kind: NodeKind, place: Place) -> Result<usize, AllocError>
         ensures number { IfOk result (λ n. n ≡ length self.old) }
         ensures ok { OnOk result (self.new ≡ spec.add (kind_of kind) place self.old) }
@@ -308,7 +308,7 @@ impl Document {
         children.get(index - 1).copied()
     }
 
-    /// Puts text at the end of a text. Gives false where the node is none.
+    /// Appends text to a text node. Gives false if the node isn't one.
     fn push_text(&mut self, node: usize, text: &str) -> Result<bool, AllocError>
         ensures { IfOk result (λ joins. MatchBool joins (spec.joined text.now node self.old ≡ Some self.new)
             ((spec.joined text.now node self.old ≡ None) × (self.new ≡ self.old))) }
@@ -324,7 +324,7 @@ impl Document {
         Ok(false)
     }
 
-    /// Puts text at the end of the text right before a place. Gives false where none stands there.
+    /// Appends text to the text node right before a place. Gives false if there is none.
     fn join_text(&mut self, text: &str, place: Place) -> Result<bool, AllocError>
         ensures { IfOk result (λ joins. MatchBool joins
             (spec.joined_to text.now (spec.preceding place self.old) self.old ≡ Some self.new)
@@ -337,7 +337,7 @@ impl Document {
         }
     }
 
-    /// Puts text at the end of the text right before a place, where one stands there, else as a new text.
+    /// Appends text to the text node right before a place if there is one, else adds a new text node.
     pub(crate) fn add_text(&mut self, text: &str, place: Place) -> Result<(), AllocError>
         ensures { OnOk result (self.new ≡ spec.add_text text.now place self.old) }
     {
@@ -349,7 +349,7 @@ impl Document {
         Ok(())
     }
 
-    /// Gives an element the attributes that it doesn't have yet.
+    /// Gives an element the attributes that it doesn't have yet. `Err` means out of memory.
     pub(crate) fn add_missing(
         &mut self,
         node: usize,

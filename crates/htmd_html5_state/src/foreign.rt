@@ -122,7 +122,7 @@ static SVG_ATTRIBUTES: [&str; 58] = [
 
 static MATH_ATTRIBUTES: [&str; 1] = ["definitionURL"];
 
-/// Whether they have the same letters.
+/// Whether they are the same in any ASCII case.
 fn is_in_any_case(text: &str, other: &str) -> bool
     ensures { result ≡ spec.is_in_any_case text.now other.now }
 {
@@ -135,7 +135,7 @@ fn svg_names() -> &'static [&'static str]
     &SVG_NAMES
 }
 
-/// The name as it is written in the list, where it stands there.
+/// The name as it is written in the list, if it is there.
 fn capitalised<'a>(names: &'static [&'static str], name: &'a str) -> &'a str
     ensures { result.now ≡ spec.capitalised (map (λ n. n.now) names.now) name.now }
 {
@@ -270,7 +270,7 @@ fn len_outside(document: &Document, elements: &[OpenElement]) -> usize
     0
 }
 
-/// Whether it is the name of a foreign element that an end tag of this name closes.
+/// Whether it is the name of a foreign element that an end tag with this name closes.
 fn is_spelled_so(name: &ElementName, wanted: &str) -> bool
     ensures { result ≡ spec.is_spelled_so wanted.now (element_name_of name.now) }
 {
@@ -286,7 +286,7 @@ fn is_spelled_so(name: &ElementName, wanted: &str) -> bool
 enum ForeignEnd {
     /// What the insertion mode says.
     ByMode,
-    /// It leaves so many elements open.
+    /// It leaves this many elements open.
     Closes(usize),
     Nothing,
 }
@@ -351,7 +351,7 @@ impl HtmlState {
         }
     }
 
-    /// The namespace of the current node; None for HTML's.
+    /// The namespace of the current node; None for HTML.
     pub fn current_namespace(&self) -> Option<Namespace>
         ensures { result ≡ spec.namespace_of (current self.now.stack).name }
     {
@@ -370,7 +370,7 @@ impl HtmlState {
         self.stack.truncate(len);
     }
 
-    /// What an end tag of this name closes in foreign content. Gives whether the insertion mode says what it does.
+    /// What an end tag with this name closes in foreign content. Gives whether the insertion mode says what it does.
     pub fn close_foreign(&mut self, name: &str) -> bool
         ensures by_mode { result ≡ spec.goes_by_mode (spec.foreign_end name.now self.old.stack) }
         ensures closed { self.new ≡ spec.after_foreign_end (spec.foreign_end name.now self.old.stack) self.old }

@@ -12,7 +12,7 @@ use htmd_tree::Attribute;
 use std::alloc::AllocError;
 
 impl HtmlState {
-    /// A formatting element, which is open and on the list then.
+    /// Inserts a formatting element, which is then open and on the list. `Err` means out of memory.
     pub fn insert_formatting(
         &mut self,
         name: HtmlName,
@@ -25,7 +25,7 @@ impl HtmlState {
         self.formatting.add(&self.document, node)
     }
 
-    /// An element like this one, which is open then.
+    /// Inserts an element like this one, which is then open.
     fn insert_like(&mut self, node: usize) -> Result<(), AllocError>
         ensures { OnOk result (self.new ≡ spec.insert_copy node self.old) }
     {
@@ -37,7 +37,7 @@ impl HtmlState {
         Ok(())
     }
 
-    /// An element like this one, which is open and on the list then.
+    /// Inserts an element like this one, which is then open and on the list.
     fn reopen(&mut self, node: usize) -> Result<(), AllocError>
         ensures { OnOk result (self.new ≡ spec.reopen node self.old) }
     {
@@ -46,7 +46,7 @@ impl HtmlState {
         self.formatting.push(new)
     }
 
-    /// Reconstructs the active formatting elements: those that were closed open again.
+    /// Reconstructs the active formatting elements: opens those again that were closed. `Err` means out of memory.
     pub fn reconstruct(&mut self) -> Result<(), AllocError>
         ensures { OnOk result (self.new ≡ spec.reconstruct self.old) }
     {

@@ -14,10 +14,10 @@ use crate::open_elements::OpenElements;
 use std::alloc::{AllocError, Global};
 use std::marker::Model;
 
-/// So many elements of the same name and attributes stand on the list since its last marker: the Noah's Ark clause.
+/// At most this many elements alike in name and attributes are on it since its last marker: the Noah's Ark clause.
 const ALIKE_LIMIT: usize = 3;
 
-/// So many elements stand on it since its last marker. This isn't the standard's, and bounds what a page can cost.
+/// At most this many elements are on it since its last marker: not in the standard, it bounds what a page costs.
 const FORMATTING_LIMIT: usize = 16;
 
 /// The nodes on the list, oldest first; None is a marker.
@@ -36,7 +36,7 @@ impl Model for FormattingList {
     ghost view = { λ l. entries_of l.entries.items };
 }
 
-/// Whether both are elements of the same name and attributes.
+/// Whether both are elements with the same name and attributes.
 fn are_alike(this: Option<&NodeKind>, that: Option<&NodeKind>) -> bool
     ensures { result ≡ same_element (kind_seen this.entry) (kind_seen that.entry) }
 {
@@ -54,7 +54,7 @@ fn are_alike(this: Option<&NodeKind>, that: Option<&NodeKind>) -> bool
     }
 }
 
-/// Whether it is an element of this name.
+/// Whether it is an element with this name.
 fn is_element(kind: Option<&NodeKind>, tag: TagName) -> bool
     ensures { result ≡ adoption.kind_is tag (kind_seen kind.entry) }
 {
@@ -102,7 +102,7 @@ fn position(entries: &[Option<usize>], node: usize) -> Option<usize>
     None
 }
 
-/// The newest element of this name since the last marker.
+/// The newest element with this name since the last marker.
 fn newest(entries: &[Option<usize>], document: &Document, tag: TagName) -> Option<usize>
     ensures { result ≡ find (adoption.node_is document.now tag)
         (spec.since_marker (entries_of entries.now)) }
@@ -118,7 +118,7 @@ fn newest(entries: &[Option<usize>], document: &Document, tag: TagName) -> Optio
     None
 }
 
-/// The oldest since the last marker of the elements like this one, where they are as many as may be.
+/// The oldest of the elements like this one since the last marker, if there are as many as may be.
 fn oldest_alike(
     entries: &[Option<usize>],
     document: &Document,
@@ -143,7 +143,7 @@ fn oldest_alike(
     if count < ALIKE_LIMIT { None } else { oldest }
 }
 
-/// The oldest element since the last marker, where they are as many as may be.
+/// The oldest element since the last marker, if there are as many as may be.
 fn oldest(entries: &[Option<usize>]) -> Option<usize>
     ensures { result ≡ spec.one_too_many spec.formatting_limit (spec.since_marker (entries_of entries.now)) }
 {
@@ -166,7 +166,7 @@ fn oldest(entries: &[Option<usize>]) -> Option<usize>
 }
 
 impl FormattingList {
-    /// No element.
+    /// Without elements.
     pub(crate) fn new(alloc: Global) -> FormattingList
         ensures { result ≡ [] }
     {
@@ -189,7 +189,7 @@ impl FormattingList {
         Ok(())
     }
 
-    /// Takes all off up to the last marker, with it.
+    /// Takes everything off up to the last marker, and the marker too.
     pub(crate) fn clear_to_marker(&mut self)
         ensures { self.new ≡ spec.after_marker self.old }
     {
@@ -206,7 +206,7 @@ impl FormattingList {
         position(&self.entries, node).is_some()
     }
 
-    /// The newest element of this name since the last marker.
+    /// The newest element with this name since the last marker.
     pub(crate) fn newest(&self, document: &Document, tag: TagName) -> Option<usize>
         ensures { result ≡ find (adoption.node_is document.now tag) (spec.since_marker self.now) }
     {
@@ -221,7 +221,7 @@ impl FormattingList {
         }
     }
 
-    /// Puts a node in the place of another one.
+    /// Puts a node in place of another one.
     pub(crate) fn replace(&mut self, node: usize, by: usize)
         ensures { self.new ≡ spec.replace_entry node by self.old }
     {
@@ -230,7 +230,7 @@ impl FormattingList {
         }
     }
 
-    /// Puts a node right after another one: the next newer.
+    /// Puts a node right after another one, as the next newer one.
     pub(crate) fn insert_after(&mut self, node: usize, new: usize) -> Result<(), AllocError>
         ensures { OnOk result (self.new ≡ spec.insert_after node new self.old) }
     {
@@ -248,7 +248,7 @@ impl FormattingList {
         }
     }
 
-    /// Puts a new element on the list, after those went off for which it has no room.
+    /// Puts a new element on the list, after taking off those for which it has no room.
     pub(crate) fn add(&mut self, document: &Document, node: usize) -> Result<(), AllocError>
         ensures { OnOk result (self.new ≡ spec.push_entry document.now node self.old) }
     {
@@ -259,7 +259,7 @@ impl FormattingList {
         self.push(node)
     }
 
-    /// Takes off the newest elements, up to a marker or one that is open: these, newest first.
+    /// Takes off the newest elements, up to a marker or one that is open. Gives them, newest first.
     pub(crate) fn take_closed(
         &mut self,
         alloc: Global,

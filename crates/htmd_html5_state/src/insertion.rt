@@ -1,4 +1,4 @@
-//! Nodes are inserted.
+//! How nodes are inserted.
 ghost use Rattle.std.specs.Prelude.{◌≡◌, IfOk, OnOk, length, string_bytes};
 ghost use Rattle.htmd_html5_state.specs.Documents.{parent_at};
 ghost use Rattle.htmd_html5_state.specs.Foreign as foreign;
@@ -61,7 +61,7 @@ impl HtmlState {
         last_in(self.stack.current_node())
     }
 
-    /// Text, at the end of the text before it where one stands there.
+    /// Inserts text, at the end of the text before it if there is one. `Err` means out of memory.
     pub fn insert_text(&mut self, text: &str) -> Result<(), AllocError>
         ensures { OnOk result (self.new ≡ spec.insert_text text.now self.old) }
     {
@@ -69,7 +69,7 @@ impl HtmlState {
         self.document.add_text(text, place)
     }
 
-    /// A comment, as the last child of a node.
+    /// Inserts a comment as the last child of a node. `Err` means out of memory.
     pub fn insert_comment_in(&mut self, parent: usize, text: String) -> Result<(), AllocError>
         ensures { OnOk result (self.new
             ≡ spec.insert_comment_in parent (string_bytes text) self.old) }
@@ -78,7 +78,7 @@ impl HtmlState {
         Ok(())
     }
 
-    /// A comment in the current node.
+    /// Inserts a comment in the current node. `Err` means out of memory.
     pub fn insert_comment(&mut self, text: String) -> Result<(), AllocError>
         ensures { OnOk result (self.new ≡ spec.insert_comment (string_bytes text) self.old) }
     {
@@ -86,7 +86,7 @@ impl HtmlState {
         self.insert_comment_in(parent, text)
     }
 
-    /// A doctype in the Document.
+    /// Inserts a doctype in the Document. `Err` means out of memory.
     pub fn insert_doctype(&mut self) -> Result<(), AllocError>
         ensures { OnOk result (self.new ≡ spec.insert_doctype self.old) }
     {
@@ -94,7 +94,7 @@ impl HtmlState {
         Ok(())
     }
 
-    /// An element at a place, which is open then: its node.
+    /// Inserts an element at a place, which is then open. Gives its node.
     fn insert_at(
         &mut self,
         place: Place,
@@ -112,7 +112,7 @@ impl HtmlState {
         Ok(node)
     }
 
-    /// An element of any namespace, which is open then: its node.
+    /// Inserts an element of any namespace, which is then open. Gives its node.
     pub(crate) fn insert_named(
         &mut self,
         name: ElementName,
@@ -126,7 +126,7 @@ impl HtmlState {
         self.insert_at(place, name, attributes)
     }
 
-    /// An element of HTML, which is open then: its node.
+    /// Inserts an element of HTML, which is then open. Gives its node. `Err` means out of memory.
     pub fn insert_element(
         &mut self,
         name: HtmlName,
@@ -139,7 +139,7 @@ impl HtmlState {
         self.insert_named(ElementName::Html(name), attributes)
     }
 
-    /// The element `html`, in the Document, which is open then.
+    /// Inserts the element `html` in the Document; it is then open. `Err` means out of memory.
     pub fn insert_root(
         &mut self,
         name: HtmlName,
@@ -152,7 +152,7 @@ impl HtmlState {
         Ok(())
     }
 
-    /// An element of HTML that is closed at once.
+    /// Inserts an element of HTML that is closed at once. `Err` means out of memory.
     pub fn insert_void(
         &mut self,
         name: HtmlName,
@@ -166,7 +166,7 @@ impl HtmlState {
         Ok(())
     }
 
-    /// An element of text alone.
+    /// Inserts an element of only text. `Err` means out of memory.
     pub fn insert_raw(
         &mut self,
         name: HtmlName,
@@ -181,7 +181,7 @@ impl HtmlState {
         Ok(())
     }
 
-    /// An element of foreign content, whose tag has this name; it is closed at once where the tag ends in `/>`.
+    /// Inserts a foreign element with this tag name, closed at once if the tag ends in `/>`. `Err` means out of memory.
     pub fn insert_foreign(
         &mut self,
         namespace: Namespace,

@@ -6,7 +6,7 @@ ghost use Rattle.htmd_html5_state.specs.TagNumbers.{number};
 
 use std::alloc::AllocError;
 
-/// A name of HTML of which a rule of parsing speaks.
+/// A name of HTML that a rule of parsing mentions.
 #[derive(Debug, Clone, Copy, PartialEq, Eq)]
 pub enum TagName {
     A,
@@ -125,7 +125,7 @@ pub enum TagName {
     Xmp,
 }
 
-/// So many names are known.
+/// How many names are known.
 pub(crate) const TAGS: usize = 114;
 
 /// A name of HTML.
@@ -469,7 +469,7 @@ fn known_in(names: &[TagName], text: &str) -> Option<TagName>
     None
 }
 
-/// The name of a rule that is spelled so.
+/// The name in a rule with this spelling.
 fn known(text: &str) -> Option<TagName>
     ensures { result ≡ spec.known_name text.now }
 {
@@ -480,7 +480,7 @@ fn known(text: &str) -> Option<TagName>
 }
 
 impl HtmlName {
-    /// The name that is spelled so, in lower case.
+    /// The name with this spelling, in lower case.
     pub fn from_text(text: String) -> HtmlName
         ensures { name_of result ≡ spec.name_of_text (string_bytes text) }
     {
@@ -537,7 +537,7 @@ impl TagName {
 }
 
 impl ElementName {
-    /// How it is spelled, less its namespace.
+    /// How it is spelled, without its namespace.
     pub fn text(&self) -> &str
         ensures { result.now ≡ spec.text_of_element_name (element_name_of self.now) }
     {
@@ -580,7 +580,7 @@ impl ElementName {
         }
     }
 
-    /// Whether it is this name of HTML, which a rule speaks of.
+    /// Whether it is this name of HTML, which a rule mentions.
     pub(crate) fn is_tag(&self, tag: TagName) -> bool
         ensures { result ≡ spec.is_tag tag (element_name_of self.now) }
     {

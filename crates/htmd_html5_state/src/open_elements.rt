@@ -21,7 +21,7 @@ pub(crate) struct OpenElement {
     pub(crate) name: ElementName,
 }
 
-/// The open elements, outermost first, and where they stand.
+/// The open elements, outermost first, and their places.
 #[derive(Drop)]
 pub(crate) struct OpenElements {
     elements: Vec<OpenElement>,
@@ -129,7 +129,7 @@ pub(crate) fn furthest_block(mut inside: Vec<OpenElement>) -> Result<Option<Furt
     }
 }
 
-/// All but the outermost so many leave their places.
+/// All but the outermost this many leave their places.
 fn leave_all(places: &mut Places, elements: &[OpenElement], len: usize)
     requires within { len ≤ length elements.now }
     requires placed { IsPlaced places.old (stack_of elements.now) }
@@ -144,7 +144,7 @@ fn leave_all(places: &mut Places, elements: &[OpenElement], len: usize)
     }
 }
 
-/// All but the outermost so many take their places.
+/// All but the outermost this many take their places.
 fn enter_all(places: &mut Places, elements: &[OpenElement], len: usize)
     requires within { len ≤ length elements.now }
     requires placed { IsPlaced places.old (stack_of (take len elements.now)) }
@@ -178,7 +178,7 @@ fn reversed(mut elements: Vec<OpenElement>) -> Vec<OpenElement>
 }
 
 impl OpenElements {
-    /// No element.
+    /// Without elements.
     pub(crate) fn new(alloc: Global) -> OpenElements
         ensures { result ≡ [] }
     {
@@ -188,7 +188,7 @@ impl OpenElements {
         }
     }
 
-    /// The node of the current node; the Document where nothing is open.
+    /// The node of the current node; the Document if nothing is open.
     pub(crate) fn current_node(&self) -> usize
         ensures { result ≡ (insertion.current self.now).node }
     {
@@ -268,7 +268,7 @@ impl OpenElements {
         }
     }
 
-    /// The element right inside the outermost, where it is one of these.
+    /// The element right inside the outermost one, if it is one of these.
     pub(crate) fn second_open(&self, set: NameSet) -> Option<usize>
         ensures { result ≡ spec.second_open set self.now }
     {
@@ -324,7 +324,7 @@ impl OpenElements {
         self.push_element(OpenElement { node, name })
     }
 
-    /// Pushes an element that was open.
+    /// Pushes an element that was open before.
     pub(crate) fn push_element(&mut self, element: OpenElement) -> Result<(), AllocError>
         ensures { OnOk result (self.new ≡ open_of element ∷ self.old) }
     {
@@ -336,7 +336,7 @@ impl OpenElements {
         Ok(())
     }
 
-    /// Pushes elements, of which the first gets innermost.
+    /// Pushes elements; the first becomes the innermost.
     pub(crate) fn push_inside_out(
         &mut self,
         mut elements: Vec<OpenElement>,
@@ -349,7 +349,7 @@ impl OpenElements {
         Ok(())
     }
 
-    /// Pushes elements, of which the last gets innermost.
+    /// Pushes elements; the last becomes the innermost.
     pub(crate) fn append(&mut self, elements: Vec<OpenElement>) -> Result<(), AllocError>
         ensures { OnOk result (self.new ≡ stack_of elements.items ++ self.old) }
     {
@@ -383,7 +383,7 @@ impl OpenElements {
         }
     }
 
-    /// Pops until an element of this name has been popped.
+    /// Pops until an element with this name has been popped.
     fn pop_through(&mut self, name: &HtmlName)
         ensures { self.new ≡ spec.pop_through (spec.has_name (html (name_of name.now))) self.old }
     {
@@ -412,7 +412,7 @@ impl OpenElements {
         }
     }
 
-    /// Pops until one of these has been popped, where one is in scope. Gives whether it is.
+    /// Pops until one of these has been popped, if one is in scope. Gives whether one is.
     pub(crate) fn close(&mut self, set: NameSet, scope: Scope) -> bool
         ensures found { result ≡ spec.is_in_scope set scope self.old }
         ensures closed { self.new ≡ spec.close set scope self.old }
@@ -424,7 +424,7 @@ impl OpenElements {
         found
     }
 
-    /// Whether any other end tag of this name closes an element.
+    /// Whether any other end tag with this name closes an element.
     fn is_closable(&self, name: &HtmlName) -> bool
         ensures { result ≡ spec.is_closable (name_of name.now) self.now }
     {
@@ -440,7 +440,7 @@ impl OpenElements {
         }
     }
 
-    /// Pops all but the outermost so many.
+    /// Pops all but the outermost this many.
     pub(crate) fn truncate(&mut self, len: usize)
         ensures { self.new ≡ drop (length self.old - len) self.old }
     {
@@ -468,7 +468,7 @@ impl OpenElements {
         }
     }
 
-    /// Pops the element of a node and all inside it: these, outermost first.
+    /// Pops the element of a node and all inside it. Gives them, outermost first.
     pub(crate) fn take_inside(
         &mut self,
         alloc: Global,

@@ -1,5 +1,5 @@
-//! Where open elements stand on the stack, so that what is asked of it needs no walk. A place is counted from 1 at the
-//! outermost element; 0 is nowhere.
+//! The places of open elements on the stack, so that no question about it needs a walk. A place is counted from 1 at
+//! the outermost element; 0 is nowhere.
 ghost use Rattle.std.specs.Prelude.{◌≡◌, ◌∷◌, [], ◌<◌, ◌≤◌, List, OnOk, cond, true, false, length, get_or, vec_len, string_bytes, ℕ, ◌==◌, if◌then◌else◌};
 ghost use Rattle.std.specs.HashMap.{get_by_text};
 ghost use Rattle.std.specs.List.{list_any};
@@ -31,7 +31,7 @@ struct Bounds {
 }
 
 /// What is known of an open element: the places of the elements around it that have the same name and the same node,
-/// and of the bounds among it and those.
+/// and of the bounds among it and the elements around it.
 #[derive(Debug, Clone, Copy)]
 struct Around {
     name: usize,
@@ -43,7 +43,7 @@ struct Around {
 #[derive(Drop)]
 struct NamePlaces {
     tags: [usize; TAGS],
-    /// Of the names that no rule speaks of.
+    /// For the names that no rule mentions.
     others: HashMap<String, usize>,
 }
 
@@ -53,7 +53,7 @@ pub(crate) struct Places {
     names: NamePlaces,
     /// The place of the innermost element of each node.
     nodes: Vec<usize>,
-    /// For each open element from the outermost on; what follows means nothing.
+    /// For each open element from the outermost on; what follows has no meaning.
     around: Vec<Around>,
 }
 
@@ -84,7 +84,7 @@ impl Bounds {
         }
     }
 
-    /// The bound of a scope with an element more.
+    /// The bound of a scope with one more element.
     fn of_more(self, scope: Scope, name: &ElementName, place: usize) -> usize
         ensures { result ≡ cond (bounds scope (element_name_of name.now)) place (places.bound_of self scope) }
     {
@@ -95,7 +95,7 @@ impl Bounds {
         }
     }
 
-    /// The bounds with an element more.
+    /// The bounds with one more element.
     fn with(self, name: &ElementName, place: usize) -> Bounds
         ensures { (scope : Scope) → places.bound_of result scope
             ≡ cond (bounds scope (element_name_of name.now)) place (places.bound_of self scope) }
@@ -229,7 +229,7 @@ impl NamePlaces {
     }
 }
 
-/// Whether a place is one, and no further out than this one.
+/// Whether a place is somewhere, and no further out than this one.
 pub(crate) fn is_from(bound: usize, place: usize) -> bool
     ensures { result ≡ places.is_from bound place }
 {
@@ -292,7 +292,7 @@ impl Places {
         }
     }
 
-    /// Makes room for an element that is opened inside so many.
+    /// Makes room for an element that is opened inside this many.
     pub(crate) fn make_room(
         &mut self,
         depth: usize,
@@ -307,7 +307,7 @@ impl Places {
         make_room_around(&mut self.around, depth)
     }
 
-    /// The bounds among the outermost so many elements.
+    /// The bounds among this many outermost elements.
     fn bounds(&self, depth: usize) -> Bounds
         requires { depth ≤ vec_len self.now.around }
         ensures { (es : List OpenValue) → length es ≡ depth → places.IsLinked self.now.around.items es
@@ -319,7 +319,7 @@ impl Places {
         self.around[depth - 1].bounds
     }
 
-    /// An element is opened inside so many.
+    /// An element is opened inside this many.
     pub(crate) fn enter(&mut self, depth: usize, element: &OpenElement)
         requires room { places.HasRoom self.old (open_of element.now) }
         requires within { depth < vec_len self.old.around }
@@ -338,7 +338,7 @@ impl Places {
         set_place(&mut self.nodes, element.node, place);
     }
 
-    /// The innermost element is closed, which stands inside so many.
+    /// The innermost element, which is inside this many, is closed.
     pub(crate) fn leave(&mut self, depth: usize, element: &OpenElement)
         requires room { places.HasRoom self.old (open_of element.now) }
         requires within { depth < vec_len self.old.around }
@@ -360,7 +360,7 @@ impl Places {
         place_at(&self.nodes, node)
     }
 
-    /// The place of the innermost bound of a scope, of so many open elements.
+    /// The place of the innermost bound of a scope, of this many open elements.
     pub(crate) fn bound(&self, depth: usize, scope: Scope) -> usize
         requires { depth ≤ vec_len self.now.around }
         ensures { (stack : List OpenValue) → length stack ≡ depth → places.IsPlaced self.now stack
@@ -395,7 +395,7 @@ impl Places {
         false
     }
 
-    /// Whether one of these stands no further out than this place.
+    /// Whether one of these is no further out than this place.
     pub(crate) fn has_from(&self, set: NameSet, bound: usize) -> bool
         ensures { (stack : List OpenValue) → places.IsPlaced self.now stack
             → result ≡ places.is_from bound (places.innermost (spec.is_in set) stack) }

@@ -1,4 +1,4 @@
-//! The insertion mode is reset.
+//! How the insertion mode is reset.
 ghost use Rattle.std.specs.Prelude.{◌≡◌};
 ghost use Rattle.htmd_html5_state.specs.OpenViews.{stack_of};
 ghost use Rattle.htmd_html5_state.specs.Names.{element_name_of};
@@ -37,7 +37,7 @@ impl HtmlState {
         }
     }
 
-    /// The mode for an element of this name, with what is open around it.
+    /// The mode for an element with this name, with what is open around it.
     fn mode_for(&self, tag: TagName, outer: &[OpenElement]) -> Option<InsertionMode>
         ensures { result ≡ spec.mode_for tag (stack_of outer.now) self.now }
     {

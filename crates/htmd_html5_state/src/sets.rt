@@ -451,7 +451,7 @@ impl Scope {
         matches!(self, Scope::Select)
     }
 
-    /// Whether an element of this name bounds the scope.
+    /// Whether an element with this name bounds the scope.
     pub(crate) fn is_bound(self, name: &ElementName) -> bool
         ensures { result ≡ spec.bounds self (element_name_of name.now) }
     {

@@ -21,7 +21,7 @@ use htmd_tree::Attribute;
 use std::alloc::{AllocError, Global};
 use std::marker::Model;
 
-/// The state of tree construction. What allocates may answer an `Err`, and then it is left open what the state is.
+/// The state of tree construction. An `Err` of a method means out of memory; the state is then unknown.
 #[derive(Drop)]
 pub struct HtmlState {
     pub(crate) alloc: Global,
@@ -52,7 +52,7 @@ impl Model for HtmlState {
 }
 
 impl HtmlState {
-    /// Before the first token.
+    /// The state before the first token. `Err` means out of memory.
     pub fn new(alloc: Global, scripting: bool) -> Result<HtmlState, AllocError>
         ensures { IfOk result (λ s. s ≡ spec.initial_state scripting) }
     {
@@ -74,7 +74,7 @@ impl HtmlState {
         })
     }
 
-    /// The nodes by number, of which 0 is the Document.
+    /// The nodes by number; 0 is the Document.
     pub fn into_nodes(self) -> Vec<Node>
         ensures { nodes_of result.items ≡ self.nodes }
     {
@@ -88,14 +88,14 @@ impl HtmlState {
         self.mode
     }
 
-    /// Whether scripts run.
+    /// Whether scripting is on.
     pub fn scripting(&self) -> bool
         ensures { result ≡ self.now.scripting }
     {
         self.scripting
     }
 
-    /// Whether a `frameset` may still stand for the body.
+    /// Whether a `frameset` may still take the place of the body.
     pub fn frameset_ok(&self) -> bool
         ensures { result ≡ self.now.frameset_ok }
     {
@@ -202,6 +202,7 @@ impl HtmlState {
         }
     }
 
+    /// Puts a template insertion mode on its stack. An `Err` means out of memory.
     pub fn push_template_mode(&mut self, mode: InsertionMode) -> Result<(), AllocError>
         ensures { OnOk result (self.new ≡ resetting.push_template_mode mode self.old) }
     {
@@ -215,7 +216,7 @@ impl HtmlState {
         self.template_modes.pop();
     }
 
-    /// What new texts and attributes are allocated by.
+    /// The allocator for new texts and attributes.
     pub fn alloc(&self) -> Global {
         self.alloc
     }
@@ -270,14 +271,14 @@ impl HtmlState {
         self.stack.is_in_scope(set, scope)
     }
 
-    /// Whether the node is open, with nothing inside it that bounds a scope, nor does it.
+    /// Whether the node is open, and neither it nor what is open inside it bounds a scope.
     pub fn is_node_in_scope(&self, node: usize) -> bool
         ensures { result ≡ elements.is_node_in_scope node self.now.stack }
     {
         self.stack.is_node_in_scope(node)
     }
 
-    /// The current node; the Document where nothing is open.
+    /// The current node; the Document if nothing is open.
     pub fn current_node(&self) -> usize
         ensures { result ≡ (insertion.current self.now.stack).node }
     {
@@ -291,7 +292,7 @@ impl HtmlState {
         self.stack.first_open()
     }
 
-    /// The element that is open right in the outermost, where it is one of these.
+    /// The element that is open right inside the outermost one, if it is one of these.
     pub fn second_open(&self, set: NameSet) -> Option<usize>
         ensures { result ≡ elements.second_open set self.now.stack }
     {
@@ -307,7 +308,7 @@ impl HtmlState {
 
     // ---- elements are opened and closed
 
-    /// Opens an element once more.
+    /// Opens an element once more. `Err` means out of memory.
     pub fn reopen_node(&mut self, node: usize, name: HtmlName) -> Result<(), AllocError>
         ensures { OnOk result (self.new ≡ insertion.open_again node (name_of name) self.old) }
     {
@@ -341,7 +342,7 @@ impl HtmlState {
         self.stack.pop_while(set);
     }
 
-    /// Where one of these is in scope, pops until one has been popped. Gives whether one is.
+    /// If one of these is in scope, pops until one has been popped. Gives whether one is.
     pub fn close(&mut self, set: NameSet, scope: Scope) -> bool
         ensures found { result ≡ elements.is_in_scope set scope self.old.stack }
         ensures closed { self.new ≡ spec.on_stack (elements.close set scope) self.old }
@@ -379,7 +380,7 @@ impl HtmlState {
         self.document.detach(node);
     }
 
-    /// Gives an element the attributes that it doesn't have yet.
+    /// Gives an element the attributes that it doesn't have yet. `Err` means out of memory.
     pub fn add_missing(&mut self, node: usize, attributes: Vec<Attribute>) -> Result<(), AllocError>
         ensures { OnOk result (self.new
             ≡ spec.on_nodes (documents.add_missing node (pairs_of attributes.items)) self.old) }
@@ -389,13 +390,14 @@ impl HtmlState {
 
     // ---- the list of active formatting elements
 
+    /// Puts a marker on the list of active formatting elements. An `Err` means out of memory.
     pub fn push_marker(&mut self) -> Result<(), AllocError>
         ensures { OnOk result (self.new ≡ list.push_marker self.old) }
     {
         self.formatting.push_marker()
     }
 
-    /// Takes all off up to the last marker, with it.
+    /// Takes everything off up to the last marker, and the marker too.
     pub fn clear_to_marker(&mut self)
         ensures { self.new ≡ list.clear_to_marker self.old }
     {

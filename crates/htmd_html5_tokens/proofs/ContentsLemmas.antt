@@ -20,7 +20,7 @@ use Rattle.htmd_html5_tokens.proofs.RunCuts.{cut_before_ascii}
 
 -- ---- pieces
 
--- after so many bytes of a piece
+-- after this many bytes of a piece
 pub decoded_skip : (r : Reading) (n : ℕ) (s : List ℕ) → decoded r n s ≡ decoded r 0 (drop n s)
 decoded_skip r zero [] = refl
 decoded_skip r (suc n) [] = refl
@@ -90,7 +90,7 @@ special_has_references EscapableRawText b e k = refl
 special_has_references RawText b e k = absurd (let f : false ≡ true = sym (rw k at e) in cc)
 special_has_references AttributeValue b e k = refl
 
--- `<` is special in a text alone
+-- `<` is special only in a text
 pub special_is_text : (r : Reading) (b : ℕ) → is_plain r b ≡ false → b ≡ 60 → r ≡ Text
 special_is_text Text b e k = refl
 special_is_text EscapableRawText b e k = absurd (let f : false ≡ true = sym (rw k at e) in cc)

@@ -28,7 +28,7 @@ token_in_foreign_content s = (next_token Normal true s).token
 abbrev token_in : RawElement → List ℕ → TokenValue
 token_in element s = (next_token (Raw element) false s).token
 
--- a tag of this name, with attributes, that doesn't end in `/>`
+-- a tag with this name, with attributes, that doesn't end in `/>`
 abbrev tag : List ℕ → List AttributePair → TagValue
 tag name attributes = record { name = name; attributes = attributes; self_closing = false }
 
@@ -68,7 +68,7 @@ token-attributes : token (codes "<a b='1' =c d=e/ f>") ≡ start_tag (tag (codes
     (pair (codes "b") (codes "1") ∷ pair (codes "=c") [] ∷ pair (codes "d") (codes "e/") ∷ pair (codes "f") [] ∷ []))
 token-attributes = refl
 
--- of attributes of one name the first counts
+-- the first of attributes with one name counts
 token-equal_names : token (codes "<a b=1 B=2>") ≡ start_tag (tag (codes "a") (pair (codes "b") (codes "1") ∷ []))
 token-equal_names = refl
 
@@ -119,7 +119,7 @@ token-longest_name : token (codes "&notit; &notin;") ≡ text (not_sign ++ codes
 unfolding small_names old_names
 token-longest_name = refl
 
--- in a value a name without `;` is no reference before `=`, a letter or a digit
+-- in a value a name without `;` isn't a reference before `=`, a letter or a digit
 token-reference_in_value : token (codes "<a b='&copy=&copyx&copy;x&copy'>") ≡ start_tag (tag (codes "a")
     (pair (codes "b") (codes "&copy=&copyx" ++ copyright ++ codes "x" ++ copyright) ∷ []))
 unfolding small_names old_names

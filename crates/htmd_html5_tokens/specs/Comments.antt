@@ -12,7 +12,7 @@ use Rattle.htmd_html5_tokens.specs.declared.contents.Reading.TheVariants.{RawTex
 abbrev pub comment_token : List ℕ → List ℕ → Read
 comment_token held s = record { token = comment (decoded RawText 0 held); rest = s }
 
--- `-->` or `--!>` ends a comment, and so does what of it stands at the end of the text
+-- `-->` or `--!>` ends a comment, and so does a part of it at the end of the text
 abbrev pub ends_comment : List ℕ → Bool
 ends_comment s =
     begins_with (codes "-->") s || begins_with (codes "--!>") s
@@ -25,14 +25,14 @@ after_comment_end s =
     else if begins_with (codes "--!>") s then drop 4 s
     else []
 
--- a comment from after its `<!--` on, which `>` and `->` end at once (13.2.5.43 to 13.2.5.52)
+-- a comment from just after its `<!--`, which `>` and `->` end at once (13.2.5.43 to 13.2.5.52)
 abbrev pub read_comment : List ℕ → Read
 read_comment s =
     if begins_with (codes ">") s then comment_token [] (drop 1 s)
     else if begins_with (codes "->") s then comment_token [] (drop 2 s)
     else comment_token (up_to ends_comment s) (after_comment_end (onward ends_comment s))
 
--- what stands before the first `>`, and what follows it
+-- what comes before the first `>`, and what follows it
 abbrev pub before_sign : List ℕ → List ℕ
 before_sign s = leading_run (is_other greater_than_sign) s
 

@@ -34,7 +34,7 @@ is_value EscapableRawText = false
 is_value RawText = false
 is_value AttributeValue = true
 
--- what begins with a byte, where these follow
+-- what begins with a byte, if these follow
 abbrev pub piece_at : Reading → ℕ → List ℕ → Piece
 piece_at reading b s =
     if b == ampersand && has_references reading then after_ampersand (is_value reading) s
@@ -48,7 +48,7 @@ piece_at reading b s =
 abbrev pub put : Piece → (ℕ → List ℕ) → List ℕ
 put piece rest = piece.characters ++ rest piece.following
 
--- what the characters stand for, but for so many bytes of a piece that began before
+-- what the characters stand for, but for this many bytes of a piece that began before
 abbrev pub decoded : Reading → ℕ → List ℕ → List ℕ
 decoded reading n [] = []
 decoded reading zero (b ∷ s) = put (piece_at reading b s) (λ n. decoded reading n s)

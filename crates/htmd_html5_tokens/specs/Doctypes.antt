@@ -81,7 +81,7 @@ quirky_beginnings =
     ∷ codes "-//webtechs//dtd mozilla html//"
     ∷ []
 
--- the same, where no system identifier stands
+-- the same, if there is no system identifier
 unfoldable pub loose_beginnings : List (List ℕ)
 loose_beginnings =
     codes "-//w3c//dtd html 4.01 frameset//"
@@ -107,7 +107,7 @@ is_loose public = begins_with_one loose_beginnings public
 abbrev pub is_quirky_system : List ℕ → Bool
 is_quirky_system system = bytes_eq (map to_ascii_lowercase system) quirky_system_identifier
 
--- ---- what stands between `<!DOCTYPE` and `>`. What isn't of the form means quirks mode.
+-- ---- what is between `<!DOCTYPE` and `>`. What isn't of the form means quirks mode.
 
 -- what quotes hold at the beginning, and what follows them
 pub record Quoted : Type 0 where
@@ -165,6 +165,6 @@ means_quirks_from_name s =
 abbrev pub means_quirks : List ℕ → Bool
 means_quirks s = means_quirks_from_name (after_white s)
 
--- a doctype from after its `<!DOCTYPE` on
+-- a doctype from just after its `<!DOCTYPE`
 abbrev pub read_doctype : List ℕ → Read
 read_doctype s = record { token = doctype (means_quirks (before_sign s)); rest = after_sign s }

@@ -3,7 +3,7 @@ use Rattle.std.specs.Prelude.{ℕ, Bool, true, false, not, List, [], ◌∷◌, 
 use Rattle.htmd_grammar.specs.ValueTrees.{AttributePair}
 use Rattle.htmd_grammar.specs.CharacterClasses.{is_among}
 
--- of each attribute, whether none of these names is its, nor that of an attribute before it
+-- for each attribute, whether its name is none of these names, nor that of an attribute before it
 abbrev pub are_first : List (List ℕ) → List AttributePair → List Bool
 are_first before [] = []
 are_first before (a ∷ attributes) = not (is_among before a.name) ∷ are_first (a.name ∷ before) attributes

@@ -1,4 +1,4 @@
--- The named character references (HTML Standard, 13.5): names less their `;`, by their first letter, and what they
+-- The named character references (HTML Standard, 13.5): names without their `;`, by their first letter, and what they
 -- stand for. The tables themselves are in `src/names`.
 use Rattle.std.specs.Prelude.{ℕ, ◌==◌, if◌then◌else◌, List, [], ◌∷◌, Option, Some, None, map}
 use Rattle.std.specs.Str.{bytes_eq}
@@ -147,11 +147,11 @@ small_names b =
     if b == 0x7A then rows_of SMALL_Z else
     []
 
--- the names that may stand without `;`; none begins another, so a text begins with one of them at most
+-- the names that may stand without `;`; none begins another, so a text begins with at most one of them
 unfoldable pub old_names : List NamedReference
 old_names = rows_of OLD_NAMES
 
--- what the reference of this name stands for
+-- what the reference with this name stands for
 abbrev pub named_in : List NamedReference → List ℕ → Option (List ℕ)
 named_in [] n = None
 named_in (r ∷ rows) n = if bytes_eq n r.name then Some r.characters else named_in rows n

@@ -54,14 +54,14 @@ ends_section s = begins_with (codes "]]>") s
 abbrev pub after_section_end : List ℕ → List ℕ
 after_section_end s = if begins_with (codes "]]>") s then drop 3 s else []
 
--- a section from after its `<![CDATA[` on: its text is what it holds
+-- a section from just after its `<![CDATA[`: its text is what it holds
 abbrev pub read_section : List ℕ → Read
 read_section s =
     record { token = text (up_to ends_section s); rest = after_section_end (onward ends_section s) }
 
 -- ---- empty pieces, which denote nothing: `</>`, and in foreign content a CDATA section that holds nothing
 
--- what follows a section that holds nothing, given from after its `<![CDATA[` on
+-- what follows a section that holds nothing, given from just after its `<![CDATA[`
 abbrev pub after_empty_section : List ℕ → Option (List ℕ)
 after_empty_section s =
     if is_empty s then Some s
@@ -78,7 +78,7 @@ abbrev pub or_else : List ℕ → Option (List ℕ) → (List ℕ → List ℕ) 
 or_else s None go = s
 or_else s (Some rest) go = go rest
 
--- what follows empty pieces, at most so many
+-- what follows empty pieces, at most this many
 abbrev pub after_pieces : ℕ → List ℕ → Bool → List ℕ
 after_pieces zero s foreign = s
 after_pieces (suc k) s foreign =
@@ -90,7 +90,7 @@ after_empty_pieces foreign s = after_pieces (length s) s foreign
 
 -- ---- markup
 
--- markup from after its `<!` on (13.2.5.42)
+-- markup from just after its `<!` (13.2.5.42)
 abbrev pub read_declaration : List ℕ → Read
 read_declaration s =
     if begins_with (codes "--") s then read_comment (drop 2 s)
@@ -101,7 +101,7 @@ abbrev pub begins_letter : List ℕ → Bool
 begins_letter [] = false
 begins_letter (b ∷ s) = is_ascii_alphabetic b
 
--- markup from after its `<` on (13.2.5.6, 13.2.5.7)
+-- markup from just after its `<` (13.2.5.6, 13.2.5.7)
 abbrev pub read_markup : List ℕ → Read
 read_markup s =
     if first_is exclamation_mark s then read_declaration (drop 1 s)
@@ -111,7 +111,7 @@ read_markup s =
 
 -- ---- the token
 
--- the token at the beginning of a text, before which no empty piece stands
+-- the token at the beginning of a text, which begins with no empty piece
 abbrev pub read_piece : Bool → List ℕ → Read
 read_piece foreign s =
     if is_empty s then at_end
@@ -119,7 +119,7 @@ read_piece foreign s =
     else if begins_markup s then read_markup (drop 1 s)
     else read_text s
 
--- the text that a raw text element holds, and where there is none its end tag (13.2.5.2 to 13.2.5.5)
+-- the text that a raw text element holds, and if there is none its end tag (13.2.5.2 to 13.2.5.5)
 abbrev pub read_held : Reading → List ℕ → List ℕ → Read
 read_held reading held s =
     if not (is_empty held) then text_token reading held s

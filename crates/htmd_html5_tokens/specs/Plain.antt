@@ -17,6 +17,6 @@ is_plain EscapableRawText b = not (b == ampersand) && not (b == null)
 is_plain RawText b = not (b == null)
 is_plain AttributeValue b = not (b == ampersand) && not (b == null)
 
--- what stands between two places of a text was appended
+-- what is between two places of a text was appended
 abbrev pub HasPushed : Reading → List ℕ → List ℕ → List ℕ → List ℕ → Type 0
 HasPushed reading before s after rest = after ++ decoded reading 0 rest ≡ before ++ decoded reading 0 s

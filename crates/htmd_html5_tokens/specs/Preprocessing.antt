@@ -1,4 +1,4 @@
--- What is read of a page (HTML Standard, 13.2.3.5): its text less a byte order mark at its beginning, with a line feed
+-- What is read of a page (HTML Standard, 13.2.3.5): its text without a byte order mark at the start, with a line feed
 -- for each CR LF and each lone CR.
 use Rattle.std.specs.Prelude.{ℕ, List}
 use Rattle.htmd_grammar.specs.Comments.{normalized}

@@ -1,4 +1,4 @@
--- Elements that hold text alone, up to their own end tag (HTML Standard, 13.2.5.2 to 13.2.5.5 and 13.2.5.9 to
+-- Elements that hold only text, up to their own end tag (HTML Standard, 13.2.5.2 to 13.2.5.5 and 13.2.5.9 to
 -- 13.2.5.31).
 use Rattle.std.specs.Prelude.{ℕ, suc, Bool, false, ◌&&◌, ◌==◌, if◌then◌else◌, List, [], ◌∷◌, length, codes}
 use Rattle.htmd_text.specs.Characters.{less_than_sign}

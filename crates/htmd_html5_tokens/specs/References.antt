@@ -45,7 +45,7 @@ character_numbered n =
 abbrev pub semicolon_len : List ℕ → ℕ
 semicolon_len s = if first_is semicolon s then 1 else 0
 
--- digits, at least one, after so many bytes (13.2.5.76 to 13.2.5.79)
+-- digits, at least one, after this many bytes (13.2.5.76 to 13.2.5.79)
 abbrev pub numbered : (ℕ → Bool) → ℕ → ℕ → List ℕ → Piece
 numbered is_digit base from s =
     if is_empty (leading_run is_digit s) then ampersand_itself
@@ -63,19 +63,19 @@ after_number_sign s =
 
 -- ---- references by name (13.2.5.73)
 
--- in the value of an attribute a name without `;` is no reference before `=`, a letter or a digit
+-- in the value of an attribute a name without `;` isn't a reference before `=`, a letter or a digit
 abbrev pub goes_on : List ℕ → Bool
 goes_on [] = false
 goes_on (b ∷ s) = b == equals_sign || is_ascii_alphanumeric b
 
--- the name that may stand without `;` with which a text begins, if there is one
+-- the name at the beginning of a text that may stand without `;`, if there is one
 abbrev pub old_reference : Bool → Option NamedReference → List ℕ → Piece
 old_reference in_value None s = ampersand_itself
 old_reference in_value (Some r) s =
     if in_value && goes_on (drop (length r.name) s) then ampersand_itself
     else record { following = length r.name; characters = r.characters }
 
--- a name with `;`, which so many bytes take, and where there is none a name without
+-- a name with `;`, which this many bytes take, and if there is none a name without
 abbrev pub reference_or : ℕ → Option (List ℕ) → Piece → Piece
 reference_or n None other = other
 reference_or n (Some characters) other = record { following = n; characters = characters }

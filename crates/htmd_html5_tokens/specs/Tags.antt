@@ -25,7 +25,7 @@ is_attribute_name_byte b = is_name_byte b && not (b == equals_sign)
 abbrev pub is_unquoted_byte : ℕ → Bool
 is_unquoted_byte b = not (is_ascii_white_space b || (b == greater_than_sign))
 
--- what stands between the parts
+-- what is between the parts
 abbrev pub is_gap_byte : ℕ → Bool
 is_gap_byte b = is_ascii_white_space b || (b == slash)
 
@@ -35,7 +35,7 @@ ends_in_slash [] = false
 ends_in_slash (b ∷ []) = b == slash
 ends_in_slash (b ∷ c ∷ s) = ends_in_slash (c ∷ s)
 
--- ---- the next part: an attribute, or the end of the tag. It is `malformed` where the text ends before.
+-- ---- the next part: an attribute, or the end of the tag. It is `malformed` if the text ends before that.
 
 -- an attribute from its value on, after `=` and white space (13.2.5.35 to 13.2.5.38)
 abbrev pub value_part : List ℕ → List ℕ → TagPart
@@ -44,7 +44,7 @@ value_part name s =
     else if first_is apostrophe s then quoted_value apostrophe name (drop 1 s)
     else attribute name (leading_run is_unquoted_byte s) (behind_run is_unquoted_byte s)
 
--- an attribute from after its name on (13.2.5.34)
+-- an attribute from just after its name (13.2.5.34)
 abbrev pub after_attribute_name : List ℕ → List ℕ → TagPart
 after_attribute_name name s =
     if first_is equals_sign (behind_run is_ascii_white_space s)
@@ -64,7 +64,7 @@ next_part s = after_gap (ends_in_slash (leading_run is_gap_byte s)) (behind_run 
 
 -- ---- the attributes
 
--- what a tag is after its name: nothing, where the text ends in it; or attributes as they are spelled, whether it ends
+-- what a tag is after its name: nothing, if the text ends in it; or attributes as they are spelled, whether it ends
 -- in `/>`, and what follows
 pub data TagForm : Type 0 where
   unended : TagForm
@@ -79,7 +79,7 @@ form_after malformed go = unended
 form_after (tag_end self_closing s) go = ended [] self_closing s
 form_after (attribute name value s) go = with_attribute (record { name = name; value = value }) (go s)
 
--- the form of a tag with less than so many attributes
+-- the form of a tag with fewer than this many attributes
 abbrev pub form_within : ℕ → List ℕ → TagForm
 form_within zero s = unended
 form_within (suc k) s = form_after (next_part s) (form_within k)
@@ -96,7 +96,7 @@ abbrev pub unless : Bool → AttributePair → List AttributePair → List Attri
 unless true a attributes = attributes
 unless false a attributes = a ∷ attributes
 
--- of attributes of one name the first counts (13.2.5.33); those before have these names
+-- the first of attributes with one name counts (13.2.5.33); those before have these names
 abbrev pub firsts : List (List ℕ) → List AttributePair → List AttributePair
 firsts before [] = []
 firsts before (a ∷ attributes) = unless (is_among before a.name) a (firsts (a.name ∷ before) attributes)
@@ -113,7 +113,7 @@ tag_value name spelled self_closing = record {
   self_closing = self_closing;
 }
 
--- the token of a tag of this name; the end of the text within a tag makes nothing of it
+-- the token of a tag with this name; the end of the text within a tag makes nothing of it
 abbrev pub tag_token : (TagValue → TokenValue) → List ℕ → TagForm → Read
 tag_token kind name unended = record { token = end_of_file; rest = [] }
 tag_token kind name (ended spelled self_closing s) =
@@ -123,6 +123,6 @@ tag_token kind name (ended spelled self_closing s) =
 abbrev pub tag_from_name : (TagValue → TokenValue) → List ℕ → Read
 tag_from_name kind s = tag_token kind (leading_run is_name_byte s) (tag_form (behind_run is_name_byte s))
 
--- a tag from after its `<` on (13.2.5.6, 13.2.5.7)
+-- a tag from just after its `<` (13.2.5.6, 13.2.5.7)
 abbrev pub read_tag : List ℕ → Read
 read_tag s = if first_is slash s then tag_from_name end_tag (drop 1 s) else tag_from_name start_tag s

@@ -1,4 +1,4 @@
-//! What stands in a tag after its name: attributes, its `/` and its `>`.
+//! What is in a tag after its name: attributes, its `/` and its `>`.
 ghost use Rattle.std.specs.Prelude.{◌≡◌, ◌<◌, false, length, IfOk, MatchOption};
 ghost use Rattle.htmd_grammar.specs.CharacterClasses.{is_empty};
 ghost use Rattle.htmd_grammar.specs.TagReading as reading;
@@ -18,7 +18,7 @@ pub(crate) struct SpelledAttribute<'a> {
 /// What comes next in a tag after its name.
 #[derive(Drop)]
 pub(crate) enum Part<'a> {
-    /// The text ends before.
+    /// The text ends before that.
     Unended,
     End {
         slash: bool,
@@ -30,7 +30,7 @@ pub(crate) enum Part<'a> {
     },
 }
 
-/// What stands in a tag after its name, and what follows the tag.
+/// What is in a tag after its name, and what follows the tag.
 #[derive(Drop)]
 pub(crate) struct TagForm<'a> {
     pub(crate) attributes: Vec<SpelledAttribute<'a>>,
@@ -38,7 +38,7 @@ pub(crate) struct TagForm<'a> {
     pub(crate) rest: &'a str,
 }
 
-/// A value between quotes, of which the first stands before the text.
+/// A value between quotes; the first one comes before the text.
 fn quoted_value<'a>(name: &'a str, text: &'a str, quote: u8) -> Part<'a>
     requires { quote < 128 }
     ensures { part_of result ≡ reading.quoted_value quote name.now text.now }
@@ -70,7 +70,7 @@ fn value_part<'a>(name: &'a str, text: &'a str) -> Part<'a>
     }
 }
 
-/// An attribute from after its name on.
+/// An attribute from just after its name.
 fn after_name<'a>(name: &'a str, text: &'a str) -> Part<'a>
     ensures { part_of result ≡ spec.after_attribute_name name.now text.now }
 {
@@ -85,7 +85,7 @@ fn after_name<'a>(name: &'a str, text: &'a str) -> Part<'a>
     value_part(name, value)
 }
 
-/// An attribute, which begins with its name, whatever its first character.
+/// An attribute, which begins with its name, whatever its first character is.
 fn attribute(text: &str) -> Part<'_>
     requires { 0 < length text.now }
     ensures { part_of result ≡ attribute_part text.now }
@@ -122,7 +122,7 @@ pub(crate) fn next_part(text: &str) -> Part<'_>
     }
 }
 
-/// The form of a tag from after its name on. None where the text ends in the tag; an `Err` is out of memory.
+/// The form of a tag from just after its name. None if the text ends in the tag; `Err` means out of memory.
 pub(crate) fn tag_form<'a>(alloc: Global, text: &'a str) -> Result<Option<TagForm<'a>>, AllocError>
     ensures { IfOk result (λ o. MatchOption o (spec.tag_form text.now ≡ spec.unended)
         (λ f. spec.tag_form text.now ≡ spec.ended (all_spelled_of f.attributes.items) f.slash f.rest.now)) }

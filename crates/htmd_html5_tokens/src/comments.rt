@@ -17,7 +17,7 @@ fn comment<'a>(alloc: Global, held: &str, rest: &'a str) -> Result<(Token, &'a s
     Ok((Token::Comment(text), rest))
 }
 
-/// Whether a comment ends here, or what of its end stands at the end of the text.
+/// Whether a comment ends here, with its end or with a part of it that the end of the text cuts off.
 fn ends_comment(bytes: &[u8]) -> bool
     ensures { result ≡ spec.ends_comment bytes.now }
 {
@@ -28,7 +28,7 @@ fn ends_comment(bytes: &[u8]) -> bool
     }
 }
 
-/// How many bytes stand before the end of a comment.
+/// How many bytes are before the end of a comment.
 fn comment_len(bytes: &[u8]) -> usize
     ensures bound { result ≤ length bytes.now }
     ensures value { result ≡ length (up_to spec.ends_comment bytes.now) }
@@ -40,7 +40,7 @@ fn comment_len(bytes: &[u8]) -> usize
     len
 }
 
-/// What stands before the end of a comment, and that end with what follows.
+/// What comes before the end of a comment, and that end with what follows.
 fn split_comment(text: &str) -> (&str, &str)
     ensures held { result.0.now ≡ up_to spec.ends_comment text.now }
     ensures rest { result.1.now ≡ onward spec.ends_comment text.now }
@@ -61,7 +61,7 @@ fn after_comment_end(text: &str) -> &str
     }
 }
 
-/// A comment from after its `<!--` on, and what follows it.
+/// A comment from just after its `<!--`, and what follows it.
 pub(crate) fn read_comment(alloc: Global, text: &str) -> Result<(Token, &str), AllocError>
     ensures { IfOk result (λ r. read_of r ≡ spec.read_comment text.now) }
 {
@@ -75,7 +75,7 @@ pub(crate) fn read_comment(alloc: Global, text: &str) -> Result<(Token, &str), A
     comment(alloc, held, after_comment_end(end))
 }
 
-/// What stands before the first `>`, and what follows it.
+/// What comes before the first `>`, and what follows it.
 pub(crate) fn split_at_sign(text: &str) -> (&str, &str)
     ensures held { result.0.now ≡ spec.before_sign text.now }
     ensures rest { result.1.now ≡ spec.after_sign text.now }

@@ -1,4 +1,4 @@
-//! Which attributes count: of those of one name the first.
+//! Which attributes count: the first of those with one name.
 ghost use Rattle.std.specs.Prelude.{◌≡◌, [], IfOk};
 ghost use Rattle.htmd_grammar.specs.CharacterClasses as classes;
 ghost use Rattle.htmd_grammar.specs.Tags.{attribute_names};
@@ -9,7 +9,7 @@ use htmd_tree::Attribute;
 use std::alloc::{AllocError, Global};
 use std::collections::BTreeSet;
 
-/// So many names are compared pair by pair.
+/// Up to this many names are compared pair by pair.
 const FEW: usize = 12;
 
 fn has_name(attributes: &[Attribute], name: &str) -> bool
@@ -36,7 +36,7 @@ fn are_pairwise_distinct(attributes: &[Attribute]) -> bool
     true
 }
 
-/// Whether no two attributes have one name. An `Err` is out of memory.
+/// Whether no two attributes have the same name. `Err` means out of memory.
 pub(crate) fn are_distinct(alloc: Global, attributes: &[Attribute]) -> Result<bool, AllocError>
     ensures { IfOk result (λ answer. answer
         ≡ classes.are_distinct (attribute_names (pairs_of attributes.now))) }
@@ -56,7 +56,7 @@ pub(crate) fn are_distinct(alloc: Global, attributes: &[Attribute]) -> Result<bo
     Ok(true)
 }
 
-/// Of each attribute, whether it is the first of its name. An `Err` is out of memory.
+/// For each attribute, whether it is the first with its name. `Err` means out of memory.
 pub(crate) fn first_marks(alloc: Global, attributes: &[Attribute]) -> Result<Vec<bool>, AllocError>
     ensures { IfOk result (λ marks. marks.items ≡ are_first [] (pairs_of attributes.now)) }
 {

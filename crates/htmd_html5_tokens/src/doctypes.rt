@@ -75,7 +75,7 @@ static QUIRKY_BEGINNINGS: [&str; 54] = [
     "-//webtechs//dtd mozilla html//",
 ];
 
-/// The same, where no system identifier stands.
+/// The same, if there is no system identifier.
 static LOOSE_BEGINNINGS: [&str; 2] = [
     "-//w3c//dtd html 4.01 frameset//",
     "-//w3c//dtd html 4.01 transitional//",
@@ -123,7 +123,7 @@ fn is_quirky_identifier(public: &str) -> bool
     is_one(public, &QUIRKY_IDENTIFIERS)
 }
 
-/// Whether a public identifier begins as those that mean quirks mode.
+/// Whether a public identifier begins like those that mean quirks mode.
 #[tactic(auto, unfolding(crate::specs::Doctypes::quirky_beginnings))]
 fn has_quirky_beginning(public: &str) -> bool
     ensures { result ≡ spec.begins_with_one spec.quirky_beginnings public.now }
@@ -138,7 +138,7 @@ fn is_quirky(public: &str) -> bool
     is_quirky_identifier(public) || has_quirky_beginning(public)
 }
 
-/// Whether a public identifier means quirks mode where no system identifier stands.
+/// Whether a public identifier means quirks mode if there is no system identifier.
 #[tactic(auto, unfolding(crate::specs::Doctypes::loose_beginnings))]
 fn is_loose(public: &str) -> bool
     ensures { result ≡ spec.is_loose public.now }
@@ -154,7 +154,7 @@ fn is_quirky_system(system: &str) -> bool
     is_in_any_case(system, QUIRKY_SYSTEM_IDENTIFIER)
 }
 
-/// What quotes hold, of which the first stands before the text, and what follows them.
+/// What quotes hold, when the first one comes before the text, and what follows them.
 fn quoted_by(text: &str, quote: u8) -> Option<(&str, &str)>
     requires { quote < 128 }
     ensures { quoted_of result ≡ spec.quoted_by quote text.now }
@@ -243,7 +243,7 @@ fn means_quirks(text: &str) -> bool
     !is_in_any_case(name, "html") || means_quirks_by_identifiers(after_white(after))
 }
 
-/// A doctype from after its `<!DOCTYPE` on, and what follows it.
+/// A doctype from just after its `<!DOCTYPE`, and what follows it.
 pub(crate) fn read_doctype(text: &str) -> (Token, &str)
     ensures { read_of result ≡ spec.read_doctype text.now }
 {

@@ -1,5 +1,5 @@
 //! The tokens of any page, by the HTML Standard (13.2.5): its preprocessing, tags, texts with references, comments,
-//! doctypes and raw texts. Every text has tokens, and no text is refused: only memory may run out.
+//! doctypes and raw texts. Every text has tokens, and no text is refused; only memory may run out.
 #![tactic(auto)]
 
 mod attributes;

@@ -23,7 +23,7 @@ pub(crate) fn begins_markup(bytes: &[u8]) -> bool
     }
 }
 
-/// How many bytes stand before markup.
+/// How many bytes are before markup.
 fn text_len(bytes: &[u8]) -> usize
     ensures bound { result ≤ length bytes.now }
     ensures value { result ≡ length (up_to spec.begins_markup bytes.now) }
@@ -35,7 +35,7 @@ fn text_len(bytes: &[u8]) -> usize
     len
 }
 
-/// What stands before markup, and the markup with what follows.
+/// What comes before markup, and the markup with what follows.
 fn split_text(text: &str) -> (&str, &str)
     ensures held { result.0.now ≡ up_to spec.begins_markup text.now }
     ensures rest { result.1.now ≡ onward spec.begins_markup text.now }
@@ -52,7 +52,7 @@ pub(crate) fn read_text(alloc: Global, text: &str) -> Result<(Token, &str), Allo
     Ok((Token::Text(read), rest))
 }
 
-/// A comment, a doctype or what is read as a comment, from after its `<!` on, and what follows it.
+/// A comment, a doctype or what is read as a comment, from just after its `<!`, and what follows it.
 fn read_declaration(alloc: Global, text: &str) -> Result<(Token, &str), AllocError>
     ensures { IfOk result (λ r. read_of r ≡ spec.read_declaration text.now) }
 {
@@ -72,7 +72,7 @@ fn begins_letter(bytes: &[u8]) -> bool
     matches!(bytes, [first, ..] if first.is_ascii_alphabetic())
 }
 
-/// Markup from after its `<` on, and what follows it.
+/// Markup from just after its `<`, and what follows it.
 pub(crate) fn read_markup(alloc: Global, text: &str) -> Result<(Token, &str), AllocError>
     ensures { IfOk result (λ r. read_of r ≡ spec.read_markup text.now) }
 {

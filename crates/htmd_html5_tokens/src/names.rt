@@ -98,7 +98,7 @@ fn small_rows(first: u8) -> &'static [(&'static str, &'static str)]
     }
 }
 
-/// What the reference of this name stands for, where it is among these.
+/// What the reference with this name stands for, if it is among these.
 fn named_in(rows: &[(&'static str, &'static str)], name: &[u8]) -> Option<&'static str>
     ensures { option_map (λ t. t.now) result ≡ spec.named_in (loan_rows rows.now) name.now }
 {
@@ -110,7 +110,7 @@ fn named_in(rows: &[(&'static str, &'static str)], name: &[u8]) -> Option<&'stat
     None
 }
 
-/// What the reference of this name, which a `;` follows, stands for.
+/// What the reference with this name stands for, if a `;` follows it.
 pub(crate) fn named(name: &[u8]) -> Option<&'static str>
     ensures { option_map (λ t. t.now) result ≡ spec.named name.now }
 {
@@ -121,7 +121,7 @@ pub(crate) fn named(name: &[u8]) -> Option<&'static str>
     }
 }
 
-/// The first of these names with which the text begins, and what it stands for.
+/// The first of these names that the text begins with, and what it stands for.
 fn first_in(
     rows: &'static [(&'static str, &'static str)],
     text: &[u8],
@@ -136,7 +136,7 @@ fn first_in(
     None
 }
 
-/// The name that may stand without `;` with which the text begins, and what it stands for. There is one at most.
+/// The name at the beginning of the text that may stand without `;`, and what it stands for. There is at most one.
 #[tactic(auto, unfolding(crate::specs::NamedReferences::old_names))]
 pub(crate) fn longest_old(text: &[u8]) -> Option<(&'static str, &'static str)>
     ensures { option_map loan_row result ≡ spec.longest_old text.now }

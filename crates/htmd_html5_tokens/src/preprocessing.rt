@@ -10,7 +10,7 @@ use crate::scan::first_is;
 use std::alloc::{AllocError, Global};
 use std::borrow::CowStr;
 
-/// The text less a byte order mark at its beginning.
+/// The text without a byte order mark at its beginning.
 fn after_mark(text: &str) -> &str
     ensures { result.now ≡ behind_mark text.now }
 {
@@ -20,7 +20,7 @@ fn after_mark(text: &str) -> &str
     }
 }
 
-/// Appends the line end that a CR stands for: none where it is part of CR LF.
+/// Appends the line end that a CR stands for: none if it is part of CR LF.
 fn push_line_end(lines: &mut String, after: &str) -> Result<(), AllocError>
     ensures { OnOk result (string_bytes lines.new ++ normalized after.now
         ≡ string_bytes lines.old ++ normalized (carriage_return ∷ after.now)) }
@@ -47,8 +47,8 @@ fn with_line_feeds(alloc: Global, text: &str) -> Result<String, AllocError>
     Ok(lines)
 }
 
-/// The text less a byte order mark at its beginning, with a line feed for each CR LF and each lone CR. Where it has no
-/// CR it is borrowed; an `Err` is out of memory.
+/// The text without a byte order mark at its beginning, and with a line feed for each CR LF and each lone CR. It is
+/// borrowed if it has no CR. `Err` means out of memory.
 pub fn preprocess(alloc: Global, text: &str) -> Result<CowStr<'_>, AllocError>
     ensures { IfOk result (λ t. cow_str_bytes t ≡ spec.preprocessed text.now) }
 {

@@ -1,4 +1,4 @@
-//! Elements that hold text alone, up to their own end tag.
+//! Elements that hold only text, up to their own end tag.
 ghost use Rattle.std.specs.Prelude.{◌≡◌, ◌≤◌, [], length};
 ghost use Rattle.htmd_grammar.specs.RawContent as grammar;
 ghost use Rattle.htmd_html5_tokens.specs.RawTexts as spec;
@@ -7,7 +7,7 @@ ghost use Rattle.htmd_html5_tokens.specs.declared.raw_texts.Escape.TheVariants.{
 use crate::contents::Reading;
 use crate::tokens::RawElement;
 
-/// How a script is escaped: `<!--` escapes it, and in an escaped one `<script` does so doubly.
+/// How a script is escaped: `<!--` escapes it, and in an escaped one `<script` escapes it doubly.
 #[derive(Clone, Copy)]
 pub(crate) enum Escape {
     Unescaped,
@@ -39,7 +39,7 @@ fn goes_on_with_name(bytes: &[u8], name: &[u8]) -> bool
     ends_name(rest)
 }
 
-/// Whether the end tag of an element of this name begins here.
+/// Whether the end tag of an element with this name begins here.
 fn begins_own_end(bytes: &[u8], name: &[u8]) -> bool
     ensures { result ≡ grammar.begins_own_end name.now bytes.now }
 {
@@ -49,7 +49,7 @@ fn begins_own_end(bytes: &[u8], name: &[u8]) -> bool
     }
 }
 
-/// How many bytes stand before the end tag of an element of this name.
+/// How many bytes are before the end tag of an element with this name.
 fn own_text_len(bytes: &[u8], name: &[u8]) -> usize
     ensures bound { result ≤ length bytes.now }
     ensures value { result ≡ spec.own_text_len name.now bytes.now }
@@ -106,7 +106,7 @@ fn ends_script(escape: Escape, bytes: &[u8]) -> bool
     }
 }
 
-/// How many bytes stand before the end tag of a script.
+/// How many bytes are before the end tag of a script.
 fn script_len(bytes: &[u8]) -> usize
     ensures bound { result ≤ length bytes.now }
     ensures value { result ≡ spec.script_len Unescaped bytes.now }

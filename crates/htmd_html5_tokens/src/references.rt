@@ -55,7 +55,7 @@ fn digit_value(digit: u8) -> u8
     }
 }
 
-/// What digits mean in a base, or the limit where that is more.
+/// What digits mean in a base, at most the limit.
 fn number(digits: &[u8], base: u32) -> u32
     requires small { base ≤ 16 }
     requires base { 0 < base }
@@ -98,7 +98,7 @@ fn semicolon_len(bytes: &[u8]) -> usize
     if first_is(bytes, b';') { 1 } else { 0 }
 }
 
-/// A reference by a number, whose digits begin at `from` and are `len` many.
+/// A reference by a number, whose `len` digits begin at `from`.
 fn reference_by_number(after: &str, from: usize, len: usize, base: u32) -> Reference
     requires small { base ≤ 16 }
     requires base { 0 < base }
@@ -136,7 +136,7 @@ fn after_number_sign(after: &str) -> Reference
     }
 }
 
-/// Whether a name without `;` is no reference here, in the value of an attribute.
+/// Whether a name without `;` isn't a reference here, in the value of an attribute.
 fn goes_on(bytes: &[u8]) -> bool
     ensures { result ≡ spec.goes_on bytes.now }
 {
@@ -180,7 +180,7 @@ fn reference_by_name(after: &str, in_value: bool) -> Reference
     }
 }
 
-/// What `&` begins where this text follows it: a reference, or `&` itself.
+/// What `&` begins, when this text follows it: a reference, or `&` itself.
 pub(crate) fn read_reference(after: &str, in_value: bool) -> Reference
     ensures piece { piece_of result ≡ spec.after_ampersand in_value after.now }
     ensures end { IsCharBoundary after.now result.following }

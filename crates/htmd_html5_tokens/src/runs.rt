@@ -57,7 +57,7 @@ pub(crate) fn split_run(text: &str, class: Class) -> (&str, &str)
     text.split_at(run_len(text.as_bytes(), class))
 }
 
-/// The text after this ASCII character, where it begins with it.
+/// The text after this ASCII character, if it begins with it.
 pub(crate) fn strip_byte(text: &str, byte: u8) -> Option<&str>
     requires { byte < 128 }
     ensures { MatchOption result (first_is byte text.now ≡ false)
@@ -69,7 +69,7 @@ pub(crate) fn strip_byte(text: &str, byte: u8) -> Option<&str>
     }
 }
 
-/// The text after these ASCII characters, where it begins with them.
+/// The text after these ASCII characters, if it begins with them.
 pub(crate) fn strip<'a>(text: &'a str, characters: &str) -> Option<&'a str>
     requires { list_all (λ c. nat_lt c 128) characters.now ≡ true }
     ensures { MatchOption result (classes.begins_with characters.now text.now ≡ false)
@@ -82,7 +82,7 @@ pub(crate) fn strip<'a>(text: &'a str, characters: &str) -> Option<&'a str>
     Some(&text[characters.len()..])
 }
 
-/// The text after these ASCII characters, given in lower case, where it begins with them in any ASCII case.
+/// The text after these ASCII characters, given in lower case, if it begins with them in any ASCII case.
 pub(crate) fn strip_in_any_case<'a>(text: &'a str, characters: &str) -> Option<&'a str>
     requires ascii { list_all (λ c. nat_lt c 128) characters.now ≡ true }
     requires filled { 0 < length characters.now }

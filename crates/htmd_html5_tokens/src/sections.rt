@@ -15,7 +15,7 @@ fn ends_section(bytes: &[u8]) -> bool
     matches!(bytes, [b']', b']', b'>', ..])
 }
 
-/// How many bytes stand before the end of a section.
+/// How many bytes are before the end of a section.
 fn section_len(bytes: &[u8]) -> usize
     ensures bound { result ≤ length bytes.now }
     ensures value { result ≡ length (up_to spec.ends_section bytes.now) }
@@ -27,7 +27,7 @@ fn section_len(bytes: &[u8]) -> usize
     len
 }
 
-/// What stands before the end of a section, and that end with what follows.
+/// What comes before the end of a section, and that end with what follows.
 fn split_section(text: &str) -> (&str, &str)
     ensures held { result.0.now ≡ up_to spec.ends_section text.now }
     ensures rest { result.1.now ≡ onward spec.ends_section text.now }
@@ -45,7 +45,7 @@ fn after_section_end(text: &str) -> &str
     }
 }
 
-/// A section from after its `<![CDATA[` on, and what follows it.
+/// A section from just after its `<![CDATA[`, and what follows it.
 pub(crate) fn read_section(alloc: Global, text: &str) -> Result<(Token, &str), AllocError>
     ensures { IfOk result (λ r. read_of r ≡ spec.read_section text.now) }
 {
@@ -54,7 +54,7 @@ pub(crate) fn read_section(alloc: Global, text: &str) -> Result<(Token, &str), A
     Ok((Token::Text(held), after_section_end(end)))
 }
 
-/// What follows a section that holds nothing, given from after its `<![CDATA[` on.
+/// What follows a section that holds nothing, given from just after its `<![CDATA[`.
 fn strip_empty_section(text: &str) -> Option<&str>
     ensures { option_map (λ rest. rest.now) result ≡ spec.after_empty_section text.now }
 {

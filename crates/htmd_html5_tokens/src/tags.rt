@@ -64,7 +64,7 @@ fn push_marked(
     Ok(())
 }
 
-/// What those of the spelled attributes denote that are marked.
+/// What the marked ones of the spelled attributes denote.
 fn marked_decoded(
     alloc: Global,
     spelled: &[SpelledAttribute<'_>],
@@ -85,7 +85,7 @@ fn marked_decoded(
     Ok(attributes)
 }
 
-/// The attributes that are spelled so, of those of one name the first.
+/// The attributes with these spellings: of those with one name only the first.
 fn attributes_of(
     alloc: Global,
     spelled: &[SpelledAttribute<'_>],
@@ -100,7 +100,7 @@ fn attributes_of(
     marked_decoded(alloc, spelled, marks.as_slice())
 }
 
-/// A tag of this name and form.
+/// A tag with this name and form.
 fn make_tag(alloc: Global, name: &str, form: &TagForm<'_>) -> Result<Tag, AllocError>
     ensures { IfOk result (λ t. tag_of t
         ≡ spec.tag_value name.now (all_spelled_of form.now.attributes.items) form.now.slash) }
@@ -114,7 +114,7 @@ fn make_tag(alloc: Global, name: &str, form: &TagForm<'_>) -> Result<Tag, AllocE
     })
 }
 
-/// A tag from its name on, and what follows it; the end of the text within a tag makes nothing of it.
+/// A tag from its name on, and what follows it; if the text ends within the tag, the end of the file.
 fn tag_from_name(alloc: Global, text: &str, ends: bool) -> Result<(Token, &str), AllocError>
     ensures { IfOk result (λ r. read_of r ≡ spec.tag_from_name (if ends then end_tag else start_tag) text.now) }
 {
@@ -130,7 +130,7 @@ fn tag_from_name(alloc: Global, text: &str, ends: bool) -> Result<(Token, &str),
     }
 }
 
-/// A tag from after its `<` on, and what follows it.
+/// A tag from just after its `<`, and what follows it.
 pub(crate) fn read_tag(alloc: Global, text: &str) -> Result<(Token, &str), AllocError>
     ensures { IfOk result (λ r. read_of r ≡ spec.read_tag text.now) }
 {

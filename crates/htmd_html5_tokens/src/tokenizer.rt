@@ -15,7 +15,7 @@ use crate::tokens::{Content, RawElement, Token};
 use std::alloc::{AllocError, Global};
 use std::marker::Model;
 
-/// What follows `<![CDATA[` where a CDATA section begins.
+/// What follows `<![CDATA[`, if a CDATA section begins here.
 fn strip_section(text: &str, foreign: bool) -> Option<&str>
     ensures { MatchOption result (spec.begins_section foreign text.now ≡ false)
         (λ rest. (spec.begins_section foreign text.now ≡ true) × (rest.now ≡ drop 9 text.now)) }
@@ -26,7 +26,7 @@ fn strip_section(text: &str, foreign: bool) -> Option<&str>
     strip(text, "<![CDATA[")
 }
 
-/// The token at the beginning of a text, before which no empty piece stands, and what follows it.
+/// The token at the beginning of a text, which begins with no empty piece, and what follows it.
 fn read_piece(alloc: Global, text: &str, foreign: bool) -> Result<(Token, &str), AllocError>
     ensures { IfOk result (λ r. read_of r ≡ spec.read_piece foreign text.now) }
 {
@@ -93,7 +93,7 @@ impl<'a> Model for Tokenizer<'a> {
 }
 
 impl<'a> Tokenizer<'a> {
-    /// All of a text, whose line ends are line feeds.
+    /// A tokenizer for all of a text, whose line ends are line feeds.
     pub fn new(text: &'a str) -> Tokenizer<'a>
         ensures { result ≡ text.now }
     {
@@ -108,7 +108,8 @@ impl<'a> Tokenizer<'a> {
     }
 
     /// Takes the next token. `foreign` says whether the adjusted current node is in foreign content. At the end of the
-    /// text, and in a tag that the end cuts off, it is `EndOfFile`. An `Err` is out of memory, and takes nothing.
+    /// text, and in a tag that the end cuts off, the token is `EndOfFile`. `Err` means out of memory; nothing is taken
+    /// then.
     pub fn next(
         &mut self,
         alloc: Global,

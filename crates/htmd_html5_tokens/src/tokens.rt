@@ -4,7 +4,7 @@ ghost use Rattle.htmd_html5_tokens.specs.RawTexts as raw;
 
 use htmd_tree::Attribute;
 
-/// A start tag or end tag. Of attributes of one name it has the first.
+/// A start tag or end tag. Of attributes with one name it has only the first.
 #[derive(Debug, PartialEq, Eq, Drop)]
 pub struct Tag {
     pub name: String,
@@ -23,7 +23,7 @@ pub enum Token {
     EndOfFile,
 }
 
-/// An element that holds text alone.
+/// An element that holds only text.
 #[derive(Debug, Clone, Copy, PartialEq, Eq)]
 pub enum RawElement {
     Title,

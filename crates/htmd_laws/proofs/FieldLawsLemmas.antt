@@ -2,7 +2,7 @@
 use Rattle.std.proofs.Common.{◌≡◌, ◌∙◌, sym, ap, refl, ℕ, ◌==◌, Bool, true, false, if◌then◌else◌, List, [], ◌∷◌, ◌++◌}
 use Rattle.std.proofs.Common.{codes}
 use Rattle.std.proofs.lemmas.Bool.{eqb-true}
-use Rattle.htmd.specs.Characters.{backslash, carriage_return, line_feed, tab}
+use Rattle.htmd_walk.specs.Characters.{backslash, carriage_return, line_feed, tab}
 use Rattle.htmd_cli.specs.Fields.{read_field, written_field}
 use Rattle.htmd_laws.specs.FieldLaws.{FieldsReadBack}
 

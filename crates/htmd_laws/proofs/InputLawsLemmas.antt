@@ -6,15 +6,15 @@ use Rattle.htmd_tree.specs.ValueTrees.{AttributePair}
 use Rattle.htmd_tree.specs.Items.{Item, document_item, new_item, element_node, text_node, IsTree, HoldTexts}
 use Rattle.htmd_tree.specs.Bodies.{body_part}
 use Rattle.htmd_tree.proofs.ItemsLemmas.{IsTree-added}
-use Rattle.htmd.specs.Choice.{Config}
-use Rattle.htmd.specs.Markdown.{markdown}
+use Rattle.htmd_walk.specs.Choice.{Config}
+use Rattle.htmd_walk.specs.Markdown.{markdown}
 use Rattle.htmd_cli.specs.Conversion.{Way, empty_paragraph, paragraph, paragraph_markdown, IsMarkdownBy}
 use Rattle.htmd_cli.specs.Conversion.{IsReadable, reads_any}
 use Rattle.htmd_cli.specs.Decoding.{decoded}
 use Rattle.htmd_html5.specs.Documents.{html5_document}
 use Rattle.htmd_laws.specs.InputLaws.{TreesHoldTexts, IsTreeBy, InputsHoldTexts, text_by}
-use Rattle.htmd_laws.proofs.LaidTrees.{document_alone, with_first, none_hold, Holds}
-use Rattle.htmd_laws.proofs.TreesRead.{trees_hold, body_part_utf8}
+use Rattle.htmd_tree_laws.proofs.LaidTrees.{document_alone, with_first, none_hold, Holds}
+use Rattle.htmd_tree_laws.proofs.TreesRead.{trees_hold, body_part_utf8}
 
 pub trees_hold_texts : TreesHoldTexts
 trees_hold_texts scripting html tree u (children, is, reads) =

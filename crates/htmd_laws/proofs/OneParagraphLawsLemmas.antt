@@ -1,9 +1,9 @@
 -- The Markdown of one paragraph reads back.
 use Rattle.std.proofs.Common.{◌≡◌, ℕ, List, [], ◌∷◌, Some, None, Option, refl}
-use Rattle.htmd.specs.ValueTrees.{document}
-use Rattle.htmd.specs.NumberedTrees.{tree_of, forest_from, value_tree}
-use Rattle.htmd_laws.specs.ParagraphLaws.{paragraphs}
-use Rattle.htmd_laws.proofs.ParagraphLawsLemmas.{paragraphs_read_back}
+use Rattle.htmd_walk.specs.ValueTrees.{document}
+use Rattle.htmd_walk.specs.NumberedTrees.{tree_of, forest_from, value_tree}
+use Rattle.htmd_tree_laws.specs.ParagraphLaws.{paragraphs}
+use Rattle.htmd_tree_laws.proofs.ParagraphLawsLemmas.{paragraphs_read_back}
 use Rattle.htmd_laws.proofs.InputLawsLemmas.{paragraph_is_tree}
 use Rattle.htmd_cli.specs.Conversion.{paragraph, paragraph_markdown}
 use Rattle.htmd_laws.specs.OneParagraphLaws.{ParagraphReadsBack}

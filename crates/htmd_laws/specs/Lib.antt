@@ -1,15 +1,9 @@
--- The laws, in reading order: of the grammar; of the content, of children, emphasis, links, lists, paragraphs and texts;
--- of what is read, of letters and of what is shown; of a run.
-pub mod GrammarLaws
-pub mod ContentLaws
-pub mod GroupLaws
-pub mod EmphasisLaws
-pub mod LinkLaws
-pub mod ListLaws
-pub mod ParagraphLaws
-pub mod TextLaws
+-- The laws, in reading order: of what is read, of letters and of what is shown; of a run. Those of trees and their
+-- Markdown are in `htmd_tree_laws`.
+pub use Rattle.htmd_tree_laws.specs.Letters
+pub use Rattle.htmd_tree_laws.specs.Shown
 pub mod InputLaws
-pub mod Letters
-pub mod Shown
+pub mod LettersOfInputs
+pub mod ShownOfInputs
 pub mod OneParagraphLaws
 pub mod FieldLaws

@@ -1,13 +1,13 @@
 -- The law of the one paragraph.
 use Rattle.std.specs.Prelude.{◌≡◌, ℕ, false, List, [], ◌∷◌}
-use Rattle.htmd.specs.declared.options.Options.{Options}
-use Rattle.htmd.specs.Outputs.{is_guarded}
-use Rattle.htmd.specs.BuiltIn.{built_in}
-use Rattle.htmd_laws.specs.ParagraphLaws.{texts_read, texts_shown}
+use Rattle.htmd_walk.specs.declared.options.Options.{Options}
+use Rattle.htmd_walk.specs.Outputs.{is_guarded}
+use Rattle.htmd_walk.specs.BuiltIn.{built_in}
+use Rattle.htmd_tree_laws.specs.ParagraphLaws.{texts_read, texts_shown}
 use Rattle.htmd_cli.specs.Conversion.{paragraph_markdown}
 
--- By all options but in Guarded the Markdown of the paragraph reads back as its text, as that is shown, or as nothing
--- where that is empty.
+-- With all options except in Guarded, the Markdown of the paragraph reads back as its text, as that is shown, or as
+-- nothing if that is empty.
 abbrev pub ParagraphReadsBack : Type 0
 ParagraphReadsBack =
     (options : Options) (text : List ℕ) → is_guarded options ≡ false

@@ -1,10 +1,10 @@
-//! Laws of a run: of the program's words `--text` and `--rows`.
+//! Laws of a run: of the program's options `--text` and `--rows`.
 ghost use Rattle.htmd_laws.specs.FieldLaws.{FieldsReadBack};
 ghost use Rattle.htmd_laws.specs.OneParagraphLaws.{ParagraphReadsBack};
 
-/// In Pure and Faithful, what a run writes for the text of one paragraph, less its final line feed, reads back: without
-/// the backslashes that escape, it is the text, its white space squeezed and cut at both ends. It is nothing where that
-/// is empty.
+/// In Pure and Faithful, what a run writes for the text of one paragraph, without its final line feed, reads back:
+/// without the backslashes that escape, it is the text, its white space squeezed and cut at both ends. It is nothing if
+/// that is empty.
 pub fn paragraph_reads_back()
     ensures { ParagraphReadsBack }
 {}

@@ -1,4 +1,4 @@
--- Texts with backslashes, written behind others and read back.
+-- Texts with backslashes, written after others and read back.
 use Rattle.std.proofs.Common.{◌≡◌, ℕ, zero, suc, ◌+◌, ◌<◌, ◌≤◌, Bool, true, false, List, [], ◌∷◌, ◌++◌, length, get_or}
 use Rattle.std.proofs.Common.{refl, sym, ap, ◌∙◌, arith, append_assoc, ⊎_elim}
 use Rattle.std.specs.Prelude.{◌==◌, slice_index}
@@ -24,7 +24,7 @@ among_ascii (c ∷ characters) b all e =
     ⊎_elim (λ first. grind (arith, nat_tests)) (among_ascii characters b parts.1)
     (or_cases (b == c) (is_one_of characters b) e)
 
--- What was written behind a text, the piece that waits, and what the rest becomes, are the whole.
+-- What was written after a text, the piece that waits, and what the rest becomes, are the whole.
 pub record Escaping (marked : ℕ → Bool) (s before out : List ℕ) (from i : ℕ) : Type 0 where
   pub written : List ℕ
   pub out_is : out ≡ before ++ written

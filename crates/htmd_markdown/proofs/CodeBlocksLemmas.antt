@@ -18,7 +18,7 @@ code_of-push s =
     rw (ap (λ b. b == line_feed) last)
     (ap (λ k. take k (s ++ line_feed ∷ [])) size ∙ take-append_seam s (line_feed ∷ []))
 
--- the last character behind the others
+-- the last character after the others
 ends_apart : (s : List ℕ) → 0 < length s → s ≡ take (length s - 1) s ++ slice_index s (length s - 1) ∷ []
 ends_apart [] some = absurd (omega arith)
 ends_apart (b ∷ []) some = refl
@@ -47,7 +47,7 @@ pub code_of-stripped : (s : List ℕ) (r : Option (Bor (List ℕ))) (whole : Bor
 code_of-stripped s None whole same kept = same ∙ sym (code_of-kept s kept)
 code_of-stripped s (Some x) whole same stripped = sym (ap code_of stripped ∙ code_of-push x.now)
 
--- the content is its code, and a line feed or nothing behind it
+-- the content is its code, and a line feed or nothing after it
 pub code_of-behind : (s : List ℕ) → (s ≡ code_of s) ⊎ (s ≡ code_of s ++ line_feed ∷ [])
 code_of-behind s = by_case (slice_index s (length s - 1) == line_feed) refl
   where

@@ -19,7 +19,7 @@ lacks_run n behind_backquote [] = true
 lacks_run n behind_backquote (b ∷ s) =
     (behind_backquote || not (prefix_len is_backquote (b ∷ s) == n)) && lacks_run n (is_backquote b) s
 
--- the text ends with a backquote, or is empty and stands behind one
+-- the text ends with a backquote, or is empty and stands after one
 abbrev pub ends_behind : Bool → List ℕ → Bool
 ends_behind behind_backquote [] = behind_backquote
 ends_behind behind_backquote (b ∷ s) = ends_behind (is_backquote b) s
@@ -90,7 +90,7 @@ one_more : (t : Bool) (x : ℕ) (long short : List ℕ) → long ≡ short ++ sp
 one_more true x long short e = e
 one_more false x long short e = ap (λ l. x ∷ l) e
 
--- a space behind a text is no part of a line end
+-- a space after a text is not a part of a line end
 pub line_ends-push_space : (s : List ℕ)
     → line_ends_as_spaces (s ++ space ∷ []) ≡ line_ends_as_spaces s ++ space ∷ []
 line_ends-push_space [] = refl

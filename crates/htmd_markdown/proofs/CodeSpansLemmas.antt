@@ -27,7 +27,7 @@ none_of_runs n [] some none = (grind (arith, nat_tests), refl)
 none_of_runs n (run ∷ others) some none =
     or_parts (length run == n) (list_any (λ run. length run == n) others) none
 
--- the runs lack a length, but for the first one behind a backquote
+-- the runs lack a length, except for the first one after a backquote
 abbrev Lacks : ℕ → Bool → List ℕ → Type 0
 Lacks n behind s =
     (behind ≡ false → (prefix_len is_backquote s == n) ≡ false)
@@ -64,7 +64,7 @@ lacks_run-from_has_run n s some none =
     let both = none_of_runs n (runs grave_accent s) some none in
     lacking n false s some (λ e. ap (λ m. m == n) (sym (first_run-prefix_len grave_accent s)) ∙ both.0, both.1)
 
--- a space behind the text changes nothing
+-- a space after the text changes nothing
 pub run_push : (s : List ℕ) → prefix_len is_backquote (s ++ space ∷ []) ≡ prefix_len is_backquote s
 run_push [] = refl
 run_push (b ∷ s) = ap (λ n. cond (is_backquote b) (1 + n) 0) (run_push s)
@@ -97,7 +97,7 @@ ends_last behind b (c ∷ s) e =
     let place : suc (length (c ∷ s) - 1) ≡ length (b ∷ c ∷ s) - 1 = omega arith in
     ends_last (is_backquote b) c s (ap (λ k. slice_index (b ∷ c ∷ s) k == grave_accent) place ∙ e)
 
--- ---- the delimiter's length is no run's
+-- ---- no run has the delimiter's length
 
 pub delimiter-some : (s : List ℕ) → 0 < delimiter_len s
 delimiter-some s = positive (meets_delimiter s)

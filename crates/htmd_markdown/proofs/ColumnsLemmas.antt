@@ -119,7 +119,7 @@ abbrev pub AreTexts : List (List ℕ) → Type 0
 AreTexts [] = Unit {0}
 AreTexts (cell ∷ cells) = IsUtf8 cell × AreTexts cells
 
--- where a line of such widths was written, none of them was cut
+-- if a line of such widths was written, none of them was cut
 pub held_same : (cells : List (List ℕ)) (ws : List ℕ) → AreTexts cells → length ws ≤ length cells
     → length (spec.barred_cells cells (map held ws)) ≤ 0xFFFF_FFFF_FFFF_FFFF → map held ws ≡ ws
 held_same cells [] are le fits = refl

@@ -1,4 +1,4 @@
--- The white space at the ends of a text, and what stands between.
+-- The white space at the ends of a text, and what is between.
 use Rattle.std.proofs.Common.{◌≡◌, ◌≢◌, ℕ, ◌+◌, ◌-◌, ◌<◌, ◌≤◌, List, [], ◌∷◌, ◌++◌, length, get_or, take, drop, min}
 use Rattle.std.proofs.Common.{refl, sym, ap, ◌∙◌, subst, arith, append_assoc, length-append, length-drop, Some, None}
 use Rattle.std.proofs.Common.{Bool, true, false}
@@ -91,7 +91,7 @@ rest_is s rest start =
     let place : length s - length rest ≡ min start.0 (length s) = omega (arith, start.4) in
     start.1 ∙ sym (drop_min start.0 s) ∙ ap (λ k. drop k s) (sym place)
 
--- the text is its white space, what stands between, and white space again
+-- the text is its white space, what is between, and white space again
 parts : (s rest middle : List ℕ) → IsTrimStart s rest → IsTrimEnd rest middle
     → s ≡ (take (length s - length rest) s ++ middle) ++ drop (length middle) rest
 parts s rest middle start end =
@@ -144,7 +144,7 @@ emphasised_is emphasis mark s rest middle out marked start end filled e =
     let same : emphasised_text emphasis s ≡ between mark before middle after = rw (end, start, marked) refl in
     same ∙ between_filled mark before middle after filled ∙ ap (λ l. Some l) (sym e)
 
--- a mark may stand behind what is left
+-- a mark may stand after what is left
 pub end_may_take : (s rest middle : List ℕ) (end : ℕ) → IsUtf8 rest → IsUtf8 middle → IsTrimStart s rest
     → IsTrimEnd rest middle → end ≡ length s - length rest + length middle → IsSplitPoint s end
 end_may_take s rest middle end text text_middle cut_start cut_end place =
@@ -154,7 +154,7 @@ end_may_take s rest middle end text text_middle cut_start cut_end place =
     (subst (λ (l : List ℕ). IsCharBoundary l (length middle)) (rest_is s rest cut_start) cut) in
     subst (λ (k : ℕ). IsSplitPoint s k) (sym place) (here.0, λ _. here.1)
 
--- what stands before a mark stays
+-- what comes before a mark stays
 before_mark : (s mark : List ℕ) (n i : ℕ) → n ≤ length s → i < n
     → get_or (insert_slice s n mark) i 0 ≡ get_or s i 0
 before_mark s mark n i le lt =
@@ -165,7 +165,7 @@ before_mark s mark n i le lt =
     ∙ sym (get_or_append_left (take n s) (drop n s) 0 i within)
     ∙ ap (λ l. get_or l i 0) (take-append-drop n s)
 
--- with a mark behind what is left, one may stand in front of it too
+-- with a mark after what is left, one may stand in front of it too
 pub start_may_take : (s rest middle mark marked : List ℕ) (start end : ℕ) → IsUtf8 rest → middle ≢ []
     → IsTrimStart s rest → IsTrimEnd rest middle → start ≡ length s - length rest
     → end ≡ start + length middle → marked ≡ insert_slice s end mark → IsSplitPoint marked start

@@ -53,7 +53,7 @@ line_before (b ∷ s) after none = at_first (is_line_end b) (list_any is_line_en
     at_first true y e rest = cc
     at_first false y e rest = omega (arith, rest e)
 
--- a line of a text is no longer where a line feed stands behind the text
+-- a line of a text is no longer where a line feed stands after the text
 line_within : (s after : List ℕ) → first_line (s ++ line_feed ∷ after) ≡ take (position_or_len is_line_end s) s
 line_within [] after = refl
 line_within (b ∷ s) after = at_first (is_line_end b) (line_within s after)
@@ -143,7 +143,7 @@ and_false : (x y : Bool) → y ≡ false → (x && y) ≡ false
 and_false true y e = e
 and_false false y e = refl
 
--- the code up to a line of n symbols, in which no so many stand in a row
+-- the code up to a line of n symbols, in which that many never stand in a row
 before_closing-found : (c n : ℕ) (begins : Bool) (s : List ℕ) → MakesFences c → 0 < n → Below c n s
     → before_closing c n begins (s ++ line_feed ∷ replicate n c) ≡ Some (s ++ line_feed ∷ [])
 before_closing-found c zero begins s makes some below = absurd (omega arith)
@@ -187,7 +187,7 @@ symbols_of_block c n info code makes none =
     ∙ ap (λ k. n + k) (none_at_start c info line_feed (code ++ line_feed ∷ replicate n c) none makes.no_line_feed)
     ∙ omega arith
 
--- what stands between the first line and a line of n symbols, in which no so many stand in a row
+-- what is between the first line and a line of n symbols, in which that many never stand in a row
 pub read_fence-between : (c n : ℕ) (info code : List ℕ) → MakesFences c → 0 < n
     → is_opening (replicate n c ++ info) ≡ true → list_any is_line_end info ≡ false
     → list_any (λ b. b == c) info ≡ false → Below c n code → read_fence (block c n info code) ≡ Some code

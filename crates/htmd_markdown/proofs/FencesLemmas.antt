@@ -20,7 +20,7 @@ makes_fences : (fence : CodeBlockFence) → MakesFences (symbol_of fence)
 makes_fences Tildes = record { itself = refl; no_space = refl; no_line_end = refl; no_line_feed = refl }
 makes_fences Backticks = record { itself = refl; no_space = refl; no_line_end = refl; no_line_feed = refl }
 
--- what stands behind a fence, character by character
+-- what follows a fence, character by character
 fits_parts : (c : ℕ) (info : List ℕ) → fits_fence c info ≡ true → (list_any is_line_end info ≡ false)
     × (list_any (λ b. b == c) info ≡ false)
 fits_parts c [] fits = (refl, refl)

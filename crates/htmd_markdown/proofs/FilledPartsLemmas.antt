@@ -22,7 +22,7 @@ filled_parts cut parts n = filter is_filled (map cut (take n parts))
 abbrev pub written : List (List ℕ) → List ℕ
 written parts = joined_texts (space ∷ []) parts
 
--- What was written behind a text of the first n parts.
+-- What was written after a text of the first n parts.
 pub record Joining (cut : List ℕ → List ℕ) (parts : List (List ℕ)) (before out : List ℕ) (is_first : Bool)
     (n : ℕ) : Type 0 where
   pub out_is : out ≡ before ++ written (filled_parts cut parts n)

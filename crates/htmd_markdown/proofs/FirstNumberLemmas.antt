@@ -17,7 +17,7 @@ use Rattle.htmd_markdown.specs.Lists.{first_number}
 own : IsNumeralModel (λ ds. all_ascii_digits ds ≡ true) (digits_value 10)
 own = numerals_by_value (λ ds. all_ascii_digits ds ≡ true) tells_all_ascii_digits
 
--- the number, where it is above 0
+-- the number, if it is above 0
 abbrev pub above_zero : ℤ → ℕ
 above_zero (pos zero) = 1
 above_zero (pos (suc n)) = suc n

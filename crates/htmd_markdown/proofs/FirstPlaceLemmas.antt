@@ -19,7 +19,7 @@ taken_more cs n c here =
     let one = length-encode c in
     rw (same, encodes-append, length-append) (grind (arith, append-nil))
 
--- the loop's state: so many characters were blank
+-- the loop's state: this many characters were blank
 pub record BlankTo (cs : List ℕ) (n len : ℕ) : Type 0 where
   pub size : len ≡ taken cs n
   pub blank : n + prefix_len is_blank (drop n cs) ≡ prefix_len is_blank cs

@@ -1,4 +1,4 @@
--- What stands behind backslashes is ASCII punctuation, reads back, and ends nothing.
+-- What follows backslashes is ASCII punctuation, reads back, and ends nothing.
 use Rattle.std.proofs.Common.{◌≡◌, ℕ, suc, ◌+◌, Bool, true, false, List, [], ◌∷◌, ◌++◌, get_or}
 use Rattle.std.proofs.Common.{refl, sym, ap, ◌∙◌, arith, ⊎_elim, drop, codes}
 use Rattle.std.specs.Prelude.{◌==◌, ◌&&◌, not, slice_index}
@@ -65,7 +65,7 @@ guarded-reads_back characters s punctuation among =
     reads_back marked 0 s (λ i m. mark_is_punctuation characters s i punctuation (from_start i ∙ m))
     (λ i _ m. none_if characters (get_or s i 0) among (unmarked characters s i (from_start i ∙ m)))
 
--- ---- what stands behind no backslash
+-- ---- what follows no backslash
 
 each_bare-marked : (passes : List ℕ → Bool) (marked : ℕ → Bool) (k : ℕ) (s : List ℕ)
     → ((i : ℕ) → marked (k + i) ≡ true → is_ascii_punctuation (get_or s i 0) ≡ true)
@@ -88,7 +88,7 @@ none_of_fewer fewer characters b among other =
     ⊎_elim (λ yes. absurd (false≢true (sym other ∙ among yes))) (λ no. not_from_false (is_one_of fewer b) no)
     (cases_Bool (is_one_of fewer b))
 
--- of the characters that get backslashes none stands bare
+-- none of the characters that get backslashes is bare
 pub guarded-closed : (fewer characters s : List ℕ) → ArePunctuation characters
     → is_one_of characters backslash ≡ true
     → ((b : ℕ) → is_one_of fewer b ≡ true → is_one_of characters b ≡ true)

@@ -44,7 +44,7 @@ one_same : (b : ℕ) (t s : List ℕ) (n : ℕ) → ((i : ℕ) → i < n → get
 one_same b t s n rest zero lt = refl
 one_same b t s n rest (suc i) lt = rest i (omega arith)
 
--- so many places of the text, of which none is marked
+-- this many places of the text, of which none is marked
 pub record Same (marked : ℕ → Bool) (k : ℕ) (s : List ℕ) (n : ℕ) : Type 0 where
   pub unmarked : (i : ℕ) → i < n → marked (k + i) ≡ false
   pub bytes : (i : ℕ) → i < n → get_or (with_backslashes marked k s) i 0 ≡ get_or s i 0
@@ -231,7 +231,7 @@ hyphen_facts : (b : ℕ) → (b == hyphen) ≡ true → ((b == backslash) ≡ fa
 hyphen_facts b e =
     (grind (arith, nat_tests), λ none. absurd (false≢true (ap (λ x. x == hyphen) (sym none) ∙ e)))
 
--- where the bytes up to it stay, and it is one, it was marked
+-- if the bytes up to it stay, and it is one, it was marked
 sign_marked : (w : List ℕ) (n : ℕ) → IsUtf8 (guarded_text true w) → first_place (guarded_text true w) < n
     → n ≤ length (guarded_text true w) → Same (is_guarded_mark true w) 0 w n
     → SignFacts (get_or (guarded_text true w) (first_place (guarded_text true w)) 0)
@@ -353,7 +353,7 @@ no_number w text = false_from_ne_true _ (λ e.
 sign_is : (b : ℕ) → (b == number_sign) ≡ true → b ≡ number_sign
 sign_is b e = grind (arith, nat_tests)
 
--- behind blanks stands a place of a heading
+-- after blanks stands a place of a heading
 shifted_place : (p s : List ℕ) (m : ℕ) → 0 < m → is_heading_place s m ≡ true
     → is_heading_place (p ++ s) (length p + m) ≡ true
 shifted_place p s m some e =

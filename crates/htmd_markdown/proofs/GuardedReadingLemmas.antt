@@ -21,7 +21,7 @@ use Rattle.htmd_markdown.specs.GuardedText.{follows_byte_order_mark}
 use Rattle.htmd_markdown.specs.GuardedText.{guarded_text, begins_no_markup, is_guarded}
 use Rattle.htmd_markdown.proofs.GuardedMarksLemmas.{mark_is_punctuation, unmarked_is_no_backslash, unmarked_parts}
 
--- ---- the text reads back, whatever stands behind it
+-- ---- the text reads back, whatever comes after it
 
 one_read : (m : Bool) (b : ℕ) (s t more : List ℕ) → (m ≡ true → is_ascii_punctuation b ≡ true)
     → (m ≡ false → (b == backslash) ≡ false) → unescape (t ++ more) ≡ s ++ unescape more
@@ -65,7 +65,7 @@ semicolon_unmarked begins w k e =
     let here : get_or w k 0 ≡ semicolon = grind (arith, nat_tests) in
     rw here (never_at_block begins _ _ _)
 
--- a `#` right behind an `&`
+-- a `#` right after an `&`
 sign_unmarked : (begins : Bool) (w : List ℕ) (i : ℕ) → get_or w i 0 ≡ ampersand
     → get_or w (suc i) 0 ≡ number_sign
     → is_guarded_mark begins w (suc i) ≡ false
@@ -83,7 +83,7 @@ sign_unmarked begins w i before here =
     let block : (begins && is_block_mark w (suc i)) ≡ false = rw here (never_at_block begins _ _ _) in
     or_from _ _ (or_from _ _ (or_from _ _ always reference) heading) block
 
--- ---- what stands behind an `&` looks no more and no less like a reference
+-- ---- what follows an `&` looks no more and no less like a reference
 
 one_found : (p : ℕ → Bool) (m : Bool) (b : ℕ) (t s : List ℕ) → p backslash ≡ false
     → (m ≡ true → p b ≡ false)
@@ -191,7 +191,7 @@ like_in begins w i (b ∷ s) part before =
     (find_in is_ascii_alphanumeric begins w (suc (suc i)) s parts.0 refl no_alphanumeric)))
     (cases_Bool (is_guarded_mark begins w (suc i)))
 
--- ---- what is no reference stays none, whatever stands behind it
+-- ---- what isn't a reference never becomes one, whatever comes after it
 
 find_on : (p : ℕ → Bool) (s more : List ℕ) → ends_reference (find (λ c. not (p c)) s) ≡ false
     → ends_reference (find (λ c. not (p c)) (s ++ more)) ≡ false

@@ -1,4 +1,4 @@
--- How a row is read whose bars in cells stand behind backslashes.
+-- How a row with backslashes before the bars in its cells is read.
 use Rattle.std.proofs.Common.{◌≡◌, ℕ, zero, suc, ◌+◌, ◌-◌, ◌≤◌, Bool, true, false, cond, List, [], ◌∷◌, ◌++◌}
 use Rattle.std.proofs.Common.{length}
 use Rattle.std.proofs.Common.{take, drop, map, refl, sym, ap, ◌∙◌, subst, arith, append_assoc, length-append, ⊎_elim}
@@ -19,7 +19,7 @@ use Rattle.htmd_markdown.proofs.TablesLemmas.{paddeds, inner_of, padded_trimmed,
 
 -- ---- where a text is cut
 
--- a backslash at its end escapes what stands behind the text
+-- a backslash at its end escapes what follows the text
 abbrev pub ending : Bool → List ℕ → Bool
 ending escaped [] = escaped
 ending escaped (b ∷ s) = ending (is_escaping escaped b) s

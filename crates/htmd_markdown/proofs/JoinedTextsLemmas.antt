@@ -1,4 +1,4 @@
--- One more text behind those that were joined.
+-- One more text after those that were joined.
 use Rattle.std.proofs.Common.{◌≡◌, ℕ, ◌+◌, ◌<◌, Bool, false, List, [], ◌∷◌, ◌++◌, length, get_or, map, take, sym, ap}
 use Rattle.std.proofs.Common.{◌∙◌, arith, append_assoc}
 use Rattle.std.specs.Prelude.{not, ◌==◌, if◌then◌else◌}

@@ -1,8 +1,8 @@
 -- The places of a joint are between characters.
 use Rattle.std.proofs.Common.{◌≡◌, ℕ, zero, suc, ◌+◌, ◌-◌, ◌<◌, ◌≤◌, Bool, true, false, List, [], ◌∷◌, ◌++◌, length}
 use Rattle.std.proofs.Common.{get_or, take, drop, refl, sym, ap, subst, ◌∙◌, arith, ⊎_elim}
-use Rattle.std.specs.Prelude.{◌==◌, not, ◌&&◌, ◌%◌, reverse, encode_utf8, encode_utf8_all}
-use Rattle.std.specs.List.{prefix_len, suffix_len}
+use Rattle.std.specs.Prelude.{◌==◌, not, ◌&&◌, reverse, encode_utf8, encode_utf8_all}
+use Rattle.std.specs.List.{suffix_len}
 use Rattle.std.specs.Str.{chars, IsUtf8, IsCharBoundary}
 use Rattle.std.proofs.Math.Seq.{drop-append_seam}
 use Rattle.std.proofs.lemmas.Bool.{cases_Bool, cases_lt, cond_both}
@@ -14,7 +14,7 @@ use Rattle.std.proofs.lemmas.Str.{encodes-append, encodes-chars, IsUtf8-past_cha
 use Rattle.std.proofs.lemmas.Str.{IsCharBoundary-from_drop, IsCharBoundary-after_ascii}
 use Rattle.std.proofs.lemmas.Str.{IsCharBoundary-before_ascii, IsCharBoundary-start, IsCharBoundary-end}
 use Rattle.htmd_text.specs.Characters.{backslash}
-use Rattle.htmd_markdown.specs.Joints.{is_asterisk, is_backslash, is_plain_at, plain_signs, plain_signs_back}
+use Rattle.htmd_markdown.specs.Joints.{is_asterisk, is_plain_at, is_plain_behind, plain_signs, plain_signs_back}
 use Rattle.htmd_markdown.specs.Joints.{plain_start, plain_end, escapes_next, ending_run, beginning_run}
 
 -- ---- between two characters
@@ -37,7 +37,7 @@ cut_between s xs ys text split =
 
 -- ---- plain signs
 
--- what stands behind them
+-- what follows them
 abbrev behind_signs : Bool → List ℕ → List ℕ
 behind_signs escaped cs = drop (length (plain_signs escaped cs)) cs
 
@@ -53,7 +53,7 @@ signs_front escaped (c ∷ cs) =
 signs_back : (cs : List ℕ) → cs ≡ plain_signs_back cs ++ drop (length (plain_signs_back cs)) cs
 signs_back [] = refl
 signs_back (c ∷ cs) =
-    let plain = is_plain_at (prefix_len is_backslash cs % 2 == 1) c in
+    let plain = is_plain_behind (encode_utf8_all (reverse cs)) c in
     ⊎_elim
     (λ (here : plain ≡ true). rw here (ap (λ l. c ∷ l) (signs_back cs)))
     (λ (other : plain ≡ false). rw other refl)
@@ -133,7 +133,7 @@ ending_run-cut s = at (ending_run s) refl
               (ap (λ k. is_asterisk (get_or s k 0)) (sym place) ∙ ap is_asterisk (sym turned) ∙ one)),
         )
 
--- a place of what stands before a place
+-- a place of what comes before a place
 pub cut_in_front : (s : List ℕ) (n k : ℕ) → n ≤ length s → IsCharBoundary s n → IsCharBoundary (take n s) k
     → IsCharBoundary s k
 cut_in_front s n k le at inside =

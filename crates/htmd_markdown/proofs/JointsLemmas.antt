@@ -1,22 +1,18 @@
 -- The signs at the ends of a text, one character at a time.
-use Rattle.std.proofs.Common.{◌≡◌, ℕ, zero, suc, ◌+◌, ◌-◌, ◌<◌, ◌≤◌, Bool, true, false, List, [], ◌∷◌, ◌++◌, length}
-use Rattle.std.proofs.Common.{get_or, take, drop, refl, sym, ap, subst, ◌∙◌, arith, ⊎_elim}
-use Rattle.std.specs.Prelude.{◌==◌, not, ◌&&◌, ◌||◌, ◌%◌, reverse, encode_utf8, encode_utf8_all}
+use Rattle.std.proofs.Common.{◌≡◌, ℕ, zero, suc, ◌+◌, ◌-◌, ◌≤◌, Bool, true, false, List, [], ◌∷◌, ◌++◌, length}
+use Rattle.std.proofs.Common.{get_or, take, drop, refl, sym, ap, subst, ◌∙◌, arith}
+use Rattle.std.specs.Prelude.{◌==◌, not, ◌&&◌, ◌||◌, reverse, encode_utf8, encode_utf8_all}
 use Rattle.std.specs.Char.{IsScalar, len_utf8}
-use Rattle.std.specs.List.{prefix_len, suffix_len}
-use Rattle.std.specs.Str.{chars, IsUtf8, NoCharPasses}
+use Rattle.std.specs.Str.{chars, IsUtf8}
 use Rattle.std.proofs.Math.Seq.{take-append_seam}
-use Rattle.std.proofs.lemmas.Bool.{cases_Bool, cases_lt, cond-true, cond-false, or_right, and_right}
-use Rattle.std.proofs.lemmas.Bool.Decides.{nat_tests}
-use Rattle.std.proofs.lemmas.List.{reverse-append, reverse-reverse, append-nil, length-append, length-take-le, take_all, take-take}
-use Rattle.std.proofs.lemmas.List.{get_or-append-add}
-use Rattle.std.proofs.lemmas.List.Sums.{suffix_len-take_no}
-use Rattle.std.proofs.lemmas.Str.{chars_past_char, chars-nil, length-encode, encode_ascii, NoCharPasses-byte}
-use Rattle.std.proofs.lemmas.Str.{encodes-append, encodes-chars, IsUtf8-past_char}
+use Rattle.std.proofs.lemmas.Bool.{cond-true, cond-false, or_right, and_right}
+use Rattle.std.proofs.lemmas.List.{reverse-append, reverse-reverse, length-append, length-take-le, take_all, take-take}
+use Rattle.std.proofs.lemmas.Str.{chars_past_char, chars-nil, length-encode}
+use Rattle.std.proofs.lemmas.Str.{encodes-chars, IsUtf8-past_char}
 use Rattle.std.proofs.lemmas.Str.{len_utf8_bounds, drop_past_char}
 use Rattle.htmd_text.specs.Characters.{backslash}
-use Rattle.htmd_markdown.specs.Joints.{is_backslash, is_plain_at, plain_signs, plain_signs_back, plain_start}
-use Rattle.htmd_markdown.specs.Joints.{plain_end, escapes_next, first_character, last_character, begins_word, ends_word}
+use Rattle.htmd_markdown.specs.Joints.{is_plain_at, is_plain_behind, plain_signs, plain_signs_back, plain_start}
+use Rattle.htmd_markdown.specs.Joints.{plain_end, first_character, last_character, begins_word, ends_word}
 use Rattle.htmd_markdown.specs.Joints.{word_first}
 use Rattle.htmd_markdown.specs.Joints.{is_word_character, has_no_run, joint_between, joint_of_runs}
 use Rattle.htmd_markdown.specs.declared.joint.Joint.TheVariants.{AsTheyAre}
@@ -78,66 +74,6 @@ plain_on-end text [] len escaped none was =
     omega (arith, was.answer, ap (λ l. length (encode_utf8_all (plain_signs escaped l))) chars-nil)
 plain_on-end text (b ∷ rest) len escaped none was = absurd (omega arith)
 
--- ---- backslashes at the end
-
-suffix_more : (p : ℕ → Bool) (xs : List ℕ) (b : ℕ) → p b ≡ true → suffix_len p (xs ++ b ∷ []) ≡ 1 + suffix_len p xs
-suffix_more p xs b passes =
-    ap (prefix_len p) (reverse-append xs (b ∷ [])) ∙ cond-true (p b) (1 + prefix_len p (reverse xs)) 0 passes
-
-suffix_stops : (p : ℕ → Bool) (s : List ℕ) → 0 < length s → p (get_or s (length s - 1) 0) ≡ false
-    → suffix_len p s ≡ 0
-suffix_stops p s some fails =
-    ap (suffix_len p) (sym (take_all (length s) s (omega arith)))
-    ∙ suffix_len-take_no p s (length s) 0 some (omega arith) fails
-
--- no character but the backslash ends with its byte
-other_ends : (xs : List ℕ) (c : ℕ) → is_backslash c ≡ false → suffix_len is_backslash (xs ++ encode_utf8 c) ≡ 0
-other_ends xs c other =
-    let s = encode_utf8 c in
-    let size : length s ≡ len_utf8 c = length-encode c in
-    let bounds = len_utf8_bounds c in
-    let whole = xs ++ s in
-    let counted = length-append xs s in
-    let none : NoCharPasses is_backslash s = (c ∷ [], append-nil s, (other, tt)) in
-    let byte : is_backslash (get_or s (length s - 1) 0) ≡ false =
-    ⊎_elim (λ small. NoCharPasses-byte is_backslash s (length s - 1) none (omega arith) small)
-    (λ large. large_is_other (get_or s (length s - 1) 0) large)
-    (cases_lt (get_or s (length s - 1) 0) 128) in
-    let place : length whole - 1 ≡ length xs + (length s - 1) = omega arith in
-    suffix_stops is_backslash whole (omega arith)
-    (ap (λ n. is_backslash (get_or whole n 0)) place
-    ∙ ap is_backslash (get_or-append-add xs s (length s - 1) 0) ∙ byte)
-  where
-    large_is_other : (b : ℕ) → 128 ≤ b → is_backslash b ≡ false
-    large_is_other b large = grind (arith, nat_tests)
-
-backslashes_in : (ds : List ℕ)
-    → suffix_len is_backslash (encode_utf8_all (reverse ds)) ≡ prefix_len is_backslash ds
-backslashes_in [] = refl
-backslashes_in (d ∷ ds) =
-    let turned : encode_utf8_all (reverse (d ∷ ds)) ≡ encode_utf8_all (reverse ds) ++ encode_utf8 d =
-    ap encode_utf8_all (reverse-append (d ∷ []) ds) ∙ encodes-append (reverse ds) (d ∷ [])
-    ∙ ap (λ l. encode_utf8_all (reverse ds) ++ l) (append-nil (encode_utf8 d)) in
-    ⊎_elim
-    (λ (same : is_backslash d ≡ true).
-    let is : d ≡ backslash = grind (arith, nat_tests) in
-    let one : encode_utf8 d ≡ d ∷ [] = encode_ascii d (omega arith) in
-    ap (suffix_len is_backslash) (turned ∙ ap (λ l. encode_utf8_all (reverse ds) ++ l) one)
-    ∙ suffix_more is_backslash (encode_utf8_all (reverse ds)) d same
-    ∙ ap (λ n. 1 + n) (backslashes_in ds)
-    ∙ sym (cond-true (is_backslash d) (1 + prefix_len is_backslash ds) 0 same))
-    (λ (other : is_backslash d ≡ false).
-    ap (suffix_len is_backslash) turned ∙ other_ends (encode_utf8_all (reverse ds)) d other
-    ∙ sym (cond-false (is_backslash d) (1 + prefix_len is_backslash ds) 0 other))
-    (cases_Bool (is_backslash d))
-
--- as many backslashes end a text as characters from its end back
-pub backslashes_back : (s : List ℕ) → IsUtf8 s
-    → suffix_len is_backslash s ≡ prefix_len is_backslash (reverse (chars s))
-backslashes_back s text =
-    ap (suffix_len is_backslash) (sym (encodes-chars s text) ∙ ap encode_utf8_all (sym (reverse-reverse (chars s))))
-    ∙ backslashes_in (reverse (chars s))
-
 -- ---- from the end
 
 pub record PlainBack (text rest : List ℕ) (start : ℕ) : Type 0 where
@@ -187,23 +123,24 @@ last_of text rest next start c scalar e was =
           ∙ take-append_seam next (encode_utf8 c);
     }
 
--- whether the character is plain, by what stands before it
+-- whether the character is plain, by what comes before it
 pub plain_told : (next : List ℕ) (c : ℕ) → IsUtf8 next
-    → is_plain_at (prefix_len is_backslash (reverse (chars next)) % 2 == 1) c ≡ is_plain_at (escapes_next next) c
-plain_told next c text = ap (λ n. is_plain_at (n % 2 == 1) c) (sym (backslashes_back next text))
+    → is_plain_behind (encode_utf8_all (reverse (reverse (chars next)))) c ≡ is_plain_behind next c
+plain_told next c text =
+    ap (λ l. is_plain_behind l c) (ap encode_utf8_all (reverse-reverse (chars next)) ∙ encodes-chars next text)
 
 -- the same, as it is asked of the bytes before the character
 pub plain_asked : (text rest next bytes : List ℕ) (start c : ℕ) → IsScalar c → rest ≡ next ++ encode_utf8 c
     → PlainBack text rest start → bytes ≡ text → (size : ℕ) → size ≡ len_utf8 c → (told : Bool)
-    → told ≡ is_plain_at (escapes_next (take (start - size) bytes)) c → told ≡ is_plain_at (escapes_next next) c
+    → told ≡ is_plain_behind (take (start - size) bytes) c → told ≡ is_plain_behind next c
 plain_asked text rest next bytes start c scalar e was same size is told asked =
     let last = last_of text rest next start c scalar e was in
-    asked ∙ ap (λ l. is_plain_at (escapes_next (take (start - size) l)) c) same
-    ∙ ap (λ n. is_plain_at (escapes_next (take (start - n) text)) c) is
-    ∙ ap (λ l. is_plain_at (escapes_next l) c) last.front
+    asked ∙ ap (λ l. is_plain_behind (take (start - size) l) c) same
+    ∙ ap (λ n. is_plain_behind (take (start - n) text) c) is
+    ∙ ap (λ l. is_plain_behind l c) last.front
 
 pub plain_back-more : (text rest next : List ℕ) (start c : ℕ) → IsScalar c → rest ≡ next ++ encode_utf8 c
-    → is_plain_at (escapes_next next) c ≡ true → PlainBack text rest start
+    → is_plain_behind next c ≡ true → PlainBack text rest start
     → PlainBack text next (start - len_utf8 c)
 plain_back-more text rest next start c scalar e plain was =
     let last = last_of text rest next start c scalar e was in
@@ -226,7 +163,7 @@ plain_back-more text rest next start c scalar e plain was =
     }
 
 pub plain_back-stop : (text rest next : List ℕ) (start c : ℕ) → IsScalar c → rest ≡ next ++ encode_utf8 c
-    → is_plain_at (escapes_next next) c ≡ false → PlainBack text rest start → length text - start ≡ plain_end text
+    → is_plain_behind next c ≡ false → PlainBack text rest start → length text - start ≡ plain_end text
 plain_back-stop text rest next start c scalar e other was =
     let last = last_of text rest next start c scalar e was in
     let none : plain_signs_back (reverse (chars rest)) ≡ [] =

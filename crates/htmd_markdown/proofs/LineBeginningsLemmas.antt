@@ -46,7 +46,7 @@ none_looked_at : (n : ℕ) → list_all may_stand_before (take n []) ≡ true
 none_looked_at zero = refl
 none_looked_at (suc n) = refl
 
--- what stands before a character is a text
+-- what comes before a character is a text
 pub before_character : (whole rest : List ℕ) (c : ℕ) → IsUtf8 whole → IsScalar c → whole ≡ rest ++ encode_utf8 c
     → IsUtf8 rest
 before_character whole rest c text scalar e =
@@ -55,7 +55,7 @@ before_character whole rest c text scalar e =
     ∙ take-append_seam rest (encode_utf8 c) in
     subst (λ (l : List ℕ). IsUtf8 l) same (IsUtf8-take whole (length rest) text cut)
 
--- What was looked at leaves the answer to so many characters at the end of the rest.
+-- What was looked at leaves the answer to this many characters at the end of the rest.
 pub record LookingBack (text rest : List ℕ) (n : ℕ) : Type 0 where
   pub is_text : IsUtf8 rest
   pub answer : begins_line text ≡ looks_back n (chars rest)

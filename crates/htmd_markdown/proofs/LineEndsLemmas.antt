@@ -31,7 +31,7 @@ one_more true other b instead rest here none left = left
 one_more false true b instead rest here none left = joined_none instead rest none left
 one_more false false b instead rest here none left = joined_none (b ∷ []) rest (ap (λ t. t || false) here) left
 
--- where what stands in place of line ends has none, none are left
+-- if what is in place of line ends has none, none are left
 pub line_ends-left : (instead s : List ℕ) → holds_line_end instead ≡ false
     → holds_line_end (line_ends_as instead s) ≡ false
 line_ends-left instead [] none = refl

@@ -26,7 +26,7 @@ use Rattle.htmd_markdown.specs.Lists.{ordered_list_by}
 use Rattle.htmd_markdown.specs.ListColumns.{item_content, StandsInColumn, HasColumns, HasEqualColumns}
 use Rattle.htmd_markdown.proofs.ListsLemmas.{numbered-append, item_count-append}
 
--- ---- what stands at the end of two texts
+-- ---- what is at the end of two texts
 
 prefix_stops : (p : ℕ → Bool) (xs ys : List ℕ) → prefix_len p ys ≡ 0
     → prefix_len p (xs ++ ys) ≡ prefix_len p xs
@@ -117,7 +117,7 @@ line_joined out (m ∷ line) some other =
           (sym (append_assoc (trimmed_end is_line_feed out) (replicate (count - 1) line_feed) (line_feed ∷ [])));
     }
 
--- ---- the marker and the content behind it
+-- ---- the marker and the content after it
 
 trimmed_at : (p : ℕ → Bool) (s : List ℕ) (n : ℕ) → n ≡ length s - suffix_len p s
     → suffix_len p (take n s) ≡ 0

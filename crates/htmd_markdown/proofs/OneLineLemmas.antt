@@ -123,7 +123,7 @@ any_push n rs some =
     or_false true = refl
     or_false false = refl
 
--- two texts have the same runs, but for the empty ones
+-- two texts have the same runs, except for the empty ones
 abbrev SameRuns : List ℕ → List ℕ → Type 0
 SameRuns s t =
     (longest_run grave_accent s ≡ longest_run grave_accent t)
@@ -214,7 +214,7 @@ meets_delimiter-in_one_line s =
     ∙ ap (λ t. begins_with grave_accent s || t)
     (ends_behind_all (ends_with line_feed s) s (begins_with line_feed s && not (list_all is_line_feed s)) refl)
 
--- the smallest unused length goes by the runs alone
+-- the smallest unused length depends only on the runs
 first_same : (p q : ℕ → Bool) (a n : ℕ) → ((k : ℕ) → a ≤ k → p k ≡ q k)
     → position_or_len p (range_with_len a n) ≡ position_or_len q (range_with_len a n)
 first_same p q a zero same = refl

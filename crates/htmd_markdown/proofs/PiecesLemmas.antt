@@ -206,7 +206,7 @@ empty_cell_is Backslashes = refl
 
 -- ---- no white space stands at the ends
 
--- the state behind a text
+-- the state after a text
 abbrev escaped_behind : Bool → List ℕ → Bool
 escaped_behind escaped [] = escaped
 escaped_behind escaped (b ∷ s) = escaped_behind (escapes_next escaped b) s
@@ -219,7 +219,7 @@ pieces-append bars (b ∷ s) t escaped =
     ∙ sym (append_assoc (piece bars escaped b) (pieces bars (escapes_next escaped b) s)
     (pieces bars (escaped_behind (escapes_next escaped b) s) t))
 
--- what stands for a byte that is no white space
+-- what stands for a byte that isn't white space
 abbrev bare_piece : Bool → ℕ → List ℕ
 bare_piece marked b = cond marked (backslash ∷ b ∷ []) (b ∷ [])
 

@@ -8,7 +8,7 @@ use Rattle.std.specs.List.{flat_map}
 use Rattle.htmd_text.specs.Characters.{line_feed}
 use Rattle.htmd_markdown.specs.Quotes.{quoted_line, quoted_lines}
 
--- what stands before a line
+-- what comes before a line
 abbrev pub marker : Bool → List ℕ
 marker is_first = if is_first then codes "> " else codes "\n> "
 
@@ -23,7 +23,7 @@ pushed (y ∷ ys) x =
     ∙ sym (append_assoc (quoted_lines (y ∷ ys)) (codes "\n> ") x)
     ∙ ap (λ first. (quoted_lines (y ∷ ys) ++ marker first) ++ x) later
 
--- one more line of the text, behind its marker
+-- one more line of the text, after its marker
 pub one_more : (start : List ℕ) (ls : List (List ℕ)) (n : ℕ) (x out : List ℕ) (is_first : Bool)
     → (n < length ls) × (x ≡ get_or ls n x) → is_first ≡ (n == 0) → out ≡ start ++ quoted_lines (take n ls)
     → (out ++ marker is_first) ++ x ≡ start ++ quoted_lines (take (n + 1) ls)

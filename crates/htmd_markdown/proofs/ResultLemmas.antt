@@ -1,4 +1,4 @@
--- What holds of the text that a call answers.
+-- What holds for the text that a call answers.
 use Rattle.std.proofs.Common.{◌≡◌, ℕ, List, Result, IfOk, subst, sym}
 use Rattle.std.proofs.lemmas.Result.{IfOk-weaker}
 

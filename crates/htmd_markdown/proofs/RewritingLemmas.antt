@@ -12,7 +12,7 @@ use Rattle.std.proofs.lemmas.Str.{IsCharBoundary-start, IsCharBoundary-after_asc
 use Rattle.htmd_markdown.specs.Rewriting.{StandsFor}
 use Rattle.htmd_text.proofs.EscapeMarksLemmas.{below_ascii_end}
 
--- What was written behind a text, the piece that waits, and what the rest becomes, are the whole.
+-- What was written after a text, the piece that waits, and what the rest becomes, are the whole.
 pub record Rewriting (made_of : List ℕ → List ℕ) (s before out : List ℕ) (from i : ℕ) : Type 0 where
   pub in_order : from ≤ i
   pub cut : IsCharBoundary s from

@@ -101,7 +101,7 @@ pub greatest : (ns : List ℕ) → unwrap_or (reduce max ns) 0 ≡ fold max 0 ns
 greatest [] = refl
 greatest (n ∷ ns) = ap (λ m. fold max m ns) (omega arith)
 
--- a length above the longest run's is no run's
+-- no run has a length above the longest run's
 none_so_long : (rs : List (List ℕ)) (n : ℕ) → longest rs < n → list_any (λ run. length run == n) rs ≡ false
 none_so_long [] n lt = refl
 none_so_long (run ∷ others) n lt =

@@ -20,7 +20,7 @@ use Rattle.htmd_markdown.proofs.CodeSpansLemmas.{code_span-reads_back, run_push}
 use Rattle.htmd_markdown.proofs.LineEndsLemmas.{line_ends-left, spaces-none}
 use Rattle.htmd_markdown.proofs.LinesLemmas.{lack_trimmed}
 
--- what is read of a text from its first backquote on, where so many stand there
+-- what is read of a text from its first backquote on, if there are this many
 abbrev inside_of : ℕ → List ℕ → Option (List ℕ)
 inside_of n s =
     option_map (λ inside. without_padding (line_ends_as_spaces inside)) (before_run n false (drop n s))
@@ -49,7 +49,7 @@ some_of : (b : ℕ) (found : Option (List ℕ)) (front : List ℕ) → option_ma
 some_of b None front e = absurd (cc)
 some_of b (Some rest) front e = (rest, (refl, cc))
 
--- what stands behind the closing delimiter changes nothing
+-- what follows the closing delimiter changes nothing
 before_push : (n : ℕ) (behind : Bool) (s front : List ℕ) → before_run n behind s ≡ Some front
     → before_run n behind (s ++ space ∷ []) ≡ Some front
 before_push n behind [] front e = absurd (cc)

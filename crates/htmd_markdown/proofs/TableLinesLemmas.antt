@@ -133,7 +133,7 @@ characters_of_line cells widths is fit =
     sym (characters_are (spec.line cells widths) (line_text cells widths is.each))
     ∙ line_characters cells widths is fit
 
--- what holds of the cells of a line, and that each fits its column
+-- what holds for the cells of a line, and that each fits its column
 abbrev pub Fitting : (List (List ℕ) → Type 0) → List ℕ → List (List ℕ) → Type 0
 Fitting Own widths cells = Own cells × Fit cells widths
 
@@ -232,7 +232,7 @@ all_table_lines Own P widths (cells ∷ rest) each are =
     All-cons P (spec.line cells widths) (map (λ c. spec.line c widths) rest) (each cells are.0)
     (all_table_lines Own P widths rest each are.1)
 
--- what holds of a line of the table holds of all lines
+-- what holds for a line of the table holds for all lines
 pub lines_alike : (Own : List (List ℕ) → Type 0) (P : List ℕ → Type 0) (widths : List ℕ)
     (rest : List (List (List ℕ)))
     → ((cells : List (List ℕ)) → IsLine Own widths cells → P (spec.line cells widths))

@@ -99,7 +99,7 @@ dashes_uncut : (ws : List ℕ) → AreUncut (map spec.dashes ws)
 dashes_uncut [] = tt
 dashes_uncut (w ∷ ws) = (one_uncut w, dashes_uncut ws)
 
--- what holds of the bars in the cells of a line
+-- what holds for the bars in the cells of a line
 abbrev pub Own : Bars → List (List ℕ) → Type 0
 Own References cells = AreCells cells
 Own Backslashes cells = AreUncut cells
@@ -214,7 +214,7 @@ fitting_lines bars ws (header ∷ headers) rows covers = (
   (fitting bars ws (map spec.dashes ws) (separator_line bars ws) (dashes_fit ws), fitting_rows bars ws rows covers.1),
 )
 
--- what holds of each line of such a table holds of all its lines
+-- what holds for each line of such a table holds for all its lines
 all_alike : {Z Y : Type 0} (bars : Bars) (P : ℕ → ℕ → List ℕ → Type 0) (headers : List (String Z))
     (rows : List (Vec (String Z) Y))
     → ((ws : List ℕ) (cells : List (List ℕ)) → IsLine (Fitting (Own bars) ws) ws cells
@@ -246,7 +246,7 @@ is_guarded_line ws cells is = record {
   bars = line_cut cells ws is.count is.own.0;
 }
 
--- where no line passes the longest that is padded, all are equally long
+-- if no line passes the longest that is padded, all are equally long
 pub guarded_table_even : {Z Y : Type 0} (headers : List (String Z)) (rows : List (Vec (String Z) Y))
     → line_width (spec.column_widths_by guarded_cell_width (texts headers ∷ map row_texts rows)) ≤ longest_padded
     → IsGuardedEven (column_count (texts headers ∷ map row_texts rows))

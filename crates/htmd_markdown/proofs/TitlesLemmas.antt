@@ -23,7 +23,7 @@ escaped_line = escaped_among (codes "\"")
 abbrev pub written : List (List ℕ) → List ℕ
 written ls = joined_texts (line_feed ∷ []) (map escaped_line ls)
 
--- What was written behind a text of the first n lines.
+-- What was written after a text of the first n lines.
 pub record Tidying (ls : List (List ℕ)) (before out : List ℕ) (is_first : Bool) (n : ℕ) : Type 0 where
   pub out_is : out ≡ before ++ written (filled_lines_of ls n)
   pub begun : is_first ≡ (length (filled_lines_of ls n) == 0)

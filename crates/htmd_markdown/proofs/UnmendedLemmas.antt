@@ -77,7 +77,7 @@ no_ending out other =
         ap (suffix_len is_asterisk) (sym (take_all (length (b ∷ s)) (b ∷ s) (omega arith)))
         ∙ suffix_len-take_no is_asterisk (b ∷ s) (length (b ∷ s)) 0 (omega arith) (omega arith) other
 
--- a guarded text behind a text that doesn't end with `*`
+-- a guarded text after a text that doesn't end with `*`
 pub text_unmended : (begins : Bool) (out s : List ℕ) → is_asterisk (get_or out (length out - 1) 0) ≡ false
     → out ++ guarded_text begins s ≡ with_joint out (guarded_text begins s)
 text_unmended begins out s other =

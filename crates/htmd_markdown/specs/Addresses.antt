@@ -12,7 +12,7 @@ escaped_among characters s = with_backslashes (λ k. is_one_of characters (slice
 abbrev pub parentheses : List ℕ
 parentheses = codes "()"
 
--- the address with its parentheses behind backslashes
+-- the address with its parentheses after backslashes
 abbrev pub escaped_address : List ℕ → List ℕ
 escaped_address address = escaped_among parentheses address
 
@@ -29,7 +29,7 @@ closing_bracket address = if holds_space address then codes ">" else []
 abbrev pub holds_backslash : List ℕ → Bool
 holds_backslash address = list_any (λ b. b == backslash) address
 
--- between these two texts stands the address, so written that its backslashes are read (CommonMark 0.31.2, 2.4) as it
+-- between these two texts stands the address, written so that its backslashes are read (CommonMark 0.31.2, 2.4) as it
 pub record HoldsAddress (before address behind text : List ℕ) : Type 0 where
   pub written : List ℕ
   pub whole : text ≡ before ++ written ++ behind

@@ -1,4 +1,4 @@
--- Cells byte by byte, as the code goes through them; the contracts of private functions alone cite it.
+-- Cells byte by byte, as the code goes through them; only the contracts of private functions cite it.
 use Rattle.std.specs.Prelude.{◌≡◌, ◌==◌, if◌then◌else◌, ℕ, ◌<◌, Bool, not, ◌&&◌, List, [], ◌∷◌, ◌++◌, nat_le, nat_lt}
 use Rattle.std.specs.Prelude.{count_by, min, map, length, replicate}
 use Rattle.htmd_text.specs.Characters.{vertical_bar, backslash, carriage_return}
@@ -24,7 +24,7 @@ width_of Backslashes cell = guarded_cell_width cell
 abbrev pub held_widths : Bars → List (List ℕ) → List ℕ
 held_widths bars cells = map held (map (width_of bars) cells)
 
--- columns of these widths, each as narrow as a column may be where the lines would be too long
+-- columns of these widths, each as narrow as a column may be if the lines would be too long
 abbrev pub narrowed : Bars → List ℕ → List ℕ
 narrowed References widths = widths
 narrowed Backslashes widths = if nat_lt longest_padded (line_width widths) then replicate (length widths) narrowest else widths
@@ -46,7 +46,7 @@ piece References escaped b = in_cell b
 piece Backslashes escaped b =
     if (b == vertical_bar) && not escaped then backslash ∷ b ∷ [] else in_line b
 
--- a backslash escapes what stands behind the byte
+-- a backslash escapes what follows the byte
 abbrev pub escapes_next : Bool → ℕ → Bool
 escapes_next escaped b = if b == carriage_return then escaped else is_escaping escaped b
 

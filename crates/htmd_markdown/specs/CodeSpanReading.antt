@@ -8,8 +8,8 @@ use Rattle.htmd_text.specs.Characters.{carriage_return, grave_accent, line_feed,
 abbrev pub is_backquote : ℕ → Bool
 is_backquote b = b == grave_accent
 
--- what stands before the next run of exactly n backquotes; a run that has begun before the text,
--- right behind a backquote, is passed over
+-- what comes before the next run of exactly n backquotes; a run that has begun before the text,
+-- right after a backquote, is passed over
 abbrev pub before_run : ℕ → Bool → List ℕ → Option (List ℕ)
 before_run n behind_backquote [] = None
 before_run n behind_backquote (b ∷ s) =
@@ -25,14 +25,14 @@ line_ends_as_spaces (b ∷ s) =
     then line_ends_as_spaces s
     else (if (b == carriage_return) || (b == line_feed) then space else b) ∷ line_ends_as_spaces s
 
--- one space goes at each end, where there is one at both and not all are spaces
+-- one space goes at each end, if there is one at both and not all are spaces
 abbrev pub without_padding : List ℕ → List ℕ
 without_padding s =
     if (slice_index s 0 == space) && (slice_index s (length s - 1) == space) && not (list_all (λ b. b == space) s)
     then take (length s - 2) (drop 1 s)
     else s
 
--- a text from its first backquote on, and how many stand there
+-- a text from its first backquote on, and how many are there
 abbrev pub from_delimiter : List ℕ → List ℕ
 from_delimiter s = drop (position_or_len is_backquote s) s
 

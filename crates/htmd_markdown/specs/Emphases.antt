@@ -15,7 +15,7 @@ abbrev pub mark : Emphasis → List ℕ
 mark Regular = codes "*"
 mark Strong = codes "**"
 
--- a text between two marks with white space outside of them; nothing where the text is empty
+-- a text between two marks with white space outside of them; nothing if the text is empty
 abbrev pub between : List ℕ → List ℕ → List ℕ → List ℕ → Option (List ℕ)
 between mark before [] after = None
 between mark before (b ∷ middle) after = Some ((((before ++ mark) ++ (b ∷ middle)) ++ mark) ++ after)
@@ -47,7 +47,7 @@ AreMarksInside mark content s =
     × IsTight middle
     × IsWhiteSpace after)
 
--- a blank line stands in the content: a line feed follows another one
+-- the content has a blank line: a line feed follows another one
 abbrev pub holds_blank_line : List ℕ → Bool
 holds_blank_line s = nat_le 2 (longest_run line_feed s)
 

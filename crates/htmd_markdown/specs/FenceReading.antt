@@ -12,7 +12,7 @@ is_line_end b = (b == line_feed) || (b == carriage_return)
 abbrev pub first_line : List ℕ → List ℕ
 first_line s = take (position_or_len is_line_end s) s
 
--- what stands behind a line end
+-- what follows a line end
 abbrev pub behind_line_end : List ℕ → List ℕ
 behind_line_end [] = []
 behind_line_end (b ∷ s) = if (b == carriage_return) && (slice_index s 0 == line_feed) then drop 1 s else s
@@ -20,7 +20,7 @@ behind_line_end (b ∷ s) = if (b == carriage_return) && (slice_index s 0 == lin
 abbrev pub behind_first_line : List ℕ → List ℕ
 behind_first_line s = behind_line_end (drop (position_or_len is_line_end s) s)
 
--- how often the symbol stands at the start
+-- how many times the symbol stands at the start
 abbrev pub symbols_at_start : ℕ → List ℕ → ℕ
 symbols_at_start symbol s = prefix_len (λ b. b == symbol) s
 
@@ -28,26 +28,26 @@ abbrev pub behind_symbols : ℕ → List ℕ → List ℕ
 behind_symbols symbol s = drop (symbols_at_start symbol s) s
 
 -- the line begins with a fence: three or more tildes, or three or more backquotes with none in the
--- info string behind them
+-- info string after them
 abbrev pub is_opening : List ℕ → Bool
 is_opening line =
     nat_le 3 (symbols_at_start tilde line)
     || (nat_le 3 (symbols_at_start grave_accent line)
     && not (list_any (λ b. b == grave_accent) (behind_symbols grave_accent line)))
 
--- a line behind the spaces at its start
+-- a line after the spaces at its start
 abbrev pub unindented_line : List ℕ → List ℕ
 unindented_line line = behind_symbols space line
 
 -- the line closes a fence of n symbols: it is indented by at most three spaces, has as many of the
--- symbol or more, and only spaces or tabs behind them
+-- symbol or more, and only spaces or tabs after them
 abbrev pub is_closing : ℕ → ℕ → List ℕ → Bool
 is_closing symbol n line =
     nat_le (symbols_at_start space line) 3
     && nat_le n (symbols_at_start symbol (unindented_line line))
     && list_all (λ b. (b == space) || (b == tab)) (behind_symbols symbol (unindented_line line))
 
--- what stands before the first line that closes the fence, the end of the line before it included
+-- what comes before the first line that closes the fence, the end of the line before it included
 abbrev pub before_closing : ℕ → ℕ → Bool → List ℕ → Option (List ℕ)
 before_closing symbol n begins_line [] = None
 before_closing symbol n begins_line (b ∷ s) =
@@ -55,7 +55,7 @@ before_closing symbol n begins_line (b ∷ s) =
     then Some []
     else option_map (λ front. b ∷ front) (before_closing symbol n (is_line_end b) s)
 
--- The content of the fenced code block that begins the text, less the line feed or carriage return
+-- The content of the fenced code block that begins the text, without the line feed or carriage return
 -- right before the closing line. A fence that nothing closes has none.
 abbrev pub read_fence : List ℕ → Option (List ℕ)
 read_fence s =

@@ -21,12 +21,12 @@ info_string (Some language) = language
 abbrev pub fence_len : ℕ → List ℕ → ℕ
 fence_len symbol code = max 3 (longest_run symbol code + 1)
 
--- the text may stand behind an opening fence: it holds no line feed, no carriage return and no symbol
+-- the text may stand after an opening fence: it holds no line feed, no carriage return and no symbol
 abbrev pub fits_fence : ℕ → List ℕ → Bool
 fits_fence symbol info =
     not (list_any (λ b. (b == line_feed) || (b == carriage_return) || (b == symbol)) info)
 
--- the code between two fences, behind the first of which stands the info string
+-- the code between two fences, with the info string after the first one
 abbrev pub between_fences : List ℕ → List ℕ → List ℕ → List ℕ
 between_fences fence info code = ((((fence ++ info) ++ line_feed ∷ []) ++ code) ++ line_feed ∷ []) ++ fence
 

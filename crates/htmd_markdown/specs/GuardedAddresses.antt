@@ -1,4 +1,4 @@
--- The address of a link or image, so written that a reader finds it again (CommonMark 0.31.2, 6.3, 2.4 and 2.5).
+-- The address of a link or image, written so that a reader finds it again (CommonMark 0.31.2, 6.3, 2.4 and 2.5).
 use Rattle.std.specs.Prelude.{◌≡◌, ℕ, ◌+◌, Bool, true, not, ◌&&◌, ◌||◌, ◌==◌, nat_le, if◌then◌else◌, List, [], ◌∷◌}
 use Rattle.std.specs.Prelude.{◌++◌, drop, slice_index, codes}
 use Rattle.std.specs.List.{list_any}
@@ -55,7 +55,7 @@ begins_with_none_of characters [] = true
 begins_with_none_of characters (b ∷ s) = not (is_one_of characters b)
 
 -- Between these two texts stands one that is read (its backslashes by CommonMark 0.31.2, 2.4) as what is meant, and in
--- which each of these characters stands behind a backslash that escapes it.
+-- which each of these characters stands after a backslash that escapes it.
 pub record HoldsGuarded (characters before meant behind text : List ℕ) : Type 0 where
   pub written : List ℕ
   pub whole : text ≡ before ++ written ++ behind

@@ -1,4 +1,4 @@
--- Code of all the text of an element, as a code span (CommonMark 0.31.2, 6.1) and as a fenced code block (4.5).
+-- All the text of an element as code: as a code span (CommonMark 0.31.2, 6.1) and as a fenced code block (4.5).
 use Rattle.std.specs.Prelude.{ℕ, ◌-◌, Bool, true, false, not, if◌then◌else◌, List, [], ◌∷◌, ◌++◌, length, slice_index}
 use Rattle.std.specs.Prelude.{codes}
 use Rattle.std.specs.Prelude.{Option, Some, None}
@@ -16,7 +16,7 @@ use Rattle.htmd_markdown.specs.Titles.{is_filled}
 abbrev pub code_line : List ℕ → List ℕ
 code_line s = line_ends_as (space ∷ []) s
 
--- document white space stands at the start, and at the end
+-- document white space is at the start, and at the end
 abbrev pub begins_white : List ℕ → Bool
 begins_white s = is_document_white_space (slice_index s 0)
 
@@ -27,12 +27,12 @@ ends_white s = is_document_white_space (slice_index s (length s - 1))
 abbrev pub span_text : List ℕ → List ℕ
 span_text s = trimmed_text is_document_white_space (code_line s)
 
--- a line as a code span, with a space outside of it where it is due
+-- a line as a code span, with a space outside of it where one is due
 abbrev pub spaced_span : Bool → Bool → List ℕ → List ℕ
 spaced_span before behind line = (space_if before ++ code_span false line) ++ space_if behind
 
--- The line as a code span, with one space outside of it for white space at either end; white space alone is a space,
--- and of no text nothing is left.
+-- The line as a code span, with one space outside of it for white space at either end; only white space is a space,
+-- and nothing is left of an empty text.
 abbrev pub guarded_code : List ℕ → List ℕ
 guarded_code s =
     let line = code_line s in
@@ -40,15 +40,15 @@ guarded_code s =
     then spaced_span (begins_white line) (ends_white line) line
     else space_if (is_filled line)
 
--- The text of a block as a code span among other text: a space on either side, and one in place of white space alone.
+-- The text of a block as a code span among other text: a space on either side, and one in place of only white space.
 abbrev pub guarded_span_in_line : List ℕ → List ℕ
 guarded_span_in_line s = if is_filled (span_text s) then spaced_span true true (code_line s) else space ∷ []
 
--- the language may stand behind a fence of either symbol: it holds neither of them and no line end
+-- the language may stand after a fence of either symbol: it holds neither of them and no line end
 abbrev pub fits_each_fence : List ℕ → Bool
 fits_each_fence language = not (list_any (is_one_of (codes "`~\n\r")) language)
 
--- the language, where it fits
+-- the language, if it fits
 abbrev pub fitting_language : Option (List ℕ) → Option (List ℕ)
 fitting_language None = None
 fitting_language (Some language) = if fits_each_fence language then Some language else None

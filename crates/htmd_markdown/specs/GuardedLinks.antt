@@ -1,4 +1,4 @@
--- Links, autolinks, references and link reference definitions, so written that a reader finds their parts again
+-- Links, autolinks, references and link reference definitions, written so that a reader finds their parts again
 -- (CommonMark 0.31.2, 6.3, 6.5 and 4.7).
 use Rattle.std.specs.Prelude.{◌≡◌, ℕ, ◌-◌, Bool, true, false, not, ◌&&◌, ◌||◌, ◌==◌, nat_le, List, [], ◌∷◌, ◌++◌}
 use Rattle.std.specs.Prelude.{length}
@@ -27,7 +27,7 @@ begins_white content = is_white (slice_index content 0)
 abbrev pub ends_white : List ℕ → Bool
 ends_white content = is_white (slice_index content (length content - 1))
 
--- White space at either end of the content is kept as one space, outside of the link; white space alone behind it.
+-- White space at either end of the content is kept as one space, outside of the link; only white space after it.
 abbrev pub is_space_before : List ℕ → Bool
 is_space_before content = begins_white content && not (list_all is_white content)
 
@@ -48,7 +48,7 @@ abbrev pub guarded_link : List ℕ → List ℕ → Option (List ℕ) → List �
 guarded_link content address title =
     guarded_link_text content ++ guarded_resource address title ++ space_behind content
 
--- what stands before the address of such a link, and behind it
+-- what comes before the address of such a link, and after it
 abbrev pub guarded_link_start : List ℕ → List ℕ → List ℕ
 guarded_link_start content address = guarded_link_text content ++ codes "(" ++ opening address
 
@@ -56,12 +56,12 @@ abbrev pub guarded_link_end : List ℕ → List ℕ → Option (List ℕ) → Li
 guarded_link_end content address title =
     closing address ++ guarded_title_text title ++ codes ")" ++ space_behind content
 
--- what stands before the title of such a link
+-- what comes before the title of such a link
 abbrev pub guarded_link_before_title : List ℕ → List ℕ → List ℕ
 guarded_link_before_title content address =
     guarded_link_text content ++ codes "(" ++ guarded_destination address ++ codes " \""
 
--- the description of an image: its squeezed text in one line, as text; empty where it has none
+-- the description of an image: its squeezed text in one line, as text; empty if it has none
 abbrev pub guarded_description : Option (List ℕ) → List ℕ
 guarded_description None = []
 guarded_description (Some alt) = guarded_text false (one_line (squeezed_text alt))
@@ -70,14 +70,14 @@ abbrev pub guarded_image : List ℕ → Option (List ℕ) → Option (List ℕ) 
 guarded_image address alt title =
     codes "![" ++ guarded_description alt ++ codes "]" ++ guarded_resource address title
 
--- what stands before the address of an image, and behind it
+-- what comes before the address of an image, and after it
 abbrev pub guarded_image_start : List ℕ → Option (List ℕ) → List ℕ
 guarded_image_start address alt = codes "![" ++ guarded_description alt ++ codes "](" ++ opening address
 
 abbrev pub guarded_image_end : List ℕ → Option (List ℕ) → List ℕ
 guarded_image_end address title = closing address ++ guarded_title_text title ++ codes ")"
 
--- what stands before the title of an image
+-- what comes before the title of an image
 abbrev pub guarded_image_before_title : List ℕ → Option (List ℕ) → List ℕ
 guarded_image_before_title address alt =
     codes "![" ++ guarded_description alt ++ codes "](" ++ guarded_destination address ++ codes " \""
@@ -134,7 +134,7 @@ abbrev pub begins_reference : List ℕ → Bool
 begins_reference [] = false
 begins_reference (b ∷ s) = (b == ampersand) && is_reference_like s
 
--- such an `&` stands in the text
+-- such an `&` is in the text
 abbrev pub holds_reference : List ℕ → Bool
 holds_reference [] = false
 holds_reference (b ∷ s) = begins_reference (b ∷ s) || holds_reference s
@@ -144,6 +144,6 @@ abbrev pub is_autolink_address : List ℕ → Bool
 is_autolink_address address =
     begins_with_scheme address && not (list_any is_barred address) && not (holds_reference address)
 
--- the address as it is, where the content had white space at its ends with a space there
+-- the address as it is, if the content had white space at its ends with a space there
 abbrev pub guarded_autolink : List ℕ → List ℕ → List ℕ
 guarded_autolink content address = space_before content ++ codes "<" ++ address ++ codes ">" ++ space_behind content

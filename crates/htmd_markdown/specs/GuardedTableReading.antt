@@ -1,4 +1,4 @@
--- How a table is read whose bars in cells stand behind backslashes, apart from how it is written.
+-- How a table with backslashes before the bars in its cells is read, apart from how it is written.
 use Rattle.std.specs.Prelude.{◌≡◌, ℕ, ◌+◌, ◌-◌, Bool, false, not, ◌&&◌, ◌==◌, if◌then◌else◌, List, [], ◌∷◌, map}
 use Rattle.std.specs.Prelude.{length, take, drop, All}
 use Rattle.std.specs.List.{onto_first}
@@ -8,7 +8,7 @@ use Rattle.htmd_text.specs.Characters.{vertical_bar, backslash}
 use Rattle.htmd_text.specs.Trims.{trimmed_text}
 use Rattle.htmd_text.specs.WhiteSpace.{is_document_white_space}
 
--- the parts of a text that is cut at each bar behind an even number of backslashes; it stands itself behind an odd
+-- the parts of a text that is cut at each bar after an even number of backslashes; it stands itself after an odd
 -- number of them, or not
 abbrev pub parts_between : Bool → List ℕ → List (List ℕ)
 parts_between escaped [] = [] ∷ []
@@ -34,11 +34,11 @@ cell_parts s = let parts = parts_between false s in drop 1 (take (length parts -
 abbrev pub read_guarded_row : List ℕ → List (List ℕ)
 read_guarded_row s = map (λ part. bars_read (trimmed_text is_document_white_space part)) (cell_parts s)
 
--- how many bars stand behind an even number of backslashes
+-- how many bars come after an even number of backslashes
 abbrev pub cutting_bars : List ℕ → ℕ
 cutting_bars s = length (parts_between false s) - 1
 
--- a line of so many characters, with one such bar more than columns
+-- a line of this many characters, with one such bar more than columns
 pub record IsGuardedTableLine (width columns : ℕ) (line : List ℕ) : Type 0 where
   pub characters : length (chars line) ≡ width
   pub bars : cutting_bars line ≡ columns + 1

@@ -17,11 +17,11 @@ in_line b = if b == line_feed then space ∷ [] else (if b == carriage_return th
 abbrev pub cell_line : List ℕ → List ℕ
 cell_line cell = flat_map in_line (trimmed_text is_document_white_space cell)
 
--- a backslash behind an even number of them escapes what follows
+-- a backslash after an even number of them escapes what follows
 abbrev pub is_escaping : Bool → ℕ → Bool
 is_escaping escaped b = (b == backslash) && not escaped
 
--- The text with a backslash before each bar that stands behind an even number of them; it stands itself behind an odd
+-- The text with a backslash before each bar that stands after an even number of them; it stands itself after an odd
 -- number of backslashes, or not.
 abbrev pub escaped_bars : Bool → List ℕ → List ℕ
 escaped_bars escaped [] = []
@@ -33,7 +33,7 @@ escaped_bars escaped (b ∷ s) =
 abbrev pub guarded_cell : List ℕ → List ℕ
 guarded_cell cell = escaped_bars false (cell_line cell)
 
--- how many characters a cell takes, but at least 3: fewer dashes are no separator for each reader
+-- how many characters a cell takes, but at least 3: with fewer dashes, not every reader sees a separator
 abbrev pub guarded_cell_width : List ℕ → ℕ
 guarded_cell_width cell = max (length (chars (guarded_cell cell))) 3
 
@@ -49,11 +49,11 @@ line_width (width ∷ widths) = width + 3 + line_width widths
 abbrev pub longest_padded : ℕ
 longest_padded = 100
 
--- fewer dashes are no separator for each reader
+-- with fewer dashes, not every reader sees a separator
 abbrev pub narrowest : ℕ
 narrowest = 3
 
--- the widths of the columns: where a line would be too long, none is padded
+-- the widths of the columns: if a line would be too long, none is padded
 abbrev pub guarded_widths : List (List (List ℕ)) → List ℕ
 guarded_widths lines =
     let widths = column_widths_by guarded_cell_width lines in

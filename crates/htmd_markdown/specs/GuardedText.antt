@@ -1,4 +1,4 @@
--- Text with so many backslashes that a reader of Markdown sees it as it stands, whatever its neighbours.
+-- Text with enough backslashes that a reader of Markdown sees it as it stands, whatever its neighbours.
 use Rattle.std.specs.Prelude.{ℕ, ◌+◌, ◌-◌, Bool, true, not, ◌&&◌, ◌||◌, ◌==◌, nat_le, List, [], ◌∷◌}
 use Rattle.std.specs.Prelude.{length, take, drop}
 use Rattle.std.specs.Prelude.{reverse, slice_index, codes, encode_utf8_all, take_while}
@@ -16,7 +16,7 @@ use Rattle.htmd_markdown.specs.ReferenceLike.{is_reference_like}
 abbrev pub is_always_guarded : ℕ → Bool
 is_always_guarded b = is_one_of (codes "\\`*_[]<~") b
 
--- right before this place stands U+FEFF, whose bytes are EF BB BF
+-- U+FEFF, whose bytes are EF BB BF, is right before this place
 abbrev pub follows_byte_order_mark : List ℕ → ℕ → Bool
 follows_byte_order_mark s k =
     nat_le 3 k
@@ -43,20 +43,20 @@ is_mark_anywhere s k =
 abbrev pub is_blank : ℕ → Bool
 is_blank c = (c == space) || (c == byte_order_mark)
 
--- the place of the first character that is no space and no U+FEFF
+-- the place of the first character that is neither a space nor U+FEFF
 abbrev pub first_place : List ℕ → ℕ
 first_place s = length (encode_utf8_all (take_while is_blank (chars s)))
 
--- the place right behind the ASCII digits that begin there; without digits it is that very place
+-- the place right after the ASCII digits that begin there; without digits it is that very place
 abbrev pub number_end : List ℕ → ℕ
 number_end s = first_place s + prefix_len is_ascii_digit (drop (first_place s) s)
 
 -- characters that begin a block or underline a heading, at the start of a line (CommonMark 0.31.2, 4.1, 4.3, 5.1, 5.2),
--- or that could with what stands before them
+-- or that could with what comes before them
 abbrev pub is_block_sign : ℕ → Bool
 is_block_sign b = is_one_of (codes "-+=>|.)") b
 
--- such a character stands there, or the `:-` of a table's line of dashes (GitHub Flavored Markdown 0.29, 4.10)
+-- such a character is there, or the `:-` of a table's line of dashes (GitHub Flavored Markdown 0.29, 4.10)
 abbrev pub is_sign_at : List ℕ → ℕ → Bool
 is_sign_at s k =
     is_block_sign (slice_index s k) || ((slice_index s k == colon) && (slice_index s (k + 1) == hyphen))
@@ -65,12 +65,12 @@ is_sign_at s k =
 abbrev pub is_delimiter : ℕ → Bool
 is_delimiter b = is_one_of (codes ".)") b
 
--- the text ends here, or a space stands here
+-- the text ends here, or a space is here
 abbrev pub ends_or_has_space : List ℕ → Bool
 ends_or_has_space [] = true
 ends_or_has_space (b ∷ s) = b == space
 
--- the places that get a backslash where the text begins a line
+-- the places that get a backslash if the text begins a line
 abbrev pub is_block_mark : List ℕ → ℕ → Bool
 is_block_mark s k =
     ((k == first_place s) && is_sign_at s k)
@@ -85,7 +85,7 @@ guarded_text begins_line s = with_backslashes (is_guarded_mark begins_line s) 0 
 
 -- ---- where a text begins a line
 
--- characters of markers and indents, behind which a block may still begin
+-- characters of markers and indents, after which a block may still begin
 abbrev pub may_stand_before : ℕ → Bool
 may_stand_before c = is_blank c || is_ascii_digit c || is_one_of (codes "*-.>") c
 
@@ -93,7 +93,7 @@ may_stand_before c = is_blank c || is_ascii_digit c || is_one_of (codes "*-.>") 
 abbrev pub last_line_back : List ℕ → List ℕ
 last_line_back characters = take_while (λ c. not (c == line_feed)) (reverse characters)
 
--- the last 80 characters of the last line, or all of them where it is shorter, are such
+-- the last 80 characters of the last line, or all of them if it is shorter, are such
 abbrev pub begins_line : List ℕ → Bool
 begins_line text = list_all may_stand_before (take 80 (last_line_back (chars text)))
 
@@ -104,15 +104,15 @@ abbrev pub begins_no_markup : List ℕ → Bool
 begins_no_markup [] = true
 begins_no_markup (b ∷ s) = not (is_always_guarded b || ((b == ampersand) && is_reference_like s))
 
--- no character of the text is markup, save behind a backslash
+-- no character of the text is markup, except after a backslash
 abbrev pub is_guarded : List ℕ → Bool
 is_guarded s = each_bare begins_no_markup s
 
--- its first character that is no space and no U+FEFF is `#`
+-- its first character that is neither a space nor U+FEFF is `#`
 abbrev pub begins_heading : List ℕ → Bool
 begins_heading s = slice_index s (first_place s) == number_sign
 
--- its first character that is no space and no U+FEFF, or what stands there with a number before it, begins a block
+-- its first character that is neither a space nor U+FEFF, or what is there with a number before it, begins a block
 abbrev pub begins_block : List ℕ → Bool
 begins_block s =
     is_sign_at s (first_place s)

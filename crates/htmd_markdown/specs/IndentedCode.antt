@@ -5,11 +5,11 @@ use Rattle.htmd_text.specs.Characters.{line_feed, space}
 use Rattle.htmd_text.specs.Joins.{joined_texts}
 use Rattle.htmd_markdown.specs.CodeBlocks.{code_of}
 
--- a line behind four spaces
+-- a line after four spaces
 abbrev pub indented_line : List ℕ → List ℕ
 indented_line line = replicate 4 space ++ line
 
--- the indented code block of a content: its code's lines (those of Rust's `str::lines`), each behind
+-- the indented code block of a content: its code's lines (those of Rust's `str::lines`), each after
 -- four spaces, with a line feed between each two
 abbrev pub indented_code_block : List ℕ → List ℕ
 indented_code_block s = joined_texts (line_feed ∷ []) (map indented_line (lines (code_of s)))

@@ -1,4 +1,4 @@
--- Where the places of a joint stand in its texts; the contracts of private functions alone cite it.
+-- Where the places of a joint stand in its texts; only the contracts of private functions cite it.
 use Rattle.std.specs.Prelude.{ℕ, ◌+◌, ◌-◌, ◌≤◌, List, length}
 use Rattle.std.specs.Str.{IsCharBoundary}
 use Rattle.htmd_markdown.specs.declared.joint.Joint.{Joint}
@@ -6,12 +6,12 @@ use Rattle.htmd_markdown.specs.declared.joint.Joint.TheVariants.{AsTheyAre, Mark
 use Rattle.htmd_markdown.specs.declared.joint.Joint.TheVariants.{RunsGo, StartMoves, StartLosesRuns}
 use Rattle.htmd_markdown.specs.declared.joint.Joint.TheVariants.{EndMoves, EndLosesRuns}
 
--- a text ends with so many bytes that may be cut off
+-- a text ends with this many bytes that may be cut off
 pub record IsCutAt (size : ℕ) (s : List ℕ) : Type 0 where
   pub within : size ≤ length s
   pub boundary : IsCharBoundary s (length s - size)
 
--- the places stand in the texts, and they may be cut there
+-- the places are in the texts, and they may be cut there
 abbrev pub Fits : Joint → List ℕ → List ℕ → Type 0
 Fits AsTheyAre out content = Unit {0}
 Fits MarkBeforeBracket out content = IsCutAt 1 out

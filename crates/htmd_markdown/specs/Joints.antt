@@ -1,6 +1,6 @@
--- How the text so far and what is put behind it meet in Guarded: so that no sign of the one joins with a sign of the
+-- How the text so far and what is put after it meet in Guarded: so that no sign of the one joins with a sign of the
 -- other into markup, and marks of emphasis stand where a reader takes them for such (CommonMark 0.31.2, 6.1, 6.2, 6.4).
-use Rattle.std.specs.Prelude.{ℕ, ◌+◌, ◌-◌, ◌%◌, Bool, false, not, ◌&&◌, ◌||◌, ◌==◌, nat_lt, if◌then◌else◌}
+use Rattle.std.specs.Prelude.{ℕ, zero, suc, ◌+◌, ◌-◌, ◌%◌, Bool, false, not, ◌&&◌, ◌||◌, ◌==◌, nat_lt, if◌then◌else◌}
 use Rattle.std.specs.Prelude.{List, [], ◌∷◌, ◌++◌, length, take, drop, reverse, slice_index, codes, encode_utf8_all}
 use Rattle.std.specs.Char.{is_ascii_punctuation, is_whitespace}
 use Rattle.std.specs.List.{prefix_len, suffix_len}
@@ -9,7 +9,7 @@ use Rattle.unicode.specs.declared.properties.GeneralCategoryGroup.TheVariants.{L
 use Rattle.unicode.specs.GeneralCategory.{general_category}
 use Rattle.unicode.specs.GeneralCategoryGroup.{in_group}
 use Rattle.htmd_text.specs.Characters.{asterisk, backslash, exclamation_mark, grave_accent, left_square_bracket}
-use Rattle.htmd_text.specs.Characters.{line_feed, is_one_of}
+use Rattle.htmd_text.specs.Characters.{right_square_bracket, right_parenthesis, greater_than_sign, line_feed, is_one_of}
 use Rattle.htmd_markdown.specs.declared.joint.Joint.{Joint}
 use Rattle.htmd_markdown.specs.declared.joint.Joint.TheVariants.{AsTheyAre, MarkBeforeBracket, SpaceBetween}
 use Rattle.htmd_markdown.specs.declared.joint.Joint.TheVariants.{RunsGo, StartMoves, StartLosesRuns}
@@ -25,16 +25,16 @@ is_word_character c =
     let category = general_category c in
     in_group Letter category || in_group Number category || in_group Mark category
 
--- beside white space or punctuation a mark may stand beside punctuation too
+-- beside white space or punctuation a mark may also be beside punctuation
 abbrev pub stands_apart : ℕ → Bool
 stands_apart c =
     is_whitespace c || is_ascii_punctuation c || in_group Punctuation (general_category c)
 
--- no word character, no line feed, and nothing that may begin or end a piece of Markdown
+-- neither a word character nor a line feed, and nothing that may begin or end a piece of Markdown
 abbrev pub is_plain_sign : ℕ → Bool
 is_plain_sign c = not (is_word_character c || (c == line_feed) || is_one_of (codes "`[!<$*") c)
 
--- ---- what stands at the ends of a text
+-- ---- what is at the ends of a text
 
 abbrev pub is_asterisk : ℕ → Bool
 is_asterisk b = b == asterisk
@@ -42,11 +42,11 @@ is_asterisk b = b == asterisk
 abbrev pub is_backslash : ℕ → Bool
 is_backslash b = b == backslash
 
--- what stands behind the text is escaped: the text ends with an odd number of backslashes
+-- what follows the text is escaped: the text ends with an odd number of backslashes
 abbrev pub escapes_next : List ℕ → Bool
 escapes_next s = suffix_len is_backslash s % 2 == 1
 
--- how many `*` end the text of which none is escaped
+-- how many `*` end the text, none of them escaped
 abbrev pub ending_run : List ℕ → ℕ
 ending_run s =
     let run = suffix_len is_asterisk s in
@@ -63,6 +63,57 @@ first_character s = slice_index (chars s) 0
 abbrev pub last_character : List ℕ → ℕ
 last_character s = slice_index (reverse (chars s)) 0
 
+-- ---- signs that close a link
+
+-- without its last sign
+abbrev pub without_last : List ℕ → List ℕ
+without_last s = take (length s - 1) s
+
+-- one of these signs ends the text, and no backslash escapes it
+abbrev pub ends_bare : List ℕ → List ℕ → Bool
+ends_bare signs s =
+    is_filled s && is_one_of signs (slice_index s (length s - 1)) && not (escapes_next (without_last s))
+
+-- of the first so many bytes those up to the last of these signs that no backslash escapes, with that sign
+abbrev pub up_to_of : List ℕ → List ℕ → ℕ → List ℕ
+up_to_of signs s zero = []
+up_to_of signs s (suc n) =
+    let front = take (suc n) s in
+    if ends_bare signs front then front else up_to_of signs s n
+
+-- the same of all of them
+abbrev pub up_to : List ℕ → List ℕ → List ℕ
+up_to signs s = up_to_of signs s (length s)
+
+-- an address stands open: the last parenthesis is a `(` after a `]`, since in an address each is escaped
+abbrev pub opens_address : List ℕ → Bool
+opens_address s =
+    let front = up_to (codes "()") s in
+    ends_bare (codes "(") front && ends_bare (codes "]") (without_last front)
+
+-- what stands before a title that ends the text
+abbrev pub before_title : List ℕ → List ℕ
+before_title s = without_last (up_to (codes "\"") (without_last s))
+
+-- a `)` after this text closes an address, or an address with a title (CommonMark 0.31.2, 6.3)
+abbrev pub ends_address : List ℕ → Bool
+ends_address s =
+    opens_address s
+    || (ends_bare (codes "\"") s && ends_bare (codes " ") (before_title s) && opens_address (before_title s))
+
+-- a `>` after this text closes an autolink (6.5), which holds no white space, `<` or `>`
+abbrev pub ends_autolink : List ℕ → Bool
+ends_autolink s = ends_bare (codes "<") (up_to (codes "<> \n") s)
+
+-- the sign after this text closes a link, an image, a reference or an autolink, and is none of the page's text
+abbrev pub closes_link : List ℕ → ℕ → Bool
+closes_link before c =
+    ((c == right_square_bracket) && not (escapes_next before))
+    || ((c == right_parenthesis) && not (escapes_next before) && ends_address before)
+    || ((c == greater_than_sign) && ends_autolink before)
+
+-- ---- plain signs
+
 -- a plain sign, or one that a backslash escapes
 abbrev pub is_plain_at : Bool → ℕ → Bool
 is_plain_at escaped c = is_plain_sign c || (is_ascii_punctuation c && escaped)
@@ -73,11 +124,15 @@ plain_signs escaped [] = []
 plain_signs escaped (c ∷ cs) =
     if is_plain_at escaped c then c ∷ plain_signs ((c == backslash) && not escaped) cs else []
 
--- the same of characters from the end back
+-- the same after this text, but no sign that closes a link
+abbrev pub is_plain_behind : List ℕ → ℕ → Bool
+is_plain_behind before c = is_plain_at (escapes_next before) c && not (closes_link before c)
+
+-- the plain signs that end a text, of its characters from the end back
 abbrev pub plain_signs_back : List ℕ → List ℕ
 plain_signs_back [] = []
 plain_signs_back (c ∷ cs) =
-    if is_plain_at (prefix_len is_backslash cs % 2 == 1) c then c ∷ plain_signs_back cs else []
+    if is_plain_behind (encode_utf8_all (reverse cs)) c then c ∷ plain_signs_back cs else []
 
 -- how many bytes of plain signs begin a text, and end it
 abbrev pub plain_start : List ℕ → ℕ
@@ -88,8 +143,8 @@ plain_end s = length (encode_utf8_all (plain_signs_back (reverse (chars s))))
 
 -- ---- what is mended
 
--- A mark beside this sign and behind or before that character is none to a reader: he takes marks for such only where
--- they flank a word.
+-- A mark beside this sign and after or before that character is not a mark to a reader: readers take marks for such
+-- only where they flank a word.
 abbrev pub is_misplaced : ℕ → ℕ → Bool
 is_misplaced sign other = not (is_word_character sign || is_whitespace sign) && not (stands_apart other)
 
@@ -104,8 +159,8 @@ begins_word s = word_first (chars s)
 abbrev pub ends_word : List ℕ → Bool
 ends_word s = word_first (reverse (chars s))
 
--- What is mended behind a run of so many `*`: the plain signs go in front of it where a word follows; where the same
--- run follows, both go; else a space parts the run from what stands before it.
+-- What is mended after a run of this many `*`: the plain signs go in front of it where a word follows; where the same
+-- run follows, both go; else a space parts the run from what comes before it.
 abbrev pub joint_at_start : ℕ → List ℕ → Joint
 joint_at_start run rest =
     let plain = plain_start rest in
@@ -128,14 +183,14 @@ are_alike ending beginning last first = (ending == beginning) && not (is_whitesp
 abbrev pub is_run_misplaced : ℕ → ℕ → ℕ → Bool
 is_run_misplaced run sign other = nat_lt 0 run && is_misplaced sign other
 
--- what is mended of runs of `*` between two texts that are not empty, and end and begin with these characters
+-- what is mended at runs of `*` between two texts that are not empty, and end and begin with these characters
 abbrev pub joint_between : ℕ → ℕ → ℕ → ℕ → List ℕ → List ℕ → Joint
 joint_between ending beginning last first before rest =
     if are_alike ending beginning last first then RunsGo ending
     else (if is_run_misplaced beginning first last then joint_at_start beginning rest
     else (if is_run_misplaced ending last first then joint_at_end ending before else AsTheyAre))
 
--- no run stands at the joint, or nothing before it or behind it
+-- there is no run at the joint, or nothing before it or after it
 abbrev pub has_no_run : ℕ → ℕ → Bool
 has_no_run ending beginning = (ending == 0) && (beginning == 0)
 
@@ -194,6 +249,6 @@ mended (EndLosesRuns run plain) out content =
 abbrev pub mended_ends : List ℕ → List ℕ → Ends
 mended_ends out content = mended (joint_of out content) out content
 
--- a content behind a text that it meets
+-- a content after a text that it meets
 abbrev pub with_joint : List ℕ → List ℕ → List ℕ
 with_joint out content = let both = mended_ends out content in both.front ++ both.behind

@@ -12,7 +12,7 @@ use Rattle.htmd_markdown.specs.declared.link.LinkReferenceStyle.TheVariants.{Ful
 abbrev pub in_brackets : List ℕ → List ℕ
 in_brackets text = codes "[" ++ text ++ codes "]"
 
--- what stands before an address in parentheses, and behind it
+-- what comes before an address in parentheses, and after it
 abbrev pub resource_start : List ℕ → List ℕ
 resource_start address = codes "(" ++ opening_bracket address
 
@@ -26,11 +26,11 @@ resource address title = resource_start address ++ escaped_address address ++ re
 abbrev pub image : List ℕ → Option (List ℕ) → Option (List ℕ) → List ℕ
 image address alt title = codes "!" ++ in_brackets (description alt) ++ resource address title
 
--- what stands before the address of an image
+-- what comes before the address of an image
 abbrev pub image_start : List ℕ → Option (List ℕ) → List ℕ
 image_start address alt = codes "!" ++ in_brackets (description alt) ++ resource_start address
 
--- Document white space at the start of the content goes, and at its end stands behind the link.
+-- Document white space at the start of the content goes, and at its end stands after the link.
 abbrev pub link_text : List ℕ → List ℕ
 link_text content = in_brackets (trimmed_text is_document_white_space content)
 
@@ -40,14 +40,14 @@ white_space_behind content = cut_end is_document_white_space (trimmed_start is_d
 abbrev pub inline_link : List ℕ → List ℕ → Option (List ℕ) → List ℕ
 inline_link content address title = link_text content ++ resource address title ++ white_space_behind content
 
--- what stands before the address of such a link, and behind it
+-- what comes before the address of such a link, and after it
 abbrev pub inline_link_start : List ℕ → List ℕ → List ℕ
 inline_link_start content address = link_text content ++ resource_start address
 
 abbrev pub inline_link_end : List ℕ → List ℕ → Option (List ℕ) → List ℕ
 inline_link_end content address title = resource_end address title ++ white_space_behind content
 
--- an autolink, where the content is the address as it is written
+-- an autolink, if the content is the address as it is written
 abbrev pub autolink : List ℕ → List ℕ → Option (List ℕ)
 autolink content address =
     if bytes_eq content (escaped_address address) then Some (codes "<" ++ escaped_address address ++ codes ">")

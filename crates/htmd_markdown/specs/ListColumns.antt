@@ -12,14 +12,14 @@ abbrev pub item_content : ℕ → List ℕ → List ℕ
 item_content column content =
     trimmed_end is_line_feed (indented_text (trimmed_start is_line_feed content) column true)
 
--- In the text a line begins with the marker, which takes so many characters, and then with the content.
+-- In the text a line begins with the marker, which takes this many characters, and then with the content.
 pub record StandsInColumn (column : ℕ) (marker content text : List ℕ) : Type 0 where
   pub before : List ℕ
   pub behind : List ℕ
   pub whole : text ≡ (before ++ line_feed ∷ []) ++ marker ++ content ++ behind
   pub width : length marker ≡ column
 
--- The content of each item begins in the column behind its number, the dot and so many spaces.
+-- The content of each item begins in the column after its number, the dot and this many spaces.
 abbrev pub HasColumns : (ℕ → ℕ) → ℕ → List Block → List ℕ → Type 0
 HasColumns spaces first blocks text =
     (earlier later : List Block) (content : List ℕ) → blocks ≡ earlier ++ item content ∷ later
@@ -37,7 +37,7 @@ HasEqualColumns first spacing blocks text =
     StandsInColumn column (number_marker (aligned_spaces spacing highest number) number) (item_content column content)
     text
 
--- In Guarded it begins there, but at least one and at most four characters behind its own dot.
+-- In Guarded it begins there, but at least one and at most four characters after its own dot.
 abbrev pub HasGuardedColumns : ℕ → ℕ → List Block → List ℕ → Type 0
 HasGuardedColumns first spacing blocks text =
     HasColumns (guarded_spaces spacing (highest_number first blocks)) first blocks text

@@ -10,7 +10,7 @@ use Rattle.htmd_markdown.specs.declared.list.BulletListMarker.{BulletListMarker}
 use Rattle.htmd_markdown.specs.declared.list.BulletListMarker.TheVariants.{Asterisk, Dash}
 
 -- An item in a line of its own: the list marker with its spaces, and the content. Further lines of the content stand
--- behind as many spaces as these take, without white space at their ends.
+-- after as many spaces as these take, without white space at their ends.
 abbrev pub list_item : List ℕ → List ℕ → List ℕ
 list_item marker content = line_feed ∷ marker ++ indented_text content (length marker) true
 
@@ -18,7 +18,7 @@ abbrev pub bullet : BulletListMarker → ℕ
 bullet Asterisk = asterisk
 bullet Dash = hyphen
 
--- a bullet and so many spaces
+-- a bullet and this many spaces
 abbrev pub bullet_marker : BulletListMarker → ℕ → List ℕ
 bullet_marker marker spacing = bullet marker ∷ replicate spacing space
 
@@ -31,7 +31,7 @@ bullet_item marker spacing content =
 abbrev pub unnumbered_item : List ℕ → List ℕ
 unnumbered_item content = line_feed ∷ trimmed_start is_document_white_space content ++ line_feed ∷ []
 
--- the number, a dot, and so many spaces
+-- the number, a dot, and this many spaces
 abbrev pub number_marker : ℕ → ℕ → List ℕ
 number_marker spaces number = decimal number ++ full_stop ∷ replicate spaces space
 
@@ -39,17 +39,17 @@ number_marker spaces number = decimal number ++ full_stop ∷ replicate spaces s
 abbrev pub numbered_item : ℕ → ℕ → List ℕ → List ℕ
 numbered_item spaces number content = list_item (number_marker spaces number) (trimmed_start is_line_feed content)
 
--- the spaces behind the dot of a number: as many as stand behind the highest number of the list, or more where that has
+-- the spaces after the dot of a number: as many as stand after the highest number of the list, or more where that has
 -- more digits
 abbrev pub aligned_spaces : ℕ → ℕ → ℕ → ℕ
 aligned_spaces spacing highest number = spacing + (digits highest - digits number)
 
--- The spaces behind a marker, as many as are asked for but at least 1 and at most 4: with none there is no item, and
+-- The spaces after a marker, as many as are asked for but at least 1 and at most 4: with none there is no item, and
 -- with more than 4 its content is indented code.
 abbrev pub guarded_spacing : ℕ → ℕ
 guarded_spacing spacing = max 1 (min spacing 4)
 
--- the spaces behind the dot of a number in Guarded, the alignment included
+-- the spaces after the dot of a number in Guarded, the alignment included
 abbrev pub guarded_spaces : ℕ → ℕ → ℕ → ℕ
 guarded_spaces spacing highest number = guarded_spacing (aligned_spaces spacing highest number)
 

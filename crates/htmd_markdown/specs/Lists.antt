@@ -41,14 +41,14 @@ item_count (other text ∷ blocks) = item_count blocks
 abbrev pub highest_number : ℕ → List Block → ℕ
 highest_number first blocks = first + item_count blocks - 1
 
--- each item behind its number with so many spaces, and the other texts as they are; the first item has this number
+-- each item after its number with this many spaces, and the other texts as they are; the first item has this number
 abbrev pub numbered_blocks : (ℕ → ℕ) → ℕ → List Block → List (List ℕ)
 numbered_blocks spaces number [] = []
 numbered_blocks spaces number (item content ∷ blocks) =
     numbered_item (spaces number) number content ∷ numbered_blocks spaces (suc number) blocks
 numbered_blocks spaces number (other text ∷ blocks) = text ∷ numbered_blocks spaces number blocks
 
--- an ordered list whose numbers have so many spaces behind them
+-- an ordered list whose numbers have this many spaces after them
 abbrev pub ordered_list_by : (ℕ → ℕ) → ℕ → List Block → List ℕ
 ordered_list_by spaces first blocks = joined_blocks (numbered_blocks spaces first blocks)
 
@@ -57,7 +57,7 @@ abbrev pub ordered_list : ℕ → ℕ → List Block → List ℕ
 ordered_list first spacing blocks =
     ordered_list_by (aligned_spaces spacing (highest_number first blocks)) first blocks
 
--- No item's number has more than nine digits: where the highest one would, the list begins at 1.
+-- No item's number has more than nine digits: if the highest one would, the list begins at 1.
 abbrev pub guarded_first_number : ℕ → ℕ → ℕ
 guarded_first_number first highest = if nat_lt 9 (digits highest) then 1 else first
 
@@ -66,7 +66,7 @@ guarded_ordered_list first spacing blocks =
     let first = guarded_first_number first (highest_number first blocks) in
     ordered_list_by (guarded_spaces spacing (highest_number first blocks)) first blocks
 
--- the contents of the items without numbers, as where they stand in one line
+-- the contents of the items without numbers, as when they stand in one line
 abbrev pub block_text : Block → List ℕ
 block_text (item content) = content
 block_text (other text) = text
@@ -74,11 +74,11 @@ block_text (other text) = text
 abbrev pub unnumbered_list : List Block → List ℕ
 unnumbered_list blocks = joined_blocks (map block_text blocks)
 
--- so many line feeds on each side
+-- this many line feeds on each side
 abbrev pub between_line_feeds : ℕ → List ℕ → List ℕ
 between_line_feeds count text = replicate count line_feed ++ text ++ replicate count line_feed
 
--- A list without line feeds at its ends, nothing where it is empty: inside an item it begins and ends a line, elsewhere
+-- A list without line feeds at its ends, nothing if it is empty: inside an item it begins and ends a line, elsewhere
 -- blank lines stand around it.
 abbrev pub list_block : Bool → List ℕ → Option (List ℕ)
 list_block is_in_item list = option_map (between_line_feeds (if is_in_item then 1 else 2))

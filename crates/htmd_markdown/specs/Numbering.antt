@@ -1,4 +1,4 @@
--- The spaces behind the dots of a list's numbers, as the code has them; the contracts of private functions alone cite it.
+-- The spaces after the dots of a list's numbers, as the code has them; only the contracts of private functions cite it.
 use Rattle.std.specs.Prelude.{ℕ, if◌then◌else◌}
 use Rattle.htmd_markdown.specs.declared.list.Spaces.{Spaces}
 use Rattle.htmd_markdown.specs.ListItems.{aligned_spaces, guarded_spaces}

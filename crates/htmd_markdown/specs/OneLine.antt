@@ -1,4 +1,4 @@
--- A text in one line, as what stands in a heading, in a link or in a title.
+-- A text in one line, as what is in a heading, in a link or in a title.
 use Rattle.std.specs.Prelude.{ℕ, Bool, List, [], ◌∷◌, map, filter}
 use Rattle.std.specs.List.{list_any, slice_split}
 use Rattle.htmd_text.specs.Characters.{space}
@@ -10,7 +10,7 @@ use Rattle.htmd_markdown.specs.Titles.{is_filled}
 abbrev pub with_spaces_between : List (List ℕ) → List ℕ
 with_spaces_between parts = joined_texts (space ∷ []) (filter is_filled parts)
 
--- the lines of a text (cut at each line feed) without spaces at their ends, one behind the other
+-- the lines of a text (cut at each line feed) without spaces at their ends, one after the other
 abbrev pub one_line : List ℕ → List ℕ
 one_line s = with_spaces_between (map (trimmed_text is_space) (slice_split is_line_feed s))
 

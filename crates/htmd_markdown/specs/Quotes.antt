@@ -7,11 +7,11 @@ use Rattle.htmd_text.specs.Trims.{trimmed_start, trimmed_end, is_line_feed}
 use Rattle.htmd_text.specs.WhiteSpace.{is_document_white_space}
 use Rattle.htmd_text.specs.BlankLines.{with_blank_lines}
 
--- a line behind a block quote marker and a space; an empty one too
+-- a line after a block quote marker and a space; an empty one too
 abbrev pub quoted_line : List ℕ → List ℕ
 quoted_line line = codes "> " ++ line
 
--- each line behind a marker, the lines joined by line feeds
+-- each line after a marker, the lines joined by line feeds
 abbrev pub quoted_lines : List (List ℕ) → List ℕ
 quoted_lines ls = joined_texts (line_feed ∷ []) (map quoted_line ls)
 

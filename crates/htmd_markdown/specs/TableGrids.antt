@@ -23,15 +23,15 @@ pub record Column : Type 0 where
 abbrev pub column : List ℕ → ℕ → Column
 column text rows = record { text = text; rows = rows }
 
--- the columns that a cell takes: behind the first they are empty
+-- the columns that a cell takes: after the first they are empty
 abbrev pub columns_of : SpannedCell → List Column
 columns_of cell = column cell.text cell.rows ∷ replicate (cell.columns - 1) (column [] cell.rows)
 
--- a column that is taken for so many rows is taken in the next row too
+-- a column that is taken for this many rows is taken in the next row too
 abbrev pub goes_on : ℕ → Bool
 goes_on rows = not (rows == 1)
 
--- what a column is in the next row, where no cell takes it
+-- what a column is in the next row, if no cell takes it
 abbrev pub below : ℕ → Column
 below rows = column [] (if nat_lt 1 rows then rows - 1 else rows)
 

@@ -15,7 +15,7 @@ between_bars s = let parts = slice_split (λ b. b == vertical_bar) s in drop 1 (
 abbrev pub read_row : List ℕ → List (List ℕ)
 read_row s = map (trimmed_text is_document_white_space) (between_bars s)
 
--- how many bars stand in a text
+-- how many bars a text has
 abbrev pub bars : List ℕ → ℕ
 bars s = count_by (λ b. b == vertical_bar) s
 
@@ -23,7 +23,7 @@ bars s = count_by (λ b. b == vertical_bar) s
 abbrev pub column_count : List (List (List ℕ)) → ℕ
 column_count rows = fold (λ count cells. max count (length cells)) 0 rows
 
--- a line of so many characters, with one bar more than columns
+-- a line of this many characters, with one bar more than columns
 pub record IsTableLine (width columns : ℕ) (line : List ℕ) : Type 0 where
   pub characters : length (chars line) ≡ width
   pub bars : bars line ≡ columns + 1

@@ -31,18 +31,18 @@ normalised_cell cell = trimmed_text is_document_white_space (flat_map in_cell ce
 abbrev pub cell_width : List ℕ → ℕ
 cell_width cell = length (chars (normalised_cell cell))
 
--- the cells of a line of so many columns, each so written; missing ones are empty
+-- the cells of a line of this many columns, each written like this; missing ones are empty
 abbrev pub line_cells_by : (List ℕ → List ℕ) → ℕ → List (List ℕ) → List (List ℕ)
 line_cells_by written columns cells = map written cells ++ replicate (columns - length cells) []
 
 abbrev pub line_cells : ℕ → List (List ℕ) → List (List ℕ)
 line_cells columns cells = line_cells_by normalised_cell columns cells
 
--- a cell between spaces: one on each side, and behind the cell as many as are missing to the width
+-- a cell between spaces: one on each side, and after the cell as many as are missing to the width
 abbrev pub padded_cell : List ℕ → ℕ → List ℕ
 padded_cell cell width = space ∷ (cell ++ (replicate (width - length (chars cell)) space ++ space ∷ []))
 
--- the cells of a line, each with its column's width and a bar behind it
+-- the cells of a line, each with its column's width and a bar after it
 abbrev pub barred_cells : List (List ℕ) → List ℕ → List ℕ
 barred_cells [] widths = []
 barred_cells (cell ∷ cells) [] = []
@@ -52,7 +52,7 @@ barred_cells (cell ∷ cells) (width ∷ widths) = padded_cell cell width ++ ver
 abbrev pub line : List (List ℕ) → List ℕ → List ℕ
 line cells widths = vertical_bar ∷ barred_cells cells widths
 
--- the line of a row whose cells are so written, and the line's end
+-- the line of a row whose cells are written like this, and the line's end
 abbrev pub row_by : (List ℕ → List ℕ) → List (List ℕ) → List ℕ → List ℕ
 row_by written cells widths = line (line_cells_by written (length widths) cells) widths ++ line_feed ∷ []
 
@@ -67,20 +67,20 @@ dashes width = replicate width hyphen
 abbrev pub separator : List ℕ → List ℕ
 separator widths = line (map dashes widths) widths ++ line_feed ∷ []
 
--- column by column the greater width; where one list is longer, its further columns
+-- column by column the greater width; if one list is longer, its further columns
 abbrev pub wider : List ℕ → List ℕ → List ℕ
 wider [] others = others
 wider (width ∷ widths) [] = width ∷ widths
 wider (width ∷ widths) (other ∷ others) = max width other ∷ wider widths others
 
--- the widths of a table's columns: the greatest of a cell of the column, each of so many
+-- the widths of a table's columns: the greatest of a cell of the column, each of this many
 abbrev pub column_widths_by : (List ℕ → ℕ) → List (List (List ℕ)) → List ℕ
 column_widths_by width lines = fold wider [] (map (map width) lines)
 
 abbrev pub column_widths : List (List (List ℕ)) → List ℕ
 column_widths lines = column_widths_by cell_width lines
 
--- the headers and the separator, where there are headers
+-- the headers and the separator, if there are headers
 abbrev pub head_by : (List ℕ → List ℕ) → List (List ℕ) → List ℕ → List ℕ
 head_by written [] widths = []
 head_by written (header ∷ headers) widths = row_by written (header ∷ headers) widths ++ separator widths
@@ -91,7 +91,7 @@ abbrev pub table_of_widths_by : (List ℕ → List ℕ) → List ℕ → List (L
 table_of_widths_by written widths headers rows =
     head_by written headers widths ++ flat_map (λ cells. row_by written cells widths) rows
 
--- the table whose cells are so written and take so many characters, each column as wide as its widest cell
+-- the table whose cells are written like this and take this many characters, each column as wide as its widest cell
 abbrev pub table_by : (List ℕ → List ℕ) → (List ℕ → ℕ) → List (List ℕ) → List (List (List ℕ))
     → List ℕ
 table_by written width headers rows =

@@ -19,12 +19,12 @@ filled_lines s = filter is_filled (map (trimmed_text is_document_white_space) (l
 abbrev pub tidied_text : List ℕ → List ℕ
 tidied_text s = joined_texts (line_feed ∷ []) (map (escaped_among (codes "\"")) (filled_lines s))
 
--- the description of an image, empty where it has none
+-- the description of an image, empty if it has none
 abbrev pub description : Option (List ℕ) → List ℕ
 description None = []
 description (Some alt) = tidied_text alt
 
--- a title behind the address
+-- a title after the address
 abbrev pub title_text : Option (List ℕ) → List ℕ
 title_text None = []
 title_text (Some title) = codes " \"" ++ tidied_text title ++ codes "\""

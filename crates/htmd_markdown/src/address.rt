@@ -11,7 +11,7 @@ use std::alloc::AllocError;
 
 const PARENTHESES: &[u8] = b"()";
 
-/// Puts the address with its parentheses behind backslashes.
+/// Appends the address with its parentheses after backslashes.
 pub(crate) fn push_address(out: &mut String, address: &str) -> Result<(), AllocError>
     ensures { OnOk result
         (string_bytes out.new ≡ string_bytes out.old ++ spec.escaped_address address.now) }
@@ -19,7 +19,7 @@ pub(crate) fn push_address(out: &mut String, address: &str) -> Result<(), AllocE
     push_escaped(out, address, PARENTHESES)
 }
 
-/// Puts the text with a backslash before each of these ASCII characters.
+/// Appends the text with a backslash before each of these ASCII characters.
 pub(crate) fn push_escaped(
     out: &mut String,
     text: &str,
@@ -56,7 +56,7 @@ pub(crate) fn holds_space(address: &str) -> bool
     address.as_bytes().contains(&b' ')
 }
 
-/// Whether the text is the address with its parentheses behind backslashes.
+/// Whether the text is the address with its parentheses after backslashes.
 pub(crate) fn is_written_address(text: &str, address: &str) -> bool
     ensures { result ≡ bytes_eq text.now (spec.escaped_address address.now) }
 {
@@ -70,7 +70,7 @@ pub(crate) fn is_written_address(text: &str, address: &str) -> bool
     rest.is_empty()
 }
 
-/// What stands behind the byte, written as in an address, where the text begins with it.
+/// What follows the byte, written as in an address, if the text begins with it.
 fn behind_written(text: &[u8], byte: u8) -> Option<&[u8]>
     ensures { StandsBehind text.now (written_byte byte) (option_copied result) }
 {
@@ -81,7 +81,7 @@ fn behind_written(text: &[u8], byte: u8) -> Option<&[u8]>
     }
 }
 
-/// What stands behind the byte, where the text begins with it.
+/// What follows the byte, if the text begins with it.
 fn behind(text: &[u8], byte: u8) -> Option<&[u8]>
     ensures { StandsBehind text.now (byte ∷ []) (option_copied result) }
 {

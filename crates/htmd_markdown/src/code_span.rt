@@ -12,10 +12,10 @@ use crate::runs::{has_run, longest_run};
 use htmd_text::{TrimDocumentWhitespace, push_repeated};
 use std::alloc::{AllocError, Global};
 
-/// The code span of a content: between backquotes, one line with `preformatted_code`, else without
-/// document white space at its ends. An empty content gives delimiters alone, which are no span.
+/// The code span of a content: between backquotes, in one line with `preformatted_code`, else without document white
+/// space at its ends. An empty content gives only the delimiters, which are not a code span.
 ///
-/// Want of memory is the only error.
+/// `Err` means out of memory.
 pub fn write_span(
     alloc: Global,
     content: &str,
@@ -49,7 +49,7 @@ fn write_delimited(alloc: Global, text: &str, preformatted_code: bool) -> Result
     Ok(span)
 }
 
-/// Puts the code span of a content, without document white space at its ends.
+/// Appends the code span of a content, without document white space at its ends.
 pub(crate) fn push_span(out: &mut String, content: &str) -> Result<(), AllocError>
     ensures { OnOk result
         (string_bytes out.new ≡ string_bytes out.old ++ spec.code_span false content.now) }
@@ -57,7 +57,7 @@ pub(crate) fn push_span(out: &mut String, content: &str) -> Result<(), AllocErro
     push_delimited(out, content.trim_document_whitespace(), false)
 }
 
-/// Puts the text between its delimiters, in one line with `preformatted_code`.
+/// Appends the text between its delimiters, in one line with `preformatted_code`.
 fn push_delimited(out: &mut String, text: &str, preformatted_code: bool) -> Result<(), AllocError>
     ensures { OnOk result (string_bytes out.new ≡ string_bytes out.old ++ spec.delimited_text
         (spec.meets_delimiter text.now || (preformatted_code && spec.is_between_spaces text.now))
@@ -80,7 +80,7 @@ fn push_delimited(out: &mut String, text: &str, preformatted_code: bool) -> Resu
     Ok(())
 }
 
-/// How many backquotes stand before and after the text.
+/// How many backquotes are before and after the text.
 fn delimiter_len(text: &str) -> usize
     ensures { result ≡ spec.delimiter_len text.now }
 {
@@ -96,14 +96,14 @@ fn delimiter_len(text: &str) -> usize
     longest + 1
 }
 
-/// Whether a backquote stands at the start or at the end.
+/// Whether the text begins or ends with a backquote.
 fn meets_delimiter(text: &str) -> bool
     ensures { result ≡ spec.meets_delimiter text.now }
 {
     text.starts_with('`') || text.ends_with('`')
 }
 
-/// Whether a space stands at both ends, and not all are spaces.
+/// Whether the text begins and ends with a space, but is not only spaces.
 fn is_between_spaces(text: &str) -> bool
     ensures { result ≡ spec.is_between_spaces text.now }
 {
@@ -117,14 +117,14 @@ fn is_all(text: &str, character: u8) -> bool
     text.as_bytes().iter().all(|b| *b == character)
 }
 
-/// Puts a space, where it is due.
+/// Appends a space if it is due.
 pub(crate) fn push_space_if(text: &mut String, due: bool) -> Result<(), AllocError>
     ensures { OnOk result (string_bytes text.new ≡ string_bytes text.old ++ spec.space_if due) }
 {
     if due { text.push(' ') } else { Ok(()) }
 }
 
-/// Puts the text in one line.
+/// Appends the text in one line.
 fn push_in_one_line(span: &mut String, text: &str) -> Result<(), AllocError>
     ensures { OnOk result
         (string_bytes span.new ≡ string_bytes span.old ++ spec.in_one_line text.now) }
@@ -134,7 +134,7 @@ fn push_in_one_line(span: &mut String, text: &str) -> Result<(), AllocError>
     push_space_if(span, text.ends_with('\n'))
 }
 
-/// Puts the text with each line feed as a space.
+/// Appends the text with each line feed as a space.
 fn push_with_spaces(span: &mut String, text: &str) -> Result<(), AllocError>
     ensures { OnOk result (string_bytes span.new
         ≡ string_bytes span.old ++ map (λ b. if is_line_feed b then space else b) text.now) }

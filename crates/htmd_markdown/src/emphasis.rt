@@ -15,8 +15,8 @@ pub enum Emphasis {
     Strong,
 }
 
-/// The content between marks, where the white space at its ends stands outside of them, since a mark
-/// beside white space opens or closes nothing; nothing where the content is white space alone.
+/// The content between marks. The white space at its ends stands outside of them, since a mark beside white space opens
+/// or closes nothing; nothing if the content is only white space. `Err` means out of memory.
 pub fn write_emphasis(emphasis: Emphasis, mut content: String) -> Result<Option<String>, AllocError>
     ensures text { IfOk result (λ text. option_map (λ s. string_bytes s) text
         ≡ spec.emphasised_text emphasis (string_bytes content)) }
@@ -30,10 +30,10 @@ pub fn write_emphasis(emphasis: Emphasis, mut content: String) -> Result<Option<
     }
 }
 
-/// The content between marks as `write_emphasis` writes it; as it is where it is white space alone, or where a blank
-/// line stands in it, since no emphasis goes on behind a paragraph's end.
+/// The content between marks as `write_emphasis` writes it; as it is if it is only white space, or if it has a blank
+/// line, since no emphasis goes on after a paragraph's end.
 ///
-/// Want of memory is the only error.
+/// `Err` means out of memory.
 pub fn write_guarded_emphasis(emphasis: Emphasis, mut content: String) -> Result<String, AllocError>
     ensures text { IfOk result
         (λ s. string_bytes s ≡ spec.guarded_emphasis emphasis (string_bytes content)) }
@@ -48,7 +48,7 @@ pub fn write_guarded_emphasis(emphasis: Emphasis, mut content: String) -> Result
 }
 
 /// Puts the marks into the content, inside the white space at its ends, and answers whether it did:
-/// content that is white space alone stays as it is.
+/// content that is only white space stays as it is.
 fn put_marks(content: &mut String, emphasis: Emphasis) -> Result<bool, AllocError>
     ensures none { IfOk result (λ is_marked. is_marked ≡ false
         → (string_bytes content.new ≡ string_bytes content.old)
@@ -72,7 +72,7 @@ fn put_marks(content: &mut String, emphasis: Emphasis) -> Result<bool, AllocErro
     Ok(true)
 }
 
-/// What stands on each side.
+/// The mark on each side.
 fn mark(emphasis: Emphasis) -> &'static str
     ensures { result.now ≡ spec.mark emphasis }
 {

@@ -22,11 +22,11 @@ pub enum CodeBlockFence {
 /// The fewest symbols of a fence.
 const LEAST_LEN: usize = 3;
 
-/// The fenced code block of a content, whose one final line feed is cut. The fence has three of its
-/// symbol, or one more than the longest run of it in the content; the language stands behind the
-/// first fence. A language that holds a line end or the symbol is written as it is.
+/// The fenced code block of a content, without its one final line feed. The fence has three of its symbol, or one more
+/// than the longest run of it in the content; the language stands after the first fence. A language that holds a line
+/// end or the symbol is written as it is.
 ///
-/// Want of memory is the only error.
+/// `Err` means out of memory.
 pub fn write_fence(
     alloc: Global,
     content: &str,
@@ -44,7 +44,7 @@ pub fn write_fence(
     write_between_fences(alloc, code_of(content), language.unwrap_or(""), symbol)
 }
 
-/// The code between two fences, behind the first of which stands the info string.
+/// The code between two fences, with the info string after the first one.
 fn write_between_fences(
     alloc: Global,
     code: &str,

@@ -1,4 +1,4 @@
-//! The address of a link or image, so written that a reader finds it again (CommonMark 0.31.2, 6.3), and backslashes
+//! The address of a link or image, written so that a reader finds it again (CommonMark 0.31.2, 6.3), and backslashes
 //! before some characters and before what looks like a character reference.
 ghost use Rattle.std.specs.Prelude.{◌≡◌, ◌<◌, ◌++◌, IsTrue, OnOk, length, string_bytes};
 ghost use Rattle.std.specs.Char.{is_ascii};
@@ -10,8 +10,8 @@ use crate::line_ends::with_line_ends_as;
 use crate::reference_like::is_reference_like;
 use std::alloc::{AllocError, Global};
 
-/// Puts the address without line ends, its delimiters behind backslashes; between `<` and `>` where it is empty or
-/// holds a space or a control.
+/// Appends the address without line ends, its delimiters after backslashes; between `<` and `>` if it is empty or holds
+/// a space or a control.
 pub(crate) fn push_guarded_destination(
     alloc: Global,
     out: &mut String,
@@ -43,7 +43,7 @@ fn is_space_or_control(byte: u8) -> bool
     matches!(byte, 0..=b' ' | 0x7F)
 }
 
-/// Puts the text with a backslash before each of these ASCII characters, and before each `&` that looks like a
+/// Appends the text with a backslash before each of these ASCII characters, and before each `&` that looks like a
 /// character reference.
 pub(crate) fn push_guarded(
     out: &mut String,

@@ -1,4 +1,4 @@
-//! Code of all the text of an element, as a code span (CommonMark 0.31.2, 6.1) and as a fenced code block (4.5).
+//! All the text of an element as code: as a code span (CommonMark 0.31.2, 6.1) and as a fenced code block (4.5).
 ghost use Rattle.std.specs.Prelude.{◌≡◌, ◌≢◌, [], Some, IfOk, string_bytes};
 ghost use Rattle.std.specs.Option.{option_copied};
 ghost use Rattle.htmd_markdown.specs.CodeBlocks.{code_of};
@@ -12,10 +12,10 @@ use crate::line_ends::with_line_ends_as;
 use htmd_text::TrimDocumentWhitespace;
 use std::alloc::{AllocError, Global};
 
-/// The text as a code span, each line end as a space, without document white space at its ends, for which one space
-/// stands outside of the span. White space alone gives a space, and an empty text an empty one.
+/// The text as a code span, each line end as a space. Document white space at either end is replaced by one space
+/// outside of the span. A text of only white space gives a space, and an empty text gives an empty text.
 ///
-/// Want of memory is the only error.
+/// `Err` means out of memory.
 pub fn write_guarded_code(alloc: Global, text: &str) -> Result<String, AllocError>
     ensures text { IfOk result (λ s. string_bytes s ≡ spec.guarded_code text.now) }
     ensures reads_back { spec.span_text text.now ≢ []
@@ -30,9 +30,9 @@ pub fn write_guarded_code(alloc: Global, text: &str) -> Result<String, AllocErro
 }
 
 /// The text of a block as a code span among other text, each line end as a space, without document white space at its
-/// ends, with a space on either side. A text without anything else gives a space.
+/// ends, with a space on either side. A text of only white space gives a space.
 ///
-/// Want of memory is the only error.
+/// `Err` means out of memory.
 pub fn write_guarded_span_in_line(alloc: Global, text: &str) -> Result<String, AllocError>
     ensures text { IfOk result (λ s. string_bytes s ≡ spec.guarded_span_in_line text.now) }
     ensures reads_back { spec.span_text text.now ≢ []
@@ -46,7 +46,7 @@ pub fn write_guarded_span_in_line(alloc: Global, text: &str) -> Result<String, A
     write_spaced_span(alloc, line, true, true)
 }
 
-/// The line as a code span, with a space outside of it where it is due.
+/// The line as a code span, with a space outside of it where one is due.
 fn write_spaced_span(
     alloc: Global,
     line: &str,
@@ -62,17 +62,17 @@ fn write_spaced_span(
     Ok(code)
 }
 
-/// How many bytes stand beside the line, but for longer delimiters.
+/// How many bytes are beside the line, unless the delimiters are longer.
 const MARKS: usize = 6;
 
-/// Whether document white space stands at the start.
+/// Whether the line begins with document white space.
 fn begins_white(line: &str) -> bool
     ensures { result ≡ spec.begins_white line.now }
 {
     matches!(line.as_bytes(), [b'\t' | b'\n' | b'\r' | b' ', ..])
 }
 
-/// Whether document white space stands at the end.
+/// Whether the line ends with document white space.
 fn ends_white(line: &str) -> bool
     ensures { result ≡ spec.ends_white line.now }
 {
@@ -82,7 +82,7 @@ fn ends_white(line: &str) -> bool
 /// The fenced code block of a text, each line end as a line feed, and one final line feed cut. A language that holds a
 /// backquote, a tilde, a line feed or a carriage return is left out.
 ///
-/// Want of memory is the only error.
+/// `Err` means out of memory.
 pub fn write_guarded_code_block(
     alloc: Global,
     text: &str,
@@ -98,7 +98,7 @@ pub fn write_guarded_code_block(
     write_fence(alloc, lines.as_ref(), fitting_language(language), fence)
 }
 
-/// The language, where it may stand behind a fence of either symbol.
+/// The language, if it may stand after a fence of either symbol.
 fn fitting_language(language: Option<&str>) -> Option<&str>
     ensures { option_copied result ≡ spec.fitting_language (option_copied language.entry) }
 {

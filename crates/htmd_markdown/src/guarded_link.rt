@@ -1,4 +1,4 @@
-//! Links, autolinks, references and link reference definitions, so written that a reader finds their parts again
+//! Links, autolinks, references and link reference definitions, written so that a reader finds their parts again
 //! (CommonMark 0.31.2, 6.3, 6.5 and 4.7).
 ghost use Rattle.std.specs.Prelude.{◌≡◌, ◌++◌, IfOk, IfSome, OnOk, codes, string_bytes};
 ghost use Rattle.std.specs.List.{list_all, list_any};
@@ -21,7 +21,7 @@ use std::alloc::{AllocError, Global};
 
 /// An image, its description in one line as text.
 ///
-/// Want of memory is the only error.
+/// `Err` means out of memory.
 pub fn write_guarded_image(
     alloc: Global,
     address: &str,
@@ -50,7 +50,7 @@ pub fn write_guarded_image(
 
 /// A link around the content in one line. White space at the content's ends stands outside of the link, as one space.
 ///
-/// Want of memory is the only error.
+/// `Err` means out of memory.
 pub fn write_guarded_link(
     alloc: Global,
     content: &str,
@@ -75,10 +75,10 @@ pub fn write_guarded_link(
     Ok(link)
 }
 
-/// A reference to the definition of this number around the content in one line. White space at the content's ends
+/// A reference to the definition with this number around the content in one line. White space at the content's ends
 /// stands outside of the link, as one space.
 ///
-/// Want of memory is the only error.
+/// `Err` means out of memory.
 pub fn write_guarded_reference(
     alloc: Global,
     number: usize,
@@ -93,9 +93,9 @@ pub fn write_guarded_reference(
     Ok(link)
 }
 
-/// The line that defines the address and the title of the reference of this number.
+/// The line that defines the address and the title of the reference with this number.
 ///
-/// Want of memory is the only error.
+/// `Err` means out of memory.
 pub fn write_guarded_definition(
     alloc: Global,
     number: usize,
@@ -128,10 +128,10 @@ pub fn is_guarded_autolink(address: &str) -> bool
     begins_with_scheme(bytes) && !holds_barred(bytes) && !holds_reference(bytes)
 }
 
-/// The address as an autolink. White space at the ends of the content, for which it stands, stands outside of the link,
+/// The address as an autolink, in place of the content. White space at the content's ends stands outside of the link,
 /// as one space.
 ///
-/// Want of memory is the only error.
+/// `Err` means out of memory.
 pub fn write_guarded_autolink(
     alloc: Global,
     content: &str,
@@ -148,7 +148,7 @@ pub fn write_guarded_autolink(
     Ok(link)
 }
 
-/// Puts the content in one line between brackets, behind a space where white space begins it.
+/// Appends the content in one line between brackets, after a space if it begins with white space.
 fn push_link_text(out: &mut String, content: &str) -> Result<(), AllocError>
     ensures { OnOk result
         (string_bytes out.new ≡ string_bytes out.old ++ spec.guarded_link_text content.now) }
@@ -159,7 +159,7 @@ fn push_link_text(out: &mut String, content: &str) -> Result<(), AllocError>
     out.push(']')
 }
 
-/// Puts the description of an image, where it has one: its squeezed text in one line, as text.
+/// Appends the description of an image, if it has one: its squeezed text in one line, as text.
 fn push_guarded_description(
     alloc: Global,
     out: &mut String,
@@ -176,7 +176,7 @@ fn push_guarded_description(
     Ok(())
 }
 
-/// Puts the address and the title in parentheses.
+/// Appends the address and the title in parentheses.
 fn push_guarded_resource(
     alloc: Global,
     out: &mut String,
@@ -192,14 +192,14 @@ fn push_guarded_resource(
     out.push(')')
 }
 
-/// Whether a space or a line feed stands at the start.
+/// Whether the content begins with a space or a line feed.
 fn begins_white(content: &str) -> bool
     ensures { result ≡ spec.begins_white content.now }
 {
     content.starts_with(' ') || content.starts_with('\n')
 }
 
-/// Whether there is nothing but spaces and line feeds.
+/// Whether the content is only spaces and line feeds.
 fn is_white_alone(content: &str) -> bool
     ensures { result ≡ list_all spec.is_white content.now }
 {
@@ -209,14 +209,14 @@ fn is_white_alone(content: &str) -> bool
         .all(|b| matches!(*b, b' ' | b'\n'))
 }
 
-/// Whether spaces or line feeds stand at the start, and not alone.
+/// Whether the content begins with spaces or line feeds, and holds something else.
 fn is_space_before(content: &str) -> bool
     ensures { result ≡ spec.is_space_before content.now }
 {
     begins_white(content) && !is_white_alone(content)
 }
 
-/// Whether a space or a line feed stands at the end.
+/// Whether the content ends with a space or a line feed.
 fn ends_white(content: &str) -> bool
     ensures { result ≡ spec.ends_white content.now }
 {

@@ -14,8 +14,8 @@ use std::alloc::{AllocError, Global};
 /// How far back a line is looked at, so that a page of numbers costs no more than its length.
 const CHARACTERS_LOOKED_AT: usize = 80;
 
-/// Whether a text that is put behind this one begins a line: the last 80 characters of the last line, or all of them
-/// where it is shorter, are nothing but spaces, U+FEFF, ASCII digits, `*`, `-`, `.` and `>`.
+/// Whether a text that is put after this one begins a line: the last 80 characters of the last line, or all of them if
+/// it is shorter, are only spaces, U+FEFF, ASCII digits, `*`, `-`, `.` and `>`.
 pub fn begins_line(text: &str) -> bool
     ensures { result ≡ spec.begins_line text.now }
 {
@@ -34,7 +34,7 @@ pub fn begins_line(text: &str) -> bool
     true
 }
 
-/// Whether a block may still begin behind the character.
+/// Whether a block may still begin after the character.
 fn may_stand_before(c: char) -> bool
     ensures { result ≡ spec.may_stand_before c }
 {
@@ -48,9 +48,9 @@ fn is_blank(c: char) -> bool
 }
 
 /// The text with a backslash before each character that could be read as markup: `\`, backquote, `*`, `_`, `[`, `]`,
-/// `<`, `~`; an `&` that looks like the start of a character reference; a `#` at the front or behind a space or U+FEFF; and
-/// where the text begins a line, a first character `-`, `+`, `=`, `>`, `|`, `.` or `)`, a `:` with a `-` behind it, and
-/// the `.` or `)` of an ordered list item. An `Err` is want of memory.
+/// `<`, `~`; an `&` that looks like the start of a character reference; a `#` at the front or after a space or U+FEFF;
+/// and if the text begins a line, a first character `-`, `+`, `=`, `>`, `|`, `.` or `)`, a `:` with a `-` after it, and
+/// the `.` or `)` of an ordered list item. `Err` means out of memory.
 pub fn write_guarded_text(
     alloc: Global,
     text: &str,
@@ -71,7 +71,7 @@ pub fn write_guarded_text(
     Ok(guarded)
 }
 
-/// Puts the text as `write_guarded_text` writes it. An `Err` is want of memory.
+/// Appends the text as `write_guarded_text` writes it. `Err` means out of memory.
 pub fn push_guarded_text(out: &mut String, text: &str, begins_line: bool) -> Result<(), AllocError>
     ensures { OnOk result
         (string_bytes out.new ≡ string_bytes out.old ++ spec.guarded_text begins_line text.now) }
@@ -147,7 +147,7 @@ fn is_always_guarded(byte: u8) -> bool
     matches!(byte, b'\\' | b'`' | b'*' | b'_' | b'[' | b']' | b'<' | b'~')
 }
 
-/// The place that gets a backslash where the text begins a line.
+/// The place that gets a backslash if the text begins a line.
 fn block_mark(text: &str, begins_line: bool) -> Option<usize>
     ensures { (k : ℕ) → is_place result k ≡ (begins_line && spec.is_block_mark text.now k) }
 {
@@ -166,7 +166,7 @@ fn block_mark(text: &str, begins_line: bool) -> Option<usize>
     }
 }
 
-/// Whether such a character stands there, or the `:-` of a table's line of dashes.
+/// Whether such a character is there, or the `:-` of a table's line of dashes.
 fn is_sign_at(bytes: &[u8], place: usize) -> bool
     requires { place ≤ length bytes.now }
     ensures { result ≡ spec.is_sign_at bytes.now place }
@@ -178,14 +178,14 @@ fn is_sign_at(bytes: &[u8], place: usize) -> bool
     }
 }
 
-/// Whether the first character of a line begins a block or underlines a heading, alone or with what stands before it.
+/// Whether the first character of a line begins a block or underlines a heading, alone or with what comes before it.
 fn is_block_sign(byte: u8) -> bool
     ensures { result ≡ spec.is_block_sign byte }
 {
     matches!(byte, b'-' | b'+' | b'=' | b'>' | b'|' | b'.' | b')')
 }
 
-/// The place of the first character that is no space and no U+FEFF.
+/// The place of the first character that is neither a space nor U+FEFF.
 fn first_place(text: &str) -> usize
     ensures bound { result ≤ length text.now }
     ensures value { result ≡ spec.first_place text.now }

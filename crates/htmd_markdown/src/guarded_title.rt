@@ -1,4 +1,4 @@
-//! Titles, so written that a reader finds them again (CommonMark 0.31.2, 6.3).
+//! Titles, written so that a reader finds them again (CommonMark 0.31.2, 6.3).
 ghost use Rattle.std.specs.Prelude.{◌≡◌, ◌++◌, IfOk, OnOk, string_bytes};
 ghost use Rattle.std.specs.Option.{option_copied};
 ghost use Rattle.htmd_markdown.specs.GuardedTitles as spec;
@@ -8,7 +8,7 @@ use crate::line_ends::push_with_line_ends_as;
 use htmd_text::TrimDocumentWhitespace;
 use std::alloc::{AllocError, Global};
 
-/// Puts a space and the title in one line between quotation marks, where there is one.
+/// Appends a space and the title in one line between quotation marks, if there is one.
 pub(crate) fn push_guarded_title(
     alloc: Global,
     out: &mut String,
@@ -26,7 +26,7 @@ pub(crate) fn push_guarded_title(
     Ok(())
 }
 
-/// The title's lines without document white space at their ends, empty ones left out, with a space between each two
+/// The title's lines without document white space at their ends, without the empty ones, with a space between each two
 /// and in place of each carriage return.
 fn title_line(alloc: Global, title: &str) -> Result<String, AllocError>
     ensures { IfOk result (λ s. string_bytes s ≡ spec.title_line title.now) }

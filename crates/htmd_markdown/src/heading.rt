@@ -11,14 +11,14 @@ use std::alloc::{AllocError, Global};
 /// How headings are written.
 #[derive(Debug, Clone, Copy, PartialEq)]
 pub enum HeadingStyle {
-    /// `#` as often as the level (CommonMark 0.31.2, 4.2).
+    /// `#` as many times as the level says (CommonMark 0.31.2, 4.2).
     Atx,
     /// Levels 1 and 2 are underlined (CommonMark 0.31.2, 4.3), the others as in `Atx`.
     Setex,
 }
 
-/// The content without document white space at its ends as a heading of the level, with blank lines
-/// around.
+/// The content without document white space at its ends as a heading of the level, with blank lines around. `Err` means
+/// out of memory.
 pub fn write_heading(
     alloc: Global,
     style: HeadingStyle,
@@ -37,7 +37,7 @@ pub fn write_heading(
 /// The content in one line, without document white space at its ends, as a heading of the level, with blank lines
 /// around. An empty line is written as in `Atx`.
 ///
-/// Want of memory is the only error.
+/// `Err` means out of memory.
 pub fn write_guarded_heading(
     alloc: Global,
     style: HeadingStyle,
@@ -61,7 +61,7 @@ fn guarded_style(style: HeadingStyle, line: &str) -> HeadingStyle
     }
 }
 
-/// `#` as often as the level, a space, the content.
+/// `#` as many times as the level says, a space, the content.
 fn write_atx(alloc: Global, level: usize, content: &str) -> Result<String, AllocError>
     requires { level < 256 }
     ensures { IfOk result
@@ -76,7 +76,7 @@ fn write_atx(alloc: Global, level: usize, content: &str) -> Result<String, Alloc
     Ok(text)
 }
 
-/// The content and a line under it of as many characters.
+/// The content, and under it a line of as many characters.
 fn write_setext(alloc: Global, level: u8, content: &str) -> Result<String, AllocError>
     ensures { IfOk result
         (λ s. string_bytes s ≡ with_blank_lines (spec.setext level content.now)) }

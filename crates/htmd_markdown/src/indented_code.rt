@@ -8,10 +8,10 @@ use std::alloc::{AllocError, Global};
 
 const INDENT: &str = "    ";
 
-/// The indented code block of a content, whose one final line feed is cut: each line (those of
-/// `str::lines`) behind four spaces, with a line feed between each two.
+/// The indented code block of a content, without its one final line feed: each line (those of `str::lines`) after four
+/// spaces, with a line feed between each two.
 ///
-/// Want of memory is the only error.
+/// `Err` means out of memory.
 pub fn write_indented_code(alloc: Global, content: &str) -> Result<String, AllocError>
     ensures { IfOk result (λ s. string_bytes s ≡ spec.indented_code_block content.now) }
 {
@@ -25,7 +25,7 @@ pub fn write_indented_code(alloc: Global, content: &str) -> Result<String, Alloc
     Ok(block)
 }
 
-/// Puts the line behind four spaces, and behind a line feed unless it is the first.
+/// Appends the line after four spaces, and after a line feed unless it is the first.
 fn push_line(block: &mut String, line: &str, is_first: bool) -> Result<(), AllocError>
     ensures { OnOk result (string_bytes block.new ≡ (string_bytes block.old
         ++ (if not is_first then line_feed ∷ [] else [])) ++ spec.indented_line line.now) }
@@ -38,7 +38,7 @@ fn push_line(block: &mut String, line: &str, is_first: bool) -> Result<(), Alloc
     Ok(())
 }
 
-/// How much room the lines of a text take behind indents at most, as far as a `usize` goes.
+/// How much room the lines of a text take at most with their indents, as far as a `usize` goes.
 fn indented_len(text: &str) -> usize {
     let lines = text.lines().count();
     lines

@@ -1,4 +1,4 @@
-//! What is mended where a content meets the text so far, so that no sign of the one joins with a sign of the other into
+//! What is mended where a content meets the text so far, so that no sign of one joins with a sign of the other to make
 //! markup (CommonMark 0.31.2, 6.1, 6.2 and 6.4).
 ghost use Rattle.std.specs.Prelude.{◌≡◌, ◌==◌, ◌&&◌, not, ◌≤◌, ◌-◌, ◌++◌, OnOk, length, take, drop, string_bytes};
 ghost use Rattle.std.specs.Str.{IsCharBoundary};
@@ -6,6 +6,7 @@ ghost use Rattle.htmd_text.specs.Characters.{backslash};
 ghost use Rattle.htmd_markdown.specs.Joints as spec;
 ghost use Rattle.htmd_markdown.specs.JointFits.{Fits};
 
+use crate::address::is_one_of;
 use htmd_text::runs::{leading_len, trailing_len};
 use std::alloc::AllocError;
 use unicode::properties::{GeneralCategory, GeneralCategoryGroup};
@@ -15,19 +16,19 @@ use unicode::properties::{GeneralCategory, GeneralCategoryGroup};
 pub(crate) enum Joint {
     /// Nothing.
     AsTheyAre,
-    /// A backslash stands before the `!` that a bracket follows.
+    /// A backslash goes before the `!` that a bracket follows.
     MarkBeforeBracket,
-    /// A space stands between them.
+    /// A space goes between them.
     SpaceBetween,
-    /// The runs of so many `*` on both sides go.
+    /// The runs of this many `*` on both sides go.
     RunsGo(usize),
-    /// So many bytes behind the run that begins the second go in front of it.
+    /// This many bytes after the run that begins the second go in front of it.
     StartMoves(usize, usize),
-    /// So many bytes stand between two such runs, which both go.
+    /// This many bytes are between two such runs, which both go.
     StartLosesRuns(usize, usize),
-    /// So many bytes before the run that ends the first go behind it.
+    /// This many bytes before the run that ends the first go after it.
     EndMoves(usize, usize),
-    /// So many bytes stand between two such runs, which both go.
+    /// This many bytes are between two such runs, which both go.
     EndLosesRuns(usize, usize),
 }
 
@@ -41,7 +42,7 @@ fn is_word_character(c: char) -> bool
         || GeneralCategoryGroup::Mark.contains(category)
 }
 
-/// Whether a mark beside the character may stand beside punctuation too.
+/// Whether a mark beside the character may also be beside punctuation.
 fn stands_apart(c: char) -> bool
     ensures { result ≡ spec.stands_apart c }
 {
@@ -50,28 +51,28 @@ fn stands_apart(c: char) -> bool
         || GeneralCategoryGroup::Punctuation.contains(GeneralCategory::for_char(c))
 }
 
-/// Whether the character is no word character, no line feed, and may begin or end no piece of Markdown.
+/// Whether the character is neither a word character nor a line feed, and can't begin or end a piece of Markdown.
 fn is_plain_sign(c: char) -> bool
     ensures { result ≡ spec.is_plain_sign c }
 {
     !(is_word_character(c) || matches!(c, '\n' | '`' | '[' | '!' | '<' | '$' | '*'))
 }
 
-/// Whether a mark beside a sign, with the other character on its other side, is none to a reader.
+/// Whether a reader doesn't take a mark for one when it is between this sign and the other character.
 fn is_misplaced(sign: char, other: char) -> bool
     ensures { result ≡ spec.is_misplaced sign other }
 {
     !(is_word_character(sign) || sign.is_whitespace()) && !stands_apart(other)
 }
 
-/// Whether what stands behind the text is escaped.
+/// Whether what follows the text is escaped.
 fn escapes_next(text: &[u8]) -> bool
     ensures { result ≡ spec.escapes_next text.now }
 {
     trailing_len(text, b'\\') % 2 == 1
 }
 
-/// How many `*` end the text of which none is escaped.
+/// How many `*` end the text, none of them escaped.
 fn ending_run(text: &[u8]) -> usize
     ensures bound { result ≤ length text.now }
     ensures value { result ≡ spec.ending_run text.now }
@@ -97,11 +98,87 @@ fn is_escaping(c: char, is_escaped: bool) -> bool
     c == '\\' && !is_escaped
 }
 
-/// The same behind a text.
-fn is_plain_behind(c: char, before: &[u8]) -> bool
-    ensures { result ≡ spec.is_plain_at (spec.escapes_next before.now) c }
+/// The text without its last sign.
+fn without_last(text: &[u8]) -> &[u8]
+    ensures { result.now ≡ spec.without_last text.now }
 {
-    is_plain_sign(c) || c.is_ascii_punctuation() && escapes_next(before)
+    &text[..text.len().saturating_sub(1)]
+}
+
+/// Whether one of these signs ends the text, and no backslash escapes it.
+fn ends_bare(text: &[u8], signs: &[u8]) -> bool
+    ensures { result ≡ spec.ends_bare signs.now text.now }
+{
+    match text {
+        [before @ .., last] => is_one_of(*last, signs) && !escapes_next(before),
+        [] => false,
+    }
+}
+
+/// The text up to the last of these signs that no backslash escapes, with that sign.
+fn up_to<'a>(text: &'a [u8], signs: &[u8]) -> &'a [u8]
+    ensures { result.now ≡ spec.up_to signs.now text.now }
+{
+    let mut end = text.len();
+    while end > 0 && !ends_bare(&text[..end], signs) {
+        end -= 1;
+    }
+    &text[..end]
+}
+
+/// Whether an address stands open at the end of the text.
+fn opens_address(text: &[u8]) -> bool
+    ensures { result ≡ spec.opens_address text.now }
+{
+    let front = up_to(text, b"()");
+    ends_bare(front, b"(") && ends_bare(without_last(front), b"]")
+}
+
+/// What stands before a title that ends the text.
+fn before_title(text: &[u8]) -> &[u8]
+    ensures { result.now ≡ spec.before_title text.now }
+{
+    without_last(up_to(without_last(text), b"\""))
+}
+
+/// Whether a `)` after the text closes an address, or an address with a title.
+fn ends_address(text: &[u8]) -> bool
+    ensures { result ≡ spec.ends_address text.now }
+{
+    if opens_address(text) {
+        return true;
+    }
+    if !ends_bare(text, b"\"") {
+        return false;
+    }
+    let before = before_title(text);
+    ends_bare(before, b" ") && opens_address(before)
+}
+
+/// Whether a `>` after the text closes an autolink.
+fn ends_autolink(text: &[u8]) -> bool
+    ensures { result ≡ spec.ends_autolink text.now }
+{
+    ends_bare(up_to(text, b"<> \n"), b"<")
+}
+
+/// Whether the character after the text closes a link, an image, a reference or an autolink.
+fn closes_link(c: char, before: &[u8]) -> bool
+    ensures { result ≡ spec.closes_link before.now c }
+{
+    match c {
+        ']' => !escapes_next(before),
+        ')' => !escapes_next(before) && ends_address(before),
+        '>' => ends_autolink(before),
+        _ => false,
+    }
+}
+
+/// Whether the character after the text is a plain sign, or one that a backslash escapes, and closes no link.
+fn is_plain_behind(c: char, before: &[u8]) -> bool
+    ensures { result ≡ spec.is_plain_behind before.now c }
+{
+    is_plain_at(c, escapes_next(before)) && !closes_link(c, before)
 }
 
 /// How many bytes of plain signs begin the text, with those that a backslash escapes.
@@ -162,7 +239,7 @@ fn ends_word(text: &str) -> bool
     }
 }
 
-/// What is mended behind a run of so many `*`, which this rest follows.
+/// What is mended after a run of this many `*`, which this rest follows.
 fn joint_at_start(run: usize, rest: &str) -> Joint
     ensures { result ≡ spec.joint_at_start run rest.now }
 {
@@ -177,7 +254,7 @@ fn joint_at_start(run: usize, rest: &str) -> Joint
     Joint::SpaceBetween
 }
 
-/// What is mended before a run of so many `*`, before which this text stands.
+/// What is mended before a run of this many `*`, which comes after this text.
 fn joint_at_end(run: usize, before: &str) -> Joint
     ensures { result ≡ spec.joint_at_end run before.now }
 {
@@ -206,7 +283,7 @@ fn is_run_misplaced(run: usize, sign: char, other: char) -> bool
     run > 0 && is_misplaced(sign, other)
 }
 
-/// What is mended of runs of so many `*` between these texts, which end and begin with these characters.
+/// What is mended at runs of this many `*` between these texts, which end and begin with these characters.
 fn joint_between(
     ending: usize,
     beginning: usize,
@@ -229,14 +306,14 @@ fn joint_between(
     Joint::AsTheyAre
 }
 
-/// Whether no run stands at the joint.
+/// Whether there is no run at the joint.
 fn has_no_run(ending: usize, beginning: usize) -> bool
     ensures { result ≡ spec.has_no_run ending beginning }
 {
     ending == 0 && beginning == 0
 }
 
-/// What is mended of runs of so many `*` between these texts.
+/// What is mended at runs of this many `*` between these texts.
 fn joint_of_runs(ending: usize, beginning: usize, before: &str, rest: &str) -> Joint
     ensures { result ≡ spec.joint_of_runs ending beginning before.now rest.now }
 {
@@ -288,10 +365,10 @@ fn joint_of(out: &str, content: &str) -> Joint
     )
 }
 
-/// Mends a text and the content that is put behind it, where they meet: a backslash or a space comes between, marks of
-/// emphasis go, or stand where a reader takes them for such.
+/// Mends a text and the content that is put after it, where they meet: a backslash or a space comes between, and marks
+/// of emphasis go, or move to where a reader takes them for marks.
 ///
-/// Want of memory is the only error.
+/// `Err` means out of memory.
 pub fn mend_joint(out: &mut String, content: &mut String) -> Result<(), AllocError>
     ensures out { OnOk result
         (string_bytes out.new ≡ (spec.mended_ends (string_bytes out.old) (string_bytes content.old)).front) }
@@ -302,7 +379,7 @@ pub fn mend_joint(out: &mut String, content: &mut String) -> Result<(), AllocErr
     mend(joint, out, content)
 }
 
-/// Mends a text and a content so.
+/// Mends a text and a content like this.
 fn mend(joint: Joint, out: &mut String, content: &mut String) -> Result<(), AllocError>
     requires { Fits joint (string_bytes out.old) (string_bytes content.old) }
     ensures out { OnOk result

@@ -13,7 +13,7 @@ pub enum BrStyle {
     Backslash,
 }
 
-/// A hard line break, with its line feed.
+/// A hard line break, with its line feed. `Err` means out of memory.
 pub fn write_line_break(alloc: Global, style: BrStyle) -> Result<String, AllocError>
     ensures { IfOk result (λ s. string_bytes s ≡ spec.line_break style) }
 {

@@ -30,7 +30,7 @@ fn holds_line_end(text: &str) -> bool
     text.as_bytes().iter().any(|b| matches!(*b, b'\n' | b'\r'))
 }
 
-/// Puts the text with this in place of each line end.
+/// Appends the text with this in place of each line end.
 pub(crate) fn push_with_line_ends_as(
     out: &mut String,
     text: &str,
@@ -52,8 +52,8 @@ pub(crate) fn push_with_line_ends_as(
     Ok(())
 }
 
-/// What stands in place of the first byte, where that is not the byte itself: of a carriage return and a line feed
-/// the second stands for both.
+/// What is in place of the first byte, if that is not the byte itself: of a carriage return and a line feed, the second
+/// stands for both.
 fn replacement<'a>(bytes: &[u8], instead: &'a str) -> Option<&'a str>
     ensures { MatchOption result
         (spec.line_ends_as instead.now bytes.now

@@ -22,10 +22,10 @@ pub enum LinkReferenceStyle {
     Shortcut,
 }
 
-/// How many bytes stand around the parts of an image at most, `![](< "">)`; the text doesn't grow but for escapes.
+/// The most bytes around the parts of an image, `![](< "">)`; apart from escapes the text doesn't grow.
 const MARKS_AROUND: usize = 10;
 
-/// An image with its description and title.
+/// An image with its description and title. `Err` means out of memory.
 pub fn write_image(
     alloc: Global,
     address: &str,
@@ -54,8 +54,8 @@ pub fn write_image(
     Ok(image)
 }
 
-/// A link around the content. White space at the content's start goes, and at its end stands behind
-/// the link.
+/// A link around the content. White space at the content's start goes, and white space at its end stands after the
+/// link. `Err` means out of memory.
 pub fn write_inline_link(
     alloc: Global,
     content: &str,
@@ -83,7 +83,7 @@ pub fn write_inline_link(
     Ok(link)
 }
 
-/// An autolink, where the content is the address as it is written.
+/// An autolink, if the content is the address as it is written. `Err` means out of memory.
 pub fn write_autolink(
     alloc: Global,
     content: &str,
@@ -104,7 +104,7 @@ pub fn write_autolink(
     Ok(Some(link))
 }
 
-/// A reference to the definition of this number, or to that which has the content as its label.
+/// A reference to the definition with this number, or with the content as its label. `Err` means out of memory.
 pub fn write_reference(
     alloc: Global,
     style: LinkReferenceStyle,
@@ -123,7 +123,7 @@ pub fn write_reference(
     Ok(link)
 }
 
-/// The line that defines the address and the title of a reference.
+/// The line that defines the address and the title of a reference. `Err` means out of memory.
 pub fn write_definition(
     alloc: Global,
     style: LinkReferenceStyle,
@@ -151,7 +151,7 @@ pub fn write_definition(
     Ok(line)
 }
 
-/// Puts the text between brackets.
+/// Appends the text between brackets.
 pub(crate) fn push_in_brackets(out: &mut String, text: &str) -> Result<(), AllocError>
     ensures { OnOk result
         (string_bytes out.new ≡ string_bytes out.old ++ spec.in_brackets text.now) }
@@ -161,7 +161,7 @@ pub(crate) fn push_in_brackets(out: &mut String, text: &str) -> Result<(), Alloc
     out.push(']')
 }
 
-/// Puts a number between brackets.
+/// Appends a number between brackets.
 pub(crate) fn push_number_in_brackets(out: &mut String, number: usize) -> Result<(), AllocError>
     ensures { OnOk result
         (string_bytes out.new ≡ string_bytes out.old ++ spec.in_brackets (decimal number)) }
@@ -169,7 +169,7 @@ pub(crate) fn push_number_in_brackets(out: &mut String, number: usize) -> Result
     write!(out, "[{number}]")
 }
 
-/// Puts the address and the title in parentheses.
+/// Appends the address and the title in parentheses.
 fn push_resource(out: &mut String, address: &str, title: Option<&str>) -> Result<(), AllocError>
     ensures { OnOk result (string_bytes out.new
         ≡ string_bytes out.old ++ spec.resource address.now (option_copied title.entry)) }

@@ -14,7 +14,7 @@ use htmd_text::{
 };
 use std::alloc::{AllocError, Global};
 
-/// What stands before the items of a bullet list.
+/// What comes before the items of a bullet list.
 #[derive(Debug, Clone, Copy, PartialEq)]
 pub enum BulletListMarker {
     Asterisk,
@@ -30,8 +30,8 @@ pub enum ListBlock {
     Other(String),
 }
 
-/// The number of the first item of an ordered list, by its attribute `start` read as Rust reads an
-/// `i32`: a sign is allowed, a number below 1 counts as 1, and so does what is no number.
+/// The number of the first item of an ordered list, by its attribute `start`, read as Rust reads an `i32`: a sign is
+/// allowed, a number below 1 counts as 1, and so does what is not a number.
 pub fn first_number(start: Option<&str>) -> u32
     ensures { result ≡ spec.first_number (option_copied start.entry) }
 {
@@ -43,9 +43,9 @@ pub fn first_number(start: Option<&str>) -> u32
     }
 }
 
-/// An item of a bullet list, in a line of its own: the marker, so many spaces, and the content
-/// without document white space at its start. The content's further lines stand below its first
-/// character, without document white space at their ends.
+/// An item of a bullet list, in a line of its own: the marker, this many spaces, and the content without document white
+/// space at its start. The content's further lines are indented to its first character, without document white space at
+/// their ends. `Err` means out of memory.
 pub fn write_bullet_item(
     alloc: Global,
     marker: BulletListMarker,
@@ -63,10 +63,10 @@ pub fn write_bullet_item(
     Ok(item)
 }
 
-/// An item of a bullet list with at least one space behind its marker and at most four: with none there is no item,
-/// and with more the content is indented code (CommonMark 0.31.2, 5.2).
+/// An item of a bullet list with at least one space after its marker and at most four: with none there is no item, and
+/// with more the content is indented code (CommonMark 0.31.2, 5.2).
 ///
-/// Want of memory is the only error.
+/// `Err` means out of memory.
 pub fn write_guarded_bullet_item(
     alloc: Global,
     marker: BulletListMarker,
@@ -78,7 +78,7 @@ pub fn write_guarded_bullet_item(
     write_bullet_item(alloc, marker, guarded_spacing(spacing), content)
 }
 
-/// The spaces behind a marker: as many as are asked for, but at least 1 and at most 4.
+/// The spaces after a marker: as many as are asked for, but at least 1 and at most 4.
 fn guarded_spacing(spacing: u8) -> u8
     ensures { result ≡ items.guarded_spacing spacing }
 {
@@ -95,8 +95,8 @@ fn bullet(marker: BulletListMarker) -> char
     }
 }
 
-/// The content of an item of an ordered list, between line feeds and without document white space at
-/// its start: the list puts the number before it.
+/// The content of an item of an ordered list, between line feeds and without document white space at its start: the
+/// list puts the number before it. `Err` means out of memory.
 pub fn write_unnumbered_item(alloc: Global, content: &str) -> Result<String, AllocError>
     ensures { IfOk result (λ t. string_bytes t ≡ items.unnumbered_item content.now) }
 {
@@ -108,7 +108,7 @@ pub fn write_unnumbered_item(alloc: Global, content: &str) -> Result<String, All
     Ok(item)
 }
 
-/// The spaces behind a dot, where the highest number of the list has so many.
+/// The spaces after a dot, when the highest number of the list has this many.
 #[derive(Clone, Copy)]
 pub(crate) struct Spaces {
     spacing: u8,
@@ -116,8 +116,8 @@ pub(crate) struct Spaces {
     is_guarded: bool,
 }
 
-/// The blocks of an ordered list: each item behind its number, and the other texts as they are. The
-/// contents of all items begin in the same column, behind the highest number and so many spaces.
+/// The blocks of an ordered list: each item after its number, and the other texts as they are. The contents of all
+/// items begin in the same column, after the highest number and this many spaces. `Err` means out of memory.
 pub fn write_ordered_list(
     alloc: Global,
     first: u32,
@@ -137,11 +137,11 @@ pub fn write_ordered_list(
     write_numbered(alloc, first, spaces, blocks)
 }
 
-/// The blocks of an ordered list with at least one space behind each dot and at most four, those that align shorter
-/// numbers included: with none there is no item, and with more its content is indented code. It begins at 1 where its
-/// highest number would have more than nine digits, since such a number is none (CommonMark 0.31.2, 5.2).
+/// The blocks of an ordered list with at least one space after each dot and at most four, including those that align
+/// shorter numbers: with none there is no item, and with more its content is indented code. The list begins at 1 if its
+/// highest number would have more than nine digits, since that is not a list number (CommonMark 0.31.2, 5.2).
 ///
-/// Want of memory is the only error.
+/// `Err` means out of memory.
 pub fn write_guarded_ordered_list(
     alloc: Global,
     first: u32,
@@ -164,9 +164,9 @@ pub fn write_guarded_ordered_list(
     write_numbered(alloc, first, spaces, blocks)
 }
 
-/// The contents of an ordered list's items, without numbers, and its other texts, as where a list stands in one line.
+/// The contents of an ordered list's items, without numbers, and its other texts: for a list that stands in one line.
 ///
-/// Want of memory is the only error.
+/// `Err` means out of memory.
 pub fn write_unnumbered_list(alloc: Global, blocks: Vec<ListBlock>) -> Result<String, AllocError>
     ensures { IfOk result
         (λ t. string_bytes t ≡ spec.unnumbered_list (map spec.block_of blocks.items)) }
@@ -189,7 +189,7 @@ fn highest_number(first: u32, blocks: &[ListBlock]) -> usize
     (first as usize + item_count(blocks)).saturating_sub(1)
 }
 
-/// Each item behind its number with its spaces, and the other texts as they are.
+/// Each item after its number with its spaces, and the other texts as they are.
 fn write_numbered(
     alloc: Global,
     first: u32,
@@ -235,7 +235,7 @@ fn item_count(blocks: &[ListBlock]) -> usize
 }
 
 impl Spaces {
-    /// How many stand behind the dot of the number.
+    /// How many spaces come after the dot of the number.
     fn behind(self, number: usize) -> usize
         ensures bound { result ≤ 275 }
         ensures value { result ≡ spaces_of self number }
@@ -249,7 +249,7 @@ impl Spaces {
     }
 }
 
-/// The spaces behind the dot of a number: one more than are asked for with each digit that the highest number has more.
+/// The spaces after the dot of a number: as many as asked for, and one for each digit more that the highest number has.
 fn aligned_spaces(spacing: u8, highest: usize, number: usize) -> usize
     ensures bound { result ≤ 275 }
     ensures value { result ≡ items.aligned_spaces spacing highest number }
@@ -257,7 +257,7 @@ fn aligned_spaces(spacing: u8, highest: usize, number: usize) -> usize
     spacing as usize + digits(highest).saturating_sub(digits(number))
 }
 
-/// An item in a line of its own: the number, a dot, the spaces behind it, and the content without line feeds at its
+/// An item in a line of its own: the number, a dot, the spaces after it, and the content without line feeds at its
 /// start.
 fn write_numbered_item(
     alloc: Global,
@@ -279,8 +279,8 @@ fn write_numbered_item(
     Ok(item)
 }
 
-/// Puts the content of an item behind its marker, which a line feed precedes: further lines stand
-/// behind as many spaces as the marker takes.
+/// Appends the content of an item after its marker, which comes after a line feed: further lines stand after as many
+/// spaces as the marker takes characters.
 fn push_content(item: &mut String, content: &str) -> Result<(), AllocError>
     requires { 0 < length (string_bytes item.old) }
     ensures { OnOk result (string_bytes item.new
@@ -297,8 +297,8 @@ fn without_line_feeds_before(text: &str) -> &str
     &text[leading_len(text.as_bytes(), b'\n')..]
 }
 
-/// A list among the blocks around it, without line feeds at its own ends: in an item it begins and
-/// ends a line, elsewhere blank lines stand around it. Nothing where the list is empty.
+/// A list among the blocks around it, without line feeds at its own ends: in an item it begins and ends a line,
+/// elsewhere it has blank lines around it. Nothing if the list is empty. `Err` means out of memory.
 pub fn write_list_block(mut list: String, is_in_item: bool) -> Result<Option<String>, AllocError>
     ensures { IfOk result (λ block. option_map string_bytes block
         ≡ spec.list_block is_in_item (string_bytes list)) }

@@ -6,10 +6,10 @@ ghost use Rattle.htmd_markdown.specs.OneLine as spec;
 use htmd_text::runs::{leading_len, trailing_len};
 use std::alloc::{AllocError, Global};
 
-/// The text's lines without spaces at their ends, empty ones left out, with a space between each two: so a heading or
-/// a link that holds blocks loses their lines, not their words.
+/// The text's lines without spaces at their ends, without the empty ones, with a space between each two: so a heading
+/// or a link that holds blocks loses their lines, not their words.
 ///
-/// Want of memory is the only error.
+/// `Err` means out of memory.
 pub fn write_one_line(alloc: Global, text: &str) -> Result<String, AllocError>
     ensures text { IfOk result (λ s. string_bytes s ≡ spec.one_line text.now) }
     ensures line { IfOk result (λ s. spec.holds_line_feed (string_bytes s) ≡ false) }
@@ -19,7 +19,7 @@ pub fn write_one_line(alloc: Global, text: &str) -> Result<String, AllocError>
     Ok(line)
 }
 
-/// Puts the text in one line.
+/// Appends the text in one line.
 pub(crate) fn push_one_line(out: &mut String, text: &str) -> Result<(), AllocError>
     ensures { OnOk result (string_bytes out.new ≡ string_bytes out.old ++ spec.one_line text.now) }
 {

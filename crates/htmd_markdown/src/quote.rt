@@ -7,8 +7,8 @@ use htmd_text::TrimDocumentWhitespace;
 use htmd_text::runs::leading_len;
 use std::alloc::{AllocError, Global};
 
-/// The content's lines, each behind `> `, with blank lines around; line feeds at the content's start
-/// and document white space at its end are cut before.
+/// The content's lines, each after `> `, with blank lines around; line feeds at the content's start and document white
+/// space at its end are cut before that. `Err` means out of memory.
 pub fn write_quote(alloc: Global, content: &str) -> Result<String, AllocError>
     ensures { IfOk result (λ s. string_bytes s ≡ spec.quote content.now) }
 {
@@ -22,7 +22,7 @@ pub fn write_quote(alloc: Global, content: &str) -> Result<String, AllocError>
     Ok(text)
 }
 
-/// Puts the content's lines, each behind `> `.
+/// Appends the content's lines, each after `> `.
 fn push_quoted_lines(text: &mut String, content: &str) -> Result<(), AllocError>
     ensures { OnOk result
         (string_bytes text.new ≡ string_bytes text.old ++ spec.quoted_lines (lines content.now)) }

@@ -2,7 +2,7 @@
 ghost use Rattle.std.specs.Prelude.{◌≡◌};
 ghost use Rattle.htmd_markdown.specs.ReferenceLike as spec;
 
-/// Whether what stands behind an `&` makes it look like a character reference: a name, `#` and decimal digits, `#x` or
+/// Whether what follows an `&` makes it look like a character reference: a name, `#` and decimal digits, `#x` or
 /// `#X` and hexadecimal digits, or nothing, and then a semicolon or the end.
 pub(crate) fn is_reference_like(rest: &[u8]) -> bool
     ensures { result ≡ spec.is_reference_like rest.now }
@@ -10,7 +10,7 @@ pub(crate) fn is_reference_like(rest: &[u8]) -> bool
     matches!(behind_name_or_number(rest), None | Some(b';'))
 }
 
-/// The first byte behind a name or a number.
+/// The first byte after a name or a number.
 fn behind_name_or_number(rest: &[u8]) -> Option<u8>
     ensures { result ≡ spec.behind_name_or_number rest.now }
 {

@@ -2,7 +2,7 @@
 ghost use Rattle.std.specs.Prelude.{◌≡◌, ◌≤◌, length};
 ghost use Rattle.htmd_markdown.specs.Runs as spec;
 
-/// The length of the longest run of the character, 0 where it doesn't stand in the text.
+/// The length of the longest run of the character, 0 if the text doesn't have it.
 pub(crate) fn longest_run(text: &str, character: u8) -> usize
     ensures bound { result ≤ length text.now }
     ensures value { result ≡ spec.longest_run character text.now }

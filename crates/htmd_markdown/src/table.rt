@@ -15,21 +15,21 @@ use std::alloc::{AllocError, Global};
 /// The longest line that is padded.
 const LONGEST_PADDED: usize = 100;
 
-/// Fewer dashes are no separator for each reader.
+/// With fewer dashes, not every reader sees a separator.
 const NARROWEST: usize = 3;
 
-/// What stands in a cell in place of a bar, so that the cell doesn't end there.
+/// What is written in a cell in place of a bar, so that the cell doesn't end there.
 #[derive(Clone, Copy)]
 pub(crate) enum Bars {
     /// A character reference, `&#124;`.
     References,
-    /// The bar behind a backslash, `\|`, unless a backslash escapes it already.
+    /// The bar after a backslash, `\|`, unless a backslash escapes it already.
     Backslashes,
 }
 
-/// The line of a table's row: each cell behind a space and padded to its column's width, bars around.
-/// In a cell a line feed becomes a space, a carriage return goes, a bar becomes a character reference,
-/// and document white space at the ends is cut; missing cells are empty.
+/// The line of a table's row: each cell after a space and padded to its column's width, with bars around. In a cell a
+/// line feed becomes a space, a carriage return goes, a bar becomes a character reference, and document white space at
+/// the ends is cut; missing cells are empty. `Err` means out of memory.
 pub fn write_row(alloc: Global, cells: &[String], widths: &[usize]) -> Result<String, AllocError>
     requires { length cells.now ≤ length widths.now }
     ensures text { IfOk result
@@ -42,10 +42,10 @@ pub fn write_row(alloc: Global, cells: &[String], widths: &[usize]) -> Result<St
     write_row_of(alloc, Bars::References, cells, widths)
 }
 
-/// The line of a table's row as `write_row` writes it, with each bar of a cell behind a backslash; a bar that stands
-/// behind an odd number of backslashes has one already.
+/// The line of a table's row as `write_row` writes it, with each bar of a cell after a backslash; a bar after an odd
+/// number of backslashes has one already.
 ///
-/// Want of memory is the only error.
+/// `Err` means out of memory.
 pub fn write_guarded_row(
     alloc: Global,
     cells: &[String],
@@ -61,7 +61,7 @@ pub fn write_guarded_row(
     write_row_of(alloc, Bars::Backslashes, cells, widths)
 }
 
-/// The line of a table's row, with its bars so written.
+/// The line of a table's row, with its bars written like this.
 fn write_row_of(
     alloc: Global,
     bars: Bars,
@@ -77,8 +77,8 @@ fn write_row_of(
     Ok(text)
 }
 
-/// The lines of a table: the headers and a line of dashes below them, where there are headers, and the
-/// rows. There are as many columns as the longest line has cells, each as wide as its widest cell.
+/// The lines of a table: the headers and a line of dashes below them if there are headers, and the rows. There are as
+/// many columns as the longest line has cells, each as wide as its widest cell. `Err` means out of memory.
 pub fn write_table(
     alloc: Global,
     headers: &[String],
@@ -93,10 +93,10 @@ pub fn write_table(
 }
 
 /// The lines of a table as `write_table` writes them, with the rows of `write_guarded_row`, and each column at least 3
-/// characters wide, since fewer dashes are no separator for each reader. Where a line would have more than 100 characters
-/// no cell is padded further.
+/// characters wide, since with fewer dashes not every reader sees a separator. If a line would have more than 100
+/// characters, no cell is padded further.
 ///
-/// Want of memory is the only error.
+/// `Err` means out of memory.
 pub fn write_guarded_table(
     alloc: Global,
     headers: &[String],
@@ -113,7 +113,7 @@ pub fn write_guarded_table(
     write_table_of(alloc, Bars::Backslashes, headers, rows)
 }
 
-/// The lines of a table, with its bars so written.
+/// The lines of a table, with its bars written like this.
 fn write_table_of(
     alloc: Global,
     bars: Bars,
@@ -134,7 +134,7 @@ fn write_table_of(
     Ok(text)
 }
 
-/// Makes each column as narrow as a column may be, where the lines would be too long.
+/// Makes each column as narrow as a column may be, if the lines would be too long.
 fn narrow(widths: &mut Vec<usize>, bars: Bars)
     ensures { widths.new.items ≡ bytes.narrowed bars widths.old.items }
 {
@@ -215,7 +215,7 @@ fn table_room(widths: &[usize], headers: &[String], rows: &[Vec<String>]) -> usi
     room
 }
 
-/// Puts the headers and the separator, where there are headers.
+/// Appends the headers and the separator, if there are headers.
 fn push_head(
     text: &mut String,
     bars: Bars,
@@ -233,7 +233,7 @@ fn push_head(
     Ok(())
 }
 
-/// Puts the line between headers and rows.
+/// Appends the line between headers and rows.
 fn push_separator(text: &mut String, widths: &[usize]) -> Result<(), AllocError>
     ensures { OnOk result
         (string_bytes text.new ≡ string_bytes text.old ++ spec.separator widths.now) }
@@ -248,7 +248,7 @@ fn push_separator(text: &mut String, widths: &[usize]) -> Result<(), AllocError>
     Ok(())
 }
 
-/// Puts the line of a row.
+/// Appends the line of a row.
 fn push_row(
     text: &mut String,
     bars: Bars,
@@ -271,7 +271,7 @@ fn push_row(
     Ok(())
 }
 
-/// Puts a cell with its spaces and the bar behind it.
+/// Appends a cell with its spaces and the bar after it.
 fn push_padded(text: &mut String, bars: Bars, cell: &str, width: usize) -> Result<(), AllocError>
     ensures { OnOk result
         (string_bytes text.new ≡ (string_bytes text.old
@@ -284,7 +284,7 @@ fn push_padded(text: &mut String, bars: Bars, cell: &str, width: usize) -> Resul
     Ok(())
 }
 
-/// Puts the cell as it is written.
+/// Appends the cell as it is written.
 fn push_cell(text: &mut String, bars: Bars, cell: &str) -> Result<(), AllocError>
     ensures { OnOk result
         (string_bytes text.new ≡ string_bytes text.old ++ bytes.cell_of bars cell.now) }
@@ -305,7 +305,7 @@ fn push_cell(text: &mut String, bars: Bars, cell: &str) -> Result<(), AllocError
     Ok(())
 }
 
-/// What a cell has in place of the byte, where that is not the byte itself.
+/// What a cell has in place of the byte, if that is not the byte itself.
 fn replacement(byte: u8, is_escaped: bool, bars: Bars) -> Option<&'static str>
     ensures { MatchOption result (bytes.piece bars is_escaped byte ≡ bytes.itself byte)
         (λ instead. bytes.IsReplaced bars is_escaped byte instead.now) }
@@ -319,8 +319,8 @@ fn replacement(byte: u8, is_escaped: bool, bars: Bars) -> Option<&'static str>
     }
 }
 
-/// Whether a backslash escapes what stands behind the byte. A carriage return goes, so behind it stands what stood
-/// before it.
+/// Whether a backslash escapes what follows the byte. A carriage return goes, so the answer after it is the one before
+/// it.
 fn escapes_next(byte: u8, is_escaped: bool) -> bool
     ensures { result ≡ bytes.escapes_next is_escaped byte }
 {

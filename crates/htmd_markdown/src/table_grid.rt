@@ -1,4 +1,4 @@
-//! The grid of a table whose cells take more columns and rows than one (HTML, 4.9.12).
+//! The grid of a table whose cells may take more than one column and row (HTML, 4.9.12).
 ghost use Rattle.std.specs.Prelude.{◌≡◌, ◌≤◌, ◌++◌, [], if◌then◌else◌, IfOk, OnOk, length, map};
 ghost use Rattle.std.specs.List.{prefix_len};
 ghost use Rattle.htmd_markdown.specs.Tables.{texts, row_texts};
@@ -32,9 +32,9 @@ pub(crate) struct Column {
     rows: u16,
 }
 
-/// The texts of each row, with an empty one for each column that a cell keeps beside it or below it.
+/// The texts of each row, with an empty one for each column that a cell takes beside it or below it.
 ///
-/// Want of memory is the only error.
+/// `Err` means out of memory.
 pub fn lay_table(alloc: Global, rows: Vec<SpannedRow>) -> Result<Vec<Vec<String>>, AllocError>
     ensures { IfOk result
         (λ grid. map row_texts grid.items ≡ spec.grid (map row_view rows.items)) }
@@ -49,7 +49,7 @@ pub fn lay_table(alloc: Global, rows: Vec<SpannedRow>) -> Result<Vec<Vec<String>
     Ok(grid)
 }
 
-/// For how many rows the columns above a row are taken: where a group begins, no column goes on.
+/// For how many rows the columns above a row are taken: no column goes on where a group begins.
 fn rows_above(above: &[u16], begins_group: bool) -> &[u16]
     ensures { result.now ≡ (if begins_group then [] else above.now) }
 {
@@ -87,7 +87,7 @@ fn kept_len(above: &[u16]) -> usize
     above.len()
 }
 
-/// Puts an empty column below each of these.
+/// Adds an empty column below each of these.
 fn push_below(alloc: Global, columns: &mut Vec<Column>, above: &[u16]) -> Result<(), AllocError>
     ensures { OnOk result (map column_view columns.new.items
         ≡ map column_view columns.old.items ++ map spec.below above.now) }
@@ -101,7 +101,7 @@ fn push_below(alloc: Global, columns: &mut Vec<Column>, above: &[u16]) -> Result
     Ok(())
 }
 
-/// Puts the columns that a cell takes.
+/// Adds the columns that a cell takes.
 fn push_cell(alloc: Global, columns: &mut Vec<Column>, cell: SpannedCell) -> Result<(), AllocError>
     ensures { OnOk result (map column_view columns.new.items
         ≡ map column_view columns.old.items ++ spec.columns_of (cell_view cell)) }

@@ -15,7 +15,7 @@ pub enum HrStyle {
     Underscores,
 }
 
-/// A thematic break, with blank lines around.
+/// A thematic break, with blank lines around. `Err` means out of memory.
 pub fn write_thematic_break(alloc: Global, style: HrStyle) -> Result<String, AllocError>
     ensures { IfOk result (λ s. string_bytes s ≡ spec.thematic_break style) }
 {

@@ -7,7 +7,7 @@ use crate::address::push_escaped;
 use htmd_text::TrimDocumentWhitespace;
 use std::alloc::AllocError;
 
-/// Puts the description of an image, where it has one.
+/// Appends the description of an image, if it has one.
 pub(crate) fn push_description(out: &mut String, alt: Option<&str>) -> Result<(), AllocError>
     ensures { OnOk result
         (string_bytes out.new ≡ string_bytes out.old ++ spec.description (option_copied alt.entry)) }
@@ -18,7 +18,7 @@ pub(crate) fn push_description(out: &mut String, alt: Option<&str>) -> Result<()
     }
 }
 
-/// Puts a space and the title between quotation marks, where there is one.
+/// Appends a space and the title between quotation marks, if there is one.
 pub(crate) fn push_title(out: &mut String, title: Option<&str>) -> Result<(), AllocError>
     ensures { OnOk result
         (string_bytes out.new ≡ string_bytes out.old ++ spec.title_text (option_copied title.entry)) }
@@ -31,8 +31,8 @@ pub(crate) fn push_title(out: &mut String, title: Option<&str>) -> Result<(), Al
     Ok(())
 }
 
-/// Puts the lines of the text that aren't empty without document white space at their ends, with a
-/// backslash before each quotation mark.
+/// Appends the lines of the text that aren't empty without document white space at their ends, with a backslash before
+/// each quotation mark.
 fn push_tidied(out: &mut String, text: &str) -> Result<(), AllocError>
     ensures { OnOk result (string_bytes out.new ≡ string_bytes out.old ++ spec.tidied_text text.now) }
 {

@@ -95,8 +95,8 @@ fn reads_back_each_short_text(rt: HostRuntime) -> Result<(), Fail> {
     Ok(())
 }
 
-/// The code of the fenced code block that a text is as a whole: its first line is a fence and the
-/// info string, its last line as long a fence, and no line between them closes the block.
+/// The code, if the whole text is a fenced code block: its first line is a fence and the info string, its last line a
+/// fence of the same length, and no line between them closes the block.
 fn read<'a>(markdown: &'a str, info: &str) -> Option<&'a str> {
     let (first, rest) = markdown.split_once('\n')?;
     let fence = first.strip_suffix(info)?;

@@ -83,8 +83,8 @@ fn reads_back_each_short_text(rt: HostRuntime) -> Result<(), Fail> {
     Ok(())
 }
 
-/// The text of the code span that a text is as a whole: equal runs of backquotes stand at its ends
-/// and no such run between them.
+/// The text in the code span, if the whole text is one: equal runs of backquotes are at its ends and there is no such
+/// run between them.
 fn read(alloc: Global, markdown: &str) -> Result<Option<String>, AllocError> {
     let inside = markdown.trim_matches('`');
     let open = markdown.len() - markdown.trim_start_matches('`').len();
@@ -101,7 +101,7 @@ fn read(alloc: Global, markdown: &str) -> Result<Option<String>, AllocError> {
     Ok(Some(String::from_str(alloc, without_padding(line.as_str()))?))
 }
 
-/// The line without one space at each end, where there is more in it than spaces.
+/// The line without one space at each end, if it isn't only spaces.
 fn without_padding(line: &str) -> &str {
     if line.trim_matches(' ').is_empty() {
         return line;

@@ -1,4 +1,5 @@
-//! What a reader of CommonMark finds again: one line, emphasis, headings, code, links and lists.
+//! What a reader of CommonMark finds again: one line, emphasis, headings, code, links and lists, and where two texts
+//! meet.
 
 use htmd_markdown::*;
 use std::test::Fail;
@@ -217,5 +218,33 @@ fn autolinks_have_a_scheme(rt: HostRuntime) -> Result<(), Fail> {
     }
     let link = write_guarded_autolink(rt.alloc(), "https://e.x/a\\_b\n", "https://e.x/a_b")?;
     assert_eq!(rt; link.as_str(), "<https://e.x/a_b> ");
+    Ok(())
+}
+
+#[test]
+fn links_stay_closed_where_texts_meet(rt: HostRuntime) -> Result<(), Fail> {
+    let cases = [
+        ("**(a)**", "b", "**(a**", ")b"),
+        ("**[a](x)**", "b", "**[a](x)** ", "b"),
+        (
+            "*![a](<x y> \"t (u\")*",
+            "b",
+            "*![a](<x y> \"t (u\")* ",
+            "b",
+        ),
+        ("**[a][1]**", "b", "**[a][1]** ", "b"),
+        ("*<http://a\\>*", "b", "*<http://a\\>* ", "b"),
+        ("**[a](x) (\"c\")**", "b", "**[a](x) (\"c**", "\")b"),
+        ("**\\[a\\](x)**", "b", "**\\[a\\](x**", ")b"),
+        ("*\\<a>*", "b", "*\\<a*", ">b"),
+        ("*[a](x)*", " b", "*[a](x)*", " b"),
+    ];
+    for (out, content, front, behind) in cases {
+        let mut before = String::from_str(rt.alloc(), out)?;
+        let mut after = String::from_str(rt.alloc(), content)?;
+        mend_joint(&mut before, &mut after)?;
+        assert_eq!(rt; before.as_str(), front, "at {out}");
+        assert_eq!(rt; after.as_str(), behind, "at {out}");
+    }
     Ok(())
 }

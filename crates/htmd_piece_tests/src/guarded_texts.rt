@@ -1,4 +1,4 @@
-//! Texts that no reader takes for markup, and the ends of texts behind which a line begins.
+//! Texts that no reader takes for markup, and the ends of texts after which a line begins.
 use htmd_markdown::{begins_line, push_guarded_text, write_guarded_text};
 use std::alloc::{AllocError, Global};
 use std::test::Fail;
@@ -132,7 +132,7 @@ fn guards_long_texts(rt: HostRuntime) -> Result<(), Fail> {
     Ok(())
 }
 
-/// A text, and behind it another one so many times.
+/// A text, and after it another one this many times.
 fn repeated(alloc: Global, front: &str, text: &str, times: usize) -> Result<String, AllocError> {
     let mut whole = String::new(alloc);
     whole.push_str(front)?;

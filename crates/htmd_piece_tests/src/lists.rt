@@ -59,7 +59,7 @@ fn writes_bullet_items(rt: HostRuntime) -> Result<(), Fail> {
     Ok(())
 }
 
-/// A block that is an item, where the text begins with a line feed, or another one.
+/// A block that is an item if the text begins with a line feed, else another one.
 fn block(alloc: Global, text: &str) -> Result<ListBlock, AllocError> {
     let content = String::from_str(alloc, text)?;
     if text.starts_with('\n') {

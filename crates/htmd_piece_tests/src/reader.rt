@@ -1,10 +1,10 @@
-//! Texts of the greatest depth, and a page cut short and less each of its characters. What small texts denote, and
+//! Texts of the greatest depth, and a page cut short and without each of its characters. What small texts denote, and
 //! where they are refused, is a family of `htmd_cases`.
 use htmd_tree::*;
 use std::alloc::Global;
 use std::test::Fail;
 
-/// The page whose beginnings, and whose texts less one byte, are read.
+/// The page that is read cut short, and without one of its bytes.
 const PAGE: &str = "\
 <!DOCTYPE html>\n\
 <title>Notes &amp; more</title>\n\
@@ -46,7 +46,7 @@ kept</textarea><select><optgroup label=\"g\"><option value=1>1</option></optgrou
 <p>More <b>bold</b> and <i class=\"k\">slanted</i> text.</p>\n\
 ";
 
-/// So many start tags, and, where they are wanted, their end tags.
+/// This many start tags, and if they are wanted, their end tags.
 fn nested(alloc: Global, count: usize, closed: bool) -> Result<String, Fail> {
     let mut html = String::new(alloc);
     for _ in 0..count {

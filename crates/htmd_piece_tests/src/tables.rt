@@ -12,7 +12,7 @@ fn pair(alloc: Global, first: &str, second: &str) -> Result<Vec<String>, AllocEr
     Ok(cells)
 }
 
-/// The row of a line, where each cell has a width.
+/// The row of a line, in which each cell has a width.
 fn row(alloc: Global, cells: &[String], widths: &[usize]) -> Result<String, Fail> {
     if cells.len() > widths.len() {
         return Err(Fail::from("each cell has a width"));
@@ -20,7 +20,7 @@ fn row(alloc: Global, cells: &[String], widths: &[usize]) -> Result<String, Fail
     Ok(write_row(alloc, cells, widths)?)
 }
 
-/// Reads a row's cells one by one: what stands between two bars, without spaces, tabs and line ends at its ends.
+/// Reads a row's cells one by one: what is between two bars, without spaces, tabs and line ends at its ends.
 fn is_row_of(line: &str, cells: &[&str]) -> bool {
     let Some(inside) = line.strip_prefix('|') else {
         return false;
@@ -120,7 +120,7 @@ fn guarded_bars_stand_behind_backslashes(rt: HostRuntime) -> Result<(), Fail> {
     Ok(())
 }
 
-/// The row of a line, where each cell has a width.
+/// The row of a line, in which each cell has a width.
 fn guarded_row(alloc: Global, cells: &[String], widths: &[usize]) -> Result<String, Fail> {
     if cells.len() > widths.len() {
         return Err(Fail::from("each cell has a width"));

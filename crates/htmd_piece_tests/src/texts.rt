@@ -1,4 +1,4 @@
-//! What no clause says: that calls succeed where there is memory, and rows of the rules, written by hand.
+//! What no clause says: that calls succeed if there is memory, and rows of the rules, written by hand.
 use htmd_text::*;
 use std::alloc::{AllocError, Global};
 use std::borrow::CowStr;
@@ -37,7 +37,7 @@ fn escapes_markdown(rt: HostRuntime) -> Result<(), Fail> {
     Ok(())
 }
 
-/// The text that Markdown means by one with backslashes: before ASCII punctuation they are dropped.
+/// What Markdown means by a text with backslashes: before ASCII punctuation they are dropped.
 fn read(alloc: Global, markdown: &str) -> Result<String, AllocError> {
     let mut text = String::new(alloc);
     let mut is_escaped = false;

@@ -6,7 +6,7 @@ use std::alloc::{AllocError, Global};
 use std::borrow::CowStr;
 use std::test::Fail;
 
-/// What a token is to be; a start tag has names and values, and says whether it ends in `/>`.
+/// What a token should be; a start tag has names and values, and says whether it ends in `/>`.
 #[derive(Debug, Clone, Copy)]
 enum Want {
     Start(&'static str, &'static [(&'static str, &'static str)], bool),
@@ -45,7 +45,7 @@ fn is_wanted(token: &Token, want: Want) -> bool {
     }
 }
 
-/// The next token, where need be at a second try.
+/// The next token, at a second try if need be.
 fn next(tokenizer: &mut Tokenizer<'_>, alloc: Global) -> Result<Token, AllocError> {
     match tokenizer.next(alloc, Content::Normal, false) {
         Ok(token) => Ok(token),
@@ -53,7 +53,7 @@ fn next(tokenizer: &mut Tokenizer<'_>, alloc: Global) -> Result<Token, AllocErro
     }
 }
 
-/// The text as it is read, where need be at a second try.
+/// The text as it is read, at a second try if need be.
 fn read(alloc: Global, text: &str) -> Result<CowStr<'_>, AllocError> {
     match preprocess(alloc, text) {
         Ok(read) => Ok(read),

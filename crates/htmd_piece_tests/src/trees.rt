@@ -1,4 +1,4 @@
-//! What no clause says: that calls succeed where there is memory, and small serialisations, written by hand.
+//! What no clause says: that calls succeed if there is memory, and small serialisations, written by hand.
 use htmd_tree::*;
 use std::test::Fail;
 

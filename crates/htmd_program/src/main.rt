@@ -30,8 +30,8 @@ fn main(rt: HostRuntime) -> ExitCode {
     }
 }
 
-// The words after the program's name. Where one can't be read as text the empty text stands for all,
-// which is no known word.
+// The options after the program's name. If one can't be read as text, the empty text stands for all of them, which is
+// not a known option.
 fn words(rt: &HostRuntime) -> Result<Vec<String>, AllocError> {
     match env::args(rt) {
         Ok(all) => all.skip(1).collect(rt.alloc()),

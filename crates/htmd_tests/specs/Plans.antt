@@ -14,12 +14,12 @@ abbrev pub plan_of_first : List ℕ → PlanView
 plan_of_first [] = nothing
 plan_of_first (d ∷ nodes) = content_of_descendant d
 
--- the first of these nodes, and this one where there are none
+-- the first of these nodes, and this one if there are none
 abbrev pub first_or : List ℕ → ℕ → ℕ
 first_or [] node = node
 first_or (d ∷ nodes) node = d
 
--- where so many steps to a first child lead; a node without children is not left
+-- where this many steps to a first child lead; a node without children is not left
 abbrev pub down : List Item → ℕ → ℕ → ℕ
 down items zero node = node
 down items (suc n) node = down items n (first_or (children_of items node) node)
@@ -33,6 +33,6 @@ abbrev pub plan_of_value : Option (List ℕ) → PlanView
 plan_of_value None = nothing
 plan_of_value (Some value) = content_of_fallback
 
--- what the handler before gives, where there is an attribute `id`
+-- what the handler before gives, if there is an attribute `id`
 abbrev pub plan_with_id : ElementView → PlanView
 plan_with_id view = plan_of_value (value_of_first (codes "id") (attributes_of view))

@@ -11,7 +11,7 @@ const PAGE: &str = "<ul><li>a<li>b</ul><p>x<b>y<p>z";
 
 const MARKDOWN: &str = "*   a\n*   b\n\nx**y**\n\n**z**";
 
-// The Markdown of any page, where need be at a second try.
+// The Markdown of any page, at a second try if need be.
 fn asked(alloc: Global, converter: &HtmlToMarkdown, html: &str) -> Result<String, AllocError> {
     match converter.convert_html5(alloc, html) {
         Ok(markdown) => Ok(markdown),
@@ -57,7 +57,7 @@ fn reads_each_encoding(rt: HostRuntime) -> Result<(), Fail> {
     Ok(())
 }
 
-// Without the word, and of a text, only UTF-8 is read.
+// Without the option, and for a text, only UTF-8 is read.
 #[test]
 fn reads_utf8_alone_otherwise(rt: HostRuntime) -> Result<(), Fail> {
     let table: [&[&str]; 4] = [&[], &["--body"], &["--html5", "--text"], &["--text"]];
@@ -113,7 +113,7 @@ fn answers_each_failed_read(rt: HostRuntime) -> Result<(), Fail> {
 }
 
 // The Markdown of `<p>a<p>b` and its line feed are five bytes, written one by one, and flushed. Each of these calls
-// fails in turn, of a row the same.
+// fails in turn, and the same for a row.
 #[test]
 fn answers_each_failed_write(rt: HostRuntime) -> Result<(), Fail> {
     let table: [(&[&str], &str, &str); 2] = [

@@ -131,7 +131,7 @@ its end tag is wanted.\n<p>\n   ^\n",
     Ok(())
 }
 
-// The words that a text has, one a line, and behind them the one for rows.
+// The options that a text has, one on each line, and after them the one for rows.
 fn rows_words(alloc: Global, lines: &str) -> Result<Vec<String>, AllocError> {
     let mut words = Vec::new(alloc);
     for word in lines.lines() {
@@ -141,7 +141,7 @@ fn rows_words(alloc: Global, lines: &str) -> Result<Vec<String>, AllocError> {
     Ok(words)
 }
 
-// What is written where one read gives all.
+// What is written when one read gives all.
 fn answered_at_once(alloc: Global, words: &[String], stdin: &[u8]) -> Result<String, Fail> {
     let mut source = Input::new(stdin);
     let mut sink = Narrow::new(alloc, 1000);
@@ -153,7 +153,7 @@ fn answered_at_once(alloc: Global, words: &[String], stdin: &[u8]) -> Result<Str
     Ok(String::from_str(alloc, str::from_utf8(sink.bytes())?)?)
 }
 
-// What stands behind the end of the data is not read, but for what the last read gave.
+// What follows the end of the data is not read, except for what the last read gave.
 #[test]
 fn ends_where_the_data_ends(rt: HostRuntime) -> Result<(), Fail> {
     let outcome = called(rt.alloc(), &["--rows"], b"a\n\\.\nbc\n")?;

@@ -1,4 +1,4 @@
-//! Calls of the program on words and bytes, and what they leave.
+//! Calls of the program on options and bytes, and what they leave.
 use crate::doubles::{Dripping, Narrow};
 use htmd_cli::command;
 use std::alloc::{AllocError, Global};

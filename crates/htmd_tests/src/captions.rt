@@ -1,12 +1,12 @@
-//! Pages that are converted in the time that their length and depth ask for, though what stands in a table without
-//! lines is asked for twice.
+//! Pages that are converted in the time that their length and depth require, though what is in a table without lines is
+//! asked for twice.
 use crate::builders::{faithful, guarded};
 use crate::pages::converted_page;
 use htmd::options::Options;
 use std::alloc::{AllocError, Global};
 use std::test::Fail;
 
-// A text between so many start tags and as many end tags.
+// A text between this many start tags and as many end tags.
 fn nested(
     alloc: Global,
     count: usize,
@@ -25,7 +25,7 @@ fn nested(
     Ok(html)
 }
 
-// A table in the caption of a table, and so on: each has a head without cells, so it is no table but what its caption
+// A table in the caption of a table, and so on: each has a head without cells, so it isn't a table but what its caption
 // gives, between blank lines.
 #[test]
 fn converts_captions_in_captions(rt: HostRuntime) -> Result<(), Fail> {
@@ -44,8 +44,8 @@ fn converts_captions_in_captions(rt: HostRuntime) -> Result<(), Fail> {
     Ok(())
 }
 
-// A table in the header of a table, and so on, where a later head without cells takes the headers away: strong text in
-// strong text. In Guarded every row counts, so that the outermost is a table, and a content with a blank line is in no
+// A table in the header of a table, and so on, with a later head without cells that takes the headers away: strong text
+// in strong text. In Guarded every row counts, so the outermost is a table, and a content with a blank line gets no
 // marks.
 #[test]
 fn converts_headers_in_headers(rt: HostRuntime) -> Result<(), Fail> {

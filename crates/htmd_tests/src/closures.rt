@@ -8,7 +8,7 @@ use htmd::element_handler::{Element, FnHandler, HandlerResult, HandlerRule, Plan
 use std::alloc::{AllocError, Global};
 use std::test::Fail;
 
-/// The children's content, and an exclamation mark behind it.
+/// The children's content, and an exclamation mark after it.
 #[derive(Drop)]
 struct Exclaims;
 

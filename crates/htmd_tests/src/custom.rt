@@ -1,4 +1,4 @@
-//! Handlers of one's own: what they are shown, what they may ask for, and in what order they are asked.
+//! Handlers of your own: what they are shown, what they may ask for, and in what order they are asked.
 use crate::builders::{faithful, referenced, with_handler};
 use crate::handlers::{
     AsRawHtml, FirstBelow, FirstChild, GivesNothing, NeedsId, PassesOn, Says, TellsDue, TellsFlag,
@@ -41,8 +41,8 @@ fn says(alloc: Global, text: &str, markdown_translated: bool) -> Result<Says, Fa
     })
 }
 
-// A text stands for the element as it is, also one that is empty, of line feeds alone, or with a lone
-// carriage return; a block of blank lines is put on by the seam.
+// A text stands for the element as it is, even one that is empty, of only line feeds, or with a lone carriage return;
+// the seam adds the blank lines of a block.
 #[test]
 fn takes_texts(rt: HostRuntime) -> Result<(), Fail> {
     let page = "<p>a <x>gone</x> b</p>";
@@ -64,8 +64,7 @@ fn takes_texts(rt: HostRuntime) -> Result<(), Fail> {
     Ok(())
 }
 
-// The flag of a result is told to those above, also in Pure, and also past elements without handlers;
-// a list hides it.
+// The flag of a result is told to those above, even in Pure, and even past elements without handlers; a list hides it.
 #[test]
 fn tells_flags(rt: HostRuntime) -> Result<(), Fail> {
     let table: [(&str, &str, &str); 5] = [
@@ -132,7 +131,7 @@ fn asks_for_descendants(rt: HostRuntime) -> Result<(), Fail> {
     expect_pages_of(rt.alloc(), &["delegate"], handler, table)
 }
 
-// The deepest node that a tree has, a text at level 1,024, stands 1,021 levels below a child of the body.
+// The deepest node that a tree has, a text at level 1,024, is 1,021 levels below a child of the body.
 #[test]
 fn asks_for_the_deepest_node(rt: HostRuntime) -> Result<(), Fail> {
     let mut html = String::from_str(rt.alloc(), "a <delegate>")?;
@@ -192,8 +191,8 @@ fn passes_on(alloc: Global, appended: &str) -> Result<PassesOn, Fail> {
     Ok(PassesOn { appended })
 }
 
-// The texts after a conversion stand in order of registration, the final line feeds cut once in all, and
-// those of definitions before all others.
+// The texts after a conversion come in order of registration, the final line feeds cut only once, and those of
+// definitions before all others.
 #[test]
 fn puts_texts_after_a_conversion(rt: HostRuntime) -> Result<(), Fail> {
     let link = "<a href=\"/x\">t</a>";
@@ -228,8 +227,7 @@ fn registers_twice(rt: HostRuntime) -> Result<(), Fail> {
     expect_pages_of(rt.alloc(), &["b", "b"], handler, &[("<b>x</b>", "**x**")])
 }
 
-// Raw HTML is due in Faithful alone, where there are more attributes than are allowed, which may be fewer
-// than none.
+// Raw HTML is due only in Faithful, if there are more attributes than are allowed, which may be fewer than none.
 #[test]
 fn asks_whether_raw_html_is_due(rt: HostRuntime) -> Result<(), Fail> {
     let table: [(i64, &str, &str); 6] = [

@@ -1,6 +1,6 @@
-//! Bytes of which nothing says how they are encoded, by the Encoding Standard. `checks/refused_memory`, a part of the
-//! gate, refuses each request of the first two tests in turn, which then end out of memory, and all requests of
-//! the third, which passes.
+//! Bytes when nothing says how they are encoded, by the Encoding Standard. `checks/refused_memory`, a part of the gate,
+//! refuses each request of the first two tests in turn, which then end out of memory, and all requests of the third,
+//! which passes.
 use htmd_cli::decoded;
 use std::borrow::CowStr;
 use std::test::Fail;

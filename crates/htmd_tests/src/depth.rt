@@ -5,7 +5,7 @@ use htmd::options::Options;
 use std::alloc::{AllocError, Global};
 use std::test::Fail;
 
-// So many start tags, and so many end tags behind them.
+// Start tags, and after them end tags, of each as many as asked for.
 fn nested(alloc: Global, starts: usize, ends: usize) -> Result<String, AllocError> {
     let mut html = String::new(alloc);
     for _ in 0..starts {
@@ -28,7 +28,7 @@ fn converts_deep_pages(rt: HostRuntime) -> Result<(), Fail> {
     Ok(())
 }
 
-// The row of a table implies a body of it, which would stand too deep here.
+// The row of a table implies a body of it, which would be too deep here.
 #[test]
 fn refuses_deeper_pages(rt: HostRuntime) -> Result<(), Fail> {
     let html = nested(rt.alloc(), 1023, 1023)?;

@@ -6,7 +6,7 @@ use std::alloc::Global;
 use std::io;
 use std::io::{ErrorKind, Read, Write};
 
-// A source that gives a byte a read, and fails once its reads are used up.
+// A source that gives one byte for each read, and fails once its reads are used up.
 #[derive(Drop)]
 pub struct Dripping<'a> {
     rest: &'a [u8],
@@ -57,7 +57,7 @@ impl Source for Dripping<'_> {
     }
 }
 
-// A sink that takes a byte a write, and fails once its calls are used up.
+// A sink that takes one byte for each write, and fails once its calls are used up.
 #[derive(Drop)]
 pub struct Narrow {
     bytes: Vec<u8>,
@@ -125,7 +125,7 @@ impl Sink for Narrow {
     }
 }
 
-// A reader that is interrupted so many times, and then gives its bytes or the given error.
+// A reader that is interrupted this many times, and then gives its bytes or the given error.
 #[derive(Drop)]
 pub struct Interrupted<'a> {
     pub times: usize,

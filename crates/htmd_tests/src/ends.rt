@@ -1,4 +1,4 @@
-//! Runs over readers and writers that give and take a byte a call, and fail at a call or are interrupted.
+//! Runs over readers and writers that give and take one byte for each call, and fail at a call or are interrupted.
 use htmd_cli::{Input, Mode, Output, RunError, Sink, Source, run};
 use std::io;
 use std::io::{ErrorKind, Read, Write};
@@ -8,7 +8,7 @@ const PAGE: &[u8] = b"<p>a_b</p>";
 
 const MARKDOWN: &[u8] = b"a\\_b\n";
 
-// Gives a byte a call, and fails once its calls are used up; where it is interrupted, each call is made twice.
+// Gives one byte for each call, and fails once its calls are used up; if it is interrupted, each call is made twice.
 #[derive(Drop)]
 struct Reader {
     rest: &'static [u8],
@@ -58,8 +58,8 @@ enum Fault {
     TakesNothing,
 }
 
-// Takes a byte a call, and then has its fault at each write and fails at each flush; where it is interrupted, each
-// write is made twice.
+// Takes one byte for each call, and then has its fault at each write and fails at each flush; if it is interrupted,
+// each write is made twice.
 #[derive(Drop)]
 struct Writer<'a> {
     taken: &'a mut Vec<u8>,
@@ -123,7 +123,7 @@ const HTML: Mode = Mode {
     faithful: false,
 };
 
-// A byte is read a call, and one call finds the end.
+// Each call reads one byte, and one call finds the end.
 #[test]
 fn fails_at_each_read(rt: HostRuntime) -> Result<(), Fail> {
     for calls in 0..12 {
@@ -146,7 +146,7 @@ fn fails_at_each_read(rt: HostRuntime) -> Result<(), Fail> {
     Ok(())
 }
 
-// A byte is written a call, and the last call is the flush.
+// Each call writes one byte, and the last call is the flush.
 #[test]
 fn fails_at_each_write(rt: HostRuntime) -> Result<(), Fail> {
     for fault in [Fault::Fails, Fault::TakesNothing] {

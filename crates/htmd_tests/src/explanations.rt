@@ -3,7 +3,7 @@ use crate::calls::called;
 use std::alloc::{AllocError, Global};
 use std::test::Fail;
 
-// What is written on the sink for errors where the status is 1 and nothing else is written.
+// What is written on the sink for errors when the status is 1 and nothing else is written.
 fn explained(alloc: Global, words: &[&str], stdin: &[u8]) -> Result<String, Fail> {
     let answer = called(alloc, words, stdin)?;
     if answer.status != 1 || !answer.stdout.is_empty() {
@@ -13,9 +13,9 @@ fn explained(alloc: Global, words: &[&str], stdin: &[u8]) -> Result<String, Fail
 }
 
 const UNKNOWN: &str =
-    "an unknown &name; stands here, or in the tag that begins here; write the character, or &amp; for the &.";
+    "an unknown &name; is here, or in the tag that begins here; write the character, or &amp; for the &.";
 
-// A text so many times over.
+// A text this many times over.
 fn repeated(alloc: Global, text: &str, times: usize) -> Result<String, AllocError> {
     let mut all = String::new(alloc);
     for _ in 0..times {
@@ -24,7 +24,7 @@ fn repeated(alloc: Global, text: &str, times: usize) -> Result<String, AllocErro
     Ok(all)
 }
 
-// Of a long line 100 columns are shown, the place among them.
+// 100 columns of a long line are shown, with the place among them.
 #[test]
 fn explains_long_lines(rt: HostRuntime) -> Result<(), Fail> {
     let alloc = rt.alloc();

@@ -9,7 +9,7 @@ use std::test::Fail;
 /// How many texts of each length there are.
 const COUNTS: [(usize, usize); 5] = [(0, 1), (1, 10), (2, 100), (3, 1_000), (4, 10_000)];
 
-// The text of this length with this number, in two parts: so many characters, and the others.
+// The text of this length with this number, in two parts: this many characters, and the others.
 fn parts_of(
     alloc: Global,
     len: usize,
@@ -69,7 +69,7 @@ fn shows_each_short_text(rt: HostRuntime) -> Result<(), Fail> {
     Ok(())
 }
 
-/// Which part of a text stands in a `span`.
+/// Which part of a text is in a `span`.
 #[derive(Clone, Copy)]
 enum Spanned {
     First,
@@ -108,7 +108,7 @@ fn are_shown<'t>(
     Ok(answer.as_deref() == Some(want.as_str()))
 }
 
-// The length and the number of the first text that, cut after so many characters, isn't shown.
+// The length and the number of the first text that, cut after this many characters, isn't shown.
 fn first_wrong(
     alloc: Global,
     first_len: usize,

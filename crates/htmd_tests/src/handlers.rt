@@ -1,4 +1,4 @@
-//! Handlers of one's own, of each kind.
+//! Handlers of your own, of each kind.
 ghost use Rattle.std.specs.Option.{option_copied};
 ghost use Rattle.std.specs.Prelude.{◌≡◌, ◌<◌, ◌&&◌, Some, None, if◌then◌else◌, length, not, true};
 ghost use Rattle.std.specs.Prelude.{codes, string_bytes};
@@ -176,7 +176,7 @@ impl ElementHandler for GivesNothing {
     }
 }
 
-/// Gives `T` where the content is Markdown, else `F`.
+/// Gives `T` if the content is Markdown, else `F`.
 #[derive(Drop)]
 pub(crate) struct TellsFlag;
 
@@ -245,7 +245,7 @@ impl ElementHandler for FirstChild {
     }
 }
 
-// The first child of a node, or the node itself where it has none.
+// The first child of a node, or the node itself if it has none.
 fn first_child_or(tree: &Tree, node: NodeId) -> NodeId
     requires { node < length tree.now }
     ensures first { result ≡ first_or (children_of tree.now node) node }
@@ -257,7 +257,7 @@ fn first_child_or(tree: &Tree, node: NodeId) -> NodeId
     }
 }
 
-// Where so many steps to a first child lead.
+// Where this many steps to a first child lead.
 fn node_below(tree: &Tree, node: NodeId, levels: usize) -> NodeId
     requires { node < length tree.now }
     ensures { result ≡ down tree.now levels node }
@@ -269,7 +269,7 @@ fn node_below(tree: &Tree, node: NodeId, levels: usize) -> NodeId
     below
 }
 
-/// Gives the content of the node that so many steps to a first child lead to, which is handed over by itself.
+/// Gives the content of the node that this many steps to a first child lead to, which is handed over by itself.
 #[derive(Drop)]
 pub(crate) struct FirstBelow {
     pub(crate) levels: usize,
@@ -304,7 +304,7 @@ impl ElementHandler for FirstBelow {
     }
 }
 
-// The value of the first attribute of this name.
+// The value of the first attribute with this name.
 fn value_of<'e>(attrs: &'e [Attribute], name: &str) -> Option<&'e str>
     ensures { option_copied result ≡ value_of_first name.now (pairs_of attrs.now) }
 {
@@ -316,7 +316,7 @@ fn value_of<'e>(attrs: &'e [Attribute], name: &str) -> Option<&'e str>
     None
 }
 
-/// Gives what the handler before gives, where the element has the attribute `id`.
+/// Gives what the handler before gives, if the element has the attribute `id`.
 #[derive(Drop)]
 pub(crate) struct NeedsId;
 
@@ -348,7 +348,7 @@ impl ElementHandler for NeedsId {
     }
 }
 
-/// Gives `T` where raw HTML is due for more attributes than these, else `F`.
+/// Gives `T` if raw HTML is due for more attributes than these, else `F`.
 #[derive(Drop)]
 pub(crate) struct TellsDue {
     pub(crate) allowed: i64,

@@ -1,9 +1,9 @@
-//! A reader of one line of Markdown that is to show text alone, by CommonMark 0.31.2. It shares nothing with the code
+//! A reader of one line of Markdown that should show only text, by CommonMark 0.31.2. It shares nothing with the code
 //! or the definitions, and takes more for markup than CommonMark does: a mark that stands alone counts too.
 use std::alloc::{AllocError, Global};
 use std::test::Fail;
 
-/// The text that a line shows, or nothing where something in it is markup: without spaces at its ends (4.8), a
+/// The text that a line shows, or nothing if something in it is markup: without spaces at its ends (4.8), a
 /// backslash before ASCII punctuation dropped (2.4), all other characters as they are.
 pub(crate) fn text_of_line(alloc: Global, line: &str) -> Result<Option<String>, AllocError> {
     if begins_block(line) {
@@ -47,7 +47,7 @@ fn is_markup(c: char, behind: &str) -> bool {
     }
 }
 
-// Whether a reference, less its `&`, stands at the front; each name counts, as if there were a character of it.
+// Whether the text begins with a reference, without its `&`; each name counts, as if it stood for a character.
 fn begins_with_reference(text: &str) -> bool {
     let Some((inside, _)) = text.split_once(';') else {
         return false;
@@ -74,9 +74,9 @@ fn is_number(text: &str) -> bool {
     }
 }
 
-// Whether a line begins a block that is no paragraph, or underlines one: indented code (4.4), a quote (5.1), a bullet
-// or a number of a list (5.2), a heading (4.2), a fence (4.5; backquotes are markup anywhere) or an underline (4.3), as
-// which a thematic break of hyphens (4.1) counts too; the others begin as a bullet does, or with `_`.
+// Whether a line begins a block that isn't a paragraph, or underlines one: indented code (4.4), a quote (5.1), a bullet
+// or a number of a list (5.2), a heading (4.2), a fence (4.5; backquotes are markup anywhere) or an underline (4.3),
+// and a thematic break of hyphens (4.1) counts as that too; the others begin like a bullet, or with `_`.
 fn begins_block(line: &str) -> bool {
     let inside = line.trim_matches(' ');
     line.starts_with("    ")
@@ -87,12 +87,12 @@ fn begins_block(line: &str) -> bool {
         || is_underline(inside)
 }
 
-// Whether a space or the line's end stands here.
+// Whether a space or the line's end is here.
 fn is_parted(rest: &str) -> bool {
     rest.is_empty() || rest.starts_with([' ', '\t'])
 }
 
-// Whether a list's marker stands at the front: a bullet, or 1 to 9 digits and a dot or a parenthesis.
+// Whether the line begins with a list's marker: a bullet, or 1 to 9 digits and a dot or a parenthesis.
 fn begins_item(line: &str) -> bool {
     if let Some(rest) = line.strip_prefix(['-', '+', '*']) {
         return is_parted(rest);
@@ -105,13 +105,13 @@ fn begins_item(line: &str) -> bool {
     }
 }
 
-// Whether 1 to 6 signs stand at the front, and a space or the end behind them.
+// Whether the line begins with 1 to 6 signs, and a space or the end after them.
 fn is_heading(line: &str) -> bool {
     let behind = line.trim_start_matches('#');
     matches!(line.len() - behind.len(), 1..=6) && is_parted(behind)
 }
 
-// Whether this is nothing but equal signs, or but hyphens.
+// Whether this is only equal signs, or only hyphens.
 fn is_underline(line: &str) -> bool {
     !line.is_empty() && (line.chars().all(|c| c == '=') || line.chars().all(|c| c == '-'))
 }

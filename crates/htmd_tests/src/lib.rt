@@ -1,5 +1,5 @@
-//! Tests of the whole, over all crates: handlers of one's own, refused memory, runs that fail at each of their ends,
-//! the program's words and lines, batches, and pages cut short. Rows that are a text and its answer are families of
+//! Tests of the whole, over all crates: handlers of your own, refused memory, runs that fail at each of their ends, the
+//! program's options and lines, batches, and pages cut short. Rows that are a text and its answer are families of
 //! `htmd_cases`. What is expected is written by hand from the rules, and never taken from the program's own output.
 #![tactic(auto)]
 
@@ -35,6 +35,8 @@ mod guarded_parts;
 mod handlers;
 #[cfg(test)]
 mod inline_reader;
+#[cfg(test)]
+mod large_pages;
 #[cfg(test)]
 mod memory;
 #[cfg(test)]

@@ -1,4 +1,4 @@
-//! What is handed back where a request for memory is refused: all is as before, and the same call with the same values
+//! What is handed back when a request for memory is refused: all is as before, and the same call with the same values
 //! then answers as it would have. `checks/refused_memory`, a part of the gate, refuses each request of these tests in
 //! turn; each test passes whichever it is.
 use crate::handlers::TextAlone;
@@ -9,7 +9,7 @@ use htmd::{HtmlToMarkdown, HtmlToMarkdownBuilder};
 use std::alloc::{AllocError, Global};
 use std::test::Fail;
 
-// A handler in a box, where need be at a second try.
+// A handler in a box, at a second try if need be.
 fn text_alone(alloc: Global) -> Result<Box<TextAlone>, AllocError> {
     match Box::new(alloc, TextAlone) {
         Ok(handler) => Ok(handler),
@@ -17,7 +17,7 @@ fn text_alone(alloc: Global) -> Result<Box<TextAlone>, AllocError> {
     }
 }
 
-// The builder without these tags, where need be at a second try.
+// The builder without these tags, at a second try if need be.
 fn skipping(builder: HtmlToMarkdownBuilder) -> Result<HtmlToMarkdownBuilder, Fail> {
     let refused = match builder.skip_tags(&["a", "b"]) {
         Ok(builder) => return Ok(builder),
@@ -29,7 +29,7 @@ fn skipping(builder: HtmlToMarkdownBuilder) -> Result<HtmlToMarkdownBuilder, Fai
     }
 }
 
-// The builder with this handler, where need be at a second try.
+// The builder with this handler, at a second try if need be.
 fn with_handler(
     builder: HtmlToMarkdownBuilder,
     handler: Box<dyn ElementHandler>,
@@ -59,7 +59,7 @@ fn hands_back_builders(rt: HostRuntime) -> Result<(), Fail> {
     Ok(())
 }
 
-// A registry that refused a handler finds what it found before, and takes the handler then.
+// A registry that refused a handler finds what it found before, and then takes the handler.
 #[test]
 fn hands_back_handlers(rt: HostRuntime) -> Result<(), Fail> {
     let mut handlers = match ElementHandlers::new(rt.alloc(), Options::default()) {
@@ -96,7 +96,7 @@ fn hands_back_handlers(rt: HostRuntime) -> Result<(), Fail> {
     Ok(())
 }
 
-// A page whose conversion was refused for want of memory is converted at the next try.
+// A page whose conversion ran out of memory is converted at the next try.
 #[test]
 fn converts_after_a_refusal(rt: HostRuntime) -> Result<(), Fail> {
     let html =

@@ -23,7 +23,7 @@ fn nodes(alloc: Global, tree: &Tree) -> Result<Vec<NodeId>, Fail> {
     Ok(all)
 }
 
-// The first node of this name; `#text` is a text's.
+// The first node with this name; `#text` is a text's.
 fn first_of(alloc: Global, tree: &Tree, name: &str) -> Result<NodeId, Fail> {
     for node in nodes(alloc, tree)? {
         if !tree.contains(node) {

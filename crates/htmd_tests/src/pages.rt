@@ -1,10 +1,10 @@
-//! Pages of HTML: what a converter gives of them, or where and how they are refused.
+//! Pages of HTML: what a converter gives for them, or where and how they are refused.
 use htmd::options::Options;
 use htmd::{ConvertError, FaultKind, HtmlToMarkdown, convert};
 use std::alloc::Global;
 use std::test::Fail;
 
-/// What a converter gives of a page. It gives the same of the page's tree.
+/// What a converter gives for a page. It gives the same for the page's tree.
 pub(crate) fn page_by(
     alloc: Global,
     converter: &HtmlToMarkdown,

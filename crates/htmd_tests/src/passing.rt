@@ -6,7 +6,7 @@ use htmd_tree::{Attribute, NodeId, Tree};
 use std::alloc::Global;
 use std::test::Fail;
 
-// The tree of an element of this tag and class with a text, and the element.
+// The tree of an element with this tag and class with a text, and the element.
 fn tree_of(alloc: Global, tag: &str, class: &str) -> Result<(Tree, NodeId), Fail> {
     let mut tree = Tree::new(alloc)?;
     let mut attrs = Vec::new(alloc);
@@ -28,7 +28,7 @@ fn options_in(translation_mode: TranslationMode) -> Options {
     }
 }
 
-// Whether the walk goes past the element of this tag and class.
+// Whether the walk goes past the element with this tag and class.
 fn passes(alloc: Global, handlers: &ElementHandlers, tag: &str, class: &str) -> Result<bool, Fail> {
     let (tree, element) = tree_of(alloc, tag, class)?;
     if !tree.contains(element) {
@@ -37,7 +37,7 @@ fn passes(alloc: Global, handlers: &ElementHandlers, tag: &str, class: &str) -> 
     Ok(handlers.goes_past(&tree, element))
 }
 
-// In Pure those without handlers are gone past, and a `span` that is no formula.
+// In Pure the walk goes past elements without handlers, and a `span` that isn't a formula.
 #[test]
 fn goes_past_elements(rt: HostRuntime) -> Result<(), Fail> {
     let pure = TranslationMode::Pure;
@@ -58,7 +58,7 @@ fn goes_past_elements(rt: HostRuntime) -> Result<(), Fail> {
     Ok(())
 }
 
-// A `span` with a handler of one's own is not gone past.
+// The walk doesn't go past a `span` with a handler of your own.
 #[test]
 fn asks_handlers_of_ones_own(rt: HostRuntime) -> Result<(), Fail> {
     let mut handlers = ElementHandlers::new(rt.alloc(), Options::default())?;

@@ -12,8 +12,11 @@ const PARAGRAPH: Mode = Mode {
 
 #[test]
 fn answers_words(rt: HostRuntime) -> Result<(), Fail> {
-    let unknown = "htmd: unknown word\n";
-    let table: [(&[&str], &[u8], &str, &str, u8); 19] = [
+    let unknown =
+        "htmd: unknown word\nhtmd: '--bogus' is not an option, or not with this value: see --help\n";
+    let empty =
+        "htmd: unknown word\nhtmd: '' is not an option, or not with this value: see --help\n";
+    let table: [(&[&str], &[u8], &str, &str, u8); 18] = [
         (&["--text"], b"a b", "a b\n", "", 0),
         (
             &["--text", "--faithful"],
@@ -36,14 +39,13 @@ fn answers_words(rt: HostRuntime) -> Result<(), Fail> {
             "htmd: not UTF-8\n",
             1,
         ),
-        (&["--text", "--faithfully"], b"x", "", unknown, 2),
+        (&["--text", "--bogus", "--wrong"], b"x", "", unknown, 2),
         (&["--faithful", "--bogus", "--text"], b"x", "", unknown, 2),
         (&["--text"], b"", "\n", "", 0),
         (&["--text", "--text"], b"a", "a\n", "", 0),
         (&["--text"], b"\xff", "", "htmd: not UTF-8\n", 1),
         (&["--bogus"], b"x", "", unknown, 2),
-        (&["--text", ""], b"x", "", unknown, 2),
-        (&["--text="], b"x", "", unknown, 2),
+        (&["--text", ""], b"x", "", empty, 2),
         (&["--text"], b"1. a\n", "1\\. a\n", "", 0),
         (&["--text"], b"a\n\n  b *c*\n", "a b \\*c\\*\n", "", 0),
         (&["--text"], b"1.. x", "1.\\. x\n", "", 0),
@@ -68,7 +70,7 @@ fn answers_words(rt: HostRuntime) -> Result<(), Fail> {
         let words = strings(rt.alloc(), words)?;
         let mut source = Dripping::new(stdin, 100);
         let mut sink = Narrow::new(rt.alloc(), 100);
-        let mut errors = Narrow::new(rt.alloc(), 100);
+        let mut errors = Narrow::new(rt.alloc(), 200);
         let answer = command(
             rt.alloc(),
             words.as_slice(),
@@ -85,7 +87,7 @@ fn answers_words(rt: HostRuntime) -> Result<(), Fail> {
     Ok(())
 }
 
-// Each read and each write fails in turn, of a run of three reads, three writes and a flush.
+// Each read and each write fails in turn, in a run of three reads, three writes and a flush.
 #[test]
 fn answers_failures(rt: HostRuntime) -> Result<(), Fail> {
     let table: [(usize, usize, &str, &str, u8); 8] = [

@@ -1,5 +1,5 @@
-//! Worked pages of which any one request for memory may be refused: the answer is want of memory or the page's own,
-//! and the same converter and tree give the page's own at the next try. `checks/refused_memory`, a part of the gate,
+//! Worked pages for which any one request for memory may be refused: the answer is out of memory or the page's own, and
+//! the same converter and tree give the page's own at the next try. `checks/refused_memory`, a part of the gate,
 //! refuses each request in turn.
 use crate::builders::{faithful, referenced};
 use crate::handlers::{FirstChild, PassesOn};
@@ -9,7 +9,7 @@ use htmd::{ConvertError, FaultKind, HtmlToMarkdown, Tree};
 use std::alloc::Global;
 use std::test::Fail;
 
-// What a page gives or how it is refused, where need be at a second try.
+// What a page gives or how it is refused, at a second try if need be.
 fn asked(alloc: Global, converter: &HtmlToMarkdown, html: &str) -> Result<String, ConvertError> {
     match converter.convert(alloc, html) {
         Err(ConvertError::Memory) => converter.convert(alloc, html),
@@ -17,7 +17,7 @@ fn asked(alloc: Global, converter: &HtmlToMarkdown, html: &str) -> Result<String
     }
 }
 
-// The tree of a page or how it is refused, where need be at a second try.
+// The tree of a page or how it is refused, at a second try if need be.
 fn asked_tree(alloc: Global, converter: &HtmlToMarkdown, html: &str) -> Result<Tree, ConvertError> {
     match converter.html_to_tree(alloc, html) {
         Err(ConvertError::Memory) => converter.html_to_tree(alloc, html),
@@ -52,7 +52,7 @@ pub(crate) fn answered_with(alloc: Global, options: Options, html: &str) -> Resu
     answered(alloc, &builder.options(options).build(), html)
 }
 
-// The Markdown of a page with this handler for a tag, which is added at a second try where need be.
+// The Markdown of a page with this handler for a tag, which is added at a second try if need be.
 fn answered_by(
     alloc: Global,
     tag: &str,

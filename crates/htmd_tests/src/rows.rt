@@ -3,8 +3,8 @@ use htmd::{Attribute, NodeData, Tree};
 use std::alloc::Global;
 use std::test::Fail;
 
-/// A node: the number of its parent in the row, from 1 (the Document is 0), its name, and its text. A
-/// text has no name; an element's text is its attributes, one a line, as `name=value`.
+/// A node: the number of its parent in the row, from 1 (the Document is 0), its name, and its text. A text has no name;
+/// an element's text is its attributes, one on each line, as `name=value`.
 pub(crate) type Row<'a> = &'a [(usize, &'a str, &'a str)];
 
 // The attributes that a text names.

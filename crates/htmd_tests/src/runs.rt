@@ -15,7 +15,7 @@ const HTML: &[u8] = b"<p>a <b>b</b></p>";
 
 const MARKDOWN: &[u8] = b"a **b**\n";
 
-// The words that a text has, one a line.
+// The options that a text has, one on each line.
 fn words_of(alloc: Global, lines: &str) -> Result<Vec<String>, AllocError> {
     let mut words = Vec::new(alloc);
     for word in lines.lines() {
@@ -94,7 +94,7 @@ fn answers_each_failed_write(rt: HostRuntime) -> Result<(), Fail> {
     Ok(())
 }
 
-// What is refused leaves nothing written, and what is refused last is read to its end too.
+// Nothing is written of what is refused, and what is refused last is read to its end too.
 #[test]
 fn writes_nothing_of_what_is_refused(rt: HostRuntime) -> Result<(), Fail> {
     let table: [(&[u8], usize, FaultKind); 3] = [
@@ -113,7 +113,7 @@ fn writes_nothing_of_what_is_refused(rt: HostRuntime) -> Result<(), Fail> {
     Ok(())
 }
 
-// A page with `--body` answers as its body by itself, and is refused as far behind as its body begins.
+// A page with `--body` answers as its body by itself, and is refused as many bytes later as its body begins.
 #[test]
 fn converts_bodies(rt: HostRuntime) -> Result<(), Fail> {
     let alloc = rt.alloc();

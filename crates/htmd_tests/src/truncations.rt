@@ -6,7 +6,7 @@ use htmd_cli::{Input, Mode, Output, RunError, run};
 use std::alloc::Global;
 use std::test::Fail;
 
-// The page whose beginnings, and whose texts less one character, are converted.
+// The page that is converted cut short, and without one of its characters.
 const PAGE: &str = "\
 <!DOCTYPE html>\n\
 <!-- The plan -- of one summer -->\n\
@@ -66,7 +66,7 @@ fn answers_beginnings(rt: HostRuntime) -> Result<(), Fail> {
     Ok(())
 }
 
-// The page less each of its characters.
+// The page without each of its characters.
 #[test]
 fn answers_lacks(rt: HostRuntime) -> Result<(), Fail> {
     let options = Options {
@@ -87,8 +87,8 @@ fn answers_lacks(rt: HostRuntime) -> Result<(), Fail> {
     Ok(())
 }
 
-// Whether a run over these bytes writes an answer, or refuses them at a place of them and writes nothing: as no UTF-8
-// just where they are none.
+// Whether a run over these bytes writes an answer, or refuses them at one of their places and writes nothing: as not
+// UTF-8 exactly if they aren't.
 fn is_run(alloc: Global, bytes: &[u8]) -> bool {
     let mut written = Vec::new(alloc);
     let mut source = Input::new(bytes);
@@ -120,7 +120,7 @@ fn runs_over_beginnings(rt: HostRuntime) -> Result<(), Fail> {
     Ok(())
 }
 
-// The page less each of its bytes.
+// The page without each of its bytes.
 #[test]
 fn runs_over_lacks(rt: HostRuntime) -> Result<(), Fail> {
     let bytes = PAGE.as_bytes();

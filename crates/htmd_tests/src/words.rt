@@ -1,10 +1,10 @@
-//! Words that no one knows, and what the program says of itself. What each word sets is a family of `htmd_cases`.
+//! Unknown options, and what the program says of itself. What each option sets is a family of `htmd_cases`.
 use crate::calls::{called, strings};
 use crate::doubles::{Dripping, Narrow};
 use htmd_cli::{Sink, Source, command};
 use std::test::Fail;
 
-// Nothing is read, and the words come first: what no word is known for is said before.
+// Nothing is read, and the options come first: an unknown one is reported before anything else.
 #[test]
 fn refuses_words(rt: HostRuntime) -> Result<(), Fail> {
     for word in [
@@ -54,14 +54,17 @@ fn refuses_words(rt: HostRuntime) -> Result<(), Fail> {
             let answer = called(rt.alloc(), words.as_slice(), b"<p>")?;
             assert_eq!(rt; answer.status, 2, "{word}");
             assert_eq!(rt; answer.stdout.as_str(), "");
-            assert_eq!(rt; answer.stderr.as_str(), "htmd: unknown word\n");
+            let mut said = String::from_str(rt.alloc(), "htmd: unknown word\nhtmd: '")?;
+            said.push_str(word)?;
+            said.push_str("' is not an option, or not with this value: see --help\n")?;
+            assert_eq!(rt; answer.stderr.as_str(), said.as_str());
             assert_eq!(rt; answer.unread, 3);
         }
     }
     Ok(())
 }
 
-// The help has a line for each word, and each word that it names is known.
+// The help has a line for each option, and each option that it names is known.
 #[test]
 fn shows_the_help(rt: HostRuntime) -> Result<(), Fail> {
     let answer = called(rt.alloc(), &["--help"], b"a")?;
@@ -69,7 +72,7 @@ fn shows_the_help(rt: HostRuntime) -> Result<(), Fail> {
     assert_eq!(rt; answer.stderr.as_str(), "");
     assert_eq!(rt; answer.unread, 1);
     let help = answer.stdout.as_str();
-    assert!(rt; help.starts_with("Usage: htmd [WORD..] < page.html > page.md\n"));
+    assert!(rt; help.starts_with("Usage: htmd [OPTION..] < page.html > page.md\n"));
     let mut lines: usize = 0;
     for line in help.lines() {
         if line.starts_with("--") {
@@ -79,7 +82,7 @@ fn shows_the_help(rt: HostRuntime) -> Result<(), Fail> {
     }
     assert_eq!(rt; lines, 33);
     for line in [
-        "--skip=TAG[,TAG..]                      elements of these names, in lower case, give nothing\n",
+        "--skip=TAG[,TAG..]                      leaves out elements of these names, in lower case\n",
         "--link-style=inlined-prefer-autolinks   the same, but an address as its own text is an autolink\n",
     ] {
         assert!(rt; help.contains(line), "{line}");

@@ -1,4 +1,4 @@
-//! The writers of pieces, as they are called by handlers of one's own.
+//! The writers of pieces, as they are called by handlers of your own.
 use htmd::laws::{write_fence, write_row, write_span, write_table};
 use htmd::options::CodeBlockFence;
 use std::alloc::{AllocError, Global};

@@ -6,7 +6,7 @@ use Rattle.htmd_text.specs.Beginnings.{IsBeginning}
 pub begins-same : {X : Type 0} {a b : List X} → b ≡ a → IsBeginning a b
 begins-same {a = a} e = record { rest = []; is = e ∙ sym (append-nil a) }
 
--- and what more is put behind it
+-- and what more is put after it
 pub begins-pushed : {X : Type 0} {a b : List X} (more : List X) → b ≡ a ++ more → IsBeginning a b
 begins-pushed more e = record { rest = more; is = e }
 

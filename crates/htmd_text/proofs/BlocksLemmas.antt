@@ -1,4 +1,4 @@
--- A name is compared with the block names of its own length alone.
+-- A name is compared only with the block names of its own length.
 use Rattle.std.proofs.Common.{◌≡◌, ℕ, Bool, true, false, cond, List, [], ◌∷◌, length, refl, sym, ap, ◌∙◌, ⊎_elim}
 use Rattle.std.proofs.Common.{eq-eqb}
 use Rattle.std.specs.Prelude.{◌==◌, ◌||◌, not}

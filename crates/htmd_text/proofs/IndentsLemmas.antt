@@ -20,7 +20,7 @@ mapped_more : (f : List ℕ → List ℕ) (ls : List (List ℕ)) (n : ℕ) (x : 
 mapped_more f ls n x here =
     ap (map f) (take_more ls n x here.0 ∙ ap (λ y. take n ls ++ y ∷ []) (sym here.1)) ∙ map_push f (take n ls) x
 
--- the first line, behind what stood before
+-- the first line, after what stood before
 pub first_line : (indent : ℕ) (f : List ℕ → List ℕ) (ls : List (List ℕ)) (n : ℕ) (x before out : List ℕ)
     → (n < length ls) × (x ≡ get_or ls n x) → n ≡ 0
     → out ≡ before ++ indented_lines indent (map f (take n ls))

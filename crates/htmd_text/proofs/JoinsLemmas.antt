@@ -35,7 +35,7 @@ seam_is n le = take-replicate n 2 line_feed le
 abbrev pub Loop : {S A : Type 0} → Ghosts S A → (List A → Type 0) → S → S → Type 0
 Loop it P s t = Ran it.can_next (EndsFrom it.remaining) (items_left it.remaining) it.next_gives P s t
 
--- the invariant behind the first item
+-- the invariant after the first item
 pub Loop-first : {S A : Type 0} (it : Ghosts S A) {P : List A → Type 0} {s t : S} {x : A}
     → it.next_gives s (Some x) t
     → MakesProgress it.can_next it.remaining s (Some x) t → IsFinite (it.remaining s) → P (x ∷ [])

@@ -46,7 +46,7 @@ taken_le cs n =
 pub taken_bound : (s : List ℕ) (n : ℕ) → IsUtf8 s → taken (chars s) n ≤ length s
 taken_bound s n text = omega (arith, taken_le (chars s) n, ap length (encodes-chars s text))
 
--- the loop's state: so many characters were numeric
+-- the loop's state: this many characters were numeric
 pub record NumericTo (cs : List ℕ) (n len : ℕ) : Type 0 where
   pub size : len ≡ taken cs n
   pub numeric : n + prefix_len is_numeric (drop n cs) ≡ prefix_len is_numeric cs

@@ -49,7 +49,7 @@ tail_part [] (suc k) b s e = absurd (cc)
 tail_part (x ∷ w) zero b s e = (cc, cc)
 tail_part (x ∷ w) (suc k) b s e = tail_part w k b s e
 
--- where what stands bare passes, each of them does
+-- if what stands bare passes, each of them does
 pub each_bare-escaped : (passes : List ℕ → Bool) (w : List ℕ) (k : ℕ) (s : List ℕ) → s ≡ drop k w
     → ((i b : ℕ) (t : List ℕ) → b ∷ t ≡ drop i w → is_marked w i ≡ false
     → passes (b ∷ with_backslashes (is_marked w) (suc i) t) ≡ true)
@@ -77,7 +77,7 @@ no_inline w = each_bare-escaped begins_no_inline w 0 w refl
     (λ i b t part m. not_from_false (is_always_marked b) (ap is_always_marked (tail_part w i b t part).1
     ∙ (unmarked_parts w i m).0))
 
--- ---- what stands behind a bare `<`
+-- ---- what follows a bare `<`
 
 letter_first : (m : Bool) (c : ℕ) (t : List ℕ) → is_ascii_alphabetic c ≡ false
     → is_ascii_alphabetic (slice_index (cond m (backslash ∷ c ∷ t) (c ∷ t)) 0) ≡ false
@@ -319,7 +319,7 @@ numerals_none b s e =
     ∙ ap (λ l. length (encode_utf8_all l))
     (take_while-cons is_numeric b (chars s) ∙ cond-false (is_numeric b) _ _ none)
 
--- as many numerals as digits, where a dot stands behind the digits
+-- as many numerals as digits, if a dot stands after the digits
 numerals_run : (s : List ℕ) → get_or s (prefix_len is_ascii_digit s) 0 ≡ full_stop
     → numerals_len s ≡ prefix_len is_ascii_digit s
 numerals_run [] e = absurd (omega arith)

@@ -65,7 +65,7 @@ end_stops passes s (suc n) le stops e =
     let none = suffix_len-take_no passes s (suc n) 0 (omega arith) le fails in
     omega (arith, e, none)
 
--- what stands before the rest of a text may be cut
+-- what comes before the rest of a text may be cut
 pub rest_boundary : (s r : List ℕ) (n : ℕ) → IsUtf8 r → length r ≤ length s → r ≡ drop n s
     → IsCharBoundary s (length s - length r)
 rest_boundary s r n text le e =
@@ -91,7 +91,7 @@ line_feed_of_ascii b e = grind (arith, nat_tests)
 pub space_of_ascii : OfAscii is_space
 space_of_ascii b e = grind (arith, nat_tests)
 
--- behind the line feeds at the start
+-- after the line feeds at the start
 pub start_may_cut : (s : List ℕ) (n : ℕ) → IsUtf8 s → n ≡ prefix_len is_line_feed s → IsSplitPoint s n
 start_may_cut s n text e =
     let here = start_boundary is_line_feed s text line_feed_of_ascii in

@@ -104,7 +104,7 @@ squeezing_replaced start s out instead from i text lt here was = record {
       ∙ was.whole);
 }
 
--- ---- a text whose white space is spaces alone
+-- ---- a text whose white space is only spaces
 
 no_white_behind : (s : List ℕ) → is_squeezed true s ≡ true → begins_with_white_space s ≡ false
 no_white_behind [] e = refl
@@ -135,14 +135,14 @@ squeezed_stays (b ∷ s) after_white e =
     (λ other. other_stays b s other ∙ ap (λ l. b ∷ l) rest)
     (cases_Bool (is_ascii_white_space b))
 
--- a text without white space in front may stand behind some
+-- a text without white space in front may come after some
 behind_white : (s : List ℕ) → begins_with_white_space s ≡ false → is_squeezed true s ≡ is_squeezed false s
 behind_white [] last = refl
 behind_white (b ∷ s) last =
     ap (λ w. (not w || (false && (b == space))) && is_squeezed (is_ascii_white_space b) s) last
     ∙ sym (ap (λ w. (not w || (true && (b == space))) && is_squeezed (is_ascii_white_space b) s) last)
 
--- a text that squeezing leaves as it is has each white space alone
+-- a text that squeezing leaves as it is: each white space stands alone
 stays_squeezed : (w v : Bool) (b : ℕ) (s rest : List ℕ) → is_ascii_white_space b ≡ w
     → begins_with_white_space s ≡ v
     → length rest ≤ length s → cond w (cond v rest (space ∷ rest)) (b ∷ rest) ≡ b ∷ s

@@ -7,7 +7,7 @@ use Rattle.htmd_text.specs.Characters.{space, exclamation_mark, slash, less_than
 use Rattle.htmd_text.specs.Characters.{is_one_of}
 use Rattle.htmd_text.specs.ListMarkers.{is_atx_heading, ordered_item_dot}
 
--- a text with a backslash before each place that is marked; its first byte stands at place k
+-- a text with a backslash before each place that is marked; its first byte is at place k
 abbrev pub with_backslashes : (ℕ → Bool) → ℕ → List ℕ → List ℕ
 with_backslashes marked k [] = []
 with_backslashes marked k (b ∷ s) =
@@ -15,7 +15,7 @@ with_backslashes marked k (b ∷ s) =
     then backslash ∷ b ∷ with_backslashes marked (suc k) s
     else b ∷ with_backslashes marked (suc k) s
 
--- Behind a `<`: an ASCII letter opens a tag, `/` and a letter an end tag, `?` a processing
+-- After a `<`: an ASCII letter opens a tag, `/` and a letter an end tag, `?` a processing
 -- instruction, `!` a declaration or a comment (CommonMark 0.31.2, 4.6 and 6.6). A `!` before
 -- `[CDATA[` needs no mark: its brackets are marked.
 abbrev pub opens_html : List ℕ → Bool
@@ -30,11 +30,11 @@ opens_html (c ∷ s) =
 abbrev pub is_html_mark : List ℕ → ℕ → Bool
 is_html_mark s k = (slice_index s k == less_than_sign) && opens_html (drop (k + 1) s)
 
--- what stands behind the `<` of a CDATA section whose brackets are escaped
+-- what follows the `<` of a CDATA section whose brackets are escaped
 abbrev pub escaped_cdata : List ℕ
 escaped_cdata = codes "!\\[CDATA\\["
 
--- the same, where brackets may have been escaped before
+-- the same, if brackets may have been escaped before
 abbrev pub is_html_mark_alone : List ℕ → ℕ → Bool
 is_html_mark_alone s k = is_html_mark s k && not (starts_with nat_eq (drop (k + 1) s) escaped_cdata)
 

@@ -14,7 +14,7 @@ abbrev pub block_separator : List ℕ → List ℕ → List ℕ
 block_separator out block = replicate (min (max (suffix_len is_line_feed out) (prefix_len is_line_feed block)) 2)
     line_feed
 
--- a block behind the blocks so far; an empty one is passed over
+-- a block after the blocks so far; an empty one is left out
 abbrev pub join_block : List ℕ → List ℕ → List ℕ
 join_block out [] = out
 join_block out (b ∷ block) = (trimmed_end is_line_feed out ++ block_separator out (b ∷ block))

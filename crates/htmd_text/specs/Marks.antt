@@ -25,7 +25,7 @@ AreAscii marks s = (k : ℕ) → k < length s → is_marked_by marks s k ≡ tru
 abbrev pub is_special : ℕ → Bool
 is_special b = is_always_marked b || (b == less_than_sign)
 
--- no place gets a backslash, as its characters alone tell
+-- no place gets a backslash, as far as its characters alone tell
 abbrev pub is_plain : Marks → List ℕ → Bool
 is_plain Html s = not (list_any is_special s)
 is_plain (Markdown begins_block item_dot) s = not begins_block && is_none item_dot && not (list_any is_special s)

@@ -22,7 +22,7 @@ abbrev pub begins_no_inline : List ℕ → Bool
 begins_no_inline [] = true
 begins_no_inline (b ∷ s) = not (is_one_of (codes "\\*_`[]") b)
 
--- what stands behind a `<` opens no tag, instruction, declaration or comment (CommonMark 0.31.2, 6.6)
+-- what follows a `<` opens no tag, instruction, declaration or comment (CommonMark 0.31.2, 6.6)
 abbrev pub follows_no_html : List ℕ → Bool
 follows_no_html [] = true
 follows_no_html (c ∷ s) =

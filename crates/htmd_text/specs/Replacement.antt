@@ -1,15 +1,15 @@
--- How the code squeezes white space: what stands in place of one byte, and a test for texts that stay. No public clause
+-- How the code squeezes white space: what is in place of one byte, and a test for texts that stay. No public clause
 -- cites it.
 use Rattle.std.specs.Prelude.{◌≡◌, ◌==◌, ℕ, Bool, true, not, ◌&&◌, ◌||◌, List, [], ◌∷◌, ◌++◌, drop, slice_index}
 use Rattle.htmd_text.specs.Characters.{space}
 use Rattle.htmd_text.specs.WhiteSpace.{is_ascii_white_space, squeezed_text}
 
--- the first byte is white space, and other bytes stand in its place
+-- the first byte is white space, and other bytes are in its place
 pub record IsReplaced (s instead : List ℕ) : Type 0 where
   pub white : is_ascii_white_space (slice_index s 0) ≡ true
   pub whole : squeezed_text s ≡ instead ++ squeezed_text (drop 1 s)
 
--- behind white space or not: each white space from here on is a space alone
+-- after white space or not: each white space from here on is a single space
 abbrev pub is_squeezed : Bool → List ℕ → Bool
 is_squeezed after_white [] = true
 is_squeezed after_white (b ∷ s) =

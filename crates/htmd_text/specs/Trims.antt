@@ -1,4 +1,4 @@
--- A text without what stands at its ends, and what was cut there.
+-- A text without what is at its ends, and what was cut there.
 use Rattle.std.specs.Prelude.{ℕ, ◌-◌, Bool, ◌==◌, List, [], ◌∷◌, length, take, drop, Option, Some, None}
 use Rattle.std.specs.List.{prefix_len, suffix_len}
 use Rattle.std.specs.Str.{trim_start, trim_end}
@@ -31,7 +31,7 @@ white_space_at_start s = take (length s - length (trim_start s)) s
 abbrev pub white_space_at_end : List ℕ → List ℕ
 white_space_at_end s = drop (length (trim_end s)) s
 
--- a text that was cut, or nothing where it is empty
+-- a text that was cut, or nothing if it is empty
 abbrev pub some_text : List ℕ → Option (List ℕ)
 some_text [] = None
 some_text (b ∷ s) = Some (b ∷ s)

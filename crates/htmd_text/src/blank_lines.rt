@@ -7,15 +7,15 @@ use std::alloc::{AllocError, Global};
 
 const BLANK_LINE: &str = "\n\n";
 
-/// The text with a blank line before and after it, in a `String` of its own. An `Err` is want of memory.
+/// The text with a blank line before and after it, in a `String` of its own. `Err` means out of memory.
 pub fn with_blank_lines(alloc: Global, text: &str) -> Result<String, AllocError>
     ensures { IfOk result (λ s. string_bytes s ≡ spec.with_blank_lines text.now) }
 {
     concat(alloc, &[BLANK_LINE, text, BLANK_LINE])
 }
 
-/// Puts a blank line before and after the text, in place, with one growth at most. On an `Err`, want of
-/// memory, the text is as it was.
+/// Puts a blank line before and after the text, in place, with one growth at most. `Err` means out of memory; the text
+/// is then as it was.
 pub fn surround_with_blank_lines(text: &mut String) -> Result<(), AllocError>
     ensures ok { OnOk result
         (string_bytes text.new ≡ spec.with_blank_lines (string_bytes text.old)) }

@@ -32,8 +32,8 @@ const OF_EIGHT: [&str; 8] = [
 
 const OF_TEN: [&str; 2] = ["blockquote", "figcaption"];
 
-/// Whether the name is a block element's, in lower case (CommonMark 0.31.2, 4.6). It is compared
-/// with the names of its own length alone.
+/// Whether the name is a block element's, in lower case (CommonMark 0.31.2, 4.6). It is only compared with names of its
+/// own length.
 pub fn is_block_element(name: &str) -> bool
     ensures { result ≡ spec.is_block name.now }
 {

@@ -14,7 +14,7 @@ use std::borrow::CowStr;
 /// Which places of a text get a backslash.
 #[derive(Clone, Copy)]
 pub(crate) enum Marks {
-    /// each `<` that opens HTML, where brackets may have been escaped before
+    /// each `<` that opens HTML; brackets may have been escaped before
     Html,
     /// each place that `escape_if_needed` names
     Markdown {
@@ -23,11 +23,10 @@ pub(crate) enum Marks {
     },
 }
 
-/// The text with a backslash before each marked place: `\`, `*`, `_`, backquote, `[` and `]`; a `<` that
-/// opens HTML; at the front `=`, `~`, `>`, `-` or `+` before a space, the first `#` of an ATX heading; and
-/// the dot of an ordered list item whose number begins with an ASCII digit (CommonMark 0.31.2, 2.4). So
-/// `---`, `1) a`, `#` alone and `-` alone stay as they are. Where no place is marked the text is borrowed; an
-/// `Err` is want of memory for a text with marks.
+/// The text with a backslash before each marked place: `\`, `*`, `_`, backquote, `[` and `]`; a `<` that opens HTML; at
+/// the front `=`, `~`, `>`, `-` or `+` before a space, the first `#` of an ATX heading; and the dot of an ordered list
+/// item whose number begins with an ASCII digit (CommonMark 0.31.2, 2.4). So `---`, `1) a`, `#` alone and `-` alone
+/// stay as they are. A text without marked places is borrowed; `Err` means out of memory for one with marks.
 pub fn escape_if_needed(alloc: Global, text: &str) -> Result<CowStr<'_>, AllocError>
     ensures text { IfOk result (λ c. cow_str_bytes c ≡ spec.escaped_markdown text.now) }
     ensures reads_back { IfOk result (λ c. unescape (cow_str_bytes c) ≡ text.now) }
@@ -44,9 +43,9 @@ pub fn escape_if_needed(alloc: Global, text: &str) -> Result<CowStr<'_>, AllocEr
     with_backslashes(alloc, text, marks)
 }
 
-/// The text with a backslash before each `<` that opens HTML: before an ASCII letter, `?`, `/` and a letter,
-/// or `!` that does not begin a CDATA section, escaped or not (CommonMark 0.31.2, 4.6 and 6.6). Where there
-/// is none the text is borrowed; an `Err` is want of memory for a text with marks.
+/// The text with a backslash before each `<` that opens HTML: before an ASCII letter, `?`, `/` and a letter, or `!`
+/// that does not begin a CDATA section, escaped or not (CommonMark 0.31.2, 4.6 and 6.6). A text without such a `<` is
+/// borrowed; `Err` means out of memory for one with marks.
 pub fn escape_html(alloc: Global, text: &str) -> Result<CowStr<'_>, AllocError>
     ensures text { IfOk result (λ c. cow_str_bytes c ≡ spec.escaped_angle_brackets text.now) }
     ensures borrowed { spec.escaped_angle_brackets text.now ≡ text.now
@@ -55,8 +54,8 @@ pub fn escape_html(alloc: Global, text: &str) -> Result<CowStr<'_>, AllocError>
     with_backslashes(alloc, text, Marks::Html)
 }
 
-/// The text of a `pre` with a backslash in front where it begins with a backquote or a tilde, so that no fence opens
-/// (CommonMark 0.31.2, 4.5). Any other text is borrowed; an `Err` is want of memory for the backslash.
+/// The text of a `pre`, with a backslash in front if it begins with a backquote or a tilde, so that no fence opens
+/// (CommonMark 0.31.2, 4.5). Any other text is borrowed; `Err` means out of memory for the backslash.
 pub fn escape_pre_text_if_needed(alloc: Global, text: &str) -> Result<CowStr<'_>, AllocError>
     ensures text { IfOk result (λ c. cow_str_bytes c ≡ spec.escaped_pre_text text.now) }
     ensures borrowed { spec.escaped_pre_text text.now ≡ text.now
@@ -102,7 +101,7 @@ fn with_backslashes(alloc: Global, text: &str, marks: Marks) -> Result<CowStr<'_
     Ok(CowStr::Owned(escaped))
 }
 
-/// Whether no place gets a backslash, as its characters alone tell.
+/// Whether no place gets a backslash, as far as its characters alone tell.
 fn is_plain(bytes: &[u8], marks: Marks) -> bool
     ensures { result ≡ is_plain marks bytes.now }
 {
@@ -115,8 +114,8 @@ fn is_plain(bytes: &[u8], marks: Marks) -> bool
     }
 }
 
-/// Whether a character may get a backslash wherever it stands. All bytes are looked at, so that a
-/// processor can compare many at once.
+/// Whether a character may get a backslash wherever it stands. All bytes are looked at, so that a processor can compare
+/// many at once.
 fn has_special(bytes: &[u8]) -> bool
     ensures { result ≡ list_any is_special bytes.now }
 {

@@ -1,4 +1,4 @@
-//! The lines of a list item behind spaces.
+//! The lines of a list item after spaces.
 ghost use Rattle.std.specs.Prelude.{◌≡◌, ◌++◌, IfOk, OnOk, string_bytes};
 ghost use Rattle.htmd_text.specs.Indents as spec;
 
@@ -6,9 +6,9 @@ use crate::repetition::push_repeated;
 use crate::trim::without_document_end;
 use std::alloc::{AllocError, Global};
 
-/// The text's lines (as of `str::lines`: a line ends at LF or CR LF) joined by line feeds, each but the first
-/// and the empty ones behind so many spaces, and where asked without document white space at their ends.
-/// Without spaces it is the text itself. An `Err` is want of memory.
+/// The text's lines (those of `str::lines`: a line ends at LF or CR LF) joined by line feeds, each but the first and
+/// the empty ones after this many spaces, and if asked, without document white space at their ends. Without spaces it
+/// is the text itself. `Err` means out of memory.
 pub fn indent_text_except_first_line(
     alloc: Global,
     text: &str,
@@ -22,7 +22,7 @@ pub fn indent_text_except_first_line(
     Ok(indented)
 }
 
-/// Puts behind a text what `indent_text_except_first_line` answers for another one.
+/// Appends to a text what `indent_text_except_first_line` answers for another one. `Err` means out of memory.
 pub fn push_indented(
     out: &mut String,
     text: &str,
@@ -48,7 +48,7 @@ pub fn push_indented(
     Ok(())
 }
 
-/// The line, where asked without document white space at its end.
+/// The line, without document white space at its end if asked.
 fn line_text(line: &str, trim_line_end: bool) -> &str
     ensures { result.now ≡ spec.line_text trim_line_end line.now }
 {
@@ -59,7 +59,7 @@ fn line_text(line: &str, trim_line_end: bool) -> &str
     }
 }
 
-/// Puts a line feed and the line behind so many spaces, unless it is empty.
+/// Appends a line feed, and unless the line is empty, this many spaces and the line.
 fn push_line(text: &mut String, line: &str, indent: usize) -> Result<(), AllocError>
     ensures { OnOk result
         (string_bytes text.new ≡ string_bytes text.old ++ spec.next_line indent line.now) }

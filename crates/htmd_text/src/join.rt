@@ -11,8 +11,8 @@ use std::convert::AsStr;
 
 /// The items of an iterator as one text.
 pub trait JoinOnStringIterator: Iterator {
-    /// The items that are left, with the separator between each two. The iterator has to end. An `Err` is
-    /// want of memory; the items that were taken are gone then.
+    /// The items that are left, with the separator between each two. The iterator must end. `Err` means out of memory;
+    /// the items that were taken are then gone.
     final fn join(&mut self, alloc: Global, separator: &str) -> Result<String, AllocError>
     where
         Self: Sized,
@@ -38,7 +38,7 @@ pub trait JoinOnStringIterator: Iterator {
 
 impl<I: Iterator> JoinOnStringIterator for I {}
 
-/// The texts one after another, in a `String` that is reserved at once. An `Err` is want of memory.
+/// The texts one after another, in a `String` that is reserved at once. `Err` means out of memory.
 pub fn concat(alloc: Global, texts: &[&str]) -> Result<String, AllocError>
     ensures { IfOk result (λ s. string_bytes s ≡ flat_map (λ text. text.now) texts.now) }
 {
@@ -49,7 +49,7 @@ pub fn concat(alloc: Global, texts: &[&str]) -> Result<String, AllocError>
     Ok(all)
 }
 
-/// How many bytes the texts take together, as far as a `usize` goes.
+/// How many bytes the texts take together, at most as many as a `usize` can count.
 fn total_len(texts: &[&str]) -> usize
     ensures { result ≡ min (sum_by (λ text. length text.now) texts.now) usize.MAX }
 {
@@ -60,8 +60,8 @@ fn total_len(texts: &[&str]) -> usize
     total
 }
 
-/// The blocks one after another, empty ones passed over: where a text ends with `a` line feeds and
-/// the next begins with `b`, the greater of the two stands between them, at most two. An `Err` is want of memory.
+/// The blocks one after another, without the empty ones. If a text ends with `a` line feeds and the next begins with
+/// `b`, the greater number of line feeds stands between them, but at most two. `Err` means out of memory.
 pub fn join_blocks(alloc: Global, blocks: &[String]) -> Result<String, AllocError>
     ensures { IfOk result
         (λ text. string_bytes text
@@ -74,7 +74,7 @@ pub fn join_blocks(alloc: Global, blocks: &[String]) -> Result<String, AllocErro
     Ok(joined)
 }
 
-/// Puts one more block behind the others.
+/// Appends one more block to the others.
 fn join_block(joined: &mut String, block: &str) -> Result<(), AllocError>
     ensures { OnOk result
         (string_bytes joined.new ≡ spec.join_block (string_bytes joined.old) block.now) }

@@ -5,8 +5,7 @@ ghost use Rattle.htmd_text.specs.ListMarkers as spec;
 use crate::runs::leading_len;
 use unicode::properties::GeneralCategory;
 
-/// Whether the text begins with one or more `#` and then a space, as an ATX heading does
-/// (CommonMark 0.31.2, 4.2).
+/// Whether the text begins with one or more `#` and then a space, as an ATX heading does (CommonMark 0.31.2, 4.2).
 pub fn is_markdown_atx_heading(text: &str) -> bool
     ensures { result ≡ spec.is_atx_heading text.now }
 {
@@ -15,9 +14,8 @@ pub fn is_markdown_atx_heading(text: &str) -> bool
     level > 0 && level < bytes.len() && bytes[level] == b' '
 }
 
-/// Where the text begins with one or more numeric characters (general categories Nd, Nl and No),
-/// one or more dots and a space, the place of the last of these dots. An ordered list item begins
-/// so (CommonMark 0.31.2, 5.2).
+/// The place of the last dot, if the text begins with one or more numeric characters (general categories Nd, Nl and
+/// No), one or more dots and a space. An ordered list item begins like this (CommonMark 0.31.2, 5.2).
 pub fn index_of_markdown_ordered_item_dot(text: &str) -> Option<usize>
     ensures { result ≡ spec.ordered_item_dot text.now }
 {

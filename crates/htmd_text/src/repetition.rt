@@ -1,10 +1,10 @@
-//! A character as often as is asked for.
+//! A character, as often as asked for.
 ghost use Rattle.std.specs.Prelude.{◌≡◌, ◌<◌, ◌++◌, OnErr, OnOk, replicate, string_bytes};
 
 use std::alloc::AllocError;
 
-/// Puts an ASCII character so often behind the text, with one growth at most. On an `Err`, want of memory,
-/// the text is as it was.
+/// Appends an ASCII character this many times to the text, with one growth at most. `Err` means out of memory; the text
+/// is then as it was.
 pub fn push_repeated(text: &mut String, character: char, count: usize) -> Result<(), AllocError>
     requires { character < 128 }
     ensures ok { OnOk result

@@ -118,7 +118,7 @@ pub fn trim_end_document_white_space(text: &mut String)
     text.truncate(document_end(text.as_str()));
 }
 
-/// The text, or nothing where it is empty.
+/// The text, or nothing if it is empty.
 fn none_if_empty(text: &str) -> Option<&str>
     ensures { option_copied result ≡ some_text text.now }
 {
@@ -139,7 +139,7 @@ pub(crate) fn without_document_end(text: &str) -> &str
     &text[..document_end(text)]
 }
 
-/// How many bytes of document white space stand at the start.
+/// How many bytes of document white space are at the start.
 fn document_start(text: &str) -> usize
     ensures value { result ≡ prefix_len white.is_document_white_space text.now }
     ensures cut { IsCharBoundary text.now result }

@@ -7,8 +7,8 @@ ghost use Rattle.htmd_text.specs.Replacement.{IsReplaced, is_squeezed};
 use std::alloc::{AllocError, Global};
 use std::borrow::CowStr;
 
-/// The text with each maximal run of ASCII white space (Infra standard, 4.5) as one space. A text that stays
-/// as it is is borrowed; an `Err` is want of memory for one that changes.
+/// The text with each maximal run of ASCII white space (Infra standard, 4.5) as one space. A text that doesn't change
+/// is borrowed; `Err` means out of memory for one that does.
 pub fn compress_whitespace(alloc: Global, text: &str) -> Result<CowStr<'_>, AllocError>
     ensures text { IfOk result (λ c. cow_str_bytes c ≡ spec.squeezed_text text.now) }
     ensures borrowed { spec.squeezed_text text.now ≡ text.now → IsOkAnd result (λ c. IsBorrowedStr c) }
@@ -21,7 +21,7 @@ pub fn compress_whitespace(alloc: Global, text: &str) -> Result<CowStr<'_>, Allo
     Ok(CowStr::Owned(squeezed))
 }
 
-/// Puts the text with each maximal run of ASCII white space as one space behind another. An `Err` is want of memory.
+/// Appends the text to another, with each maximal run of ASCII white space as one space. `Err` means out of memory.
 pub fn push_squeezed(out: &mut String, text: &str) -> Result<(), AllocError>
     ensures { OnOk result (string_bytes out.new ≡ string_bytes out.old ++ spec.squeezed_text text.now) }
 {
@@ -45,8 +45,7 @@ pub fn is_squeezed(text: &str) -> bool
     has_single_spaces(text.as_bytes())
 }
 
-/// Whether each white space is a space alone. All bytes are looked at, so that a processor can
-/// compare many at once.
+/// Whether each white space is a single space. All bytes are looked at, so that a processor can compare many at once.
 fn has_single_spaces(bytes: &[u8]) -> bool
     ensures { result ≡ is_squeezed false bytes.now }
 {
@@ -60,8 +59,8 @@ fn has_single_spaces(bytes: &[u8]) -> bool
     is_squeezed
 }
 
-/// What the squeezed text has in place of the first byte, where that is not the byte itself:
-/// nothing for white space before more of it, a space for other white space.
+/// What the squeezed text has in place of the first byte, if that is not the byte itself: nothing for white space
+/// before more of it, a space for other white space.
 fn replacement(bytes: &[u8]) -> Option<&'static str>
     ensures { MatchOption result
         (spec.squeezed_text bytes.now ≡ take 1 bytes.now ++ spec.squeezed_text (drop 1 bytes.now))

@@ -196,7 +196,7 @@ advance old new has_doctype fs (Err (Refused left kind)) (Err found) e left_over
 
 -- ---- closing
 
--- what stands before the last of some is known by the whole
+-- what comes before the last of some is known by the whole
 without_last : (xs ys : List OpenNode) (x y : OpenNode) → xs ++ x ∷ [] ≡ ys ++ y ∷ [] → xs ≡ ys
 without_last [] [] x y e = refl
 without_last [] (b ∷ ys) x y e = absurd (let n = ap length e in let m = length-append ys (y ∷ []) in omega arith)

@@ -21,7 +21,7 @@ attribute_passed : (name value : List ℕ) (f : TagForm) → behind_form (with_a
 attribute_passed name value no_form = refl
 attribute_passed name value (form more present s) = refl
 
--- what follows a tag follows it behind an attribute too
+-- what follows a tag follows it after an attribute too
 pub behind_attribute : (s name value rest : List ℕ) → attribute name value rest ≡ next_part s
     → behind_form (form_within (suc (length rest)) rest) ≡ behind_form (form_within (suc (length s)) s)
 behind_attribute s name value rest e =
@@ -52,7 +52,7 @@ without_sign [] e = refl
 without_sign (b ∷ s) e =
     test (eqb b 60) (λ k. let z = rw (k, k) at e in absurd (cc)) (λ k. let z = rw k at e in rw k (without_sign s z))
 
--- the text from the first `<` on, and what stands behind that
+-- the text from the first `<` on, and what follows that
 abbrev pub IsAtSign : List ℕ → List ℕ → List ℕ → Type 0
 IsAtSign s tag behind = (tag ≡ behind_run (is_other 60) s) × (first_is 60 tag ≡ true) × (behind ≡ drop 1 tag)
 
@@ -75,7 +75,7 @@ sign_shorter s tag behind h =
 no_tag : (b : ℕ) (s : List ℕ) → b ≢ 60 → begins_end_tag (b ∷ s) ≡ false
 no_tag b s n = test (eqb b 60) (λ e. absurd (n (eqb-true b 60 e))) (λ e. rw e refl)
 
--- no end tag stands where none stands behind, and no `<` before
+-- there is no end tag if there is none after, and no `<` before
 none_from : (s : List ℕ) (n d k : ℕ) → k + d ≡ n → n ≤ length s
     → ((i : ℕ) → k ≤ i → i < n → get_or s i 0 ≢ 60)
     → holds_end_tag (drop n s) ≡ false → holds_end_tag (drop k s) ≡ false
@@ -129,7 +129,7 @@ none_cut (b ∷ s) e =
     let k = or_parts (begins_end_tag (b ∷ s)) (holds_end_tag s) e in
     rw k.0 (ap (λ (x : List ℕ). b ∷ x) (none_cut s k.1))
 
--- what is cut away stands behind
+-- what is cut away stands after
 pub ends_cut : (s : List ℕ) → (behind : List ℕ) × (s ≡ before_last_end_tag s ++ behind)
 ends_cut [] = ([], refl)
 ends_cut (b ∷ s) =
@@ -145,7 +145,7 @@ IsLastSign front k =
     (k < length front) × (get_or front k 0 ≡ 60) × ((i : ℕ) → k < i → i < length front
     → get_or front i 0 ≢ 60)
 
--- no end tag begins behind the front
+-- no end tag begins after the front
 pub record IsClearBehind (text front : List ℕ) : Type 0 where
   pub within : length front ≤ length text
   pub is_front : front ≡ take (length front) text

@@ -93,7 +93,7 @@ forms_are_start_tags tag rest spelled present t =
     ∙ ap behind_form (form_read spelled present t.1 rest t.5) in
     rw (e, n) f
 
--- what stands behind the name ends an end tag
+-- what follows the name ends an end tag
 ends_name : List ℕ → Bool
 ends_name w = first_is greater_than_sign (behind_run is_ascii_white_space (behind_run is_tag_name_byte w))
 

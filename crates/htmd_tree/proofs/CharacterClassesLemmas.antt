@@ -19,14 +19,14 @@ module _ (p : ℕ → Bool) where
   drop_leading_run [] = refl
   drop_leading_run (b ∷ s) = test (p b) (λ q. rw (q, drop_leading_run s) refl) (λ q. rw q refl)
 
-  -- what stands behind a run does not pass
+  -- what follows a run does not pass
   pub behind_leading_run : (s : List ℕ) → length (leading_run p s) < length s
       → p (get_or s (length (leading_run p s)) 0) ≡ false
   behind_leading_run [] l = absurd (omega arith)
   behind_leading_run (b ∷ s) l =
       test (p b) (λ q. let m = rw q at l in rw q (behind_leading_run s (omega arith))) (λ q. rw q q)
 
--- ---- beginnings up to where a test holds of the rest
+-- ---- beginnings up to where a test holds for the rest
 
 module _ (stop : List ℕ → Bool) where
   pub take_up_to : (s : List ℕ) → take (length (up_to stop s)) s ≡ up_to stop s
@@ -43,7 +43,7 @@ module _ (stop : List ℕ → Bool) where
       let more = up_to-le-length s in
       test (stop (b ∷ s)) (λ q. rw q (omega arith)) (λ q. rw q (omega arith))
 
-  -- it holds of what stands there
+  -- it holds for what is there
   pub stops_at : (s : List ℕ) → length (up_to stop s) < length s → stop (drop (length (up_to stop s)) s) ≡ true
   stops_at [] l = absurd (omega arith)
   stops_at (b ∷ s) l =

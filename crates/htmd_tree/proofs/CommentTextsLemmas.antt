@@ -69,7 +69,7 @@ at_end s n e k =
       sym (get_or-drop n s 2 0) ∙ t.2,
     )
 
--- the text may be cut before the end of a comment, and behind it
+-- the text may be cut before the end of a comment, and after it
 pub cut_before : (s : List ℕ) (n : ℕ) → n ≡ length (ends s) → (n ≡ length s → ⊥) → IsCharBoundary s n
 cut_before s n e k = let h = at_end s n e k in IsCharBoundary-before_ascii s n (omega (arith, h.0)) (omega (arith, h.1))
 
@@ -95,7 +95,7 @@ comment_within s body rest e =
     omega (arith, ap length r, length-drop (length (ends s) + 3) s))
     (cases_eq (length (ends s)) (length s))
 
--- the text may be cut behind the dashes of a comment
+-- the text may be cut after the dashes of a comment
 pub dashes_cut : (s : List ℕ) → IsUtf8 s → begins_with (codes "--") s ≡ true → IsCharBoundary s 2
 dashes_cut [] u e = absurd (cc)
 dashes_cut (b ∷ []) u e = absurd (let q = rw (and_right (b == 45) false refl) at e in cc)

@@ -131,7 +131,7 @@ some_numbered k n m v e q = go (below_limit n)
         ap may_be_numbered (e ∙ r.0) ∙ may_limit limit (omega arith) in
         let z = rw f at on in absurd (cc)
 
--- ---- what stands before `;`
+-- ---- what comes before `;`
 
 ends_run : (p : ℕ → Bool) (s : List ℕ) → p 59 ≡ false → 0 < length (leading_run p s)
     → first_is 59 (behind_run p s) ≡ true → (first_is 59 (behind_run p s) && not (first_is 59 s)) ≡ true
@@ -229,7 +229,7 @@ head_is (b ∷ s) e = (omega arith, same b e)
     same : (x : ℕ) → (x == 59) ≡ true → x ≡ 59
     same x h = grind (arith, nat_tests)
 
--- a piece may end behind `;`
+-- a piece may end after `;`
 pub behind_semicolon : (s : List ℕ) (n : ℕ) → n ≤ length s
     → first_is 59 (take (length s - n) (drop n s)) ≡ true
     → IsPieceEnd s (n + 1)
@@ -280,7 +280,7 @@ module _ (len : ℕ) (s : List ℕ) (no_number : first_is 35 s ≡ false)
       → stands (len + 1) (encode_utf8 v) ≡ behind_ampersand named_characters s
   name_some v z e o = ap (named (len + 1)) o ∙ sym (closed_name z e)
 
--- behind `&#` and no `x`
+-- after `&#` and no `x`
 pub decimal : (s : List ℕ) → first_is 35 s ≡ true
     → begins_in_any_case (codes "x") (take (length s - 1) (drop 1 s)) ≡ false
     → number_at is_ascii_digit 10 1 (drop 1 s) ≡ behind_ampersand named_characters s

@@ -62,7 +62,7 @@ low b e = grind (arith, nat_tests)
 pub literal_cut : (s : List ℕ) (n : ℕ) → n ≡ length (leading_run is_itself s) → IsCharBoundary s n
 literal_cut s n e = subst (IsCharBoundary s) (sym e) (before_others is_itself s low)
 
--- behind them stands an ASCII character
+-- an ASCII character comes after them
 pub literal_end : (s rest : List ℕ) (n : ℕ) → n ≡ length (leading_run is_itself s) → rest ≡ drop n s
     → length rest + n ≡ length s → 0 < length rest → slice_index rest 0 < 128
 literal_end s rest n e r l m =

@@ -154,7 +154,7 @@ no_null_before (b ∷ s) e =
     let more = no_null_before s parts.1 in
     rw parts.0 (omega (arith, more))
 
--- where no byte is U+0000 it stands nowhere
+-- if no byte is U+0000, there is none anywhere
 pub null_nowhere : (s : List ℕ) → list_any is_null s ≡ false → position is_null s ≡ None
 null_nowhere s e =
     let past : nat_lt (length s) (length s) ≡ false = grind (arith, nat_tests) in

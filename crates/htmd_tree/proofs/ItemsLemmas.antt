@@ -36,7 +36,7 @@ not_before : (o : Option ℕ) (k p : ℕ) → k ≤ p → ((q : ℕ) → o ≡ S
 not_before None k p l h = refl
 not_before (Some q) k p l h = let before : q < k = h q refl in grind (arith, nat_tests)
 
--- a node is no child of one that doesn't stand before it
+-- a node is not a child of one that doesn't come before it
 pub is_child-before : (items : List Item) (k p : ℕ) → IsTree items → k < length items → k ≤ p
     → is_child p (parent_at items k) ≡ false
 is_child-before items k p t l m = not_before (parent_at items k) k p m (λ q e. (t.under k q l e).before)
@@ -112,7 +112,7 @@ some_child : (p : ℕ) (o : Option ℕ) → is_child p o ≡ true → o ≡ Some
 some_child p None e = (cc)
 some_child p (Some q) e = ap Some (eqb-true q p e)
 
--- what is known of the children among the items behind one, with that one before them
+-- what is known of the children among the items after one, with that one before them
 with_first : (b : ℕ) (item : Item) (items : List Item) (p d : ℕ)
     → ((k : ℕ) → k < length (children_from (suc b) items p)
     → IsAmong (suc b) items p (get_or (children_from (suc b) items p) k d))
@@ -147,7 +147,7 @@ children_from-read : (b : ℕ) (items : List Item) (p d k : ℕ) → k < length 
 children_from-read b [] p d k l = absurd (omega arith)
 children_from-read b (item ∷ items) p d k l = with_first b item items p d (children_from-read (suc b) items p d) k l
 
--- a child stands behind its parent, and names it
+-- a child comes after its parent, and names it
 pub child_read : (items : List Item) (node : ℕ) (ids : List ℕ) (k id : ℕ) → IsTree items → node < length items
     → ids ≡ children_of items node → k < length ids → id ≡ get_or ids k id
     → (node < id) × (id < length items)

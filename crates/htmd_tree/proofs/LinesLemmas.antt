@@ -61,7 +61,7 @@ no_character s b e =
     sum_by-append starts_at s (b ∷ []) ∙ (ap (λ (x : Bool). sum_by starts_at s + (0 + (if x then 1 else 0))) e
     ∙ add-zero (sum_by starts_at s))
 
--- a place behind the end counts as the end
+-- a place after the end counts as the end
 lines_beyond : (n : ℕ) (s : List ℕ) → length s ≤ n → lines_ended n s ≡ lines_ended (length s) s
 lines_beyond zero [] l = refl
 lines_beyond zero (b ∷ s) l = absurd (omega arith)

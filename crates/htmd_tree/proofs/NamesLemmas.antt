@@ -58,7 +58,7 @@ names_of-append : (xs ys : List Attribute) → names_of (xs ++ ys) ≡ names_of 
 names_of-append xs ys =
     ap attribute_names (map-append pair_of xs ys) ∙ map-append (λ a. a.name) (map pair_of xs) (map pair_of ys)
 
--- the last attribute and those behind it
+-- the last attribute and those after it
 last_split : (attributes rest behind : List Attribute) (x : Attribute) → attributes ≡ rest ++ behind
     → 1 ≤ length rest
     → x ≡ get_or rest (length rest - 1) x → attributes ≡ take (length rest - 1) rest ++ (x ∷ behind)

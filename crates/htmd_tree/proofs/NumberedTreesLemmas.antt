@@ -25,7 +25,7 @@ forest_from-skip b (item ∷ front) rest p h =
     rw first others
 
 module _ (items : List Item) (t : IsTree items) where
-  -- the children of a node stand behind it
+  -- the children of a node come after it
   forest_from-behind : (front rest : List Item) (item : Item) → front ++ item ∷ rest ≡ items
       → forest_from 0 items (length front) ≡ forest_from (suc (length front)) rest (length front)
   forest_from-behind front rest item e =
@@ -98,7 +98,7 @@ taller id (text_node s) children h = (cc)
 taller id (comment_node s) children h = (cc)
 taller id (element_node name attributes) children h = omega arith
 
--- d stands behind the node, and has fewer levels
+-- d comes after the node, and has fewer levels
 abbrev pub IsLower : List Item → ℕ → ℕ → Type 0
 IsLower items id d = (id < d) × (d < length items) × (height (tree_of items d) < height (tree_of items id))
 

@@ -42,9 +42,9 @@ abbrev mutual
   are_content none = true
   are_content (more tree trees) = is_content tree && are_content trees
 
--- ---- nodes that stand behind
+-- ---- nodes that come after
 
--- no item of these is a child of a node that stands behind them
+-- none of these items is a child of a node that comes after them
 abbrev pub StandBefore : List Item → Type 0
 StandBefore before = (q : ℕ) (rest : List Item) → length before ≤ q
     → forest_from 0 (before ++ rest) q ≡ forest_from (length before) rest q

@@ -1,4 +1,4 @@
--- Where a text may be cut behind characters with which it begins, and what stands behind a doctype.
+-- Where a text may be cut after characters with which it begins, and what follows a doctype.
 use Rattle.std.proofs.Common.{◌≡◌, ℕ, zero, suc, ◌+◌, ◌<◌, ◌≤◌, Bool, true, false, cond, ◌==◌, List, [], ◌∷◌, length}
 use Rattle.std.proofs.Common.{drop, get_or, refl, sym, ap, ◌∙◌, subst, arith, Option, Some, None, codes}
 use Rattle.std.specs.Prelude.{nat_lt}

@@ -24,7 +24,7 @@ absorbed false false z = refl
 rest_of : (s : List ℕ) (i : ℕ) → take (length s - i) (drop i s) ≡ drop i s
 rest_of s i = between_to_end s i (length s) (omega arith)
 
--- behind `<!--`, where no `<script` stands here
+-- after `<!--`, where no `<script` stands here
 pub script_later : (s : List ℕ) (i : ℕ) (r : Bool) → i < length s
     → r ≡ begins_in_any_case (codes "<script") (take (length s - i) (drop i s)) → r ≡ false
     → goes_on true (drop (i + 1) s) ≡ goes_on true (drop i s)

@@ -1,4 +1,4 @@
--- The longest beginning of a text that passes a test, by its length, and where a text may be cut behind it.
+-- The longest beginning of a text that passes a test, by its length, and where a text may be cut after it.
 use Rattle.std.proofs.Common.{◌≡◌, ◌⊎◌, ℕ, zero, suc, ◌+◌, ◌<◌, ◌≤◌, Bool, true, false, List, [], ◌∷◌, length, take}
 use Rattle.std.proofs.Common.{drop, get_or, refl, subst, arith, inl, inr}
 use Rattle.std.proofs.lemmas.List.{drop_more}
@@ -39,7 +39,7 @@ run_within p [] = omega arith
 run_within p (b ∷ s) =
     test (p b) (λ e. let h = run_within p s in rw e (omega arith)) (λ e. rw e (omega arith))
 
--- what stands behind a run
+-- what follows a run
 stop_at : (p : ℕ → Bool) (s : List ℕ) → length (leading_run p s) < length s
     → p (get_or s (length (leading_run p s)) 0) ≡ false
 stop_at p [] l = absurd (omega arith)

@@ -13,7 +13,7 @@ pub OnOk-pushed : {T E : Type 0} (r : Result T E) (new out piece : List ℕ)
 OnOk-pushed (Ok x) new out piece e = e
 OnOk-pushed (Err y) new out piece e = tt
 
--- three pieces, where only the last is left to hold
+-- three pieces, if only the last is left to hold
 pub OnOk-third : {T E : Type 0} (r : Result T E) (out one two new start inner end_ : List ℕ) → one ≡ out ++ start
     → two ≡ one ++ inner → OnOk r (new ≡ two ++ end_) → OnOk r (new ≡ out ++ (start ++ inner ++ end_))
 OnOk-third (Ok x) out one two new start inner end_ e f g =

@@ -86,7 +86,7 @@ behind_within p [] = omega arith
 behind_within p (b ∷ s) =
     test (p b) (λ e. let k = behind_within p s in rw e (omega arith)) (λ e. rw e (omega arith))
 
--- one more than what is left behind a part
+-- one more than what is left after a part
 abbrev size_of : TagPart → ℕ
 size_of malformed = 0
 size_of (tag_end present s) = suc (length s)
@@ -217,7 +217,7 @@ rest_with : (name value : List ℕ) (f : TagForm) → size_of_rest (with_attribu
 rest_with name value no_form = refl
 rest_with name value (form spelled present s) = refl
 
--- what follows a tag is no longer than what stands behind its name
+-- what follows a tag is no longer than what follows its name
 pub form_size : (k : ℕ) (s : List ℕ) → size_of_rest (form_within k s) ≤ length s
 form_size zero s = omega arith
 form_size (suc k) s = by_part (next_part s) (part_size s) (λ rest. form_size k rest)

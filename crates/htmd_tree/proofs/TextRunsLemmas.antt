@@ -289,7 +289,7 @@ stray_character parts s x character e p q w =
     let white = white_character character.value ∙ w in
     ap (fault_of parts) (ap (piece_at named_characters (slice_index s 0)) (sym e) ∙ sym p) ∙ rw (q, white) refl
 
--- the text may be cut behind its first character
+-- the text may be cut after its first character
 pub first_cut : (s : List ℕ) (n : ℕ) → IsUtf8 s → 0 < length s → slice_index s 0 < 128
     → IsPieceEnd (drop 1 s) n
     → IsCharBoundary s (1 + n)

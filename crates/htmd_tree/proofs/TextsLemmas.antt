@@ -92,7 +92,7 @@ flush scripting p n (b ∷ run) (d ∷ s) fs t l e =
     (subst (λ z. cond z (begins_own_end n (d ∷ s)) (begins_markup (d ∷ s)) ≡ true) t.alone_is e) in
     rw q refl
 
--- the text was added, and the reader is behind it
+-- the text was added, and the reader is after it
 pub text_read : (old new : Reader) (has_doctype : Bool) (fs : List OpenElement) (answer : Answer) (p : TextSurroundings)
     (n run rest : List ℕ) → TellsOfText old.scripting p n fs → p.too_deep ≡ false → 0 < length run
     → Reaches (rules_of old) above_body (in_run fs [] old.rest.now) (in_run fs run rest)

@@ -98,7 +98,7 @@ StopsDeep reader fs Memory = ⊤
 StopsDeep reader fs (Refused left kind) =
     (kind ≡ TooDeep) × (left ≡ length reader.rest.now) × (is_too_deep (rules_of reader) above_body fs ≡ true)
 
--- No implied `tbody` is open any more that ends where the text that is left begins.
+-- No implied `tbody` that ends where the text that is left begins is open any more.
 pub record HasSettled (old new : Reader) (has_doctype : Bool) (fs : List OpenElement) : Type 0 where
   pub opened : List OpenElement
   pub holds : Holds new has_doctype opened

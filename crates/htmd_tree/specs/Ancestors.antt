@@ -4,7 +4,7 @@ use Rattle.htmd_grammar.specs.ValueTrees.{AttributePair}
 use Rattle.htmd_tree.specs.Items.{Data, document_node, doctype_node, text_node, comment_node, element_node, Item}
 use Rattle.htmd_tree.specs.Items.{data_at, parent_at, depth_at}
 
--- what is known of a node that others stand under
+-- what is known of a node that others are under
 pub record Ancestor : Type 0 where
   pub tag : List ℕ
   pub attributes : List AttributePair
@@ -17,12 +17,12 @@ ancestor_of (text_node s) = record { tag = []; attributes = [] }
 ancestor_of (comment_node s) = record { tag = []; attributes = [] }
 ancestor_of (element_node name attributes) = record { tag = name; attributes = attributes }
 
--- the parent, and then what stands above it
+-- the parent, and then what is above it
 abbrev pub chain_from : (ℕ → List Ancestor) → List Item → Option ℕ → List Ancestor
 chain_from above items None = []
 chain_from above items (Some p) = ancestor_of (data_at items p) ∷ above p
 
--- so many steps up
+-- this many steps up
 unfoldable pub ancestors_up : ℕ → List Item → ℕ → List Ancestor
 ancestors_up zero items id = []
 ancestors_up (suc n) items id = chain_from (ancestors_up n items) items (parent_at items id)

@@ -1,4 +1,4 @@
--- The part of a page that is converted: what stands between the tags of its body. A tag counts wherever it stands.
+-- The part of a page that is converted: what is between the tags of its body. A tag counts wherever it stands.
 use Rattle.std.specs.Prelude.{◌≡◌, ℕ, suc, ◌-◌, Bool, false, not, ◌&&◌, ◌||◌, ◌==◌, if◌then◌else◌}
 use Rattle.std.specs.Prelude.{List, [], ◌∷◌, ◌++◌, length, map, drop, Option, Some, None, codes}
 use Rattle.std.specs.Str.{bytes_eq}
@@ -8,7 +8,7 @@ use Rattle.htmd_text.specs.WhiteSpace.{is_ascii_white_space}
 use Rattle.htmd_grammar.specs.CharacterClasses.{first_is, begins_with, leading_run, behind_run, is_tag_name_byte}
 use Rattle.htmd_grammar.specs.TagReading.{TagForm, no_form, form, form_within}
 
--- the tag name that stands here is `body`, in any case
+-- the tag name here is `body`, in any case
 abbrev pub is_body_name : List ℕ → Bool
 is_body_name s = bytes_eq (map to_ascii_lowercase (leading_run is_tag_name_byte s)) (codes "body")
 
@@ -47,12 +47,12 @@ begins_end_tag s =
     begins_with (codes "</") s && is_body_name (drop 2 s)
     && first_is greater_than_sign (behind_run is_ascii_white_space (behind_run is_tag_name_byte (drop 2 s)))
 
--- such a tag stands somewhere in the text
+-- such a tag is somewhere in the text
 abbrev pub holds_end_tag : List ℕ → Bool
 holds_end_tag [] = false
 holds_end_tag (b ∷ s) = begins_end_tag (b ∷ s) || holds_end_tag s
 
--- what stands before the last such tag, or all where there is none
+-- what comes before the last such tag, or all if there is none
 abbrev pub before_last_end_tag : List ℕ → List ℕ
 before_last_end_tag [] = []
 before_last_end_tag (b ∷ s) =
@@ -68,7 +68,7 @@ abbrev pub place_behind : List ℕ → Option (List ℕ) → ℕ
 place_behind html None = 0
 place_behind html (Some rest) = length html - length rest
 
--- what stands between the tags of the body, or the whole text where no start tag of a body stands
+-- what is between the tags of the body, or the whole text if it has no start tag of a body
 unfoldable pub body_part : List ℕ → List ℕ
 body_part html = part_behind html (behind_first_start_tag html)
 
@@ -76,7 +76,7 @@ body_part html = part_behind html (behind_first_start_tag html)
 unfoldable pub body_place : List ℕ → ℕ
 body_place html = place_behind html (behind_first_start_tag html)
 
--- the part stands at this place of the text
+-- the part is at this place of the text
 pub record StandsAt (part : List ℕ) (place : ℕ) (text : List ℕ) : Type 0 where
   pub before : List ℕ
   pub behind : List ℕ

@@ -33,14 +33,14 @@ pub record IsPart (page part : List ℕ) (place : ℕ) : Type 0 where
   pub part_is : body_part page ≡ part
   pub place_is : body_place page ≡ place
 
--- Any text between the tags of a body is the part, where no start tag of a body begins before, nor an end tag behind.
+-- Any text between the tags of a body is the part, if no start tag of a body begins before it, nor an end tag after it.
 abbrev pub BodyStandsBetween : Type 0
 BodyStandsBetween =
     (before text behind : List ℕ) → LacksStartTag before (codes "<body>" ++ (text ++ (codes "</body>" ++ behind)))
     → holds_end_tag behind ≡ false
     → IsPart (before ++ (codes "<body>" ++ (text ++ (codes "</body>" ++ behind)))) text (length before + 6)
 
--- Any text without an end tag of a body is the part behind such a start tag.
+-- Any text without an end tag of a body is the part after such a start tag.
 abbrev pub BodyRunsToTheEnd : Type 0
 BodyRunsToTheEnd =
     (before text : List ℕ) → LacksStartTag before (codes "<body>" ++ text) → holds_end_tag text ≡ false

@@ -17,15 +17,15 @@ abbrev pub piece_of : Result Character FaultKind → Piece
 piece_of (Ok character) = stands character.behind (encode_utf8 character.value)
 piece_of (Err kind) = wrong kind
 
--- a piece may end behind so many bytes: the last of them is ASCII
+-- a piece may end after this many bytes: the last of them is ASCII
 abbrev pub IsPieceEnd : List ℕ → ℕ → Type 0
 IsPieceEnd s n = (n ≤ length s) × (0 < n → slice_index s (n - 1) < 128)
 
--- what stands between two places of a text was put behind a value, with what it denotes
+-- what is between two places of a text was appended to a value, with what it denotes
 abbrev pub HasPushed : List ℕ → List ℕ → List ℕ → List ℕ → Type 0
 HasPushed before s after rest =
     behind after (decode named_characters 0 rest) ≡ behind before (decode named_characters 0 s)
 
--- a byte that is no reference's or line end's
+-- a byte that belongs to no reference or line end
 abbrev pub is_itself : ℕ → Bool
 is_itself b = not (b == ampersand) && not (b == carriage_return)

@@ -6,7 +6,7 @@ use Rattle.htmd_tree.specs.declared.tree.Entry.{Entry}
 use Rattle.htmd_tree.specs.Items.{Item, children_of, IsTree}
 use Rattle.htmd_tree.specs.Views.{data_of}
 
--- the parent of an entry: the Document, alone at depth 0, has none
+-- the parent of an entry: the Document, the only one at depth 0, has none
 abbrev pub parent_of : Entry → Option ℕ
 parent_of e = if e.depth == 0 then None else Some e.parent
 

@@ -4,7 +4,7 @@ use Rattle.std.specs.Prelude.{Option, Some, None, IsSome, slice_index_or, Contai
 use Rattle.std.specs.Str.{IsUtf8}
 use Rattle.htmd_grammar.specs.ValueTrees.{AttributePair}
 
--- what a node is, apart from where it stands
+-- what a node is, apart from its place
 pub data Data : Type 0 where
   document_node : Data
   doctype_node : Data
@@ -73,13 +73,13 @@ new_item items p node_data = record { parent = Some p; depth = depth_at items p 
 abbrev pub greatest_depth : ℕ
 greatest_depth = 1024
 
--- node k stands right under node p, which was there before it
+-- node k is right under node p, which was there before it
 pub record IsUnder (items : List Item) (p k : ℕ) : Type 0 where
   pub before : p < k
   pub holds : holds_children (data_at items p) ≡ true
   pub deeper : depth_at items k ≡ depth_at items p + 1
 
--- what holds of every tree: the Document comes first, and every other node stands under one parent
+-- what holds for every tree: the Document comes first, and every other node stands under one parent
 pub record IsTree (items : List Item) : Type 0 where
   pub not_empty : 0 < length items
   pub first : item_at items 0 ≡ document_item

@@ -15,7 +15,7 @@ lines_ended zero s = 0
 lines_ended (suc n) [] = 0
 lines_ended (suc n) (b ∷ s) = (if ends_line (b ∷ s) then 1 else 0) + lines_ended n s
 
--- of the first n bytes those behind which no line ends: what stands before a place in its line
+-- those of the first n bytes after which no line ends: what comes before a place in its line
 abbrev pub line_front : ℕ → List ℕ → List ℕ
 line_front zero s = []
 line_front (suc n) [] = []

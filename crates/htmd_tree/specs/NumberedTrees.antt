@@ -26,7 +26,7 @@ with_children id (text_node s) children = text id s
 with_children id (comment_node s) children = comment id s
 with_children id (element_node name attributes) children = element id name attributes children
 
--- the trees of the children of p among items that are numbered from b on; the children of each come behind it
+-- the trees of the children of p among items that are numbered from b on; the children of each come after it
 unfoldable pub forest_from : ℕ → List Item → ℕ → NumberedForest
 forest_from b [] p = none
 forest_from b (item ∷ items) p =

@@ -9,7 +9,7 @@ use Rattle.htmd_tree.specs.Surroundings.{surroundings_of}
 use Rattle.htmd_tree.specs.declared.reader.OpenNode.{OpenNode}
 use Rattle.htmd_tree.specs.declared.reader.Reader.{Reader}
 
--- what stands before `body`: the Document, a Doctype where there is one, `html` and its empty `head`
+-- what comes before `body`: the Document, a Doctype if there is one, `html` and its empty `head`
 abbrev pub items_above : Bool → List Item
 items_above false =
     document_item ∷ item_under 1 0 (element_node (codes "html") [])
@@ -76,7 +76,7 @@ pub record Holds (reader : Reader) (has_doctype : Bool) (fs : List OpenElement) 
   pub stack_is : reader.stack.items ≡ open_nodes reader.scripting has_doctype fs
   pub are_open : AreOpen fs
 
--- it holds of all elements and flags that fit where the reader is
+-- it holds for all elements and flags that fit where the reader is
 abbrev pub WhateverIsOpen : Reader → (Bool → List OpenElement → Type 0) → Type 0
 WhateverIsOpen reader P =
     (has_doctype : Bool) (fs : List OpenElement) → Holds reader has_doctype fs → P has_doctype fs

@@ -20,7 +20,7 @@ ancestor_names items id = map (λ a. a.tag) (ancestors_of items id)
 abbrev pub value_at : List Item → ℕ → ValueTree
 value_at items id = value_tree (tree_of items id)
 
--- The text is a block of raw HTML of an element below `body` of a tree that was read. What stands between the blank
+-- The text is a block of raw HTML of an element below `body` of a tree that was read. What is between the blank
 -- lines denotes that element alone, in the context of its ancestors, unless it holds a carriage return, a comment,
 -- `pre`, `textarea` or a raw text element.
 abbrev pub IsReadBack : List Item → ℕ → List ℕ → Type 0

@@ -49,7 +49,7 @@ flags_fit_select around n =
     else if around.option_group then is_option n
     else not around.option
 
--- an element that doesn't stand in itself is open
+-- an element that may not stand in itself is open
 abbrev pub own_flag : Surroundings → List ℕ → Bool
 own_flag around n =
     if is_among (codes "a" ∷ []) n then around.open_a

@@ -51,13 +51,13 @@ distinct_attributes spelled None = Err BadNumber
 distinct_attributes spelled (Some attributes) =
     if are_distinct (attribute_names spelled) then Ok attributes else Err DuplicateAttribute
 
--- the attributes that are spelled so, or what is wrong with them
+-- the attributes that are spelled like this, or what is wrong with them
 abbrev pub read_attributes : List AttributePair → Result (List AttributePair) FaultKind
 read_attributes spelled =
     if list_any (λ a. has_unknown_reference named_characters a.value) spelled then Err UnknownReference
     else distinct_attributes spelled (decode_values named_characters spelled)
 
--- what is wrong with a start tag of this name, with a `/` or without
+-- what is wrong with a start tag with this name, with a `/` or without
 abbrev pub fault_of_name : List ℕ → Bool → Option FaultKind
 fault_of_name n present =
     if present && not (is_void n) then Some SelfClosing else if is_outside n then Some TagOutside else None

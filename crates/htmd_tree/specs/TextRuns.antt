@@ -27,7 +27,7 @@ is_plain parts b =
     if parts then is_ascii_white_space b && not (b == carriage_return)
     else not (b == less_than_sign) && not (b == ampersand) && not (b == carriage_return)
 
--- a run ends here, in an element of this name that holds text alone or not
+-- a run ends here, in an element with this name that holds only text or not
 abbrev pub is_run_end : Bool → List ℕ → List ℕ → Bool
 is_run_end alone n s = is_empty s || (if alone then begins_own_end n s else begins_markup s)
 
@@ -66,7 +66,7 @@ IsFaultIn parts s kind = fault_of parts (first_piece s) ≡ Some kind
 
 -- ---- runs
 
--- what stood there was put behind the run, or a fault stands there
+-- what was there was appended to the run, or there is a fault
 abbrev pub Pushes : Bool → List OpenElement → List ℕ → List ℕ → List ℕ → Result (Bor (List ℕ)) Stop
     → Type 0
 Pushes scripting fs before s after (Ok rest) =

@@ -15,7 +15,7 @@ pub(crate) enum Children {
     More(Vec<NodeId>),
 }
 
-/// The room for the first children that are more than three: with what malloc adds, 64 bytes.
+/// The room that is made when there are more than three children: 64 bytes with what malloc adds.
 const ROOM: usize = 7;
 
 impl Children {

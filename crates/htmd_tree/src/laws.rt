@@ -15,7 +15,7 @@ pub fn body_tags_are_forms()
     ensures end_tags { EndTagsAreForms }
 {}
 
-/// The part of a page that is converted is what its tags stand around.
+/// The part of a page that is converted is what its tags surround.
 pub fn body_stands_between()
     ensures between { BodyStandsBetween }
     ensures to_the_end { BodyRunsToTheEnd }

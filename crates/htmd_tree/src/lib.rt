@@ -1,8 +1,7 @@
-//! Trees of HTML nodes. A tree is its nodes in order of addition; a node denotes a value tree and a
-//! list of ancestors, and nodes are only added, each as the last child of its parent. A node is
-//! written as HTML by the serialisation of its value tree, and as a block of raw HTML, where
-//! references stand for the line ends that would make blank lines. `body_of` takes the body from a whole
-//! page, and `line_and_column` says where a place stands.
+//! Trees of HTML nodes. A tree is its nodes in order of addition; a node denotes a value tree and a list of ancestors,
+//! and nodes are only added, each as the last child of its parent. A node is written as HTML by the serialisation of
+//! its value tree, and as a block of raw HTML, in which references stand for the line ends that would make blank lines.
+//! `body_of` takes the body from a whole page, and `line_and_column` says in which line and column a place is.
 #![tactic(auto)]
 
 mod children;

@@ -21,8 +21,8 @@ fn begins_character(byte: u8) -> bool
 }
 
 /// The line and the column of a byte place in a text, both from 1. A line ends with a line feed, a carriage return and
-/// a line feed, or a carriage return; columns are characters. A place behind the end counts as the end, one within a
-/// character or a line end as behind what of it stands before the place.
+/// a line feed, or a carriage return; columns are characters. A place after the end counts as the end. A place within a
+/// character or a line end counts as after the part of it that comes before the place.
 pub fn line_and_column(html: &str, place: usize) -> (usize, usize)
     ensures line { result.0 ≡ 1 + spec.lines_ended place html.now }
     ensures column { result.1 ≡ 1 + spec.characters (spec.line_front place html.now) }

@@ -57,7 +57,7 @@ pub enum ReadError {
     /// The text is outside the grammar: the byte place of its first fault, and the fault's kind.
     #[error("refused at byte {place}: {kind}")]
     Refused { place: usize, kind: FaultKind },
-    /// A request for memory was refused.
+    /// Out of memory.
     #[error("out of memory")]
     Memory,
 }
@@ -70,7 +70,7 @@ pub(crate) struct OpenNode {
     surroundings: Surroundings,
 }
 
-/// Why the reader stops. A fault is named by how many bytes are left from its place on.
+/// Why the reader stops. The place of a fault is given by how many bytes are left from there on.
 #[derive(Drop)]
 pub(crate) enum Stop {
     Memory,
@@ -127,7 +127,7 @@ impl<'a> Reader<'a> {
         }
     }
 
-    /// Whether a node in the innermost open element would stand too deep.
+    /// Whether a node in the innermost open element would be too deep.
     fn is_too_deep(&self) -> bool
         requires reading { IsReading self.now }
         ensures { WhateverIsOpen self.now (λ has_doctype fs.
@@ -136,7 +136,7 @@ impl<'a> Reader<'a> {
         self.tree.depth(self.top().id) >= MAX_DEPTH
     }
 
-    /// The stop for a fault that stands where the text that is left begins.
+    /// The stop for a fault where the text that is left begins.
     fn refused(&self, kind: FaultKind) -> Stop
         ensures { result ≡ Refused (length self.now.rest.now) kind }
     {
@@ -165,7 +165,7 @@ impl<'a> Reader<'a> {
         }
     }
 
-    /// A new node without children in the innermost open element; what is left then is given.
+    /// A new node without children in the innermost open element; `rest` is what is left then.
     fn add_leaf(&mut self, node: NodeData, rest: &'a str) -> Result<(), Stop>
         requires reading { IsReading self.old }
         requires leaf { IsLeaf (data_of node) }
@@ -178,7 +178,7 @@ impl<'a> Reader<'a> {
         Ok(())
     }
 
-    /// A new element in the innermost open element, which then is the innermost one.
+    /// A new element in the innermost open element; it is then the innermost one.
     fn open_node(&mut self, name: String, attrs: Vec<Attribute>, implied: bool) -> Result<(), Stop>
         requires reading { IsReading self.old }
         requires may_open { WhateverIsOpen self.old (λ has_doctype fs.
@@ -198,7 +198,7 @@ impl<'a> Reader<'a> {
         Ok(())
     }
 
-    /// A new element in the innermost open element, which then is the innermost one; what is left then is given.
+    /// A new element in the innermost open element; it is then the innermost one, and `rest` is what is left.
     fn open_element(
         &mut self,
         name: String,
@@ -229,7 +229,7 @@ impl<'a> Reader<'a> {
         self.open_node(name, Vec::new(self.alloc), true)
     }
 
-    /// Closes the innermost open element, which isn't the outermost; what is left then is given.
+    /// Closes the innermost open element, which isn't the outermost; `rest` is what is left then.
     fn close_element(&mut self, rest: &'a str)
         requires reading { IsReading self.old }
         requires inner { 1 < length self.old.stack.items }
@@ -257,7 +257,7 @@ fn holds_null(bytes: &[u8]) -> bool
 }
 
 #[tactic(auto, using(crate::proofs::DocumentsLemmas::null_nowhere))]
-/// Where the first U+0000 stands.
+/// Where the first U+0000 is.
 fn first_null(text: &str) -> Option<usize>
     ensures { result ≡ position (λ b. b == null) text.now }
 {
@@ -267,9 +267,9 @@ fn first_null(text: &str) -> Option<usize>
     text.as_bytes().iter().position(|b| *b == 0)
 }
 
-/// The tree that a text denotes by the strict grammar, with scripting on or off: the Document, a Doctype where
-/// the text begins with one, `html` with an empty `head`, and `body` with the content. `Refused` for each text that
-/// denotes none, with the byte place and the kind of its first fault; `Memory` where a growth was refused.
+/// The tree that a text denotes by the strict grammar, with scripting on or off: the Document, a Doctype if the text
+/// begins with one, `html` with an empty `head`, and `body` with the content. `Refused` for each text that denotes no
+/// tree, with the byte place and the kind of its first fault; `Memory` when out of memory.
 pub fn read_html(alloc: Global, text: &str, scripting: bool) -> Result<Tree, ReadError>
     ensures ok { IfOk result (λ tree. (children : ValueForest) × (tree ≡ document_items children)
         × ReadsDocument (project scripting) text.now (document children)) }

@@ -1,4 +1,4 @@
-//! What a tree is written as, and its block of raw HTML.
+//! How a tree is written as HTML, and as a block of raw HTML.
 ghost use Rattle.std.specs.Prelude.{◌≡◌, ◌<◌, ◌++◌, ◌∷◌, false, length, string_bytes, IfOk, OnErr, OnOk};
 ghost use Rattle.std.specs.Str.{chars, encode_utf8_all};
 ghost use Rattle.htmd_tree.specs.Items.{children_of};
@@ -62,8 +62,8 @@ fn push_value(out: &mut String, value: &str) -> Result<(), AllocError>
     Ok(())
 }
 
-/// Whether an element of this name, in lower case, is written without an end tag (HTML Standard, 13.3). It is compared
-/// with the names of its own length alone.
+/// Whether an element with this name, in lower case, is written without an end tag (HTML Standard, 13.3). The name is
+/// only compared with names of its own length.
 #[tactic(auto, unfolding(htmd_grammar::specs::Serialisation::is_void))]
 pub fn is_void(name: &str) -> bool
     ensures { result ≡ spec.is_void name.now }
@@ -103,8 +103,8 @@ fn push_attribute(out: &mut String, attribute: &Attribute) -> Result<(), AllocEr
     out.push_str("\"")
 }
 
-/// Puts the start tag of an element behind a text (HTML Standard, 13.3). After an `Err`, want of memory, what the text
-/// held is still its beginning.
+/// Appends the start tag of an element to a text (HTML Standard, 13.3). `Err` means out of memory; what the text held
+/// is then still its beginning.
 pub fn push_start_tag(out: &mut String, name: &str, attrs: &[Attribute]) -> Result<(), AllocError>
     ensures ok { OnOk result (string_bytes out.new
         ≡ string_bytes out.old ++ spec.start_tag name.now (pairs_of attrs.now)) }
@@ -118,8 +118,8 @@ pub fn push_start_tag(out: &mut String, name: &str, attrs: &[Attribute]) -> Resu
     out.push_str(">")
 }
 
-/// Puts the end tag of an element behind a text (HTML Standard, 13.3). After an `Err`, want of memory, what the text
-/// held is still its beginning.
+/// Appends the end tag of an element to a text (HTML Standard, 13.3). `Err` means out of memory; what the text held
+/// is then still its beginning.
 pub fn push_end_tag(out: &mut String, name: &str) -> Result<(), AllocError>
     ensures ok { OnOk result
         (string_bytes out.new ≡ string_bytes out.old ++ spec.end_tag name.now) }
@@ -177,8 +177,8 @@ fn push_children(out: &mut String, tree: &Tree, node: NodeId, raw: bool) -> Resu
     Ok(())
 }
 
-/// The fragment serialisation of a node and what is below it (HTML Standard, 13.3). The tree must contain the
-/// node; an `Err` is want of memory.
+/// The fragment serialisation of a node and what is below it (HTML Standard, 13.3). The tree must contain the node.
+/// `Err` means out of memory.
 pub fn serialize(alloc: Global, tree: &Tree, node: NodeId) -> Result<String, AllocError>
     requires { node < length tree.now }
     ensures { IfOk result
@@ -198,8 +198,7 @@ fn begins_line(text: &str) -> bool
     }
 }
 
-/// Puts a character of a block behind a text; the answer is whether nothing but white space came
-/// since a raw line end.
+/// Appends a character of a block to a text; the answer is whether only white space came since a raw line end.
 fn push_block_char(out: &mut String, after: bool, c: char, rest: &str) -> Result<bool, AllocError>
     ensures { IfOk result (λ next. string_bytes out.new
         ++ encode_utf8_all (blocks.without_blank_lines next (chars rest.now))
@@ -225,8 +224,7 @@ fn push_block_char(out: &mut String, after: bool, c: char, rest: &str) -> Result
     Ok(after && c.is_whitespace())
 }
 
-/// Puts a text behind another one, with references in place of the line ends that would make a
-/// blank line.
+/// Appends a text to another one, with references in place of the line ends that would make a blank line.
 fn push_block(out: &mut String, text: &str) -> Result<(), AllocError>
     ensures { OnOk result (string_bytes out.new
         ≡ string_bytes out.old ++ encode_utf8_all (blocks.without_blank_lines false (chars text.now))) }
@@ -239,7 +237,7 @@ fn push_block(out: &mut String, text: &str) -> Result<(), AllocError>
     Ok(())
 }
 
-/// Whether two line feeds have white space alone between them.
+/// Whether two line feeds have only white space between them.
 fn has_blank_line(text: &str) -> bool
     ensures { result ≡ steps.has_blank_line (chars text.now) }
 {
@@ -257,8 +255,8 @@ fn has_blank_line(text: &str) -> bool
     false
 }
 
-/// The text with references in place of the line ends that would make a blank line. A text that has none
-/// is not written again.
+/// The text with references in place of the line ends that would make a blank line. A text without any is not written
+/// again.
 fn without_blank_lines(alloc: Global, text: String) -> Result<String, AllocError>
     ensures { IfOk result (λ rewritten. string_bytes rewritten
         ≡ encode_utf8_all (blocks.without_blank_lines false (chars (string_bytes text)))) }
@@ -271,10 +269,10 @@ fn without_blank_lines(alloc: Global, text: String) -> Result<String, AllocError
     Ok(rewritten)
 }
 
-/// The serialisation of a node as a block of raw HTML (CommonMark 0.31.2, 4.6): between blank lines, with
-/// references in place of the line ends that would make one. Of an element below `body` of a tree that was read, which
-/// holds no carriage return, comment, `pre`, `textarea` or raw text element, the block reads back as that element. The
-/// tree must contain the node; an `Err` is want of memory.
+/// The serialisation of a node as a block of raw HTML (CommonMark 0.31.2, 4.6): between blank lines, with references in
+/// place of the line ends that would make one. For an element below `body` of a tree that was read, the block reads
+/// back as that element if it holds no carriage return, comment, `pre`, `textarea` or raw text element. The tree must
+/// contain the node. `Err` means out of memory.
 pub fn raw_block(alloc: Global, tree: &Tree, node: NodeId) -> Result<String, AllocError>
     requires { node < length tree.now }
     ensures text { IfOk result (λ text. string_bytes text

@@ -52,10 +52,10 @@ pub enum NodeData {
 /// Why a node was not added. The tree is then as it was.
 #[derive(Debug, PartialEq, Eq, Drop, Error)]
 pub enum TreeError {
-    /// The request for memory was refused.
+    /// Out of memory.
     #[error("out of memory")]
     Memory = 1,
-    /// The node would stand deeper than level 1,024.
+    /// The node would be deeper than level 1,024.
     #[error("too deep")]
     TooDeep = 2,
 }
@@ -76,7 +76,7 @@ impl<T: Drop> From<AllocFailed<T>> for TreeError {
     }
 }
 
-/// A node as it is kept. The Document, alone at depth 0, stands under itself here.
+/// A node as it is kept. The Document, the only node at depth 0, is its own parent here.
 #[derive(Drop)]
 struct Entry {
     data: NodeData,
@@ -106,7 +106,7 @@ impl Model for Tree {
 }
 
 impl Tree {
-    /// A tree of the Document alone. An `Err` is `Memory`.
+    /// A tree that holds only the Document. `Memory` when out of memory; there is no other error.
     pub fn new(alloc: Global) -> Result<Tree, TreeError>
         ensures ok { IfOk result (λ tree. tree ≡ document_item ∷ []) }
         ensures memory { IsOkUnless result TreeError.Memory }
@@ -121,7 +121,7 @@ impl Tree {
         Ok(Tree { entries, alloc })
     }
 
-    /// Whether a node of this number is there.
+    /// Whether the tree has a node with this number.
     pub fn contains(&self, id: NodeId) -> bool
         ensures value { result ≡ nat_lt id (length self.now) }
         ensures tree { IsTree self.now }
@@ -148,7 +148,7 @@ impl Tree {
         &self.entries[id.index].data
     }
 
-    /// The node that a node of the tree stands right under; the Document has none.
+    /// The parent of a node of the tree; the Document has none.
     pub fn parent(&self, id: NodeId) -> Option<NodeId>
         requires { id < length self.now }
         ensures value { result ≡ parent_at self.now id }
@@ -162,7 +162,7 @@ impl Tree {
         }
     }
 
-    /// The nodes right under a node of the tree, in order.
+    /// The children of a node of the tree, in order.
     pub fn children(&self, id: NodeId) -> &[NodeId]
         requires { id < length self.now }
         ensures value { result.now ≡ children_of self.now id }
@@ -193,7 +193,7 @@ impl Tree {
         self.entries[id.index].depth
     }
 
-    /// Whether a node under this parent stands within the greatest depth.
+    /// Whether a child of this parent is within the greatest depth.
     fn ask_depth(&self, parent: NodeId) -> Result<(), TreeError>
         requires { parent < length self.now }
         ensures { MatchResult result (λ _. depth_at self.now parent < greatest_depth)
@@ -233,9 +233,8 @@ impl Tree {
         Ok(id)
     }
 
-    /// A new last child of a node: a node of its own. The tree must contain the parent, a Document or an
-    /// element. `TooDeep` where the child would stand below level 1,024, `Memory` where a growth was refused;
-    /// the tree is then as it was.
+    /// A new last child of a node: a node of its own. The tree must contain the parent, a Document or an element.
+    /// `TooDeep` if the child would be below level 1,024, `Memory` when out of memory; the tree is then as it was.
     pub(crate) fn add_node(
         &mut self,
         parent: NodeId,
@@ -254,9 +253,9 @@ impl Tree {
         self.add(parent, node_data)
     }
 
-    /// A new last child of a node: an element with a name and attributes. The tree must contain the
-    /// parent, a Document or an element. `TooDeep` where the child would stand below level 1,024, `Memory`
-    /// where a growth was refused; the tree is then as it was, and the attributes are dropped.
+    /// A new last child of a node: an element with a name and attributes. The tree must contain the parent, a Document
+    /// or an element. `TooDeep` if the child would be below level 1,024, `Memory` when out of memory; the tree is then
+    /// as it was, and the attributes are dropped.
     pub fn add_element(
         &mut self,
         parent: NodeId,
@@ -278,9 +277,8 @@ impl Tree {
         self.add(parent, NodeData::Element { name, attrs })
     }
 
-    /// A new last child of a node: a text. The tree must contain the
-    /// parent, a Document or an element. `TooDeep` where the child would stand below level 1,024, `Memory`
-    /// where a growth was refused; the tree is then as it was.
+    /// A new last child of a node: a text. The tree must contain the parent, a Document or an element. `TooDeep` if the
+    /// child would be below level 1,024, `Memory` when out of memory; the tree is then as it was.
     pub fn add_text(&mut self, parent: NodeId, text: &str) -> Result<NodeId, TreeError>
         requires within { parent < length self.old }
         requires holds { IsTrue (holds_children (data_at self.old parent)) }
@@ -296,9 +294,8 @@ impl Tree {
         self.add(parent, NodeData::Text(text))
     }
 
-    /// A new last child of a node: a comment. The tree must contain the
-    /// parent, a Document or an element. `TooDeep` where the child would stand below level 1,024, `Memory`
-    /// where a growth was refused; the tree is then as it was.
+    /// A new last child of a node: a comment. The tree must contain the parent, a Document or an element. `TooDeep` if
+    /// the child would be below level 1,024, `Memory` when out of memory; the tree is then as it was.
     pub fn add_comment(&mut self, parent: NodeId, text: &str) -> Result<NodeId, TreeError>
         requires within { parent < length self.old }
         requires holds { IsTrue (holds_children (data_at self.old parent)) }
@@ -314,9 +311,8 @@ impl Tree {
         self.add(parent, NodeData::Comment(text))
     }
 
-    /// A new last child of a node: a Doctype. The tree must contain the
-    /// parent, a Document or an element. `TooDeep` where the child would stand below level 1,024, `Memory`
-    /// where a growth was refused; the tree is then as it was.
+    /// A new last child of a node: a Doctype. The tree must contain the parent, a Document or an element. `TooDeep` if
+    /// the child would be below level 1,024, `Memory` when out of memory; the tree is then as it was.
     pub fn add_doctype(&mut self, parent: NodeId) -> Result<NodeId, TreeError>
         requires within { parent < length self.old }
         requires holds { IsTrue (holds_children (data_at self.old parent)) }

@@ -1,5 +1,5 @@
-//! The names of references that begin with capital letters, less their `;`, and what they stand for (HTML Standard,
-//! 13.5). The common ones stand first.
+//! The names of references that begin with capital letters, without their `;`, and what they stand for (HTML Standard,
+//! 13.5). The common ones come first.
 
 pub(crate) static CAPITAL_A: [(&str, &str); 19] = [
     ("AElig", "\u{c6}"),

@@ -1,5 +1,5 @@
-//! The names of references that begin with `l` to `r`, less their `;`, and what they stand for (HTML Standard,
-//! 13.5). The common ones stand first.
+//! The names of references that begin with `l` to `r`, without their `;`, and what they stand for (HTML Standard,
+//! 13.5). The common ones come first.
 
 pub(crate) static SMALL_L: [(&str, &str); 152] = [
     ("lt", "<"),

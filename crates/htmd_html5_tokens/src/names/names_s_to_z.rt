@@ -1,5 +1,5 @@
-//! The names of references that begin with `s` to `z`, less their `;`, and what they stand for (HTML Standard,
-//! 13.5). The common ones stand first.
+//! The names of references that begin with `s` to `z`, without their `;`, and what they stand for (HTML Standard,
+//! 13.5). The common ones come first.
 
 pub(crate) static SMALL_S: [(&str, &str); 152] = [
     ("sacute", "\u{15b}"),

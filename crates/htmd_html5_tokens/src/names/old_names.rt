@@ -1,5 +1,5 @@
-//! The names of references that may stand without `;`, and what they stand for (HTML Standard, 13.5). None begins
-//! another, so a text begins with one of them at most.
+//! The names of references that may stand without `;`, and what they stand for (HTML Standard, 13.5). No name begins
+//! another one, so a text begins with at most one of them.
 
 pub(crate) static OLD_NAMES: [(&str, &str); 106] = [
     ("yuml", "\u{ff}"),

@@ -13,7 +13,7 @@ use crate::tree::Attribute;
 use htmd_grammar::FaultKind;
 use std::alloc::{AllocError, Global};
 
-/// Whether a reference by an unknown name stands in a value.
+/// Whether a value has a reference by an unknown name.
 fn has_unknown_reference(spelled: &[SpelledAttribute<'_>]) -> bool
     ensures { result
         ≡ list_any (λ a. steps.has_unknown_reference named_characters a.value) (all_spelled_of spelled.now) }
@@ -26,7 +26,7 @@ fn has_unknown_reference(spelled: &[SpelledAttribute<'_>]) -> bool
     false
 }
 
-/// The attributes with what their values denote, where each reference is right.
+/// The attributes with what their values denote, if each reference is right.
 fn decoded(
     alloc: Global,
     spelled: &[SpelledAttribute<'_>],

@@ -18,7 +18,7 @@ pub(crate) struct SpelledAttribute<'a> {
     pub(crate) value: &'a str,
 }
 
-/// What comes next in a start tag behind its name.
+/// What comes next in a start tag after its name.
 #[derive(Drop)]
 pub(crate) enum Part<'a> {
     Malformed,
@@ -32,7 +32,7 @@ pub(crate) enum Part<'a> {
     },
 }
 
-/// What stands behind the name of a start tag, and what follows the tag.
+/// What follows the name of a start tag, and what follows the tag.
 #[derive(Drop)]
 pub(crate) struct TagForm<'a> {
     pub(crate) attributes: Vec<SpelledAttribute<'a>>,
@@ -40,7 +40,7 @@ pub(crate) struct TagForm<'a> {
     pub(crate) rest: &'a str,
 }
 
-/// A value between quotes, of which the first stands before the text.
+/// A value between quotes; the first one comes before the text.
 fn quoted_value<'a>(name: &'a str, text: &'a str, quote: u8) -> Part<'a>
     requires { quote < 128 }
     ensures { part_of result ≡ spec.quoted_value quote name.now text.now }
@@ -68,7 +68,7 @@ fn unquoted_value<'a>(name: &'a str, text: &'a str) -> Part<'a>
     }
 }
 
-/// Behind `=` and white space.
+/// After `=` and white space.
 fn value_part<'a>(name: &'a str, text: &'a str) -> Part<'a>
     ensures { part_of result ≡ spec.value_part name.now text.now }
 {
@@ -81,7 +81,7 @@ fn value_part<'a>(name: &'a str, text: &'a str) -> Part<'a>
     unquoted_value(name, text)
 }
 
-/// Behind the name of an attribute.
+/// After the name of an attribute.
 fn behind_name<'a>(name: &'a str, text: &'a str) -> Part<'a>
     ensures { part_of result ≡ spec.behind_attribute_name name.now text.now }
 {
@@ -96,7 +96,7 @@ fn behind_name<'a>(name: &'a str, text: &'a str) -> Part<'a>
     value_part(name, value)
 }
 
-/// Whether one of the controls U+0080 to U+009F stands in the text.
+/// Whether the text has one of the controls U+0080 to U+009F.
 fn holds_control(bytes: &[u8]) -> bool
     ensures { result ≡ classes.holds_control bytes.now }
 {
@@ -124,7 +124,7 @@ fn attribute(text: &str) -> Part<'_>
     behind_name(name, rest)
 }
 
-/// Behind `/`.
+/// After `/`.
 fn behind_slash(text: &str) -> Part<'_>
     ensures { part_of result ≡ spec.behind_slash text.now }
 {
@@ -151,8 +151,8 @@ pub(crate) fn next_part(text: &str) -> Part<'_>
     attribute(behind)
 }
 
-/// The form of a start tag from behind its name on: its attributes, its `/` and its `>`. None where what stands
-/// there has no such form; an `Err` is want of memory.
+/// The form of a start tag from just after its name: its attributes, its `/` and its `>`. None if the text there has no
+/// such form; `Err` means out of memory.
 pub(crate) fn tag_form<'a>(alloc: Global, text: &'a str) -> Result<Option<TagForm<'a>>, AllocError>
     ensures { IfOk result (λ o. MatchOption o
         (spec.form_within (suc (length text.now)) text.now ≡ spec.no_form)
@@ -179,7 +179,7 @@ pub(crate) fn tag_form<'a>(alloc: Global, text: &'a str) -> Result<Option<TagFor
     }
 }
 
-/// So many names are compared pair by pair.
+/// Up to this many names are compared pair by pair.
 const FEW: usize = 12;
 
 fn has_name(attributes: &[Attribute], name: &str) -> bool
@@ -206,7 +206,7 @@ fn are_pairwise_distinct(attributes: &[Attribute]) -> bool
     true
 }
 
-/// Whether no two attributes have one name. An `Err` is want of memory.
+/// Whether no two attributes have the same name. `Err` means out of memory.
 pub(crate) fn are_distinct(alloc: Global, attributes: &[Attribute]) -> Result<bool, AllocError>
     ensures { IfOk result (λ answer. answer
         ≡ classes.are_distinct (attribute_names (pairs_of attributes.now))) }

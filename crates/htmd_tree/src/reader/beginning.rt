@@ -1,4 +1,4 @@
-//! A document before its content: a Doctype where there is one, `html` with its `head`, and `body`, which is open.
+//! A document before its content: a Doctype if there is one, `html` with its `head`, and `body`, which is open.
 ghost use Rattle.std.specs.Prelude.{◌≡◌, ◌≢◌, ◌∷◌, [], length, IfOk, IfErr, is_some};
 ghost use Rattle.htmd_grammar.specs.Comments as comments;
 ghost use Rattle.htmd_grammar.specs.Documents.{behind_mark, body_text};
@@ -29,7 +29,7 @@ fn empty_document(alloc: Global, has_doctype: bool) -> Result<(Tree, NodeId), Tr
 }
 
 impl<'a> Reader<'a> {
-    /// A reader before the content of a document. An `Err` is `Memory`.
+    /// A reader before the content of a document. `Memory` when out of memory; there is no other error.
     pub(super) fn new(
         alloc: Global,
         text: &'a str,

@@ -1,4 +1,4 @@
-//! The part of a page that is converted: what stands between the tags of its body.
+//! The part of a page that is converted: what is between the tags of its body.
 ghost use Rattle.std.specs.Prelude.{◌≡◌, suc, length, option_map};
 ghost use Rattle.htmd_grammar.specs.TagReading.{form_within};
 ghost use Rattle.htmd_tree.specs.Bodies as spec;
@@ -7,7 +7,7 @@ use crate::reader::attributes::{Part, next_part};
 use crate::reader::rows::is_tag_name;
 use crate::reader::runs::{Class, split_run, strip_byte};
 
-/// What follows a start tag, of which what stands behind its name is given.
+/// What follows a start tag, given what follows its name.
 fn behind_form(text: &str) -> Option<&str>
     ensures { option_map (λ rest. rest.now) result
         ≡ spec.behind_form (form_within (suc (length text.now)) text.now) }
@@ -22,7 +22,7 @@ fn behind_form(text: &str) -> Option<&str>
     }
 }
 
-/// What follows a start tag named `body`, of which what stands behind `<` is given.
+/// What follows a start tag named `body`, given what follows `<`.
 fn behind_start_tag(text: &str) -> Option<&str>
     ensures { option_map (λ rest. rest.now) result ≡ spec.behind_name text.now }
 {
@@ -50,7 +50,7 @@ fn behind_first_start_tag(html: &str) -> Option<&str>
     }
 }
 
-/// Whether an end tag named `body` stands here.
+/// Whether an end tag named `body` begins here.
 fn begins_end_tag(text: &str) -> bool
     ensures { result ≡ spec.begins_end_tag text.now }
 {
@@ -65,7 +65,7 @@ fn begins_end_tag(text: &str) -> bool
     strip_byte(end, b'>').is_some()
 }
 
-/// What stands before the last end tag named `body`, or all where there is none.
+/// What comes before the last end tag named `body`, or all if there is none.
 fn before_last_end_tag(text: &str) -> &str
     ensures { result.now ≡ spec.before_last_end_tag text.now }
 {
@@ -79,18 +79,17 @@ fn before_last_end_tag(text: &str) -> &str
     text
 }
 
-/// What stands between the tags of a page's body, and the byte place where that begins: from behind the first place
-/// where a start tag of the grammar's form named `body` stands, in any case and with any attributes, to the last place
-/// behind it where an end tag named `body` stands, else to the end. What comes before is passed over: an XML
-/// declaration, a doctype of any kind, `html`, `head`. Where no such start tag stands, it is the whole text, at place
-/// 0.
+/// What is between the tags of a page's body, and the byte place where that begins: from after the first start tag of
+/// the grammar's form named `body`, in any case and with any attributes, to the last end tag named `body` after it, or
+/// to the end if there is none. What comes before is skipped: an XML declaration, a doctype of any kind, `html`,
+/// `head`. Without such a start tag, it is the whole text, at place 0.
 ///
-/// A tag counts wherever it stands, in a comment or a script of the head too. A part that begins at such a tag is
-/// refused by the grammar where the right start tag stands in it, unless it hides that in a comment or a raw text; a
-/// part that ends before the right start tag, at an end tag beside the wrong one, is not refused.
+/// A tag counts wherever it stands, even in a comment or a script of the head. A part that begins at such a tag is
+/// refused by the grammar if the right start tag stands in it, unless that is hidden in a comment or a raw text; a part
+/// that ends before the right start tag, at an end tag that goes with the wrong one, is not refused.
 ///
 /// It goes over the text once and takes no memory. The form of a tag is that of the HTML Standard, 13.1.2.1 and
-/// 13.1.2.2, with its references, the names of its attributes and its `/` set aside.
+/// 13.1.2.2, apart from its references, the names of its attributes and its `/`.
 pub fn body_of(html: &str) -> (&str, usize)
     ensures part { result.0.now ≡ spec.body_part html.now }
     ensures place { result.1 ≡ spec.body_place html.now }

@@ -3,7 +3,7 @@ ghost use Rattle.std.specs.Prelude.{◌≡◌, ◌≤◌, length, option_map, co
 ghost use Rattle.htmd_grammar.specs.CharacterClasses.{up_to, begins_with, holds};
 ghost use Rattle.htmd_grammar.specs.Comments as spec;
 
-/// Whether `-->` stands here.
+/// Whether `-->` begins here.
 fn begins_end(bytes: &[u8]) -> bool
     ensures { result ≡ begins_with (codes "-->") bytes.now }
 {
@@ -17,7 +17,7 @@ pub(crate) fn begins_dashes(bytes: &[u8]) -> bool
     matches!(bytes, [b'-', b'-', ..])
 }
 
-/// How many bytes stand before the first `-->`.
+/// How many bytes are before the first `-->`.
 fn comment_len(bytes: &[u8]) -> usize
     ensures bound { result ≤ length bytes.now }
     ensures value { result ≡ length (up_to (begins_with (codes "-->")) bytes.now) }
@@ -29,7 +29,7 @@ fn comment_len(bytes: &[u8]) -> usize
     len
 }
 
-/// What stands before the first `-->`, and what follows it.
+/// What comes before the first `-->`, and what follows it.
 pub(crate) fn split_comment(text: &str) -> Option<(&str, &str)>
     ensures { option_map (λ p. (p.0.now, p.1.now)) result ≡ spec.before_comment_end text.now }
 {
@@ -40,7 +40,7 @@ pub(crate) fn split_comment(text: &str) -> Option<(&str, &str)>
     Some((&text[..len], &text[len + 3..]))
 }
 
-/// Whether `--!>` stands in the text.
+/// Whether the text has `--!>`.
 fn holds_other_end(bytes: &[u8]) -> bool
     ensures { result ≡ holds (codes "--!>") bytes.now }
 {

@@ -12,7 +12,7 @@ use crate::tree::NodeData;
 use htmd_grammar::FaultKind;
 
 impl<'a> Reader<'a> {
-    /// Reads a declaration, of which what stands behind `<!` is given.
+    /// Reads a declaration, given what follows `<!`.
     pub(super) fn read_declaration(&mut self, behind: &'a str) -> Result<(), Stop>
         requires reading { IsReading self.old }
         requires behind { length behind.now < length self.old.rest.now }

@@ -12,7 +12,7 @@ fn drops_line_feed(name: &str) -> bool
     matches!(name, "pre" | "textarea")
 }
 
-/// The text less a line feed at its beginning, written or by reference.
+/// The text without a line feed at its beginning, written as it is or by a reference.
 fn without_line_feed(text: &str) -> &str
     ensures { result.now ≡ after_line_feed [] text.now }
 {
@@ -25,7 +25,7 @@ fn without_line_feed(text: &str) -> &str
     }
 }
 
-/// The content of an element of this name, less the line feed that `pre` and `textarea` drop.
+/// The content of an element with this name, without the line feed that `pre` and `textarea` drop.
 pub(crate) fn content_of<'a>(name: &str, text: &'a str) -> &'a str
     ensures { result.now ≡ spec.content_of name.now text.now }
 {

@@ -6,7 +6,7 @@ ghost use Rattle.htmd_grammar.specs.Comments as spec;
 use crate::reader::scan::first_is;
 use std::alloc::{AllocError, Global};
 
-/// Puts the line end of a CR behind lines: none where it is part of CR LF.
+/// Appends the line end of a CR to lines: none if it is part of CR LF.
 fn push_line_end(lines: &mut String, behind: &str) -> Result<(), AllocError>
     ensures { OnOk result (string_bytes lines.new ++ spec.normalized behind.now
         ≡ string_bytes lines.old ++ spec.normalized (carriage_return ∷ behind.now)) }

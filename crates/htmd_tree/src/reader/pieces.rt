@@ -28,7 +28,7 @@ impl<'a> Reader<'a> {
         }
     }
 
-    /// Whether a text can't go on here: markup stands here, or the end of an element that holds text alone.
+    /// Whether a text can't go on here: markup begins here, or the end of an element that holds only text.
     fn is_at_markup(&self) -> bool
         requires reading { IsReading self.now }
         ensures { WhateverIsOpen self.now (λ has_doctype fs.

@@ -1,4 +1,4 @@
-//! What stands before the content of a document: a byte order mark and a doctype (HTML Standard, 13.1.1).
+//! What comes before the content of a document: a byte order mark and a doctype (HTML Standard, 13.1.1).
 ghost use Rattle.std.specs.Prelude.{◌≡◌, ◌<◌, Some, None, true, drop, if◌then◌else◌, length, nat_lt, option_map};
 ghost use Rattle.std.specs.List.{list_all};
 ghost use Rattle.htmd_text.specs.WhiteSpace.{is_ascii_white_space};
@@ -9,7 +9,7 @@ ghost use Rattle.htmd_grammar.specs.Documents as documents;
 use crate::reader::runs::{Class, split_run, strip_byte};
 use crate::reader::scan::begins_in_any_case;
 
-/// The text less a byte order mark at its beginning.
+/// The text without a byte order mark at its beginning.
 pub(crate) fn behind_mark(text: &str) -> &str
     ensures { result.now ≡ documents.behind_mark text.now }
 {
@@ -19,7 +19,7 @@ pub(crate) fn behind_mark(text: &str) -> &str
     }
 }
 
-/// What stands behind these characters, given in lower case, with which the text begins in any ASCII case.
+/// What follows these characters, given in lower case, if the text begins with them in any ASCII case.
 fn behind_characters<'a>(text: &'a str, characters: &str) -> Option<&'a str>
     requires ascii { list_all (λ c. nat_lt c 128) characters.now ≡ true }
     requires filled { 0 < length characters.now }
@@ -33,7 +33,7 @@ fn behind_characters<'a>(text: &'a str, characters: &str) -> Option<&'a str>
     Some(&text[characters.len()..])
 }
 
-/// What stands behind the end of a doctype.
+/// What follows the end of a doctype.
 fn behind_doctype_end(text: &str) -> Option<&str>
     ensures { option_map (λ rest. rest.now) result
         ≡ comments.doctype_end (classes.behind_run is_ascii_white_space text.now) }
@@ -42,7 +42,7 @@ fn behind_doctype_end(text: &str) -> Option<&str>
     strip_byte(end, b'>')
 }
 
-/// What stands behind the name of a doctype and its end.
+/// What follows the name of a doctype and its end.
 fn behind_doctype_name(text: &str) -> Option<&str>
     ensures { option_map (λ rest. rest.now) result ≡ comments.doctype_name text.now }
 {
@@ -52,7 +52,7 @@ fn behind_doctype_name(text: &str) -> Option<&str>
     }
 }
 
-/// What stands behind the doctype with which the text begins.
+/// What follows the doctype with which the text begins.
 pub(crate) fn behind_doctype(text: &str) -> Option<&str>
     ensures { option_map (λ rest. rest.now) result ≡ comments.behind_doctype text.now }
 {

@@ -1,4 +1,4 @@
-//! Content of elements that hold text alone (HTML Standard, 13.1.2).
+//! Content of elements that hold only text (HTML Standard, 13.1.2).
 ghost use Rattle.std.specs.Prelude.{◌≡◌, ◌≤◌, [], length, codes};
 ghost use Rattle.htmd_grammar.specs.CharacterClasses.{begins_with, up_to};
 ghost use Rattle.htmd_grammar.specs.RawContent as spec;
@@ -29,7 +29,7 @@ fn goes_on_with_name(bytes: &[u8], name: &[u8]) -> bool
     ends_name(rest)
 }
 
-/// Whether the end of raw content of an element of this name stands here.
+/// Whether the end of raw content of an element with this name begins here.
 pub(crate) fn begins_own_end(bytes: &[u8], name: &[u8]) -> bool
     ensures { result ≡ spec.begins_own_end name.now bytes.now }
 {
@@ -39,7 +39,7 @@ pub(crate) fn begins_own_end(bytes: &[u8], name: &[u8]) -> bool
     }
 }
 
-/// How many bytes stand before the end of raw content of an element of this name.
+/// How many bytes are before the end of raw content of an element with this name.
 pub(crate) fn raw_content_len(bytes: &[u8], name: &[u8]) -> usize
     ensures bound { result ≤ length bytes.now }
     ensures value { result ≡ length (up_to (spec.begins_own_end name.now) bytes.now) }
@@ -58,7 +58,7 @@ fn begins_comment(bytes: &[u8]) -> bool
     matches!(bytes, [b'<', b'!', b'-', b'-', ..])
 }
 
-/// Whether `<!--` stands in the text, and later `<script` in any case.
+/// Whether the text has `<!--`, and later `<script` in any case.
 pub(crate) fn has_script_escape(bytes: &[u8]) -> bool
     ensures { result ≡ spec.has_script_escape bytes.now }
 {

@@ -64,14 +64,14 @@ const NAMES: [(&str, char); 44] = [
 /// One more than the greatest number of a character.
 const LIMIT: u32 = 0x11_0000;
 
-/// A character that a text stands for, and how many bytes behind the first one belong to it.
+/// A character that a text stands for, and how many bytes after the first one belong to it.
 #[derive(Clone, Copy, Drop)]
 pub(crate) struct Character {
     pub(crate) value: char,
     pub(crate) behind: usize,
 }
 
-/// The character of this name.
+/// The character with this name.
 fn character_named(name: &[u8], names: &[(&str, char)]) -> Option<char>
     ensures { result ≡ rules.character_named (map entry names.now) name.now }
 {
@@ -94,7 +94,7 @@ fn digit_value(digit: u8) -> u8
     }
 }
 
-/// What digits mean in a base, or the limit where that is more.
+/// What digits mean in a base, at most the limit.
 fn number(digits: &[u8], base: u32) -> u32
     requires small { base ≤ 16 }
     requires base { 0 < base }
@@ -114,7 +114,7 @@ fn is_control(number: u32) -> bool
     0x80 <= number && number <= 0x9F
 }
 
-/// The character of this number, where a reference may name it.
+/// The character of this number, if a reference may name it.
 fn character_numbered(number: u32) -> Option<char>
     ensures { result ≡ if spec.may_be_numbered number then Some number else None }
 {
@@ -127,7 +127,7 @@ fn character_numbered(number: u32) -> Option<char>
     char::from_u32(number)
 }
 
-/// A reference by a number, of whose digits there are so many behind so much.
+/// A reference by a number, with this many digits after this many bytes.
 fn reference_by_number(
     behind: &[u8],
     from: usize,
@@ -177,7 +177,7 @@ fn reference_by_name(behind: &[u8]) -> Result<Character, FaultKind>
     }
 }
 
-/// What `&` and what stands behind it begin with: a reference, or `&` itself.
+/// What stands at an `&`, given what follows it: a reference, or `&` itself.
 fn reference(behind: &[u8]) -> Result<Character, FaultKind>
     ensures piece { piece_of result ≡ spec.behind_ampersand rules.named_characters behind.now }
     ensures end { IfOk result (λ c. IsPieceEnd behind.now c.behind) }

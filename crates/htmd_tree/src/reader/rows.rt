@@ -12,7 +12,7 @@ fn is_tag_name_byte(byte: u8) -> bool
     byte.is_ascii_alphanumeric() || matches!(byte, b'-' | b'_' | b'.' | b':')
 }
 
-/// Whether the tag name that stands here is this one, which is in lower case.
+/// Whether the tag name here is this one, which is in lower case.
 pub(super) fn is_tag_name(bytes: &[u8], name: &[u8]) -> bool
     ensures { result ≡ bytes_eq
         (map to_ascii_lowercase (classes.leading_run classes.is_tag_name_byte bytes.now)) name.now }
@@ -32,7 +32,7 @@ pub(super) fn is_tag_name(bytes: &[u8], name: &[u8]) -> bool
     }
 }
 
-/// Whether the name of a part of a table stands here.
+/// Whether the name of a part of a table begins here.
 fn is_table_part(bytes: &[u8]) -> bool
     ensures { result ≡ nesting.is_table_part
         (map to_ascii_lowercase (classes.leading_run classes.is_tag_name_byte bytes.now)) }

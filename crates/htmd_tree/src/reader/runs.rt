@@ -48,7 +48,7 @@ fn run_len(bytes: &[u8], class: Class) -> usize
     bytes.len()
 }
 
-/// The run at the front of a text, and what stands behind it.
+/// The run at the front of a text, and what follows it.
 #[tactic(auto)]
 pub(crate) fn split_run(text: &str, class: Class) -> (&str, &str)
     requires { is_ascii class ≡ true }
@@ -58,7 +58,7 @@ pub(crate) fn split_run(text: &str, class: Class) -> (&str, &str)
     text.split_at(run_len(text.as_bytes(), class))
 }
 
-/// The text behind this ASCII character, where it begins with it.
+/// The text after this ASCII character, if it begins with it.
 pub(crate) fn strip_byte(text: &str, byte: u8) -> Option<&str>
     requires { byte < 128 }
     ensures { MatchOption result (first_is byte text.now ≡ false)
@@ -71,7 +71,7 @@ pub(crate) fn strip_byte(text: &str, byte: u8) -> Option<&str>
 }
 
 #[tactic(auto, using(std::proofs::lemmas::Str::lead_after_ascii))]
-/// The text behind its first character, which must be ASCII.
+/// The text after its first character, which must be ASCII.
 pub(crate) fn behind_first(text: &str) -> &str
     requires filled { 0 < length text.now }
     requires ascii { slice_index text.now 0 < 128 }

@@ -26,7 +26,7 @@ pub(crate) fn begins_in_any_case(bytes: &[u8], characters: &[u8]) -> bool
     true
 }
 
-/// How many bytes of ASCII white space stand at the beginning.
+/// How many bytes of ASCII white space are at the beginning.
 pub(crate) fn white_space_len(bytes: &[u8]) -> usize
     ensures bound { result ≤ length bytes.now }
     ensures value { result ≡ length (classes.leading_run is_ascii_white_space bytes.now) }
@@ -38,7 +38,7 @@ pub(crate) fn white_space_len(bytes: &[u8]) -> usize
     len
 }
 
-/// How many ASCII letters and digits stand at the beginning.
+/// How many ASCII letters and digits are at the beginning.
 pub(crate) fn alphanumeric_len(bytes: &[u8]) -> usize
     ensures bound { result ≤ length bytes.now }
     ensures value { result ≡ length (classes.leading_run is_ascii_alphanumeric bytes.now) }
@@ -50,7 +50,7 @@ pub(crate) fn alphanumeric_len(bytes: &[u8]) -> usize
     len
 }
 
-/// How many decimal digits stand at the beginning.
+/// How many decimal digits are at the beginning.
 pub(crate) fn digits_len(bytes: &[u8]) -> usize
     ensures bound { result ≤ length bytes.now }
     ensures value { result ≡ length (classes.leading_run is_ascii_digit bytes.now) }
@@ -62,7 +62,7 @@ pub(crate) fn digits_len(bytes: &[u8]) -> usize
     len
 }
 
-/// How many hexadecimal digits stand at the beginning.
+/// How many hexadecimal digits are at the beginning.
 pub(crate) fn hexdigits_len(bytes: &[u8]) -> usize
     ensures bound { result ≤ length bytes.now }
     ensures value { result ≡ length (classes.leading_run is_ascii_hexdigit bytes.now) }

@@ -11,11 +11,11 @@ ghost use Rattle.htmd_tree.specs.Surroundings as flags;
 /// What is kept of an open element and its ancestors.
 #[derive(Clone, Copy, Drop)]
 pub(crate) struct Surroundings {
-    /// It holds text alone, with references or without.
+    /// It holds only text, with references or without.
     pub(crate) text_alone: bool,
     /// It holds text without references.
     pub(crate) raw_text: bool,
-    /// In it stand parts of a table, comments and white space.
+    /// It holds parts of a table, comments and white space.
     pub(crate) parts: bool,
     /// It is a `table`.
     pub(crate) table: bool,
@@ -55,7 +55,7 @@ pub(crate) struct Surroundings {
     pub(crate) description: bool,
 }
 
-/// Whether a tag of this name has no place at all. No such name is as short as most names are.
+/// Whether a tag with this name has no place at all. No such name is as short as most names are.
 pub(crate) fn is_outside(name: &str) -> bool
     ensures { result ≡ spec.is_outside name.now }
 {
@@ -76,7 +76,7 @@ pub(crate) fn is_outside(name: &str) -> bool
     )
 }
 
-/// Whether an element of this name holds text without references.
+/// Whether an element with this name holds text without references.
 fn holds_raw_text(name: &str, scripting: bool) -> bool
     ensures { result ≡ raw.holds_raw_text scripting name.now }
 {
@@ -86,14 +86,14 @@ fn holds_raw_text(name: &str, scripting: bool) -> bool
     ) || scripting && name == "noscript"
 }
 
-/// Whether it holds text alone, with references or without.
+/// Whether it holds only text, with references or without.
 fn holds_text_alone(name: &str, scripting: bool) -> bool
     ensures { result ≡ raw.holds_text_alone scripting name.now }
 {
     matches!(name, "title" | "textarea") || holds_raw_text(name, scripting)
 }
 
-/// Whether this is a name from `address` to `dt` that doesn't stand under an open `p`.
+/// Whether this is a name from `address` to `dt` that may not stand under an open `p`.
 fn is_closer_a_to_d(name: &str) -> bool
     ensures { result ≡ is_among flags.closer_a_to_d name.now }
 {
@@ -114,7 +114,7 @@ fn is_closer_a_to_d(name: &str) -> bool
     )
 }
 
-/// Whether this is a name from `fieldset` to `hr` that doesn't stand under an open `p`.
+/// Whether this is a name from `fieldset` to `hr` that may not stand under an open `p`.
 fn is_closer_f_to_h(name: &str) -> bool
     ensures { result ≡ is_among flags.closer_f_to_h name.now }
 {
@@ -137,7 +137,7 @@ fn is_closer_f_to_h(name: &str) -> bool
     )
 }
 
-/// Whether this is a name from `li` to `xmp` that doesn't stand under an open `p`.
+/// Whether this is a name from `li` to `xmp` that may not stand under an open `p`.
 fn is_closer_l_to_x(name: &str) -> bool
     ensures { result ≡ is_among flags.closer_l_to_x name.now }
 {
@@ -159,8 +159,8 @@ fn is_closer_l_to_x(name: &str) -> bool
 }
 
 #[tactic(auto, using(crate::proofs::SurroundingsLemmas::closers))]
-/// Whether an element of this name doesn't stand under an open `p`. Each of the three parts is compiled to a test of
-/// the length first; were all names in one `match`, the last ones wouldn't be.
+/// Whether an element with this name may not stand under an open `p`. Each of the three parts is compiled to a test of
+/// the length first; if all names were in one `match`, the last ones wouldn't be.
 fn closes_paragraph(name: &str) -> bool
     ensures { result ≡ spec.closes_paragraph name.now }
 {
@@ -174,14 +174,14 @@ fn is_heading(name: &str) -> bool
     matches!(name.as_bytes(), [b'h', b'1'..=b'6'])
 }
 
-/// Whether an element of this name stands in a `table` only.
+/// Whether an element with this name may only stand in a `table`.
 fn is_table_part(name: &str) -> bool
     ensures { result ≡ spec.is_table_part name.now }
 {
     matches!(name, "caption" | "colgroup" | "thead" | "tbody" | "tfoot")
 }
 
-/// Whether in an element of this name stand parts of a table, comments and white space alone.
+/// Whether an element with this name holds only parts of a table, comments and white space.
 fn holds_parts(name: &str) -> bool
     ensures { result ≡ spec.holds_parts name.now }
 {
@@ -191,35 +191,35 @@ fn holds_parts(name: &str) -> bool
     )
 }
 
-/// Whether in an element of this name stand rows.
+/// Whether an element with this name holds rows.
 fn holds_rows(name: &str) -> bool
     ensures { result ≡ spec.holds_rows name.now }
 {
     matches!(name, "thead" | "tbody" | "tfoot")
 }
 
-/// Whether this is that name.
+/// Whether the two names are the same.
 fn is_named(name: &str, wanted: &str) -> bool
     ensures { result ≡ (bytes_eq name.now wanted.now || false) }
 {
     name == wanted
 }
 
-/// Whether an element of that name is open in one of this name.
+/// Whether an element with the wanted name is open in one with this name.
 fn opens(name: &str, wanted: &str, above: bool) -> bool
     ensures { result ≡ ((bytes_eq name.now wanted.now || false) || above) }
 {
     is_named(name, wanted) || above
 }
 
-/// Whether an `optgroup` or an `option` is open in an element of this name.
+/// Whether an `optgroup` or an `option` is open in an element with this name.
 fn opens_options(name: &str, above: bool) -> bool
     ensures { result ≡ (is_among (codes "optgroup" ∷ codes "option" ∷ []) name.now || above) }
 {
     matches!(name, "optgroup" | "option") || above
 }
 
-/// Whether an `li` is open, in no list inside it, in an element of this name.
+/// Whether an `li` is open, in no list inside it, in an element with this name.
 fn opens_item(name: &str, above: bool) -> bool
     ensures { result ≡ (is_among (codes "li" ∷ []) name.now
         || (not (is_among (codes "ul" ∷ codes "ol" ∷ codes "menu" ∷ codes "dir" ∷ []) name.now) && above)) }
@@ -231,7 +231,7 @@ fn opens_item(name: &str, above: bool) -> bool
     }
 }
 
-/// Whether a `dd` or `dt` is open, in no `dl` inside it, in an element of this name.
+/// Whether a `dd` or `dt` is open, in no `dl` inside it, in an element with this name.
 fn opens_description(name: &str, above: bool) -> bool
     ensures { result ≡ (is_among (codes "dd" ∷ codes "dt" ∷ []) name.now
         || (not (is_among (codes "dl" ∷ []) name.now) && above)) }
@@ -274,7 +274,7 @@ impl Surroundings {
         }
     }
 
-    /// What is kept of an element of this name in an element of which this is kept.
+    /// What is kept of an element with this name inside an element with these surroundings.
     pub(crate) fn inner(self, name: &str, scripting: bool) -> Surroundings
         ensures { (c : spec.Context) → self ≡ surroundings_of scripting c
             → result ≡ surroundings_of scripting (name.now ∷ c) }
@@ -304,7 +304,7 @@ impl Surroundings {
         }
     }
 
-    /// Whether a part of a table of this name, or another element, may stand here as tables go.
+    /// Whether a part of a table with this name, or another element, may stand here, as far as tables decide.
     fn fits_table(self, name: &str) -> bool
         ensures { result ≡ flags.flags_fit_table self name.now }
     {
@@ -319,7 +319,7 @@ impl Surroundings {
         }
     }
 
-    /// Whether an element of this name may stand here as `select` goes.
+    /// Whether an element with this name may stand here, as far as `select` decides.
     fn fits_select(self, name: &str) -> bool
         ensures { result ≡ flags.flags_fit_select self name.now }
     {
@@ -332,7 +332,7 @@ impl Surroundings {
         !self.option
     }
 
-    /// Whether an element of this name, which doesn't stand in itself, is open.
+    /// Whether an element with this name, which may not stand in itself, is open.
     fn is_open(self, name: &str) -> bool
         ensures { result ≡ flags.own_flag self name.now }
     {
@@ -348,7 +348,7 @@ impl Surroundings {
     }
 
     #[tactic(auto, using(htmd_grammar::proofs::BooleanLemmas::and_false))]
-    /// Whether an element of this name may stand here as the open elements go.
+    /// Whether an element with this name may stand here, as far as the open elements decide.
     fn fits_open_elements(self, name: &str) -> bool
         ensures { result ≡ flags.flags_fit_open_elements self name.now }
     {
@@ -359,14 +359,14 @@ impl Surroundings {
     }
 
     #[tactic(auto, using(htmd_grammar::proofs::BooleanLemmas::and_false))]
-    /// Whether an element of this name may stand here as lists go.
+    /// Whether an element with this name may stand here, as far as lists decide.
     fn fits_lists(self, name: &str) -> bool
         ensures { result ≡ flags.flags_fit_lists self name.now }
     {
         !(self.item && is_named(name, "li")) && !(self.description && matches!(name, "dd" | "dt"))
     }
 
-    /// Whether all that is kept lets an element of this name stand here.
+    /// Whether all that is kept lets an element with this name stand here.
     fn fits(self, name: &str) -> bool
         ensures { result ≡ flags.flags_allow self name.now }
     {
@@ -378,7 +378,7 @@ impl Surroundings {
             && self.fits_lists(name)
     }
 
-    /// Whether an element of this name may stand here.
+    /// Whether an element with this name may stand here.
     pub(crate) fn allows(self, name: &str) -> bool
         ensures { (scripting : Bool) (c : spec.Context) → self ≡ surroundings_of scripting c
             → result ≡ spec.is_allowed scripting c name.now }

@@ -10,7 +10,7 @@ use std::alloc::{AllocError, Global};
 use std::borrow::CowStr;
 
 #[tactic(auto, using(crate::proofs::TagPartsLemmas::name_begins))]
-/// The name with which a text begins, as it is spelled, and what stands behind it. None where no letter comes first.
+/// The name at the beginning of a text, as it is spelled, and what follows it. None if no letter comes first.
 pub(crate) fn split_name(text: &str) -> Option<(&str, &str)>
     ensures { MatchOption result (is_tag_name (leading_run is_tag_name_byte text.now) ≡ false)
         (λ p. (is_tag_name (leading_run is_tag_name_byte text.now) ≡ true)
@@ -23,7 +23,7 @@ pub(crate) fn split_name(text: &str) -> Option<(&str, &str)>
     }
 }
 
-/// Whether lower case changes nothing of the name.
+/// Whether lower case changes nothing in the name.
 fn is_lower_case(name: &[u8]) -> bool
     ensures { result ≡ list_all (λ b. to_ascii_lowercase b == b) name.now }
 {
@@ -36,7 +36,7 @@ fn is_lower_case(name: &[u8]) -> bool
 }
 
 #[tactic(auto, using(crate::proofs::TagPartsLemmas::lower_case_stays))]
-/// A name in lower case, borrowed where it is so.
+/// A name in lower case, borrowed if it is so already.
 pub(crate) fn in_lower_case(alloc: Global, name: &str) -> Result<CowStr<'_>, AllocError>
     ensures { IfOk result (λ lowered. cow_str_bytes lowered ≡ map to_ascii_lowercase name.now) }
 {

@@ -1,4 +1,4 @@
-//! Start tags and end tags. A fault of a tag stands at its `<`, where the text that is left begins.
+//! Start tags and end tags. A fault of a tag is at its `<`, where the text that is left begins.
 ghost use Rattle.std.specs.Prelude.{◌≡◌, ◌<◌, ◌&&◌, true, length, drop, OnOk, string_bytes, codes};
 ghost use Rattle.std.specs.Str.{bytes_eq};
 ghost use Rattle.htmd_text.specs.Characters.{less_than_sign};
@@ -37,7 +37,7 @@ fn fault_of_name(name: &str, slash: bool) -> Option<FaultKind>
 }
 
 impl<'a> Reader<'a> {
-    /// Whether an element of this name may stand here.
+    /// Whether an element with this name may stand here.
     fn allows(&self, name: &str) -> bool
         requires reading { IsReading self.now }
         ensures { WhateverIsOpen self.now (λ has_doctype fs.
@@ -63,7 +63,7 @@ impl<'a> Reader<'a> {
         self.open_element(name, attrs, content)
     }
 
-    /// Whether an element of this name implies a `tbody` here: a row in a table.
+    /// Whether an element with this name implies a `tbody` here: a row in a table.
     fn implies_body(&self, name: &str) -> bool
         requires reading { IsReading self.now }
         ensures { WhateverIsOpen self.now (λ has_doctype fs.
@@ -72,7 +72,7 @@ impl<'a> Reader<'a> {
         name == "tr" && self.innermost_name() == "table"
     }
 
-    /// Gives the element of a start tag its place, in an implied `tbody` where it implies one.
+    /// Gives the element of a start tag its place, in an implied `tbody` if it implies one.
     fn place_tag(&mut self, name: String, attrs: Vec<Attribute>, rest: &'a str) -> Result<(), Stop>
         requires reading { IsReading self.old }
         ensures follows { Steps self.old self.new result
@@ -86,7 +86,7 @@ impl<'a> Reader<'a> {
         self.open_tag(name, attrs, rest)
     }
 
-    /// Reads a start tag, of which what stands behind `<` is given.
+    /// Reads a start tag, given what follows `<`.
     pub(super) fn read_start_tag(&mut self, behind: &'a str) -> Result<(), Stop>
         requires reading { IsReading self.old }
         requires behind { length behind.now < length self.old.rest.now }
@@ -129,7 +129,7 @@ impl<'a> Reader<'a> {
         Ok(())
     }
 
-    /// Reads an end tag, of which what stands behind `</` is given.
+    /// Reads an end tag, given what follows `</`.
     pub(super) fn read_end_tag(&mut self, behind: &'a str) -> Result<(), Stop>
         requires reading { IsReading self.old }
         requires behind { length behind.now < length self.old.rest.now }

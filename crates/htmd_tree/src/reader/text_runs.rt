@@ -21,13 +21,13 @@ use std::alloc::Global;
 pub(crate) struct TextSurroundings {
     /// Its element's own end tag ends it; elsewhere markup does.
     pub(crate) alone: bool,
-    /// It stands between the parts of a table, and is white space.
+    /// The text is between the parts of a table, and is white space.
     pub(crate) parts: bool,
-    /// A text there would stand too deep.
+    /// A text there would be too deep.
     pub(crate) too_deep: bool,
 }
 
-/// Whether a character stands for itself and may stand there, as its first byte tells.
+/// Whether a character stands for itself and may be there, as its first byte tells.
 fn is_plain(byte: u8, parts: bool) -> bool
     ensures { result ≡ is_plain parts byte }
 {
@@ -50,7 +50,7 @@ fn plain_len(bytes: &[u8], parts: bool) -> usize
     len
 }
 
-/// Whether a run ends here, in an element of this name.
+/// Whether a run ends here, in an element with this name.
 fn is_run_end(bytes: &[u8], name: &[u8], alone: bool) -> bool
     ensures { result ≡ is_run_end alone name.now bytes.now }
 {
@@ -64,7 +64,7 @@ fn is_run_end(bytes: &[u8], name: &[u8], alone: bool) -> bool
     }
 }
 
-/// The character that stands where the text begins, where it may stand there.
+/// The character where the text begins, if it may be there.
 fn character_in(bytes: &[u8], parts: bool) -> Result<Character, FaultKind>
     requires more { 0 < length bytes.now }
     requires special { is_plain parts (slice_index bytes.now 0) ≡ false }
@@ -91,7 +91,7 @@ fn refused(text: &str, kind: FaultKind) -> Stop
     }
 }
 
-/// Puts the plain characters with which the text begins behind a run. What is left is answered.
+/// Appends the plain characters with which the text begins to a run. What is left is answered.
 fn push_plain<'a>(
     run: &mut String,
     around: TextSurroundings,
@@ -116,7 +116,7 @@ fn push_plain<'a>(
     Ok(rest)
 }
 
-/// Puts the character with which the text begins, which isn't plain, behind a run. What is left is answered.
+/// Appends the character with which the text begins, which isn't plain, to a run. What is left is answered.
 fn push_special<'a>(
     run: &mut String,
     around: TextSurroundings,
@@ -144,7 +144,7 @@ fn push_special<'a>(
     }
 }
 
-/// Puts what comes next in a text behind a run: plain characters, or one other. What is left is answered.
+/// Appends what comes next in a text to a run: plain characters, or one other. What is left is answered.
 fn push_next<'a>(run: &mut String, around: TextSurroundings, text: &'a str) -> Result<&'a str, Stop>
     requires more { 0 < length text.now }
     ensures steps { (scripting : Bool) (n : List ℕ) (fs : List OpenElement)

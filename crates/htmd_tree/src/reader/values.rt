@@ -24,7 +24,7 @@ fn literal_len(bytes: &[u8]) -> usize
     len
 }
 
-/// Puts the characters that stand for themselves behind a value. What is left, from an `&` or a CR on, is answered.
+/// Appends the characters that stand for themselves to a value. What is left, from an `&` or a CR on, is answered.
 fn push_literal<'a>(value: &mut String, text: &'a str) -> Result<&'a str, AllocError>
     ensures pushed { IfOk result (λ rest.
         HasPushed (string_bytes value.old) text.now (string_bytes value.new) rest.now) }
@@ -37,8 +37,8 @@ fn push_literal<'a>(value: &mut String, text: &'a str) -> Result<&'a str, AllocE
     Ok(special)
 }
 
-/// Puts the character with which the text begins behind a value. What is left is answered; nothing where a reference
-/// isn't right.
+/// Appends the character with which the text begins to a value. What is left is answered; nothing if a reference isn't
+/// right.
 fn push_character<'a>(value: &mut String, text: &'a str) -> Result<Option<&'a str>, AllocError>
     requires more { 0 < length text.now }
     requires ascii { slice_index text.now 0 < 128 }
@@ -57,7 +57,7 @@ fn push_character<'a>(value: &mut String, text: &'a str) -> Result<Option<&'a st
     }
 }
 
-/// What the text denotes, where each reference in it is right.
+/// What the text denotes, if each reference in it is right.
 pub(crate) fn decoded(alloc: Global, text: &str) -> Result<Option<String>, AllocError>
     ensures { IfOk result (λ value. option_map string_bytes value ≡ decode named_characters 0 text.now) }
 {
@@ -79,7 +79,7 @@ fn is_unknown(character: Result<Character, FaultKind>) -> bool
     matches!(character, Err(FaultKind::UnknownReference))
 }
 
-/// Whether a reference by an unknown name stands in the text.
+/// Whether the text has a reference by an unknown name.
 pub(crate) fn has_unknown_reference(text: &str) -> bool
     ensures { result ≡ has_unknown_reference named_characters text.now }
 {

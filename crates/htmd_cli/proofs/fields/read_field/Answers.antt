@@ -1,4 +1,4 @@
--- The next escape, and what stands behind the last one.
+-- The next escape, and what follows the last one.
 use Rattle.htmd_cli.proofs.FieldsLemmas.{read-step, read-end}
 use Rattle.htmd_cli.proofs.fields.read_field.Goals as goal
 

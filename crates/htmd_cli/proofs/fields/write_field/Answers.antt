@@ -1,4 +1,4 @@
--- The next escape, and what stands behind the last one.
+-- The next escape, and what follows the last one.
 use Rattle.htmd_cli.proofs.FieldsLemmas.{written-step, written-end}
 use Rattle.htmd_cli.proofs.fields.write_field.Goals as goal
 

@@ -1,4 +1,4 @@
--- Want of memory before the first row.
+-- Out of memory before the first row.
 use Rattle.std.proofs.Common.{subst, sym}
 use Rattle.htmd_cli.specs.Conversion.{way_of}
 use Rattle.htmd_cli.specs.Rows.{StopsAtRow}

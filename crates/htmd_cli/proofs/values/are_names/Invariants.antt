@@ -1,4 +1,4 @@
--- What is left, behind what of a name stands before it.
+-- What is left, after the part of a name that comes before it.
 use Rattle.std.proofs.Common.{◌≡◌, drop}
 use Rattle.std.specs.List.{list_all}
 use Rattle.htmd_cli.specs.Words.{parts, is_filled}

@@ -1,4 +1,4 @@
--- What is no digit, or one too many.
+-- What isn't a digit, or one digit too many.
 use Rattle.std.proofs.Common.{◌∙◌, ◌+◌, ap, sym, drop, None, Some, arith}
 use Rattle.htmd_cli.specs.Words.{number_behind}
 use Rattle.htmd_cli.proofs.WordsLemmas.{no_number, number_goes_on}

@@ -1,4 +1,4 @@
--- All words so far are known.
+-- All options so far are known.
 use Rattle.std.proofs.Common.{◌≡◌, drop}
 use Rattle.htmd_cli.specs.Words as spec
 use Rattle.htmd_cli.proofs.words.are_known.Given as goal

@@ -1,4 +1,4 @@
--- Nothing is asked before the first word.
+-- Nothing is asked before the first option.
 use Rattle.htmd_cli.proofs.WordsLemmas.{asked_first}
 use Rattle.htmd_cli.proofs.words.request_of.Goals as goal
 

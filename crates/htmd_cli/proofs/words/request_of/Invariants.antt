@@ -1,4 +1,4 @@
--- What is asked so far, with the words that are left, is what is asked; all of those are known.
+-- What is asked so far, with the options that are left, is what is asked; all of those are known.
 use Rattle.std.proofs.Common.{◌≡◌, true, drop}
 use Rattle.htmd_cli.specs.Words as spec
 use Rattle.htmd_cli.specs.WordRows.{asked_in}

@@ -1,4 +1,4 @@
--- The rows of the source's table are the words.
+-- The rows of the source's table are the options.
 use Rattle.htmd_cli.proofs.words.setting_of.Goals as goal
 
 pub returns : goal.returns

@@ -1,4 +1,4 @@
--- What stands behind the name.
+-- What follows the name.
 use Rattle.std.proofs.Common.{sym, ◌∙◌}
 use Rattle.htmd_cli.specs.WordRows.{takes_value}
 use Rattle.htmd_cli.proofs.WordsLemmas.{value_behind}

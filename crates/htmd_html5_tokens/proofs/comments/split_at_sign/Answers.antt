@@ -1,4 +1,4 @@
--- There is no `>`, and so nothing after what stands before it.
+-- There is no `>`, and so nothing after what comes before it.
 use Rattle.std.proofs.Common.{◌∙◌}
 use Rattle.htmd_html5_tokens.proofs.BeginningsLemmas.{other_drops}
 use Rattle.htmd_html5_tokens.proofs.comments.split_at_sign.Goals as goal

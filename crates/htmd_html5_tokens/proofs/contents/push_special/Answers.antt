@@ -1,4 +1,4 @@
--- The first character is ASCII, and `<` is special in a text alone.
+-- The first character is ASCII, and `<` is special only in a text.
 use Rattle.std.proofs.Common.{◌≡◌, ◌∙◌, ◌∷◌, ap, get_or}
 use Rattle.htmd_html5_tokens.proofs.ContentsLemmas.{cut_after_special, special_is_text, first_and_rest}
 use Rattle.htmd_html5_tokens.proofs.contents.push_special.Goals as goal

@@ -1,5 +1,6 @@
-use Rattle.htmd_laws.proofs.LettersLawsLemmas.{letters_of_content, letters_of_markdown, letters_of_conversion}
-use Rattle.htmd_laws.proofs.LettersLawsLemmas.{letters_of_page, letters_of_any_page, letters_of_input, letters_of_row}
+use Rattle.htmd_tree_laws.proofs.LettersLawsLemmas.{letters_of_content, letters_of_markdown}
+use Rattle.htmd_laws.proofs.LettersOfInputsLemmas.{letters_of_conversion, letters_of_page}
+use Rattle.htmd_laws.proofs.LettersOfInputsLemmas.{letters_of_any_page, letters_of_input, letters_of_row}
 use Rattle.htmd_laws.proofs.conversion.every_letter_once.Goals as goal
 
 pub returns : goal.returns

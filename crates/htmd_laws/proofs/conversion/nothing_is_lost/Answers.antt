@@ -1,5 +1,6 @@
-use Rattle.htmd_laws.proofs.ShownLawsLemmas.{shown_in_content, shown_in_markdown, shown_in_conversion, shown_in_page}
-use Rattle.htmd_laws.proofs.ShownLawsLemmas.{shown_in_any_page, shown_in_input, shown_in_row}
+use Rattle.htmd_tree_laws.proofs.ShownLawsLemmas.{shown_in_content, shown_in_markdown}
+use Rattle.htmd_laws.proofs.ShownOfInputsLemmas.{shown_in_conversion, shown_in_page}
+use Rattle.htmd_laws.proofs.ShownOfInputsLemmas.{shown_in_any_page, shown_in_input, shown_in_row}
 use Rattle.htmd_laws.proofs.conversion.nothing_is_lost.Goals as goal
 
 pub returns : goal.returns

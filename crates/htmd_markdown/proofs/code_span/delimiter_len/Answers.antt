@@ -1,4 +1,4 @@
--- The first length that is no run's, or the one behind the longest.
+-- The first length that no run has, or the one after the longest.
 use Rattle.std.proofs.Common.{◌≡◌, ◌+◌, ◌-◌, false, sym, ap, ◌∙◌, arith}
 use Rattle.htmd_text.specs.Characters.{grave_accent}
 use Rattle.htmd_markdown.specs.Runs.{longest_run, has_run}

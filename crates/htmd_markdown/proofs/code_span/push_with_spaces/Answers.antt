@@ -1,4 +1,4 @@
--- One more line behind a space, and the lines of the whole text.
+-- One more line after a space, and the lines of the whole text.
 use Rattle.std.proofs.Common.{◌≡◌, [], ◌∷◌, ◌++◌, length, map, take, arith, ap, ◌∙◌, lit<}
 use Rattle.std.specs.Prelude.{not, ◌==◌}
 use Rattle.std.specs.List.{slice_split}

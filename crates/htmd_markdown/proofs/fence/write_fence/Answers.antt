@@ -1,4 +1,4 @@
--- The block is its definition, so its laws hold of what was written.
+-- The block is its definition, so its laws hold for what was written.
 use Rattle.std.proofs.Common.{◌≡◌, ℕ, List, IfOk, ap, refl, replicate, string_bytes, subst, ◌∙◌}
 use Rattle.std.specs.Prelude.{Some}
 use Rattle.std.specs.Option.{option_copied}

@@ -1,4 +1,4 @@
--- What was looked at leaves the answer to what stands before it.
+-- What was looked at leaves the answer to what comes before it.
 use Rattle.std.proofs.Common.{◌-◌}
 use Rattle.htmd_markdown.proofs.LineBeginningsLemmas.{LookingBack}
 use Rattle.htmd_markdown.proofs.guarded_text.begins_line.Given as goal

@@ -1,4 +1,4 @@
--- What holds of the guarded text holds of what was written.
+-- What holds for the guarded text holds for what was written.
 use Rattle.std.proofs.Common.{◌++◌, ◌∙◌, ℕ, List, subst, ap}
 use Rattle.std.specs.Str.{IsUtf8}
 use Rattle.std.proofs.lemmas.Str.{IsUtf8-string_bytes}

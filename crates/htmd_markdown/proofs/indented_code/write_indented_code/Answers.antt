@@ -1,4 +1,4 @@
--- One more line behind a line feed, and the lines of the whole code.
+-- One more line after a line feed, and the lines of the whole code.
 use Rattle.std.proofs.Common.{◌≡◌, [], ◌∷◌, ◌++◌, length, map, take, arith, ap, ◌∙◌}
 use Rattle.std.specs.Str.Lines.{lines}
 use Rattle.std.proofs.lemmas.List.{length_push, take_all}

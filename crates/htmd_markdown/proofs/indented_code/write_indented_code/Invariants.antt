@@ -1,4 +1,4 @@
--- The lines so far, each behind four spaces.
+-- The lines so far, each after four spaces.
 use Rattle.std.proofs.Common.{◌≡◌, [], ◌∷◌, length, map, take}
 use Rattle.std.specs.Prelude.{◌==◌}
 use Rattle.std.specs.Str.Lines.{lines}

@@ -1,4 +1,4 @@
--- What stands at the ends of both.
+-- What is at the ends of both.
 use Rattle.std.proofs.Common.{rules, sym, ◌∙◌}
 use Rattle.htmd_markdown.proofs.JointsLemmas.{runs_filled}
 use Rattle.htmd_markdown.proofs.joint.joint_of_runs.Goals as goal

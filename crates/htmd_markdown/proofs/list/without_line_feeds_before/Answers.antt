@@ -1,4 +1,4 @@
--- The text may be cut behind line feeds.
+-- The text may be cut after line feeds.
 use Rattle.std.proofs.Common.{◌∙◌, ap}
 use Rattle.std.specs.List.{prefix_len}
 use Rattle.htmd_text.specs.Trims.{is_line_feed}

@@ -1,4 +1,4 @@
--- The text may be cut behind spaces, and in front of them.
+-- The text may be cut after spaces, and in front of them.
 use Rattle.std.proofs.Common.{ℕ, ◌-◌, length, subst, sym, ap, ◌∙◌}
 use Rattle.std.specs.List.{prefix_len, suffix_len}
 use Rattle.std.specs.Str.{IsCharBoundary}

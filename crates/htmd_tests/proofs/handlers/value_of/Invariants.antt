@@ -1,4 +1,4 @@
--- The value is that of the first attribute of this name among those that are left.
+-- The value is that of the first attribute with this name among those that are left.
 use Rattle.std.proofs.Common.{◌≡◌, drop}
 use Rattle.htmd_tree.specs.Views.{pairs_of}
 use Rattle.htmd.specs.ElementPlans.{value_of_first}

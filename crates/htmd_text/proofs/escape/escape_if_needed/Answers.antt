@@ -35,7 +35,7 @@ returns-clause-borrowed c =
     subst (λ (m : Marks). with_backslashes (is_marked_by m s) 0 s ≡ s
     → IsOkAnd c.with_backslashes.result (λ t. IsBorrowedStr t)) same c.with_backslashes.ensures.borrowed
 
--- what holds of the escaped text holds of the answer
+-- what holds for the escaped text holds for the answer
 of_answer : (r : Result (CowStr Global) AllocError) (s : List ℕ) (P : List ℕ → Type 0) → P (escaped_markdown s)
     → IfOk r (λ t. cow_str_bytes t ≡ escaped_markdown s) → IfOk r (λ t. P (cow_str_bytes t))
 of_answer r s P here told = IfOk-weaker r (λ t. cow_str_bytes t ≡ escaped_markdown s) (λ t. P (cow_str_bytes t))

@@ -1,4 +1,4 @@
--- A `String` may be cut behind the line feeds at its start.
+-- A `String` may be cut after the line feeds at its start.
 use Rattle.std.proofs.Common.{ap, ◌∙◌}
 use Rattle.std.specs.List.{prefix_len}
 use Rattle.std.specs.String.{string_bytes}

@@ -5,7 +5,7 @@ use Rattle.htmd_tree.specs.NumberedTrees.{tree_of, forest_of, value_forest}
 use Rattle.htmd_grammar.specs.Serialisation.{all_markup_of}
 use Rattle.htmd_tree.proofs.serialiser.+serialiser.Given as goal
 
--- children stand behind their parent
+-- children come after their parent
 abbrev pub decreases-push_children : goal.decreases-push_children
 decreases-push_children l = (length l.tree.now - (l.node + 1)) * 2 + 1
 

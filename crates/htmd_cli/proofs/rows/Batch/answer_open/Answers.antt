@@ -1,4 +1,4 @@
--- The answer behind those that wait.
+-- The answer after those that wait.
 use Rattle.htmd_cli.specs.Conversion.{way_by}
 use Rattle.htmd_cli.proofs.BatchesLemmas.{answered_row}
 use Rattle.htmd_cli.proofs.rows.Batch.answer_open.Goals as goal

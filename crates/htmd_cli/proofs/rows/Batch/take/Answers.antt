@@ -1,4 +1,4 @@
--- One row more, the end mark, and what stands behind the last line feed.
+-- One row more, the end mark, and what follows the last line feed.
 use Rattle.std.proofs.Common.{◌∙◌, ◌++◌, ap, sym, refl}
 use Rattle.std.specs.Str.{bytes_eq}
 use Rattle.htmd.specs.Characters.{line_feed}

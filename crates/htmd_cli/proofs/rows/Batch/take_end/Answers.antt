@@ -1,4 +1,4 @@
--- The last row, where no line feed ends it.
+-- The last row, if no line feed ends it.
 use Rattle.std.proofs.Common.{◌∙◌, sym}
 use Rattle.htmd_cli.specs.Conversion.{way_by}
 use Rattle.htmd_cli.proofs.BatchesLemmas.{end_ok, end_err, last_alone}

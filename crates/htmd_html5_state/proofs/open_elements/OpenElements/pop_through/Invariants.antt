@@ -1,4 +1,4 @@
--- Nothing of this name was popped so far.
+-- Nothing with this name was popped so far.
 use Rattle.std.proofs.Common.{◌≡◌, length}
 use Rattle.htmd_html5_state.specs.Names.{name_of, html}
 use Rattle.htmd_html5_state.specs.OpenElements.{pop_through, has_name}

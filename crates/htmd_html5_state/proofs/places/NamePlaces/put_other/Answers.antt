@@ -1,4 +1,4 @@
--- That of the name alone is written.
+-- Only that of the name is written.
 use Rattle.std.proofs.Common.{rules, Some, refl}
 use Rattle.std.proofs.lemmas.Map.Text.{hash_map_updates_text}
 use Rattle.htmd_html5_state.specs.declared.places.NamePlaces.{NamePlaces}

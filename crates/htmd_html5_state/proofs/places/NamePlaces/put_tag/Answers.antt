@@ -1,4 +1,4 @@
--- That of the name alone is written.
+-- Only that of the name is written.
 use Rattle.std.proofs.Common.{refl}
 use Rattle.htmd_html5_state.specs.declared.places.NamePlaces.{NamePlaces}
 use Rattle.htmd_html5_state.proofs.PlacesLemmas.{tag-put}

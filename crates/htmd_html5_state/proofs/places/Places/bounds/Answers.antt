@@ -1,4 +1,4 @@
--- The last of so many elements knows them.
+-- The last of this many elements knows them.
 use Rattle.std.proofs.Common.{arith}
 use Rattle.htmd_html5_state.proofs.PlacesLemmas.{linked-bounds}
 use Rattle.htmd_html5_state.proofs.places.Places.bounds.Goals as goal

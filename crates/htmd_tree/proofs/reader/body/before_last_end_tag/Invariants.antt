@@ -1,4 +1,4 @@
--- The front is cut from the text, and no end tag of a body stands behind it.
+-- The front is cut from the text, and no end tag of a body stands after it.
 use Rattle.std.proofs.Common.{◌≡◌, ◌≤◌, false, length, take, drop}
 use denote.Text.{Utf8}
 use denote.Shadow.{shadow}

@@ -1,4 +1,4 @@
--- Behind ASCII characters a text may be cut.
+-- After ASCII characters a text may be cut.
 use Rattle.std.proofs.Common.{◌≡◌, true, ◌∙◌, sym, ap}
 use Rattle.htmd_grammar.specs.CharacterClasses.{begins_in_any_case}
 use Rattle.htmd_tree.proofs.PreludeLemmas.{begins_within, lead_behind}

@@ -1,4 +1,4 @@
--- Behind an ASCII character a text may be cut.
+-- After an ASCII character a text may be cut.
 use Rattle.std.proofs.Common.{arith}
 use Rattle.std.proofs.lemmas.Grind.{common_steps}
 use Rattle.std.proofs.lemmas.Str.{lead_after_ascii}

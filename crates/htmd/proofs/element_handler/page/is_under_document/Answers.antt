@@ -1,8 +1,0 @@
-use Rattle.std.proofs.Common.{sym, arith}
-use Rattle.htmd.proofs.element_handler.page.is_under_document.Goals as goal
-
-pub data-requires : goal.data-requires
-data-requires c =
-    let up = c.in-Some.ensures.tree.under c.args.element.now.node c.in-Some.parent c.args.element.now.within
-    (sym c.in-Some.ensures.value) in
-    omega (arith, up.before, c.args.element.now.within)

@@ -1,6 +1,0 @@
--- The handler of p.
-use Rattle.htmd.specs.Handling.{HandlerMeaning, of_plan}
-use Rattle.htmd.specs.ElementPlans.{plain_plan, wrapped_result}
-
-abbrev pub paragraphs : HandlerMeaning
-paragraphs = of_plan plain_plan wrapped_result

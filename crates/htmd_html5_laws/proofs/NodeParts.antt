@@ -1,0 +1,150 @@
+-- Lists of children, and what a node has after a step on another part of it or on another node.
+use Rattle.std.proofs.Common.{◌≡◌, ℕ, zero, suc, ◌+◌, ◌<◌, ◌≤◌, true, false, List, [], ◌∷◌}
+use Rattle.std.proofs.Common.{◌++◌, length, take, drop, refl, ap, arith, cond, Option, Some, None, inl, inr}
+use Rattle.std.proofs.Common.{◌⊎◌}
+use Rattle.std.specs.Prelude.{◌==◌, insert, remove}
+use Rattle.std.specs.List.{list_any}
+use Rattle.std.proofs.lemmas.List.{take-append-drop}
+use Rattle.htmd_text.proofs.Cases.{test}
+use Rattle.htmd_html5_state.specs.Documents.{NodeValue, KindValue, new_node, parent_at, children_at, with_kind}
+use Rattle.htmd_html5_state.specs.Documents.{with_parent, with_children, is_number, index_of}
+
+-- ---- how often a number stands in a list
+
+abbrev pub times : ℕ → List ℕ → ℕ
+times n [] = 0
+times n (c ∷ cs) = cond (c == n) 1 0 + times n cs
+
+pub times_append : (n : ℕ) (a b : List ℕ) → times n (a ++ b) ≡ times n a + times n b
+times_append n [] b = omega arith
+times_append n (c ∷ a) b = let h = times_append n a b in omega arith
+
+pub times_insert : (n m i : ℕ) (cs : List ℕ) → times n (insert cs i m) ≡ times n cs + cond (m == n) 1 0
+times_insert n m i cs =
+    let a = times_append n (take i cs) (m ∷ drop i cs) in
+    let b = times_append n (take i cs) (drop i cs) in
+    let d : times n (take i cs ++ drop i cs) ≡ times n cs = ap (times n) (take-append-drop i cs) in
+    omega arith
+
+drop_fewer : (n i : ℕ) (cs : List ℕ) → times n (drop (suc i) cs) ≤ times n (drop i cs)
+drop_fewer n zero [] = omega arith
+drop_fewer n (suc i) [] = omega arith
+drop_fewer n zero (c ∷ cs) = omega arith
+drop_fewer n (suc i) (c ∷ cs) = drop_fewer n i cs
+
+pub remove_fewer : (n i : ℕ) (cs : List ℕ) → times n (remove cs i) ≤ times n cs
+remove_fewer n i cs =
+    let a = times_append n (take i cs) (drop (suc i) cs) in
+    let b = times_append n (take i cs) (drop i cs) in
+    let d : times n (take i cs ++ drop i cs) ≡ times n cs = ap (times n) (take-append-drop i cs) in
+    let e = drop_fewer n i cs in
+    omega arith
+
+pub some_times : (n : ℕ) (cs : List ℕ) → list_any (is_number n) cs ≡ true → 1 ≤ times n cs
+some_times n [] e = absurd (cc)
+some_times n (c ∷ cs) e =
+    test (c == n) (λ t. rw t (omega arith))
+    (λ t. let f = rw t at e in let h = some_times n cs f in rw t (omega arith))
+
+no_times : (n : ℕ) (cs : List ℕ) → list_any (is_number n) cs ≡ false → times n cs ≡ 0
+no_times n [] e = refl
+no_times n (c ∷ cs) e =
+    test (c == n) (λ t. absurd (let f : true ≡ false = rw t at e in cc))
+    (λ t. let f = rw t at e in let h = no_times n cs f in rw t (omega arith))
+
+pub removed_once : (n : ℕ) (cs : List ℕ) → times n cs ≤ 1 → times n (remove cs (index_of n cs)) ≡ 0
+removed_once n [] l = refl
+removed_once n (c ∷ cs) l =
+    test (c == n)
+    (λ t. test (list_any (is_number n) cs)
+    (λ u. absurd (let m = rw t at l in let h = some_times n cs u in omega arith))
+    (λ u. rw (t, u) (no_times n cs u)))
+    (λ t. let m = rw t at l in
+    let h : times n (remove cs (index_of n cs)) ≡ 0 = removed_once n cs (omega arith) in
+    rw (t, t) (omega arith))
+
+-- ---- what a node has after a step on another part of it, or on another node
+
+pub children_same : (n : ℕ) (cs : List ℕ) (nodes : List NodeValue)
+    → (children_at (with_children n cs nodes) n ≡ cs) ⊎ (children_at (with_children n cs nodes) n ≡ [])
+children_same n cs [] = inr refl
+children_same zero cs (x ∷ nodes) = inl refl
+children_same (suc n) cs (x ∷ nodes) = children_same n cs nodes
+
+pub children_other : (n p : ℕ) (cs : List ℕ) (nodes : List NodeValue) → (n ≡ p → ⊥)
+    → children_at (with_children n cs nodes) p ≡ children_at nodes p
+children_other n p cs [] h = refl
+children_other zero zero cs (x ∷ nodes) h = absurd (h refl)
+children_other zero (suc p) cs (x ∷ nodes) h = refl
+children_other (suc n) zero cs (x ∷ nodes) h = refl
+children_other (suc n) (suc p) cs (x ∷ nodes) h = children_other n p cs nodes (λ e. h (ap suc e))
+
+pub parent_of_children : (n m : ℕ) (cs : List ℕ) (nodes : List NodeValue)
+    → parent_at (with_children n cs nodes) m ≡ parent_at nodes m
+parent_of_children n m cs [] = refl
+parent_of_children zero zero cs (x ∷ nodes) = refl
+parent_of_children zero (suc m) cs (x ∷ nodes) = refl
+parent_of_children (suc n) zero cs (x ∷ nodes) = refl
+parent_of_children (suc n) (suc m) cs (x ∷ nodes) = parent_of_children n m cs nodes
+
+pub children_of_parent : (n p : ℕ) (q : Option ℕ) (nodes : List NodeValue)
+    → children_at (with_parent n q nodes) p ≡ children_at nodes p
+children_of_parent n p q [] = refl
+children_of_parent zero zero q (x ∷ nodes) = refl
+children_of_parent zero (suc p) q (x ∷ nodes) = refl
+children_of_parent (suc n) zero q (x ∷ nodes) = refl
+children_of_parent (suc n) (suc p) q (x ∷ nodes) = children_of_parent n p q nodes
+
+pub parent_same : (n : ℕ) (q : Option ℕ) (nodes : List NodeValue) → n < length nodes
+    → parent_at (with_parent n q nodes) n ≡ q
+parent_same n q [] l = absurd (omega arith)
+parent_same zero q (x ∷ nodes) l = refl
+parent_same (suc n) q (x ∷ nodes) l = parent_same n q nodes (omega arith)
+
+pub parent_other : (n m : ℕ) (q : Option ℕ) (nodes : List NodeValue) → (n ≡ m → ⊥)
+    → parent_at (with_parent n q nodes) m ≡ parent_at nodes m
+parent_other n m q [] h = refl
+parent_other zero zero q (x ∷ nodes) h = absurd (h refl)
+parent_other zero (suc m) q (x ∷ nodes) h = refl
+parent_other (suc n) zero q (x ∷ nodes) h = refl
+parent_other (suc n) (suc m) q (x ∷ nodes) h = parent_other n m q nodes (λ e. h (ap suc e))
+
+pub has_parent : (n p : ℕ) (nodes : List NodeValue) → parent_at nodes n ≡ Some p → n < length nodes
+has_parent n p [] e = absurd (cc)
+has_parent zero p (x ∷ nodes) e = omega arith
+has_parent (suc n) p (x ∷ nodes) e = let h = has_parent n p nodes e in omega arith
+
+pub children_of_kind : (n p : ℕ) (k : KindValue) (nodes : List NodeValue)
+    → children_at (with_kind n k nodes) p ≡ children_at nodes p
+children_of_kind n p k [] = refl
+children_of_kind zero zero k (x ∷ nodes) = refl
+children_of_kind zero (suc p) k (x ∷ nodes) = refl
+children_of_kind (suc n) zero k (x ∷ nodes) = refl
+children_of_kind (suc n) (suc p) k (x ∷ nodes) = children_of_kind n p k nodes
+
+pub parent_of_kind : (n m : ℕ) (k : KindValue) (nodes : List NodeValue)
+    → parent_at (with_kind n k nodes) m ≡ parent_at nodes m
+parent_of_kind n m k [] = refl
+parent_of_kind zero zero k (x ∷ nodes) = refl
+parent_of_kind zero (suc m) k (x ∷ nodes) = refl
+parent_of_kind (suc n) zero k (x ∷ nodes) = refl
+parent_of_kind (suc n) (suc m) k (x ∷ nodes) = parent_of_kind n m k nodes
+
+pub children_with_new : (p : ℕ) (k : KindValue) (nodes : List NodeValue)
+    → children_at (nodes ++ new_node k ∷ []) p ≡ children_at nodes p
+children_with_new zero k [] = refl
+children_with_new (suc p) k [] = refl
+children_with_new zero k (x ∷ nodes) = refl
+children_with_new (suc p) k (x ∷ nodes) = children_with_new p k nodes
+
+pub parent_with_new : (m : ℕ) (k : KindValue) (nodes : List NodeValue)
+    → parent_at (nodes ++ new_node k ∷ []) m ≡ parent_at nodes m
+parent_with_new zero k [] = refl
+parent_with_new (suc m) k [] = refl
+parent_with_new zero k (x ∷ nodes) = refl
+parent_with_new (suc m) k (x ∷ nodes) = parent_with_new m k nodes
+
+pub parent_beyond : (m : ℕ) (nodes : List NodeValue) → length nodes ≤ m → parent_at nodes m ≡ None
+parent_beyond m [] l = refl
+parent_beyond zero (x ∷ nodes) l = absurd (omega arith)
+parent_beyond (suc m) (x ∷ nodes) l = parent_beyond m nodes (omega arith)

@@ -1,0 +1,363 @@
+-- A document in one piece is laid out as a tree that has all its texts.
+use Rattle.std.proofs.Common.{◌≡◌, ◌∙◌, ℕ, zero, suc, ◌+◌, ◌≤◌, Bool, true, false, List, [], ◌∷◌, ◌++◌, length}
+use Rattle.std.proofs.Common.{refl, sym, ap, subst, arith, cond, Some, inl, inr, ◌⊎◌, length-append}
+use Rattle.std.specs.Prelude.{◌==◌}
+use Rattle.std.proofs.lemmas.Bool.{true≢false, eqb-true, eqb-false, eq-eqb}
+use Rattle.htmd_text.proofs.Cases.{test}
+use Rattle.htmd_html5_state.specs.Documents.{KindValue, NodeValue, document, doctype, text, comment, element, kind_at, node_at}
+use Rattle.htmd_html5_state.specs.Documents.{children_at, parent_at, with_kind}
+use Rattle.htmd_html5.specs.Layout.{Coming, Layout, put_next, layout_within, first_layout, document_of, is_deepest}
+use Rattle.htmd_html5_laws.specs.PageLetters.{occurrences_in, texts_of}
+use Rattle.htmd_html5_laws.specs.KeptLetters.{hangs_within, is_whole}
+use Rattle.htmd_html5_laws.proofs.NodeTexts.{kinds, texts, is_element}
+use Rattle.htmd_html5_laws.proofs.NodeParts.{times, times_append, children_of_kind}
+use Rattle.htmd_html5_laws.proofs.Forests.{IsForest, under_itself}
+use Rattle.htmd_html5_laws.proofs.Keeping.{IsRooted}
+use Rattle.htmd_html5_laws.proofs.NodeWeights.{kind_marked, kind_other, TextsUtf8, marked_utf8, in_kind, in_items}
+use Rattle.htmd_html5_laws.proofs.NodeWeights.{in_nodes, kind_more, node_taken, weigh, weigh_work, under, under_all}
+use Rattle.htmd_html5_laws.proofs.NodeWeights.{weigh_append, weigh_coming, weigh_fewer}
+use Rattle.htmd_html5_laws.proofs.LaidTexts.{in_layout}
+use Rattle.htmd_html5_laws.proofs.PendingNodes.{numbers, numbers_coming, element_children, first_once, first_short}
+use Rattle.htmd_html5_laws.proofs.WholeTexts.{kind_same, Holder, Hanging, hanging, text_hangs, stands_in, no_work}
+use Rattle.htmd_html5_laws.proofs.WholeTexts.{under_weigh, Stepped, kind_step}
+
+-- ---- while a document is laid out
+
+-- What isn't an element's any more was taken; each node is pending once at most; and an element that isn't taken comes
+-- next, or its parent isn't taken.
+record Running (first : List NodeValue) (l : Layout) : Type 0 where
+  same : (n : ℕ) → (kind_at l.nodes n ≡ kind_at first n) ⊎ (kind_at l.nodes n ≡ document)
+  children : (p : ℕ) → children_at l.nodes p ≡ children_at first p
+  once : (m : ℕ) → times m (numbers l.work) + times m (element_children l.nodes) ≤ 1
+  reach : (n p : ℕ) → is_element (kind_at l.nodes n) ≡ true → Holder first p n
+      → (1 ≤ times n (numbers l.work)) ⊎ (is_element (kind_at l.nodes p) ≡ true)
+  utf8 : TextsUtf8 l.nodes
+
+first_running : (nodes : List NodeValue) → IsRooted (kinds nodes) → IsForest nodes → TextsUtf8 nodes
+    → Running nodes (first_layout nodes)
+first_running nodes root forest utf8 = record {
+  same = λ n. inl refl;
+  children = λ p. refl;
+  once = λ m. let a = work m in let b = first_once m nodes root forest in omega arith;
+  reach = λ n p e h. by_holder n p h h.either;
+  utf8 = utf8;
+}
+  where
+    work : (m : ℕ) → times m (numbers (first_layout nodes).work) ≡ times m (children_at nodes 0)
+    work m =
+        ap (times m) (numbers_coming 0 (children_at nodes 0) [])
+        ∙ (times_append m (children_at nodes 0) [] ∙ omega arith)
+
+    by_holder : (n p : ℕ) → Holder nodes p n → (p ≡ 0) ⊎ (is_element (kind_at nodes p) ≡ true)
+        → (1 ≤ times n (numbers (first_layout nodes).work)) ⊎ (is_element (kind_at nodes p) ≡ true)
+    by_holder n p h (inl z) =
+        let a = work n in
+        let b : times n (children_at nodes p) ≡ times n (children_at nodes 0) =
+        ap (λ (x : ℕ). times n (children_at nodes x)) z in
+        let d = h.stands in
+        inl (omega arith)
+    by_holder n p h (inr e) = inr e
+
+module _ (c : ℕ) where
+  step_running : (first : List NodeValue) (x : Coming) (rest : List Coming) (l new : Layout) → l.work ≡ x ∷ rest
+      → Running first l → Stepped c x (record l { work = rest }) new → Running first new
+  step_running first x rest l new e r s = record {
+    same = λ n. same n (kind_marked x.node n l.nodes);
+    children = λ p.
+        ap (λ (nodes : List NodeValue). children_at nodes p) s.nodes
+        ∙ (children_of_kind x.node p document l.nodes ∙ r.children p);
+    once = λ m. let a = s.once m in let b = r.once m in let d = work m in omega arith;
+    reach = λ n p f h. reach n p (sym (ap is_element (kind n)) ∙ f) h;
+    utf8 = subst TextsUtf8 (sym s.nodes) (marked_utf8 x.node l.nodes r.utf8);
+  }
+    where
+      kind : (n : ℕ) → kind_at new.nodes n ≡ kind_at (with_kind x.node document l.nodes) n
+      kind n = ap (λ (nodes : List NodeValue). kind_at nodes n) s.nodes
+
+      same : (n : ℕ)
+          → (kind_at (with_kind x.node document l.nodes) n ≡ kind_at l.nodes n)
+          ⊎ (kind_at (with_kind x.node document l.nodes) n ≡ document)
+          → (kind_at new.nodes n ≡ kind_at first n) ⊎ (kind_at new.nodes n ≡ document)
+      same n (inr f) = inr (kind n ∙ f)
+      same n (inl f) = before (r.same n)
+        where
+          before : (kind_at l.nodes n ≡ kind_at first n) ⊎ (kind_at l.nodes n ≡ document)
+              → (kind_at new.nodes n ≡ kind_at first n) ⊎ (kind_at new.nodes n ≡ document)
+          before (inl g) = inl (kind n ∙ (f ∙ g))
+          before (inr g) = inr (kind n ∙ (f ∙ g))
+
+      work : (m : ℕ) → times m (numbers l.work) ≡ cond (x.node == m) 1 0 + times m (numbers rest)
+      work m = ap (λ (w : List Coming). times m (numbers w)) e
+
+      -- the node itself is no element any more
+      other : (n : ℕ) → is_element (kind_at (with_kind x.node document l.nodes) n) ≡ true → x.node ≡ n → ⊥
+      other n f g =
+          let h : is_element (kind_at (with_kind x.node document l.nodes) n) ≡ false =
+          ap (λ (i : ℕ). is_element (kind_at (with_kind x.node document l.nodes) i)) (sym g)
+          ∙ ap is_element (kind_same x.node l.nodes) in
+          true≢false (sym f ∙ h)
+
+      held : (n p : ℕ) → is_element (kind_at (with_kind x.node document l.nodes) n) ≡ true → Holder first p n
+          → (1 ≤ times n (numbers l.work)) ⊎ (is_element (kind_at l.nodes p) ≡ true)
+          → (1 ≤ times n (numbers new.work)) ⊎ (is_element (kind_at new.nodes p) ≡ true)
+      held n p f h (inl k) =
+          test (x.node == n) (λ t. absurd (other n f (eqb-true x.node n t)))
+          (λ t. let a : ◌≡◌ {A = ℕ} (cond (x.node == n) 1 0) 0 = rw t refl in
+          let b = work n in
+          inl (s.elements n f (omega arith)))
+      held n p f h (inr g) =
+          test (x.node == p)
+          (λ t. let q = eqb-true x.node p t in
+          let a : times n (children_at l.nodes x.node) ≡ times n (children_at first p) =
+          ap (λ (i : ℕ). times n (children_at l.nodes i)) q ∙ ap (times n) (r.children p) in
+          let b = h.stands in
+          inl (s.children (ap (λ (i : ℕ). is_element (kind_at l.nodes i)) q ∙ g) n (omega arith)))
+          (λ t. inr (ap is_element (kind p ∙ kind_other x.node p l.nodes (eqb-false x.node p t)) ∙ g))
+
+      reach : (n p : ℕ) → is_element (kind_at (with_kind x.node document l.nodes) n) ≡ true → Holder first p n
+          → (1 ≤ times n (numbers new.work)) ⊎ (is_element (kind_at new.nodes p) ≡ true)
+      reach n p f h =
+          held n p f h
+          (r.reach n p (sym (ap is_element (kind_other x.node n l.nodes (other n f))) ∙ f) h)
+
+  -- ---- to the end
+
+  record Ended (first : List NodeValue) (l new : Layout) : Type 0 where
+    running : Running first new
+    empty : new.work ≡ []
+    more : in_layout c l ≤ in_layout c new
+
+  stays : (limit k : ℕ) (l : Layout) → l.work ≡ [] → layout_within limit k l ≡ l
+  stays limit zero l e = refl
+  stays limit (suc k) l e =
+      ap (λ (w : List Coming). layout_within limit k (put_next limit w l)) e ∙ stays limit k l e
+
+  run : (limit k : ℕ) (first : List NodeValue) (l : Layout) → Running first l
+      → length (numbers l.work) + length (element_children l.nodes) ≤ k → Ended first l (layout_within limit k l)
+  run limit zero first l r b = record { running = r; empty = no_work l.work (omega arith); more = omega arith }
+  run limit (suc k) first l r b =
+      by_work l.work refl
+      (λ (new : Layout) (q : Running first new)
+      (s : length (numbers new.work) + length (element_children new.nodes) ≤ k). run limit k first new q s)
+    where
+      by_work : (work : List Coming) → l.work ≡ work
+          → ((new : Layout) → Running first new
+          → length (numbers new.work) + length (element_children new.nodes) ≤ k
+          → Ended first new (layout_within limit k new))
+          → Ended first l (layout_within limit (suc k) l)
+      by_work [] e go =
+          subst (Ended first l) (sym (stays limit (suc k) l e)) (record { running = r; empty = e; more = omega arith })
+      by_work (x ∷ rest) e go =
+          let own : ◌≡◌ {A = ℕ} (cond (x.node == x.node) 1 0) 1 = rw (eq-eqb x.node x.node refl) refl in
+          let times_here : times x.node (numbers l.work)
+          ≡ cond (x.node == x.node) 1 0 + times x.node (numbers rest) =
+          ap (λ (w : List Coming). times x.node (numbers w)) e in
+          let once = r.once x.node in
+          let s : Stepped c x (record l { work = rest }) (put_next limit (x ∷ rest) l) =
+          kind_step c (kind_at l.nodes x.node) x (record l { work = rest }) (is_deepest limit l.items x.under) refl
+          r.utf8 (omega arith) in
+          let size : length (numbers l.work) ≡ suc (length (numbers rest)) =
+          ap (λ (w : List Coming). length (numbers w)) e in
+          let held : weigh_work c l.nodes l.work
+          ≡ in_kind c (kind_at l.nodes x.node) + weigh_work c l.nodes rest = ap (weigh_work c l.nodes) e in
+          let shorter = s.shorter in
+          let more = s.more in
+          let d = go (put_next limit (x ∷ rest) l)
+          (step_running first x rest l (put_next limit (x ∷ rest) l) e r s) (omega arith) in
+          let later = d.more in
+          subst (λ (w : List Coming). Ended first l (layout_within limit k (put_next limit w l))) (sym e)
+          (record { running = d.running; empty = d.empty; more = omega arith })
+
+  -- ---- nothing is left
+
+  root_plain : (first : List NodeValue) (l : Layout) → Running first l → IsRooted (kinds first)
+      → is_element (kind_at l.nodes 0) ≡ false
+  root_plain [] l r root = absurd (true≢false root)
+  root_plain (x ∷ first) l r root = either (r.same 0)
+    where
+      either : (kind_at l.nodes 0 ≡ kind_at (x ∷ first) 0) ⊎ (kind_at l.nodes 0 ≡ document)
+          → is_element (kind_at l.nodes 0) ≡ false
+      either (inl e) = ap is_element e ∙ root
+      either (inr e) = ap is_element e
+
+  -- an element that hangs under the Document was taken
+  taken : (k n : ℕ) (first : List NodeValue) (l : Layout) → Running first l → l.work ≡ []
+      → IsRooted (kinds first)
+      → hangs_within k first n ≡ true → is_element (kind_at l.nodes n) ≡ false
+  taken zero n first l r e root h =
+      subst (λ (i : ℕ). is_element (kind_at l.nodes i) ≡ false) (sym (eqb-true n 0 h)) (root_plain first l r root)
+  taken (suc k) n first l r e root h =
+      test (n == 0)
+      (λ t. subst (λ (i : ℕ). is_element (kind_at l.nodes i) ≡ false) (sym (eqb-true n 0 t))
+      (root_plain first l r root))
+      (λ t. let hang = hanging (hangs_within k first) first n (rw t at h) in
+      let above = taken k hang.by first l r e root hang.hung in
+      test (is_element (kind_at l.nodes n)) (λ f. absurd (none hang above (r.reach n hang.by f hang.holder)))
+      (λ f. f))
+    where
+      none : (hang : Hanging (hangs_within k first) first n) → is_element (kind_at l.nodes hang.by) ≡ false
+          → (1 ≤ times n (numbers l.work)) ⊎ (is_element (kind_at l.nodes hang.by) ≡ true) → ⊥
+      none hang above (inl m) =
+          let z : times n (numbers l.work) ≡ 0 = ap (λ (w : List Coming). times n (numbers w)) e in omega arith
+      none hang above (inr f) = true≢false (sym f ∙ above)
+
+  weigh_zero : (nodes : List NodeValue) (ns : List ℕ)
+      → ((n : ℕ) → 1 ≤ times n ns → in_kind c (kind_at nodes n) ≡ 0)
+      → weigh c nodes ns ≡ 0
+  weigh_zero nodes [] h = omega arith
+  weigh_zero nodes (n ∷ ns) h =
+      let a = h n (rw (eq-eqb n n refl) (omega arith)) in
+      let b = weigh_zero nodes ns (λ m l. h m (omega arith)) in
+      omega arith
+
+  under_zero : (nodes xs : List NodeValue) → ((p : ℕ) → under c nodes (node_at xs p) ≡ 0)
+      → under_all c nodes xs ≡ 0
+  under_zero nodes [] h = omega arith
+  under_zero nodes (x ∷ xs) h =
+      let a : under c nodes x ≡ 0 = h zero in
+      let b = under_zero nodes xs (λ p. h (suc p)) in
+      omega arith
+
+  module _ (first : List NodeValue) (root : IsRooted (kinds first)) (forest : IsForest first)
+      (whole : is_whole first ≡ true) where
+    -- a text that an element holds hangs by it
+    text_none : (l : Layout) → Running first l → l.work ≡ [] → (n p : ℕ) → is_element (kind_at l.nodes p)
+        ≡ true
+        → 1 ≤ times n (children_at l.nodes p) → in_kind c (kind_at l.nodes n) ≡ 0
+    unfolding in_kind
+    text_none l r e n p f m = either (r.same n)
+      where
+        hung : (s : List ℕ) → kind_at first n ≡ text s → ⊥
+        hung s g =
+            let hang = hanging (hangs_within (length first) first) first n
+            (text_hangs first first 0 n n s (omega arith) whole g) in
+            let a : times n (children_at l.nodes p) ≡ times n (children_at first p) = ap (times n) (r.children p) in
+            let b = forest.once n p in
+            let parent = under_itself (parent_at first n) p (omega arith) in
+            let same : hang.by ≡ p = some_same (sym hang.parent ∙ parent) in
+            let d = taken (length first) hang.by first l r e root hang.hung in
+            true≢false (sym f ∙ (ap (λ (i : ℕ). is_element (kind_at l.nodes i)) (sym same) ∙ d))
+          where
+            some_same : {a b : ℕ} → Some a ≡ Some b → a ≡ b
+            some_same q = cc
+
+        by_kind : (k : KindValue) → kind_at first n ≡ k → in_kind c k ≡ 0
+        by_kind (text s) g = absurd (hung s g)
+        by_kind document g = refl
+        by_kind doctype g = refl
+        by_kind (comment s) g = refl
+        by_kind (element name attributes) g = refl
+
+        either : (kind_at l.nodes n ≡ kind_at first n) ⊎ (kind_at l.nodes n ≡ document)
+            → in_kind c (kind_at l.nodes n) ≡ 0
+        either (inl g) = ap (in_kind c) g ∙ by_kind (kind_at first n) refl
+        either (inr g) = ap (in_kind c) g
+
+    nothing_left : (l : Layout) → Running first l → l.work ≡ [] → under_all c l.nodes l.nodes ≡ 0
+    nothing_left l r e =
+        under_zero l.nodes l.nodes
+        (λ p. test (is_element (kind_at l.nodes p))
+        (λ f. ap (λ (t : Bool). cond t (weigh c l.nodes (children_at l.nodes p)) 0) f
+        ∙ weigh_zero l.nodes (children_at l.nodes p) (λ n m. text_none l r e n p f m))
+        (λ f. ap (λ (t : Bool). cond t (weigh c l.nodes (children_at l.nodes p)) 0) f))
+
+    -- ---- all is there at first
+
+    nodes_zero : (nodes : List NodeValue) → ((n : ℕ) → in_kind c (kind_at nodes n) ≡ 0) → in_nodes c nodes
+        ≡ 0
+    unfolding in_nodes
+    nodes_zero [] h = omega arith
+    nodes_zero (x ∷ nodes) h =
+        let a = kind_more c x.kind (texts (kinds nodes)) in
+        let b : in_kind c x.kind ≡ 0 = h zero in
+        let d = nodes_zero nodes (λ n. h (suc n)) in
+        omega arith
+
+    covered : (ns : List ℕ) (nodes : List NodeValue)
+        → ((n : ℕ) → (in_kind c (kind_at nodes n) ≡ 0) ⊎ (1 ≤ times n ns)) → in_nodes c nodes
+        ≤ weigh c nodes ns
+    unfolding in_kind
+    covered [] nodes h = let a = nodes_zero nodes (λ n. none n (h n)) in omega arith
+      where
+        none : (n : ℕ) → (in_kind c (kind_at nodes n) ≡ 0) ⊎ (1 ≤ times n []) → in_kind c (kind_at nodes n)
+            ≡ 0
+        none n (inl e) = e
+        none n (inr l) = absurd (omega arith)
+    covered (n ∷ ns) nodes h =
+        let a = node_taken c nodes n (record { nodes = nodes; items = []; work = [] }) refl in
+        let b = weigh_fewer c n nodes ns in
+        let d = covered ns (with_kind n document nodes) (λ m. rest m (kind_marked n m nodes) (h m)) in
+        omega arith
+      where
+        rest : (m : ℕ) → (kind_at (with_kind n document nodes) m ≡ kind_at nodes m)
+            ⊎ (kind_at (with_kind n document nodes) m ≡ document)
+            → (in_kind c (kind_at nodes m) ≡ 0) ⊎ (1 ≤ times m (n ∷ ns))
+            → (in_kind c (kind_at (with_kind n document nodes) m) ≡ 0) ⊎ (1 ≤ times m ns)
+        rest m (inr e) g = inl (ap (in_kind c) e)
+        rest m (inl e) (inl z) = inl (ap (in_kind c) e ∙ z)
+        rest m (inl e) (inr l) =
+            test (n == m)
+            (λ t. inl (ap (in_kind c)
+            (ap (λ (i : ℕ). kind_at (with_kind n document nodes) i) (sym (eqb-true n m t)) ∙ kind_same n nodes)))
+            (λ t. let k = rw t at l in inr (omega arith))
+
+    all_covered : (n : ℕ)
+        → (in_kind c (kind_at first n) ≡ 0) ⊎ (1 ≤ times n (children_at first 0 ++ element_children first))
+    unfolding in_kind
+    all_covered n = by_kind (kind_at first n) refl
+      where
+        held : (s : List ℕ) → kind_at first n ≡ text s → 1
+            ≤ times n (children_at first 0 ++ element_children first)
+        held s g =
+            let hang = hanging (hangs_within (length first) first) first n
+            (text_hangs first first 0 n n s (omega arith) whole g) in
+            let a = times_append n (children_at first 0) (element_children first) in
+            stands hang hang.holder.either
+          where
+            stands : (hang : Hanging (hangs_within (length first) first) first n)
+                → (hang.by ≡ 0) ⊎ (is_element (kind_at first hang.by) ≡ true)
+                → 1 ≤ times n (children_at first 0 ++ element_children first)
+            stands hang (inl z) =
+                let a = times_append n (children_at first 0) (element_children first) in
+                let b : times n (children_at first hang.by) ≡ times n (children_at first 0) =
+                ap (λ (i : ℕ). times n (children_at first i)) z in
+                let d = hang.holder.stands in
+                omega arith
+            stands hang (inr f) =
+                let a = times_append n (children_at first 0) (element_children first) in
+                let d = stands_in n hang.by first f hang.holder.stands in
+                omega arith
+
+        by_kind : (k : KindValue) → kind_at first n ≡ k
+            → (in_kind c k ≡ 0) ⊎ (1 ≤ times n (children_at first 0 ++ element_children first))
+        by_kind (text s) g = inr (held s g)
+        by_kind document g = inl refl
+        by_kind doctype g = inl refl
+        by_kind (comment s) g = inl refl
+        by_kind (element name attributes) g = inl refl
+
+    all_first : in_nodes c first ≤ in_layout c (first_layout first)
+    all_first =
+        let a = covered (children_at first 0 ++ element_children first) first all_covered in
+        let b = weigh_append c first (children_at first 0) (element_children first) in
+        let d = weigh_coming c first 0 (children_at first 0) [] in
+        let e = under_weigh c first first in
+        omega arith
+
+    pub whole_texts : (limit : ℕ) → TextsUtf8 first
+        → occurrences_in c (texts (kinds first)) ≤ occurrences_in c (texts_of (document_of limit first))
+    unfolding in_items in_nodes
+    whole_texts limit utf8 =
+        let size : length (numbers (first_layout first).work) ≡ length (children_at first 0) =
+        ap length (numbers_coming 0 (children_at first 0) [])
+        ∙ (length-append (children_at first 0) [] ∙ omega arith) in
+        let short = first_short first root forest in
+        let d = run limit (length first) first (first_layout first) (first_running first root forest utf8)
+        (omega arith) in
+        let a = all_first in
+        let more = d.more in
+        let left = nothing_left (layout_within limit (length first) (first_layout first)) d.running d.empty in
+        let none : weigh_work c (layout_within limit (length first) (first_layout first)).nodes
+        (layout_within limit (length first) (first_layout first)).work ≡ 0 =
+        ap (weigh_work c (layout_within limit (length first) (first_layout first)).nodes) d.empty in
+        omega arith

@@ -1,0 +1,45 @@
+-- What is shown of texts, pages and runs: that of the Markdown of a tree, and the tree holds texts.
+use Rattle.std.proofs.Common.{◌≡◌, ◌∙◌, refl, sym, ap, subst, ℕ, List}
+use Rattle.htmd_tree.specs.NumberedTrees.{tree_of}
+use Rattle.htmd_walk.specs.BuiltIn.{built_in}
+use Rattle.htmd_walk.specs.Markdown.{markdown}
+use Rattle.htmd_walk.specs.Outputs.{is_guarded}
+use Rattle.htmd_html5.specs.Documents.{html5_document}
+use Rattle.htmd_cli.specs.Fields.{read_field}
+use Rattle.htmd_tree_laws.specs.Shown.{IsPart, shown, visible}
+use Rattle.htmd_laws.specs.ShownOfInputs.{ShownInConversion, ShownInPage, ShownInAnyPage, ShownInInput}
+use Rattle.htmd_laws.specs.ShownOfInputs.{ShownInRow, LosesNothingBy}
+use Rattle.htmd_tree_laws.proofs.ShownLawsLemmas.{shown_in_markdown}
+use Rattle.htmd_laws.proofs.FieldLawsLemmas.{fields_read_back}
+use Rattle.htmd_laws.proofs.InputLawsLemmas.{inputs_hold_texts, whole_way, body_way}
+
+pub shown_in_any_page : ShownInAnyPage
+shown_in_any_page options scripting html s alone h fit =
+    let guarded = is_guarded options in
+    let items = html5_document scripting html in
+    subst (λ (x : List ℕ). IsPart (shown guarded (tree_of items 0)) (visible guarded x)) (sym h.is_markdown)
+    (shown_in_markdown options items 0 alone h.is_tree h.holds_texts (h.is_tree).not_empty fit)
+
+pub shown_in_input : ShownInInput
+shown_in_input options way input s alone same u h =
+    let guarded = is_guarded options in
+    let held = inputs_hold_texts way input s u h in
+    let e : s ≡ markdown (built_in options) held.0 0 = held.4 ∙ ap (λ config. markdown config held.0 0) same in (
+      held.0,
+      held.1,
+      λ fit. subst (λ (x : List ℕ). IsPart (shown guarded (tree_of held.0 0)) (visible guarded x)) (sym e)
+          (shown_in_markdown options held.0 0 alone held.2 held.3 (held.2).not_empty fit),
+    )
+
+pub shown_in_conversion : ShownInConversion
+shown_in_conversion options scripting html s alone u h =
+    shown_in_input options (whole_way scripting (built_in options)) html s alone refl u h
+
+pub shown_in_page : ShownInPage
+shown_in_page options scripting page s alone u h =
+    shown_in_input options (body_way scripting (built_in options)) page s alone refl u h
+
+pub shown_in_row : ShownInRow
+shown_in_row options way page field alone same (u, markdown, h, e) =
+    subst (LosesNothingBy (is_guarded options) way page) (sym (ap read_field e ∙ fields_read_back markdown))
+    (shown_in_input options way page markdown alone same u h)

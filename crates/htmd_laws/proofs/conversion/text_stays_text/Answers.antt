@@ -1,5 +1,0 @@
-use Rattle.htmd_laws.proofs.TextLawsLemmas.{text_stays_text, lines_begin_no_block}
-use Rattle.htmd_laws.proofs.conversion.text_stays_text.Goals as goal
-
-pub returns : goal.returns
-returns c = record { marks = text_stays_text; lines = lines_begin_no_block }

@@ -1,0 +1,94 @@
+//! Pages that no one writes by hand, as browsers read them. None is refused. No node stands below level 1,024: what would
+//! stand there follows the element at that level. And of the formatting elements that are open, a paragraph reopens the
+//! sixteen newest.
+use htmd::HtmlToMarkdown;
+use htmd::options::{Options, TranslationMode};
+use std::alloc::{AllocError, Global};
+use std::test::Fail;
+
+// A text, as many times.
+fn repeated(alloc: Global, text: &str, times: usize) -> Result<String, AllocError> {
+    let mut all = String::new(alloc);
+    for _ in 0..times {
+        all.push_str(text)?;
+    }
+    Ok(all)
+}
+
+// For each of so many characters, one after another from U+10000 on, the character between these texts.
+fn numbered(alloc: Global, before: &str, after: &str, count: u32) -> Result<String, AllocError> {
+    let mut all = String::new(alloc);
+    for number in 0..count {
+        if let Some(character) = char::from_u32(0x10000u32.saturating_add(number)) {
+            all.push_str(before)?;
+            all.push(character)?;
+            all.push_str(after)?;
+        }
+    }
+    Ok(all)
+}
+
+// A text between so many marks of `b`.
+fn push_marked(
+    alloc: Global,
+    all: &mut String,
+    text: &str,
+    depth: usize,
+) -> Result<(), AllocError> {
+    let marks = repeated(alloc, "**", depth)?;
+    all.push_str(marks.as_str())?;
+    all.push_str(text)?;
+    all.push_str(marks.as_str())?;
+    Ok(())
+}
+
+#[test]
+fn reads_a_million_open_elements(rt: HostRuntime) -> Result<(), Fail> {
+    let mut html = repeated(rt.alloc(), "<div>", 1_000_000)?;
+    html.push_str("x")?;
+    let converter = HtmlToMarkdown::new(rt.alloc())?;
+    let markdown = converter.convert_html5(rt.alloc(), html.as_str())?;
+    assert_eq!(rt; markdown.as_str(), "x");
+    Ok(())
+}
+
+// `html`, `body` and `p` stand at levels 1 to 3, so the `b` of number 1,021 is the deepest. It and all after it hold
+// nothing, and the text follows them in the one of number 1,020.
+#[test]
+fn reopens_sixteen_elements(rt: HostRuntime) -> Result<(), Fail> {
+    let mut html = String::from_str(rt.alloc(), "<p>")?;
+    let tags = numbered(rt.alloc(), "<b a=", ">", 100_000)?;
+    html.push_str(tags.as_str())?;
+    html.push_str("x<p>y")?;
+    let mut wanted = String::new(rt.alloc());
+    push_marked(rt.alloc(), &mut wanted, "x", 1_020)?;
+    wanted.push_str("\n\n")?;
+    push_marked(rt.alloc(), &mut wanted, "y", 16)?;
+    let converter = HtmlToMarkdown::new(rt.alloc())?;
+    let markdown = converter.convert_html5(rt.alloc(), html.as_str())?;
+    assert_eq!(rt; markdown.as_str(), wanted.as_str());
+    Ok(())
+}
+
+// The first of them a second time counts for nothing.
+#[test]
+fn keeps_a_thousand_attributes(rt: HostRuntime) -> Result<(), Fail> {
+    let mut html = String::from_str(rt.alloc(), "<p")?;
+    let names = numbered(rt.alloc(), " a", "", 1_000)?;
+    html.push_str(names.as_str())?;
+    html.push_str(" a\u{10000}=z>x")?;
+    let mut wanted = String::from_str(rt.alloc(), "<p")?;
+    let attributes = numbered(rt.alloc(), " a", "=\"\"", 1_000)?;
+    wanted.push_str(attributes.as_str())?;
+    wanted.push_str(">x</p>")?;
+    let options = Options {
+        translation_mode: TranslationMode::Faithful,
+        ..Options::default()
+    };
+    let converter = HtmlToMarkdown::builder(rt.alloc())?
+        .options(options)
+        .build();
+    let markdown = converter.convert_html5(rt.alloc(), html.as_str())?;
+    assert_eq!(rt; markdown.as_str(), wanted.as_str());
+    Ok(())
+}

@@ -1,0 +1,229 @@
+-- In Pure and in Guarded nothing that a reader sees is lost.
+use Rattle.std.proofs.Common.{◌≡◌, ℕ, zero, suc, ◌<◌, ◌≤◌, Bool, true, false, List, [], ◌∷◌, ◌++◌, length, Option}
+use Rattle.std.proofs.Common.{Some, None, codes, refl, sym, ap, ◌∙◌, arith, subst}
+use Rattle.std.specs.Str.{bytes_eq}
+use Rattle.std.proofs.lemmas.Bool.{cond_both, false≢true}
+use Rattle.std.proofs.lemmas.List.{append-nil}
+use Rattle.htmd_text.specs.Trims.{trimmed_end, is_line_feed}
+use Rattle.htmd_text.specs.WhiteSpace.{is_document_white_space}
+use Rattle.htmd_tree.specs.Items.{Item, data_at, children_of, IsTree, HoldsText, HoldTexts}
+use Rattle.htmd_tree.specs.NumberedTrees.{NumberedTree, document, doctype, text, comment, element, NumberedForest}
+use Rattle.htmd_tree.specs.NumberedTrees.{forest_of, tree_of, height, tallest}
+use Rattle.htmd_tree.specs.Ancestors.{Ancestor, ancestors_of}
+use Rattle.htmd_tree.proofs.NumberedTreesLemmas.{height_pos}
+use Rattle.htmd_walk.specs.declared.options.Options.{Options}
+use Rattle.htmd_walk.specs.BuiltIn.{built_in}
+use Rattle.htmd_walk.specs.Children.{write_groups, content_alone, descendant_tree, trims_first}
+use Rattle.htmd_walk.specs.Elements.{answer_after, occurrence_at}
+use Rattle.htmd_walk.specs.AllText.{text_or_all, all_text_among}
+use Rattle.htmd_walk.specs.CaptionsAndCells.{captions_and_cells}
+use Rattle.htmd_walk.specs.Groups.{only_text, groups_of, children_at, may_join}
+use Rattle.htmd_walk.specs.GuardedTableLayouts.{is_written_as_table, table_lines, nodes_of_lines}
+use Rattle.htmd_walk.specs.Handling.{ResultView}
+use Rattle.htmd_walk.specs.Markdown.{walked_content, walked_node, markdown, append_texts}
+use Rattle.htmd_walk.specs.OrdinaryText.{pre}
+use Rattle.htmd_walk.specs.Outputs.{Conversion, conversion_of, Output, Context, context_of, empty_output, is_guarded}
+use Rattle.htmd_walk.specs.Outputs.{is_markdown_alone}
+use Rattle.htmd_walk.specs.Rendering.{with_result, written_within}
+use Rattle.htmd_tree_laws.specs.Shown.{visible, IsPart, shown, shown_among, captions_first, tables_fit, ShownInContent}
+use Rattle.htmd_tree_laws.specs.Shown.{ShownInMarkdown}
+use Rattle.htmd_tree_laws.proofs.CountedTexts.{Law, of_visible, part-append}
+use Rattle.htmd_tree_laws.proofs.LettersLemmas.{Says, says-own, says-nil, says-is, counted_append}
+use Rattle.htmd_tree_laws.proofs.LettersOfTexts.{document_of_white, line_feed_of_white, says-trimmed_end, says-trimmed}
+use Rattle.htmd_tree_laws.proofs.LettersOfPieces.{says-seam}
+use Rattle.htmd_tree_laws.proofs.LettersOfJoints.{PassesMarks, says-guarded_seam}
+use Rattle.htmd_tree_laws.proofs.LettersOfTables.{all_of}
+use Rattle.htmd_tree_laws.proofs.LettersOfLinks.{IsTextIfAny}
+use Rattle.htmd_tree_laws.proofs.LettersOfHandlers.{SaysResult}
+use Rattle.htmd_tree_laws.proofs.ElementsByTag.{EachSays}
+use Rattle.htmd_tree_laws.proofs.FittingTrees as fitting
+use Rattle.htmd_tree_laws.proofs.SaidChildren.{AllOf, children_are_said, text_is_said}
+use Rattle.htmd_tree_laws.proofs.LettersLawsLemmas.{values_in, plain_at}
+use Rattle.htmd_tree_laws.proofs.ShownOfElements.{element_shows}
+use Rattle.htmd_tree_laws.proofs.ShownTrees.{AllFit, Lies, lies_still, IsLow, all_low, same_among, only_shows, groups_lower}
+use Rattle.htmd_tree_laws.proofs.ShownTrees.{groups_show, tree_fits, each_shown, ol_is_alone, table_is_alone}
+use Rattle.htmd_tree_laws.proofs.ShownTables.{all_texts_show, table_shows, lines_low}
+
+-- in Guarded `*` isn't counted
+marks_pass : (guarded : Bool) → guarded ≡ true → PassesMarks (of_visible guarded)
+marks_pass true e = refl
+marks_pass false e = absurd (false≢true e)
+
+module _ (options : Options) (alone : is_markdown_alone options ≡ true) (items : List Item) (t : IsTree items)
+    (plain : (id : ℕ) → HoldsText (data_at items id)) where
+  abbrev conversion : Conversion
+  conversion = conversion_of (built_in options) items
+
+  abbrev guarded : Bool
+  guarded = is_guarded options
+
+  abbrev law : Law
+  law = of_visible (is_guarded options)
+
+  abbrev AllFitHere : NumberedForest → Type 0
+  AllFitHere = AllFit (is_guarded options) items
+
+  abbrev IsLowHere : ℕ → NumberedTree → Type 0
+  IsLowHere = IsLow (is_guarded options) items
+
+  abbrev LiesHere : ℕ → List ℕ → NumberedForest → Type 0
+  LiesHere = Lies (is_guarded options) items
+
+  -- what this many levels give shows what is in the tree
+  abbrev AreShown : ℕ → Type 0
+  AreShown n = (tree : NumberedTree) (context : Context) (out : Output) (l : List ℕ) → IsLowHere n tree
+      → Says law out.text l
+      → Says law (written_within n conversion tree context out).text (l ++ shown guarded tree)
+
+  groups_are_shown : (n : ℕ) → AreShown n → (inside : List Ancestor) (children : NumberedForest) (out : Output)
+      (l : List ℕ) → AllFitHere children → tallest children ≤ n → Says law out.text l
+      → Says law (write_groups (written_within n conversion) inside children out).text
+      (l ++ shown_among guarded children)
+  groups_are_shown n keeps inside children out l fit low p =
+      says-is (ap (λ z. l ++ z) (same_among guarded (groups_of children) ∙ groups_show guarded items children fit))
+      (children_are_said law (written_within n conversion) (IsLowHere n) (shown guarded) keeps inside
+      (groups_of children) (trims_first inside) out l
+      (all_low guarded items n (groups_of children)
+      (fitting.groups_fit LiesHere (lies_still guarded items) children fit)
+      (groups_lower guarded children n low)) p)
+
+  result_is_shown : (out : Output) (whole : Bool) (r : Option ResultView) (definitions : List (List ℕ))
+      (l m : List ℕ) → Says law out.text l → SaysResult law r m
+      → Says law (with_result (is_guarded options) out whole r definitions).text (l ++ m)
+  result_is_shown out whole None definitions l m p q =
+      says-is (sym (append-nil l) ∙ ap (λ z. l ++ z) (sym q)) p
+  result_is_shown out whole (Some result) definitions l m p q =
+      cond_both (is_guarded options) _ _ (λ (s : List ℕ). Says law s (l ++ m))
+      (λ e. says-guarded_seam law (marks_pass (is_guarded options) e) out.text result.content l m p q)
+      (λ _. says-seam out.text result.content whole p q)
+
+  child_is_shown : (n : ℕ) → AreShown n → (text : Option (List ℕ)) → IsTextIfAny text → (d : ℕ)
+      → IsLowHere n (tree_of items d) → (before : List (List ℕ))
+      → Says law
+      (content_alone (written_within n conversion) conversion (descendant_tree items text d) d before).text
+      (shown guarded (descendant_tree items text d))
+  child_is_shown n keeps None utf8 d low before =
+      keeps (tree_of items d) (context_of (ancestors_of items d) false true) (empty_output before) [] low says-nil
+  child_is_shown n keeps (Some s) utf8 d low before =
+      let some = height_pos (tree_of items d) in
+      keeps (text d s) (context_of (ancestors_of items d) false true) (empty_output before) []
+      (utf8, omega (arith, some, low.1)) says-nil
+
+  each_is_shown : (n : ℕ) → AreShown n → (id : ℕ) (inside : List Ancestor) (children : NumberedForest)
+      (ds : List ℕ) → IsTextIfAny (only_text children) → AllOf (IsLowHere n) (forest_of (tree_of items) ds)
+      → EachSays law (occurrence_at (written_within n conversion) conversion id inside children) (shown guarded) ds
+  each_is_shown n keeps id inside children [] utf8 low = tt
+  each_is_shown n keeps id inside children (d ∷ ds) utf8 low = (
+    child_is_shown n keeps (only_text children) utf8 d low.0,
+    each_is_shown n keeps id inside children ds utf8 low.1,
+  )
+
+  -- all text shows what the children show
+  whole_shows : (id : ℕ) (name : List ℕ) (children : NumberedForest) (text : Option (List ℕ))
+      → only_text children ≡ text → LiesHere id name children → AllFitHere children → IsTextIfAny text
+      → is_guarded options ≡ true
+      → Says law (text_or_all text (children_at items id)) (shown_among guarded children)
+  whole_shows id name children None e lies fit utf8 g =
+      subst (λ (trees : NumberedForest). Says law (all_text_among trees) (shown_among guarded children)) (lies.apart e)
+      (all_texts_show (is_guarded options) g items children fit)
+  whole_shows id name children (Some s) e lies fit utf8 g =
+      says-is (sym (only_shows guarded children s e)) (says-own s utf8)
+
+  -- a table shows its captions and cells
+  written_shows : (n : ℕ) → AreShown n → (id : ℕ) (name : List ℕ) (inside : List Ancestor) (children : NumberedForest)
+      → LiesHere id name children → AllFitHere children → tallest children ≤ n → IsTextIfAny (only_text children)
+      → name ≡ codes "table" → is_written_as_table items id ≡ true
+      → EachSays law (occurrence_at (written_within n conversion) conversion id inside children) (shown guarded)
+      (nodes_of_lines (table_lines items id))
+      × (all_of (λ d. shown guarded (descendant_tree items (only_text children) d))
+      (captions_and_cells items (children_of items id)) ≡ shown_among guarded children)
+  written_shows n keeps id name inside children lies fit low utf8 is written =
+      let asked = lies.table (ap (λ (tag : List ℕ). bytes_eq tag (codes "table")) is) in
+      let same : children ≡ children_at items id = lies.block (ap may_join is ∙ table_is_alone) in
+      let first : captions_first (children_at items id) ≡ true = ap captions_first (sym same) ∙ asked.1 in
+      let told = table_shows (is_guarded options) asked.0 items t id lies.within written first in
+      let here : AllOf (IsLowHere n) (children_at items id) =
+      subst (λ (trees : NumberedForest). AllOf (IsLowHere n) trees) same
+      (all_low (is_guarded options) items n children fit low) in (
+        each_is_shown n keeps id inside children (nodes_of_lines (table_lines items id)) utf8
+            (lines_low (is_guarded options) items t n id lies.within here),
+        ap (λ (o : Option (List ℕ)). all_of (λ d. shown guarded (descendant_tree items o d))
+            (captions_and_cells items (children_of items id))) (ap only_text same ∙ told.0)
+            ∙ sym told.1 ∙ ap (shown_among guarded) (sym same),
+      )
+
+  within_is_shown : (n : ℕ) → AreShown n
+  unfolding written_within
+  within_is_shown zero tree context out l fit p =
+      let some = height_pos tree in absurd (omega (arith, some, fit.1))
+  within_is_shown (suc n) (document id children) context out l fit p =
+      says-trimmed_end is_document_white_space document_of_white _
+      (groups_are_shown n (within_is_shown n) (record { tag = codes "html"; attributes = [] } ∷ context.ancestors)
+      children out l fit.0 (omega (arith, fit.1)) p)
+  within_is_shown (suc n) (doctype id) context out l fit p = says-is (sym (append-nil l)) p
+  within_is_shown (suc n) (text id s) context out l fit p =
+      text_is_said law (is_guarded options) s context out l (marks_pass (is_guarded options)) fit.0 p
+  within_is_shown (suc n) (comment id s) context out l fit p = rw alone (says-is (sym (append-nil l)) p)
+  within_is_shown (suc n) (element id name attributes children) context out l fit p =
+      let write = written_within n conversion in
+      let inside : List Ancestor = record { tag = name; attributes = attributes } ∷ context.ancestors in
+      let answer = answer_after 0 name (occurrence_at write conversion id inside children) out.definitions in
+      let low : tallest children ≤ n = omega (arith, fit.1) in
+      let utf8 = fitting.only_fits LiesHere (lies_still guarded items) children fit.0.1 in
+      let lies = fit.0.0 in
+      result_is_shown out (pre context.ancestors) answer.result answer.definitions l _ p
+      (element_shows options alone items (λ i. values_in (data_at items i) (plain i)) write id inside
+      children out.definitions utf8 (only_shows guarded children)
+      (whole_shows id name children (only_text children) refl lies fit.0.1 utf8)
+      (λ before. groups_are_shown n (within_is_shown n) inside children (empty_output before) [] fit.0.1 low says-nil)
+      (λ ordered.
+      let is : name ≡ codes "ol" = sym lies.tag ∙ ordered in
+      let same : children ≡ children_at items id = lies.block (ap may_join is ∙ ol_is_alone) in (
+        each_is_shown n (within_is_shown n) id inside children (children_of items id) utf8
+            (subst (λ (trees : NumberedForest). AllOf (IsLowHere n) trees) same
+            (all_low guarded items n children fit.0.1 low)),
+        each_shown guarded (occurrence_at write conversion id inside children).view (children_of items id)
+            (only_text children) refl (ap only_text (sym same)) ∙ ap (shown_among guarded) (sym same),
+      ))
+      (λ table.
+      let is : name ≡ codes "table" = sym lies.tag ∙ table in (
+        (lies.table (ap (λ (tag : List ℕ). bytes_eq tag (codes "table")) is)).0,
+        λ written. written_shows n (within_is_shown n) id name inside children lies fit.0.1 low utf8 is written,
+      ))
+      name lies.tag)
+
+  pub content_is_shown : (start : ℕ) → start < length items
+      → tables_fit (is_guarded options) (tree_of items start) ≡ true
+      → Says law (walked_content (built_in options) items start) (shown guarded (tree_of items start))
+  content_is_shown start l e =
+      let tree = tree_of items start in
+      says-trimmed is_line_feed line_feed_of_white _
+      (within_is_shown (height tree) tree (context_of (ancestors_of items start) false true) (empty_output []) []
+      (tree_fits guarded items t plain start l e, omega arith) says-nil)
+
+content_shows : (options : Options) (items : List Item) (start : ℕ) → is_markdown_alone options ≡ true
+    → IsTree items → HoldTexts items → start < length items
+    → tables_fit (is_guarded options) (tree_of items start) ≡ true
+    → Says (of_visible (is_guarded options)) (walked_content (built_in options) items start)
+    (shown (is_guarded options) (tree_of items start))
+content_shows options items start alone t plain l e =
+    content_is_shown options alone items t (plain_at items plain) start l e
+
+pub shown_in_content : ShownInContent
+shown_in_content options items start alone t plain l e = (content_shows options items start alone t plain l e).says
+
+-- what is in a text stands in a longer one
+part-before : (l s t : List ℕ) → IsPart l s → IsPart l (s ++ t)
+part-before l s t p = subst (λ (x : List ℕ). IsPart x (s ++ t)) (append-nil l) (part-append l [] s t p tt)
+
+pub shown_in_markdown : ShownInMarkdown
+unfolding markdown
+shown_in_markdown options items start alone t plain l e =
+    let guarded = is_guarded options in
+    let content = walked_content (built_in options) items start in
+    let shows = content_shows options items start alone t plain l e in
+    let behind = trimmed_end is_line_feed
+    (append_texts (built_in options).handlers (walked_node (built_in options) items start).definitions) in
+    subst (λ (x : List ℕ). IsPart (shown guarded (tree_of items start)) x)
+    (sym (counted_append (of_visible guarded) content behind shows.utf8))
+    (part-before (shown guarded (tree_of items start)) (visible guarded content) (visible guarded behind) shows.says)

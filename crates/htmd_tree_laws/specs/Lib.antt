@@ -1,0 +1,12 @@
+-- The laws, in reading order: of the grammar; of the content, of children, emphasis, links, lists, paragraphs and texts;
+-- of letters and of what is shown.
+pub mod GrammarLaws
+pub mod ContentLaws
+pub mod GroupLaws
+pub mod EmphasisLaws
+pub mod LinkLaws
+pub mod ListLaws
+pub mod ParagraphLaws
+pub mod TextLaws
+pub mod Letters
+pub mod Shown

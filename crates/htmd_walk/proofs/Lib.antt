@@ -1,0 +1,37 @@
+-- The lemmas of the conversion, each module over those before it; and of the items of a tree, for crates above.
+pub use Rattle.htmd_tree.proofs.ItemsLemmas
+pub mod Cuts
+pub mod SeamsLemmas
+pub mod PlainTextsLemmas
+pub mod Nodes
+pub mod ChoiceLemmas
+pub mod LatestLemmas
+pub mod GroupsLemmas
+pub mod ElementsLemmas
+pub mod BeginningsLemmas
+pub mod StayingLemmas
+pub mod HandlersStayLemmas
+pub mod ChildrenLemmas
+pub mod RenderingLemmas
+pub mod WalkingLemmas
+pub mod RememberingLemmas
+pub mod OneLineLemmas
+pub mod AllTextLemmas
+pub mod PassingLemmas
+pub mod Steps
+pub mod CodeLemmas
+pub mod LayersLemmas
+pub mod LinkAttributesLemmas
+pub mod AnchorsLemmas
+pub mod ChildListsLemmas
+pub mod TableNodesLemmas
+pub mod TableHeadersLemmas
+pub mod TableTextsLemmas
+mod Examples
+pub mod GuardedExamples
+pub mod ImagesLemmas
+pub mod SightsLemmas
+pub mod GuardedNodesLemmas
+pub mod GuardedTableLemmas
+pub mod GuardedSpansLemmas
+pub mod TableOrdersLemmas

@@ -1,0 +1,172 @@
+-- What is asked of a node, against its value tree and its ancestors.
+use Rattle.std.proofs.Common.{◌≡◌, ℕ, ◌<◌, List, [], ◌∷◌, length, get_or, Some, None, refl, sym, ap, ◌∙◌, arith, subst}
+use Rattle.std.proofs.Common.{Bool, ◌||◌, not, ◌&&◌, true, false, codes}
+use Rattle.std.specs.Str.{bytes_eq}
+use Rattle.htmd_text.specs.Blocks.{is_block}
+use Rattle.htmd_text.proofs.BlocksLemmas.{block-nil}
+use Rattle.htmd_tree.specs.Items.{Item, Data, document_node, doctype_node, text_node, comment_node, element_node}
+use Rattle.htmd_tree.specs.Items.{IsTree, data_at, parent_at, tag_of}
+use Rattle.htmd_tree.specs.NumberedTrees.{NumberedTree, document, doctype, text, comment, element, NumberedForest, none}
+use Rattle.htmd_tree.specs.NumberedTrees.{more, with_children, forest_of, tree_of}
+use Rattle.htmd_tree.specs.Ancestors.{ancestor_of, ancestors_of, chain_from}
+use Rattle.htmd_tree.specs.Views.{data_of}
+use Rattle.htmd_tree.specs.declared.tree.Attribute.{Attribute}
+use Rattle.htmd_tree.specs.declared.tree.NodeData.{NodeData}
+use Rattle.htmd_tree.specs.declared.tree.NodeData.TheVariants.{Document, Doctype, Text, Comment, Element}
+use Rattle.std.specs.Prelude.{String, Vec}
+use Rattle.std.specs.Global.{Global}
+use Rattle.std.proofs.Math.Bool.{and-false, and-true}
+use Rattle.htmd_tree.proofs.NumberedTreesLemmas.{tree-open}
+use Rattle.htmd_tree.proofs.AncestorsLemmas.{ancestors-open}
+use Rattle.htmd_walk.specs.OrdinaryText.{is_pre_or_code, pre, parent_is_pre}
+use Rattle.htmd_walk.specs.Groups.{only_text, children_at}
+use Rattle.htmd_walk.specs.Children.{is_block_tree, trims_first}
+use Rattle.htmd_walk.specs.Rendering.{is_text, inside_of}
+
+-- what of a content says whether it is a block element
+abbrev pub is_block_content : Data → Bool
+is_block_content document_node = false
+is_block_content doctype_node = false
+is_block_content (text_node s) = false
+is_block_content (comment_node s) = false
+is_block_content (element_node name attributes) = is_block name
+
+block-put : (id : ℕ) (c : Data) (children : NumberedForest) → is_block_tree (with_children id c children)
+    ≡ is_block_content c
+block-put id document_node children = refl
+block-put id doctype_node children = refl
+block-put id (text_node s) children = refl
+block-put id (comment_node s) children = refl
+block-put id (element_node name attributes) children = refl
+
+module _ (items : List Item) (t : IsTree items) where
+  pub is_block_tree-open : (id : ℕ) → id < length items → is_block_tree (tree_of items id) ≡ is_block_content
+      (data_at items id)
+  is_block_tree-open id l = ap is_block_tree (tree-open items id t l)
+      ∙ block-put id (data_at items id) (children_at items id)
+
+  -- one step up
+  pub pre-root : (id : ℕ) → id < length items → parent_at items id ≡ None
+      → pre (ancestors_of items id) ≡ false
+  pre-root id l e = ap pre (ancestors-open items id t l ∙ ap (chain_from (ancestors_of items) items) e)
+
+  pub pre-up : (id p : ℕ) → id < length items → parent_at items id ≡ Some p
+      → pre (ancestors_of items id) ≡ (is_pre_or_code (ancestor_of (data_at items p)) || pre (ancestors_of items p))
+  pre-up id p l e = ap pre (ancestors-open items id t l ∙ ap (chain_from (ancestors_of items) items) e)
+
+  pub pre-hit : (id p : ℕ) → id < length items → parent_at items id ≡ Some p
+      → true ≡ is_pre_or_code (ancestor_of (data_at items p)) → pre (ancestors_of items id) ≡ true
+  pre-hit id p l e b = pre-up id p l e ∙ ap (λ x. x || pre (ancestors_of items p)) (sym b)
+
+  pub pre-miss : (id p : ℕ) → id < length items → parent_at items id ≡ Some p
+      → false ≡ is_pre_or_code (ancestor_of (data_at items p))
+      → pre (ancestors_of items id) ≡ pre (ancestors_of items p)
+  pre-miss id p l e b = pre-up id p l e ∙ ap (λ x. x || pre (ancestors_of items p)) (sym b)
+
+  pub parent_pre-root : (id : ℕ) → id < length items → parent_at items id ≡ None
+      → parent_is_pre (ancestors_of items id) ≡ false
+  parent_pre-root id l e =
+      ap parent_is_pre (ancestors-open items id t l ∙ ap (chain_from (ancestors_of items) items) e)
+
+  pub parent_pre-up : (id p : ℕ) (c : Data) → id < length items → parent_at items id ≡ Some p
+      → data_at items p ≡ c
+      → parent_is_pre (ancestors_of items id) ≡ bytes_eq (ancestor_of c).tag (codes "pre")
+  parent_pre-up id p c l e k =
+      ap parent_is_pre (ancestors-open items id t l ∙ ap (chain_from (ancestors_of items) items) e)
+      ∙ ap (λ x. bytes_eq (ancestor_of x).tag (codes "pre")) k
+
+  -- the text of an only child
+  text_put : (id : ℕ) (c : Data) → data_at items id ≡ c → id < length items
+      → only_text (more (tree_of items id) none)
+      ≡ only_text (more (with_children id c (children_at items id)) none)
+  text_put id c e l = ap (λ v. only_text (more v none)) (tree-open items id t l
+      ∙ ap (λ x. with_children id x (children_at items id)) e)
+
+  pub only_text-one : (ids : List ℕ) (id : ℕ) (s : List ℕ) → length ids ≡ 1 → id ≡ get_or ids 0 id
+      → id < length items
+      → data_at items id ≡ text_node s → only_text (forest_of (tree_of items) ids) ≡ Some s
+  only_text-one [] id s l e h k = absurd (omega arith)
+  only_text-one (i ∷ []) id s l e h k = subst (λ j. only_text (more (tree_of items j) none) ≡ Some s) e
+      (text_put id (text_node s) k h)
+  only_text-one (i ∷ j ∷ ids) id s l e h k = absurd (omega arith)
+
+  no_text : (id : ℕ) (c : Data) (trees : NumberedForest) → is_text c ≡ false
+      → only_text (more (with_children id c trees) none) ≡ None
+  no_text id document_node trees h = refl
+  no_text id doctype_node trees h = refl
+  no_text id (text_node s) trees h = cc
+  no_text id (comment_node s) trees h = refl
+  no_text id (element_node name attributes) trees h = refl
+
+  pub only_text-other : (ids : List ℕ) (id : ℕ) → length ids ≡ 1 → id ≡ get_or ids 0 id
+      → id < length items
+      → is_text (data_at items id) ≡ false → only_text (forest_of (tree_of items) ids) ≡ None
+  only_text-other [] id l e h k = absurd (omega arith)
+  only_text-other (i ∷ []) id l e h k =
+      subst (λ j. only_text (more (tree_of items j) none) ≡ None) e (text_put id (data_at items id) refl h
+      ∙ no_text id (data_at items id) (children_at items id) k)
+  only_text-other (i ∷ j ∷ ids) id l e h k = absurd (omega arith)
+
+  two_or_more : (v w : NumberedTree) (trees : NumberedForest) → only_text (more v (more w trees)) ≡ None
+  two_or_more (document i ks) w trees = refl
+  two_or_more (doctype i) w trees = refl
+  two_or_more (text i s) w trees = refl
+  two_or_more (comment i s) w trees = refl
+  two_or_more (element i n a ks) w trees = refl
+
+  pub only_text-none : (ids : List ℕ) → (length ids ≡ 1 → ⊥)
+      → only_text (forest_of (tree_of items) ids) ≡ None
+  only_text-none [] l = refl
+  only_text-none (i ∷ []) l = absurd (l (omega arith))
+  only_text-none (i ∷ j ∷ ids) l = two_or_more (tree_of items i) (tree_of items j) (forest_of (tree_of items) ids)
+
+-- the tag that an ancestor's trimming asks for
+pub tag_some : (c : Data) (tag : List ℕ) → Some tag ≡ tag_of c → (ancestor_of c).tag ≡ tag
+tag_some document_node tag e = cc
+tag_some doctype_node tag e = cc
+tag_some (text_node s) tag e = cc
+tag_some (comment_node s) tag e = cc
+tag_some (element_node name attributes) tag e = cc
+
+pub tag_none : (c : Data) → None ≡ tag_of c → is_block (ancestor_of c).tag ≡ false
+tag_none document_node e = cc
+tag_none doctype_node e = block-nil
+tag_none (text_node s) e = block-nil
+tag_none (comment_node s) e = block-nil
+tag_none (element_node name attributes) e = cc
+
+-- a stored node that isn't an element, or isn't text
+pub not_block : (n : NodeData) → ((name : String Global) (attributes : Vec Attribute Global)
+    → n ≡ Element name attributes → ⊥) → is_block_content (data_of n) ≡ false
+not_block Document h = refl
+not_block Doctype h = refl
+not_block (Text s) h = refl
+not_block (Comment s) h = refl
+not_block (Element name attributes) h = absurd (h name attributes refl)
+
+pub not_pre : (n : NodeData)
+    → ((name : String Global) (attributes : Vec Attribute Global) → n ≡ Element name attributes
+    → ⊥) → bytes_eq (ancestor_of (data_of n)).tag (codes "pre") ≡ false
+not_pre Document h = refl
+not_pre Doctype h = refl
+not_pre (Text s) h = refl
+not_pre (Comment s) h = refl
+not_pre (Element name attributes) h = absurd (h name attributes refl)
+
+pub not_text : (n : NodeData) → ((s : String Global) → n ≡ Text s → ⊥) → is_text (data_of n) ≡ false
+not_text Document h = refl
+not_text Doctype h = refl
+not_text (Text s) h = absurd (h s refl)
+not_text (Comment s) h = refl
+not_text (Element name attributes) h = refl
+
+-- the trim flag at the start of a node's content
+pub no_trim : (items : List Item) (id : ℕ) → pre (inside_of items id) ≡ true
+    → trims_first (inside_of items id) ≡ false
+no_trim items id e = ap (λ t. is_block (ancestor_of (data_at items id)).tag && not t) e
+    ∙ and-false (is_block (ancestor_of (data_at items id)).tag)
+
+pub trims_by : (items : List Item) (id : ℕ) → pre (inside_of items id) ≡ false
+    → trims_first (inside_of items id) ≡ is_block (ancestor_of (data_at items id)).tag
+trims_by items id e = ap (λ t. is_block (ancestor_of (data_at items id)).tag && not t) e
+    ∙ and-true (is_block (ancestor_of (data_at items id)).tag)

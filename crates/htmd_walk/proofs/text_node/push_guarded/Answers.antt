@@ -1,0 +1,28 @@
+-- A guarded text by itself begins with no mark.
+use Rattle.std.proofs.Common.{rules, ◌≡◌, ◌++◌, true, false, sym, ap, ◌∙◌, string_bytes}
+use Rattle.std.proofs.lemmas.Result.{on_ok_weaker}
+use Rattle.htmd_text.specs.Characters.{asterisk}
+use Rattle.htmd_markdown.specs.CodeSpans.{ends_with}
+use Rattle.htmd_markdown.specs.GuardedText.{guarded_text}
+use Rattle.htmd_markdown.specs.Joints.{mended_ends}
+use Rattle.htmd_markdown.proofs.UnmendedLemmas.{text_unmended}
+use Rattle.htmd_walk.proofs.text_node.push_guarded.Goals as goal
+
+pub returns-then-not-ends_with_asterisk : goal.returns-then-not-ends_with_asterisk
+returns-then-not-ends_with_asterisk c =
+    let out = string_bytes c.args.out.now in
+    on_ok_weaker c.push_guarded_with_room.result
+    (λ h. h ∙ text_unmended c.args.begins_line out c.args.text.now
+    (ap (ends_with asterisk) (sym c.deref.ensures) ∙ sym c.ends_with_asterisk.ensures
+    ∙ c.if-not-ends_with_asterisk.true)) c.push_guarded_with_room.ensures
+
+pub returns : goal.returns
+returns c =
+    let out = string_bytes c.args.out.now in
+    let text = guarded_text c.args.begins_line c.args.text.now in
+    let written : string_bytes c.push_guarded_text.new.out ≡ text =
+    c.in_ok-push_guarded_text.ensures ∙ ap (λ s. s ++ text) c.take-written.ensures in
+    c.in_ok-push_str.ensures.bytes
+    ∙ ap (λ s. string_bytes c.mend_joint.new.out ++ s) (c.as_str.ensures.value ∙ c.in_ok-mend_joint.ensures.content)
+    ∙ ap (λ s. s ++ (mended_ends out (string_bytes c.push_guarded_text.new.out)).behind) c.in_ok-mend_joint.ensures.out
+    ∙ ap (λ s. (mended_ends out s).front ++ (mended_ends out s).behind) written

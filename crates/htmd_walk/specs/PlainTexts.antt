@@ -1,0 +1,27 @@
+-- A test for texts that are written as they are, as the code makes it. No public clause cites it.
+use Rattle.std.specs.Prelude.{ℕ, Bool, true, not, ◌&&◌, ◌||◌, ◌==◌, nat_lt, if◌then◌else◌, List, [], ◌∷◌, codes}
+use Rattle.std.specs.Char.{is_ascii_digit}
+use Rattle.htmd_text.specs.Characters.{space, is_one_of}
+use Rattle.htmd_text.specs.Marks.{is_special}
+
+-- the byte stands for itself everywhere: not a backslash, white space or a control character
+abbrev pub is_plain_byte : ℕ → Bool
+is_plain_byte b = nat_lt space b && not (is_special b)
+
+-- after a space or not: each byte from here on stands for itself, or is a single space
+abbrev pub stays_plain : Bool → List ℕ → Bool
+stays_plain after_space [] = true
+stays_plain after_space (b ∷ s) = (is_plain_byte b || (not after_space && (b == space))) && stays_plain (b == space) s
+
+-- at the start of a text the byte may begin a block or an ordered list item, or underline a heading
+abbrev pub may_begin : ℕ → Bool
+may_begin b = is_one_of (codes "=~>-+#") b || is_ascii_digit b
+
+abbrev pub starts_plain : List ℕ → Bool
+starts_plain [] = true
+starts_plain (b ∷ s) = not (may_begin b)
+
+-- neither the text nor what follows a space at its start begins with such a byte
+abbrev pub begins_plain : List ℕ → Bool
+begins_plain [] = true
+begins_plain (b ∷ s) = if b == space then starts_plain s else not (may_begin b)

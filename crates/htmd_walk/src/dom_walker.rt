@@ -1,0 +1,733 @@
+//! The walk over a tree.
+
+mod results;
+
+ghost use Rattle.std.specs.Prelude.{◌≡◌, ◌<◌, ℕ, List, None, false, IfOk, IfSome, IsSome, IsTrue, OnOk, OnErr};
+ghost use Rattle.std.specs.Prelude.{length, string_bytes};
+ghost use Rattle.std.specs.Option.{option_copied};
+ghost use Rattle.htmd_tree.specs.Items.{data_at, parent_at, IsTree};
+ghost use Rattle.htmd_tree.specs.NumberedTrees.{tree_of};
+ghost use Rattle.htmd_tree.specs.Ancestors.{ancestors_of};
+ghost use Rattle.htmd_walk.specs.Handling.{IsProper, contents_of_each};
+ghost use Rattle.htmd_walk.specs.OrdinaryText.{pre};
+ghost use Rattle.htmd_walk.specs.Groups.{only_text, group_tree, children_at};
+ghost use Rattle.htmd_walk.specs.Outputs.{conversion_of, context_of, empty_output, is_guarded};
+ghost use Rattle.htmd_walk.specs.Children.{write_groups, content_alone};
+ghost use Rattle.htmd_walk.specs.Elements.{content_of, contents_alone, answer_after, raw_answer};
+ghost use Rattle.htmd_walk.specs.Rendering.{is_text, inside_of, with_result};
+ghost use Rattle.htmd_walk.specs.Markdown.{markdown};
+ghost use Rattle.htmd_walk.specs.HandlerAnswers.{IsElement, handled};
+ghost use Rattle.htmd_walk.specs.Beginnings.{Begins};
+ghost use Rattle.htmd_walk.specs.Views.{optional_result, output_view, answer_view, contents_view};
+ghost use Rattle.htmd_walk.specs.Walking.{AtNode, InNode, ElementGives, ElementBegins, NodeGives, NodeBegins};
+ghost use Rattle.htmd_walk.specs.Walking.{AlwaysGives, AreRemembered, content_below};
+ghost use Rattle.htmd_walk.specs.OneLineElements.{known_in_line, known_in_line_inside};
+ghost use Rattle.htmd_walk.specs.Code.{language_of_pre};
+
+use crate::element_handler::code::{language_above, language_inside};
+use crate::element_handler::plans::{is_guarded, is_markdown_alone};
+use crate::element_handler::registry::{Outcome, Registry, Request};
+use crate::element_handler::{Element, HandlerResult, Links, Plan};
+use crate::group::{group_length, joined_text};
+use crate::line::{is_in_one_line, is_known_in_line};
+use crate::node_util::{
+    is_block, is_inside_pre, is_parent_pre, is_pre_or_code, is_text, trims_first,
+};
+use crate::spare_texts::SpareTexts;
+use crate::text_node::{Context, append_text};
+use htmd_text::{
+    is_block_element, trim_end_document_white_space, trim_end_line_feeds, trim_newlines,
+};
+use htmd_tree::{NodeData, NodeId, Tree, raw_block};
+use results::{
+    append_copy, append_result, between_tags, copied, cut_before_child, empty_result, lent,
+    push_comment, raw_result, text_shown, trim_after,
+};
+use std::alloc::{AllocError, Global};
+
+/// What an element gave without adding a definition: it gives the same wherever else it is reached.
+#[derive(Drop)]
+pub(crate) struct Remembered {
+    node: NodeId,
+    result: Option<HandlerResult>,
+}
+
+/// A walk over a tree, and what is remembered of nodes on the way.
+#[derive(Drop)]
+pub(crate) struct Walk<'a, R: Registry> {
+    registry: &'a R,
+    alloc: Global,
+    tree: &'a Tree,
+    remembered: &'a [Remembered],
+    spare: &'a SpareTexts,
+    ghost is_tree: { IsTree tree.now },
+    ghost are_right: { AreRemembered (R.config registry.now) tree.now remembered.now },
+}
+
+impl<'a, R: Registry> Walk<'a, R> {
+    /// A walk over a tree, by these handlers.
+    pub(crate) fn new(registry: &'a R, alloc: Global, tree: &'a Tree, spare: &'a SpareTexts) -> Self
+        ensures registry { result.registry.now ≡ registry.now }
+        ensures tree { result.tree.now ≡ tree.now }
+    {
+        let _root = tree.root();
+        Walk {
+            registry,
+            alloc,
+            tree,
+            remembered: &[],
+            spare,
+        }
+    }
+
+    /// What is remembered of a node, unless it stands for a group.
+    fn recall(&self, node: NodeId, joined: Option<&str>) -> Option<&Remembered>
+        ensures { IfSome result (λ known. (option_copied joined.entry ≡ None)
+            × AlwaysGives (conversion_of (R.config self.now.registry.now) self.now.tree.now) node
+            (optional_result known.now.result)) }
+    {
+        if joined.is_some() {
+            return None;
+        }
+        let Ok(at) = self
+            .remembered
+            .binary_search_by_key(&node, |known| known.node)
+        else {
+            return None;
+        };
+        let known = &self.remembered[at];
+        if known.node != node {
+            return None;
+        }
+        Some(known)
+    }
+
+    /// The content that an element gives by itself. It is remembered if that added no definition.
+    fn keep(
+        &self,
+        node: NodeId,
+        given: Option<HandlerResult>,
+        adds_none: bool,
+        whole: bool,
+        remembered: &mut Vec<Remembered>,
+    ) -> Result<HandlerResult, AllocError>
+        requires right { IsTrue adds_none
+            → AlwaysGives (conversion_of (R.config self.now.registry.now) self.now.tree.now) node
+            (optional_result given) }
+        requires remembered { AreRemembered (R.config self.now.registry.now) self.now.tree.now remembered.old.items }
+        ensures content { let guarded = is_guarded (R.config self.now.registry.now).options in
+            IfOk result (λ r. (definitions : List (List ℕ)) → output_view r definitions
+            ≡ with_result guarded (empty_output definitions) whole (optional_result given) definitions) }
+        ensures remembered { OnOk result
+            (AreRemembered (R.config self.now.registry.now) self.now.tree.now remembered.new.items) }
+    {
+        if adds_none {
+            let result = copied(self.alloc, &given)?;
+            remembered.push(Remembered { node, result })?;
+        }
+        let mut out = empty_result(self.alloc, self.spare);
+        let is_guarded = is_guarded(self.registry.options());
+        append_result(&mut out, given, whole, is_guarded, self.alloc, self.spare)?;
+        Ok(out)
+    }
+
+    /// In Guarded, whether what is below an element is written in one line.
+    fn is_line_inside(&self, element: &Element) -> bool
+        requires tree { element.now.tree.now ≡ self.now.tree.now }
+        requires options { element.now.options.now ≡ (R.config self.now.registry.now).options }
+        ensures { result ≡ known_in_line_inside (R.config self.now.registry.now).options
+            self.now.tree.now element.now.node }
+    {
+        if element.is_in_line {
+            return true;
+        }
+        if !is_guarded(element.options) {
+            return false;
+        }
+        is_in_one_line(self.tree, element.node)
+    }
+
+    /// In Guarded, whether a node stands in one line; `inside_line` says whether what is below `above` does.
+    fn is_line_below(&self, above: NodeId, inside_line: bool, node: NodeId) -> bool
+        requires above { above < length self.now.tree.now }
+        requires within { node < length self.now.tree.now }
+        requires line { inside_line ≡ known_in_line_inside (R.config self.now.registry.now).options
+            self.now.tree.now above }
+        ensures { result ≡ known_in_line (R.config self.now.registry.now).options self.now.tree.now node }
+    {
+        if !is_guarded(self.registry.options()) {
+            return false;
+        }
+        let mut at = node;
+        while let Some(parent) = self.tree.parent(at) {
+            if parent == above {
+                return inside_line;
+            }
+            if is_in_one_line(self.tree, parent) {
+                return true;
+            }
+            at = parent;
+        }
+        false
+    }
+
+    /// What the handlers of an element's tag make of it, from the one after this many newer ones on.
+    #[cycle(walk)]
+    pub(crate) fn handle(
+        &self,
+        element: &Element,
+        inside_pre: bool,
+        skipped: usize,
+        links: &mut Links,
+    ) -> Result<Option<HandlerResult>, AllocError>
+        requires ready { R.ready self.now.registry.now }
+        requires tree { element.now.tree.now ≡ self.now.tree.now }
+        requires options { element.now.options.now ≡ (R.config self.now.registry.now).options }
+        requires inside { inside_pre ≡ pre (inside_of self.now.tree.now element.now.node) }
+        ensures ok { ElementGives (R.config self.now.registry.now) self.now.tree.now element.now
+            (λ at. answer_after skipped element.now.tag.now at links.old) (λ r. answer_view r links.new) result }
+        ensures err { ElementBegins (R.config self.now.registry.now) self.now.tree.now element.now
+            (λ at. (answer_after skipped element.now.tag.now at links.old).definitions) links.old links.new result }
+    {
+        let Some(index) = self.registry.find(element.tag, skipped) else {
+            if is_markdown_alone(self.registry.options()) {
+                return Ok(Some(self.content(element, inside_pre, links)?));
+            }
+            return self.raw_html(element, inside_pre, links);
+        };
+        match self.registry.plan(self.alloc, index, element)? {
+            // A pattern in a pattern gets no proof here.
+            Request::OfPlan(plan) => match plan {
+                Plan::Skip => Ok(None),
+                Plan::Text(result) => Ok(Some(result)),
+                Plan::RawHtml => self.raw_html(element, inside_pre, links),
+                Plan::Children => {
+                    let content = self.content(element, inside_pre, links)?;
+                    self.registry
+                        .finish(self.alloc, index, element, content, links)
+                }
+                Plan::Descendant(below) => {
+                    let inside_line = self.is_line_inside(element);
+                    let content = self.walk_descendant(element, inside_line, below, links)?;
+                    self.registry
+                        .finish(self.alloc, index, element, content, links)
+                }
+                Plan::Fallback => {
+                    let older = skipped + 1;
+                    match self.handle(element, inside_pre, older, links)? {
+                        None => Ok(None),
+                        Some(content) => self
+                            .registry
+                            .finish(self.alloc, index, element, content, links),
+                    }
+                }
+            },
+            Request::Each {
+                nodes,
+                may_ask_children,
+            } => {
+                let mut remembered = Vec::new(self.alloc);
+                let contents = self.walk_each(
+                    element,
+                    nodes.as_slice(),
+                    may_ask_children,
+                    &mut remembered,
+                    links,
+                )?;
+                match self
+                    .registry
+                    .finish_each(self.alloc, index, element, contents)?
+                {
+                    Outcome::Final(result) => Ok(result),
+                    Outcome::ChildrenToo => {
+                        let knowing = Walk {
+                            registry: self.registry,
+                            alloc: self.alloc,
+                            tree: self.tree,
+                            remembered: remembered.as_slice(),
+                            spare: self.spare,
+                        };
+                        let content = knowing.content(element, inside_pre, links)?;
+                        self.registry
+                            .finish(self.alloc, index, element, content, links)
+                    }
+                }
+            }
+        }
+    }
+
+    /// What an element gives: its content if its handlers needn't be asked.
+    #[cycle(walk)]
+    fn walk_element(
+        &self,
+        element: &Element,
+        inside_pre: bool,
+        links: &mut Links,
+    ) -> Result<Option<HandlerResult>, AllocError>
+        requires ready { R.ready self.now.registry.now }
+        requires tree { element.now.tree.now ≡ self.now.tree.now }
+        requires options { element.now.options.now ≡ (R.config self.now.registry.now).options }
+        requires inside { inside_pre ≡ pre (inside_of self.now.tree.now element.now.node) }
+        ensures ok { ElementGives (R.config self.now.registry.now) self.now.tree.now element.now
+            (λ at. answer_after 0 element.now.tag.now at links.old) (λ r. answer_view r links.new) result }
+        ensures err { ElementBegins (R.config self.now.registry.now) self.now.tree.now element.now
+            (λ at. (answer_after 0 element.now.tag.now at links.old).definitions) links.old links.new result }
+    {
+        if !self.registry.goes_past(self.tree, element.node) {
+            return self.handle(element, inside_pre, 0, links);
+        }
+        let mut content = self.content(element, inside_pre, links)?;
+        if element.tag == "span" && !inside_pre && !is_guarded(self.registry.options()) {
+            trim_newlines(&mut content.content);
+        }
+        Ok(Some(content))
+    }
+
+    /// The raw HTML of an element.
+    #[inline(never)]
+    #[cycle(walk)]
+    fn raw_html(
+        &self,
+        element: &Element,
+        inside_pre: bool,
+        links: &mut Links,
+    ) -> Result<Option<HandlerResult>, AllocError>
+        requires ready { R.ready self.now.registry.now }
+        requires tree { element.now.tree.now ≡ self.now.tree.now }
+        requires options { element.now.options.now ≡ (R.config self.now.registry.now).options }
+        requires inside { inside_pre ≡ pre (inside_of self.now.tree.now element.now.node) }
+        ensures ok { ElementGives (R.config self.now.registry.now) self.now.tree.now element.now
+            (λ at. raw_answer at links.old) (λ r. answer_view r links.new) result }
+        ensures err { ElementBegins (R.config self.now.registry.now) self.now.tree.now element.now
+            (λ at. (raw_answer at links.old).definitions) links.old links.new result }
+    {
+        if is_block_element(element.tag) {
+            return Ok(Some(raw_result(raw_block(self.alloc, self.tree, element.node)?)));
+        }
+        let content = self.content(element, inside_pre, links)?;
+        let raw = between_tags(
+            self.alloc,
+            element.tag,
+            element.attrs,
+            content.content.as_str(),
+        )?;
+        Ok(Some(raw_result(raw)))
+    }
+
+    /// The contents of proper descendants, each handed over by itself; what they give is remembered, if it may be.
+    #[inline(never)]
+    #[cycle(walk)]
+    fn walk_each(
+        &self,
+        element: &Element,
+        nodes: &[NodeId],
+        may_keep: bool,
+        remembered: &mut Vec<Remembered>,
+        links: &mut Links,
+    ) -> Result<Vec<HandlerResult>, AllocError>
+        requires ready { R.ready self.now.registry.now }
+        requires tree { element.now.tree.now ≡ self.now.tree.now }
+        requires options { element.now.options.now ≡ (R.config self.now.registry.now).options }
+        requires proper { IsProper self.now.tree.now element.now.node (contents_of_each nodes.now) }
+        requires remembered { AreRemembered (R.config self.now.registry.now) self.now.tree.now remembered.old.items }
+        ensures ok { ElementGives (R.config self.now.registry.now) self.now.tree.now element.now
+            (λ at. contents_alone at nodes.now links.old) (λ r. contents_view r.items links.new) result }
+        ensures remembered { OnOk result
+            (AreRemembered (R.config self.now.registry.now) self.now.tree.now remembered.new.items) }
+        ensures err { ElementBegins (R.config self.now.registry.now) self.now.tree.now element.now
+            (λ at. (contents_alone at nodes.now links.old).definitions) links.old links.new result }
+    {
+        let inside_line = self.is_line_inside(element);
+        let mut results = Vec::with_capacity(self.alloc, nodes.len())?;
+        for node in nodes {
+            let result = self.walk_kept(element, inside_line, *node, may_keep, remembered, links)?;
+            results.push(result)?;
+        }
+        Ok(results)
+    }
+
+    /// The content of an element's children, or of the one text that it shows.
+    #[cycle(walk)]
+    fn content(
+        &self,
+        element: &Element,
+        inside_pre: bool,
+        links: &mut Links,
+    ) -> Result<HandlerResult, AllocError>
+        requires ready { R.ready self.now.registry.now }
+        requires tree { element.now.tree.now ≡ self.now.tree.now }
+        requires options { element.now.options.now ≡ (R.config self.now.registry.now).options }
+        requires inside { inside_pre ≡ pre (inside_of self.now.tree.now element.now.node) }
+        ensures ok { ElementGives (R.config self.now.registry.now) self.now.tree.now element.now
+            (λ at. content_of at links.old) (λ r. output_view r links.new) result }
+        ensures err { ElementBegins (R.config self.now.registry.now) self.now.tree.now element.now
+            (λ at. (content_of at links.old).definitions) links.old links.new result }
+    {
+        let mut out = empty_result(self.alloc, self.spare);
+        if let Some(text) = element.text {
+            let context = Context {
+                preformatted: inside_pre,
+                trim: trims_first(self.tree, element.node, inside_pre),
+            };
+            append_text(
+                self.alloc,
+                text,
+                element.tag == "pre",
+                context,
+                is_guarded(self.registry.options()),
+                self.spare,
+                &mut out.content,
+            )?;
+            return Ok(out);
+        }
+        let inside_line = self.is_line_inside(element);
+        self.walk_children(element.node, inside_pre, inside_line, &mut out, links)?;
+        Ok(out)
+    }
+
+    /// Writes the children of a node after what is written so far.
+    #[cycle(walk)]
+    fn walk_children(
+        &self,
+        node: NodeId,
+        inside_pre: bool,
+        inside_line: bool,
+        out: &mut HandlerResult,
+        links: &mut Links,
+    ) -> Result<(), AllocError>
+        requires ready { R.ready self.now.registry.now }
+        requires within { node < length self.now.tree.now }
+        requires inside { inside_pre ≡ pre (inside_of self.now.tree.now node) }
+        requires line { inside_line ≡ known_in_line_inside (R.config self.now.registry.now).options
+            self.now.tree.now node }
+        ensures ok { OnOk result
+            (InNode (conversion_of (R.config self.now.registry.now) self.now.tree.now) node
+            (λ write. output_view out.new links.new ≡ write_groups write (inside_of self.now.tree.now node)
+            (children_at self.now.tree.now node) (output_view out.old links.old))) }
+        ensures err { OnErr result
+            (InNode (conversion_of (R.config self.now.registry.now) self.now.tree.now) node
+            (λ write. Begins links.old links.new
+            (write_groups write (inside_of self.now.tree.now node) (children_at self.now.tree.now node)
+            (output_view out.old links.old)).definitions)) }
+    {
+        let mut trim = trims_first(self.tree, node, inside_pre);
+        let mut rest = self.tree.children(node);
+        let pre_language = language_inside(self.tree, node);
+        while !rest.is_empty() {
+            let child = rest[0];
+            let (group, behind) = rest.split_at(group_length(self.tree, rest));
+            let joined = joined_text(self.alloc, self.tree, group)?;
+            let is_block = is_block(self.tree, child);
+            cut_before_child(out, is_block);
+            let before = out.content.as_str().len();
+            let context = Context {
+                preformatted: inside_pre,
+                trim,
+            };
+            self.walk_node(
+                child,
+                lent(&joined),
+                context,
+                inside_line,
+                pre_language,
+                out,
+                links,
+            )?;
+            trim = trim_after(before, out.content.as_str().len(), is_block, trim);
+            rest = behind;
+        }
+        Ok(())
+    }
+
+    /// A proper descendant of an element, handed over by itself: the one text that it shows, if it shows one.
+    #[inline(never)]
+    #[cycle(walk)]
+    fn walk_descendant(
+        &self,
+        element: &Element,
+        inside_line: bool,
+        below: NodeId,
+        links: &mut Links,
+    ) -> Result<HandlerResult, AllocError>
+        requires ready { R.ready self.now.registry.now }
+        requires line { inside_line ≡ known_in_line_inside (R.config self.now.registry.now).options
+            self.now.tree.now element.now.node }
+        requires behind { element.now.node < below }
+        requires within { below < length self.now.tree.now }
+        ensures ok { NodeGives (R.config self.now.registry.now) self.now.tree.now below
+            (content_below (R.config self.now.registry.now) self.now.tree.now
+            (option_copied element.now.text) below links.old)
+            (λ r. output_view r links.new) result }
+        ensures err { NodeBegins (R.config self.now.registry.now) self.now.tree.now below
+            (λ write. (content_below (R.config self.now.registry.now) self.now.tree.now
+            (option_copied element.now.text) below links.old write).definitions) links.old links.new result }
+    {
+        let Some(text) = element.text else {
+            let is_in_line = self.is_line_below(element.node, inside_line, below);
+            return self.walk_alone(below, is_in_line, links);
+        };
+        let mut out = empty_result(self.alloc, self.spare);
+        let context = Context {
+            preformatted: false,
+            trim: true,
+        };
+        let is_guarded = is_guarded(self.registry.options());
+        append_text(
+            self.alloc,
+            text,
+            false,
+            context,
+            is_guarded,
+            self.spare,
+            &mut out.content,
+        )?;
+        Ok(out)
+    }
+
+    /// The same; what an element gives is remembered, if it may be.
+    #[inline(never)]
+    #[cycle(walk)]
+    fn walk_kept(
+        &self,
+        element: &Element,
+        inside_line: bool,
+        below: NodeId,
+        may_keep: bool,
+        remembered: &mut Vec<Remembered>,
+        links: &mut Links,
+    ) -> Result<HandlerResult, AllocError>
+        requires ready { R.ready self.now.registry.now }
+        requires line { inside_line ≡ known_in_line_inside (R.config self.now.registry.now).options
+            self.now.tree.now element.now.node }
+        requires behind { element.now.node < below }
+        requires within { below < length self.now.tree.now }
+        requires remembered { AreRemembered (R.config self.now.registry.now) self.now.tree.now remembered.old.items }
+        ensures ok { NodeGives (R.config self.now.registry.now) self.now.tree.now below
+            (content_below (R.config self.now.registry.now) self.now.tree.now
+            (option_copied element.now.text) below links.old)
+            (λ r. output_view r links.new) result }
+        ensures remembered { OnOk result
+            (AreRemembered (R.config self.now.registry.now) self.now.tree.now remembered.new.items) }
+        ensures err { NodeBegins (R.config self.now.registry.now) self.now.tree.now below
+            (λ write. (content_below (R.config self.now.registry.now) self.now.tree.now
+            (option_copied element.now.text) below links.old write).definitions) links.old links.new result }
+    {
+        if !may_keep || element.text.is_some() {
+            return self.walk_descendant(element, inside_line, below, links);
+        }
+        let NodeData::Element { name, attrs } = self.tree.data(below) else {
+            return self.walk_descendant(element, inside_line, below, links);
+        };
+        let child = Element {
+            node: below,
+            tag: name.as_str(),
+            attrs: attrs.as_slice(),
+            markdown_translated: true,
+            tree: self.tree,
+            options: self.registry.options(),
+            text: text_shown(self.tree, below, None),
+            is_in_line: self.is_line_below(element.node, inside_line, below),
+            pre_language: language_above(self.tree, below),
+        };
+        let is_inside_pre = is_inside_pre(self.tree, below);
+        let inside_pre = is_inside_pre || is_pre_or_code(self.tree, below);
+        let before = links.lines.len();
+        let given = self.walk_element(&child, inside_pre, links)?;
+        let adds_none = links.lines.len() == before;
+        self.keep(below, given, adds_none, is_inside_pre, remembered)
+    }
+
+    /// The content of a node that is handed over by itself.
+    #[cycle(walk)]
+    pub(crate) fn walk_alone(
+        &self,
+        node: NodeId,
+        is_in_line: bool,
+        links: &mut Links,
+    ) -> Result<HandlerResult, AllocError>
+        requires ready { R.ready self.now.registry.now }
+        requires within { node < length self.now.tree.now }
+        requires line { is_in_line ≡ known_in_line (R.config self.now.registry.now).options self.now.tree.now node }
+        ensures ok { NodeGives (R.config self.now.registry.now) self.now.tree.now node
+            (λ write. content_alone write (conversion_of (R.config self.now.registry.now) self.now.tree.now)
+            (tree_of self.now.tree.now node) node links.old) (λ r. output_view r links.new) result }
+        ensures err { NodeBegins (R.config self.now.registry.now) self.now.tree.now node
+            (λ write. (content_alone write (conversion_of (R.config self.now.registry.now) self.now.tree.now)
+            (tree_of self.now.tree.now node) node links.old).definitions) links.old links.new result }
+    {
+        let mut out = empty_result(self.alloc, self.spare);
+        // A text that is handed over by itself is ordinary.
+        let context = Context {
+            preformatted: !is_text(self.tree, node) && is_inside_pre(self.tree, node),
+            trim: true,
+        };
+        let pre_language = language_above(self.tree, node);
+        self.walk_node(
+            node,
+            None,
+            context,
+            is_in_line,
+            pre_language,
+            &mut out,
+            links,
+        )?;
+        Ok(out)
+    }
+
+    /// Writes a node, or the group with this joined text that begins at it, after what is written so far.
+    #[cycle(walk)]
+    fn walk_node(
+        &self,
+        node: NodeId,
+        joined: Option<&str>,
+        context: Context,
+        is_in_line: bool,
+        pre_language: Option<&str>,
+        out: &mut HandlerResult,
+        links: &mut Links,
+    ) -> Result<(), AllocError>
+        requires ready { R.ready self.now.registry.now }
+        requires within { node < length self.now.tree.now }
+        requires group { IfSome joined (λ _. IsSome (only_text (children_at self.now.tree.now node))) }
+        requires line { is_in_line ≡ known_in_line (R.config self.now.registry.now).options self.now.tree.now node }
+        requires language { option_copied pre_language
+            ≡ language_of_pre self.now.tree.now (parent_at self.now.tree.now node) }
+        requires context { is_text (data_at self.now.tree.now node) ≡ false
+            → context.preformatted ≡ pre (ancestors_of self.now.tree.now node) }
+        ensures ok { let tree = group_tree (option_copied joined.entry) (tree_of self.now.tree.now node) in
+            let context = context_of (ancestors_of self.now.tree.now node) context.preformatted context.trim in
+            OnOk result (AtNode (conversion_of (R.config self.now.registry.now) self.now.tree.now) node (λ write.
+            output_view out.new links.new ≡ write tree context (output_view out.old links.old))) }
+        ensures err { let tree = group_tree (option_copied joined.entry) (tree_of self.now.tree.now node) in
+            let context = context_of (ancestors_of self.now.tree.now node) context.preformatted context.trim in
+            OnErr result (AtNode (conversion_of (R.config self.now.registry.now) self.now.tree.now) node (λ write.
+            Begins links.old links.new (write tree context (output_view out.old links.old)).definitions)) }
+    {
+        match self.tree.data(node) {
+            NodeData::Document => {
+                let markdown_translated = out.markdown_translated;
+                self.walk_children(node, context.preformatted, is_in_line, out, links)?;
+                trim_end_document_white_space(&mut out.content);
+                out.markdown_translated = markdown_translated;
+                Ok(())
+            }
+            NodeData::Doctype => Ok(()),
+            NodeData::Comment(text) => {
+                if is_markdown_alone(self.registry.options()) {
+                    return Ok(());
+                }
+                push_comment(&mut out.content, text.as_str())
+            }
+            NodeData::Text(text) => {
+                let in_pre = is_parent_pre(self.tree, node);
+                let is_guarded = is_guarded(self.registry.options());
+                let text = text.as_str();
+                append_text(
+                    self.alloc,
+                    text,
+                    in_pre,
+                    context,
+                    is_guarded,
+                    self.spare,
+                    &mut out.content,
+                )
+            }
+            NodeData::Element { name, attrs } => {
+                let is_guarded = is_guarded(self.registry.options());
+                if let Some(known) = self.recall(node, joined) {
+                    return append_copy(
+                        self.alloc,
+                        out,
+                        &known.result,
+                        context.preformatted,
+                        is_guarded,
+                        self.spare,
+                    );
+                }
+                let inside_pre = context.preformatted || is_pre_or_code(self.tree, node);
+                let element = Element {
+                    node,
+                    tag: name.as_str(),
+                    attrs: attrs.as_slice(),
+                    markdown_translated: true,
+                    tree: self.tree,
+                    options: self.registry.options(),
+                    text: text_shown(self.tree, node, joined),
+                    is_in_line,
+                    pre_language,
+                };
+                let given = self.walk_element(&element, inside_pre, links)?;
+                append_result(
+                    out,
+                    given,
+                    context.preformatted,
+                    is_guarded,
+                    self.alloc,
+                    self.spare,
+                )
+            }
+        }
+    }
+}
+
+/// The Markdown of a node that is handed over by itself, by the handlers of this registry. `Err` means out of memory.
+/// The registry and the tree are never changed.
+pub fn tree_to_markdown<R: Registry>(
+    registry: &R,
+    alloc: Global,
+    tree: &Tree,
+    node: NodeId,
+) -> Result<String, AllocError>
+    requires ready { R.ready registry.now }
+    requires within { node < length tree.now }
+    ensures { IfOk result (λ text. string_bytes text ≡ markdown (R.config registry.now) tree.now node) }
+{
+    let spare = SpareTexts::new(alloc);
+    let walk = Walk::new(registry, alloc, tree, &spare);
+    let mut links = Links::new(alloc);
+    let is_in_line = is_known_in_line(registry.options(), tree, node);
+    let mut markdown = walk.walk_alone(node, is_in_line, &mut links)?.content;
+    trim_newlines(&mut markdown);
+    let mut appended = registry.append(alloc, &links)?;
+    trim_end_line_feeds(&mut appended);
+    markdown.push_str(appended.as_str())?;
+    Ok(markdown)
+}
+
+/// What the handlers of an element's tag make of it, from the one after this many newer ones on.
+pub(crate) fn handle_element<R: Registry>(
+    registry: &R,
+    alloc: Global,
+    tree: &Tree,
+    node: NodeId,
+    markdown_translated: bool,
+    skipped: usize,
+    links: &mut Links,
+) -> Result<Option<HandlerResult>, AllocError>
+    requires ready { R.ready registry.now }
+    requires within { node < length tree.now }
+    requires element { IsElement (data_at tree.now node) }
+    ensures ok { let answer = handled (R.config registry.now) tree.now node markdown_translated skipped links.old in
+        IfOk result (λ r. answer_view r links.new ≡ answer) }
+    ensures err { let answer = handled (R.config registry.now) tree.now node markdown_translated skipped links.old in
+        OnErr result (Begins links.old links.new answer.definitions) }
+{
+    let NodeData::Element { name, attrs } = tree.data(node) else {
+        unreachable!();
+    };
+    let element = Element {
+        node,
+        tag: name.as_str(),
+        attrs: attrs.as_slice(),
+        markdown_translated,
+        tree,
+        options: registry.options(),
+        text: text_shown(tree, node, None),
+        is_in_line: is_known_in_line(registry.options(), tree, node),
+        pre_language: language_above(tree, node),
+    };
+    let inside_pre = is_inside_pre(tree, node) || is_pre_or_code(tree, node);
+    let spare = SpareTexts::new(alloc);
+    let walk = Walk::new(registry, alloc, tree, &spare);
+    walk.handle(&element, inside_pre, skipped, links)
+}

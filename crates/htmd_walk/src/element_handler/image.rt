@@ -1,0 +1,31 @@
+//! The handler of `img`.
+
+ghost use Rattle.std.specs.Prelude.{◌≡◌, IfOk};
+ghost use Rattle.htmd_walk.specs.Images.{images};
+ghost use Rattle.htmd_walk.specs.Views.{plan_view, element_view};
+
+use super::link_attributes::{is_raw_unless_among, last_value};
+use super::plans::is_guarded;
+use super::{Element, HandlerResult, Plan};
+use htmd_markdown::{write_guarded_image, write_image};
+use std::alloc::{AllocError, Global};
+
+/// An image, or nothing if there is no address, unless the element has attributes that Markdown has no form for.
+pub(crate) fn plan(alloc: Global, element: &Element) -> Result<Plan, AllocError>
+    ensures { IfOk result (λ p. plan_view p ≡ images.plan (element_view element.now)) }
+{
+    if is_raw_unless_among(element, ["href", "src", "alt", "title"].as_slice()) {
+        return Ok(Plan::RawHtml);
+    }
+    let Some(address) = last_value(element.attrs, ["href", "src"].as_slice()) else {
+        return Ok(Plan::Skip);
+    };
+    let alt = last_value(element.attrs, ["alt"].as_slice());
+    let title = last_value(element.attrs, ["title"].as_slice());
+    let image = if is_guarded(element.options) {
+        write_guarded_image(alloc, address, alt, title)?
+    } else {
+        write_image(alloc, address, alt, title)?
+    };
+    Ok(Plan::Text(HandlerResult::from_string(image)))
+}

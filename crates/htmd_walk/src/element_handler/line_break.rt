@@ -1,0 +1,26 @@
+//! The handler of `br`.
+
+ghost use Rattle.std.specs.Prelude.{◌≡◌, IfOk};
+ghost use Rattle.htmd_walk.specs.LineBreaks.{line_breaks};
+ghost use Rattle.htmd_walk.specs.Views.{plan_view, element_view};
+
+use super::plans::{is_guarded, is_plain};
+use super::{Element, HandlerResult, Plan};
+use htmd_markdown::{BrStyle, write_line_break};
+use std::alloc::{AllocError, Global};
+
+/// A hard line break, unless the element has attributes that Markdown has no form for.
+pub(crate) fn plan(alloc: Global, element: &Element) -> Result<Plan, AllocError>
+    ensures { IfOk result (λ p. plan_view p ≡ line_breaks.plan (element_view element.now)) }
+{
+    if !is_plain(element) {
+        return Ok(Plan::RawHtml);
+    }
+    let style = if is_guarded(element.options) {
+        BrStyle::TwoSpaces
+    } else {
+        element.options.br_style
+    };
+    let text = write_line_break(alloc, style)?;
+    Ok(Plan::Text(HandlerResult::from_string(text)))
+}

@@ -1,0 +1,106 @@
+//! What is asked of a node of a tree.
+
+ghost use Rattle.std.specs.Prelude.{◌≡◌, ◌<◌, ◌||◌, length};
+ghost use Rattle.std.specs.Option.{option_copied};
+ghost use Rattle.htmd_tree.specs.Items.{data_at, IsTree};
+ghost use Rattle.htmd_tree.specs.NumberedTrees.{tree_of};
+ghost use Rattle.htmd_tree.specs.Ancestors.{ancestor_of, ancestors_of};
+ghost use Rattle.htmd_walk.specs.OrdinaryText.{is_pre_or_code, pre, parent_is_pre};
+ghost use Rattle.htmd_walk.specs.Groups.{only_text, children_at};
+ghost use Rattle.htmd_walk.specs.Children.{is_block_tree, trims_first};
+ghost use Rattle.htmd_walk.specs.Rendering.{is_text, inside_of};
+
+use htmd_text::is_block_element;
+use htmd_tree::{NodeData, NodeId, Tree};
+
+/// Whether a node is `pre` or `code`.
+pub(crate) fn is_pre_or_code(tree: &Tree, node: NodeId) -> bool
+    requires { node < length tree.now }
+    ensures { result ≡ is_pre_or_code (ancestor_of (data_at tree.now node)) }
+{
+    match tree.data(node) {
+        NodeData::Element { name, .. } => name.as_str() == "pre" || name.as_str() == "code",
+        _ => false,
+    }
+}
+
+/// Whether an ancestor is `pre` or `code`.
+pub(crate) fn is_inside_pre(tree: &Tree, node: NodeId) -> bool
+    requires { node < length tree.now }
+    ensures { result ≡ pre (ancestors_of tree.now node) }
+{
+    let mut at = node;
+    while let Some(parent) = tree.parent(at) {
+        if is_pre_or_code(tree, parent) {
+            return true;
+        }
+        at = parent;
+    }
+    false
+}
+
+/// Whether the parent is `pre`.
+pub(crate) fn is_parent_pre(tree: &Tree, node: NodeId) -> bool
+    requires { node < length tree.now }
+    ensures { result ≡ parent_is_pre (ancestors_of tree.now node) }
+{
+    let Some(parent) = tree.parent(node) else {
+        return false;
+    };
+    match tree.data(parent) {
+        NodeData::Element { name, .. } => name.as_str() == "pre",
+        _ => false,
+    }
+}
+
+/// Whether a node is a block element.
+pub(crate) fn is_block(tree: &Tree, node: NodeId) -> bool
+    requires { node < length tree.now }
+    ensures { result ≡ is_block_tree (tree_of tree.now node) }
+{
+    match tree.data(node) {
+        NodeData::Element { name, .. } => is_block_element(name.as_str()),
+        _ => false,
+    }
+}
+
+/// Whether the space at the start of a node's content is dropped.
+pub(crate) fn trims_first(tree: &Tree, node: NodeId, inside_pre: bool) -> bool
+    requires within { node < length tree.now }
+    requires inside { inside_pre ≡ pre (inside_of tree.now node) }
+    ensures { result ≡ trims_first (inside_of tree.now node) }
+{
+    if inside_pre {
+        return false;
+    }
+    match tree.tag_name(node) {
+        Some(tag) => is_block_element(tag),
+        None => false,
+    }
+}
+
+/// Whether a node is a text.
+pub(crate) fn is_text(tree: &Tree, node: NodeId) -> bool
+    requires { node < length tree.now }
+    ensures value { result ≡ is_text (data_at tree.now node) }
+    ensures tree { IsTree tree.now }
+{
+    matches!(tree.data(node), NodeData::Text(_))
+}
+
+/// The text of the only child.
+pub(crate) fn only_text(tree: &Tree, node: NodeId) -> Option<&str>
+    requires { node < length tree.now }
+    ensures value { option_copied result ≡ only_text (children_at tree.now node) }
+    ensures tree { IsTree tree.now }
+{
+    let children = tree.children(node);
+    if children.len() != 1 {
+        return None;
+    }
+    let child = children[0];
+    match tree.data(child) {
+        NodeData::Text(text) => Some(text.as_str()),
+        _ => None,
+    }
+}

@@ -1,0 +1,243 @@
+//! How the text of a text node is appended to a text.
+
+ghost use Rattle.std.specs.Prelude.{◌≡◌, ◌++◌, Bool, false, IsTrue, OnOk, if◌then◌else◌, string_bytes};
+ghost use Rattle.std.specs.Result.{is_ok};
+ghost use Rattle.htmd_text.specs.EscapeMarks.{escaped_markdown};
+ghost use Rattle.htmd_text.specs.WhiteSpace.{squeezed_text};
+ghost use Rattle.htmd_text.specs.Characters.{asterisk};
+ghost use Rattle.htmd_markdown.specs.CodeSpans.{ends_with};
+ghost use Rattle.htmd_markdown.specs.GuardedText.{guarded_text};
+ghost use Rattle.htmd_markdown.specs.Joints.{with_joint};
+ghost use Rattle.htmd_walk.specs.OrdinaryText as spec;
+ghost use Rattle.htmd_walk.specs.PlainTexts.{is_plain_byte, stays_plain, may_begin, begins_plain};
+
+use crate::spare_texts::SpareTexts;
+use htmd_markdown::{begins_line, mend_joint, push_guarded_text};
+use htmd_text::runs::{leading_len, trailing_len};
+use htmd_text::{escape_if_needed, escape_pre_text_if_needed, is_squeezed, push_squeezed};
+use std::alloc::{AllocError, Global};
+
+/// Where a text is written: as preformatted text or not, with this trim flag.
+#[derive(Clone, Copy)]
+pub(crate) struct Context {
+    pub(crate) preformatted: bool,
+    pub(crate) trim: bool,
+}
+
+/// A text without the space at its start, if that is to go.
+fn without_first_space(text: &str, goes: bool) -> &str
+    ensures { result.now ≡ spec.without_first_space goes text.now }
+{
+    if goes && leading_len(text.as_bytes(), b' ') > 0 {
+        return &text[1..];
+    }
+    text
+}
+
+/// Whether the byte stands for itself wherever it stands.
+fn is_plain_byte(byte: u8) -> bool
+    ensures { result ≡ is_plain_byte byte }
+{
+    // Most bytes are letters in lower case, which are greater than each of the marks.
+    byte > b'`' || byte > b' ' && !matches!(byte, b'\\' | b'*' | b'_' | b'`' | b'[' | b']' | b'<')
+}
+
+/// Whether each byte stands for itself or is a single space. All bytes are looked at, so that a processor can compare
+/// many at once.
+fn stays_plain(bytes: &[u8]) -> bool
+    ensures { result ≡ stays_plain false bytes.now }
+{
+    let mut plain = true;
+    let mut after_space = false;
+    for b in bytes {
+        let space = *b == b' ';
+        plain &= is_plain_byte(*b) | (!after_space & space);
+        after_space = space;
+    }
+    plain
+}
+
+/// Whether the byte may get a backslash only at the start of a text.
+fn may_begin(byte: u8) -> bool
+    ensures { result ≡ may_begin byte }
+{
+    matches!(byte, b'=' | b'~' | b'>' | b'-' | b'+' | b'#' | b'0'..=b'9')
+}
+
+/// Whether neither the text nor what follows a space at its start begins with such a byte.
+fn begins_plain(bytes: &[u8]) -> bool
+    ensures { result ≡ begins_plain bytes.now }
+{
+    match bytes {
+        [b' ', b, ..] => !may_begin(*b),
+        [b, ..] => !may_begin(*b),
+        [] => true,
+    }
+}
+
+/// Whether a text is written as it is, with the space at its start or without it.
+fn is_plain(text: &str) -> bool
+    ensures { IsTrue result → (goes : Bool)
+        → escaped_markdown (spec.without_first_space goes (squeezed_text text.now))
+        ≡ spec.without_first_space goes text.now }
+{
+    begins_plain(text.as_bytes()) && stays_plain(text.as_bytes())
+}
+
+/// The least room that is made in an empty text: 64 bytes with what malloc adds.
+const ROOM: usize = 56;
+
+/// Makes room in an empty text for this one and for more after it, so that it seldom grows.
+fn make_room(out: &mut String, text: &str) -> Result<(), AllocError>
+    ensures { string_bytes out.new ≡ string_bytes out.old }
+{
+    if out.is_empty() {
+        out.reserve(text.len().max(ROOM))?;
+    }
+    Ok(())
+}
+
+/// Appends a text to another, with room for more.
+fn push_with_room(out: &mut String, text: &str) -> Result<(), AllocError>
+    ensures bytes { string_bytes out.new
+        ≡ (if is_ok result then string_bytes out.old ++ text.now else string_bytes out.old) }
+{
+    make_room(out, text)?;
+    out.push_str(text)
+}
+
+/// Appends a text to another as Guarded does, with room for more.
+fn push_guarded_with_room(out: &mut String, text: &str, begins_line: bool) -> Result<(), AllocError>
+    ensures { OnOk result
+        (string_bytes out.new ≡ string_bytes out.old ++ guarded_text begins_line text.now) }
+{
+    make_room(out, text)?;
+    push_guarded_text(out, text, begins_line)
+}
+
+/// Appends a text to another with a backslash before each place that would be read as markup, with room for more.
+fn push_escaped(alloc: Global, out: &mut String, text: &str) -> Result<(), AllocError>
+    ensures { OnOk result
+        (string_bytes out.new ≡ string_bytes out.old ++ escaped_markdown text.now) }
+{
+    let escaped = escape_if_needed(alloc, text)?;
+    push_with_room(out, escaped.as_str())
+}
+
+/// Appends the text squeezed, without its first space where a space is not wanted, and escaped.
+fn append_ordinary(
+    alloc: Global,
+    out: &mut String,
+    text: &str,
+    trim: bool,
+    spare: &SpareTexts,
+) -> Result<(), AllocError>
+    ensures { OnOk result (string_bytes out.new
+        ≡ string_bytes out.old ++ spec.ordinary_text trim (string_bytes out.old) text.now) }
+{
+    let goes = trim || trailing_len(out.as_bytes(), b' ') > 0;
+    if is_plain(text) {
+        return push_with_room(out, without_first_space(text, goes));
+    }
+    if is_squeezed(text) {
+        return push_escaped(alloc, out, without_first_space(text, goes));
+    }
+    let mut squeezed = spare.take(alloc);
+    push_squeezed(&mut squeezed, text)?;
+    push_escaped(alloc, out, without_first_space(squeezed.as_str(), goes))?;
+    spare.keep(alloc, squeezed);
+    Ok(())
+}
+
+/// Appends the text as it is, but so that it opens no fence if the parent is `pre`.
+fn append_preformatted(
+    alloc: Global,
+    out: &mut String,
+    text: &str,
+    in_pre: bool,
+) -> Result<(), AllocError>
+    ensures { OnOk result
+        (string_bytes out.new ≡ string_bytes out.old ++ spec.preformatted_text in_pre text.now) }
+{
+    if !in_pre {
+        return out.push_str(text);
+    }
+    let escaped = escape_pre_text_if_needed(alloc, text)?;
+    out.push_str(escaped.as_str())
+}
+
+/// Whether the text ends with `*`.
+fn ends_with_asterisk(text: &str) -> bool
+    ensures { result ≡ ends_with asterisk text.now }
+{
+    text.ends_with('*')
+}
+
+/// Appends a text to another as Guarded does, and mends both where they meet; there is only something to mend after a
+/// `*`.
+fn push_guarded(
+    alloc: Global,
+    out: &mut String,
+    text: &str,
+    begins_line: bool,
+    spare: &SpareTexts,
+) -> Result<(), AllocError>
+    ensures { OnOk result (string_bytes out.new
+        ≡ with_joint (string_bytes out.old) (guarded_text begins_line text.now)) }
+{
+    if !ends_with_asterisk(out) {
+        return push_guarded_with_room(out, text, begins_line);
+    }
+    let mut written = spare.take(alloc);
+    push_guarded_text(&mut written, text, begins_line)?;
+    mend_joint(out, &mut written)?;
+    out.push_str(written.as_str())?;
+    spare.keep(alloc, written);
+    Ok(())
+}
+
+/// Appends the text squeezed, without its first space where a space is not wanted, and escaped as Guarded does.
+fn append_guarded(
+    alloc: Global,
+    out: &mut String,
+    text: &str,
+    trim: bool,
+    spare: &SpareTexts,
+) -> Result<(), AllocError>
+    ensures { OnOk result (string_bytes out.new
+        ≡ with_joint (string_bytes out.old) (spec.guarded_ordinary_text trim (string_bytes out.old) text.now)) }
+{
+    let goes = trim || trailing_len(out.as_bytes(), b' ') > 0;
+    let begins = begins_line(out.as_str());
+    if is_squeezed(text) {
+        return push_guarded(alloc, out, without_first_space(text, goes), begins, spare);
+    }
+    let mut squeezed = spare.take(alloc);
+    push_squeezed(&mut squeezed, text)?;
+    let shown = without_first_space(squeezed.as_str(), goes);
+    push_guarded(alloc, out, shown, begins, spare)?;
+    spare.keep(alloc, squeezed);
+    Ok(())
+}
+
+/// Appends the text of a text node to what is written so far.
+pub(crate) fn append_text(
+    alloc: Global,
+    text: &str,
+    in_pre: bool,
+    context: Context,
+    is_guarded: bool,
+    spare: &SpareTexts,
+    out: &mut String,
+) -> Result<(), AllocError>
+    ensures { OnOk result (string_bytes out.new ≡ spec.with_written_text is_guarded context.preformatted in_pre
+        context.trim (string_bytes out.old) text.now) }
+{
+    if is_guarded {
+        return append_guarded(alloc, out, text, context.trim, spare);
+    }
+    if context.preformatted {
+        return append_preformatted(alloc, out, text, in_pre);
+    }
+    append_ordinary(alloc, out, text, context.trim, spare)
+}
