@@ -1,7 +1,6 @@
 //! The texts of errors, as they are displayed and for debugging.
 use htmd::options::Options;
 use htmd::{Attribute, ConvertError, FaultKind, ReadError, Tree, TreeError};
-use htmd_cli::{Failed, Mode, RunError};
 use std::test::Fail;
 
 #[test]
@@ -61,36 +60,12 @@ fn tells_errors_of_reading(rt: HostRuntime) -> Result<(), Fail> {
         let error = ConvertError::from(error);
         assert_eq!(rt; format!(in rt.alloc(); "{error}")?.as_str(), text);
         assert_eq!(rt; format!(in rt.alloc(); "{error:?}")?.as_str(), debug);
-        let error = RunError::from(error);
-        assert_eq!(rt; format!(in rt.alloc(); "{error}")?.as_str(), text);
-        assert_eq!(rt; format!(in rt.alloc(); "{error:?}")?.as_str(), debug);
-    }
-    Ok(())
-}
-
-#[test]
-fn tells_errors_of_runs(rt: HostRuntime) -> Result<(), Fail> {
-    for (error, text, debug) in [
-        (RunError::NotUtf8, "not UTF-8", "NotUtf8"),
-        (RunError::Memory, "out of memory", "Memory"),
-        (RunError::Read, "read failed", "Read"),
-        (RunError::Write, "write failed", "Write"),
-    ] {
-        assert_eq!(rt; format!(in rt.alloc(); "{error}")?.as_str(), text);
-        assert_eq!(rt; format!(in rt.alloc(); "{error:?}")?.as_str(), debug);
     }
     Ok(())
 }
 
 #[test]
 fn tells_values(rt: HostRuntime) -> Result<(), Fail> {
-    assert_eq!(rt; format!(in rt.alloc(); "{Failed:?}")?.as_str(), "Failed");
-    let mode = Mode {
-        text: true,
-        faithful: false,
-    };
-    let debug = "Mode { text: true, faithful: false }";
-    assert_eq!(rt; format!(in rt.alloc(); "{mode:?}")?.as_str(), debug);
     let root = Tree::new(rt.alloc())?.root();
     let debug = "NodeId { index: 0 }";
     assert_eq!(rt; format!(in rt.alloc(); "{root:?}")?.as_str(), debug);

@@ -6,7 +6,7 @@ use crate::handlers::{FirstChild, PassesOn};
 use htmd::element_handler::ElementHandler;
 use htmd::options::{Options, TranslationMode};
 use htmd::{ConvertError, FaultKind, HtmlToMarkdown, Tree};
-use std::alloc::Global;
+use std::alloc::{AllocError, Global};
 use std::test::Fail;
 
 // What a page gives or how it is refused, at a second try if need be.
@@ -22,6 +22,14 @@ fn asked_tree(alloc: Global, converter: &HtmlToMarkdown, html: &str) -> Result<T
     match converter.html_to_tree(alloc, html) {
         Err(ConvertError::Memory) => converter.html_to_tree(alloc, html),
         answer => answer,
+    }
+}
+
+// The Markdown of any page as browsers read it, at a second try if need be.
+fn asked_any(alloc: Global, converter: &HtmlToMarkdown, html: &str) -> Result<String, AllocError> {
+    match converter.convert_html5(alloc, html) {
+        Ok(markdown) => Ok(markdown),
+        Err(_) => converter.convert_html5(alloc, html),
     }
 }
 
@@ -158,5 +166,18 @@ fn refuses_an_open_element(rt: HostRuntime) -> Result<(), Fail> {
         Ok(_) => return Err(Fail::from("an element is open")),
         Err(error) => assert_eq!(rt; error, refused),
     }
+    Ok(())
+}
+
+// A page with end tags left out, as browsers read it.
+#[test]
+fn converts_a_broken_page(rt: HostRuntime) -> Result<(), Fail> {
+    let converter = match HtmlToMarkdown::new(rt.alloc()) {
+        Ok(converter) => converter,
+        Err(_) => HtmlToMarkdown::new(rt.alloc())?,
+    };
+    let html = "<ul><li>a<li>b</ul><p>x<b>y<p>z";
+    let markdown = asked_any(rt.alloc(), &converter, html)?;
+    assert_eq!(rt; markdown.as_str(), "*   a\n*   b\n\nx**y**\n\n**z**");
     Ok(())
 }

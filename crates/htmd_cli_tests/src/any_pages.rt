@@ -1,35 +1,11 @@
-//! Any page as browsers read it: by the converter, by the program in each encoding, and in rows. Pages whose answer is
-//! a text are the family `html5` of `htmd_cases`.
+//! Any page as browsers read it, by the program: in each encoding, and in rows. Pages whose answer is a text are the
+//! family `html5` of `htmd_cases`.
 use crate::calls::{called, strings};
 use crate::doubles::{Dripping, Narrow};
-use htmd::HtmlToMarkdown;
 use htmd_cli::{Sink, Source, command};
-use std::alloc::{AllocError, Global};
 use std::test::Fail;
 
 const PAGE: &str = "<ul><li>a<li>b</ul><p>x<b>y<p>z";
-
-const MARKDOWN: &str = "*   a\n*   b\n\nx**y**\n\n**z**";
-
-// The Markdown of any page, at a second try if need be.
-fn asked(alloc: Global, converter: &HtmlToMarkdown, html: &str) -> Result<String, AllocError> {
-    match converter.convert_html5(alloc, html) {
-        Ok(markdown) => Ok(markdown),
-        Err(_) => converter.convert_html5(alloc, html),
-    }
-}
-
-// `checks/refused_memory`, a part of the gate, refuses each request of this test in turn; it passes whichever it is.
-#[test]
-fn converts_a_broken_page(rt: HostRuntime) -> Result<(), Fail> {
-    let converter = match HtmlToMarkdown::new(rt.alloc()) {
-        Ok(converter) => converter,
-        Err(_) => HtmlToMarkdown::new(rt.alloc())?,
-    };
-    let markdown = asked(rt.alloc(), &converter, PAGE)?;
-    assert_eq!(rt; markdown.as_str(), MARKDOWN);
-    Ok(())
-}
 
 // UTF-8, with its mark and without, UTF-16 in both orders, and windows-1252.
 #[test]

@@ -1,6 +1,5 @@
 //! Pages that are cut short, or lack a character or a byte.
-use crate::builders::referenced;
-use htmd::options::{Options, TranslationMode};
+use htmd::options::{LinkStyle, Options, TranslationMode};
 use htmd::{ConvertError, HtmlToMarkdown};
 use htmd_cli::{Input, Mode, Output, RunError, run};
 use std::alloc::Global;
@@ -70,8 +69,9 @@ fn answers_beginnings(rt: HostRuntime) -> Result<(), Fail> {
 #[test]
 fn answers_lacks(rt: HostRuntime) -> Result<(), Fail> {
     let options = Options {
+        link_style: LinkStyle::Referenced,
         translation_mode: TranslationMode::Faithful,
-        ..referenced()
+        ..Options::default()
     };
     let builder = HtmlToMarkdown::builder(rt.alloc())?.options(options);
     let converter = builder.scripting_enabled(false).build();
