@@ -106,8 +106,8 @@ fn answers_rows(rt: HostRuntime) -> Result<(), Fail> {
             "--explain",
             b"<p>\n",
             "\\N\n",
-            "htmd: row 1: refused at byte 3: Unclosed\nline 1, column 4: the input ends here, and an element is open; \
-its end tag is wanted.\n<p>\n   ^\n",
+            "htmd: row 1: refused at byte 3: Unclosed\nline 1, column 4: the input ends here, and an element is still \
+open; write its end tag.\n<p>\n   ^\n",
         ),
     ];
     for (lines, stdin, stdout, stderr) in table {

@@ -1,11 +1,11 @@
 //! The texts of errors of runs, as they are displayed and for debugging.
-use htmd::{FaultKind, ReadError};
+use htmd::{ConvertError, FaultKind};
 use htmd_cli::{Failed, Mode, RunError};
 use std::test::Fail;
 
 #[test]
 fn tells_errors_of_runs(rt: HostRuntime) -> Result<(), Fail> {
-    let refused = ReadError::Refused {
+    let refused = ConvertError::Refused {
         place: 5,
         kind: FaultKind::StrayText,
     };
@@ -15,7 +15,11 @@ fn tells_errors_of_runs(rt: HostRuntime) -> Result<(), Fail> {
             "refused at byte 5: StrayText",
             "Refused { place: 5, kind: StrayText }",
         ),
-        (RunError::from(ReadError::Memory), "out of memory", "Memory"),
+        (
+            RunError::from(ConvertError::Memory),
+            "out of memory",
+            "Memory",
+        ),
         (RunError::NotUtf8, "not UTF-8", "NotUtf8"),
         (RunError::Memory, "out of memory", "Memory"),
         (RunError::Read, "read failed", "Read"),
