@@ -3,7 +3,7 @@ use Rattle.std.proofs.Common.{◌≡◌, refl, true, false, codes}
 use lib.Utf8.{encode}
 use Rattle.std.specs.Str.{chars}
 use Rattle.unicode.proofs.CategoryComputing.{ucd_category}
-use Rattle.htmd_text.specs.Characters.{right_parenthesis, right_square_bracket, greater_than_sign}
+use Rattle.htmd_text.specs.Characters.{right_parenthesis, right_square_bracket, greater_than_sign, grave_accent}
 use Rattle.htmd_markdown.specs.Joints.{closes_link, with_joint}
 
 pub runs_go : with_joint (codes "*a*") (codes "*b*") ≡ codes "*ab*"
@@ -63,6 +63,20 @@ escaped_sign = refl
 pub arrow_after_an_autolink : closes_link (codes "<http://a> -") greater_than_sign ≡ false
 arrow_after_an_autolink = refl
 
+-- ---- a backquote after a backslash
+
+pub code_closed : closes_link (codes "a `*\\") grave_accent ≡ true
+code_closed = refl
+
+pub backquote_of_the_text : closes_link (codes "a\\") grave_accent ≡ false
+backquote_of_the_text = refl
+
+pub second_backquote_of_the_text : closes_link (codes "`a` \\`b\\") grave_accent ≡ false
+second_backquote_of_the_text = refl
+
+pub code_on_the_line_before : closes_link (codes "`a`\nb\\") grave_accent ≡ false
+code_on_the_line_before = refl
+
 -- ---- signs before marks of emphasis that a word follows
 
 pub parenthesis_moves : with_joint (codes "**(a)**") (codes "b") ≡ codes "**(a**)b"
@@ -88,3 +102,11 @@ reference_stays = refl
 pub autolink_stays : with_joint (codes "*<http://a*>*") (codes "b") ≡ codes "*<http://a*>* b"
 unfolding chars encode ucd_category
 autolink_stays = refl
+
+pub code_stays : with_joint (codes "*?`*\\`*") (codes "a") ≡ codes "*?`*\\`* a"
+unfolding chars encode ucd_category
+code_stays = refl
+
+pub backquote_moves : with_joint (codes "*a\\`*") (codes "b") ≡ codes "*a*\\`b"
+unfolding chars encode ucd_category
+backquote_moves = refl

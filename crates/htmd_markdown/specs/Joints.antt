@@ -105,12 +105,30 @@ ends_address s =
 abbrev pub ends_autolink : List ℕ → Bool
 ends_autolink s = ends_bare (codes "<") (up_to (codes "<> \n") s)
 
--- the sign after this text closes a link, an image, a reference or an autolink, and is none of the page's text
+-- of the first so many bytes those up to the last backquote or line feed, escaped or not
+abbrev pub up_to_backquote_of : List ℕ → ℕ → List ℕ
+up_to_backquote_of s zero = []
+up_to_backquote_of s (suc n) =
+    if is_one_of (codes "`\n") (slice_index s n) then take (suc n) s else up_to_backquote_of s n
+
+-- the same of all of them
+abbrev pub up_to_backquote : List ℕ → List ℕ
+up_to_backquote s = up_to_backquote_of s (length s)
+
+-- A backquote after this text may close code, in which a backslash escapes nothing (CommonMark 0.31.2, 6.1): the last
+-- backquote of its line is not escaped.
+abbrev pub may_end_code : List ℕ → Bool
+may_end_code s = ends_bare (codes "`") (up_to_backquote s)
+
+-- The sign after this text closes a link, an image, a reference, an autolink or a formula, or may close code, and is
+-- none of the page's text.
 abbrev pub closes_link : List ℕ → ℕ → Bool
 closes_link before c =
     ((c == right_square_bracket) && not (escapes_next before))
     || ((c == right_parenthesis) && not (escapes_next before) && ends_address before)
     || ((c == greater_than_sign) && ends_autolink before)
+    || ((c == grave_accent) && may_end_code before)
+    || is_one_of (codes "$") c
 
 -- ---- plain signs
 

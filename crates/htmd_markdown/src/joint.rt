@@ -162,7 +162,19 @@ fn ends_autolink(text: &[u8]) -> bool
     ends_bare(up_to(text, b"<> \n"), b"<")
 }
 
-/// Whether the character after the text closes a link, an image, a reference or an autolink.
+/// The text up to its last backquote or line feed, escaped or not.
+fn up_to_backquote(text: &[u8]) -> &[u8]
+    ensures { result.now ≡ spec.up_to_backquote text.now }
+{
+    let mut end = text.len();
+    while end > 0 && !is_one_of(text[end - 1], b"`\n") {
+        end -= 1;
+    }
+    &text[..end]
+}
+
+/// Whether the character after the text closes a link, an image, a reference, an autolink or a formula, or may close
+/// code, in which a backslash escapes nothing.
 fn closes_link(c: char, before: &[u8]) -> bool
     ensures { result ≡ spec.closes_link before.now c }
 {
@@ -170,6 +182,8 @@ fn closes_link(c: char, before: &[u8]) -> bool
         ']' => !escapes_next(before),
         ')' => !escapes_next(before) && ends_address(before),
         '>' => ends_autolink(before),
+        '`' => ends_bare(up_to_backquote(before), b"`"),
+        '$' => true,
         _ => false,
     }
 }
