@@ -161,7 +161,7 @@ impl HtmlToMarkdownBuilder {
         ensures handlers { let config = ⟦<ElementHandlers as Registry>⟧.config in
             IfOk result (λ builder. config (handlers_built builder) ≡ built_in default_options) }
     {
-        let handlers = ElementHandlers::new(alloc, Options::default())?;
+        let handlers = ElementHandlers::beside(alloc, Options::default(), Vec::new(alloc))?;
         Ok(HtmlToMarkdownBuilder {
             handlers,
             scripting: true,

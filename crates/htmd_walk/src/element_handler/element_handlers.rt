@@ -122,6 +122,21 @@ impl ElementHandlers {
         ensures { let config = ⟦<ElementHandlers as Registry>⟧.config in
             IfOk result (λ handlers. config handlers ≡ built_in options) }
     {
+        ElementHandlers::beside(alloc, options, Vec::new(alloc))
+    }
+
+    /// The same, for a crate that hands the registry on: beside handlers of its own, of which there are none. A value
+    /// that may hold such handlers is handed on only by a call that was given some, so that none can hide in it.
+    pub fn beside(
+        alloc: Global,
+        options: Options,
+        own: Vec<Box<dyn ElementHandler>>,
+    ) -> Result<ElementHandlers, AllocError>
+        requires none { length own.items ≡ 0 }
+        ensures { let config = ⟦<ElementHandlers as Registry>⟧.config in
+            IfOk result (λ handlers. config handlers ≡ built_in options) }
+    {
+        drop(own);
         let mut handlers = ElementHandlers {
             handlers: Vec::new(alloc),
             registered: Registrations::new(alloc),
