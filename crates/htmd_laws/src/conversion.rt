@@ -43,8 +43,7 @@ pub fn every_letter_once()
 /// punctuation too, whatever is put between them. In Guarded `*` isn't counted, and what a browser doesn't show has no
 /// text. The same holds for the whole Markdown, for each text that is converted, for a page's body, for any page as
 /// browsers read it, for the input of a run and for the page of a row. In Pure a table is left out, since it drops
-/// cells; in Guarded it drops none, and is left out only if it has a caption after a row, since that is written after
-/// the last row.
+/// cells; in Guarded none is, and the captions that come after a row stand after the last row.
 pub fn nothing_is_lost()
     ensures content { ShownInContent }
     ensures markdown { ShownInMarkdown }

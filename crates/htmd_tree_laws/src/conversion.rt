@@ -102,8 +102,8 @@ pub fn every_letter_once()
     ensures markdown { LettersOfMarkdown }
 {}
 
-/// In Pure and in Guarded, with the built-in handlers, nothing that a reader sees of a tree is lost, in the content of a
-/// node and in the whole Markdown. `htmd_laws` says it of texts, pages and runs.
+/// In Pure, where a tree with a table is left out, and in Guarded, with the built-in handlers, nothing that a reader sees
+/// of a tree is lost, in the content of a node and in the whole Markdown. `htmd_laws` says it of texts, pages and runs.
 pub fn nothing_is_lost()
     ensures content { ShownInContent }
     ensures markdown { ShownInMarkdown }
