@@ -92,7 +92,8 @@ hidden_script_shows_nothing = refl
 -- each cell, of either tag and in each row
 abbrev head_row : ValueTree
 head_row =
-    tag (codes "thead") (tag (codes "tr") (leaf (codes "th") (codes "1") ∷ leaf (codes "td") (codes "2") ∷ []) ∷ [])
+    tag (codes "thead")
+    (tag (codes "tr") (leaf (codes "th") (codes "1") ∷ leaf (codes "td") (codes "2") ∷ []) ∷ [])
 
 abbrev body_row : ValueTree
 body_row = tag (codes "tr") (leaf (codes "th") (codes "3") ∷ leaf (codes "td") (codes "4") ∷ [])
@@ -101,15 +102,16 @@ abbrev captioned : List ℕ → ValueTree
 captioned s = leaf (codes "caption") s
 
 table_shows_each_cell :
-    PageShowsGuarded (tag (codes "table") (captioned (codes "c") ∷ head_row ∷ body_row ∷ []) ∷ []) (codes "c1234")
+    PageShowsGuarded (tag (codes "table") (captioned (codes "c") ∷ head_row ∷ body_row ∷ []) ∷ [])
+    (codes "c1234")
 unfolding tree_of forest_from chars ancestors_of ancestors_up guarded
 table_shows_each_cell = refl
 
 -- a caption between rows, and one after them, come last, in their order
 later_captions_come_last :
     PageShowsGuarded
-    (tag (codes "table") (captioned (codes "c") ∷ head_row ∷ captioned (codes "d") ∷ body_row ∷ captioned (codes "e") ∷
-    []) ∷ [])
+    (tag (codes "table") (captioned (codes "c") ∷ head_row ∷ captioned (codes "d") ∷ body_row ∷
+    captioned (codes "e") ∷ []) ∷ [])
     (codes "c1234de")
 unfolding tree_of forest_from chars ancestors_of ancestors_up guarded
 later_captions_come_last = refl

@@ -112,7 +112,8 @@ module _ (options : Options) (alone : is_markdown_alone options ≡ true) (items
 
   each_is_shown : (n : ℕ) → AreShown n → (id : ℕ) (inside : List Ancestor) (children : NumberedForest)
       (ds : List ℕ) → IsTextIfAny (only_text children) → AllOf (IsLowHere n) (forest_of (tree_of items) ds)
-      → EachSays law (occurrence_at (written_within n conversion) conversion id inside children) (shown options items) ds
+      → EachSays law (occurrence_at (written_within n conversion) conversion id inside children)
+      (shown options items) ds
   each_is_shown n keeps id inside children [] utf8 low = tt
   each_is_shown n keeps id inside children (d ∷ ds) utf8 low = (
     child_is_shown n keeps (only_text children) utf8 d low.0,
@@ -131,8 +132,10 @@ module _ (options : Options) (alone : is_markdown_alone options ≡ true) (items
       says-is (sym (only_shows options items false children s e)) (says-own s utf8)
 
   -- a table shows its captions and cells
-  written_shows : (n : ℕ) → AreShown n → (id : ℕ) (name : List ℕ) (inside : List Ancestor) (children : NumberedForest)
-      → LiesHere id name children → AllFitHere children → tallest children ≤ n → IsTextIfAny (only_text children)
+  written_shows : (n : ℕ) → AreShown n → (id : ℕ) (name : List ℕ) (inside : List Ancestor)
+      (children : NumberedForest)
+      → LiesHere id name children → AllFitHere children → tallest children ≤ n
+      → IsTextIfAny (only_text children)
       → name ≡ codes "table" → is_written_as_table items id ≡ true
       → EachSays law (occurrence_at (written_within n conversion) conversion id inside children)
       (shown options items) (nodes_of_lines (table_lines items id))
@@ -231,4 +234,5 @@ shown_in_markdown options items start alone t plain l e =
     (append_texts (built_in options).handlers (walked_node (built_in options) items start).definitions) in
     subst (λ (x : List ℕ). IsPart (shown options items (tree_of items start)) x)
     (sym (counted_append (of_visible guarded) content behind shows.utf8))
-    (part-before (shown options items (tree_of items start)) (visible guarded content) (visible guarded behind) shows.says)
+    (part-before (shown options items (tree_of items start)) (visible guarded content)
+    (visible guarded behind) shows.says)

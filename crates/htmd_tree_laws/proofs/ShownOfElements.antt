@@ -70,7 +70,8 @@ use Rattle.htmd_tree_laws.proofs.WrittenTables.{guarded_table_gives}
 
 -- ---- links and code
 
-resource_shows : {guarded : Bool} (address : List ℕ) (title : Option (List ℕ)) → IsUtf8 address → IsTextIfAny title
+resource_shows : {guarded : Bool} (address : List ℕ) (title : Option (List ℕ)) → IsUtf8 address
+    → IsTextIfAny title
     → Says (of_visible guarded) (resource address title) []
 resource_shows address title text titled = shows-none (says-resource address title text titled).utf8
 
@@ -108,7 +109,8 @@ module _ (view : ElementView) (shows : Bool → List ℕ) where
 
   -- if all text is the address, the address shows what is shown
   guarded_autolink_shows : (s address : List ℕ) → Says (of_visible in_guarded) s (shows in_guarded)
-      → Says (of_visible in_guarded) (all_text_of view) (shows false) → IsUtf8 address → IsTextIfAny (title_of view)
+      → Says (of_visible in_guarded) (all_text_of view) (shows false) → IsUtf8 address
+      → IsTextIfAny (title_of view)
       → Says (of_visible in_guarded)
       (cond (is_autolinked view address) (guarded_autolink s address) (guarded_link s address (title_of view)))
       (shows (not (is_autolinked view address) && in_guarded))
@@ -132,7 +134,8 @@ module _ (view : ElementView) (shows : Bool → List ℕ) where
   in_pure pure true = ap shows pure
   in_pure pure false = refl
 
-  link_in_style : (content : List ℕ) (definitions : List (List ℕ)) → Says (of_visible in_guarded) content (shows in_guarded)
+  link_in_style : (content : List ℕ) (definitions : List (List ℕ))
+      → Says (of_visible in_guarded) content (shows in_guarded)
       → (in_guarded ≡ true → Says (of_visible in_guarded) (all_text_of view) (shows false))
       → (style : LinkStyle) (address : List ℕ) → IsUtf8 address → IsTextIfAny (title_of view)
       → SaysResult (of_visible in_guarded)
@@ -197,8 +200,10 @@ result_shows_none guarded (Some r) l p = shows-none p.utf8
 -- the same is shown by either plan
 either_shows : (law : Law) (at : Occurrence) (definitions : List (List ℕ)) (handler : HandlerMeaning) (b : Bool)
     (first second : PlanView) (l : List ℕ)
-    → (b ≡ true → SaysResult law (plan_answer handler at definitions first (without_handler at definitions)).result l)
-    → (b ≡ false → SaysResult law (plan_answer handler at definitions second (without_handler at definitions)).result l)
+    → (b ≡ true → SaysResult law (plan_answer handler at definitions first
+    (without_handler at definitions)).result l)
+    → (b ≡ false → SaysResult law (plan_answer handler at definitions second
+    (without_handler at definitions)).result l)
     → SaysResult law (plan_answer handler at definitions (cond b first second)
     (without_handler at definitions)).result l
 either_shows law at definitions handler true first second l p q = p refl
@@ -286,7 +291,8 @@ module _ (options : Options) (alone : is_markdown_alone options ≡ true) (items
         planned_is_said law at definitions (codes "a") anchors content_of_children
         (shown_here (codes "a")) refl (rw alone refl)
         (link_shows at.view (λ tables. shown_among options items tables children) (result_of out) out.definitions
-        (within definitions) whole (anchor_address at.view) (last_is_text (codes "href" ∷ []) (attributes_of at.view) (values id)) titled)
+        (within definitions) whole (anchor_address at.view)
+        (last_is_text (codes "href" ∷ []) (attributes_of at.view) (values id)) titled)
 
     code_element_shows : IsShown (codes "code")
     code_element_shows here =
@@ -344,7 +350,8 @@ module _ (options : Options) (alone : is_markdown_alone options ≡ true) (items
         (formula_marks_fill (attributes_of at.view)) text formula)
 
     -- not one of those that give no text
-    not_empty : (name : List ℕ) → IsPlain name → is_empty_element guarded name ≡ is_named hidden_tags name && guarded
+    not_empty : (name : List ℕ) → IsPlain name
+        → is_empty_element guarded name ≡ is_named hidden_tags name && guarded
     not_empty name is =
         ap (λ b. b || (is_named hidden_tags name && guarded)) (or_from _ _ (or_from _ _ is.br is.hr) is.img)
 
@@ -399,7 +406,8 @@ module _ (options : Options) (alone : is_markdown_alone options ≡ true) (items
         × (is_written_as_table items id ≡ true
         → EachSays law at (shown options items) (nodes_of_lines (table_lines items id))
         × (all_of (λ d. shown options items (descendant_tree items (only_text children) d))
-        (captions_and_cells items (children_of items id)) ≡ in_table options items (is_guarded options) children))) where
+        (captions_and_cells items (children_of items id))
+        ≡ in_table options items (is_guarded options) children))) where
       ordered_shows : IsShown (codes "ol")
       ordered_shows here =
           let nodes = children_of items id in
@@ -407,7 +415,8 @@ module _ (options : Options) (alone : is_markdown_alone options ≡ true) (items
           refl (rw (alone, here) refl)
           (subst (λ (l : List ℕ). SaysResult law (plan_answer lists at definitions (contents_of_each nodes)
           (without_handler at definitions)).result l) (each here).1
-          (ordered_gives law options alone items write id inside children (shown options items) definitions (each here).0))
+          (ordered_gives law options alone items write id inside children (shown options items) definitions
+          (each here).0))
 
       table_shows : IsShown (codes "table")
       table_shows here =

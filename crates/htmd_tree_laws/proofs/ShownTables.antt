@@ -50,7 +50,8 @@ use Rattle.htmd_tree_laws.proofs.ShownTrees.{in_table, shown_inside, Fits, AllFi
 
 -- ---- what isn't seen shows nothing
 
-all_white : (s : List ℕ) → list_any (λ b. not (is_document_white_space b)) s ≡ false → list_all is_white s ≡ true
+all_white : (s : List ℕ) → list_any (λ b. not (is_document_white_space b)) s ≡ false
+    → list_all is_white s ≡ true
 all_white [] e = refl
 all_white (b ∷ s) e =
     let parts = or_parts (not (is_document_white_space b)) _ e in
@@ -73,7 +74,8 @@ module _ (options : Options) (is_so : is_guarded options ≡ true) (items : List
   abbrev guarded : Bool
   guarded = is_guarded options
 
-  white_shows : (s : List ℕ) → list_any (λ b. not (is_document_white_space b)) s ≡ false → visible guarded s ≡ []
+  white_shows : (s : List ℕ) → list_any (λ b. not (is_document_white_space b)) s ≡ false
+      → visible guarded s ≡ []
   white_shows s e =
       let white = all_white s e in
       ap (filter (is_visible guarded)) (chars-IsAscii s (fillers_ascii s (whites_fill s white)))
@@ -87,7 +89,8 @@ module _ (options : Options) (is_so : is_guarded options ≡ true) (items : List
       other_part hidden guarded is_so (or_parts _ (hidden && guarded) e).1
 
   mutual
-    unseen : (tables : Bool) (tree : NumberedTree) → is_seen tree ≡ false → shown_of options items tables tree ≡ []
+    unseen : (tables : Bool) (tree : NumberedTree) → is_seen tree ≡ false
+        → shown_of options items tables tree ≡ []
     unseen tables (document id c) e = unseen_among tables c e
     unseen tables (doctype id) e = refl
     unseen tables (text id s) e = white_shows s e
@@ -121,7 +124,8 @@ module _ (options : Options) (is_so : is_guarded options ≡ true) (items : List
         let parts = or_parts (is_seen tree) (are_seen trees) e in
         let later = after || is_of_rows items tree in
         ap (λ z. z ++ shown_but_later options items tables later trees)
-        (cond_both (after && is_caption items tree) [] (shown_of options items tables tree) (λ (l : List ℕ). l ≡ [])
+        (cond_both (after && is_caption items tree) [] (shown_of options items tables tree)
+        (λ (l : List ℕ). l ≡ [])
         (λ _. refl) (λ _. unseen tables tree parts.0))
         ∙ unseen_first tables later trees parts.1
 
@@ -132,7 +136,8 @@ module _ (options : Options) (is_so : is_guarded options ≡ true) (items : List
         let parts = or_parts (is_seen tree) (are_seen trees) e in
         let later = after || is_of_rows items tree in
         ap (λ z. z ++ shown_later options items tables later trees)
-        (cond_both (after && is_caption items tree) (shown_of options items tables tree) [] (λ (l : List ℕ). l ≡ [])
+        (cond_both (after && is_caption items tree) (shown_of options items tables tree) []
+        (λ (l : List ℕ). l ≡ [])
         (λ _. unseen tables tree parts.0) (λ _. refl))
         ∙ unseen_later tables later trees parts.1
 
@@ -215,7 +220,8 @@ pub children_among : (items : List Item) (id : ℕ) → IsTree items → id < le
 children_among items id t l = are_among items (children_of items id) (λ k m. (lower_child items id k t l m).1)
 
 -- a row is a part
-row_is_part : (tag : Option (List ℕ)) → is_tag_among (codes "tr" ∷ []) tag ≡ true → is_tag_among row_tags tag ≡ true
+row_is_part : (tag : Option (List ℕ)) → is_tag_among (codes "tr" ∷ []) tag ≡ true
+    → is_tag_among row_tags tag ≡ true
 row_is_part None e = absurd (false≢true e)
 row_is_part (Some tag) e =
     ⊎_elim
@@ -241,7 +247,8 @@ module _ (options : Options) (is_so : is_guarded options ≡ true) (items : List
   -- what is in a part of the table
   part_opens : (d : ℕ) → d < length items → has_tag row_tags items d ≡ true
       → shows d ≡ shown_among options items true (children_at items d)
-  part_opens d l part = ap (shown_of options items true) (tree-open items d t l) ∙ by (data_at items d) (children_at items d) part
+  part_opens d l part =
+      ap (shown_of options items true) (tree-open items d t l) ∙ by (data_at items d) (children_at items d) part
     where
       by : (here : Data) (kids : NumberedForest) → is_tag_among row_tags (tag_of here) ≡ true
           → shown_of options items true (with_children d here kids) ≡ shown_among options items true kids
@@ -252,7 +259,8 @@ module _ (options : Options) (is_so : is_guarded options ≡ true) (items : List
       by (element_node name attributes) kids part = part_shows options items d name attributes kids part
 
   cells_show : (ds : List ℕ) → list_any (is_seen_in_row items) ds ≡ false
-      → shown_among options items true (forest_of (tree_of items) ds) ≡ all_of shows (filter (has_tag cell_tags items) ds)
+      → shown_among options items true (forest_of (tree_of items) ds)
+      ≡ all_of shows (filter (has_tag cell_tags items) ds)
   cells_show [] e = refl
   cells_show (d ∷ ds) e =
       let parts = or_parts (is_seen_in_row items d) _ e in
@@ -336,7 +344,8 @@ module _ (options : Options) (is_so : is_guarded options ≡ true) (items : List
 
   -- what it shows but as a caption, and as one
   but_caption_shows : (d : ℕ) → d < length items → is_seen_in_table items d ≡ false
-      → cond (is_caption items (tree_of items d)) [] (shows d) ≡ all_of shows (cells_below (child_at items d) items d)
+      → cond (is_caption items (tree_of items d)) [] (shows d)
+      ≡ all_of shows (cells_below (child_at items d) items d)
   but_caption_shows d l e =
       let is = has_tag caption_tags items d in
       let cells = cells_below (child_at items d) items d in
@@ -497,7 +506,8 @@ module _ (guarded : Bool) (items : List Item) (t : IsTree items) (n : ℕ) where
   HaveLowCells [] = Unit {0}
   HaveLowCells (d ∷ ds) = AreLow (cells_of items d) × HaveLowCells ds
 
-  rows_low : (ds : List ℕ) → Among items ds → AreLow ds → HaveLowCells (filter (has_tag (codes "tr" ∷ []) items) ds)
+  rows_low : (ds : List ℕ) → Among items ds → AreLow ds
+      → HaveLowCells (filter (has_tag (codes "tr" ∷ []) items) ds)
   rows_low [] l p = tt
   rows_low (d ∷ ds) l p =
       let others = filter (has_tag (codes "tr" ∷ []) items) ds in
@@ -526,7 +536,8 @@ module _ (guarded : Bool) (items : List Item) (t : IsTree items) (n : ℕ) where
   with_rows_low in_head (d ∷ ds) s p q =
       with_rows_low in_head ds (with_row_line items in_head s d) (with_cells_low in_head (cells_of items d) s p q.0) q.1
 
-  with_child_low : (s : Lines) (d : ℕ) → d < length items → IsLow guarded items n (tree_of items d) → LinesLow s.lines
+  with_child_low : (s : Lines) (d : ℕ) → d < length items → IsLow guarded items n (tree_of items d)
+      → LinesLow s.lines
       → LinesLow (with_child_lines items s d).lines
   with_child_low s d l low p =
       each_line items s d (λ (now : Lines). LinesLow now.lines) (λ _. more_low s.lines (caption d) p (low, tt))

@@ -60,7 +60,8 @@ module _ (f : List ℕ → Bool) (b : Bool) (em : f (codes "em") ≡ b) (i : f (
       (λ first. ⊎_elim (λ same. ap f (sym ((bytes_eq-Decides m n).0 same)))
       (λ both. let parts = and_parts (is_em m) (is_em n) both in of_em n parts.1 ∙ sym (of_em m parts.0))
       (or_cases (bytes_eq m n) (is_em m && is_em n) first))
-      (λ both. let parts = and_parts (is_strong m) (is_strong n) both in of_strong n parts.1 ∙ sym (of_strong m parts.0))
+      (λ both. let parts = and_parts (is_strong m) (is_strong n) both in
+      of_strong n parts.1 ∙ sym (of_strong m parts.0))
       (or_cases (bytes_eq m n || (is_em m && is_em n)) (is_strong m && is_strong n) e)
 
 -- what joins is no table
@@ -182,7 +183,8 @@ module _ (options : Options) (items : List Item) where
   elements_join tables i j m n a b c d (Some s) (Some t) one other e utf8 =
       let names = and_parts (may_join m) (alike m n) (and_parts _ _ e).0 in
       let first = joins_no_table m names.0 in
-      let second = alike_same (λ name. bytes_eq name (codes "table")) false refl refl refl refl m n names.1 ∙ first in
+      let second =
+      alike_same (λ name. bytes_eq name (codes "table")) false refl refl refl refl m n names.1 ∙ first in
       let same = alike_same (is_empty_element guarded) false refl refl refl refl m n names.1 in
       one_shows tables i m a (with_only_text (s ++ t) c) (s ++ t) first (put_only c s (s ++ t) one)
       ∙ by_empty (is_empty_element guarded m) s t utf8
@@ -265,7 +267,8 @@ module _ (guarded : Bool) (items : List Item) where
   asked true e is = ⊎_elim (λ g. g) (λ f. absurd (false≢true f)) (or_cases guarded false e)
   asked false e is = absurd (false≢true is)
 
-  node_fits : (id : ℕ) (d : Data) (kids : NumberedForest) → data_at items id ≡ d → id < length items → HoldsText d
+  node_fits : (id : ℕ) (d : Data) (kids : NumberedForest) → data_at items id ≡ d → id < length items
+      → HoldsText d
       → kids ≡ children_at items id → tables_fit guarded (with_children id d kids) ≡ true
       → ((guarded || not (have_table kids)) ≡ true → AllFit kids) → Fits (with_children id d kids)
   node_fits id document_node kids here l plain are e all = all e
@@ -288,7 +291,8 @@ module _ (guarded : Bool) (items : List Item) where
   all_fit : (ids : List ℕ)
       → ((k : ℕ) → k < length ids → tables_fit guarded (tree_of items (get_or ids k 0)) ≡ true
       → Fits (tree_of items (get_or ids k 0)))
-      → (guarded || not (have_table (forest_of (tree_of items) ids))) ≡ true → AllFit (forest_of (tree_of items) ids)
+      → (guarded || not (have_table (forest_of (tree_of items) ids))) ≡ true
+      → AllFit (forest_of (tree_of items) ids)
   all_fit [] each e = tt
   all_fit (id ∷ ids) each e =
       let parts =
@@ -357,7 +361,8 @@ module _ (options : Options) (items : List Item) where
       ++ said_of_each (shows tables) view ds) e
       ∙ ap (λ z. shows tables (tree_of view.items d) ++ z) (each_alone tables view ds e)
 
-  pub each_shown : (tables : Bool) (view : ElementView) (ids : List ℕ) (text : Option (List ℕ)) → view.text ≡ text
+  pub each_shown : (tables : Bool) (view : ElementView) (ids : List ℕ) (text : Option (List ℕ))
+      → view.text ≡ text
       → only_text (forest_of (tree_of view.items) ids) ≡ text
       → said_of_each (shows tables) view ids
       ≡ shown_among options items tables (forest_of (tree_of view.items) ids)

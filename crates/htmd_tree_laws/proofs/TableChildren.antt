@@ -25,14 +25,17 @@ caption_tags = codes "caption" ∷ []
 abbrev pub row_tags : List (List ℕ)
 row_tags = codes "thead" ∷ codes "tbody" ∷ codes "tfoot" ∷ codes "tr" ∷ []
 
-named : (tags : List (List ℕ)) (tag name : List ℕ) → is_tag_among tags (Some name) ≡ true → bytes_eq tag name ≡ true
+named : (tags : List (List ℕ)) (tag name : List ℕ) → is_tag_among tags (Some name) ≡ true
+    → bytes_eq tag name ≡ true
     → is_tag_among tags (Some tag) ≡ true
-named tags tag name e same = ap (λ (t : List ℕ). is_tag_among tags (Some t)) ((bytes_eq-Decides tag name).0 same) ∙ e
+named tags tag name e same =
+    ap (λ (t : List ℕ). is_tag_among tags (Some t)) ((bytes_eq-Decides tag name).0 same) ∙ e
 
 -- what holds for each kind of child holds for a child with this tag
 kind_cases : {A : Type 0} (P : A → Type 0) (tag : List ℕ) (caption head section row other : A)
     → (is_tag_among caption_tags (Some tag) ≡ true → P caption)
-    → (is_tag_among row_tags (Some tag) ≡ true → P head) → (is_tag_among row_tags (Some tag) ≡ true → P section)
+    → (is_tag_among row_tags (Some tag) ≡ true → P head)
+    → (is_tag_among row_tags (Some tag) ≡ true → P section)
     → (is_tag_among row_tags (Some tag) ≡ true → P row) → P other
     → P (cond (bytes_eq tag (codes "caption")) caption (cond (bytes_eq tag (codes "thead")) head
     (cond (bytes_eq tag (codes "tbody")) section (cond (bytes_eq tag (codes "tfoot")) section
@@ -58,7 +61,8 @@ each_child items child P caption part row other = by (tag_of (data_at items chil
   where
     by : (tag : Option (List ℕ)) → (is_tag_among caption_tags tag ≡ true → P (child ∷ []) [] false)
         → (is_tag_among row_tags tag ≡ true
-        → P [] (flat_map (cells_of items) (tagged_children (codes "tr") items child)) (section_shows_more items child))
+        → P [] (flat_map (cells_of items) (tagged_children (codes "tr") items child))
+        (section_shows_more items child))
         → (is_tag_among row_tags tag ≡ true → P [] (cells_of items child) (row_shows_more items child))
         → P (caption_itself (table_child tag) child) (cells_below (table_child tag) items child)
         (child_shows_more (table_child tag) items child)
@@ -72,13 +76,15 @@ each_child items child P caption part row other = by (tag_of (data_at items chil
 -- the lines with one more child
 pub each_line : (items : List Item) (so_far : Lines) (child : ℕ) (P : Lines → Type 0)
     → (has_tag caption_tags items child ≡ true → P (with_caption_line child so_far))
-    → ((in_head : Bool) → has_tag row_tags items child ≡ true → P (with_section_lines items in_head child so_far))
+    → ((in_head : Bool) → has_tag row_tags items child ≡ true
+    → P (with_section_lines items in_head child so_far))
     → (has_tag row_tags items child ≡ true → P (with_row_line items false so_far child)) → P so_far
     → P (with_child_lines items so_far child)
 each_line items so_far child P caption part row other = by (tag_of (data_at items child)) caption part row
   where
     by : (tag : Option (List ℕ)) → (is_tag_among caption_tags tag ≡ true → P (with_caption_line child so_far))
-        → ((in_head : Bool) → is_tag_among row_tags tag ≡ true → P (with_section_lines items in_head child so_far))
+        → ((in_head : Bool) → is_tag_among row_tags tag ≡ true
+        → P (with_section_lines items in_head child so_far))
         → (is_tag_among row_tags tag ≡ true → P (with_row_line items false so_far child))
         → P (with_child_line (table_child tag) items so_far child)
     by None caption part row = other
@@ -145,5 +151,6 @@ caption_is items d e = by (tag_of (data_at items d)) e
     by None e = absurd (false≢true e)
     by (Some tag) e =
         ⊎_elim
-        (λ same. ap (λ (name : List ℕ). table_child (Some name)) (sym ((bytes_eq-Decides (codes "caption") tag).0 same)))
+        (λ same. ap (λ (name : List ℕ). table_child (Some name))
+        (sym ((bytes_eq-Decides (codes "caption") tag).0 same)))
         (λ none_there. absurd (false≢true none_there)) (or_cases (bytes_eq (codes "caption") tag) false e)
