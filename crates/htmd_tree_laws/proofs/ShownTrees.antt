@@ -78,7 +78,7 @@ not_alone (text i r) next trees = refl
 not_alone (comment i r) next trees = refl
 not_alone (element i name attributes c) next trees = refl
 
-put_only : (trees : NumberedForest) (s w : List ℕ) → only_text trees ≡ Some s
+pub put_only : (trees : NumberedForest) (s w : List ℕ) → only_text trees ≡ Some s
     → only_text (with_only_text w trees) ≡ Some w
 put_only none s w e = cc
 put_only (more (document i c) trees) s w e = cc

@@ -8,7 +8,7 @@ ghost use Rattle.htmd_tree_laws.specs.ListLaws.{EachItemTakesANumber, ItemsBegin
 ghost use Rattle.htmd_tree_laws.specs.ParagraphLaws.{ParagraphsReadBack};
 ghost use Rattle.htmd_tree_laws.specs.Letters.{LettersOfContent, LettersOfMarkdown};
 ghost use Rattle.htmd_tree_laws.specs.Shown.{ShownInContent, ShownInMarkdown};
-ghost use Rattle.htmd_tree_laws.specs.TextLaws.{TextStaysText, LinesBeginNoBlock};
+ghost use Rattle.htmd_tree_laws.specs.TextLaws.{TextStaysText, LinesBeginNoBlock, TextIsWhole};
 ghost use Rattle.htmd_walk.specs.Views.{element_view};
 
 pub use htmd_markdown::Emphasis;
@@ -89,10 +89,12 @@ pub fn paragraphs_read_back()
 /// In Guarded, if a node's tree holds only texts, in elements that hand their content on or put it between blank lines,
 /// and all handlers are built in, nothing of its Markdown is read as markup: each character that could be read as
 /// markup stands after a backslash, whatever elements part the text. So `&lt;<span>b></span>` gives `\<b>`. And if the
-/// texts are UTF-8, no line of it begins a block: `1<u>. x</u>` gives `1\. x`.
+/// texts are UTF-8, no line of it begins a block: `1<u>. x</u>` gives `1\. x`. Nor is any of their characters lost, `*`
+/// included, but for white space.
 pub fn text_stays_text()
     ensures marks { TextStaysText }
     ensures lines { LinesBeginNoBlock }
+    ensures characters { TextIsWhole }
 {}
 
 /// In Pure and in Guarded, with the built-in handlers, the letters of the content of a node are what its tree says, in
