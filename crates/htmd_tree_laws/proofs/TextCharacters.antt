@@ -12,13 +12,12 @@ use Rattle.htmd_text.specs.Characters.{line_feed}
 use Rattle.htmd_text.specs.Trims.{trimmed_text, is_line_feed}
 use Rattle.htmd_text.specs.WhiteSpace.{is_document_white_space, squeezed_text}
 use Rattle.htmd_tree.specs.ValueTrees.{AttributePair}
-use Rattle.htmd_tree.specs.Items.{Data, document_node, doctype_node, text_node, comment_node, element_node, Item, HoldTexts}
+use Rattle.htmd_tree.specs.Items.{Data, document_node, doctype_node, text_node, comment_node, element_node, Item}
 use Rattle.htmd_tree.specs.Items.{data_at}
 use Rattle.htmd_tree.specs.NumberedTrees.{NumberedTree, document, doctype, text, comment, element, NumberedForest, none}
 use Rattle.htmd_tree.specs.NumberedTrees.{more, with_children, forest_from, tree_of, height, tallest, value_tree}
 use Rattle.htmd_tree.specs.Ancestors.{Ancestor, ancestors_of}
 use Rattle.htmd_markdown.specs.GuardedText as reader
-use Rattle.htmd_markdown.specs.Joints.{with_joint}
 use Rattle.htmd_markdown.proofs.GuardedReadingLemmas.{guarded-is_guarded}
 use Rattle.htmd_walk.specs.declared.options.Options.{Options}
 use Rattle.htmd_walk.specs.BuiltIn.{built_in}
@@ -27,7 +26,7 @@ use Rattle.htmd_walk.specs.Choice.{Config}
 use Rattle.htmd_walk.specs.Elements.{Occurrence, Answer, content_of, answer_after, occurrence_at}
 use Rattle.htmd_walk.specs.Groups.{only_text, with_only_text, with_text, text_of, joint_text, joint_with, joint_of}
 use Rattle.htmd_walk.specs.Groups.{is_joinable, in_front, groups_of, both_join, Joint}
-use Rattle.htmd_walk.specs.Markdown.{walked_node, markdown}
+use Rattle.htmd_walk.specs.Markdown.{walked_node}
 use Rattle.htmd_walk.specs.OrdinaryText.{pre, without_first_space}
 use Rattle.htmd_walk.specs.Outputs.{Conversion, conversion_of, Output, Context, context_of, empty_output, is_guarded}
 use Rattle.htmd_walk.specs.Outputs.{is_markdown_alone}
