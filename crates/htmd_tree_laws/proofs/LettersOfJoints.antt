@@ -155,8 +155,10 @@ module _ (law : Law) (silent : PassesMarks law) where
   }
 
   -- they say as much
-  kept-all : {wanted x y a b : List ℕ} → Says law x a → Says law y b → a ++ b ≡ wanted → Kept wanted (ends x y)
-  kept-all {wanted} {x} {y} {a} {b} p q e = kept-by p q (holds-as law wanted wanted (a ++ b) (sym e) (holds-own law wanted))
+  kept-all : {wanted x y a b : List ℕ} → Says law x a → Says law y b → a ++ b ≡ wanted
+      → Kept wanted (ends x y)
+  kept-all {wanted} {x} {y} {a} {b} p q e =
+      kept-by p q (holds-as law wanted wanted (a ++ b) (sym e) (holds-own law wanted))
 
   module _ (out content : List ℕ) (u : IsUtf8 out) (v : IsUtf8 content) where
     abbrev wanted : List ℕ

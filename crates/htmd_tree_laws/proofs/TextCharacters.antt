@@ -149,7 +149,8 @@ module _ (options : Options) (guarded : is_guarded options ≡ true) (items : Li
       → Fits IsUtf8 config items n tree → IsFineHere (is_block_tree tree) out.text → Says law out.text l
       → Says law (written_within n conversion tree context out).text (l ++ characters_of tree)
 
-  children_hold : (n : ℕ) → Holds n → (inside : List Ancestor) (trees : NumberedForest) (trim : Bool) (out : Output)
+  children_hold : (n : ℕ) → Holds n → (inside : List Ancestor) (trees : NumberedForest) (trim : Bool)
+      (out : Output)
       (l : List ℕ) → AllTexts n trees → IsWhole out.text → Says law out.text l
       → Says law (write_children (written_within n conversion) inside trees trim out).text
       (l ++ characters_among trees)
@@ -259,7 +260,8 @@ module _ (options : Options) (guarded : is_guarded options ≡ true) (items : Li
       (start_is_fine IsWhole IsLine IsUtf8 texts_are_kept (is_block_tree tree)) says-nil
 
   document_alone : (id : ℕ) (kids : NumberedForest) (context : Context) → AllTexts (tallest kids) kids
-      → Says law (written_within (height (document id kids)) conversion (document id kids) context (empty_output [])).text
+      → Says law (written_within (height (document id kids)) conversion (document id kids) context
+      (empty_output [])).text
       (characters_among kids)
   unfolding written_within
   document_alone id kids context fit =

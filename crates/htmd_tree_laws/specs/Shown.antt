@@ -35,7 +35,7 @@ IsPart [] found = Unit {0}
 IsPart (c ∷ wanted) [] = ⊥
 IsPart (c ∷ wanted) (d ∷ found) = ((c ≡ d) × IsPart wanted found) ⊎ IsPart (c ∷ wanted) found
 
--- ---- what a tree shows
+-- ---- what isn't shown
 
 -- what is below these gives no Markdown; in Guarded neither does what a browser doesn't show
 abbrev pub is_empty_element : Bool → List ℕ → Bool
@@ -43,17 +43,20 @@ is_empty_element guarded name =
     ((bytes_eq name (codes "br") || bytes_eq name (codes "hr")) || bytes_eq name (codes "img"))
     || (is_tag_among hidden_tags (Some name) && guarded)
 
--- its text is its address, and is written once
+-- ---- where captions are written
+
+-- a link whose text is its address, which is written once
 abbrev pub is_autolink : Option (List ℕ) → ElementView → Bool
 is_autolink None view = false
 is_autolink (Some address) view = prefers_autolinks view.options.link_style && is_autolinked view address
 
--- In Guarded all text below these is written as one text, without tables in it.
+-- In Guarded all text below these is written as one text, and no table below them as a table.
 abbrev pub is_one_text : List ℕ → ElementView → Bool
 is_one_text name view =
     (bytes_eq name (codes "code") || bytes_eq name (codes "pre"))
     || (bytes_eq name (codes "a") && is_autolink (anchor_address view) view)
 
+-- the node that it is the tree of
 abbrev pub node_of : NumberedTree → ℕ
 node_of (document id children) = id
 node_of (doctype id) = id
@@ -68,10 +71,12 @@ is_caption items tree = has_tag (codes "caption" ∷ []) items (node_of tree)
 abbrev pub is_of_rows : List Item → NumberedTree → Bool
 is_of_rows items tree = is_or_has_row items (node_of tree)
 
+-- ---- what a tree shows
+
 module _ (options : Options) (items : List Item) where
   abbrev mutual
-    -- the characters of all texts that are not below such an element, in the order in which they are written, where
-    -- tables may be written as tables or not
+    -- The characters of all texts that are not below an empty element, in the order in which they are written. The flag
+    -- says whether tables are written as tables.
     pub shown_of : Bool → NumberedTree → List ℕ
     shown_of tables (document id children) = shown_among tables children
     shown_of tables (doctype id) = []
@@ -89,21 +94,21 @@ module _ (options : Options) (items : List Item) where
     shown_among tables none = []
     shown_among tables (more tree trees) = shown_of tables tree ++ shown_among tables trees
 
-    -- all but the captions after a row, of which one came or not
+    -- of a table all but the captions after a row; the second flag says whether a row came
     pub shown_but_later : Bool → Bool → NumberedForest → List ℕ
     shown_but_later tables after none = []
     shown_but_later tables after (more tree trees) =
         (if after && is_caption items tree then [] else shown_of tables tree)
         ++ shown_but_later tables (after || is_of_rows items tree) trees
 
-    -- the captions after a row
+    -- the captions after a row, which are written last
     pub shown_later : Bool → Bool → NumberedForest → List ℕ
     shown_later tables after none = []
     shown_later tables after (more tree trees) =
         (if after && is_caption items tree then shown_of tables tree else [])
         ++ shown_later tables (after || is_of_rows items tree) trees
 
--- what a tree shows: in Guarded there are tables, and in Pure all is in the tree's order
+-- What a tree shows. Only in Guarded are tables written whole; in Pure all is in the tree's order.
 abbrev pub shown : Options → List Item → NumberedTree → List ℕ
 shown options items tree = shown_of options items (is_guarded options) tree
 

@@ -98,14 +98,16 @@ pub fn text_stays_text()
 {}
 
 /// In Pure and in Guarded, with the built-in handlers, the letters of the content of a node are what its tree says, in
-/// order, and so are those of the whole Markdown where links stand inline. `htmd_laws` says it of texts, pages and runs.
+/// order, and so are those of the whole Markdown where links stand inline. `htmd_laws` says it of texts, pages and
+/// runs.
 pub fn every_letter_once()
     ensures content { LettersOfContent }
     ensures markdown { LettersOfMarkdown }
 {}
 
-/// In Pure, where a tree with a table is left out, and in Guarded, with the built-in handlers, nothing that a reader sees
-/// of a tree is lost, in the content of a node and in the whole Markdown. `htmd_laws` says it of texts, pages and runs.
+/// In Pure, where a tree with a table is left out, and in Guarded, with the built-in handlers, nothing that a reader
+/// sees of a tree is lost, in the content of a node and in the whole Markdown. `htmd_laws` says it of texts, pages and
+/// runs.
 pub fn nothing_is_lost()
     ensures content { ShownInContent }
     ensures markdown { ShownInMarkdown }
