@@ -144,12 +144,13 @@ last_of b (c ∷ s) =
     let more = last_of c s in
     record { before = b ∷ more.before; last = more.last; is = ap (λ l. b ∷ l) more.is }
 
-ends_so : (p : ℕ → Bool) (xs : List ℕ) (b : ℕ) → p b ≡ true
+pub ends_so : (p : ℕ → Bool) (xs : List ℕ) (b : ℕ) → p b ≡ true
     → suffix_len p (xs ++ b ∷ []) ≡ 1 + suffix_len p xs
 ends_so p xs b passes =
     ap (prefix_len p) (reverse-append xs (b ∷ [])) ∙ cond-true (p b) (1 + prefix_len p (reverse xs)) 0 passes
 
-ends_otherwise : (p : ℕ → Bool) (xs : List ℕ) (b : ℕ) → p b ≡ false → suffix_len p (xs ++ b ∷ []) ≡ 0
+pub ends_otherwise : (p : ℕ → Bool) (xs : List ℕ) (b : ℕ) → p b ≡ false
+    → suffix_len p (xs ++ b ∷ []) ≡ 0
 ends_otherwise p xs b fails =
     ap (prefix_len p) (reverse-append xs (b ∷ [])) ∙ cond-false (p b) (1 + prefix_len p (reverse xs)) 0 fails
 

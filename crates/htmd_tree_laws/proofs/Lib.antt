@@ -52,6 +52,7 @@ pub mod TableChildren
 pub mod ShownTables
 pub mod ShownLawsLemmas
 pub mod TextCharacters
+pub mod JointMarks
 mod ParagraphExamples
 mod TextExamples
 mod LettersExamples

@@ -10,6 +10,7 @@ use Rattle.htmd_walk.specs.BuiltIn.{built_in}
 use Rattle.htmd_walk.specs.Rendering.{written_within}
 use Rattle.htmd_walk.specs.Markdown.{markdown}
 use Rattle.htmd_walk.proofs.GuardedExamples.{guarded}
+use Rattle.htmd_tree_laws.specs.JointLaws.{unmarked, escapes_signs}
 use Rattle.htmd_tree_laws.specs.TextLaws.{characters_of, is_page_of_texts, begins_no_block}
 
 -- a Document of these, each under its parent
@@ -89,3 +90,19 @@ bare_item = refl
 bare_heading : begins_no_block (codes "# x") ≡ false
 unfolding chars
 bare_heading = refl
+
+-- ---- marks
+
+-- `*` that are escaped are none
+marks_are_bare : unmarked false (codes "*2\\**\\\\*") ≡ codes "2\\*\\\\"
+marks_are_bare = refl
+
+signs_are_escaped : escapes_signs false (codes "a\\*\\\\") ≡ true
+signs_are_escaped = refl
+
+-- a backslash before a letter, or at the end, escapes no sign
+letter_is_no_sign : escapes_signs false (codes "\\a") ≡ false
+letter_is_no_sign = refl
+
+end_is_no_sign : escapes_signs false (codes "a\\") ≡ false
+end_is_no_sign = refl

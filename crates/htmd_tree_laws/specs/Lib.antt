@@ -1,5 +1,5 @@
 -- The laws, in reading order: of the grammar; of the content, of children, emphasis, links, lists and paragraphs; of
--- letters and of what is shown; of texts in Guarded.
+-- letters and of what is shown; of texts in Guarded, and of where they meet.
 pub mod GrammarLaws
 pub mod ContentLaws
 pub mod GroupLaws
@@ -10,3 +10,4 @@ pub mod ParagraphLaws
 pub mod Letters
 pub mod Shown
 pub mod TextLaws
+pub mod JointLaws

@@ -6,6 +6,7 @@ ghost use Rattle.htmd_tree_laws.specs.LinkLaws.{AnchorsTakeTheNextNumber, Refere
 ghost use Rattle.htmd_tree_laws.specs.LinkLaws.{ImagesHoldAddresses, LinksHoldAddresses};
 ghost use Rattle.htmd_tree_laws.specs.ListLaws.{EachItemTakesANumber, ItemsBeginInOneColumn};
 ghost use Rattle.htmd_tree_laws.specs.ParagraphLaws.{ParagraphsReadBack};
+ghost use Rattle.htmd_tree_laws.specs.JointLaws.{JointsTakeMarksAlone};
 ghost use Rattle.htmd_tree_laws.specs.Letters.{LettersOfContent, LettersOfMarkdown};
 ghost use Rattle.htmd_tree_laws.specs.Shown.{ShownInContent, ShownInMarkdown};
 ghost use Rattle.htmd_tree_laws.specs.TextLaws.{TextStaysText, LinesBeginNoBlock, TextIsWhole};
@@ -95,6 +96,13 @@ pub fn text_stays_text()
     ensures marks { TextStaysText }
     ensures lines { LinesBeginNoBlock }
     ensures characters { TextIsWhole }
+{}
+
+/// In Guarded, where what is written next meets the text so far, and in both a backslash escapes only signs, marks go
+/// and nothing else: all but the `*` that no backslash escapes stays, in order. In Guarded each `*` of a text is
+/// escaped, but for those of code, of formulas and of autolinks.
+pub fn joints_take_marks_alone()
+    ensures { JointsTakeMarksAlone }
 {}
 
 /// In Pure and in Guarded, with the built-in handlers, the letters of the content of a node are what its tree says, in
