@@ -15,19 +15,19 @@ use Rattle.htmd_laws.proofs.InputLawsLemmas.{inputs_hold_texts, whole_way, body_
 
 pub shown_in_any_page : ShownInAnyPage
 shown_in_any_page options scripting html s alone h fit =
-    let guarded = is_guarded options in
     let items = html5_document scripting html in
-    subst (λ (x : List ℕ). IsPart (shown guarded (tree_of items 0)) (visible guarded x)) (sym h.is_markdown)
+    subst (λ (x : List ℕ). IsPart (shown options items (tree_of items 0)) (visible (is_guarded options) x))
+    (sym h.is_markdown)
     (shown_in_markdown options items 0 alone h.is_tree h.holds_texts (h.is_tree).not_empty fit)
 
 pub shown_in_input : ShownInInput
 shown_in_input options way input s alone same u h =
-    let guarded = is_guarded options in
     let held = inputs_hold_texts way input s u h in
     let e : s ≡ markdown (built_in options) held.0 0 = held.4 ∙ ap (λ config. markdown config held.0 0) same in (
       held.0,
       held.1,
-      λ fit. subst (λ (x : List ℕ). IsPart (shown guarded (tree_of held.0 0)) (visible guarded x)) (sym e)
+      λ fit. subst
+          (λ (x : List ℕ). IsPart (shown options held.0 (tree_of held.0 0)) (visible (is_guarded options) x)) (sym e)
           (shown_in_markdown options held.0 0 alone held.2 held.3 (held.2).not_empty fit),
     )
 
@@ -41,5 +41,5 @@ shown_in_page options scripting page s alone u h =
 
 pub shown_in_row : ShownInRow
 shown_in_row options way page field alone same (u, markdown, h, e) =
-    subst (LosesNothingBy (is_guarded options) way page) (sym (ap read_field e ∙ fields_read_back markdown))
+    subst (LosesNothingBy options way page) (sym (ap read_field e ∙ fields_read_back markdown))
     (shown_in_input options way page markdown alone same u h)

@@ -14,52 +14,53 @@ use Rattle.htmd_cli.specs.Rows.{IsConverted}
 use Rattle.htmd_tree_laws.specs.Shown.{IsPart, shown, visible, tables_fit}
 use Rattle.htmd_laws.specs.InputLaws.{IsTreeBy, text_by}
 
--- what this tree shows stands in the text, if its tables fit
-abbrev pub IsShownIn : Bool → List Item → List ℕ → Type 0
-IsShownIn guarded tree s =
-    tables_fit guarded (tree_of tree 0) ≡ true → IsPart (shown guarded (tree_of tree 0)) (visible guarded s)
+-- what this tree shows stands in the text: in Guarded, and in Pure if it has no table
+abbrev pub IsShownIn : Options → List Item → List ℕ → Type 0
+IsShownIn options tree s =
+    tables_fit (is_guarded options) (tree_of tree 0) ≡ true
+    → IsPart (shown options tree (tree_of tree 0)) (visible (is_guarded options) s)
 
 -- the same holds for the document that the HTML denotes
-abbrev pub LosesNothingOf : Bool → Bool → List ℕ → List ℕ → Type 0
-LosesNothingOf guarded scripting html s =
-    (tree : List Item) × IsTreeOf scripting html tree × IsShownIn guarded tree s
+abbrev pub LosesNothingOf : Options → Bool → List ℕ → List ℕ → Type 0
+LosesNothingOf options scripting html s =
+    (tree : List Item) × IsTreeOf scripting html tree × IsShownIn options tree s
 
 -- The same holds for each text that is converted.
 abbrev pub ShownInConversion : Type 0
 ShownInConversion =
     (options : Options) (scripting : Bool) (html s : List ℕ) → is_markdown_alone options ≡ true
     → IsUtf8 html → IsMarkdownOf (built_in options) scripting html s
-    → LosesNothingOf (is_guarded options) scripting html s
+    → LosesNothingOf options scripting html s
 
 -- The same holds for the body of each page.
 abbrev pub ShownInPage : Type 0
 ShownInPage =
     (options : Options) (scripting : Bool) (page s : List ℕ) → is_markdown_alone options ≡ true
     → IsUtf8 page → IsMarkdownOfPage (built_in options) scripting page s
-    → LosesNothingOf (is_guarded options) scripting (body_part page) s
+    → LosesNothingOf options scripting (body_part page) s
 
 -- The same holds for any page as browsers read it.
 abbrev pub ShownInAnyPage : Type 0
 ShownInAnyPage =
     (options : Options) (scripting : Bool) (html s : List ℕ) → is_markdown_alone options ≡ true
     → IsHtml5Markdown (built_in options) scripting html s
-    → IsShownIn (is_guarded options) (html5_document scripting html) s
+    → IsShownIn options (html5_document scripting html) s
 
--- what the tree of the text that the input holds shows stands in the Markdown, if its tables fit
-abbrev pub LosesNothingBy : Bool → Way → List ℕ → List ℕ → Type 0
-LosesNothingBy guarded way input s =
-    (tree : List Item) × IsTreeBy way (text_by way input) tree × IsShownIn guarded tree s
+-- the same holds for the tree of the text that the input holds
+abbrev pub LosesNothingBy : Options → Way → List ℕ → List ℕ → Type 0
+LosesNothingBy options way input s =
+    (tree : List Item) × IsTreeBy way (text_by way input) tree × IsShownIn options tree s
 
 -- The same holds for the input of each run.
 abbrev pub ShownInInput : Type 0
 ShownInInput =
     (options : Options) (way : Way) (input s : List ℕ) → is_markdown_alone options ≡ true
     → way.config ≡ built_in options → IsReadable (reads_any way) input → IsMarkdownBy way (text_by way input) s
-    → LosesNothingBy (is_guarded options) way input s
+    → LosesNothingBy options way input s
 
 -- The same holds for the page of each row, in what its field says.
 abbrev pub ShownInRow : Type 0
 ShownInRow =
     (options : Options) (way : Way) (page field : List ℕ) → is_markdown_alone options ≡ true
     → way.config ≡ built_in options → IsConverted way page field
-    → LosesNothingBy (is_guarded options) way page (read_field field)
+    → LosesNothingBy options way page (read_field field)

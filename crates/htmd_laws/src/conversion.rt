@@ -10,8 +10,8 @@ ghost use Rattle.htmd_laws.specs.ShownOfInputs.{ShownInAnyPage, ShownInInput, Sh
 pub use htmd_tree_laws::conversion::{
     Emphasis, anchors_take_the_next_number, children_are_cut, content_is_trimmed,
     each_item_takes_a_number, images_hold_addresses, items_begin_in_one_column,
-    links_hold_addresses, marks_stand_inside, paragraphs_read_back, references_are_numbered,
-    repeats_are_kept, text_stays_text,
+    joints_take_marks_alone, links_hold_addresses, marks_stand_inside, paragraphs_read_back,
+    references_are_numbered, repeats_are_kept, text_stays_text,
 };
 
 /// What a text denotes, or what an input is taken for, is a tree whose texts and values are UTF-8, as the text is; for
@@ -43,8 +43,7 @@ pub fn every_letter_once()
 /// punctuation too, whatever is put between them. In Guarded `*` isn't counted, and what a browser doesn't show has no
 /// text. The same holds for the whole Markdown, for each text that is converted, for a page's body, for any page as
 /// browsers read it, for the input of a run and for the page of a row. In Pure a table is left out, since it drops
-/// cells; in Guarded it drops none, and is left out only if it has a caption after a row, since that is written after
-/// the last row.
+/// cells; in Guarded none is, and the captions that come after a row stand after the last row.
 pub fn nothing_is_lost()
     ensures content { ShownInContent }
     ensures markdown { ShownInMarkdown }

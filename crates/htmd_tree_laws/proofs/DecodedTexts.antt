@@ -258,7 +258,8 @@ after_line_feed_utf8 (b ∷ s) u = go (piece_at [] b s) refl
 pub content_utf8 : (n s : List ℕ) → IsUtf8 s → IsUtf8 (content_of n s)
 content_utf8 n s u = test (drops_line_feed n) (λ t. rw t (after_line_feed_utf8 s u)) (λ t. rw t u)
 
-pub text_utf8 : (rules : Rules) → AreScalar rules.names → (n s u : List ℕ) → IsUtf8 s → text_of rules n s ≡ Some u
+pub text_utf8 : (rules : Rules) → AreScalar rules.names → (n s u : List ℕ) → IsUtf8 s
+    → text_of rules n s ≡ Some u
     → IsUtf8 u
 text_utf8 rules known n s u utf8 e =
     test (holds_raw_text rules.scripting n)

@@ -147,7 +147,8 @@ joined_free a b out content p q =
     (free-start content q))
 
 -- if nothing is mended
-pub free-seam : (out content : List ℕ) → guarded_at_seam out content ≡ joined_at_seam out content false → IsFree out
+pub free-seam : (out content : List ℕ) → guarded_at_seam out content ≡ joined_at_seam out content false
+    → IsFree out
     → IsFree content → IsFree (guarded_at_seam out content)
 free-seam out content same p q =
     subst IsFree (sym same)

@@ -15,7 +15,8 @@ use Rattle.htmd_tree_laws.proofs.GuardedEnds.{guarded-tail}
 
 -- ---- how far a text's end goes where one more stands before it
 
-onto_other : (p : ℕ → Bool) (xs : List ℕ) (b : ℕ) → p b ≡ false → prefix_len p (xs ++ b ∷ []) ≡ prefix_len p xs
+onto_other : (p : ℕ → Bool) (xs : List ℕ) (b : ℕ) → p b ≡ false
+    → prefix_len p (xs ++ b ∷ []) ≡ prefix_len p xs
 onto_other p [] b fails = cond-false (p b) (1 + 0) 0 fails
 onto_other p (x ∷ xs) b fails = ap (λ n. cond (p x) (1 + n) 0) (onto_other p xs b fails)
 
@@ -28,7 +29,8 @@ onto_short p (x ∷ xs) b short =
     let size : prefix_len p (x ∷ xs) ≡ 1 + prefix_len p xs = cond-true (p x) (1 + prefix_len p xs) 0 passes in
     ap (λ n. cond (p x) (1 + n) 0) (onto_short p xs b (omega (arith, short, size))))
     (λ (fails : p x ≡ false).
-    cond-false (p x) (1 + prefix_len p (xs ++ b ∷ [])) 0 fails ∙ sym (cond-false (p x) (1 + prefix_len p xs) 0 fails))
+    cond-false (p x) (1 + prefix_len p (xs ++ b ∷ [])) 0 fails
+    ∙ sym (cond-false (p x) (1 + prefix_len p xs) 0 fails))
     (cases_Bool (p x))
 
 onto_whole : (p : ℕ → Bool) (xs : List ℕ) (b : ℕ) → length xs ≤ prefix_len p xs → p b ≡ true
@@ -48,10 +50,12 @@ onto_whole p (x ∷ xs) b whole passes =
 turned : (b : ℕ) (s : List ℕ) → reverse (b ∷ s) ≡ reverse s ++ b ∷ []
 turned b s = reverse-append (b ∷ []) s
 
-before_other : (p : ℕ → Bool) (b : ℕ) (s : List ℕ) → p b ≡ false → suffix_len p (b ∷ s) ≡ suffix_len p s
+before_other : (p : ℕ → Bool) (b : ℕ) (s : List ℕ) → p b ≡ false
+    → suffix_len p (b ∷ s) ≡ suffix_len p s
 before_other p b s fails = ap (prefix_len p) (turned b s) ∙ onto_other p (reverse s) b fails
 
-before_short : (p : ℕ → Bool) (b : ℕ) (s : List ℕ) → suffix_len p s < length s → suffix_len p (b ∷ s) ≡ suffix_len p s
+before_short : (p : ℕ → Bool) (b : ℕ) (s : List ℕ) → suffix_len p s < length s
+    → suffix_len p (b ∷ s) ≡ suffix_len p s
 before_short p b s short =
     ap (prefix_len p) (turned b s) ∙ onto_short p (reverse s) b (omega (arith, short, length-reverse s))
 
@@ -68,7 +72,8 @@ two_more m n e odd =
     let same : m % 2 ≡ n % 2 = omega (arith, e) in
     ap (λ k. k == 1) same ∙ odd
 
-behind_other : (b : ℕ) (s : List ℕ) → is_backslash b ≡ false → escapes_next s ≡ true → escapes_next (b ∷ s) ≡ true
+behind_other : (b : ℕ) (s : List ℕ) → is_backslash b ≡ false → escapes_next s ≡ true
+    → escapes_next (b ∷ s) ≡ true
 behind_other b s fails e = ap (λ n. n % 2 == 1) (before_other is_backslash b s fails) ∙ e
 
 -- a backslash and what it escapes change nothing
@@ -139,11 +144,13 @@ last_of b (c ∷ s) =
     let more = last_of c s in
     record { before = b ∷ more.before; last = more.last; is = ap (λ l. b ∷ l) more.is }
 
-ends_so : (p : ℕ → Bool) (xs : List ℕ) (b : ℕ) → p b ≡ true → suffix_len p (xs ++ b ∷ []) ≡ 1 + suffix_len p xs
+pub ends_so : (p : ℕ → Bool) (xs : List ℕ) (b : ℕ) → p b ≡ true
+    → suffix_len p (xs ++ b ∷ []) ≡ 1 + suffix_len p xs
 ends_so p xs b passes =
     ap (prefix_len p) (reverse-append xs (b ∷ [])) ∙ cond-true (p b) (1 + prefix_len p (reverse xs)) 0 passes
 
-ends_otherwise : (p : ℕ → Bool) (xs : List ℕ) (b : ℕ) → p b ≡ false → suffix_len p (xs ++ b ∷ []) ≡ 0
+pub ends_otherwise : (p : ℕ → Bool) (xs : List ℕ) (b : ℕ) → p b ≡ false
+    → suffix_len p (xs ++ b ∷ []) ≡ 0
 ends_otherwise p xs b fails =
     ap (prefix_len p) (reverse-append xs (b ∷ [])) ∙ cond-false (p b) (1 + prefix_len p (reverse xs)) 0 fails
 
@@ -181,7 +188,8 @@ escaped_ends before e =
     let run : suffix_len is_asterisk s ≡ 1 =
     ends_so is_asterisk before asterisk refl ∙ ap (λ n. 1 + n) (one_backslash before e) in
     let front : take (length s - 1) s ≡ before =
-    ap (λ n. take n s) (omega (arith, length-append before (asterisk ∷ []))) ∙ take-append_seam before (asterisk ∷ []) in
+    ap (λ n. take n s) (omega (arith, length-append before (asterisk ∷ [])))
+    ∙ take-append_seam before (asterisk ∷ []) in
     ap (λ n. cond (escapes_next (take (length s - n) s)) (n - 1) n) run
     ∙ cond-true (escapes_next (take (length s - 1) s)) (1 - 1) 1 (ap escapes_next front ∙ e)
 

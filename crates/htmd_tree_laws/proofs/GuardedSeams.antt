@@ -63,7 +63,8 @@ trimmed-line s line =
 
 -- ---- nothing is mended where a guarded content meets a guarded text
 
-pub nothing_mended : (out content behind : List ℕ) → is_guarded (out ++ behind) ≡ true → is_guarded content ≡ true
+pub nothing_mended : (out content behind : List ℕ) → is_guarded (out ++ behind) ≡ true
+    → is_guarded content ≡ true
     → guarded_at_seam out content ≡ joined_at_seam out content false
 nothing_mended out content behind front e =
     ap (λ (both : Ends). joined_at_seam both.front both.behind false)

@@ -54,7 +54,8 @@ abbrev mutual
 
 module _ (rules : Rules) (same : rules.depth ≡ greatest_depth) where
   inside_fits : (c : Context) (l : Bool) (n : List ℕ) (attributes : List AttributePair) (ks : ValueForest)
-      (s : List ℕ) → ((inner : List ℕ) → ReadsForest rules (n ∷ c) true ks inner → ForestFits (suc (length c)) ks)
+      (s : List ℕ) → ((inner : List ℕ) → ReadsForest rules (n ∷ c) true ks inner
+      → ForestFits (suc (length c)) ks)
       → Inside rules c l n attributes ks s → ForestFits (suc (length c)) ks
   inside_fits c l n attributes ks s ih (inl w) =
       test (is_void n) (λ v. let m = rw v at w.5 in subst (ForestFits (suc (length c))) (sym m.2) tt)
@@ -120,7 +121,8 @@ module _ (items : List Item) (d p b : ℕ) (grow : MayGrow items d p b) where
   beside : (later : List Item) (n : ℕ) → IsTree (items ++ later) → length later ≡ n
       → MayGrow (items ++ later) d p (b + n)
   beside later n tree e =
-      let at : item_at (items ++ later) p ≡ item_at items p = get_or_append_left items later document_item p grow.within in
+      let at : item_at (items ++ later) p ≡ item_at items p =
+      get_or_append_left items later document_item p grow.within in
       let count : length (items ++ later) ≡ b + n =
       let f = length-append items later in let g = grow.count in omega arith in
       let within = grow.within in

@@ -163,8 +163,9 @@ no_language_in_one_line = refl
 -- each cell of a table says what it holds, a `th` in any row and of two heads both
 each_cell_says :
     GuardedPageSays (tag (codes "table") (tag (codes "thead") (tag (codes "tr") (leaf (codes "th") (codes "g") ∷ [])
-    ∷ []) ∷ tag (codes "thead") (tag (codes "tr") (leaf (codes "th") (codes "h") ∷ []) ∷ []) ∷ tag (codes "tbody") (tag
-    (codes "tr") (leaf (codes "th") (codes "x") ∷ leaf (codes "td") (codes "y") ∷ []) ∷ []) ∷ []) ∷ [])
+    ∷ []) ∷ tag (codes "thead") (tag (codes "tr") (leaf (codes "th") (codes "h") ∷ []) ∷ []) ∷
+    tag (codes "tbody") (tag (codes "tr") (leaf (codes "th") (codes "x") ∷ leaf (codes "td") (codes "y") ∷ [])
+    ∷ []) ∷ []) ∷ [])
     (codes "ghxy")
 unfolding said_within tree_of forest_from ancestors_of ancestors_up is_block chars stands_in_line in_line_up guarded
 each_cell_says = refl
@@ -172,8 +173,8 @@ each_cell_says = refl
 -- captions after a cell come last
 later_captions_come_last :
     GuardedPageSays (tag (codes "table") (leaf (codes "caption") (codes "a") ∷ tag (codes "thead") (tag (codes "tr")
-    (leaf (codes "th") (codes "h") ∷ []) ∷ []) ∷ leaf (codes "caption") (codes "c") ∷ tag (codes "tr") (leaf (codes
-    "td") (codes "x") ∷ []) ∷ []) ∷ [])
+    (leaf (codes "th") (codes "h") ∷ []) ∷ []) ∷ leaf (codes "caption") (codes "c") ∷
+    tag (codes "tr") (leaf (codes "td") (codes "x") ∷ []) ∷ []) ∷ [])
     (codes "ahxc")
 unfolding said_within tree_of forest_from ancestors_of ancestors_up is_block chars stands_in_line in_line_up guarded
 later_captions_come_last = refl

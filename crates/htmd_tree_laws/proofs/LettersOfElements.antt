@@ -118,7 +118,8 @@ module _ (options : Options) (alone : is_markdown_alone options ≡ true)
 
     rule_is_said : IsSaid (codes "hr")
     rule_is_said here =
-        planned_is_said of_letters at definitions (codes "hr") thematic_breaks (thematic_break_plan at.view) [] refl refl
+        planned_is_said of_letters at definitions (codes "hr") thematic_breaks
+        (thematic_break_plan at.view) [] refl refl
         (cond_both (is_in_line at.view) _ _
         (λ (plan : PlanView). SaysResult of_letters (plan_answer thematic_breaks at definitions plan
         (without_handler at definitions)).result [])

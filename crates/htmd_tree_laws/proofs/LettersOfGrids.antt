@@ -65,7 +65,8 @@ say_laid above (cell ∷ cells) p =
     (say_below (take kept above) (columns_of cell ++ later)
     (say-cons (says-own cell.text p.texts.0) (say_empty_columns (cell.columns - 1) cell.rows later more))))
 
-say_grid : {law : Law} (above : List ℕ) (rows : List SpannedRow) {l : List ℕ} → SayRows law (map cell_texts rows) l
+say_grid : {law : Law} (above : List ℕ) (rows : List SpannedRow) {l : List ℕ}
+    → SayRows law (map cell_texts rows) l
     → SayRows law (grid_below above rows) l
 say_grid above [] p = rows-in p.say rows-none
 say_grid {law} above (line ∷ rows) {l} p =
@@ -134,7 +135,8 @@ module _ (law : Law) (f : ℕ → List ℕ) (items : List Item) where
       (says-in_one_line r.content (f d) e.0))
       (say_cells ds rs e.1)
 
-  one_more_row : (rows : List SpannedRow) (begins_group : Bool) (cells : List ℕ) (own : List ResultView) {l : List ℕ}
+  one_more_row : (rows : List SpannedRow) (begins_group : Bool) (cells : List ℕ)
+      (own : List ResultView) {l : List ℕ}
       → SayRows law (map cell_texts rows) l → SayEach f law cells own
       → SayRows law (map cell_texts
       (rows ++ (record { begins_group = begins_group; cells = spanned_cells items cells own }) ∷ []))

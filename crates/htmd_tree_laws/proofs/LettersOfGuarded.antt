@@ -220,7 +220,8 @@ says-guarded_code s l p = says-span_or _ _ s _ (spaces_if (is_filled (code_line 
 pub says-guarded_span : {law : Law} → Keeps law guarded_span_in_line
 says-guarded_span s l p = says-span_or true true s _ (says-fillers (space ∷ []) refl) p
 
-pub fitting_is_text : (language : Option (List ℕ)) → IsTextIfAny language → IsTextIfAny (fitting_language language)
+pub fitting_is_text : (language : Option (List ℕ)) → IsTextIfAny language
+    → IsTextIfAny (fitting_language language)
 fitting_is_text None text = tt
 fitting_is_text (Some s) text =
     cond_both (fits_each_fence s) (Some s) None IsTextIfAny (λ _. text) (λ _. tt)

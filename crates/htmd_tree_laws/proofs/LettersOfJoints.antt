@@ -30,11 +30,16 @@ use Rattle.htmd_tree_laws.proofs.LettersOfTexts.{all_reads, backslash_holds}
 use Rattle.htmd_tree_laws.proofs.LettersOfPieces.{says-seam}
 
 -- the last byte alone
-drop_last : (s : List ℕ) (n : ℕ) → length s ≡ suc n → drop n s ≡ get_or s n 0 ∷ []
+pub drop_last : (s : List ℕ) (n : ℕ) → length s ≡ suc n → drop n s ≡ get_or s n 0 ∷ []
 drop_last [] n e = absurd (omega (arith, e))
 drop_last (b ∷ []) zero e = refl
 drop_last (b ∷ c ∷ s) zero e = absurd (omega (arith, e))
 drop_last (b ∷ s) (suc n) e = drop_last s n (omega (arith, e))
+
+-- a text that ends with `!` has a last byte
+pub some_last : (s : List ℕ) → get_or s (length s - 1) 0 ≡ exclamation_mark → length s - 1 < length s
+some_last [] e = absurd (omega (arith, e))
+some_last (b ∷ s) e = omega arith
 
 -- the law doesn't count `*`
 abbrev pub PassesMarks : Law → Type 0
@@ -45,7 +50,7 @@ PassesMarks law = counts law asterisk ≡ false
 asterisk_fills : (b : ℕ) → is_asterisk b ≡ true → is_filler b ≡ true
 asterisk_fills b e = grind (arith, nat_tests)
 
-abbrev IsRun : List ℕ → Type 0
+abbrev pub IsRun : List ℕ → Type 0
 IsRun f = list_all is_asterisk f ≡ true
 
 run_fills : (f : List ℕ) → IsRun f → list_all is_filler f ≡ true
@@ -63,7 +68,7 @@ run_silent law silent (b ∷ f) e =
     let parts = and_parts (is_asterisk b) (list_all is_asterisk f) e in
     cond-false (counts law b) _ _ (one_silent law silent b parts.0) ∙ run_silent law silent f parts.1
 
-run_first : (s : List ℕ) → IsRun (take (prefix_len is_asterisk s) s)
+pub run_first : (s : List ℕ) → IsRun (take (prefix_len is_asterisk s) s)
 run_first [] = refl
 run_first (b ∷ s) =
     cond_both (is_asterisk b) (1 + prefix_len is_asterisk s) 0 (λ n. IsRun (take n (b ∷ s)))
@@ -73,7 +78,7 @@ run_first (b ∷ s) =
     (and_from (is_asterisk b) (list_all is_asterisk (take (prefix_len is_asterisk s) s)) e (run_first s)))
     (λ _. refl)
 
-run_last : (s : List ℕ) (n : ℕ) → n ≤ suffix_len is_asterisk s → IsRun (drop (length s - n) s)
+pub run_last : (s : List ℕ) (n : ℕ) → n ≤ suffix_len is_asterisk s → IsRun (drop (length s - n) s)
 run_last s n le =
     let k = length s - n in
     all_reads is_asterisk (drop k s) (λ i l.
@@ -87,7 +92,7 @@ run_last s n le =
     ∙ ap (λ j. get_or s j 0) (omega (arith, size, within, le, l)) ∙ sym (get_or-drop k s i 0) in
     subst (λ (x : ℕ). is_asterisk x ≡ true) same passed)
 
-ending : (s : List ℕ) → IsRun (drop (length s - ending_run s) s)
+pub ending : (s : List ℕ) → IsRun (drop (length s - ending_run s) s)
 ending s = run_last s (ending_run s) (ending_run-le s)
 
 module _ (law : Law) (silent : PassesMarks law) where
@@ -155,8 +160,10 @@ module _ (law : Law) (silent : PassesMarks law) where
   }
 
   -- they say as much
-  kept-all : {wanted x y a b : List ℕ} → Says law x a → Says law y b → a ++ b ≡ wanted → Kept wanted (ends x y)
-  kept-all {wanted} {x} {y} {a} {b} p q e = kept-by p q (holds-as law wanted wanted (a ++ b) (sym e) (holds-own law wanted))
+  kept-all : {wanted x y a b : List ℕ} → Says law x a → Says law y b → a ++ b ≡ wanted
+      → Kept wanted (ends x y)
+  kept-all {wanted} {x} {y} {a} {b} p q e =
+      kept-by p q (holds-as law wanted wanted (a ++ b) (sym e) (holds-own law wanted))
 
   module _ (out content : List ℕ) (u : IsUtf8 out) (v : IsUtf8 content) where
     abbrev wanted : List ℕ
@@ -191,10 +198,6 @@ module _ (law : Law) (silent : PassesMarks law) where
         one_sign =
             ap (filter (counts law))
             (chars-IsAscii (exclamation_mark ∷ []) (fillers_ascii (exclamation_mark ∷ []) refl))
-
-        some_last : (s : List ℕ) → get_or s (length s - 1) 0 ≡ exclamation_mark → length s - 1 < length s
-        some_last [] e = absurd (omega (arith, e))
-        some_last (b ∷ s) e = omega arith
 
     spaced : Kept wanted (ends (out ++ codes " ") content)
     spaced = kept-all (says-before (codes " ") refl own) other refl

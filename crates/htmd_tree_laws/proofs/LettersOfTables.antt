@@ -207,7 +207,8 @@ pub record SayRows (law : Law) (rows : List (List (List ℕ))) (l : List ℕ) : 
   pub texts : AreRows rows
   pub say : Holds law l (counted_of_rows law rows)
 
-pub rows-own : {law : Law} (rows : List (List (List ℕ))) → AreRows rows → SayRows law rows (counted_of_rows law rows)
+pub rows-own : {law : Law} (rows : List (List (List ℕ))) → AreRows rows
+    → SayRows law rows (counted_of_rows law rows)
 rows-own {law} rows texts = record { texts = texts; say = holds-own law (counted_of_rows law rows) }
 
 pub rows-none : {law : Law} → SayRows law [] []

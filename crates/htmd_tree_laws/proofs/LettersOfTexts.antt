@@ -114,7 +114,8 @@ kept law (b ∷ x) r t high (y, rest, edit, whole, more) =
     ⊎_elim (λ same. same) (λ low. let above = high 0 (omega arith) in absurd (omega (arith, low.0))) edit in
     (deeper.0, whole ∙ ap (λ z. z ++ rest) first ∙ ap (λ z. b ∷ z) deeper.1, deeper.2)
 
-pub bytes_high : (c : ℕ) → 128 ≤ c → (k : ℕ) → k < length (encode_utf8 c) → 128 ≤ get_or (encode_utf8 c) k 0
+pub bytes_high : (c : ℕ) → 128 ≤ c → (k : ℕ) → k < length (encode_utf8 c)
+    → 128 ≤ get_or (encode_utf8 c) k 0
 bytes_high c high k l =
     ⊎_elim
     (λ low. let same : c ≡ get_or (encode_utf8 c) k 0 =

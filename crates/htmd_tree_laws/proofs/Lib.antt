@@ -46,11 +46,13 @@ pub mod TextLines
 pub mod GuardedLines
 pub mod TextWalks
 pub mod TextLawsLemmas
-pub mod ShownOfElements
 pub mod ShownTrees
+pub mod ShownOfElements
 pub mod TableChildren
 pub mod ShownTables
 pub mod ShownLawsLemmas
+pub mod TextCharacters
+pub mod JointMarks
 mod ParagraphExamples
 mod TextExamples
 mod LettersExamples

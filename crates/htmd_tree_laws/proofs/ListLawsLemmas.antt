@@ -325,7 +325,8 @@ in_columns_of false markdown inside first spacing blocks raw is_raw below few =
     let list = ordered_list first spacing blocks in
     in_columns (HasEqualColumns first spacing blocks) markdown inside list raw is_raw
     (columns_equal first spacing blocks (between_line_feeds (cond inside 1 2) (trimmed_text is_line_feed list))
-    (kept_between inside (aligned_spaces spacing (highest_number first blocks)) first blocks (omega (arith, few, below))))
+    (kept_between inside (aligned_spaces spacing (highest_number first blocks)) first blocks
+    (omega (arith, few, below))))
 
 pub items_begin : (view : ElementView) → length (children_of view.items view.node) < 2 ^ 63
     → ItemsBeginInOneColumn view

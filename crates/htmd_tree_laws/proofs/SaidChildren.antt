@@ -6,12 +6,12 @@ use Rattle.std.specs.Str.{IsUtf8}
 use Rattle.std.proofs.lemmas.Bool.{cond_both}
 use Rattle.std.proofs.lemmas.List.{append-nil}
 use Rattle.htmd_text.specs.Trims.{is_space}
-use Rattle.htmd_markdown.specs.GuardedText.{begins_line}
+use Rattle.htmd_markdown.specs.GuardedText.{begins_line, guarded_text}
 use Rattle.htmd_text.specs.WhiteSpace.{squeezed_text}
 use Rattle.htmd_tree.specs.NumberedTrees.{NumberedTree, NumberedForest, none}
 use Rattle.htmd_tree.specs.NumberedTrees.{more}
 use Rattle.htmd_tree.specs.Ancestors.{Ancestor}
-use Rattle.htmd_walk.specs.OrdinaryText.{pre, parent_is_pre}
+use Rattle.htmd_walk.specs.OrdinaryText.{pre, parent_is_pre, without_first_space}
 use Rattle.htmd_walk.specs.Seams.{ends_with_space}
 use Rattle.htmd_walk.specs.Outputs.{Output, Context, context_of}
 use Rattle.htmd_walk.specs.Children.{is_block_tree, before_child, trim_after, write_children}
@@ -30,7 +30,7 @@ abbrev pub AllOf : (NumberedTree → Type 0) → NumberedForest → Type 0
 AllOf Fits none = Unit {0}
 AllOf Fits (more tree trees) = Fits tree × AllOf Fits trees
 
-before_is_said : {law : Law} (block : Bool) (out : Output) {l : List ℕ} → Says law out.text l
+pub before_is_said : {law : Law} (block : Bool) (out : Output) {l : List ℕ} → Says law out.text l
     → Says law (before_child block out).text l
 before_is_said true out p = says-trimmed_end is_space space_of_white out.text p
 before_is_said false out p = p
@@ -51,6 +51,13 @@ module _ (law : Law) (write : Writes) (Fits : NumberedTree → Type 0) (says : N
       says-is (append_assoc l (says tree) (said_among says trees))
       (children_are_said inside trees (trim_after block before after trim) after (l ++ says tree) fit.1 first)
 
+-- a text in Guarded, before it is joined
+pub guarded_is_said : (law : Law) (begins goes : Bool) (s : List ℕ) → IsUtf8 s
+    → Says law (guarded_text begins (without_first_space goes (squeezed_text s))) (counted law s)
+guarded_is_said law begins goes s t =
+    says-guarded_text begins _ (counted law s) (says-first_space goes (squeezed_text s) (says-squeezed s
+    (says-own {law = law} s t)))
+
 pub text_is_said : (law : Law) (guarded : Bool) (s : List ℕ) (context : Context) (out : Output) (l : List ℕ)
     → (guarded ≡ true → PassesMarks law) → IsUtf8 s → Says law out.text l
     → Says law (write_text guarded s context out).text (l ++ counted law s)
@@ -60,7 +67,7 @@ text_is_said law guarded s context out l marks t p =
     own) in
     cond_both guarded _ _ (λ (x : List ℕ). Says law x (l ++ counted law s))
     (λ e. says-joint law (marks e) out.text _ l (counted law s) p
-    (says-guarded_text (begins_line out.text) _ (counted law s) squeezed))
+    (guarded_is_said law (begins_line out.text) (context.trim || ends_with_space out.text) s t))
     (λ _. says-append p
     (cond_both context.preformatted _ _ (λ (x : List ℕ). Says law x (counted law s))
     (λ _. cond_both (parent_is_pre context.ancestors) _ _ (λ (x : List ℕ). Says law x (counted law s))

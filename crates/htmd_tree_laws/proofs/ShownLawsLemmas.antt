@@ -25,8 +25,8 @@ use Rattle.htmd_walk.specs.OrdinaryText.{pre}
 use Rattle.htmd_walk.specs.Outputs.{Conversion, conversion_of, Output, Context, context_of, empty_output, is_guarded}
 use Rattle.htmd_walk.specs.Outputs.{is_markdown_alone}
 use Rattle.htmd_walk.specs.Rendering.{with_result, written_within}
-use Rattle.htmd_tree_laws.specs.Shown.{visible, IsPart, shown, shown_among, captions_first, tables_fit, ShownInContent}
-use Rattle.htmd_tree_laws.specs.Shown.{ShownInMarkdown}
+use Rattle.htmd_tree_laws.specs.Shown.{visible, IsPart, shown, shown_of, shown_among}
+use Rattle.htmd_tree_laws.specs.Shown.{tables_fit, ShownInContent, ShownInMarkdown}
 use Rattle.htmd_tree_laws.proofs.CountedTexts.{Law, of_visible, part-append}
 use Rattle.htmd_tree_laws.proofs.LettersLemmas.{Says, says-own, says-nil, says-is, counted_append}
 use Rattle.htmd_tree_laws.proofs.LettersOfTexts.{document_of_white, line_feed_of_white, says-trimmed_end, says-trimmed}
@@ -41,7 +41,7 @@ use Rattle.htmd_tree_laws.proofs.SaidChildren.{AllOf, children_are_said, text_is
 use Rattle.htmd_tree_laws.proofs.LettersLawsLemmas.{values_in, plain_at}
 use Rattle.htmd_tree_laws.proofs.ShownOfElements.{element_shows}
 use Rattle.htmd_tree_laws.proofs.ShownTrees.{AllFit, Lies, lies_still, IsLow, all_low, same_among, only_shows, groups_lower}
-use Rattle.htmd_tree_laws.proofs.ShownTrees.{groups_show, tree_fits, each_shown, ol_is_alone, table_is_alone}
+use Rattle.htmd_tree_laws.proofs.ShownTrees.{in_table, groups_show, tree_fits, each_shown, ol_is_alone, table_is_alone}
 use Rattle.htmd_tree_laws.proofs.ShownTables.{all_texts_show, table_shows, lines_low}
 
 -- in Guarded `*` isn't counted
@@ -73,19 +73,20 @@ module _ (options : Options) (alone : is_markdown_alone options ≡ true) (items
   abbrev AreShown : ℕ → Type 0
   AreShown n = (tree : NumberedTree) (context : Context) (out : Output) (l : List ℕ) → IsLowHere n tree
       → Says law out.text l
-      → Says law (written_within n conversion tree context out).text (l ++ shown guarded tree)
+      → Says law (written_within n conversion tree context out).text (l ++ shown options items tree)
 
   groups_are_shown : (n : ℕ) → AreShown n → (inside : List Ancestor) (children : NumberedForest) (out : Output)
       (l : List ℕ) → AllFitHere children → tallest children ≤ n → Says law out.text l
       → Says law (write_groups (written_within n conversion) inside children out).text
-      (l ++ shown_among guarded children)
+      (l ++ shown_among options items guarded children)
   groups_are_shown n keeps inside children out l fit low p =
-      says-is (ap (λ z. l ++ z) (same_among guarded (groups_of children) ∙ groups_show guarded items children fit))
-      (children_are_said law (written_within n conversion) (IsLowHere n) (shown guarded) keeps inside
+      says-is (ap (λ z. l ++ z) (same_among options items guarded (groups_of children)
+      ∙ groups_show options items guarded children fit))
+      (children_are_said law (written_within n conversion) (IsLowHere n) (shown options items) keeps inside
       (groups_of children) (trims_first inside) out l
       (all_low guarded items n (groups_of children)
       (fitting.groups_fit LiesHere (lies_still guarded items) children fit)
-      (groups_lower guarded children n low)) p)
+      (groups_lower children n low)) p)
 
   result_is_shown : (out : Output) (whole : Bool) (r : Option ResultView) (definitions : List (List ℕ))
       (l m : List ℕ) → Says law out.text l → SaysResult law r m
@@ -101,7 +102,7 @@ module _ (options : Options) (alone : is_markdown_alone options ≡ true) (items
       → IsLowHere n (tree_of items d) → (before : List (List ℕ))
       → Says law
       (content_alone (written_within n conversion) conversion (descendant_tree items text d) d before).text
-      (shown guarded (descendant_tree items text d))
+      (shown options items (descendant_tree items text d))
   child_is_shown n keeps None utf8 d low before =
       keeps (tree_of items d) (context_of (ancestors_of items d) false true) (empty_output before) [] low says-nil
   child_is_shown n keeps (Some s) utf8 d low before =
@@ -111,45 +112,51 @@ module _ (options : Options) (alone : is_markdown_alone options ≡ true) (items
 
   each_is_shown : (n : ℕ) → AreShown n → (id : ℕ) (inside : List Ancestor) (children : NumberedForest)
       (ds : List ℕ) → IsTextIfAny (only_text children) → AllOf (IsLowHere n) (forest_of (tree_of items) ds)
-      → EachSays law (occurrence_at (written_within n conversion) conversion id inside children) (shown guarded) ds
+      → EachSays law (occurrence_at (written_within n conversion) conversion id inside children)
+      (shown options items) ds
   each_is_shown n keeps id inside children [] utf8 low = tt
   each_is_shown n keeps id inside children (d ∷ ds) utf8 low = (
     child_is_shown n keeps (only_text children) utf8 d low.0,
     each_is_shown n keeps id inside children ds utf8 low.1,
   )
 
-  -- all text shows what the children show
+  -- all text shows what the children show in the tree's order
   whole_shows : (id : ℕ) (name : List ℕ) (children : NumberedForest) (text : Option (List ℕ))
       → only_text children ≡ text → LiesHere id name children → AllFitHere children → IsTextIfAny text
       → is_guarded options ≡ true
-      → Says law (text_or_all text (children_at items id)) (shown_among guarded children)
+      → Says law (text_or_all text (children_at items id)) (shown_among options items false children)
   whole_shows id name children None e lies fit utf8 g =
-      subst (λ (trees : NumberedForest). Says law (all_text_among trees) (shown_among guarded children)) (lies.apart e)
-      (all_texts_show (is_guarded options) g items children fit)
+      subst (λ (trees : NumberedForest). Says law (all_text_among trees) (shown_among options items false children))
+      (lies.apart e) (all_texts_show options g items children fit)
   whole_shows id name children (Some s) e lies fit utf8 g =
-      says-is (sym (only_shows guarded children s e)) (says-own s utf8)
+      says-is (sym (only_shows options items false children s e)) (says-own s utf8)
 
   -- a table shows its captions and cells
-  written_shows : (n : ℕ) → AreShown n → (id : ℕ) (name : List ℕ) (inside : List Ancestor) (children : NumberedForest)
-      → LiesHere id name children → AllFitHere children → tallest children ≤ n → IsTextIfAny (only_text children)
+  written_shows : (n : ℕ) → AreShown n → (id : ℕ) (name : List ℕ) (inside : List Ancestor)
+      (children : NumberedForest)
+      → LiesHere id name children → AllFitHere children → tallest children ≤ n
+      → IsTextIfAny (only_text children)
       → name ≡ codes "table" → is_written_as_table items id ≡ true
-      → EachSays law (occurrence_at (written_within n conversion) conversion id inside children) (shown guarded)
-      (nodes_of_lines (table_lines items id))
-      × (all_of (λ d. shown guarded (descendant_tree items (only_text children) d))
-      (captions_and_cells items (children_of items id)) ≡ shown_among guarded children)
+      → EachSays law (occurrence_at (written_within n conversion) conversion id inside children)
+      (shown options items) (nodes_of_lines (table_lines items id))
+      × (all_of (λ d. shown options items (descendant_tree items (only_text children) d))
+      (captions_and_cells items (children_of items id)) ≡ in_table options items guarded children)
   written_shows n keeps id name inside children lies fit low utf8 is written =
-      let asked = lies.table (ap (λ (tag : List ℕ). bytes_eq tag (codes "table")) is) in
+      let g : is_guarded options ≡ true = lies.table (ap (λ (tag : List ℕ). bytes_eq tag (codes "table")) is) in
       let same : children ≡ children_at items id = lies.block (ap may_join is ∙ table_is_alone) in
-      let first : captions_first (children_at items id) ≡ true = ap captions_first (sym same) ∙ asked.1 in
-      let told = table_shows (is_guarded options) asked.0 items t id lies.within written first in
+      let told = table_shows options g items t id lies.within written in
+      let nodes = captions_and_cells items (children_of items id) in
+      let shows : all_of (λ d. shown options items (tree_of items d)) nodes
+      ≡ in_table options items guarded (children_at items id) =
+      subst (λ (tables : Bool). all_of (λ d. shown_of options items tables (tree_of items d)) nodes
+      ≡ in_table options items tables (children_at items id)) (sym g) (sym told.1) in
       let here : AllOf (IsLowHere n) (children_at items id) =
       subst (λ (trees : NumberedForest). AllOf (IsLowHere n) trees) same
       (all_low (is_guarded options) items n children fit low) in (
         each_is_shown n keeps id inside children (nodes_of_lines (table_lines items id)) utf8
             (lines_low (is_guarded options) items t n id lies.within here),
-        ap (λ (o : Option (List ℕ)). all_of (λ d. shown guarded (descendant_tree items o d))
-            (captions_and_cells items (children_of items id))) (ap only_text same ∙ told.0)
-            ∙ sym told.1 ∙ ap (shown_among guarded) (sym same),
+        ap (λ (o : Option (List ℕ)). all_of (λ d. shown options items (descendant_tree items o d)) nodes)
+            (ap only_text same ∙ told.0) ∙ shows ∙ ap (in_table options items guarded) (sym same),
       )
 
   within_is_shown : (n : ℕ) → AreShown n
@@ -173,7 +180,7 @@ module _ (options : Options) (alone : is_markdown_alone options ≡ true) (items
       let lies = fit.0.0 in
       result_is_shown out (pre context.ancestors) answer.result answer.definitions l _ p
       (element_shows options alone items (λ i. values_in (data_at items i) (plain i)) write id inside
-      children out.definitions utf8 (only_shows guarded children)
+      children out.definitions utf8 (only_shows options items guarded children)
       (whole_shows id name children (only_text children) refl lies fit.0.1 utf8)
       (λ before. groups_are_shown n (within_is_shown n) inside children (empty_output before) [] fit.0.1 low says-nil)
       (λ ordered.
@@ -182,19 +189,20 @@ module _ (options : Options) (alone : is_markdown_alone options ≡ true) (items
         each_is_shown n (within_is_shown n) id inside children (children_of items id) utf8
             (subst (λ (trees : NumberedForest). AllOf (IsLowHere n) trees) same
             (all_low guarded items n children fit.0.1 low)),
-        each_shown guarded (occurrence_at write conversion id inside children).view (children_of items id)
-            (only_text children) refl (ap only_text (sym same)) ∙ ap (shown_among guarded) (sym same),
+        each_shown options items guarded (occurrence_at write conversion id inside children).view
+            (children_of items id) (only_text children) refl (ap only_text (sym same))
+            ∙ ap (shown_among options items guarded) (sym same),
       ))
       (λ table.
       let is : name ≡ codes "table" = sym lies.tag ∙ table in (
-        (lies.table (ap (λ (tag : List ℕ). bytes_eq tag (codes "table")) is)).0,
+        lies.table (ap (λ (tag : List ℕ). bytes_eq tag (codes "table")) is),
         λ written. written_shows n (within_is_shown n) id name inside children lies fit.0.1 low utf8 is written,
       ))
       name lies.tag)
 
   pub content_is_shown : (start : ℕ) → start < length items
       → tables_fit (is_guarded options) (tree_of items start) ≡ true
-      → Says law (walked_content (built_in options) items start) (shown guarded (tree_of items start))
+      → Says law (walked_content (built_in options) items start) (shown options items (tree_of items start))
   content_is_shown start l e =
       let tree = tree_of items start in
       says-trimmed is_line_feed line_feed_of_white _
@@ -205,7 +213,7 @@ content_shows : (options : Options) (items : List Item) (start : ℕ) → is_mar
     → IsTree items → HoldTexts items → start < length items
     → tables_fit (is_guarded options) (tree_of items start) ≡ true
     → Says (of_visible (is_guarded options)) (walked_content (built_in options) items start)
-    (shown (is_guarded options) (tree_of items start))
+    (shown options items (tree_of items start))
 content_shows options items start alone t plain l e =
     content_is_shown options alone items t (plain_at items plain) start l e
 
@@ -224,6 +232,7 @@ shown_in_markdown options items start alone t plain l e =
     let shows = content_shows options items start alone t plain l e in
     let behind = trimmed_end is_line_feed
     (append_texts (built_in options).handlers (walked_node (built_in options) items start).definitions) in
-    subst (λ (x : List ℕ). IsPart (shown guarded (tree_of items start)) x)
+    subst (λ (x : List ℕ). IsPart (shown options items (tree_of items start)) x)
     (sym (counted_append (of_visible guarded) content behind shows.utf8))
-    (part-before (shown guarded (tree_of items start)) (visible guarded content) (visible guarded behind) shows.says)
+    (part-before (shown options items (tree_of items start)) (visible guarded content)
+    (visible guarded behind) shows.says)

@@ -10,7 +10,8 @@ use Rattle.htmd_walk.specs.BuiltIn.{built_in}
 use Rattle.htmd_walk.specs.Rendering.{written_within}
 use Rattle.htmd_walk.specs.Markdown.{markdown}
 use Rattle.htmd_walk.proofs.GuardedExamples.{guarded}
-use Rattle.htmd_tree_laws.specs.TextLaws.{is_page_of_texts, begins_no_block}
+use Rattle.htmd_tree_laws.specs.JointLaws.{unmarked, escapes_signs}
+use Rattle.htmd_tree_laws.specs.TextLaws.{characters_of, is_page_of_texts, begins_no_block}
 
 -- a Document of these, each under its parent
 root : List Item
@@ -63,6 +64,21 @@ unfolding chars markdown written_within tree_of forest_from ancestors_of ancesto
     with_element root guarded
 parted_number_converted = refl
 
+-- signs that would be marks, apart: none is lost
+parted_signs : List Item
+parted_signs =
+    with_text 3 (codes "*3") (with_element 1 (codes "u") (with_text 1 (codes "2 *")
+    (with_element 0 (codes "p") root)))
+
+parted_signs_hold : characters_of (tree_of parted_signs 0) ≡ codes "2**3"
+unfolding chars tree_of forest_from parted_signs with_text with_element root
+parted_signs_hold = refl
+
+parted_signs_converted : markdown (built_in guarded) parted_signs 0 ≡ codes "2 \\*\\*3"
+unfolding chars markdown written_within tree_of forest_from ancestors_of ancestors_up is_block parted_signs with_text
+    with_element root guarded
+parted_signs_converted = refl
+
 escaped_lines : begins_no_block (codes "1\\. x" ++ line_feed ∷ codes "\\- y") ≡ true
 unfolding chars
 escaped_lines = refl
@@ -74,3 +90,19 @@ bare_item = refl
 bare_heading : begins_no_block (codes "# x") ≡ false
 unfolding chars
 bare_heading = refl
+
+-- ---- marks
+
+-- `*` that are escaped are none
+marks_are_bare : unmarked false (codes "*2\\**\\\\*") ≡ codes "2\\*\\\\"
+marks_are_bare = refl
+
+signs_are_escaped : escapes_signs false (codes "a\\*\\\\") ≡ true
+signs_are_escaped = refl
+
+-- a backslash before a letter, or at the end, escapes no sign
+letter_is_no_sign : escapes_signs false (codes "\\a") ≡ false
+letter_is_no_sign = refl
+
+end_is_no_sign : escapes_signs false (codes "a\\") ≡ false
+end_is_no_sign = refl

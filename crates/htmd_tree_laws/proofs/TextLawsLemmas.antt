@@ -26,19 +26,19 @@ use Rattle.htmd_tree_laws.proofs.TextWalks.{IsKeptBy, walked_is_page, markdown_i
 
 -- ---- no character is markup
 
-abbrev IsWhole : List ℕ → Type 0
+abbrev pub IsWhole : List ℕ → Type 0
 IsWhole s = reader.is_guarded s ≡ true
 
 abbrev IsAny : List ℕ → Type 0
 IsAny s = Unit {0}
 
-text_is_guarded : (out s : List ℕ) (begins goes : Bool) → IsWhole out
+pub text_is_guarded : (out s : List ℕ) (begins goes : Bool) → IsWhole out
     → IsWhole (with_joint out (reader.guarded_text begins (without_first_space goes (squeezed_text s))))
 text_is_guarded out s begins goes e =
     let shown = without_first_space goes (squeezed_text s) in
     joint-guarded out (reader.guarded_text begins shown) e (guarded-is_guarded begins shown)
 
-guarded_is_kept : IsKeptBy IsWhole IsLine IsAny
+pub guarded_is_kept : IsKeptBy IsWhole IsLine IsAny
 guarded_is_kept = record {
   start = refl;
   line = guarded-line;
@@ -101,7 +101,7 @@ lines_are_kept = record {
   joined = IsUtf8-append;
 }
 
-text_at : (items : List Item) → HoldTexts items → (id : ℕ) (s : List ℕ) → data_at items id ≡ text_node s
+pub text_at : (items : List Item) → HoldTexts items → (id : ℕ) (s : List ℕ) → data_at items id ≡ text_node s
     → IsUtf8 s
 text_at items texts id s here = subst HoldsText here (plain_at items texts id)
 

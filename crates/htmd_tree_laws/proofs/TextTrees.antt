@@ -77,7 +77,7 @@ module _ (Text : List ℕ → Type 0) (config : Config) (items : List Item) wher
     joint_fits name attributes None t = nothing
     joint_fits name attributes (Some s) t = t
 
-    text_fits : (n : ℕ) (tree : NumberedTree) → Fits n tree → Text (text_of tree)
+    pub text_fits : (n : ℕ) (tree : NumberedTree) → Fits n tree → Text (text_of tree)
     text_fits zero tree fit = absurd fit
     text_fits (suc n) (document i c) fit = absurd fit
     text_fits (suc n) (doctype i) fit = nothing

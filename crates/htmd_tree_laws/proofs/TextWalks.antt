@@ -57,25 +57,25 @@ module _ (Whole Line Text : List ℕ → Type 0) (kept : IsKeptBy Whole Line Tex
   -- ---- what comes before a child
 
   -- The text before a block may have lost its spaces.
-  abbrev IsFine : Bool → List ℕ → Type 0
+  abbrev pub IsFine : Bool → List ℕ → Type 0
   IsFine true s = Line s
   IsFine false s = Whole s
 
-  fine-line : (block : Bool) (s : List ℕ) → IsFine block s → Line s
+  pub fine-line : (block : Bool) (s : List ℕ) → IsFine block s → Line s
   fine-line true s fine = fine
   fine-line false s fine = kept.line s fine
 
-  fine-before : (block : Bool) (out : Output) → Whole out.text → IsFine block (before_child block out).text
+  pub fine-before : (block : Bool) (out : Output) → Whole out.text → IsFine block (before_child block out).text
   fine-before true out e = kept.spaces_cut out.text e
   fine-before false out e = e
 
-  start_is_fine : (block : Bool) → IsFine block []
+  pub start_is_fine : (block : Bool) → IsFine block []
   start_is_fine true = kept.line [] kept.start
   start_is_fine false = kept.start
 
   -- ---- a result at its seam
 
-  seam_text : (guarded whole : Bool) (out : Output) (r : Option ResultView) (definitions : List (List ℕ))
+  pub seam_text : (guarded whole : Bool) (out : Output) (r : Option ResultView) (definitions : List (List ℕ))
       (result : ResultView) → guarded ≡ true → r ≡ Some result
       → (with_result guarded out whole r definitions).text ≡ guarded_at_seam out.text result.content
   seam_text guarded whole out r definitions result e here =
@@ -83,9 +83,9 @@ module _ (Whole Line Text : List ℕ → Type 0) (kept : IsKeptBy Whole Line Tex
       ∙ ap (λ b. written_at_seam b out.text result.content whole) e
 
   -- what is written keeps it, and defines nothing
-  record IsKept (out before : Output) : Type 0 where
-    whole : Whole out.text
-    same : out.definitions ≡ before.definitions
+  pub record IsKept (out before : Output) : Type 0 where
+    pub whole : Whole out.text
+    pub same : out.definitions ≡ before.definitions
 
   kept-by : (out before : Output) → out ≡ before → Whole before.text → IsKept out before
   kept-by out before e fine = record {
@@ -100,11 +100,11 @@ module _ (Whole Line Text : List ℕ → Type 0) (kept : IsKeptBy Whole Line Tex
     abbrev conversion : Conversion
     conversion = conversion_of config items
 
-    alone : is_markdown_alone options ≡ true
+    pub alone : is_markdown_alone options ≡ true
     alone = alone_in options.translation_mode guarded
 
     -- this many levels keep the text guarded
-    abbrev Keeps : ℕ → Type 0
+    abbrev pub Keeps : ℕ → Type 0
     Keeps n = (tree : NumberedTree) (context : Context) (out : Output) → Fits Text config items n tree
         → IsFine (is_block_tree tree) out.text
         → IsKept (written_within n conversion tree context out) out
@@ -122,7 +122,7 @@ module _ (Whole Line Text : List ℕ → Type 0) (kept : IsKeptBy Whole Line Tex
         let rest = keeps-children n keeps inside trees (trim_after block before after trim) after fit.1 first.whole in
         record { whole = rest.whole; same = rest.same ∙ first.same ∙ before-definitions block out }
 
-    keeps-groups : (n : ℕ) → Keeps n → (inside : List Ancestor) (children : NumberedForest) (out : Output)
+    pub keeps-groups : (n : ℕ) → Keeps n → (inside : List Ancestor) (children : NumberedForest) (out : Output)
         → AllFit Text config items n children → Whole out.text
         → IsKept (write_groups (written_within n conversion) inside children out) out
     keeps-groups n keeps inside children out fit e =
@@ -175,7 +175,7 @@ module _ (Whole Line Text : List ℕ → Type 0) (kept : IsKeptBy Whole Line Tex
       same = refl;
     }
 
-    keeps-within : (n : ℕ) → Keeps n
+    pub keeps-within : (n : ℕ) → Keeps n
     unfolding written_within
     keeps-within zero tree context out fit fine = absurd fit
     keeps-within (suc n) (document id children) context out fit fine = absurd fit

@@ -41,7 +41,8 @@ white_low b e = grind (arith, nat_tests)
 abbrev BeginsAscii : List ℕ → Type 0
 BeginsAscii s = (b : ℕ) × (y : List ℕ) × (s ≡ b ∷ y) × (b < 128)
 
-white_first : (gap s : List ℕ) → list_all is_ascii_white_space gap ≡ true → BeginsAscii s → BeginsAscii (gap ++ s)
+white_first : (gap s : List ℕ) → list_all is_ascii_white_space gap ≡ true → BeginsAscii s
+    → BeginsAscii (gap ++ s)
 white_first [] s e h = h
 white_first (b ∷ gap) s e h =
     (b, gap ++ s, refl, white_low b ((and_parts (is_ascii_white_space b) (list_all is_ascii_white_space gap) e).0))
@@ -50,12 +51,14 @@ tag_end_first : (present : Bool) → BeginsAscii (optional_slash present ++ 62 �
 tag_end_first true = (47, 62 ∷ [], refl, omega arith)
 tag_end_first false = (62, [], refl, omega arith)
 
-rest_first : (spelled : List AttributePair) (present : Bool) (s : List ℕ) → IsTagRest spelled present s → BeginsAscii s
+rest_first : (spelled : List AttributePair) (present : Bool) (s : List ℕ) → IsTagRest spelled present s
+    → BeginsAscii s
 rest_first [] present s h =
     subst BeginsAscii (sym h.1) (white_first h.0 (optional_slash present ++ 62 ∷ []) h.2 (tag_end_first present))
 rest_first (a ∷ spelled) present s h = subst BeginsAscii (sym h.4) (filled h.0 (h.1 ++ (h.2 ++ h.3)) h.5 h.6)
   where
-    filled : (gap y : List ℕ) → (gap ≡ [] → ⊥) → list_all is_ascii_white_space gap ≡ true → BeginsAscii (gap ++ y)
+    filled : (gap y : List ℕ) → (gap ≡ [] → ⊥) → list_all is_ascii_white_space gap ≡ true
+        → BeginsAscii (gap ++ y)
     filled [] y some e = absurd (some refl)
     filled (b ∷ gap) y some e =
         (b, gap ++ y, refl, white_low b ((and_parts (is_ascii_white_space b) (list_all is_ascii_white_space gap) e).0))
@@ -64,7 +67,8 @@ rest_first (a ∷ spelled) present s h = subst BeginsAscii (sym h.4) (filled h.0
 pub ends_behind : (x s : List ℕ) → EndsTag s → EndsTag (x ++ s)
 ends_behind x s e = (x ++ e.0, ap (λ y. x ++ y) e.1 ∙ sym (append_assoc x e.0 (62 ∷ [])))
 
-pub rest_ends : (spelled : List AttributePair) (present : Bool) (s : List ℕ) → IsTagRest spelled present s → EndsTag s
+pub rest_ends : (spelled : List AttributePair) (present : Bool) (s : List ℕ) → IsTagRest spelled present s
+    → EndsTag s
 rest_ends [] present s h =
     subst EndsTag (sym h.1) (ends_behind h.0 _ (optional_slash present, refl))
 rest_ends (a ∷ spelled) present s h =
@@ -126,7 +130,8 @@ start_tag_utf8 names known tag n attributes t u =
     values_utf8 names known t.0 attributes t.3
     (spelled_utf8 t.0 t.1 form.1 form.5 (subst IsUtf8 (sym first.2) c.1))
 
-start_tag_ends : (names : Names) (tag n : List ℕ) (attributes : List AttributePair) → IsStartTag names tag n attributes
+start_tag_ends : (names : Names) (tag n : List ℕ) (attributes : List AttributePair)
+    → IsStartTag names tag n attributes
     → EndsTag tag
 start_tag_ends names tag n attributes t =
     let form = t.2 in
@@ -144,7 +149,8 @@ close_ends (b ∷ []) u e = let q = rw (and_false (b == 45)) at e in absurd cc
 close_ends (b ∷ c ∷ []) u e = let q = simp and_false at e in absurd cc
 close_ends (b ∷ c ∷ d ∷ s) u e =
     go (if_then (begins_with (codes "-->") (b ∷ c ∷ d ∷ s)) (cut [] s)
-    (option_map (λ p. (b ∷ p.0, p.1)) (before_comment_end (c ∷ d ∷ s))) (cut u []) e) (close_ends (c ∷ d ∷ s))
+    (option_map (λ p. (b ∷ p.0, p.1)) (before_comment_end (c ∷ d ∷ s))) (cut u []) e)
+    (close_ends (c ∷ d ∷ s))
   where
     go : ((begins_with (codes "-->") (b ∷ c ∷ d ∷ s) ≡ true) × (cut [] s ≡ cut u []))
         ⊎ ((begins_with (codes "-->") (b ∷ c ∷ d ∷ s) ≡ false)

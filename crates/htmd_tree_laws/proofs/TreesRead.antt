@@ -35,7 +35,8 @@ use Rattle.htmd_tree_laws.proofs.LaidTrees.{ForestFits, forest_fits, document_la
 abbrev all_ascii : List ℕ → Bool
 all_ascii p = list_all (λ c. nat_lt c 128) p
 
-any_case_front : (p s : List ℕ) → begins_in_any_case p s ≡ true → all_ascii p ≡ true → AsciiFront (length p) s
+any_case_front : (p s : List ℕ) → begins_in_any_case p s ≡ true → all_ascii p ≡ true
+    → AsciiFront (length p) s
 any_case_front [] s e a = tt
 any_case_front (c ∷ p) [] e a = absurd cc
 any_case_front (c ∷ p) (b ∷ s) e a =
@@ -117,7 +118,8 @@ same_children x y e = cc
 skeleton_utf8 : (content : ValueForest) → AllTextsAreUtf8 content → AllTextsAreUtf8 (skeleton content)
 skeleton_utf8 content h = ((tt, ((tt, tt), ((tt, h), tt))), tt)
 
-with_doctype_utf8 : (o : Option (List ℕ)) (ts : ValueForest) → AllTextsAreUtf8 ts → AllTextsAreUtf8 (with_doctype o ts)
+with_doctype_utf8 : (o : Option (List ℕ)) (ts : ValueForest) → AllTextsAreUtf8 ts
+    → AllTextsAreUtf8 (with_doctype o ts)
 with_doctype_utf8 None ts h = h
 with_doctype_utf8 (Some rest) ts h = (tt, h)
 
@@ -150,11 +152,16 @@ start_cut (b ∷ s) rest e =
     either (behind_start_tag (b ∷ s)) e
     (λ q. let t = start_tags_are_forms (b ∷ s) rest q in
     (t.0, t.3, subst EndsTag (sym (t.4).2) (ends_behind (60 ∷ (t.4).0) (t.4).1 (rest_ends t.1 t.2 (t.4).1 (t.4).5))))
-    (λ q. let i = start_cut s rest q in (b ∷ i.0, ap (λ (x : List ℕ). b ∷ x) i.1, ends_behind (b ∷ []) i.0 i.2))
+    (λ q. let i = start_cut s rest q in (
+      b ∷ i.0,
+      ap (λ (x : List ℕ). b ∷ x) i.1,
+      ends_behind (b ∷ []) i.0 i.2,
+    ))
   where
     either : (o : Option (List ℕ)) → first_of o (behind_first_start_tag s) ≡ Some rest
         → (o ≡ Some rest → (front : List ℕ) × (b ∷ s ≡ front ++ rest) × EndsTag front)
-        → (behind_first_start_tag s ≡ Some rest → (front : List ℕ) × (b ∷ s ≡ front ++ rest) × EndsTag front)
+        → (behind_first_start_tag s ≡ Some rest
+        → (front : List ℕ) × (b ∷ s ≡ front ++ rest) × EndsTag front)
         → (front : List ℕ) × (b ∷ s ≡ front ++ rest) × EndsTag front
     either None q h g = g q
     either (Some r) q h g = h q
@@ -171,7 +178,12 @@ end_cut : (s : List ℕ) → (rest : List ℕ) × (s ≡ before_last_end_tag s +
 end_cut [] = ([], refl, inl refl)
 end_cut (b ∷ s) =
     test (begins_end_tag (b ∷ s) && not (holds_end_tag s))
-    (λ t. rw t (b ∷ s, refl, end_first (b ∷ s) ((and_parts (begins_end_tag (b ∷ s)) (not (holds_end_tag s)) t).0)))
+    (λ t. rw t (
+      b ∷ s,
+      refl,
+      end_first (b ∷ s)
+          ((and_parts (begins_end_tag (b ∷ s)) (not (holds_end_tag s)) t).0),
+    ))
     (λ t. let i = end_cut s in rw t (i.0, ap (λ (x : List ℕ). b ∷ x) i.1, i.2))
 
 pub body_part_utf8 : (page : List ℕ) → IsUtf8 page → IsUtf8 (body_part page)

@@ -12,7 +12,8 @@ use Rattle.std.proofs.lemmas.Bool.{and_parts}
 pub behind : (b : ℕ) (s : List ℕ) → b < 128 → IsUtf8 (b ∷ s) → IsUtf8 s
 behind b s ascii u = IsUtf8-drop (b ∷ s) 1 u (IsCharBoundary-after_ascii (b ∷ s) 0 u (omega arith) ascii)
 
-pub cut_before : (x : List ℕ) (b : ℕ) (y : List ℕ) → b < 128 → IsUtf8 (x ++ b ∷ y) → IsUtf8 x × IsUtf8 (b ∷ y)
+pub cut_before : (x : List ℕ) (b : ℕ) (y : List ℕ) → b < 128 → IsUtf8 (x ++ b ∷ y)
+    → IsUtf8 x × IsUtf8 (b ∷ y)
 cut_before x b y ascii u =
     let within : length x < length (x ++ b ∷ y) = let e = length-append x (b ∷ y) in omega arith in
     let at = IsCharBoundary-before_ascii (x ++ b ∷ y) (length x) within
@@ -39,7 +40,8 @@ behind_front zero s a u = u
 behind_front (suc n) [] a u = u
 behind_front (suc n) (b ∷ s) a u = behind_front n s a.1 (behind b s a.0 u)
 
-pub behind_run : (p : ℕ → Bool) → ((b : ℕ) → p b ≡ true → b < 128) → (w s : List ℕ) → list_all p w ≡ true
+pub behind_run : (p : ℕ → Bool) → ((b : ℕ) → p b ≡ true → b < 128) → (w s : List ℕ)
+    → list_all p w ≡ true
     → IsUtf8 (w ++ s) → IsUtf8 s
 behind_run p low [] s a u = u
 behind_run p low (b ∷ w) s a u =

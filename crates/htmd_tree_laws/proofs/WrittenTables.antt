@@ -25,8 +25,8 @@ use Rattle.htmd_tree_laws.proofs.LettersOfTables.{SayEach, all_of}
 use Rattle.htmd_tree_laws.proofs.LettersOfGrids.{says-guarded_table}
 use Rattle.htmd_tree_laws.proofs.ElementsByTag.{EachSays}
 
-module _ (law : Law) (options : Options) (alone : is_markdown_alone options ≡ true) (items : List Item) (write : Writes)
-    (says : NumberedTree → List ℕ) (id : ℕ) (inside : List Ancestor) (children : NumberedForest)
+module _ (law : Law) (options : Options) (alone : is_markdown_alone options ≡ true) (items : List Item)
+    (write : Writes) (says : NumberedTree → List ℕ) (id : ℕ) (inside : List Ancestor) (children : NumberedForest)
     (definitions : List (List ℕ)) where
   abbrev conversion : Conversion
   conversion = conversion_of (built_in options) items

@@ -1,6 +1,6 @@
 -- The law of letters: what a page says is said once, in its order.
 use Rattle.std.specs.Prelude.{◌≡◌, ℕ, zero, suc, Bool, true, false, not, ◌&&◌, ◌||◌, if◌then◌else◌, List, [], ◌∷◌, ◌++◌}
-use Rattle.std.specs.Prelude.{filter, Option, Some, None, codes, IsUtf8}
+use Rattle.std.specs.Prelude.{filter, Option, Some, None, codes}
 use Rattle.std.specs.Char.{is_whitespace, is_ascii_punctuation, is_ascii_digit}
 use Rattle.std.specs.Str.{chars, bytes_eq}
 use Rattle.htmd_tree.specs.Items.{Item, children_of, HoldTexts}

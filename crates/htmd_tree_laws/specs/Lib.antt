@@ -1,5 +1,5 @@
--- The laws, in reading order: of the grammar; of the content, of children, emphasis, links, lists, paragraphs and texts;
--- of letters and of what is shown.
+-- The laws, in reading order: of the grammar; of the content, of children, emphasis, links, lists and paragraphs; of
+-- letters and of what is shown; of texts in Guarded, and of where they meet.
 pub mod GrammarLaws
 pub mod ContentLaws
 pub mod GroupLaws
@@ -7,6 +7,7 @@ pub mod EmphasisLaws
 pub mod LinkLaws
 pub mod ListLaws
 pub mod ParagraphLaws
-pub mod TextLaws
 pub mod Letters
 pub mod Shown
+pub mod TextLaws
+pub mod JointLaws

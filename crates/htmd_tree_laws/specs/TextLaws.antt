@@ -10,7 +10,8 @@ use Rattle.htmd_text.specs.Trims.{is_line_feed}
 use Rattle.htmd_tree.specs.ValueTrees.{AttributePair, ValueTree, document, doctype, text, comment, element}
 use Rattle.htmd_tree.specs.ValueTrees.{ValueForest, none, more}
 use Rattle.htmd_tree.specs.Items.{Item, HoldTexts}
-use Rattle.htmd_tree.specs.NumberedTrees.{tree_of, value_tree}
+use Rattle.htmd_tree.specs.NumberedTrees.{NumberedTree, NumberedForest, tree_of, value_tree}
+use Rattle.htmd_tree.specs.NumberedTrees as numbered
 use Rattle.htmd_markdown.specs.GuardedText as reader
 use Rattle.htmd_walk.specs.declared.options.Options.{Options}
 use Rattle.htmd_walk.specs.Choice.{Config, indexes}
@@ -21,6 +22,7 @@ use Rattle.htmd_walk.specs.OtherBlocks.{hidden_tags}
 use Rattle.htmd_walk.specs.Spans.{is_span, has_math_class}
 use Rattle.htmd_walk.specs.BuiltIn.{other_block_tags, built_in}
 use Rattle.htmd_walk.specs.Markdown.{markdown}
+use Rattle.htmd_tree_laws.specs.Shown.{visible, IsPart}
 
 -- ---- trees of texts
 
@@ -73,6 +75,21 @@ abbrev pub is_page_of_texts : Config → ValueTree → Bool
 is_page_of_texts config (document children) = all_hold_texts config children
 is_page_of_texts config tree = holds_texts config tree
 
+-- ---- their characters
+
+abbrev mutual
+  -- the characters of all texts, but for white space
+  pub characters_of : NumberedTree → List ℕ
+  characters_of (numbered.document id children) = characters_among children
+  characters_of (numbered.doctype id) = []
+  characters_of (numbered.text id s) = visible false s
+  characters_of (numbered.comment id s) = []
+  characters_of (numbered.element id name attributes children) = characters_among children
+
+  pub characters_among : NumberedForest → List ℕ
+  characters_among numbered.none = []
+  characters_among (numbered.more tree trees) = characters_of tree ++ characters_among trees
+
 -- ---- their Markdown
 
 -- In Guarded, if a node's tree holds only texts and such elements and all handlers are built in, nothing of its
@@ -103,3 +120,10 @@ LinesBeginNoBlock =
     (options : Options) (items : List Item) (start : ℕ) → is_guarded options ≡ true → HoldTexts items
     → is_page_of_texts (built_in options) (value_tree (tree_of items start)) ≡ true
     → begins_no_block (markdown (built_in options) items start) ≡ true
+
+-- If the texts are UTF-8, their characters stand in that Markdown in order: `*` too, which is not counted elsewhere.
+abbrev pub TextIsWhole : Type 0
+TextIsWhole =
+    (options : Options) (items : List Item) (start : ℕ) → is_guarded options ≡ true → HoldTexts items
+    → is_page_of_texts (built_in options) (value_tree (tree_of items start)) ≡ true
+    → IsPart (characters_of (tree_of items start)) (visible false (markdown (built_in options) items start))

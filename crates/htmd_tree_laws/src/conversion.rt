@@ -6,9 +6,10 @@ ghost use Rattle.htmd_tree_laws.specs.LinkLaws.{AnchorsTakeTheNextNumber, Refere
 ghost use Rattle.htmd_tree_laws.specs.LinkLaws.{ImagesHoldAddresses, LinksHoldAddresses};
 ghost use Rattle.htmd_tree_laws.specs.ListLaws.{EachItemTakesANumber, ItemsBeginInOneColumn};
 ghost use Rattle.htmd_tree_laws.specs.ParagraphLaws.{ParagraphsReadBack};
+ghost use Rattle.htmd_tree_laws.specs.JointLaws.{JointsTakeMarksAlone};
 ghost use Rattle.htmd_tree_laws.specs.Letters.{LettersOfContent, LettersOfMarkdown};
 ghost use Rattle.htmd_tree_laws.specs.Shown.{ShownInContent, ShownInMarkdown};
-ghost use Rattle.htmd_tree_laws.specs.TextLaws.{TextStaysText, LinesBeginNoBlock};
+ghost use Rattle.htmd_tree_laws.specs.TextLaws.{TextStaysText, LinesBeginNoBlock, TextIsWhole};
 ghost use Rattle.htmd_walk.specs.Views.{element_view};
 
 pub use htmd_markdown::Emphasis;
@@ -89,21 +90,32 @@ pub fn paragraphs_read_back()
 /// In Guarded, if a node's tree holds only texts, in elements that hand their content on or put it between blank lines,
 /// and all handlers are built in, nothing of its Markdown is read as markup: each character that could be read as
 /// markup stands after a backslash, whatever elements part the text. So `&lt;<span>b></span>` gives `\<b>`. And if the
-/// texts are UTF-8, no line of it begins a block: `1<u>. x</u>` gives `1\. x`.
+/// texts are UTF-8, no line of it begins a block: `1<u>. x</u>` gives `1\. x`. Nor is any of their characters lost, `*`
+/// included, but for white space.
 pub fn text_stays_text()
     ensures marks { TextStaysText }
     ensures lines { LinesBeginNoBlock }
+    ensures characters { TextIsWhole }
+{}
+
+/// In Guarded, where what is written next meets the text so far, and in both a backslash escapes only signs, marks go
+/// and nothing else: all but the `*` that no backslash escapes stays, in order. In Guarded each `*` of a text is
+/// escaped, but for those of code, of formulas and of autolinks.
+pub fn joints_take_marks_alone()
+    ensures { JointsTakeMarksAlone }
 {}
 
 /// In Pure and in Guarded, with the built-in handlers, the letters of the content of a node are what its tree says, in
-/// order, and so are those of the whole Markdown where links stand inline. `htmd_laws` says it of texts, pages and runs.
+/// order, and so are those of the whole Markdown where links stand inline. `htmd_laws` says it of texts, pages and
+/// runs.
 pub fn every_letter_once()
     ensures content { LettersOfContent }
     ensures markdown { LettersOfMarkdown }
 {}
 
-/// In Pure and in Guarded, with the built-in handlers, nothing that a reader sees of a tree is lost, in the content of a
-/// node and in the whole Markdown. `htmd_laws` says it of texts, pages and runs.
+/// In Pure, where a tree with a table is left out, and in Guarded, with the built-in handlers, nothing that a reader
+/// sees of a tree is lost, in the content of a node and in the whole Markdown. `htmd_laws` says it of texts, pages and
+/// runs.
 pub fn nothing_is_lost()
     ensures content { ShownInContent }
     ensures markdown { ShownInMarkdown }
