@@ -145,7 +145,7 @@ wrap_forest formatting block nodes h =
     (new_is_free (kind_at nodes formatting) nodes))
     (forest_move block (length nodes) (nodes ++ new_node (kind_at nodes formatting) ∷ []) more)
 
-wrap_kinds : (formatting block : ℕ) (nodes : List NodeValue)
+pub wrap_kinds : (formatting block : ℕ) (nodes : List NodeValue)
     → kinds (wrap_children formatting block nodes) ≡ kinds nodes ++ kind_at nodes formatting ∷ []
 unfolding wrap_children
 wrap_kinds formatting block nodes =
@@ -154,7 +154,7 @@ wrap_kinds formatting block nodes =
     ∙ (kinds_move_children block (length nodes) (nodes ++ new_node (kind_at nodes formatting) ∷ [])
     ∙ kinds_new nodes (kind_at nodes formatting))
 
-listed_marked : (n formatting copy : ℕ) (bookmark : Option ℕ) (entries : List (Option ℕ))
+pub listed_marked : (n formatting copy : ℕ) (bookmark : Option ℕ) (entries : List (Option ℕ))
     → is_listed n (with_bookmark formatting copy bookmark entries) ≡ true → (n ≡ copy)
     ⊎ (is_listed n entries ≡ true)
 listed_marked n formatting copy None entries l = listed_replaced n formatting copy entries l

@@ -33,5 +33,10 @@ pub mod PendingNodes
 pub mod WholeTexts
 pub mod WholeTrees
 pub mod KeptLettersLemmas
+pub mod PlainNames
+pub mod PlainStates
+pub mod PlainAdoption
+pub mod PlainBody
+pub mod PlainTables
 pub mod PageLettersLemmas
 mod Examples

@@ -1,5 +1,6 @@
 //! The letters of a page and of its tree.
 ghost use Rattle.htmd_html5_laws.specs.DocumentLetters.{LettersAreTaken};
+ghost use Rattle.htmd_html5_laws.specs.HarmlessTags.{HarmlessTextsAreTaken};
 ghost use Rattle.htmd_html5_laws.specs.KeptLetters.{LettersAreKept};
 ghost use Rattle.htmd_html5_laws.specs.PageLetters.{NoLetterIsMadeUp, TokensAreUtf8};
 
@@ -24,4 +25,9 @@ pub fn letters_are_taken()
 /// piece, each letter stands in the texts of the tree as often as in those of the page's tokens.
 pub fn letters_are_kept()
     ensures { LettersAreKept }
+{}
+
+/// Without a start tag of `frameset` or `template` no text comes to a state that drops text.
+pub fn harmless_texts_are_taken()
+    ensures { HarmlessTextsAreTaken }
 {}

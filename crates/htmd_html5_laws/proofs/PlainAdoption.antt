@@ -1,0 +1,202 @@
+-- The adoption agency leaves a plain state plain.
+use Rattle.std.proofs.Common.{◌≡◌, ◌∙◌, ℕ, zero, suc, Bool, true, false, List, [], ◌∷◌, ◌++◌, length, Option, Some, None}
+use Rattle.std.proofs.Common.{refl, sym, ap, subst, inl, inr, ◌⊎◌}
+use Rattle.std.specs.Prelude.{if◌then◌else◌, ◌&&◌, ◌-◌, not, nat_lt, find}
+use Rattle.std.specs.List.{list_any}
+use Rattle.std.proofs.lemmas.Bool.{true≢false, and_parts, eq-eqb}
+use Rattle.htmd_text.proofs.Cases.{test}
+use Rattle.htmd_html5_state.specs.Names.{known, html}
+use Rattle.htmd_html5_state.specs.Documents.{NodeValue, KindValue, kind_at, new_node, last_in, detach}
+use Rattle.htmd_html5_state.specs.OpenElements.{OpenValue, is_open_node, pop, close_name, inside, around}
+use Rattle.htmd_html5_state.specs.State.{StateValue, on_nodes, on_stack, on_formatting}
+use Rattle.htmd_html5_state.specs.Insertion.{opened, place}
+use Rattle.htmd_html5_state.specs.Formatting.{is_listed, since_marker, without_entry}
+use Rattle.htmd_html5_state.specs.Adoption.{formatting_element, node_is, bounds_any, is_special_element, Furthest}
+use Rattle.htmd_html5_state.specs.Adoption.{furthest_with, furthest_block, Chain, begin_chain, copy_into, with_copy}
+use Rattle.htmd_html5_state.specs.Adoption.{with_next, chain, move_last, wrap_children, with_bookmark, finish, adopt_by}
+use Rattle.htmd_html5_state.specs.Adoption.{adopt, Round, last_round, goes_on, round_by, round_open, round_with, round_of}
+use Rattle.htmd_html5_state.specs.Adoption.{round, go_on, rounds, closes_at_once, adoption_agency}
+use Rattle.htmd_html5_state.specs.declared.names.TagName.{TagName}
+use Rattle.htmd_html5_laws.proofs.NodeTexts.{kinds, kinds_new, kinds_put, kinds_attach, kinds_detach, kind_read}
+use Rattle.htmd_html5_laws.proofs.KeepingInsertion.{listed_more, listed_replaced}
+use Rattle.htmd_html5_laws.proofs.KeepingAdoption.{wrap_kinds, listed_marked}
+use Rattle.htmd_html5_laws.proofs.PlainNames.{is_plain, is_plain_element, is_plain_kind, PlainStack, append_plain}
+use Rattle.htmd_html5_laws.proofs.PlainNames.{pop_plain, close_name_plain, inside_plain, around_plain}
+use Rattle.htmd_html5_laws.proofs.PlainStates.{PlainAt, Plain, Stays, stays_by_test, on_stack_stays, plain_kinds}
+use Rattle.htmd_html5_laws.proofs.PlainStates.{plain_stack, plain_before, plain_added, plain_new, plain_listed}
+use Rattle.htmd_html5_laws.proofs.PlainStates.{without_entry_stays, Grown, grown_then}
+
+-- ---- the elements between
+
+-- what a chain has made of a state is plain
+record Chained (s : StateValue) (c : Chain) : Type 0 where
+  grown : Grown s c.state
+  copies : PlainStack c.copies
+
+copy_kinds : (n last : ℕ) (s : StateValue)
+    → kinds (copy_into n last s).nodes ≡ kinds s.nodes ++ kind_at s.nodes n ∷ []
+copy_kinds n last s =
+    kinds_attach last (last_in (length s.nodes)) (s.nodes ++ new_node (kind_at s.nodes n) ∷ [])
+    ∙ kinds_new s.nodes (kind_at s.nodes n)
+
+copy_grown : (n last : ℕ) (s : StateValue) → PlainAt (kinds s.nodes) n → Plain s → Grown s (copy_into n last s)
+copy_grown n last s p h = record {
+  plain = plain_listed (length s.nodes)
+      (plain_added s.nodes (kind_at s.nodes n) (copy_kinds n last s) (ap is_plain_kind (kind_read s.nodes n) ∙ p))
+      (λ m l. listed_replaced m n (length s.nodes) s.formatting l)
+      (plain_new (kind_at s.nodes n) (copy_kinds n last s) h);
+  grows = λ m e. subst (λ (ks : List KindValue). PlainAt ks m) (sym (copy_kinds n last s))
+      (plain_before (kinds s.nodes) (kind_at s.nodes n) m e);
+}
+
+next_chained : (left : ℕ) (e : OpenValue) (s : StateValue) (c : Chain) → is_plain_element e.name ≡ true → Chained s c
+    → Chained s (with_next left e c)
+next_chained left e s c p h = either (nat_lt 0 left && is_listed e.node c.state.formatting) refl
+  where
+    either : (t : Bool) → (nat_lt 0 left && is_listed e.node c.state.formatting) ≡ t
+        → Chained s (if t then with_copy e c else record c { state = on_formatting (without_entry e.node) c.state })
+    either true t = record {
+      grown = grown_then h.grown
+          (copy_grown e.node c.last c.state
+          (h.grown.plain.entries_at e.node (and_parts (nat_lt 0 left) (is_listed e.node c.state.formatting) t).1)
+          h.grown.plain);
+      copies = append_plain c.copies (opened (length c.state.nodes) e.name ∷ []) h.copies (p, tt);
+    }
+    either false t = record {
+      grown = grown_then h.grown
+          (record { plain = (without_entry_stays e.node).stays c.state h.grown.plain; grows = λ n q. q });
+      copies = h.copies;
+    }
+
+chain_chained : (left : ℕ) (es : List OpenValue) (s : StateValue) (c : Chain) → PlainStack es → Chained s c
+    → Chained s (chain left es c)
+chain_chained left [] s c p h = h
+chain_chained left (e ∷ es) s c p h =
+    chain_chained (left - 1) es s (with_next left e c) p.1 (next_chained left e s c p.0 h)
+
+-- ---- a round
+
+move_grown : (last : ℕ) (s : StateValue) → Plain s → Grown s (move_last last s)
+unfolding move_last
+move_grown last s h = record {
+  plain = plain_kinds same h;
+  grows = λ n p. subst (λ (ks : List KindValue). PlainAt ks n) (sym same) p;
+}
+  where
+    same : kinds (move_last last s).nodes ≡ kinds s.nodes
+    same = kinds_put last (place (on_nodes (detach last) s)) (detach last s.nodes) ∙ kinds_detach last s.nodes
+
+-- the furthest block, and what is open inside it and around it, have plain names
+record FurthestPlain (f : Furthest) : Type 0 where
+  inner : PlainStack f.inner
+  block : is_plain_element f.block.name ≡ true
+  between : PlainStack f.between
+
+finish_plain : (formatting : ℕ) (tag : TagName) (f : Furthest) (c : Chain) (s : StateValue) → is_plain tag ≡ true
+    → PlainAt (kinds s.nodes) formatting → FurthestPlain f → PlainStack c.copies → Plain s
+    → Plain (finish formatting tag f c s)
+finish_plain formatting tag f c s p at names copies h =
+    plain_listed (length s.nodes)
+    (plain_added s.nodes (kind_at s.nodes formatting) (wrap_kinds formatting f.block.node s.nodes)
+    (ap is_plain_kind (kind_read s.nodes formatting) ∙ at))
+    (λ n l. listed_marked n formatting (length s.nodes) c.bookmark s.formatting l)
+    (plain_stack (f.inner ++ opened (length s.nodes) (html (known tag)) ∷ f.block ∷ (c.copies ++ s.stack))
+    (append_plain f.inner (opened (length s.nodes) (html (known tag)) ∷ f.block ∷ (c.copies ++ s.stack)) names.inner
+    (p, (names.block, append_plain c.copies s.stack copies h.names)))
+    (plain_new (kind_at s.nodes formatting) (wrap_kinds formatting f.block.node s.nodes) h))
+
+adopt_plain : (formatting : ℕ) (tag : TagName) (f : Furthest) (s : StateValue) → is_plain tag ≡ true
+    → PlainAt (kinds s.nodes) formatting → FurthestPlain f → Plain s → Plain (adopt formatting tag f s)
+adopt_plain formatting tag f s p at names h =
+    let chained : Chained s (chain 3 f.between (begin_chain f.block.node s)) =
+    chain_chained 3 f.between s (begin_chain f.block.node s) names.between
+    (record { grown = record { plain = h; grows = λ n q. q }; copies = tt }) in
+    let moved : Grown s (move_last (chain 3 f.between (begin_chain f.block.node s)).last
+        (chain 3 f.between (begin_chain f.block.node s)).state) =
+    grown_then chained.grown
+    (move_grown (chain 3 f.between (begin_chain f.block.node s)).last
+    (chain 3 f.between (begin_chain f.block.node s)).state chained.grown.plain) in
+    finish_plain formatting tag f (chain 3 f.between (begin_chain f.block.node s))
+    (move_last (chain 3 f.between (begin_chain f.block.node s)).last
+    (chain 3 f.between (begin_chain f.block.node s)).state) p (moved.grows formatting at) names chained.copies moved.plain
+
+-- what is open inside the formatting element
+abbrev SomePlain : Option Furthest → Type 0
+SomePlain None = Unit {0}
+SomePlain (Some f) = FurthestPlain f
+
+furthest_plain : (es : List OpenValue) → PlainStack es → SomePlain (furthest_block es)
+furthest_plain [] h = tt
+furthest_plain (e ∷ es) h = more (furthest_block es) (furthest_plain es h.1)
+  where
+    more : (f : Option Furthest) → SomePlain f → SomePlain (furthest_with e es f)
+    more None g =
+        test (is_special_element e) (λ t. rw t (record { inner = tt; block = h.0; between = h.1 })) (λ t. rw t tt)
+    more (Some f) g = record { inner = (h.0, g.inner); block = g.block; between = g.between }
+
+-- ---- the rounds
+
+after_round : Round → StateValue
+after_round (last_round s) = s
+after_round (goes_on s) = s
+
+by_plain : (formatting : ℕ) (tag : TagName) (f : Option Furthest) (s : StateValue) → is_plain tag ≡ true
+    → PlainAt (kinds s.nodes) formatting → SomePlain f → Plain s → Plain (after_round (round_by formatting tag f s))
+unfolding after_round
+by_plain formatting tag None s p at names h = (without_entry_stays formatting).stays s h
+by_plain formatting tag (Some f) s p at names h = adopt_plain formatting tag f s p at names h
+
+with_plain : (tag : TagName) (formatting : ℕ) (s : StateValue) → is_plain tag ≡ true
+    → PlainAt (kinds s.nodes) formatting → Plain s → Plain (after_round (round_with tag formatting s))
+unfolding after_round
+with_plain tag formatting s p at h = either (not (is_open_node formatting s.stack))
+  where
+    later : (t : Bool) → Plain (after_round (if t then last_round s else round_open tag formatting s))
+    later true = h
+    later false =
+        by_plain formatting tag (furthest_block (inside formatting s.stack)) (on_stack (around formatting) s) p at
+        (furthest_plain (inside formatting s.stack) (inside_plain formatting s.stack h.names))
+        (plain_stack (around formatting s.stack) (around_plain formatting s.stack h.names) h)
+
+    either : (t : Bool) → Plain (after_round (if t then last_round (on_formatting (without_entry formatting) s)
+        else if list_any bounds_any (inside formatting s.stack) then last_round s else round_open tag formatting s))
+    either true = (without_entry_stays formatting).stays s h
+    either false = later (list_any bounds_any (inside formatting s.stack))
+
+-- what is found after the last marker is listed
+found_listed : (p : ℕ → Bool) (entries : List (Option ℕ)) (n : ℕ) → find p (since_marker entries) ≡ Some n
+    → is_listed n entries ≡ true
+found_listed p [] n e = absurd (cc)
+found_listed p (None ∷ entries) n e = absurd (cc)
+found_listed p (Some m ∷ entries) n e =
+    test (p m) (λ t. let same : m ≡ n = first m n (rw t at e) in rw (eq-eqb m n same) refl)
+    (λ t. listed_more n (Some m) entries (found_listed p entries n (rw t at e)))
+  where
+    first : (m n : ℕ) → Some m ≡ Some n → m ≡ n
+    first m n e = cc
+
+of_plain : (tag : TagName) (formatting : Option ℕ) (s : StateValue) → formatting_element tag s ≡ formatting
+    → is_plain tag ≡ true → Plain s → Plain (after_round (round_of tag formatting s))
+unfolding after_round
+of_plain tag None s e p h = (on_stack_stays (close_name (known tag)) (close_name_plain (known tag))).stays s h
+of_plain tag (Some formatting) s e p h =
+    with_plain tag formatting s p
+    (h.entries_at formatting (found_listed (node_is s.nodes tag) s.formatting formatting e)) h
+
+go_on_plain : (more : StateValue → StateValue) (r : Round) → ((s : StateValue) → Plain s → Plain (more s))
+    → Plain (after_round r) → Plain (go_on more r)
+unfolding after_round
+go_on_plain more (last_round s) f h = h
+go_on_plain more (goes_on s) f h = f s h
+
+rounds_plain : (k : ℕ) (tag : TagName) (s : StateValue) → is_plain tag ≡ true → Plain s → Plain (rounds k tag s)
+rounds_plain zero tag s p h = h
+rounds_plain (suc k) tag s p h =
+    go_on_plain (rounds k tag) (round tag s) (λ t g. rounds_plain k tag t p g)
+    (of_plain tag (formatting_element tag s) s refl p h)
+
+rounds_stay : (k : ℕ) (tag : TagName) → is_plain tag ≡ true → Stays (rounds k tag)
+rounds_stay k tag p = record { stays = λ s h. rounds_plain k tag s p h }
+
+pub adoption_agency_stays : (tag : TagName) → is_plain tag ≡ true → Stays (adoption_agency tag)
+adoption_agency_stays tag p = stays_by_test (closes_at_once tag) (on_stack_stays pop pop_plain) (rounds_stay 8 tag p)
