@@ -38,5 +38,8 @@ pub mod PlainStates
 pub mod PlainAdoption
 pub mod PlainBody
 pub mod PlainTables
+pub mod PlainModes
+pub mod PlainTokens
+pub mod PlainRuns
 pub mod PageLettersLemmas
 mod Examples

@@ -17,8 +17,10 @@ use Rattle.htmd_html5_state.specs.declared.modes.InsertionMode.TheVariants.{InTa
 use Rattle.htmd_html5_state.specs.declared.modes.InsertionMode.TheVariants.{InCell, AfterBody}
 use Rattle.htmd_html5_state.specs.declared.names.TagName.{TagName}
 use Rattle.htmd_html5_state.specs.declared.names.Namespace.{Namespace}
+use Rattle.htmd_html5_state.specs.declared.names.Namespace.TheVariants.{Svg, MathMl}
 use Rattle.htmd_html5_state.specs.declared.sets.NameSet.{NameSet}
-use Rattle.htmd_html5_state.specs.declared.sets.NameSet.TheVariants.{Only, Headings, ImpliedEnd}
+use Rattle.htmd_html5_state.specs.declared.sets.NameSet.TheVariants.{Only, Headings, ImpliedEnd, ImpliedEndInRuby}
+use Rattle.htmd_html5_state.specs.declared.sets.NameSet.TheVariants.{DescriptionParts}
 use Rattle.htmd_html5_state.specs.declared.sets.Scope.TheVariants.{Default, Items, ListItem, Button as ButtonScope}
 use Rattle.htmd_html5_tokens.specs.declared.tokens.RawElement.{RawElement}
 use Rattle.htmd_html5.specs.Tokens.{StartTagValue}
@@ -34,11 +36,9 @@ use Rattle.htmd_html5.specs.BodyStarts.{start_formatting, forget, start_anchor, 
 use Rattle.htmd_html5.specs.BodyStarts.{start_ordinary, start_button, start_embedded, start_void, is_hidden, start_input}
 use Rattle.htmd_html5.specs.BodyStarts.{start_image, mode_of_select, start_select, close_option, start_option, start_ruby}
 use Rattle.htmd_html5.specs.BodyStarts.{start_foreign, start_text_area, start_example, start_inline_frame}
-use Rattle.htmd_html5.specs.BodyStarts.{start_no_script, start_in_text, start_by, start_in_body}
+use Rattle.htmd_html5.specs.BodyStarts.{start_no_script, start_by, start_in_body}
 use Rattle.htmd_html5.specs.BodyEnds.{text_end_rule, end_rule, has_body, end_body, end_block, close_form, end_form}
 use Rattle.htmd_html5.specs.BodyEnds.{end_paragraph, end_embedded, line_break, end_by, end_in_body}
-use Rattle.htmd_html5.specs.declared.body_starts.StartRule.{StartRule}
-use Rattle.htmd_html5.specs.declared.body_ends.EndRule.{EndRule}
 use Rattle.htmd_html5_laws.proofs.PlainNames.{is_plain, is_plain_name, no_template_open, pop_plain, close_plain}
 use Rattle.htmd_html5_laws.proofs.PlainNames.{close_name_plain, pop_while_plain, without_plain, close_heading_plain}
 use Rattle.htmd_html5_laws.proofs.PlainNames.{close_option_plain}
@@ -49,8 +49,6 @@ use Rattle.htmd_html5_laws.proofs.PlainStates.{add_missing_stays, without_entry_
 use Rattle.htmd_html5_laws.proofs.PlainStates.{clear_to_marker_stays, insert_formatting_stays, reconstruct_stays}
 use Rattle.htmd_html5_laws.proofs.PlainAdoption.{adoption_agency_stays}
 use Rattle.htmd_html5_state.specs.declared.names.TagName.TheVariants as tags
-use Rattle.htmd_html5.specs.declared.body_starts.StartRule.TheVariants as rule
-use Rattle.htmd_html5.specs.declared.body_ends.EndRule.TheVariants as ending
 use Rattle.htmd_html5_tokens.specs.declared.tokens.RawElement.TheVariants as raw
 
 -- ---- what a mode answers
@@ -219,63 +217,144 @@ module _ (tag : StartTagValue) (p : is_plain_name tag.name ≡ true) where
   start_no_script_stays =
       stays_by_test (λ s. s.scripting) (insert_raw_tag_stays raw.Noscript) start_ordinary_stays
 
+  start_heading_stays : Stays (start_heading tag)
+  start_heading_stays =
+      then_stays insert_tag_stays (then_stays (on_stack_stays close_heading close_heading_plain) close_paragraph_stays)
+
+  start_preformatted_stays : Stays (start_preformatted tag)
+  start_preformatted_stays = then_stays no_frameset_stays (then_stays skip_line_feed_stays start_block_stays)
+
+  start_separator_stays : Stays (start_separator tag)
+  start_separator_stays = then_stays no_frameset_stays (then_stays insert_void_tag_stays close_paragraph_stays)
+
+  start_no_break_stays : Stays (start_no_break tag)
+  start_no_break_stays = then_stays start_formatting_stays (then_stays close_no_break_stays reconstruct_stays)
+
+  start_embedded_stays : Stays (start_embedded tag)
+  start_embedded_stays = then_stays no_frameset_stays (then_stays push_marker_stays start_ordinary_stays)
+
+  start_text_area_stays : Stays (start_text_area tag)
+  start_text_area_stays =
+      then_stays no_frameset_stays (then_stays skip_line_feed_stays (insert_raw_tag_stays raw.Textarea))
+
+  start_foreign_stays : (space : Namespace) → Stays (start_foreign space tag)
+  start_foreign_stays space = then_stays (insert_foreign_tag_stays space tag) reconstruct_stays
+
   -- ---- the rules
 
-  start_in_text_stays : (by : StartRule) → Stays (start_in_text by tag)
-  start_in_text_stays rule.Button = start_button_stays
-  start_in_text_stays rule.Anchor = start_anchor_stays
-  start_in_text_stays rule.Formatting = start_formatting_stays
-  start_in_text_stays rule.NoBreak =
-      then_stays start_formatting_stays (then_stays close_no_break_stays reconstruct_stays)
-  start_in_text_stays rule.Embedded =
-      then_stays no_frameset_stays (then_stays push_marker_stays start_ordinary_stays)
-  start_in_text_stays rule.Void = void_tag_stays tag p
-  start_in_text_stays rule.Input = start_input_stays
-  start_in_text_stays rule.Part = insert_void_tag_stays
-  start_in_text_stays rule.Image = void_tag_stays (record tag { name = known tags.Img }) refl
-  start_in_text_stays rule.TextArea =
-      then_stays no_frameset_stays (then_stays skip_line_feed_stays (insert_raw_tag_stays raw.Textarea))
-  start_in_text_stays rule.Example = start_example_stays
-  start_in_text_stays rule.InlineFrame = then_stays (insert_raw_tag_stays raw.Iframe) no_frameset_stays
-  start_in_text_stays rule.NoEmbed = insert_raw_tag_stays raw.Noembed
-  start_in_text_stays rule.NoScript = start_no_script_stays
-  start_in_text_stays rule.Select = start_select_stays
-  start_in_text_stays rule.Option = start_option_stays
-  start_in_text_stays (rule.Ruby implied) = start_ruby_stays implied
-  start_in_text_stays (rule.Foreign space) = then_stays (insert_foreign_tag_stays space tag) reconstruct_stays
-  start_in_text_stays _ = start_ordinary_stays
-
-  -- frames alone are for no plain name
-  abbrev IsFrames : StartRule → Type 0
-  IsFrames rule.FrameSet = true ≡ false
-  IsFrames _ = Unit {0}
-
-  start_by_stays : (by : StartRule) → IsFrames by → Stays (start_by by tag)
-  start_by_stays rule.Root e = add_to_root_stays tag
-  start_by_stays rule.InHead e = insert_head_element_stays tag.name p
-  start_by_stays rule.Body e = stays_by_state open_body add_to_this_body_stays
-  start_by_stays rule.FrameSet e = absurd (true≢false e)
-  start_by_stays rule.Ignored e = still
-  start_by_stays rule.Block e = start_block_stays
-  start_by_stays rule.Heading e =
-      then_stays insert_tag_stays (then_stays (on_stack_stays close_heading close_heading_plain) close_paragraph_stays)
-  start_by_stays rule.Preformatted e = then_stays no_frameset_stays (then_stays skip_line_feed_stays start_block_stays)
-  start_by_stays rule.Form e = start_form_stays
-  start_by_stays (rule.Item alike) e = start_item_stays alike
-  start_by_stays rule.PlainText e = then_stays (insert_raw_tag_stays raw.Plaintext) close_paragraph_stays
-  start_by_stays rule.Table e = start_table_stays
-  start_by_stays rule.Separator e =
-      then_stays no_frameset_stays (then_stays insert_void_tag_stays close_paragraph_stays)
-  start_by_stays by e = start_in_text_stays by
-
-  no_frames : (name : NameValue) → is_plain_name name ≡ true → IsFrames (rule_of_start name)
+  start_by_name_stays : (name : NameValue) → is_plain_name name ≡ true → Stays (start_by (rule_of_start name) tag)
   unfolding block_rule formatting_rule phrasing_rule
-  no_frames (known tags.FrameSet) q = absurd (true≢false (sym q))
-  no_frames (known _) q = tt
-  no_frames (other s) q = tt
+  start_by_name_stays (known tags.Html) q = add_to_root_stays tag
+  start_by_name_stays (known tags.Base) q = insert_head_element_stays tag.name p
+  start_by_name_stays (known tags.BaseFont) q = insert_head_element_stays tag.name p
+  start_by_name_stays (known tags.BgSound) q = insert_head_element_stays tag.name p
+  start_by_name_stays (known tags.Link) q = insert_head_element_stays tag.name p
+  start_by_name_stays (known tags.Meta) q = insert_head_element_stays tag.name p
+  start_by_name_stays (known tags.NoFrames) q = insert_head_element_stays tag.name p
+  start_by_name_stays (known tags.Script) q = insert_head_element_stays tag.name p
+  start_by_name_stays (known tags.Style) q = insert_head_element_stays tag.name p
+  start_by_name_stays (known tags.Template) q = insert_head_element_stays tag.name p
+  start_by_name_stays (known tags.Title) q = insert_head_element_stays tag.name p
+  start_by_name_stays (known tags.Body) q = stays_by_state open_body add_to_this_body_stays
+  start_by_name_stays (known tags.FrameSet) q = absurd (true≢false (sym q))
+  start_by_name_stays (known tags.Caption) q = still
+  start_by_name_stays (known tags.Col) q = still
+  start_by_name_stays (known tags.ColGroup) q = still
+  start_by_name_stays (known tags.Frame) q = still
+  start_by_name_stays (known tags.Head) q = still
+  start_by_name_stays (known tags.TBody) q = still
+  start_by_name_stays (known tags.Td) q = still
+  start_by_name_stays (known tags.TFoot) q = still
+  start_by_name_stays (known tags.Th) q = still
+  start_by_name_stays (known tags.THead) q = still
+  start_by_name_stays (known tags.Tr) q = still
+  start_by_name_stays (known tags.Address) q = start_block_stays
+  start_by_name_stays (known tags.Article) q = start_block_stays
+  start_by_name_stays (known tags.Aside) q = start_block_stays
+  start_by_name_stays (known tags.BlockQuote) q = start_block_stays
+  start_by_name_stays (known tags.Center) q = start_block_stays
+  start_by_name_stays (known tags.Details) q = start_block_stays
+  start_by_name_stays (known tags.Dialog) q = start_block_stays
+  start_by_name_stays (known tags.Dir) q = start_block_stays
+  start_by_name_stays (known tags.Div) q = start_block_stays
+  start_by_name_stays (known tags.Dl) q = start_block_stays
+  start_by_name_stays (known tags.FieldSet) q = start_block_stays
+  start_by_name_stays (known tags.FigCaption) q = start_block_stays
+  start_by_name_stays (known tags.Figure) q = start_block_stays
+  start_by_name_stays (known tags.Footer) q = start_block_stays
+  start_by_name_stays (known tags.Header) q = start_block_stays
+  start_by_name_stays (known tags.HGroup) q = start_block_stays
+  start_by_name_stays (known tags.Main) q = start_block_stays
+  start_by_name_stays (known tags.Menu) q = start_block_stays
+  start_by_name_stays (known tags.Nav) q = start_block_stays
+  start_by_name_stays (known tags.Ol) q = start_block_stays
+  start_by_name_stays (known tags.P) q = start_block_stays
+  start_by_name_stays (known tags.Search) q = start_block_stays
+  start_by_name_stays (known tags.Section) q = start_block_stays
+  start_by_name_stays (known tags.Summary) q = start_block_stays
+  start_by_name_stays (known tags.Ul) q = start_block_stays
+  start_by_name_stays (known tags.H1) q = start_heading_stays
+  start_by_name_stays (known tags.H2) q = start_heading_stays
+  start_by_name_stays (known tags.H3) q = start_heading_stays
+  start_by_name_stays (known tags.H4) q = start_heading_stays
+  start_by_name_stays (known tags.H5) q = start_heading_stays
+  start_by_name_stays (known tags.H6) q = start_heading_stays
+  start_by_name_stays (known tags.Pre) q = start_preformatted_stays
+  start_by_name_stays (known tags.Listing) q = start_preformatted_stays
+  start_by_name_stays (known tags.Form) q = start_form_stays
+  start_by_name_stays (known tags.Li) q = start_item_stays (Only tags.Li)
+  start_by_name_stays (known tags.Dd) q = start_item_stays DescriptionParts
+  start_by_name_stays (known tags.Dt) q = start_item_stays DescriptionParts
+  start_by_name_stays (known tags.PlainText) q = then_stays (insert_raw_tag_stays raw.Plaintext) close_paragraph_stays
+  start_by_name_stays (known tags.Table) q = start_table_stays
+  start_by_name_stays (known tags.Hr) q = start_separator_stays
+  start_by_name_stays (known tags.Button) q = start_button_stays
+  start_by_name_stays (known tags.A) q = start_anchor_stays
+  start_by_name_stays (known tags.B) q = start_formatting_stays
+  start_by_name_stays (known tags.Big) q = start_formatting_stays
+  start_by_name_stays (known tags.Code) q = start_formatting_stays
+  start_by_name_stays (known tags.Em) q = start_formatting_stays
+  start_by_name_stays (known tags.Font) q = start_formatting_stays
+  start_by_name_stays (known tags.I) q = start_formatting_stays
+  start_by_name_stays (known tags.S) q = start_formatting_stays
+  start_by_name_stays (known tags.Small) q = start_formatting_stays
+  start_by_name_stays (known tags.Strike) q = start_formatting_stays
+  start_by_name_stays (known tags.Strong) q = start_formatting_stays
+  start_by_name_stays (known tags.Tt) q = start_formatting_stays
+  start_by_name_stays (known tags.U) q = start_formatting_stays
+  start_by_name_stays (known tags.NoBr) q = start_no_break_stays
+  start_by_name_stays (known tags.Applet) q = start_embedded_stays
+  start_by_name_stays (known tags.Marquee) q = start_embedded_stays
+  start_by_name_stays (known tags.Object) q = start_embedded_stays
+  start_by_name_stays (known tags.Area) q = void_tag_stays tag p
+  start_by_name_stays (known tags.Br) q = void_tag_stays tag p
+  start_by_name_stays (known tags.Embed) q = void_tag_stays tag p
+  start_by_name_stays (known tags.Img) q = void_tag_stays tag p
+  start_by_name_stays (known tags.KeyGen) q = void_tag_stays tag p
+  start_by_name_stays (known tags.Wbr) q = void_tag_stays tag p
+  start_by_name_stays (known tags.Input) q = start_input_stays
+  start_by_name_stays (known tags.Param) q = insert_void_tag_stays
+  start_by_name_stays (known tags.Source) q = insert_void_tag_stays
+  start_by_name_stays (known tags.Track) q = insert_void_tag_stays
+  start_by_name_stays (known tags.Image) q = void_tag_stays (record tag { name = known tags.Img }) refl
+  start_by_name_stays (known tags.TextArea) q = start_text_area_stays
+  start_by_name_stays (known tags.Xmp) q = start_example_stays
+  start_by_name_stays (known tags.Iframe) q = then_stays (insert_raw_tag_stays raw.Iframe) no_frameset_stays
+  start_by_name_stays (known tags.NoEmbed) q = insert_raw_tag_stays raw.Noembed
+  start_by_name_stays (known tags.NoScript) q = start_no_script_stays
+  start_by_name_stays (known tags.Select) q = start_select_stays
+  start_by_name_stays (known tags.OptGroup) q = start_option_stays
+  start_by_name_stays (known tags.OptionTag) q = start_option_stays
+  start_by_name_stays (known tags.Rb) q = start_ruby_stays ImpliedEnd
+  start_by_name_stays (known tags.Rtc) q = start_ruby_stays ImpliedEnd
+  start_by_name_stays (known tags.Rp) q = start_ruby_stays ImpliedEndInRuby
+  start_by_name_stays (known tags.Rt) q = start_ruby_stays ImpliedEndInRuby
+  start_by_name_stays (known tags.Math) q = start_foreign_stays MathMl
+  start_by_name_stays (known tags.Svg) q = start_foreign_stays Svg
+  start_by_name_stays _ q = start_ordinary_stays
 
   pub start_in_body_stays : Stays (start_in_body tag)
-  start_in_body_stays = start_by_stays (rule_of_start tag.name) (no_frames tag.name p)
+  start_in_body_stays = start_by_name_stays tag.name p
 
 -- ---- end tags
 
@@ -311,46 +390,72 @@ line_break_stays : Stays line_break
 line_break_stays =
     then_stays no_frameset_stays (then_stays (insert_void_stays (known tags.Br) [] refl) reconstruct_stays)
 
--- formatting has a plain name
-abbrev IsNamed : EndRule → TagName → Type 0
-IsNamed ending.Formatting tag = is_plain tag ≡ true
-IsNamed _ tag = Unit {0}
+close_any_heading_stays : Stays (on_stack (close Headings Default))
+close_any_heading_stays = on_stack_stays (close Headings Default) (close_plain Headings Default)
 
-end_by_stays : (by : EndRule) (tag : TagName) → IsNamed by tag → StaysAnswer (end_by by tag)
-end_by_stays ending.Body tag e = says_plain end_body_stays
-end_by_stays ending.Root tag e = says_plain end_body_stays
-end_by_stays ending.Template tag e = says_plain end_template_stays
-end_by_stays ending.Block tag e = says_plain (end_block_stays tag)
-end_by_stays ending.Form tag e = says_plain end_form_stays
-end_by_stays ending.Paragraph tag e = says_plain end_paragraph_stays
-end_by_stays ending.ListItem tag e =
-    says_plain (on_stack_stays (close (Only tags.Li) ListItem) (close_plain (Only tags.Li) ListItem))
-end_by_stays ending.Heading tag e =
-    says_plain (on_stack_stays (close Headings Default) (close_plain Headings Default))
-end_by_stays ending.Formatting tag e = says_plain (adoption_agency_stays tag e)
-end_by_stays ending.Embedded tag e = says_plain (end_embedded_stays tag)
-end_by_stays ending.LineBreak tag e = says_plain line_break_stays
-end_by_stays ending.Ordinary tag e =
-    says_plain (on_stack_stays (close_name (known tag)) (close_name_plain (known tag)))
-
-is_named : (tag : TagName) → IsNamed (end_rule tag) tag
+end_by_name_stays : (tag : TagName) → StaysAnswer (end_by (end_rule tag) tag)
 unfolding text_end_rule
-is_named tags.A = refl
-is_named tags.B = refl
-is_named tags.Big = refl
-is_named tags.Code = refl
-is_named tags.Em = refl
-is_named tags.Font = refl
-is_named tags.I = refl
-is_named tags.NoBr = refl
-is_named tags.S = refl
-is_named tags.Small = refl
-is_named tags.Strike = refl
-is_named tags.Strong = refl
-is_named tags.Tt = refl
-is_named tags.U = refl
-is_named _ = tt
+end_by_name_stays tags.Body = says_plain end_body_stays
+end_by_name_stays tags.Html = says_plain end_body_stays
+end_by_name_stays tags.Template = says_plain end_template_stays
+end_by_name_stays tags.Address = says_plain (end_block_stays tags.Address)
+end_by_name_stays tags.Article = says_plain (end_block_stays tags.Article)
+end_by_name_stays tags.Aside = says_plain (end_block_stays tags.Aside)
+end_by_name_stays tags.BlockQuote = says_plain (end_block_stays tags.BlockQuote)
+end_by_name_stays tags.Center = says_plain (end_block_stays tags.Center)
+end_by_name_stays tags.Details = says_plain (end_block_stays tags.Details)
+end_by_name_stays tags.Dialog = says_plain (end_block_stays tags.Dialog)
+end_by_name_stays tags.Dir = says_plain (end_block_stays tags.Dir)
+end_by_name_stays tags.Div = says_plain (end_block_stays tags.Div)
+end_by_name_stays tags.Dl = says_plain (end_block_stays tags.Dl)
+end_by_name_stays tags.FieldSet = says_plain (end_block_stays tags.FieldSet)
+end_by_name_stays tags.FigCaption = says_plain (end_block_stays tags.FigCaption)
+end_by_name_stays tags.Figure = says_plain (end_block_stays tags.Figure)
+end_by_name_stays tags.Footer = says_plain (end_block_stays tags.Footer)
+end_by_name_stays tags.Header = says_plain (end_block_stays tags.Header)
+end_by_name_stays tags.HGroup = says_plain (end_block_stays tags.HGroup)
+end_by_name_stays tags.Main = says_plain (end_block_stays tags.Main)
+end_by_name_stays tags.Menu = says_plain (end_block_stays tags.Menu)
+end_by_name_stays tags.Nav = says_plain (end_block_stays tags.Nav)
+end_by_name_stays tags.Ol = says_plain (end_block_stays tags.Ol)
+end_by_name_stays tags.Search = says_plain (end_block_stays tags.Search)
+end_by_name_stays tags.Section = says_plain (end_block_stays tags.Section)
+end_by_name_stays tags.Summary = says_plain (end_block_stays tags.Summary)
+end_by_name_stays tags.Ul = says_plain (end_block_stays tags.Ul)
+end_by_name_stays tags.Button = says_plain (end_block_stays tags.Button)
+end_by_name_stays tags.Dd = says_plain (end_block_stays tags.Dd)
+end_by_name_stays tags.Dt = says_plain (end_block_stays tags.Dt)
+end_by_name_stays tags.Listing = says_plain (end_block_stays tags.Listing)
+end_by_name_stays tags.Pre = says_plain (end_block_stays tags.Pre)
+end_by_name_stays tags.Form = says_plain end_form_stays
+end_by_name_stays tags.P = says_plain end_paragraph_stays
+end_by_name_stays tags.Li = says_plain (on_stack_stays (close (Only tags.Li) ListItem) (close_plain (Only tags.Li) ListItem))
+end_by_name_stays tags.H1 = says_plain close_any_heading_stays
+end_by_name_stays tags.H2 = says_plain close_any_heading_stays
+end_by_name_stays tags.H3 = says_plain close_any_heading_stays
+end_by_name_stays tags.H4 = says_plain close_any_heading_stays
+end_by_name_stays tags.H5 = says_plain close_any_heading_stays
+end_by_name_stays tags.H6 = says_plain close_any_heading_stays
+end_by_name_stays tags.A = says_plain (adoption_agency_stays tags.A refl)
+end_by_name_stays tags.B = says_plain (adoption_agency_stays tags.B refl)
+end_by_name_stays tags.Big = says_plain (adoption_agency_stays tags.Big refl)
+end_by_name_stays tags.Code = says_plain (adoption_agency_stays tags.Code refl)
+end_by_name_stays tags.Em = says_plain (adoption_agency_stays tags.Em refl)
+end_by_name_stays tags.Font = says_plain (adoption_agency_stays tags.Font refl)
+end_by_name_stays tags.I = says_plain (adoption_agency_stays tags.I refl)
+end_by_name_stays tags.NoBr = says_plain (adoption_agency_stays tags.NoBr refl)
+end_by_name_stays tags.S = says_plain (adoption_agency_stays tags.S refl)
+end_by_name_stays tags.Small = says_plain (adoption_agency_stays tags.Small refl)
+end_by_name_stays tags.Strike = says_plain (adoption_agency_stays tags.Strike refl)
+end_by_name_stays tags.Strong = says_plain (adoption_agency_stays tags.Strong refl)
+end_by_name_stays tags.Tt = says_plain (adoption_agency_stays tags.Tt refl)
+end_by_name_stays tags.U = says_plain (adoption_agency_stays tags.U refl)
+end_by_name_stays tags.Applet = says_plain (end_embedded_stays tags.Applet)
+end_by_name_stays tags.Marquee = says_plain (end_embedded_stays tags.Marquee)
+end_by_name_stays tags.Object = says_plain (end_embedded_stays tags.Object)
+end_by_name_stays tags.Br = says_plain line_break_stays
+end_by_name_stays tag = says_plain (on_stack_stays (close_name (known tag)) (close_name_plain (known tag)))
 
 pub end_in_body_stays : (name : NameValue) → StaysAnswer (end_in_body name)
-end_in_body_stays (known tag) = end_by_stays (end_rule tag) tag (is_named tag)
+end_in_body_stays (known tag) = end_by_name_stays tag
 end_in_body_stays (other t) = says_plain (on_stack_stays (close_name (other t)) (close_name_plain (other t)))

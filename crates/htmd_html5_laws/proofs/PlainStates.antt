@@ -9,7 +9,7 @@ use Rattle.htmd_grammar.specs.ValueTrees.{AttributePair}
 use Rattle.htmd_html5_tokens.specs.declared.tokens.RawElement.{RawElement}
 use Rattle.htmd_html5_state.specs.Names.{NameValue, ElementNameValue, known, other, html, svg, math}
 use Rattle.htmd_html5_state.specs.Documents.{KindValue, NodeValue, document, doctype, text, comment, element, kind_at}
-use Rattle.htmd_html5_state.specs.Documents.{last_in, add_missing, kind_with_missing}
+use Rattle.htmd_html5_state.specs.Documents.{last_in, add, add_missing, kind_with_missing}
 use Rattle.htmd_html5_state.specs.OpenElements.{OpenValue, is_open_node, pop, is_in_scope}
 use Rattle.htmd_html5_state.specs.State.{StateValue, on_nodes, on_stack, on_formatting}
 use Rattle.htmd_html5_state.specs.Foreign.{foreign_name, foreign_attributes, pop_if, insert_foreign}
@@ -149,6 +149,11 @@ plain_added nodes k e p =
     (subst (λ (m : ℕ). PlainAt (kinds nodes ++ k ∷ []) m) (length-map nodes _)
     (ap is_plain_kind (kind_new (kinds nodes) k) ∙ p))
 
+pub added_grows : (k : KindValue) (at : _) (nodes : List NodeValue) (m : ℕ) → PlainAt (kinds nodes) m
+    → PlainAt (kinds (add k at nodes)) m
+added_grows k at nodes m p =
+    subst (λ (ks : List KindValue). PlainAt ks m) (sym (kinds_add k at nodes)) (plain_before (kinds nodes) k m p)
+
 pub plain_new : {ks new : List KindValue} {entries : List (Option ℕ)} {stack : List OpenValue}
     {mode : InsertionMode} {modes : List InsertionMode} (k : KindValue) → new ≡ ks ++ k ∷ []
     → PlainIn ks entries stack mode modes → PlainIn new entries stack mode modes
@@ -213,7 +218,7 @@ missing_plain more document = refl
 missing_plain more doctype = refl
 missing_plain more (comment s) = refl
 
-plain_set : (ks : List KindValue) (n m : ℕ) (k : KindValue)
+pub plain_set : (ks : List KindValue) (n m : ℕ) (k : KindValue)
     → is_plain_kind k ≡ is_plain_kind (get_or ks n document) → PlainAt ks m → PlainAt (set ks n k) m
 plain_set [] n m k e p = p
 plain_set (x ∷ ks) zero zero k e p = e ∙ p
@@ -221,13 +226,16 @@ plain_set (x ∷ ks) zero (suc m) k e p = p
 plain_set (x ∷ ks) (suc n) zero k e p = p
 plain_set (x ∷ ks) (suc n) (suc m) k e p = plain_set ks n m k e p
 
+pub missing_grows : (n : ℕ) (more : List AttributePair) (nodes : List NodeValue) (m : ℕ) → PlainAt (kinds nodes) m
+    → PlainAt (kinds (add_missing n more nodes)) m
+missing_grows n more nodes m p =
+    subst (λ (ks : List KindValue). PlainAt ks m)
+    (sym (kinds_with_kind n (kind_with_missing more (kind_at nodes n)) nodes))
+    (plain_set (kinds nodes) n m (kind_with_missing more (kind_at nodes n))
+    (missing_plain more (kind_at nodes n) ∙ ap is_plain_kind (kind_read nodes n)) p)
+
 pub add_missing_stays : (n : ℕ) (more : List AttributePair) → Stays (on_nodes (add_missing n more))
-add_missing_stays n more = record {
-  stays = λ s h. plain_grown (λ m p. subst (λ (ks : List KindValue). PlainAt ks m)
-      (sym (kinds_with_kind n (kind_with_missing more (kind_at s.nodes n)) s.nodes))
-      (plain_set (kinds s.nodes) n m (kind_with_missing more (kind_at s.nodes n))
-      (missing_plain more (kind_at s.nodes n) ∙ ap is_plain_kind (kind_read s.nodes n)) p)) h;
-}
+add_missing_stays n more = record { stays = λ s h. plain_grown (missing_grows n more s.nodes) h }
 
 -- ---- the list of active formatting elements
 
@@ -284,9 +292,7 @@ like_grown s (element name attributes) p h = record {
   plain = plain_listed (length s.nodes)
       (plain_added s.nodes (element name attributes) (kinds_add (element name attributes) (place s) s.nodes) p)
       (λ n l. listed_first n (length s.nodes) s.formatting l) ((insert_named_stays name attributes p).stays s h);
-  grows = λ n e. subst (λ (ks : List KindValue). PlainAt ks n)
-      (sym (kinds_add (element name attributes) (place s) s.nodes))
-      (plain_before (kinds s.nodes) (element name attributes) n e);
+  grows = added_grows (element name attributes) (place s) s.nodes;
 }
 like_grown s (text t) p h = absurd (true≢false (sym p))
 like_grown s document p h = absurd (true≢false (sym p))

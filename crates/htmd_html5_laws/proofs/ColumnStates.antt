@@ -1,0 +1,137 @@
+-- States in the mode "in column group" with a `colgroup` as the current node, and start tags of columns.
+use Rattle.std.proofs.Common.{◌≡◌, ◌∙◌, ℕ, Bool, true, false, List, [], ◌∷◌, length, Option, Some, None, refl, sym, ap, subst}
+use Rattle.std.specs.Prelude.{if◌then◌else◌, ◌||◌, ◌&&◌, not}
+use Rattle.std.proofs.lemmas.Bool.{true≢false, or_right}
+use Rattle.htmd_text.proofs.Cases.{test}
+use Rattle.htmd_grammar.specs.ValueTrees.{AttributePair}
+use Rattle.htmd_html5_tokens.specs.declared.tokens.Content.{Content}
+use Rattle.htmd_html5_state.specs.Names.{NameValue, known, html}
+use Rattle.htmd_html5_state.specs.Documents.{NodeValue, KindValue, comment as comment_kind, element, last_in, add_missing}
+use Rattle.htmd_html5_state.specs.OpenElements.{OpenValue, current_is, is_open, is_in_scope, first_open, pop, clear_to}
+use Rattle.htmd_html5_state.specs.State.{StateValue}
+use Rattle.htmd_html5_state.specs.Insertion.{current, opened, place, insert_text}
+use Rattle.htmd_html5_state.specs.Foreign.{current_is_html, is_math_text_point, is_annotation, is_html_point}
+use Rattle.htmd_html5_state.specs.Formatting.{is_listed}
+use Rattle.htmd_html5_state.specs.Resetting.{has_modes}
+use Rattle.htmd_html5_state.specs.declared.modes.InsertionMode.{InsertionMode}
+use Rattle.htmd_html5_state.specs.declared.modes.InsertionMode.TheVariants.{Initial, BeforeHtml, BeforeHead, InHead}
+use Rattle.htmd_html5_state.specs.declared.modes.InsertionMode.TheVariants.{InHeadNoscript, AfterHead, InBody, InTable}
+use Rattle.htmd_html5_state.specs.declared.modes.InsertionMode.TheVariants.{InCaption, InColumnGroup, InTableBody}
+use Rattle.htmd_html5_state.specs.declared.modes.InsertionMode.TheVariants.{InRow, InCell, InSelect, InSelectInTable}
+use Rattle.htmd_html5_state.specs.declared.modes.InsertionMode.TheVariants.{InTemplate, AfterBody, InFrameset}
+use Rattle.htmd_html5_state.specs.declared.modes.InsertionMode.TheVariants.{AfterFrameset, AfterAfterBody}
+use Rattle.htmd_html5_state.specs.declared.modes.InsertionMode.TheVariants.{AfterAfterFrameset}
+use Rattle.htmd_html5_state.specs.declared.names.TagName.{TagName}
+use Rattle.htmd_html5_state.specs.declared.sets.NameSet.TheVariants.{Only, TableContext, Cells}
+use Rattle.htmd_html5_state.specs.declared.sets.Scope.TheVariants.{Table as TableScope}
+use Rattle.htmd_html5.specs.Tokens.{StartTagValue, TokenValue, start_tag, end_tag, run, comment, doctype, end_of_file}
+use Rattle.htmd_html5.specs.Answers.{Answer, answer, done, again}
+use Rattle.htmd_html5.specs.Runs.{kind_of_byte, first_kind}
+use Rattle.htmd_html5.specs.Feeding.{is_text_mode}
+use Rattle.htmd_html5.specs.SharedRules.{add_missing_to, add_to_root, end_template, leave_template}
+use Rattle.htmd_html5.specs.InBody.{end_of_file_in_template, end_of_file_in_body}
+use Rattle.htmd_html5.specs.InTable.{to_table, start_columns}
+use Rattle.htmd_html5.specs.InColumnGroup.{has_columns, end_columns, leave_columns, start_in_columns, end_in_columns}
+use Rattle.htmd_html5.specs.InColumnGroup.{close_columns, in_column_group}
+use Rattle.htmd_html5.specs.ForeignContent.{goes_to_html, is_foreign, is_for_math_text, is_for_annotation, is_for_html_point}
+use Rattle.htmd_html5.specs.ForeignContent.{in_foreign_content}
+use Rattle.htmd_html5.specs.Modes.{in_mode, by_mode_rules}
+use Rattle.htmd_html5.specs.Processing.{by_rules}
+use Rattle.htmd_html5_laws.proofs.NodeTexts.{kinds}
+use Rattle.htmd_html5_laws.proofs.TakingTexts.{by_first_kind}
+use Rattle.htmd_html5_laws.proofs.PlainNames.{PlainStack, is_plain_name, no_template_open, clear_to_plain}
+use Rattle.htmd_html5_laws.proofs.PlainStates.{PlainAt, Plain, is_plain_mode, added_grows, missing_grows}
+use Rattle.htmd_html5_laws.proofs.PlainRuns.{text_grows}
+use Rattle.htmd_html5_state.specs.declared.names.TagName.TheVariants as tags
+
+-- ---- a `colgroup` is the current node
+
+abbrev pub ColumnStack : List OpenValue → Type 0
+ColumnStack [] = true ≡ false
+ColumnStack (e ∷ es) = (e.name ≡ html (known tags.ColGroup)) × PlainStack es
+
+pub record ColumnsIn (ks : List KindValue) (entries : List (Option ℕ)) (stack : List OpenValue) (mode : InsertionMode)
+    (template_modes : List InsertionMode) (content : Content)
+    : Type 0 where
+  pub names : ColumnStack stack
+  pub entries_at : (n : ℕ) → is_listed n entries ≡ true → PlainAt ks n
+  pub in_columns : mode ≡ InColumnGroup
+  pub no_modes : template_modes ≡ []
+  pub no_raw : is_text_mode content ≡ false
+
+abbrev pub Columns : StateValue → Type 0
+Columns s = ColumnsIn (kinds s.nodes) s.formatting s.stack s.mode s.template_modes s.content
+
+-- no text is dropped in such a state
+pub data Stands (s : StateValue) : Type 0 where
+  is_plain_state : Plain s → Stands s
+  is_in_columns : Columns s → Stands s
+
+pub columns_current : (stack : List OpenValue) → ColumnStack stack → current_is (Only tags.ColGroup) stack ≡ true
+columns_current [] h = absurd (true≢false h)
+columns_current (e ∷ es) h = rw h.0 refl
+
+columns_html : (stack : List OpenValue) → ColumnStack stack → current_is_html stack ≡ true
+columns_html [] h = absurd (true≢false h)
+columns_html (e ∷ es) h = rw h.0 refl
+
+columns_popped : (stack : List OpenValue) → ColumnStack stack → PlainStack (pop stack)
+columns_popped [] h = absurd (true≢false h)
+columns_popped (e ∷ es) h = h.1
+
+no_template_in : (stack : List OpenValue) → ColumnStack stack → is_open (Only tags.Template) stack ≡ false
+no_template_in [] h = absurd (true≢false h)
+no_template_in (e ∷ es) h = rw h.0 (no_template_open es h.1)
+
+pub columns_grown : {ks new : List KindValue} {entries : List (Option ℕ)} {stack : List OpenValue}
+    {mode : InsertionMode} {modes : List InsertionMode} {content : Content}
+    → ((n : ℕ) → PlainAt ks n → PlainAt new n) → ColumnsIn ks entries stack mode modes content
+    → ColumnsIn new entries stack mode modes content
+columns_grown f h = record {
+  names = h.names;
+  entries_at = λ n l. f n (h.entries_at n l);
+  in_columns = h.in_columns;
+  no_modes = h.no_modes;
+  no_raw = h.no_raw;
+}
+
+-- ---- the rules of the mode
+
+pub columns_left : (s : StateValue) → Columns s → Plain (end_columns s)
+columns_left s h = rw (columns_current s.stack h.names) (closed s h)
+  where
+    closed : (s : StateValue) → Columns s → Plain (close_columns s)
+    closed s h = record {
+      names = columns_popped s.stack h.names;
+      entries_at = h.entries_at;
+      plain_mode = refl;
+      no_modes = h.no_modes;
+    }
+
+insert_text_in_columns : (t : List ℕ) (s : StateValue) → Columns s → Columns (insert_text t s)
+insert_text_in_columns t s h = columns_grown (text_grows t (place s) s.nodes) h
+
+root_in_columns : (tag : StartTagValue) (s : StateValue) → Columns s → Columns (add_to_root tag s)
+root_in_columns tag s h = rw (no_template_in s.stack h.names) (added (first_open s.stack))
+  where
+    added : (n : Option ℕ) → Columns (add_missing_to n tag.attributes s)
+    added None = h
+    added (Some n) = columns_grown (missing_grows n tag.attributes s.nodes) h
+
+-- what an answer says
+pub record Answered (a : Answer) : Type 0 where
+  pub stands : Stands a.state
+  pub no_raw : a.again ≡ true → is_text_mode a.state.content ≡ false
+
+pub answered_columns : {s : StateValue} → Columns s → Answered (done s)
+answered_columns h = record { stands = is_in_columns h; no_raw = λ e. absurd (true≢false (sym e)) }
+
+left_answered : (s : StateValue) → Columns s → Answered (leave_columns s)
+left_answered s h = record {
+  stands = is_plain_state (columns_left s h);
+  no_raw = λ e. rw (columns_current s.stack h.names) h.no_raw;
+}
+
+start_answered : (tag : StartTagValue) (name : NameValue) (s : StateValue) → name ≡ known tags.Template ⊎ Unit {0}
+    → Columns s → Answered (start_in_columns name tag s)
+start_answered tag name s p h = ?
