@@ -10,7 +10,7 @@ use Rattle.htmd_html5_state.specs.Documents.{NodeValue, KindValue, comment as co
 use Rattle.htmd_html5_state.specs.OpenElements.{OpenValue, current_is, is_open, is_in_scope, first_open, pop, clear_to}
 use Rattle.htmd_html5_state.specs.State.{StateValue}
 use Rattle.htmd_html5_state.specs.Insertion.{current, opened, place, insert_text}
-use Rattle.htmd_html5_state.specs.Foreign.{current_is_html, is_math_text_point, is_annotation, is_html_point}
+use Rattle.htmd_html5_state.specs.Foreign.{current_is_html}
 use Rattle.htmd_html5_state.specs.Formatting.{is_listed}
 use Rattle.htmd_html5_state.specs.Resetting.{has_modes}
 use Rattle.htmd_html5_state.specs.declared.modes.InsertionMode.{InsertionMode}
@@ -33,12 +33,12 @@ use Rattle.htmd_html5.specs.InBody.{end_of_file_in_template, end_of_file_in_body
 use Rattle.htmd_html5.specs.InTable.{to_table, start_columns}
 use Rattle.htmd_html5.specs.InColumnGroup.{has_columns, end_columns, leave_columns, start_in_columns, end_in_columns}
 use Rattle.htmd_html5.specs.InColumnGroup.{close_columns, in_column_group}
-use Rattle.htmd_html5.specs.ForeignContent.{goes_to_html, is_foreign, is_for_math_text, is_for_annotation, is_for_html_point}
+use Rattle.htmd_html5.specs.ForeignContent.{goes_to_html, is_foreign}
 use Rattle.htmd_html5.specs.ForeignContent.{in_foreign_content}
 use Rattle.htmd_html5.specs.Modes.{in_mode, by_mode_rules}
 use Rattle.htmd_html5.specs.Processing.{by_rules}
 use Rattle.htmd_html5_laws.proofs.NodeTexts.{kinds}
-use Rattle.htmd_html5_laws.proofs.TakingTexts.{by_first_kind}
+use Rattle.htmd_html5_laws.proofs.TakingRuns.{by_first_kind}
 use Rattle.htmd_html5_laws.proofs.PlainNames.{PlainStack, is_plain_name, no_template_open, clear_to_plain}
 use Rattle.htmd_html5_laws.proofs.PlainStates.{PlainAt, Plain, is_plain_mode, added_grows, missing_grows}
 use Rattle.htmd_html5_laws.proofs.PlainRuns.{text_grows}
@@ -108,7 +108,7 @@ columns_left s h = rw (columns_current s.stack h.names) (closed s h)
       no_modes = h.no_modes;
     }
 
-insert_text_in_columns : (t : List ℕ) (s : StateValue) → Columns s → Columns (insert_text t s)
+pub insert_text_in_columns : (t : List ℕ) (s : StateValue) → Columns s → Columns (insert_text t s)
 insert_text_in_columns t s h = columns_grown (text_grows t (place s) s.nodes) h
 
 root_in_columns : (tag : StartTagValue) (s : StateValue) → Columns s → Columns (add_to_root tag s)
@@ -132,6 +132,78 @@ left_answered s h = record {
   no_raw = λ e. rw (columns_current s.stack h.names) h.no_raw;
 }
 
-start_answered : (tag : StartTagValue) (name : NameValue) (s : StateValue) → name ≡ known tags.Template ⊎ Unit {0}
-    → Columns s → Answered (start_in_columns name tag s)
-start_answered tag name s p h = ?
+end_template_in_columns : (s : StateValue) → Columns s → Columns (end_template s)
+end_template_in_columns s h = rw (no_template_in s.stack h.names) h
+
+end_of_file_answered : (s : StateValue) → Columns s → Answered (end_of_file_in_body s)
+end_of_file_answered s h = either (has_modes s.template_modes) (ap has_modes h.no_modes)
+  where
+    either : (b : Bool) → b ≡ false → Answered (if b then end_of_file_in_template s else done s)
+    either true e = absurd (true≢false e)
+    either false e = answered_columns h
+
+-- a token, with no start tag of a template
+abbrev pub IsFreeName : NameValue → Type 0
+IsFreeName (known tags.Template) = true ≡ false
+IsFreeName _ = Unit {0}
+
+start_answered : (tag : StartTagValue) (name : NameValue) (s : StateValue) → IsFreeName name → Columns s
+    → Answered (start_in_columns name tag s)
+start_answered tag (known tags.Html) s p h = answered_columns (root_in_columns tag s h)
+start_answered tag (known tags.Col) s p h =
+    answered_columns (columns_grown (added_grows (element (html tag.name) tag.attributes) (place s) s.nodes) h)
+start_answered tag (known tags.Template) s p h = absurd (true≢false p)
+start_answered tag _ s p h = left_answered s h
+
+end_answered : (name : NameValue) (s : StateValue) → Columns s → Answered (end_in_columns name s)
+end_answered (known tags.ColGroup) s h = record {
+  stands = is_plain_state (columns_left s h);
+  no_raw = λ e. absurd (true≢false (sym e));
+}
+end_answered (known tags.Col) s h = answered_columns h
+end_answered (known tags.Template) s h = answered_columns (end_template_in_columns s h)
+end_answered _ s h = left_answered s h
+
+abbrev pub IsFree : TokenValue → Type 0
+IsFree (run kind s) = true ≡ false
+IsFree (start_tag tag) = IsFreeName tag.name
+IsFree _ = Unit {0}
+
+in_columns_answered : (t : TokenValue) (s : StateValue) → IsFree t → Columns s → Answered (in_column_group t s)
+in_columns_answered (run kind text) s p h = absurd (true≢false p)
+in_columns_answered (comment text) s p h =
+    answered_columns (columns_grown (added_grows (comment_kind text) (last_in (current s.stack).node) s.nodes) h)
+in_columns_answered (doctype quirks) s p h = answered_columns h
+in_columns_answered (start_tag tag) s p h = start_answered tag tag.name s p h
+in_columns_answered (end_tag name) s p h = end_answered name s h
+in_columns_answered end_of_file s p h = end_of_file_answered s h
+
+run_in_columns : (s t : List ℕ) (x : StateValue) → Columns x → Answered (in_column_group (run (first_kind s) t) x)
+run_in_columns s t x h =
+    by_first_kind (λ kind. Answered (in_column_group (run kind t) x)) (answered_columns (insert_text_in_columns t x h))
+    (left_answered x h) (left_answered x h) s
+
+-- HTML's rules apply there
+html_applies : (t : TokenValue) (s : StateValue) → Columns s → goes_to_html t s ≡ true
+html_applies t s h = or_right _ (current_is_html s.stack) (columns_html s.stack h.names)
+
+not_foreign : (t : TokenValue) (s : StateValue) → Columns s → is_foreign t s ≡ false
+not_foreign (run kind text) s h = rw (html_applies (run kind text) s h) refl
+not_foreign (comment text) s h = rw (html_applies (comment text) s h) refl
+not_foreign (doctype quirks) s h = rw (html_applies (doctype quirks) s h) refl
+not_foreign (start_tag tag) s h = rw (html_applies (start_tag tag) s h) refl
+not_foreign (end_tag name) s h = rw (html_applies (end_tag name) s h) refl
+not_foreign end_of_file s h = refl
+
+by_columns : (t : TokenValue) (s : StateValue) → Columns s → Answered (in_column_group t s) → Answered (by_rules t s)
+by_columns t s h a = either (is_foreign t s) (not_foreign t s h)
+  where
+    either : (b : Bool) → b ≡ false → Answered (if b then in_foreign_content t s else by_mode_rules t s)
+    either true e = absurd (true≢false e)
+    either false e = subst (λ (mode : InsertionMode). Answered (in_mode mode t s)) (sym h.in_columns) a
+
+pub columns_answered : (t : TokenValue) (s : StateValue) → IsFree t → Columns s → Answered (by_rules t s)
+columns_answered t s p h = by_columns t s h (in_columns_answered t s p h)
+
+pub columns_run_answered : (s t : List ℕ) (x : StateValue) → Columns x → Answered (by_rules (run (first_kind s) t) x)
+columns_run_answered s t x h = by_columns (run (first_kind s) t) x h (run_in_columns s t x h)

@@ -41,5 +41,9 @@ pub mod PlainTables
 pub mod PlainModes
 pub mod PlainTokens
 pub mod PlainRuns
+pub mod ColumnStates
+pub mod ColumnTags
+pub mod HarmlessTokens
+pub mod HarmlessLettersLemmas
 pub mod PageLettersLemmas
 mod Examples

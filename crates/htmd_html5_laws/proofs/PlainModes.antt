@@ -26,6 +26,7 @@ use Rattle.htmd_html5.specs.BeforeHtml.{with_root, imply_root, start_before_html
 use Rattle.htmd_html5.specs.BeforeHead.{with_head, imply_head, start_before_head, end_before_head, before_head}
 use Rattle.htmd_html5.specs.InHead.{close_head, noscript_in_head, start_in_head, end_in_head, in_head}
 use Rattle.htmd_html5.specs.InHeadNoscript.{close_noscript, start_in_noscript, end_in_noscript, in_head_noscript}
+use Rattle.htmd_html5.specs.SharedRules.{insert_head_element}
 use Rattle.htmd_html5.specs.AfterHead.{with_body, imply_body, insert_in_head, insert_late, start_after_head, end_after_head}
 use Rattle.htmd_html5.specs.AfterHead.{after_head}
 use Rattle.htmd_html5.specs.InBody.{end_of_file_in_template, end_of_file_in_body, run_in_body, in_body}

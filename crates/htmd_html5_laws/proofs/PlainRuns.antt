@@ -22,7 +22,7 @@ use Rattle.htmd_html5.specs.Modes.{in_mode, by_mode_rules}
 use Rattle.htmd_html5.specs.ForeignContent.{is_foreign, replacements, run_in_foreign}
 use Rattle.htmd_html5.specs.Processing.{by_rules}
 use Rattle.htmd_html5_laws.proofs.NodeTexts.{kinds, kinds_with_kind, kind_read}
-use Rattle.htmd_html5_laws.proofs.TakingTexts.{by_first_kind}
+use Rattle.htmd_html5_laws.proofs.TakingRuns.{by_first_kind}
 use Rattle.htmd_html5_laws.proofs.PlainNames.{is_plain_kind}
 use Rattle.htmd_html5_laws.proofs.PlainStates.{is_plain_mode, PlainAt, Plain, Stays, then_stays, still, plain_grown}
 use Rattle.htmd_html5_laws.proofs.PlainStates.{added_grows, plain_set, reconstruct_stays}

@@ -260,7 +260,7 @@ end_in_row_stays name = says_plain (end_in_table_stays name)
 
 -- ---- cells
 
-close_cell_stays : (cells : NameSet) → Stays (close_cell cells)
+pub close_cell_stays : (cells : NameSet) → Stays (close_cell cells)
 close_cell_stays cells =
     then_stays (with_mode_stays InRow refl) (then_stays clear_to_marker_stays
     (on_stack_stays (pop_until cells) (pop_until_plain cells)))

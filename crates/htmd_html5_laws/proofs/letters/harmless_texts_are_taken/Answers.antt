@@ -1,6 +1,5 @@
-use Rattle.htmd_html5_laws.proofs.PlainTokens.{by_rules_stays}
-use Rattle.htmd_html5_laws.proofs.PlainRuns.{run_stays}
+use Rattle.htmd_html5_laws.proofs.HarmlessTokens.{harmless_taken}
 use Rattle.htmd_html5_laws.proofs.letters.harmless_texts_are_taken.Goals as goal
 
 pub returns : goal.returns
-returns c = ?
+returns c = harmless_taken
