@@ -39,8 +39,9 @@ use Rattle.htmd_html5.specs.Modes.{in_mode, by_mode_rules}
 use Rattle.htmd_html5.specs.Processing.{by_rules}
 use Rattle.htmd_html5_laws.proofs.NodeTexts.{kinds}
 use Rattle.htmd_html5_laws.proofs.TakingRuns.{by_first_kind}
-use Rattle.htmd_html5_laws.proofs.PlainNames.{PlainStack, is_plain_name, no_template_open, clear_to_plain}
+use Rattle.htmd_html5_laws.proofs.PlainNames.{PlainStack, no_template_open, pop_fewer}
 use Rattle.htmd_html5_laws.proofs.PlainStates.{PlainAt, Plain, is_plain_mode, added_grows, missing_grows}
+use Rattle.htmd_html5_laws.proofs.HungStates.{Hung, hung_fewer, hung_missing, hung_named, hung_last, hung_text}
 use Rattle.htmd_html5_laws.proofs.PlainRuns.{text_grows}
 use Rattle.htmd_html5_state.specs.declared.names.TagName.TheVariants as tags
 
@@ -62,10 +63,10 @@ pub record ColumnsIn (ks : List KindValue) (entries : List (Option ℕ)) (stack 
 abbrev pub Columns : StateValue → Type 0
 Columns s = ColumnsIn (kinds s.nodes) s.formatting s.stack s.mode s.template_modes s.content
 
--- no text is dropped in such a state
+-- no text is dropped in such a state, and each hangs under the Document
 pub data Stands (s : StateValue) : Type 0 where
-  is_plain_state : Plain s → Stands s
-  is_in_columns : Columns s → Stands s
+  is_plain_state : Plain s → Hung s → Stands s
+  is_in_columns : Columns s → Hung s → Stands s
 
 pub columns_current : (stack : List OpenValue) → ColumnStack stack → current_is (Only tags.ColGroup) stack ≡ true
 columns_current [] h = absurd (true≢false h)
@@ -118,70 +119,85 @@ root_in_columns tag s h = rw (no_template_in s.stack h.names) (added (first_open
     added None = h
     added (Some n) = columns_grown (missing_grows n tag.attributes s.nodes) h
 
+root_hung : (tag : StartTagValue) (s : StateValue) → Columns s → Hung s → Hung (add_to_root tag s)
+root_hung tag s h x = rw (no_template_in s.stack h.names) (added (first_open s.stack))
+  where
+    added : (n : Option ℕ) → Hung (add_missing_to n tag.attributes s)
+    added None = x
+    added (Some n) = hung_missing n tag.attributes s.nodes x
+
+left_hung : (s : StateValue) → Columns s → Hung s → Hung (end_columns s)
+left_hung s h x = rw (columns_current s.stack h.names) (hung_fewer (pop s.stack) (pop_fewer s.stack) x)
+
 -- what an answer says
 pub record Answered (a : Answer) : Type 0 where
   pub stands : Stands a.state
   pub no_raw : a.again ≡ true → is_text_mode a.state.content ≡ false
 
-pub answered_columns : {s : StateValue} → Columns s → Answered (done s)
-answered_columns h = record { stands = is_in_columns h; no_raw = λ e. absurd (true≢false (sym e)) }
+pub answered_columns : {s : StateValue} → Columns s → Hung s → Answered (done s)
+answered_columns h x = record { stands = is_in_columns h x; no_raw = λ e. absurd (true≢false (sym e)) }
 
-left_answered : (s : StateValue) → Columns s → Answered (leave_columns s)
-left_answered s h = record {
-  stands = is_plain_state (columns_left s h);
+left_answered : (s : StateValue) → Columns s → Hung s → Answered (leave_columns s)
+left_answered s h x = record {
+  stands = is_plain_state (columns_left s h) (left_hung s h x);
   no_raw = λ e. rw (columns_current s.stack h.names) h.no_raw;
 }
 
-end_template_in_columns : (s : StateValue) → Columns s → Columns (end_template s)
-end_template_in_columns s h = rw (no_template_in s.stack h.names) h
+end_template_answered : (s : StateValue) → Columns s → Hung s → Answered (done (end_template s))
+end_template_answered s h x = rw (no_template_in s.stack h.names) (answered_columns h x)
 
-end_of_file_answered : (s : StateValue) → Columns s → Answered (end_of_file_in_body s)
-end_of_file_answered s h = either (has_modes s.template_modes) (ap has_modes h.no_modes)
+end_of_file_answered : (s : StateValue) → Columns s → Hung s → Answered (end_of_file_in_body s)
+end_of_file_answered s h x = either (has_modes s.template_modes) (ap has_modes h.no_modes)
   where
     either : (b : Bool) → b ≡ false → Answered (if b then end_of_file_in_template s else done s)
     either true e = absurd (true≢false e)
-    either false e = answered_columns h
+    either false e = answered_columns h x
 
 -- a token, with no start tag of a template
 abbrev pub IsFreeName : NameValue → Type 0
 IsFreeName (known tags.Template) = true ≡ false
 IsFreeName _ = Unit {0}
 
-start_answered : (tag : StartTagValue) (name : NameValue) (s : StateValue) → IsFreeName name → Columns s
+start_answered : (tag : StartTagValue) (name : NameValue) (s : StateValue) → IsFreeName name → Columns s → Hung s
     → Answered (start_in_columns name tag s)
-start_answered tag (known tags.Html) s p h = answered_columns (root_in_columns tag s h)
-start_answered tag (known tags.Col) s p h =
+start_answered tag (known tags.Html) s p h x = answered_columns (root_in_columns tag s h) (root_hung tag s h x)
+start_answered tag (known tags.Col) s p h x =
     answered_columns (columns_grown (added_grows (element (html tag.name) tag.attributes) (place s) s.nodes) h)
-start_answered tag (known tags.Template) s p h = absurd (true≢false p)
-start_answered tag _ s p h = left_answered s h
+    (hung_fewer s.stack (pop_fewer (opened (length s.nodes) (html tag.name) ∷ s.stack))
+    (hung_named (html tag.name) tag.attributes s x))
+start_answered tag (known tags.Template) s p h x = absurd (true≢false p)
+start_answered tag _ s p h x = left_answered s h x
 
-end_answered : (name : NameValue) (s : StateValue) → Columns s → Answered (end_in_columns name s)
-end_answered (known tags.ColGroup) s h = record {
-  stands = is_plain_state (columns_left s h);
+end_answered : (name : NameValue) (s : StateValue) → Columns s → Hung s → Answered (end_in_columns name s)
+end_answered (known tags.ColGroup) s h x = record {
+  stands = is_plain_state (columns_left s h) (left_hung s h x);
   no_raw = λ e. absurd (true≢false (sym e));
 }
-end_answered (known tags.Col) s h = answered_columns h
-end_answered (known tags.Template) s h = answered_columns (end_template_in_columns s h)
-end_answered _ s h = left_answered s h
+end_answered (known tags.Col) s h x = answered_columns h x
+end_answered (known tags.Template) s h x = end_template_answered s h x
+end_answered _ s h x = left_answered s h x
 
 abbrev pub IsFree : TokenValue → Type 0
 IsFree (run kind s) = true ≡ false
 IsFree (start_tag tag) = IsFreeName tag.name
 IsFree _ = Unit {0}
 
-in_columns_answered : (t : TokenValue) (s : StateValue) → IsFree t → Columns s → Answered (in_column_group t s)
-in_columns_answered (run kind text) s p h = absurd (true≢false p)
-in_columns_answered (comment text) s p h =
+in_columns_answered : (t : TokenValue) (s : StateValue) → IsFree t → Columns s → Hung s
+    → Answered (in_column_group t s)
+in_columns_answered (run kind text) s p h x = absurd (true≢false p)
+in_columns_answered (comment text) s p h x =
     answered_columns (columns_grown (added_grows (comment_kind text) (last_in (current s.stack).node) s.nodes) h)
-in_columns_answered (doctype quirks) s p h = answered_columns h
-in_columns_answered (start_tag tag) s p h = start_answered tag tag.name s p h
-in_columns_answered (end_tag name) s p h = end_answered name s h
-in_columns_answered end_of_file s p h = end_of_file_answered s h
+    (hung_last (comment_kind text) (current s.stack).node s.nodes refl x)
+in_columns_answered (doctype quirks) s p h x = answered_columns h x
+in_columns_answered (start_tag tag) s p h x = start_answered tag tag.name s p h x
+in_columns_answered (end_tag name) s p h x = end_answered name s h x
+in_columns_answered end_of_file s p h x = end_of_file_answered s h x
 
-run_in_columns : (s t : List ℕ) (x : StateValue) → Columns x → Answered (in_column_group (run (first_kind s) t) x)
-run_in_columns s t x h =
-    by_first_kind (λ kind. Answered (in_column_group (run kind t) x)) (answered_columns (insert_text_in_columns t x h))
-    (left_answered x h) (left_answered x h) s
+run_in_columns : (s t : List ℕ) (y : StateValue) → Columns y → Hung y
+    → Answered (in_column_group (run (first_kind s) t) y)
+run_in_columns s t y h x =
+    by_first_kind (λ kind. Answered (in_column_group (run kind t) y))
+    (answered_columns (insert_text_in_columns t y h) (hung_text t y x)) (left_answered y h x) (left_answered y h x) s
 
 -- HTML's rules apply there
 html_applies : (t : TokenValue) (s : StateValue) → Columns s → goes_to_html t s ≡ true
@@ -202,8 +218,9 @@ by_columns t s h a = either (is_foreign t s) (not_foreign t s h)
     either true e = absurd (true≢false e)
     either false e = subst (λ (mode : InsertionMode). Answered (in_mode mode t s)) (sym h.in_columns) a
 
-pub columns_answered : (t : TokenValue) (s : StateValue) → IsFree t → Columns s → Answered (by_rules t s)
-columns_answered t s p h = by_columns t s h (in_columns_answered t s p h)
+pub columns_answered : (t : TokenValue) (s : StateValue) → IsFree t → Columns s → Hung s → Answered (by_rules t s)
+columns_answered t s p h x = by_columns t s h (in_columns_answered t s p h x)
 
-pub columns_run_answered : (s t : List ℕ) (x : StateValue) → Columns x → Answered (by_rules (run (first_kind s) t) x)
-columns_run_answered s t x h = by_columns (run (first_kind s) t) x h (run_in_columns s t x h)
+pub columns_run_answered : (s t : List ℕ) (y : StateValue) → Columns y → Hung y
+    → Answered (by_rules (run (first_kind s) t) y)
+columns_run_answered s t y h x = by_columns (run (first_kind s) t) y h (run_in_columns s t y h x)

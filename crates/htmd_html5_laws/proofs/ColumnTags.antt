@@ -38,7 +38,8 @@ use Rattle.htmd_html5.specs.ForeignContent.{is_foreign, tag_breaks_out, break_ou
 use Rattle.htmd_html5.specs.ForeignContent.{in_foreign_content}
 use Rattle.htmd_html5.specs.Modes.{in_mode, by_mode_rules}
 use Rattle.htmd_html5.specs.Processing.{by_rules}
-use Rattle.htmd_html5_laws.proofs.PlainNames.{clear_to_plain}
+use Rattle.htmd_html5_laws.proofs.PlainNames.{PlainOpen, is_plain_open, clear_to_fewer}
+use Rattle.htmd_html5_laws.proofs.HungStates.{Hung, hung_fewer, hung_named}
 use Rattle.htmd_html5_laws.proofs.PlainStates.{is_plain_mode, Plain, added_grows}
 use Rattle.htmd_html5_laws.proofs.PlainBody.{StaysAnswer, says_plain}
 use Rattle.htmd_html5_laws.proofs.PlainTables.{leave_caption_stays, leave_section_stays, leave_row_stays, close_cell_stays}
@@ -58,12 +59,18 @@ IsColumn _ = true ≡ false
 columns_begun : (name : NameValue) (attributes : List AttributePair) (s : StateValue) → name ≡ known tags.ColGroup
     → Plain s → is_text_mode s.content ≡ false → Columns (start_columns name attributes s)
 columns_begun name attributes s e h no_raw = record {
-  names = (ap html e, clear_to_plain TableContext s.stack h.names);
+  names = (ap html e, (clear_to_fewer TableContext s.stack).each is_plain_open h.names);
   entries_at = λ n l. added_grows (element (html name) attributes) (place (to_table s)) s.nodes n (h.entries_at n l);
   in_columns = refl;
   no_modes = h.no_modes;
   no_raw = no_raw;
 }
+
+begun_hung : (name : NameValue) (attributes : List AttributePair) (s : StateValue) → Hung s
+    → Hung (start_columns name attributes s)
+begun_hung name attributes s x =
+    hung_named (html name) attributes (to_table s)
+    (hung_fewer (clear_to TableContext s.stack) (clear_to_fewer TableContext s.stack) x)
 
 breaks_none : (name : NameValue) (attributes : List AttributePair) → IsColumn name
     → tag_breaks_out name attributes ≡ false
@@ -80,14 +87,14 @@ by_column f a b _ c = absurd (true≢false c)
 
 -- ---- by the rules of each mode
 
-module _ (tag : StartTagValue) (s : StateValue) (h : Plain s) (no_raw : is_text_mode s.content ≡ false) where
+module _ (tag : StartTagValue) (s : StateValue) (h : Plain s) (x : Hung s) (no_raw : is_text_mode s.content ≡ false) where
   -- the token is done with in a plain state
-  done_plain : (t : StateValue) → Plain t → Answered (done t)
-  done_plain t p = record { stands = is_plain_state p; no_raw = λ e. absurd (true≢false (sym e)) }
+  done_plain : (t : StateValue) → Plain t → Hung t → Answered (done t)
+  done_plain t p y = record { stands = is_plain_state p y; no_raw = λ e. absurd (true≢false (sym e)) }
 
   left_plain : {f : StateValue → Answer} → StaysAnswer f
       → ((f s).again ≡ true → is_text_mode (f s).state.content ≡ false) → Answered (f s)
-  left_plain leaves raw = record { stands = is_plain_state (leaves.stays s h); no_raw = raw }
+  left_plain leaves raw = record { stands = is_plain_state (leaves.stays s h) (leaves.hangs s h x); no_raw = raw }
 
   -- the same rule for both
   both : (f : NameValue → Answer) → Answered (f (known tags.Col)) → Answered (f (known tags.ColGroup))
@@ -107,16 +114,20 @@ module _ (tag : StartTagValue) (s : StateValue) (h : Plain s) (no_raw : is_text_
   cell_left = either (is_in_scope Cells TableScope s.stack)
     where
       either : (b : Bool) → Answered (if b then again (close_cell Cells s) else done s)
-      either true = record { stands = is_plain_state ((close_cell_stays Cells).stays s h); no_raw = λ e. no_raw }
-      either false = done_plain s h
+      either true = record {
+        stands = is_plain_state ((close_cell_stays Cells).stays s h) ((close_cell_stays Cells).hangs s h x);
+        no_raw = λ e. no_raw;
+      }
+      either false = done_plain s h x
 
   in_table_answered : (name : NameValue) → tag.name ≡ name → IsColumn name → Answered (start_in_table name tag s)
   in_table_answered (known tags.Col) e c = record {
-    stands = is_in_columns (columns_begun (known tags.ColGroup) [] s refl h no_raw);
+    stands = is_in_columns (columns_begun (known tags.ColGroup) [] s refl h no_raw)
+        (begun_hung (known tags.ColGroup) [] s x);
     no_raw = λ e. no_raw;
   }
   in_table_answered (known tags.ColGroup) e c =
-      answered_columns (columns_begun tag.name tag.attributes s e h no_raw)
+      answered_columns (columns_begun tag.name tag.attributes s e h no_raw) (begun_hung tag.name tag.attributes s x)
   in_table_answered _ e c = absurd (true≢false c)
 
   in_mode_answered : (mode : InsertionMode) → is_plain_mode mode ≡ true → IsColumn tag.name
@@ -135,16 +146,16 @@ module _ (tag : StartTagValue) (s : StateValue) (h : Plain s) (no_raw : is_text_
   in_mode_answered AfterHead p c =
       let a = left_plain imply_body_stays (λ e. no_raw) in both (λ name. start_after_head name tag s) a a c
   in_mode_answered InBody p c =
-      both (λ name. done (start_by (rule_of_start name) tag s)) (done_plain s h) (done_plain s h) c
+      both (λ name. done (start_by (rule_of_start name) tag s)) (done_plain s h x) (done_plain s h x) c
   in_mode_answered InTable p c = in_table_answered tag.name refl c
   in_mode_answered InCaption p c = both (λ name. start_in_caption name tag s) caption_left caption_left c
   in_mode_answered InColumnGroup p c = absurd (true≢false (sym p))
   in_mode_answered InTableBody p c = both (λ name. start_in_section name tag s) section_left section_left c
   in_mode_answered InRow p c = both (λ name. start_in_row name tag s) row_left row_left c
   in_mode_answered InCell p c = both (λ name. start_in_cell name tag s) cell_left cell_left c
-  in_mode_answered InSelect p c = both (λ name. start_in_select name tag s) (done_plain s h) (done_plain s h) c
+  in_mode_answered InSelect p c = both (λ name. start_in_select name tag s) (done_plain s h x) (done_plain s h x) c
   in_mode_answered InSelectInTable p c =
-      both (λ name. start_in_select_in_table name tag s) (done_plain s h) (done_plain s h) c
+      both (λ name. start_in_select_in_table name tag s) (done_plain s h x) (done_plain s h x) c
   in_mode_answered InTemplate p c = absurd (true≢false (sym p))
   in_mode_answered AfterBody p c =
       let a = left_plain back_to_body_stays (λ e. no_raw) in both (λ name. start_after_body name tag s) a a c
@@ -157,7 +168,7 @@ module _ (tag : StartTagValue) (s : StateValue) (h : Plain s) (no_raw : is_text_
   foreign_answered : IsColumn tag.name → Answered (in_foreign_content (start_tag tag) s)
   foreign_answered c =
       rw (breaks_none tag.name tag.attributes c)
-      (done_plain (start_foreign_element tag s) ((start_foreign_stays tag).stays s h))
+      (done_plain (start_foreign_element tag s) ((start_foreign_stays tag).stays s h) ((start_foreign_stays tag).hangs s h x))
 
   pub column_tag_answered : IsColumn tag.name → Answered (by_rules (start_tag tag) s)
   column_tag_answered c = either (is_foreign (start_tag tag) s)

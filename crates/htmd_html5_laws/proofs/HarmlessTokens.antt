@@ -1,6 +1,6 @@
 -- The tokens of a page without a start tag of `frameset` or `template`: no text comes to a state that drops text.
 use Rattle.std.proofs.Common.{◌≡◌, ◌∙◌, ℕ, zero, suc, Bool, true, false, List, [], ◌∷◌, length, Option, Some, None}
-use Rattle.std.proofs.Common.{refl, sym, ap, inl, inr, ◌⊎◌}
+use Rattle.std.proofs.Common.{refl, sym, ap, arith, inl, inr, ◌⊎◌}
 use Rattle.std.specs.Prelude.{if◌then◌else◌, ◌&&◌, ◌||◌, not, find, codes}
 use Rattle.std.specs.List.{list_all}
 use Rattle.std.specs.Str.{bytes_eq}
@@ -30,11 +30,15 @@ use Rattle.htmd_html5.specs.Texts.{Taken, is_table_mode, takes_all, taken, after
 use Rattle.htmd_html5.specs.Texts.{put_within, put_text}
 use Rattle.htmd_html5.specs.Feeding.{is_text_mode, put_raw_text, feed_text, without_line_feed, with_nothing_skipped}
 use Rattle.htmd_html5.specs.Feeding.{close_raw, out_of_text_mode, feed_end_tag, named, feed_at, feed}
-use Rattle.htmd_html5.specs.Documents.{next_read, is_end}
+use Rattle.htmd_html5.specs.Documents.{next_read, is_end, after_token, read_within, state_after}
 use Rattle.htmd_html5_laws.specs.DocumentLetters.{drops_in, drops_text, takes_text, is_taken, taken_after, taken_within}
 use Rattle.htmd_html5_laws.specs.HarmlessTags.{drops_text_in, is_harmless, tokens_after, tokens_within}
-use Rattle.htmd_html5_laws.specs.HarmlessTags.{HarmlessTextsAreTaken}
-use Rattle.htmd_html5_laws.proofs.PlainNames.{is_plain_name, pop_plain}
+use Rattle.htmd_html5_laws.specs.HarmlessTags.{all_tags_are_harmless, HarmlessTextsAreTaken}
+use Rattle.htmd_html5_laws.proofs.FedTokens.{initial_sound}
+use Rattle.htmd_html5_laws.proofs.HungNodes.{is_solid}
+use Rattle.htmd_html5_state.specs.Documents.{document, new_node, kind_at}
+use Rattle.htmd_html5_laws.proofs.PlainNames.{is_plain_name, PlainOpen, is_plain_open, pop_fewer}
+use Rattle.htmd_html5_laws.proofs.HungStates.{Hung, hung_fewer, hung_text}
 use Rattle.htmd_html5_laws.proofs.PlainStates.{is_plain_mode, Plain, Stays, then_stays, still, stays_by_test, plain_stack}
 use Rattle.htmd_html5_laws.proofs.PlainTables.{fostered_stays}
 use Rattle.htmd_html5_laws.proofs.PlainModes.{IsPlain}
@@ -105,8 +109,9 @@ is_free (doctype quirks) p = tt
 is_free end_of_file p = tt
 
 plain_token_stands : (t : TokenValue) (s : StateValue) → IsPlain t → Stands s → Stands (by_rules t s).state
-plain_token_stands t s p (is_plain_state h) = is_plain_state ((by_rules_stays t p).stays s h)
-plain_token_stands t s p (is_in_columns h) = (columns_answered t s (is_free t p) h).stands
+plain_token_stands t s p (is_plain_state h x) =
+    is_plain_state ((by_rules_stays t p).stays s h) ((by_rules_stays t p).hangs s h x)
+plain_token_stands t s p (is_in_columns h x) = (columns_answered t s (is_free t p) h x).stands
 
 plain_within : (k : ℕ) (t : TokenValue) (s : StateValue) → IsPlain t → Stands s → Stands (process_within k t s)
 plain_within zero t s p h = h
@@ -120,8 +125,9 @@ column_free (other s) c = tt
 
 column_answered : (tag : StartTagValue) (s : StateValue) → IsColumn tag.name → is_text_mode s.content ≡ false
     → Stands s → Answered (by_rules (start_tag tag) s)
-column_answered tag s c no_raw (is_plain_state h) = column_tag_answered tag s h no_raw c
-column_answered tag s c no_raw (is_in_columns h) = columns_answered (start_tag tag) s (column_free tag.name c) h
+column_answered tag s c no_raw (is_plain_state h x) = column_tag_answered tag s h x no_raw c
+column_answered tag s c no_raw (is_in_columns h x) =
+    columns_answered (start_tag tag) s (column_free tag.name c) h x
 
 after_answered : (go : StateValue → StateValue) (a : Answer)
     → ((s : StateValue) → is_text_mode s.content ≡ false → Stands s → Stands (go s)) → Answered a
@@ -147,8 +153,9 @@ start_stands tag s (inr c) no_raw h = column_within (turns s) tag s c no_raw h
 -- ---- texts
 
 text_stands : (t : List ℕ) (s : StateValue) → Stands s → Stands (insert_text t s)
-text_stands t s (is_plain_state h) = is_plain_state ((insert_text_stays t).stays s h)
-text_stands t s (is_in_columns h) = is_in_columns (insert_text_in_columns t s h)
+text_stands t s (is_plain_state h x) =
+    is_plain_state ((insert_text_stays t).stays s h) ((insert_text_stays t).hangs s h x)
+text_stands t s (is_in_columns h x) = is_in_columns (insert_text_in_columns t s h) (hung_text t s x)
 
 foster_runs_stay : (k : ℕ) (text : List ℕ) → Stays (foster_runs k text)
 foster_runs_stay zero text = still
@@ -162,14 +169,16 @@ put_table_text_stays text =
     (stays_by_test (λ s. list_all is_ascii_white_space text) (insert_text_stays text)
     (foster_runs_stay (length text) text))
 
-in_table_itself : (s : StateValue) → takes_all s ≡ true → Stands s → Plain s
-in_table_itself s e (is_plain_state h) = h
-in_table_itself s e (is_in_columns h) =
+in_table_itself : (text : List ℕ) (s : StateValue) → takes_all s ≡ true → Stands s → Stands (put_table_text text s)
+in_table_itself text s e (is_plain_state h x) =
+    is_plain_state ((put_table_text_stays text).stays s h) ((put_table_text_stays text).hangs s h x)
+in_table_itself text s e (is_in_columns h x) =
     absurd (true≢false (sym (and_parts (is_table_mode s.mode) _ e).0 ∙ ap is_table_mode h.in_columns))
 
 run_stands : (text : List ℕ) (s : StateValue) → Stands s → Stands (by_rules (first_token text) s).state
-run_stands text s (is_plain_state h) = is_plain_state ((run_stays text (first_run text)).stays s h)
-run_stands text s (is_in_columns h) = (columns_run_answered text (first_run text) s h).stands
+run_stands text s (is_plain_state h x) =
+    is_plain_state ((run_stays text (first_run text)).stays s h) ((run_stays text (first_run text)).hangs s h x)
+run_stands text s (is_in_columns h x) = (columns_run_answered text (first_run text) s h x).stands
 
 take_stands : (k : ℕ) (text : List ℕ) (s : StateValue) → Stands s → Stands (take_within k text s).state
 take_stands zero text s h = h
@@ -187,8 +196,7 @@ take_stands (suc k) text s h = either (takes_all s) refl (λ x g. take_stands k 
         → ((x : StateValue) → Stands x → Stands (take_within k text x).state)
         → Stands (if b then taken (table_text text s) []
         else after_run (take_within k text) (after_first_run text) (by_rules (first_token text) s)).state
-    either true e more =
-        is_plain_state ((put_table_text_stays (without_nulls text)).stays s (in_table_itself s e h))
+    either true e more = in_table_itself (without_nulls text) s e h
     either false e more = after (take_within k text) (by_rules (first_token text) s) more (run_stands text s h)
 
 put_stands : (k : ℕ) (text : List ℕ) (s : StateValue) → Stands s → Stands (put_within k text s)
@@ -216,8 +224,10 @@ feed_text_stands text s h = either (is_text_mode s.content)
 -- ---- tokens of the tokenizer
 
 raw_closed : (s : StateValue) → is_text_mode s.content ≡ true → Stands s → Stands (close_raw s)
-raw_closed s e (is_plain_state h) = is_plain_state (plain_stack (pop s.stack) (pop_plain s.stack h.names) h)
-raw_closed s e (is_in_columns h) = absurd (true≢false (sym e ∙ h.no_raw))
+raw_closed s e (is_plain_state h x) =
+    is_plain_state (plain_stack (pop s.stack) ((pop_fewer s.stack).each is_plain_open h.names) h)
+    (hung_fewer (pop s.stack) (pop_fewer s.stack) x)
+raw_closed s e (is_in_columns h x) = absurd (true≢false (sym e ∙ h.no_raw))
 
 -- a state that isn't in the mode "text"
 record Ready (s : StateValue) : Type 0 where
@@ -264,8 +274,8 @@ feed_stands : (token : tokens.TokenValue) (s : StateValue) → is_harmless token
 feed_stands token s e h = feed_at_stands token s.skips_line_feed (with_nothing_skipped s) e (skipped h)
   where
     skipped : Stands s → Stands (with_nothing_skipped s)
-    skipped (is_plain_state g) = is_plain_state g
-    skipped (is_in_columns g) = is_in_columns g
+    skipped (is_plain_state g x) = is_plain_state g x
+    skipped (is_in_columns g x) = is_in_columns g x
 
 -- ---- no text is dropped
 
@@ -279,8 +289,8 @@ mode_drops_none AfterAfterFrameset stack p = absurd (true≢false (sym p))
 mode_drops_none _ stack p = refl
 
 drops_none : (s : StateValue) → Stands s → drops_text s ≡ false
-drops_none s (is_plain_state h) = mode_drops_none s.mode s.stack h.plain_mode
-drops_none s (is_in_columns h) =
+drops_none s (is_plain_state h x) = mode_drops_none s.mode s.stack h.plain_mode
+drops_none s (is_in_columns h x) =
     ap (λ (mode : InsertionMode). drops_in mode s.stack) h.in_columns ∙ ap not (columns_current s.stack h.names)
 
 token_taken : (token : tokens.TokenValue) (s : StateValue) → Stands s → is_taken token s ≡ true
@@ -326,7 +336,71 @@ begins_plain scripting = record {
   no_modes = refl;
 }
 
+begins_hung : (scripting : Bool) → Hung (initial_state scripting)
+begins_hung scripting = record {
+  rank = λ n. n;
+  limit = 0;
+  at_root = refl;
+  order = tt;
+  hangs = λ n solid. absurd (none n solid);
+  opened_at = tt;
+  head_at = λ n e. absurd (no_head n e);
+  forest = (initial_sound scripting).forest;
+  filled = omega arith;
+  root = refl;
+}
+  where
+    none : (n : ℕ) → is_solid (kind_at (new_node document ∷ []) n) ≡ true → ⊥
+    none zero e = true≢false (sym e)
+    none (suc n) e = true≢false (sym e)
+
+    no_head : (n : ℕ) → None ≡ Some n → ⊥
+    no_head n e = cc
+
 pub harmless_taken : HarmlessTextsAreTaken
 harmless_taken scripting page e =
     all_taken (length (preprocessed page)) (preprocessed page) (initial_state scripting) e
-    (is_plain_state (begins_plain scripting))
+    (is_plain_state (begins_plain scripting) (begins_hung scripting))
+
+-- ---- each hangs at the end
+
+after_stand : (k : ℕ) (read : Read) (s : StateValue) → list_all is_harmless (tokens_after (tokens_within k) read s) ≡ true
+    → Stands s
+    → ((t : StateValue) → list_all is_harmless (tokens_within k read.rest t) ≡ true → Stands t
+    → Stands (read_within k read.rest t))
+    → Stands (after_token (read_within k) read s)
+after_stand k read s e h more = either (is_end read.token) refl e
+  where
+    ends : (token : tokens.TokenValue) → is_end token ≡ true → is_harmless token ≡ true
+    ends (tokens.text text) f = refl
+    ends (tokens.start_tag tag) f = absurd (true≢false (sym f))
+    ends (tokens.end_tag tag) f = refl
+    ends (tokens.comment text) f = refl
+    ends (tokens.doctype quirks) f = refl
+    ends tokens.end_of_file f = refl
+
+    either : (b : Bool) → is_end read.token ≡ b
+        → list_all is_harmless
+        (if b then [] else read.token ∷ tokens_within k read.rest (feed read.token s)) ≡ true
+        → Stands (if b then feed read.token s else read_within k read.rest (feed read.token s))
+    either true g f = feed_stands read.token s (ends read.token g) h
+    either false g f =
+        let parts = and_parts (is_harmless read.token)
+        (list_all is_harmless (tokens_within k read.rest (feed read.token s))) f in
+        more (feed read.token s) parts.1 (feed_stands read.token s parts.0 h)
+
+read_stands : (k : ℕ) (page : List ℕ) (s : StateValue) → list_all is_harmless (tokens_within k page s) ≡ true
+    → Stands s → Stands (read_within k page s)
+read_stands zero page s e h = feed_stands tokens.end_of_file s refl h
+read_stands (suc k) page s e h =
+    after_stand k (next_read page s) s e h (λ t f g. read_stands k (next_read page s).rest t f g)
+
+pub harmless_hung : (scripting : Bool) (page : List ℕ) → all_tags_are_harmless scripting page ≡ true
+    → Hung (state_after scripting page)
+harmless_hung scripting page e =
+    hung (read_stands (length (preprocessed page)) (preprocessed page) (initial_state scripting) e
+    (is_plain_state (begins_plain scripting) (begins_hung scripting)))
+  where
+    hung : {s : StateValue} → Stands s → Hung s
+    hung (is_plain_state h x) = x
+    hung (is_in_columns h x) = x

@@ -131,7 +131,7 @@ move_kept last s e h =
     (kinds_put last (place (on_nodes (detach last) s)) (detach last s.nodes) ∙ kinds_detach last s.nodes)
     (forest_detached_put last (place (on_nodes (detach last) s)) s.nodes (element_within s.nodes last e) h.forest) h
 
-wrap_forest : (formatting block : ℕ) (nodes : List NodeValue) → IsForest nodes
+pub wrap_forest : (formatting block : ℕ) (nodes : List NodeValue) → IsForest nodes
     → IsForest (wrap_children formatting block nodes)
 unfolding wrap_children
 wrap_forest formatting block nodes h =

@@ -31,9 +31,12 @@ pub mod NodeWeights
 pub mod LaidTexts
 pub mod PendingNodes
 pub mod WholeTexts
+pub mod HungNodes
 pub mod WholeTrees
 pub mod KeptLettersLemmas
 pub mod PlainNames
+pub mod HungStates
+pub mod HungAdoption
 pub mod PlainStates
 pub mod PlainAdoption
 pub mod PlainBody

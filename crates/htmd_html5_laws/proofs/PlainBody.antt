@@ -39,9 +39,10 @@ use Rattle.htmd_html5.specs.BodyStarts.{start_foreign, start_text_area, start_ex
 use Rattle.htmd_html5.specs.BodyStarts.{start_no_script, start_by, start_in_body}
 use Rattle.htmd_html5.specs.BodyEnds.{text_end_rule, end_rule, has_body, end_body, end_block, close_form, end_form}
 use Rattle.htmd_html5.specs.BodyEnds.{end_paragraph, end_embedded, line_break, end_by, end_in_body}
-use Rattle.htmd_html5_laws.proofs.PlainNames.{is_plain, is_plain_name, no_template_open, pop_plain, close_plain}
-use Rattle.htmd_html5_laws.proofs.PlainNames.{close_name_plain, pop_while_plain, without_plain, close_heading_plain}
-use Rattle.htmd_html5_laws.proofs.PlainNames.{close_option_plain}
+use Rattle.htmd_html5_laws.proofs.PlainNames.{is_plain, is_plain_name, no_template_open, pop_fewer, close_fewer}
+use Rattle.htmd_html5_laws.proofs.PlainNames.{close_name_fewer, pop_while_fewer, without_fewer, close_heading_fewer}
+use Rattle.htmd_html5_laws.proofs.PlainNames.{close_option_fewer, fewer_then}
+use Rattle.htmd_html5_laws.proofs.HungStates.{Hung}
 use Rattle.htmd_html5_laws.proofs.PlainStates.{is_plain_mode, Plain, Stays, then_stays, still, stays_by_test}
 use Rattle.htmd_html5_laws.proofs.PlainStates.{stays_by_state, on_stack_stays, in_plain_mode, insert_element_stays}
 use Rattle.htmd_html5_laws.proofs.PlainStates.{insert_void_stays, insert_raw_stays, insert_foreign_stays}
@@ -53,32 +54,38 @@ use Rattle.htmd_html5_tokens.specs.declared.tokens.RawElement.TheVariants as raw
 
 -- ---- what a mode answers
 
--- an answer whose state is plain
+-- an answer whose state is plain, and in which what hung under the Document does so
 pub record StaysAnswer (f : StateValue → Answer) : Type 0 where
   pub stays : (s : StateValue) → Plain s → Plain (f s).state
+  pub hangs : (s : StateValue) → Plain s → Hung s → Hung (f s).state
 
 pub says_plain : {f : StateValue → StateValue} {more : StateValue → Bool} → Stays f
     → StaysAnswer (λ s. answer (f s) (more s))
-says_plain h = record { stays = λ s plain. h.stays s plain }
+says_plain h = record { stays = λ s plain. h.stays s plain; hangs = λ s plain x. h.hangs s plain x }
 
 pub answers_either : {f g : StateValue → Answer} (b : StateValue → Bool) → StaysAnswer f → StaysAnswer g
     → StaysAnswer (λ s. if b s then f s else g s)
-answers_either {f} {g} b first second = record { stays = λ s h. either (b s) s h }
+answers_either {f} {g} b first second =
+    record { stays = λ s h. either (b s) s h; hangs = λ s h x. each (b s) s h x }
   where
     either : (t : Bool) (s : StateValue) → Plain s → Plain (if t then f s else g s).state
     either true s h = first.stays s h
     either false s h = second.stays s h
 
+    each : (t : Bool) (s : StateValue) → Plain s → Hung s → Hung (if t then f s else g s).state
+    each true s h x = first.hangs s h x
+    each false s h x = second.hangs s h x
+
 -- ---- rules that many modes share
 
 pub with_mode_stays : (mode : InsertionMode) → is_plain_mode mode ≡ true → Stays (with_mode mode)
-with_mode_stays mode p = record { stays = λ s h. in_plain_mode mode p h }
+with_mode_stays mode p = record { stays = λ s h. in_plain_mode mode p h; hangs = λ s h x. x }
 
 pub no_frameset_stays : Stays no_frameset
-no_frameset_stays = record { stays = λ s h. h }
+no_frameset_stays = record { stays = λ s h. h; hangs = λ s h x. x }
 
 pub close_paragraph_stays : Stays close_paragraph
-close_paragraph_stays = on_stack_stays (close (Only tags.P) ButtonScope) (close_plain (Only tags.P) ButtonScope)
+close_paragraph_stays = on_stack_stays (close (Only tags.P) ButtonScope) (close_fewer (Only tags.P) ButtonScope)
 
 add_missing_to_stays : (n : Option ℕ) (attributes : List AttributePair) → Stays (add_missing_to n attributes)
 add_missing_to_stays None attributes = still
@@ -86,7 +93,10 @@ add_missing_to_stays (Some n) attributes = add_missing_stays n attributes
 
 -- no template is open
 pub end_template_stays : Stays end_template
-end_template_stays = record { stays = λ s h. rw (no_template_open s.stack h.names) h }
+end_template_stays = record {
+  stays = λ s h. rw (no_template_open s.stack h.names) h;
+  hangs = λ s h x. rw (no_template_open s.stack h.names) x;
+}
 
 pub insert_foreign_tag_stays : (space : Namespace) (tag : StartTagValue) → Stays (insert_foreign_tag space tag)
 insert_foreign_tag_stays space tag =
@@ -98,15 +108,15 @@ add_to_root_stays tag =
     (stays_by_state (λ s. first_open s.stack) (λ n. add_missing_to_stays n tag.attributes))
 
 skip_line_feed_stays : Stays skip_line_feed
-skip_line_feed_stays = record { stays = λ s h. h }
+skip_line_feed_stays = record { stays = λ s h. h; hangs = λ s h x. x }
 
 pub with_form_stays : Stays with_form
-with_form_stays = record { stays = λ s h. h }
+with_form_stays = record { stays = λ s h. h; hangs = λ s h x. x }
 
 forget_stays : (n : Option ℕ) → Stays (forget n)
 forget_stays None = still
 forget_stays (Some n) =
-    then_stays (on_stack_stays (without n) (without_plain n))
+    then_stays (on_stack_stays (without n) (without_fewer n))
     (then_stays (without_entry_stays n) (adoption_agency_stays tags.A refl))
 
 close_no_break_stays : Stays close_no_break
@@ -164,7 +174,7 @@ module _ (tag : StartTagValue) (p : is_plain_name tag.name ≡ true) where
   start_item_stays : (alike : NameSet) → Stays (start_item alike tag)
   start_item_stays alike =
       then_stays start_block_stays
-      (then_stays (on_stack_stays (close alike Items) (close_plain alike Items)) no_frameset_stays)
+      (then_stays (on_stack_stays (close alike Items) (close_fewer alike Items)) no_frameset_stays)
 
   start_table_stays : Stays (start_table tag)
   start_table_stays =
@@ -187,7 +197,7 @@ module _ (tag : StartTagValue) (p : is_plain_name tag.name ≡ true) where
   start_button_stays =
       then_stays no_frameset_stays
       (then_stays start_ordinary_stays (on_stack_stays (close (Only tags.Button) Default)
-      (close_plain (Only tags.Button) Default)))
+      (close_fewer (Only tags.Button) Default)))
 
   start_input_stays : Stays (start_input tag)
   start_input_stays =
@@ -197,16 +207,17 @@ module _ (tag : StartTagValue) (p : is_plain_name tag.name ≡ true) where
   start_select_stays = record {
     stays = λ s h. in_plain_mode (mode_of_select s.mode) (select_mode_is_plain s.mode)
         ((then_stays no_frameset_stays start_ordinary_stays).stays s h);
+    hangs = λ s h x. (then_stays no_frameset_stays start_ordinary_stays).hangs s h x;
   }
 
   start_option_stays : Stays (start_option tag)
-  start_option_stays = then_stays start_ordinary_stays (on_stack_stays close_option close_option_plain)
+  start_option_stays = then_stays start_ordinary_stays (on_stack_stays close_option close_option_fewer)
 
   start_ruby_stays : (implied : NameSet) → Stays (start_ruby implied tag)
   start_ruby_stays implied =
       then_stays insert_tag_stays
       (stays_by_test (λ s. is_in_scope (Only tags.Ruby) Default s.stack)
-      (on_stack_stays (pop_while implied) (pop_while_plain implied)) still)
+      (on_stack_stays (pop_while implied) (pop_while_fewer implied)) still)
 
   start_example_stays : Stays (start_example tag)
   start_example_stays =
@@ -219,7 +230,7 @@ module _ (tag : StartTagValue) (p : is_plain_name tag.name ≡ true) where
 
   start_heading_stays : Stays (start_heading tag)
   start_heading_stays =
-      then_stays insert_tag_stays (then_stays (on_stack_stays close_heading close_heading_plain) close_paragraph_stays)
+      then_stays insert_tag_stays (then_stays (on_stack_stays close_heading close_heading_fewer) close_paragraph_stays)
 
   start_preformatted_stays : Stays (start_preformatted tag)
   start_preformatted_stays = then_stays no_frameset_stays (then_stays skip_line_feed_stays start_block_stays)
@@ -362,19 +373,22 @@ end_body_stays : Stays end_body
 end_body_stays = stays_by_test has_body (with_mode_stays AfterBody refl) still
 
 end_block_stays : (tag : TagName) → Stays (end_block tag)
-end_block_stays tag = on_stack_stays (close (Only tag) Default) (close_plain (Only tag) Default)
+end_block_stays tag = on_stack_stays (close (Only tag) Default) (close_fewer (Only tag) Default)
 
 close_form_stays : (form : Option ℕ) → Stays (close_form form)
 close_form_stays None = still
 close_form_stays (Some n) =
     stays_by_test (λ s. is_node_in_scope n s.stack) (on_stack_stays (λ stack. without n (pop_while ImpliedEnd stack))
-    (λ stack h. without_plain n (pop_while ImpliedEnd stack) (pop_while_plain ImpliedEnd stack h))) still
+    (λ stack. fewer_then (without_fewer n (pop_while ImpliedEnd stack)) (pop_while_fewer ImpliedEnd stack))) still
 
 end_form_stays : Stays end_form
 end_form_stays =
     stays_by_test (λ s. is_open (Only tags.Template) s.stack)
-    (on_stack_stays (close (Only tags.Form) Default) (close_plain (Only tags.Form) Default))
-    (record { stays = λ s h. (close_form_stays s.form).stays (record s { form = None }) h })
+    (on_stack_stays (close (Only tags.Form) Default) (close_fewer (Only tags.Form) Default))
+    (record {
+      stays = λ s h. (close_form_stays s.form).stays (record s { form = None }) h;
+      hangs = λ s h x. (close_form_stays s.form).hangs (record s { form = None }) h x;
+    })
 
 end_paragraph_stays : Stays end_paragraph
 end_paragraph_stays =
@@ -391,7 +405,7 @@ line_break_stays =
     then_stays no_frameset_stays (then_stays (insert_void_stays (known tags.Br) [] refl) reconstruct_stays)
 
 close_any_heading_stays : Stays (on_stack (close Headings Default))
-close_any_heading_stays = on_stack_stays (close Headings Default) (close_plain Headings Default)
+close_any_heading_stays = on_stack_stays (close Headings Default) (close_fewer Headings Default)
 
 end_by_name_stays : (tag : TagName) → StaysAnswer (end_by (end_rule tag) tag)
 unfolding text_end_rule
@@ -429,7 +443,7 @@ end_by_name_stays tags.Listing = says_plain (end_block_stays tags.Listing)
 end_by_name_stays tags.Pre = says_plain (end_block_stays tags.Pre)
 end_by_name_stays tags.Form = says_plain end_form_stays
 end_by_name_stays tags.P = says_plain end_paragraph_stays
-end_by_name_stays tags.Li = says_plain (on_stack_stays (close (Only tags.Li) ListItem) (close_plain (Only tags.Li) ListItem))
+end_by_name_stays tags.Li = says_plain (on_stack_stays (close (Only tags.Li) ListItem) (close_fewer (Only tags.Li) ListItem))
 end_by_name_stays tags.H1 = says_plain close_any_heading_stays
 end_by_name_stays tags.H2 = says_plain close_any_heading_stays
 end_by_name_stays tags.H3 = says_plain close_any_heading_stays
@@ -454,8 +468,8 @@ end_by_name_stays tags.Applet = says_plain (end_embedded_stays tags.Applet)
 end_by_name_stays tags.Marquee = says_plain (end_embedded_stays tags.Marquee)
 end_by_name_stays tags.Object = says_plain (end_embedded_stays tags.Object)
 end_by_name_stays tags.Br = says_plain line_break_stays
-end_by_name_stays tag = says_plain (on_stack_stays (close_name (known tag)) (close_name_plain (known tag)))
+end_by_name_stays tag = says_plain (on_stack_stays (close_name (known tag)) (close_name_fewer (known tag)))
 
 pub end_in_body_stays : (name : NameValue) → StaysAnswer (end_in_body name)
 end_in_body_stays (known tag) = end_by_name_stays tag
-end_in_body_stays (other t) = says_plain (on_stack_stays (close_name (other t)) (close_name_plain (other t)))
+end_in_body_stays (other t) = says_plain (on_stack_stays (close_name (other t)) (close_name_fewer (other t)))

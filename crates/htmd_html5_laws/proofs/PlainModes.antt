@@ -5,10 +5,10 @@ use Rattle.std.proofs.Common.{Option, Some, None, refl, sym, ap, subst}
 use Rattle.std.specs.Prelude.{if◌then◌else◌}
 use Rattle.std.proofs.lemmas.Bool.{true≢false}
 use Rattle.htmd_grammar.specs.ValueTrees.{AttributePair}
-use Rattle.htmd_html5_state.specs.Names.{NameValue, known, text_of_name}
+use Rattle.htmd_html5_state.specs.Names.{NameValue, known, html}
 use Rattle.htmd_html5_state.specs.OpenElements.{OpenValue, is_open, first_open, pop, without}
 use Rattle.htmd_html5_state.specs.State.{StateValue, on_stack}
-use Rattle.htmd_html5_state.specs.Insertion.{current, place, insert_text, open_again}
+use Rattle.htmd_html5_state.specs.Insertion.{opened, open_again}
 use Rattle.htmd_html5_state.specs.Resetting.{has_modes}
 use Rattle.htmd_html5_state.specs.declared.modes.InsertionMode.TheVariants.{Initial, BeforeHtml, BeforeHead, InHead}
 use Rattle.htmd_html5_state.specs.declared.modes.InsertionMode.TheVariants.{InHeadNoscript, AfterHead, InBody, InTable}
@@ -39,13 +39,16 @@ use Rattle.htmd_html5.specs.InSelect.{run_in_select, in_select, in_select_in_tab
 use Rattle.htmd_html5.specs.AfterBody.{back_to_body, start_after_body, end_after_body, comment_in, comment_in_root}
 use Rattle.htmd_html5.specs.AfterBody.{after_body, after_after_body}
 use Rattle.htmd_html5.specs.Modes.{in_mode, by_mode_rules}
-use Rattle.htmd_html5_laws.proofs.PlainNames.{is_plain_name, is_plain_kind, PlainStack, pop_plain, without_plain}
-use Rattle.htmd_html5_laws.proofs.PlainNames.{no_template_open, leave_foreign_plain}
+use Rattle.htmd_html5_laws.proofs.PlainNames.{is_plain_name, is_plain_open, pop_fewer, without_fewer}
+use Rattle.htmd_html5_laws.proofs.PlainNames.{no_template_open, leave_foreign_fewer}
 use Rattle.htmd_html5_laws.proofs.PlainStates.{is_plain_mode, PlainAt, Plain, Stays, then_stays, still, stays_by_test}
 use Rattle.htmd_html5_laws.proofs.PlainStates.{stays_by_state, on_stack_stays, plain_grown, plain_stack, in_plain_mode}
 use Rattle.htmd_html5_laws.proofs.PlainStates.{plain_before, plain_set, insert_element_stays, insert_root_stays}
+use Rattle.htmd_html5_laws.proofs.HungStates.{Hung, hung_named, hung_headed, hung_late_open, hung_late_void}
+use Rattle.htmd_html5_laws.proofs.NodeTexts.{is_element}
+use Rattle.htmd_html5_state.specs.Documents.{kind_at}
 use Rattle.htmd_html5_laws.proofs.PlainStates.{insert_comment_in_stays, insert_comment_stays, insert_doctype_stays}
-use Rattle.htmd_html5_laws.proofs.PlainStates.{open_again_stays, reconstruct_stays}
+use Rattle.htmd_html5_laws.proofs.PlainStates.{reconstruct_stays}
 use Rattle.htmd_html5_laws.proofs.PlainBody.{StaysAnswer, says_plain, answers_either, with_mode_stays, no_frameset_stays}
 use Rattle.htmd_html5_laws.proofs.PlainBody.{add_to_root_stays, end_template_stays, insert_foreign_tag_stays}
 use Rattle.htmd_html5_laws.proofs.PlainBody.{insert_tag_stays, insert_raw_tag_stays, insert_head_element_stays}
@@ -62,7 +65,7 @@ use Rattle.htmd_html5_tokens.specs.declared.tokens.RawElement.TheVariants as raw
 -- ---- before the head
 
 pub leave_initial_stays : StaysAnswer leave_initial
-leave_initial_stays = record { stays = λ s h. in_plain_mode BeforeHtml refl h }
+leave_initial_stays = record { stays = λ s h. in_plain_mode BeforeHtml refl h; hangs = λ s h x. x }
 
 with_root_stays : (name : NameValue) (attributes : List AttributePair) → is_plain_name name ≡ true
     → Stays (with_root name attributes)
@@ -87,6 +90,8 @@ with_head_stays : (name : NameValue) (attributes : List AttributePair) → is_pl
     → Stays (with_head name attributes)
 with_head_stays name attributes p = record {
   stays = λ s h. in_plain_mode InHead refl ((insert_element_stays name attributes p).stays s h);
+  hangs = λ s h x.
+      let y = hung_named (html name) attributes s x in hung_headed (length s.nodes) y.opened_at.0 y;
 }
 
 pub imply_head_stays : StaysAnswer imply_head
@@ -108,10 +113,10 @@ end_before_head_stays _ = says_plain still
 -- ---- the head
 
 pub close_head_stays : Stays close_head
-close_head_stays = then_stays (with_mode_stays AfterHead refl) (on_stack_stays pop pop_plain)
+close_head_stays = then_stays (with_mode_stays AfterHead refl) (on_stack_stays pop pop_fewer)
 
 pub close_noscript_stays : Stays close_noscript
-close_noscript_stays = then_stays (with_mode_stays InHead refl) (on_stack_stays pop pop_plain)
+close_noscript_stays = then_stays (with_mode_stays InHead refl) (on_stack_stays pop pop_fewer)
 
 with_body_stays : (name : NameValue) (attributes : List AttributePair) → is_plain_name name ≡ true
     → Stays (with_body name attributes)
@@ -157,14 +162,40 @@ module _ (tag : StartTagValue) (p : is_plain_name tag.name ≡ true) where
   start_in_noscript_stays (known tags.NoScript) = says_plain still
   start_in_noscript_stays _ = says_plain close_noscript_stays
 
-  insert_in_head_stays : (head : Option ℕ) → Stays (insert_in_head head tag)
-  insert_in_head_stays None = in_head_stays
-  insert_in_head_stays (Some head) =
-      then_stays (on_stack_stays (without head) (without_plain head))
-      (then_stays in_head_stays (open_again_stays head (known tags.Head) refl))
+  late_plain : (head : Option ℕ) (s : StateValue) → Plain s → Plain (insert_in_head head tag s)
+  late_plain None s h = in_head_stays.stays s h
+  late_plain (Some n) s h =
+      plain_stack (without n (insert_head_element tag.name tag (open_again n (known tags.Head) s)).stack)
+      ((without_fewer n (insert_head_element tag.name tag (open_again n (known tags.Head) s)).stack).each is_plain_open
+      (opened_late n s h).names) (opened_late n s h)
+    where
+      opened_late : (n : ℕ) (s : StateValue) → Plain s
+          → Plain (insert_head_element tag.name tag (open_again n (known tags.Head) s))
+      opened_late n s h =
+          in_head_stays.stays (open_again n (known tags.Head) s)
+          (plain_stack (opened n (html (known tags.Head)) ∷ s.stack) (refl, h.names) h)
+
+  -- the head is open only while an element is put into it
+  late_by_name : (name : NameValue) (n : ℕ) (s : StateValue) → is_plain_name name ≡ true
+      → is_element (kind_at s.nodes n) ≡ true → Hung s
+      → Hung (on_stack (without n) (insert_head_element name tag (open_again n (known tags.Head) s)))
+  late_by_name (known tags.Title) n s q e x = hung_late_open (html tag.name) tag.attributes n s e x
+  late_by_name (known tags.NoFrames) n s q e x = hung_late_open (html tag.name) tag.attributes n s e x
+  late_by_name (known tags.Style) n s q e x = hung_late_open (html tag.name) tag.attributes n s e x
+  late_by_name (known tags.Script) n s q e x = hung_late_open (html tag.name) tag.attributes n s e x
+  late_by_name (known tags.Template) n s q e x = absurd (true≢false (sym q))
+  late_by_name _ n s q e x = hung_late_void (html tag.name) tag.attributes n s e x
+
+  late_hung : (head : Option ℕ) (s : StateValue) → s.head ≡ head → Plain s → Hung s
+      → Hung (insert_in_head head tag s)
+  late_hung None s e h x = in_head_stays.hangs s h x
+  late_hung (Some n) s e h x = late_by_name tag.name n s p (x.head_at n e) x
 
   insert_late_stays : Stays (insert_late tag)
-  insert_late_stays = stays_by_state (λ s. s.head) insert_in_head_stays
+  insert_late_stays = record {
+    stays = λ s h. late_plain s.head s h;
+    hangs = λ s h x. late_hung s.head s refl h x;
+  }
 
   start_after_head_stays : (name : NameValue) → is_plain_name name ≡ true → StaysAnswer (start_after_head name tag)
   start_after_head_stays (known tags.Html) q = says_plain (add_to_root_stays tag)
@@ -225,8 +256,14 @@ comment_in_stays s (Some n) = insert_comment_in_stays n s
 end_of_file_stays : StaysAnswer end_of_file_in_body
 end_of_file_stays = record {
   stays = λ s h. either s (has_modes s.template_modes) (ap has_modes h.no_modes) h;
+  hangs = λ s h x. each s (has_modes s.template_modes) (ap has_modes h.no_modes) x;
 }
   where
+    each : (s : StateValue) (b : Bool) → b ≡ false → Hung s
+        → Hung (if b then end_of_file_in_template s else done s).state
+    each s true e x = absurd (true≢false e)
+    each s false e x = x
+
     either : (s : StateValue) (b : Bool) → b ≡ false → Plain s
         → Plain (if b then end_of_file_in_template s else done s).state
     either s true e h = absurd (true≢false e)
@@ -247,6 +284,7 @@ initial_stays (end_tag name) p = leave_initial_stays
 initial_stays (comment s) p = says_plain (insert_comment_in_stays 0 s)
 initial_stays (doctype quirks) p = record {
   stays = λ s h. in_plain_mode BeforeHtml refl (insert_doctype_stays.stays s h);
+  hangs = λ s h x. insert_doctype_stays.hangs s h x;
 }
 initial_stays end_of_file p = leave_initial_stays
 
@@ -395,4 +433,7 @@ in_mode_stays AfterAfterBody q t p = after_after_body_stays t p
 in_mode_stays AfterAfterFrameset q t p = absurd (true≢false (sym q))
 
 pub by_mode_rules_stays : (t : TokenValue) → IsPlain t → StaysAnswer (by_mode_rules t)
-by_mode_rules_stays t p = record { stays = λ s h. (in_mode_stays s.mode h.plain_mode t p).stays s h }
+by_mode_rules_stays t p = record {
+  stays = λ s h. (in_mode_stays s.mode h.plain_mode t p).stays s h;
+  hangs = λ s h x. (in_mode_stays s.mode h.plain_mode t p).hangs s h x;
+}

@@ -1,5 +1,5 @@
 -- Names that lead to no state that drops text: those of frames, templates and columns are left out.
-use Rattle.std.proofs.Common.{◌≡◌, ℕ, Bool, true, false, List, [], ◌∷◌, ◌++◌, Option, Some, None, refl, sym}
+use Rattle.std.proofs.Common.{◌≡◌, ℕ, Bool, true, false, List, [], ◌∷◌, ◌++◌, ◌<◌, ◌≤◌, refl, sym, arith}
 use Rattle.std.specs.Prelude.{◌==◌, ◌&&◌, if◌then◌else◌}
 use Rattle.std.specs.List.{list_any}
 use Rattle.std.proofs.lemmas.Bool.{true≢false}
@@ -47,11 +47,45 @@ pub foreign_is_plain : (space : Namespace) (name : List ℕ) → is_plain_elemen
 foreign_is_plain Svg name = refl
 foreign_is_plain MathMl name = refl
 
--- ---- the names of what is open
+-- ---- what is open
+
+-- each of these is like this
+abbrev pub EachOpen : (OpenValue → Type 0) → List OpenValue → Type 0
+EachOpen P [] = Unit {0}
+EachOpen P (e ∷ es) = P e × EachOpen P es
+
+abbrev pub is_plain_open : OpenValue → Bool
+is_plain_open e = is_plain_element e.name
+
+abbrev pub PlainOpen : OpenValue → Type 0
+PlainOpen e = is_plain_open e ≡ true
 
 abbrev pub PlainStack : List OpenValue → Type 0
-PlainStack [] = Unit {0}
-PlainStack (e ∷ es) = (is_plain_element e.name ≡ true) × PlainStack es
+PlainStack stack = EachOpen PlainOpen stack
+
+-- each element's rank is below that of the element right inside it, and the innermost's below a limit
+abbrev pub Below : (ℕ → ℕ) → ℕ → List OpenValue → Type 0
+Below rank limit [] = Unit {0}
+Below rank limit (e ∷ es) = (rank e.node < limit) × Below rank (rank e.node) es
+
+pub below_more : (rank : ℕ → ℕ) (low high : ℕ) (es : List OpenValue) → low ≤ high → Below rank low es
+    → Below rank high es
+below_more rank low high [] l h = tt
+below_more rank low high (e ∷ es) l h = let a = h.0 in (omega arith, h.1)
+
+pub below_tail : (rank : ℕ → ℕ) (limit : ℕ) (e : OpenValue) (es : List OpenValue) → Below rank limit (e ∷ es)
+    → Below rank limit es
+below_tail rank limit e es h = let a = h.0 in below_more rank (rank e.node) limit es (omega arith) h.1
+
+pub each_more : {P Q : OpenValue → Type 0} (es : List OpenValue) → ((e : OpenValue) → P e → Q e) → EachOpen P es
+    → EachOpen Q es
+each_more [] f h = tt
+each_more (e ∷ es) f h = (f e h.0, each_more es f h.1)
+
+pub each_append : (P : OpenValue → Type 0) (es stack : List OpenValue) → EachOpen P es → EachOpen P stack
+    → EachOpen P (es ++ stack)
+each_append P [] stack h g = g
+each_append P (e ∷ es) stack h g = (h.0, each_append P es stack h.1 g)
 
 no_template_name : (name : ElementNameValue) → is_plain_element name ≡ true → is_of (Only tags.Template) name ≡ false
 no_template_name (html (known tags.Template)) p = absurd (true≢false (sym p))
@@ -64,86 +98,110 @@ pub no_template_open : (stack : List OpenValue) → PlainStack stack → is_open
 no_template_open [] h = refl
 no_template_open (e ∷ es) h = rw (no_template_name e.name h.0) (no_template_open es h.1)
 
-pub append_plain : (es stack : List OpenValue) → PlainStack es → PlainStack stack → PlainStack (es ++ stack)
-append_plain [] stack h g = g
-append_plain (e ∷ es) stack h g = (h.0, append_plain es stack h.1 g)
+-- ---- some of the elements, in the same order
 
--- ---- elements are popped
+pub record Fewer (es stack : List OpenValue) : Type 0 where
+  pub each : (p : OpenValue → Bool) → EachOpen (λ e. p e ≡ true) stack → EachOpen (λ e. p e ≡ true) es
+  pub below : (rank : ℕ → ℕ) (limit : ℕ) → Below rank limit stack → Below rank limit es
 
-pub pop_plain : (stack : List OpenValue) → PlainStack stack → PlainStack (pop stack)
-pop_plain [] h = h
-pop_plain (e ∷ es) h = h.1
+pub all_of : (es : List OpenValue) → Fewer es es
+all_of es = record { each = λ p h. h; below = λ rank limit h. h }
 
-pop_through_plain : (wanted : OpenValue → Bool) (stack : List OpenValue) → PlainStack stack
-    → PlainStack (pop_through wanted stack)
-pop_through_plain wanted [] h = h
-pop_through_plain wanted (e ∷ es) h =
-    test (wanted e) (λ t. rw t h.1) (λ t. rw t (pop_through_plain wanted es h.1))
+none_of : (es : List OpenValue) → Fewer [] es
+none_of es = record { each = λ p h. tt; below = λ rank limit h. tt }
 
-pub pop_until_plain : (set : NameSet) (stack : List OpenValue) → PlainStack stack → PlainStack (pop_until set stack)
-pop_until_plain set stack h = pop_through_plain (is_in set) stack h
+pub fewer_then : {es some stack : List OpenValue} → Fewer es some → Fewer some stack → Fewer es stack
+fewer_then a b = record {
+  each = λ p h. a.each p (b.each p h);
+  below = λ rank limit h. a.below rank limit (b.below rank limit h);
+}
 
-pub clear_to_plain : (set : NameSet) (stack : List OpenValue) → PlainStack stack → PlainStack (clear_to set stack)
-clear_to_plain set [] h = h
-clear_to_plain set (e ∷ es) h = test (is_in set e) (λ t. rw t h) (λ t. rw t (clear_to_plain set es h.1))
+pub skip : (e : OpenValue) {es stack : List OpenValue} → Fewer es stack → Fewer es (e ∷ stack)
+skip e {es} {stack} f = record {
+  each = λ p h. f.each p h.1;
+  below = λ rank limit h. f.below rank limit (below_tail rank limit e stack h);
+}
 
-pub pop_while_plain : (set : NameSet) (stack : List OpenValue) → PlainStack stack → PlainStack (pop_while set stack)
-pop_while_plain set [] h = h
-pop_while_plain set (e ∷ es) h = test (is_in set e) (λ t. rw t (pop_while_plain set es h.1)) (λ t. rw t h)
+keep : (e : OpenValue) {es stack : List OpenValue} → Fewer es stack → Fewer (e ∷ es) (e ∷ stack)
+keep e {es} {stack} f = record {
+  each = λ p h. (h.0, f.each p h.1);
+  below = λ rank limit h. (h.0, f.below rank (rank e.node) h.1);
+}
 
-pub close_plain : (set : NameSet) (scope : Scope) (stack : List OpenValue) → PlainStack stack
-    → PlainStack (close set scope stack)
-close_plain set scope stack h =
-    test (is_in_scope set scope stack) (λ t. rw t (pop_until_plain set stack h)) (λ t. rw t h)
+pub pop_fewer : (stack : List OpenValue) → Fewer (pop stack) stack
+pop_fewer [] = all_of []
+pop_fewer (e ∷ es) = skip e (all_of es)
 
-pub close_name_plain : (name : NameValue) (stack : List OpenValue) → PlainStack stack
-    → PlainStack (close_name name stack)
-close_name_plain name stack h =
-    test (is_closable name stack) (λ t. rw t (pop_through_plain (has_name (html name)) stack h)) (λ t. rw t h)
+pop_through_fewer : (wanted : OpenValue → Bool) (stack : List OpenValue) → Fewer (pop_through wanted stack) stack
+pop_through_fewer wanted [] = all_of []
+pop_through_fewer wanted (e ∷ es) =
+    test (wanted e) (λ t. rw t (skip e (all_of es))) (λ t. rw t (skip e (pop_through_fewer wanted es)))
 
-pub without_plain : (m : ℕ) (stack : List OpenValue) → PlainStack stack → PlainStack (without m stack)
-without_plain m [] h = h
-without_plain m (e ∷ es) h = test (e.node == m) (λ t. rw t h.1) (λ t. rw t (h.0, without_plain m es h.1))
+pub pop_until_fewer : (set : NameSet) (stack : List OpenValue) → Fewer (pop_until set stack) stack
+pop_until_fewer set stack = pop_through_fewer (is_in set) stack
 
-pub inside_plain : (m : ℕ) (stack : List OpenValue) → PlainStack stack → PlainStack (inside m stack)
-inside_plain m [] h = h
-inside_plain m (e ∷ es) h = test (e.node == m) (λ t. rw t tt) (λ t. rw t (h.0, inside_plain m es h.1))
+pub clear_to_fewer : (set : NameSet) (stack : List OpenValue) → Fewer (clear_to set stack) stack
+clear_to_fewer set [] = all_of []
+clear_to_fewer set (e ∷ es) =
+    test (is_in set e) (λ t. rw t (all_of (e ∷ es))) (λ t. rw t (skip e (clear_to_fewer set es)))
 
-pub around_plain : (m : ℕ) (stack : List OpenValue) → PlainStack stack → PlainStack (around m stack)
-around_plain m [] h = h
-around_plain m (e ∷ es) h = test (e.node == m) (λ t. rw t h.1) (λ t. rw t (around_plain m es h.1))
+pub pop_while_fewer : (set : NameSet) (stack : List OpenValue) → Fewer (pop_while set stack) stack
+pop_while_fewer set [] = all_of []
+pop_while_fewer set (e ∷ es) =
+    test (is_in set e) (λ t. rw t (skip e (pop_while_fewer set es))) (λ t. rw t (all_of (e ∷ es)))
+
+pub close_fewer : (set : NameSet) (scope : Scope) (stack : List OpenValue) → Fewer (close set scope stack) stack
+close_fewer set scope stack =
+    test (is_in_scope set scope stack) (λ t. rw t (pop_until_fewer set stack)) (λ t. rw t (all_of stack))
+
+pub close_name_fewer : (name : NameValue) (stack : List OpenValue) → Fewer (close_name name stack) stack
+close_name_fewer name stack =
+    test (is_closable name stack) (λ t. rw t (pop_through_fewer (has_name (html name)) stack))
+    (λ t. rw t (all_of stack))
+
+pub without_fewer : (m : ℕ) (stack : List OpenValue) → Fewer (without m stack) stack
+without_fewer m [] = all_of []
+without_fewer m (e ∷ es) =
+    test (e.node == m) (λ t. rw t (skip e (all_of es))) (λ t. rw t (keep e (without_fewer m es)))
+
+pub inside_fewer : (m : ℕ) (stack : List OpenValue) → Fewer (inside m stack) stack
+inside_fewer m [] = all_of []
+inside_fewer m (e ∷ es) =
+    test (e.node == m) (λ t. rw t (none_of (e ∷ es))) (λ t. rw t (keep e (inside_fewer m es)))
+
+pub around_fewer : (m : ℕ) (stack : List OpenValue) → Fewer (around m stack) stack
+around_fewer m [] = all_of []
+around_fewer m (e ∷ es) =
+    test (e.node == m) (λ t. rw t (skip e (all_of es))) (λ t. rw t (skip e (around_fewer m es)))
 
 -- ---- where the current node is one of these
 
-pop_where : (b : Bool) (stack : List OpenValue) → PlainStack stack → PlainStack (if b then pop stack else stack)
-pop_where true stack h = pop_plain stack h
-pop_where false stack h = h
+pop_where : (b : Bool) (stack : List OpenValue) → Fewer (if b then pop stack else stack) stack
+pop_where true stack = pop_fewer stack
+pop_where false stack = all_of stack
 
-pub close_heading_plain : (stack : List OpenValue) → PlainStack stack → PlainStack (close_heading stack)
-close_heading_plain stack h = pop_where (current_is Headings stack) stack h
+pub close_heading_fewer : (stack : List OpenValue) → Fewer (close_heading stack) stack
+close_heading_fewer stack = pop_where (current_is Headings stack) stack
 
-pub close_option_plain : (stack : List OpenValue) → PlainStack stack → PlainStack (close_option stack)
-close_option_plain stack h = pop_where (current_is (Only tags.OptionTag) stack) stack h
+pub close_option_fewer : (stack : List OpenValue) → Fewer (close_option stack) stack
+close_option_fewer stack = pop_where (current_is (Only tags.OptionTag) stack) stack
 
-close_group_plain : (stack : List OpenValue) → PlainStack stack → PlainStack (close_group stack)
-close_group_plain stack h = pop_where (current_is (Only tags.OptGroup) stack) stack h
+close_group_fewer : (stack : List OpenValue) → Fewer (close_group stack) stack
+close_group_fewer stack = pop_where (current_is (Only tags.OptGroup) stack) stack
 
-pub option_and_group_plain : (stack : List OpenValue) → PlainStack stack
-    → PlainStack (close_group (close_option stack))
-option_and_group_plain stack h = close_group_plain (close_option stack) (close_option_plain stack h)
+pub option_and_group_fewer : (stack : List OpenValue) → Fewer (close_group (close_option stack)) stack
+option_and_group_fewer stack = fewer_then (close_group_fewer (close_option stack)) (close_option_fewer stack)
 
-pub group_plain : (stack : List OpenValue) → PlainStack stack
-    → PlainStack (close_group (close_option_in_group stack))
-group_plain stack h =
-    close_group_plain (close_option_in_group stack)
-    (pop_where (current_is (Only tags.OptionTag) stack && current_is (Only tags.OptGroup) (pop stack)) stack h)
+pub group_fewer : (stack : List OpenValue) → Fewer (close_group (close_option_in_group stack)) stack
+group_fewer stack =
+    fewer_then (close_group_fewer (close_option_in_group stack))
+    (pop_where (current_is (Only tags.OptionTag) stack && current_is (Only tags.OptGroup) (pop stack)) stack)
 
-pub pop_if_plain : (b : Bool) (stack : List OpenValue) → PlainStack stack → PlainStack (pop_if b stack)
-pop_if_plain true stack h = pop_plain stack h
-pop_if_plain false stack h = h
+pub pop_if_fewer : (b : Bool) (stack : List OpenValue) → Fewer (pop_if b stack) stack
+pop_if_fewer true stack = pop_fewer stack
+pop_if_fewer false stack = all_of stack
 
-pub leave_foreign_plain : (nodes : List NodeValue) (stack : List OpenValue) → PlainStack stack
-    → PlainStack (leave_foreign nodes stack)
-leave_foreign_plain nodes [] h = h
-leave_foreign_plain nodes (e ∷ es) h =
-    test (ends_foreign nodes e) (λ t. rw t h) (λ t. rw t (leave_foreign_plain nodes es h.1))
+pub leave_foreign_fewer : (nodes : List NodeValue) (stack : List OpenValue) → Fewer (leave_foreign nodes stack) stack
+leave_foreign_fewer nodes [] = all_of []
+leave_foreign_fewer nodes (e ∷ es) =
+    test (ends_foreign nodes e) (λ t. rw t (all_of (e ∷ es))) (λ t. rw t (skip e (leave_foreign_fewer nodes es)))

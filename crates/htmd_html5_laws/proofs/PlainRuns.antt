@@ -26,6 +26,7 @@ use Rattle.htmd_html5_laws.proofs.TakingRuns.{by_first_kind}
 use Rattle.htmd_html5_laws.proofs.PlainNames.{is_plain_kind}
 use Rattle.htmd_html5_laws.proofs.PlainStates.{is_plain_mode, PlainAt, Plain, Stays, then_stays, still, plain_grown}
 use Rattle.htmd_html5_laws.proofs.PlainStates.{added_grows, plain_set, reconstruct_stays}
+use Rattle.htmd_html5_laws.proofs.HungStates.{hung_text}
 use Rattle.htmd_html5_laws.proofs.PlainBody.{StaysAnswer, says_plain, answers_either, no_frameset_stays}
 use Rattle.htmd_html5_laws.proofs.PlainTables.{fostered_stays}
 use Rattle.htmd_html5_laws.proofs.PlainModes.{leave_initial_stays, imply_root_stays, imply_head_stays, close_head_stays}
@@ -56,7 +57,10 @@ text_grows s at nodes m p = by_before (preceding at nodes)
     by_before (Some n) = by_kind n (kind_at nodes n) refl
 
 pub insert_text_stays : (s : List ℕ) → Stays (insert_text s)
-insert_text_stays t = record { stays = λ s h. plain_grown (text_grows t (place s) s.nodes) h }
+insert_text_stays t = record {
+  stays = λ s h. plain_grown (text_grows t (place s) s.nodes) h;
+  hangs = λ s h x. hung_text t s x;
+}
 
 body_white : (t : List ℕ) → Stays (run_in_body (kind_of_byte 32) t)
 body_white t = then_stays (insert_text_stays t) reconstruct_stays
@@ -148,9 +152,18 @@ in_mode_runs AfterAfterFrameset p t = absurd (true≢false (sym p))
 by_mode_runs : (s t : List ℕ) → StaysAnswer (by_mode_rules (run (first_kind s) t))
 by_mode_runs s t =
     by_first_kind (λ kind. StaysAnswer (by_mode_rules (run kind t)))
-    (record { stays = λ x h. (in_mode_runs x.mode h.plain_mode t).white.stays x h })
-    (record { stays = λ x h. (in_mode_runs x.mode h.plain_mode t).nulls.stays x h })
-    (record { stays = λ x h. (in_mode_runs x.mode h.plain_mode t).characters.stays x h }) s
+    (record {
+      stays = λ x h. (in_mode_runs x.mode h.plain_mode t).white.stays x h;
+      hangs = λ x h y. (in_mode_runs x.mode h.plain_mode t).white.hangs x h y;
+    })
+    (record {
+      stays = λ x h. (in_mode_runs x.mode h.plain_mode t).nulls.stays x h;
+      hangs = λ x h y. (in_mode_runs x.mode h.plain_mode t).nulls.hangs x h y;
+    })
+    (record {
+      stays = λ x h. (in_mode_runs x.mode h.plain_mode t).characters.stays x h;
+      hangs = λ x h y. (in_mode_runs x.mode h.plain_mode t).characters.hangs x h y;
+    }) s
 
 -- ---- foreign content
 

@@ -15,7 +15,6 @@ use Rattle.htmd_html5_state.specs.State.{StateValue, on_nodes, on_stack, on_form
 use Rattle.htmd_html5_state.specs.Foreign.{foreign_name, foreign_attributes, pop_if, insert_foreign}
 use Rattle.htmd_html5_state.specs.Insertion.{opened, current, place, insert_at, insert_named, insert_element, insert_root}
 use Rattle.htmd_html5_state.specs.Insertion.{insert_void, insert_raw, insert_comment_in, insert_comment, insert_doctype}
-use Rattle.htmd_html5_state.specs.Insertion.{open_again}
 use Rattle.htmd_html5_state.specs.Formatting.{is_listed, push_marker, clear_to_marker, without_entry, insert_formatting}
 use Rattle.htmd_html5_state.specs.Formatting.{closed_elements, after_closed, insert_like, reopen, reopen_all, reconstruct}
 use Rattle.htmd_html5_state.specs.Formatting.{push_entry}
@@ -33,7 +32,8 @@ use Rattle.htmd_html5_laws.proofs.NodeTexts.{kinds, kinds_add, kinds_with_kind, 
 use Rattle.htmd_html5_laws.proofs.KeepingInsertion.{listed_more, listed_without, listed_after_marker, listed_closed, listed_first}
 use Rattle.htmd_html5_laws.proofs.KeepingInsertion.{listed_pushed}
 use Rattle.htmd_html5_laws.proofs.PlainNames.{is_plain, is_plain_name, is_plain_element, is_plain_kind, foreign_is_plain}
-use Rattle.htmd_html5_laws.proofs.PlainNames.{PlainStack, pop_plain, pop_if_plain}
+use Rattle.htmd_html5_laws.proofs.PlainNames.{PlainOpen, is_plain_open, PlainStack, Fewer, pop_fewer, pop_if_fewer}
+use Rattle.htmd_html5_laws.proofs.HungStates.{Hung, hung_fewer, hung_named, hung_under_root, hung_last, hung_missing}
 use Rattle.htmd_html5_state.specs.declared.names.TagName.TheVariants as tags
 
 -- ---- states
@@ -63,29 +63,41 @@ pub record PlainIn (ks : List KindValue) (entries : List (Option ℕ)) (stack : 
 abbrev pub Plain : StateValue → Type 0
 Plain s = PlainIn (kinds s.nodes) s.formatting s.stack s.mode s.template_modes
 
--- a step that leaves a plain state plain
+-- a step that leaves a plain state plain, and what hangs under the Document under it
 pub record Stays (f : StateValue → StateValue) : Type 0 where
   pub stays : (s : StateValue) → Plain s → Plain (f s)
+  pub hangs : (s : StateValue) → Plain s → Hung s → Hung (f s)
 
 -- ---- steps put together
 
 pub then_stays : {f g : StateValue → StateValue} → Stays f → Stays g → Stays (λ s. f (g s))
-then_stays {f} {g} first second = record { stays = λ s h. first.stays (g s) (second.stays s h) }
+then_stays {f} {g} first second = record {
+  stays = λ s h. first.stays (g s) (second.stays s h);
+  hangs = λ s h x. first.hangs (g s) (second.stays s h) (second.hangs s h x);
+}
 
 pub still : Stays (λ s. s)
-still = record { stays = λ s h. h }
+still = record { stays = λ s h. h; hangs = λ s h x. x }
 
 pub stays_by_test : {f g : StateValue → StateValue} (b : StateValue → Bool) → Stays f → Stays g
     → Stays (λ s. if b s then f s else g s)
-stays_by_test {f} {g} b first second = record { stays = λ s h. either (b s) s h }
+stays_by_test {f} {g} b first second =
+    record { stays = λ s h. either (b s) s h; hangs = λ s h x. each (b s) s h x }
   where
     either : (t : Bool) (s : StateValue) → Plain s → Plain (if t then f s else g s)
     either true s h = first.stays s h
     either false s h = second.stays s h
 
+    each : (t : Bool) (s : StateValue) → Plain s → Hung s → Hung (if t then f s else g s)
+    each true s h x = first.hangs s h x
+    each false s h x = second.hangs s h x
+
 pub stays_by_state : {A : Type 0} {f : A → StateValue → StateValue} (a : StateValue → A) → ((x : A) → Stays (f x))
     → Stays (λ s. f (a s) s)
-stays_by_state a h = record { stays = λ s plain. (h (a s)).stays s plain }
+stays_by_state a h = record {
+  stays = λ s plain. (h (a s)).stays s plain;
+  hangs = λ s plain x. (h (a s)).hangs s plain x;
+}
 
 -- ---- parts of a state changed
 
@@ -131,9 +143,12 @@ module _ {ks : List KindValue} {entries : List (Option ℕ)} {stack : List OpenV
     no_modes = h.no_modes;
   }
 
-pub on_stack_stays : (f : List OpenValue → List OpenValue)
-    → ((stack : List OpenValue) → PlainStack stack → PlainStack (f stack)) → Stays (on_stack f)
-on_stack_stays f plain = record { stays = λ s h. plain_stack (f s.stack) (plain s.stack h.names) h }
+pub on_stack_stays : (f : List OpenValue → List OpenValue) → ((stack : List OpenValue) → Fewer (f stack) stack)
+    → Stays (on_stack f)
+on_stack_stays f fewer = record {
+  stays = λ s h. plain_stack (f s.stack) ((fewer s.stack).each is_plain_open h.names) h;
+  hangs = λ s h x. hung_fewer (f s.stack) (fewer s.stack) x;
+}
 
 -- ---- one more node
 
@@ -161,16 +176,18 @@ plain_new {ks} k e h = plain_kinds e (plain_grown (plain_before ks k) h)
 
 -- ---- what is inserted
 
-pub insert_at_stays : (at : StateValue → _) (name : ElementNameValue) (attributes : List AttributePair)
-    → is_plain_element name ≡ true → Stays (λ s. insert_at (at s) name attributes s)
-insert_at_stays at name attributes p = record {
-  stays = λ s h. plain_stack (opened (length s.nodes) name ∷ s.stack) (p, h.names)
-      (plain_new (element name attributes) (kinds_add (element name attributes) (at s) s.nodes) h);
-}
+insert_at_plain : (at : StateValue → _) (name : ElementNameValue) (attributes : List AttributePair) (s : StateValue)
+    → is_plain_element name ≡ true → Plain s → Plain (insert_at (at s) name attributes s)
+insert_at_plain at name attributes s p h =
+    plain_stack (opened (length s.nodes) name ∷ s.stack) (p, h.names)
+    (plain_new (element name attributes) (kinds_add (element name attributes) (at s) s.nodes) h)
 
 pub insert_named_stays : (name : ElementNameValue) (attributes : List AttributePair) → is_plain_element name ≡ true
     → Stays (insert_named name attributes)
-insert_named_stays name attributes p = insert_at_stays place name attributes p
+insert_named_stays name attributes p = record {
+  stays = λ s h. insert_at_plain place name attributes s p h;
+  hangs = λ s h x. hung_named name attributes s x;
+}
 
 pub insert_element_stays : (name : NameValue) (attributes : List AttributePair) → is_plain_name name ≡ true
     → Stays (insert_element name attributes)
@@ -178,35 +195,42 @@ insert_element_stays name attributes p = insert_named_stays (html name) attribut
 
 pub insert_root_stays : (name : NameValue) (attributes : List AttributePair) → is_plain_name name ≡ true
     → Stays (insert_root name attributes)
-insert_root_stays name attributes p = insert_at_stays (λ s. last_in 0) (html name) attributes p
+insert_root_stays name attributes p = record {
+  stays = λ s h. insert_at_plain (λ s. last_in 0) (html name) attributes s p h;
+  hangs = λ s h x. hung_under_root (html name) attributes s.nodes x;
+}
 
 pub insert_void_stays : (name : NameValue) (attributes : List AttributePair) → is_plain_name name ≡ true
     → Stays (insert_void name attributes)
-insert_void_stays name attributes p = then_stays (on_stack_stays pop pop_plain) (insert_element_stays name attributes p)
+insert_void_stays name attributes p = then_stays (on_stack_stays pop pop_fewer) (insert_element_stays name attributes p)
 
 pub insert_raw_stays : (name : NameValue) (raw : RawElement) (attributes : List AttributePair)
     → is_plain_name name ≡ true → Stays (insert_raw name raw attributes)
-insert_raw_stays name raw attributes p = record { stays = λ s h. (insert_element_stays name attributes p).stays s h }
+insert_raw_stays name raw attributes p = record {
+  stays = λ s h. (insert_element_stays name attributes p).stays s h;
+  hangs = λ s h x. (insert_element_stays name attributes p).hangs s h x;
+}
 
 pub insert_foreign_stays : (space : Namespace) (name : List ℕ) (attributes : List AttributePair) (closes : Bool)
     → Stays (insert_foreign space name attributes closes)
 insert_foreign_stays space name attributes closes =
-    then_stays (on_stack_stays (pop_if closes) (pop_if_plain closes))
+    then_stays (on_stack_stays (pop_if closes) (pop_if_fewer closes))
     (insert_named_stays (foreign_name space name) (foreign_attributes space attributes) (foreign_is_plain space name))
 
 pub insert_comment_in_stays : (parent : ℕ) (s : List ℕ) → Stays (insert_comment_in parent s)
 insert_comment_in_stays parent c = record {
   stays = λ s h. plain_new (comment c) (kinds_add (comment c) (last_in parent) s.nodes) h;
+  hangs = λ s h x. hung_last (comment c) parent s.nodes refl x;
 }
 
 pub insert_comment_stays : (s : List ℕ) → Stays (insert_comment s)
 insert_comment_stays c = stays_by_state (λ s. (current s.stack).node) (λ n. insert_comment_in_stays n c)
 
 pub insert_doctype_stays : Stays insert_doctype
-insert_doctype_stays = record { stays = λ s h. plain_new doctype (kinds_add doctype (last_in 0) s.nodes) h }
-
-pub open_again_stays : (n : ℕ) (name : NameValue) → is_plain_name name ≡ true → Stays (open_again n name)
-open_again_stays n name p = on_stack_stays (λ stack. opened n (html name) ∷ stack) (λ stack h. (p, h))
+insert_doctype_stays = record {
+  stays = λ s h. plain_new doctype (kinds_add doctype (last_in 0) s.nodes) h;
+  hangs = λ s h x. hung_last doctype 0 s.nodes refl x;
+}
 
 -- ---- attributes that an element lacks
 
@@ -235,21 +259,26 @@ missing_grows n more nodes m p =
     (missing_plain more (kind_at nodes n) ∙ ap is_plain_kind (kind_read nodes n)) p)
 
 pub add_missing_stays : (n : ℕ) (more : List AttributePair) → Stays (on_nodes (add_missing n more))
-add_missing_stays n more = record { stays = λ s h. plain_grown (missing_grows n more s.nodes) h }
+add_missing_stays n more = record {
+  stays = λ s h. plain_grown (missing_grows n more s.nodes) h;
+  hangs = λ s h x. hung_missing n more s.nodes x;
+}
 
 -- ---- the list of active formatting elements
 
 pub without_entry_stays : (n : ℕ) → Stays (on_formatting (without_entry n))
 without_entry_stays n = record {
   stays = λ s h. plain_entries (λ m l. h.entries_at m (listed_without m n s.formatting l)) h;
+  hangs = λ s h x. x;
 }
 
 pub push_marker_stays : Stays push_marker
-push_marker_stays = record { stays = λ s h. plain_entries (λ n l. h.entries_at n l) h }
+push_marker_stays = record { stays = λ s h. plain_entries (λ n l. h.entries_at n l) h; hangs = λ s h x. x }
 
 pub clear_to_marker_stays : Stays clear_to_marker
 clear_to_marker_stays = record {
   stays = λ s h. plain_entries (λ n l. h.entries_at n (listed_after_marker n s.formatting l)) h;
+  hangs = λ s h x. x;
 }
 
 -- what is listed then is one new element, or was listed before
@@ -270,6 +299,7 @@ insert_formatting_stays name attributes p = record {
       (plain_added s.nodes (element (html name) attributes) (kinds_add (element (html name) attributes) (place s) s.nodes) p)
       (λ n l. listed_pushed n (length s.nodes) (insert_element name attributes s).nodes s.formatting l)
       ((insert_element_stays name attributes p).stays s h);
+  hangs = λ s h x. (insert_element_stays name attributes p).hangs s h x;
 }
 
 -- ---- elements are reconstructed
@@ -279,6 +309,11 @@ pub record Grown (s new : StateValue) : Type 0 where
   pub plain : Plain new
   pub grows : (n : ℕ) → PlainAt (kinds s.nodes) n → PlainAt (kinds new.nodes) n
 
+-- a step of these that leaves what hangs under the Document under it
+pub record GrownHung (s new : StateValue) : Type 0 where
+  pub grown : Grown s new
+  pub hung : Hung s → Hung new
+
 pub grown_then : {s t new : StateValue} → Grown s t → Grown t new → Grown s new
 grown_then a b = record { plain = b.plain; grows = λ n p. b.grows n (a.grows n p) }
 
@@ -287,12 +322,15 @@ EachPlain ks [] = Unit {0}
 EachPlain ks (n ∷ ns) = PlainAt ks n × EachPlain ks ns
 
 like_grown : (s : StateValue) (k : KindValue) → is_plain_kind k ≡ true → Plain s
-    → Grown s (on_formatting (λ entries. Some (length s.nodes) ∷ entries) (insert_like k s))
+    → GrownHung s (on_formatting (λ entries. Some (length s.nodes) ∷ entries) (insert_like k s))
 like_grown s (element name attributes) p h = record {
-  plain = plain_listed (length s.nodes)
-      (plain_added s.nodes (element name attributes) (kinds_add (element name attributes) (place s) s.nodes) p)
-      (λ n l. listed_first n (length s.nodes) s.formatting l) ((insert_named_stays name attributes p).stays s h);
-  grows = added_grows (element name attributes) (place s) s.nodes;
+  grown = record {
+    plain = plain_listed (length s.nodes)
+        (plain_added s.nodes (element name attributes) (kinds_add (element name attributes) (place s) s.nodes) p)
+        (λ n l. listed_first n (length s.nodes) s.formatting l) ((insert_named_stays name attributes p).stays s h);
+    grows = added_grows (element name attributes) (place s) s.nodes;
+  };
+  hung = λ x. hung_named name attributes s x;
 }
 like_grown s (text t) p h = absurd (true≢false (sym p))
 like_grown s document p h = absurd (true≢false (sym p))
@@ -300,13 +338,13 @@ like_grown s doctype p h = absurd (true≢false (sym p))
 like_grown s (comment t) p h = absurd (true≢false (sym p))
 
 reopen_all_grown : (ns : List ℕ) (s : StateValue) → EachPlain (kinds s.nodes) ns → Plain s
-    → Grown s (reopen_all ns s)
-reopen_all_grown [] s all h = record { plain = h; grows = λ n p. p }
+    → GrownHung s (reopen_all ns s)
+reopen_all_grown [] s all h = record { grown = record { plain = h; grows = λ n p. p }; hung = λ x. x }
 reopen_all_grown (n ∷ ns) s all h =
-    let before : Grown s (reopen_all ns s) = reopen_all_grown ns s all.1 h in
-    grown_then before
-    (like_grown (reopen_all ns s) (kind_at (reopen_all ns s).nodes n)
-    (ap is_plain_kind (kind_read (reopen_all ns s).nodes n) ∙ before.grows n all.0) before.plain)
+    let before : GrownHung s (reopen_all ns s) = reopen_all_grown ns s all.1 h in
+    let last = like_grown (reopen_all ns s) (kind_at (reopen_all ns s).nodes n)
+    (ap is_plain_kind (kind_read (reopen_all ns s).nodes n) ∙ before.grown.grows n all.0) before.grown.plain in
+    record { grown = grown_then before.grown last.grown; hung = λ x. last.hung (before.hung x) }
 
 closed_plain : (ks : List KindValue) (stack : List OpenValue) (entries : List (Option ℕ))
     → ((n : ℕ) → is_listed n entries ≡ true → PlainAt ks n) → EachPlain ks (closed_elements stack entries)
@@ -319,11 +357,16 @@ closed_plain ks stack (Some m ∷ entries) f =
       closed_plain ks stack entries (λ n l. f n (listed_more n (Some m) entries l)),
     ))
 
+reconstructed : (s : StateValue) → Plain s → GrownHung (on_formatting (after_closed s.stack) s) (reconstruct s)
+reconstructed s h =
+    reopen_all_grown (closed_elements s.stack s.formatting) (on_formatting (after_closed s.stack) s)
+    (closed_plain (kinds s.nodes) s.stack s.formatting h.entries_at)
+    (plain_entries (λ n l. h.entries_at n (listed_closed n s.stack s.formatting l)) h)
+
 pub reconstruct_stays : Stays reconstruct
 reconstruct_stays = record {
-  stays = λ s h. (reopen_all_grown (closed_elements s.stack s.formatting) (on_formatting (after_closed s.stack) s)
-      (closed_plain (kinds s.nodes) s.stack s.formatting h.entries_at)
-      (plain_entries (λ n l. h.entries_at n (listed_closed n s.stack s.formatting l)) h)).plain;
+  stays = λ s h. (reconstructed s h).grown.plain;
+  hangs = λ s h x. (reconstructed s h).hung x;
 }
 
 -- ---- the mode is reset
@@ -383,4 +426,5 @@ mode_plain (e ∷ es) s h =
 pub reset_insertion_mode_stays : Stays reset_insertion_mode
 reset_insertion_mode_stays = record {
   stays = λ s h. in_plain_mode (mode_of s.stack s) (mode_plain s.stack s h.names) h;
+  hangs = λ s h x. x;
 }

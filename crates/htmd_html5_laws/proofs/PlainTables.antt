@@ -30,8 +30,8 @@ use Rattle.htmd_html5.specs.InCell.{close_cell, end_cell, leave_cell, start_in_c
 use Rattle.htmd_html5.specs.InSelect.{close_group, start_group, close_option_in_group, end_group, close_select}
 use Rattle.htmd_html5.specs.InSelect.{has_select, end_select, leave_select, start_in_select, end_in_select}
 use Rattle.htmd_html5.specs.InSelect.{start_in_select_in_table, leave_select_in, end_in_select_in_table, start_option}
-use Rattle.htmd_html5_laws.proofs.PlainNames.{is_plain_name, pop_plain, pop_until_plain, clear_to_plain}
-use Rattle.htmd_html5_laws.proofs.PlainNames.{close_option_plain, option_and_group_plain, group_plain}
+use Rattle.htmd_html5_laws.proofs.PlainNames.{is_plain_name, pop_fewer, pop_until_fewer, clear_to_fewer}
+use Rattle.htmd_html5_laws.proofs.PlainNames.{close_option_fewer, option_and_group_fewer, group_fewer}
 use Rattle.htmd_html5_laws.proofs.PlainStates.{Plain, Stays, then_stays, still, stays_by_test, on_stack_stays}
 use Rattle.htmd_html5_laws.proofs.PlainStates.{insert_element_stays, push_marker_stays, clear_to_marker_stays}
 use Rattle.htmd_html5_laws.proofs.PlainStates.{reset_insertion_mode_stays}
@@ -41,15 +41,18 @@ use Rattle.htmd_html5_laws.proofs.PlainBody.{insert_head_element_stays, start_in
 use Rattle.htmd_html5_state.specs.declared.names.TagName.TheVariants as tags
 
 pub state_stays : {f : StateValue → Answer} → StaysAnswer f → Stays (λ s. (f s).state)
-state_stays h = record { stays = λ s plain. h.stays s plain }
+state_stays h = record { stays = λ s plain. h.stays s plain; hangs = λ s plain x. h.hangs s plain x }
 
 pub fostered_stays : {step : StateValue → StateValue} → Stays step → Stays (fostered step)
-fostered_stays h = record { stays = λ s plain. h.stays (record s { foster_parenting = true }) plain }
+fostered_stays h = record {
+  stays = λ s plain. h.stays (record s { foster_parenting = true }) plain;
+  hangs = λ s plain x. h.hangs (record s { foster_parenting = true }) plain x;
+}
 
 -- ---- tables
 
 to_table_stays : Stays to_table
-to_table_stays = on_stack_stays (clear_to TableContext) (clear_to_plain TableContext)
+to_table_stays = on_stack_stays (clear_to TableContext) (clear_to_fewer TableContext)
 
 start_section_stays : (name : NameValue) (attributes : List AttributePair) → is_plain_name name ≡ true
     → Stays (start_section name attributes)
@@ -63,7 +66,7 @@ imply_section_stays = start_section_stays (known tags.TBody) [] refl
 close_table_stays : Stays close_table
 close_table_stays =
     then_stays reset_insertion_mode_stays
-    (on_stack_stays (pop_until (Only tags.Table)) (pop_until_plain (Only tags.Table)))
+    (on_stack_stays (pop_until (Only tags.Table)) (pop_until_fewer (Only tags.Table)))
 
 end_table_stays : Stays end_table
 end_table_stays = stays_by_test (λ s. has_table s) close_table_stays still
@@ -84,7 +87,7 @@ module _ (tag : StartTagValue) (p : is_plain_name tag.name ≡ true) where
   start_table_form_stays : Stays (start_table_form tag)
   start_table_form_stays =
       stays_by_test (λ s. is_some s.form || is_in_template s) still
-      (then_stays (on_stack_stays pop pop_plain) (then_stays with_form_stays (insert_tag_stays tag p)))
+      (then_stays (on_stack_stays pop pop_fewer) (then_stays with_form_stays (insert_tag_stays tag p)))
 
   start_part_stays : (name : NameValue) → is_plain_name name ≡ true → Stays (start_part name tag)
   start_part_stays (known tags.Caption) q = start_caption_stays
@@ -129,7 +132,7 @@ end_caption_stays : Stays end_caption
 end_caption_stays =
     stays_by_test (λ s. has_caption s)
     (then_stays (with_mode_stays InTable refl) (then_stays clear_to_marker_stays
-    (on_stack_stays (pop_until (Only tags.Caption)) (pop_until_plain (Only tags.Caption))))) still
+    (on_stack_stays (pop_until (Only tags.Caption)) (pop_until_fewer (Only tags.Caption))))) still
 
 pub leave_caption_stays : StaysAnswer leave_caption
 leave_caption_stays = says_plain end_caption_stays
@@ -165,7 +168,7 @@ end_in_caption_stays name = end_in_body_stays name
 -- ---- sections
 
 to_section_stays : Stays to_section
-to_section_stays = on_stack_stays (clear_to TableBodyContext) (clear_to_plain TableBodyContext)
+to_section_stays = on_stack_stays (clear_to TableBodyContext) (clear_to_fewer TableBodyContext)
 
 start_row_stays : (name : NameValue) (attributes : List AttributePair) → is_plain_name name ≡ true
     → Stays (start_row name attributes)
@@ -175,7 +178,7 @@ start_row_stays name attributes p =
 end_section_stays : (wanted : NameSet) → Stays (end_section wanted)
 end_section_stays wanted =
     stays_by_test (λ s. is_in_scope wanted TableScope s.stack)
-    (then_stays (with_mode_stays InTable refl) (then_stays (on_stack_stays pop pop_plain) to_section_stays)) still
+    (then_stays (with_mode_stays InTable refl) (then_stays (on_stack_stays pop pop_fewer) to_section_stays)) still
 
 pub leave_section_stays : StaysAnswer leave_section
 leave_section_stays = says_plain (end_section_stays TableSections)
@@ -211,7 +214,7 @@ end_in_section_stays name = says_plain (end_in_table_stays name)
 -- ---- rows
 
 to_row_stays : Stays to_row
-to_row_stays = on_stack_stays (clear_to TableRowContext) (clear_to_plain TableRowContext)
+to_row_stays = on_stack_stays (clear_to TableRowContext) (clear_to_fewer TableRowContext)
 
 start_cell_stays : (tag : StartTagValue) → is_plain_name tag.name ≡ true → Stays (start_cell tag)
 start_cell_stays tag p =
@@ -221,7 +224,7 @@ start_cell_stays tag p =
 end_row_stays : Stays end_row
 end_row_stays =
     stays_by_test (λ s. has_row s)
-    (then_stays (with_mode_stays InTableBody refl) (then_stays (on_stack_stays pop pop_plain) to_row_stays)) still
+    (then_stays (with_mode_stays InTableBody refl) (then_stays (on_stack_stays pop pop_fewer) to_row_stays)) still
 
 pub leave_row_stays : StaysAnswer leave_row
 leave_row_stays = says_plain end_row_stays
@@ -263,7 +266,7 @@ end_in_row_stays name = says_plain (end_in_table_stays name)
 pub close_cell_stays : (cells : NameSet) → Stays (close_cell cells)
 close_cell_stays cells =
     then_stays (with_mode_stays InRow refl) (then_stays clear_to_marker_stays
-    (on_stack_stays (pop_until cells) (pop_until_plain cells)))
+    (on_stack_stays (pop_until cells) (pop_until_fewer cells)))
 
 end_cell_stays : (tag : TagName) → Stays (end_cell tag)
 end_cell_stays tag =
@@ -306,7 +309,7 @@ end_in_cell_stays name = end_in_body_stays name
 close_select_stays : Stays close_select
 close_select_stays =
     then_stays reset_insertion_mode_stays (on_stack_stays (pop_until (Only tags.Select))
-    (pop_until_plain (Only tags.Select)))
+    (pop_until_fewer (Only tags.Select)))
 
 end_select_stays : Stays end_select
 end_select_stays = stays_by_test (λ s. has_select s) close_select_stays still
@@ -318,10 +321,10 @@ module _ (tag : StartTagValue) (p : is_plain_name tag.name ≡ true) where
   pub start_in_select_stays : (name : NameValue) → StaysAnswer (start_in_select name tag)
   start_in_select_stays (known tags.Html) = says_plain (add_to_root_stays tag)
   start_in_select_stays (known tags.OptionTag) =
-      says_plain (then_stays (insert_tag_stays tag p) (on_stack_stays close_option close_option_plain))
+      says_plain (then_stays (insert_tag_stays tag p) (on_stack_stays close_option close_option_fewer))
   start_in_select_stays (known tags.OptGroup) =
       says_plain (then_stays (insert_tag_stays tag p)
-      (on_stack_stays (λ stack. close_group (close_option stack)) option_and_group_plain))
+      (on_stack_stays (λ stack. close_group (close_option stack)) option_and_group_fewer))
   start_in_select_stays (known tags.Select) = says_plain end_select_stays
   start_in_select_stays (known tags.Input) = leave_select_stays
   start_in_select_stays (known tags.KeyGen) = leave_select_stays
@@ -343,8 +346,8 @@ module _ (tag : StartTagValue) (p : is_plain_name tag.name ≡ true) where
 
 pub end_in_select_stays : (name : NameValue) → Stays (end_in_select name)
 end_in_select_stays (known tags.OptGroup) =
-    on_stack_stays (λ stack. close_group (close_option_in_group stack)) group_plain
-end_in_select_stays (known tags.OptionTag) = on_stack_stays close_option close_option_plain
+    on_stack_stays (λ stack. close_group (close_option_in_group stack)) group_fewer
+end_in_select_stays (known tags.OptionTag) = on_stack_stays close_option close_option_fewer
 end_in_select_stays (known tags.Select) = end_select_stays
 end_in_select_stays (known tags.Template) = end_template_stays
 end_in_select_stays _ = still

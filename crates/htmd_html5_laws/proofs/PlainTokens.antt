@@ -17,7 +17,8 @@ use Rattle.htmd_html5.specs.ForeignContent.{is_foreign, tag_breaks_out, end_brea
 use Rattle.htmd_html5.specs.ForeignContent.{start_foreign_element, start_in_foreign, end_foreign, end_in_foreign}
 use Rattle.htmd_html5.specs.ForeignContent.{in_foreign_content}
 use Rattle.htmd_html5.specs.Modes.{by_mode_rules}
-use Rattle.htmd_html5_laws.proofs.PlainNames.{PlainStack, leave_foreign_plain}
+use Rattle.htmd_html5_laws.proofs.PlainNames.{PlainOpen, is_plain_open, Fewer, all_of, skip, leave_foreign_fewer}
+use Rattle.htmd_html5_laws.proofs.HungStates.{Hung, hung_fewer}
 use Rattle.htmd_html5_laws.proofs.PlainStates.{Plain, Stays, still, stays_by_state, plain_stack}
 use Rattle.htmd_html5_laws.proofs.PlainStates.{insert_comment_stays}
 use Rattle.htmd_html5_laws.proofs.PlainBody.{StaysAnswer, says_plain, answers_either}
@@ -27,9 +28,14 @@ use Rattle.htmd_html5_state.specs.Foreign as foreign
 
 break_out_stays : (t : TokenValue) → IsPlain t → StaysAnswer (break_out t)
 break_out_stays t p = record {
-  stays = λ s h. (by_mode_rules_stays t p).stays (on_stack (leave_foreign s.nodes) s)
-      (plain_stack (leave_foreign s.nodes s.stack) (leave_foreign_plain s.nodes s.stack h.names) h);
+  stays = λ s h. (by_mode_rules_stays t p).stays (on_stack (leave_foreign s.nodes) s) (left s h);
+  hangs = λ s h x. (by_mode_rules_stays t p).hangs (on_stack (leave_foreign s.nodes) s) (left s h)
+      (hung_fewer (leave_foreign s.nodes s.stack) (leave_foreign_fewer s.nodes s.stack) x);
 }
+  where
+    left : (s : StateValue) → Plain s → Plain (on_stack (leave_foreign s.nodes) s)
+    left s h =
+        plain_stack (leave_foreign s.nodes s.stack) ((leave_foreign_fewer s.nodes s.stack).each is_plain_open h.names) h
 
 insert_alike_stays : (tag : StartTagValue) (space : Option Namespace) → Stays (insert_alike space tag)
 insert_alike_stays tag None = still
@@ -43,32 +49,46 @@ start_in_foreign_stays tag p =
     answers_either (λ s. tag_breaks_out tag.name tag.attributes) (break_out_stays (start_tag tag) p)
     (says_plain (start_foreign_stays tag))
 
--- what stays open has plain names
-abbrev EndsPlain : ForeignEnd → Type 0
-EndsPlain (closed_to es) = PlainStack es
-EndsPlain by_mode = Unit {0}
-EndsPlain foreign.nothing = Unit {0}
+-- what stays open was open
+abbrev EndsIn : ForeignEnd → List OpenValue → Type 0
+EndsIn (closed_to es) stack = Fewer es stack
+EndsIn by_mode stack = Unit {0}
+EndsIn foreign.nothing stack = Unit {0}
 
-foreign_end_plain : (name : List ℕ) (stack : List OpenValue) → PlainStack stack → EndsPlain (foreign_end name stack)
-foreign_end_plain name [] h = tt
-foreign_end_plain name (e ∷ []) h = tt
-foreign_end_plain name (e ∷ f ∷ es) h =
-    let more = foreign_end_plain name (f ∷ es) h.1 in
+ends_more : (e : OpenValue) (ending : ForeignEnd) (stack : List OpenValue) → EndsIn ending stack
+    → EndsIn ending (e ∷ stack)
+ends_more e by_mode stack h = tt
+ends_more e (closed_to es) stack h = skip e h
+ends_more e foreign.nothing stack h = tt
+
+foreign_end_in : (name : List ℕ) (stack : List OpenValue) → EndsIn (foreign_end name stack) stack
+foreign_end_in name [] = tt
+foreign_end_in name (e ∷ []) = tt
+foreign_end_in name (e ∷ f ∷ es) =
+    let more = ends_more e (foreign_end name (f ∷ es)) (f ∷ es) (foreign_end_in name (f ∷ es)) in
     test (is_html e) (λ t. rw t tt)
-    (λ t. test (is_spelled_so name e.name) (λ u. rw (t, u) h.1) (λ u. rw (t, u) more))
+    (λ t. test (is_spelled_so name e.name) (λ u. rw (t, u) (skip e (all_of (f ∷ es)))) (λ u. rw (t, u) more))
 
-end_foreign_plain : (name : NameValue) (ending : ForeignEnd) (s : StateValue) → EndsPlain ending → Plain s
+end_foreign_plain : (name : NameValue) (ending : ForeignEnd) (s : StateValue) → EndsIn ending s.stack → Plain s
     → Plain (end_foreign name ending s).state
 end_foreign_plain name by_mode s e h = (by_mode_rules_stays (end_tag name) tt).stays s h
-end_foreign_plain name (closed_to es) s e h = plain_stack es e h
+end_foreign_plain name (closed_to es) s e h = plain_stack es (e.each is_plain_open h.names) h
 end_foreign_plain name foreign.nothing s e h = h
+
+end_foreign_hung : (name : NameValue) (ending : ForeignEnd) (s : StateValue) → EndsIn ending s.stack → Plain s
+    → Hung s → Hung (end_foreign name ending s).state
+end_foreign_hung name by_mode s e h x = (by_mode_rules_stays (end_tag name) tt).hangs s h x
+end_foreign_hung name (closed_to es) s e h x = hung_fewer es e x
+end_foreign_hung name foreign.nothing s e h x = x
 
 end_in_foreign_stays : (name : NameValue) → StaysAnswer (end_in_foreign name)
 end_in_foreign_stays name =
     answers_either (λ s. end_breaks_out name) (break_out_stays (end_tag name) tt)
     (record {
       stays = λ s h. end_foreign_plain name (foreign_end (text_of_name name) s.stack) s
-          (foreign_end_plain (text_of_name name) s.stack h.names) h;
+          (foreign_end_in (text_of_name name) s.stack) h;
+      hangs = λ s h x. end_foreign_hung name (foreign_end (text_of_name name) s.stack) s
+          (foreign_end_in (text_of_name name) s.stack) h x;
     })
 
 in_foreign_content_stays : (t : TokenValue) → IsPlain t → StaysAnswer (in_foreign_content t)

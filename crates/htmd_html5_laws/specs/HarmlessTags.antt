@@ -10,7 +10,6 @@ use Rattle.htmd_html5.specs.Feeding.{feed}
 use Rattle.htmd_html5.specs.Documents.{next_read, is_end, state_after, html5_document}
 use Rattle.htmd_html5_laws.specs.PageLetters.{is_letter, occurrences_in, texts_of, token_texts}
 use Rattle.htmd_html5_laws.specs.DocumentLetters.{node_texts, all_texts_are_taken}
-use Rattle.htmd_html5_laws.specs.KeptLetters.{is_whole}
 
 -- ---- the tokens of a page
 
@@ -58,9 +57,9 @@ HarmlessLettersAreTaken =
     → occurrences_in c (node_texts (state_after scripting page).nodes)
     ≡ occurrences_in c (token_texts scripting page)
 
--- And where the document is in one piece, in the texts of the tree too.
+-- And in the texts of the tree.
 abbrev pub HarmlessLettersAreKept : Type 0
 HarmlessLettersAreKept =
     (scripting : Bool) (page : List ℕ) (c : ℕ) → IsUtf8 page → all_tags_are_harmless scripting page ≡ true
-    → is_whole (state_after scripting page).nodes ≡ true → is_letter c ≡ true
+    → is_letter c ≡ true
     → occurrences_in c (texts_of (html5_document scripting page)) ≡ occurrences_in c (token_texts scripting page)
