@@ -1,37 +1,26 @@
 -- States in the mode "in column group" with a `colgroup` as the current node, and start tags of columns.
-use Rattle.std.proofs.Common.{◌≡◌, ◌∙◌, ℕ, Bool, true, false, List, [], ◌∷◌, length, Option, Some, None, refl, sym, ap, subst}
-use Rattle.std.specs.Prelude.{if◌then◌else◌, ◌||◌, ◌&&◌, not}
+use Rattle.std.proofs.Common.{◌≡◌, ℕ, Bool, true, false, List, [], ◌∷◌, length, Option, Some, None, refl, sym, ap, subst}
+use Rattle.std.specs.Prelude.{if◌then◌else◌}
 use Rattle.std.proofs.lemmas.Bool.{true≢false, or_right}
-use Rattle.htmd_text.proofs.Cases.{test}
-use Rattle.htmd_grammar.specs.ValueTrees.{AttributePair}
 use Rattle.htmd_html5_tokens.specs.declared.tokens.Content.{Content}
 use Rattle.htmd_html5_state.specs.Names.{NameValue, known, html}
-use Rattle.htmd_html5_state.specs.Documents.{NodeValue, KindValue, comment as comment_kind, element, last_in, add_missing}
-use Rattle.htmd_html5_state.specs.OpenElements.{OpenValue, current_is, is_open, is_in_scope, first_open, pop, clear_to}
+use Rattle.htmd_html5_state.specs.Documents.{KindValue, comment as comment_kind, element, last_in}
+use Rattle.htmd_html5_state.specs.OpenElements.{OpenValue, current_is, is_open, first_open, pop}
 use Rattle.htmd_html5_state.specs.State.{StateValue}
 use Rattle.htmd_html5_state.specs.Insertion.{current, opened, place, insert_text}
 use Rattle.htmd_html5_state.specs.Foreign.{current_is_html}
 use Rattle.htmd_html5_state.specs.Formatting.{is_listed}
 use Rattle.htmd_html5_state.specs.Resetting.{has_modes}
 use Rattle.htmd_html5_state.specs.declared.modes.InsertionMode.{InsertionMode}
-use Rattle.htmd_html5_state.specs.declared.modes.InsertionMode.TheVariants.{Initial, BeforeHtml, BeforeHead, InHead}
-use Rattle.htmd_html5_state.specs.declared.modes.InsertionMode.TheVariants.{InHeadNoscript, AfterHead, InBody, InTable}
-use Rattle.htmd_html5_state.specs.declared.modes.InsertionMode.TheVariants.{InCaption, InColumnGroup, InTableBody}
-use Rattle.htmd_html5_state.specs.declared.modes.InsertionMode.TheVariants.{InRow, InCell, InSelect, InSelectInTable}
-use Rattle.htmd_html5_state.specs.declared.modes.InsertionMode.TheVariants.{InTemplate, AfterBody, InFrameset}
-use Rattle.htmd_html5_state.specs.declared.modes.InsertionMode.TheVariants.{AfterFrameset, AfterAfterBody}
-use Rattle.htmd_html5_state.specs.declared.modes.InsertionMode.TheVariants.{AfterAfterFrameset}
-use Rattle.htmd_html5_state.specs.declared.names.TagName.{TagName}
-use Rattle.htmd_html5_state.specs.declared.sets.NameSet.TheVariants.{Only, TableContext, Cells}
-use Rattle.htmd_html5_state.specs.declared.sets.Scope.TheVariants.{Table as TableScope}
+use Rattle.htmd_html5_state.specs.declared.modes.InsertionMode.TheVariants.{InColumnGroup}
+use Rattle.htmd_html5_state.specs.declared.sets.NameSet.TheVariants.{Only}
 use Rattle.htmd_html5.specs.Tokens.{StartTagValue, TokenValue, start_tag, end_tag, run, comment, doctype, end_of_file}
-use Rattle.htmd_html5.specs.Answers.{Answer, answer, done, again}
-use Rattle.htmd_html5.specs.Runs.{kind_of_byte, first_kind}
+use Rattle.htmd_html5.specs.Answers.{Answer, done}
+use Rattle.htmd_html5.specs.Runs.{first_kind}
 use Rattle.htmd_html5.specs.Feeding.{is_text_mode}
-use Rattle.htmd_html5.specs.SharedRules.{add_missing_to, add_to_root, end_template, leave_template}
+use Rattle.htmd_html5.specs.SharedRules.{add_missing_to, add_to_root, end_template}
 use Rattle.htmd_html5.specs.InBody.{end_of_file_in_template, end_of_file_in_body}
-use Rattle.htmd_html5.specs.InTable.{to_table, start_columns}
-use Rattle.htmd_html5.specs.InColumnGroup.{has_columns, end_columns, leave_columns, start_in_columns, end_in_columns}
+use Rattle.htmd_html5.specs.InColumnGroup.{end_columns, leave_columns, start_in_columns, end_in_columns}
 use Rattle.htmd_html5.specs.InColumnGroup.{close_columns, in_column_group}
 use Rattle.htmd_html5.specs.ForeignContent.{goes_to_html, is_foreign}
 use Rattle.htmd_html5.specs.ForeignContent.{in_foreign_content}
@@ -40,7 +29,7 @@ use Rattle.htmd_html5.specs.Processing.{by_rules}
 use Rattle.htmd_html5_laws.proofs.NodeTexts.{kinds}
 use Rattle.htmd_html5_laws.proofs.TakingRuns.{by_first_kind}
 use Rattle.htmd_html5_laws.proofs.PlainNames.{PlainStack, no_template_open, pop_fewer}
-use Rattle.htmd_html5_laws.proofs.PlainStates.{PlainAt, Plain, is_plain_mode, added_grows, missing_grows}
+use Rattle.htmd_html5_laws.proofs.PlainStates.{PlainAt, Plain, added_grows, missing_grows}
 use Rattle.htmd_html5_laws.proofs.HungStates.{Hung, hung_fewer, hung_missing, hung_named, hung_last, hung_text}
 use Rattle.htmd_html5_laws.proofs.PlainRuns.{text_grows}
 use Rattle.htmd_html5_state.specs.declared.names.TagName.TheVariants as tags
@@ -211,14 +200,16 @@ not_foreign (start_tag tag) s h = rw (html_applies (start_tag tag) s h) refl
 not_foreign (end_tag name) s h = rw (html_applies (end_tag name) s h) refl
 not_foreign end_of_file s h = refl
 
-by_columns : (t : TokenValue) (s : StateValue) → Columns s → Answered (in_column_group t s) → Answered (by_rules t s)
+by_columns : (t : TokenValue) (s : StateValue) → Columns s → Answered (in_column_group t s)
+    → Answered (by_rules t s)
 by_columns t s h a = either (is_foreign t s) (not_foreign t s h)
   where
     either : (b : Bool) → b ≡ false → Answered (if b then in_foreign_content t s else by_mode_rules t s)
     either true e = absurd (true≢false e)
     either false e = subst (λ (mode : InsertionMode). Answered (in_mode mode t s)) (sym h.in_columns) a
 
-pub columns_answered : (t : TokenValue) (s : StateValue) → IsFree t → Columns s → Hung s → Answered (by_rules t s)
+pub columns_answered : (t : TokenValue) (s : StateValue) → IsFree t → Columns s → Hung s
+    → Answered (by_rules t s)
 columns_answered t s p h x = by_columns t s h (in_columns_answered t s p h x)
 
 pub columns_run_answered : (s t : List ℕ) (y : StateValue) → Columns y → Hung y

@@ -1,5 +1,5 @@
 -- Start tags of `col` and `colgroup`, which begin columns in a table.
-use Rattle.std.proofs.Common.{◌≡◌, ◌∙◌, ℕ, Bool, true, false, List, [], ◌∷◌, length, refl, sym, ap}
+use Rattle.std.proofs.Common.{◌≡◌, Bool, true, false, List, [], refl, sym, ap}
 use Rattle.std.specs.Prelude.{if◌then◌else◌}
 use Rattle.std.proofs.lemmas.Bool.{true≢false}
 use Rattle.htmd_grammar.specs.ValueTrees.{AttributePair}
@@ -7,7 +7,7 @@ use Rattle.htmd_html5_state.specs.Names.{NameValue, known, html}
 use Rattle.htmd_html5_state.specs.Documents.{element}
 use Rattle.htmd_html5_state.specs.OpenElements.{clear_to, is_in_scope}
 use Rattle.htmd_html5_state.specs.State.{StateValue}
-use Rattle.htmd_html5_state.specs.Insertion.{opened, place}
+use Rattle.htmd_html5_state.specs.Insertion.{place}
 use Rattle.htmd_html5_state.specs.declared.modes.InsertionMode.{InsertionMode}
 use Rattle.htmd_html5_state.specs.declared.modes.InsertionMode.TheVariants.{Initial, BeforeHtml, BeforeHead, InHead}
 use Rattle.htmd_html5_state.specs.declared.modes.InsertionMode.TheVariants.{InHeadNoscript, AfterHead, InBody, InTable}
@@ -16,7 +16,7 @@ use Rattle.htmd_html5_state.specs.declared.modes.InsertionMode.TheVariants.{InRo
 use Rattle.htmd_html5_state.specs.declared.modes.InsertionMode.TheVariants.{InTemplate, AfterBody, InFrameset}
 use Rattle.htmd_html5_state.specs.declared.modes.InsertionMode.TheVariants.{AfterFrameset, AfterAfterBody}
 use Rattle.htmd_html5_state.specs.declared.modes.InsertionMode.TheVariants.{AfterAfterFrameset}
-use Rattle.htmd_html5_state.specs.declared.sets.NameSet.TheVariants.{TableContext, TableSections, Cells}
+use Rattle.htmd_html5_state.specs.declared.sets.NameSet.TheVariants.{TableContext, Cells}
 use Rattle.htmd_html5_state.specs.declared.sets.Scope.TheVariants.{Table as TableScope}
 use Rattle.htmd_html5.specs.Tokens.{StartTagValue, start_tag}
 use Rattle.htmd_html5.specs.Answers.{Answer, done, again}
@@ -29,16 +29,16 @@ use Rattle.htmd_html5.specs.AfterHead.{start_after_head}
 use Rattle.htmd_html5.specs.AfterBody.{start_after_body}
 use Rattle.htmd_html5.specs.BodyStarts.{rule_of_start, start_by}
 use Rattle.htmd_html5.specs.InTable.{to_table, start_columns, start_in_table}
-use Rattle.htmd_html5.specs.InCaption.{start_in_caption, leave_caption, has_caption}
+use Rattle.htmd_html5.specs.InCaption.{start_in_caption, leave_caption}
 use Rattle.htmd_html5.specs.InTableBody.{start_in_section, leave_section}
-use Rattle.htmd_html5.specs.InRow.{start_in_row, leave_row, has_row}
+use Rattle.htmd_html5.specs.InRow.{start_in_row, leave_row}
 use Rattle.htmd_html5.specs.InCell.{start_in_cell, leave_cell, close_cell}
 use Rattle.htmd_html5.specs.InSelect.{start_in_select, start_in_select_in_table}
-use Rattle.htmd_html5.specs.ForeignContent.{is_foreign, tag_breaks_out, break_out, text_breaks_out, start_foreign_element}
+use Rattle.htmd_html5.specs.ForeignContent.{is_foreign, tag_breaks_out, text_breaks_out, start_foreign_element}
 use Rattle.htmd_html5.specs.ForeignContent.{in_foreign_content}
 use Rattle.htmd_html5.specs.Modes.{in_mode, by_mode_rules}
 use Rattle.htmd_html5.specs.Processing.{by_rules}
-use Rattle.htmd_html5_laws.proofs.PlainNames.{PlainOpen, is_plain_open, clear_to_fewer}
+use Rattle.htmd_html5_laws.proofs.PlainNames.{is_plain_open, clear_to_fewer}
 use Rattle.htmd_html5_laws.proofs.HungStates.{Hung, hung_fewer, hung_named}
 use Rattle.htmd_html5_laws.proofs.PlainStates.{is_plain_mode, Plain, added_grows}
 use Rattle.htmd_html5_laws.proofs.PlainBody.{StaysAnswer, says_plain}
@@ -87,7 +87,8 @@ by_column f a b _ c = absurd (true≢false c)
 
 -- ---- by the rules of each mode
 
-module _ (tag : StartTagValue) (s : StateValue) (h : Plain s) (x : Hung s) (no_raw : is_text_mode s.content ≡ false) where
+module _ (tag : StartTagValue) (s : StateValue) (h : Plain s) (x : Hung s)
+    (no_raw : is_text_mode s.content ≡ false) where
   -- the token is done with in a plain state
   done_plain : (t : StateValue) → Plain t → Hung t → Answered (done t)
   done_plain t p y = record { stands = is_plain_state p y; no_raw = λ e. absurd (true≢false (sym e)) }
@@ -120,7 +121,8 @@ module _ (tag : StartTagValue) (s : StateValue) (h : Plain s) (x : Hung s) (no_r
       }
       either false = done_plain s h x
 
-  in_table_answered : (name : NameValue) → tag.name ≡ name → IsColumn name → Answered (start_in_table name tag s)
+  in_table_answered : (name : NameValue) → tag.name ≡ name → IsColumn name
+      → Answered (start_in_table name tag s)
   in_table_answered (known tags.Col) e c = record {
     stands = is_in_columns (columns_begun (known tags.ColGroup) [] s refl h no_raw)
         (begun_hung (known tags.ColGroup) [] s x);
@@ -168,7 +170,8 @@ module _ (tag : StartTagValue) (s : StateValue) (h : Plain s) (x : Hung s) (no_r
   foreign_answered : IsColumn tag.name → Answered (in_foreign_content (start_tag tag) s)
   foreign_answered c =
       rw (breaks_none tag.name tag.attributes c)
-      (done_plain (start_foreign_element tag s) ((start_foreign_stays tag).stays s h) ((start_foreign_stays tag).hangs s h x))
+      (done_plain (start_foreign_element tag s) ((start_foreign_stays tag).stays s h)
+      ((start_foreign_stays tag).hangs s h x))
 
   pub column_tag_answered : IsColumn tag.name → Answered (by_rules (start_tag tag) s)
   column_tag_answered c = either (is_foreign (start_tag tag) s)

@@ -1,7 +1,7 @@
 -- The tokens of a page without a start tag of `frameset` or `template`: no text comes to a state that drops text.
 use Rattle.std.proofs.Common.{◌≡◌, ◌∙◌, ℕ, zero, suc, Bool, true, false, List, [], ◌∷◌, length, Option, Some, None}
 use Rattle.std.proofs.Common.{refl, sym, ap, arith, inl, inr, ◌⊎◌}
-use Rattle.std.specs.Prelude.{if◌then◌else◌, ◌&&◌, ◌||◌, not, find, codes}
+use Rattle.std.specs.Prelude.{if◌then◌else◌, ◌&&◌, not, find, codes}
 use Rattle.std.specs.List.{list_all}
 use Rattle.std.specs.Str.{bytes_eq}
 use Rattle.std.proofs.lemmas.Bool.{true≢false, and_parts, or_left, or_right}
@@ -10,12 +10,11 @@ use Rattle.htmd_text.specs.WhiteSpace.{is_ascii_white_space}
 use Rattle.htmd_grammar.specs.CharacterClasses.{is_empty}
 use Rattle.htmd_html5_tokens.specs.Preprocessing.{preprocessed}
 use Rattle.htmd_html5_tokens.specs.Tokens.{Read}
-use Rattle.htmd_html5_tokens.specs.declared.tokens.Content.TheVariants.{Normal}
 use Rattle.htmd_html5_state.specs.Names.{NameValue, known, other, spelling, names_with, is_spelled, known_or, known_name}
 use Rattle.htmd_html5_state.specs.Names.{name_of_text}
 use Rattle.htmd_html5_state.specs.OpenElements.{OpenValue, pop}
 use Rattle.htmd_html5_state.specs.State.{StateValue, initial_state}
-use Rattle.htmd_html5_state.specs.Insertion.{place, insert_text}
+use Rattle.htmd_html5_state.specs.Insertion.{insert_text}
 use Rattle.htmd_html5_state.specs.declared.modes.InsertionMode.{InsertionMode}
 use Rattle.htmd_html5_state.specs.declared.modes.InsertionMode.TheVariants.{InColumnGroup, InTemplate, InFrameset}
 use Rattle.htmd_html5_state.specs.declared.modes.InsertionMode.TheVariants.{AfterFrameset, AfterAfterFrameset}
@@ -23,28 +22,27 @@ use Rattle.htmd_html5_state.specs.declared.names.TagName.{TagName}
 use Rattle.htmd_html5.specs.Tokens.{StartTagValue, TokenValue, start_tag, end_tag, run, comment, doctype, end_of_file}
 use Rattle.htmd_html5.specs.Answers.{Answer}
 use Rattle.htmd_html5.specs.Processing.{by_rules, turns, after_answer, process_within, process}
-use Rattle.htmd_html5.specs.Runs.{first_kind, first_run, after_first_run}
-use Rattle.htmd_html5.specs.InBody.{run_in_body}
-use Rattle.htmd_html5.specs.InTable.{without_nulls, fostered, foster_runs, put_table_text, table_text}
+use Rattle.htmd_html5.specs.Runs.{first_run, after_first_run}
+use Rattle.htmd_html5.specs.InTable.{without_nulls, foster_runs, put_table_text, table_text}
 use Rattle.htmd_html5.specs.Texts.{Taken, is_table_mode, takes_all, taken, after_run, first_token, take_within, take_part}
 use Rattle.htmd_html5.specs.Texts.{put_within, put_text}
 use Rattle.htmd_html5.specs.Feeding.{is_text_mode, put_raw_text, feed_text, without_line_feed, with_nothing_skipped}
 use Rattle.htmd_html5.specs.Feeding.{close_raw, out_of_text_mode, feed_end_tag, named, feed_at, feed}
 use Rattle.htmd_html5.specs.Documents.{next_read, is_end, after_token, read_within, state_after}
-use Rattle.htmd_html5_laws.specs.DocumentLetters.{drops_in, drops_text, takes_text, is_taken, taken_after, taken_within}
+use Rattle.htmd_html5_laws.specs.DocumentLetters.{drops_in, drops_text, is_taken, taken_after, taken_within}
 use Rattle.htmd_html5_laws.specs.HarmlessTags.{drops_text_in, is_harmless, tokens_after, tokens_within}
 use Rattle.htmd_html5_laws.specs.HarmlessTags.{all_tags_are_harmless, HarmlessTextsAreTaken}
 use Rattle.htmd_html5_laws.proofs.FedTokens.{initial_sound}
 use Rattle.htmd_html5_laws.proofs.HungNodes.{is_solid}
 use Rattle.htmd_html5_state.specs.Documents.{document, new_node, kind_at}
-use Rattle.htmd_html5_laws.proofs.PlainNames.{is_plain_name, PlainOpen, is_plain_open, pop_fewer}
+use Rattle.htmd_html5_laws.proofs.PlainNames.{is_plain_name, is_plain_open, pop_fewer}
 use Rattle.htmd_html5_laws.proofs.HungStates.{Hung, hung_fewer, hung_text}
 use Rattle.htmd_html5_laws.proofs.PlainStates.{is_plain_mode, Plain, Stays, then_stays, still, stays_by_test, plain_stack}
 use Rattle.htmd_html5_laws.proofs.PlainTables.{fostered_stays}
 use Rattle.htmd_html5_laws.proofs.PlainModes.{IsPlain}
 use Rattle.htmd_html5_laws.proofs.PlainTokens.{by_rules_stays}
 use Rattle.htmd_html5_laws.proofs.PlainRuns.{insert_text_stays, run_in_body_stays, run_stays}
-use Rattle.htmd_html5_laws.proofs.ColumnStates.{Columns, Stands, is_plain_state, is_in_columns, Answered, columns_current}
+use Rattle.htmd_html5_laws.proofs.ColumnStates.{Stands, is_plain_state, is_in_columns, Answered, columns_current}
 use Rattle.htmd_html5_laws.proofs.ColumnStates.{insert_text_in_columns, IsFreeName, IsFree, columns_answered}
 use Rattle.htmd_html5_laws.proofs.ColumnStates.{columns_run_answered}
 use Rattle.htmd_html5_laws.proofs.ColumnTags.{IsColumn, column_tag_answered}
@@ -138,14 +136,16 @@ after_answered go a more h = either a.again refl
     either true e = more a.state (h.no_raw e) h.stands
     either false e = h.stands
 
-column_within : (k : ℕ) (tag : StartTagValue) (s : StateValue) → IsColumn tag.name → is_text_mode s.content ≡ false
+column_within : (k : ℕ) (tag : StartTagValue) (s : StateValue) → IsColumn tag.name → is_text_mode s.content
+    ≡ false
     → Stands s → Stands (process_within k (start_tag tag) s)
 column_within zero tag s c no_raw h = h
 column_within (suc k) tag s c no_raw h =
     after_answered (process_within k (start_tag tag)) (by_rules (start_tag tag) s)
     (λ x raw g. column_within k tag x c raw g) (column_answered tag s c no_raw h)
 
-start_stands : (tag : StartTagValue) (s : StateValue) → Safe tag.name → is_text_mode s.content ≡ false → Stands s
+start_stands : (tag : StartTagValue) (s : StateValue) → Safe tag.name → is_text_mode s.content ≡ false
+    → Stands s
     → Stands (process (start_tag tag) s)
 start_stands tag s (inl p) no_raw h = plain_within (turns s) (start_tag tag) s p h
 start_stands tag s (inr c) no_raw h = column_within (turns s) tag s c no_raw h
@@ -169,7 +169,8 @@ put_table_text_stays text =
     (stays_by_test (λ s. list_all is_ascii_white_space text) (insert_text_stays text)
     (foster_runs_stay (length text) text))
 
-in_table_itself : (text : List ℕ) (s : StateValue) → takes_all s ≡ true → Stands s → Stands (put_table_text text s)
+in_table_itself : (text : List ℕ) (s : StateValue) → takes_all s ≡ true → Stands s
+    → Stands (put_table_text text s)
 in_table_itself text s e (is_plain_state h x) =
     is_plain_state ((put_table_text_stays text).stays s h) ((put_table_text_stays text).hangs s h x)
 in_table_itself text s e (is_in_columns h x) =
@@ -244,7 +245,8 @@ out_of_text s h = either (is_text_mode s.content) refl
 end_stands : (name : NameValue) (s : StateValue) → Stands s → Stands (feed_end_tag name s)
 end_stands name s h = either (is_text_mode s.content) refl
   where
-    either : (b : Bool) → is_text_mode s.content ≡ b → Stands (if b then close_raw s else process (end_tag name) s)
+    either : (b : Bool) → is_text_mode s.content ≡ b
+        → Stands (if b then close_raw s else process (end_tag name) s)
     either true e = raw_closed s e h
     either false e = plain_within (turns s) (end_tag name) s tt h
 
@@ -304,7 +306,8 @@ token_taken tokens.end_of_file s h = refl
 both : (a b : Bool) → a ≡ true → b ≡ true → (a && b) ≡ true
 both a b e f = rw (e, f) refl
 
-after_taken : (k : ℕ) (read : Read) (s : StateValue) → list_all is_harmless (tokens_after (tokens_within k) read s) ≡ true
+after_taken : (k : ℕ) (read : Read) (s : StateValue)
+    → list_all is_harmless (tokens_after (tokens_within k) read s) ≡ true
     → Stands s
     → ((t : StateValue) → list_all is_harmless (tokens_within k read.rest t) ≡ true → Stands t
     → taken_within k read.rest t ≡ true)
@@ -322,7 +325,8 @@ after_taken k read s e h more = either (is_end read.token) e
         both (is_taken read.token s) (taken_within k read.rest (feed read.token s)) (token_taken read.token s h)
         (more (feed read.token s) parts.1 (feed_stands read.token s parts.0 h))
 
-all_taken : (k : ℕ) (page : List ℕ) (s : StateValue) → list_all is_harmless (tokens_within k page s) ≡ true → Stands s
+all_taken : (k : ℕ) (page : List ℕ) (s : StateValue) → list_all is_harmless (tokens_within k page s) ≡ true
+    → Stands s
     → taken_within k page s ≡ true
 all_taken zero page s e h = refl
 all_taken (suc k) page s e h =
@@ -364,7 +368,8 @@ harmless_taken scripting page e =
 
 -- ---- each hangs at the end
 
-after_stand : (k : ℕ) (read : Read) (s : StateValue) → list_all is_harmless (tokens_after (tokens_within k) read s) ≡ true
+after_stand : (k : ℕ) (read : Read) (s : StateValue)
+    → list_all is_harmless (tokens_after (tokens_within k) read s) ≡ true
     → Stands s
     → ((t : StateValue) → list_all is_harmless (tokens_within k read.rest t) ≡ true → Stands t
     → Stands (read_within k read.rest t))

@@ -8,21 +8,21 @@ use Rattle.std.proofs.lemmas.List.{length-set}
 use Rattle.htmd_text.proofs.Cases.{test}
 use Rattle.htmd_html5_state.specs.Names.{known, html}
 use Rattle.htmd_html5_state.specs.Documents.{NodeValue, KindValue, kind_at, parent_at, children_at, new_node, last_in}
-use Rattle.htmd_html5_state.specs.Documents.{place_index, detach, detach_from, remove_child, put, move_children}
+use Rattle.htmd_html5_state.specs.Documents.{place_index, detach, detach_from, remove_child, move_children}
 use Rattle.htmd_html5_state.specs.OpenElements.{OpenValue, is_open_node, inside, around}
 use Rattle.htmd_html5_state.specs.State.{StateValue, on_nodes, on_formatting}
 use Rattle.htmd_html5_state.specs.Insertion.{opened, place}
 use Rattle.htmd_html5_state.specs.Formatting.{is_listed, without_entry}
 use Rattle.htmd_html5_state.specs.Adoption.{is_special_element, Furthest, furthest_with, furthest_block, Chain}
-use Rattle.htmd_html5_state.specs.Adoption.{begin_chain, copy_into, with_copy, with_next, chain, move_last, wrap_children}
-use Rattle.htmd_html5_state.specs.Adoption.{finish, adopt}
+use Rattle.htmd_html5_state.specs.Adoption.{begin_chain, with_copy, with_next, move_last, wrap_children}
+use Rattle.htmd_html5_state.specs.Adoption.{finish}
 use Rattle.htmd_html5_state.specs.declared.names.TagName.{TagName}
-use Rattle.htmd_html5_laws.proofs.NodeTexts.{kinds, is_element, kinds_new, kinds_detach, kinds_move_children}
+use Rattle.htmd_html5_laws.proofs.NodeTexts.{is_element, kinds_new, kinds_detach, kinds_move_children}
 use Rattle.htmd_html5_laws.proofs.Forests.{IsForest, length_new, new_is_free, forest_new, forest_attach}
 use Rattle.htmd_html5_laws.proofs.Forests.{forest_detached_put, length_moved}
 use Rattle.htmd_html5_laws.proofs.KeepingAdoption.{wrap_kinds, wrap_forest}
-use Rattle.htmd_html5_laws.proofs.PlainNames.{EachOpen, Below, below_more, each_more, each_append, inside_fewer, around_fewer}
-use Rattle.htmd_html5_laws.proofs.HungNodes.{is_solid, element_solid, Hangs, HangsBy, Torn, AllHang, Fits, put_at, put_kind}
+use Rattle.htmd_html5_laws.proofs.PlainNames.{EachOpen, Below, below_more, each_more, each_append}
+use Rattle.htmd_html5_laws.proofs.HungNodes.{is_solid, element_solid, Hangs, Torn, AllHang, put_at, put_kind}
 use Rattle.htmd_html5_laws.proofs.HungNodes.{put_size, put_torn, appended_torn, detached_torn, moved_torn, kind_by_kinds}
 use Rattle.htmd_html5_laws.proofs.HungNodes.{kind_with_new, kind_new_at}
 use Rattle.htmd_html5_laws.proofs.HungStates.{ElementOpen, HungIn, Hung, element_number, below_moved, raised, raised_own}
@@ -34,7 +34,8 @@ abbrev pub Within : (ℕ → ℕ) → ℕ → List OpenValue → ℕ → Type 0
 Within rank high [] low = low ≤ high
 Within rank high (e ∷ es) low = (rank e.node < high) × Within rank (rank e.node) es low
 
-within_low : (rank : ℕ → ℕ) (high : ℕ) (es : List OpenValue) (low : ℕ) → Within rank high es low → low ≤ high
+within_low : (rank : ℕ → ℕ) (high : ℕ) (es : List OpenValue) (low : ℕ) → Within rank high es low
+    → low ≤ high
 within_low rank high [] low h = h
 within_low rank high (e ∷ es) low h =
     let a = within_low rank (rank e.node) es low h.1 in let b = h.0 in omega arith
@@ -44,7 +45,8 @@ within_append : (rank : ℕ → ℕ) (high : ℕ) (es : List OpenValue) (low : �
 within_append rank high [] low fs h g = below_more rank low high fs h g
 within_append rank high (e ∷ es) low fs h g = (h.0, within_append rank (rank e.node) es low fs h.1 g)
 
-within_push : (rank : ℕ → ℕ) (high : ℕ) (es : List OpenValue) (low : ℕ) (e : OpenValue) → Within rank high es low
+within_push : (rank : ℕ → ℕ) (high : ℕ) (es : List OpenValue) (low : ℕ) (e : OpenValue)
+    → Within rank high es low
     → rank e.node < low → Within rank high (es ++ e ∷ []) (rank e.node)
 within_push rank high [] low e h l = (omega arith, omega arith)
 within_push rank high (x ∷ es) low e h l = (h.0, within_push rank (rank x.node) es low e h.1 l)
@@ -54,16 +56,19 @@ within_same : (rank new : ℕ → ℕ) (high : ℕ) (es : List OpenValue) (low :
 within_same rank new high [] low same h = h
 within_same rank new high (e ∷ es) low same h =
     let a = same.0 in
-    let b = h.0 in
-    (omega arith, subst (λ (x : ℕ). Within new x es low) (sym a) (within_same rank new (rank e.node) es low same.1 h.1))
+    let b = h.0 in (
+      omega arith,
+      subst (λ (x : ℕ). Within new x es low) (sym a)
+          (within_same rank new (rank e.node) es low same.1 h.1),
+    )
 
 within_scaled : (rank new : ℕ → ℕ) (high : ℕ) (es : List OpenValue) (low : ℕ)
-    → EachOpen (λ e. new e.node ≡ 8 * rank e.node) es → Within rank high es low → Within new (8 * high) es (8 * low)
+    → EachOpen (λ e. new e.node ≡ 8 * rank e.node) es → Within rank high es low
+    → Within new (8 * high) es (8 * low)
 within_scaled rank new high [] low same h = omega arith
 within_scaled rank new high (e ∷ es) low same h =
     let a = same.0 in
-    let b = h.0 in
-    (
+    let b = h.0 in (
       omega arith,
       subst (λ (x : ℕ). Within new x es (8 * low)) (sym a) (within_scaled rank new (rank e.node) es low same.1 h.1),
     )
@@ -172,7 +177,8 @@ pub record ChainHung (s : StateValue) (old : ℕ → ℕ) (r left : ℕ) (c : Ch
   pub same_head : c.state.head ≡ s.head
 
 module _ (s : StateValue) (old : ℕ → ℕ) (r : ℕ) where
-  copied : (left : ℕ) (e : OpenValue) (c : Chain) → 1 ≤ left → is_element (kind_at c.state.nodes e.node) ≡ true
+  copied : (left : ℕ) (e : OpenValue) (c : Chain) → 1 ≤ left → is_element (kind_at c.state.nodes e.node)
+      ≡ true
       → ChainHung s old r left c → ChainHung s old r (left - 1) (with_copy e c)
   copied left e c more_left at h = record {
     some = h.some;
@@ -192,7 +198,8 @@ module _ (s : StateValue) (old : ℕ → ℕ) (r : ℕ) where
         (each_more c.copies (λ x o. others x.node (element_number x.node c.state.nodes o)) h.copies_at) h.copies)
         (let a = own in let l = h.low in let z = h.some in omega arith);
     copies_at = each_append (ElementOpen new) c.copies (opened n e.name ∷ [])
-        (each_more c.copies (λ x o. ap is_element (kept x.node (element_number x.node c.state.nodes o)) ∙ o) h.copies_at)
+        (each_more c.copies
+        (λ x o. ap is_element (kept x.node (element_number x.node c.state.nodes o)) ∙ o) h.copies_at)
         (ap is_element (put_kind c.last n (length (children_at out n)) out n) ∙ new_element, tt);
     before = λ m l. let z = h.size in others m (omega arith) ∙ h.before m l;
     spaced = λ m l.
@@ -254,7 +261,8 @@ module _ (s : StateValue) (old : ℕ → ℕ) (r : ℕ) where
       regrouped : Torn (λ m. (m ≡ c.last) ⊎ (m ≡ n)) rank out
       regrouped m solid =
           group (detached_torn (λ m. (m ≡ n) ⊎ (m ≡ c.last)) rank c.last more
-          (appended_torn (λ m. m ≡ c.last) h.rank rank k c.state.nodes (raised_order n (8 * r + left - 4) h.rank) h.torn)
+          (appended_torn (λ m. m ≡ c.last) h.rank rank k c.state.nodes
+          (raised_order n (8 * r + left - 4) h.rank) h.torn)
           m solid)
         where
           group : ((m ≡ c.last) ⊎ ((m ≡ n) ⊎ (m ≡ c.last))) ⊎ Hangs rank out m
@@ -351,15 +359,18 @@ begun s b rank all at forest some = record {
 
 -- ---- the furthest block's children are wrapped
 
-wrapped_hang : (formatting block r : ℕ) (rank : ℕ → ℕ) (nodes : List NodeValue) → AllHang rank nodes → IsForest nodes
-    → is_element (kind_at nodes formatting) ≡ true → is_element (kind_at nodes block) ≡ true → rank block ≡ 8 * r
+wrapped_hang : (formatting block r : ℕ) (rank : ℕ → ℕ) (nodes : List NodeValue) → AllHang rank nodes
+    → IsForest nodes
+    → is_element (kind_at nodes formatting) ≡ true → is_element (kind_at nodes block) ≡ true → rank block
+    ≡ 8 * r
     → ((m : ℕ) → 8 * r < rank m → 8 * r + 8 ≤ rank m)
     → AllHang (raised (length nodes) (8 * r + 1) rank) (wrap_children formatting block nodes)
 unfolding wrap_children
 wrapped_hang formatting block r rank nodes all forest at block_at own spaced =
     none_out new (wrap_children formatting block nodes)
     (put_torn (λ m. ⊥) new n block (length (children_at moved block)) moved
-    (moved_torn (λ m. (m ≡ n) ⊎ ⊥) new block n more (forest_new k nodes forest) (λ e. let w = within in omega arith)
+    (moved_torn (λ m. (m ≡ n) ⊎ ⊥) new block n more (forest_new k nodes forest)
+    (λ e. let w = within in omega arith)
     (let e = longer in (omega arith, inr new_element)) above
     (appended_torn (λ m. ⊥) rank new k nodes (raised_order n (8 * r + 1) rank) (λ m solid. inr (all m solid))))
     (let e = size in omega arith) (let e = size in let w = within in (omega arith, inr block_element))
@@ -406,7 +417,8 @@ wrapped_hang formatting block r rank nodes all forest at block_at own spaced =
     above : (m : ℕ) → parent_at more m ≡ Some block → new block < new m → new n < new m
     above m e less =
         test (m == n)
-        (λ t. absurd (none_some (sym (ap (λ (x : ℕ). parent_at more x) (eqb-true m n t) ∙ new_is_free k nodes) ∙ e)))
+        (λ t. absurd
+        (none_some (sym (ap (λ (x : ℕ). parent_at more x) (eqb-true m n t) ∙ new_is_free k nodes) ∙ e)))
         (λ t. let a = raised_other n (8 * r + 1) rank m (eqb-false m n t) in
         let b = raised_own n (8 * r + 1) rank in
         let d = block_rank in
@@ -485,7 +497,8 @@ module _ (formatting : ℕ) (tag : TagName) (f : Furthest) (s : StateValue) (h :
       (each_both (ElementOpen s.nodes) (λ e. ch.rank e.node < 8 * r - 7) s.stack h.opened_at
       (below_each ch.rank (8 * r - 7) s.stack around_low))
     where
-      hangs : (e : OpenValue) → ch.rank e.node < 8 * r - 7 → ((e.node ≡ c.last) ⊎ ⊥) ⊎ Hangs ch.rank out e.node
+      hangs : (e : OpenValue) → ch.rank e.node < 8 * r - 7
+          → ((e.node ≡ c.last) ⊎ ⊥) ⊎ Hangs ch.rank out e.node
           → Hangs ch.rank out e.node
       hangs e l (inr a) = a
       hangs e l (inl (inr a)) = absurd a
@@ -615,7 +628,8 @@ module _ (formatting : ℕ) (tag : TagName) (f : Furthest) (s : StateValue) (h :
   middle_order =
       let a = new_rank in
       let b = block_new_rank in
-      (omega arith, (omega arith, subst (λ (x : ℕ). Below rank x (c.copies ++ s.stack)) (sym block_new_rank) outer_order))
+      let outer = subst (λ (x : ℕ). Below rank x (c.copies ++ s.stack)) (sym block_new_rank) outer_order in
+      (omega arith, (omega arith, outer))
 
   inner_scaled : EachOpen (λ e. rank e.node ≡ 8 * h.rank e.node) f.inner
   inner_scaled =
@@ -630,22 +644,28 @@ module _ (formatting : ℕ) (tag : TagName) (f : Furthest) (s : StateValue) (h :
 
   new_at : is_element (kind_at wrapped n) ≡ true
   new_at =
-      ap is_element (wrapped_kind n ∙ (kind_new_at k put_back ∙ back_kept formatting formatting_within)) ∙ h.formatting_at
+      ap is_element (wrapped_kind n ∙ (kind_new_at k put_back ∙ back_kept formatting formatting_within))
+      ∙ h.formatting_at
 
   whole_opened : EachOpen (ElementOpen wrapped) (f.inner ++ new_open ∷ f.block ∷ (c.copies ++ s.stack))
   whole_opened =
       each_append (ElementOpen wrapped) f.inner (new_open ∷ f.block ∷ (c.copies ++ s.stack))
-      (each_more f.inner (λ e o. from_old e.node o) h.furthest.inner)
-      (new_at, (from_old f.block.node h.furthest.block,
-      each_append (ElementOpen wrapped) c.copies s.stack (each_more c.copies (λ e o. stays e.node o) ch.copies_at)
-      (each_more s.stack (λ e o. from_old e.node o) h.opened_at)))
+      (each_more f.inner (λ e o. from_old e.node o) h.furthest.inner) (
+        new_at,
+        (
+          from_old f.block.node h.furthest.block,
+          each_append (ElementOpen wrapped) c.copies s.stack (each_more c.copies (λ e o. stays e.node o) ch.copies_at)
+              (each_more s.stack (λ e o. from_old e.node o) h.opened_at),
+        ),
+      )
 
   adopted : HungIn wrapped (f.inner ++ new_open ∷ f.block ∷ (c.copies ++ s.stack)) s.head
   adopted = record {
     rank = rank;
     limit = 8 * h.limit;
     at_root =
-        raised_other n (8 * r + 1) ch.rank 0 (λ g. let a = back_size in let b = ch.size in let d = h.filled in omega arith)
+        raised_other n (8 * r + 1) ch.rank 0
+        (λ g. let a = back_size in let b = ch.size in let d = h.filled in omega arith)
         ∙ zero_rank;
     order = whole_order;
     hangs = wrapped_all;
@@ -661,12 +681,14 @@ module _ (formatting : ℕ) (tag : TagName) (f : Furthest) (s : StateValue) (h :
       wrapped_filled : 0 < length wrapped
       wrapped_filled = let w = element_number n wrapped new_at in omega arith
 
-pub finish_hung : (formatting : ℕ) (tag : TagName) (f : Furthest) (s : StateValue) (h : RoundHung formatting f s) (left : ℕ)
-    (c : Chain) → ChainHung s h.rank (h.rank f.block.node) left c → Hung (finish formatting tag f c (move_last c.last c.state))
+pub finish_hung : (formatting : ℕ) (tag : TagName) (f : Furthest) (s : StateValue) (h : RoundHung formatting f s)
+    (left : ℕ) (c : Chain) → ChainHung s h.rank (h.rank f.block.node) left c
+    → Hung (finish formatting tag f c (move_last c.last c.state))
 unfolding move_last
 finish_hung formatting tag f s h left c ch =
     subst (λ (stack : List OpenValue). HungIn (wrapped formatting tag f s h left c ch)
-    (f.inner ++ new_open formatting tag f s h left c ch ∷ f.block ∷ (c.copies ++ stack)) c.state.head) (sym ch.same_stack)
+    (f.inner ++ new_open formatting tag f s h left c ch ∷ f.block ∷ (c.copies ++ stack)) c.state.head)
+    (sym ch.same_stack)
     (subst (λ (head : Option ℕ). HungIn (wrapped formatting tag f s h left c ch)
     (f.inner ++ new_open formatting tag f s h left c ch ∷ f.block ∷ (c.copies ++ s.stack)) head) (sym ch.same_head)
     (adopted formatting tag f s h left c ch))

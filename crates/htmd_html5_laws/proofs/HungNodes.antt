@@ -1,7 +1,7 @@
 -- Where texts and elements hang: each but the Document by its parent, which holds it, in an order.
 use Rattle.std.proofs.Common.{◌≡◌, ◌∙◌, ℕ, zero, suc, ◌+◌, ◌<◌, ◌≤◌, Bool, true, false, List, [], ◌∷◌, ◌++◌, length}
 use Rattle.std.proofs.Common.{get_or, refl, sym, ap, subst, arith, cond, Option, Some, None, inl, inr, ◌⊎◌}
-use Rattle.std.specs.Prelude.{◌==◌, ◌||◌, not, insert, remove, if◌then◌else◌}
+use Rattle.std.specs.Prelude.{◌==◌, insert, remove}
 use Rattle.std.specs.List.{list_any}
 use Rattle.std.proofs.lemmas.Bool.{true≢false, eqb-true, eqb-false, eq-eqb, ne_eqb}
 use Rattle.std.proofs.lemmas.List.{length-set}
@@ -14,7 +14,7 @@ use Rattle.htmd_html5_laws.proofs.NodeTexts.{kinds, is_element, kind_read, kinds
 use Rattle.htmd_html5_laws.proofs.NodeTexts.{kinds_detach, kinds_move_children}
 use Rattle.htmd_html5_laws.proofs.NodeParts.{times, times_append, times_insert, children_other, parent_of_children}
 use Rattle.htmd_html5_laws.proofs.NodeParts.{children_of_parent, parent_same, parent_other, children_with_new}
-use Rattle.htmd_html5_laws.proofs.NodeParts.{parent_with_new, parent_beyond}
+use Rattle.htmd_html5_laws.proofs.NodeParts.{parent_with_new}
 use Rattle.htmd_html5_laws.proofs.Forests.{IsForest, elsewhere, children_with_parents, parent_not_among, parent_among}
 use Rattle.htmd_html5_laws.proofs.Forests.{length_with_parents, once_under}
 use Rattle.htmd_html5_laws.proofs.WholeTexts.{Holder}
@@ -57,7 +57,8 @@ Fits nodes p = (p < length nodes) × ((p ≡ 0) ⊎ (is_element (kind_at nodes p
 
 -- ---- kinds
 
-pub kind_by_kinds : (nodes new : List NodeValue) (n : ℕ) → kinds new ≡ kinds nodes → kind_at new n ≡ kind_at nodes n
+pub kind_by_kinds : (nodes new : List NodeValue) (n : ℕ) → kinds new ≡ kinds nodes → kind_at new n
+    ≡ kind_at nodes n
 kind_by_kinds nodes new n e =
     kind_read new n ∙ (ap (λ (ks : List KindValue). get_or ks n document) e ∙ sym (kind_read nodes n))
 
@@ -90,7 +91,8 @@ children_within p n [] l = absurd (omega arith)
 children_within zero n (x ∷ nodes) l = omega arith
 children_within (suc p) n (x ∷ nodes) l = let h = children_within p n nodes l in omega arith
 
-pub holder_within : (rank : ℕ → ℕ) (nodes : List NodeValue) (n : ℕ) (h : HangsBy rank nodes n) → h.by < length nodes
+pub holder_within : (rank : ℕ → ℕ) (nodes : List NodeValue) (n : ℕ) (h : HangsBy rank nodes n)
+    → h.by < length nodes
 holder_within rank nodes n h = children_within h.by n nodes h.holder.stands
 
 removed_other : (m n : ℕ) (cs : List ℕ) → (n ≡ m → ⊥) → times m (remove cs (index_of n cs)) ≡ times m cs
@@ -99,7 +101,8 @@ removed_other m n (c ∷ cs) h =
     test (c == n)
     (λ t. test (list_any (is_number n) cs)
     (λ u. let i = removed_other m n cs h in rw (t, u) (omega arith))
-    (λ u. let z : ◌≡◌ {A = ℕ} (cond (c == m) 1 0) 0 = rw (ne_eqb c m (λ e. h (sym (eqb-true c n t) ∙ e))) refl in
+    (λ u. let z : ◌≡◌ {A = ℕ} (cond (c == m) 1 0) 0 =
+    rw (ne_eqb c m (λ e. h (sym (eqb-true c n t) ∙ e))) refl in
     rw (t, u) (omega arith)))
     (λ t. let i = removed_other m n cs h in rw t (omega arith))
 
@@ -130,24 +133,25 @@ put_more : (m n p i : ℕ) (nodes : List NodeValue) (q : ℕ) → q < length nod
     → times m (children_at nodes q) ≤ times m (children_at (put_at n p i nodes) q)
 put_more m n p i nodes q l =
     let a : times m (children_at (put_at n p i nodes) q)
-        ≡ times m (children_at (with_children p (insert (children_at nodes p) i n) nodes) q) =
+    ≡ times m (children_at (with_children p (insert (children_at nodes p) i n) nodes) q) =
     ap (times m) (children_of_parent n q (Some p) (with_children p (insert (children_at nodes p) i n) nodes)) in
     test (p == q)
     (λ t. let e = eqb-true p q t in
     let j = times_insert m n i (children_at nodes p) in
     let b : times m (children_at (with_children p (insert (children_at nodes p) i n) nodes) q)
-        ≡ times m (insert (children_at nodes p) i n) =
+    ≡ times m (insert (children_at nodes p) i n) =
     ap (λ (x : ℕ). times m (children_at (with_children p (insert (children_at nodes p) i n) nodes) x)) (sym e)
     ∙ ap (times m) (children_in p (insert (children_at nodes p) i n) nodes (omega arith)) in
     let d : times m (children_at nodes p) ≡ times m (children_at nodes q) =
     ap (λ (x : ℕ). times m (children_at nodes x)) e in
     omega arith)
     (λ t. let b : times m (children_at (with_children p (insert (children_at nodes p) i n) nodes) q)
-        ≡ times m (children_at nodes q) =
+    ≡ times m (children_at nodes q) =
     ap (times m) (children_other p q _ nodes (eqb-false p q t)) in
     omega arith)
 
-put_other : (rank : ℕ → ℕ) (n p i : ℕ) (nodes : List NodeValue) (m : ℕ) → (n ≡ m → ⊥) → HangsBy rank nodes m
+put_other : (rank : ℕ → ℕ) (n p i : ℕ) (nodes : List NodeValue) (m : ℕ) → (n ≡ m → ⊥)
+    → HangsBy rank nodes m
     → HangsBy rank (put_at n p i nodes) m
 put_other rank n p i nodes m f h = record {
   by = h.by;
@@ -164,7 +168,8 @@ put_other rank n p i nodes m f h = record {
   less = h.less;
 }
 
-put_own : (rank : ℕ → ℕ) (n p i : ℕ) (nodes : List NodeValue) → n < length nodes → Fits nodes p → rank p < rank n
+put_own : (rank : ℕ → ℕ) (n p i : ℕ) (nodes : List NodeValue) → n < length nodes → Fits nodes p
+    → rank p < rank n
     → HangsBy rank (put_at n p i nodes) n
 put_own rank n p i nodes l fits less = record {
   by = p;
@@ -175,12 +180,12 @@ put_own rank n p i nodes l fits less = record {
     either = either_by nodes (put_at n p i nodes) p (put_kind n p i nodes p) fits.1;
     stands =
         let a : times n (children_at (put_at n p i nodes) p)
-            ≡ times n (children_at (with_children p (insert (children_at nodes p) i n) nodes) p) =
+        ≡ times n (children_at (with_children p (insert (children_at nodes p) i n) nodes) p) =
         ap (times n) (children_of_parent n p (Some p) (with_children p (insert (children_at nodes p) i n) nodes)) in
         let j = times_insert n n i (children_at nodes p) in
         let own : ◌≡◌ {A = ℕ} (cond (n == n) 1 0) 1 = rw (eq-eqb n n refl) refl in
         let b : times n (children_at (with_children p (insert (children_at nodes p) i n) nodes) p)
-            ≡ times n (insert (children_at nodes p) i n) =
+        ≡ times n (insert (children_at nodes p) i n) =
         ap (times n) (children_in p (insert (children_at nodes p) i n) nodes fits.0) in
         omega arith;
   };
@@ -222,7 +227,8 @@ put_loose rank n p i nodes loose all m s = by_hangs (all m solid)
 -- ---- a new node, which hangs by nothing
 
 pub appended_hangs : (rank new : ℕ → ℕ) (k : KindValue) (nodes : List NodeValue) (n : ℕ)
-    → ((a b : ℕ) → a < length nodes → b < length nodes → rank a < rank b → new a < new b) → n < length nodes
+    → ((a b : ℕ) → a < length nodes → b < length nodes → rank a < rank b → new a < new b)
+    → n < length nodes
     → HangsBy rank nodes n → HangsBy new (nodes ++ new_node k ∷ []) n
 appended_hangs rank new k nodes n order l h =
     let within = holder_within rank nodes n h in
@@ -242,7 +248,8 @@ appended_hangs rank new k nodes n order l h =
     }
 
 pub appended_torn : (Out : ℕ → Type 0) (rank new : ℕ → ℕ) (k : KindValue) (nodes : List NodeValue)
-    → ((a b : ℕ) → a < length nodes → b < length nodes → rank a < rank b → new a < new b) → Torn Out rank nodes
+    → ((a b : ℕ) → a < length nodes → b < length nodes → rank a < rank b → new a < new b)
+    → Torn Out rank nodes
     → Torn (λ m. (m ≡ length nodes) ⊎ Out m) new (nodes ++ new_node k ∷ [])
 appended_torn Out rank new k nodes order torn m s =
     test (m == length nodes) (λ t. inl (inl (eqb-true m (length nodes) t)))
@@ -258,7 +265,8 @@ appended_torn Out rank new k nodes order torn m s =
 
 -- ---- a node is taken out
 
-detach_from_other : (rank : ℕ → ℕ) (o : Option ℕ) (n : ℕ) (nodes : List NodeValue) (m : ℕ) → (n ≡ m → ⊥)
+detach_from_other : (rank : ℕ → ℕ) (o : Option ℕ) (n : ℕ) (nodes : List NodeValue) (m : ℕ)
+    → (n ≡ m → ⊥)
     → HangsBy rank nodes m → HangsBy rank (detach_from o n nodes) m
 detach_from_other rank None n nodes m f h = h
 detach_from_other rank (Some p) n nodes m f h = record {
@@ -272,13 +280,14 @@ detach_from_other rank (Some p) n nodes m f h = record {
         (kinds_with_parent n None (remove_child p n nodes) ∙ kinds_with_children p _ nodes)) h.holder.either;
     stands =
         let a : times m (children_at (detach_from (Some p) n nodes) h.by)
-            ≡ times m (children_at (remove_child p n nodes) h.by) =
+        ≡ times m (children_at (remove_child p n nodes) h.by) =
         ap (times m) (children_of_parent n h.by None (remove_child p n nodes)) in
         let b = h.holder.stands in
         let within = holder_within rank nodes m h in
         test (p == h.by)
         (λ t. let e = eqb-true p h.by t in
-        let d : times m (children_at (remove_child p n nodes) h.by) ≡ times m (without_child n (children_at nodes p)) =
+        let d : times m (children_at (remove_child p n nodes) h.by)
+        ≡ times m (without_child n (children_at nodes p)) =
         ap (λ (x : ℕ). times m (children_at (remove_child p n nodes) x)) (sym e)
         ∙ ap (times m) (children_in p (without_child n (children_at nodes p)) nodes (omega arith)) in
         let g = removed_other m n (children_at nodes p) f in
@@ -292,7 +301,8 @@ detach_from_other rank (Some p) n nodes m f h = record {
   less = h.less;
 }
 
-pub detached_torn : (Out : ℕ → Type 0) (rank : ℕ → ℕ) (n : ℕ) (nodes : List NodeValue) → Torn Out rank nodes
+pub detached_torn : (Out : ℕ → Type 0) (rank : ℕ → ℕ) (n : ℕ) (nodes : List NodeValue)
+    → Torn Out rank nodes
     → Torn (λ m. (m ≡ n) ⊎ Out m) rank (detach n nodes)
 detached_torn Out rank n nodes torn m s =
     by_torn (torn m (sym (ap is_solid (kind_by_kinds nodes (detach n nodes) m (kinds_detach n nodes))) ∙ s))
@@ -310,7 +320,8 @@ detached_torn Out rank n nodes torn m s =
 pub same_hang : (rank : ℕ → ℕ) (nodes new : List NodeValue)
     → ((m : ℕ) → is_solid (kind_at new m) ≡ is_solid (kind_at nodes m))
     → ((m : ℕ) → is_element (kind_at new m) ≡ is_element (kind_at nodes m))
-    → ((m : ℕ) → parent_at new m ≡ parent_at nodes m) → ((m : ℕ) → children_at new m ≡ children_at nodes m)
+    → ((m : ℕ) → parent_at new m ≡ parent_at nodes m)
+    → ((m : ℕ) → children_at new m ≡ children_at nodes m)
     → AllHang rank nodes → AllHang rank new
 same_hang rank nodes new solid same parent children all m s = by_hangs (all m (sym (solid m) ∙ s))
   where
@@ -401,7 +412,8 @@ moved_torn Out rank from to nodes forest apart fits above torn m s =
     other h f = record {
       by = h.by;
       parent =
-          parent ∙ (parent_not_among to m moved emptied (none h f) ∙ (parent_of_children from m [] nodes ∙ h.parent));
+          parent
+          ∙ (parent_not_among to m moved emptied (none h f) ∙ (parent_of_children from m [] nodes ∙ h.parent));
       holder = record {
         either = either_by nodes new h.by (kind h.by) h.holder.either;
         stands =

@@ -1,8 +1,8 @@
 -- States in which each text and each element hangs under the Document, and steps that leave it so.
-use Rattle.std.proofs.Common.{◌≡◌, ◌∙◌, ℕ, zero, suc, ◌+◌, ◌<◌, ◌≤◌, Bool, true, false, List, [], ◌∷◌, ◌++◌, length}
+use Rattle.std.proofs.Common.{◌≡◌, ◌∙◌, ℕ, zero, suc, ◌+◌, ◌<◌, Bool, true, false, List, [], ◌∷◌, ◌++◌, length}
 use Rattle.std.proofs.Common.{refl, sym, ap, subst, arith, cond, Option, Some, None, inl, inr, ◌⊎◌}
 use Rattle.std.specs.Prelude.{◌==◌, ◌&&◌, if◌then◌else◌}
-use Rattle.std.proofs.lemmas.Bool.{true≢false, eqb-true, eqb-false, eq-eqb, ne_eqb}
+use Rattle.std.proofs.lemmas.Bool.{true≢false, eq-eqb, ne_eqb}
 use Rattle.std.proofs.lemmas.List.{length-set}
 use Rattle.htmd_text.proofs.Cases.{test}
 use Rattle.htmd_grammar.specs.ValueTrees.{AttributePair}
@@ -10,7 +10,7 @@ use Rattle.htmd_html5_state.specs.Names.{ElementNameValue, known, html}
 use Rattle.htmd_html5_state.specs.Documents.{NodeValue, KindValue, document, doctype, text, comment, element, new_node}
 use Rattle.htmd_html5_state.specs.Documents.{kind_at, parent_at, children_at, with_kind, last_in, place_index, add}
 use Rattle.htmd_html5_state.specs.Documents.{kind_with_missing, add_missing, text_of, preceding, joined_with, joined_to}
-use Rattle.htmd_html5_state.specs.Documents.{or_add, add_text}
+use Rattle.htmd_html5_state.specs.Documents.{or_add}
 use Rattle.htmd_html5_state.specs.OpenElements.{OpenValue, is_in, without}
 use Rattle.htmd_html5_state.specs.State.{StateValue}
 use Rattle.htmd_html5_state.specs.Insertion.{opened, current, place_by_table, foster_place, place, insert_named, insert_text}
@@ -20,7 +20,7 @@ use Rattle.htmd_html5_state.specs.declared.names.TagName.TheVariants.{Table, Tem
 use Rattle.htmd_html5_laws.proofs.NodeTexts.{is_element}
 use Rattle.htmd_html5_laws.proofs.NodeParts.{children_of_kind, parent_of_kind}
 use Rattle.htmd_html5_laws.proofs.Forests.{IsForest, length_new, forest_add, forest_with_kind}
-use Rattle.htmd_html5_laws.proofs.HungNodes.{is_solid, element_solid, Hangs, HangsBy, Torn, AllHang, Fits, solid_within}
+use Rattle.htmd_html5_laws.proofs.HungNodes.{is_solid, element_solid, Hangs, Torn, AllHang, Fits, solid_within}
 use Rattle.htmd_html5_laws.proofs.HungNodes.{kind_with_new, kind_new_at, holder_within, put_at, put_kind, put_size}
 use Rattle.htmd_html5_laws.proofs.HungNodes.{put_torn, put_loose, appended_torn, same_hang}
 use Rattle.htmd_html5_laws.proofs.PlainNames.{EachOpen, Below, below_more, below_tail, each_more, Fewer}
@@ -117,7 +117,8 @@ added_before : (k : KindValue) (p i : ℕ) (nodes : List NodeValue) (n : ℕ) �
 added_before k p i nodes n l =
     put_kind (length nodes) p i (nodes ++ new_node k ∷ []) n ∙ kind_with_new n k nodes (λ e. omega arith)
 
-added_size : (k : KindValue) (p i : ℕ) (nodes : List NodeValue) → length (added_at k p i nodes) ≡ suc (length nodes)
+added_size : (k : KindValue) (p i : ℕ) (nodes : List NodeValue) → length (added_at k p i nodes)
+    ≡ suc (length nodes)
 added_size k p i nodes = put_size (length nodes) p i (nodes ++ new_node k ∷ []) ∙ length_new k nodes
 
 elements_stay : (k : KindValue) (p i : ℕ) (nodes : List NodeValue) (n : ℕ) → is_element (kind_at nodes n) ≡ true
@@ -125,7 +126,8 @@ elements_stay : (k : KindValue) (p i : ℕ) (nodes : List NodeValue) (n : ℕ) �
 elements_stay k p i nodes n e = ap is_element (added_before k p i nodes n (element_number n nodes e)) ∙ e
 
 -- the new node is above all that is open
-pub record Added (k : KindValue) (nodes new : List NodeValue) (stack : List OpenValue) (head : Option ℕ) : Type 0 where
+pub record Added (k : KindValue) (nodes new : List NodeValue) (stack : List OpenValue) (head : Option ℕ)
+    : Type 0 where
   pub hung : HungIn new stack head
   pub top : hung.rank (length nodes) ≡ hung.limit
   pub kind : kind_at new (length nodes) ≡ k
@@ -241,7 +243,10 @@ hung_like n k nodes {stack} solid same h = record {
   opened_at = each_more stack (λ e o. with_kind_like is_element n k nodes e.node same ∙ o) h.opened_at;
   head_at = λ m e. with_kind_like is_element n k nodes m same ∙ h.head_at m e;
   forest = forest_with_kind n k nodes h.forest;
-  filled = let e : length (with_kind n k nodes) ≡ length nodes = length-set nodes n _ in let f = h.filled in omega arith;
+  filled =
+      let e : length (with_kind n k nodes) ≡ length nodes = length-set nodes n _ in
+      let f = h.filled in
+      omega arith;
   root = with_kind_like is_solid n k nodes 0 solid ∙ h.root;
 }
 

@@ -1,6 +1,6 @@
 -- The adoption agency leaves a plain state plain.
 use Rattle.std.proofs.Common.{◌≡◌, ◌∙◌, ℕ, zero, suc, Bool, true, false, List, [], ◌∷◌, ◌++◌, length, Option, Some, None}
-use Rattle.std.proofs.Common.{refl, sym, ap, subst, arith, inl, inr, ◌⊎◌}
+use Rattle.std.proofs.Common.{refl, sym, ap, subst, arith}
 use Rattle.std.specs.Prelude.{if◌then◌else◌, ◌&&◌, ◌-◌, not, nat_lt, find}
 use Rattle.std.specs.List.{list_any}
 use Rattle.std.proofs.lemmas.Bool.{true≢false, and_parts, eq-eqb}
@@ -14,7 +14,7 @@ use Rattle.htmd_html5_state.specs.Insertion.{opened, place}
 use Rattle.htmd_html5_state.specs.Formatting.{is_listed, since_marker, without_entry}
 use Rattle.htmd_html5_state.specs.Adoption.{formatting_element, node_is, bounds_any, is_special_element, Furthest}
 use Rattle.htmd_html5_state.specs.Adoption.{furthest_with, furthest_block, Chain, begin_chain, copy_into, with_copy}
-use Rattle.htmd_html5_state.specs.Adoption.{with_next, chain, move_last, wrap_children, with_bookmark, finish, adopt_by}
+use Rattle.htmd_html5_state.specs.Adoption.{with_next, chain, move_last, finish}
 use Rattle.htmd_html5_state.specs.Adoption.{adopt, Round, last_round, goes_on, round_by, round_open, round_with, round_of}
 use Rattle.htmd_html5_state.specs.Adoption.{round, go_on, rounds, closes_at_once, adoption_agency}
 use Rattle.htmd_html5_state.specs.declared.names.TagName.{TagName}
@@ -53,7 +53,8 @@ copy_grown n last s p h = record {
       (plain_before (kinds s.nodes) (kind_at s.nodes n) m e);
 }
 
-next_chained : (left : ℕ) (e : OpenValue) (s : StateValue) (c : Chain) → is_plain_element e.name ≡ true → Chained s c
+next_chained : (left : ℕ) (e : OpenValue) (s : StateValue) (c : Chain) → is_plain_element e.name ≡ true
+    → Chained s c
     → Chained s (with_next left e c)
 next_chained left e s c p h = either (nat_lt 0 left && is_listed e.node c.state.formatting) refl
   where
@@ -105,7 +106,8 @@ finish_plain formatting tag f c s p at names copies h =
     (ap is_plain_kind (kind_read s.nodes formatting) ∙ at))
     (λ n l. listed_marked n formatting (length s.nodes) c.bookmark s.formatting l)
     (plain_stack (f.inner ++ opened (length s.nodes) (html (known tag)) ∷ f.block ∷ (c.copies ++ s.stack))
-    (each_append PlainOpen f.inner (opened (length s.nodes) (html (known tag)) ∷ f.block ∷ (c.copies ++ s.stack)) names.inner
+    (each_append PlainOpen f.inner
+    (opened (length s.nodes) (html (known tag)) ∷ f.block ∷ (c.copies ++ s.stack)) names.inner
     (p, (names.block, each_append PlainOpen c.copies s.stack copies h.names)))
     (plain_new (kind_at s.nodes formatting) (wrap_kinds formatting f.block.node s.nodes) h))
 
@@ -116,13 +118,14 @@ adopt_plain formatting tag f s p at names h =
     chain_chained 3 f.between s (begin_chain f.block.node s) names.between
     (record { grown = record { plain = h; grows = λ n q. q }; copies = tt }) in
     let moved : Grown s (move_last (chain 3 f.between (begin_chain f.block.node s)).last
-        (chain 3 f.between (begin_chain f.block.node s)).state) =
+    (chain 3 f.between (begin_chain f.block.node s)).state) =
     grown_then chained.grown
     (move_grown (chain 3 f.between (begin_chain f.block.node s)).last
     (chain 3 f.between (begin_chain f.block.node s)).state chained.grown.plain) in
     finish_plain formatting tag f (chain 3 f.between (begin_chain f.block.node s))
     (move_last (chain 3 f.between (begin_chain f.block.node s)).last
-    (chain 3 f.between (begin_chain f.block.node s)).state) p (moved.grows formatting at) names chained.copies moved.plain
+    (chain 3 f.between (begin_chain f.block.node s)).state) p (moved.grows formatting at) names chained.copies
+    moved.plain
 
 -- what is open inside the formatting element
 abbrev SomePlain : Option Furthest → Type 0
@@ -145,7 +148,8 @@ after_round (last_round s) = s
 after_round (goes_on s) = s
 
 by_plain : (formatting : ℕ) (tag : TagName) (f : Option Furthest) (s : StateValue) → is_plain tag ≡ true
-    → PlainAt (kinds s.nodes) formatting → SomePlain f → Plain s → Plain (after_round (round_by formatting tag f s))
+    → PlainAt (kinds s.nodes) formatting → SomePlain f → Plain s
+    → Plain (after_round (round_by formatting tag f s))
 unfolding after_round
 by_plain formatting tag None s p at names h = (without_entry_stays formatting).stays s h
 by_plain formatting tag (Some f) s p at names h = adopt_plain formatting tag f s p at names h
@@ -193,7 +197,8 @@ unfolding after_round
 go_on_plain more (last_round s) f h = h
 go_on_plain more (goes_on s) f h = f s h
 
-rounds_plain : (k : ℕ) (tag : TagName) (s : StateValue) → is_plain tag ≡ true → Plain s → Plain (rounds k tag s)
+rounds_plain : (k : ℕ) (tag : TagName) (s : StateValue) → is_plain tag ≡ true → Plain s
+    → Plain (rounds k tag s)
 rounds_plain zero tag s p h = h
 rounds_plain (suc k) tag s p h =
     go_on_plain (rounds k tag) (round tag s) (λ t g. rounds_plain k tag t p g)

@@ -1,17 +1,14 @@
--- The rules that many modes share and those of the mode "in body" leave a plain state plain, if the tag's name is plain.
-use Rattle.std.proofs.Common.{◌≡◌, ℕ, Bool, true, false, List, [], ◌∷◌, Option, Some, None, refl, sym}
+-- The rules that many modes share and those of the mode "in body" leave a plain state plain, where the tag's name is
+-- plain.
+use Rattle.std.proofs.Common.{◌≡◌, ℕ, Bool, true, false, List, [], Option, Some, None, refl, sym}
 use Rattle.std.specs.Prelude.{if◌then◌else◌, is_some}
 use Rattle.std.proofs.lemmas.Bool.{true≢false}
-use Rattle.htmd_text.proofs.Cases.{test}
 use Rattle.htmd_grammar.specs.ValueTrees.{AttributePair}
 use Rattle.htmd_html5_state.specs.Names.{NameValue, known, other, text_of_name}
-use Rattle.htmd_html5_state.specs.Documents.{add_missing}
-use Rattle.htmd_html5_state.specs.OpenElements.{OpenValue, is_open, first_open, pop_while, close, close_name, without}
+use Rattle.htmd_html5_state.specs.OpenElements.{is_open, first_open, pop_while, close, close_name, without}
 use Rattle.htmd_html5_state.specs.OpenElements.{is_in_scope, is_node_in_scope}
-use Rattle.htmd_html5_state.specs.State.{StateValue, on_stack, on_nodes}
-use Rattle.htmd_html5_state.specs.Insertion.{insert_void}
-use Rattle.htmd_html5_state.specs.Formatting.{push_marker, clear_to_marker, without_entry, reconstruct}
-use Rattle.htmd_html5_state.specs.Adoption.{formatting_element, adoption_agency}
+use Rattle.htmd_html5_state.specs.State.{StateValue, on_stack}
+use Rattle.htmd_html5_state.specs.Adoption.{formatting_element}
 use Rattle.htmd_html5_state.specs.declared.modes.InsertionMode.{InsertionMode}
 use Rattle.htmd_html5_state.specs.declared.modes.InsertionMode.TheVariants.{InTable, InCaption, InTableBody, InRow}
 use Rattle.htmd_html5_state.specs.declared.modes.InsertionMode.TheVariants.{InCell, AfterBody}
@@ -28,18 +25,18 @@ use Rattle.htmd_html5.specs.Answers.{Answer, answer}
 use Rattle.htmd_html5.specs.SharedRules.{with_mode, insert_tag, insert_void_tag, insert_raw_tag, insert_foreign_tag}
 use Rattle.htmd_html5.specs.SharedRules.{no_frameset, close_paragraph, add_missing_to, add_to_root, end_template}
 use Rattle.htmd_html5.specs.SharedRules.{insert_head_element}
-use Rattle.htmd_html5.specs.BodyStarts.{start_rule, block_rule, formatting_rule, phrasing_rule, rule_of_start}
-use Rattle.htmd_html5.specs.BodyStarts.{is_in_template, open_body, add_to_this_body, add_to_body, start_block}
+use Rattle.htmd_html5.specs.BodyStarts.{block_rule, formatting_rule, phrasing_rule, rule_of_start}
+use Rattle.htmd_html5.specs.BodyStarts.{is_in_template, open_body, add_to_this_body, start_block}
 use Rattle.htmd_html5.specs.BodyStarts.{close_heading, start_heading, skip_line_feed, start_preformatted, with_form}
-use Rattle.htmd_html5.specs.BodyStarts.{start_form, start_item, start_plain_text, start_table, start_separator}
+use Rattle.htmd_html5.specs.BodyStarts.{start_form, start_item, start_table, start_separator}
 use Rattle.htmd_html5.specs.BodyStarts.{start_formatting, forget, start_anchor, close_no_break, start_no_break}
 use Rattle.htmd_html5.specs.BodyStarts.{start_ordinary, start_button, start_embedded, start_void, is_hidden, start_input}
-use Rattle.htmd_html5.specs.BodyStarts.{start_image, mode_of_select, start_select, close_option, start_option, start_ruby}
-use Rattle.htmd_html5.specs.BodyStarts.{start_foreign, start_text_area, start_example, start_inline_frame}
+use Rattle.htmd_html5.specs.BodyStarts.{mode_of_select, start_select, close_option, start_option, start_ruby}
+use Rattle.htmd_html5.specs.BodyStarts.{start_foreign, start_text_area, start_example}
 use Rattle.htmd_html5.specs.BodyStarts.{start_no_script, start_by, start_in_body}
 use Rattle.htmd_html5.specs.BodyEnds.{text_end_rule, end_rule, has_body, end_body, end_block, close_form, end_form}
 use Rattle.htmd_html5.specs.BodyEnds.{end_paragraph, end_embedded, line_break, end_by, end_in_body}
-use Rattle.htmd_html5_laws.proofs.PlainNames.{is_plain, is_plain_name, no_template_open, pop_fewer, close_fewer}
+use Rattle.htmd_html5_laws.proofs.PlainNames.{is_plain_name, no_template_open, close_fewer}
 use Rattle.htmd_html5_laws.proofs.PlainNames.{close_name_fewer, pop_while_fewer, without_fewer, close_heading_fewer}
 use Rattle.htmd_html5_laws.proofs.PlainNames.{close_option_fewer, fewer_then}
 use Rattle.htmd_html5_laws.proofs.HungStates.{Hung}
@@ -397,7 +394,8 @@ end_paragraph_stays =
 
 end_embedded_stays : (tag : TagName) → Stays (end_embedded tag)
 end_embedded_stays tag =
-    stays_by_test (λ s. is_in_scope (Only tag) Default s.stack) (then_stays clear_to_marker_stays (end_block_stays tag))
+    stays_by_test (λ s. is_in_scope (Only tag) Default s.stack)
+    (then_stays clear_to_marker_stays (end_block_stays tag))
     still
 
 line_break_stays : Stays line_break
@@ -443,7 +441,8 @@ end_by_name_stays tags.Listing = says_plain (end_block_stays tags.Listing)
 end_by_name_stays tags.Pre = says_plain (end_block_stays tags.Pre)
 end_by_name_stays tags.Form = says_plain end_form_stays
 end_by_name_stays tags.P = says_plain end_paragraph_stays
-end_by_name_stays tags.Li = says_plain (on_stack_stays (close (Only tags.Li) ListItem) (close_fewer (Only tags.Li) ListItem))
+end_by_name_stays tags.Li =
+    says_plain (on_stack_stays (close (Only tags.Li) ListItem) (close_fewer (Only tags.Li) ListItem))
 end_by_name_stays tags.H1 = says_plain close_any_heading_stays
 end_by_name_stays tags.H2 = says_plain close_any_heading_stays
 end_by_name_stays tags.H3 = says_plain close_any_heading_stays

@@ -1,12 +1,12 @@
 -- A token leaves a plain state plain, by the rules of the mode and in foreign content, if it is no tag whose name isn't
 -- plain.
-use Rattle.std.proofs.Common.{◌≡◌, ◌∙◌, ℕ, Bool, true, false, List, [], ◌∷◌, ◌++◌, length, get_or, set}
-use Rattle.std.proofs.Common.{Option, Some, None, refl, sym, ap, subst}
+use Rattle.std.proofs.Common.{◌≡◌, ℕ, Bool, true, false, List, [], ◌∷◌, length}
+use Rattle.std.proofs.Common.{Option, Some, None, refl, sym, ap}
 use Rattle.std.specs.Prelude.{if◌then◌else◌}
 use Rattle.std.proofs.lemmas.Bool.{true≢false}
 use Rattle.htmd_grammar.specs.ValueTrees.{AttributePair}
 use Rattle.htmd_html5_state.specs.Names.{NameValue, known, html}
-use Rattle.htmd_html5_state.specs.OpenElements.{OpenValue, is_open, first_open, pop, without}
+use Rattle.htmd_html5_state.specs.OpenElements.{first_open, pop, without}
 use Rattle.htmd_html5_state.specs.State.{StateValue, on_stack}
 use Rattle.htmd_html5_state.specs.Insertion.{opened, open_again}
 use Rattle.htmd_html5_state.specs.Resetting.{has_modes}
@@ -18,9 +18,8 @@ use Rattle.htmd_html5_state.specs.declared.modes.InsertionMode.TheVariants.{InTe
 use Rattle.htmd_html5_state.specs.declared.modes.InsertionMode.TheVariants.{AfterFrameset, AfterAfterBody}
 use Rattle.htmd_html5_state.specs.declared.modes.InsertionMode.TheVariants.{AfterAfterFrameset}
 use Rattle.htmd_html5_state.specs.declared.modes.InsertionMode.{InsertionMode}
-use Rattle.htmd_html5_state.specs.declared.sets.NameSet.TheVariants.{Only}
 use Rattle.htmd_html5.specs.Tokens.{StartTagValue, TokenValue, start_tag, end_tag, run, comment, doctype, end_of_file}
-use Rattle.htmd_html5.specs.Answers.{Answer, done}
+use Rattle.htmd_html5.specs.Answers.{done}
 use Rattle.htmd_html5.specs.Initial.{leave_initial, initial}
 use Rattle.htmd_html5.specs.BeforeHtml.{with_root, imply_root, start_before_html, end_before_html, before_html}
 use Rattle.htmd_html5.specs.BeforeHead.{with_head, imply_head, start_before_head, end_before_head, before_head}
@@ -29,31 +28,29 @@ use Rattle.htmd_html5.specs.InHeadNoscript.{close_noscript, start_in_noscript, e
 use Rattle.htmd_html5.specs.SharedRules.{insert_head_element}
 use Rattle.htmd_html5.specs.AfterHead.{with_body, imply_body, insert_in_head, insert_late, start_after_head, end_after_head}
 use Rattle.htmd_html5.specs.AfterHead.{after_head}
-use Rattle.htmd_html5.specs.InBody.{end_of_file_in_template, end_of_file_in_body, run_in_body, in_body}
+use Rattle.htmd_html5.specs.InBody.{end_of_file_in_template, end_of_file_in_body, in_body}
 use Rattle.htmd_html5.specs.InTable.{in_table}
 use Rattle.htmd_html5.specs.InCaption.{in_caption}
 use Rattle.htmd_html5.specs.InTableBody.{in_table_body}
 use Rattle.htmd_html5.specs.InRow.{in_row}
 use Rattle.htmd_html5.specs.InCell.{in_cell}
-use Rattle.htmd_html5.specs.InSelect.{run_in_select, in_select, in_select_in_table}
-use Rattle.htmd_html5.specs.AfterBody.{back_to_body, start_after_body, end_after_body, comment_in, comment_in_root}
+use Rattle.htmd_html5.specs.InSelect.{in_select, in_select_in_table}
+use Rattle.htmd_html5.specs.AfterBody.{back_to_body, start_after_body, end_after_body, comment_in}
 use Rattle.htmd_html5.specs.AfterBody.{after_body, after_after_body}
 use Rattle.htmd_html5.specs.Modes.{in_mode, by_mode_rules}
 use Rattle.htmd_html5_laws.proofs.PlainNames.{is_plain_name, is_plain_open, pop_fewer, without_fewer}
-use Rattle.htmd_html5_laws.proofs.PlainNames.{no_template_open, leave_foreign_fewer}
-use Rattle.htmd_html5_laws.proofs.PlainStates.{is_plain_mode, PlainAt, Plain, Stays, then_stays, still, stays_by_test}
-use Rattle.htmd_html5_laws.proofs.PlainStates.{stays_by_state, on_stack_stays, plain_grown, plain_stack, in_plain_mode}
-use Rattle.htmd_html5_laws.proofs.PlainStates.{plain_before, plain_set, insert_element_stays, insert_root_stays}
+use Rattle.htmd_html5_laws.proofs.PlainStates.{is_plain_mode, Plain, Stays, then_stays, still, stays_by_test}
+use Rattle.htmd_html5_laws.proofs.PlainStates.{stays_by_state, on_stack_stays, plain_stack, in_plain_mode}
+use Rattle.htmd_html5_laws.proofs.PlainStates.{insert_element_stays, insert_root_stays}
 use Rattle.htmd_html5_laws.proofs.HungStates.{Hung, hung_named, hung_headed, hung_late_open, hung_late_void}
 use Rattle.htmd_html5_laws.proofs.NodeTexts.{is_element}
 use Rattle.htmd_html5_state.specs.Documents.{kind_at}
 use Rattle.htmd_html5_laws.proofs.PlainStates.{insert_comment_in_stays, insert_comment_stays, insert_doctype_stays}
-use Rattle.htmd_html5_laws.proofs.PlainStates.{reconstruct_stays}
-use Rattle.htmd_html5_laws.proofs.PlainBody.{StaysAnswer, says_plain, answers_either, with_mode_stays, no_frameset_stays}
-use Rattle.htmd_html5_laws.proofs.PlainBody.{add_to_root_stays, end_template_stays, insert_foreign_tag_stays}
+use Rattle.htmd_html5_laws.proofs.PlainBody.{StaysAnswer, says_plain, with_mode_stays, no_frameset_stays}
+use Rattle.htmd_html5_laws.proofs.PlainBody.{add_to_root_stays, end_template_stays}
 use Rattle.htmd_html5_laws.proofs.PlainBody.{insert_tag_stays, insert_raw_tag_stays, insert_head_element_stays}
 use Rattle.htmd_html5_laws.proofs.PlainBody.{start_in_body_stays, end_in_body_stays}
-use Rattle.htmd_html5_laws.proofs.PlainTables.{fostered_stays, start_in_table_stays, end_in_table_stays}
+use Rattle.htmd_html5_laws.proofs.PlainTables.{start_in_table_stays, end_in_table_stays}
 use Rattle.htmd_html5_laws.proofs.PlainTables.{start_in_caption_stays, end_in_caption_stays, start_in_section_stays}
 use Rattle.htmd_html5_laws.proofs.PlainTables.{end_in_section_stays, start_in_row_stays, end_in_row_stays}
 use Rattle.htmd_html5_laws.proofs.PlainTables.{start_in_cell_stays, end_in_cell_stays, start_in_select_stays}
@@ -197,7 +194,8 @@ module _ (tag : StartTagValue) (p : is_plain_name tag.name ≡ true) where
     hangs = λ s h x. late_hung s.head s refl h x;
   }
 
-  start_after_head_stays : (name : NameValue) → is_plain_name name ≡ true → StaysAnswer (start_after_head name tag)
+  start_after_head_stays : (name : NameValue) → is_plain_name name ≡ true
+      → StaysAnswer (start_after_head name tag)
   start_after_head_stays (known tags.Html) q = says_plain (add_to_root_stays tag)
   start_after_head_stays (known tags.Body) q =
       says_plain (then_stays no_frameset_stays (with_body_stays tag.name tag.attributes p))

@@ -1,7 +1,6 @@
 -- Names that lead to no state that drops text: those of frames, templates and columns are left out.
 use Rattle.std.proofs.Common.{◌≡◌, ℕ, Bool, true, false, List, [], ◌∷◌, ◌++◌, ◌<◌, ◌≤◌, refl, sym, arith}
 use Rattle.std.specs.Prelude.{◌==◌, ◌&&◌, if◌then◌else◌}
-use Rattle.std.specs.List.{list_any}
 use Rattle.std.proofs.lemmas.Bool.{true≢false}
 use Rattle.htmd_text.proofs.Cases.{test}
 use Rattle.htmd_html5_state.specs.Names.{NameValue, ElementNameValue, known, other, html, svg, math}
@@ -73,11 +72,13 @@ pub below_more : (rank : ℕ → ℕ) (low high : ℕ) (es : List OpenValue) →
 below_more rank low high [] l h = tt
 below_more rank low high (e ∷ es) l h = let a = h.0 in (omega arith, h.1)
 
-pub below_tail : (rank : ℕ → ℕ) (limit : ℕ) (e : OpenValue) (es : List OpenValue) → Below rank limit (e ∷ es)
+pub below_tail : (rank : ℕ → ℕ) (limit : ℕ) (e : OpenValue) (es : List OpenValue)
+    → Below rank limit (e ∷ es)
     → Below rank limit es
 below_tail rank limit e es h = let a = h.0 in below_more rank (rank e.node) limit es (omega arith) h.1
 
-pub each_more : {P Q : OpenValue → Type 0} (es : List OpenValue) → ((e : OpenValue) → P e → Q e) → EachOpen P es
+pub each_more : {P Q : OpenValue → Type 0} (es : List OpenValue) → ((e : OpenValue) → P e → Q e)
+    → EachOpen P es
     → EachOpen Q es
 each_more [] f h = tt
 each_more (e ∷ es) f h = (f e h.0, each_more es f h.1)
@@ -87,7 +88,8 @@ pub each_append : (P : OpenValue → Type 0) (es stack : List OpenValue) → Eac
 each_append P [] stack h g = g
 each_append P (e ∷ es) stack h g = (h.0, each_append P es stack h.1 g)
 
-no_template_name : (name : ElementNameValue) → is_plain_element name ≡ true → is_of (Only tags.Template) name ≡ false
+no_template_name : (name : ElementNameValue) → is_plain_element name ≡ true → is_of (Only tags.Template) name
+    ≡ false
 no_template_name (html (known tags.Template)) p = absurd (true≢false (sym p))
 no_template_name (html (known _)) p = refl
 no_template_name (html (other s)) p = refl

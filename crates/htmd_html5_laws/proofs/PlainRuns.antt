@@ -1,12 +1,10 @@
 -- A run of a text leaves a plain state plain.
-use Rattle.std.proofs.Common.{◌≡◌, ◌∙◌, ℕ, Bool, true, false, List, [], ◌∷◌, ◌++◌, Option, Some, None, refl, sym, ap}
+use Rattle.std.proofs.Common.{◌≡◌, ◌∙◌, ℕ, true, List, ◌++◌, Option, Some, None, refl, sym, ap}
 use Rattle.std.proofs.Common.{subst}
 use Rattle.std.proofs.lemmas.Bool.{true≢false}
 use Rattle.htmd_html5_state.specs.Documents.{NodeValue, KindValue, document, doctype, text, comment, element, kind_at}
-use Rattle.htmd_html5_state.specs.Documents.{text_of, joined_with, joined_to, or_add, add_text, preceding, with_kind}
-use Rattle.htmd_html5_state.specs.State.{StateValue}
+use Rattle.htmd_html5_state.specs.Documents.{text_of, joined_with, joined_to, or_add, add_text, preceding}
 use Rattle.htmd_html5_state.specs.Insertion.{place, insert_text}
-use Rattle.htmd_html5_state.specs.Formatting.{reconstruct}
 use Rattle.htmd_html5_state.specs.declared.modes.InsertionMode.{InsertionMode}
 use Rattle.htmd_html5_state.specs.declared.modes.InsertionMode.TheVariants.{Initial, BeforeHtml, BeforeHead, InHead}
 use Rattle.htmd_html5_state.specs.declared.modes.InsertionMode.TheVariants.{InHeadNoscript, AfterHead, InBody, InTable}
@@ -24,7 +22,7 @@ use Rattle.htmd_html5.specs.Processing.{by_rules}
 use Rattle.htmd_html5_laws.proofs.NodeTexts.{kinds, kinds_with_kind, kind_read}
 use Rattle.htmd_html5_laws.proofs.TakingRuns.{by_first_kind}
 use Rattle.htmd_html5_laws.proofs.PlainNames.{is_plain_kind}
-use Rattle.htmd_html5_laws.proofs.PlainStates.{is_plain_mode, PlainAt, Plain, Stays, then_stays, still, plain_grown}
+use Rattle.htmd_html5_laws.proofs.PlainStates.{is_plain_mode, PlainAt, Stays, then_stays, still, plain_grown}
 use Rattle.htmd_html5_laws.proofs.PlainStates.{added_grows, plain_set, reconstruct_stays}
 use Rattle.htmd_html5_laws.proofs.HungStates.{hung_text}
 use Rattle.htmd_html5_laws.proofs.PlainBody.{StaysAnswer, says_plain, answers_either, no_frameset_stays}

@@ -1,7 +1,7 @@
 -- States in which no text is dropped, and steps that stay among them.
 use Rattle.std.proofs.Common.{◌≡◌, ◌∙◌, ℕ, zero, suc, Bool, true, false, List, [], ◌∷◌, ◌++◌, length, get_or, set}
 use Rattle.std.proofs.Common.{Option, Some, None, refl, sym, ap, subst, inl, inr, ◌⊎◌}
-use Rattle.std.specs.Prelude.{if◌then◌else◌, ◌==◌, is_some, unwrap_or}
+use Rattle.std.specs.Prelude.{if◌then◌else◌, is_some, unwrap_or}
 use Rattle.std.proofs.lemmas.Bool.{true≢false, eq-eqb}
 use Rattle.std.proofs.lemmas.List.{length-map}
 use Rattle.htmd_text.proofs.Cases.{test}
@@ -16,14 +16,12 @@ use Rattle.htmd_html5_state.specs.Foreign.{foreign_name, foreign_attributes, pop
 use Rattle.htmd_html5_state.specs.Insertion.{opened, current, place, insert_at, insert_named, insert_element, insert_root}
 use Rattle.htmd_html5_state.specs.Insertion.{insert_void, insert_raw, insert_comment_in, insert_comment, insert_doctype}
 use Rattle.htmd_html5_state.specs.Formatting.{is_listed, push_marker, clear_to_marker, without_entry, insert_formatting}
-use Rattle.htmd_html5_state.specs.Formatting.{closed_elements, after_closed, insert_like, reopen, reopen_all, reconstruct}
-use Rattle.htmd_html5_state.specs.Formatting.{push_entry}
+use Rattle.htmd_html5_state.specs.Formatting.{closed_elements, after_closed, insert_like, reopen_all, reconstruct}
 use Rattle.htmd_html5_state.specs.Resetting.{select_mode, unless_outermost, html_mode, mode_for, mode_for_name, mode_of}
 use Rattle.htmd_html5_state.specs.Resetting.{reset_insertion_mode}
 use Rattle.htmd_html5_state.specs.declared.modes.InsertionMode.{InsertionMode}
 use Rattle.htmd_html5_state.specs.declared.modes.InsertionMode.TheVariants.{InColumnGroup, InTemplate, InFrameset}
 use Rattle.htmd_html5_state.specs.declared.modes.InsertionMode.TheVariants.{AfterFrameset, AfterAfterFrameset}
-use Rattle.htmd_html5_state.specs.declared.modes.InsertionMode.TheVariants.{InSelect, InSelectInTable, AfterHead, BeforeHead}
 use Rattle.htmd_html5_state.specs.declared.names.TagName.{TagName}
 use Rattle.htmd_html5_state.specs.declared.names.Namespace.{Namespace}
 use Rattle.htmd_html5_state.specs.declared.sets.NameSet.TheVariants.{Only}
@@ -32,7 +30,7 @@ use Rattle.htmd_html5_laws.proofs.NodeTexts.{kinds, kinds_add, kinds_with_kind, 
 use Rattle.htmd_html5_laws.proofs.KeepingInsertion.{listed_more, listed_without, listed_after_marker, listed_closed, listed_first}
 use Rattle.htmd_html5_laws.proofs.KeepingInsertion.{listed_pushed}
 use Rattle.htmd_html5_laws.proofs.PlainNames.{is_plain, is_plain_name, is_plain_element, is_plain_kind, foreign_is_plain}
-use Rattle.htmd_html5_laws.proofs.PlainNames.{PlainOpen, is_plain_open, PlainStack, Fewer, pop_fewer, pop_if_fewer}
+use Rattle.htmd_html5_laws.proofs.PlainNames.{is_plain_open, PlainStack, Fewer, pop_fewer, pop_if_fewer}
 use Rattle.htmd_html5_laws.proofs.HungStates.{Hung, hung_fewer, hung_named, hung_under_root, hung_last, hung_missing}
 use Rattle.htmd_html5_state.specs.declared.names.TagName.TheVariants as tags
 
@@ -92,7 +90,8 @@ stays_by_test {f} {g} b first second =
     each true s h x = first.hangs s h x
     each false s h x = second.hangs s h x
 
-pub stays_by_state : {A : Type 0} {f : A → StateValue → StateValue} (a : StateValue → A) → ((x : A) → Stays (f x))
+pub stays_by_state : {A : Type 0} {f : A → StateValue → StateValue} (a : StateValue → A)
+    → ((x : A) → Stays (f x))
     → Stays (λ s. f (a s) s)
 stays_by_state a h = record {
   stays = λ s plain. (h (a s)).stays s plain;
@@ -296,7 +295,8 @@ pub insert_formatting_stays : (name : NameValue) (attributes : List AttributePai
     → Stays (insert_formatting name attributes)
 insert_formatting_stays name attributes p = record {
   stays = λ s h. plain_listed (length s.nodes)
-      (plain_added s.nodes (element (html name) attributes) (kinds_add (element (html name) attributes) (place s) s.nodes) p)
+      (plain_added s.nodes (element (html name) attributes)
+      (kinds_add (element (html name) attributes) (place s) s.nodes) p)
       (λ n l. listed_pushed n (length s.nodes) (insert_element name attributes s).nodes s.formatting l)
       ((insert_element_stays name attributes p).stays s h);
   hangs = λ s h x. (insert_element_stays name attributes p).hangs s h x;

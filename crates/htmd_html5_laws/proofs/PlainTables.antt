@@ -1,5 +1,5 @@
 -- The modes of tables and of `select` leave a plain state plain, if the tag's name is plain.
-use Rattle.std.proofs.Common.{◌≡◌, Bool, true, false, List, [], refl, sym}
+use Rattle.std.proofs.Common.{◌≡◌, true, List, [], refl, sym}
 use Rattle.std.specs.Prelude.{is_some, ◌||◌}
 use Rattle.std.proofs.lemmas.Bool.{true≢false}
 use Rattle.htmd_grammar.specs.ValueTrees.{AttributePair}
@@ -17,22 +17,22 @@ use Rattle.htmd_html5.specs.Tokens.{StartTagValue}
 use Rattle.htmd_html5.specs.Answers.{Answer}
 use Rattle.htmd_html5.specs.BodyStarts.{is_in_template, is_hidden, close_option}
 use Rattle.htmd_html5.specs.InTable.{fostered, to_table, start_caption, start_section}
-use Rattle.htmd_html5.specs.InTable.{imply_section, close_table, has_table, end_table, start_another_table}
-use Rattle.htmd_html5.specs.InTable.{start_table_input, with_empty_form, start_table_form, foster_end, start_part}
+use Rattle.htmd_html5.specs.InTable.{imply_section, close_table, has_table, end_table}
+use Rattle.htmd_html5.specs.InTable.{start_table_input, start_table_form, foster_end, start_part}
 use Rattle.htmd_html5.specs.InTable.{start_in_table, end_in_table}
-use Rattle.htmd_html5.specs.InCaption.{has_caption, close_caption, end_caption, leave_caption, start_in_caption}
+use Rattle.htmd_html5.specs.InCaption.{has_caption, end_caption, leave_caption, start_in_caption}
 use Rattle.htmd_html5.specs.InCaption.{end_in_caption}
-use Rattle.htmd_html5.specs.InTableBody.{to_section, start_row, close_section, imply_row, end_section, leave_section}
+use Rattle.htmd_html5.specs.InTableBody.{to_section, start_row, end_section, leave_section}
 use Rattle.htmd_html5.specs.InTableBody.{start_in_section, end_in_section}
-use Rattle.htmd_html5.specs.InRow.{to_row, start_cell, has_row, close_row, end_row, leave_row, leave_row_of}
+use Rattle.htmd_html5.specs.InRow.{to_row, start_cell, has_row, end_row, leave_row, leave_row_of}
 use Rattle.htmd_html5.specs.InRow.{start_in_row, end_in_row}
 use Rattle.htmd_html5.specs.InCell.{close_cell, end_cell, leave_cell, start_in_cell, end_in_cell}
-use Rattle.htmd_html5.specs.InSelect.{close_group, start_group, close_option_in_group, end_group, close_select}
+use Rattle.htmd_html5.specs.InSelect.{close_group, close_option_in_group, close_select}
 use Rattle.htmd_html5.specs.InSelect.{has_select, end_select, leave_select, start_in_select, end_in_select}
-use Rattle.htmd_html5.specs.InSelect.{start_in_select_in_table, leave_select_in, end_in_select_in_table, start_option}
+use Rattle.htmd_html5.specs.InSelect.{start_in_select_in_table, leave_select_in, end_in_select_in_table}
 use Rattle.htmd_html5_laws.proofs.PlainNames.{is_plain_name, pop_fewer, pop_until_fewer, clear_to_fewer}
 use Rattle.htmd_html5_laws.proofs.PlainNames.{close_option_fewer, option_and_group_fewer, group_fewer}
-use Rattle.htmd_html5_laws.proofs.PlainStates.{Plain, Stays, then_stays, still, stays_by_test, on_stack_stays}
+use Rattle.htmd_html5_laws.proofs.PlainStates.{Stays, then_stays, still, stays_by_test, on_stack_stays}
 use Rattle.htmd_html5_laws.proofs.PlainStates.{insert_element_stays, push_marker_stays, clear_to_marker_stays}
 use Rattle.htmd_html5_laws.proofs.PlainStates.{reset_insertion_mode_stays}
 use Rattle.htmd_html5_laws.proofs.PlainBody.{StaysAnswer, says_plain, answers_either, with_mode_stays, add_to_root_stays}
@@ -102,7 +102,8 @@ module _ (tag : StartTagValue) (p : is_plain_name tag.name ≡ true) where
   start_part_stays (known tags.Form) q = start_table_form_stays
   start_part_stays _ q = fostered_stays (start_in_body_stays tag p)
 
-  pub start_in_table_stays : (name : NameValue) → is_plain_name name ≡ true → StaysAnswer (start_in_table name tag)
+  pub start_in_table_stays : (name : NameValue) → is_plain_name name ≡ true
+      → StaysAnswer (start_in_table name tag)
   start_in_table_stays (known tags.Col) q = absurd (true≢false (sym q))
   start_in_table_stays (known tags.Td) q = says_plain imply_section_stays
   start_in_table_stays (known tags.Th) q = says_plain imply_section_stays
@@ -274,7 +275,8 @@ end_cell_stays tag =
 
 pub leave_cell_stays : (wanted : NameSet) → StaysAnswer (leave_cell wanted)
 leave_cell_stays wanted =
-    answers_either (λ s. is_in_scope wanted TableScope s.stack) (says_plain (close_cell_stays Cells)) (says_plain still)
+    answers_either (λ s. is_in_scope wanted TableScope s.stack) (says_plain (close_cell_stays Cells))
+    (says_plain still)
 
 pub start_in_cell_stays : (tag : StartTagValue) → is_plain_name tag.name ≡ true → (name : NameValue)
     → StaysAnswer (start_in_cell name tag)

@@ -1,6 +1,5 @@
 -- A token leaves a plain state plain in foreign content too, if it is no tag whose name isn't plain.
-use Rattle.std.proofs.Common.{◌≡◌, ℕ, Bool, true, false, List, [], ◌∷◌, Option, Some, None, refl}
-use Rattle.std.specs.Prelude.{if◌then◌else◌}
+use Rattle.std.proofs.Common.{ℕ, List, [], ◌∷◌, Option, Some, None}
 use Rattle.std.proofs.lemmas.Bool.{true≢false}
 use Rattle.htmd_text.proofs.Cases.{test}
 use Rattle.htmd_html5_state.specs.Names.{NameValue, text_of_name}
@@ -11,13 +10,11 @@ use Rattle.htmd_html5_state.specs.Foreign.{namespace_of, ForeignEnd, by_mode, cl
 use Rattle.htmd_html5_state.specs.Foreign.{after_foreign_end, leave_foreign, is_html, is_spelled_so}
 use Rattle.htmd_html5_state.specs.declared.names.Namespace.{Namespace}
 use Rattle.htmd_html5.specs.Tokens.{StartTagValue, TokenValue, start_tag, end_tag, run, comment, doctype, end_of_file}
-use Rattle.htmd_html5.specs.Answers.{Answer, done}
 use Rattle.htmd_html5.specs.Processing.{by_rules}
 use Rattle.htmd_html5.specs.ForeignContent.{is_foreign, tag_breaks_out, end_breaks_out, break_out, insert_alike}
 use Rattle.htmd_html5.specs.ForeignContent.{start_foreign_element, start_in_foreign, end_foreign, end_in_foreign}
 use Rattle.htmd_html5.specs.ForeignContent.{in_foreign_content}
-use Rattle.htmd_html5.specs.Modes.{by_mode_rules}
-use Rattle.htmd_html5_laws.proofs.PlainNames.{PlainOpen, is_plain_open, Fewer, all_of, skip, leave_foreign_fewer}
+use Rattle.htmd_html5_laws.proofs.PlainNames.{is_plain_open, Fewer, all_of, skip, leave_foreign_fewer}
 use Rattle.htmd_html5_laws.proofs.HungStates.{Hung, hung_fewer}
 use Rattle.htmd_html5_laws.proofs.PlainStates.{Plain, Stays, still, stays_by_state, plain_stack}
 use Rattle.htmd_html5_laws.proofs.PlainStates.{insert_comment_stays}

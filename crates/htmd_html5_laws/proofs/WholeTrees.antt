@@ -101,7 +101,8 @@ ranked (suc k) n rank first l r e root all less =
     (λ f. absurd (by_hangs (λ m g. ranked k m rank first l r e root all g) f (all n (solid f (r.same n))))) (λ f. f)
   where
     solid : is_element (kind_at l.nodes n) ≡ true
-        → (kind_at l.nodes n ≡ kind_at first n) ⊎ (kind_at l.nodes n ≡ document) → is_solid (kind_at first n) ≡ true
+        → (kind_at l.nodes n ≡ kind_at first n) ⊎ (kind_at l.nodes n ≡ document)
+        → is_solid (kind_at first n) ≡ true
     solid f (inl g) = element_solid (kind_at first n) (sym (ap is_element g) ∙ f)
     solid f (inr g) = absurd (true≢false (sym f ∙ ap is_element g))
 

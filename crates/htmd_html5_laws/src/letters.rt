@@ -21,8 +21,8 @@ pub fn letters_are_taken()
     ensures { LettersAreTaken }
 {}
 
-/// Letters are kept: where no text comes to a state that drops text, and the document that is made of the page is in one
-/// piece, each letter stands in the texts of the tree as often as in those of the page's tokens.
+/// Letters are kept: where no text comes to a state that drops text, and the document that is made of the page is in
+/// one piece, each letter stands in the texts of the tree as often as in those of the page's tokens.
 pub fn letters_are_kept()
     ensures { LettersAreKept }
 {}
@@ -38,8 +38,8 @@ pub fn harmless_letters_are_taken()
     ensures { HarmlessLettersAreTaken }
 {}
 
-/// Without a start tag of `frameset` or `template` letters are kept: each letter stands in the texts of the tree as often
-/// as in those of the page's tokens.
+/// Without a start tag of `frameset` or `template` letters are kept: each letter stands in the texts of the tree as
+/// often as in those of the page's tokens.
 pub fn harmless_letters_are_kept()
     ensures { HarmlessLettersAreKept }
 {}
