@@ -28,7 +28,8 @@ use Rattle.htmd_html5.specs.Modes.{in_mode, by_mode_rules}
 use Rattle.htmd_html5.specs.Processing.{by_rules}
 use Rattle.htmd_html5_laws.proofs.NodeTexts.{kinds}
 use Rattle.htmd_html5_laws.proofs.TakingRuns.{by_first_kind}
-use Rattle.htmd_html5_laws.proofs.PlainNames.{PlainStack, no_template_open, pop_fewer}
+use Rattle.htmd_html5_laws.proofs.OpenNodes.{pop_fewer}
+use Rattle.htmd_html5_laws.proofs.PlainNames.{PlainStack, no_template_open}
 use Rattle.htmd_html5_laws.proofs.PlainStates.{PlainAt, Plain, added_grows, missing_grows}
 use Rattle.htmd_html5_laws.proofs.HungStates.{Hung, hung_fewer, hung_missing, hung_named, hung_last, hung_text}
 use Rattle.htmd_html5_laws.proofs.PlainRuns.{text_grows}

@@ -38,7 +38,8 @@ use Rattle.htmd_html5.specs.ForeignContent.{is_foreign, tag_breaks_out, text_bre
 use Rattle.htmd_html5.specs.ForeignContent.{in_foreign_content}
 use Rattle.htmd_html5.specs.Modes.{in_mode, by_mode_rules}
 use Rattle.htmd_html5.specs.Processing.{by_rules}
-use Rattle.htmd_html5_laws.proofs.PlainNames.{is_plain_open, clear_to_fewer}
+use Rattle.htmd_html5_laws.proofs.OpenNodes.{clear_to_fewer}
+use Rattle.htmd_html5_laws.proofs.PlainNames.{is_plain_open}
 use Rattle.htmd_html5_laws.proofs.HungStates.{Hung, hung_fewer, hung_named}
 use Rattle.htmd_html5_laws.proofs.PlainStates.{is_plain_mode, Plain, added_grows}
 use Rattle.htmd_html5_laws.proofs.PlainBody.{StaysAnswer, says_plain}

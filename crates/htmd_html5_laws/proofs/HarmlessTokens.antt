@@ -33,9 +33,11 @@ use Rattle.htmd_html5_laws.specs.DocumentLetters.{drops_in, drops_text, is_taken
 use Rattle.htmd_html5_laws.specs.HarmlessTags.{drops_text_in, is_harmless, tokens_after, tokens_within}
 use Rattle.htmd_html5_laws.specs.HarmlessTags.{all_tags_are_harmless, HarmlessTextsAreTaken}
 use Rattle.htmd_html5_laws.proofs.FedTokens.{initial_sound}
+use Rattle.htmd_html5_laws.proofs.KeepingAdoption.{found}
 use Rattle.htmd_html5_laws.proofs.HungNodes.{is_solid}
 use Rattle.htmd_html5_state.specs.Documents.{document, new_node, kind_at}
-use Rattle.htmd_html5_laws.proofs.PlainNames.{is_plain_name, is_plain_open, pop_fewer}
+use Rattle.htmd_html5_laws.proofs.OpenNodes.{pop_fewer}
+use Rattle.htmd_html5_laws.proofs.PlainNames.{is_plain_name, is_plain_open}
 use Rattle.htmd_html5_laws.proofs.HungStates.{Hung, hung_fewer, hung_text}
 use Rattle.htmd_html5_laws.proofs.PlainStates.{is_plain_mode, Plain, Stays, then_stays, still, stays_by_test, plain_stack}
 use Rattle.htmd_html5_laws.proofs.PlainTables.{fostered_stays}
@@ -54,14 +56,6 @@ use Rattle.htmd_html5_tokens.specs.Tokens as tokens
 -- the name of a start tag that leads to no state that drops text
 abbrev Safe : NameValue → Type 0
 Safe name = (is_plain_name name ≡ true) ⊎ IsColumn name
-
-found : {A : Type 0} (p : A → Bool) (xs : List A) (x : A) → find p xs ≡ Some x → p x ≡ true
-found p [] x e = absurd (cc)
-found {A} p (y ∷ xs) x e =
-    test (p y) (λ t. let same : y ≡ x = first y x (rw t at e) in rw (sym same) t) (λ t. found p xs x (rw t at e))
-  where
-    first : (y x : A) → Some y ≡ Some x → y ≡ x
-    first y x e = cc
 
 spelled : (s : List ℕ) (tag : TagName) → known_name s ≡ Some tag → bytes_eq s (spelling tag) ≡ true
 spelled [] tag e = absurd (cc)

@@ -21,7 +21,7 @@ use Rattle.htmd_html5_laws.proofs.NodeTexts.{is_element, kinds_new, kinds_detach
 use Rattle.htmd_html5_laws.proofs.Forests.{IsForest, length_new, new_is_free, forest_new, forest_attach}
 use Rattle.htmd_html5_laws.proofs.Forests.{forest_detached_put, length_moved}
 use Rattle.htmd_html5_laws.proofs.KeepingAdoption.{wrap_kinds, wrap_forest}
-use Rattle.htmd_html5_laws.proofs.PlainNames.{EachOpen, Below, below_more, each_more, each_append}
+use Rattle.htmd_html5_laws.proofs.OpenNodes.{EachOpen, Below, below_more, each_more, each_append}
 use Rattle.htmd_html5_laws.proofs.HungNodes.{is_solid, element_solid, Hangs, Torn, AllHang, put_at, put_kind}
 use Rattle.htmd_html5_laws.proofs.HungNodes.{put_size, put_torn, appended_torn, detached_torn, moved_torn, kind_by_kinds}
 use Rattle.htmd_html5_laws.proofs.HungNodes.{kind_with_new, kind_new_at}

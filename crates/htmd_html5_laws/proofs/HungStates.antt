@@ -17,13 +17,13 @@ use Rattle.htmd_html5_state.specs.Insertion.{opened, current, place_by_table, fo
 use Rattle.htmd_html5_state.specs.Insertion.{open_again}
 use Rattle.htmd_html5_state.specs.declared.sets.NameSet.TheVariants.{Only, Fostering}
 use Rattle.htmd_html5_state.specs.declared.names.TagName.TheVariants.{Table, Template, Head}
-use Rattle.htmd_html5_laws.proofs.NodeTexts.{is_element}
+use Rattle.htmd_html5_laws.proofs.NodeTexts.{is_element, with_missing_element}
 use Rattle.htmd_html5_laws.proofs.NodeParts.{children_of_kind, parent_of_kind}
 use Rattle.htmd_html5_laws.proofs.Forests.{IsForest, length_new, forest_add, forest_with_kind}
 use Rattle.htmd_html5_laws.proofs.HungNodes.{is_solid, element_solid, Hangs, Torn, AllHang, Fits, solid_within}
 use Rattle.htmd_html5_laws.proofs.HungNodes.{kind_with_new, kind_new_at, holder_within, put_at, put_kind, put_size}
 use Rattle.htmd_html5_laws.proofs.HungNodes.{put_torn, put_loose, appended_torn, same_hang}
-use Rattle.htmd_html5_laws.proofs.PlainNames.{EachOpen, Below, below_more, below_tail, each_more, Fewer}
+use Rattle.htmd_html5_laws.proofs.OpenNodes.{EachOpen, Below, below_more, below_tail, each_more, Fewer}
 
 -- an open element is an element among the nodes
 abbrev pub is_element_open : List NodeValue → OpenValue → Bool
@@ -257,19 +257,11 @@ missing_solid more document = refl
 missing_solid more doctype = refl
 missing_solid more (comment s) = refl
 
-missing_element : (more : List AttributePair) (k : KindValue)
-    → is_element (kind_with_missing more k) ≡ is_element k
-missing_element more (element name attributes) = refl
-missing_element more (text s) = refl
-missing_element more document = refl
-missing_element more doctype = refl
-missing_element more (comment s) = refl
-
 pub hung_missing : (n : ℕ) (more : List AttributePair) (nodes : List NodeValue) {stack : List OpenValue}
     {head : Option ℕ} → HungIn nodes stack head → HungIn (add_missing n more nodes) stack head
 hung_missing n more nodes h =
     hung_like n (kind_with_missing more (kind_at nodes n)) nodes (missing_solid more (kind_at nodes n))
-    (missing_element more (kind_at nodes n)) h
+    (with_missing_element more (kind_at nodes n)) h
 
 -- ---- places
 

@@ -281,21 +281,21 @@ with_kept tag formatting s e h = either (not (is_open_node formatting s.stack))
     other false =
         by_kept formatting tag (furthest_block (inside formatting s.stack)) (inside formatting s.stack)
         (on_stack (around formatting) s) e (furthest_in (inside formatting s.stack))
-        (λ n l. h.held n (as_open (inside_fewer formatting s.stack n l)))
-        (sound_open (around formatting s.stack) (around_fewer formatting s.stack) h)
+        (λ n l. h.held n (as_open ((inside_fewer formatting s.stack).opened n l)))
+        (sound_open (around formatting s.stack) (around_fewer formatting s.stack).opened h)
 
     either : (t : Bool) → Kept s (state_of (if t then last_round (on_formatting (without_entry formatting) s)
         else if list_any bounds_any (inside formatting s.stack) then last_round s else round_open tag formatting s))
     either true = (without_entry_keeps formatting).keeps s h
     either false = other (list_any bounds_any (inside formatting s.stack))
 
-found : (p : ℕ → Bool) (ns : List ℕ) (n : ℕ) → find p ns ≡ Some n → p n ≡ true
-found p [] n e = absurd (cc)
-found p (m ∷ ns) n e =
-    test (p m) (λ t. let same : m ≡ n = first m n (rw t at e) in rw (sym same) t) (λ t. found p ns n (rw t at e))
+pub found : {A : Type 0} (p : A → Bool) (xs : List A) (x : A) → find p xs ≡ Some x → p x ≡ true
+found p [] x e = absurd (cc)
+found {A} p (y ∷ xs) x e =
+    test (p y) (λ t. let same : y ≡ x = first y x (rw t at e) in rw (sym same) t) (λ t. found p xs x (rw t at e))
   where
-    first : (m n : ℕ) → Some m ≡ Some n → m ≡ n
-    first m n e = cc
+    first : (y x : A) → Some y ≡ Some x → y ≡ x
+    first y x e = cc
 
 is_kind : (tag : TagName) (k : KindValue) → kind_is tag k ≡ true → is_element k ≡ true
 is_kind tag (element name attributes) e = refl

@@ -21,8 +21,9 @@ use Rattle.htmd_html5_state.specs.declared.names.TagName.{TagName}
 use Rattle.htmd_html5_laws.proofs.NodeTexts.{kinds, is_element, kinds_new, kinds_put, kinds_attach, kinds_detach, kind_read}
 use Rattle.htmd_html5_laws.proofs.KeepingInsertion.{listed_more, listed_replaced}
 use Rattle.htmd_html5_laws.proofs.KeepingAdoption.{wrap_kinds, listed_marked}
-use Rattle.htmd_html5_laws.proofs.PlainNames.{is_plain, is_plain_element, is_plain_kind, PlainOpen, is_plain_open, PlainStack, each_append}
-use Rattle.htmd_html5_laws.proofs.PlainNames.{pop_fewer, close_name_fewer, inside_fewer, around_fewer}
+use Rattle.htmd_html5_laws.proofs.OpenNodes.{each_append}
+use Rattle.htmd_html5_laws.proofs.PlainNames.{is_plain, is_plain_element, is_plain_kind, PlainOpen, is_plain_open, PlainStack}
+use Rattle.htmd_html5_laws.proofs.OpenNodes.{pop_fewer, close_name_fewer, inside_fewer, around_fewer}
 use Rattle.htmd_html5_laws.proofs.PlainStates.{PlainAt, Plain, Stays, stays_by_test, on_stack_stays, plain_kinds}
 use Rattle.htmd_html5_laws.proofs.PlainStates.{plain_stack, plain_before, plain_added, plain_new, plain_listed}
 use Rattle.htmd_html5_laws.proofs.PlainStates.{without_entry_stays, Grown, grown_then}

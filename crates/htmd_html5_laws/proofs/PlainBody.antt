@@ -36,9 +36,10 @@ use Rattle.htmd_html5.specs.BodyStarts.{start_foreign, start_text_area, start_ex
 use Rattle.htmd_html5.specs.BodyStarts.{start_no_script, start_by, start_in_body}
 use Rattle.htmd_html5.specs.BodyEnds.{text_end_rule, end_rule, has_body, end_body, end_block, close_form, end_form}
 use Rattle.htmd_html5.specs.BodyEnds.{end_paragraph, end_embedded, line_break, end_by, end_in_body}
-use Rattle.htmd_html5_laws.proofs.PlainNames.{is_plain_name, no_template_open, close_fewer}
-use Rattle.htmd_html5_laws.proofs.PlainNames.{close_name_fewer, pop_while_fewer, without_fewer, close_heading_fewer}
-use Rattle.htmd_html5_laws.proofs.PlainNames.{close_option_fewer, fewer_then}
+use Rattle.htmd_html5_laws.proofs.OpenNodes.{close_fewer}
+use Rattle.htmd_html5_laws.proofs.PlainNames.{is_plain_name, no_template_open}
+use Rattle.htmd_html5_laws.proofs.OpenNodes.{close_name_fewer, pop_while_fewer, without_fewer, close_heading_fewer}
+use Rattle.htmd_html5_laws.proofs.OpenNodes.{close_option_fewer, fewer_then}
 use Rattle.htmd_html5_laws.proofs.HungStates.{Hung}
 use Rattle.htmd_html5_laws.proofs.PlainStates.{is_plain_mode, Plain, Stays, then_stays, still, stays_by_test}
 use Rattle.htmd_html5_laws.proofs.PlainStates.{stays_by_state, on_stack_stays, in_plain_mode, insert_element_stays}

@@ -38,7 +38,8 @@ use Rattle.htmd_html5.specs.InSelect.{in_select, in_select_in_table}
 use Rattle.htmd_html5.specs.AfterBody.{back_to_body, start_after_body, end_after_body, comment_in}
 use Rattle.htmd_html5.specs.AfterBody.{after_body, after_after_body}
 use Rattle.htmd_html5.specs.Modes.{in_mode, by_mode_rules}
-use Rattle.htmd_html5_laws.proofs.PlainNames.{is_plain_name, is_plain_open, pop_fewer, without_fewer}
+use Rattle.htmd_html5_laws.proofs.OpenNodes.{pop_fewer, without_fewer}
+use Rattle.htmd_html5_laws.proofs.PlainNames.{is_plain_name, is_plain_open}
 use Rattle.htmd_html5_laws.proofs.PlainStates.{is_plain_mode, Plain, Stays, then_stays, still, stays_by_test}
 use Rattle.htmd_html5_laws.proofs.PlainStates.{stays_by_state, on_stack_stays, plain_stack, in_plain_mode}
 use Rattle.htmd_html5_laws.proofs.PlainStates.{insert_element_stays, insert_root_stays}

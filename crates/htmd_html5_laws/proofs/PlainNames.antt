@@ -18,6 +18,7 @@ use Rattle.htmd_html5_state.specs.declared.sets.NameSet.TheVariants.{Only, Headi
 use Rattle.htmd_html5_state.specs.declared.sets.Scope.{Scope}
 use Rattle.htmd_html5.specs.BodyStarts.{close_heading, close_option}
 use Rattle.htmd_html5.specs.InSelect.{close_group, close_option_in_group}
+use Rattle.htmd_html5_laws.proofs.OpenNodes.{EachOpen}
 use Rattle.htmd_html5_state.specs.declared.names.TagName.TheVariants as tags
 
 -- ---- names
@@ -48,11 +49,6 @@ foreign_is_plain MathMl name = refl
 
 -- ---- what is open
 
--- each of these is like this
-abbrev pub EachOpen : (OpenValue → Type 0) → List OpenValue → Type 0
-EachOpen P [] = Unit {0}
-EachOpen P (e ∷ es) = P e × EachOpen P es
-
 abbrev pub is_plain_open : OpenValue → Bool
 is_plain_open e = is_plain_element e.name
 
@@ -61,32 +57,6 @@ PlainOpen e = is_plain_open e ≡ true
 
 abbrev pub PlainStack : List OpenValue → Type 0
 PlainStack stack = EachOpen PlainOpen stack
-
--- each element's rank is below that of the element right inside it, and the innermost's below a limit
-abbrev pub Below : (ℕ → ℕ) → ℕ → List OpenValue → Type 0
-Below rank limit [] = Unit {0}
-Below rank limit (e ∷ es) = (rank e.node < limit) × Below rank (rank e.node) es
-
-pub below_more : (rank : ℕ → ℕ) (low high : ℕ) (es : List OpenValue) → low ≤ high → Below rank low es
-    → Below rank high es
-below_more rank low high [] l h = tt
-below_more rank low high (e ∷ es) l h = let a = h.0 in (omega arith, h.1)
-
-pub below_tail : (rank : ℕ → ℕ) (limit : ℕ) (e : OpenValue) (es : List OpenValue)
-    → Below rank limit (e ∷ es)
-    → Below rank limit es
-below_tail rank limit e es h = let a = h.0 in below_more rank (rank e.node) limit es (omega arith) h.1
-
-pub each_more : {P Q : OpenValue → Type 0} (es : List OpenValue) → ((e : OpenValue) → P e → Q e)
-    → EachOpen P es
-    → EachOpen Q es
-each_more [] f h = tt
-each_more (e ∷ es) f h = (f e h.0, each_more es f h.1)
-
-pub each_append : (P : OpenValue → Type 0) (es stack : List OpenValue) → EachOpen P es → EachOpen P stack
-    → EachOpen P (es ++ stack)
-each_append P [] stack h g = g
-each_append P (e ∷ es) stack h g = (h.0, each_append P es stack h.1 g)
 
 no_template_name : (name : ElementNameValue) → is_plain_element name ≡ true → is_of (Only tags.Template) name
     ≡ false
@@ -99,111 +69,3 @@ no_template_name (math s) p = refl
 pub no_template_open : (stack : List OpenValue) → PlainStack stack → is_open (Only tags.Template) stack ≡ false
 no_template_open [] h = refl
 no_template_open (e ∷ es) h = rw (no_template_name e.name h.0) (no_template_open es h.1)
-
--- ---- some of the elements, in the same order
-
-pub record Fewer (es stack : List OpenValue) : Type 0 where
-  pub each : (p : OpenValue → Bool) → EachOpen (λ e. p e ≡ true) stack → EachOpen (λ e. p e ≡ true) es
-  pub below : (rank : ℕ → ℕ) (limit : ℕ) → Below rank limit stack → Below rank limit es
-
-pub all_of : (es : List OpenValue) → Fewer es es
-all_of es = record { each = λ p h. h; below = λ rank limit h. h }
-
-none_of : (es : List OpenValue) → Fewer [] es
-none_of es = record { each = λ p h. tt; below = λ rank limit h. tt }
-
-pub fewer_then : {es some stack : List OpenValue} → Fewer es some → Fewer some stack → Fewer es stack
-fewer_then a b = record {
-  each = λ p h. a.each p (b.each p h);
-  below = λ rank limit h. a.below rank limit (b.below rank limit h);
-}
-
-pub skip : (e : OpenValue) {es stack : List OpenValue} → Fewer es stack → Fewer es (e ∷ stack)
-skip e {es} {stack} f = record {
-  each = λ p h. f.each p h.1;
-  below = λ rank limit h. f.below rank limit (below_tail rank limit e stack h);
-}
-
-keep : (e : OpenValue) {es stack : List OpenValue} → Fewer es stack → Fewer (e ∷ es) (e ∷ stack)
-keep e {es} {stack} f = record {
-  each = λ p h. (h.0, f.each p h.1);
-  below = λ rank limit h. (h.0, f.below rank (rank e.node) h.1);
-}
-
-pub pop_fewer : (stack : List OpenValue) → Fewer (pop stack) stack
-pop_fewer [] = all_of []
-pop_fewer (e ∷ es) = skip e (all_of es)
-
-pop_through_fewer : (wanted : OpenValue → Bool) (stack : List OpenValue) → Fewer (pop_through wanted stack) stack
-pop_through_fewer wanted [] = all_of []
-pop_through_fewer wanted (e ∷ es) =
-    test (wanted e) (λ t. rw t (skip e (all_of es))) (λ t. rw t (skip e (pop_through_fewer wanted es)))
-
-pub pop_until_fewer : (set : NameSet) (stack : List OpenValue) → Fewer (pop_until set stack) stack
-pop_until_fewer set stack = pop_through_fewer (is_in set) stack
-
-pub clear_to_fewer : (set : NameSet) (stack : List OpenValue) → Fewer (clear_to set stack) stack
-clear_to_fewer set [] = all_of []
-clear_to_fewer set (e ∷ es) =
-    test (is_in set e) (λ t. rw t (all_of (e ∷ es))) (λ t. rw t (skip e (clear_to_fewer set es)))
-
-pub pop_while_fewer : (set : NameSet) (stack : List OpenValue) → Fewer (pop_while set stack) stack
-pop_while_fewer set [] = all_of []
-pop_while_fewer set (e ∷ es) =
-    test (is_in set e) (λ t. rw t (skip e (pop_while_fewer set es))) (λ t. rw t (all_of (e ∷ es)))
-
-pub close_fewer : (set : NameSet) (scope : Scope) (stack : List OpenValue) → Fewer (close set scope stack) stack
-close_fewer set scope stack =
-    test (is_in_scope set scope stack) (λ t. rw t (pop_until_fewer set stack)) (λ t. rw t (all_of stack))
-
-pub close_name_fewer : (name : NameValue) (stack : List OpenValue) → Fewer (close_name name stack) stack
-close_name_fewer name stack =
-    test (is_closable name stack) (λ t. rw t (pop_through_fewer (has_name (html name)) stack))
-    (λ t. rw t (all_of stack))
-
-pub without_fewer : (m : ℕ) (stack : List OpenValue) → Fewer (without m stack) stack
-without_fewer m [] = all_of []
-without_fewer m (e ∷ es) =
-    test (e.node == m) (λ t. rw t (skip e (all_of es))) (λ t. rw t (keep e (without_fewer m es)))
-
-pub inside_fewer : (m : ℕ) (stack : List OpenValue) → Fewer (inside m stack) stack
-inside_fewer m [] = all_of []
-inside_fewer m (e ∷ es) =
-    test (e.node == m) (λ t. rw t (none_of (e ∷ es))) (λ t. rw t (keep e (inside_fewer m es)))
-
-pub around_fewer : (m : ℕ) (stack : List OpenValue) → Fewer (around m stack) stack
-around_fewer m [] = all_of []
-around_fewer m (e ∷ es) =
-    test (e.node == m) (λ t. rw t (skip e (all_of es))) (λ t. rw t (skip e (around_fewer m es)))
-
--- ---- where the current node is one of these
-
-pop_where : (b : Bool) (stack : List OpenValue) → Fewer (if b then pop stack else stack) stack
-pop_where true stack = pop_fewer stack
-pop_where false stack = all_of stack
-
-pub close_heading_fewer : (stack : List OpenValue) → Fewer (close_heading stack) stack
-close_heading_fewer stack = pop_where (current_is Headings stack) stack
-
-pub close_option_fewer : (stack : List OpenValue) → Fewer (close_option stack) stack
-close_option_fewer stack = pop_where (current_is (Only tags.OptionTag) stack) stack
-
-close_group_fewer : (stack : List OpenValue) → Fewer (close_group stack) stack
-close_group_fewer stack = pop_where (current_is (Only tags.OptGroup) stack) stack
-
-pub option_and_group_fewer : (stack : List OpenValue) → Fewer (close_group (close_option stack)) stack
-option_and_group_fewer stack = fewer_then (close_group_fewer (close_option stack)) (close_option_fewer stack)
-
-pub group_fewer : (stack : List OpenValue) → Fewer (close_group (close_option_in_group stack)) stack
-group_fewer stack =
-    fewer_then (close_group_fewer (close_option_in_group stack))
-    (pop_where (current_is (Only tags.OptionTag) stack && current_is (Only tags.OptGroup) (pop stack)) stack)
-
-pub pop_if_fewer : (b : Bool) (stack : List OpenValue) → Fewer (pop_if b stack) stack
-pop_if_fewer true stack = pop_fewer stack
-pop_if_fewer false stack = all_of stack
-
-pub leave_foreign_fewer : (nodes : List NodeValue) (stack : List OpenValue) → Fewer (leave_foreign nodes stack) stack
-leave_foreign_fewer nodes [] = all_of []
-leave_foreign_fewer nodes (e ∷ es) =
-    test (ends_foreign nodes e) (λ t. rw t (all_of (e ∷ es))) (λ t. rw t (skip e (leave_foreign_fewer nodes es)))

@@ -30,7 +30,8 @@ use Rattle.htmd_html5_laws.proofs.NodeTexts.{kinds, kinds_add, kinds_with_kind, 
 use Rattle.htmd_html5_laws.proofs.KeepingInsertion.{listed_more, listed_without, listed_after_marker, listed_closed, listed_first}
 use Rattle.htmd_html5_laws.proofs.KeepingInsertion.{listed_pushed}
 use Rattle.htmd_html5_laws.proofs.PlainNames.{is_plain, is_plain_name, is_plain_element, is_plain_kind, foreign_is_plain}
-use Rattle.htmd_html5_laws.proofs.PlainNames.{is_plain_open, PlainStack, Fewer, pop_fewer, pop_if_fewer}
+use Rattle.htmd_html5_laws.proofs.OpenNodes.{Fewer, pop_fewer, pop_if_fewer}
+use Rattle.htmd_html5_laws.proofs.PlainNames.{is_plain_open, PlainStack}
 use Rattle.htmd_html5_laws.proofs.HungStates.{Hung, hung_fewer, hung_named, hung_under_root, hung_last, hung_missing}
 use Rattle.htmd_html5_state.specs.declared.names.TagName.TheVariants as tags
 

@@ -30,8 +30,9 @@ use Rattle.htmd_html5.specs.InCell.{close_cell, end_cell, leave_cell, start_in_c
 use Rattle.htmd_html5.specs.InSelect.{close_group, close_option_in_group, close_select}
 use Rattle.htmd_html5.specs.InSelect.{has_select, end_select, leave_select, start_in_select, end_in_select}
 use Rattle.htmd_html5.specs.InSelect.{start_in_select_in_table, leave_select_in, end_in_select_in_table}
-use Rattle.htmd_html5_laws.proofs.PlainNames.{is_plain_name, pop_fewer, pop_until_fewer, clear_to_fewer}
-use Rattle.htmd_html5_laws.proofs.PlainNames.{close_option_fewer, option_and_group_fewer, group_fewer}
+use Rattle.htmd_html5_laws.proofs.OpenNodes.{pop_fewer, pop_until_fewer, clear_to_fewer}
+use Rattle.htmd_html5_laws.proofs.PlainNames.{is_plain_name}
+use Rattle.htmd_html5_laws.proofs.OpenNodes.{close_option_fewer, option_and_group_fewer, group_fewer}
 use Rattle.htmd_html5_laws.proofs.PlainStates.{Stays, then_stays, still, stays_by_test, on_stack_stays}
 use Rattle.htmd_html5_laws.proofs.PlainStates.{insert_element_stays, push_marker_stays, clear_to_marker_stays}
 use Rattle.htmd_html5_laws.proofs.PlainStates.{reset_insertion_mode_stays}

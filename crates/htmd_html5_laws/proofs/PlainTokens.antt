@@ -14,12 +14,14 @@ use Rattle.htmd_html5.specs.Processing.{by_rules}
 use Rattle.htmd_html5.specs.ForeignContent.{is_foreign, tag_breaks_out, end_breaks_out, break_out, insert_alike}
 use Rattle.htmd_html5.specs.ForeignContent.{start_foreign_element, start_in_foreign, end_foreign, end_in_foreign}
 use Rattle.htmd_html5.specs.ForeignContent.{in_foreign_content}
-use Rattle.htmd_html5_laws.proofs.PlainNames.{is_plain_open, Fewer, all_of, skip, leave_foreign_fewer}
+use Rattle.htmd_html5_laws.proofs.OpenNodes.{Fewer, all_of, skip, leave_foreign_fewer}
+use Rattle.htmd_html5_laws.proofs.PlainNames.{is_plain_open}
 use Rattle.htmd_html5_laws.proofs.HungStates.{Hung, hung_fewer}
 use Rattle.htmd_html5_laws.proofs.PlainStates.{Plain, Stays, still, stays_by_state, plain_stack}
 use Rattle.htmd_html5_laws.proofs.PlainStates.{insert_comment_stays}
 use Rattle.htmd_html5_laws.proofs.PlainBody.{StaysAnswer, says_plain, answers_either}
 use Rattle.htmd_html5_laws.proofs.PlainBody.{insert_foreign_tag_stays}
+use Rattle.htmd_html5_laws.proofs.KeepingModes.{EndsIn, foreign_end_in}
 use Rattle.htmd_html5_laws.proofs.PlainModes.{IsPlain, by_mode_rules_stays}
 use Rattle.htmd_html5_state.specs.Foreign as foreign
 
@@ -45,26 +47,6 @@ start_in_foreign_stays : (tag : StartTagValue) → IsPlain (start_tag tag) → S
 start_in_foreign_stays tag p =
     answers_either (λ s. tag_breaks_out tag.name tag.attributes) (break_out_stays (start_tag tag) p)
     (says_plain (start_foreign_stays tag))
-
--- what stays open was open
-abbrev EndsIn : ForeignEnd → List OpenValue → Type 0
-EndsIn (closed_to es) stack = Fewer es stack
-EndsIn by_mode stack = Unit {0}
-EndsIn foreign.nothing stack = Unit {0}
-
-ends_more : (e : OpenValue) (ending : ForeignEnd) (stack : List OpenValue) → EndsIn ending stack
-    → EndsIn ending (e ∷ stack)
-ends_more e by_mode stack h = tt
-ends_more e (closed_to es) stack h = skip e h
-ends_more e foreign.nothing stack h = tt
-
-foreign_end_in : (name : List ℕ) (stack : List OpenValue) → EndsIn (foreign_end name stack) stack
-foreign_end_in name [] = tt
-foreign_end_in name (e ∷ []) = tt
-foreign_end_in name (e ∷ f ∷ es) =
-    let more = ends_more e (foreign_end name (f ∷ es)) (f ∷ es) (foreign_end_in name (f ∷ es)) in
-    test (is_html e) (λ t. rw t tt)
-    (λ t. test (is_spelled_so name e.name) (λ u. rw (t, u) (skip e (all_of (f ∷ es)))) (λ u. rw (t, u) more))
 
 end_foreign_plain : (name : NameValue) (ending : ForeignEnd) (s : StateValue) → EndsIn ending s.stack → Plain s
     → Plain (end_foreign name ending s).state
