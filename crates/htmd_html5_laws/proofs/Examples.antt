@@ -9,6 +9,7 @@ use Rattle.htmd_html5.specs.Documents.{state_after}
 use Rattle.htmd_html5_laws.specs.PageLetters.{is_letter, texts_of, token_texts}
 use Rattle.htmd_html5_laws.specs.DocumentLetters.{node_texts, all_texts_are_taken}
 use Rattle.htmd_html5_laws.specs.KeptLetters.{is_whole}
+use Rattle.htmd_html5_laws.specs.HarmlessTags.{all_tags_are_harmless}
 
 a_is_one : is_letter 0x61 ≡ true
 a_is_one = refl
@@ -51,6 +52,16 @@ texts_of_a_page = refl
 texts_of_a_document : node_texts (state_after true (codes "<table>a<td>b")).nodes ≡ codes "a" ∷ codes "b" ∷ []
 unfolding block_rule formatting_rule phrasing_rule
 texts_of_a_document = refl
+
+-- ---- harmless tags
+
+a_start_tag_of_frames_counts : all_tags_are_harmless true (codes "a<FrameSet>") ≡ false
+unfolding block_rule formatting_rule phrasing_rule
+a_start_tag_of_frames_counts = refl
+
+an_end_tag_is_harmless : all_tags_are_harmless true (codes "<table><col>a</template>") ≡ true
+unfolding block_rule formatting_rule phrasing_rule
+an_end_tag_is_harmless = refl
 
 -- ---- documents in one piece
 

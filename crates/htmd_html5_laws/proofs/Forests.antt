@@ -248,13 +248,13 @@ forest_with_kind n k nodes h = record {
 
 -- ---- all children of one node to another
 
-children_with_parents : (p q : ℕ) (cs : List ℕ) (nodes : List NodeValue)
+pub children_with_parents : (p q : ℕ) (cs : List ℕ) (nodes : List NodeValue)
     → children_at (with_parents p cs nodes) q ≡ children_at nodes q
 children_with_parents p q [] nodes = refl
 children_with_parents p q (c ∷ cs) nodes =
     children_with_parents p q cs (with_parent c (Some p) nodes) ∙ children_of_parent c q (Some p) nodes
 
-parent_not_among : (p m : ℕ) (cs : List ℕ) (nodes : List NodeValue) → times m cs ≡ 0
+pub parent_not_among : (p m : ℕ) (cs : List ℕ) (nodes : List NodeValue) → times m cs ≡ 0
     → parent_at (with_parents p cs nodes) m ≡ parent_at nodes m
 parent_not_among p m [] nodes e = refl
 parent_not_among p m (c ∷ cs) nodes e =
@@ -263,7 +263,7 @@ parent_not_among p m (c ∷ cs) nodes e =
     parent_not_among p m cs (with_parent c (Some p) nodes) (omega arith)
     ∙ parent_other c m (Some p) nodes (eqb-false c m t))
 
-parent_among : (p m : ℕ) (cs : List ℕ) (nodes : List NodeValue) → 1 ≤ times m cs → m < length nodes
+pub parent_among : (p m : ℕ) (cs : List ℕ) (nodes : List NodeValue) → 1 ≤ times m cs → m < length nodes
     → parent_at (with_parents p cs nodes) m ≡ Some p
 parent_among p m [] nodes l w = absurd (omega arith)
 parent_among p m (c ∷ cs) nodes l w =
@@ -363,7 +363,7 @@ forest_move from to nodes h = record { once = λ m q. bound m q }
         test (times m moved == 0) (λ z. others m q (eqb-true (times m moved) 0 z))
         (λ z. let some = eqb-false (times m moved) 0 z in those m q (omega arith))
 
-length_with_parents : (p : ℕ) (cs : List ℕ) (nodes : List NodeValue) → length (with_parents p cs nodes)
+pub length_with_parents : (p : ℕ) (cs : List ℕ) (nodes : List NodeValue) → length (with_parents p cs nodes)
     ≡ length nodes
 length_with_parents p [] nodes = refl
 length_with_parents p (c ∷ cs) nodes =

@@ -13,7 +13,7 @@ use Rattle.htmd_html5_state.specs.State.{StateValue, on_stack}
 use Rattle.htmd_html5_state.specs.Formatting.{is_listed, is_entry}
 use Rattle.htmd_html5_laws.proofs.NodeTexts.{kinds, texts, is_element, is_text, texts_new, element_before, kind_new}
 use Rattle.htmd_html5_laws.proofs.Forests.{IsForest}
-use Rattle.htmd_html5_laws.proofs.OpenNodes.{OpenIn}
+use Rattle.htmd_html5_laws.proofs.OpenNodes.{OpenIn, Fewer}
 
 -- a node of these is an element
 abbrev pub ElementAt : List KindValue → ℕ → Type 0
@@ -149,9 +149,9 @@ pub sound_open : {nodes : List NodeValue} {head : Option ℕ} {entries : List (O
 sound_open {nodes} {head} {entries} {stack} es fewer h =
     sound_held (λ n l. h.held n (held_in entries stack (λ e. e) (fewer n) l)) h
 
-pub on_stack_keeps : (f : List OpenValue → List OpenValue) → ((stack : List OpenValue) → OpenIn (f stack) stack)
+pub on_stack_keeps : (f : List OpenValue → List OpenValue) → ((stack : List OpenValue) → Fewer (f stack) stack)
     → Keeps (on_stack f)
-on_stack_keeps f fewer = record { keeps = λ s h. kept_same (sound_open (f s.stack) (fewer s.stack) h) }
+on_stack_keeps f fewer = record { keeps = λ s h. kept_same (sound_open (f s.stack) (fewer s.stack).opened h) }
 
 -- ---- a node more, which is no text
 

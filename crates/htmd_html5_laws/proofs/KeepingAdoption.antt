@@ -131,7 +131,7 @@ move_kept last s e h =
     (kinds_put last (place (on_nodes (detach last) s)) (detach last s.nodes) ∙ kinds_detach last s.nodes)
     (forest_detached_put last (place (on_nodes (detach last) s)) s.nodes (element_within s.nodes last e) h.forest) h
 
-wrap_forest : (formatting block : ℕ) (nodes : List NodeValue) → IsForest nodes
+pub wrap_forest : (formatting block : ℕ) (nodes : List NodeValue) → IsForest nodes
     → IsForest (wrap_children formatting block nodes)
 unfolding wrap_children
 wrap_forest formatting block nodes h =
@@ -145,7 +145,7 @@ wrap_forest formatting block nodes h =
     (new_is_free (kind_at nodes formatting) nodes))
     (forest_move block (length nodes) (nodes ++ new_node (kind_at nodes formatting) ∷ []) more)
 
-wrap_kinds : (formatting block : ℕ) (nodes : List NodeValue)
+pub wrap_kinds : (formatting block : ℕ) (nodes : List NodeValue)
     → kinds (wrap_children formatting block nodes) ≡ kinds nodes ++ kind_at nodes formatting ∷ []
 unfolding wrap_children
 wrap_kinds formatting block nodes =
@@ -154,7 +154,7 @@ wrap_kinds formatting block nodes =
     ∙ (kinds_move_children block (length nodes) (nodes ++ new_node (kind_at nodes formatting) ∷ [])
     ∙ kinds_new nodes (kind_at nodes formatting))
 
-listed_marked : (n formatting copy : ℕ) (bookmark : Option ℕ) (entries : List (Option ℕ))
+pub listed_marked : (n formatting copy : ℕ) (bookmark : Option ℕ) (entries : List (Option ℕ))
     → is_listed n (with_bookmark formatting copy bookmark entries) ≡ true → (n ≡ copy)
     ⊎ (is_listed n entries ≡ true)
 listed_marked n formatting copy None entries l = listed_replaced n formatting copy entries l
@@ -281,21 +281,21 @@ with_kept tag formatting s e h = either (not (is_open_node formatting s.stack))
     other false =
         by_kept formatting tag (furthest_block (inside formatting s.stack)) (inside formatting s.stack)
         (on_stack (around formatting) s) e (furthest_in (inside formatting s.stack))
-        (λ n l. h.held n (as_open (inside_fewer formatting s.stack n l)))
-        (sound_open (around formatting s.stack) (around_fewer formatting s.stack) h)
+        (λ n l. h.held n (as_open ((inside_fewer formatting s.stack).opened n l)))
+        (sound_open (around formatting s.stack) (around_fewer formatting s.stack).opened h)
 
     either : (t : Bool) → Kept s (state_of (if t then last_round (on_formatting (without_entry formatting) s)
         else if list_any bounds_any (inside formatting s.stack) then last_round s else round_open tag formatting s))
     either true = (without_entry_keeps formatting).keeps s h
     either false = other (list_any bounds_any (inside formatting s.stack))
 
-found : (p : ℕ → Bool) (ns : List ℕ) (n : ℕ) → find p ns ≡ Some n → p n ≡ true
-found p [] n e = absurd (cc)
-found p (m ∷ ns) n e =
-    test (p m) (λ t. let same : m ≡ n = first m n (rw t at e) in rw (sym same) t) (λ t. found p ns n (rw t at e))
+pub found : {A : Type 0} (p : A → Bool) (xs : List A) (x : A) → find p xs ≡ Some x → p x ≡ true
+found p [] x e = absurd (cc)
+found {A} p (y ∷ xs) x e =
+    test (p y) (λ t. let same : y ≡ x = first y x (rw t at e) in rw (sym same) t) (λ t. found p xs x (rw t at e))
   where
-    first : (m n : ℕ) → Some m ≡ Some n → m ≡ n
-    first m n e = cc
+    first : (y x : A) → Some y ≡ Some x → y ≡ x
+    first y x e = cc
 
 is_kind : (tag : TagName) (k : KindValue) → kind_is tag k ≡ true → is_element k ≡ true
 is_kind tag (element name attributes) e = refl

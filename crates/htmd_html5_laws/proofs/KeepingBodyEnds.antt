@@ -10,7 +10,7 @@ use Rattle.htmd_html5_state.specs.declared.sets.NameSet.TheVariants.{Only, Headi
 use Rattle.htmd_html5_state.specs.declared.sets.Scope.TheVariants.{Default, ListItem, Button as ButtonScope}
 use Rattle.htmd_html5.specs.BodyEnds.{has_body, end_body, end_block, close_form, end_form, end_paragraph, end_embedded}
 use Rattle.htmd_html5.specs.BodyEnds.{line_break, end_by, end_rule, text_end_rule, end_in_body}
-use Rattle.htmd_html5_laws.proofs.OpenNodes.{close_fewer, without_fewer, pop_while_fewer, close_name_fewer}
+use Rattle.htmd_html5_laws.proofs.OpenNodes.{fewer_then, close_fewer, without_fewer, pop_while_fewer, close_name_fewer}
 use Rattle.htmd_html5_laws.proofs.Keeping.{Keeps, after, nothing, by_test, by_state, untouched, on_stack_keeps}
 use Rattle.htmd_html5_laws.proofs.KeepingInsertion.{insert_void_keeps, clear_to_marker_keeps, reconstruct_keeps}
 use Rattle.htmd_html5_laws.proofs.KeepingAdoption.{adoption_agency_keeps}
@@ -30,7 +30,7 @@ close_form_keeps : (form : Option ℕ) → Keeps (close_form form)
 close_form_keeps None = nothing
 close_form_keeps (Some n) =
     by_test (λ s. is_node_in_scope n s.stack) (on_stack_keeps (λ stack. without n (pop_while ImpliedEnd stack))
-    (λ stack m l. pop_while_fewer ImpliedEnd stack m (without_fewer n (pop_while ImpliedEnd stack) m l))) nothing
+    (λ stack. fewer_then (without_fewer n (pop_while ImpliedEnd stack)) (pop_while_fewer ImpliedEnd stack))) nothing
 
 no_form : StateValue → StateValue
 no_form s = record s { form = None }

@@ -169,7 +169,7 @@ listed_without_some : (n : ℕ) (m : Option ℕ) (entries : List (Option ℕ))
 listed_without_some n None entries l = l
 listed_without_some n (Some m) entries l = listed_without n m entries l
 
-listed_closed : (n : ℕ) (stack : List OpenValue) (entries : List (Option ℕ))
+pub listed_closed : (n : ℕ) (stack : List OpenValue) (entries : List (Option ℕ))
     → is_listed n (after_closed stack entries) ≡ true → is_listed n entries ≡ true
 listed_closed n stack [] l = l
 listed_closed n stack (None ∷ entries) l = l
@@ -178,7 +178,7 @@ listed_closed n stack (Some m ∷ entries) l =
     (λ t. listed_more n (Some m) entries (listed_closed n stack entries (rw t at l)))
 
 -- the first entry is this, or the number is listed after it
-listed_first : (n m : ℕ) (entries : List (Option ℕ)) → is_listed n (Some m ∷ entries) ≡ true
+pub listed_first : (n m : ℕ) (entries : List (Option ℕ)) → is_listed n (Some m ∷ entries) ≡ true
     → (n ≡ m) ⊎ (is_listed n entries ≡ true)
 listed_first n m entries l = test (m == n) (λ t. inl (sym (eqb-true m n t))) (λ t. inr (rw t at l))
 
@@ -234,7 +234,7 @@ pub entry_or_held : {n m : ℕ} {head : Option ℕ} {entries : List (Option ℕ)
 entry_or_held (inl p) = inl p
 entry_or_held (inr l) = inr (as_entry l)
 
-listed_pushed : (n m : ℕ) (nodes : List NodeValue) (entries : List (Option ℕ))
+pub listed_pushed : (n m : ℕ) (nodes : List NodeValue) (entries : List (Option ℕ))
     → is_listed n (push_entry nodes m entries) ≡ true → (n ≡ m) ⊎ (is_listed n entries ≡ true)
 listed_pushed n m nodes entries l =
     further (listed_first n m (with_room (with_room_for nodes (kind_at nodes m) entries)) l)

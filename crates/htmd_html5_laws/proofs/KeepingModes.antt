@@ -43,7 +43,7 @@ use Rattle.htmd_html5.specs.ForeignContent.{is_foreign, tag_breaks_out, end_brea
 use Rattle.htmd_html5.specs.ForeignContent.{start_foreign_element, start_in_foreign, end_foreign, end_in_foreign}
 use Rattle.htmd_html5.specs.ForeignContent.{in_foreign_content}
 use Rattle.htmd_html5.specs.Modes.{in_mode, by_mode_rules}
-use Rattle.htmd_html5_laws.proofs.OpenNodes.{OpenIn, open_more, leave_foreign_fewer}
+use Rattle.htmd_html5_laws.proofs.OpenNodes.{Fewer, all_of, skip, leave_foreign_fewer}
 use Rattle.htmd_html5_laws.proofs.Keeping.{Sound, Kept, Keeps, kept_same, kept_then, nothing, by_state, sound_open}
 use Rattle.htmd_html5_laws.proofs.KeepingInsertion.{insert_comment_in_keeps, insert_comment_keeps}
 use Rattle.htmd_html5_laws.proofs.KeepingRules.{KeepsAnswer, says, answers_by_test, insert_foreign_tag_keeps}
@@ -275,7 +275,7 @@ by_mode_rules_keeps token e = record { keeps = λ s h. (in_mode_keeps s.mode tok
 break_out_keeps : (token : TokenValue) → is_run token ≡ false → KeepsAnswer (break_out token)
 break_out_keeps token e = record {
   keeps = λ s h. (by_mode_rules_keeps token e).keeps (on_stack (leave_foreign s.nodes) s)
-      (sound_open (leave_foreign s.nodes s.stack) (leave_foreign_fewer s.nodes s.stack) h);
+      (sound_open (leave_foreign s.nodes s.stack) (leave_foreign_fewer s.nodes s.stack).opened h);
 }
 
 insert_alike_keeps : (space : Option Namespace) (tag : StartTagValue) → Keeps (insert_alike space tag)
@@ -292,30 +292,30 @@ start_in_foreign_keeps tag =
     (says (start_foreign_element_keeps tag))
 
 -- what stays open was open
-abbrev EndsIn : ForeignEnd → List OpenValue → Type 0
-EndsIn (closed_to es) stack = OpenIn es stack
+abbrev pub EndsIn : ForeignEnd → List OpenValue → Type 0
+EndsIn (closed_to es) stack = Fewer es stack
 EndsIn by_mode stack = Unit {0}
 EndsIn foreign.nothing stack = Unit {0}
 
 ends_more : (e : OpenValue) (ending : ForeignEnd) (stack : List OpenValue) → EndsIn ending stack
     → EndsIn ending (e ∷ stack)
 ends_more e by_mode stack h = tt
-ends_more e (closed_to es) stack h = λ n l. open_more e stack n (h n l)
+ends_more e (closed_to es) stack h = skip e h
 ends_more e foreign.nothing stack h = tt
 
-foreign_end_in : (name : List ℕ) (stack : List OpenValue) → EndsIn (foreign_end name stack) stack
+pub foreign_end_in : (name : List ℕ) (stack : List OpenValue) → EndsIn (foreign_end name stack) stack
 foreign_end_in name [] = tt
 foreign_end_in name (e ∷ []) = tt
 foreign_end_in name (e ∷ f ∷ es) =
     let more = ends_more e (foreign_end name (f ∷ es)) (f ∷ es) (foreign_end_in name (f ∷ es)) in
     test (is_html e) (λ t. rw t tt)
-    (λ t. test (is_spelled_so name e.name) (λ u. rw (t, u) (λ n l. open_more e (f ∷ es) n l))
+    (λ t. test (is_spelled_so name e.name) (λ u. rw (t, u) (skip e (all_of (f ∷ es))))
     (λ u. rw (t, u) more))
 
 after_foreign_end_kept : (ending : ForeignEnd) (s : StateValue) → EndsIn ending s.stack → Sound s
     → Kept s (after_foreign_end ending s)
 after_foreign_end_kept by_mode s fewer h = kept_same h
-after_foreign_end_kept (closed_to es) s fewer h = kept_same (sound_open es fewer h)
+after_foreign_end_kept (closed_to es) s fewer h = kept_same (sound_open es fewer.opened h)
 after_foreign_end_kept foreign.nothing s fewer h = kept_same h
 
 end_foreign_kept : (name : NameValue) (ending : ForeignEnd) (s : StateValue) → EndsIn ending s.stack → Sound s

@@ -7,14 +7,15 @@ use Rattle.htmd_html5_laws.proofs.LetterLemmas.{letter_tests}
 use Rattle.htmd_html5_laws.proofs.PuttingTokens.{state_grew}
 use Rattle.htmd_html5_laws.proofs.NodeWeights.{nodes_utf8}
 use Rattle.htmd_html5_laws.proofs.LaidTexts.{laid_texts}
-use Rattle.htmd_html5_laws.proofs.WholeTrees.{whole_texts}
+use Rattle.htmd_html5_laws.proofs.WholeTrees.{whole_hang, whole_texts}
 
 pub letters_kept : LettersAreKept
 unfolding html5_document
 letters_kept scripting page c u takes whole letter =
     let a = state_grew c (letter_tests c letter) scripting page u takes in
     let b = laid_texts c greatest_depth (state_after scripting page).nodes a.sound in
-    let d = whole_texts c (state_after scripting page).nodes a.sound.root a.sound.forest whole greatest_depth
+    let d = whole_texts c (state_after scripting page).nodes a.sound.root a.sound.forest
+    (whole_hang (state_after scripting page).nodes a.sound.root whole) greatest_depth
     (nodes_utf8 (state_after scripting page).nodes a.sound.utf8) in
     let e = a.grows in
     omega arith

@@ -31,7 +31,22 @@ pub mod NodeWeights
 pub mod LaidTexts
 pub mod PendingNodes
 pub mod WholeTexts
+pub mod HungNodes
 pub mod WholeTrees
 pub mod KeptLettersLemmas
+pub mod PlainNames
+pub mod HungStates
+pub mod HungAdoption
+pub mod PlainStates
+pub mod PlainAdoption
+pub mod PlainBody
+pub mod PlainTables
+pub mod PlainModes
+pub mod PlainTokens
+pub mod PlainRuns
+pub mod ColumnStates
+pub mod ColumnTags
+pub mod HarmlessTokens
+pub mod HarmlessLettersLemmas
 pub mod PageLettersLemmas
 mod Examples

@@ -1,5 +1,6 @@
--- What is open after elements were popped was open before.
-use Rattle.std.proofs.Common.{◌≡◌, ℕ, Bool, true, false, List, [], ◌∷◌, ◌++◌, refl, inl, inr, ◌⊎◌}
+-- What is open after elements were popped was open before, in the same order.
+use Rattle.std.proofs.Common.{◌≡◌, ℕ, ◌<◌, ◌≤◌, Bool, true, false, List, [], ◌∷◌, ◌++◌, refl, sym, arith, inl, inr, ◌⊎◌}
+use Rattle.std.proofs.lemmas.Bool.{true≢false}
 use Rattle.std.specs.Prelude.{◌==◌, ◌&&◌, if◌then◌else◌}
 use Rattle.htmd_text.proofs.Cases.{test}
 use Rattle.htmd_html5_state.specs.Names.{NameValue, html}
@@ -38,91 +39,153 @@ open_append n (e ∷ es) stack l =
     later t (inl l) = inl (rw t l)
     later t (inr l) = inr l
 
--- ---- elements are popped
+-- ---- lists of what is open
 
-pub pop_fewer : (stack : List OpenValue) → OpenIn (pop stack) stack
-pop_fewer [] n l = l
-pop_fewer (e ∷ es) n l = open_more e es n l
+-- each of these is like this
+abbrev pub EachOpen : (OpenValue → Type 0) → List OpenValue → Type 0
+EachOpen P [] = Unit {0}
+EachOpen P (e ∷ es) = P e × EachOpen P es
 
-pop_through_fewer : (wanted : OpenValue → Bool) (stack : List OpenValue) → OpenIn (pop_through wanted stack) stack
-pop_through_fewer wanted [] n l = l
-pop_through_fewer wanted (e ∷ es) n l =
-    open_more e es n (test (wanted e) (λ t. rw t at l) (λ t. pop_through_fewer wanted es n (rw t at l)))
+-- each element's rank is below that of the element right inside it, and the innermost's below a limit
+abbrev pub Below : (ℕ → ℕ) → ℕ → List OpenValue → Type 0
+Below rank limit [] = Unit {0}
+Below rank limit (e ∷ es) = (rank e.node < limit) × Below rank (rank e.node) es
 
-pub pop_until_fewer : (set : NameSet) (stack : List OpenValue) → OpenIn (pop_until set stack) stack
-pop_until_fewer set stack n l = pop_through_fewer (is_in set) stack n l
+pub below_more : (rank : ℕ → ℕ) (low high : ℕ) (es : List OpenValue) → low ≤ high → Below rank low es
+    → Below rank high es
+below_more rank low high [] l h = tt
+below_more rank low high (e ∷ es) l h = let a = h.0 in (omega arith, h.1)
 
-pub clear_to_fewer : (set : NameSet) (stack : List OpenValue) → OpenIn (clear_to set stack) stack
-clear_to_fewer set [] n l = l
-clear_to_fewer set (e ∷ es) n l =
-    test (is_in set e) (λ t. rw t at l) (λ t. open_more e es n (clear_to_fewer set es n (rw t at l)))
+pub below_tail : (rank : ℕ → ℕ) (limit : ℕ) (e : OpenValue) (es : List OpenValue)
+    → Below rank limit (e ∷ es)
+    → Below rank limit es
+below_tail rank limit e es h = let a = h.0 in below_more rank (rank e.node) limit es (omega arith) h.1
 
-pub pop_while_fewer : (set : NameSet) (stack : List OpenValue) → OpenIn (pop_while set stack) stack
-pop_while_fewer set [] n l = l
-pop_while_fewer set (e ∷ es) n l =
-    test (is_in set e) (λ t. open_more e es n (pop_while_fewer set es n (rw t at l))) (λ t. rw t at l)
+pub each_more : {P Q : OpenValue → Type 0} (es : List OpenValue) → ((e : OpenValue) → P e → Q e)
+    → EachOpen P es
+    → EachOpen Q es
+each_more [] f h = tt
+each_more (e ∷ es) f h = (f e h.0, each_more es f h.1)
 
-pub close_fewer : (set : NameSet) (scope : Scope) (stack : List OpenValue) → OpenIn (close set scope stack) stack
-close_fewer set scope stack n l =
-    test (is_in_scope set scope stack) (λ t. pop_until_fewer set stack n (rw t at l)) (λ t. rw t at l)
+pub each_append : (P : OpenValue → Type 0) (es stack : List OpenValue) → EachOpen P es → EachOpen P stack
+    → EachOpen P (es ++ stack)
+each_append P [] stack h g = g
+each_append P (e ∷ es) stack h g = (h.0, each_append P es stack h.1 g)
 
-pub close_name_fewer : (name : NameValue) (stack : List OpenValue) → OpenIn (close_name name stack) stack
-close_name_fewer name stack n l =
-    test (is_closable name stack) (λ t. pop_through_fewer (has_name (html name)) stack n (rw t at l)) (λ t. rw t at l)
+-- ---- some of the elements, in the same order
 
-pub outermost_fewer : (stack : List OpenValue) → OpenIn (outermost stack) stack
-outermost_fewer [] n l = l
-outermost_fewer (e ∷ []) n l = l
-outermost_fewer (e ∷ f ∷ es) n l = open_more e (f ∷ es) n (outermost_fewer (f ∷ es) n l)
+pub record Fewer (es stack : List OpenValue) : Type 0 where
+  pub opened : OpenIn es stack
+  pub each : (p : OpenValue → Bool) → EachOpen (λ e. p e ≡ true) stack → EachOpen (λ e. p e ≡ true) es
+  pub below : (rank : ℕ → ℕ) (limit : ℕ) → Below rank limit stack → Below rank limit es
 
-pub without_fewer : (m : ℕ) (stack : List OpenValue) → OpenIn (without m stack) stack
-without_fewer m [] n l = l
-without_fewer m (e ∷ es) n l =
-    test (e.node == m) (λ t. open_more e es n (rw t at l))
-    (λ t. open_under e (without m es) es (without_fewer m es) n (rw t at l))
+pub all_of : (es : List OpenValue) → Fewer es es
+all_of es = record { opened = λ n l. l; each = λ p h. h; below = λ rank limit h. h }
 
-pub inside_fewer : (m : ℕ) (stack : List OpenValue) → OpenIn (inside m stack) stack
-inside_fewer m [] n l = l
-inside_fewer m (e ∷ es) n l =
-    test (e.node == m) (λ t. absurd (let f = rw t at l in cc))
-    (λ t. open_under e (inside m es) es (inside_fewer m es) n (rw t at l))
+none_of : (es : List OpenValue) → Fewer [] es
+none_of es =
+    record { opened = λ n l. absurd (true≢false (sym l)); each = λ p h. tt; below = λ rank limit h. tt }
 
-pub around_fewer : (m : ℕ) (stack : List OpenValue) → OpenIn (around m stack) stack
-around_fewer m [] n l = l
-around_fewer m (e ∷ es) n l =
-    open_more e es n (test (e.node == m) (λ t. rw t at l) (λ t. around_fewer m es n (rw t at l)))
+pub fewer_then : {es some stack : List OpenValue} → Fewer es some → Fewer some stack → Fewer es stack
+fewer_then a b = record {
+  opened = λ n l. b.opened n (a.opened n l);
+  each = λ p h. a.each p (b.each p h);
+  below = λ rank limit h. a.below rank limit (b.below rank limit h);
+}
+
+pub skip : (e : OpenValue) {es stack : List OpenValue} → Fewer es stack → Fewer es (e ∷ stack)
+skip e {es} {stack} f = record {
+  opened = λ n l. open_more e stack n (f.opened n l);
+  each = λ p h. f.each p h.1;
+  below = λ rank limit h. f.below rank limit (below_tail rank limit e stack h);
+}
+
+keep : (e : OpenValue) {es stack : List OpenValue} → Fewer es stack → Fewer (e ∷ es) (e ∷ stack)
+keep e {es} {stack} f = record {
+  opened = open_under e es stack f.opened;
+  each = λ p h. (h.0, f.each p h.1);
+  below = λ rank limit h. (h.0, f.below rank (rank e.node) h.1);
+}
+
+pub pop_fewer : (stack : List OpenValue) → Fewer (pop stack) stack
+pop_fewer [] = all_of []
+pop_fewer (e ∷ es) = skip e (all_of es)
+
+pop_through_fewer : (wanted : OpenValue → Bool) (stack : List OpenValue) → Fewer (pop_through wanted stack) stack
+pop_through_fewer wanted [] = all_of []
+pop_through_fewer wanted (e ∷ es) =
+    test (wanted e) (λ t. rw t (skip e (all_of es))) (λ t. rw t (skip e (pop_through_fewer wanted es)))
+
+pub pop_until_fewer : (set : NameSet) (stack : List OpenValue) → Fewer (pop_until set stack) stack
+pop_until_fewer set stack = pop_through_fewer (is_in set) stack
+
+pub clear_to_fewer : (set : NameSet) (stack : List OpenValue) → Fewer (clear_to set stack) stack
+clear_to_fewer set [] = all_of []
+clear_to_fewer set (e ∷ es) =
+    test (is_in set e) (λ t. rw t (all_of (e ∷ es))) (λ t. rw t (skip e (clear_to_fewer set es)))
+
+pub pop_while_fewer : (set : NameSet) (stack : List OpenValue) → Fewer (pop_while set stack) stack
+pop_while_fewer set [] = all_of []
+pop_while_fewer set (e ∷ es) =
+    test (is_in set e) (λ t. rw t (skip e (pop_while_fewer set es))) (λ t. rw t (all_of (e ∷ es)))
+
+pub close_fewer : (set : NameSet) (scope : Scope) (stack : List OpenValue) → Fewer (close set scope stack) stack
+close_fewer set scope stack =
+    test (is_in_scope set scope stack) (λ t. rw t (pop_until_fewer set stack)) (λ t. rw t (all_of stack))
+
+pub close_name_fewer : (name : NameValue) (stack : List OpenValue) → Fewer (close_name name stack) stack
+close_name_fewer name stack =
+    test (is_closable name stack) (λ t. rw t (pop_through_fewer (has_name (html name)) stack))
+    (λ t. rw t (all_of stack))
+
+pub outermost_fewer : (stack : List OpenValue) → Fewer (outermost stack) stack
+outermost_fewer [] = all_of []
+outermost_fewer (e ∷ []) = all_of (e ∷ [])
+outermost_fewer (e ∷ f ∷ es) = skip e (outermost_fewer (f ∷ es))
+
+pub without_fewer : (m : ℕ) (stack : List OpenValue) → Fewer (without m stack) stack
+without_fewer m [] = all_of []
+without_fewer m (e ∷ es) =
+    test (e.node == m) (λ t. rw t (skip e (all_of es))) (λ t. rw t (keep e (without_fewer m es)))
+
+pub inside_fewer : (m : ℕ) (stack : List OpenValue) → Fewer (inside m stack) stack
+inside_fewer m [] = all_of []
+inside_fewer m (e ∷ es) =
+    test (e.node == m) (λ t. rw t (none_of (e ∷ es))) (λ t. rw t (keep e (inside_fewer m es)))
+
+pub around_fewer : (m : ℕ) (stack : List OpenValue) → Fewer (around m stack) stack
+around_fewer m [] = all_of []
+around_fewer m (e ∷ es) =
+    test (e.node == m) (λ t. rw t (skip e (all_of es))) (λ t. rw t (skip e (around_fewer m es)))
 
 -- ---- where the current node is one of these
 
-pop_where : (b : Bool) (stack : List OpenValue) → OpenIn (if b then pop stack else stack) stack
-pop_where true stack n l = pop_fewer stack n l
-pop_where false stack n l = l
+pop_where : (b : Bool) (stack : List OpenValue) → Fewer (if b then pop stack else stack) stack
+pop_where true stack = pop_fewer stack
+pop_where false stack = all_of stack
 
-pub close_heading_fewer : (stack : List OpenValue) → OpenIn (close_heading stack) stack
+pub close_heading_fewer : (stack : List OpenValue) → Fewer (close_heading stack) stack
 close_heading_fewer stack = pop_where (current_is Headings stack) stack
 
-pub close_option_fewer : (stack : List OpenValue) → OpenIn (close_option stack) stack
+pub close_option_fewer : (stack : List OpenValue) → Fewer (close_option stack) stack
 close_option_fewer stack = pop_where (current_is (Only tags.OptionTag) stack) stack
 
-close_group_fewer : (stack : List OpenValue) → OpenIn (close_group stack) stack
+close_group_fewer : (stack : List OpenValue) → Fewer (close_group stack) stack
 close_group_fewer stack = pop_where (current_is (Only tags.OptGroup) stack) stack
 
-pub option_and_group_fewer : (stack : List OpenValue) → OpenIn (close_group (close_option stack)) stack
-option_and_group_fewer stack n l = close_option_fewer stack n (close_group_fewer (close_option stack) n l)
+pub option_and_group_fewer : (stack : List OpenValue) → Fewer (close_group (close_option stack)) stack
+option_and_group_fewer stack = fewer_then (close_group_fewer (close_option stack)) (close_option_fewer stack)
 
-option_in_group_fewer : (stack : List OpenValue) → OpenIn (close_option_in_group stack) stack
-option_in_group_fewer stack =
-    pop_where (current_is (Only tags.OptionTag) stack && current_is (Only tags.OptGroup) (pop stack)) stack
+pub group_fewer : (stack : List OpenValue) → Fewer (close_group (close_option_in_group stack)) stack
+group_fewer stack =
+    fewer_then (close_group_fewer (close_option_in_group stack))
+    (pop_where (current_is (Only tags.OptionTag) stack && current_is (Only tags.OptGroup) (pop stack)) stack)
 
-pub group_fewer : (stack : List OpenValue) → OpenIn (close_group (close_option_in_group stack)) stack
-group_fewer stack n l = option_in_group_fewer stack n (close_group_fewer (close_option_in_group stack) n l)
+pub pop_if_fewer : (b : Bool) (stack : List OpenValue) → Fewer (pop_if b stack) stack
+pop_if_fewer true stack = pop_fewer stack
+pop_if_fewer false stack = all_of stack
 
-pub pop_if_fewer : (b : Bool) (stack : List OpenValue) → OpenIn (pop_if b stack) stack
-pop_if_fewer true stack n l = pop_fewer stack n l
-pop_if_fewer false stack n l = l
-
-pub leave_foreign_fewer : (nodes : List NodeValue) (stack : List OpenValue) → OpenIn (leave_foreign nodes stack) stack
-leave_foreign_fewer nodes [] n l = l
-leave_foreign_fewer nodes (e ∷ es) n l =
-    test (ends_foreign nodes e) (λ t. rw t at l)
-    (λ t. open_more e es n (leave_foreign_fewer nodes es n (rw t at l)))
+pub leave_foreign_fewer : (nodes : List NodeValue) (stack : List OpenValue) → Fewer (leave_foreign nodes stack) stack
+leave_foreign_fewer nodes [] = all_of []
+leave_foreign_fewer nodes (e ∷ es) =
+    test (ends_foreign nodes e) (λ t. rw t (all_of (e ∷ es))) (λ t. rw t (skip e (leave_foreign_fewer nodes es)))

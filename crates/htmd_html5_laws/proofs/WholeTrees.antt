@@ -1,5 +1,5 @@
 -- A document in one piece is laid out as a tree that has all its texts.
-use Rattle.std.proofs.Common.{◌≡◌, ◌∙◌, ℕ, zero, suc, ◌+◌, ◌≤◌, Bool, true, false, List, [], ◌∷◌, ◌++◌, length}
+use Rattle.std.proofs.Common.{◌≡◌, ◌∙◌, ℕ, zero, suc, ◌+◌, ◌<◌, ◌≤◌, Bool, true, false, List, [], ◌∷◌, ◌++◌, length}
 use Rattle.std.proofs.Common.{refl, sym, ap, subst, arith, cond, Some, inl, inr, ◌⊎◌, length-append}
 use Rattle.std.specs.Prelude.{◌==◌}
 use Rattle.std.proofs.lemmas.Bool.{true≢false, eqb-true, eqb-false, eq-eqb}
@@ -18,6 +18,7 @@ use Rattle.htmd_html5_laws.proofs.NodeWeights.{in_nodes, kind_more, node_taken, 
 use Rattle.htmd_html5_laws.proofs.NodeWeights.{weigh_append, weigh_coming, weigh_fewer}
 use Rattle.htmd_html5_laws.proofs.LaidTexts.{in_layout}
 use Rattle.htmd_html5_laws.proofs.PendingNodes.{numbers, numbers_coming, element_children, first_once, first_short}
+use Rattle.htmd_html5_laws.proofs.HungNodes.{is_solid, element_solid, Hangs, AllHang}
 use Rattle.htmd_html5_laws.proofs.WholeTexts.{kind_same, Holder, Hanging, hanging, text_hangs, stands_in, no_work}
 use Rattle.htmd_html5_laws.proofs.WholeTexts.{under_weigh, Stepped, kind_step}
 
@@ -25,7 +26,7 @@ use Rattle.htmd_html5_laws.proofs.WholeTexts.{under_weigh, Stepped, kind_step}
 
 -- What isn't an element's any more was taken; each node is pending once at most; and an element that isn't taken comes
 -- next, or its parent isn't taken.
-record Running (first : List NodeValue) (l : Layout) : Type 0 where
+pub record Running (first : List NodeValue) (l : Layout) : Type 0 where
   same : (n : ℕ) → (kind_at l.nodes n ≡ kind_at first n) ⊎ (kind_at l.nodes n ≡ document)
   children : (p : ℕ) → children_at l.nodes p ≡ children_at first p
   once : (m : ℕ) → times m (numbers l.work) + times m (element_children l.nodes) ≤ 1
@@ -57,6 +58,105 @@ first_running nodes root forest utf8 = record {
         let d = h.stands in
         inl (omega arith)
     by_holder n p h (inr e) = inr e
+
+-- ---- nothing is left
+
+root_plain : (first : List NodeValue) (l : Layout) → Running first l → IsRooted (kinds first)
+    → is_element (kind_at l.nodes 0) ≡ false
+root_plain [] l r root = absurd (true≢false root)
+root_plain (x ∷ first) l r root = either (r.same 0)
+  where
+    either : (kind_at l.nodes 0 ≡ kind_at (x ∷ first) 0) ⊎ (kind_at l.nodes 0 ≡ document)
+        → is_element (kind_at l.nodes 0) ≡ false
+    either (inl e) = ap is_element e ∙ root
+    either (inr e) = ap is_element e
+
+-- an element that hangs under the Document was taken
+taken : (k n : ℕ) (first : List NodeValue) (l : Layout) → Running first l → l.work ≡ []
+    → IsRooted (kinds first)
+    → hangs_within k first n ≡ true → is_element (kind_at l.nodes n) ≡ false
+taken zero n first l r e root h =
+    subst (λ (i : ℕ). is_element (kind_at l.nodes i) ≡ false) (sym (eqb-true n 0 h)) (root_plain first l r root)
+taken (suc k) n first l r e root h =
+    test (n == 0)
+    (λ t. subst (λ (i : ℕ). is_element (kind_at l.nodes i) ≡ false) (sym (eqb-true n 0 t))
+    (root_plain first l r root))
+    (λ t. let hang = hanging (hangs_within k first) first n (rw t at h) in
+    let above = taken k hang.by first l r e root hang.hung in
+    test (is_element (kind_at l.nodes n)) (λ f. absurd (none hang above (r.reach n hang.by f hang.holder)))
+    (λ f. f))
+  where
+    none : (hang : Hanging (hangs_within k first) first n) → is_element (kind_at l.nodes hang.by) ≡ false
+        → (1 ≤ times n (numbers l.work)) ⊎ (is_element (kind_at l.nodes hang.by) ≡ true) → ⊥
+    none hang above (inl m) =
+        let z : times n (numbers l.work) ≡ 0 = ap (λ (w : List Coming). times n (numbers w)) e in omega arith
+    none hang above (inr f) = true≢false (sym f ∙ above)
+
+-- and so was one that hangs in an order
+ranked : (k n : ℕ) (rank : ℕ → ℕ) (first : List NodeValue) (l : Layout) → Running first l → l.work ≡ []
+    → IsRooted (kinds first) → AllHang rank first → rank n < k → is_element (kind_at l.nodes n) ≡ false
+ranked zero n rank first l r e root all less = absurd (omega arith)
+ranked (suc k) n rank first l r e root all less =
+    test (is_element (kind_at l.nodes n))
+    (λ f. absurd (by_hangs (λ m g. ranked k m rank first l r e root all g) f (all n (solid f (r.same n))))) (λ f. f)
+  where
+    solid : is_element (kind_at l.nodes n) ≡ true
+        → (kind_at l.nodes n ≡ kind_at first n) ⊎ (kind_at l.nodes n ≡ document)
+        → is_solid (kind_at first n) ≡ true
+    solid f (inl g) = element_solid (kind_at first n) (sym (ap is_element g) ∙ f)
+    solid f (inr g) = absurd (true≢false (sym f ∙ ap is_element g))
+
+    reached : (p : ℕ) → is_element (kind_at l.nodes p) ≡ false
+        → (1 ≤ times n (numbers l.work)) ⊎ (is_element (kind_at l.nodes p) ≡ true) → ⊥
+    reached p above (inl m) =
+        let z : times n (numbers l.work) ≡ 0 = ap (λ (w : List Coming). times n (numbers w)) e in omega arith
+    reached p above (inr g) = true≢false (sym g ∙ above)
+
+    by_hangs : ((m : ℕ) → rank m < k → is_element (kind_at l.nodes m) ≡ false)
+        → is_element (kind_at l.nodes n) ≡ true → Hangs rank first n → ⊥
+    by_hangs go f (inl z) =
+        true≢false (sym f ∙ (ap (λ (x : ℕ). is_element (kind_at l.nodes x)) z ∙ root_plain first l r root))
+    by_hangs go f (inr h) =
+        reached h.by (go h.by (let a = h.less in omega arith)) (r.reach n h.by f h.holder)
+
+-- ---- the texts of a document hang
+
+-- a text hangs by a node that is taken
+pub record TextHangs (first : List NodeValue) (n : ℕ) : Type 0 where
+  by : ℕ
+  parent : parent_at first n ≡ Some by
+  holder : Holder first by n
+  above : (l : Layout) → Running first l → l.work ≡ [] → is_element (kind_at l.nodes by) ≡ false
+
+abbrev pub TextsHang : List NodeValue → Type 0
+TextsHang first = (n : ℕ) (s : List ℕ) → kind_at first n ≡ text s → TextHangs first n
+
+-- of a document in one piece
+pub whole_hang : (first : List NodeValue) → IsRooted (kinds first) → is_whole first ≡ true → TextsHang first
+whole_hang first root whole n s e =
+    let hang = hanging (hangs_within (length first) first) first n
+    (text_hangs first first 0 n n s (omega arith) whole e) in
+    record {
+      by = hang.by;
+      parent = hang.parent;
+      holder = hang.holder;
+      above = λ l r f. taken (length first) hang.by first l r f root hang.hung;
+    }
+
+-- where each hangs in an order
+pub ranked_hang : (rank : ℕ → ℕ) (first : List NodeValue) → IsRooted (kinds first)
+    → is_solid (kind_at first 0) ≡ false → AllHang rank first → TextsHang first
+ranked_hang rank first root plain all n s e = by_hangs (all n (ap is_solid e))
+  where
+    by_hangs : Hangs rank first n → TextHangs first n
+    by_hangs (inl z) =
+        absurd (true≢false (sym (ap is_solid e) ∙ (ap (λ (x : ℕ). is_solid (kind_at first x)) z ∙ plain)))
+    by_hangs (inr h) = record {
+      by = h.by;
+      parent = h.parent;
+      holder = h.holder;
+      above = λ l r f. ranked (suc (rank h.by)) h.by rank first l r f root all (omega arith);
+    }
 
 module _ (c : ℕ) where
   step_running : (first : List NodeValue) (x : Coming) (rest : List Coming) (l new : Layout) → l.work ≡ x ∷ rest
@@ -168,39 +268,6 @@ module _ (c : ℕ) where
           subst (λ (w : List Coming). Ended first l (layout_within limit k (put_next limit w l))) (sym e)
           (record { running = d.running; empty = d.empty; more = omega arith })
 
-  -- ---- nothing is left
-
-  root_plain : (first : List NodeValue) (l : Layout) → Running first l → IsRooted (kinds first)
-      → is_element (kind_at l.nodes 0) ≡ false
-  root_plain [] l r root = absurd (true≢false root)
-  root_plain (x ∷ first) l r root = either (r.same 0)
-    where
-      either : (kind_at l.nodes 0 ≡ kind_at (x ∷ first) 0) ⊎ (kind_at l.nodes 0 ≡ document)
-          → is_element (kind_at l.nodes 0) ≡ false
-      either (inl e) = ap is_element e ∙ root
-      either (inr e) = ap is_element e
-
-  -- an element that hangs under the Document was taken
-  taken : (k n : ℕ) (first : List NodeValue) (l : Layout) → Running first l → l.work ≡ []
-      → IsRooted (kinds first)
-      → hangs_within k first n ≡ true → is_element (kind_at l.nodes n) ≡ false
-  taken zero n first l r e root h =
-      subst (λ (i : ℕ). is_element (kind_at l.nodes i) ≡ false) (sym (eqb-true n 0 h)) (root_plain first l r root)
-  taken (suc k) n first l r e root h =
-      test (n == 0)
-      (λ t. subst (λ (i : ℕ). is_element (kind_at l.nodes i) ≡ false) (sym (eqb-true n 0 t))
-      (root_plain first l r root))
-      (λ t. let hang = hanging (hangs_within k first) first n (rw t at h) in
-      let above = taken k hang.by first l r e root hang.hung in
-      test (is_element (kind_at l.nodes n)) (λ f. absurd (none hang above (r.reach n hang.by f hang.holder)))
-      (λ f. f))
-    where
-      none : (hang : Hanging (hangs_within k first) first n) → is_element (kind_at l.nodes hang.by) ≡ false
-          → (1 ≤ times n (numbers l.work)) ⊎ (is_element (kind_at l.nodes hang.by) ≡ true) → ⊥
-      none hang above (inl m) =
-          let z : times n (numbers l.work) ≡ 0 = ap (λ (w : List Coming). times n (numbers w)) e in omega arith
-      none hang above (inr f) = true≢false (sym f ∙ above)
-
   weigh_zero : (nodes : List NodeValue) (ns : List ℕ)
       → ((n : ℕ) → 1 ≤ times n ns → in_kind c (kind_at nodes n) ≡ 0)
       → weigh c nodes ns ≡ 0
@@ -219,7 +286,7 @@ module _ (c : ℕ) where
       omega arith
 
   module _ (first : List NodeValue) (root : IsRooted (kinds first)) (forest : IsForest first)
-      (whole : is_whole first ≡ true) where
+      (texts_hung : TextsHang first) where
     -- a text that an element holds hangs by it
     text_none : (l : Layout) → Running first l → l.work ≡ [] → (n p : ℕ) → is_element (kind_at l.nodes p)
         ≡ true
@@ -229,13 +296,12 @@ module _ (c : ℕ) where
       where
         hung : (s : List ℕ) → kind_at first n ≡ text s → ⊥
         hung s g =
-            let hang = hanging (hangs_within (length first) first) first n
-            (text_hangs first first 0 n n s (omega arith) whole g) in
+            let hang = texts_hung n s g in
             let a : times n (children_at l.nodes p) ≡ times n (children_at first p) = ap (times n) (r.children p) in
             let b = forest.once n p in
             let parent = under_itself (parent_at first n) p (omega arith) in
             let same : hang.by ≡ p = some_same (sym hang.parent ∙ parent) in
-            let d = taken (length first) hang.by first l r e root hang.hung in
+            let d = hang.above l r e in
             true≢false (sym f ∙ (ap (λ (i : ℕ). is_element (kind_at l.nodes i)) (sym same) ∙ d))
           where
             some_same : {a b : ℕ} → Some a ≡ Some b → a ≡ b
@@ -309,12 +375,11 @@ module _ (c : ℕ) where
         held : (s : List ℕ) → kind_at first n ≡ text s → 1
             ≤ times n (children_at first 0 ++ element_children first)
         held s g =
-            let hang = hanging (hangs_within (length first) first) first n
-            (text_hangs first first 0 n n s (omega arith) whole g) in
+            let hang = texts_hung n s g in
             let a = times_append n (children_at first 0) (element_children first) in
             stands hang hang.holder.either
           where
-            stands : (hang : Hanging (hangs_within (length first) first) first n)
+            stands : (hang : TextHangs first n)
                 → (hang.by ≡ 0) ⊎ (is_element (kind_at first hang.by) ≡ true)
                 → 1 ≤ times n (children_at first 0 ++ element_children first)
             stands hang (inl z) =

@@ -2,3 +2,4 @@
 pub mod PageLetters
 pub mod DocumentLetters
 pub mod KeptLetters
+pub mod HarmlessTags

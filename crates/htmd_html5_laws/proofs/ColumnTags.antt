@@ -1,0 +1,183 @@
+-- Start tags of `col` and `colgroup`, which begin columns in a table.
+use Rattle.std.proofs.Common.{◌≡◌, Bool, true, false, List, [], refl, sym, ap}
+use Rattle.std.specs.Prelude.{if◌then◌else◌}
+use Rattle.std.proofs.lemmas.Bool.{true≢false}
+use Rattle.htmd_grammar.specs.ValueTrees.{AttributePair}
+use Rattle.htmd_html5_state.specs.Names.{NameValue, known, html}
+use Rattle.htmd_html5_state.specs.Documents.{element}
+use Rattle.htmd_html5_state.specs.OpenElements.{clear_to, is_in_scope}
+use Rattle.htmd_html5_state.specs.State.{StateValue}
+use Rattle.htmd_html5_state.specs.Insertion.{place}
+use Rattle.htmd_html5_state.specs.declared.modes.InsertionMode.{InsertionMode}
+use Rattle.htmd_html5_state.specs.declared.modes.InsertionMode.TheVariants.{Initial, BeforeHtml, BeforeHead, InHead}
+use Rattle.htmd_html5_state.specs.declared.modes.InsertionMode.TheVariants.{InHeadNoscript, AfterHead, InBody, InTable}
+use Rattle.htmd_html5_state.specs.declared.modes.InsertionMode.TheVariants.{InCaption, InColumnGroup, InTableBody}
+use Rattle.htmd_html5_state.specs.declared.modes.InsertionMode.TheVariants.{InRow, InCell, InSelect, InSelectInTable}
+use Rattle.htmd_html5_state.specs.declared.modes.InsertionMode.TheVariants.{InTemplate, AfterBody, InFrameset}
+use Rattle.htmd_html5_state.specs.declared.modes.InsertionMode.TheVariants.{AfterFrameset, AfterAfterBody}
+use Rattle.htmd_html5_state.specs.declared.modes.InsertionMode.TheVariants.{AfterAfterFrameset}
+use Rattle.htmd_html5_state.specs.declared.sets.NameSet.TheVariants.{TableContext, Cells}
+use Rattle.htmd_html5_state.specs.declared.sets.Scope.TheVariants.{Table as TableScope}
+use Rattle.htmd_html5.specs.Tokens.{StartTagValue, start_tag}
+use Rattle.htmd_html5.specs.Answers.{Answer, done, again}
+use Rattle.htmd_html5.specs.Feeding.{is_text_mode}
+use Rattle.htmd_html5.specs.BeforeHtml.{start_before_html}
+use Rattle.htmd_html5.specs.BeforeHead.{start_before_head}
+use Rattle.htmd_html5.specs.InHead.{start_in_head}
+use Rattle.htmd_html5.specs.InHeadNoscript.{start_in_noscript}
+use Rattle.htmd_html5.specs.AfterHead.{start_after_head}
+use Rattle.htmd_html5.specs.AfterBody.{start_after_body}
+use Rattle.htmd_html5.specs.BodyStarts.{rule_of_start, start_by}
+use Rattle.htmd_html5.specs.InTable.{to_table, start_columns, start_in_table}
+use Rattle.htmd_html5.specs.InCaption.{start_in_caption, leave_caption}
+use Rattle.htmd_html5.specs.InTableBody.{start_in_section, leave_section}
+use Rattle.htmd_html5.specs.InRow.{start_in_row, leave_row}
+use Rattle.htmd_html5.specs.InCell.{start_in_cell, leave_cell, close_cell}
+use Rattle.htmd_html5.specs.InSelect.{start_in_select, start_in_select_in_table}
+use Rattle.htmd_html5.specs.ForeignContent.{is_foreign, tag_breaks_out, text_breaks_out, start_foreign_element}
+use Rattle.htmd_html5.specs.ForeignContent.{in_foreign_content}
+use Rattle.htmd_html5.specs.Modes.{in_mode, by_mode_rules}
+use Rattle.htmd_html5.specs.Processing.{by_rules}
+use Rattle.htmd_html5_laws.proofs.OpenNodes.{clear_to_fewer}
+use Rattle.htmd_html5_laws.proofs.PlainNames.{is_plain_open}
+use Rattle.htmd_html5_laws.proofs.HungStates.{Hung, hung_fewer, hung_named}
+use Rattle.htmd_html5_laws.proofs.PlainStates.{is_plain_mode, Plain, added_grows}
+use Rattle.htmd_html5_laws.proofs.PlainBody.{StaysAnswer, says_plain}
+use Rattle.htmd_html5_laws.proofs.PlainTables.{leave_caption_stays, leave_section_stays, leave_row_stays, close_cell_stays}
+use Rattle.htmd_html5_laws.proofs.PlainModes.{leave_initial_stays, imply_root_stays, imply_head_stays, close_head_stays}
+use Rattle.htmd_html5_laws.proofs.PlainModes.{close_noscript_stays, imply_body_stays, back_to_body_stays}
+use Rattle.htmd_html5_laws.proofs.PlainTokens.{start_foreign_stays}
+use Rattle.htmd_html5_laws.proofs.ColumnStates.{Columns, is_plain_state, is_in_columns, Answered, answered_columns}
+use Rattle.htmd_html5_state.specs.declared.names.TagName.TheVariants as tags
+
+abbrev pub IsColumn : NameValue → Type 0
+IsColumn (known tags.Col) = Unit {0}
+IsColumn (known tags.ColGroup) = Unit {0}
+IsColumn _ = true ≡ false
+
+-- ---- columns are begun
+
+columns_begun : (name : NameValue) (attributes : List AttributePair) (s : StateValue) → name ≡ known tags.ColGroup
+    → Plain s → is_text_mode s.content ≡ false → Columns (start_columns name attributes s)
+columns_begun name attributes s e h no_raw = record {
+  names = (ap html e, (clear_to_fewer TableContext s.stack).each is_plain_open h.names);
+  entries_at = λ n l. added_grows (element (html name) attributes) (place (to_table s)) s.nodes n (h.entries_at n l);
+  in_columns = refl;
+  no_modes = h.no_modes;
+  no_raw = no_raw;
+}
+
+begun_hung : (name : NameValue) (attributes : List AttributePair) (s : StateValue) → Hung s
+    → Hung (start_columns name attributes s)
+begun_hung name attributes s x =
+    hung_named (html name) attributes (to_table s)
+    (hung_fewer (clear_to TableContext s.stack) (clear_to_fewer TableContext s.stack) x)
+
+breaks_none : (name : NameValue) (attributes : List AttributePair) → IsColumn name
+    → tag_breaks_out name attributes ≡ false
+unfolding text_breaks_out
+breaks_none (known tags.Col) attributes c = refl
+breaks_none (known tags.ColGroup) attributes c = refl
+breaks_none _ attributes c = absurd (true≢false c)
+
+by_column : (f : NameValue → Answer) → Answered (f (known tags.Col)) → Answered (f (known tags.ColGroup))
+    → (name : NameValue) → IsColumn name → Answered (f name)
+by_column f a b (known tags.Col) c = a
+by_column f a b (known tags.ColGroup) c = b
+by_column f a b _ c = absurd (true≢false c)
+
+-- ---- by the rules of each mode
+
+module _ (tag : StartTagValue) (s : StateValue) (h : Plain s) (x : Hung s)
+    (no_raw : is_text_mode s.content ≡ false) where
+  -- the token is done with in a plain state
+  done_plain : (t : StateValue) → Plain t → Hung t → Answered (done t)
+  done_plain t p y = record { stands = is_plain_state p y; no_raw = λ e. absurd (true≢false (sym e)) }
+
+  left_plain : {f : StateValue → Answer} → StaysAnswer f
+      → ((f s).again ≡ true → is_text_mode (f s).state.content ≡ false) → Answered (f s)
+  left_plain leaves raw = record { stands = is_plain_state (leaves.stays s h) (leaves.hangs s h x); no_raw = raw }
+
+  -- the same rule for both
+  both : (f : NameValue → Answer) → Answered (f (known tags.Col)) → Answered (f (known tags.ColGroup))
+      → IsColumn tag.name → Answered (f tag.name)
+  both f a b c = by_column f a b tag.name c
+
+  caption_left : Answered (leave_caption s)
+  caption_left = left_plain leave_caption_stays (λ e. rw e no_raw)
+
+  section_left : Answered (leave_section s)
+  section_left = left_plain leave_section_stays (λ e. rw e no_raw)
+
+  row_left : Answered (leave_row s)
+  row_left = left_plain leave_row_stays (λ e. rw e no_raw)
+
+  cell_left : Answered (leave_cell Cells s)
+  cell_left = either (is_in_scope Cells TableScope s.stack)
+    where
+      either : (b : Bool) → Answered (if b then again (close_cell Cells s) else done s)
+      either true = record {
+        stands = is_plain_state ((close_cell_stays Cells).stays s h) ((close_cell_stays Cells).hangs s h x);
+        no_raw = λ e. no_raw;
+      }
+      either false = done_plain s h x
+
+  in_table_answered : (name : NameValue) → tag.name ≡ name → IsColumn name
+      → Answered (start_in_table name tag s)
+  in_table_answered (known tags.Col) e c = record {
+    stands = is_in_columns (columns_begun (known tags.ColGroup) [] s refl h no_raw)
+        (begun_hung (known tags.ColGroup) [] s x);
+    no_raw = λ e. no_raw;
+  }
+  in_table_answered (known tags.ColGroup) e c =
+      answered_columns (columns_begun tag.name tag.attributes s e h no_raw) (begun_hung tag.name tag.attributes s x)
+  in_table_answered _ e c = absurd (true≢false c)
+
+  in_mode_answered : (mode : InsertionMode) → is_plain_mode mode ≡ true → IsColumn tag.name
+      → Answered (in_mode mode (start_tag tag) s)
+  in_mode_answered Initial p c = left_plain leave_initial_stays (λ e. no_raw)
+  in_mode_answered BeforeHtml p c =
+      let a = left_plain imply_root_stays (λ e. no_raw) in both (λ name. start_before_html name tag s) a a c
+  in_mode_answered BeforeHead p c =
+      let a = left_plain imply_head_stays (λ e. no_raw) in both (λ name. start_before_head name tag s) a a c
+  in_mode_answered InHead p c =
+      let a = left_plain (says_plain {more = λ s. true} close_head_stays) (λ e. no_raw) in
+      both (λ name. start_in_head name tag s) a a c
+  in_mode_answered InHeadNoscript p c =
+      let a = left_plain (says_plain {more = λ s. true} close_noscript_stays) (λ e. no_raw) in
+      both (λ name. start_in_noscript name tag s) a a c
+  in_mode_answered AfterHead p c =
+      let a = left_plain imply_body_stays (λ e. no_raw) in both (λ name. start_after_head name tag s) a a c
+  in_mode_answered InBody p c =
+      both (λ name. done (start_by (rule_of_start name) tag s)) (done_plain s h x) (done_plain s h x) c
+  in_mode_answered InTable p c = in_table_answered tag.name refl c
+  in_mode_answered InCaption p c = both (λ name. start_in_caption name tag s) caption_left caption_left c
+  in_mode_answered InColumnGroup p c = absurd (true≢false (sym p))
+  in_mode_answered InTableBody p c = both (λ name. start_in_section name tag s) section_left section_left c
+  in_mode_answered InRow p c = both (λ name. start_in_row name tag s) row_left row_left c
+  in_mode_answered InCell p c = both (λ name. start_in_cell name tag s) cell_left cell_left c
+  in_mode_answered InSelect p c = both (λ name. start_in_select name tag s) (done_plain s h x) (done_plain s h x) c
+  in_mode_answered InSelectInTable p c =
+      both (λ name. start_in_select_in_table name tag s) (done_plain s h x) (done_plain s h x) c
+  in_mode_answered InTemplate p c = absurd (true≢false (sym p))
+  in_mode_answered AfterBody p c =
+      let a = left_plain back_to_body_stays (λ e. no_raw) in both (λ name. start_after_body name tag s) a a c
+  in_mode_answered InFrameset p c = absurd (true≢false (sym p))
+  in_mode_answered AfterFrameset p c = absurd (true≢false (sym p))
+  in_mode_answered AfterAfterBody p c =
+      let a = left_plain back_to_body_stays (λ e. no_raw) in both (λ name. start_after_body name tag s) a a c
+  in_mode_answered AfterAfterFrameset p c = absurd (true≢false (sym p))
+
+  foreign_answered : IsColumn tag.name → Answered (in_foreign_content (start_tag tag) s)
+  foreign_answered c =
+      rw (breaks_none tag.name tag.attributes c)
+      (done_plain (start_foreign_element tag s) ((start_foreign_stays tag).stays s h)
+      ((start_foreign_stays tag).hangs s h x))
+
+  pub column_tag_answered : IsColumn tag.name → Answered (by_rules (start_tag tag) s)
+  column_tag_answered c = either (is_foreign (start_tag tag) s)
+    where
+      either : (b : Bool)
+          → Answered (if b then in_foreign_content (start_tag tag) s else by_mode_rules (start_tag tag) s)
+      either true = foreign_answered c
+      either false = in_mode_answered s.mode h.plain_mode c

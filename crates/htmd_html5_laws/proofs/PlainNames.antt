@@ -1,0 +1,71 @@
+-- Names that lead to no state that drops text: those of frames, templates and columns are left out.
+use Rattle.std.proofs.Common.{◌≡◌, ℕ, Bool, true, false, List, [], ◌∷◌, ◌++◌, ◌<◌, ◌≤◌, refl, sym, arith}
+use Rattle.std.specs.Prelude.{◌==◌, ◌&&◌, if◌then◌else◌}
+use Rattle.std.proofs.lemmas.Bool.{true≢false}
+use Rattle.htmd_text.proofs.Cases.{test}
+use Rattle.htmd_html5_state.specs.Names.{NameValue, ElementNameValue, known, other, html, svg, math}
+use Rattle.htmd_html5_state.specs.Sets.{is_of}
+use Rattle.htmd_html5_state.specs.Documents.{NodeValue, KindValue, element}
+use Rattle.htmd_html5_state.specs.OpenElements.{OpenValue, is_in, has_name, current_is, is_in_scope, is_closable, is_open}
+use Rattle.htmd_html5_state.specs.OpenElements.{pop, pop_through, pop_until, clear_to, pop_while, close, close_name}
+use Rattle.htmd_html5_state.specs.OpenElements.{without, inside, around}
+use Rattle.htmd_html5_state.specs.Foreign.{pop_if, leave_foreign, ends_foreign, foreign_name}
+use Rattle.htmd_html5_state.specs.declared.names.TagName.{TagName}
+use Rattle.htmd_html5_state.specs.declared.names.Namespace.{Namespace}
+use Rattle.htmd_html5_state.specs.declared.names.Namespace.TheVariants.{Svg, MathMl}
+use Rattle.htmd_html5_state.specs.declared.sets.NameSet.{NameSet}
+use Rattle.htmd_html5_state.specs.declared.sets.NameSet.TheVariants.{Only, Headings}
+use Rattle.htmd_html5_state.specs.declared.sets.Scope.{Scope}
+use Rattle.htmd_html5.specs.BodyStarts.{close_heading, close_option}
+use Rattle.htmd_html5.specs.InSelect.{close_group, close_option_in_group}
+use Rattle.htmd_html5_laws.proofs.OpenNodes.{EachOpen}
+use Rattle.htmd_html5_state.specs.declared.names.TagName.TheVariants as tags
+
+-- ---- names
+
+abbrev pub is_plain : TagName → Bool
+is_plain tags.FrameSet = false
+is_plain tags.Template = false
+is_plain tags.Col = false
+is_plain tags.ColGroup = false
+is_plain _ = true
+
+abbrev pub is_plain_name : NameValue → Bool
+is_plain_name (known tag) = is_plain tag
+is_plain_name (other s) = true
+
+abbrev pub is_plain_element : ElementNameValue → Bool
+is_plain_element (html name) = is_plain_name name
+is_plain_element (svg s) = true
+is_plain_element (math s) = true
+
+abbrev pub is_plain_kind : KindValue → Bool
+is_plain_kind (element name attributes) = is_plain_element name
+is_plain_kind _ = false
+
+pub foreign_is_plain : (space : Namespace) (name : List ℕ) → is_plain_element (foreign_name space name) ≡ true
+foreign_is_plain Svg name = refl
+foreign_is_plain MathMl name = refl
+
+-- ---- what is open
+
+abbrev pub is_plain_open : OpenValue → Bool
+is_plain_open e = is_plain_element e.name
+
+abbrev pub PlainOpen : OpenValue → Type 0
+PlainOpen e = is_plain_open e ≡ true
+
+abbrev pub PlainStack : List OpenValue → Type 0
+PlainStack stack = EachOpen PlainOpen stack
+
+no_template_name : (name : ElementNameValue) → is_plain_element name ≡ true → is_of (Only tags.Template) name
+    ≡ false
+no_template_name (html (known tags.Template)) p = absurd (true≢false (sym p))
+no_template_name (html (known _)) p = refl
+no_template_name (html (other s)) p = refl
+no_template_name (svg s) p = refl
+no_template_name (math s) p = refl
+
+pub no_template_open : (stack : List OpenValue) → PlainStack stack → is_open (Only tags.Template) stack ≡ false
+no_template_open [] h = refl
+no_template_open (e ∷ es) h = rw (no_template_name e.name h.0) (no_template_open es h.1)
