@@ -41,8 +41,10 @@ Answers-none settings all rest waits n e = record {
 }
 
 -- one row
-pub Answers-row : (settings : Settings) (all rest : List ℕ → List (List ℕ)) (row before after : List ℕ) (n m : ℕ)
-    → (written : List ℕ) × IsRowAnswer settings row written × (after ≡ before ++ written) → m ≡ counted (n + 1)
+pub Answers-row : (settings : Settings) (all rest : List ℕ → List (List ℕ)) (row before after : List ℕ)
+    (n m : ℕ)
+    → (written : List ℕ) × IsRowAnswer settings row written × (after ≡ before ++ written)
+    → m ≡ counted (n + 1)
     → ((tail : List ℕ) → all tail ≡ row ∷ rest tail) → Answers settings all rest before after n m
 Answers-row settings all rest row before after n m w c e = record {
   done = row ∷ [];
@@ -58,8 +60,10 @@ counted-then : (a b c x y z : ℕ) → counted b ≡ counted (a + x) → counted
 counted-then a b c x y z p q e = omega arith
 
 -- some rows and then others
-pub Answers-then : (settings : Settings) (all middle rest : List ℕ → List (List ℕ)) (a b c : List ℕ) (n m k : ℕ)
-    → Answers settings all middle a b n m → Answers settings middle rest b c m k → Answers settings all rest a c n k
+pub Answers-then : (settings : Settings) (all middle rest : List ℕ → List (List ℕ)) (a b c : List ℕ)
+    (n m k : ℕ)
+    → Answers settings all middle a b n m → Answers settings middle rest b c m k
+    → Answers settings all rest a c n k
 Answers-then settings all middle rest a b c n m k p q = record {
   done = p.done ++ q.done;
   written = p.written ++ q.written;
@@ -72,7 +76,8 @@ Answers-then settings all middle rest a b c n m k p q = record {
 }
 
 -- the same rows, said in another settings
-pub Answers-like : (settings : Settings) (all all2 rest rest2 : List ℕ → List (List ℕ)) (a b c : List ℕ) (n m k : ℕ)
+pub Answers-like : (settings : Settings) (all all2 rest rest2 : List ℕ → List (List ℕ)) (a b c : List ℕ)
+    (n m k : ℕ)
     → Answers settings all rest a b n m → ((tail : List ℕ) → all2 tail ≡ all tail)
     → ((tail : List ℕ) → rest tail ≡ rest2 tail) → c ≡ b → k ≡ m → Answers settings all2 rest2 a c n k
 Answers-like settings all all2 rest rest2 a b c n m k p e f g h = record {
@@ -94,7 +99,8 @@ some_rest settings all rest a b n m (Ok x) p q = (rest x, p)
 some_rest settings all rest a b n m (Err e) p q = q
 
 -- if a call ends early, what is left is left
-pub stopped : {T E : Type 0} (settings : Settings) (all rest : List ℕ → List (List ℕ)) (a b : List ℕ) (n m : ℕ)
+pub stopped : {T E : Type 0} (settings : Settings) (all rest : List ℕ → List (List ℕ)) (a b : List ℕ)
+    (n m : ℕ)
     (r : Result T E) → Answers settings all rest a b n m
     → OnErr r ((left : List ℕ → List (List ℕ)) × Answers settings all left a b n m)
 stopped settings all rest a b n m (Ok x) p = tt
@@ -151,7 +157,8 @@ followed-none (b ∷ s) tail l = absurd (omega arith)
 -- ---- a batch
 
 -- what was consumed was answered, except for the row that is open, and that was written
-pub record Progress (settings : Settings) (before now : Option (List ℕ)) (empty full : Option (List ℕ)) (begun : List ℕ)
+pub record Progress (settings : Settings) (before now : Option (List ℕ)) (empty full : Option (List ℕ))
+    (begun : List ℕ)
     (answered : ℕ) : Type 0 where
   pub consumed : List ℕ
   pub written : List ℕ
@@ -160,8 +167,10 @@ pub record Progress (settings : Settings) (before now : Option (List ℕ)) (empt
   pub answers : Answers settings (λ tail. rows (consumed ++ tail)) (rows_from begun) [] written 0 answered
 
 -- the answers of a read after those before it, while nothing waits
-joined : (settings : Settings) (consumed written begun chunk waits after : List ℕ) (rest : List ℕ → List (List ℕ))
-    (n m : ℕ) → Answers settings (λ tail. rows (consumed ++ tail)) (rows_from begun) [] written 0 n → waits ≡ []
+joined : (settings : Settings) (consumed written begun chunk waits after : List ℕ)
+    (rest : List ℕ → List (List ℕ))
+    (n m : ℕ) → Answers settings (λ tail. rows (consumed ++ tail)) (rows_from begun) [] written 0 n
+    → waits ≡ []
     → Answers settings (λ tail. rows_from begun (followed chunk tail)) rest waits after n m
     → Answers settings (λ tail. rows (consumed ++ followed chunk tail)) rest [] (written ++ after) 0 m
 joined settings consumed written begun chunk waits after rest n m p w q = record {
@@ -214,7 +223,8 @@ next_row : (m count row : ℕ) → row ≡ counted (m + 1) → counted m ≡ cou
 next_row m count row r e = omega arith
 
 -- the first rows of the input, as far as they were answered
-first_rows : (settings : Settings) (xs consumed chunk ys written : List ℕ) (rest : List ℕ → List (List ℕ)) (m : ℕ)
+first_rows : (settings : Settings) (xs consumed chunk ys written : List ℕ) (rest : List ℕ → List (List ℕ))
+    (m : ℕ)
     → xs ≡ (consumed ++ chunk) ++ ys → (length chunk ≡ 0 → ys ≡ [])
     → Answers settings (λ tail. rows (consumed ++ followed chunk tail)) rest [] written 0 m
     → (count : ℕ) × FirstRowsOf settings xs count written × (counted m ≡ counted count)
@@ -231,7 +241,8 @@ first_rows settings xs consumed chunk ys written rest m e f q = (
 )
 
 -- all rows were answered
-pub batch_ends : (settings : Settings) (before was now empty held full : Option (List ℕ)) (begun chunk waits after : List ℕ)
+pub batch_ends : (settings : Settings) (before was now empty held full : Option (List ℕ))
+    (begun chunk waits after : List ℕ)
     (n m : ℕ) (next : List ℕ) → Progress settings before was empty held begun n → Consumes was now chunk
     → waits ≡ []
     → Answers settings (λ tail. rows_from begun (followed chunk tail)) (rows_left false next) waits after n m
@@ -251,7 +262,8 @@ batch_ends settings (Some xs) was (Some ys) empty held full begun chunk waits af
     )
 
 -- the rows before the one that isn't answered were
-pub batch_stops : (settings : Settings) (before was now empty held full : Option (List ℕ)) (begun chunk waits after : List ℕ)
+pub batch_stops : (settings : Settings) (before was now empty held full : Option (List ℕ))
+    (begun chunk waits after : List ℕ)
     (n m row : ℕ) → Progress settings before was empty held begun n → Consumes was now chunk → waits ≡ []
     → (rest : List ℕ → List (List ℕ))
     × Answers settings (λ tail. rows_from begun (followed chunk tail)) rest waits after n m
@@ -273,7 +285,8 @@ batch_stops settings (Some xs) was (Some ys) empty held full begun chunk waits a
 
 -- and without a further read
 pub batch_rests : (settings : Settings) (before was empty full : Option (List ℕ)) (begun : List ℕ) (n row : ℕ)
-    → Progress settings before was empty full begun n → row ≡ counted (n + 1) → StopsAtRow settings row before empty full
+    → Progress settings before was empty full begun n → row ≡ counted (n + 1)
+    → StopsAtRow settings row before empty full
 batch_rests settings None was empty full begun n row p r = tt
 batch_rests settings (Some xs) None empty full begun n row p r = absurd p.taken
 batch_rests settings (Some xs) (Some ys) empty full begun n row p r = (
@@ -292,7 +305,8 @@ batch_rests settings (Some xs) (Some ys) empty full begun n row p r = (
 )
 
 -- a write failed
-pub batch_breaks : (settings : Settings) (before was now empty held full : Option (List ℕ)) (begun chunk waits after : List ℕ)
+pub batch_breaks : (settings : Settings) (before was now empty held full : Option (List ℕ))
+    (begun chunk waits after : List ℕ)
     (n m row : ℕ) → Progress settings before was empty held begun n → Consumes was now chunk → waits ≡ []
     → (rest : List ℕ → List (List ℕ))
     × Answers settings (λ tail. rows_from begun (followed chunk tail)) rest waits after n m
@@ -370,7 +384,8 @@ end_err settings begun old new n m (Err x) h k = (
 )
 
 -- the same of an equal row that is begun
-pub Progress-kept : (settings : Settings) (before now empty full : Option (List ℕ)) (a b : List ℕ) (n m : ℕ) → b ≡ a
+pub Progress-kept : (settings : Settings) (before now empty full : Option (List ℕ)) (a b : List ℕ) (n m : ℕ)
+    → b ≡ a
     → m ≡ n → Progress settings before now empty full a n → Progress settings before now empty full b m
 Progress-kept settings before now empty full a b n m e f p =
     subst (λ k. Progress settings before now empty full b k) (sym f)

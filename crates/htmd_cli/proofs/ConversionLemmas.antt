@@ -44,11 +44,13 @@ pub by_text : (settings : Settings) (config : Config) (input text : List ℕ) (i
 unfolding paragraph_markdown
 by_text settings config input text items start k t i s e =
     match_true _ _ settings.text t (e ∙ (ap (λ x. markdown x items start) k
-    ∙ (ap (λ x. markdown (config_of settings) x start) i ∙ ap (markdown (config_of settings) (paragraph input)) s)))
+    ∙ (ap (λ x. markdown (config_of settings) x start) i
+    ∙ ap (markdown (config_of settings) (paragraph input)) s)))
 
 -- of any page, of a page's body, and of all
 pub by_html5 : (settings : Settings) (config : Config) (scripting : Bool) (input text : List ℕ)
-    → config ≡ config_of settings → scripting ≡ settings.scripting → settings.text ≡ false → settings.html5 ≡ true
+    → config ≡ config_of settings → scripting ≡ settings.scripting → settings.text ≡ false
+    → settings.html5 ≡ true
     → IsHtml5Markdown config scripting input text → IsMarkdownBy settings input text
 by_html5 settings config scripting input text k s t h m =
     match_false _ _ settings.text t (match_true _ _ settings.html5 h
@@ -56,7 +58,8 @@ by_html5 settings config scripting input text k s t h m =
     (subst (λ x. IsHtml5Markdown config x input text) s m)))
 
 pub by_body : (settings : Settings) (config : Config) (scripting : Bool) (input text : List ℕ)
-    → config ≡ config_of settings → scripting ≡ settings.scripting → settings.text ≡ false → settings.html5 ≡ false
+    → config ≡ config_of settings → scripting ≡ settings.scripting → settings.text ≡ false
+    → settings.html5 ≡ false
     → settings.body ≡ true → IsMarkdownOfPage config scripting input text → IsMarkdownBy settings input text
 by_body settings config scripting input text k s t h b m =
     match_false _ _ settings.text t (match_false _ _ settings.html5 h (match_true _ _ settings.body b
@@ -64,7 +67,8 @@ by_body settings config scripting input text k s t h b m =
     (subst (λ x. IsMarkdownOfPage config x input text) s m))))
 
 pub by_all : (settings : Settings) (config : Config) (scripting : Bool) (input text : List ℕ)
-    → config ≡ config_of settings → scripting ≡ settings.scripting → settings.text ≡ false → settings.html5 ≡ false
+    → config ≡ config_of settings → scripting ≡ settings.scripting → settings.text ≡ false
+    → settings.html5 ≡ false
     → settings.body ≡ false → IsMarkdownOf config scripting input text → IsMarkdownBy settings input text
 by_all settings config scripting input text k s t h b m =
     match_false _ _ settings.text t (match_false _ _ settings.html5 h (match_false _ _ settings.body b
@@ -85,7 +89,8 @@ refused_all settings scripting input place kind s b r =
     match_false _ _ settings.body b (subst (λ x. IsRefused x input place kind) s r)
 
 -- which bytes are read, as far as the first of two tests decides it
-pub any_by : (html5 text first any : Bool) → html5 ≡ first → any ≡ (first && not text) → any ≡ (html5 && not text)
+pub any_by : (html5 text first any : Bool) → html5 ≡ first → any ≡ (first && not text)
+    → any ≡ (html5 && not text)
 any_by html5 text first any h e = e ∙ sym (ap (λ x. x && not text) h)
 
 -- the text that the bytes of an input hold has this Markdown, and so has the input

@@ -19,7 +19,8 @@ page_answer settings page s (r, m) = inl (r, s, m, refl)
 
 -- a page whose text is outside the grammar, where no page is read otherwise
 pub page_refused : (settings : Settings) (any : Bool) (page text found : List ℕ) (place : ℕ) (kind : FaultKind)
-    → any ≡ reads_any settings → IsReadable any page × (text ≡ text_in any page) → found ≡ text → settings.text ≡ false
+    → any ≡ reads_any settings → IsReadable any page × (text ≡ text_in any page) → found ≡ text
+    → settings.text ≡ false
     → settings.html5 ≡ false → IsRefusedBy settings found place kind → IsPageAnswer settings page null
 page_refused settings any page text found place kind a (r, t) f p q e =
     let strict : reads_any settings ≡ false = ap (λ x. x && not settings.text) q in

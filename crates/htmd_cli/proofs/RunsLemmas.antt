@@ -19,47 +19,50 @@ Converted settings input markdown =
     IsReadable any input × IsMarkdownBy settings (text_in any input) markdown
 
 -- the whole input was converted, and that was written
-pub ends_well : {W T : Type 0} (settings : Settings) (contents : W → Option (List ℕ)) (before after : W) (done : T)
+pub ends_well : {W : Type 0} (T : Type 0) (settings : Settings) (contents : W → Option (List ℕ)) (before after : W) (done : T)
     (input markdown written : List ℕ) → Converted settings input markdown → written ≡ markdown
     → Appends (contents before) (contents after) (written ++ line_feed ∷ [])
     → Ends settings (Some input) (Some []) contents before after (Ok done)
-ends_well settings contents before after done input markdown written m w a = (
+ends_well T settings contents before after done input markdown written m w a = (
   refl,
   (m.0, markdown, m.1, subst (λ z. Appends (contents before) (contents after) (z ++ line_feed ∷ [])) w a),
 )
 
 -- the whole input has Markdown, and the sink failed
-pub ends_at_sink : {W T : Type 0} (settings : Settings) (contents : W → Option (List ℕ)) (before after : W)
+pub ends_at_sink : {W : Type 0} (T : Type 0) (settings : Settings) (contents : W → Option (List ℕ)) (before after : W)
     (input markdown : List ℕ) → Converted settings input markdown
     → Ends {T = T} settings (Some input) (Some []) contents before after (Err Write)
-ends_at_sink settings contents before after input markdown m = (refl, (m.0, markdown, m.1))
+ends_at_sink T settings contents before after input markdown m = (refl, (m.0, markdown, m.1))
 
 -- a run that ends before anything is written
-pub ends_early : {W T : Type 0} (settings : Settings) (contents : W → Option (List ℕ)) (before after : W)
-    (input : List ℕ) (e : RunError) → (e ≡ NotUtf8 → ¬ IsUtf8 input) → (e ≡ NotUtf8 → reads_any settings ≡ false)
+pub ends_early : {W : Type 0} (T : Type 0) (settings : Settings) (contents : W → Option (List ℕ)) (before after : W)
+    (input : List ℕ) (e : RunError) → (e ≡ NotUtf8 → ¬ IsUtf8 input)
+    → (e ≡ NotUtf8 → reads_any settings ≡ false)
     → ((place : ℕ) (kind : FaultKind) → e ≡ Refused place kind → settings.text ≡ false)
     → ((place : ℕ) (kind : FaultKind) → e ≡ Refused place kind → settings.html5 ≡ false)
     → ((place : ℕ) (kind : FaultKind) → e ≡ Refused place kind → IsRefusedBy settings input place kind)
     → ((place : ℕ) (kind : FaultKind) → e ≡ Refused place kind → IsUtf8 input)
     → e ≢ Write → after ≡ before
     → Ends {T = T} settings (Some input) (Some []) contents before after (Err e)
-ends_early settings contents before after input NotUtf8 n s h g r u w k = (refl, s refl, n refl, k)
-ends_early settings contents before after input (Refused place kind) n s h g r u w k =
+ends_early T settings contents before after input NotUtf8 n s h g r u w k = (refl, s refl, n refl, k)
+ends_early T settings contents before after input (Refused place kind) n s h g r u w k =
     (refl, h place kind refl, g place kind refl, (u place kind refl, r place kind refl), k)
-ends_early settings contents before after input Memory n s h g r u w k = k
-ends_early settings contents before after input Read n s h g r u w k = k
-ends_early settings contents before after input Write n s h g r u w k = absurd (w refl)
+ends_early T settings contents before after input Memory n s h g r u w k = k
+ends_early T settings contents before after input Read n s h g r u w k = k
+ends_early T settings contents before after input Write n s h g r u w k = absurd (w refl)
 
 -- a run whose source or memory failed while it was read
-pub ends_unread : {W T : Type 0} (settings : Settings) (old new : Option (List ℕ)) (contents : W → Option (List ℕ))
+pub ends_unread : {W : Type 0} (T : Type 0) (settings : Settings) (old new : Option (List ℕ))
+    (contents : W → Option (List ℕ))
     (before after : W) (e : RunError)
-    → (e ≢ Write) × (e ≢ NotUtf8) × ((place : ℕ) (kind : FaultKind) → e ≢ Refused place kind) → after ≡ before
+    → (e ≢ Write) × (e ≢ NotUtf8) × ((place : ℕ) (kind : FaultKind) → e ≢ Refused place kind)
+    → after ≡ before
     → Ends {T = T} settings old new contents before after (Err e)
-ends_unread settings old new contents before after NotUtf8 (w, n, r) k = absurd (n refl)
-ends_unread settings old new contents before after (Refused place kind) (w, n, r) k = absurd (r place kind refl)
-ends_unread settings old new contents before after Memory (w, n, r) k = k
-ends_unread settings old new contents before after Read (w, n, r) k = k
-ends_unread settings old new contents before after Write (w, n, r) k = absurd (w refl)
+ends_unread T settings old new contents before after NotUtf8 (w, n, r) k = absurd (n refl)
+ends_unread T settings old new contents before after (Refused place kind) (w, n, r) k = absurd (r place kind refl)
+ends_unread T settings old new contents before after Memory (w, n, r) k = k
+ends_unread T settings old new contents before after Read (w, n, r) k = k
+ends_unread T settings old new contents before after Write (w, n, r) k = absurd (w refl)
 
 -- how a run ends that has read its whole source, by what that held
 pub ends_over : {W T : Type 0} (settings : Settings) (old new : Option (List ℕ)) (items input : List ℕ)
@@ -71,8 +74,13 @@ ends_over settings old new items input contents before after (Ok done) c e i h =
   Consumes-whole old new items (Writes settings (contents before) (contents after)) c e
       (subst (Writes settings (contents before) (contents after)) i h.1),
 )
-ends_over settings old new items input contents before after (Err NotUtf8) c e i h =
-    (e, h.1, Consumes-whole old new items (λ bytes. ¬ IsUtf8 bytes) c e (subst (λ bytes. ¬ IsUtf8 bytes) i h.2), h.3)
+ends_over settings old new items input contents before after (Err NotUtf8) c e i h = (
+  e,
+  h.1,
+  Consumes-whole old new items (λ bytes. ¬ IsUtf8 bytes) c e
+      (subst (λ bytes. ¬ IsUtf8 bytes) i h.2),
+  h.3,
+)
 ends_over settings old new items input contents before after (Err (Refused place kind)) c e i h =
     let P : List ℕ → Type 0 = λ bytes. IsUtf8 bytes × IsRefusedBy settings bytes place kind in
     (e, h.1, h.2, Consumes-whole old new items P c e (subst P i h.3), h.4)

@@ -32,10 +32,12 @@ effect_of (setting.Heading style) value = Some (sets_option (λ options. record 
 effect_of (setting.Rule style) value = Some (sets_option (λ options. record options { hr_style = style }))
 effect_of (setting.LineBreak style) value = Some (sets_option (λ options. record options { br_style = style }))
 effect_of (setting.Link style) value = Some (sets_option (λ options. record options { link_style = style }))
-effect_of (setting.Reference style) value = Some (sets_option (λ options. record options { link_reference_style = style }))
+effect_of (setting.Reference style) value =
+    Some (sets_option (λ options. record options { link_reference_style = style }))
 effect_of (setting.CodeBlock style) value = Some (sets_option (λ options. record options { code_block_style = style }))
 effect_of (setting.Fence symbol) value = Some (sets_option (λ options. record options { code_block_fence = symbol }))
-effect_of (setting.Bullet marker) value = Some (sets_option (λ options. record options { bullet_list_marker = marker }))
+effect_of (setting.Bullet marker) value =
+    Some (sets_option (λ options. record options { bullet_list_marker = marker }))
 effect_of setting.BulletSpacing value =
     option_map (λ n. sets_option (λ options. record options { ul_bullet_spacing = n })) (number value)
 effect_of setting.NumberSpacing value =

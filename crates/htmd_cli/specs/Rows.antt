@@ -16,7 +16,8 @@ use Rattle.htmd_cli.specs.Lines.{rows, other_fields, last_field}
 -- the page holds a text, and this is its Markdown as a field
 abbrev pub IsConverted : Settings → List ℕ → List ℕ → Type 0
 IsConverted settings page field =
-    IsReadable (reads_any settings) page × (markdown : List ℕ) × IsMarkdownBy settings (text_in (reads_any settings) page) markdown
+    IsReadable (reads_any settings) page × (markdown : List ℕ)
+    × IsMarkdownBy settings (text_in (reads_any settings) page) markdown
     × (field ≡ written_field markdown)
 
 -- the page isn't UTF-8, or it is HTML outside the grammar; if any page is read, none is refused
@@ -24,7 +25,9 @@ abbrev pub IsRefusedPage : Settings → List ℕ → Type 0
 IsRefusedPage settings page =
     MatchBool (reads_any settings) ⊥
     ((¬ IsUtf8 page)
-    ⊎ (IsUtf8 page × (settings.text ≡ false) × (place : ℕ) × (kind : FaultKind) × IsRefusedBy settings page place kind))
+    ⊎
+    (IsUtf8 page × (settings.text ≡ false) × (place : ℕ) × (kind : FaultKind)
+    × IsRefusedBy settings page place kind))
 
 -- this is written for a page: its Markdown, or null if it is refused
 abbrev pub IsPageAnswer : Settings → List ℕ → List ℕ → Type 0

@@ -25,7 +25,8 @@ abbrev pub Converts : Settings → Option (List ℕ) → Option (List ℕ) → O
 Converts settings input before after = IfSome input (Writes settings before after)
 
 -- How a run ends, case by case: by the settings, the input, what is left of it, and the sink before and after the run.
-abbrev pub Ends : {W T : Type 0} → Settings → Option (List ℕ) → Option (List ℕ) → (W → Option (List ℕ)) → W → W
+abbrev pub Ends : {W T : Type 0} → Settings → Option (List ℕ) → Option (List ℕ)
+    → (W → Option (List ℕ)) → W → W
     → Result T RunError → Type 0
 -- all was read, and the Markdown of it and a line feed were written
 Ends settings input rest contents before after (Ok done) =

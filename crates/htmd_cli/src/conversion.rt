@@ -30,8 +30,9 @@ pub(crate) fn converter_by<H: Registrar + Drop>(
     let mut builder = builder
         .options(options)
         .scripting_enabled(settings.scripting);
-    if !settings.skipped.is_empty() {
-        builder = match builder.skip_tags(settings.skipped.as_slice()) {
+    let skipped = settings.skipped.as_slice();
+    if !skipped.is_empty() {
+        builder = match builder.skip_tags(skipped) {
             Ok(builder) => builder,
             Err(_) => return Err(AllocError),
         };

@@ -42,13 +42,15 @@ pub fn command<R: Source, W: Sink, E: Sink>(
         → IsAtEnd (R.remaining source.new) }
     ensures no_failure { result ≡ 0 →
         (R.has_failed source.new ≡ false) × (W.has_failed sink.new ≡ false) }
-    ensures nothing_written { result ≢ 0 → (request_by options.now).rows ≡ false → W.has_failed sink.new ≡ false
-        → sink.new ≡ sink.old }
+    ensures nothing_written { result ≢ 0 → (request_by options.now).rows ≡ false
+        → W.has_failed sink.new ≡ false → sink.new ≡ sink.old }
     ensures rows_written { result ≢ 0 → (request_by options.now).rows ≡ true → W.has_failed sink.new ≡ false
-        → AnswersSome (request_by options.now) (R.remaining source.old) (W.contents sink.old) (W.contents sink.new) }
+        → AnswersSome (request_by options.now)
+        (R.remaining source.old) (W.contents sink.old) (W.contents sink.new) }
     ensures unknown { result ≡ 2 ↔ are_known options.now ≡ false }
     ensures nothing_read { result ≡ 2 → Keeps (R.remaining source.old) (R.remaining source.new) }
-    ensures shown { (request_by options.now).shows ≡ true → Keeps (R.remaining source.old) (R.remaining source.new) }
+    ensures shown { (request_by options.now).shows ≡ true
+        → Keeps (R.remaining source.old) (R.remaining source.new) }
     ensures status { result ≤ 2 }
 {
     let request = match request_of(alloc, options) {
@@ -113,7 +115,8 @@ fn convert<R: Source, W: Sink, E: Sink>(
     ensures nothing_written { result ≢ 0 → request.entry.rows ≡ false → W.has_failed sink.new ≡ false
         → sink.new ≡ sink.old }
     ensures rows_written { result ≢ 0 → request.entry.rows ≡ true → W.has_failed sink.new ≡ false
-        → AnswersSome (request_in request.entry) (R.remaining source.old) (W.contents sink.old) (W.contents sink.new) }
+        → AnswersSome (request_in request.entry)
+        (R.remaining source.old) (W.contents sink.old) (W.contents sink.new) }
     ensures status { result ≤ 1 }
 {
     let Request {

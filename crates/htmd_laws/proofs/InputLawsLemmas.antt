@@ -60,7 +60,8 @@ page_body scripting options =
     record { text = false; body = true; html5 = false; scripting = scripting; options = options; skipped = [] }
 
 held_in_paragraph : (config : Config) (input s : List ℕ) → IsUtf8 input → s ≡ paragraph_markdown config input
-    → (tree : List Item) × (tree ≡ paragraph input) × IsTree tree × HoldTexts tree × (s ≡ markdown config tree 0)
+    → (tree : List Item) × (tree ≡ paragraph input) × IsTree tree × HoldTexts tree
+    × (s ≡ markdown config tree 0)
 unfolding paragraph_markdown
 held_in_paragraph config input s u h = (paragraph input, refl, paragraph_is_tree input, paragraph_holds input u, h)
 

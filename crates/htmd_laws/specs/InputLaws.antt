@@ -24,11 +24,13 @@ abbrev pub IsTreeBy : Settings → List ℕ → List Item → Type 0
 IsTreeBy settings text tree =
     MatchBool settings.text (tree ≡ paragraph text)
     (MatchBool settings.html5 (tree ≡ html5_document settings.scripting text)
-    (MatchBool settings.body (IsTreeOf settings.scripting (body_part text) tree) (IsTreeOf settings.scripting text tree)))
+    (MatchBool settings.body (IsTreeOf settings.scripting (body_part text) tree)
+    (IsTreeOf settings.scripting text tree)))
 
 -- The Markdown of the text that an input holds is that of such a tree, whose texts and values are UTF-8.
 abbrev pub InputsHoldTexts : Type 0
 InputsHoldTexts =
-    (settings : Settings) (input s : List ℕ) → IsReadable (reads_any settings) input → IsMarkdownBy settings (text_by settings input) s
+    (settings : Settings) (input s : List ℕ) → IsReadable (reads_any settings) input
+    → IsMarkdownBy settings (text_by settings input) s
     → (tree : List Item) × IsTreeBy settings (text_by settings input) tree × IsTree tree × HoldTexts tree
     × (s ≡ markdown (config_of settings) tree 0)

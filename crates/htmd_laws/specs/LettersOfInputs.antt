@@ -50,7 +50,8 @@ SaysEveryLetterBy options settings input s =
 abbrev pub LettersOfInput : Type 0
 LettersOfInput =
     (options : Options) (settings : Settings) (input s : List ℕ) → is_markdown_alone options ≡ true
-    → options.link_style ≡ Inlined → config_of settings ≡ built_in options → IsReadable (reads_any settings) input
+    → options.link_style ≡ Inlined → config_of settings ≡ built_in options
+    → IsReadable (reads_any settings) input
     → IsMarkdownBy settings (text_by settings input) s → SaysEveryLetterBy options settings input s
 
 -- The same holds for the page of each row, in what its field says.

@@ -55,7 +55,8 @@ LosesNothingBy guarded settings input s =
 abbrev pub ShownInInput : Type 0
 ShownInInput =
     (options : Options) (settings : Settings) (input s : List ℕ) → is_markdown_alone options ≡ true
-    → config_of settings ≡ built_in options → IsReadable (reads_any settings) input → IsMarkdownBy settings (text_by settings input) s
+    → config_of settings ≡ built_in options → IsReadable (reads_any settings) input
+    → IsMarkdownBy settings (text_by settings input) s
     → LosesNothingBy (is_guarded options) settings input s
 
 -- The same holds for the page of each row, in what its field says.

@@ -6,9 +6,13 @@ use Rattle.htmd_cli.proofs.pipeline.run_over.Goals as goal
 
 pub returns-in-Ok-clause-ends : goal.returns-in-Ok-clause-ends
 returns-in-Ok-clause-ends g c =
-    ends_over (settings_in c.args.settings.now) _ _ c.in-Ok.input.items c.as_slice.result.now _ _ _ _
-    c.in-Ok.ensures.bytes c.in-Ok.ensures.end c.as_slice.ensures.value c.convert_into.ensures.ends
+    ends_over (settings_in c.args.settings.now) (g.R.Source.remaining c.args.source.now)
+    (g.R.Source.remaining c.read_all.new.source) c.in-Ok.input.items c.as_slice.result.now g.W.Sink.contents
+    c.args.sink.now c.convert_into.new.sink c.convert_into.result c.in-Ok.ensures.bytes c.in-Ok.ensures.end
+    c.as_slice.ensures.value c.convert_into.ensures.ends
 
 pub returns-in-Err-clause-ends : goal.returns-in-Err-clause-ends
 returns-in-Err-clause-ends g c =
-    ends_unread (settings_in c.args.settings.now) _ _ _ _ _ c.in-Err.error c.in-Err.ensures.others refl
+    ends_unread (Unit {0}) (settings_in c.args.settings.now) (g.R.Source.remaining c.args.source.now)
+    (g.R.Source.remaining c.read_all.new.source) g.W.Sink.contents c.args.sink.now c.args.sink.now c.in-Err.error
+    c.in-Err.ensures.others refl

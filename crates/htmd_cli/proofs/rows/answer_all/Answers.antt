@@ -101,8 +101,8 @@ loop-preserved g c =
       begun = ap (lacks line_feed) c.hand_on.ensures.begun ∙ c.in-Ok-true.ensures.begun c.in-Ok-true.field-0-test;
       progress = Progress-kept settings source now sink full new.begun.items c.hand_on.new.self.begun.items new.answered
           c.hand_on.new.self.answered c.hand_on.ensures.begun c.hand_on.ensures.answered
-          (Progress-step settings source (g.R.Source.remaining c.loop.source) now sink (g.W.Sink.contents c.loop.sink) full
-          was.begun.items chunk was.answers.items new.answers.items was.answered new.answered new.begun.items
+          (Progress-step settings source (g.R.Source.remaining c.loop.source) now sink (g.W.Sink.contents c.loop.sink)
+          full was.begun.items chunk was.answers.items new.answers.items was.answered new.answered new.begun.items
           c.loop.invariant.progress c.in-Ok.ensures.bytes.0 c.loop.invariant.waits
           (subst (λ goes_on. Answers settings (λ tail. rows_from was.begun.items (followed chunk tail))
           (rows_left goes_on new.begun.items) was.answers.items new.answers.items was.answered new.answered)

@@ -26,7 +26,8 @@ loop-front-preserved g c =
       begun = ap (lacks line_feed) done.next;
       answers = Answers-then settings _ (λ tail. rows_from was.begun.items (c.loop-front.rest.now ++ tail)) _ _
           was.answers.items _ _ was.answered _ c.loop-front.invariant.answers
-          (Answers-row settings _ _ row was.answers.items new.answers.items was.answered new.answered done.ok done.answered
+          (Answers-row settings _ _ row was.answers.items new.answers.items was.answered new.answered done.ok
+          done.answered
           (λ tail. row_ends was.begun.items c.in-Some.front.now c.in-Some.behind.now c.loop-front.rest.now row
           new.begun.items tail c.loop-front.invariant.begun c.in-Some.ensures c.in_ok-extend_from_slice.ensures.items
           (ap (λ t. bytes_eq t end_mark) (sym c.as_slice.ensures.value) ∙ (sym c.eq.ensures ∙ c.if-eq.false))
@@ -64,8 +65,8 @@ returns-then-eq-clause-ok g c =
     let settings = settings_in c.args.settings.now in
     let was = c.loop-front.self in
     let row = c.extend_from_slice.new.self.items in
-    Answers-then settings _ (λ tail. rows_from was.begun.items (c.loop-front.rest.now ++ tail)) _ _ was.answers.items _ _
-    was.answered _ c.loop-front.invariant.answers
+    Answers-then settings _ (λ tail. rows_from was.begun.items (c.loop-front.rest.now ++ tail)) _ _ was.answers.items
+    _ _ was.answered _ c.loop-front.invariant.answers
     (Answers-none settings _ _ was.answers.items was.answered
     (λ tail. data_ends was.begun.items c.in-Some.front.now c.in-Some.behind.now c.loop-front.rest.now row tail
     c.loop-front.invariant.begun c.in-Some.ensures c.in_ok-extend_from_slice.ensures.items
