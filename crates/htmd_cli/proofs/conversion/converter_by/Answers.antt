@@ -1,5 +1,5 @@
 -- The handlers, and those that skip.
-use Rattle.std.proofs.Common.{◌≡◌, ◌∙◌, ap, sym, rules}
+use Rattle.std.proofs.Common.{◌∙◌, ap, sym, rules}
 use Rattle.htmd.specs.BuiltIn.{built_in}
 use Rattle.htmd.specs.Defaults.{default_options}
 use Rattle.htmd.specs.Choice.{no_handler, with_handler, with_options}
