@@ -3,7 +3,6 @@
 use crate::faults::Fault;
 use crate::speed::Speed;
 use htmd::HtmlToMarkdown;
-use htmd::options::Options;
 use htmd_cli::{Input, Output, Settings, run_rows};
 use std::io;
 use std::time::{Duration, Instant};
@@ -26,14 +25,7 @@ pub(crate) fn tell_rows(rt: &HostRuntime, input: &str, rounds: u32) -> Result<()
 
 /// How long the batch takes once.
 fn batch_time(rt: &HostRuntime, input: &str) -> Result<Duration, Fault> {
-    let settings = Settings {
-        text: false,
-        body: false,
-        html5: false,
-        scripting: true,
-        options: Options::default(),
-        skipped: &[],
-    };
+    let settings = Settings::new(rt.alloc());
     let mut source = Input::new(input.as_bytes());
     let mut sink = Output::new(io::sink());
     let mut errors = Output::new(io::sink());

@@ -6,7 +6,10 @@ use Rattle.std.specs.Borrow.{Bor}
 use Rattle.htmd.specs.Items.{Item}
 use Rattle.htmd.specs.Choice.{Config, no_handler, with_handler}
 use Rattle.htmd.specs.Markdown.{markdown}
-use Rattle.htmd_cli.specs.Conversion.{Way, paragraph, paragraph_markdown, skipping, IsMarkdownBy}
+use Rattle.htmd.specs.FaultKind.{FaultKind}
+use Rattle.htmd.specs.Conversions.{IsMarkdownOf, IsMarkdownOfPage, IsHtml5Markdown, IsRefused, IsPageRefused}
+use Rattle.htmd_cli.specs.Settings.{Settings}
+use Rattle.htmd_cli.specs.Conversion.{paragraph, paragraph_markdown, skipping, config_of, IsMarkdownBy, IsRefusedBy}
 use Rattle.htmd_cli.specs.Conversion.{IsReadable, reads_any, text_in}
 
 -- one equation after the other
@@ -34,33 +37,67 @@ pub match_false : (P Q : Type 0) (b : Bool) → b ≡ false → Q → MatchBool 
 match_false P Q true e p = absurd (cc)
 match_false P Q false e p = p
 
-pub by_text : (way : Way) (input text : List ℕ) (items : List Item) (start : ℕ) → way.text ≡ true
-    → items ≡ paragraph input → start ≡ 0 → text ≡ markdown way.config items start
-    → IsMarkdownBy way input text
+-- the Markdown of one paragraph, by handlers that are those of the settings
+pub by_text : (settings : Settings) (config : Config) (input text : List ℕ) (items : List Item) (start : ℕ)
+    → config ≡ config_of settings → settings.text ≡ true → items ≡ paragraph input → start ≡ 0
+    → text ≡ markdown config items start → IsMarkdownBy settings input text
 unfolding paragraph_markdown
-by_text way input text items start t i s e =
-    match_true _ _ way.text t (e ∙ (ap (λ x. markdown way.config x start) i
-    ∙ ap (markdown way.config (paragraph input)) s))
+by_text settings config input text items start k t i s e =
+    match_true _ _ settings.text t (e ∙ (ap (λ x. markdown x items start) k
+    ∙ (ap (λ x. markdown (config_of settings) x start) i
+    ∙ ap (markdown (config_of settings) (paragraph input)) s)))
+
+-- of any page, of a page's body, and of all
+pub by_html5 : (settings : Settings) (config : Config) (scripting : Bool) (input text : List ℕ)
+    → config ≡ config_of settings → scripting ≡ settings.scripting → settings.text ≡ false
+    → settings.html5 ≡ true
+    → IsHtml5Markdown config scripting input text → IsMarkdownBy settings input text
+by_html5 settings config scripting input text k s t h m =
+    match_false _ _ settings.text t (match_true _ _ settings.html5 h
+    (subst (λ x. IsHtml5Markdown x settings.scripting input text) k
+    (subst (λ x. IsHtml5Markdown config x input text) s m)))
+
+pub by_body : (settings : Settings) (config : Config) (scripting : Bool) (input text : List ℕ)
+    → config ≡ config_of settings → scripting ≡ settings.scripting → settings.text ≡ false
+    → settings.html5 ≡ false
+    → settings.body ≡ true → IsMarkdownOfPage config scripting input text → IsMarkdownBy settings input text
+by_body settings config scripting input text k s t h b m =
+    match_false _ _ settings.text t (match_false _ _ settings.html5 h (match_true _ _ settings.body b
+    (subst (λ x. IsMarkdownOfPage x settings.scripting input text) k
+    (subst (λ x. IsMarkdownOfPage config x input text) s m))))
+
+pub by_all : (settings : Settings) (config : Config) (scripting : Bool) (input text : List ℕ)
+    → config ≡ config_of settings → scripting ≡ settings.scripting → settings.text ≡ false
+    → settings.html5 ≡ false
+    → settings.body ≡ false → IsMarkdownOf config scripting input text → IsMarkdownBy settings input text
+by_all settings config scripting input text k s t h b m =
+    match_false _ _ settings.text t (match_false _ _ settings.html5 h (match_false _ _ settings.body b
+    (subst (λ x. IsMarkdownOf x settings.scripting input text) k
+    (subst (λ x. IsMarkdownOf config x input text) s m))))
+
+-- a refusal of a page's body, and of all
+pub refused_body : (settings : Settings) (scripting : Bool) (input : List ℕ) (place : ℕ) (kind : FaultKind)
+    → scripting ≡ settings.scripting → settings.body ≡ true → IsPageRefused scripting input place kind
+    → IsRefusedBy settings input place kind
+refused_body settings scripting input place kind s b r =
+    match_true _ _ settings.body b (subst (λ x. IsPageRefused x input place kind) s r)
+
+pub refused_all : (settings : Settings) (scripting : Bool) (input : List ℕ) (place : ℕ) (kind : FaultKind)
+    → scripting ≡ settings.scripting → settings.body ≡ false → IsRefused scripting input place kind
+    → IsRefusedBy settings input place kind
+refused_all settings scripting input place kind s b r =
+    match_false _ _ settings.body b (subst (λ x. IsRefused x input place kind) s r)
 
 -- which bytes are read, as far as the first of two tests decides it
-pub any_by : (html5 text first any : Bool) → html5 ≡ first → any ≡ (first && not text) → any ≡ (html5 && not text)
+pub any_by : (html5 text first any : Bool) → html5 ≡ first → any ≡ (first && not text)
+    → any ≡ (html5 && not text)
 any_by html5 text first any h e = e ∙ sym (ap (λ x. x && not text) h)
 
 -- the text that the bytes of an input hold has this Markdown, and so has the input
-pub of_readable : (way : Way) (any : Bool) (input text found s : List ℕ) → any ≡ reads_any way
-    → IsReadable any input × (text ≡ text_in any input) → found ≡ text → IsMarkdownBy way found s
-    → IsReadable (reads_any way) input × IsMarkdownBy way (text_in (reads_any way) input) s
-of_readable way any input text found s a (r, t) f m = (
+pub of_readable : (settings : Settings) (any : Bool) (input text found s : List ℕ) → any ≡ reads_any settings
+    → IsReadable any input × (text ≡ text_in any input) → found ≡ text → IsMarkdownBy settings found s
+    → IsReadable (reads_any settings) input × IsMarkdownBy settings (text_in (reads_any settings) input) s
+of_readable settings any input text found s a (r, t) f m = (
   subst (λ b. IsReadable b input) a r,
-  subst (λ x. IsMarkdownBy way x s) (f ∙ t ∙ ap (λ b. text_in b input) a) m,
+  subst (λ x. IsMarkdownBy settings x s) (f ∙ t ∙ ap (λ b. text_in b input) a) m,
 )
-
--- a way, part by part
-abbrev pub way_with : Bool → Bool → Bool → Bool → Config → Way
-way_with text body html5 scripting config =
-    record { text = text; body = body; html5 = html5; scripting = scripting; config = config }
-
--- equal handlers and the same scripting
-pub way_same : (text body html5 a b : Bool) (k l : Config) → a ≡ b → k ≡ l
-    → way_with text body html5 a k ≡ way_with text body html5 b l
-way_same text body html5 a b k l e f = rw (e, f) refl

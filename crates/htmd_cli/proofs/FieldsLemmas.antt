@@ -2,11 +2,10 @@
 use Rattle.std.proofs.Common.{◌≡◌, ◌∙◌, sym, ap, refl, ℕ, zero, suc, ◌+◌, ◌-◌, ◌*◌, ◌%◌, ◌<◌, ◌≤◌, ◌==◌}
 use Rattle.std.proofs.Common.{Bool, true, false, append-nil}
 use Rattle.std.proofs.Common.{if◌then◌else◌, List, [], ◌∷◌, ◌++◌, length, take, drop, get_or, arith, append_assoc}
-use Rattle.std.proofs.Common.{codes}
 use Rattle.std.proofs.lemmas.List.{drop_more, drop_all, take_all, take_more, take_rest}
-use Rattle.std.proofs.lemmas.Bool.{eqb-true, lt-ltb, le-ltb}
+use Rattle.std.proofs.lemmas.Bool.{lt-ltb, le-ltb}
 use Rattle.std.specs.Prelude.{nat_lt}
-use Rattle.htmd.specs.Characters.{backslash, carriage_return, line_feed, tab}
+use Rattle.htmd.specs.Characters.{backslash}
 use Rattle.htmd_cli.specs.Fields.{digit_value, digits, number_behind, escaped, escape_length}
 use Rattle.htmd_cli.specs.Fields.{read_behind, read_field, written_byte, written_field}
 use Rattle.htmd_cli.specs.Lines.{lacks}

@@ -3,7 +3,7 @@ pub mod AppendsLemmas
 pub mod DecodingLemmas
 pub mod ConversionLemmas
 pub mod RunsLemmas
-pub mod WordsLemmas
+pub mod OptionsLemmas
 pub mod LinesLemmas
 pub mod FieldsLemmas
 pub mod RowsLemmas

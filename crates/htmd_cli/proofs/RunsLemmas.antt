@@ -1,47 +1,90 @@
--- A run from its input to what it wrote, and a refused conversion as the run's.
-use Rattle.std.proofs.Common.{◌≡◌, ◌∙◌, sym, ap, subst, ℕ, List, [], ◌∷◌, ◌++◌, Option, Some, None}
-use Rattle.std.proofs.Common.{IfSome, append-nil}
+-- A run from its input to how it ends.
+use Rattle.std.proofs.Common.{◌≡◌, ◌≢◌, subst, refl, false, ℕ, List, [], ◌∷◌, ◌++◌, Option, Some}
+use Rattle.std.proofs.Common.{Result, Ok, Err}
 use Rattle.std.proofs.KnownBytes.{Consumes-whole}
+use Rattle.std.specs.Str.{IsUtf8}
 use Rattle.std.specs.Io.KnownBytes.{Appends, Consumes, IsAtEnd}
 use Rattle.htmd.specs.Characters.{line_feed}
-use Rattle.htmd.specs.declared.conversion.ConvertError.{ConvertError}
-use Rattle.htmd.specs.declared.conversion.ConvertError.TheVariants as conversion
+use Rattle.htmd.specs.FaultKind.{FaultKind}
 use Rattle.htmd_cli.specs.declared.faults.RunError.{RunError}
-use Rattle.htmd_cli.specs.declared.faults.RunError.TheVariants as run
-use Rattle.htmd_cli.specs.Settings.{Chosen}
-use Rattle.htmd_cli.specs.Conversion.{HasMarkdown, IsReadable, reads_any, text_in, way_of}
-use Rattle.htmd_cli.specs.Runs.{Converts, IsConvertible, Writes}
+use Rattle.htmd_cli.specs.declared.faults.RunError.TheVariants.{NotUtf8, Refused, Memory, Read, Write}
+use Rattle.htmd_cli.specs.Settings.{Settings}
+use Rattle.htmd_cli.specs.Conversion.{IsMarkdownBy, IsReadable, IsRefusedBy, reads_any, text_in}
+use Rattle.htmd_cli.specs.Runs.{Ends, IsConvertible, Writes}
 
 -- the bytes hold a text, and this is its Markdown
-abbrev Converted : Chosen → List ℕ → List ℕ → Type 0
-Converted chosen input markdown =
-    let any = reads_any (way_of chosen) in
-    IsReadable any input × HasMarkdown chosen (text_in any input) markdown
+abbrev pub Converted : Settings → List ℕ → List ℕ → Type 0
+Converted settings input markdown =
+    let any = reads_any settings in
+    IsReadable any input × IsMarkdownBy settings (text_in any input) markdown
 
--- all of the source was converted, and that was written
-converted_all : (chosen : Chosen) (old new : Option (List ℕ)) (input markdown : List ℕ)
-    (before after : Option (List ℕ)) → Consumes old new input → IsAtEnd new
-    → Converted chosen input markdown → Appends before after (markdown ++ line_feed ∷ [])
-    → Converts chosen old before after
-converted_all chosen None new input markdown before after c e m a = tt
-converted_all chosen (Some xs) None input markdown before after c e m a = absurd c
-converted_all chosen (Some xs) (Some ys) input markdown before after c e m a =
-    subst (Writes chosen before after) (sym (c ∙ ap (λ z. input ++ z) e ∙ append-nil input))
-    (m.0, markdown, m.1, a)
+-- the whole input was converted, and that was written
+pub ends_well : {W : Type 0} (T : Type 0) (settings : Settings) (contents : W → Option (List ℕ)) (before after : W) (done : T)
+    (input markdown written : List ℕ) → Converted settings input markdown → written ≡ markdown
+    → Appends (contents before) (contents after) (written ++ line_feed ∷ [])
+    → Ends settings (Some input) (Some []) contents before after (Ok done)
+ends_well T settings contents before after done input markdown written m w a = (
+  refl,
+  (m.0, markdown, m.1, subst (λ z. Appends (contents before) (contents after) (z ++ line_feed ∷ [])) w a),
+)
 
--- the same of equal texts
-pub converted_run : (chosen : Chosen) (old new : Option (List ℕ)) (items input markdown written : List ℕ)
-    (before after : Option (List ℕ)) → Consumes old new items → IsAtEnd new → input ≡ items
-    → Converted chosen input markdown → written ≡ markdown
-    → Appends before after (written ++ line_feed ∷ []) → Converts chosen old before after
-converted_run chosen old new items input markdown written before after c e i m w a =
-    converted_all chosen old new input markdown before after (subst (Consumes old new) (sym i) c) e m
-    (subst (λ z. Appends before after (z ++ line_feed ∷ [])) w a)
+-- the whole input has Markdown, and the sink failed
+pub ends_at_sink : {W : Type 0} (T : Type 0) (settings : Settings) (contents : W → Option (List ℕ)) (before after : W)
+    (input markdown : List ℕ) → Converted settings input markdown
+    → Ends {T = T} settings (Some input) (Some []) contents before after (Err Write)
+ends_at_sink T settings contents before after input markdown m = (refl, (m.0, markdown, m.1))
 
--- all of the source can be converted
-pub convertible_run : (chosen : Chosen) (old new : Option (List ℕ)) (items input markdown : List ℕ)
-    → Consumes old new items → IsAtEnd new → input ≡ items → Converted chosen input markdown
-    → IfSome old (IsConvertible chosen)
-convertible_run chosen old new items input markdown c e i m =
-    Consumes-whole old new items (IsConvertible chosen) c e
-    (subst (IsConvertible chosen) i (m.0, markdown, m.1))
+-- a run that ends before anything is written
+pub ends_early : {W : Type 0} (T : Type 0) (settings : Settings) (contents : W → Option (List ℕ)) (before after : W)
+    (input : List ℕ) (e : RunError) → (e ≡ NotUtf8 → ¬ IsUtf8 input)
+    → (e ≡ NotUtf8 → reads_any settings ≡ false)
+    → ((place : ℕ) (kind : FaultKind) → e ≡ Refused place kind → settings.text ≡ false)
+    → ((place : ℕ) (kind : FaultKind) → e ≡ Refused place kind → settings.html5 ≡ false)
+    → ((place : ℕ) (kind : FaultKind) → e ≡ Refused place kind → IsRefusedBy settings input place kind)
+    → ((place : ℕ) (kind : FaultKind) → e ≡ Refused place kind → IsUtf8 input)
+    → e ≢ Write → after ≡ before
+    → Ends {T = T} settings (Some input) (Some []) contents before after (Err e)
+ends_early T settings contents before after input NotUtf8 n s h g r u w k = (refl, s refl, n refl, k)
+ends_early T settings contents before after input (Refused place kind) n s h g r u w k =
+    (refl, h place kind refl, g place kind refl, (u place kind refl, r place kind refl), k)
+ends_early T settings contents before after input Memory n s h g r u w k = k
+ends_early T settings contents before after input Read n s h g r u w k = k
+ends_early T settings contents before after input Write n s h g r u w k = absurd (w refl)
+
+-- a run whose source or memory failed while it was read
+pub ends_unread : {W : Type 0} (T : Type 0) (settings : Settings) (old new : Option (List ℕ))
+    (contents : W → Option (List ℕ))
+    (before after : W) (e : RunError)
+    → (e ≢ Write) × (e ≢ NotUtf8) × ((place : ℕ) (kind : FaultKind) → e ≢ Refused place kind)
+    → after ≡ before
+    → Ends {T = T} settings old new contents before after (Err e)
+ends_unread T settings old new contents before after NotUtf8 (w, n, r) k = absurd (n refl)
+ends_unread T settings old new contents before after (Refused place kind) (w, n, r) k = absurd (r place kind refl)
+ends_unread T settings old new contents before after Memory (w, n, r) k = k
+ends_unread T settings old new contents before after Read (w, n, r) k = k
+ends_unread T settings old new contents before after Write (w, n, r) k = absurd (w refl)
+
+-- how a run ends that has read its whole source, by what that held
+pub ends_over : {W T : Type 0} (settings : Settings) (old new : Option (List ℕ)) (items input : List ℕ)
+    (contents : W → Option (List ℕ)) (before after : W) (r : Result T RunError) → Consumes old new items
+    → IsAtEnd new → input ≡ items → Ends settings (Some input) (Some []) contents before after r
+    → Ends settings old new contents before after r
+ends_over settings old new items input contents before after (Ok done) c e i h = (
+  e,
+  Consumes-whole old new items (Writes settings (contents before) (contents after)) c e
+      (subst (Writes settings (contents before) (contents after)) i h.1),
+)
+ends_over settings old new items input contents before after (Err NotUtf8) c e i h = (
+  e,
+  h.1,
+  Consumes-whole old new items (λ bytes. ¬ IsUtf8 bytes) c e
+      (subst (λ bytes. ¬ IsUtf8 bytes) i h.2),
+  h.3,
+)
+ends_over settings old new items input contents before after (Err (Refused place kind)) c e i h =
+    let P : List ℕ → Type 0 = λ bytes. IsUtf8 bytes × IsRefusedBy settings bytes place kind in
+    (e, h.1, h.2, Consumes-whole old new items P c e (subst P i h.3), h.4)
+ends_over settings old new items input contents before after (Err Memory) c e i h = h
+ends_over settings old new items input contents before after (Err Read) c e i h = h
+ends_over settings old new items input contents before after (Err Write) c e i h =
+    (e, Consumes-whole old new items (IsConvertible settings) c e (subst (IsConvertible settings) i h.1))

@@ -1,16 +1,16 @@
 -- How a batch goes from row to row; only the contracts of private functions cite it.
 use Rattle.std.specs.Prelude.{◌≡◌, ◌+◌, Bool, if◌then◌else◌, ℕ, List, [], ◌∷◌, ◌++◌, length}
-use Rattle.htmd_cli.specs.Conversion.{Way}
+use Rattle.htmd_cli.specs.Settings.{Settings}
 use Rattle.htmd_cli.specs.Lines.{rows}
 use Rattle.htmd_cli.specs.Rows.{AreAnswers, counted}
 
 -- Of the rows that each further input gives, some were answered, and the rest is left. What waits grew by the answers,
 -- and the count of answered rows by their number.
-pub record Answers (way : Way) (all rest : List ℕ → List (List ℕ)) (before after : List ℕ)
+pub record Answers (settings : Settings) (all rest : List ℕ → List (List ℕ)) (before after : List ℕ)
     (n m : ℕ) : Type 0 where
   pub done : List (List ℕ)
   pub written : List ℕ
-  pub are : AreAnswers way done written
+  pub are : AreAnswers settings done written
   pub appended : after ≡ before ++ written
   pub number : counted m ≡ counted (n + length done)
   pub ahead : (tail : List ℕ) → all tail ≡ done ++ rest tail

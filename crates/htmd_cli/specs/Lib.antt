@@ -8,7 +8,7 @@ pub mod Conversion
 pub mod Runs
 pub mod Lines
 pub mod Fields
-pub mod Words
+pub mod Options
 pub mod Rows
-pub mod WordRows
+pub mod OptionRows
 pub mod Batches

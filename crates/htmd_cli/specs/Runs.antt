@@ -1,23 +1,46 @@
--- What a run reads and writes, if the bytes of its source and sink are known.
-use Rattle.std.specs.Prelude.{ℕ, List, [], ◌∷◌, ◌++◌, Option, IfSome}
-use Rattle.std.specs.Io.KnownBytes.{Appends}
+-- What a run reads and writes, if the bytes of its source and sink are known, and how it ends.
+use Rattle.std.specs.Prelude.{◌≡◌, ℕ, List, [], ◌∷◌, ◌++◌, false, Option, IfSome, Result, Ok, Err, IsUtf8}
+use Rattle.std.specs.Io.KnownBytes.{Appends, IsAtEnd}
 use Rattle.htmd.specs.Characters.{line_feed}
-use Rattle.htmd_cli.specs.Settings.{Chosen}
-use Rattle.htmd_cli.specs.Conversion.{HasMarkdown, IsReadable, reads_any, text_in, way_of}
+use Rattle.htmd_cli.specs.declared.faults.RunError.{RunError}
+use Rattle.htmd_cli.specs.declared.faults.RunError.TheVariants.{NotUtf8, Refused, Memory, Read, Write}
+use Rattle.htmd_cli.specs.Settings.{Settings}
+use Rattle.htmd_cli.specs.Conversion.{IsMarkdownBy, IsReadable, IsRefusedBy, reads_any, text_in}
 
 -- the bytes hold a text, and its Markdown and a line feed were written
-abbrev pub Writes : Chosen → Option (List ℕ) → Option (List ℕ) → List ℕ → Type 0
-Writes chosen before after bytes =
-    let any = reads_any (way_of chosen) in
-    IsReadable any bytes × (markdown : List ℕ) × HasMarkdown chosen (text_in any bytes) markdown
+abbrev pub Writes : Settings → Option (List ℕ) → Option (List ℕ) → List ℕ → Type 0
+Writes settings before after bytes =
+    let any = reads_any settings in
+    IsReadable any bytes × (markdown : List ℕ) × IsMarkdownBy settings (text_in any bytes) markdown
     × Appends before after (markdown ++ line_feed ∷ [])
 
 -- the bytes hold a text, which has Markdown
-abbrev pub IsConvertible : Chosen → List ℕ → Type 0
-IsConvertible chosen bytes =
-    let any = reads_any (way_of chosen) in
-    IsReadable any bytes × (markdown : List ℕ) × HasMarkdown chosen (text_in any bytes) markdown
+abbrev pub IsConvertible : Settings → List ℕ → Type 0
+IsConvertible settings bytes =
+    let any = reads_any settings in
+    IsReadable any bytes × (markdown : List ℕ) × IsMarkdownBy settings (text_in any bytes) markdown
 
--- the whole input was converted by what is chosen
-abbrev pub Converts : Chosen → Option (List ℕ) → Option (List ℕ) → Option (List ℕ) → Type 0
-Converts chosen input before after = IfSome input (Writes chosen before after)
+-- the whole input was converted by the settings
+abbrev pub Converts : Settings → Option (List ℕ) → Option (List ℕ) → Option (List ℕ) → Type 0
+Converts settings input before after = IfSome input (Writes settings before after)
+
+-- How a run ends, case by case: by the settings, the input, what is left of it, and the sink before and after the run.
+abbrev pub Ends : {W T : Type 0} → Settings → Option (List ℕ) → Option (List ℕ)
+    → (W → Option (List ℕ)) → W → W
+    → Result T RunError → Type 0
+-- all was read, and the Markdown of it and a line feed were written
+Ends settings input rest contents before after (Ok done) =
+    IsAtEnd rest × Converts settings input (contents before) (contents after)
+-- all was read and is not UTF-8, which any page may be; nothing was written
+Ends settings input rest contents before after (Err NotUtf8) =
+    IsAtEnd rest × (reads_any settings ≡ false) × IfSome input (λ bytes. ¬ IsUtf8 bytes) × (after ≡ before)
+-- all was read and is UTF-8, was taken for HTML of the strict grammar, and is outside it; nothing was written
+Ends settings input rest contents before after (Err (Refused place kind)) =
+    IsAtEnd rest × (settings.text ≡ false) × (settings.html5 ≡ false)
+    × IfSome input (λ bytes. IsUtf8 bytes × IsRefusedBy settings bytes place kind) × (after ≡ before)
+-- out of memory; nothing was written
+Ends settings input rest contents before after (Err Memory) = after ≡ before
+-- the source failed; nothing was written
+Ends settings input rest contents before after (Err Read) = after ≡ before
+-- all was read, and has Markdown, and the sink failed
+Ends settings input rest contents before after (Err Write) = IsAtEnd rest × IfSome input (IsConvertible settings)

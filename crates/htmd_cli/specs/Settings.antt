@@ -1,11 +1,11 @@
--- What a run is asked to do.
+-- What a run takes its input for, and how it converts it.
 use Rattle.std.specs.Prelude.{Bool, true, false, if◌then◌else◌, List, [], ℕ, map}
 use Rattle.htmd.specs.Options.{Options}
 use Rattle.htmd.specs.TranslationMode.TheVariants.{Pure, Faithful}
 use Rattle.htmd.specs.Defaults.{default_options}
-use Rattle.htmd_cli.specs.declared.settings.Settings.{Settings}
+use Rattle.htmd_cli.specs.declared.settings.Settings as held
 
-pub record Chosen : Type 0 where
+pub record Settings : Type 0 where
   -- the input is the text of one paragraph, and not HTML
   pub text : Bool
   -- the input is a whole page, of which the body is converted
@@ -17,24 +17,20 @@ pub record Chosen : Type 0 where
   -- elements with these names give nothing
   pub skipped : List (List ℕ)
 
--- what settings choose
-abbrev pub chosen_by : Settings → Chosen
-chosen_by settings = record {
+-- the settings that the program holds
+abbrev pub settings_in : held.Settings → Settings
+settings_in settings = record {
   text = settings.text;
   body = settings.body;
   html5 = settings.html5;
   scripting = settings.scripting;
   options = settings.options;
-  skipped = map (λ t. t.now) settings.skipped.now;
+  skipped = map (λ name. name.now) settings.skipped.items;
 }
 
--- the default options, but Faithful if that is asked for
-abbrev pub options_of : Bool → Options
-options_of faithful = record default_options { translation_mode = if faithful then Faithful else Pure }
-
--- what is chosen if no option is given
-abbrev pub nothing_chosen : Chosen
-nothing_chosen = record {
+-- the settings if no option is given
+abbrev pub default_settings : Settings
+default_settings = record {
   text = false;
   body = false;
   html5 = false;
@@ -43,6 +39,10 @@ nothing_chosen = record {
   skipped = [];
 }
 
--- what a mode chooses
-abbrev pub chosen_in : Bool → Bool → Chosen
-chosen_in text faithful = record nothing_chosen { text = text; options = options_of faithful }
+-- the default options, but Faithful if that is asked for
+abbrev pub options_of : Bool → Options
+options_of faithful = record default_options { translation_mode = if faithful then Faithful else Pure }
+
+-- the settings of a mode
+abbrev pub settings_of : Bool → Bool → Settings
+settings_of text faithful = record default_settings { text = text; options = options_of faithful }

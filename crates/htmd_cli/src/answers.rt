@@ -1,35 +1,37 @@
 //! What is written for a row.
 ghost use Rattle.std.specs.Prelude.{◌≡◌, ◌++◌, [], List, ℕ, OnOk, IfOk, IfErr, string_bytes};
-ghost use Rattle.htmd.specs.Converters.{handlers_of};
-ghost use Rattle.htmd_cli.specs.Conversion.{way_by};
+ghost use Rattle.htmd_cli.specs.Conversion.{GoesBy};
 ghost use Rattle.htmd_cli.specs.Fields.{null, written_field};
 ghost use Rattle.htmd_cli.specs.Rows.{IsFieldAnswer, IsPageAnswer, IsRowAnswer};
+ghost use Rattle.htmd_cli.specs.Settings.{settings_in};
 
-use crate::conversion::{Conversion, markdown_by, text_of};
+use crate::conversion::{markdown_by, text_of};
 use crate::faults::RunError;
 use crate::fields::{NULL, read_field, write_field};
 use crate::lines::fields_of;
-use htmd::ConvertError;
+use crate::settings::Settings;
 use htmd::element_handler::Registry;
+use htmd::{ConvertError, HtmlToMarkdown};
 use std::alloc::{AllocError, Global};
 
 /// Appends what is written for a row to an answer, and the page of its last field to an empty page. The result is
 /// `Some` if that page is refused.
 pub(crate) fn answer_row<H: Registry>(
     alloc: Global,
-    conversion: &Conversion<'_, H>,
+    converter: &HtmlToMarkdown<H>,
+    settings: &Settings<'_>,
     row: &[u8],
     page: &mut Vec<u8>,
     answer: &mut Vec<u8>,
 ) -> Result<Option<RunError>, AllocError>
-    requires ready { H.ready (handlers_of conversion.now.converter.now) }
+    requires goes_by { GoesBy H.ready H.config converter.now (settings_in settings.now) }
     requires page { page.old.items ≡ [] }
     requires answer { answer.old.items ≡ [] }
-    ensures { OnOk result (IsRowAnswer (way_by H.config conversion.now) row.now answer.new.items) }
+    ensures { OnOk result (IsRowAnswer (settings_in settings.now) row.now answer.new.items) }
 {
     let (others, last) = fields_of(row);
     answer.extend_from_slice(others)?;
-    let refused = answer_field(alloc, conversion, last, page, answer)?;
+    let refused = answer_field(alloc, converter, settings, last, page, answer)?;
     answer.push(b'\n')?;
     Ok(refused)
 }
@@ -37,14 +39,15 @@ pub(crate) fn answer_row<H: Registry>(
 // The same for a field.
 fn answer_field<H: Registry>(
     alloc: Global,
-    conversion: &Conversion<'_, H>,
+    converter: &HtmlToMarkdown<H>,
+    settings: &Settings<'_>,
     field: &[u8],
     page: &mut Vec<u8>,
     answer: &mut Vec<u8>,
 ) -> Result<Option<RunError>, AllocError>
-    requires ready { H.ready (handlers_of conversion.now.converter.now) }
+    requires goes_by { GoesBy H.ready H.config converter.now (settings_in settings.now) }
     requires page { page.old.items ≡ [] }
-    ensures { OnOk result ((written : List ℕ) × IsFieldAnswer (way_by H.config conversion.now) field.now written
+    ensures { OnOk result ((written : List ℕ) × IsFieldAnswer (settings_in settings.now) field.now written
         × (answer.new.items ≡ answer.old.items ++ written)) }
 {
     if field == NULL {
@@ -52,21 +55,22 @@ fn answer_field<H: Registry>(
         return Ok(None);
     }
     read_field(field, page)?;
-    answer_page(alloc, conversion, page.as_slice(), answer)
+    answer_page(alloc, converter, settings, page.as_slice(), answer)
 }
 
 // The same for a page.
 fn answer_page<H: Registry>(
     alloc: Global,
-    conversion: &Conversion<'_, H>,
+    converter: &HtmlToMarkdown<H>,
+    settings: &Settings<'_>,
     page: &[u8],
     answer: &mut Vec<u8>,
 ) -> Result<Option<RunError>, AllocError>
-    requires ready { H.ready (handlers_of conversion.now.converter.now) }
-    ensures { OnOk result ((written : List ℕ) × IsPageAnswer (way_by H.config conversion.now) page.now written
+    requires goes_by { GoesBy H.ready H.config converter.now (settings_in settings.now) }
+    ensures { OnOk result ((written : List ℕ) × IsPageAnswer (settings_in settings.now) page.now written
         × (answer.new.items ≡ answer.old.items ++ written)) }
 {
-    let outcome = page_markdown(alloc, conversion, page)?;
+    let outcome = page_markdown(alloc, converter, settings, page)?;
     match outcome {
         Ok(markdown) => {
             write_field(markdown.as_bytes(), answer)?;
@@ -82,19 +86,20 @@ fn answer_page<H: Registry>(
 // The Markdown of a page, or why it is refused. `Err` means out of memory.
 fn page_markdown<H: Registry>(
     alloc: Global,
-    conversion: &Conversion<'_, H>,
+    converter: &HtmlToMarkdown<H>,
+    settings: &Settings<'_>,
     page: &[u8],
 ) -> Result<Result<String, RunError>, AllocError>
-    requires ready { H.ready (handlers_of conversion.now.converter.now) }
+    requires goes_by { GoesBy H.ready H.config converter.now (settings_in settings.now) }
     ensures ok { IfOk result (λ outcome. IfOk outcome (λ markdown. IsPageAnswer
-        (way_by H.config conversion.now) page.now (written_field (string_bytes markdown)))) }
+        (settings_in settings.now) page.now (written_field (string_bytes markdown)))) }
     ensures refused { IfOk result (λ outcome. IfErr outcome
-        (λ _. IsPageAnswer (way_by H.config conversion.now) page.now null)) }
+        (λ _. IsPageAnswer (settings_in settings.now) page.now null)) }
 {
-    let Some(text) = text_of(alloc, page, conversion.html5 && !conversion.text)? else {
+    let Some(text) = text_of(alloc, page, settings.html5 && !settings.text)? else {
         return Ok(Err(RunError::NotUtf8));
     };
-    match markdown_by(alloc, conversion, &text) {
+    match markdown_by(alloc, converter, settings, &text) {
         Ok(markdown) => Ok(Ok(markdown)),
         Err(ConvertError::Refused { place, kind }) => Ok(Err(RunError::Refused { place, kind })),
         Err(ConvertError::Memory) => Err(AllocError),

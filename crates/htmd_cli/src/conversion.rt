@@ -1,12 +1,12 @@
 //! The conversion of an input by settings.
-ghost use Rattle.std.specs.Prelude.{◌≡◌, ℕ, false, map, Err, None, IfOk, IfSome, IsUtf8, string_bytes};
+ghost use Rattle.std.specs.Prelude.{◌≡◌, ℕ, false, Err, None, IfOk, IfSome, IsUtf8, string_bytes};
 ghost use Rattle.std.specs.Cow.{cow_str_bytes};
-ghost use Rattle.htmd.specs.Choice.{with_options};
-ghost use Rattle.htmd.specs.Converters.{handlers_of, handlers_built, scripting_of};
+ghost use Rattle.htmd.specs.BuiltIn.{built_in};
+ghost use Rattle.htmd.specs.Converters.{handlers_built};
+ghost use Rattle.htmd.specs.Defaults.{default_options};
 ghost use Rattle.htmd.specs.FaultKind.{FaultKind};
-ghost use Rattle.htmd_cli.specs.Conversion.{HasMarkdown, IsInputRefused, IsMarkdownBy, IsReadable, IsRefusedBy};
-ghost use Rattle.htmd_cli.specs.Conversion.{skipping, text_in, way_by};
-ghost use Rattle.htmd_cli.specs.Settings.{chosen_by};
+ghost use Rattle.htmd_cli.specs.Conversion.{GoesBy, IsMarkdownBy, IsReadable, IsRefusedBy, text_in};
+ghost use Rattle.htmd_cli.specs.Settings.{settings_in};
 
 use crate::decoding::decoded;
 use crate::paragraph::paragraph;
@@ -17,29 +17,20 @@ use htmd::{ConvertError, HtmlToMarkdown, HtmlToMarkdownBuilder};
 use std::alloc::{AllocError, Global};
 use std::borrow::CowStr;
 
-/// What an input is taken for, and what converts it.
-#[derive(Drop)]
-pub(crate) struct Conversion<'a, H> {
-    pub(crate) text: bool,
-    pub(crate) body: bool,
-    pub(crate) html5: bool,
-    pub(crate) converter: &'a HtmlToMarkdown<H>,
-}
-
-/// The converter that a builder makes. `Err` means out of memory.
-pub(crate) fn converter_of<H: Registrar + Drop>(
+/// The converter that goes by the settings, from a builder with the default options. `Err` means out of memory.
+pub(crate) fn converter_by<H: Registrar + Drop>(
     builder: HtmlToMarkdownBuilder<H>,
-    scripting: bool,
-    options: Options,
-    skipped: &[&str],
+    settings: &Settings<'_>,
 ) -> Result<HtmlToMarkdown<H>, AllocError>
     requires ready { H.ready (handlers_built builder) }
-    ensures ready { IfOk result (λ converter. H.ready (handlers_of converter)) }
-    ensures config { IfOk result (λ converter. H.config (handlers_of converter)
-        ≡ skipping (map (λ t. t.now) skipped.now) (with_options (H.config (handlers_built builder)) options)) }
-    ensures scripting { IfOk result (λ converter. scripting_of converter ≡ scripting) }
+    requires default { H.config (handlers_built builder) ≡ built_in default_options }
+    ensures { IfOk result (λ converter. GoesBy H.ready H.config converter (settings_in settings.now)) }
 {
-    let mut builder = builder.options(options).scripting_enabled(scripting);
+    let options = Options { ..settings.options };
+    let mut builder = builder
+        .options(options)
+        .scripting_enabled(settings.scripting);
+    let skipped = settings.skipped.as_slice();
     if !skipped.is_empty() {
         builder = match builder.skip_tags(skipped) {
             Ok(builder) => builder,
@@ -69,62 +60,51 @@ pub(crate) fn text_of(
     }
 }
 
-/// The Markdown of an input.
+/// The Markdown of an input by a converter that goes by the settings.
 pub(crate) fn markdown_by<H: Registry>(
     alloc: Global,
-    conversion: &Conversion<'_, H>,
+    converter: &HtmlToMarkdown<H>,
+    settings: &Settings<'_>,
     input: &str,
 ) -> Result<String, ConvertError>
-    requires ready { H.ready (handlers_of conversion.now.converter.now) }
+    requires goes_by { GoesBy H.ready H.config converter.now (settings_in settings.now) }
     ensures ok { IfOk result
-        (λ markdown. IsMarkdownBy (way_by H.config conversion.now) input.now (string_bytes markdown)) }
+        (λ markdown. IsMarkdownBy (settings_in settings.now) input.now (string_bytes markdown)) }
     ensures refused_html { (place : ℕ) (kind : FaultKind) → result ≡ Err (ConvertError.Refused place kind)
-        → conversion.now.text ≡ false }
+        → settings.now.text ≡ false }
     ensures refused_strict { (place : ℕ) (kind : FaultKind) → result ≡ Err (ConvertError.Refused place kind)
-        → conversion.now.html5 ≡ false }
+        → settings.now.html5 ≡ false }
     ensures refused { (place : ℕ) (kind : FaultKind) → result ≡ Err (ConvertError.Refused place kind)
-        → IsRefusedBy (way_by H.config conversion.now) input.now place kind }
+        → IsRefusedBy (settings_in settings.now) input.now place kind }
 {
-    let converter = conversion.converter;
-    if conversion.text {
+    if settings.text {
         let tree = paragraph(alloc, input)?;
         return Ok(converter.tree_to_markdown(alloc, &tree, tree.root())?);
     }
-    if conversion.html5 {
+    if settings.html5 {
         return Ok(converter.convert_html5(alloc, input)?);
     }
-    if conversion.body {
+    if settings.body {
         return converter.convert_page(alloc, input);
     }
     converter.convert(alloc, input)
 }
 
-// The Markdown of an input by settings.
+/// The same by a converter of its own.
 pub(crate) fn markdown_of(
     alloc: Global,
+    settings: &Settings<'_>,
     input: &str,
-    settings: Settings<'_>,
 ) -> Result<String, ConvertError>
     ensures ok { IfOk result
-        (λ markdown. HasMarkdown (chosen_by settings.entry) input.now (string_bytes markdown)) }
+        (λ markdown. IsMarkdownBy (settings_in settings.now) input.now (string_bytes markdown)) }
     ensures refused_html { (place : ℕ) (kind : FaultKind) → result ≡ Err (ConvertError.Refused place kind)
-        → settings.entry.text ≡ false }
+        → settings.now.text ≡ false }
     ensures refused_strict { (place : ℕ) (kind : FaultKind) → result ≡ Err (ConvertError.Refused place kind)
-        → settings.entry.html5 ≡ false }
+        → settings.now.html5 ≡ false }
     ensures refused { (place : ℕ) (kind : FaultKind) → result ≡ Err (ConvertError.Refused place kind)
-        → IsInputRefused (chosen_by settings.entry) input.now place kind }
+        → IsRefusedBy (settings_in settings.now) input.now place kind }
 {
-    let converter = converter_of(
-        HtmlToMarkdown::builder(alloc)?,
-        settings.scripting,
-        settings.options,
-        settings.skipped,
-    )?;
-    let conversion = Conversion {
-        text: settings.text,
-        body: settings.body,
-        html5: settings.html5,
-        converter: &converter,
-    };
-    markdown_by(alloc, &conversion, input)
+    let converter = converter_by(HtmlToMarkdown::builder(alloc)?, settings)?;
+    markdown_by(alloc, &converter, settings, input)
 }

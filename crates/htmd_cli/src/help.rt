@@ -2,8 +2,8 @@
 ghost use Rattle.htmd_cli.specs.Failures.{FailsAtErr};
 
 use crate::faults::Failed;
+use crate::options::{OPTIONS, OptionRow};
 use crate::sinks::{Sink, write_all};
-use crate::words::{WORDS, Word};
 
 const USAGE: &str = "\
 Usage: htmd [OPTION..] < page.html > page.md
@@ -24,17 +24,17 @@ pub(crate) fn write_help<W: Sink>(sink: &mut W) -> Result<(), Failed>
     ensures { FailsAtErr result (W.has_failed sink.old) (W.has_failed sink.new) }
 {
     write_all(sink, USAGE.as_bytes())?;
-    for word in &WORDS {
-        write_word(sink, word)?;
+    for row in &OPTIONS {
+        write_option(sink, row)?;
     }
     sink.flush()
 }
 
 // Writes an option with its line.
-fn write_word<W: Sink>(sink: &mut W, word: &Word) -> Result<(), Failed>
+fn write_option<W: Sink>(sink: &mut W, row: &OptionRow) -> Result<(), Failed>
     ensures { FailsAtErr result (W.has_failed sink.old) (W.has_failed sink.new) }
 {
-    let (name, value, _, line) = word;
+    let (name, value, _, line) = row;
     let space = COLUMN.get(name.len() + value.len()..).unwrap_or(" ");
     write_all(sink, name.as_bytes())?;
     write_all(sink, value.as_bytes())?;

@@ -15,6 +15,7 @@ mod faults;
 mod fields;
 mod help;
 mod lines;
+mod options;
 mod paragraph;
 mod pipeline;
 mod program;
@@ -24,7 +25,6 @@ mod settings;
 mod sinks;
 mod sources;
 mod values;
-mod words;
 
 pub use decoding::decoded;
 pub use faults::{Failed, RowFault, RunError};

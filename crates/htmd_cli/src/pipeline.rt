@@ -1,18 +1,17 @@
 //! One run: read all, convert, write.
-ghost use Rattle.std.specs.Prelude.{◌≡◌, ◌≢◌, ◌↔◌, ℕ, [], ◌∷◌, ◌++◌, true, false, IsTrue, Err, IsUtf8, string_bytes};
-ghost use Rattle.std.specs.Prelude.{OnOk, OnErr, IfOk, IfErr, IfSome, IsErrOf};
+ghost use Rattle.std.specs.Prelude.{◌≡◌, ◌≢◌, ◌↔◌, ℕ, ◌∷◌, ◌++◌, [], Some, false, IsTrue, Err, IsUtf8, string_bytes};
+ghost use Rattle.std.specs.Prelude.{OnOk, IfOk, IfErr, IsErrOf};
 ghost use Rattle.std.specs.Io.KnownBytes.{Appends, Consumes, IsAtEnd};
 ghost use Rattle.htmd.specs.Characters.{line_feed};
 ghost use Rattle.htmd.specs.FaultKind.{FaultKind};
-ghost use Rattle.htmd.specs.Conversions.{IsRefused};
-ghost use Rattle.htmd_cli.specs.Conversion.{HasMarkdown, IsInputRefused, IsReadable, reads_any, text_in, way_of};
+ghost use Rattle.htmd_cli.specs.Conversion.{IsMarkdownBy, IsReadable, IsRefusedBy, reads_any, text_in};
 ghost use Rattle.htmd_cli.specs.Failures.{FailsAtErr};
-ghost use Rattle.htmd_cli.specs.Runs.{Converts, IsConvertible};
-ghost use Rattle.htmd_cli.specs.Settings.{chosen_by, chosen_in};
+ghost use Rattle.htmd_cli.specs.Runs.{Ends};
+ghost use Rattle.htmd_cli.specs.Settings.{settings_in, settings_of};
 
 use crate::conversion::{markdown_of, text_of};
 use crate::faults::{Failed, RunError};
-use crate::settings::{Mode, Settings, settings_of};
+use crate::settings::{Mode, Settings, settings_by};
 use crate::sinks::{Sink, write_all};
 use crate::sources::Source;
 use std::alloc::Global;
@@ -30,28 +29,12 @@ pub fn run<R: Source, W: Sink>(
 ) -> Result<(), RunError>
     requires source { R.has_failed source.old ≡ false }
     requires sink { W.has_failed sink.old ≡ false }
-    ensures ok { OnOk result (Converts (chosen_in mode.text mode.faithful)
-        (R.remaining source.old) (W.contents sink.old) (W.contents sink.new)) }
-    ensures end { OnOk result (IsAtEnd (R.remaining source.new)) }
-    ensures end_not_utf8 { IsErrOf result RunError.NotUtf8 → IsAtEnd (R.remaining source.new) }
-    ensures not_utf8 { IsErrOf result RunError.NotUtf8 →
-        IfSome (R.remaining source.old) (λ input. ¬ IsUtf8 input) }
-    ensures end_refused { (place : ℕ) (kind : FaultKind) → result ≡ Err (RunError.Refused place kind)
-        → IsAtEnd (R.remaining source.new) }
-    ensures refused_html { (place : ℕ) (kind : FaultKind) → result ≡ Err (RunError.Refused place kind)
-        → mode.text ≡ false }
-    ensures refused { (place : ℕ) (kind : FaultKind) → result ≡ Err (RunError.Refused place kind)
-        → IfSome (R.remaining source.old) (λ input. IsRefused true input place kind) }
-    ensures utf8_refused { (place : ℕ) (kind : FaultKind) → result ≡ Err (RunError.Refused place kind)
-        → IfSome (R.remaining source.old) (λ input. IsUtf8 input) }
-    ensures nothing_written { ¬ IsErrOf result RunError.Write → OnErr result (sink.new ≡ sink.old) }
-    ensures end_write { IsErrOf result RunError.Write → IsAtEnd (R.remaining source.new) }
-    ensures write { IsErrOf result RunError.Write
-        → IfSome (R.remaining source.old) (IsConvertible (chosen_in mode.text mode.faithful)) }
+    ensures ends { Ends (settings_of mode.text mode.faithful) (R.remaining source.old) (R.remaining source.new)
+        W.contents sink.old sink.new result }
     ensures read_failed { IsErrOf result RunError.Read ↔ IsTrue (R.has_failed source.new) }
     ensures write_failed { IsErrOf result RunError.Write ↔ IsTrue (W.has_failed sink.new) }
 {
-    run_with(alloc, source, sink, settings_of(mode))
+    run_with(alloc, source, sink, settings_by(alloc, mode))
 }
 
 /// The same by settings; each `Err` means what it means for `run`. Where any page is read, neither `NotUtf8` nor
@@ -64,119 +47,90 @@ pub fn run_with<R: Source, W: Sink>(
 ) -> Result<(), RunError>
     requires source { R.has_failed source.old ≡ false }
     requires sink { W.has_failed sink.old ≡ false }
-    ensures ok { OnOk result (Converts (chosen_by settings.entry)
-        (R.remaining source.old) (W.contents sink.old) (W.contents sink.new)) }
-    ensures end { OnOk result (IsAtEnd (R.remaining source.new)) }
-    ensures end_not_utf8 { IsErrOf result RunError.NotUtf8 → IsAtEnd (R.remaining source.new) }
-    ensures not_utf8 { IsErrOf result RunError.NotUtf8 →
-        IfSome (R.remaining source.old) (λ input. ¬ IsUtf8 input) }
-    ensures not_utf8_strict { IsErrOf result RunError.NotUtf8
-        → reads_any (way_of (chosen_by settings.entry)) ≡ false }
-    ensures end_refused { (place : ℕ) (kind : FaultKind) → result ≡ Err (RunError.Refused place kind)
-        → IsAtEnd (R.remaining source.new) }
-    ensures refused_html { (place : ℕ) (kind : FaultKind) → result ≡ Err (RunError.Refused place kind)
-        → settings.entry.text ≡ false }
-    ensures refused_strict { (place : ℕ) (kind : FaultKind) → result ≡ Err (RunError.Refused place kind)
-        → settings.entry.html5 ≡ false }
-    ensures refused { (place : ℕ) (kind : FaultKind) → result ≡ Err (RunError.Refused place kind)
-        → IfSome (R.remaining source.old)
-        (λ input. IsInputRefused (chosen_by settings.entry) input place kind) }
-    ensures utf8_refused { (place : ℕ) (kind : FaultKind) → result ≡ Err (RunError.Refused place kind)
-        → IfSome (R.remaining source.old) (λ input. IsUtf8 input) }
-    ensures nothing_written { ¬ IsErrOf result RunError.Write → OnErr result (sink.new ≡ sink.old) }
-    ensures end_write { IsErrOf result RunError.Write → IsAtEnd (R.remaining source.new) }
-    ensures write { IsErrOf result RunError.Write
-        → IfSome (R.remaining source.old) (IsConvertible (chosen_by settings.entry)) }
+    ensures ends { Ends (settings_in settings.entry) (R.remaining source.old) (R.remaining source.new)
+        W.contents sink.old sink.new result }
     ensures read_failed { IsErrOf result RunError.Read ↔ IsTrue (R.has_failed source.new) }
     ensures write_failed { IsErrOf result RunError.Write ↔ IsTrue (W.has_failed sink.new) }
 {
-    let mut input = Vec::new(alloc);
-    run_over(alloc, source, sink, settings, &mut input)
+    run_over(alloc, source, sink, &settings).0
 }
 
-// The same; what was read is left in the input, which is empty before.
+/// The same, and what was read; that is nothing if the source or the memory failed while it was read.
 pub(crate) fn run_over<R: Source, W: Sink>(
     alloc: Global,
     source: &mut R,
     sink: &mut W,
-    settings: Settings<'_>,
-    input: &mut Vec<u8>,
-) -> Result<(), RunError>
-    requires input { input.old.items ≡ [] }
+    settings: &Settings<'_>,
+) -> (Result<(), RunError>, Vec<u8>)
     requires source { R.has_failed source.old ≡ false }
     requires sink { W.has_failed sink.old ≡ false }
-    ensures ok { OnOk result (Converts (chosen_by settings.entry)
-        (R.remaining source.old) (W.contents sink.old) (W.contents sink.new)) }
-    ensures end { OnOk result (IsAtEnd (R.remaining source.new)) }
-    ensures end_not_utf8 { IsErrOf result RunError.NotUtf8 → IsAtEnd (R.remaining source.new) }
-    ensures not_utf8 { IsErrOf result RunError.NotUtf8 →
-        IfSome (R.remaining source.old) (λ input. ¬ IsUtf8 input) }
-    ensures not_utf8_strict { IsErrOf result RunError.NotUtf8
-        → reads_any (way_of (chosen_by settings.entry)) ≡ false }
-    ensures end_refused { (place : ℕ) (kind : FaultKind) → result ≡ Err (RunError.Refused place kind)
-        → IsAtEnd (R.remaining source.new) }
-    ensures refused_html { (place : ℕ) (kind : FaultKind) → result ≡ Err (RunError.Refused place kind)
-        → settings.entry.text ≡ false }
-    ensures refused_strict { (place : ℕ) (kind : FaultKind) → result ≡ Err (RunError.Refused place kind)
-        → settings.entry.html5 ≡ false }
-    ensures refused { (place : ℕ) (kind : FaultKind) → result ≡ Err (RunError.Refused place kind)
-        → IfSome (R.remaining source.old)
-        (λ input. IsInputRefused (chosen_by settings.entry) input place kind) }
-    ensures utf8_refused { (place : ℕ) (kind : FaultKind) → result ≡ Err (RunError.Refused place kind)
-        → IfSome (R.remaining source.old) (λ input. IsUtf8 input) }
-    ensures nothing_written { ¬ IsErrOf result RunError.Write → OnErr result (sink.new ≡ sink.old) }
-    ensures end_write { IsErrOf result RunError.Write → IsAtEnd (R.remaining source.new) }
-    ensures write { IsErrOf result RunError.Write
-        → IfSome (R.remaining source.old) (IsConvertible (chosen_by settings.entry)) }
-    ensures read_failed { IsErrOf result RunError.Read ↔ IsTrue (R.has_failed source.new) }
-    ensures write_failed { IsErrOf result RunError.Write ↔ IsTrue (W.has_failed sink.new) }
+    ensures ends { Ends (settings_in settings.now) (R.remaining source.old) (R.remaining source.new)
+        W.contents sink.old sink.new result.0 }
+    ensures read_failed { IsErrOf result.0 RunError.Read ↔ IsTrue (R.has_failed source.new) }
+    ensures write_failed { IsErrOf result.0 RunError.Write ↔ IsTrue (W.has_failed sink.new) }
 {
-    read_all(source, input)?;
-    let markdown = converted(alloc, input.as_slice(), settings)?;
-    match write_line(sink, markdown.as_str()) {
-        Ok(()) => Ok(()),
-        Err(_) => Err(RunError::Write),
+    match read_all(alloc, source) {
+        Ok(input) => (convert_into(alloc, input.as_slice(), sink, settings), input),
+        Err(error) => (Err(error), Vec::new(alloc)),
     }
 }
 
 const BUFFER_SIZE: usize = 8192;
 
-// Reads all that the source gives into the empty input.
-fn read_all<R: Source>(source: &mut R, input: &mut Vec<u8>) -> Result<(), RunError>
+// All that the source gives.
+fn read_all<R: Source>(alloc: Global, source: &mut R) -> Result<Vec<u8>, RunError>
     requires source { R.has_failed source.old ≡ false }
-    requires input { input.old.items ≡ [] }
-    ensures bytes { OnOk result (Consumes (R.remaining source.old) (R.remaining source.new) input.new.items) }
+    ensures bytes { IfOk result (λ input. Consumes (R.remaining source.old) (R.remaining source.new) input.items) }
     ensures end { OnOk result (IsAtEnd (R.remaining source.new)) }
     ensures read_failed { IsErrOf result RunError.Read ↔ IsTrue (R.has_failed source.new) }
     ensures others { IfErr result (λ error. (error ≢ RunError.Write) × (error ≢ RunError.NotUtf8)
         × ((place : ℕ) (kind : FaultKind) → error ≢ RunError.Refused place kind)) }
 {
+    let mut input = Vec::new(alloc);
     let mut buffer = [0u8; BUFFER_SIZE];
     loop {
         let Ok(count) = source.read(&mut buffer) else {
             return Err(RunError::Read);
         };
         if count == 0 {
-            return Ok(());
+            return Ok(input);
         }
         input.extend_from_slice(&buffer[..count])?;
     }
 }
 
+// Converts all of an input into the sink.
+fn convert_into<W: Sink>(
+    alloc: Global,
+    input: &[u8],
+    sink: &mut W,
+    settings: &Settings<'_>,
+) -> Result<(), RunError>
+    requires sink { W.has_failed sink.old ≡ false }
+    ensures ends { Ends (settings_in settings.now) (Some input.now) (Some []) W.contents sink.old sink.new result }
+    ensures read { ¬ IsErrOf result RunError.Read }
+    ensures write_failed { IsErrOf result RunError.Write ↔ IsTrue (W.has_failed sink.new) }
+{
+    let markdown = converted(alloc, input, settings)?;
+    match write_line(sink, markdown.as_str()) {
+        Ok(()) => Ok(()),
+        Err(_) => Err(RunError::Write),
+    }
+}
+
 // The Markdown of the text that an input holds.
-fn converted(alloc: Global, input: &[u8], settings: Settings<'_>) -> Result<String, RunError>
-    ensures ok { IfOk result (λ markdown. IsReadable (reads_any (way_of (chosen_by settings.entry))) input.now
-        × HasMarkdown (chosen_by settings.entry)
-        (text_in (reads_any (way_of (chosen_by settings.entry))) input.now) (string_bytes markdown)) }
+fn converted(alloc: Global, input: &[u8], settings: &Settings<'_>) -> Result<String, RunError>
+    ensures ok { IfOk result (λ markdown. IsReadable (reads_any (settings_in settings.now)) input.now
+        × IsMarkdownBy (settings_in settings.now)
+        (text_in (reads_any (settings_in settings.now)) input.now) (string_bytes markdown)) }
     ensures not_utf8 { IsErrOf result RunError.NotUtf8 → ¬ IsUtf8 input.now }
-    ensures not_utf8_strict { IsErrOf result RunError.NotUtf8
-        → reads_any (way_of (chosen_by settings.entry)) ≡ false }
+    ensures not_utf8_strict { IsErrOf result RunError.NotUtf8 → reads_any (settings_in settings.now) ≡ false }
     ensures refused_html { (place : ℕ) (kind : FaultKind) → result ≡ Err (RunError.Refused place kind)
-        → settings.entry.text ≡ false }
+        → settings.now.text ≡ false }
     ensures refused_strict { (place : ℕ) (kind : FaultKind) → result ≡ Err (RunError.Refused place kind)
-        → settings.entry.html5 ≡ false }
+        → settings.now.html5 ≡ false }
     ensures refused { (place : ℕ) (kind : FaultKind) → result ≡ Err (RunError.Refused place kind)
-        → IsInputRefused (chosen_by settings.entry) input.now place kind }
+        → IsRefusedBy (settings_in settings.now) input.now place kind }
     ensures utf8_refused { (place : ℕ) (kind : FaultKind) → result ≡ Err (RunError.Refused place kind)
         → IsUtf8 input.now }
     ensures others { IfErr result (λ error. error ≢ RunError.Read × error ≢ RunError.Write) }
@@ -184,7 +138,7 @@ fn converted(alloc: Global, input: &[u8], settings: Settings<'_>) -> Result<Stri
     let Some(text) = text_of(alloc, input, settings.html5 && !settings.text)? else {
         return Err(RunError::NotUtf8);
     };
-    Ok(markdown_of(alloc, &text, settings)?)
+    Ok(markdown_of(alloc, settings, &text)?)
 }
 
 // Writes the Markdown and a line feed, and flushes.

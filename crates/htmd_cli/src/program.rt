@@ -2,23 +2,22 @@
 ghost use Rattle.std.specs.Prelude.{◌≡◌, ◌≢◌, ◌≤◌, ◌↔◌, false, true};
 ghost use Rattle.std.specs.Io.KnownBytes.{IsAtEnd, Keeps};
 ghost use Rattle.htmd_cli.specs.Failures.{FailsAtErr};
-ghost use Rattle.htmd_cli.specs.Conversion.{way_of};
 ghost use Rattle.htmd_cli.specs.Rows.{AnswersFirst, AnswersSome, ConvertsRows, Succeeds};
 ghost use Rattle.htmd_cli.specs.Runs.{Converts};
-ghost use Rattle.htmd_cli.specs.Settings.{chosen_by};
-ghost use Rattle.htmd_cli.specs.WordRows.{asked_in};
-ghost use Rattle.htmd_cli.specs.Words.{are_known, asked_by};
+ghost use Rattle.htmd_cli.specs.OptionRows.{request_in};
+ghost use Rattle.htmd_cli.specs.Options.{are_known, request_by};
+ghost use Rattle.htmd_cli.specs.Settings.{settings_in};
 
 use crate::explanations::explain;
 use crate::faults::{Failed, RunError};
 use crate::help::{write_help, write_version};
+use crate::options::{Notice, OptionFault, Request, request_of};
 use crate::pipeline::run_over;
 use crate::reports::Lines;
 use crate::rows::run_rows;
 use crate::settings::Settings;
 use crate::sinks::Sink;
 use crate::sources::Source;
-use crate::words::{Notice, Request, are_known, first_unknown, request_of};
 use std::alloc::Global;
 use std::fmt::Write;
 
@@ -30,35 +29,37 @@ use std::fmt::Write;
 /// have failed before.
 pub fn command<R: Source, W: Sink, E: Sink>(
     alloc: Global,
-    words: &[String],
+    options: &[String],
     source: &mut R,
     sink: &mut W,
     errors: &mut E,
 ) -> u8
     requires source { R.has_failed source.old ≡ false }
     requires sink { W.has_failed sink.old ≡ false }
-    ensures success { result ≡ 0 → (asked_by words.now).shows ≡ false → Succeeds (asked_by words.now)
+    ensures success { result ≡ 0 → (request_by options.now).shows ≡ false → Succeeds (request_by options.now)
         (R.remaining source.old) (W.contents sink.old) (W.contents sink.new) }
-    ensures end { result ≡ 0 → (asked_by words.now).shows ≡ false → (asked_by words.now).rows ≡ false
+    ensures end { result ≡ 0 → (request_by options.now).shows ≡ false → (request_by options.now).rows ≡ false
         → IsAtEnd (R.remaining source.new) }
     ensures no_failure { result ≡ 0 →
         (R.has_failed source.new ≡ false) × (W.has_failed sink.new ≡ false) }
-    ensures nothing_written { result ≢ 0 → (asked_by words.now).rows ≡ false → W.has_failed sink.new ≡ false
-        → sink.new ≡ sink.old }
-    ensures rows_written { result ≢ 0 → (asked_by words.now).rows ≡ true → W.has_failed sink.new ≡ false
-        → AnswersSome (asked_by words.now) (R.remaining source.old) (W.contents sink.old) (W.contents sink.new) }
-    ensures unknown { result ≡ 2 ↔ are_known words.now ≡ false }
+    ensures nothing_written { result ≢ 0 → (request_by options.now).rows ≡ false
+        → W.has_failed sink.new ≡ false → sink.new ≡ sink.old }
+    ensures rows_written { result ≢ 0 → (request_by options.now).rows ≡ true → W.has_failed sink.new ≡ false
+        → AnswersSome (request_by options.now)
+        (R.remaining source.old) (W.contents sink.old) (W.contents sink.new) }
+    ensures unknown { result ≡ 2 ↔ are_known options.now ≡ false }
     ensures nothing_read { result ≡ 2 → Keeps (R.remaining source.old) (R.remaining source.new) }
-    ensures shown { (asked_by words.now).shows ≡ true → Keeps (R.remaining source.old) (R.remaining source.new) }
+    ensures shown { (request_by options.now).shows ≡ true
+        → Keeps (R.remaining source.old) (R.remaining source.new) }
     ensures status { result ≤ 2 }
 {
-    if !are_known(words) {
-        say_unknown(errors, first_unknown(words));
-        return 2;
-    }
-    let request = match request_of(alloc, words) {
+    let request = match request_of(alloc, options) {
         Ok(request) => request,
-        Err(_) => return failed(errors, &RunError::Memory),
+        Err(OptionFault::Unknown(option)) => {
+            say_unknown(errors, option);
+            return 2;
+        }
+        Err(OptionFault::Memory) => return failed(errors, &RunError::Memory),
     };
     match request.shows {
         Some(notice) => match show(sink, notice) {
@@ -69,13 +70,13 @@ pub fn command<R: Source, W: Sink, E: Sink>(
     }
 }
 
-// Says that a word is unknown, and which.
-fn say_unknown<E: Sink>(errors: &mut E, word: &str) {
+// Says that an option is unknown, and which.
+fn say_unknown<E: Sink>(errors: &mut E, option: &str) {
     let mut lines = Lines { sink: errors };
     let _ = writeln!(lines, "htmd: unknown word");
     let _ = writeln!(
         lines,
-        "htmd: '{word}' is not an option, or not with this value: see --help"
+        "htmd: '{option}' is not an option, or not with this value: see --help"
     );
 }
 
@@ -106,7 +107,7 @@ fn convert<R: Source, W: Sink, E: Sink>(
 ) -> u8
     requires source { R.has_failed source.old ≡ false }
     requires sink { W.has_failed sink.old ≡ false }
-    ensures success { result ≡ 0 → Succeeds (asked_in request.entry)
+    ensures success { result ≡ 0 → Succeeds (request_in request.entry)
         (R.remaining source.old) (W.contents sink.old) (W.contents sink.new) }
     ensures end { result ≡ 0 → request.entry.rows ≡ false → IsAtEnd (R.remaining source.new) }
     ensures no_failure { result ≡ 0 →
@@ -114,21 +115,21 @@ fn convert<R: Source, W: Sink, E: Sink>(
     ensures nothing_written { result ≢ 0 → request.entry.rows ≡ false → W.has_failed sink.new ≡ false
         → sink.new ≡ sink.old }
     ensures rows_written { result ≢ 0 → request.entry.rows ≡ true → W.has_failed sink.new ≡ false
-        → AnswersSome (asked_in request.entry) (R.remaining source.old) (W.contents sink.old) (W.contents sink.new) }
+        → AnswersSome (request_in request.entry)
+        (R.remaining source.old) (W.contents sink.old) (W.contents sink.new) }
     ensures status { result ≤ 1 }
 {
-    let settings = Settings {
-        text: request.text,
-        body: request.body,
-        html5: request.html5,
-        scripting: request.scripting,
-        options: request.options,
-        skipped: request.skipped.as_slice(),
-    };
-    if request.rows {
-        return convert_rows(alloc, source, sink, errors, settings, request.explains);
+    let Request {
+        settings,
+        rows,
+        explains,
+        ..
+    } = request;
+    if rows {
+        convert_rows(alloc, source, sink, errors, settings, explains)
+    } else {
+        convert_page(alloc, source, sink, errors, &settings, explains)
     }
-    convert_page(alloc, source, sink, errors, settings, request.explains)
 }
 
 // The same for a page.
@@ -137,12 +138,12 @@ fn convert_page<R: Source, W: Sink, E: Sink>(
     source: &mut R,
     sink: &mut W,
     errors: &mut E,
-    settings: Settings<'_>,
+    settings: &Settings<'_>,
     explains: bool,
 ) -> u8
     requires source { R.has_failed source.old ≡ false }
     requires sink { W.has_failed sink.old ≡ false }
-    ensures success { result ≡ 0 → Converts (chosen_by settings.entry)
+    ensures success { result ≡ 0 → Converts (settings_in settings.now)
         (R.remaining source.old) (W.contents sink.old) (W.contents sink.new) }
     ensures end { result ≡ 0 → IsAtEnd (R.remaining source.new) }
     ensures no_failure { result ≡ 0 →
@@ -150,8 +151,8 @@ fn convert_page<R: Source, W: Sink, E: Sink>(
     ensures nothing_written { result ≢ 0 → W.has_failed sink.new ≡ false → sink.new ≡ sink.old }
     ensures status { result ≤ 1 }
 {
-    let mut input = Vec::new(alloc);
-    match run_over(alloc, source, sink, settings, &mut input) {
+    let (outcome, input) = run_over(alloc, source, sink, settings);
+    match outcome {
         Ok(()) => 0,
         Err(error) => {
             let status = failed(errors, &error);
@@ -174,12 +175,12 @@ fn convert_rows<R: Source, W: Sink, E: Sink>(
 ) -> u8
     requires source { R.has_failed source.old ≡ false }
     requires sink { W.has_failed sink.old ≡ false }
-    ensures success { result ≡ 0 → ConvertsRows (way_of (chosen_by settings.entry))
+    ensures success { result ≡ 0 → ConvertsRows (settings_in settings.entry)
         (R.remaining source.old) (W.contents sink.old) (W.contents sink.new) }
     ensures no_failure { result ≡ 0 →
         (R.has_failed source.new ≡ false) × (W.has_failed sink.new ≡ false) }
     ensures rows_written { result ≢ 0 → W.has_failed sink.new ≡ false
-        → AnswersFirst (way_of (chosen_by settings.entry))
+        → AnswersFirst (settings_in settings.entry)
         (R.remaining source.old) (W.contents sink.old) (W.contents sink.new) }
     ensures status { result ≤ 1 }
 {

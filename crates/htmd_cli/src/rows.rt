@@ -3,16 +3,15 @@ ghost use Rattle.std.specs.Prelude.{◌≡◌, ◌≢◌, ◌↔◌, ◌+◌, �
 ghost use Rattle.std.specs.Prelude.{IfOk, IfErr, OnOk, OnErr, IsErrAnd};
 ghost use Rattle.std.specs.Io.KnownBytes.{Appends};
 ghost use Rattle.htmd.specs.Characters.{line_feed};
-ghost use Rattle.htmd.specs.Converters.{handlers_of};
 ghost use Rattle.htmd_cli.specs.Batches.{Answers, followed, rows_from, rows_left};
-ghost use Rattle.htmd_cli.specs.Conversion.{way_by, way_of};
+ghost use Rattle.htmd_cli.specs.Conversion.{GoesBy};
 ghost use Rattle.htmd_cli.specs.Failures.{AppendsSome, FailsAtErr, IsRowFault};
 ghost use Rattle.htmd_cli.specs.Lines.{lacks, rows};
 ghost use Rattle.htmd_cli.specs.Rows.{ConvertsRows, IsRowAnswer, StopsAtRow, StopsInRows, counted};
-ghost use Rattle.htmd_cli.specs.Settings.{chosen_by};
+ghost use Rattle.htmd_cli.specs.Settings.{settings_in};
 
 use crate::answers::answer_row;
-use crate::conversion::{Conversion, converter_of};
+use crate::conversion::converter_by;
 use crate::faults::{Failed, RowFault, RunError};
 use crate::lines::parted;
 use crate::reports::report;
@@ -43,13 +42,13 @@ pub fn run_rows<R: Source, W: Sink, E: Sink>(
 ) -> Result<(), RowFault>
     requires source { R.has_failed source.old ≡ false }
     requires sink { W.has_failed sink.old ≡ false }
-    ensures ok { OnOk result (ConvertsRows (way_of (chosen_by settings.entry))
+    ensures ok { OnOk result (ConvertsRows (settings_in settings.entry)
         (R.remaining source.old) (W.contents sink.old) (W.contents sink.new)) }
     ensures stops { IfErr result (λ fault. fault.error ≢ RunError.Write
-        → StopsAtRow (way_of (chosen_by settings.entry)) fault.row
+        → StopsAtRow (settings_in settings.entry) fault.row
         (R.remaining source.old) (W.contents sink.old) (W.contents sink.new)) }
     ensures write { IfErr result (λ fault. fault.error ≡ RunError.Write
-        → StopsInRows (way_of (chosen_by settings.entry)) fault.row
+        → StopsInRows (settings_in settings.entry) fault.row
         (R.remaining source.old) (W.contents sink.old) (W.contents sink.new)) }
     ensures faults { IfErr result (λ fault. IsRowFault fault.error) }
     ensures read_failed { IsErrAnd result (λ fault. fault.error ≡ RunError.Read)
@@ -60,21 +59,10 @@ pub fn run_rows<R: Source, W: Sink, E: Sink>(
     let Ok(builder) = HtmlToMarkdown::builder(alloc) else {
         return Err(first_row_fault());
     };
-    let Ok(converter) = converter_of(
-        builder,
-        settings.scripting,
-        settings.options,
-        settings.skipped,
-    ) else {
+    let Ok(converter) = converter_by(builder, &settings) else {
         return Err(first_row_fault());
     };
-    let conversion = Conversion {
-        text: settings.text,
-        body: settings.body,
-        html5: settings.html5,
-        converter: &converter,
-    };
-    answer_all(alloc, &conversion, source, sink, errors, explains)
+    answer_all(alloc, &converter, &settings, source, sink, errors, explains)
 }
 
 // Out of memory before the first row.
@@ -102,22 +90,23 @@ fn write_fault(answered: u64) -> RowFault
 // The same by a converter.
 fn answer_all<H: Registry, R: Source, W: Sink, E: Sink>(
     alloc: Global,
-    conversion: &Conversion<'_, H>,
+    converter: &HtmlToMarkdown<H>,
+    settings: &Settings<'_>,
     source: &mut R,
     sink: &mut W,
     errors: &mut E,
     explains: bool,
 ) -> Result<(), RowFault>
-    requires ready { H.ready (handlers_of conversion.now.converter.now) }
+    requires goes_by { GoesBy H.ready H.config converter.now (settings_in settings.now) }
     requires source { R.has_failed source.old ≡ false }
     requires sink { W.has_failed sink.old ≡ false }
-    ensures ok { OnOk result (ConvertsRows (way_by H.config conversion.now)
+    ensures ok { OnOk result (ConvertsRows (settings_in settings.now)
         (R.remaining source.old) (W.contents sink.old) (W.contents sink.new)) }
     ensures stops { IfErr result (λ fault. fault.error ≢ RunError.Write
-        → StopsAtRow (way_by H.config conversion.now) fault.row
+        → StopsAtRow (settings_in settings.now) fault.row
         (R.remaining source.old) (W.contents sink.old) (W.contents sink.new)) }
     ensures write { IfErr result (λ fault. fault.error ≡ RunError.Write
-        → StopsInRows (way_by H.config conversion.now) fault.row
+        → StopsInRows (settings_in settings.now) fault.row
         (R.remaining source.old) (W.contents sink.old) (W.contents sink.new)) }
     ensures faults { IfErr result (λ fault. IsRowFault fault.error) }
     ensures read_failed { IsErrAnd result (λ fault. fault.error ≡ RunError.Read)
@@ -125,13 +114,13 @@ fn answer_all<H: Registry, R: Source, W: Sink, E: Sink>(
     ensures write_failed { IsErrAnd result (λ fault. fault.error ≡ RunError.Write)
         ↔ IsTrue (W.has_failed sink.new) }
 {
-    let mut batch = Batch::new(alloc);
+    let mut batch = Batch::new(alloc, explains);
     let mut buffer = [0u8; BUFFER_SIZE];
     for _ in 0..u64::MAX {
         let Ok(count) = source.read(&mut buffer) else {
             return Err(batch.fault(RunError::Read));
         };
-        let outcome = batch.take_read(alloc, conversion, &buffer[..count], errors, explains);
+        let outcome = batch.take_read(converter, settings, &buffer[..count], errors);
         match batch.hand_on(sink) {
             Ok(()) => {}
             Err(_) => return Err(write_fault(batch.answered)),
@@ -149,6 +138,9 @@ fn answer_all<H: Registry, R: Source, W: Sink, E: Sink>(
 /// The row that comes in, and the answers that wait.
 #[derive(Drop)]
 struct Batch {
+    alloc: Global,
+    // The sink for errors also gets where and why a page is refused.
+    explains: bool,
     // What was read of the row that isn't answered.
     begun: Vec<u8>,
     // The page of the last row, and what was written of its answer.
@@ -161,12 +153,14 @@ struct Batch {
 }
 
 impl Batch {
-    fn new(alloc: Global) -> Batch
+    fn new(alloc: Global, explains: bool) -> Batch
         ensures begun { result.begun.items ≡ [] }
         ensures answers { result.answers.items ≡ [] }
         ensures answered { result.answered ≡ 0 }
     {
         Batch {
+            alloc,
+            explains,
             begun: Vec::new(alloc),
             page: Vec::new(alloc),
             answer: Vec::new(alloc),
@@ -189,45 +183,43 @@ impl Batch {
     // Takes what was read; no bytes mean the end. It is false if no row follows.
     fn take_read<H: Registry, E: Sink>(
         &mut self,
-        alloc: Global,
-        conversion: &Conversion<'_, H>,
+        converter: &HtmlToMarkdown<H>,
+        settings: &Settings<'_>,
         bytes: &[u8],
         errors: &mut E,
-        explains: bool,
     ) -> Result<bool, AllocError>
-        requires ready { H.ready (handlers_of conversion.now.converter.now) }
+        requires goes_by { GoesBy H.ready H.config converter.now (settings_in settings.now) }
         requires begun { lacks line_feed self.old.begun.items ≡ true }
-        ensures ok { IfOk result (λ goes_on. Answers (way_by H.config conversion.now)
+        ensures ok { IfOk result (λ goes_on. Answers (settings_in settings.now)
             (λ tail. rows_from self.old.begun.items (followed bytes.now tail))
             (rows_left goes_on self.new.begun.items)
             self.old.answers.items self.new.answers.items self.old.answered self.new.answered) }
-        ensures err { OnErr result ((rest : List ℕ → List (List ℕ)) × Answers (way_by H.config conversion.now)
+        ensures err { OnErr result ((rest : List ℕ → List (List ℕ)) × Answers (settings_in settings.now)
             (λ tail. rows_from self.old.begun.items (followed bytes.now tail)) rest
             self.old.answers.items self.new.answers.items self.old.answered self.new.answered) }
         ensures begun { IfOk result (λ goes_on. goes_on ≡ true → lacks line_feed self.new.begun.items ≡ true) }
         ensures end { IfOk result (λ goes_on. goes_on ≡ true → 0 < length bytes.now) }
     {
         if bytes.is_empty() {
-            self.take_end(alloc, conversion, errors, explains)?;
+            self.take_end(converter, settings, errors)?;
             return Ok(false);
         }
-        self.take(alloc, conversion, bytes, errors, explains)
+        self.take(converter, settings, bytes, errors)
     }
 
     // Answers the row that is open at the end, if there is one.
     fn take_end<H: Registry, E: Sink>(
         &mut self,
-        alloc: Global,
-        conversion: &Conversion<'_, H>,
+        converter: &HtmlToMarkdown<H>,
+        settings: &Settings<'_>,
         errors: &mut E,
-        explains: bool,
     ) -> Result<(), AllocError>
-        requires ready { H.ready (handlers_of conversion.now.converter.now) }
+        requires goes_by { GoesBy H.ready H.config converter.now (settings_in settings.now) }
         requires begun { lacks line_feed self.old.begun.items ≡ true }
-        ensures ok { OnOk result (Answers (way_by H.config conversion.now)
+        ensures ok { OnOk result (Answers (settings_in settings.now)
             (λ _. rows self.old.begun.items) (λ _. [])
             self.old.answers.items self.new.answers.items self.old.answered self.new.answered) }
-        ensures err { OnErr result ((rest : List ℕ → List (List ℕ)) × Answers (way_by H.config conversion.now)
+        ensures err { OnErr result ((rest : List ℕ → List (List ℕ)) × Answers (settings_in settings.now)
             (λ _. rows self.old.begun.items) rest
             self.old.answers.items self.new.answers.items self.old.answered self.new.answered) }
     {
@@ -237,25 +229,24 @@ impl Batch {
         if self.begun.as_slice() == END_MARK {
             return Ok(());
         }
-        self.answer_open(alloc, conversion, errors, explains)
+        self.answer_open(converter, settings, errors)
     }
 
     // Answers each row that ends in these bytes, and keeps what follows. It is false if the data ends.
     fn take<H: Registry, E: Sink>(
         &mut self,
-        alloc: Global,
-        conversion: &Conversion<'_, H>,
+        converter: &HtmlToMarkdown<H>,
+        settings: &Settings<'_>,
         bytes: &[u8],
         errors: &mut E,
-        explains: bool,
     ) -> Result<bool, AllocError>
-        requires ready { H.ready (handlers_of conversion.now.converter.now) }
+        requires goes_by { GoesBy H.ready H.config converter.now (settings_in settings.now) }
         requires begun { lacks line_feed self.old.begun.items ≡ true }
-        ensures ok { IfOk result (λ goes_on. Answers (way_by H.config conversion.now)
+        ensures ok { IfOk result (λ goes_on. Answers (settings_in settings.now)
             (λ tail. rows_from self.old.begun.items (bytes.now ++ tail))
             (rows_left goes_on self.new.begun.items)
             self.old.answers.items self.new.answers.items self.old.answered self.new.answered) }
-        ensures err { OnErr result ((rest : List ℕ → List (List ℕ)) × Answers (way_by H.config conversion.now)
+        ensures err { OnErr result ((rest : List ℕ → List (List ℕ)) × Answers (settings_in settings.now)
             (λ tail. rows_from self.old.begun.items (bytes.now ++ tail)) rest
             self.old.answers.items self.new.answers.items self.old.answered self.new.answered) }
         ensures begun { OnOk result (lacks line_feed self.new.begun.items ≡ true) }
@@ -266,7 +257,7 @@ impl Batch {
             if self.begun.as_slice() == END_MARK {
                 return Ok(false);
             }
-            self.answer_open(alloc, conversion, errors, explains)?;
+            self.answer_open(converter, settings, errors)?;
             rest = behind;
         }
         self.begun.extend_from_slice(rest)?;
@@ -276,13 +267,12 @@ impl Batch {
     // Answers the row that is open, and opens the next one.
     fn answer_open<H: Registry, E: Sink>(
         &mut self,
-        alloc: Global,
-        conversion: &Conversion<'_, H>,
+        converter: &HtmlToMarkdown<H>,
+        settings: &Settings<'_>,
         errors: &mut E,
-        explains: bool,
     ) -> Result<(), AllocError>
-        requires ready { H.ready (handlers_of conversion.now.converter.now) }
-        ensures ok { OnOk result ((written : List ℕ) × IsRowAnswer (way_by H.config conversion.now)
+        requires goes_by { GoesBy H.ready H.config converter.now (settings_in settings.now) }
+        ensures ok { OnOk result ((written : List ℕ) × IsRowAnswer (settings_in settings.now)
             self.old.begun.items written × (self.new.answers.items ≡ self.old.answers.items ++ written)) }
         ensures next { OnOk result (self.new.begun.items ≡ []) }
         ensures answered { OnOk result (self.new.answered ≡ counted (self.old.answered + 1)) }
@@ -292,8 +282,9 @@ impl Batch {
         self.page.clear();
         self.answer.clear();
         let refused = answer_row(
-            alloc,
-            conversion,
+            self.alloc,
+            converter,
+            settings,
             self.begun.as_slice(),
             &mut self.page,
             &mut self.answer,
@@ -307,7 +298,7 @@ impl Batch {
                 self.answered,
                 &error,
                 self.page.as_slice(),
-                explains,
+                self.explains,
             );
         }
         Ok(())

@@ -1,8 +1,9 @@
 //! What a run is asked to do.
 ghost use Rattle.std.specs.Prelude.{◌≡◌};
-ghost use Rattle.htmd_cli.specs.Settings.{chosen_by, chosen_in};
+ghost use Rattle.htmd_cli.specs.Settings.{default_settings, settings_in, settings_of};
 
 use htmd::options::{Options, TranslationMode};
+use std::alloc::Global;
 
 /// What a run takes its input for, and how it writes what Markdown cannot say.
 #[derive(Debug, Clone, Copy, PartialEq, Eq)]
@@ -27,12 +28,29 @@ pub struct Settings<'a> {
     pub scripting: bool,
     pub options: Options,
     /// Elements with these names give nothing. The names of elements are in lower case.
-    pub skipped: &'a [&'a str],
+    pub skipped: Vec<&'a str>,
 }
 
-// The settings of a mode: the default options except for what it names, scripting on, and no element skipped.
-pub(crate) fn settings_of(mode: Mode) -> Settings<'static>
-    ensures { chosen_by result ≡ chosen_in mode.text mode.faithful }
+impl<'a> Settings<'a> {
+    /// The settings if no option is given: the input is HTML of the strict grammar, the options are the default ones,
+    /// scripting is on, and no element is skipped.
+    pub fn new(alloc: Global) -> Settings<'a>
+        ensures { settings_in result ≡ default_settings }
+    {
+        Settings {
+            text: false,
+            body: false,
+            html5: false,
+            scripting: true,
+            options: Options::default(),
+            skipped: Vec::new(alloc),
+        }
+    }
+}
+
+// The settings of a mode: the default ones except for what it names.
+pub(crate) fn settings_by(alloc: Global, mode: Mode) -> Settings<'static>
+    ensures { settings_in result ≡ settings_of mode.text mode.faithful }
 {
     let translation_mode = if mode.faithful {
         TranslationMode::Faithful
@@ -41,13 +59,10 @@ pub(crate) fn settings_of(mode: Mode) -> Settings<'static>
     };
     Settings {
         text: mode.text,
-        body: false,
-        html5: false,
-        scripting: true,
         options: Options {
             translation_mode,
             ..Options::default()
         },
-        skipped: &[],
+        ..Settings::new(alloc)
     }
 }

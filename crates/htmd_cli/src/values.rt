@@ -1,7 +1,7 @@
 //! The values of options: numbers, and names between commas.
 ghost use Rattle.std.specs.Prelude.{◌≡◌, ◌++◌, map, OnOk, None, Some};
 ghost use Rattle.std.specs.List.{list_all};
-ghost use Rattle.htmd_cli.specs.Words as spec;
+ghost use Rattle.htmd_cli.specs.Options as spec;
 
 use std::alloc::AllocError;
 

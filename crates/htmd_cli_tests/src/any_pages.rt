@@ -37,10 +37,10 @@ fn reads_each_encoding(rt: HostRuntime) -> Result<(), Fail> {
 #[test]
 fn reads_utf8_alone_otherwise(rt: HostRuntime) -> Result<(), Fail> {
     let table: [&[&str]; 4] = [&[], &["--body"], &["--html5", "--text"], &["--text"]];
-    for words in table {
+    for options in table {
         for page in [b"a\xE9".as_slice(), b"\xFE\xFF\0a"] {
-            let answer = called(rt.alloc(), words, page)?;
-            assert_eq!(rt; answer.stdout.as_str(), "", "{words:?}");
+            let answer = called(rt.alloc(), options, page)?;
+            assert_eq!(rt; answer.stdout.as_str(), "", "{options:?}");
             assert_eq!(rt; answer.stderr.as_str(), "htmd: not UTF-8\n");
             assert_eq!(rt; answer.status, 1);
         }
@@ -54,8 +54,8 @@ fn answers_rows(rt: HostRuntime) -> Result<(), Fail> {
     let rows =
         b"1\t<p>a<p>b\n2\t<p><div>\n\\N\n4\t\\377\\376\\x61\\0\n5\t\xE9\n6\t<b>c\\n<i>d\\0\n";
     let wanted = "1\ta\\n\\nb\n2\t\n\\N\n4\ta\n5\t\u{E9}\n6\t**c *d***\n";
-    for words in [["--html5", "--rows"], ["--rows", "--html5"]] {
-        let answer = called(rt.alloc(), words.as_slice(), rows)?;
+    for options in [["--html5", "--rows"], ["--rows", "--html5"]] {
+        let answer = called(rt.alloc(), options.as_slice(), rows)?;
         assert_eq!(rt; answer.stdout.as_str(), wanted);
         assert_eq!(rt; answer.stderr.as_str(), "");
         assert_eq!(rt; answer.status, 0);
@@ -66,14 +66,14 @@ fn answers_rows(rt: HostRuntime) -> Result<(), Fail> {
 // A page of 31 bytes is read in 32 reads, the last one at its end. Each of them fails in turn.
 #[test]
 fn answers_each_failed_read(rt: HostRuntime) -> Result<(), Fail> {
-    let words = strings(rt.alloc(), &["--html5"])?;
+    let options = strings(rt.alloc(), &["--html5"])?;
     for reads in 0..34 {
         let mut source = Dripping::new(PAGE.as_bytes(), reads);
         let mut sink = Narrow::new(rt.alloc(), 100);
         let mut errors = Narrow::new(rt.alloc(), 100);
         let status = command(
             rt.alloc(),
-            words.as_slice(),
+            options.as_slice(),
             &mut source,
             &mut sink,
             &mut errors,
@@ -100,15 +100,15 @@ fn answers_each_failed_write(rt: HostRuntime) -> Result<(), Fail> {
             "htmd: row 1: write failed\n",
         ),
     ];
-    for (words, markdown, said) in table {
-        let words = strings(rt.alloc(), words)?;
+    for (options, markdown, said) in table {
+        let options = strings(rt.alloc(), options)?;
         for calls in 0..=markdown.len() {
             let mut source = Dripping::new(b"<p>a<p>b", 100);
             let mut sink = Narrow::new(rt.alloc(), calls);
             let mut errors = Narrow::new(rt.alloc(), 100);
             let status = command(
                 rt.alloc(),
-                words.as_slice(),
+                options.as_slice(),
                 &mut source,
                 &mut sink,
                 &mut errors,

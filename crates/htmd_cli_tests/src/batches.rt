@@ -111,13 +111,13 @@ open; write its end tag.\n<p>\n   ^\n",
         ),
     ];
     for (lines, stdin, stdout, stderr) in table {
-        let words = rows_words(rt.alloc(), lines)?;
+        let options = rows_options(rt.alloc(), lines)?;
         let mut sink = Narrow::new(rt.alloc(), 1000);
         let mut errors = Narrow::new(rt.alloc(), 1000);
         let mut source = Dripping::new(stdin, 1000);
         let status = command(
             rt.alloc(),
-            words.as_slice(),
+            options.as_slice(),
             &mut source,
             &mut sink,
             &mut errors,
@@ -125,28 +125,28 @@ open; write its end tag.\n<p>\n   ^\n",
         assert_eq!(rt; sink.bytes(), stdout.as_bytes(), "{stdin:?}");
         assert_eq!(rt; errors.bytes(), stderr.as_bytes());
         assert_eq!(rt; status, 0);
-        let at_once = answered_at_once(rt.alloc(), words.as_slice(), stdin)?;
+        let at_once = answered_at_once(rt.alloc(), options.as_slice(), stdin)?;
         assert_eq!(rt; at_once.as_str(), stdout, "{stdin:?}");
     }
     Ok(())
 }
 
 // The options that a text has, one on each line, and after them the one for rows.
-fn rows_words(alloc: Global, lines: &str) -> Result<Vec<String>, AllocError> {
-    let mut words = Vec::new(alloc);
-    for word in lines.lines() {
-        words.push(String::from_str(alloc, word)?)?;
+fn rows_options(alloc: Global, lines: &str) -> Result<Vec<String>, AllocError> {
+    let mut options = Vec::new(alloc);
+    for option in lines.lines() {
+        options.push(String::from_str(alloc, option)?)?;
     }
-    words.push(String::from_str(alloc, "--rows")?)?;
-    Ok(words)
+    options.push(String::from_str(alloc, "--rows")?)?;
+    Ok(options)
 }
 
 // What is written when one read gives all.
-fn answered_at_once(alloc: Global, words: &[String], stdin: &[u8]) -> Result<String, Fail> {
+fn answered_at_once(alloc: Global, options: &[String], stdin: &[u8]) -> Result<String, Fail> {
     let mut source = Input::new(stdin);
     let mut sink = Narrow::new(alloc, 1000);
     let mut errors = Narrow::new(alloc, 1000);
-    let status = command(alloc, words, &mut source, &mut sink, &mut errors);
+    let status = command(alloc, options, &mut source, &mut sink, &mut errors);
     if status != 0 {
         return Err(Fail::from("all rows are answered"));
     }
@@ -174,10 +174,10 @@ fn answers_many_fields(rt: HostRuntime) -> Result<(), Fail> {
     let mut source = Dripping::new(row.as_slice(), 1000);
     let mut sink = Narrow::new(rt.alloc(), 1000);
     let mut errors = Narrow::new(rt.alloc(), 1000);
-    let words = strings(rt.alloc(), &["--rows"])?;
+    let options = strings(rt.alloc(), &["--rows"])?;
     let status = command(
         rt.alloc(),
-        words.as_slice(),
+        options.as_slice(),
         &mut source,
         &mut sink,
         &mut errors,
@@ -197,10 +197,10 @@ fn answers_a_long_row(rt: HostRuntime) -> Result<(), Fail> {
     let mut source = Input::new(row.as_slice());
     let mut sink = Narrow::new(rt.alloc(), 10_000_000);
     let mut errors = Narrow::new(rt.alloc(), 1000);
-    let words = strings(rt.alloc(), &["--rows"])?;
+    let options = strings(rt.alloc(), &["--rows"])?;
     let status = command(
         rt.alloc(),
-        words.as_slice(),
+        options.as_slice(),
         &mut source,
         &mut sink,
         &mut errors,
@@ -216,11 +216,17 @@ fn stopped(
     reads: usize,
     calls: usize,
 ) -> Result<(u8, bool, String, String), Fail> {
-    let words = strings(alloc, &["--rows"])?;
+    let options = strings(alloc, &["--rows"])?;
     let mut source = Dripping::new(stdin, reads);
     let mut sink = Narrow::new(alloc, calls);
     let mut errors = Narrow::new(alloc, 1000);
-    let status = command(alloc, words.as_slice(), &mut source, &mut sink, &mut errors);
+    let status = command(
+        alloc,
+        options.as_slice(),
+        &mut source,
+        &mut sink,
+        &mut errors,
+    );
     Ok((
         status,
         source.failed() || sink.failed(),

@@ -4,10 +4,10 @@ use htmd_cli::command;
 use std::alloc::{AllocError, Global};
 use std::test::Fail;
 
-pub fn strings(alloc: Global, words: &[&str]) -> Result<Vec<String>, AllocError> {
+pub fn strings(alloc: Global, options: &[&str]) -> Result<Vec<String>, AllocError> {
     let mut all = Vec::new(alloc);
-    for word in words {
-        all.push(String::from_str(alloc, word)?)?;
+    for option in options {
+        all.push(String::from_str(alloc, option)?)?;
     }
     Ok(all)
 }
@@ -21,12 +21,18 @@ pub struct Outcome {
     pub unread: usize,
 }
 
-pub fn called(alloc: Global, words: &[&str], stdin: &[u8]) -> Result<Outcome, Fail> {
-    let words = strings(alloc, words)?;
+pub fn called(alloc: Global, options: &[&str], stdin: &[u8]) -> Result<Outcome, Fail> {
+    let options = strings(alloc, options)?;
     let mut source = Dripping::new(stdin, 100_000);
     let mut sink = Narrow::new(alloc, 100_000);
     let mut errors = Narrow::new(alloc, 100_000);
-    let status = command(alloc, words.as_slice(), &mut source, &mut sink, &mut errors);
+    let status = command(
+        alloc,
+        options.as_slice(),
+        &mut source,
+        &mut sink,
+        &mut errors,
+    );
     Ok(Outcome {
         status,
         stdout: String::from_str(alloc, str::from_utf8(sink.bytes())?)?,

@@ -4,8 +4,8 @@ use std::alloc::{AllocError, Global};
 use std::test::Fail;
 
 // What is written on the sink for errors when the status is 1 and nothing else is written.
-fn explained(alloc: Global, words: &[&str], stdin: &[u8]) -> Result<String, Fail> {
-    let answer = called(alloc, words, stdin)?;
+fn explained(alloc: Global, options: &[&str], stdin: &[u8]) -> Result<String, Fail> {
+    let answer = called(alloc, options, stdin)?;
     if answer.status != 1 || !answer.stdout.is_empty() {
         return Ok(String::new(alloc));
     }

@@ -20,10 +20,10 @@ mod errors;
 #[cfg(test)]
 mod explanations;
 #[cfg(test)]
+mod options;
+#[cfg(test)]
 mod program;
 #[cfg(test)]
 mod runs;
 #[cfg(test)]
 mod truncations;
-#[cfg(test)]
-mod words;

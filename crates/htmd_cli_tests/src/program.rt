@@ -11,7 +11,7 @@ const PARAGRAPH: Mode = Mode {
 };
 
 #[test]
-fn answers_words(rt: HostRuntime) -> Result<(), Fail> {
+fn answers_options(rt: HostRuntime) -> Result<(), Fail> {
     let unknown =
         "htmd: unknown word\nhtmd: '--bogus' is not an option, or not with this value: see --help\n";
     let empty =
@@ -66,14 +66,14 @@ fn answers_words(rt: HostRuntime) -> Result<(), Fail> {
             0,
         ),
     ];
-    for (words, stdin, stdout, stderr, status) in table {
-        let words = strings(rt.alloc(), words)?;
+    for (options, stdin, stdout, stderr, status) in table {
+        let options = strings(rt.alloc(), options)?;
         let mut source = Dripping::new(stdin, 100);
         let mut sink = Narrow::new(rt.alloc(), 100);
         let mut errors = Narrow::new(rt.alloc(), 200);
         let answer = command(
             rt.alloc(),
-            words.as_slice(),
+            options.as_slice(),
             &mut source,
             &mut sink,
             &mut errors,
@@ -100,14 +100,14 @@ fn answers_failures(rt: HostRuntime) -> Result<(), Fail> {
         (3, 3, "ab\n", "htmd: write failed\n", 1),
         (3, 4, "ab\n", "", 0),
     ];
-    let words = strings(rt.alloc(), &["--text"])?;
+    let options = strings(rt.alloc(), &["--text"])?;
     for (reads, calls, stdout, stderr, status) in table {
         let mut source = Dripping::new(b"ab", reads);
         let mut sink = Narrow::new(rt.alloc(), calls);
         let mut errors = Narrow::new(rt.alloc(), 100);
         let answer = command(
             rt.alloc(),
-            words.as_slice(),
+            options.as_slice(),
             &mut source,
             &mut sink,
             &mut errors,
@@ -124,14 +124,14 @@ fn answers_failures(rt: HostRuntime) -> Result<(), Fail> {
 // A sink for errors that fails changes no status.
 #[test]
 fn passes_over_faults_of_the_errors(rt: HostRuntime) -> Result<(), Fail> {
-    for (word, status) in [("--text", 1), ("--bogus", 2)] {
-        let words = strings(rt.alloc(), &[word])?;
+    for (option, status) in [("--text", 1), ("--bogus", 2)] {
+        let options = strings(rt.alloc(), &[option])?;
         let mut source = Dripping::new(b"a", 0);
         let mut sink = Narrow::new(rt.alloc(), 9);
         let mut errors = Output::new(Full);
         let answer = command(
             rt.alloc(),
-            words.as_slice(),
+            options.as_slice(),
             &mut source,
             &mut sink,
             &mut errors,

@@ -16,16 +16,16 @@ const HTML: &[u8] = b"<p>a <b>b</b></p>";
 const MARKDOWN: &[u8] = b"a **b**\n";
 
 // The options that a text has, one on each line.
-fn words_of(alloc: Global, lines: &str) -> Result<Vec<String>, AllocError> {
-    let mut words = Vec::new(alloc);
-    for word in lines.lines() {
-        words.push(String::from_str(alloc, word)?)?;
+fn options_of(alloc: Global, lines: &str) -> Result<Vec<String>, AllocError> {
+    let mut options = Vec::new(alloc);
+    for option in lines.lines() {
+        options.push(String::from_str(alloc, option)?)?;
     }
-    Ok(words)
+    Ok(options)
 }
 
 #[test]
-fn answers_words(rt: HostRuntime) -> Result<(), Fail> {
+fn answers_options(rt: HostRuntime) -> Result<(), Fail> {
     let refused = "htmd: refused at byte 3: NotAllowedHere\n";
     let table: [(&str, &[u8], &str, &str, u8); 7] = [
         ("", HTML, "a **b**\n", "", 0),
@@ -37,13 +37,13 @@ fn answers_words(rt: HostRuntime) -> Result<(), Fail> {
         ("", b"<p>\xff", "", "htmd: not UTF-8\n", 1),
     ];
     for (lines, stdin, stdout, stderr, status) in table {
-        let words = words_of(rt.alloc(), lines)?;
+        let options = options_of(rt.alloc(), lines)?;
         let mut source = Dripping::new(stdin, 100);
         let mut sink = Narrow::new(rt.alloc(), 100);
         let mut errors = Narrow::new(rt.alloc(), 100);
         let answer = command(
             rt.alloc(),
-            words.as_slice(),
+            options.as_slice(),
             &mut source,
             &mut sink,
             &mut errors,

@@ -7,8 +7,10 @@ use Rattle.htmd_tree.specs.Items.{Item, document_item, new_item, element_node, t
 use Rattle.htmd_tree.specs.Bodies.{body_part}
 use Rattle.htmd_tree.proofs.ItemsLemmas.{IsTree-added}
 use Rattle.htmd_walk.specs.Choice.{Config}
+use Rattle.htmd_walk.specs.declared.options.Options.{Options}
 use Rattle.htmd_walk.specs.Markdown.{markdown}
-use Rattle.htmd_cli.specs.Conversion.{Way, empty_paragraph, paragraph, paragraph_markdown, IsMarkdownBy}
+use Rattle.htmd_cli.specs.Settings.{Settings}
+use Rattle.htmd_cli.specs.Conversion.{empty_paragraph, paragraph, paragraph_markdown, config_of, IsMarkdownBy}
 use Rattle.htmd_cli.specs.Conversion.{IsReadable, reads_any}
 use Rattle.htmd_cli.specs.Decoding.{decoded}
 use Rattle.htmd_html5.specs.Documents.{html5_document}
@@ -49,33 +51,43 @@ paragraph_holds (b ∷ s) u =
 -- ---- inputs
 
 -- all of an input is converted, or the body of a page
-abbrev pub whole_way : Bool → Config → Way
-whole_way scripting config = record { text = false; body = false; html5 = false; scripting = scripting; config = config }
+abbrev pub whole_input : Bool → Options → Settings
+whole_input scripting options =
+    record { text = false; body = false; html5 = false; scripting = scripting; options = options; skipped = [] }
 
-abbrev pub body_way : Bool → Config → Way
-body_way scripting config = record { text = false; body = true; html5 = false; scripting = scripting; config = config }
+abbrev pub page_body : Bool → Options → Settings
+page_body scripting options =
+    record { text = false; body = true; html5 = false; scripting = scripting; options = options; skipped = [] }
 
 held_in_paragraph : (config : Config) (input s : List ℕ) → IsUtf8 input → s ≡ paragraph_markdown config input
-    → (tree : List Item) × (tree ≡ paragraph input) × IsTree tree × HoldTexts tree × (s ≡ markdown config tree 0)
+    → (tree : List Item) × (tree ≡ paragraph input) × IsTree tree × HoldTexts tree
+    × (s ≡ markdown config tree 0)
 unfolding paragraph_markdown
 held_in_paragraph config input s u h = (paragraph input, refl, paragraph_is_tree input, paragraph_holds input u, h)
 
-held_by : (is_text is_any is_body scripting : Bool) (config : Config) (input s : List ℕ)
-    → let way : Way =
-    record { text = is_text; body = is_body; html5 = is_any; scripting = scripting; config = config } in
-    IsReadable (reads_any way) input → IsMarkdownBy way (text_by way input) s
-    → (tree : List Item) × IsTreeBy way (text_by way input) tree × IsTree tree × HoldTexts tree
-    × (s ≡ markdown config tree 0)
-held_by true true is_body scripting config input s u h = held_in_paragraph config input s u h
-held_by true false is_body scripting config input s u h = held_in_paragraph config input s u h
-held_by false true is_body scripting config input s u h =
+held_by : (is_text is_any is_body scripting : Bool) (options : Options) (skipped : List (List ℕ)) (input s : List ℕ)
+    → let settings : Settings =
+    record {
+      text = is_text;
+      body = is_body;
+      html5 = is_any;
+      scripting = scripting;
+      options = options;
+      skipped = skipped;
+    } in
+    IsReadable (reads_any settings) input → IsMarkdownBy settings (text_by settings input) s
+    → (tree : List Item) × IsTreeBy settings (text_by settings input) tree × IsTree tree × HoldTexts tree
+    × (s ≡ markdown (config_of settings) tree 0)
+held_by true true is_body scripting options skipped input s u h = held_in_paragraph _ input s u h
+held_by true false is_body scripting options skipped input s u h = held_in_paragraph _ input s u h
+held_by false true is_body scripting options skipped input s u h =
     (html5_document scripting (decoded input), refl, h.is_tree, h.holds_texts, h.is_markdown)
-held_by false false true scripting config input s u h =
+held_by false false true scripting options skipped input s u h =
     let t = trees_hold_texts scripting (body_part input) h.0 (body_part_utf8 input u) h.1 in
     (h.0, h.1, t.0, t.1, h.2)
-held_by false false false scripting config input s u h =
+held_by false false false scripting options skipped input s u h =
     let t = trees_hold_texts scripting input h.0 u h.1 in (h.0, h.1, t.0, t.1, h.2)
 
 pub inputs_hold_texts : InputsHoldTexts
-inputs_hold_texts way input s u h =
-    held_by way.text way.html5 way.body way.scripting way.config input s u h
+inputs_hold_texts settings input s u h =
+    held_by settings.text settings.html5 settings.body settings.scripting settings.options settings.skipped input s u h

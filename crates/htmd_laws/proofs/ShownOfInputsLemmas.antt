@@ -11,7 +11,7 @@ use Rattle.htmd_laws.specs.ShownOfInputs.{ShownInConversion, ShownInPage, ShownI
 use Rattle.htmd_laws.specs.ShownOfInputs.{ShownInRow, LosesNothingBy}
 use Rattle.htmd_tree_laws.proofs.ShownLawsLemmas.{shown_in_markdown}
 use Rattle.htmd_laws.proofs.FieldLawsLemmas.{fields_read_back}
-use Rattle.htmd_laws.proofs.InputLawsLemmas.{inputs_hold_texts, whole_way, body_way}
+use Rattle.htmd_laws.proofs.InputLawsLemmas.{inputs_hold_texts, whole_input, page_body}
 
 pub shown_in_any_page : ShownInAnyPage
 shown_in_any_page options scripting html s alone h fit =
@@ -21,8 +21,8 @@ shown_in_any_page options scripting html s alone h fit =
     (shown_in_markdown options items 0 alone h.is_tree h.holds_texts (h.is_tree).not_empty fit)
 
 pub shown_in_input : ShownInInput
-shown_in_input options way input s alone same u h =
-    let held = inputs_hold_texts way input s u h in
+shown_in_input options settings input s alone same u h =
+    let held = inputs_hold_texts settings input s u h in
     let e : s ≡ markdown (built_in options) held.0 0 = held.4 ∙ ap (λ config. markdown config held.0 0) same in (
       held.0,
       held.1,
@@ -33,13 +33,13 @@ shown_in_input options way input s alone same u h =
 
 pub shown_in_conversion : ShownInConversion
 shown_in_conversion options scripting html s alone u h =
-    shown_in_input options (whole_way scripting (built_in options)) html s alone refl u h
+    shown_in_input options (whole_input scripting options) html s alone refl u h
 
 pub shown_in_page : ShownInPage
 shown_in_page options scripting page s alone u h =
-    shown_in_input options (body_way scripting (built_in options)) page s alone refl u h
+    shown_in_input options (page_body scripting options) page s alone refl u h
 
 pub shown_in_row : ShownInRow
-shown_in_row options way page field alone same (u, markdown, h, e) =
-    subst (LosesNothingBy options way page) (sym (ap read_field e ∙ fields_read_back markdown))
-    (shown_in_input options way page markdown alone same u h)
+shown_in_row options settings page field alone same (u, markdown, h, e) =
+    subst (LosesNothingBy options settings page) (sym (ap read_field e ∙ fields_read_back markdown))
+    (shown_in_input options settings page markdown alone same u h)

@@ -5,7 +5,8 @@ use Rattle.htmd_tree.specs.Bodies.{body_part}
 use Rattle.htmd_walk.specs.Markdown.{markdown}
 use Rattle.htmd.specs.Conversions.{IsTreeOf}
 use Rattle.htmd_html5.specs.Documents.{html5_document}
-use Rattle.htmd_cli.specs.Conversion.{Way, paragraph, IsMarkdownBy, IsReadable, reads_any, text_in}
+use Rattle.htmd_cli.specs.Settings.{Settings}
+use Rattle.htmd_cli.specs.Conversion.{config_of, paragraph, IsMarkdownBy, IsReadable, reads_any, text_in}
 
 -- What a text in UTF-8 denotes is a tree whose texts and values are UTF-8.
 abbrev pub TreesHoldTexts : Type 0
@@ -14,20 +15,22 @@ TreesHoldTexts =
     → IsTree tree × HoldTexts tree
 
 -- the text that the bytes of an input hold
-abbrev pub text_by : Way → List ℕ → List ℕ
-text_by way input = text_in (reads_any way) input
+abbrev pub text_by : Settings → List ℕ → List ℕ
+text_by settings input = text_in (reads_any settings) input
 
 -- the tree of a text by what an input is taken for: of one paragraph, of any page as browsers read it, of a page's
 -- body, or of all
-abbrev pub IsTreeBy : Way → List ℕ → List Item → Type 0
-IsTreeBy way text tree =
-    MatchBool way.text (tree ≡ paragraph text)
-    (MatchBool way.html5 (tree ≡ html5_document way.scripting text)
-    (MatchBool way.body (IsTreeOf way.scripting (body_part text) tree) (IsTreeOf way.scripting text tree)))
+abbrev pub IsTreeBy : Settings → List ℕ → List Item → Type 0
+IsTreeBy settings text tree =
+    MatchBool settings.text (tree ≡ paragraph text)
+    (MatchBool settings.html5 (tree ≡ html5_document settings.scripting text)
+    (MatchBool settings.body (IsTreeOf settings.scripting (body_part text) tree)
+    (IsTreeOf settings.scripting text tree)))
 
 -- The Markdown of the text that an input holds is that of such a tree, whose texts and values are UTF-8.
 abbrev pub InputsHoldTexts : Type 0
 InputsHoldTexts =
-    (way : Way) (input s : List ℕ) → IsReadable (reads_any way) input → IsMarkdownBy way (text_by way input) s
-    → (tree : List Item) × IsTreeBy way (text_by way input) tree × IsTree tree × HoldTexts tree
-    × (s ≡ markdown way.config tree 0)
+    (settings : Settings) (input s : List ℕ) → IsReadable (reads_any settings) input
+    → IsMarkdownBy settings (text_by settings input) s
+    → (tree : List Item) × IsTreeBy settings (text_by settings input) tree × IsTree tree × HoldTexts tree
+    × (s ≡ markdown (config_of settings) tree 0)

@@ -8,7 +8,8 @@ use Rattle.htmd_walk.specs.Outputs.{is_markdown_alone}
 use Rattle.htmd_walk.specs.BuiltIn.{built_in}
 use Rattle.htmd.specs.Conversions.{IsTreeOf, IsMarkdownOf, IsMarkdownOfPage, IsHtml5Markdown}
 use Rattle.htmd_html5.specs.Documents.{html5_document}
-use Rattle.htmd_cli.specs.Conversion.{Way, IsMarkdownBy, IsReadable, reads_any}
+use Rattle.htmd_cli.specs.Settings.{Settings}
+use Rattle.htmd_cli.specs.Conversion.{config_of, IsMarkdownBy, IsReadable, reads_any}
 use Rattle.htmd_cli.specs.Fields.{read_field}
 use Rattle.htmd_cli.specs.Rows.{IsConverted}
 use Rattle.htmd_tree_laws.specs.Letters.{letters, said}
@@ -41,20 +42,21 @@ LettersOfAnyPage =
     → letters s ≡ said options (html5_document scripting html) 0
 
 -- the letters of the Markdown are what the tree of the text that the input holds says
-abbrev pub SaysEveryLetterBy : Options → Way → List ℕ → List ℕ → Type 0
-SaysEveryLetterBy options way input s =
-    (tree : List Item) × IsTreeBy way (text_by way input) tree × (letters s ≡ said options tree 0)
+abbrev pub SaysEveryLetterBy : Options → Settings → List ℕ → List ℕ → Type 0
+SaysEveryLetterBy options settings input s =
+    (tree : List Item) × IsTreeBy settings (text_by settings input) tree × (letters s ≡ said options tree 0)
 
 -- The same holds for the input of each run.
 abbrev pub LettersOfInput : Type 0
 LettersOfInput =
-    (options : Options) (way : Way) (input s : List ℕ) → is_markdown_alone options ≡ true
-    → options.link_style ≡ Inlined → way.config ≡ built_in options → IsReadable (reads_any way) input
-    → IsMarkdownBy way (text_by way input) s → SaysEveryLetterBy options way input s
+    (options : Options) (settings : Settings) (input s : List ℕ) → is_markdown_alone options ≡ true
+    → options.link_style ≡ Inlined → config_of settings ≡ built_in options
+    → IsReadable (reads_any settings) input
+    → IsMarkdownBy settings (text_by settings input) s → SaysEveryLetterBy options settings input s
 
 -- The same holds for the page of each row, in what its field says.
 abbrev pub LettersOfRow : Type 0
 LettersOfRow =
-    (options : Options) (way : Way) (page field : List ℕ) → is_markdown_alone options ≡ true
-    → options.link_style ≡ Inlined → way.config ≡ built_in options → IsConverted way page field
-    → SaysEveryLetterBy options way page (read_field field)
+    (options : Options) (settings : Settings) (page field : List ℕ) → is_markdown_alone options ≡ true
+    → options.link_style ≡ Inlined → config_of settings ≡ built_in options → IsConverted settings page field
+    → SaysEveryLetterBy options settings page (read_field field)

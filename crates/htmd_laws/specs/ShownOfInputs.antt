@@ -8,7 +8,8 @@ use Rattle.htmd_walk.specs.Outputs.{is_markdown_alone, is_guarded}
 use Rattle.htmd_walk.specs.BuiltIn.{built_in}
 use Rattle.htmd.specs.Conversions.{IsTreeOf, IsMarkdownOf, IsMarkdownOfPage, IsHtml5Markdown}
 use Rattle.htmd_html5.specs.Documents.{html5_document}
-use Rattle.htmd_cli.specs.Conversion.{Way, IsMarkdownBy, IsReadable, reads_any}
+use Rattle.htmd_cli.specs.Settings.{Settings}
+use Rattle.htmd_cli.specs.Conversion.{config_of, IsMarkdownBy, IsReadable, reads_any}
 use Rattle.htmd_cli.specs.Fields.{read_field}
 use Rattle.htmd_cli.specs.Rows.{IsConverted}
 use Rattle.htmd_tree_laws.specs.Shown.{IsPart, shown, visible, tables_fit}
@@ -47,20 +48,21 @@ ShownInAnyPage =
     → IsShownIn options (html5_document scripting html) s
 
 -- the same holds for the tree of the text that the input holds
-abbrev pub LosesNothingBy : Options → Way → List ℕ → List ℕ → Type 0
-LosesNothingBy options way input s =
-    (tree : List Item) × IsTreeBy way (text_by way input) tree × IsShownIn options tree s
+abbrev pub LosesNothingBy : Options → Settings → List ℕ → List ℕ → Type 0
+LosesNothingBy options settings input s =
+    (tree : List Item) × IsTreeBy settings (text_by settings input) tree × IsShownIn options tree s
 
 -- The same holds for the input of each run.
 abbrev pub ShownInInput : Type 0
 ShownInInput =
-    (options : Options) (way : Way) (input s : List ℕ) → is_markdown_alone options ≡ true
-    → way.config ≡ built_in options → IsReadable (reads_any way) input → IsMarkdownBy way (text_by way input) s
-    → LosesNothingBy options way input s
+    (options : Options) (settings : Settings) (input s : List ℕ) → is_markdown_alone options ≡ true
+    → config_of settings ≡ built_in options → IsReadable (reads_any settings) input
+    → IsMarkdownBy settings (text_by settings input) s
+    → LosesNothingBy options settings input s
 
 -- The same holds for the page of each row, in what its field says.
 abbrev pub ShownInRow : Type 0
 ShownInRow =
-    (options : Options) (way : Way) (page field : List ℕ) → is_markdown_alone options ≡ true
-    → way.config ≡ built_in options → IsConverted way page field
-    → LosesNothingBy options way page (read_field field)
+    (options : Options) (settings : Settings) (page field : List ℕ) → is_markdown_alone options ≡ true
+    → config_of settings ≡ built_in options → IsConverted settings page field
+    → LosesNothingBy options settings page (read_field field)

@@ -1,11 +1,10 @@
--- The settings of a mode convert the whole input, with scripting on.
-use Rattle.std.proofs.Common.{subst, IfSome}
-use Rattle.htmd_cli.specs.Conversion.{IsInputRefused}
+-- The settings of a mode.
+use Rattle.std.proofs.Common.{subst}
+use Rattle.htmd_cli.specs.Runs.{Ends}
 use Rattle.htmd_cli.proofs.pipeline.run.Goals as goal
 
-pub returns-clause-refused : goal.returns-clause-refused
-returns-clause-refused g c place kind q =
-    subst (λ chosen. IfSome (g.R.Source.remaining c.args.source.now)
-    (λ input. IsInputRefused chosen input place kind))
-    c.settings_of.ensures
-    (c.run_with.ensures.refused place kind q)
+pub returns-clause-ends : goal.returns-clause-ends
+returns-clause-ends g c =
+    subst (λ settings. Ends settings (g.R.Source.remaining c.args.source.now)
+    (g.R.Source.remaining c.run_with.new.source) g.W.Sink.contents c.args.sink.now c.run_with.new.sink
+    c.run_with.result) c.settings_by.ensures c.run_with.ensures.ends

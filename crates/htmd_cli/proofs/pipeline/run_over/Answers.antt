@@ -1,18 +1,18 @@
--- What is left to prove of `run_over`.
-use Rattle.std.proofs.Common.{string_bytes}
-use Rattle.htmd_cli.specs.Settings.{chosen_by}
-use Rattle.htmd_cli.proofs.RunsLemmas.{converted_run, convertible_run}
+-- All was read, or not.
+use Rattle.std.proofs.Common.{refl}
+use Rattle.htmd_cli.specs.Settings.{settings_in}
+use Rattle.htmd_cli.proofs.RunsLemmas.{ends_over, ends_unread}
 use Rattle.htmd_cli.proofs.pipeline.run_over.Goals as goal
 
-pub returns-in-Ok-clause-ok : goal.returns-in-Ok-clause-ok
-returns-in-Ok-clause-ok g c =
-    converted_run (chosen_by c.args.settings) _ _ c.read_all.new.input.items c.as_slice.result.now
-    (string_bytes c.in_ok-markdown.markdown) c.as_str.result.now _ _ c.in_ok-read_all.ensures.bytes
-    c.in_ok-read_all.ensures.end c.as_slice.ensures.value c.in_ok-markdown.ensures.ok c.as_str.ensures.value
-    c.in-Ok.ensures.bytes
+pub returns-in-Ok-clause-ends : goal.returns-in-Ok-clause-ends
+returns-in-Ok-clause-ends g c =
+    ends_over (settings_in c.args.settings.now) (g.R.Source.remaining c.args.source.now)
+    (g.R.Source.remaining c.read_all.new.source) c.in-Ok.input.items c.as_slice.result.now g.W.Sink.contents
+    c.args.sink.now c.convert_into.new.sink c.convert_into.result c.in-Ok.ensures.bytes c.in-Ok.ensures.end
+    c.as_slice.ensures.value c.convert_into.ensures.ends
 
-pub returns-clause-write : goal.returns-clause-write
-returns-clause-write g c =
-    λ _. convertible_run (chosen_by c.args.settings) _ _ c.read_all.new.input.items c.as_slice.result.now
-    (string_bytes c.in_ok-markdown.markdown) c.in_ok-read_all.ensures.bytes c.in_ok-read_all.ensures.end
-    c.as_slice.ensures.value c.in_ok-markdown.ensures.ok
+pub returns-in-Err-clause-ends : goal.returns-in-Err-clause-ends
+returns-in-Err-clause-ends g c =
+    ends_unread (Unit {0}) (settings_in c.args.settings.now) (g.R.Source.remaining c.args.source.now)
+    (g.R.Source.remaining c.read_all.new.source) g.W.Sink.contents c.args.sink.now c.args.sink.now c.in-Err.error
+    c.in-Err.ensures.others refl

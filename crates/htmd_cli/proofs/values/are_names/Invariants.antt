@@ -1,8 +1,8 @@
 -- What is left, after the part of a name that comes before it.
 use Rattle.std.proofs.Common.{◌≡◌, drop}
 use Rattle.std.specs.List.{list_all}
-use Rattle.htmd_cli.specs.Words.{parts, is_filled}
-use Rattle.htmd_cli.proofs.WordsLemmas.{are_filled}
+use Rattle.htmd_cli.specs.Options.{parts, is_filled}
+use Rattle.htmd_cli.proofs.OptionsLemmas.{are_filled}
 use Rattle.htmd_cli.proofs.values.are_names.Given as goal
 
 abbrev pub invariant-loop-byte : goal.invariant-loop-byte

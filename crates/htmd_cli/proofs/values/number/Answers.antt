@@ -1,7 +1,7 @@
 -- What isn't a digit, or one digit too many.
 use Rattle.std.proofs.Common.{◌∙◌, ◌+◌, ap, sym, drop, None, Some, arith}
-use Rattle.htmd_cli.specs.Words.{number_behind}
-use Rattle.htmd_cli.proofs.WordsLemmas.{no_number, number_goes_on}
+use Rattle.htmd_cli.specs.Options.{number_behind}
+use Rattle.htmd_cli.proofs.OptionsLemmas.{no_number, number_goes_on}
 use Rattle.htmd_cli.proofs.values.number.Goals as goal
 
 pub returns-in_default : goal.returns-in_default

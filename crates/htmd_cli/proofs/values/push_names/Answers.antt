@@ -1,7 +1,7 @@
 -- The name before the next comma, and the last one.
 use Rattle.std.proofs.Common.{◌∙◌, Some, None, arith, refl, rules}
 use Rattle.std.proofs.lemmas.Str.Pattern.{split_once_first}
-use Rattle.htmd_cli.proofs.WordsLemmas.{one_more_name, last_name}
+use Rattle.htmd_cli.proofs.OptionsLemmas.{one_more_name, last_name}
 use Rattle.htmd_cli.proofs.values.push_names.Goals as goal
 
 pub loop-name-preserved : goal.loop-name-preserved

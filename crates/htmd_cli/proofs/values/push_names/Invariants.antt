@@ -2,7 +2,7 @@
 use Rattle.std.proofs.Common.{◌≡◌, ◌++◌, length, map}
 use denote.Text.{Utf8}
 use denote.Shadow.{shadow}
-use Rattle.htmd_cli.specs.Words as spec
+use Rattle.htmd_cli.specs.Options as spec
 use Rattle.htmd_cli.proofs.values.push_names.Given as goal
 
 abbrev pub invariant-loop-name : goal.invariant-loop-name

@@ -6,8 +6,8 @@ use std::test::Fail;
 
 // Nothing is read, and the options come first: an unknown one is reported before anything else.
 #[test]
-fn refuses_words(rt: HostRuntime) -> Result<(), Fail> {
-    for word in [
+fn refuses_options(rt: HostRuntime) -> Result<(), Fail> {
+    for option in [
         "",
         "-",
         "--",
@@ -50,12 +50,12 @@ fn refuses_words(rt: HostRuntime) -> Result<(), Fail> {
         "--help=all",
         "--Version",
     ] {
-        for words in [[word, "--text"], ["--help", word]] {
-            let answer = called(rt.alloc(), words.as_slice(), b"<p>")?;
-            assert_eq!(rt; answer.status, 2, "{word}");
+        for options in [[option, "--text"], ["--help", option]] {
+            let answer = called(rt.alloc(), options.as_slice(), b"<p>")?;
+            assert_eq!(rt; answer.status, 2, "{option}");
             assert_eq!(rt; answer.stdout.as_str(), "");
             let mut said = String::from_str(rt.alloc(), "htmd: unknown word\nhtmd: '")?;
-            said.push_str(word)?;
+            said.push_str(option)?;
             said.push_str("' is not an option, or not with this value: see --help\n")?;
             assert_eq!(rt; answer.stderr.as_str(), said.as_str());
             assert_eq!(rt; answer.unread, 3);
@@ -93,24 +93,24 @@ fn shows_the_help(rt: HostRuntime) -> Result<(), Fail> {
 // The sink fails while the help is written.
 #[test]
 fn tells_of_a_failed_help(rt: HostRuntime) -> Result<(), Fail> {
-    for (word, calls) in [
+    for (option, calls) in [
         ("--help", 0),
         ("--help", 500),
         ("--version", 0),
         ("--version", 29),
     ] {
-        let words = strings(rt.alloc(), &[word])?;
+        let options = strings(rt.alloc(), &[option])?;
         let mut source = Dripping::new(b"a", 0);
         let mut sink = Narrow::new(rt.alloc(), calls);
         let mut errors = Narrow::new(rt.alloc(), 100);
         let status = command(
             rt.alloc(),
-            words.as_slice(),
+            options.as_slice(),
             &mut source,
             &mut sink,
             &mut errors,
         );
-        assert_eq!(rt; status, 1, "{word} {calls}");
+        assert_eq!(rt; status, 1, "{option} {calls}");
         assert_eq!(rt; errors.bytes(), b"htmd: write failed\n".as_slice());
         assert!(rt; sink.failed());
     }

@@ -1,8 +1,8 @@
 -- What follows the name.
 use Rattle.std.proofs.Common.{sym, ◌∙◌}
-use Rattle.htmd_cli.specs.WordRows.{takes_value}
-use Rattle.htmd_cli.proofs.WordsLemmas.{value_behind}
-use Rattle.htmd_cli.proofs.words.value_in.Goals as goal
+use Rattle.htmd_cli.specs.OptionRows.{takes_value}
+use Rattle.htmd_cli.proofs.OptionsLemmas.{value_behind}
+use Rattle.htmd_cli.proofs.options.value_in.Goals as goal
 
 pub returns-then-takes_value : goal.returns-then-takes_value
 returns-then-takes_value c =

@@ -1,12 +1,14 @@
 //! The program's command-line options.
-ghost use Rattle.std.specs.Prelude.{◌≡◌, true, false, None, is_some, map, length, drop, MatchOption, OnOk, IfOk};
-ghost use Rattle.htmd_cli.specs.Words as spec;
-ghost use Rattle.htmd_cli.specs.WordRows.{takes_value, effect_of, option_after, word_of, asked_in};
+ghost use Rattle.std.specs.Prelude.{◌≡◌, true, false, None, is_some, map, length, drop, MatchOption, MatchResult};
+ghost use Rattle.std.specs.Prelude.{IfOk, IfErr};
+ghost use Rattle.htmd_cli.specs.Options as spec;
+ghost use Rattle.htmd_cli.specs.OptionRows.{IsOptionFault, takes_value, effect_of, option_of, request_in};
 
+use crate::settings::Settings;
 use crate::values::{are_names, number, push_names};
 use htmd::options::{
     BrStyle, BulletListMarker, CodeBlockFence, CodeBlockStyle, HeadingStyle, HrStyle,
-    LinkReferenceStyle, LinkStyle, Options, TranslationMode,
+    LinkReferenceStyle, LinkStyle, TranslationMode,
 };
 use std::alloc::{AllocError, Global};
 
@@ -43,10 +45,10 @@ pub(crate) enum Setting {
 }
 
 /// An option, or its part before the value; what that value is; what it sets; what the help says of it.
-pub(crate) type Word = (&'static str, &'static str, Setting, &'static str);
+pub(crate) type OptionRow = (&'static str, &'static str, Setting, &'static str);
 
 /// The options that are known.
-pub(crate) const WORDS: [Word; 33] = [
+pub(crate) const OPTIONS: [OptionRow; 33] = [
     (
         "--text",
         "",
@@ -250,15 +252,20 @@ pub(crate) const WORDS: [Word; 33] = [
 /// What the options ask for.
 #[derive(Drop)]
 pub(crate) struct Request<'a> {
-    pub(crate) text: bool,
-    pub(crate) body: bool,
-    pub(crate) html5: bool,
+    pub(crate) settings: Settings<'a>,
+    /// The source is rows with a page each.
     pub(crate) rows: bool,
-    pub(crate) scripting: bool,
-    pub(crate) options: Options,
-    pub(crate) skipped: Vec<&'a str>,
     pub(crate) shows: Option<Notice>,
     pub(crate) explains: bool,
+}
+
+/// Why there is no request.
+#[derive(Clone, Copy, Drop)]
+pub(crate) enum OptionFault<'a> {
+    /// The first option that isn't known.
+    Unknown(&'a str),
+    /// All options are known, and memory ran out.
+    Memory,
 }
 
 fn takes_value(setting: Setting) -> bool
@@ -287,9 +294,9 @@ fn value_in<'a>(given: &'a str, name: &str, setting: Setting) -> Option<&'a str>
 }
 
 /// What the option sets by one of these rows, and its value.
-fn setting_in<'a>(given: &'a str, rows: &[Word]) -> Option<(Setting, &'a str)>
-    ensures { MatchOption result (spec.meaning (map word_of rows.now) given.now ≡ None)
-        (λ found. spec.meaning (map word_of rows.now) given.now ≡ effect_of found.0 found.1.now) }
+fn setting_in<'a>(given: &'a str, rows: &[OptionRow]) -> Option<(Setting, &'a str)>
+    ensures { MatchOption result (spec.meaning (map option_of rows.now) given.now ≡ None)
+        (λ found. spec.meaning (map option_of rows.now) given.now ≡ effect_of found.0 found.1.now) }
 {
     for (name, _, setting, _) in rows {
         if let Some(value) = value_in(given, name, *setting) {
@@ -301,128 +308,98 @@ fn setting_in<'a>(given: &'a str, rows: &[Word]) -> Option<(Setting, &'a str)>
 
 /// What the option sets, and its value.
 fn setting_of(given: &str) -> Option<(Setting, &str)>
-    ensures { MatchOption result (spec.meaning spec.words given.now ≡ None)
-        (λ found. spec.meaning spec.words given.now ≡ effect_of found.0 found.1.now) }
+    ensures { MatchOption result (spec.meaning spec.known_options given.now ≡ None)
+        (λ found. spec.meaning spec.known_options given.now ≡ effect_of found.0 found.1.now) }
 {
-    setting_in(given, &WORDS)
-}
-
-/// Whether the value is one for the setting.
-fn is_value(setting: Setting, value: &str) -> bool
-    ensures { result ≡ is_some (effect_of setting value.now) }
-{
-    match setting {
-        Setting::BulletSpacing | Setting::NumberSpacing => number(value).is_some(),
-        Setting::Skip => are_names(value),
-        _ => true,
-    }
-}
-
-fn is_known(given: &str) -> bool
-    ensures { result ≡ is_some (spec.meaning spec.words given.now) }
-{
-    match setting_of(given) {
-        Some((setting, value)) => is_value(setting, value),
-        None => false,
-    }
-}
-
-/// Whether all options are known. It takes no memory, so running out of it is never taken for an unknown option.
-pub(crate) fn are_known(words: &[String]) -> bool
-    ensures { result ≡ spec.are_known words.now }
-{
-    for word in words {
-        if !is_known(word.as_str()) {
-            return false;
-        }
-    }
-    true
-}
-
-/// The first word that isn't known, for a line that names it.
-pub(crate) fn first_unknown(words: &[String]) -> &str {
-    for word in words {
-        if !is_known(word.as_str()) {
-            return word.as_str();
-        }
-    }
-    ""
-}
-
-/// Sets one of the options of the conversion, and leaves them as they are if the setting is of something else.
-fn set_option(options: &mut Options, setting: Setting, value: &str)
-    ensures { options.new ≡ option_after setting value.now options.old }
-{
-    match setting {
-        Setting::Translation(mode) => options.translation_mode = mode,
-        Setting::Heading(style) => options.heading_style = style,
-        Setting::Rule(style) => options.hr_style = style,
-        Setting::LineBreak(style) => options.br_style = style,
-        Setting::Link(style) => options.link_style = style,
-        Setting::Reference(style) => options.link_reference_style = style,
-        Setting::CodeBlock(style) => options.code_block_style = style,
-        Setting::Fence(symbol) => options.code_block_fence = symbol,
-        Setting::Bullet(marker) => options.bullet_list_marker = marker,
-        Setting::BulletSpacing => {
-            options.ul_bullet_spacing = number(value).unwrap_or(options.ul_bullet_spacing);
-        }
-        Setting::NumberSpacing => {
-            options.ol_number_spacing = number(value).unwrap_or(options.ol_number_spacing);
-        }
-        Setting::PreformattedCode => options.preformatted_code = true,
-        _ => {}
-    }
+    setting_in(given, &OPTIONS)
 }
 
 impl<'a> Request<'a> {
-    /// What is asked without any option.
+    /// What is asked for without any option.
     fn new(alloc: Global) -> Request<'a>
-        ensures { asked_in result ≡ spec.nothing_asked }
+        ensures { request_in result ≡ spec.default_request }
     {
         Request {
-            text: false,
-            body: false,
-            html5: false,
+            settings: Settings::new(alloc),
             rows: false,
-            scripting: true,
-            options: Options::default(),
-            skipped: Vec::new(alloc),
             shows: None,
             explains: false,
         }
     }
 
-    /// Sets what an option sets.
-    fn set(&mut self, setting: Setting, value: &'a str) -> Result<(), AllocError>
-        requires value { is_some (effect_of setting value.now) ≡ true }
-        ensures { OnOk result (asked_in self.new ≡ spec.after (effect_of setting value.now) (asked_in self.old)) }
+    /// Sets what an option sets. It is false if the value isn't one for that, and then nothing is set. `Err` means out
+    /// of memory.
+    fn set(&mut self, setting: Setting, value: &'a str) -> Result<bool, AllocError>
+        ensures known { MatchResult result (λ known. known ≡ is_some (effect_of setting value.now))
+            (λ _. is_some (effect_of setting value.now) ≡ true) }
+        ensures set { IfOk result (λ known. known ≡ true
+            → request_in self.new ≡ spec.after (effect_of setting value.now) (request_in self.old)) }
     {
+        let options = &mut self.settings.options;
         match setting {
-            Setting::Text => self.text = true,
-            Setting::Body => self.body = true,
-            Setting::Html5 => self.html5 = true,
+            Setting::Text => self.settings.text = true,
+            Setting::Body => self.settings.body = true,
+            Setting::Html5 => self.settings.html5 = true,
             Setting::Rows => self.rows = true,
-            Setting::NoScripting => self.scripting = false,
+            Setting::NoScripting => self.settings.scripting = false,
+            Setting::Translation(mode) => options.translation_mode = mode,
+            Setting::Heading(style) => options.heading_style = style,
+            Setting::Rule(style) => options.hr_style = style,
+            Setting::LineBreak(style) => options.br_style = style,
+            Setting::Link(style) => options.link_style = style,
+            Setting::Reference(style) => options.link_reference_style = style,
+            Setting::CodeBlock(style) => options.code_block_style = style,
+            Setting::Fence(symbol) => options.code_block_fence = symbol,
+            Setting::Bullet(marker) => options.bullet_list_marker = marker,
+            Setting::BulletSpacing => match number(value) {
+                Some(number) => options.ul_bullet_spacing = number,
+                None => return Ok(false),
+            },
+            Setting::NumberSpacing => match number(value) {
+                Some(number) => options.ol_number_spacing = number,
+                None => return Ok(false),
+            },
+            Setting::PreformattedCode => options.preformatted_code = true,
+            Setting::Skip if are_names(value) => push_names(&mut self.settings.skipped, value)?,
+            Setting::Skip => return Ok(false),
             Setting::Explain => self.explains = true,
             Setting::Show(notice) => self.shows = Some(notice),
-            Setting::Skip => push_names(&mut self.skipped, value)?,
-            _ => set_option(&mut self.options, setting, value),
         }
-        Ok(())
+        Ok(true)
+    }
+
+    /// Takes an option. It is false if the option isn't known. `Err` means out of memory.
+    fn take(&mut self, given: &'a str) -> Result<bool, AllocError>
+        ensures known { MatchResult result (λ known. known ≡ is_some (spec.meaning spec.known_options given.now))
+            (λ _. is_some (spec.meaning spec.known_options given.now) ≡ true) }
+        ensures set { IfOk result (λ known. known ≡ true → request_in self.new
+            ≡ spec.after (spec.meaning spec.known_options given.now) (request_in self.old)) }
+    {
+        match setting_of(given) {
+            Some((setting, value)) => self.set(setting, value),
+            None => Ok(false),
+        }
     }
 }
 
-/// What the options ask for. `Err` means out of memory.
-pub(crate) fn request_of(alloc: Global, words: &[String]) -> Result<Request<'_>, AllocError>
-    requires { spec.are_known words.now ≡ true }
-    ensures { IfOk result (λ request. asked_in request ≡ spec.asked_by words.now) }
+/// What the options ask for. Each is looked at even if memory ran out, so that is never taken for an unknown option.
+pub(crate) fn request_of(alloc: Global, options: &[String]) -> Result<Request<'_>, OptionFault<'_>>
+    ensures ok { IfOk result (λ request. request_in request ≡ spec.request_by options.now) }
+    ensures known { IfOk result (λ _. spec.are_known options.now ≡ true) }
+    ensures fault { IfErr result (λ fault. IsOptionFault fault options.now) }
 {
     let mut request = Request::new(alloc);
-    for word in words {
-        let Some((setting, value)) = setting_of(word.as_str()) else {
-            unreachable!();
-        };
-        request.set(setting, value)?;
+    let mut has_memory = true;
+    for option in options {
+        match request.take(option.as_str()) {
+            Ok(true) => {}
+            Ok(false) => return Err(OptionFault::Unknown(option.as_str())),
+            Err(AllocError) => has_memory = false,
+        }
     }
-    Ok(request)
+    if has_memory {
+        Ok(request)
+    } else {
+        Err(OptionFault::Memory)
+    }
 }

@@ -11,9 +11,8 @@ use Rattle.std.proofs.lemmas.List.{drop_more, map_push}
 use Rattle.std.proofs.lemmas.Bool.{eqb-true}
 use Rattle.std.proofs.lemmas.Bool.Decides.{nat_tests}
 use Rattle.htmd.specs.CharacterClasses.{begins_with}
-use Rattle.htmd_cli.specs.Words.{Asked, is_given, asked_behind, asked_by}
-use Rattle.htmd_cli.specs.Words.{nothing_asked}
-use Rattle.htmd_cli.specs.Words.{number_behind, with_digit, parts, is_filled}
+use Rattle.htmd_cli.specs.Options.{Request, is_given, request_after, request_by, default_request}
+use Rattle.htmd_cli.specs.Options.{number_behind, with_digit, parts, is_filled}
 
 -- either way, with what the test says
 test : {P : Type 0} (b : Bool) → (b ≡ true → P) → (b ≡ false → P) → P
@@ -92,10 +91,10 @@ value_behind n s true (Some x) e h =
 
 -- ---- all options
 
-pub asked_first : (asked : Asked) (given : List (String Global)) → asked ≡ nothing_asked
-    → asked_behind asked given ≡ asked_by given
-unfolding asked_by
-asked_first asked given e = ap (λ x. asked_behind x given) e
+pub asked_first : (request : Request) (given : List (String Global)) → request ≡ default_request
+    → request_after request given ≡ request_by given
+unfolding request_by
+asked_first request given e = ap (λ x. request_after x given) e
 
 -- ---- names that are added
 

@@ -1,0 +1,68 @@
+-- What the rows of the source's table of options mean; only the contracts of private functions cite it.
+use Rattle.std.specs.Prelude.{◌≡◌, ℕ, Bool, true, false, if◌then◌else◌, List, Option, Some, None, option_map, is_some}
+use Rattle.std.specs.Borrow.{Bor}
+use Rattle.std.specs.List.{list_all}
+use Rattle.std.specs.declared.alloc.Global.{Global}
+use Rattle.std.specs.declared.string.String.{String}
+use Rattle.htmd_cli.specs.declared.options.Setting.{Setting}
+use Rattle.htmd_cli.specs.declared.options.Setting.TheVariants as setting
+use Rattle.htmd_cli.specs.declared.options.Request as held
+use Rattle.htmd_cli.specs.declared.options.OptionFault as held_fault
+use Rattle.htmd_cli.specs.declared.options.OptionFault.TheVariants as fault
+use Rattle.htmd_cli.specs.Settings.{settings_in}
+use Rattle.htmd_cli.specs.Options.{Request, KnownOption, sets, sets_option, skips, takes_rows, shows_instead, number}
+use Rattle.htmd_cli.specs.Options.{parts, is_filled, are_known}
+
+-- the setting is told by a value
+abbrev pub takes_value : Setting → Bool
+takes_value setting.BulletSpacing = true
+takes_value setting.NumberSpacing = true
+takes_value setting.Skip = true
+takes_value _ = false
+
+-- what a setting with this value does to what is asked for
+abbrev pub effect_of : Setting → List ℕ → Option (Request → Request)
+effect_of setting.Text value = Some (sets (λ settings. record settings { text = true }))
+effect_of setting.Body value = Some (sets (λ settings. record settings { body = true }))
+effect_of setting.Html5 value = Some (sets (λ settings. record settings { html5 = true }))
+effect_of setting.Rows value = Some takes_rows
+effect_of setting.NoScripting value = Some (sets (λ settings. record settings { scripting = false }))
+effect_of (setting.Translation mode) value = Some (sets_option (λ options. record options { translation_mode = mode }))
+effect_of (setting.Heading style) value = Some (sets_option (λ options. record options { heading_style = style }))
+effect_of (setting.Rule style) value = Some (sets_option (λ options. record options { hr_style = style }))
+effect_of (setting.LineBreak style) value = Some (sets_option (λ options. record options { br_style = style }))
+effect_of (setting.Link style) value = Some (sets_option (λ options. record options { link_style = style }))
+effect_of (setting.Reference style) value =
+    Some (sets_option (λ options. record options { link_reference_style = style }))
+effect_of (setting.CodeBlock style) value = Some (sets_option (λ options. record options { code_block_style = style }))
+effect_of (setting.Fence symbol) value = Some (sets_option (λ options. record options { code_block_fence = symbol }))
+effect_of (setting.Bullet marker) value =
+    Some (sets_option (λ options. record options { bullet_list_marker = marker }))
+effect_of setting.BulletSpacing value =
+    option_map (λ n. sets_option (λ options. record options { ul_bullet_spacing = n })) (number value)
+effect_of setting.NumberSpacing value =
+    option_map (λ n. sets_option (λ options. record options { ol_number_spacing = n })) (number value)
+effect_of setting.PreformattedCode value = Some (sets_option (λ options. record options { preformatted_code = true }))
+effect_of setting.Skip value = if list_all is_filled (parts value) then Some (skips (parts value)) else None
+effect_of setting.Explain value = Some (λ request. request)
+effect_of (setting.Show notice) value = Some shows_instead
+
+-- a row of the source's table: the option, its setting and its line of help
+abbrev pub Row : Type 0
+Row = Bor (List ℕ) × Bor (List ℕ) × Setting × Bor (List ℕ)
+
+abbrev pub option_of : Row → KnownOption
+option_of row = record { name = row.0.now; takes_value = takes_value row.2; effect = effect_of row.2 }
+
+-- what is asked for so far, as the program holds it
+abbrev pub request_in : held.Request → Request
+request_in request = record {
+  settings = settings_in request.settings;
+  rows = request.rows;
+  shows = is_some request.shows;
+}
+
+-- this is why there is no request: an option isn't known, or all are and memory ran out
+abbrev pub IsOptionFault : held_fault.OptionFault → List (String Global) → Type 0
+IsOptionFault (fault.Unknown option) given = are_known given ≡ false
+IsOptionFault fault.Memory given = are_known given ≡ true

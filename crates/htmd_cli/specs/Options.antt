@@ -1,0 +1,189 @@
+-- The program's command-line options, and what they ask for.
+use Rattle.std.specs.Prelude.{ℕ, ◌+◌, ◌-◌, ◌*◌, Bool, true, false, ◌&&◌, ◌==◌, nat_lt, if◌then◌else◌}
+use Rattle.std.specs.Prelude.{List, [], ◌∷◌, ◌++◌, length, drop, Option, Some, None, is_some, option_map}
+use Rattle.std.specs.Prelude.{option_and_then, codes}
+use Rattle.std.specs.Prelude.{string_bytes}
+use Rattle.std.specs.List.{list_all}
+use Rattle.std.specs.Char.{is_ascii_digit}
+use Rattle.std.specs.Str.{bytes_eq}
+use Rattle.std.specs.declared.alloc.Global.{Global}
+use Rattle.std.specs.declared.string.String.{String}
+use Rattle.htmd.specs.Characters.{comma, digit_zero}
+use Rattle.htmd.specs.CharacterClasses.{begins_with}
+use Rattle.htmd.specs.HeadingStyle.TheVariants as heading
+use Rattle.htmd.specs.HrStyle.TheVariants as rule
+use Rattle.htmd.specs.BrStyle.TheVariants as line_break
+use Rattle.htmd.specs.LinkReferenceStyle.TheVariants as reference
+use Rattle.htmd.specs.CodeBlockFence.TheVariants as fence
+use Rattle.htmd.specs.BulletListMarker.TheVariants as marker
+use Rattle.htmd.specs.LinkStyle.TheVariants as link
+use Rattle.htmd.specs.CodeBlockStyle.TheVariants as code_block
+use Rattle.htmd.specs.TranslationMode.TheVariants as translation
+use Rattle.htmd.specs.Options.{Options}
+use Rattle.htmd_cli.specs.Settings.{Settings, default_settings}
+
+-- what the options ask for: the settings, whether the source is rows with a page each, and whether the help or the
+-- version is shown in place of a conversion
+pub record Request : Type 0 where
+  pub settings : Settings
+  pub rows : Bool
+  pub shows : Bool
+
+-- what is asked for if no option is given
+abbrev pub default_request : Request
+default_request = record { settings = default_settings; rows = false; shows = false }
+
+-- ---- values
+
+-- a number with a further decimal digit after it, as far as a byte goes
+abbrev pub with_digit : ℕ → ℕ → Option ℕ
+with_digit n b =
+    if is_ascii_digit b && nat_lt (n * 10 + (b - digit_zero)) 256 then Some (n * 10 + (b - digit_zero)) else None
+
+abbrev pub number_behind : Option ℕ → List ℕ → Option ℕ
+number_behind n [] = n
+number_behind n (b ∷ s) = number_behind (option_and_then (λ m. with_digit m b) n) s
+
+-- the number from 0 to 255 that decimal digits write
+abbrev pub number : List ℕ → Option ℕ
+number [] = None
+number (b ∷ s) = number_behind (Some 0) (b ∷ s)
+
+abbrev pub before_parts : ℕ → List (List ℕ) → List (List ℕ)
+before_parts b [] = []
+before_parts b (part ∷ parts) = (b ∷ part) ∷ parts
+
+-- the parts of a text between its commas
+abbrev pub parts : List ℕ → List (List ℕ)
+parts [] = [] ∷ []
+parts (b ∷ s) = if b == comma then [] ∷ parts s else before_parts b (parts s)
+
+abbrev pub is_filled : List ℕ → Bool
+is_filled [] = false
+is_filled (b ∷ s) = true
+
+-- ---- what an option does to what is asked for so far
+
+abbrev pub sets : (Settings → Settings) → Request → Request
+sets change request = record request { settings = change request.settings }
+
+abbrev pub sets_option : (Options → Options) → Request → Request
+sets_option change = sets (λ settings. record settings { options = change settings.options })
+
+abbrev pub skips : List (List ℕ) → Request → Request
+skips names = sets (λ settings. record settings { skipped = settings.skipped ++ names })
+
+abbrev pub takes_rows : Request → Request
+takes_rows request = record request { rows = true }
+
+abbrev pub shows_instead : Request → Request
+shows_instead request = record request { shows = true }
+
+-- ---- the options
+
+-- an option: all of it, or if it takes a value, what comes before that; and what it does
+pub record KnownOption : Type 0 where
+  pub name : List ℕ
+  pub takes_value : Bool
+  pub effect : List ℕ → Option (Request → Request)
+
+-- an option that is known as a whole
+abbrev pub plain : List ℕ → (Request → Request) → KnownOption
+plain name effect = record { name = name; takes_value = false; effect = λ value. Some effect }
+
+-- an option that ends with a number from 0 to 255
+abbrev pub numbered : List ℕ → (ℕ → Request → Request) → KnownOption
+numbered name effect = record { name = name; takes_value = true; effect = λ value. option_map effect (number value) }
+
+-- an option that ends with names between commas, none of them empty
+abbrev pub named : List ℕ → (List (List ℕ) → Request → Request) → KnownOption
+named name effect = record {
+  name = name;
+  takes_value = true;
+  effect = λ value. if list_all is_filled (parts value) then Some (effect (parts value)) else None;
+}
+
+abbrev pub known_options : List KnownOption
+known_options =
+    plain (codes "--text") (sets (λ settings. record settings { text = true }))
+    ∷ plain (codes "--body") (sets (λ settings. record settings { body = true }))
+    ∷ plain (codes "--html5") (sets (λ settings. record settings { html5 = true }))
+    ∷ plain (codes "--rows") takes_rows
+    ∷ plain (codes "--faithful")
+    (sets_option (λ options. record options { translation_mode = translation.Faithful }))
+    ∷ plain (codes "--guarded") (sets_option (λ options. record options { translation_mode = translation.Guarded }))
+    ∷ plain (codes "--no-scripting") (sets (λ settings. record settings { scripting = false }))
+    ∷ named (codes "--skip=") skips
+    ∷ plain (codes "--heading-style=atx") (sets_option (λ options. record options { heading_style = heading.Atx }))
+    ∷ plain (codes "--heading-style=setext")
+    (sets_option (λ options. record options { heading_style = heading.Setex }))
+    ∷ plain (codes "--hr-style=dashes") (sets_option (λ options. record options { hr_style = rule.Dashes }))
+    ∷ plain (codes "--hr-style=asterisks") (sets_option (λ options. record options { hr_style = rule.Asterisks }))
+    ∷ plain (codes "--hr-style=underscores")
+    (sets_option (λ options. record options { hr_style = rule.Underscores }))
+    ∷ plain (codes "--br-style=two-spaces")
+    (sets_option (λ options. record options { br_style = line_break.TwoSpaces }))
+    ∷ plain (codes "--br-style=backslash")
+    (sets_option (λ options. record options { br_style = line_break.Backslash }))
+    ∷ plain (codes "--link-style=inlined") (sets_option (λ options. record options { link_style = link.Inlined }))
+    ∷ plain (codes "--link-style=inlined-prefer-autolinks")
+    (sets_option (λ options. record options { link_style = link.InlinedPreferAutolinks }))
+    ∷ plain (codes "--link-style=referenced")
+    (sets_option (λ options. record options { link_style = link.Referenced }))
+    ∷ plain (codes "--link-reference-style=full")
+    (sets_option (λ options. record options { link_reference_style = reference.Full }))
+    ∷ plain (codes "--link-reference-style=collapsed")
+    (sets_option (λ options. record options { link_reference_style = reference.Collapsed }))
+    ∷ plain (codes "--link-reference-style=shortcut")
+    (sets_option (λ options. record options { link_reference_style = reference.Shortcut }))
+    ∷ plain (codes "--code-block-style=indented")
+    (sets_option (λ options. record options { code_block_style = code_block.Indented }))
+    ∷ plain (codes "--code-block-style=fenced")
+    (sets_option (λ options. record options { code_block_style = code_block.Fenced }))
+    ∷ plain (codes "--code-block-fence=tildes")
+    (sets_option (λ options. record options { code_block_fence = fence.Tildes }))
+    ∷ plain (codes "--code-block-fence=backticks")
+    (sets_option (λ options. record options { code_block_fence = fence.Backticks }))
+    ∷ plain (codes "--bullet-list-marker=asterisk")
+    (sets_option (λ options. record options { bullet_list_marker = marker.Asterisk }))
+    ∷ plain (codes "--bullet-list-marker=dash")
+    (sets_option (λ options. record options { bullet_list_marker = marker.Dash }))
+    ∷ numbered (codes "--ul-bullet-spacing=")
+    (λ n. sets_option (λ options. record options { ul_bullet_spacing = n }))
+    ∷ numbered (codes "--ol-number-spacing=")
+    (λ n. sets_option (λ options. record options { ol_number_spacing = n }))
+    ∷ plain (codes "--preformatted-code") (sets_option (λ options. record options { preformatted_code = true }))
+    ∷ plain (codes "--explain") (λ request. request)
+    ∷ plain (codes "--help") shows_instead
+    ∷ plain (codes "--version") shows_instead
+    ∷ []
+
+-- the option is given: this name, or if it takes a value, this name and more
+abbrev pub is_given : List ℕ → Bool → List ℕ → Bool
+is_given name takes given = if takes then begins_with name given else bytes_eq given name
+
+-- what a given option does, if it is known
+abbrev pub meaning : List KnownOption → List ℕ → Option (Request → Request)
+meaning [] given = None
+meaning (option ∷ others) given =
+    if is_given option.name option.takes_value given
+    then option.effect (drop (length option.name) given) else meaning others given
+
+abbrev pub is_known : String Global → Bool
+is_known given = is_some (meaning known_options (string_bytes given))
+
+abbrev pub are_known : List (String Global) → Bool
+are_known given = list_all is_known given
+
+abbrev pub after : Option (Request → Request) → Request → Request
+after None request = request
+after (Some effect) request = effect request
+
+-- what is asked for after further options: of two for one field the last one counts
+abbrev pub request_after : Request → List (String Global) → Request
+request_after request [] = request
+request_after request (given ∷ more) = request_after (after (meaning known_options (string_bytes given)) request) more
+
+-- what the options ask for
+unfoldable pub request_by : List (String Global) → Request
+request_by given = request_after default_request given
