@@ -28,6 +28,7 @@ pub mod Modes
 pub mod ForeignContent
 pub mod Processing
 pub mod Texts
+pub mod AtOnce
 pub mod Feeding
 pub mod Layout
 pub mod LayoutViews

@@ -1,5 +1,5 @@
 //! Documents while they are made: nodes by number, each with its parent and its children.
-ghost use Rattle.std.specs.Prelude.{◌≡◌, ◌∷◌, ◌++◌, ◌≤◌, [], length, IfOk, OnOk, MatchBool, Some, None};
+ghost use Rattle.std.specs.Prelude.{◌≡◌, ◌∷◌, ◌++◌, ◌≤◌, [], length, string_bytes, IfOk, OnOk, MatchBool, Some, None};
 ghost use Rattle.htmd_html5_state.specs.Documents as spec;
 ghost use Rattle.htmd_html5_state.specs.Views.{kind_of, kind_seen, nodes_of};
 ghost use Rattle.htmd_tree.specs.Views.{pairs_of};
@@ -346,6 +346,17 @@ impl Document {
         }
         let kind = NodeKind::Text(String::from_str(self.alloc, text)?);
         self.add(kind, place)?;
+        Ok(())
+    }
+
+    /// Adds text that is handed over.
+    pub(crate) fn add_owned_text(&mut self, text: String, place: Place) -> Result<(), AllocError>
+        ensures { OnOk result (self.new ≡ spec.add_text (string_bytes text) place self.old) }
+    {
+        if self.join_text(text.as_str(), place)? {
+            return Ok(());
+        }
+        self.add(NodeKind::Text(text), place)?;
         Ok(())
     }
 
