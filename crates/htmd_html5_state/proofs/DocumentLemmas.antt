@@ -6,7 +6,7 @@ use Rattle.std.proofs.lemmas.Bool.Decides.{nat_tests}
 use Rattle.std.proofs.lemmas.List.{map-set, get_or-map, set_past, length-map, append_assoc, append-nil}
 use Rattle.std.proofs.lemmas.List.{take_all, take_more, drop_all}
 use Rattle.std.specs.List.{list_any}
-use Rattle.std.specs.Prelude.{◌==◌, slice_set, remove, String}
+use Rattle.std.specs.Prelude.{◌==◌, slice_set, insert, remove, String}
 use Rattle.std.specs.Global.{Global}
 use Rattle.htmd_text.proofs.Cases.{test}
 use Rattle.htmd_html5_state.specs.Documents.{NodeValue, KindValue, text, node_at, kind_at, new_node, document, is_number, index_of}
@@ -76,6 +76,10 @@ index_of-last child children rest others parts lacks l is =
 
 pub remove_past : (cs : List ℕ) (i : ℕ) → length cs ≤ i → remove cs i ≡ cs
 remove_past cs i l = rw (take_all i cs l, drop_all (suc i) cs (omega arith)) (append-nil cs)
+
+-- a child more, after all others
+pub insert_last : (cs : List ℕ) (n : ℕ) → insert cs (length cs) n ≡ cs ++ n ∷ []
+insert_last cs n = rw (take_all (length cs) cs (omega arith), drop_all (length cs) cs (omega arith)) refl
 
 -- ---- what a part of a node becomes
 

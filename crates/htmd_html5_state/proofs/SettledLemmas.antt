@@ -2,11 +2,12 @@
 use Rattle.std.proofs.Common.{◌≡◌, ◌∙◌, ℕ, zero, suc, ◌+◌, ◌<◌, ◌≤◌, Bool, true, false, not, ◌&&◌, List, [], ◌∷◌, ◌++◌}
 use Rattle.std.proofs.Common.{length, Option, Some, None, get_or, set, take, drop, refl, sym, ap, subst, arith, inl, inr, ◌⊎◌}
 use Rattle.std.specs.Prelude.{insert, slice_get, nat_lt}
-use Rattle.std.proofs.lemmas.Bool.{true≢false, and_parts, cases_lt, ltb-true, lt-ltb, not_from_true}
+use Rattle.std.proofs.lemmas.Bool.{true≢false, and_parts, cases_lt, ltb-true, not_from_true}
 use Rattle.std.proofs.lemmas.List.{take_all, drop_all, get_or_append_left, get_or_at, get_or-set_same, get_or_past}
 use Rattle.std.proofs.lemmas.List.{set-append_left, set_at, set-set, length-set, length-append, append_assoc, append-nil}
 use Rattle.htmd_text.proofs.Cases.{test}
 use Rattle.htmd_grammar.specs.CharacterClasses.{is_empty}
+use Rattle.htmd_html5_state.proofs.DocumentLemmas.{insert_last}
 use Rattle.htmd_html5_state.specs.Documents.{NodeValue, KindValue, document, text, new_node, node_at, kind_at, children_at}
 use Rattle.htmd_html5_state.specs.Documents.{text_of, with_kind, with_parent, with_children, last_in, put_child, add}
 use Rattle.htmd_html5_state.specs.declared.document.Place.{Place}
@@ -18,9 +19,6 @@ use Rattle.htmd_html5_state.specs.Settled.{is_reconstructed, is_settled}
 use Rattle.htmd_html5_state.specs.State.{StateValue, on_formatting, on_nodes}
 
 -- ---- a new node at the end of another one
-
-insert_last : (cs : List ℕ) (n : ℕ) → insert cs (length cs) n ≡ cs ++ n ∷ []
-insert_last cs n = rw (take_all (length cs) cs (omega arith), drop_all (length cs) cs (omega arith)) refl
 
 last_child : (cs : List ℕ) (n : ℕ) → child_before (length (cs ++ n ∷ [])) (cs ++ n ∷ []) ≡ Some n
 last_child [] n = refl

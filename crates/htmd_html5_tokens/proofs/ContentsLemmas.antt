@@ -6,6 +6,7 @@ use Rattle.std.proofs.lemmas.Bool.Decides.{nat_tests}
 use Rattle.std.proofs.lemmas.List.{drop_more}
 use Rattle.std.proofs.lemmas.Str.{IsCharBoundary-after_ascii}
 use Rattle.std.specs.Char.{encode_utf8}
+use Rattle.std.specs.List.{list_all}
 use Rattle.std.specs.Prelude.{◌==◌}
 use Rattle.std.specs.Str.{IsUtf8, IsCharBoundary}
 use Rattle.htmd_text.proofs.Cases.{test}
@@ -17,6 +18,15 @@ use Rattle.htmd_html5_tokens.specs.Plain.{is_plain, HasPushed}
 use Rattle.htmd_html5_tokens.specs.declared.contents.Reading.{Reading}
 use Rattle.htmd_html5_tokens.specs.declared.contents.Reading.TheVariants.{Text, EscapableRawText, RawText, AttributeValue}
 use Rattle.htmd_html5_tokens.proofs.RunCuts.{cut_before_ascii}
+
+-- ---- runs
+
+-- a run of all bytes
+pub run_of_all : (p : ℕ → Bool) (s : List ℕ) → list_all p s ≡ true → length (leading_run p s) ≡ length s
+run_of_all p [] e = refl
+run_of_all p (b ∷ s) e =
+    let both = and_parts (p b) (list_all p s) e in
+    rw both.0 (ap suc (run_of_all p s both.1))
 
 -- ---- pieces
 

@@ -1,5 +1,6 @@
 //! What characters stand for: texts, raw texts, values and names.
 ghost use Rattle.std.specs.Prelude.{◌≡◌, ◌<◌, ◌≤◌, ◌++◌, false, length, slice_index, string_bytes, IfOk, OnOk, ◌∷◌, true};
+ghost use Rattle.std.specs.List.{list_all};
 ghost use Rattle.std.specs.Str.{IsUtf8};
 ghost use Rattle.htmd_grammar.specs.CharacterClasses.{leading_run};
 ghost use Rattle.htmd_html5_tokens.specs.Contents as spec;
@@ -35,9 +36,20 @@ fn is_plain(byte: u8, reading: Reading) -> bool
     }
 }
 
-/// How many bytes at the beginning are plain.
+/// Whether all bytes are plain. All are looked at, so that a processor can compare many at once.
+fn are_plain(bytes: &[u8], reading: Reading) -> bool
+    ensures { result ≡ list_all (is_plain reading) bytes.now }
+{
+    let mut are_plain = true;
+    for byte in bytes {
+        are_plain &= is_plain(*byte, reading);
+    }
+    are_plain
+}
+
+/// How many bytes at the beginning are plain, found one by one.
 #[tactic(auto, using(htmd_tree::proofs::RunsLemmas::run_more, htmd_tree::proofs::RunsLemmas::run_stops))]
-fn plain_len(bytes: &[u8], reading: Reading) -> usize
+fn first_special(bytes: &[u8], reading: Reading) -> usize
     ensures bound { result ≤ length bytes.now }
     ensures value { result ≡ length (leading_run (is_plain reading) bytes.now) }
 {
@@ -47,6 +59,18 @@ fn plain_len(bytes: &[u8], reading: Reading) -> usize
         }
     }
     bytes.len()
+}
+
+/// How many bytes at the beginning are plain.
+#[tactic(auto, using(crate::proofs::ContentsLemmas::run_of_all))]
+fn plain_len(bytes: &[u8], reading: Reading) -> usize
+    ensures bound { result ≤ length bytes.now }
+    ensures value { result ≡ length (leading_run (is_plain reading) bytes.now) }
+{
+    if are_plain(bytes, reading) {
+        return bytes.len();
+    }
+    first_special(bytes, reading)
 }
 
 /// Appends the plain characters with which the text begins, and answers the rest.
