@@ -80,8 +80,10 @@ put_twice : (a b : List ℕ) (s : StateValue) → Settled s
 put_twice a b s h =
     ap (with_frameset (list_all is_ascii_white_space b))
     (frameset_before (list_all is_ascii_white_space a) b (insert_text a s))
-    ∙ (frameset_twice (list_all is_ascii_white_space a) (list_all is_ascii_white_space b) (insert_text b (insert_text a s))
-    ∙ (ap (with_frameset (list_all is_ascii_white_space a && list_all is_ascii_white_space b)) (insert_text-twice a b s h)
+    ∙ (frameset_twice (list_all is_ascii_white_space a) (list_all is_ascii_white_space b)
+    (insert_text b (insert_text a s))
+    ∙ (ap (with_frameset (list_all is_ascii_white_space a && list_all is_ascii_white_space b))
+    (insert_text-twice a b s h)
     ∙ ap (λ (white : Bool). with_frameset white (insert_text (a ++ b) s))
     (sym (list_all-append is_ascii_white_space a b))))
 
@@ -123,7 +125,8 @@ kind_first b t s h n = test (is_ascii_white_space b) (λ e. of_kind White (rw e 
     (λ e. of_kind Characters (rw (e, n) refl) (as_other e))
   where
     of_kind : (k : RunKind) → kind_of_byte b ≡ k
-        → run_in_body k (leading_run (is_of_kind k) (b ∷ t)) s ≡ put_at_once (leading_run (is_of_kind k) (b ∷ t)) s
+        → run_in_body k (leading_run (is_of_kind k) (b ∷ t)) s
+        ≡ put_at_once (leading_run (is_of_kind k) (b ∷ t)) s
         → run_in_body (kind_of_byte b) (first_run (b ∷ t)) s ≡ put_at_once (first_run (b ∷ t)) s
     of_kind k e f =
         subst (λ (x : RunKind). run_in_body x (leading_run (is_of_kind x) (b ∷ t)) s
@@ -158,7 +161,8 @@ first_put b t s h n =
 
 -- ---- all runs
 
-nulls_in_rest : (text : List ℕ) → list_all is_not_null text ≡ true → list_all is_not_null (after_first_run text) ≡ true
+nulls_in_rest : (text : List ℕ) → list_all is_not_null text ≡ true
+    → list_all is_not_null (after_first_run text) ≡ true
 nulls_in_rest text e =
     (and_parts (list_all is_not_null (first_run text)) (list_all is_not_null (after_first_run text))
     (sym (list_all-append is_not_null (first_run text) (after_first_run text))

@@ -31,7 +31,8 @@ nodes_of-set ns n old new f l read is =
     ∙ ap (λ (x : NodeValue). set (nodes_of ns) n x) (is ∙ ap f (sym (node_at-read ns n old l read)))
 
 -- if there is none, nothing changes
-pub nodes_of-past : (ns : List Node) (n : ℕ) (x : NodeValue) → length ns ≤ n → slice_set (nodes_of ns) n x ≡ nodes_of ns
+pub nodes_of-past : (ns : List Node) (n : ℕ) (x : NodeValue) → length ns ≤ n
+    → slice_set (nodes_of ns) n x ≡ nodes_of ns
 nodes_of-past ns n x l = set_past (nodes_of ns) n x (omega (arith, length-map ns node_of))
 
 -- ---- where a child stands
@@ -89,14 +90,16 @@ pub written : (ns : List Node) (nodes : List NodeValue) (n : ℕ) (old new : Nod
 written ns nodes n old new f is l read same =
     nodes_of-set ns n old new f l read same ∙ ap (λ (x : List NodeValue). slice_set x n (f (node_at x n))) is
 
-pub text-joined : (ns : List Node) (nodes : List NodeValue) (n : ℕ) (old : Node) (before after : String Global) (s : List ℕ)
+pub text-joined : (ns : List Node) (nodes : List NodeValue) (n : ℕ) (old : Node) (before after : String Global)
+    (s : List ℕ)
     → nodes_of ns ≡ nodes → n < length ns → old ≡ get_or ns n old → old.kind ≡ Text before
     → string_bytes after ≡ string_bytes before ++ s
     → joined s n nodes
     ≡ Some (nodes_of (set ns n (record { kind = Text after; parent = old.parent; children = old.children })))
 text-joined ns nodes n old before after s is l read kind bytes =
     ap (λ (k : KindValue). joined_with s n (text_of k) nodes) held
-    ∙ ap Some (sym (written ns nodes n old _ (λ (x : NodeValue). record x { kind = text (string_bytes before ++ s) }) is l
+    ∙ ap Some (sym (written ns nodes n old _
+    (λ (x : NodeValue). record x { kind = text (string_bytes before ++ s) }) is l
     read (ap (λ (t : List ℕ). record (node_of old) { kind = text t }) bytes)))
   where
     held : kind_at nodes n ≡ text (string_bytes before)

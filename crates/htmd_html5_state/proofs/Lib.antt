@@ -1,5 +1,5 @@
--- Lists that are held in the other order; the stack of open elements, the list of active formatting elements, documents;
--- texts that go on.
+-- Lists that are held in the other order; the stack of open elements, the list of active formatting elements,
+-- documents; texts that go on.
 pub mod StackLemmas
 pub mod PlacesLemmas
 pub mod FormattingLemmas

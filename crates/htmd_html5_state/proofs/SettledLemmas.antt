@@ -33,13 +33,15 @@ abbrev placed : KindValue → ℕ → NodeValue
 placed kind p = record { kind = kind; parent = Some p; children = [] }
 
 grown_long : (p : ℕ) (nodes : List NodeValue) → length (grown p nodes) ≡ length nodes
-grown_long p nodes = length-set nodes p (record (node_at nodes p) { children = children_at nodes p ++ length nodes ∷ [] })
+grown_long p nodes = length-set nodes p
+    (record (node_at nodes p) { children = children_at nodes p ++ length nodes ∷ [] })
 
 add_last : (kind : KindValue) (p : ℕ) (nodes : List NodeValue) → p < length nodes
     → add kind (last_in p) nodes ≡ grown p nodes ++ placed kind p ∷ []
 add_last kind p nodes l = ap (with_parent (length nodes) (Some p)) child ∙ parent
   where
-    child : put_child (length nodes) (last_in p) (nodes ++ new_node kind ∷ []) ≡ grown p nodes ++ new_node kind ∷ []
+    child : put_child (length nodes) (last_in p) (nodes ++ new_node kind ∷ [])
+        ≡ grown p nodes ++ new_node kind ∷ []
     child =
         ap (λ (x : NodeValue). set (nodes ++ new_node kind ∷ []) p
         (record x { children = insert x.children (length x.children) (length nodes) }))
@@ -52,7 +54,8 @@ add_last kind p nodes l = ap (with_parent (length nodes) (Some p)) child ∙ par
     parent : with_parent (length nodes) (Some p) (grown p nodes ++ new_node kind ∷ [])
         ≡ grown p nodes ++ placed kind p ∷ []
     parent =
-        ap (λ (x : NodeValue). set (grown p nodes ++ new_node kind ∷ []) (length nodes) (record x { parent = Some p }))
+        ap (λ (x : NodeValue). set (grown p nodes ++ new_node kind ∷ []) (length nodes)
+        (record x { parent = Some p }))
         (get_or_at (grown p nodes) (new_node kind) [] (new_node document) (length nodes) (grown_long p nodes))
         ∙ set_at (grown p nodes) (new_node kind) [] (placed kind p) (length nodes) (grown_long p nodes)
 
@@ -81,7 +84,8 @@ text_within nodes n before e = either (cases_lt n (length nodes))
 module _ (a b : List ℕ) (p : ℕ) (nodes : List NodeValue) (l : p < length nodes) where
   -- the second after a new one
   after_new : add_text b (last_in p) (add (text a) (last_in p) nodes) ≡ add (text (a ++ b)) (last_in p) nodes
-  after_new = ap (add_text b (last_in p)) (add_last (text a) p nodes l) ∙ both ∙ sym (add_last (text (a ++ b)) p nodes l)
+  after_new = ap (add_text b (last_in p)) (add_last (text a) p nodes l) ∙ both
+      ∙ sym (add_last (text (a ++ b)) p nodes l)
     where
       new : List NodeValue
       new = grown p nodes ++ placed (text a) p ∷ []
@@ -91,7 +95,8 @@ module _ (a b : List ℕ) (p : ℕ) (nodes : List NodeValue) (l : p < length nod
       parent =
           get_or_append_left (grown p nodes) (placed (text a) p ∷ []) (new_node document) p
           (omega (arith, grown_long p nodes))
-          ∙ get_or-set_same nodes p (record (node_at nodes p) { children = children_at nodes p ++ length nodes ∷ [] })
+          ∙ get_or-set_same nodes p
+          (record (node_at nodes p) { children = children_at nodes p ++ length nodes ∷ [] })
           (new_node document) l
 
       before : preceding (last_in p) new ≡ Some (length nodes)
@@ -107,7 +112,8 @@ module _ (a b : List ℕ) (p : ℕ) (nodes : List NodeValue) (l : p < length nod
       joins =
           ap (λ (x : NodeValue). joined_with b (length nodes) (text_of x.kind) new) last
           ∙ ap Some (ap (λ (x : NodeValue). set new (length nodes) (record x { kind = text (a ++ b) })) last
-          ∙ set_at (grown p nodes) (placed (text a) p) [] (placed (text (a ++ b)) p) (length nodes) (grown_long p nodes))
+          ∙ set_at (grown p nodes) (placed (text a) p) [] (placed (text (a ++ b)) p) (length nodes)
+          (grown_long p nodes))
 
       both : add_text b (last_in p) new ≡ grown p nodes ++ placed (text (a ++ b)) p ∷ []
       both =
@@ -117,9 +123,11 @@ module _ (a b : List ℕ) (p : ℕ) (nodes : List NodeValue) (l : p < length nod
   -- both at the end of a text
   after_old : (n : ℕ) (before : List ℕ) → text_of (kind_at nodes n) ≡ Some before
       → preceding (last_in p) nodes ≡ Some n
-      → add_text b (last_in p) (with_kind n (text (before ++ a)) nodes) ≡ with_kind n (text (before ++ (a ++ b))) nodes
+      → add_text b (last_in p) (with_kind n (text (before ++ a)) nodes)
+      ≡ with_kind n (text (before ++ (a ++ b))) nodes
   after_old n before e f =
-      ap (λ (o : Option ℕ). or_add b (last_in p) new (joined_to b o new)) found ∙ ap (or_add b (last_in p) new) joins
+      ap (λ (o : Option ℕ). or_add b (last_in p) new (joined_to b o new)) found
+      ∙ ap (or_add b (last_in p) new) joins
     where
       within : n < length nodes
       within = text_within nodes n before e
@@ -144,7 +152,8 @@ module _ (a b : List ℕ) (p : ℕ) (nodes : List NodeValue) (l : p < length nod
           ∙ (set-set nodes n changed (record (node_at nodes n) { kind = text ((before ++ a) ++ b) })
           ∙ ap (λ (t : List ℕ). with_kind n (text t) nodes) (append_assoc before a b)))
 
-  by_text : (n : ℕ) (t : Option (List ℕ)) → text_of (kind_at nodes n) ≡ t → preceding (last_in p) nodes ≡ Some n
+  by_text : (n : ℕ) (t : Option (List ℕ)) → text_of (kind_at nodes n) ≡ t
+      → preceding (last_in p) nodes ≡ Some n
       → add_text b (last_in p) (or_add a (last_in p) nodes (joined_with a n t nodes))
       ≡ or_add (a ++ b) (last_in p) nodes (joined_with (a ++ b) n t nodes)
   by_text n None e f = after_new
@@ -199,10 +208,12 @@ pub record Settled (s : StateValue) : Type 0 where
 
 pub settled : (s : StateValue) → is_settled s ≡ true → Settled s
 settled s e =
-    let both = and_parts (not s.foster_parenting && is_reconstructed s) (nat_lt (current s.stack).node (length s.nodes)) e in
+    let both = and_parts (not s.foster_parenting && is_reconstructed s)
+    (nat_lt (current s.stack).node (length s.nodes)) e in
     let front = and_parts (not s.foster_parenting) (is_reconstructed s) both.0 in
     record {
-      fosters = test s.foster_parenting (λ t. absurd (true≢false (sym front.0 ∙ not_from_true s.foster_parenting t))) (λ t. t);
+      fosters = test s.foster_parenting
+          (λ t. absurd (true≢false (sym front.0 ∙ not_from_true s.foster_parenting t))) (λ t. t);
       listed = front.1;
       within = ltb-true (current s.stack).node (length s.nodes) both.1;
     }

@@ -47,9 +47,9 @@ fn are_plain(bytes: &[u8], reading: Reading) -> bool
     are_plain
 }
 
-/// How many bytes at the beginning are plain, found one by one.
+/// How many bytes at the beginning are plain.
 #[tactic(auto, using(htmd_tree::proofs::RunsLemmas::run_more, htmd_tree::proofs::RunsLemmas::run_stops))]
-fn first_special(bytes: &[u8], reading: Reading) -> usize
+fn plain_len(bytes: &[u8], reading: Reading) -> usize
     ensures bound { result ≤ length bytes.now }
     ensures value { result ≡ length (leading_run (is_plain reading) bytes.now) }
 {
@@ -59,18 +59,6 @@ fn first_special(bytes: &[u8], reading: Reading) -> usize
         }
     }
     bytes.len()
-}
-
-/// How many bytes at the beginning are plain.
-#[tactic(auto, using(crate::proofs::ContentsLemmas::run_of_all))]
-fn plain_len(bytes: &[u8], reading: Reading) -> usize
-    ensures bound { result ≤ length bytes.now }
-    ensures value { result ≡ length (leading_run (is_plain reading) bytes.now) }
-{
-    if are_plain(bytes, reading) {
-        return bytes.len();
-    }
-    first_special(bytes, reading)
 }
 
 /// Appends the plain characters with which the text begins, and answers the rest.
@@ -180,8 +168,8 @@ fn push_next<'a>(held: &mut String, text: &'a str, reading: Reading) -> Result<&
     }
 }
 
-/// What the characters of a text stand for.
-pub(crate) fn decoded(alloc: Global, text: &str, reading: Reading) -> Result<String, AllocError>
+/// What the characters of a text stand for, piece by piece.
+fn decoded_pieces(alloc: Global, text: &str, reading: Reading) -> Result<String, AllocError>
     ensures { IfOk result (λ t. string_bytes t ≡ spec.decoded reading 0 text.now) }
 {
     let mut held = String::with_capacity(alloc, text.len())?;
@@ -190,6 +178,17 @@ pub(crate) fn decoded(alloc: Global, text: &str, reading: Reading) -> Result<Str
         rest = push_next(&mut held, rest, reading)?;
     }
     Ok(held)
+}
+
+/// What the characters of a text stand for.
+#[tactic(auto, using(crate::proofs::ContentsLemmas::decoded_itself))]
+pub(crate) fn decoded(alloc: Global, text: &str, reading: Reading) -> Result<String, AllocError>
+    ensures { IfOk result (λ t. string_bytes t ≡ spec.decoded reading 0 text.now) }
+{
+    if are_plain(text.as_bytes(), reading) {
+        return String::from_str(alloc, text);
+    }
+    decoded_pieces(alloc, text, reading)
 }
 
 /// The name of this spelling: in lower case, with U+FFFD for U+0000.

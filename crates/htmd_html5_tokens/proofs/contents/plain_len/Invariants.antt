@@ -2,7 +2,7 @@
 use Rattle.std.proofs.Common.{◌≡◌, ◌+◌, length, drop}
 use Rattle.htmd_grammar.specs.CharacterClasses.{leading_run}
 use Rattle.htmd_html5_tokens.specs.Plain.{is_plain}
-use Rattle.htmd_html5_tokens.proofs.contents.first_special.Given as goal
+use Rattle.htmd_html5_tokens.proofs.contents.plain_len.Given as goal
 
 abbrev pub invariant-loop-len : goal.invariant-loop-len
 invariant-loop-len l =
