@@ -1,9 +1,9 @@
 -- A text that is put at once: its parts, put one after another, are joined.
-use Rattle.std.proofs.Common.{◌≡◌, ◌∙◌, ℕ, zero, suc, ◌+◌, ◌<◌, ◌≤◌, Bool, true, false, not, ◌&&◌, ◌||◌, List, [], ◌∷◌}
+use Rattle.std.proofs.Common.{◌≡◌, ◌∙◌, ℕ, zero, suc, ◌+◌, ◌<◌, ◌≤◌, Bool, true, false, not, ◌&&◌, List, [], ◌∷◌}
 use Rattle.std.proofs.Common.{◌++◌, length, refl, sym, ap, subst, arith}
 use Rattle.std.specs.List.{list_all}
 use Rattle.std.specs.Prelude.{if◌then◌else◌}
-use Rattle.std.proofs.lemmas.Bool.{true≢false, and_parts, and_from, and_left, or_right, not_from_true}
+use Rattle.std.proofs.lemmas.Bool.{true≢false, and_parts, and_left, or_right, not_from_true}
 use Rattle.std.proofs.lemmas.List.{append-nil}
 use Rattle.std.proofs.lemmas.List.Folds.{list_all-append}
 use Rattle.htmd_text.proofs.Cases.{test}
@@ -11,25 +11,24 @@ use Rattle.htmd_text.specs.WhiteSpace.{is_ascii_white_space}
 use Rattle.htmd_grammar.specs.CharacterClasses.{is_empty, leading_run}
 use Rattle.htmd_grammar.proofs.TagReadingLemmas.{front_all, back_split}
 use Rattle.htmd_html5_state.specs.Foreign.{current_is_html}
-use Rattle.htmd_html5_state.specs.Formatting.{reconstruct}
 use Rattle.htmd_html5_state.specs.Insertion.{insert_text}
 use Rattle.htmd_html5_state.specs.Settled.{is_settled}
 use Rattle.htmd_html5_state.specs.State.{StateValue}
 use Rattle.htmd_html5_state.specs.declared.modes.InsertionMode.TheVariants.{InBody, InCaption, InCell}
 use Rattle.htmd_html5_state.specs.declared.modes.InsertionMode.{InsertionMode}
 use Rattle.htmd_html5_state.proofs.SettledLemmas.{Settled, settled, insert_text-twice, insert_text-settled, settled-reconstruct}
-use Rattle.htmd_html5.specs.Answers.{Answer, answer, done}
+use Rattle.htmd_html5.specs.Answers.{answer, done}
 use Rattle.htmd_html5.specs.AtOnce.{is_body_mode, is_not_null, takes_at_once, is_plain, put_at_once}
-use Rattle.htmd_html5.specs.ForeignContent.{goes_to_html, is_foreign}
+use Rattle.htmd_html5.specs.ForeignContent.{is_foreign}
 use Rattle.htmd_html5.specs.InBody.{run_in_body}
-use Rattle.htmd_html5.specs.Modes.{in_mode, by_mode_rules}
+use Rattle.htmd_html5.specs.Modes.{in_mode}
 use Rattle.htmd_html5.specs.Processing.{by_rules, turns}
 use Rattle.htmd_html5.specs.Runs.{is_of_kind, is_null, kind_of_byte, first_kind, first_run, after_first_run}
 use Rattle.htmd_html5.specs.SharedRules.{no_frameset}
 use Rattle.htmd_html5.specs.Texts.{Taken, taken, is_table_mode, takes_all, take_part, first_token, put_text}
 use Rattle.htmd_html5.specs.Tokens.{run}
 use Rattle.htmd_html5.specs.declared.tokens.RunKind.{RunKind}
-use Rattle.htmd_html5.specs.declared.tokens.RunKind.TheVariants.{White, Nulls, Characters}
+use Rattle.htmd_html5.specs.declared.tokens.RunKind.TheVariants.{White, Characters}
 use Rattle.htmd_html5.proofs.TextsLemmas.{put_part, first_run_shortens, takes_first, takes_run}
 
 -- ---- a state that takes texts at once

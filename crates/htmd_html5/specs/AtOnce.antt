@@ -1,5 +1,5 @@
 -- Where a text is put all at once: the parts of it, put one after another, would be joined.
-use Rattle.std.specs.Prelude.{ℕ, Bool, true, false, not, ◌&&◌, ◌==◌, if◌then◌else◌, List}
+use Rattle.std.specs.Prelude.{ℕ, Bool, true, false, not, ◌&&◌, if◌then◌else◌, List}
 use Rattle.std.specs.List.{list_all}
 use Rattle.htmd_grammar.specs.CharacterClasses.{is_empty}
 use Rattle.htmd_text.specs.WhiteSpace.{is_ascii_white_space}

@@ -1,10 +1,10 @@
 -- Texts that are put at the end of a node one after another are joined.
-use Rattle.std.proofs.Common.{◌≡◌, ◌∙◌, ℕ, zero, suc, ◌+◌, ◌<◌, ◌≤◌, Bool, true, false, not, ◌&&◌, List, [], ◌∷◌, ◌++◌}
-use Rattle.std.proofs.Common.{length, Option, Some, None, get_or, set, take, drop, refl, sym, ap, subst, arith, inl, inr, ◌⊎◌}
-use Rattle.std.specs.Prelude.{insert, slice_get, nat_lt}
+use Rattle.std.proofs.Common.{◌≡◌, ◌∙◌, ℕ, zero, suc, ◌+◌, ◌<◌, ◌≤◌, true, false, not, ◌&&◌, List, [], ◌∷◌, ◌++◌}
+use Rattle.std.proofs.Common.{length, Option, Some, None, set, refl, sym, ap, subst, arith, inl, inr, ◌⊎◌}
+use Rattle.std.specs.Prelude.{insert, nat_lt}
 use Rattle.std.proofs.lemmas.Bool.{true≢false, and_parts, cases_lt, ltb-true, not_from_true}
-use Rattle.std.proofs.lemmas.List.{take_all, drop_all, get_or_append_left, get_or_at, get_or-set_same, get_or_past}
-use Rattle.std.proofs.lemmas.List.{set-append_left, set_at, set-set, length-set, length-append, append_assoc, append-nil}
+use Rattle.std.proofs.lemmas.List.{get_or_append_left, get_or_at, get_or-set_same, get_or_past}
+use Rattle.std.proofs.lemmas.List.{set-append_left, set_at, set-set, length-set, length-append, append_assoc}
 use Rattle.htmd_text.proofs.Cases.{test}
 use Rattle.htmd_grammar.specs.CharacterClasses.{is_empty}
 use Rattle.htmd_html5_state.proofs.DocumentLemmas.{insert_last}
