@@ -4,6 +4,7 @@ pub mod RunLemmas
 pub mod ForeignContentLemmas
 pub mod ProcessingLemmas
 pub mod TextsLemmas
+pub mod AtOnceLemmas
 pub mod InTableLemmas
 pub mod DocumentsLemmas
 pub mod LayoutLemmas

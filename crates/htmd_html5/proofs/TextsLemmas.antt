@@ -29,7 +29,8 @@ pub some_left : (s : List ℕ) → (length s == 0) ≡ false → 0 < length s
 some_left [] e = cc
 some_left (b ∷ s) e = omega arith
 
-pub run_shorter : (s rest : List ℕ) → (length s == 0) ≡ false → rest ≡ after_first_run s → length rest < length s
+pub run_shorter : (s rest : List ℕ) → (length s == 0) ≡ false → rest ≡ after_first_run s
+    → length rest < length s
 run_shorter s rest e r = let l = first_run_shortens s (some_left s e) in rw r l
 
 after_shorter : (go : StateValue → Taken) (rest : List ℕ) (a : Answer) (n : ℕ) → length rest < n
@@ -72,12 +73,14 @@ put_part (b ∷ t) s h =
     (omega arith) (omega arith)
 
 -- one more part is put
-pub put_more : (text rest : List ℕ) (s new all : StateValue) → 0 < length text → taken new rest ≡ take_part text s
+pub put_more : (text rest : List ℕ) (s new all : StateValue) → 0 < length text
+    → taken new rest ≡ take_part text s
     → put_text text s ≡ all → put_text rest new ≡ all
 put_more text rest s new all h e r =
     ap (λ (t : Taken). put_text t.rest t.state) e ∙ sym (put_part text s h) ∙ r
 
-pub rest_shorter : (text rest : List ℕ) (s new : StateValue) → 0 < length text → taken new rest ≡ take_part text s
+pub rest_shorter : (text rest : List ℕ) (s new : StateValue) → 0 < length text
+    → taken new rest ≡ take_part text s
     → length rest < length text
 rest_shorter text rest s new h e =
     let same : rest ≡ (take_part text s).rest = ap (λ (t : Taken). t.rest) e in
@@ -108,7 +111,8 @@ pub takes_first : (text : List ℕ) (s : StateValue) (all : ℕ) → Takes text 
 takes_first text s all k e = let same : k ≡ all = omega arith in ap (λ n. take_within n text s) same
 
 pub takes_again : (text : List ℕ) (first s new : StateValue) (turn all : ℕ) → Takes text first s turn all
-    → takes_all s ≡ false → answer new true ≡ by_rules (first_token text) s → Takes text first new (turn + 1) all
+    → takes_all s ≡ false → answer new true ≡ by_rules (first_token text) s
+    → Takes text first new (turn + 1) all
 takes_again text first s new turn all r e f k g =
     let more : suc k + turn ≡ all = omega arith in sym (elsewhere k text s (answer new true) e f) ∙ r (suc k) more
 

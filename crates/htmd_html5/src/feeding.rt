@@ -1,5 +1,5 @@
 //! What a token of the tokenizer does.
-ghost use Rattle.std.specs.Prelude.{◌≡◌, true, false, drop, MatchOption, OnOk};
+ghost use Rattle.std.specs.Prelude.{◌≡◌, true, false, drop, string_bytes, IfOk, MatchOption, OnOk};
 ghost use Rattle.htmd_text.specs.Characters.{line_feed};
 ghost use Rattle.htmd_grammar.specs.CharacterClasses.{first_is};
 ghost use Rattle.htmd_html5_state.specs.Names.{name_of};
@@ -13,7 +13,7 @@ use crate::texts::put_text;
 use crate::tokens::StartTag;
 use htmd_html5_state::{HtmlName, HtmlState};
 use htmd_html5_tokens::{Content, RawElement, Token};
-use std::alloc::AllocError;
+use std::alloc::{AllocError, Global};
 
 /// Whether an element of only text is open, up to its end tag: the mode "text".
 fn is_text_mode(state: &HtmlState) -> bool
@@ -25,8 +25,8 @@ fn is_text_mode(state: &HtmlState) -> bool
     }
 }
 
-fn feed_text(state: &mut HtmlState, text: &str) -> Result<(), AllocError>
-    ensures { OnOk result (state.new ≡ spec.feed_text text.now state.old) }
+fn feed_text(state: &mut HtmlState, text: String) -> Result<(), AllocError>
+    ensures { OnOk result (state.new ≡ spec.feed_text (string_bytes text) state.old) }
 {
     if !is_text_mode(state) {
         return put_text(state, text);
@@ -34,7 +34,7 @@ fn feed_text(state: &mut HtmlState, text: &str) -> Result<(), AllocError>
     if text.is_empty() {
         return Ok(());
     }
-    state.insert_text(text)
+    state.insert_owned_text(text)
 }
 
 /// The text after a line feed at its front.
@@ -49,15 +49,15 @@ fn strip_line_feed(text: &str) -> Option<&str>
 }
 
 /// The text, without a line feed at its front if that is dropped.
-fn without_line_feed(text: &str, skips: bool) -> &str
-    ensures { result.now ≡ spec.without_line_feed skips text.now }
+fn without_line_feed(alloc: Global, text: String, skips: bool) -> Result<String, AllocError>
+    ensures { IfOk result (λ left. string_bytes left ≡ spec.without_line_feed skips (string_bytes text)) }
 {
     if !skips {
-        return text;
+        return Ok(text);
     }
-    match strip_line_feed(text) {
-        Some(rest) => rest,
-        None => text,
+    match strip_line_feed(text.as_str()) {
+        Some(rest) => String::from_str(alloc, rest),
+        None => Ok(text),
     }
 }
 
@@ -90,7 +90,10 @@ pub(crate) fn feed(state: &mut HtmlState, token: Token) -> Result<(), AllocError
     let skips = state.skips_line_feed();
     state.set_skips_line_feed(false);
     match token {
-        Token::Text(text) => feed_text(state, without_line_feed(text.as_str(), skips)),
+        Token::Text(text) => {
+            let text = without_line_feed(state.alloc(), text, skips)?;
+            feed_text(state, text)
+        }
         Token::StartTag(tag) => {
             leave_text_mode(state);
             process_start(state, StartTag::of(tag))

@@ -23,7 +23,7 @@ use std::alloc::{AllocError, Global};
 // ---- text, which is taken all at once
 
 /// Whether each character is white space.
-fn is_white(text: &str) -> bool
+pub(crate) fn is_white(text: &str) -> bool
     ensures { result ≡ list_all is_ascii_white_space text.now }
 {
     text.as_bytes()

@@ -1,12 +1,11 @@
 -- Documents as the program holds them.
-use Rattle.std.proofs.Common.{◌≡◌, ℕ, suc, ◌+◌, ◌<◌, ◌≤◌, Bool, true, false, not, ◌||◌, List, [], ◌∷◌, ◌++◌, length}
-use Rattle.std.proofs.Common.{Option, Some, None, ◌-◌, map, get_or, set, take, refl, sym, ap, ◌∙◌, arith, string_bytes}
+use Rattle.std.proofs.Common.{◌≡◌, ℕ, suc, ◌+◌, ◌<◌, ◌≤◌, true, false, List, [], ◌∷◌, ◌++◌, length}
+use Rattle.std.proofs.Common.{Some, ◌-◌, get_or, set, take, refl, sym, ap, ◌∙◌, arith, string_bytes}
 use Rattle.std.proofs.lemmas.Bool.{eq-eqb, true≢false}
-use Rattle.std.proofs.lemmas.Bool.Decides.{nat_tests}
 use Rattle.std.proofs.lemmas.List.{map-set, get_or-map, set_past, length-map, append_assoc, append-nil}
 use Rattle.std.proofs.lemmas.List.{take_all, take_more, drop_all}
 use Rattle.std.specs.List.{list_any}
-use Rattle.std.specs.Prelude.{◌==◌, slice_set, remove, String}
+use Rattle.std.specs.Prelude.{◌==◌, slice_set, insert, remove, String}
 use Rattle.std.specs.Global.{Global}
 use Rattle.htmd_text.proofs.Cases.{test}
 use Rattle.htmd_html5_state.specs.Documents.{NodeValue, KindValue, text, node_at, kind_at, new_node, document, is_number, index_of}
@@ -31,7 +30,8 @@ nodes_of-set ns n old new f l read is =
     ∙ ap (λ (x : NodeValue). set (nodes_of ns) n x) (is ∙ ap f (sym (node_at-read ns n old l read)))
 
 -- if there is none, nothing changes
-pub nodes_of-past : (ns : List Node) (n : ℕ) (x : NodeValue) → length ns ≤ n → slice_set (nodes_of ns) n x ≡ nodes_of ns
+pub nodes_of-past : (ns : List Node) (n : ℕ) (x : NodeValue) → length ns ≤ n
+    → slice_set (nodes_of ns) n x ≡ nodes_of ns
 nodes_of-past ns n x l = set_past (nodes_of ns) n x (omega (arith, length-map ns node_of))
 
 -- ---- where a child stands
@@ -77,6 +77,10 @@ index_of-last child children rest others parts lacks l is =
 pub remove_past : (cs : List ℕ) (i : ℕ) → length cs ≤ i → remove cs i ≡ cs
 remove_past cs i l = rw (take_all i cs l, drop_all (suc i) cs (omega arith)) (append-nil cs)
 
+-- a child more, after all others
+pub insert_last : (cs : List ℕ) (n : ℕ) → insert cs (length cs) n ≡ cs ++ n ∷ []
+insert_last cs n = rw (take_all (length cs) cs (omega arith), drop_all (length cs) cs (omega arith)) refl
+
 -- ---- what a part of a node becomes
 
 pub written : (ns : List Node) (nodes : List NodeValue) (n : ℕ) (old new : Node) (f : NodeValue → NodeValue)
@@ -85,14 +89,16 @@ pub written : (ns : List Node) (nodes : List NodeValue) (n : ℕ) (old new : Nod
 written ns nodes n old new f is l read same =
     nodes_of-set ns n old new f l read same ∙ ap (λ (x : List NodeValue). slice_set x n (f (node_at x n))) is
 
-pub text-joined : (ns : List Node) (nodes : List NodeValue) (n : ℕ) (old : Node) (before after : String Global) (s : List ℕ)
+pub text-joined : (ns : List Node) (nodes : List NodeValue) (n : ℕ) (old : Node) (before after : String Global)
+    (s : List ℕ)
     → nodes_of ns ≡ nodes → n < length ns → old ≡ get_or ns n old → old.kind ≡ Text before
     → string_bytes after ≡ string_bytes before ++ s
     → joined s n nodes
     ≡ Some (nodes_of (set ns n (record { kind = Text after; parent = old.parent; children = old.children })))
 text-joined ns nodes n old before after s is l read kind bytes =
     ap (λ (k : KindValue). joined_with s n (text_of k) nodes) held
-    ∙ ap Some (sym (written ns nodes n old _ (λ (x : NodeValue). record x { kind = text (string_bytes before ++ s) }) is l
+    ∙ ap Some (sym (written ns nodes n old _
+    (λ (x : NodeValue). record x { kind = text (string_bytes before ++ s) }) is l
     read (ap (λ (t : List ℕ). record (node_of old) { kind = text t }) bytes)))
   where
     held : kind_at nodes n ≡ text (string_bytes before)

@@ -141,7 +141,8 @@ opens-again = refl
 
 -- ---- the insertion mode
 
-mode-in-cell : (reset_insertion_mode (record in_table { stack = is_open_as 4 Td ∷ is_open_as 3 Table ∷ [] })).mode ≡ InCell
+mode-in-cell : (reset_insertion_mode (record in_table { stack = is_open_as 4 Td ∷ is_open_as 3 Table ∷ [] })).mode
+    ≡ InCell
 mode-in-cell = refl
 
 mode-in-table : (reset_insertion_mode in_table).mode ≡ InTable

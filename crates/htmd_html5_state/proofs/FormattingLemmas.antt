@@ -54,7 +54,8 @@ replace_entry-found n by (x ∷ xs) ys lacks =
     test (is_entry n x) (λ t. absurd (true≢false (rw t at lacks)))
     (λ t. rw (t, replace_entry-found n by xs ys (rw t at lacks)) refl)
 
-pub replace_entry-none : (n by : ℕ) (xs : List (Option ℕ)) → is_listed n xs ≡ false → replace_entry n by xs ≡ xs
+pub replace_entry-none : (n by : ℕ) (xs : List (Option ℕ)) → is_listed n xs ≡ false
+    → replace_entry n by xs ≡ xs
 replace_entry-none n by [] lacks = refl
 replace_entry-none n by (x ∷ xs) lacks =
     test (is_entry n x) (λ t. absurd (true≢false (rw t at lacks)))
@@ -67,7 +68,8 @@ insert_after-found n new (x ∷ xs) ys lacks =
     test (is_entry n x) (λ t. absurd (true≢false (rw t at lacks)))
     (λ t. rw (t, insert_after-found n new xs ys (rw t at lacks)) refl)
 
-pub insert_after-none : (n new : ℕ) (xs : List (Option ℕ)) → is_listed n xs ≡ false → insert_after n new xs ≡ xs
+pub insert_after-none : (n new : ℕ) (xs : List (Option ℕ)) → is_listed n xs ≡ false
+    → insert_after n new xs ≡ xs
 insert_after-none n new [] lacks = refl
 insert_after-none n new (x ∷ xs) lacks =
     test (is_entry n x) (λ t. absurd (true≢false (rw t at lacks)))
@@ -75,7 +77,8 @@ insert_after-none n new (x ∷ xs) lacks =
 
 -- ---- places on the list
 
-listed-push : (n : ℕ) (ys : List (Option ℕ)) (e : Option ℕ) → is_listed n ys ≡ false → is_entry n e ≡ false
+listed-push : (n : ℕ) (ys : List (Option ℕ)) (e : Option ℕ) → is_listed n ys ≡ false
+    → is_entry n e ≡ false
     → is_listed n (ys ++ e ∷ []) ≡ false
 listed-push n [] e lacks other = rw other refl
 listed-push n (y ∷ ys) e lacks other =
@@ -85,7 +88,8 @@ listed-push n (y ∷ ys) e lacks other =
 module _ (n : ℕ) (xs rest newer : List (Option ℕ)) (parts : xs ≡ rest ++ newer)
     (lacks : is_listed n (entries_of newer) ≡ false) where
   -- one more that is another
-  pub newest-more : (older : List (Option ℕ)) (e : Option ℕ) → rest ≡ older ++ e ∷ [] → is_entry n e ≡ false
+  pub newest-more : (older : List (Option ℕ)) (e : Option ℕ) → rest ≡ older ++ e ∷ []
+      → is_entry n e ≡ false
       → (more : List (Option ℕ)) × (xs ≡ older ++ more) × (is_listed n (entries_of more) ≡ false)
   newest-more older e split other = (
     e ∷ newer,
@@ -112,11 +116,14 @@ module _ (n : ℕ) (xs rest newer : List (Option ℕ)) (parts : xs ≡ rest ++ n
 pub IsNewest-within : (n : ℕ) (xs : List (Option ℕ)) (i : ℕ) → IsNewest n xs i → i < length xs
 IsNewest-within n xs i at = omega (arith, at.place, ap length at.whole, length-append at.older (Some n ∷ at.newer))
 
-pub IsNewest-listed : (n : ℕ) (xs : List (Option ℕ)) (i : ℕ) → IsNewest n xs i → is_listed n (entries_of xs) ≡ true
+pub IsNewest-listed : (n : ℕ) (xs : List (Option ℕ)) (i : ℕ) → IsNewest n xs i
+    → is_listed n (entries_of xs) ≡ true
 IsNewest-listed n xs i at =
-    rw (at.whole, entries_of-around at.older at.newer (Some n)) (listed-found n (entries_of at.newer) (entries_of at.older))
+    rw (at.whole, entries_of-around at.older at.newer (Some n))
+    (listed-found n (entries_of at.newer) (entries_of at.older))
 
-after-this : (older newer : List (Option ℕ)) (e : Option ℕ) → drop (suc (length older)) (older ++ e ∷ newer) ≡ newer
+after-this : (older newer : List (Option ℕ)) (e : Option ℕ)
+    → drop (suc (length older)) (older ++ e ∷ newer) ≡ newer
 after-this [] newer e = refl
 after-this (x ∷ older) newer e = after-this older newer e
 
@@ -184,7 +191,8 @@ module _ (met all : List ℕ) (rest older : List (Option ℕ)) (e : Option ℕ) 
   next : entries_of rest ≡ Some n ∷ entries_of older
   next = list ∙ ap (λ (x : Option ℕ). x ∷ entries_of older) is
 
-  pub since-more : met ++ since_marker (entries_of rest) ≡ all → (met ++ n ∷ []) ++ since_marker (entries_of older) ≡ all
+  pub since-more : met ++ since_marker (entries_of rest) ≡ all
+      → (met ++ n ∷ []) ++ since_marker (entries_of older) ≡ all
   since-more whole =
       append_assoc met (n ∷ []) (since_marker (entries_of older))
       ∙ (ap (λ (x : List (Option ℕ)). met ++ since_marker x) (sym next) ∙ whole)
@@ -201,7 +209,8 @@ module _ (met all : List ℕ) (rest older : List (Option ℕ)) (e : Option ℕ) 
 
 -- ---- those that open again
 
-pub reopen_all-push : (ns : List ℕ) (n : ℕ) (s : StateValue) → reopen_all (ns ++ n ∷ []) s ≡ reopen_all ns (reopen n s)
+pub reopen_all-push : (ns : List ℕ) (n : ℕ) (s : StateValue)
+    → reopen_all (ns ++ n ∷ []) s ≡ reopen_all ns (reopen n s)
 reopen_all-push [] n s = refl
 reopen_all-push (m ∷ ns) n s = ap (reopen m) (reopen_all-push ns n s)
 

@@ -1,8 +1,10 @@
--- Lists that are held in the other order; the stack of open elements, the list of active formatting elements, documents.
+-- Lists that are held in the other order; the stack of open elements, the list of active formatting elements,
+-- documents; texts that go on.
 pub mod StackLemmas
 pub mod PlacesLemmas
 pub mod FormattingLemmas
 pub mod DocumentLemmas
+pub mod SettledLemmas
 mod Examples
 pub mod NamesLemmas
 pub mod TagLemmas

@@ -49,7 +49,8 @@ scope-by_places p scope (e ∷ es) =
     let w = innermost-within (bounds_in scope) es in
     let v = innermost-within p es in
     test (p e)
-    (λ t. test (bounds scope e.name) (λ s. rw (t, s) (grind (arith, nat_tests))) (λ s. rw (t, s) (grind (arith, nat_tests, w))))
+    (λ t. test (bounds scope e.name) (λ s. rw (t, s) (grind (arith, nat_tests)))
+    (λ s. rw (t, s) (grind (arith, nat_tests, w))))
     (λ t. test (bounds scope e.name) (λ s. rw (t, s) (grind (arith, nat_tests, v)))
     (λ s. rw (t, s) (scope-by_places p scope es)))
 
@@ -69,7 +70,8 @@ node-by_places n (e ∷ es) =
     let w = innermost-within (bounds_in Default) es in
     let v = innermost-within (is_node n) es in
     test (bounds Default e.name)
-    (λ t. test (e.node == n) (λ s. rw (t, s) (grind (arith, nat_tests))) (λ s. rw (t, s) (grind (arith, nat_tests, v))))
+    (λ t. test (e.node == n) (λ s. rw (t, s) (grind (arith, nat_tests)))
+    (λ s. rw (t, s) (grind (arith, nat_tests, v))))
     (λ t. test (e.node == n) (λ s. rw (t, s) (grind (arith, nat_tests, w)))
     (λ s. rw (t, s) (node-by_places n es)))
 
@@ -80,7 +82,8 @@ inside-by_places n (e ∷ es) =
     let w = innermost-within (bounds_in Default) es in
     let v = innermost-within (is_node n) es in
     test (bounds Default e.name)
-    (λ t. test (e.node == n) (λ s. rw (t, s) (grind (arith, nat_tests))) (λ s. rw (t, s) (grind (arith, nat_tests, v))))
+    (λ t. test (e.node == n) (λ s. rw (t, s) (grind (arith, nat_tests)))
+    (λ s. rw (t, s) (grind (arith, nat_tests, v))))
     (λ t. test (e.node == n) (λ s. rw (t, s) (grind (arith, nat_tests, w)))
     (λ s. rw (t, s) (ap (λ (r : Bool). r || list_any bounds_any (inside n es)) t ∙ inside-by_places n es)))
 
@@ -120,7 +123,8 @@ linked-within around [] l = omega arith
 linked-within around (e ∷ es) l = omega (arith, l.0)
 
 -- what is written further in changes nothing
-linked-set : (around : List Around) (i : ℕ) (a : Around) (es : List OpenValue) → length es ≤ i → IsLinked around es
+linked-set : (around : List Around) (i : ℕ) (a : Around) (es : List OpenValue) → length es ≤ i
+    → IsLinked around es
     → IsLinked (set around i a) es
 linked-set around i a [] l h = tt
 linked-set around i a (e ∷ es) l h = (
@@ -138,7 +142,8 @@ drop-pop len (e ∷ es) l =
     let s : length (e ∷ es) - len ≡ suc (length es - len) = omega (arith, l) in
     ap (λ (k : ℕ). drop k (e ∷ es)) s
 
-pub linked-push : (around : List Around) (a : Around) (e : OpenValue) (es : List OpenValue) → length es < length around
+pub linked-push : (around : List Around) (a : Around) (e : OpenValue) (es : List OpenValue)
+    → length es < length around
     → IsLinked around es → IsAround a e es → IsLinked (set around (length es) a) (e ∷ es)
 linked-push around a e es l h is = (
   omega (arith, l, length-set around (length es) a),
@@ -146,7 +151,8 @@ linked-push around a e es l h is = (
   linked-set around (length es) a es (omega arith) h,
 )
 
-pub all_room-kept : (p q : Places) → ((e : OpenValue) → HasRoom p e → HasRoom q e) → (es : List OpenValue) → AllHaveRoom p es
+pub all_room-kept : (p q : Places) → ((e : OpenValue) → HasRoom p e → HasRoom q e) → (es : List OpenValue)
+    → AllHaveRoom p es
     → AllHaveRoom q es
 all_room-kept p q kept [] h = tt
 all_room-kept p q kept (e ∷ es) h = (kept e h.0, all_room-kept p q kept es h.1)
@@ -166,7 +172,8 @@ room-at p xs i x l is h =
     room-in p (stack_of (drop (i + 1) xs)) (stack_of (take i xs)) (open_of x)
     (subst (λ (es : List OpenValue). AllHaveRoom p es) (stack-around xs i x l is) h)
 
-pub room-removed : (p : Places) (xs : List OpenElement) (i : ℕ) (x : OpenElement) → i < length xs → x ≡ get_or xs i x
+pub room-removed : (p : Places) (xs : List OpenElement) (i : ℕ) (x : OpenElement) → i < length xs
+    → x ≡ get_or xs i x
     → AllHaveRoom p (stack_of xs) → AllHaveRoom p (stack_of (remove xs i))
 room-removed p xs i x l is h =
     subst (λ (es : List OpenValue). AllHaveRoom p es) (sym (stack-removed xs i))
@@ -178,7 +185,8 @@ module _ {K : Type 0} (f g : K → ℕ) (p : K → OpenValue → Bool) (e : Open
   pub entered : ((k : K) → f k ≡ innermost (p k) es) → (place : ℕ) → place ≡ suc (length es)
       → ((k : K) → g k ≡ cond (p k e) place (f k)) → (k : K) → g k ≡ innermost (p k) (e ∷ es)
   entered held place at put k =
-      put k ∙ (ap (λ (x : ℕ). cond (p k e) x (f k)) at ∙ ap (λ (x : ℕ). cond (p k e) (suc (length es)) x) (held k))
+      put k ∙ (ap (λ (x : ℕ). cond (p k e) x (f k)) at
+      ∙ ap (λ (x : ℕ). cond (p k e) (suc (length es)) x) (held k))
 
   pub left : ((k : K) → f k ≡ innermost (p k) (e ∷ es)) → (place : ℕ)
       → ((k : K) → p k e ≡ true → place ≡ innermost (p k) es)
@@ -187,7 +195,8 @@ module _ {K : Type 0} (f g : K → ℕ) (p : K → OpenValue → Bool) (e : Open
       test (p k e) (λ t. put k ∙ rw t (around k t)) (λ t. put k ∙ (rw t refl ∙ (held k ∙ rw t refl)))
 
 -- with room for more
-pub linked-longer : (around more : List Around) (es : List OpenValue) → IsLinked around es → IsLinked (around ++ more) es
+pub linked-longer : (around more : List Around) (es : List OpenValue) → IsLinked around es
+    → IsLinked (around ++ more) es
 linked-longer around more [] h = tt
 linked-longer around more (e ∷ es) h = (
   omega (arith, h.0, length-append around more),
@@ -196,18 +205,21 @@ linked-longer around more (e ∷ es) h = (
 )
 
 -- the bounds among this many elements
-pub no-bounds : (b : Bounds) → ((scope : Scope) → bound_of b scope ≡ 0) → (depth : ℕ) → depth ≡ 0 → (es : List OpenValue)
+pub no-bounds : (b : Bounds) → ((scope : Scope) → bound_of b scope ≡ 0) → (depth : ℕ) → depth ≡ 0
+    → (es : List OpenValue)
     → length es ≡ depth → (scope : Scope) → bound_of b scope ≡ innermost (bounds_in scope) es
 no-bounds b none depth zero [] len scope = none scope
 no-bounds b none depth zero (e ∷ es) len scope = absurd (omega (arith, zero, len))
 
-pub linked-bounds : (around : List Around) (depth : ℕ) (a : Around) → a ≡ get_or around (depth - 1) a → 0 < depth
+pub linked-bounds : (around : List Around) (depth : ℕ) (a : Around) → a ≡ get_or around (depth - 1) a
+    → 0 < depth
     → (es : List OpenValue) → length es ≡ depth → IsLinked around es → (scope : Scope)
     → bound_of a.bounds scope ≡ innermost (bounds_in scope) es
 linked-bounds around depth a read l [] len h scope = absurd (omega (arith, l, len))
 linked-bounds around depth a read l (e ∷ es) len h scope =
     let at : depth - 1 ≡ length es = omega (arith, len) in
-    (subst (λ (x : Around). IsAround x e es) (sym (read ∙ ap (λ (k : ℕ). get_or around k a) at)) (h.1 a)).bounds scope
+    (subst (λ (x : Around). IsAround x e es) (sym (read ∙ ap (λ (k : ℕ). get_or around k a) at)) (h.1 a)).bounds
+    scope
 
 named-place : (p : Places) (es : List OpenValue) → IsPlaced p es → (name : ElementNameValue)
     → place_of_name p.names name ≡ innermost_named name es
@@ -215,16 +227,19 @@ named-place p es at (html m) = at.names m
 named-place p es at (svg s) = refl
 named-place p es at (math s) = refl
 
-same-named : (name : ElementNameValue) (m : NameValue) (es : List OpenValue) → same_element_name name (html m) ≡ true
+same-named : (name : ElementNameValue) (m : NameValue) (es : List OpenValue)
+    → same_element_name name (html m) ≡ true
     → innermost_named name es ≡ innermost (has_name (html m)) es
 same-named (html n) m es e = ap (λ (x : NameValue). innermost (has_name (html x)) es) (same_name-true n m e)
 same-named (svg s) m es e = absurd (true≢false (sym e))
 same-named (math s) m es e = absurd (true≢false (sym e))
 
 -- what is known of an element that is opened
-pub around-is : (p : Places) (e : OpenValue) (es : List OpenValue) → IsPlaced p es → (place : ℕ) → place ≡ suc (length es)
+pub around-is : (p : Places) (e : OpenValue) (es : List OpenValue) → IsPlaced p es → (place : ℕ)
+    → place ≡ suc (length es)
     → (a : Around) → a.name ≡ place_of_name p.names e.name → a.node ≡ get_or p.nodes.items e.node 0
-    → ((scope : Scope) → bound_of a.bounds scope ≡ cond (bounds scope e.name) place (innermost (bounds_in scope) es))
+    → ((scope : Scope) → bound_of a.bounds scope
+    ≡ cond (bounds scope e.name) place (innermost (bounds_in scope) es))
     → IsAround a e es
 around-is p e es at place here a name node bound = record {
   name = name ∙ named-place p es at e.name;
@@ -233,8 +248,10 @@ around-is p e es at place here a name node bound = record {
       ∙ ap (λ (x : ℕ). cond (bounds scope e.name) x (innermost (bounds_in scope) es)) here;
 }
 
-module _ (p q : Places) (e : OpenValue) (es : List OpenValue) (kept : (x : OpenValue) → HasRoom p x → HasRoom q x) where
-  pub placed-enter : IsPlaced p es → HasRoom p e → (place : ℕ) → place ≡ suc (length es) → (a : Around) → IsAround a e es
+module _ (p q : Places) (e : OpenValue) (es : List OpenValue)
+    (kept : (x : OpenValue) → HasRoom p x → HasRoom q x) where
+  pub placed-enter : IsPlaced p es → HasRoom p e → (place : ℕ) → place ≡ suc (length es) → (a : Around)
+      → IsAround a e es
       → ((m : NameValue) → name_place q.names m
       ≡ cond (same_element_name e.name (html m)) place (name_place p.names m))
       → ((n : ℕ) → get_or q.nodes.items n 0 ≡ cond (e.node == n) place (get_or p.nodes.items n 0))
@@ -242,7 +259,8 @@ module _ (p q : Places) (e : OpenValue) (es : List OpenValue) (kept : (x : OpenV
       → vec_len q.around ≡ vec_len p.around → IsPlaced q (e ∷ es)
   placed-enter at room place here a is names nodes around within len = record {
     names = entered (name_place p.names) (name_place q.names) (λ m. has_name (html m)) e es at.names place here names;
-    nodes = entered (λ n. get_or p.nodes.items n 0) (λ n. get_or q.nodes.items n 0) (λ n. is_node n) e es at.nodes place
+    nodes = entered (λ n. get_or p.nodes.items n 0) (λ n. get_or q.nodes.items n 0)
+        (λ n. is_node n) e es at.nodes place
         here nodes;
     linked = subst (λ (x : List Around). IsLinked x (e ∷ es)) (sym around)
         (linked-push p.around.items a e es (omega (arith, within)) at.linked is);
@@ -260,7 +278,8 @@ module _ (p q : Places) (e : OpenValue) (es : List OpenValue) (kept : (x : OpenV
       record {
         names = left (name_place p.names) (name_place q.names) (λ m. has_name (html m)) e es at.names a.name
             (λ m t. is.name ∙ same-named e.name m es t) names;
-        nodes = left (λ n. get_or p.nodes.items n 0) (λ n. get_or q.nodes.items n 0) (λ n. is_node n) e es at.nodes a.node
+        nodes = left (λ n. get_or p.nodes.items n 0) (λ n. get_or q.nodes.items n 0)
+            (λ n. is_node n) e es at.nodes a.node
             (λ n t. is.node ∙ ap (λ (x : ℕ). innermost (is_node x) es) (eqb-true e.node n t)) nodes;
         linked = subst (λ (x : List Around). IsLinked x es) (sym around) at.linked.2;
         within = let w = at.within in omega (arith, w, len);
@@ -271,7 +290,8 @@ pub placed-kept : (p q : Places) → ((m : NameValue) → name_place q.names m �
     → ((n : ℕ) → get_or q.nodes.items n 0 ≡ get_or p.nodes.items n 0)
     → ((es : List OpenValue) → IsLinked p.around.items es → IsLinked q.around.items es)
     → vec_len p.around ≤ vec_len q.around
-    → ((x : OpenValue) → HasRoom p x → HasRoom q x) → (stack : List OpenValue) → IsPlaced p stack → IsPlaced q stack
+    → ((x : OpenValue) → HasRoom p x → HasRoom q x) → (stack : List OpenValue) → IsPlaced p stack
+    → IsPlaced q stack
 placed-kept p q names nodes linked longer kept stack at = record {
   names = λ m. names m ∙ at.names m;
   nodes = λ n. nodes n ∙ at.nodes n;
@@ -288,13 +308,15 @@ only-from p stack at b t =
     ap (is_from b) (at.names (known t)
     ∙ sym (innermost-same (is_in (Only t)) (has_name (html (known t))) (only-named t) stack))
 
-list_any-same : (f g : TagName → Bool) → ((t : TagName) → f t ≡ g t) → (ts : List TagName) → list_any f ts ≡ list_any g ts
+list_any-same : (f g : TagName → Bool) → ((t : TagName) → f t ≡ g t) → (ts : List TagName)
+    → list_any f ts ≡ list_any g ts
 list_any-same f g same [] = refl
 list_any-same f g same (t ∷ ts) = rw (same t, list_any-same f g same ts) refl
 
 pub several-from : (p : Places) (stack : List OpenValue) → IsPlaced p stack → (b : ℕ) (set : NameSet)
     → is_several set ≡ true
-    → list_any (λ t. is_from b (name_place p.names (known t))) (members set) ≡ is_from b (innermost (is_in set) stack)
+    → list_any (λ t. is_from b (name_place p.names (known t))) (members set)
+    ≡ is_from b (innermost (is_in set) stack)
 several-from p stack at b set s =
     list_any-same (λ t. is_from b (name_place p.names (known t))) (λ t. is_from b (innermost (is_in (Only t)) stack))
     (only-from p stack at b) (members set)
@@ -330,28 +352,30 @@ tag-put p q t n place is put others (known u) =
 tag-put p q t n place is put others (other s) = ap (λ (o : Option ℕ). unwrap_or o 0) (others s)
 
 module _ (p q : NamePlaces) (bs : List ℕ) (place : ℕ) (tags : q.tags ≡ p.tags)
-    (updates : (s : List ℕ) → get_by_text q.others s ≡ update bytes_eq (get_by_text p.others) bs (Some place) s) where
-  pub other-put : (m : NameValue) → name_place q m
-      ≡ cond (same_element_name (html (other bs)) (html m)) place (name_place p m)
-  other-put (known u) = ap (λ (ts : List ℕ). get_or ts (number u) 0) tags
-  other-put (other s) =
-      ap (λ (o : Option ℕ). unwrap_or o 0) (updates s) ∙ test (bytes_eq bs s) (λ t. rw t refl) (λ t. rw t refl)
+    (updates : (s : List ℕ) → get_by_text q.others s ≡ update bytes_eq (get_by_text p.others) bs (Some place) s)
+  where
+    pub other-put : (m : NameValue) → name_place q m
+        ≡ cond (same_element_name (html (other bs)) (html m)) place (name_place p m)
+    other-put (known u) = ap (λ (ts : List ℕ). get_or ts (number u) 0) tags
+    other-put (other s) =
+        ap (λ (o : Option ℕ). unwrap_or o 0) (updates s) ∙ test (bytes_eq bs s) (λ t. rw t refl) (λ t. rw t refl)
 
-  pub other-room : is_some (get_by_text p.others bs) ≡ true → (m : ElementNameValue) → has_room q m ≡ has_room p m
-  other-room held (html (known u)) = refl
-  other-room held (html (other s)) =
-      ap is_some (updates s)
-      ∙ test (bytes_eq bs s)
-      (λ t. rw t (sym (ap (λ (x : List ℕ). is_some (get_by_text p.others x)) (sym (same_bytes bs s t)) ∙ held)))
-      (λ t. rw t refl)
-  other-room held (svg s) = refl
-  other-room held (math s) = refl
+    pub other-room : is_some (get_by_text p.others bs) ≡ true → (m : ElementNameValue)
+        → has_room q m ≡ has_room p m
+    other-room held (html (known u)) = refl
+    other-room held (html (other s)) =
+        ap is_some (updates s)
+        ∙ test (bytes_eq bs s)
+        (λ t. rw t (sym (ap (λ (x : List ℕ). is_some (get_by_text p.others x)) (sym (same_bytes bs s t)) ∙ held)))
+        (λ t. rw t refl)
+    other-room held (svg s) = refl
+    other-room held (math s) = refl
 
-  pub other-kept : (m : ElementNameValue) → has_room p m ≡ true → has_room q m ≡ true
-  other-kept (html (known u)) h = refl
-  other-kept (html (other s)) h = ap is_some (updates s) ∙ test (bytes_eq bs s) (λ t. rw t refl) (λ t. rw t h)
-  other-kept (svg s) h = refl
-  other-kept (math s) h = refl
+    pub other-kept : (m : ElementNameValue) → has_room p m ≡ true → has_room q m ≡ true
+    other-kept (html (known u)) h = refl
+    other-kept (html (other s)) h = ap is_some (updates s) ∙ test (bytes_eq bs s) (λ t. rw t refl) (λ t. rw t h)
+    other-kept (svg s) h = refl
+    other-kept (math s) h = refl
 
 none-zero : (o : Option ℕ) → is_some o ≡ false → unwrap_or o 0 ≡ 0
 none-zero None h = refl

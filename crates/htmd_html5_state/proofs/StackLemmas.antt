@@ -21,7 +21,8 @@ use Rattle.htmd_html5_state.specs.declared.sets.NameSet.{NameSet}
 pub stack_of-append : (xs ys : List OpenElement) → stack_of (xs ++ ys) ≡ stack_of ys ++ stack_of xs
 stack_of-append xs ys = ap reverse (map-append open_of xs ys) ∙ reverse-append (all_open_of xs) (all_open_of ys)
 
-pub stack_of-push : (xs : List OpenElement) (e : OpenElement) → stack_of (xs ++ e ∷ []) ≡ open_of e ∷ stack_of xs
+pub stack_of-push : (xs : List OpenElement) (e : OpenElement)
+    → stack_of (xs ++ e ∷ []) ≡ open_of e ∷ stack_of xs
 stack_of-push xs e = stack_of-append xs (e ∷ [])
 
 pub stack_of-around : (xs ys : List OpenElement) (e : OpenElement)
@@ -87,7 +88,8 @@ first_open-at (x ∷ xs) e l is =
     ap first_open (stack_of-append (x ∷ []) xs)
     ∙ (first_open-push (stack_of xs) (open_of x) ∙ ap (λ (y : OpenElement). Some y.node) (sym is))
 
-pub second_open-at : (set : NameSet) (xs : List OpenElement) (e : OpenElement) → 2 ≤ length xs → e ≡ get_or xs 1 e
+pub second_open-at : (set : NameSet) (xs : List OpenElement) (e : OpenElement) → 2 ≤ length xs
+    → e ≡ get_or xs 1 e
     → second_open set (stack_of xs) ≡ cond (is_in set (open_of e)) (Some e.node) None
 second_open-at set [] e l is = absurd (omega arith)
 second_open-at set (x ∷ []) e l is = absurd (omega arith)
@@ -96,7 +98,8 @@ second_open-at set (x ∷ y ∷ xs) e l is =
     ∙ (second_open-push set (stack_of xs) (open_of y) (open_of x)
     ∙ ap (λ (z : OpenElement). cond (is_in set (open_of z)) (Some z.node) None) (sym is))
 
-pub second_open-short : (set : NameSet) (xs : List OpenElement) → length xs ≤ 1 → second_open set (stack_of xs) ≡ None
+pub second_open-short : (set : NameSet) (xs : List OpenElement) → length xs ≤ 1
+    → second_open set (stack_of xs) ≡ None
 second_open-short set [] l = refl
 second_open-short set (x ∷ []) l = refl
 second_open-short set (x ∷ y ∷ xs) l = absurd (omega arith)
@@ -149,12 +152,14 @@ stack-around xs i x l is =
 pub take-removed : (xs : List OpenElement) (i : ℕ) → i ≤ length xs → take i (remove xs i) ≡ take i xs
 take-removed xs i l = take_at (take i xs) (drop (suc i) xs) i (length-take-le i xs l)
 
-pub stack-removed : (xs : List OpenElement) (i : ℕ) → stack_of (remove xs i) ≡ stack_of (drop (i + 1) xs) ++ stack_of (take i xs)
+pub stack-removed : (xs : List OpenElement) (i : ℕ)
+    → stack_of (remove xs i) ≡ stack_of (drop (i + 1) xs) ++ stack_of (take i xs)
 stack-removed xs i =
     stack_of-append (take i xs) (drop (suc i) xs)
     ∙ ap (λ (k : ℕ). stack_of (drop k xs) ++ stack_of (take i xs)) (sym (add-one i))
 
-after-cut : (outer inner : List OpenElement) (e : OpenElement) → drop (suc (length outer)) (outer ++ e ∷ inner) ≡ inner
+after-cut : (outer inner : List OpenElement) (e : OpenElement)
+    → drop (suc (length outer)) (outer ++ e ∷ inner) ≡ inner
 after-cut [] inner e = refl
 after-cut (x ∷ outer) inner e = after-cut outer inner e
 
@@ -184,13 +189,15 @@ module _ (n : ℕ) (xs : List OpenElement) (i : ℕ) (at : IsInnermost n xs i) w
 module _ (n : ℕ) (xs rest inner : List OpenElement) (parts : xs ≡ rest ++ inner)
     (lacks : is_open_node n (stack_of inner) ≡ false) where
   -- one more that has another node
-  pub innermost-more : (outer : List OpenElement) (e : OpenElement) → rest ≡ outer ++ e ∷ [] → (e.node ≡ n → ⊥)
+  pub innermost-more : (outer : List OpenElement) (e : OpenElement) → rest ≡ outer ++ e ∷ []
+      → (e.node ≡ n → ⊥)
       → (more : List OpenElement) × (xs ≡ outer ++ more) × (is_open_node n (stack_of more) ≡ false)
   innermost-more outer e split other = (
     e ∷ inner,
     parts ∙ (ap (λ (x : List OpenElement). x ++ inner) split ∙ append_assoc outer (e ∷ []) inner),
     ap (is_open_node n) (stack_of-append (e ∷ []) inner)
-        ∙ (list_any-append (is_node n) (stack_of inner) (open_of e ∷ []) ∙ rw (lacks, ne_eqb e.node n other) refl),
+        ∙ (list_any-append (is_node n) (stack_of inner) (open_of e ∷ [])
+        ∙ rw (lacks, ne_eqb e.node n other) refl),
   )
 
   -- the one
@@ -214,7 +221,8 @@ pub IsInnermost-within : (n : ℕ) (xs : List OpenElement) (i : ℕ) → IsInner
 IsInnermost-within n xs i at =
     omega (arith, at.place, ap length at.whole, length-append at.outer (at.element ∷ at.inner))
 
-pub IsInnermost-open : (n : ℕ) (xs : List OpenElement) (i : ℕ) → IsInnermost n xs i → is_open_node n (stack_of xs) ≡ true
+pub IsInnermost-open : (n : ℕ) (xs : List OpenElement) (i : ℕ) → IsInnermost n xs i
+    → is_open_node n (stack_of xs) ≡ true
 IsInnermost-open n xs i at =
     rw (at.whole, stack_of-around at.outer at.inner at.element)
     (open_node-found n (stack_of at.inner) (stack_of at.outer) (open_of at.element) at.has_node)
@@ -279,5 +287,7 @@ furthest-split xs i between inner block at tail front =
     same : furthest_with_parts (stack_of at.inner) (open_of at.element) (stack_of at.outer)
         ≡ furthest_with_parts (stack_of inner) (open_of block) (stack_of between)
     same =
-        ap (λ (x : List OpenElement). furthest_with_parts (stack_of x) (open_of at.element) (stack_of at.outer)) (sym rest)
-        ∙ parts_same (stack_of inner) (stack_of at.outer) (stack_of between) (open_of at.element) (open_of block) (sym turned)
+        ap (λ (x : List OpenElement). furthest_with_parts (stack_of x) (open_of at.element) (stack_of at.outer))
+        (sym rest)
+        ∙ parts_same (stack_of inner) (stack_of at.outer) (stack_of between) (open_of at.element) (open_of block)
+        (sym turned)

@@ -293,9 +293,11 @@ same_tag-self t = bytes_same (spelling t)
 
 pub same_tag-turned : (t u : TagName) → same_tag t u ≡ same_tag u t
 same_tag-turned t u =
-    test (same_tag t u) (λ r. r ∙ sym (ap (λ (x : TagName). same_tag u x) (same_tag-true t u r) ∙ same_tag-self u))
+    test (same_tag t u) (λ r. r
+    ∙ sym (ap (λ (x : TagName). same_tag u x) (same_tag-true t u r) ∙ same_tag-self u))
     (λ r. test (same_tag u t)
-    (λ s. absurd (true≢false (sym (ap (λ (x : TagName). same_tag t x) (same_tag-true u t s) ∙ same_tag-self t) ∙ r)))
+    (λ s. absurd (true≢false
+    (sym (ap (λ (x : TagName). same_tag t x) (same_tag-true u t s) ∙ same_tag-self t) ∙ r)))
     (λ s. r ∙ sym s))
 
 pub number-apart : (t u : TagName) → same_tag t u ≡ false → number u ≡ number t → ⊥
@@ -347,19 +349,24 @@ several TableContext h = refl
 several TableBodyContext h = refl
 several TableRowContext h = refl
 
-of-members : (set : NameSet) → is_several set ≡ true → (t : TagName) → alike (has set t) (has_member set t) ≡ true
+of-members : (set : NameSet) → is_several set ≡ true → (t : TagName)
+    → alike (has set t) (has_member set t) ≡ true
 of-members (Only u) e t = absurd (true≢false (sym e))
 of-members Headings e t = for-all (λ u. alike (has Headings u) (has_member Headings u)) refl refl t
-of-members DescriptionParts e t = for-all (λ u. alike (has DescriptionParts u) (has_member DescriptionParts u)) refl refl t
+of-members DescriptionParts e t = for-all
+    (λ u. alike (has DescriptionParts u) (has_member DescriptionParts u)) refl refl t
 of-members Cells e t = for-all (λ u. alike (has Cells u) (has_member Cells u)) refl refl t
 of-members TableSections e t = for-all (λ u. alike (has TableSections u) (has_member TableSections u)) refl refl t
 of-members Options e t = for-all (λ u. alike (has Options u) (has_member Options u)) refl refl t
 of-members ImpliedEnd e t = for-all (λ u. alike (has ImpliedEnd u) (has_member ImpliedEnd u)) refl refl t
-of-members ImpliedEndInRuby e t = for-all (λ u. alike (has ImpliedEndInRuby u) (has_member ImpliedEndInRuby u)) refl refl t
+of-members ImpliedEndInRuby e t = for-all
+    (λ u. alike (has ImpliedEndInRuby u) (has_member ImpliedEndInRuby u)) refl refl t
 of-members Fostering e t = for-all (λ u. alike (has Fostering u) (has_member Fostering u)) refl refl t
 of-members TableContext e t = for-all (λ u. alike (has TableContext u) (has_member TableContext u)) refl refl t
-of-members TableBodyContext e t = for-all (λ u. alike (has TableBodyContext u) (has_member TableBodyContext u)) refl refl t
-of-members TableRowContext e t = for-all (λ u. alike (has TableRowContext u) (has_member TableRowContext u)) refl refl t
+of-members TableBodyContext e t = for-all
+    (λ u. alike (has TableBodyContext u) (has_member TableBodyContext u)) refl refl t
+of-members TableRowContext e t = for-all
+    (λ u. alike (has TableRowContext u) (has_member TableRowContext u)) refl refl t
 
 pub has-members : (set : NameSet) → is_several set ≡ true → (t : TagName) → has set t ≡ has_member set t
 has-members set e t = alike-same (has set t) (has_member set t) (of-members set e t)
@@ -383,7 +390,8 @@ in-members set s e = by_name set s e.name
 pub only-named : (t : TagName) (e : OpenValue) → is_in (Only t) e ≡ has_name (html (known t)) e
 only-named t e = by_name e.name
   where
-    by_name : (name : ElementNameValue) → is_of (Only t) name ≡ has_name (html (known t)) (record { node = 0; name = name })
+    by_name : (name : ElementNameValue)
+        → is_of (Only t) name ≡ has_name (html (known t)) (record { node = 0; name = name })
     by_name (html (known u)) = same_tag-turned t u
     by_name (html (other v)) = refl
     by_name (svg v) = refl

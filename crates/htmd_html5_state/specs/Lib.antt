@@ -1,6 +1,7 @@
 -- The state of tree construction and the steps on it (HTML Standard, 13.2.4 and 13.2.6), in reading order: names and
 -- their sets; documents; the stack of open elements; the state; insertion; the list of active formatting elements; the
--- adoption agency; the reset of the insertion mode; foreign content. The last say what the program's parts are.
+-- adoption agency; the reset of the insertion mode; foreign content. The last say what the program's parts are, and
+-- where text needs nothing before it.
 pub mod Names
 pub mod Sets
 pub mod Documents
@@ -20,3 +21,4 @@ pub mod FormattingViews
 pub mod AdoptionViews
 pub mod ForeignViews
 pub mod StateViews
+pub mod Settled

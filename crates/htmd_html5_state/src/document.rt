@@ -1,5 +1,5 @@
 //! Documents while they are made: nodes by number, each with its parent and its children.
-ghost use Rattle.std.specs.Prelude.{◌≡◌, ◌∷◌, ◌++◌, ◌≤◌, [], length, IfOk, OnOk, MatchBool, Some, None};
+ghost use Rattle.std.specs.Prelude.{◌≡◌, ◌∷◌, ◌++◌, ◌≤◌, [], insert, length, string_bytes, IfOk, OnOk, MatchBool, Some, None};
 ghost use Rattle.htmd_html5_state.specs.Documents as spec;
 ghost use Rattle.htmd_html5_state.specs.Views.{kind_of, kind_seen, nodes_of};
 ghost use Rattle.htmd_tree.specs.Views.{pairs_of};
@@ -87,6 +87,26 @@ fn place_index(children: &[usize], next: Option<usize>) -> usize
         Some(next) => index_of(children, next),
         None => children.len(),
     }
+}
+
+/// Puts a child before another one, or as the last.
+#[tactic(auto, using(crate::proofs::DocumentLemmas::insert_last))]
+fn insert_child(
+    children: &mut Vec<usize>,
+    child: usize,
+    next: Option<usize>,
+) -> Result<(), AllocError>
+    ensures { OnOk result (children.new.items
+        ≡ insert children.old.items (spec.place_index next children.old.items) child) }
+{
+    match next {
+        Some(next) => {
+            let index = index_of(children.as_slice(), next);
+            children.insert(index, child)?;
+        }
+        None => children.push(child)?,
+    }
+    Ok(())
 }
 
 impl NodeKind {
@@ -187,8 +207,7 @@ impl Document {
     {
         if place.parent < self.nodes.len() {
             let node = &mut self.nodes[place.parent];
-            let index = place_index(node.children.as_slice(), place.next);
-            node.children.insert(index, child)?;
+            insert_child(&mut node.children, child, place.next)?;
         }
         Ok(())
     }
@@ -346,6 +365,17 @@ impl Document {
         }
         let kind = NodeKind::Text(String::from_str(self.alloc, text)?);
         self.add(kind, place)?;
+        Ok(())
+    }
+
+    /// Adds text that is handed over.
+    pub(crate) fn add_owned_text(&mut self, text: String, place: Place) -> Result<(), AllocError>
+        ensures { OnOk result (self.new ≡ spec.add_text (string_bytes text) place self.old) }
+    {
+        if self.join_text(text.as_str(), place)? {
+            return Ok(());
+        }
+        self.add(NodeKind::Text(text), place)?;
         Ok(())
     }
 

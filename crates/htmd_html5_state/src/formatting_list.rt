@@ -1,5 +1,6 @@
 //! The list of active formatting elements.
 ghost use Rattle.std.specs.Prelude.{◌≡◌, ◌∷◌, ◌++◌, ◌<◌, [], length, IfSome, true, false, Some, None, IfOk, OnOk, MatchOption, find, filter};
+ghost use Rattle.htmd_grammar.specs.CharacterClasses.{is_empty};
 ghost use Rattle.htmd_html5_state.specs.Adoption as adoption;
 ghost use Rattle.htmd_html5_state.specs.Documents.{same_element, kind_at};
 ghost use Rattle.htmd_html5_state.specs.Formatting as spec;
@@ -204,6 +205,16 @@ impl FormattingList {
         ensures { result ≡ spec.is_listed node self.now }
     {
         position(&self.entries, node).is_some()
+    }
+
+    /// Whether no element since the last marker is closed, so that there is nothing to reconstruct.
+    pub(crate) fn is_reconstructed(&self, stack: &OpenElements) -> bool
+        ensures { result ≡ is_empty (spec.closed_elements stack.now self.now) }
+    {
+        match split_newest(&self.entries) {
+            Some((_, Some(node))) => stack.is_open_node(node),
+            _ => true,
+        }
     }
 
     /// The newest element with this name since the last marker.

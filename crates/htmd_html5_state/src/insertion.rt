@@ -69,6 +69,14 @@ impl HtmlState {
         self.document.add_text(text, place)
     }
 
+    /// Inserts text that is handed over. `Err` means out of memory.
+    pub fn insert_owned_text(&mut self, text: String) -> Result<(), AllocError>
+        ensures { OnOk result (self.new ≡ spec.insert_text (string_bytes text) self.old) }
+    {
+        let place = self.place();
+        self.document.add_owned_text(text, place)
+    }
+
     /// Inserts a comment as the last child of a node. `Err` means out of memory.
     pub fn insert_comment_in(&mut self, parent: usize, text: String) -> Result<(), AllocError>
         ensures { OnOk result (self.new

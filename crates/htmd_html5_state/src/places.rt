@@ -95,11 +95,42 @@ impl Bounds {
         }
     }
 
+    /// The bound of a scope with one more element, whose name a rule mentions.
+    fn of_tag(self, scope: Scope, tag: TagName, place: usize) -> usize
+        ensures { result ≡ cond (bounds scope (html (known tag))) place (places.bound_of self scope) }
+    {
+        if scope.bounds_known(tag) {
+            place
+        } else {
+            self.of(scope)
+        }
+    }
+
+    /// The bounds with one more element, whose name a rule mentions.
+    fn with_tag(self, tag: TagName, place: usize) -> Bounds
+        ensures { (scope : Scope) → places.bound_of result scope
+            ≡ cond (bounds scope (html (known tag))) place (places.bound_of self scope) }
+    {
+        Bounds {
+            general: self.of_tag(Scope::Default, tag, place),
+            list_item: self.of_tag(Scope::ListItem, tag, place),
+            button: self.of_tag(Scope::Button, tag, place),
+            table: self.of_tag(Scope::Table, tag, place),
+            select: self.of_tag(Scope::Select, tag, place),
+            template: self.of_tag(Scope::Template, tag, place),
+            special: self.of_tag(Scope::Special, tag, place),
+            items: self.of_tag(Scope::Items, tag, place),
+        }
+    }
+
     /// The bounds with one more element.
     fn with(self, name: &ElementName, place: usize) -> Bounds
         ensures { (scope : Scope) → places.bound_of result scope
             ≡ cond (bounds scope (element_name_of name.now)) place (places.bound_of self scope) }
     {
+        if let ElementName::Html(HtmlName::Known(tag)) = name {
+            return self.with_tag(*tag, place);
+        }
         Bounds {
             general: self.of_more(Scope::Default, name, place),
             list_item: self.of_more(Scope::ListItem, name, place),

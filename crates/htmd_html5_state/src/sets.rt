@@ -424,7 +424,7 @@ fn is_math_bound(text: &str) -> bool
 }
 
 impl Scope {
-    fn bounds_known(self, tag: TagName) -> bool
+    pub(crate) fn bounds_known(self, tag: TagName) -> bool
         ensures { result ≡ spec.bounds_known self tag }
     {
         match self {

@@ -6,6 +6,7 @@ ghost use Rattle.htmd_html5_state.specs.Insertion as insertion;
 ghost use Rattle.htmd_html5_state.specs.Names.{name_of};
 ghost use Rattle.htmd_html5_state.specs.OpenElements as elements;
 ghost use Rattle.htmd_html5_state.specs.Resetting as resetting;
+ghost use Rattle.htmd_html5_state.specs.Settled as settled;
 ghost use Rattle.htmd_html5_state.specs.State as spec;
 ghost use Rattle.htmd_html5_state.specs.Views.{nodes_of};
 ghost use Rattle.htmd_tree.specs.Views.{pairs_of};
@@ -402,6 +403,15 @@ impl HtmlState {
         ensures { self.new ≡ list.clear_to_marker self.old }
     {
         self.formatting.clear_to_marker();
+    }
+
+    /// Whether nothing is to be reconstructed, and text goes to the end of the current node.
+    pub fn is_settled(&self) -> bool
+        ensures { result ≡ settled.is_settled self.now }
+    {
+        !self.foster_parenting
+            && self.formatting.is_reconstructed(&self.stack)
+            && self.stack.current_node() < self.document.len()
     }
 
     pub fn is_listed(&self, node: usize) -> bool

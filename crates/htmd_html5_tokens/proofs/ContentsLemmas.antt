@@ -6,6 +6,7 @@ use Rattle.std.proofs.lemmas.Bool.Decides.{nat_tests}
 use Rattle.std.proofs.lemmas.List.{drop_more}
 use Rattle.std.proofs.lemmas.Str.{IsCharBoundary-after_ascii}
 use Rattle.std.specs.Char.{encode_utf8}
+use Rattle.std.specs.List.{list_all}
 use Rattle.std.specs.Prelude.{◌==◌}
 use Rattle.std.specs.Str.{IsUtf8, IsCharBoundary}
 use Rattle.htmd_text.proofs.Cases.{test}
@@ -31,7 +32,8 @@ abbrev itself : ℕ → Piece
 itself b = record { following = 0; characters = b ∷ [] }
 
 -- a byte that is none of the three
-other_piece : (r : Reading) (b : ℕ) (s : List ℕ) → (b == 38) ≡ false → (b == 60) ≡ false → (b == 0) ≡ false
+other_piece : (r : Reading) (b : ℕ) (s : List ℕ) → (b == 38) ≡ false → (b == 60) ≡ false
+    → (b == 0) ≡ false
     → piece_at r b s ≡ itself b
 other_piece r b s amp less null = rw (amp, less, null) refl
 
@@ -64,8 +66,16 @@ decoded_plain r [] = refl
 decoded_plain r (b ∷ s) =
     test (is_plain r b) (λ e. let p = plain_piece r b s e in rw (p, e, decoded_plain r s) refl) (λ e. rw e refl)
 
+-- a text of plain characters
+pub decoded_itself : (r : Reading) (s : List ℕ) → list_all (is_plain r) s ≡ true → decoded r 0 s ≡ s
+decoded_itself r [] e = refl
+decoded_itself r (b ∷ s) e =
+    let both = and_parts (is_plain r b) (list_all (is_plain r) s) e in
+    rw (plain_piece r b s both.0, decoded_itself r s both.1) refl
+
 pub plain_pushed : (r : Reading) (before s after front rest : List ℕ) (len : ℕ)
-    → len ≡ length (leading_run (is_plain r) s) → front ≡ take len s → rest ≡ drop len s → after ≡ before ++ front
+    → len ≡ length (leading_run (is_plain r) s) → front ≡ take len s → rest ≡ drop len s
+    → after ≡ before ++ front
     → HasPushed r before s after rest
 plain_pushed r before s after front rest len e f g h =
     let x : front ≡ leading_run (is_plain r) s = f ∙ ap (λ n. take n s) e ∙ take_leading_run (is_plain r) s in
@@ -84,7 +94,8 @@ plain_cut r s len e = subst (IsCharBoundary s) (sym e) (cut_before_ascii (is_pla
 
 -- ---- other pieces
 
-pub special_has_references : (r : Reading) (b : ℕ) → is_plain r b ≡ false → b ≡ 38 → has_references r ≡ true
+pub special_has_references : (r : Reading) (b : ℕ) → is_plain r b ≡ false → b ≡ 38
+    → has_references r ≡ true
 special_has_references Text b e k = refl
 special_has_references EscapableRawText b e k = refl
 special_has_references RawText b e k = absurd (let f : false ≡ true = sym (rw k at e) in cc)
@@ -119,7 +130,8 @@ less_than_pushed before s after e f =
     let p : piece_at Text 60 s ≡ itself 60 = rw e refl in
     rw (p, f, append_assoc) refl
 
-null_is : (r : Reading) (b : ℕ) → is_plain r b ≡ false → (b ≡ 38 → ⊥) → (b ≡ 60 → ⊥) → (b ≡ 0) × (is_text r ≡ false)
+null_is : (r : Reading) (b : ℕ) → is_plain r b ≡ false → (b ≡ 38 → ⊥) → (b ≡ 60 → ⊥)
+    → (b ≡ 0) × (is_text r ≡ false)
 null_is Text b e amp less = absurd (grind (arith, nat_tests))
 null_is EscapableRawText b e amp less = (grind (arith, nat_tests), refl)
 null_is RawText b e amp less = (grind (arith, nat_tests), refl)
@@ -151,6 +163,7 @@ cut_after_slash (b ∷ c ∷ s) u e =
     IsCharBoundary-after_ascii (b ∷ c ∷ s) 1 u (omega arith) (omega (arith, same c 62 r.0))
 
 -- after a special character it may be cut, too
-pub cut_after_special : (r : Reading) (s : List ℕ) → IsUtf8 s → 0 < length s → is_plain r (get_or s 0 0) ≡ false
+pub cut_after_special : (r : Reading) (s : List ℕ) → IsUtf8 s → 0 < length s
+    → is_plain r (get_or s 0 0) ≡ false
     → IsCharBoundary s 1
 cut_after_special r s u l e = IsCharBoundary-after_ascii s 0 u l (special_is_ascii r (get_or s 0 0) e)

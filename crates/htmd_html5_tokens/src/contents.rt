@@ -1,5 +1,6 @@
 //! What characters stand for: texts, raw texts, values and names.
 ghost use Rattle.std.specs.Prelude.{◌≡◌, ◌<◌, ◌≤◌, ◌++◌, false, length, slice_index, string_bytes, IfOk, OnOk, ◌∷◌, true};
+ghost use Rattle.std.specs.List.{list_all};
 ghost use Rattle.std.specs.Str.{IsUtf8};
 ghost use Rattle.htmd_grammar.specs.CharacterClasses.{leading_run};
 ghost use Rattle.htmd_html5_tokens.specs.Contents as spec;
@@ -33,6 +34,17 @@ fn is_plain(byte: u8, reading: Reading) -> bool
         Reading::RawText => byte != 0,
         Reading::EscapableRawText | Reading::AttributeValue => byte != b'&' && byte != 0,
     }
+}
+
+/// Whether all bytes are plain. All are looked at, so that a processor can compare many at once.
+fn are_plain(bytes: &[u8], reading: Reading) -> bool
+    ensures { result ≡ list_all (is_plain reading) bytes.now }
+{
+    let mut are_plain = true;
+    for byte in bytes {
+        are_plain &= is_plain(*byte, reading);
+    }
+    are_plain
 }
 
 /// How many bytes at the beginning are plain.
@@ -156,8 +168,8 @@ fn push_next<'a>(held: &mut String, text: &'a str, reading: Reading) -> Result<&
     }
 }
 
-/// What the characters of a text stand for.
-pub(crate) fn decoded(alloc: Global, text: &str, reading: Reading) -> Result<String, AllocError>
+/// What the characters of a text stand for, piece by piece.
+fn decoded_pieces(alloc: Global, text: &str, reading: Reading) -> Result<String, AllocError>
     ensures { IfOk result (λ t. string_bytes t ≡ spec.decoded reading 0 text.now) }
 {
     let mut held = String::with_capacity(alloc, text.len())?;
@@ -166,6 +178,17 @@ pub(crate) fn decoded(alloc: Global, text: &str, reading: Reading) -> Result<Str
         rest = push_next(&mut held, rest, reading)?;
     }
     Ok(held)
+}
+
+/// What the characters of a text stand for.
+#[tactic(auto, using(crate::proofs::ContentsLemmas::decoded_itself))]
+pub(crate) fn decoded(alloc: Global, text: &str, reading: Reading) -> Result<String, AllocError>
+    ensures { IfOk result (λ t. string_bytes t ≡ spec.decoded reading 0 text.now) }
+{
+    if are_plain(text.as_bytes(), reading) {
+        return String::from_str(alloc, text);
+    }
+    decoded_pieces(alloc, text, reading)
 }
 
 /// The name of this spelling: in lower case, with U+FFFD for U+0000.

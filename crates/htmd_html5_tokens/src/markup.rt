@@ -1,5 +1,5 @@
 //! Markup, and the text before it.
-ghost use Rattle.std.specs.Prelude.{◌≡◌, ◌≤◌, length, IfOk};
+ghost use Rattle.std.specs.Prelude.{◌≡◌, ◌<◌, ◌≤◌, drop, length, IfOk};
 ghost use Rattle.htmd_grammar.specs.CharacterClasses.{up_to, onward};
 ghost use Rattle.htmd_html5_tokens.specs.NextToken as spec;
 ghost use Rattle.htmd_html5_tokens.specs.Readings.{read_of};
@@ -23,13 +23,21 @@ pub(crate) fn begins_markup(bytes: &[u8]) -> bool
     }
 }
 
+/// Whether markup begins at this place.
+fn is_markup_at(bytes: &[u8], place: usize) -> bool
+    requires { place < length bytes.now }
+    ensures { result ≡ spec.begins_markup (drop place bytes.now) }
+{
+    bytes[place] == b'<' && begins_markup(&bytes[place..])
+}
+
 /// How many bytes are before markup.
 fn text_len(bytes: &[u8]) -> usize
     ensures bound { result ≤ length bytes.now }
     ensures value { result ≡ length (up_to spec.begins_markup bytes.now) }
 {
     let mut len = 0;
-    while len < bytes.len() && !begins_markup(&bytes[len..]) {
+    while len < bytes.len() && !is_markup_at(bytes, len) {
         len += 1;
     }
     len

@@ -7,18 +7,14 @@ use Rattle.htmd_html5_state.specs.Views.{node_of}
 use Rattle.htmd_html5_state.proofs.DocumentLemmas.{written}
 use Rattle.htmd_html5_state.proofs.document.Document.put_child.Goals as goal
 
-pub returns-in_ok-insert : goal.returns-in_ok-insert
-returns-in_ok-insert c =
+pub returns-in_ok-insert_child : goal.returns-in_ok-insert_child
+returns-in_ok-insert_child c =
     let ns = c.self.inside.nodes.items in
     let len : c.len.result ≡ length ns = c.len.ensures ∙ search rules in
     let old = c.index_mut-node.result.now in
     let place = c.args.place in
     let child = c.args.child in
-    let index : c.place_index-index.result ≡ place_index place.next old.children.items =
-    c.place_index-index.ensures.place ∙ ap (place_index place.next) c.as_slice.ensures.value in
-    let children : c.insert.new.self.items ≡ insert old.children.items (place_index place.next old.children.items) child =
-    c.in_ok-insert.ensures.items ∙ ap (λ i. insert old.children.items i child) index in
     written ns c.args.self.now place.parent old _
     (λ (x : NodeValue). record x { children = insert x.children (place_index place.next x.children) child }) c.self.view_is
     (omega arith) c.index_mut-node.ensures.value
-    (ap (λ (cs : List ℕ). record (node_of old) { children = cs }) children)
+    (ap (λ (cs : List ℕ). record (node_of old) { children = cs }) c.in_ok-insert_child.ensures)

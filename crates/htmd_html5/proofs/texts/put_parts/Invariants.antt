@@ -3,7 +3,7 @@ use denote.Shadow.{shadow}
 use denote.Text.{Utf8}
 use Rattle.std.proofs.Common.{◌≡◌, length}
 use Rattle.htmd_html5.specs.Texts.{put_text}
-use Rattle.htmd_html5.proofs.texts.put_text.Given as goal
+use Rattle.htmd_html5.proofs.texts.put_parts.Given as goal
 
 abbrev pub invariant-loop-rest : goal.invariant-loop-rest
 invariant-loop-rest l = record {

@@ -4,7 +4,7 @@ use denote.Text.{Utf8}
 use Rattle.std.proofs.Common.{◌≡◌, ◌++◌, length}
 use Rattle.std.specs.String.{string_bytes}
 use Rattle.htmd_html5_tokens.specs.Contents.{decoded}
-use Rattle.htmd_html5_tokens.proofs.contents.decoded.Given as goal
+use Rattle.htmd_html5_tokens.proofs.contents.decoded_pieces.Given as goal
 
 abbrev pub invariant-loop-rest : goal.invariant-loop-rest
 invariant-loop-rest l = record {

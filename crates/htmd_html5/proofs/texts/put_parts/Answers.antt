@@ -2,7 +2,7 @@
 use Rattle.std.proofs.Common.{◌≡◌, ◌==◌, false, length}
 use Rattle.htmd_html5.proofs.TextsLemmas.{put_more, rest_shorter, some_left}
 use Rattle.htmd_html5.specs.Texts.{put_text}
-use Rattle.htmd_html5.proofs.texts.put_text.Goals as goal
+use Rattle.htmd_html5.proofs.texts.put_parts.Goals as goal
 
 pub loop-rest-smaller : goal.loop-rest-smaller
 loop-rest-smaller c =
