@@ -1,5 +1,5 @@
 -- The letters of texts, pages and runs: those of the Markdown of a tree, and the tree holds texts.
-use Rattle.std.proofs.Common.{◌≡◌, ◌∙◌, refl, sym, ap, subst, ℕ, List}
+use Rattle.std.proofs.Common.{◌≡◌, ◌∙◌, refl, sym, ap, subst}
 use Rattle.htmd_walk.specs.BuiltIn.{built_in}
 use Rattle.htmd_walk.specs.Markdown.{markdown}
 use Rattle.htmd_html5.specs.Documents.{html5_document}
