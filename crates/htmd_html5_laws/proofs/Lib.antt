@@ -36,6 +36,7 @@ pub mod WholeTrees
 pub mod KeptLettersLemmas
 pub mod PlainNames
 pub mod HungStates
+pub mod HungChains
 pub mod HungAdoption
 pub mod PlainStates
 pub mod PlainAdoption

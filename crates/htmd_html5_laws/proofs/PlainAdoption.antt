@@ -27,9 +27,10 @@ use Rattle.htmd_html5_laws.proofs.OpenNodes.{pop_fewer, close_name_fewer, inside
 use Rattle.htmd_html5_laws.proofs.PlainStates.{PlainAt, Plain, Stays, stays_by_test, on_stack_stays, plain_kinds}
 use Rattle.htmd_html5_laws.proofs.PlainStates.{plain_stack, plain_before, plain_added, plain_new, plain_listed}
 use Rattle.htmd_html5_laws.proofs.PlainStates.{without_entry_stays, Grown, grown_then}
+use Rattle.htmd_html5_laws.proofs.HungChains.{SomeRanks, SomeAt, furthest_ranks, furthest_at, around_below, inside_within}
+use Rattle.htmd_html5_laws.proofs.HungChains.{ChainHung, rested, next_hung, begun}
+use Rattle.htmd_html5_laws.proofs.HungAdoption.{RoundHung, finish_hung}
 use Rattle.htmd_html5_laws.proofs.HungStates.{ElementOpen, is_element_open, Hung, hung_fewer}
-use Rattle.htmd_html5_laws.proofs.HungAdoption.{SomeRanks, SomeAt, furthest_ranks, furthest_at, around_below}
-use Rattle.htmd_html5_laws.proofs.HungAdoption.{inside_within, ChainHung, rested, next_hung, begun, RoundHung, finish_hung}
 
 -- ---- the elements between
 

@@ -1,23 +1,15 @@
 -- Names that lead to no state that drops text: those of frames, templates and columns are left out.
-use Rattle.std.proofs.Common.{◌≡◌, ℕ, Bool, true, false, List, [], ◌∷◌, ◌++◌, ◌<◌, ◌≤◌, refl, sym, arith}
-use Rattle.std.specs.Prelude.{◌==◌, ◌&&◌, if◌then◌else◌}
+use Rattle.std.proofs.Common.{◌≡◌, ℕ, Bool, true, false, List, [], ◌∷◌, refl, sym}
 use Rattle.std.proofs.lemmas.Bool.{true≢false}
-use Rattle.htmd_text.proofs.Cases.{test}
 use Rattle.htmd_html5_state.specs.Names.{NameValue, ElementNameValue, known, other, html, svg, math}
 use Rattle.htmd_html5_state.specs.Sets.{is_of}
-use Rattle.htmd_html5_state.specs.Documents.{NodeValue, KindValue, element}
-use Rattle.htmd_html5_state.specs.OpenElements.{OpenValue, is_in, has_name, current_is, is_in_scope, is_closable, is_open}
-use Rattle.htmd_html5_state.specs.OpenElements.{pop, pop_through, pop_until, clear_to, pop_while, close, close_name}
-use Rattle.htmd_html5_state.specs.OpenElements.{without, inside, around}
-use Rattle.htmd_html5_state.specs.Foreign.{pop_if, leave_foreign, ends_foreign, foreign_name}
+use Rattle.htmd_html5_state.specs.Documents.{KindValue, element}
+use Rattle.htmd_html5_state.specs.OpenElements.{OpenValue, is_open}
+use Rattle.htmd_html5_state.specs.Foreign.{foreign_name}
 use Rattle.htmd_html5_state.specs.declared.names.TagName.{TagName}
 use Rattle.htmd_html5_state.specs.declared.names.Namespace.{Namespace}
 use Rattle.htmd_html5_state.specs.declared.names.Namespace.TheVariants.{Svg, MathMl}
-use Rattle.htmd_html5_state.specs.declared.sets.NameSet.{NameSet}
-use Rattle.htmd_html5_state.specs.declared.sets.NameSet.TheVariants.{Only, Headings}
-use Rattle.htmd_html5_state.specs.declared.sets.Scope.{Scope}
-use Rattle.htmd_html5.specs.BodyStarts.{close_heading, close_option}
-use Rattle.htmd_html5.specs.InSelect.{close_group, close_option_in_group}
+use Rattle.htmd_html5_state.specs.declared.sets.NameSet.TheVariants.{Only}
 use Rattle.htmd_html5_laws.proofs.OpenNodes.{EachOpen}
 use Rattle.htmd_html5_state.specs.declared.names.TagName.TheVariants as tags
 

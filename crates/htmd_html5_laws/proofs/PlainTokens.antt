@@ -1,9 +1,7 @@
 -- A token leaves a plain state plain in foreign content too, if it is no tag whose name isn't plain.
-use Rattle.std.proofs.Common.{ℕ, List, [], ◌∷◌, Option, Some, None}
+use Rattle.std.proofs.Common.{Option, Some, None}
 use Rattle.std.proofs.lemmas.Bool.{true≢false}
-use Rattle.htmd_text.proofs.Cases.{test}
 use Rattle.htmd_html5_state.specs.Names.{NameValue, text_of_name}
-use Rattle.htmd_html5_state.specs.OpenElements.{OpenValue}
 use Rattle.htmd_html5_state.specs.State.{StateValue, on_stack}
 use Rattle.htmd_html5_state.specs.Insertion.{current}
 use Rattle.htmd_html5_state.specs.Foreign.{namespace_of, ForeignEnd, by_mode, closed_to, foreign_end, goes_by_mode}
@@ -14,7 +12,7 @@ use Rattle.htmd_html5.specs.Processing.{by_rules}
 use Rattle.htmd_html5.specs.ForeignContent.{is_foreign, tag_breaks_out, end_breaks_out, break_out, insert_alike}
 use Rattle.htmd_html5.specs.ForeignContent.{start_foreign_element, start_in_foreign, end_foreign, end_in_foreign}
 use Rattle.htmd_html5.specs.ForeignContent.{in_foreign_content}
-use Rattle.htmd_html5_laws.proofs.OpenNodes.{Fewer, all_of, skip, leave_foreign_fewer}
+use Rattle.htmd_html5_laws.proofs.OpenNodes.{leave_foreign_fewer}
 use Rattle.htmd_html5_laws.proofs.PlainNames.{is_plain_open}
 use Rattle.htmd_html5_laws.proofs.HungStates.{Hung, hung_fewer}
 use Rattle.htmd_html5_laws.proofs.PlainStates.{Plain, Stays, still, stays_by_state, plain_stack}
