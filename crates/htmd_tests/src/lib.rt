@@ -1,6 +1,6 @@
-//! Tests of the converter that need code: handlers of your own, the registry, trees, and refused memory. Rows that are a
-//! text and its answer are families of `htmd_cases`. What is expected is written by hand from the rules, and never taken
-//! from the program's own output.
+//! Tests of the converter that need code: handlers of your own, the registry, trees, and refused memory. Rows that are
+//! a text and its answer are families of `htmd_cases`. What is expected is written by hand from the rules, and never
+//! taken from the program's own output.
 #![tactic(auto)]
 
 #[cfg(test)]
