@@ -1,6 +1,6 @@
 //! Tests of the program that need code: runs that fail at each of their ends, its options and lines, batches, bytes in
-//! each encoding, and pages cut short. Rows that are a text and its answer are families of `htmd_cases`. What is expected
-//! is written by hand from the rules, and never taken from the program's own output.
+//! each encoding, and pages cut short. Rows that are a text and its answer are families of `htmd_cases`. What is
+//! expected is written by hand from the rules, and never taken from the program's own output.
 #![tactic(auto)]
 
 #[cfg(test)]
