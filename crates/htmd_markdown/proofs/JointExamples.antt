@@ -19,6 +19,12 @@ spans_apart = refl
 pub escaped_backquote : with_joint (codes "\\`") (codes "`b`") ≡ codes "\\``b`"
 escaped_backquote = refl
 
+pub code_after_code : with_joint (codes "`a\\`") (codes "`b`") ≡ codes "`a\\` `b`"
+code_after_code = refl
+
+pub code_after_a_backquote : with_joint (codes "a\\`") (codes "`b`") ≡ codes "a\\``b`"
+code_after_a_backquote = refl
+
 -- ---- signs that close a link
 
 pub address_closed : closes_link (codes "[a](x") right_parenthesis ≡ true

@@ -221,11 +221,11 @@ joint_of_runs ending beginning before rest =
 abbrev pub meets_bracket : List ℕ → List ℕ → Bool
 meets_bracket out content = ends_with exclamation_mark out && begins_with left_square_bracket content
 
--- a backquote follows a backquote, which no backslash escapes
+-- a backquote follows a backquote that no backslash escapes, or that may close code
 abbrev pub backquotes_meet : List ℕ → List ℕ → Bool
 backquotes_meet out content =
     ends_with grave_accent out && begins_with grave_accent content
-    && not (escapes_next (take (length out - 1) out))
+    && (not (escapes_next (without_last out)) || may_end_code (without_last out))
 
 -- what is mended where a content meets the text so far
 abbrev pub joint_of : List ℕ → List ℕ → Joint

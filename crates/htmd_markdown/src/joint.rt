@@ -173,8 +173,15 @@ fn up_to_backquote(text: &[u8]) -> &[u8]
     &text[..end]
 }
 
+/// Whether a backquote after the text may close code, in which a backslash escapes nothing.
+fn may_end_code(text: &[u8]) -> bool
+    ensures { result ≡ spec.may_end_code text.now }
+{
+    ends_bare(up_to_backquote(text), b"`")
+}
+
 /// Whether the character after the text closes a link, an image, a reference, an autolink or a formula, or may close
-/// code, in which a backslash escapes nothing.
+/// code.
 fn closes_link(c: char, before: &[u8]) -> bool
     ensures { result ≡ spec.closes_link before.now c }
 {
@@ -182,7 +189,7 @@ fn closes_link(c: char, before: &[u8]) -> bool
         ']' => !escapes_next(before),
         ')' => !escapes_next(before) && ends_address(before),
         '>' => ends_autolink(before),
-        '`' => ends_bare(up_to_backquote(before), b"`"),
+        '`' => may_end_code(before),
         '$' => true,
         _ => false,
     }
@@ -350,13 +357,15 @@ fn meets_bracket(out: &str, content: &str) -> bool
     out.ends_with('!') && content.starts_with('[')
 }
 
-/// Whether a backquote follows a backquote, which no backslash escapes.
+/// Whether a backquote follows a backquote that no backslash escapes, or that may close code.
 fn backquotes_meet(out: &str, content: &str) -> bool
     ensures { result ≡ spec.backquotes_meet out.now content.now }
 {
-    out.ends_with('`')
-        && content.starts_with('`')
-        && !escapes_next(&out.as_bytes()[..out.len().saturating_sub(1)])
+    if !(out.ends_with('`') && content.starts_with('`')) {
+        return false;
+    }
+    let before = without_last(out.as_bytes());
+    !escapes_next(before) || may_end_code(before)
 }
 
 /// What is mended where a content meets the text so far.
