@@ -143,7 +143,7 @@ impl Layout {
         if self.is_deepest(under) {
             self.join_texts(under, &mut text)?;
         }
-        item_of(self.tree.add_text(under, text.as_str()))?;
+        item_of(self.tree.add_owned_text(under, text))?;
         Ok(())
     }
 

@@ -1,6 +1,6 @@
 //! A tree of nodes, to which nodes are only added.
 ghost use Rattle.std.specs.Prelude.{◌≡◌, ◌+◌, ◌<◌, ◌≤◌, ◌↔◌, [], ◌∷◌, ◌++◌, nat_lt, length, IsTrue, IfOk, OnOk, OnErr};
-ghost use Rattle.std.specs.Prelude.{IsErrOf, IsOkUnless, MatchResult};
+ghost use Rattle.std.specs.Prelude.{IsErrOf, IsOkUnless, MatchResult, string_bytes};
 ghost use Rattle.std.specs.Option.{option_copied};
 ghost use Rattle.htmd_tree.specs.Items.{IsTree, data_at, parent_at, depth_at, children_of, holds_children, tag_of};
 ghost use Rattle.htmd_tree.specs.Items.{new_item, document_item, doctype_node, text_node, comment_node, element_node};
@@ -292,6 +292,22 @@ impl Tree {
         self.ask_depth(parent)?;
         let text = String::from_str(self.alloc, text)?;
         self.add(parent, NodeData::Text(text))
+    }
+
+    /// A new last child of a node: a text that is handed over. The tree must contain the parent, a Document or an
+    /// element. `TooDeep` if the child would be below level 1,024, `Memory` when out of memory; the tree is then as it
+    /// was, and the text is dropped.
+    pub fn add_owned_text(&mut self, parent: NodeId, text: String) -> Result<NodeId, TreeError>
+        requires within { parent < length self.old }
+        requires holds { IsTrue (holds_children (data_at self.old parent)) }
+        ensures id { IfOk result (λ id. id ≡ length self.old) }
+        ensures ok { OnOk result (self.new
+            ≡ self.old ++ new_item self.old parent (text_node (string_bytes text)) ∷ []) }
+        ensures too_deep { IsErrOf result TreeError.TooDeep
+            ↔ (greatest_depth ≤ depth_at self.old parent) }
+        ensures err { OnErr result (self.new ≡ self.old) }
+    {
+        self.add_node(parent, NodeData::Text(text))
     }
 
     /// A new last child of a node: a comment. The tree must contain the parent, a Document or an element. `TooDeep` if
