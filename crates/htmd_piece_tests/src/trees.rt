@@ -13,6 +13,8 @@ fn greatest_depth(rt: HostRuntime) -> Result<(), Fail> {
     let more = tree.add_element(last, "b", Vec::new(rt.alloc()));
     assert_eq!(rt; more, Err(TreeError::TooDeep));
     assert_eq!(rt; tree.add_text(last, "x"), Err(TreeError::TooDeep));
+    let owned = String::from_str(rt.alloc(), "x")?;
+    assert_eq!(rt; tree.add_owned_text(last, owned), Err(TreeError::TooDeep));
     assert_eq!(rt; tree.children(last).len(), 0);
     assert_eq!(rt;
         serialize(rt.alloc(), &tree, tree.root())?.len(),
@@ -35,17 +37,19 @@ fn small_document(rt: HostRuntime) -> Result<(), Fail> {
     let paragraph = tree.add_element(document, "p", attrs)?;
     let comment = tree.add_comment(document, "c")?;
     let text = tree.add_text(paragraph, "Hi")?;
+    let owned = tree.add_owned_text(paragraph, String::from_str(alloc, "!")?)?;
     assert_eq!(rt;
         tree.children(document),
         [doctype, paragraph, comment].as_slice()
     );
-    assert_eq!(rt; tree.children(paragraph), [text].as_slice());
+    assert_eq!(rt; tree.children(paragraph), [text, owned].as_slice());
     assert!(rt; !Tree::new(alloc)?.contains(text));
     assert_eq!(rt; tree.parent(text), Some(paragraph));
     assert_eq!(rt; tree.depth(text), 2);
     assert_eq!(rt; tree.tag_name(paragraph), Some("p"));
     assert_eq!(rt; tree.tag_name(document), Some("html"));
     assert!(rt; matches!(tree.data(text), NodeData::Text(s) if s.as_str() == "Hi"));
+    assert!(rt; matches!(tree.data(owned), NodeData::Text(s) if s.as_str() == "!"));
     Ok(())
 }
 
