@@ -11,9 +11,9 @@ use Rattle.htmd_grammar.specs.CharacterClasses.{is_unquoted_byte}
 use Rattle.htmd_grammar.specs.TagReading.{is_other}
 use Rattle.htmd_text.proofs.Cases.{test}
 use Rattle.htmd_text.proofs.WhiteSpaceLemmas.{white_is_ascii}
-use Rattle.htmd_tree.specs.declared.reader.runs.Class.{Class}
-use Rattle.htmd_tree.specs.declared.reader.runs.Class.TheVariants.{TagName, WhiteSpace, AttributeName, UnquotedValue}
-use Rattle.htmd_tree.specs.declared.reader.runs.Class.TheVariants.{Other}
+use Rattle.htmd_tree.specs.declared.reader.scan.Class.{Class}
+use Rattle.htmd_tree.specs.declared.reader.scan.Class.TheVariants.{TagName, WhiteSpace, AttributeName, UnquotedValue}
+use Rattle.htmd_tree.specs.declared.reader.scan.Class.TheVariants.{Other}
 use Rattle.htmd_tree.specs.Classes.{is_in, is_ascii}
 
 -- one more character of the run

@@ -3,9 +3,9 @@ use Rattle.std.specs.Prelude.{ℕ, Bool, true, nat_lt}
 use Rattle.htmd_text.specs.WhiteSpace.{is_ascii_white_space}
 use Rattle.htmd_grammar.specs.CharacterClasses.{is_tag_name_byte, is_attribute_name_byte, is_unquoted_byte}
 use Rattle.htmd_grammar.specs.TagReading.{is_other}
-use Rattle.htmd_tree.specs.declared.reader.runs.Class.{Class}
-use Rattle.htmd_tree.specs.declared.reader.runs.Class.TheVariants.{TagName, WhiteSpace, AttributeName, UnquotedValue}
-use Rattle.htmd_tree.specs.declared.reader.runs.Class.TheVariants.{Other}
+use Rattle.htmd_tree.specs.declared.reader.scan.Class.{Class}
+use Rattle.htmd_tree.specs.declared.reader.scan.Class.TheVariants.{TagName, WhiteSpace, AttributeName, UnquotedValue}
+use Rattle.htmd_tree.specs.declared.reader.scan.Class.TheVariants.{Other}
 
 abbrev pub is_in : Class → ℕ → Bool
 is_in TagName = is_tag_name_byte

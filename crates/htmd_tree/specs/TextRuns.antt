@@ -19,7 +19,7 @@ use Rattle.htmd_tree.specs.DecodedCharacters.{piece_of, IsPieceEnd}
 use Rattle.htmd_tree.specs.declared.reader.Stop.{Stop}
 use Rattle.htmd_tree.specs.declared.reader.Stop.TheVariants.{Memory, Refused}
 use Rattle.htmd_tree.specs.declared.reader.references.Character.{Character}
-use Rattle.htmd_tree.specs.declared.reader.text_runs.TextSurroundings.{TextSurroundings}
+use Rattle.htmd_tree.specs.declared.reader.texts.TextSurroundings.{TextSurroundings}
 
 -- a character stands for itself and may stand there, as its first byte tells
 abbrev pub is_plain : Bool → ℕ → Bool

@@ -20,28 +20,17 @@ ghost use Rattle.htmd_tree.specs.OpenNodes.{Holds, IsReading, MayOpen, innermost
 ghost use Rattle.htmd_tree.specs.Advances.{HasAdded, StopsDeep, IsLeaf, leaf, rules_of, Steps};
 ghost use Rattle.htmd_tree.specs.declared.reader.Stop.TheVariants.{Memory, Refused};
 
-mod attribute_values;
 mod attributes;
 mod beginning;
 mod body;
-mod comment_texts;
 mod comments;
-mod contents;
-mod line_ends;
 mod pieces;
-mod prelude;
-mod raw_content;
 mod raw_text;
 mod references;
-mod rows;
-mod runs;
 mod scan;
 mod surroundings;
-mod tag_names;
 mod tags;
-mod text_runs;
 mod texts;
-mod values;
 
 use crate::reader::surroundings::Surroundings;
 use crate::tree::{Attribute, MAX_DEPTH, NodeData, NodeId, Tree, TreeError};

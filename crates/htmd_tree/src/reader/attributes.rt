@@ -1,13 +1,18 @@
-//! The attributes of a start tag.
-ghost use Rattle.std.specs.Prelude.{◌≡◌, ◌<◌, suc, length, IfOk, MatchOption};
+//! The attributes of a start tag, and what their values denote.
+ghost use Rattle.std.specs.Prelude.{◌≡◌, ◌<◌, suc, length, IfOk, MatchOption, option_map, Ok, Err, MatchResult};
+ghost use Rattle.htmd_grammar.specs.Tags.{attribute_names, decode_values};
+ghost use Rattle.htmd_tree.specs.TagParts.{part_of, all_spelled_of, attribute_part, read_attributes};
+ghost use Rattle.htmd_tree.specs.Views.{pairs_of};
+ghost use Rattle.std.specs.List.{list_any};
+ghost use Rattle.htmd_grammar.specs.Rules.{named_characters};
 ghost use Rattle.htmd_grammar.specs.CharacterClasses as classes;
 ghost use Rattle.htmd_grammar.specs.TagReading as spec;
-ghost use Rattle.htmd_grammar.specs.Tags.{attribute_names};
-ghost use Rattle.htmd_tree.specs.TagParts.{part_of, all_spelled_of, attribute_part};
-ghost use Rattle.htmd_tree.specs.Views.{pairs_of};
+ghost use Rattle.htmd_grammar.specs.OpenElements as steps;
 
-use crate::reader::runs::{Class, split_run, strip_byte};
+use crate::reader::references;
+use crate::reader::scan::{Class, split_run, strip_byte};
 use crate::tree::Attribute;
+use htmd_grammar::FaultKind;
 use std::alloc::{AllocError, Global};
 use std::collections::BTreeSet;
 
@@ -224,4 +229,58 @@ pub(crate) fn are_distinct(alloc: Global, attributes: &[Attribute]) -> Result<bo
         rest = others;
     }
     Ok(true)
+}
+
+/// Whether a value has a reference by an unknown name.
+fn has_unknown_reference(spelled: &[SpelledAttribute<'_>]) -> bool
+    ensures { result
+        ≡ list_any (λ a. steps.has_unknown_reference named_characters a.value) (all_spelled_of spelled.now) }
+{
+    for attribute in spelled {
+        if references::has_unknown_reference(attribute.value) {
+            return true;
+        }
+    }
+    false
+}
+
+/// The attributes with what their values denote, if each reference is right.
+fn decoded(
+    alloc: Global,
+    spelled: &[SpelledAttribute<'_>],
+) -> Result<Option<Vec<Attribute>>, AllocError>
+    ensures { IfOk result (λ answer. option_map (λ v. pairs_of v.items) answer
+        ≡ decode_values named_characters (all_spelled_of spelled.now)) }
+{
+    let mut attributes = Vec::with_capacity(alloc, spelled.len())?;
+    for attribute in spelled {
+        let Some(value) = references::decoded(alloc, attribute.value)? else {
+            return Ok(None);
+        };
+        let name = attribute.name.to_ascii_lowercase(alloc)?;
+        attributes.push(Attribute { name, value })?;
+    }
+    Ok(Some(attributes))
+}
+
+/// The attributes with what the references in their values stand for. A fault is `UnknownReference`, `BadNumber` or
+/// `DuplicateAttribute`, the first of these that fits.
+pub(crate) fn attributes_of(
+    alloc: Global,
+    spelled: &[SpelledAttribute<'_>],
+) -> Result<Result<Vec<Attribute>, FaultKind>, AllocError>
+    ensures { IfOk result (λ answer. MatchResult answer
+        (λ attributes. read_attributes (all_spelled_of spelled.now) ≡ Ok (pairs_of attributes.items))
+        (λ kind. read_attributes (all_spelled_of spelled.now) ≡ Err kind)) }
+{
+    if has_unknown_reference(spelled) {
+        return Ok(Err(FaultKind::UnknownReference));
+    }
+    let Some(attributes) = decoded(alloc, spelled)? else {
+        return Ok(Err(FaultKind::BadNumber));
+    };
+    if !are_distinct(alloc, attributes.as_slice())? {
+        return Ok(Err(FaultKind::DuplicateAttribute));
+    }
+    Ok(Ok(attributes))
 }

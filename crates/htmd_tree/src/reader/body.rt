@@ -4,8 +4,8 @@ ghost use Rattle.htmd_grammar.specs.TagReading.{form_within};
 ghost use Rattle.htmd_tree.specs.Bodies as spec;
 
 use crate::reader::attributes::{Part, next_part};
-use crate::reader::rows::is_tag_name;
-use crate::reader::runs::{Class, split_run, strip_byte};
+use crate::reader::pieces::is_tag_name;
+use crate::reader::scan::{Class, split_run, strip_byte};
 
 /// What follows a start tag, given what follows its name.
 fn behind_form(text: &str) -> Option<&str>

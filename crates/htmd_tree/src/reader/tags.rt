@@ -1,8 +1,15 @@
-//! Start tags and end tags. A fault of a tag is at its `<`, where the text that is left begins.
-ghost use Rattle.std.specs.Prelude.{◌≡◌, ◌<◌, ◌&&◌, true, length, drop, OnOk, string_bytes, codes};
+//! Start tags and end tags, their names, and where the content of an element begins. A fault of a tag is at its `<`,
+//! where the text that is left begins.
+ghost use Rattle.std.specs.Prelude.{◌≡◌, ◌==◌, true, false, map, MatchOption, IfOk, [], ◌<◌, ◌&&◌, length, drop};
+ghost use Rattle.std.specs.Prelude.{OnOk, string_bytes, codes};
+ghost use Rattle.std.specs.Char.{to_ascii_lowercase};
+ghost use Rattle.std.specs.Cow.{cow_str_bytes};
+ghost use Rattle.std.specs.List.{list_all};
+ghost use Rattle.htmd_grammar.specs.CharacterClasses.{leading_run, behind_run, is_tag_name, is_tag_name_byte};
+ghost use Rattle.htmd_grammar.specs.CharacterClasses.{first_is};
+ghost use Rattle.htmd_grammar.specs.References.{after_line_feed};
 ghost use Rattle.std.specs.Str.{bytes_eq};
 ghost use Rattle.htmd_text.specs.Characters.{less_than_sign};
-ghost use Rattle.htmd_grammar.specs.CharacterClasses.{first_is};
 ghost use Rattle.htmd_grammar.specs.Documents.{above_body};
 ghost use Rattle.htmd_grammar.specs.Nesting.{is_allowed, is_row};
 ghost use Rattle.htmd_grammar.specs.Steps.{names_of, start_tag_step, place_step, open_step, end_tag_step, close_step};
@@ -11,17 +18,85 @@ ghost use Rattle.htmd_tree.specs.Views.{pairs_of};
 ghost use Rattle.htmd_tree.specs.TagParts.{fault_of_name};
 ghost use Rattle.htmd_tree.specs.OpenNodes.{IsReading, innermost_name, WhateverIsOpen};
 ghost use Rattle.htmd_tree.specs.Advances.{rules_of, Steps};
+ghost use Rattle.htmd_grammar.specs.RawContent as spec;
 
-use crate::reader::attribute_values::attributes_of;
-use crate::reader::attributes::tag_form;
-use crate::reader::contents::content_of;
-use crate::reader::runs::{Class, behind_first, split_run, strip_byte};
+use crate::reader::attributes::{attributes_of, tag_form};
+use crate::reader::references::character_at;
+use crate::reader::scan::{Class, behind_first, split_run, strip_byte};
 use crate::reader::surroundings::is_outside;
-use crate::reader::tag_names::{in_lower_case, split_name};
 use crate::reader::{Reader, Stop};
 use crate::serialiser::is_void;
 use crate::tree::{Attribute, NodeData};
 use htmd_grammar::FaultKind;
+use std::alloc::{AllocError, Global};
+use std::borrow::CowStr;
+
+#[tactic(auto, using(crate::proofs::TagPartsLemmas::name_begins))]
+/// The name at the beginning of a text, as it is spelled, and what follows it. None if no letter comes first.
+pub(crate) fn split_name(text: &str) -> Option<(&str, &str)>
+    ensures { MatchOption result (is_tag_name (leading_run is_tag_name_byte text.now) ≡ false)
+        (λ p. (is_tag_name (leading_run is_tag_name_byte text.now) ≡ true)
+        × (p.0.now ≡ leading_run is_tag_name_byte text.now)
+        × (p.1.now ≡ behind_run is_tag_name_byte text.now)) }
+{
+    match text.as_bytes() {
+        [first, ..] if first.is_ascii_alphabetic() => Some(split_run(text, Class::TagName)),
+        _ => None,
+    }
+}
+
+/// Whether lower case changes nothing in the name.
+fn is_lower_case(name: &[u8]) -> bool
+    ensures { result ≡ list_all (λ b. to_ascii_lowercase b == b) name.now }
+{
+    for byte in name {
+        if byte.to_ascii_lowercase() != *byte {
+            return false;
+        }
+    }
+    true
+}
+
+#[tactic(auto, using(crate::proofs::TagPartsLemmas::lower_case_stays))]
+/// A name in lower case, borrowed if it is so already.
+pub(crate) fn in_lower_case(alloc: Global, name: &str) -> Result<CowStr<'_>, AllocError>
+    ensures { IfOk result (λ lowered. cow_str_bytes lowered ≡ map to_ascii_lowercase name.now) }
+{
+    if is_lower_case(name.as_bytes()) {
+        return Ok(CowStr::Borrowed(name));
+    }
+    Ok(CowStr::Owned(name.to_ascii_lowercase(alloc)?))
+}
+
+fn drops_line_feed(name: &str) -> bool
+    ensures { result ≡ spec.drops_line_feed name.now }
+{
+    matches!(name, "pre" | "textarea")
+}
+
+/// The text without a line feed at its beginning, written as it is or by a reference.
+fn without_line_feed(text: &str) -> &str
+    ensures { result.now ≡ after_line_feed [] text.now }
+{
+    match text.as_bytes() {
+        [first, behind @ ..] if first.is_ascii() => match character_at(*first, behind) {
+            Ok(character) if character.value == '\n' => &behind_first(text)[character.behind..],
+            _ => text,
+        },
+        _ => text,
+    }
+}
+
+/// The content of an element with this name, without the line feed that `pre` and `textarea` drop.
+pub(crate) fn content_of<'a>(name: &str, text: &'a str) -> &'a str
+    ensures { result.now ≡ spec.content_of name.now text.now }
+{
+    if drops_line_feed(name) {
+        without_line_feed(text)
+    } else {
+        text
+    }
+}
 
 /// What is wrong with a start tag of this name: it has a `/` and isn't void, or it has no place at all.
 fn fault_of_name(name: &str, slash: bool) -> Option<FaultKind>
