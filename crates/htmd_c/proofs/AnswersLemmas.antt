@@ -13,7 +13,8 @@ use Rattle.htmd_c.specs.Options.{strict, page, is_scripting}
 with_options-with_rows : (rows : List Row) (config : Config) (options : Options)
     → with_options (with_rows rows config) options ≡ with_rows rows (with_options config options)
 with_options-with_rows [] config options = refl
-with_options-with_rows (r ∷ rs) config options = with_options-with_rows rs (with_handler config r.tags r.handler) options
+with_options-with_rows (r ∷ rs) config options =
+    with_options-with_rows rs (with_handler config r.tags r.handler) options
 
 -- the built-in handlers with other options
 pub built_in_with : (options : Options) → with_options (built_in default_options) options ≡ built_in options

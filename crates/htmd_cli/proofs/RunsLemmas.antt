@@ -19,7 +19,8 @@ Converted settings input markdown =
     IsReadable any input × IsMarkdownBy settings (text_in any input) markdown
 
 -- the whole input was converted, and that was written
-pub ends_well : {W : Type 0} (T : Type 0) (settings : Settings) (contents : W → Option (List ℕ)) (before after : W) (done : T)
+pub ends_well : {W : Type 0} (T : Type 0) (settings : Settings) (contents : W → Option (List ℕ)) (before after : W)
+    (done : T)
     (input markdown written : List ℕ) → Converted settings input markdown → written ≡ markdown
     → Appends (contents before) (contents after) (written ++ line_feed ∷ [])
     → Ends settings (Some input) (Some []) contents before after (Ok done)

@@ -64,8 +64,9 @@ once = refl
 -- <b>a<i>b<u>c</u></i>d</b>e
 abbrev page : List NodeValue
 page =
-    document (1 ∷ 8 ∷ []) ∷ holding (codes "b") (2 ∷ 3 ∷ 7 ∷ []) ∷ letters (codes "a") ∷ holding (codes "i") (4 ∷ 5 ∷ [])
-    ∷ letters (codes "b") ∷ holding (codes "u") (6 ∷ []) ∷ letters (codes "c") ∷ letters (codes "d") ∷ letters (codes "e")
+    document (1 ∷ 8 ∷ []) ∷ holding (codes "b") (2 ∷ 3 ∷ 7 ∷ []) ∷ letters (codes "a")
+    ∷ holding (codes "i") (4 ∷ 5 ∷ []) ∷ letters (codes "b") ∷ holding (codes "u") (6 ∷ [])
+    ∷ letters (codes "c") ∷ letters (codes "d") ∷ letters (codes "e")
     ∷ []
 
 within_the_levels : document_of 4 page

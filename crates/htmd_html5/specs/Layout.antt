@@ -1,5 +1,5 @@
--- The nodes of a document in document order, as a tree has them, to a depth. An element at that depth keeps no children:
--- they come right after it, in order, as its siblings, and texts that are siblings there are one.
+-- The nodes of a document in document order, as a tree has them, to a depth. An element at that depth keeps no
+-- children: they come right after it, in order, as its siblings, and texts that are siblings there are one.
 use Rattle.std.specs.Prelude.{ℕ, Bool, ◌==◌, if◌then◌else◌, List, [], ◌∷◌, ◌++◌, length, Option, Some, None, suc}
 use Rattle.std.specs.Prelude.{zero, ◌+◌, is_some, map}
 use Rattle.htmd_html5_state.specs.Names.{text_of_element_name}

@@ -1,6 +1,6 @@
--- The parsing of any page by the HTML Standard (13.2.6), in reading order: tokens and runs of text; what a mode answers;
--- rules that many modes share; the modes in the standard's order; foreign content; what a token does; the document; the
--- tree that it is laid out as. `AtOnce` only says where the program puts a text at once.
+-- The parsing of any page by the HTML Standard (13.2.6), in reading order: tokens and runs of text; what a mode
+-- answers; rules that many modes share; the modes in the standard's order; foreign content; what a token does; the
+-- document; the tree that it is laid out as. `AtOnce` only says where the program puts a text at once.
 pub mod Tokens
 pub mod Runs
 pub mod Answers

@@ -27,7 +27,8 @@ held_widths bars cells = map held (map (width_of bars) cells)
 -- columns of these widths, each as narrow as a column may be if the lines would be too long
 abbrev pub narrowed : Bars → List ℕ → List ℕ
 narrowed References widths = widths
-narrowed Backslashes widths = if nat_lt longest_padded (line_width widths) then replicate (length widths) narrowest else widths
+narrowed Backslashes widths =
+    if nat_lt longest_padded (line_width widths) then replicate (length widths) narrowest else widths
 
 -- the widths of a table's columns
 abbrev pub widths_of : Bars → List (List (List ℕ)) → List ℕ

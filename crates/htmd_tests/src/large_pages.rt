@@ -1,6 +1,6 @@
-//! Pages that no one writes by hand, as browsers read them. None is refused. No node stands below level 1,024: what would
-//! stand there follows the element at that level. And of the formatting elements that are open, a paragraph reopens the
-//! sixteen newest.
+//! Pages that no one writes by hand, as browsers read them. None is refused. No node stands below level 1,024: what
+//! would stand there follows the element at that level. And of the formatting elements that are open, a paragraph
+//! reopens the sixteen newest.
 use htmd::HtmlToMarkdown;
 use htmd::options::{Options, TranslationMode};
 use std::alloc::{AllocError, Global};

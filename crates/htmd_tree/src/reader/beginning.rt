@@ -1,5 +1,5 @@
-//! A document before its content: a byte order mark and a Doctype if they are there (HTML Standard, 13.1.1), `html` with
-//! its `head`, and `body`, which is open.
+//! A document before its content: a byte order mark and a Doctype if they are there (HTML Standard, 13.1.1), `html`
+//! with its `head`, and `body`, which is open.
 ghost use Rattle.std.specs.Prelude.{◌≡◌, ◌<◌, Some, None, true, drop, if◌then◌else◌, length, nat_lt, option_map, ◌≢◌};
 ghost use Rattle.std.specs.Prelude.{◌∷◌, [], IfOk, IfErr, is_some};
 ghost use Rattle.std.specs.List.{list_all};

@@ -23,6 +23,7 @@ returns g c =
             ∙ skips_nothing names _ (sym c.is_empty.ensures ∙ w.if-not-is_empty.false))
       ])
           (ap (λ k. skipping (texts names) (with_options k options)) c.requires.default
-          ∙ ap (λ l. skipping (texts l) (with_options (built_in default_options) options)) c.as_slice-skipped.ensures.value)),
+          ∙ ap (λ l. skipping (texts l) (with_options (built_in default_options) options))
+            c.as_slice-skipped.ensures.value)),
       search rules,
     )

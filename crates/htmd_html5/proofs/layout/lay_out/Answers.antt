@@ -57,5 +57,6 @@ returns c =
     c.len-count.ensures ∙ (search rules ∙ sym (length-map c.args.nodes.items node_of)) in
     let over : c.loop-node._node ≡ c.len-count.result = omega arith in
     whole-document greatest_depth nodes now c.len-count.result
-    (lays-over greatest_depth (first_layout nodes) now c.loop-node._node c.len-count.result c.loop-node.invariant.lays over)
+    (lays-over greatest_depth (first_layout nodes) now c.loop-node._node c.len-count.result
+      c.loop-node.invariant.lays over)
     count
