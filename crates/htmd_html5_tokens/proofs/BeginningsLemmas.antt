@@ -97,7 +97,7 @@ pub other_ends : (q : ℕ) (s : List ℕ) → first_is q (behind_run (is_other q
 other_ends q [] e = refl
 other_ends q (b ∷ s) e =
     test (b == q) (λ f. absurd (let g : true ≡ false = rw (f, f) at e in cc))
-      (λ f. let g = rw f at e in rw f (other_ends q s g))
+    (λ f. let g = rw f at e in rw f (other_ends q s g))
 
 pub other_drops : (q : ℕ) (s : List ℕ) → first_is q (behind_run (is_other q) s) ≡ false
     → behind_run (is_other q) s ≡ drop 1 (behind_run (is_other q) s)

@@ -92,7 +92,7 @@ marks_more xs i x d marks is_new seen set new key l e k n u h w =
     ∙ ap (λ (y : Attribute). not (is_among seen (string_bytes y.name))) e in
     let q : key.now ≡ string_bytes (get_or xs i d).name = k ∙ ap (λ (y : Attribute). string_bytes y.name) e in
     let step : are_first seen (pairs_of (drop i xs))
-        ≡ is_new ∷ are_first (key.now ∷ seen) (pairs_of (drop (i + 1) xs)) =
+    ≡ is_new ∷ are_first (key.now ∷ seen) (pairs_of (drop (i + 1) xs)) =
     rw (drop_more xs i d l, m, q) refl in (
       key.now ∷ seen,
       name_added set new key seen u h,

@@ -24,6 +24,6 @@ returns g c =
       ])
           (ap (λ k. skipping (texts names) (with_options k options)) c.requires.default
           ∙ ap (λ l. skipping (texts l) (with_options (built_in default_options) options))
-            c.as_slice-skipped.ensures.value)),
+          c.as_slice-skipped.ensures.value)),
       search rules,
     )

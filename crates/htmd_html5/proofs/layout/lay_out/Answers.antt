@@ -58,5 +58,5 @@ returns c =
     let over : c.loop-node._node ≡ c.len-count.result = omega arith in
     whole-document greatest_depth nodes now c.len-count.result
     (lays-over greatest_depth (first_layout nodes) now c.loop-node._node c.len-count.result
-      c.loop-node.invariant.lays over)
+    c.loop-node.invariant.lays over)
     count

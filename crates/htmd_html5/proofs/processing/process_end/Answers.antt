@@ -13,7 +13,7 @@ returns-then-not-branch c =
     let new = c.end_by_rules.new.state in
     let e = ap (λ (b : Bool). answer new b) (sym again) ∙ c.in_ok-end_by_rules.ensures in
     rests_done (end_tag (name_of c.args.name.now)) c.args.state.now c.loop-turn.state new c.loop-turn._turn
-      c.turns-turn-end.result
+    c.turns-turn-end.result
     c.loop-turn.invariant (omega arith) e
     ∙ ap (λ n. process_within n (end_tag (name_of c.args.name.now)) c.args.state.now) c.turns-turn-end.ensures
 
@@ -23,12 +23,12 @@ loop-turn-preserved c =
     let new = c.end_by_rules.new.state in
     let e = ap (λ (b : Bool). answer new b) (sym again) ∙ c.in_ok-end_by_rules.ensures in
     rests_again (end_tag (name_of c.args.name.now)) c.args.state.now c.loop-turn.state new c.loop-turn._turn
-      c.turns-turn-end.result
+    c.turns-turn-end.result
     c.loop-turn.invariant e
 
 pub returns : goal.returns
 returns c =
     rests_over (end_tag (name_of c.args.name.now)) c.args.state.now c.loop-turn.state c.loop-turn._turn
-      c.turns-turn-end.result c.loop-turn.invariant
+    c.turns-turn-end.result c.loop-turn.invariant
     (omega arith)
     ∙ ap (λ n. process_within n (end_tag (name_of c.args.name.now)) c.args.state.now) c.turns-turn-end.ensures

@@ -26,6 +26,6 @@ loop-turn-preserved c =
 pub returns : goal.returns
 returns c =
     rests_over end_of_file c.args.state.now c.loop-turn.state c.loop-turn._turn c.turns-turn-end.result
-      c.loop-turn.invariant
+    c.loop-turn.invariant
     (omega arith)
     ∙ ap (λ n. process_within n end_of_file c.args.state.now) c.turns-turn-end.ensures

@@ -15,4 +15,4 @@ returns-in-Some-pop c =
     let first : IsFirstSpecial c.args.inside.items c.in-Some.index = rw c.deref.ensures.value at c.in-Some.ensures in
     sym (furthest-split c.args.inside.items c.in-Some.index c.pop.new.self.items c.in_ok-inner.inner.items
     c.in-Some-pop.block first c.in_ok-inner.ensures.tail
-      (sym c.in-Some-pop.ensures.items ∙ c.in_ok-inner.ensures.items))
+    (sym c.in-Some-pop.ensures.items ∙ c.in_ok-inner.ensures.items))

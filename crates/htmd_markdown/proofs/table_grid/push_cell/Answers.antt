@@ -36,4 +36,4 @@ returns c =
     (map_push column_view c.args.columns.now.items record { text = c.args.cell.text; rows = c.args.cell.rows })
     ∙ append_assoc base (first ∷ []) (replicate count none)
     ∙ ap (λ n. base ++ first ∷ replicate n none)
-      (omega (arith, c.loop-column.invariant.low, c.loop-column.invariant.high, c.loop-column-test.false))
+    (omega (arith, c.loop-column.invariant.low, c.loop-column.invariant.high, c.loop-column-test.false))

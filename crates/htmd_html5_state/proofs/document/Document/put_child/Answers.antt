@@ -16,6 +16,6 @@ returns-in_ok-insert_child c =
     let child = c.args.child in
     written ns c.args.self.now place.parent old _
     (λ (x : NodeValue). record x { children = insert x.children (place_index place.next x.children) child })
-      c.self.view_is
+    c.self.view_is
     (omega arith) c.index_mut-node.ensures.value
     (ap (λ (cs : List ℕ). record (node_of old) { children = cs }) c.in_ok-insert_child.ensures)

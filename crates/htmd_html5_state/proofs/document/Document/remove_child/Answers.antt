@@ -29,7 +29,7 @@ returns-else-index-len c =
     let index : c.index_of-index.result ≡ index_of c.args.child old.children.items =
     c.index_of-index.ensures.place ∙ ap (index_of c.args.child) c.as_slice.ensures.value in
     let many : c.len-then-parent-len.result ≡ length old.children.items =
-        c.len-then-parent-len.ensures ∙ search rules in
+    c.len-then-parent-len.ensures ∙ search rules in
     let children : old.children.items ≡ without_child c.args.child old.children.items =
     sym (remove_past old.children.items (index_of c.args.child old.children.items) (omega arith)) in
     written ns c.args.self.now c.args.parent old _

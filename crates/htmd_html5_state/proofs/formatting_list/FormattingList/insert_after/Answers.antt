@@ -8,7 +8,7 @@ use Rattle.htmd_html5_state.proofs.formatting_list.FormattingList.insert_after.G
 pub returns-in_ok-insert : goal.returns-in_ok-insert
 returns-in_ok-insert c =
     let at : IsNewest c.args.node c.self.inside.entries.items c.in-Some.index =
-        rw c.deref.ensures.value at c.in-Some.ensures
+    rw c.deref.ensures.value at c.in-Some.ensures
     in
     ap entries_of c.in_ok-insert.ensures.items
     ∙ (IsNewest-insert c.args.node c.self.inside.entries.items c.in-Some.index at c.args.new
@@ -17,5 +17,5 @@ returns-in_ok-insert c =
 pub returns-in_default : goal.returns-in_default
 returns-in_default c =
     let lacks : is_listed c.args.node c.args.self.now ≡ false =
-        rw (c.deref.ensures.value, c.self.view_is) at c.in_default.ensures in
+    rw (c.deref.ensures.value, c.self.view_is) at c.in_default.ensures in
     sym (insert_after-none c.args.node c.args.new c.args.self.now lacks)

@@ -8,14 +8,14 @@ use Rattle.htmd_html5_state.proofs.formatting_list.FormattingList.remove.Goals a
 pub returns-in-Some : goal.returns-in-Some
 returns-in-Some c =
     let at : IsNewest c.args.node c.self.inside.entries.items c.in-Some.index =
-        rw c.deref.ensures.value at c.in-Some.ensures
+    rw c.deref.ensures.value at c.in-Some.ensures
     in
     ap entries_of c.remove.ensures.items
     ∙ (IsNewest-without c.args.node c.self.inside.entries.items c.in-Some.index at
-      ∙ ap (without_entry c.args.node) c.self.view_is)
+    ∙ ap (without_entry c.args.node) c.self.view_is)
 
 pub returns-in_default : goal.returns-in_default
 returns-in_default c =
     let lacks : is_listed c.args.node c.args.self.now ≡ false =
-        rw (c.deref.ensures.value, c.self.view_is) at c.in_default.ensures in
+    rw (c.deref.ensures.value, c.self.view_is) at c.in_default.ensures in
     sym (without_entry-none c.args.node c.args.self.now lacks)
