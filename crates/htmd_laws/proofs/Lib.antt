@@ -3,4 +3,8 @@ pub mod InputLawsLemmas
 pub mod FieldLawsLemmas
 pub mod LettersOfInputsLemmas
 pub mod ShownOfInputsLemmas
+pub mod TreeTexts
+pub mod ShownCounts
+pub mod PageExamples
+pub mod PageLettersLemmas
 pub mod OneParagraphLawsLemmas

@@ -5,5 +5,6 @@ pub use Rattle.htmd_tree_laws.specs.Shown
 pub mod InputLaws
 pub mod LettersOfInputs
 pub mod ShownOfInputs
+pub mod PageLetters
 pub mod OneParagraphLaws
 pub mod FieldLaws

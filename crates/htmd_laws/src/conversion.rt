@@ -6,6 +6,7 @@ ghost use Rattle.htmd_laws.specs.LettersOfInputs.{LettersOfAnyPage, LettersOfInp
 ghost use Rattle.htmd_tree_laws.specs.Shown.{ShownInContent, ShownInMarkdown};
 ghost use Rattle.htmd_laws.specs.ShownOfInputs.{ShownInConversion, ShownInPage};
 ghost use Rattle.htmd_laws.specs.ShownOfInputs.{ShownInAnyPage, ShownInInput, ShownInRow};
+ghost use Rattle.htmd_laws.specs.PageLetters.{PageLettersAreWritten};
 
 pub use htmd_tree_laws::conversion::{
     Emphasis, anchors_take_the_next_number, children_are_cut, content_is_trimmed,
@@ -52,4 +53,12 @@ pub fn nothing_is_lost()
     ensures any_page { ShownInAnyPage }
     ensures input { ShownInInput }
     ensures row { ShownInRow }
+{}
+
+/// In Guarded, and in Pure if no table is there, the letters of any page stand in its Markdown: if the page has no start
+/// tag of `frameset` or `template`, each letter stands in the Markdown at least as often as in the page's text tokens,
+/// but for texts below elements that aren't shown. A letter is a character that isn't white space, U+0000 or U+FFFD; in
+/// Guarded `*` isn't counted.
+pub fn page_letters_are_written()
+    ensures { PageLettersAreWritten }
 {}
