@@ -22,9 +22,7 @@ use Rattle.htmd_walk.specs.Groups.{group_tree, group_text, group_length, groups_
 use Rattle.htmd_walk.specs.Outputs.{conversion_of, Output, context_of}
 use Rattle.htmd_walk.specs.Children.{is_block_tree, before_child, trim_after, write_children}
 use Rattle.htmd_walk.specs.Rendering.{written_within, inside_of}
-use Rattle.htmd_walk.specs.Beginnings.{IsBeginning}
 use Rattle.htmd_walk.proofs.GroupsLemmas.{first_group, group-has_text, children_in}
-use Rattle.htmd_walk.proofs.BeginningsLemmas.{beginning-to, grows-children, grows-within}
 
 -- what holds for a child
 pub record IsChild (items : List Item) (node id : ℕ) : Type 0 where
@@ -148,12 +146,3 @@ module _ (config : Config) (items : List Item) (id child : ℕ) (ids : List ℕ)
       (p ∙ here)
       ∙ sym (ap (λ (f : NumberedForest). write_children (written_within n (conversion_of config items))
       (inside_of items id) f trim out) stands)
-
-  -- what follows a group adds to what is written with it
-  pub group_grows : IsBeginning there.definitions (write_children (written_within n (conversion_of config items))
-      (inside_of items id) (groups_of (forest_of (tree_of items) ids)) trim out).definitions
-  group_grows =
-      let next = trim_after is_block before there trim in
-      beginning-to (grows-children (written_within n (conversion_of config items))
-      (grows-within n (conversion_of config items)) (inside_of items id) behind next there)
-      (ap (λ (o : Output). o.definitions) (group_written there next refl refl))

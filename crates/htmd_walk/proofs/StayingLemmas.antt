@@ -9,7 +9,7 @@ use Rattle.htmd_tree.specs.NumberedTrees.{more}
 use Rattle.htmd_tree.specs.Ancestors.{Ancestor}
 use Rattle.htmd_tree.specs.Serialisation.{comment_of, start_tag}
 use Rattle.htmd_tree.specs.ValueTrees.{AttributePair}
-use Rattle.htmd_walk.specs.Beginnings.{IsBeginning}
+use Rattle.htmd_walk.proofs.BeginningsLemmas.{IsBeginning}
 use Rattle.htmd_walk.specs.Handling.{ElementView, ResultView, PlanView, nothing, this_result, raw_html, content_of_children}
 use Rattle.htmd_walk.specs.Handling.{content_of_descendant, content_of_fallback, contents_of_each, OutcomeView}
 use Rattle.htmd_walk.specs.Handling.{final_result, children_too, Finish, HandlerMeaning}

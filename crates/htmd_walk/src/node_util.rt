@@ -1,6 +1,6 @@
 //! What is asked of a node of a tree.
 
-ghost use Rattle.std.specs.Prelude.{◌≡◌, ◌<◌, ◌||◌, length};
+ghost use Rattle.std.specs.Prelude.{◌≡◌, ◌<◌, ◌||◌, true, false, length};
 ghost use Rattle.std.specs.Option.{option_copied};
 ghost use Rattle.htmd_tree.specs.Items.{data_at, IsTree};
 ghost use Rattle.htmd_tree.specs.NumberedTrees.{tree_of};
@@ -37,6 +37,24 @@ pub(crate) fn is_inside_pre(tree: &Tree, node: NodeId) -> bool
         at = parent;
     }
     false
+}
+
+/// Whether what is in an element is preformatted, if this says whether the element itself is.
+pub(crate) fn preformatted_inside(tree: &Tree, node: NodeId, preformatted: bool) -> bool
+    requires within { node < length tree.now }
+    requires context { preformatted ≡ pre (ancestors_of tree.now node) }
+    ensures { result ≡ pre (inside_of tree.now node) }
+{
+    preformatted || is_pre_or_code(tree, node)
+}
+
+/// Whether a node that is handed over by itself is preformatted. A text is then ordinary.
+pub(crate) fn is_preformatted_alone(tree: &Tree, node: NodeId) -> bool
+    requires { node < length tree.now }
+    ensures text { is_text (data_at tree.now node) ≡ true → result ≡ false }
+    ensures other { is_text (data_at tree.now node) ≡ false → result ≡ pre (ancestors_of tree.now node) }
+{
+    !is_text(tree, node) && is_inside_pre(tree, node)
 }
 
 /// Whether the parent is `pre`.
