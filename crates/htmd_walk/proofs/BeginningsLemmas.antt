@@ -12,7 +12,7 @@ use Rattle.htmd_tree.specs.Serialisation.{comment_of}
 use Rattle.htmd_walk.specs.Handling.{ElementView, ResultView, PlanView, nothing, this_result, raw_html, content_of_children}
 use Rattle.htmd_walk.specs.Handling.{content_of_descendant, content_of_fallback, contents_of_each, HandlerMeaning}
 use Rattle.htmd_walk.specs.Handling.{OutcomeView, final_result, children_too}
-use Rattle.htmd_walk.specs.OrdinaryText.{pre}
+use Rattle.htmd_walk.specs.OrdinaryText.{in_pre_or_code}
 use Rattle.htmd_walk.specs.Choice.{indexes, handlers_at}
 use Rattle.htmd_walk.specs.Groups.{groups_of}
 use Rattle.htmd_walk.specs.Outputs.{Conversion, Output, push_text, Context, context_of, Writes, is_markdown_alone}
@@ -72,9 +72,9 @@ pub grows-children : (write : Writes) → Grows write
 grows-children write g inside none trim out = beginning-refl out.definitions
 grows-children write g inside (more tree trees) trim out =
     let before = before_child (is_block_tree tree) out in
-    let after = write tree (context_of inside (pre inside) trim) before in
+    let after = write tree (context_of inside (in_pre_or_code inside) trim) before in
     beginning-trans (grows-before (is_block_tree tree) out)
-    (beginning-trans (g tree (context_of inside (pre inside) trim) before)
+    (beginning-trans (g tree (context_of inside (in_pre_or_code inside) trim) before)
     (grows-children write g inside trees (trim_after (is_block_tree tree) before after trim) after))
 
 pub grows-groups : (write : Writes) → Grows write
@@ -178,7 +178,7 @@ grows-node write g conversion (element id name attributes children) context out 
     let at = occurrence_at write conversion id (record { tag = name; attributes = attributes } ∷ context.ancestors)
     children in
     beginning-to (grows-answer at g 0 name out.definitions)
-    (sym (result-definitions (is_guarded conversion.config.options) out (pre context.ancestors)
+    (sym (result-definitions (is_guarded conversion.config.options) out (in_pre_or_code context.ancestors)
     (answer_after 0 name at out.definitions).result _))
 
 pub grows-within : (n : ℕ) (conversion : Conversion) → Grows (written_within n conversion)

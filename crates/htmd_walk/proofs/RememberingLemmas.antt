@@ -8,7 +8,7 @@ use Rattle.htmd_tree.specs.NumberedTrees.{tree_of, height}
 use Rattle.htmd_tree.specs.Ancestors.{ancestor_of, ancestors_of}
 use Rattle.htmd_walk.specs.Handling.{ResultView}
 use Rattle.htmd_walk.specs.Choice.{Config}
-use Rattle.htmd_walk.specs.OrdinaryText.{pre}
+use Rattle.htmd_walk.specs.OrdinaryText.{in_pre_or_code}
 use Rattle.htmd_walk.specs.Groups.{group_tree, group_children, children_at}
 use Rattle.htmd_walk.specs.Outputs.{Conversion, conversion_of, Output, context_of, is_guarded}
 use Rattle.htmd_walk.specs.Elements.{Answer, answer_after, occurrence_at}
@@ -76,7 +76,7 @@ module _ (config : Config) (items : List Item) (joined : Option (List ℕ)) (t :
     (answer_after 0 name (occurrence_at (written_within m (conversion_of config items)) (conversion_of config items) id
     (inside_of items id) (group_children joined (children_at items id))) out.definitions)) where
   pub result_put : (n : ℕ) (p trim whole : Bool) → height (tree_of items id) ≤ n
-      → whole ≡ pre (ancestors_of items id)
+      → whole ≡ in_pre_or_code (ancestors_of items id)
       → with_result (is_guarded config.options) (with_definitions new out) whole r new
       ≡ written_within n (conversion_of config items) (group_tree joined (tree_of items id))
       (context_of (ancestors_of items id) p trim) out

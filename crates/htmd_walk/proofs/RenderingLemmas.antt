@@ -15,7 +15,7 @@ use Rattle.htmd_tree.specs.Ancestors.{ancestor_of, ancestors_of}
 use Rattle.htmd_tree.specs.Serialisation.{comment_of}
 use Rattle.htmd_tree.proofs.NumberedTreesLemmas.{tree-open, lower_below, height_pos, IsLower}
 use Rattle.htmd_walk.specs.Choice.{Config}
-use Rattle.htmd_walk.specs.OrdinaryText.{pre}
+use Rattle.htmd_walk.specs.OrdinaryText.{in_pre_or_code}
 use Rattle.htmd_walk.specs.Groups.{group_tree, group_children, children_at}
 use Rattle.htmd_walk.specs.Outputs.{Conversion, conversion_of, Output, replace_text, push_text, Context, context_of}
 use Rattle.htmd_walk.specs.Outputs.{is_markdown_alone}
@@ -109,12 +109,12 @@ module _ (config : Config) (items : List Item) (joined : Option (List ℕ)) (t :
       → ((m : ℕ) → height (tree_of items id) ≤ suc m
       → a ≡ answer_after 0 name (occurrence_at (written_within m conversion) conversion id (inside_of items id)
       (group_children joined (children_at items id))) out.definitions)
-      → with_answer guarded out (pre (ancestors_of items id)) a
+      → with_answer guarded out (in_pre_or_code (ancestors_of items id)) a
       ≡ there n (context_of (ancestors_of items id) p trim) out
   element_written zero p trim out name attributes a h e k = let q = height_pos (tree_of items id) in
       absurd (omega arith)
   element_written (suc m) p trim out name attributes a h e k =
-      ap (with_answer guarded out (pre (ancestors_of items id)))
+      ap (with_answer guarded out (in_pre_or_code (ancestors_of items id)))
       (k m h ∙ ap (λ c. answer_after 0 name (occurrence_at (written_within m conversion) conversion id
       (ancestor_of c ∷ ancestors_of items id) (group_children joined (children_at items id))) out.definitions) e)
       ∙ sym (level m (element_node name attributes)

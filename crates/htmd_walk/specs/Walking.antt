@@ -20,7 +20,7 @@ use Rattle.htmd_walk.specs.Outputs.{Conversion, conversion_of, Writes, Output}
 use Rattle.htmd_walk.specs.Elements.{Occurrence, Answer, answer_after, occurrence_at, view_at}
 use Rattle.htmd_walk.specs.Rendering.{is_text, written_within, inside_of}
 use Rattle.htmd_walk.specs.OneLineElements.{known_in_line}
-use Rattle.htmd_walk.specs.OrdinaryText.{pre}
+use Rattle.htmd_walk.specs.OrdinaryText.{in_pre_or_code}
 use Rattle.htmd_walk.specs.Code.{language_of_pre}
 use Rattle.htmd_walk.specs.Views.{plan_view, element_view, element_children, optional_result}
 
@@ -38,13 +38,14 @@ pub record IsVisit (o : Options) (items : List Item) (v : Visit) : Type 0 where
   pub group : IfSome v.joined (λ _. IsSome (only_text (children_at items v.node)))
   pub line : v.is_in_line ≡ known_in_line o items v.node
   pub language : option_copied v.pre_language ≡ language_of_pre items (parent_at items v.node)
-  pub context : is_text (data_at items v.node) ≡ false → v.context.preformatted ≡ pre (ancestors_of items v.node)
+  pub context : is_text (data_at items v.node) ≡ false
+      → v.context.preformatted ≡ in_pre_or_code (ancestors_of items v.node)
 
 -- an element of this tree, shown with these options
 pub record IsElementOf (o : Options) (items : List Item) (e : Element) : Type 0 where
   pub tree : e.tree.now ≡ items
   pub options : e.options.now ≡ o
-  pub inside : e.preformatted ≡ pre (inside_of items e.node)
+  pub inside : e.preformatted ≡ in_pre_or_code (inside_of items e.node)
 
 -- the children of a node, or the joined text of the group that begins at it
 abbrev pub shown_children : List Item → Visit → NumberedForest

@@ -11,7 +11,7 @@ ghost use Rattle.htmd_tree.specs.NumberedTrees.{tree_of};
 ghost use Rattle.htmd_tree.specs.Ancestors.{ancestors_of};
 ghost use Rattle.htmd_tree.specs.Views.{pairs_of};
 ghost use Rattle.htmd_walk.specs.Handling.{IsProper, contents_of_each};
-ghost use Rattle.htmd_walk.specs.OrdinaryText.{pre};
+ghost use Rattle.htmd_walk.specs.OrdinaryText.{in_pre_or_code};
 ghost use Rattle.htmd_walk.specs.Groups.{group_tree, children_at};
 ghost use Rattle.htmd_walk.specs.Outputs.{conversion_of, context_of, empty_output, is_guarded};
 ghost use Rattle.htmd_walk.specs.Children.{write_groups, content_alone};
@@ -438,14 +438,14 @@ impl<'a, R: Registry> Walk<'a, R> {
     fn walk_children(
         &self,
         node: NodeId,
-        inside_pre: bool,
+        preformatted: bool,
         inside_line: bool,
         out: &mut HandlerResult,
         links: &mut Links,
     ) -> Result<(), AllocError>
         requires ready { R.ready self.now.registry.now }
         requires within { node < length self.now.tree.now }
-        requires inside { inside_pre ≡ pre (inside_of self.now.tree.now node) }
+        requires inside { preformatted ≡ in_pre_or_code (inside_of self.now.tree.now node) }
         requires line { inside_line ≡ known_in_line_inside (R.config self.now.registry.now).options
             self.now.tree.now node }
         ensures { OnOk result
@@ -453,7 +453,7 @@ impl<'a, R: Registry> Walk<'a, R> {
             (λ write. output_view out.new links.new ≡ write_groups write (inside_of self.now.tree.now node)
             (children_at self.now.tree.now node) (output_view out.old links.old))) }
     {
-        let mut trim = trims_first(self.tree, node, inside_pre);
+        let mut trim = trims_first(self.tree, node, preformatted);
         let mut rest = self.tree.children(node);
         let pre_language = language_inside(self.tree, node);
         while !rest.is_empty() {
@@ -466,10 +466,7 @@ impl<'a, R: Registry> Walk<'a, R> {
             let visit = Visit {
                 node: child,
                 joined: lent(&joined),
-                context: Context {
-                    preformatted: inside_pre,
-                    trim,
-                },
+                context: Context { preformatted, trim },
                 is_in_line: inside_line,
                 pre_language,
             };

@@ -13,7 +13,7 @@ use Rattle.htmd_tree.specs.NumberedTrees.{tree_of, height}
 use Rattle.htmd_tree.specs.Ancestors.{ancestor_of, ancestors_of}
 use Rattle.htmd_tree.proofs.NumberedTreesLemmas.{height_pos}
 use Rattle.htmd_walk.specs.Handling.{ResultView}
-use Rattle.htmd_walk.specs.OrdinaryText.{pre, with_written_text}
+use Rattle.htmd_walk.specs.OrdinaryText.{in_pre_or_code, with_written_text}
 use Rattle.htmd_walk.specs.Outputs.{Output, conversion_of, context_of, empty_output, is_guarded}
 use Rattle.htmd_walk.specs.Children.{content_alone, descendant_tree}
 use Rattle.htmd_walk.specs.Groups.{group_tree, group_children, children_at}
@@ -191,9 +191,9 @@ walk_kept-returns-clause-ok g t c =
     ≡ descendant_tree items (option_copied c.args.element.now.text) c.args.below =
     sym (ap (λ j. descendant_tree items (option_copied j) c.args.below)
     (not_some c.args.element.now.text (sym c.is_some.ensures ∙ c.if-is_some.false))) in
-    let inside : c.alone-visit.result.context.preformatted ≡ pre (ancestors_of items c.args.below) =
+    let inside : c.alone-visit.result.context.preformatted ≡ in_pre_or_code (ancestors_of items c.args.below) =
     here.here.context (ap (λ d. is_text (data_at items d)) here.node ∙ ap is_text is)
-    ∙ ap (λ d. pre (ancestors_of items d)) here.node in
+    ∙ ap (λ d. in_pre_or_code (ancestors_of items d)) here.node in
     IfOk-weaker c.keep.result _ (λ r. AtNode v c.args.below (λ write. output_view r new
     ≡ content_alone write v (descendant_tree items (option_copied c.args.element.now.text) c.args.below) c.args.below
     old)) (λ r p n h. p new

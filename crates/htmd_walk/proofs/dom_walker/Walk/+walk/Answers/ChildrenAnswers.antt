@@ -7,7 +7,7 @@ use Rattle.std.specs.Option.{option_copied}
 use Rattle.std.proofs.lemmas.List.Elements.{All-drop}
 use Rattle.std.proofs.Math.Nat.{mul-le-mul_right}
 use Rattle.htmd_tree.specs.NumberedTrees.{forest_of, tree_of}
-use Rattle.htmd_walk.specs.OrdinaryText.{pre}
+use Rattle.htmd_walk.specs.OrdinaryText.{in_pre_or_code}
 use Rattle.htmd_walk.specs.Groups.{groups_of, group_length, group_text, children_at}
 use Rattle.htmd_walk.specs.Outputs.{conversion_of}
 use Rattle.htmd_walk.specs.Children.{write_children}
@@ -70,7 +70,7 @@ walk_children-walk_node-requires g t c κs within =
             language = c.language_inside-pre_language.ensures
                 ∙ ap (language_of_pre c.args.self.now.tree.now) (sym child.parent);
             context = λ no_text. c.requires.inside
-                ∙ sym (ap pre (inside-child c.args.self.now.tree.now c.args.node c.index-rest-0.result
+                ∙ sym (ap in_pre_or_code (inside-child c.args.self.now.tree.now c.args.node c.index-rest-0.result
                 c.children-rest.ensures.tree child));
           },
         ),
@@ -103,7 +103,7 @@ walk_children-loop-rest-preserved-in_ok-walk_node g t c =
           (c.split_at.ensures.back ∙ ap (λ k. drop k c.loop-rest.rest.now) c.group_length.ensures.value)
           ∙ group_written (g.R.Registry.config c.args.self.now.registry.now) c.args.self.now.tree.now c.args.node
           c.index-rest-0.result c.loop-rest.rest.now n (option_copied c.lent.result) c.is_block-is_block.result
-          c.loop-rest.trim c.args.inside_pre (output_view c.loop-rest.out c.loop-rest.links)
+          c.loop-rest.trim c.args.preformatted (output_view c.loop-rest.out c.loop-rest.links)
           (output_view c.cut_before_child.new.out c.loop-rest.links) c.children-rest.ensures.tree some
           c.index-rest-0.is child c.requires.inside joined c.is_block-is_block.ensures
           (cut_before c.is_block-is_block.result (output_view c.loop-rest.out c.loop-rest.links)
@@ -140,7 +140,7 @@ walk_children-loop-rest-preserved g t c =
           (c.split_at.ensures.back ∙ ap (λ k. drop k c.loop-rest.rest.now) c.group_length.ensures.value)
           ∙ group_written (g.R.Registry.config c.args.self.now.registry.now) c.args.self.now.tree.now c.args.node
           c.index-rest-0.result c.loop-rest.rest.now n (option_copied c.lent.result) c.is_block-is_block.result
-          c.loop-rest.trim c.args.inside_pre (output_view c.loop-rest.out c.loop-rest.links)
+          c.loop-rest.trim c.args.preformatted (output_view c.loop-rest.out c.loop-rest.links)
           (output_view c.cut_before_child.new.out c.loop-rest.links) c.children-rest.ensures.tree some
           c.index-rest-0.is child c.requires.inside joined c.is_block-is_block.ensures
           (cut_before c.is_block-is_block.result (output_view c.loop-rest.out c.loop-rest.links)

@@ -8,7 +8,7 @@ use Rattle.std.specs.Str.{bytes_eq}
 use Rattle.htmd_tree.specs.Items.{Item, element_node, data_at}
 use Rattle.htmd_tree.specs.Ancestors.{ancestor_of, ancestors_of}
 use Rattle.htmd_tree.specs.Views.{pairs_of}
-use Rattle.htmd_walk.specs.OrdinaryText.{pre, parent_is_pre, with_written_text}
+use Rattle.htmd_walk.specs.OrdinaryText.{in_pre_or_code, parent_is_pre, with_written_text}
 use Rattle.htmd_walk.specs.Groups.{only_text, group_children, children_at}
 use Rattle.htmd_walk.specs.Outputs.{Output, conversion_of, is_guarded}
 use Rattle.htmd_walk.specs.Children.{trims_first}
@@ -58,9 +58,9 @@ content-returns-in-Some g t c =
     (string_bytes c.empty_result-out.result.content)) guarded
     ∙ ap (text c.args.element.now.preformatted c.eq.result c.trims_first.result) c.empty_result-out.ensures.content
     ∙ ap (λ p. text p c.eq.result c.trims_first.result []) c.requires.here.inside
-    ∙ ap (λ q. text (pre inside) q c.trims_first.result []) (c.eq.ensures ∙ in_pre)
-    ∙ ap (λ b. text (pre inside) (parent_is_pre inside) b []) c.trims_first.ensures)
-    ∙ ap (put (text (pre inside) (parent_is_pre inside) (trims_first inside) []))
+    ∙ ap (λ q. text (in_pre_or_code inside) q c.trims_first.result []) (c.eq.ensures ∙ in_pre)
+    ∙ ap (λ b. text (in_pre_or_code inside) (parent_is_pre inside) b []) c.trims_first.ensures)
+    ∙ ap (put (text (in_pre_or_code inside) (parent_is_pre inside) (trims_first inside) []))
     c.empty_result-out.ensures.markdown_translated
     ∙ text_inside n v inside (element_children e) c.in-Some.text.now c.args.links.now shows
     (two_levels c.args.self.now.tree.now c.args.self.now.is_tree c.args.element.now.node
@@ -84,11 +84,12 @@ walk_element-returns g t c =
     let tag = c.args.element.now.tag.now in
     let above = ancestors_of c.args.element.now.tree.now c.args.element.now.node in
     let guarded = is_guarded c.args.element.now.options.now in
-    let whole = guarded || pre above in
+    let whole = guarded || in_pre_or_code above in
     let span : is_span tag ≡ true = c.goes_past.ensures.span c.if-not-goes_past.false in
-    let inside : c.args.element.now.preformatted ≡ pre above =
-    c.requires.here.inside ∙ ap (λ (x : List Item). pre (inside_of x c.args.element.now.node)) (sym c.requires.here.tree)
-    ∙ ap (λ x. pre (ancestor_of x ∷ above)) c.args.element.now.is_element
+    let inside : c.args.element.now.preformatted ≡ in_pre_or_code above =
+    c.requires.here.inside
+    ∙ ap (λ (x : List Item). in_pre_or_code (inside_of x c.args.element.now.node)) (sym c.requires.here.tree)
+    ∙ ap (λ x. in_pre_or_code (ancestor_of x ∷ above)) c.args.element.now.is_element
     ∙ span-inside tag (pairs_of c.args.element.now.attrs.now) above span in
     let kept : List ℕ → Bool → Answer = λ s b. record {
       result = Some (record { content = s; markdown_translated = b });
@@ -101,17 +102,17 @@ walk_element-returns g t c =
       | walk_element-then-not-element+then-not-is_guarded w ↦
           (let bare : guarded ≡ false = ap is_guarded (c.requires.here.options ∙ sym w.options.ensures.value)
           ∙ sym w.is_guarded.ensures ∙ w.if-not-is_guarded.true in
-          let outside : pre above ≡ false = sym inside ∙ w.if-not-element.true in
+          let outside : in_pre_or_code above ≡ false = sym inside ∙ w.if-not-element.true in
           ap (λ r. answer_view (Some r) c.content.new.links) w.content-is
           ∙ ap written (w.trim_newlines.ensures
-          ∙ sym (ap (λ b. passed_text true (b || pre above) text) bare
+          ∙ sym (ap (λ b. passed_text true (b || in_pre_or_code above) text) bare
           ∙ ap (λ p. passed_text true p text) outside)))
       | walk_element-else-not-element w ↦ ap (λ r. answer_view (Some r) c.content.new.links) w.content-is
           ∙ ap written (sym (elim w.else-not-element.branch as (λ _. passed_text true whole text ≡ text) [
             | walk_element-else-not-element-via-then-not-element+else-not-is_guarded w' ↦
                 (let held : guarded ≡ true = ap is_guarded (c.requires.here.options ∙ sym w'.options.ensures.value)
                 ∙ sym w'.is_guarded.ensures ∙ w'.if-not-is_guarded.false in
-                ap (λ b. passed_text true (b || pre above) text) held)
+                ap (λ b. passed_text true (b || in_pre_or_code above) text) held)
             | walk_element-else-not-element-via-else-not-element w' ↦
                 ap (λ p. passed_text true (guarded || p) text) (sym inside ∙ w'.if-not-element.false)
                 ∙ whole-text guarded text

@@ -194,7 +194,8 @@ walk_node-returns-in_ok-given-in-Element g t c =
     let given = optional_result c.in_ok-given-in-Element.given in
     let made : (m : ℕ) → height (tree_of items visit.node) ≤ suc m
     → answer_view c.in_ok-given-in-Element.given new ≡ answered m name = λ m k.
-    c.in_ok-given-in-Element.ensures m (subst (λ d. height (tree_of items d) ≤ suc m) (sym c.element-element.ensures.node) k)
+    c.in_ok-given-in-Element.ensures m
+    (subst (λ d. height (tree_of items d) ≤ suc m) (sym c.element-element.ensures.node) k)
     ∙ ap (λ tag. answer_after 0 tag (occurrence_of m v c.element-element.result) old) c.element-element.ensures.tag
     ∙ ap (λ at. answer_after 0 c.as_str-in-Element.result.now at old) (c.element-element.ensures.occurrence m)
     ∙ ap (answered m) c.as_str-in-Element.ensures.value in
