@@ -297,12 +297,12 @@ impl Registry for ElementHandlers {
             return false;
         }
         let tag = name.as_str();
-        let Some(index) = self.find(tag, 0) else {
-            return tag != "span";
-        };
         if tag != "span" {
             return false;
         }
+        let Some(index) = self.find(tag, 0) else {
+            return false;
+        };
         if self.find(tag, 1).is_some() {
             return false;
         }
