@@ -56,7 +56,6 @@ pub use Rattle.htmd_walk.specs.LinkAttributes
 pub use Rattle.htmd_walk.specs.Images
 pub use Rattle.htmd_walk.specs.Anchors
 pub use Rattle.htmd_walk.specs.BuiltIn
-pub use Rattle.htmd_walk.specs.Beginnings
 pub use Rattle.htmd_walk.specs.Views
 pub use Rattle.htmd_walk.specs.RegisteredHandlers
 pub use Rattle.htmd_walk.specs.Registries

@@ -18,7 +18,7 @@ use Rattle.htmd_markdown.specs.GuardedText.{guarded_text, is_guarded_mark, begin
 use Rattle.htmd_tree_laws.specs.TextLaws.{begins_block}
 use Rattle.htmd_markdown.proofs.GuardedBlocksLemmas.{guarded-begins_no_block}
 use Rattle.htmd_walk.specs.OrdinaryText.{without_first_space}
-use Rattle.htmd_walk.specs.Seams.{begins_with_space, ends_with_space, joined_texts, joined_at_seam}
+use Rattle.htmd_walk.specs.Seams.{begins_with_space, ends_with_space, joined_by_white_space, joined_at_seam}
 use Rattle.htmd_walk.specs.Seams.{guarded_at_seam}
 use Rattle.htmd_tree_laws.proofs.Utf8Cuts.{alone}
 use Rattle.htmd_tree_laws.proofs.TextEnds.{Passes, end_parts, end_passes}
@@ -135,7 +135,7 @@ without_space s begins p = record {
     cond_goes s begins = rw begins refl
 
 joined_free : (a b : ℕ) (out content : List ℕ) → IsFree out → IsFree content
-    → IsFree (joined_texts a b out content)
+    → IsFree (joined_by_white_space a b out content)
 joined_free a b out content p q =
     cond_both (((a == 0) && (b == 0)) && (ends_with_space out && begins_with_space content)) _ _ IsFree
     (λ both. free-append out (drop 1 content) p

@@ -15,7 +15,7 @@ use Rattle.htmd_text.specs.WhiteSpace.{is_document_white_space}
 use Rattle.htmd_markdown.specs.GuardedText.{is_guarded}
 use Rattle.htmd_markdown.specs.Joints.{Ends, with_joint}
 use Rattle.htmd_markdown.proofs.UnmendedLemmas.{unmended}
-use Rattle.htmd_walk.specs.Seams.{begins_with_space, ends_with_space, joined_by_line_feeds, joined_texts, joined_at_seam}
+use Rattle.htmd_walk.specs.Seams.{begins_with_space, ends_with_space, joined_by_line_feeds, joined_by_white_space, joined_at_seam}
 use Rattle.htmd_walk.specs.Seams.{guarded_at_seam}
 use Rattle.htmd_tree_laws.proofs.TextEnds.{first_cut, start_stays}
 use Rattle.htmd_tree_laws.proofs.GuardedRuns.{guarded-ending}
@@ -98,7 +98,7 @@ by_lines n out content some line e =
 
 -- if line feeds begin the content
 joined_lines : (a b : ℕ) (out content : List ℕ) → 0 < b → IsLine out → is_guarded content ≡ true
-    → is_guarded (joined_texts a b out content) ≡ true
+    → is_guarded (joined_by_white_space a b out content) ≡ true
 joined_lines a b out content some line e =
     cond_both (((a == 0) && (b == 0)) && (ends_with_space out && begins_with_space content)) _ _
     (λ (l : List ℕ). is_guarded l ≡ true)
@@ -132,7 +132,7 @@ joined_end (suc a) b out content ending front e =
     by_lines (min (suc a + b) (max 2 (suc a))) out content (omega arith) (guarded-line out front) e
 
 joined_guarded : (a b : ℕ) (out content : List ℕ) → a ≡ suffix_len is_line_feed out → is_guarded out ≡ true
-    → is_guarded content ≡ true → is_guarded (joined_texts a b out content) ≡ true
+    → is_guarded content ≡ true → is_guarded (joined_by_white_space a b out content) ≡ true
 joined_guarded a b out content ending front e =
     cond_both (((a == 0) && (b == 0)) && (ends_with_space out && begins_with_space content)) _ _
     (λ (l : List ℕ). is_guarded l ≡ true)

@@ -10,7 +10,7 @@ use Rattle.htmd_tree.specs.Serialisation.{comment_of}
 use Rattle.htmd_walk.specs.Handling.{ElementView, ResultView, PlanView, nothing, this_result, raw_html, content_of_children}
 use Rattle.htmd_walk.specs.Handling.{content_of_descendant, content_of_fallback, contents_of_each, OutcomeView}
 use Rattle.htmd_walk.specs.Handling.{final_result, children_too, HandlerMeaning}
-use Rattle.htmd_walk.specs.OrdinaryText.{pre}
+use Rattle.htmd_walk.specs.OrdinaryText.{in_pre_or_code}
 use Rattle.htmd_walk.specs.Choice.{indexes, handler_at, handlers_at}
 use Rattle.htmd_walk.specs.Groups.{groups_of}
 use Rattle.htmd_walk.specs.Outputs.{Conversion, Output, push_text, Context, context_of, Writes, is_markdown_alone}
@@ -57,9 +57,9 @@ module _ (P : List (List ℕ) → Type 0) where
   keeps-children write g inside none trim out p = p
   keeps-children write g inside (more tree trees) trim out p =
       let before = before_child (is_block_tree tree) out in
-      let after = write tree (context_of inside (pre inside) trim) before in
+      let after = write tree (context_of inside (in_pre_or_code inside) trim) before in
       keeps-children write g inside trees (trim_after (is_block_tree tree) before after trim) after
-      (g tree (context_of inside (pre inside) trim) before (keeps-before (is_block_tree tree) out p))
+      (g tree (context_of inside (in_pre_or_code inside) trim) before (keeps-before (is_block_tree tree) out p))
 
   keeps-groups : (write : Writes) → Keeps write
       → (inside : List Ancestor) (children : NumberedForest) (out : Output)
@@ -152,7 +152,7 @@ module _ (P : List (List ℕ) → Type 0) where
   keeps-node write g conversion keeps (element id name attributes children) context out p =
       let at = occurrence_at write conversion id (record { tag = name; attributes = attributes } ∷ context.ancestors)
       children in
-      subst P (sym (result-definitions (is_guarded conversion.config.options) out (pre context.ancestors)
+      subst P (sym (result-definitions (is_guarded conversion.config.options) out (in_pre_or_code context.ancestors)
       (answer_after 0 name at out.definitions).result _))
       (keeps-answer at g keeps refl 0 name out.definitions p)
 

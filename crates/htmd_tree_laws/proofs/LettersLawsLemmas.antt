@@ -20,7 +20,7 @@ use Rattle.htmd_walk.specs.declared.options.LinkStyle.{LinkStyle}
 use Rattle.htmd_walk.specs.declared.options.LinkStyle.TheVariants.{Inlined, InlinedPreferAutolinks, Referenced}
 use Rattle.htmd_walk.specs.Anchors.{anchors, anchor_address, finish_at, link_finish, guarded_link_finish}
 use Rattle.htmd_tree_laws.proofs.KeepingLemmas.{keeps-within}
-use Rattle.htmd_walk.specs.OrdinaryText.{pre}
+use Rattle.htmd_walk.specs.OrdinaryText.{in_pre_or_code}
 use Rattle.htmd_walk.specs.Groups.{only_text, with_only_text}
 use Rattle.htmd_walk.specs.Groups.{may_join}
 use Rattle.htmd_tree_laws.proofs.SaidChildren.{AllOf, children_are_said, text_is_said}
@@ -180,7 +180,7 @@ module _ (options : Options) (alone : is_markdown_alone options ≡ true)
       let inside : List Ancestor = record { tag = name; attributes = attributes } ∷ context.ancestors in
       let answer = answer_after 0 name (occurrence_at write conversion id inside children) out.definitions in
       let shown = fitting.only_fits (HasTag items) (tag_stays items) children fit.1 in
-      result_is_said out (pre context.ancestors) answer.result answer.definitions l _ p
+      result_is_said out (in_pre_or_code context.ancestors) answer.result answer.definitions l _ p
       (element_is_said options alone style items (λ i. values_in (data_at items i) (plain i)) write (says n) id inside
       children out.definitions shown (whole_fits items plain (only_text children) id shown)
       (λ before. groups_are_said n (within_is_said n) inside children (empty_output before) [] fit.1 says-nil)

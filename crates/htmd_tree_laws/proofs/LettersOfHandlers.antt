@@ -41,7 +41,7 @@ use Rattle.htmd_walk.specs.Emphases.{emphasis_of}
 use Rattle.htmd_walk.specs.ElementPlans.{optional_markdown}
 use Rattle.htmd_walk.specs.Headings.{level_of}
 use Rattle.htmd_walk.specs.Spans.{mark_of_class, formula_mark, span_result}
-use Rattle.htmd_walk.specs.OrdinaryText.{pre}
+use Rattle.htmd_walk.specs.OrdinaryText.{in_pre_or_code}
 use Rattle.htmd_walk.specs.Code.{code, is_code_block, shows_language, language, language_of}
 use Rattle.htmd_walk.specs.Code.{first_language, language_of_class, classes_of}
 use Rattle.htmd_walk.specs.Lists.{lists, is_in_item, list_result}
@@ -333,5 +333,6 @@ says-formula mark s fills text = says-before mark fills (says-behind mark fills 
 pub says-span_result : (law : Law) (view : ElementView) (content : ResultView) (l : List ℕ)
     → Says law content.content l → SaysResult law (span_result view content) l
 says-span_result law view content l p =
-    cond_both (is_guarded view.options || pre (ancestors_of view)) _ _ (λ (t : List ℕ). Says law t l) (λ _. p)
+    cond_both (is_guarded view.options || in_pre_or_code (ancestors_of view)) _ _ (λ (t : List ℕ). Says law t l)
+    (λ _. p)
     (λ _. says-trimmed is_line_feed line_feed_of_white content.content p)

@@ -19,7 +19,7 @@ use Rattle.htmd_markdown.specs.Tables.{row_by, dashes, separator, wider, column_
 use Rattle.htmd_markdown.specs.Tables.{table_of_widths_by, table_by, table}
 use Rattle.htmd_walk.specs.Handling.{ResultView}
 use Rattle.htmd_walk.specs.TableLayouts.{Part, nodes_of}
-use Rattle.htmd_walk.specs.Tables.{TableTexts, no_texts, text_of_cell, with_part, with_parts, in_line}
+use Rattle.htmd_walk.specs.Tables.{TableTexts, no_texts, text_of_cell, with_part, with_parts, with_line_end}
 use Rattle.htmd_walk.specs.Tables.{table_text}
 use Rattle.htmd_walk.specs.TableOrder.{caption_nodes, header_nodes, row_nodes, captions_of, rows_of, last_headers}
 use Rattle.htmd_walk.specs.TableOrder.{nodes_of_table}
@@ -390,8 +390,8 @@ module _ (f : ℕ → List ℕ) where
       ∙ ap (λ z. z ++ all_of rows) (sym (all-append captions headers))
       ∙ sym (all-append (captions ++ headers) rows)
 
-  says-in_line : Keeps of_letters in_line
-  says-in_line s l p = says-before (line_feed ∷ []) refl p
+  says-with_line_end : Keeps of_letters with_line_end
+  says-with_line_end s l p = says-before (line_feed ∷ []) refl p
 
   pub says-table_text : (parts : List Part) (rs : List ResultView) → SayEach of_letters (nodes_of parts) rs
       → Says of_letters (table_text (with_parts no_texts parts rs)) (all_of (nodes_of_table parts))
@@ -400,6 +400,6 @@ module _ (f : ℕ → List ℕ) where
       let all = table_says parts rs e in
       says-is (in_order parts)
       (says-append
-      (says-behind blank_line refl (says-flat in_line says-in_line texts.captions all.in_captions))
-      (says-in_line (table texts.headers texts.rows) _
+      (says-behind blank_line refl (says-flat with_line_end says-with_line_end texts.captions all.in_captions))
+      (says-with_line_end (table texts.headers texts.rows) _
       (says-table normalised_cell says-normalised cell_width texts.headers texts.rows all.in_headers all.in_rows)))

@@ -11,7 +11,7 @@ use Rattle.htmd_text.specs.WhiteSpace.{squeezed_text}
 use Rattle.htmd_tree.specs.NumberedTrees.{NumberedTree, NumberedForest, none}
 use Rattle.htmd_tree.specs.NumberedTrees.{more}
 use Rattle.htmd_tree.specs.Ancestors.{Ancestor}
-use Rattle.htmd_walk.specs.OrdinaryText.{pre, parent_is_pre, without_first_space}
+use Rattle.htmd_walk.specs.OrdinaryText.{in_pre_or_code, parent_is_pre, without_first_space}
 use Rattle.htmd_walk.specs.Seams.{ends_with_space}
 use Rattle.htmd_walk.specs.Outputs.{Output, Context, context_of}
 use Rattle.htmd_walk.specs.Children.{is_block_tree, before_child, trim_after, write_children}
@@ -45,9 +45,9 @@ module _ (law : Law) (write : Writes) (Fits : NumberedTree → Type 0) (says : N
   children_are_said inside (more tree trees) trim out l fit p =
       let block = is_block_tree tree in
       let before = before_child block out in
-      let after = write tree (context_of inside (pre inside) trim) before in
+      let after = write tree (context_of inside (in_pre_or_code inside) trim) before in
       let first : Says law after.text (l ++ says tree) =
-      keeps tree (context_of inside (pre inside) trim) before l fit.0 (before_is_said block out p) in
+      keeps tree (context_of inside (in_pre_or_code inside) trim) before l fit.0 (before_is_said block out p) in
       says-is (append_assoc l (says tree) (said_among says trees))
       (children_are_said inside trees (trim_after block before after trim) after (l ++ says tree) fit.1 first)
 

@@ -21,7 +21,7 @@ use Rattle.htmd_walk.specs.Groups.{only_text, groups_of, children_at, may_join}
 use Rattle.htmd_walk.specs.GuardedTableLayouts.{is_written_as_table, table_lines, nodes_of_lines}
 use Rattle.htmd_walk.specs.Handling.{ResultView}
 use Rattle.htmd_walk.specs.Markdown.{walked_content, walked_node, markdown, append_texts}
-use Rattle.htmd_walk.specs.OrdinaryText.{pre}
+use Rattle.htmd_walk.specs.OrdinaryText.{in_pre_or_code}
 use Rattle.htmd_walk.specs.Outputs.{Conversion, conversion_of, Output, Context, context_of, empty_output, is_guarded}
 use Rattle.htmd_walk.specs.Outputs.{is_markdown_alone}
 use Rattle.htmd_walk.specs.Rendering.{with_result, written_within}
@@ -178,7 +178,7 @@ module _ (options : Options) (alone : is_markdown_alone options ≡ true) (items
       let low : tallest children ≤ n = omega (arith, fit.1) in
       let utf8 = fitting.only_fits LiesHere (lies_still guarded items) children fit.0.1 in
       let lies = fit.0.0 in
-      result_is_shown out (pre context.ancestors) answer.result answer.definitions l _ p
+      result_is_shown out (in_pre_or_code context.ancestors) answer.result answer.definitions l _ p
       (element_shows options alone items (λ i. values_in (data_at items i) (plain i)) write id inside
       children out.definitions utf8 (only_shows options items guarded children)
       (whole_shows id name children (only_text children) refl lies fit.0.1 utf8)

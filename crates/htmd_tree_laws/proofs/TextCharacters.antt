@@ -27,7 +27,7 @@ use Rattle.htmd_walk.specs.Elements.{Occurrence, Answer, content_of, answer_afte
 use Rattle.htmd_walk.specs.Groups.{only_text, with_only_text, with_text, text_of, joint_text, joint_with, joint_of}
 use Rattle.htmd_walk.specs.Groups.{is_joinable, in_front, groups_of, both_join, Joint}
 use Rattle.htmd_walk.specs.Markdown.{walked_node}
-use Rattle.htmd_walk.specs.OrdinaryText.{pre, without_first_space}
+use Rattle.htmd_walk.specs.OrdinaryText.{in_pre_or_code, without_first_space}
 use Rattle.htmd_walk.specs.Outputs.{Conversion, conversion_of, Output, Context, context_of, empty_output, is_guarded}
 use Rattle.htmd_walk.specs.Outputs.{is_markdown_alone}
 use Rattle.htmd_walk.specs.Rendering.{with_result, write_text, write_node, written_within}
@@ -158,7 +158,7 @@ module _ (options : Options) (guarded : is_guarded options ≡ true) (items : Li
   children_hold n holds inside (more tree trees) trim out l fit e p =
       let block = is_block_tree tree in
       let before = before_child block out in
-      let context = context_of inside (pre inside) trim in
+      let context = context_of inside (in_pre_or_code inside) trim in
       let after = written_within n conversion tree context before in
       let fine = fine-before IsWhole IsLine IsUtf8 texts_are_kept block out e in
       let kept =
@@ -214,14 +214,14 @@ module _ (options : Options) (guarded : is_guarded options ≡ true) (items : Li
       (λ wraps.
       let line = fine-line IsWhole IsLine IsUtf8 texts_are_kept (is_block name) out.text fine in
       let inner_line = trimmed-line content.text (texts_are_kept.line content.text inner.whole) in
-      answer_holds (pre context.ancestors) out answer (with_blank_lines cut) content.definitions
+      answer_holds (in_pre_or_code context.ancestors) out answer (with_blank_lines cut) content.definitions
       (wrapped_gives options guarded items write id inside children name attributes out.definitions wraps part.0)
       (seam_holds out.text (with_blank_lines cut)
       (nothing_mended out.text (with_blank_lines cut) (line_feed ∷ []) line (wrapped-guarded cut inner_line)) p
       (says-blank_lines cut (says-trimmed is_line_feed line_feed_of_white content.text held))))
       (λ passes.
       let whole = subst (λ b. IsFineHere b out.text) (passed_is_no_block options name attributes passes) fine in
-      answer_holds (pre context.ancestors) out answer content.text content.definitions
+      answer_holds (in_pre_or_code context.ancestors) out answer content.text content.definitions
       (passed_gives options guarded items write id inside children name attributes out.definitions passes part.0)
       (seam_holds out.text content.text
       (nothing_mended out.text content.text [] (guarded_ended out.text whole) inner.whole) p held))

@@ -19,7 +19,7 @@ use Rattle.htmd_markdown.specs.Joints.{with_joint}
 use Rattle.htmd_walk.specs.declared.options.Options.{Options}
 use Rattle.htmd_walk.specs.Handling.{ResultView}
 use Rattle.htmd_walk.specs.Choice.{Config}
-use Rattle.htmd_walk.specs.OrdinaryText.{pre, without_first_space}
+use Rattle.htmd_walk.specs.OrdinaryText.{in_pre_or_code, without_first_space}
 use Rattle.htmd_walk.specs.Seams.{written_at_seam, guarded_at_seam, ends_with_space}
 use Rattle.htmd_walk.specs.Groups.{groups_of}
 use Rattle.htmd_walk.specs.Outputs.{Conversion, conversion_of, Output, Context, context_of, empty_output, is_guarded}
@@ -116,9 +116,9 @@ module _ (Whole Line Text : List ℕ → Type 0) (kept : IsKeptBy Whole Line Tex
     keeps-children n keeps inside (more tree trees) trim out fit e =
         let block = is_block_tree tree in
         let before = before_child block out in
-        let after = written_within n conversion tree (context_of inside (pre inside) trim) before in
+        let after = written_within n conversion tree (context_of inside (in_pre_or_code inside) trim) before in
         let first : IsKept after before =
-        keeps tree (context_of inside (pre inside) trim) before fit.0 (fine-before block out e) in
+        keeps tree (context_of inside (in_pre_or_code inside) trim) before fit.0 (fine-before block out e) in
         let rest = keeps-children n keeps inside trees (trim_after block before after trim) after fit.1 first.whole in
         record { whole = rest.whole; same = rest.same ∙ first.same ∙ before-definitions block out }
 
@@ -155,13 +155,13 @@ module _ (Whole Line Text : List ℕ → Type 0) (kept : IsKeptBy Whole Line Tex
         let answer = answer_after 0 name at out.definitions in
         let inner = keeps-groups n keeps inside children (empty_output out.definitions) fit kept.start in
         ⊎_elim
-        (λ wraps. keeps-answer (pre context.ancestors) out answer
+        (λ wraps. keeps-answer (in_pre_or_code context.ancestors) out answer
         (with_blank_lines (trimmed_text is_line_feed content.text)) content.definitions
         (wrapped_gives options guarded items write id inside children name attributes out.definitions wraps part.0)
         inner.same
         (kept.wrapped out.text (trimmed_text is_line_feed content.text) (fine-line (is_block name) out.text fine)
         (kept.trimmed content.text (kept.line content.text inner.whole))))
-        (λ passes. keeps-answer (pre context.ancestors) out answer content.text content.definitions
+        (λ passes. keeps-answer (in_pre_or_code context.ancestors) out answer content.text content.definitions
         (passed_gives options guarded items write id inside children name attributes out.definitions passes part.0)
         inner.same
         (kept.handed_on out.text content.text

@@ -1,5 +1,5 @@
--- Definitions only grow, and what is left of them where an element's answer breaks off.
-use Rattle.std.proofs.Common.{◌≡◌, ℕ, zero, suc, ◌+◌, List, [], ◌∷◌, ◌++◌, Option, Some, None, slice_get, drop, refl}
+-- Definitions only grow.
+use Rattle.std.proofs.Common.{◌≡◌, ℕ, zero, suc, List, [], ◌∷◌, ◌++◌, Option, Some, None, drop, refl}
 use Rattle.std.proofs.Common.{sym, ap, ◌∙◌}
 use Rattle.std.proofs.Common.{Bool, true, false, cond}
 use Rattle.std.proofs.lemmas.List.{append_assoc, append-nil}
@@ -9,24 +9,27 @@ use Rattle.htmd_tree.specs.NumberedTrees.{NumberedTree, document, doctype, text,
 use Rattle.htmd_tree.specs.NumberedTrees.{more}
 use Rattle.htmd_tree.specs.Ancestors.{Ancestor}
 use Rattle.htmd_tree.specs.Serialisation.{comment_of}
-use Rattle.htmd_walk.specs.Beginnings.{IsBeginning, Begins}
 use Rattle.htmd_walk.specs.Handling.{ElementView, ResultView, PlanView, nothing, this_result, raw_html, content_of_children}
-use Rattle.htmd_walk.specs.Handling.{content_of_descendant, content_of_fallback, contents_of_each, Finish, HandlerMeaning}
+use Rattle.htmd_walk.specs.Handling.{content_of_descendant, content_of_fallback, contents_of_each, HandlerMeaning}
 use Rattle.htmd_walk.specs.Handling.{OutcomeView, final_result, children_too}
-use Rattle.htmd_walk.specs.OrdinaryText.{pre}
-use Rattle.htmd_walk.specs.Choice.{indexes, handler_at, handlers_at}
+use Rattle.htmd_walk.specs.OrdinaryText.{in_pre_or_code}
+use Rattle.htmd_walk.specs.Choice.{indexes, handlers_at}
 use Rattle.htmd_walk.specs.Groups.{groups_of}
 use Rattle.htmd_walk.specs.Outputs.{Conversion, Output, push_text, Context, context_of, Writes, is_markdown_alone}
 use Rattle.htmd_walk.specs.Outputs.{is_guarded}
 use Rattle.htmd_walk.specs.Children.{is_block_tree, before_child, trim_after, write_children, write_groups, trims_first}
 use Rattle.htmd_walk.specs.Children.{content_alone, descendant_tree}
-use Rattle.htmd_walk.specs.Elements.{Occurrence, Answer, content_of, raw_element, raw_answer, finish_answer, after_fallback}
+use Rattle.htmd_walk.specs.Elements.{Occurrence, Answer, content_of, raw_element, raw_answer, after_fallback}
 use Rattle.htmd_walk.specs.Elements.{Contents}
 use Rattle.htmd_walk.specs.Elements.{contents_alone, outcome_answer, plan_answer, first_answer, answer_after}
 use Rattle.htmd_walk.specs.Elements.{occurrence_at}
 use Rattle.htmd_walk.specs.Elements.{each_answer}
 use Rattle.htmd_walk.specs.Rendering.{with_result, write_node, written_within}
-use Rattle.htmd_walk.proofs.ElementsLemmas.{answer-some}
+
+-- the second list goes on where the first ends
+pub record IsBeginning (old whole : List (List ℕ)) : Type 0 where
+  pub rest : List (List ℕ)
+  pub is : whole ≡ old ++ rest
 
 pub beginning-refl : (a : List (List ℕ)) → IsBeginning a a
 beginning-refl a = record { rest = []; is = sym (append-nil a) }
@@ -40,24 +43,6 @@ beginning-trans {a} {b} {c} p q =
 
 pub beginning-to : {a b c : List (List ℕ)} → IsBeginning a b → b ≡ c → IsBeginning a c
 beginning-to p e = record { rest = p.rest; is = sym e ∙ p.is }
-
--- where the last of three steps broke off, or the first, or one between
-pub begins-wider : {a b c d e : List (List ℕ)} → IsBeginning a b → Begins b c d → IsBeginning d e
-    → Begins a c e
-begins-wider p h q = record { kept = beginning-trans p h.kept; begun = beginning-trans h.begun q }
-
-pub begins-start : {a b : List (List ℕ)} → IsBeginning a b → Begins a a b
-begins-start {a} p = record { kept = beginning-refl a; begun = p }
-
--- all had been added
-pub begins-after : {a b c : List (List ℕ)} → IsBeginning a b → b ≡ c → Begins a b c
-begins-after {a} {b} {c} p e = record { kept = p; begun = beginning-to (beginning-refl b) e }
-
-pub beginning-from : {a b c : List (List ℕ)} → a ≡ b → IsBeginning b c → IsBeginning a c
-beginning-from e p = record { rest = p.rest; is = p.is ∙ ap (λ x. x ++ p.rest) (sym e) }
-
-pub begins-to : {a b c d : List (List ℕ)} → Begins a b c → c ≡ d → Begins a b d
-begins-to h e = record { kept = h.kept; begun = beginning-to h.begun e }
 
 abbrev pub Grows : Writes → Type 0
 Grows write = (tree : NumberedTree) (context : Context) (out : Output)
@@ -87,9 +72,9 @@ pub grows-children : (write : Writes) → Grows write
 grows-children write g inside none trim out = beginning-refl out.definitions
 grows-children write g inside (more tree trees) trim out =
     let before = before_child (is_block_tree tree) out in
-    let after = write tree (context_of inside (pre inside) trim) before in
+    let after = write tree (context_of inside (in_pre_or_code inside) trim) before in
     beginning-trans (grows-before (is_block_tree tree) out)
-    (beginning-trans (g tree (context_of inside (pre inside) trim) before)
+    (beginning-trans (g tree (context_of inside (in_pre_or_code inside) trim) before)
     (grows-children write g inside trees (trim_after (is_block_tree tree) before after trim) after))
 
 pub grows-groups : (write : Writes) → Grows write
@@ -193,7 +178,7 @@ grows-node write g conversion (element id name attributes children) context out 
     let at = occurrence_at write conversion id (record { tag = name; attributes = attributes } ∷ context.ancestors)
     children in
     beginning-to (grows-answer at g 0 name out.definitions)
-    (sym (result-definitions (is_guarded conversion.config.options) out (pre context.ancestors)
+    (sym (result-definitions (is_guarded conversion.config.options) out (in_pre_or_code context.ancestors)
     (answer_after 0 name at out.definitions).result _))
 
 pub grows-within : (n : ℕ) (conversion : Conversion) → Grows (written_within n conversion)
@@ -201,32 +186,3 @@ unfolding written_within
 grows-within zero conversion tree context out = beginning-refl out.definitions
 grows-within (suc n) conversion tree context out = grows-node (written_within n conversion) (grows-within n conversion)
     conversion tree context out
-
--- ---- where an element's answer breaks off
-
-module _ (at : Occurrence) (g : Grows at.write) (tag : List ℕ) (skipped : ℕ) (definitions : List (List ℕ))
-    (index : ℕ)
-    (found : Some index ≡ slice_get (indexes tag at.conversion.config.registered) skipped) where
-  abbrev handler : HandlerMeaning
-  handler = handler_at at.conversion.config.handlers index
-
-  abbrev answer_to : PlanView → Answer
-  answer_to p = plan_answer handler at definitions p (answer_after (skipped + 1) tag at definitions)
-
-  -- while the content was made
-  pub content-broken : (p : PlanView) (content new : List (List ℕ)) → p ≡ handler.plan at.view
-      → IsBeginning content (answer_to p).definitions → Begins definitions new content
-      → Begins definitions new (answer_after skipped tag at definitions).definitions
-  content-broken p content new h k b =
-      begins-wider (beginning-refl definitions) b
-      (beginning-to k (ap (λ (a : Answer). a.definitions)
-      (sym (answer-some tag at skipped definitions index p found h))))
-
-  -- while the handler finished
-  pub finish-broken : (p : PlanView) (before new : List (List ℕ)) (f : Finish) → p ≡ handler.plan at.view
-      → IsBeginning definitions before → finish_answer f before ≡ answer_to p
-      → Begins before new (before ++ f.added)
-      → Begins definitions new (answer_after skipped tag at definitions).definitions
-  finish-broken p before new f h k e b =
-      begins-wider k b (beginning-to (beginning-refl (before ++ f.added))
-      (ap (λ (a : Answer). a.definitions) (e ∙ sym (answer-some tag at skipped definitions index p found h))))

@@ -17,14 +17,12 @@ use Rattle.htmd_tree.proofs.NumberedTreesLemmas.{lower_child}
 use Rattle.htmd_tree.proofs.AncestorsLemmas.{ancestors-open}
 use Rattle.htmd_tree.proofs.ItemsLemmas.{child_read}
 use Rattle.htmd_walk.specs.Choice.{Config}
-use Rattle.htmd_walk.specs.OrdinaryText.{pre}
+use Rattle.htmd_walk.specs.OrdinaryText.{in_pre_or_code}
 use Rattle.htmd_walk.specs.Groups.{group_tree, group_text, group_length, groups_of, with_text, only_text, children_at}
 use Rattle.htmd_walk.specs.Outputs.{conversion_of, Output, context_of}
 use Rattle.htmd_walk.specs.Children.{is_block_tree, before_child, trim_after, write_children}
 use Rattle.htmd_walk.specs.Rendering.{written_within, inside_of}
-use Rattle.htmd_walk.specs.Beginnings.{IsBeginning}
 use Rattle.htmd_walk.proofs.GroupsLemmas.{first_group, group-has_text, children_in}
-use Rattle.htmd_walk.proofs.BeginningsLemmas.{beginning-to, grows-children, grows-within}
 
 -- what holds for a child
 pub record IsChild (items : List Item) (node id : ℕ) : Type 0 where
@@ -96,8 +94,9 @@ is_block-group None t = refl
 is_block-group (Some s) t = is_block-with s t
 
 module _ (config : Config) (items : List Item) (id child : ℕ) (ids : List ℕ) (n : ℕ) (joined : Option (List ℕ))
-    (is_block trim inside_pre : Bool) (out before : Output) (t : IsTree items) (l : 0 < length ids)
-    (at : child ≡ get_or ids 0 child) (c : IsChild items id child) (inside : inside_pre ≡ pre (inside_of items id))
+    (is_block trim preformatted : Bool) (out before : Output) (t : IsTree items) (l : 0 < length ids)
+    (at : child ≡ get_or ids 0 child) (c : IsChild items id child)
+    (inside : preformatted ≡ in_pre_or_code (inside_of items id))
     (group : joined ≡ group_text (tree_of items) (take (group_length (tree_of items) ids) ids))
     (block : is_block ≡ is_block_tree (tree_of items child)) (cut : before ≡ before_child is_block out) where
   abbrev tree : NumberedTree
@@ -116,21 +115,22 @@ module _ (config : Config) (items : List Item) (id child : ℕ) (ids : List ℕ)
 
   -- what is written with the group
   abbrev pub there : Output
-  there = written_within n (conversion_of config items) tree (context_of (ancestors_of items child) inside_pre trim)
+  there = written_within n (conversion_of config items) tree (context_of (ancestors_of items child) preformatted trim)
       before
 
   block-here : is_block ≡ is_block_tree tree
   block-here = block ∙ sym (is_block-group joined (tree_of items child))
 
   here : there ≡ written_within n (conversion_of config items) tree
-      (context_of (inside_of items id) (pre (inside_of items id)) trim) (before_child (is_block_tree tree) out)
+      (context_of (inside_of items id) (in_pre_or_code (inside_of items id)) trim)
+      (before_child (is_block_tree tree) out)
   here =
-      ap (λ a. written_within n (conversion_of config items) tree (context_of a inside_pre trim) before)
+      ap (λ a. written_within n (conversion_of config items) tree (context_of a preformatted trim) before)
       (inside-child items id child t c)
       ∙ ap (λ b. written_within n (conversion_of config items) tree (context_of (inside_of items id) b trim) before)
       inside
       ∙ ap (written_within n (conversion_of config items) tree
-      (context_of (inside_of items id) (pre (inside_of items id)) trim))
+      (context_of (inside_of items id) (in_pre_or_code (inside_of items id)) trim))
       (cut ∙ ap (λ b. before_child b out) block-here)
 
   -- one group more
@@ -148,12 +148,3 @@ module _ (config : Config) (items : List Item) (id child : ℕ) (ids : List ℕ)
       (p ∙ here)
       ∙ sym (ap (λ (f : NumberedForest). write_children (written_within n (conversion_of config items))
       (inside_of items id) f trim out) stands)
-
-  -- what follows a group adds to what is written with it
-  pub group_grows : IsBeginning there.definitions (write_children (written_within n (conversion_of config items))
-      (inside_of items id) (groups_of (forest_of (tree_of items) ids)) trim out).definitions
-  group_grows =
-      let next = trim_after is_block before there trim in
-      beginning-to (grows-children (written_within n (conversion_of config items))
-      (grows-within n (conversion_of config items)) (inside_of items id) behind next there)
-      (ap (λ (o : Output). o.definitions) (group_written there next refl refl))

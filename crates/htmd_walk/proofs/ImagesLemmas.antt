@@ -14,7 +14,8 @@ use Rattle.htmd_walk.proofs.TableHeadersLemmas.{no_children}
 
 image-put : (id : ℕ) (d : Data) (children : NumberedForest)
     → (holds_children d ≡ false → hold_image children ≡ false)
-    → holds_image (with_children id d children) ≡ (is_tag_among (codes "img" ∷ []) (tag_of d) || hold_image children)
+    → holds_image (with_children id d children)
+    ≡ (is_tag_among (codes "img" ∷ []) (tag_of d) || hold_image children)
 image-put id document_node children h = refl
 image-put id doctype_node children h = sym (h refl)
 image-put id (text_node s) children h = sym (h refl)

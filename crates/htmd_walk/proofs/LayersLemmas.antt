@@ -53,7 +53,8 @@ module _ (plan : ElementView → PlanView) (finish : ElementView → ResultView 
 -- A layer over a registry that was given a handler that gives nothing.
 pub put-made : {R H : Type 0} (config : R → Config) (plan : H → ElementView → PlanView)
     (finish : H → ElementView → ResultView → Option ResultView) (rest : R) (n : ℕ) (handler : H)
-    (tags : List (List ℕ)) (old : Config) → config rest ≡ with_handler old tags no_handler → n ≡ length old.handlers
+    (tags : List (List ℕ)) (old : Config) → config rest ≡ with_handler old tags no_handler
+    → n ≡ length old.handlers
     → put_at (config rest) n (plan handler) (finish handler)
     ≡ with_handler old tags (of_functions (plan handler) (finish handler) None)
 put-made config plan finish rest n handler tags old given newest =

@@ -18,7 +18,7 @@ use Rattle.std.specs.Global.{Global}
 use Rattle.std.proofs.Math.Bool.{and-false, and-true}
 use Rattle.htmd_tree.proofs.NumberedTreesLemmas.{tree-open}
 use Rattle.htmd_tree.proofs.AncestorsLemmas.{ancestors-open}
-use Rattle.htmd_walk.specs.OrdinaryText.{is_pre_or_code, pre, parent_is_pre}
+use Rattle.htmd_walk.specs.OrdinaryText.{is_pre_or_code, in_pre_or_code, parent_is_pre}
 use Rattle.htmd_walk.specs.Groups.{only_text, children_at}
 use Rattle.htmd_walk.specs.Children.{is_block_tree, trims_first}
 use Rattle.htmd_walk.specs.Rendering.{is_text, inside_of}
@@ -47,21 +47,22 @@ module _ (items : List Item) (t : IsTree items) where
 
   -- one step up
   pub pre-root : (id : ℕ) → id < length items → parent_at items id ≡ None
-      → pre (ancestors_of items id) ≡ false
-  pre-root id l e = ap pre (ancestors-open items id t l ∙ ap (chain_from (ancestors_of items) items) e)
+      → in_pre_or_code (ancestors_of items id) ≡ false
+  pre-root id l e = ap in_pre_or_code (ancestors-open items id t l ∙ ap (chain_from (ancestors_of items) items) e)
 
   pub pre-up : (id p : ℕ) → id < length items → parent_at items id ≡ Some p
-      → pre (ancestors_of items id) ≡ (is_pre_or_code (ancestor_of (data_at items p)) || pre (ancestors_of items p))
-  pre-up id p l e = ap pre (ancestors-open items id t l ∙ ap (chain_from (ancestors_of items) items) e)
+      → in_pre_or_code (ancestors_of items id)
+      ≡ (is_pre_or_code (ancestor_of (data_at items p)) || in_pre_or_code (ancestors_of items p))
+  pre-up id p l e = ap in_pre_or_code (ancestors-open items id t l ∙ ap (chain_from (ancestors_of items) items) e)
 
   pub pre-hit : (id p : ℕ) → id < length items → parent_at items id ≡ Some p
-      → true ≡ is_pre_or_code (ancestor_of (data_at items p)) → pre (ancestors_of items id) ≡ true
-  pre-hit id p l e b = pre-up id p l e ∙ ap (λ x. x || pre (ancestors_of items p)) (sym b)
+      → true ≡ is_pre_or_code (ancestor_of (data_at items p)) → in_pre_or_code (ancestors_of items id) ≡ true
+  pre-hit id p l e b = pre-up id p l e ∙ ap (λ x. x || in_pre_or_code (ancestors_of items p)) (sym b)
 
   pub pre-miss : (id p : ℕ) → id < length items → parent_at items id ≡ Some p
       → false ≡ is_pre_or_code (ancestor_of (data_at items p))
-      → pre (ancestors_of items id) ≡ pre (ancestors_of items p)
-  pre-miss id p l e b = pre-up id p l e ∙ ap (λ x. x || pre (ancestors_of items p)) (sym b)
+      → in_pre_or_code (ancestors_of items id) ≡ in_pre_or_code (ancestors_of items p)
+  pre-miss id p l e b = pre-up id p l e ∙ ap (λ x. x || in_pre_or_code (ancestors_of items p)) (sym b)
 
   pub parent_pre-root : (id : ℕ) → id < length items → parent_at items id ≡ None
       → parent_is_pre (ancestors_of items id) ≡ false
@@ -161,12 +162,12 @@ not_text (Comment s) h = refl
 not_text (Element name attributes) h = refl
 
 -- the trim flag at the start of a node's content
-pub no_trim : (items : List Item) (id : ℕ) → pre (inside_of items id) ≡ true
+pub no_trim : (items : List Item) (id : ℕ) → in_pre_or_code (inside_of items id) ≡ true
     → trims_first (inside_of items id) ≡ false
 no_trim items id e = ap (λ t. is_block (ancestor_of (data_at items id)).tag && not t) e
     ∙ and-false (is_block (ancestor_of (data_at items id)).tag)
 
-pub trims_by : (items : List Item) (id : ℕ) → pre (inside_of items id) ≡ false
+pub trims_by : (items : List Item) (id : ℕ) → in_pre_or_code (inside_of items id) ≡ false
     → trims_first (inside_of items id) ≡ is_block (ancestor_of (data_at items id)).tag
 trims_by items id e = ap (λ t. is_block (ancestor_of (data_at items id)).tag && not t) e
     ∙ and-true (is_block (ancestor_of (data_at items id)).tag)

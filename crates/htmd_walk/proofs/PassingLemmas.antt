@@ -14,7 +14,7 @@ use Rattle.htmd_walk.specs.Handling.{ElementView, raw_html, content_of_children,
 use Rattle.htmd_walk.specs.Choice.{Config, indexes, handler_at, handlers_at}
 use Rattle.htmd_walk.specs.Markdown.{append_text, append_texts}
 use Rattle.htmd_walk.proofs.ElementsLemmas.{drop_at_some, drop_at_none}
-use Rattle.htmd_walk.specs.OrdinaryText.{pre}
+use Rattle.htmd_walk.specs.OrdinaryText.{in_pre_or_code}
 use Rattle.htmd_walk.specs.Outputs.{Output, is_markdown_alone, is_guarded}
 use Rattle.htmd_walk.specs.ElementPlans.{ancestors_of}
 use Rattle.htmd_walk.specs.Elements.{Occurrence, Answer, content_of, first_answer, answer_after, plan_answer, answer_of}
@@ -28,7 +28,7 @@ passed_text is_span whole s = cond is_span (cond whole s (trimmed_text is_line_f
 
 -- in Guarded and in preformatted text a span's content is kept whole
 abbrev pub is_whole : ElementView → Bool
-is_whole view = is_guarded view.options || pre (ancestors_of view)
+is_whole view = is_guarded view.options || in_pre_or_code (ancestors_of view)
 
 abbrev pub passed_result : Bool → Bool → Output → Answer
 passed_result is_span whole out = record {
@@ -92,8 +92,8 @@ span_tag : (tag : List ℕ) → is_span tag ≡ true → tag ≡ codes "span"
 span_tag tag e = (bytes_eq-Decides tag (codes "span")).0 e
 
 pub span-inside : (tag : List ℕ) (attributes : List AttributePair) (above : List Ancestor) → is_span tag ≡ true
-    → pre (record { tag = tag; attributes = attributes } ∷ above) ≡ pre above
-span-inside tag attributes above e = ap (λ t. pre (record { tag = t; attributes = attributes } ∷ above))
+    → in_pre_or_code (record { tag = tag; attributes = attributes } ∷ above) ≡ in_pre_or_code above
+span-inside tag attributes above e = ap (λ t. in_pre_or_code (record { tag = t; attributes = attributes } ∷ above))
     (span_tag tag e)
 
 -- ---- how the registry finds it out

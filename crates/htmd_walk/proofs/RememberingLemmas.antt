@@ -1,26 +1,24 @@
 -- What is remembered of an element, and what an element gives appended to a text.
-use Rattle.std.proofs.Common.{◌≡◌, ℕ, ◌+◌, ◌<◌, ◌≤◌, Bool, true, suc, List, [], ◌∷◌, ◌++◌, length}
+use Rattle.std.proofs.Common.{◌≡◌, ℕ, ◌+◌, ◌<◌, ◌≤◌, Bool, suc, List, [], ◌∷◌, ◌++◌, length}
 use Rattle.std.proofs.Common.{Option, Some, None, refl, sym, ap, ◌∙◌, arith}
 use Rattle.std.proofs.lemmas.List.{append-nil, length-append}
 use Rattle.htmd_tree.specs.ValueTrees.{AttributePair}
 use Rattle.htmd_tree.specs.Items.{Item, IsTree, element_node, data_at}
 use Rattle.htmd_tree.specs.NumberedTrees.{tree_of, height}
 use Rattle.htmd_tree.specs.Ancestors.{ancestor_of, ancestors_of}
-use Rattle.htmd_walk.specs.declared.options.Options.{Options}
 use Rattle.htmd_walk.specs.Handling.{ResultView}
 use Rattle.htmd_walk.specs.Choice.{Config}
-use Rattle.htmd_walk.specs.OrdinaryText.{pre}
-use Rattle.htmd_walk.specs.Groups.{only_text, group_tree, group_children, children_at}
+use Rattle.htmd_walk.specs.OrdinaryText.{in_pre_or_code}
+use Rattle.htmd_walk.specs.Groups.{group_tree, group_children, children_at}
 use Rattle.htmd_walk.specs.Outputs.{Conversion, conversion_of, Output, context_of, is_guarded}
 use Rattle.htmd_walk.specs.Elements.{Answer, answer_after, occurrence_at}
 use Rattle.htmd_walk.specs.Rendering.{with_result, written_within, inside_of}
-use Rattle.htmd_walk.specs.Beginnings.{IsBeginning, Begins}
+use Rattle.htmd_walk.proofs.BeginningsLemmas.{IsBeginning}
 use Rattle.htmd_walk.specs.Staying.{HandlersStay}
 use Rattle.htmd_walk.specs.Walking.{InNode, answer_at, AlwaysGives}
-use Rattle.htmd_walk.proofs.BeginningsLemmas.{beginning-to, begins-after, grows-answer, grows-within}
+use Rattle.htmd_walk.proofs.BeginningsLemmas.{beginning-to, grows-answer, grows-within}
 use Rattle.htmd_walk.proofs.StayingLemmas.{with_definitions, answer_with, stays-answer, stays-within}
-use Rattle.htmd_walk.proofs.RenderingLemmas.{element_written, element_broken}
-use Rattle.htmd_walk.proofs.WalkingLemmas.{occurrence-same}
+use Rattle.htmd_walk.proofs.RenderingLemmas.{element_written}
 
 no_length : (a : List (List ℕ)) → length a ≡ 0 → a ≡ []
 no_length [] e = refl
@@ -46,32 +44,6 @@ given-always v stay id r old new e given = λ n h definitions.
     let same : new ≡ old = unlengthened (beginning-to (grows-answer at (grows-within n v) 0 tag old) left) e in
     stays-answer at (grows-within n v) (stays-within n v stay) stay 0 tag old definitions (left ∙ same)
     ∙ ap (answer_with definitions) (sym (given n h))
-
--- what the walk shows of an element answers as the element
-pub shown-answer : (v : Conversion) (id : ℕ) (joined shown : Option (List ℕ)) (options : Options) (tag : List ℕ)
-    (n : ℕ) (definitions : List (List ℕ)) → shown ≡ only_text (group_children shown (children_at v.items id))
-    → group_children shown (children_at v.items id) ≡ group_children joined (children_at v.items id)
-    → options ≡ v.config.options
-    → answer_after 0 tag (record {
-      write = written_within n v;
-      conversion = v;
-      view = record {
-        items = v.items;
-        node = id;
-        text = shown;
-        options = options;
-        markdown_translated = true;
-      };
-      inside = inside_of v.items id;
-      children = group_children shown (children_at v.items id);
-    }) definitions
-    ≡ answer_after 0 tag (occurrence_at (written_within n v) v id (inside_of v.items id)
-    (group_children joined (children_at v.items id))) definitions
-shown-answer v id joined shown options tag n definitions shows children o =
-    ap (λ at. answer_after 0 tag at definitions)
-    (occurrence-same (written_within n v) v id (inside_of v.items id) (group_children shown (children_at v.items id))
-    shown options shows o
-    ∙ ap (occurrence_at (written_within n v) v id (inside_of v.items id)) children)
 
 -- what is remembered of an element is what it answers
 pub remembered-answer : (v : Conversion) (id : ℕ) (joined : Option (List ℕ)) (name : List ℕ)
@@ -104,7 +76,7 @@ module _ (config : Config) (items : List Item) (joined : Option (List ℕ)) (t :
     (answer_after 0 name (occurrence_at (written_within m (conversion_of config items)) (conversion_of config items) id
     (inside_of items id) (group_children joined (children_at items id))) out.definitions)) where
   pub result_put : (n : ℕ) (p trim whole : Bool) → height (tree_of items id) ≤ n
-      → whole ≡ pre (ancestors_of items id)
+      → whole ≡ in_pre_or_code (ancestors_of items id)
       → with_result (is_guarded config.options) (with_definitions new out) whole r new
       ≡ written_within n (conversion_of config items) (group_tree joined (tree_of items id))
       (context_of (ancestors_of items id) p trim) out
@@ -113,15 +85,3 @@ module _ (config : Config) (items : List Item) (joined : Option (List ℕ)) (t :
       ∙ ap (λ b. with_result (is_guarded config.options) out b r new) w
       ∙ element_written config items joined t id l n p trim out name attributes
       (record { result = r; definitions = new }) h is made
-
-  pub result_broken : (n : ℕ) (p trim : Bool) → height (tree_of items id) ≤ n
-      → Begins out.definitions new (written_within n (conversion_of config items)
-      (group_tree joined (tree_of items id))
-      (context_of (ancestors_of items id) p trim) out).definitions
-  result_broken n p trim h =
-      element_broken config items joined t id l n p trim out name attributes new h is (λ m k.
-      let kept = ap (λ (a : Answer). a.definitions) (made m k) in
-      begins-after (beginning-to
-      (grows-answer (occurrence_at (written_within m (conversion_of config items)) (conversion_of config items) id
-      (inside_of items id) (group_children joined (children_at items id)))
-      (grows-within m (conversion_of config items)) 0 name out.definitions) (sym kept)) kept)

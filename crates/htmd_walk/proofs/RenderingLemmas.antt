@@ -15,15 +15,13 @@ use Rattle.htmd_tree.specs.Ancestors.{ancestor_of, ancestors_of}
 use Rattle.htmd_tree.specs.Serialisation.{comment_of}
 use Rattle.htmd_tree.proofs.NumberedTreesLemmas.{tree-open, lower_below, height_pos, IsLower}
 use Rattle.htmd_walk.specs.Choice.{Config}
-use Rattle.htmd_walk.specs.OrdinaryText.{pre}
+use Rattle.htmd_walk.specs.OrdinaryText.{in_pre_or_code}
 use Rattle.htmd_walk.specs.Groups.{group_tree, group_children, children_at}
 use Rattle.htmd_walk.specs.Outputs.{Conversion, conversion_of, Output, replace_text, push_text, Context, context_of}
 use Rattle.htmd_walk.specs.Outputs.{is_markdown_alone}
 use Rattle.htmd_walk.specs.Outputs.{is_guarded}
 use Rattle.htmd_walk.specs.Children.{before_child, write_groups}
 use Rattle.htmd_walk.specs.Elements.{Answer, answer_after, occurrence_at}
-use Rattle.htmd_walk.specs.Beginnings.{Begins}
-use Rattle.htmd_walk.proofs.BeginningsLemmas.{begins-to, result-definitions}
 use Rattle.htmd_walk.specs.Rendering.{with_answer, end_of_document, write_text, write_node, written_within, is_text}
 use Rattle.htmd_walk.specs.Rendering.{inside_of}
 
@@ -111,60 +109,18 @@ module _ (config : Config) (items : List Item) (joined : Option (List ℕ)) (t :
       → ((m : ℕ) → height (tree_of items id) ≤ suc m
       → a ≡ answer_after 0 name (occurrence_at (written_within m conversion) conversion id (inside_of items id)
       (group_children joined (children_at items id))) out.definitions)
-      → with_answer guarded out (pre (ancestors_of items id)) a
+      → with_answer guarded out (in_pre_or_code (ancestors_of items id)) a
       ≡ there n (context_of (ancestors_of items id) p trim) out
   element_written zero p trim out name attributes a h e k = let q = height_pos (tree_of items id) in
       absurd (omega arith)
   element_written (suc m) p trim out name attributes a h e k =
-      ap (with_answer guarded out (pre (ancestors_of items id)))
+      ap (with_answer guarded out (in_pre_or_code (ancestors_of items id)))
       (k m h ∙ ap (λ c. answer_after 0 name (occurrence_at (written_within m conversion) conversion id
       (ancestor_of c ∷ ancestors_of items id) (group_children joined (children_at items id))) out.definitions) e)
       ∙ sym (level m (element_node name attributes)
       (element id name attributes (group_children joined (children_at items id)))
       (context_of (ancestors_of items id) p trim) out e
       (group-element joined id name attributes (children_at items id)))
-
-  -- where the children broke off
-  pub document_broken : (n : ℕ) (p trim : Bool) (out : Output) (new : List (List ℕ))
-      → height (tree_of items id) ≤ n
-      → data_at items id ≡ document_node
-      → ((m : ℕ) → height (tree_of items id) ≤ suc m
-      → Begins out.definitions new (write_groups (written_within m conversion) (inside_of items id)
-      (children_at items id) out).definitions)
-      → Begins out.definitions new (there n (context_of (ancestors_of items id) p trim) out).definitions
-  document_broken zero p trim out new h e k = let q = height_pos (tree_of items id) in absurd (omega arith)
-  document_broken (suc m) p trim out new h e k =
-      begins-to (k m h) (ap (λ (o : Output). o.definitions)
-      (ap (λ c. write_groups (written_within m conversion) (ancestor_of c ∷ ancestors_of items id)
-      (children_at items id) out) e)
-      ∙ ap (λ (o : Output). o.definitions)
-      (sym (level m document_node (document id (children_at items id)) (context_of (ancestors_of items id) p trim)
-      out e (group-document joined id (children_at items id)))))
-
-  -- where the element broke off
-  pub element_broken : (n : ℕ) (p trim : Bool) (out : Output) (name : List ℕ) (attributes : List AttributePair)
-      (new : List (List ℕ)) → height (tree_of items id) ≤ n → data_at items id ≡ element_node name attributes
-      → ((m : ℕ) → height (tree_of items id) ≤ suc m
-      → Begins out.definitions new
-      (answer_after 0 name (occurrence_at (written_within m conversion) conversion id (inside_of items id)
-      (group_children joined (children_at items id))) out.definitions).definitions)
-      → Begins out.definitions new (there n (context_of (ancestors_of items id) p trim) out).definitions
-  element_broken zero p trim out name attributes new h e k = let q = height_pos (tree_of items id) in
-      absurd (omega arith)
-  element_broken (suc m) p trim out name attributes new h e k =
-      let answer = answer_after 0 name (occurrence_at (written_within m conversion) conversion id
-      (record { tag = name; attributes = attributes } ∷ ancestors_of items id)
-      (group_children joined (children_at items id))) out.definitions in
-      begins-to (k m h) (ap (λ c.
-      (answer_after 0 name (occurrence_at (written_within m conversion) conversion id
-      (ancestor_of c ∷ ancestors_of items id) (group_children joined (children_at items id)))
-      out.definitions).definitions) e
-      ∙ sym (result-definitions guarded out (pre (ancestors_of items id)) answer.result answer.definitions)
-      ∙ ap (λ (o : Output). o.definitions)
-      (sym (level m (element_node name attributes)
-      (element id name attributes (group_children joined (children_at items id)))
-      (context_of (ancestors_of items id) p trim) out e
-      (group-element joined id name attributes (children_at items id)))))
 
 -- what isn't text is written alike, preformatted or not
 module _ (config : Config) (items : List Item) (t : IsTree items) (id : ℕ) (l : id < length items) where

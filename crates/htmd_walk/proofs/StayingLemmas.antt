@@ -9,11 +9,11 @@ use Rattle.htmd_tree.specs.NumberedTrees.{more}
 use Rattle.htmd_tree.specs.Ancestors.{Ancestor}
 use Rattle.htmd_tree.specs.Serialisation.{comment_of, start_tag}
 use Rattle.htmd_tree.specs.ValueTrees.{AttributePair}
-use Rattle.htmd_walk.specs.Beginnings.{IsBeginning}
+use Rattle.htmd_walk.proofs.BeginningsLemmas.{IsBeginning}
 use Rattle.htmd_walk.specs.Handling.{ElementView, ResultView, PlanView, nothing, this_result, raw_html, content_of_children}
 use Rattle.htmd_walk.specs.Handling.{content_of_descendant, content_of_fallback, contents_of_each, OutcomeView}
 use Rattle.htmd_walk.specs.Handling.{final_result, children_too, Finish, HandlerMeaning}
-use Rattle.htmd_walk.specs.OrdinaryText.{pre}
+use Rattle.htmd_walk.specs.OrdinaryText.{in_pre_or_code}
 use Rattle.htmd_walk.specs.Choice.{indexes, handler_at, handlers_at}
 use Rattle.htmd_walk.specs.Groups.{groups_of}
 use Rattle.htmd_walk.specs.Outputs.{Conversion, Output, push_text, Context, context_of, Writes, is_markdown_alone}
@@ -84,7 +84,7 @@ pub stays-children : (write : Writes) → Grows write → Stays write
 stays-children write g s inside none trim out others e = refl
 stays-children write g s inside (more tree trees) trim out others e =
     let b = is_block_tree tree in
-    let context = context_of inside (pre inside) trim in
+    let context = context_of inside (in_pre_or_code inside) trim in
     let before = before_child b out in
     let after = write tree context before in
     let next = trim_after b before after trim in
@@ -286,10 +286,10 @@ stays-node write g s conversion stay (element id name attributes children) conte
     let guarded = is_guarded conversion.config.options in
     let answer = answer_after 0 name at out.definitions in
     let kept : answer.definitions ≡ out.definitions =
-    sym (result-definitions guarded out (pre context.ancestors) answer.result answer.definitions) ∙ e in
-    ap (with_answer guarded (with_definitions others out) (pre context.ancestors))
+    sym (result-definitions guarded out (in_pre_or_code context.ancestors) answer.result answer.definitions) ∙ e in
+    ap (with_answer guarded (with_definitions others out) (in_pre_or_code context.ancestors))
     (stays-answer at g s stay 0 name out.definitions others kept)
-    ∙ result-with guarded out (pre context.ancestors) answer.result answer.definitions others
+    ∙ result-with guarded out (in_pre_or_code context.ancestors) answer.result answer.definitions others
 
 pub stays-within : (n : ℕ) (conversion : Conversion) → HandlersStay conversion.config
     → Stays (written_within n conversion)

@@ -133,7 +133,8 @@ module _ (items : List Item) (table : ℕ) where
 
 -- what holds for a caption, for headers and for a row holds for each part
 pub each_kind : (P : Part → Type 0) → ((nodes : List ℕ) → P (part Caption nodes))
-    → ((nodes : List ℕ) → P (part Headers nodes)) → ((nodes : List ℕ) → P (part Row nodes)) → (p : Part) → P p
+    → ((nodes : List ℕ) → P (part Headers nodes)) → ((nodes : List ℕ) → P (part Row nodes)) → (p : Part)
+    → P p
 each_kind P caption headers row p = go p.kind p.nodes
   where
     go : (kind : PartKind) (nodes : List ℕ) → P (part kind nodes)

@@ -228,7 +228,8 @@ module _ (items : List Item) where
     is = refl;
   }
 
-  first_of_rows : (in_head : Bool) (nodes : List ℕ) (s : Lines) → is_filled (flat_map (cells_of items) nodes) ≡ true
+  first_of_rows : (in_head : Bool) (nodes : List ℕ) (s : Lines)
+      → is_filled (flat_map (cells_of items) nodes) ≡ true
       → HasRowBehind s.lines (fold (with_row_line items in_head) s nodes).lines
   first_of_rows in_head [] s e = absurd (false≢true e)
   first_of_rows in_head (node ∷ nodes) s e = by (cells_of items node) refl e (first_of_rows in_head nodes s)

@@ -1,32 +1,26 @@
 -- What the walk shows of an element, and the contents of nodes, one after another.
 use Rattle.std.proofs.Common.{◌≡◌, ℕ, zero, suc, ◌+◌, ◌<◌, List, [], ◌∷◌, ◌++◌, length, get_or, drop, Option, Some}
 use Rattle.std.proofs.Common.{None, refl, sym, ap, ◌∙◌, ◌≤◌, arith, subst, IsSome}
-use Rattle.std.proofs.Common.{Bool, true, false, cond, Result, Ok, Err, IfOk, OnErr}
+use Rattle.std.proofs.Common.{Bool, Result, Ok, Err, IfOk}
 use Rattle.std.proofs.lemmas.List.{drop_more, append_assoc}
-use Rattle.htmd_text.specs.Blocks.{is_block}
 use Rattle.htmd_tree.specs.ValueTrees.{AttributePair}
 use Rattle.htmd_tree.specs.Items.{Item, element_node, data_at, IsTree, IsBelow}
 use Rattle.htmd_tree.proofs.NumberedTreesLemmas.{tree-open, height_pos, IsLower}
-use Rattle.htmd_tree.specs.RawBlocks.{raw_block}
 use Rattle.htmd_walk.proofs.RenderingLemmas.{proper_lower}
-use Rattle.htmd_walk.specs.Beginnings.{IsBeginning}
-use Rattle.htmd_walk.proofs.BeginningsLemmas.{Grows, grows-contents, beginning-to}
 use Rattle.std.specs.Option.{is_some}
 use Rattle.htmd_tree.specs.NumberedTrees.{NumberedForest, none, more, document, doctype, text, comment, element}
-use Rattle.htmd_tree.specs.NumberedTrees.{with_children, tree_of, value_tree, height, tallest}
+use Rattle.htmd_tree.specs.NumberedTrees.{with_children, tree_of, height, tallest}
 use Rattle.htmd_tree.specs.Ancestors.{Ancestor}
 use Rattle.htmd_walk.specs.declared.options.Options.{Options}
 use Rattle.htmd_walk.specs.Handling.{ElementView, ResultView, PlanView, content_of_descendant, IsProper}
 use Rattle.htmd_walk.specs.Groups.{only_text, group_children, children_at}
 use Rattle.htmd_walk.specs.Outputs.{Conversion, Output, Writes, result_of, Context, context_of, empty_output}
 use Rattle.htmd_walk.specs.Outputs.{is_guarded}
-use Rattle.htmd_walk.specs.OrdinaryText.{pre}
+use Rattle.htmd_walk.specs.OrdinaryText.{in_pre_or_code}
 use Rattle.htmd_walk.specs.Rendering.{write_text, written_within}
 use Rattle.htmd_walk.specs.Children.{content_inside, content_alone, descendant_tree, trims_first}
-use Rattle.htmd_walk.specs.Elements.{Occurrence, occurrence_at, Answer, Contents, contents_alone, raw_answer, raw_element}
-use Rattle.htmd_walk.specs.Elements.{raw_result}
-use Rattle.htmd_walk.specs.Elements.{content_of, end_of_element, view_at}
-use Rattle.htmd_tree.specs.Serialisation.{serialisation, start_tag}
+use Rattle.htmd_walk.specs.Elements.{Occurrence, Answer, Contents, contents_alone}
+use Rattle.htmd_walk.specs.Elements.{view_at}
 use Rattle.htmd_walk.specs.declared.element_handler.Element.{Element}
 use Rattle.htmd_walk.specs.Walking.{AtElement}
 
@@ -49,18 +43,6 @@ contents_more at ids k d results out definitions l e h =
     ∙ ap (λ (o : Output). following results
     (record { results = result_of o ∷ (rest o).results; definitions = (rest o).definitions })) h
     ∙ sym (ap (λ xs. following results (contents_alone at xs definitions)) one)
-
--- what follows a node adds to what it leaves
-pub contents_first : (at : Occurrence) → Grows at.write
-    → (ids : List ℕ) (k d : ℕ) (definitions : List (List ℕ))
-    → k < length ids → d ≡ get_or ids k d
-    → IsBeginning (content_alone at.write at.conversion (descendant_tree at.conversion.items at.view.text d) d
-    definitions).definitions (contents_alone at (drop k ids) definitions).definitions
-contents_first at g ids k d definitions l e =
-    let one : drop k ids ≡ d ∷ drop (k + 1) ids =
-    drop_more ids k d l ∙ ap (λ x. x ∷ drop (k + 1) ids) (sym e) in
-    beginning-to (grows-contents at g (drop (k + 1) ids) _) (ap (λ xs. (contents_alone at xs definitions).definitions)
-    (sym one))
 
 pub none_of : {A : Type 0} (o : Option A) → ((x : A) → o ≡ Some x → ⊥) → o ≡ None
 none_of None h = refl
@@ -108,21 +90,6 @@ shown-same write conversion id inside children shown options markdown_translated
     } in
     ap (λ s. put (view s options)) e ∙ ap (λ x. put (view (only_text children) x)) o
 
--- the same, if all before it is Markdown
-pub occurrence-same : (write : Writes) (conversion : Conversion) (id : ℕ) (inside : List Ancestor)
-    (children : NumberedForest) (shown : Option (List ℕ)) (options : Options) → shown ≡ only_text children
-    → options ≡ conversion.config.options
-    → ◌≡◌ {A = Occurrence} (record {
-      write = write;
-      conversion = conversion;
-      view =
-          record { items = conversion.items; node = id; text = shown; options = options; markdown_translated = true };
-      inside = inside;
-      children = children;
-    }) (occurrence_at write conversion id inside children)
-occurrence-same write conversion id inside children shown options e o =
-    shown-same write conversion id inside children shown options true e o
-
 -- ---- answers of every count of levels that suffices
 
 pub at-ok : {T E : Type 0} (view : T → Answer) (conversion : Conversion) (e : Element) (P Q : Occurrence → Answer)
@@ -137,22 +104,6 @@ pub now-ok : {T E : Type 0} (view : T → Answer) (conversion : Conversion) (e :
     → IfOk r (λ x. AtElement conversion e (λ at. view x ≡ Q at))
 now-ok view conversion e a Q (Ok x) k h = λ n l. h ∙ k n l
 now-ok view conversion e a Q (Err x) k h = tt
-
-pub at-err : {T E : Type 0} (conversion : Conversion) (e : Element) (P Q : Occurrence → Type 0) (r : Result T E)
-    → AtElement conversion e (λ at. P at → Q at) → OnErr r (AtElement conversion e P)
-    → OnErr r (AtElement conversion e Q)
-at-err conversion e P Q (Ok x) k h = tt
-at-err conversion e P Q (Err x) k h = λ n l. k n l (h n l)
-
-pub now-err : {T E : Type 0} (conversion : Conversion) (e : Element) (P : Type 0) (Q : Occurrence → Type 0)
-    (r : Result T E) → AtElement conversion e (λ at. P → Q at) → OnErr r P → OnErr r (AtElement conversion e Q)
-now-err conversion e P Q (Ok x) k h = tt
-now-err conversion e P Q (Err x) k h = λ n l. k n l h
-
-pub exit-err : {T E : Type 0} (conversion : Conversion) (e : Element) (Q : Occurrence → Type 0) (r : Result T E)
-    → AtElement conversion e Q → OnErr r (AtElement conversion e Q)
-exit-err conversion e Q (Ok x) h = tt
-exit-err conversion e Q (Err x) h = h
 
 -- ---- what an element shows
 
@@ -179,7 +130,8 @@ two_levels items t id l name attributes joined s n e h k =
 pub text_inside : (n : ℕ) (conversion : Conversion) (inside : List Ancestor) (children : NumberedForest)
     (s : List ℕ)
     (definitions : List (List ℕ)) → Some s ≡ only_text children → 1 ≤ n
-    → write_text (is_guarded conversion.config.options) s (context_of inside (pre inside) (trims_first inside))
+    → write_text (is_guarded conversion.config.options) s
+    (context_of inside (in_pre_or_code inside) (trims_first inside))
     (empty_output definitions) ≡ content_inside (written_within n conversion) inside children definitions
 unfolding written_within
 text_inside zero conversion inside children s definitions e l = absurd (omega arith)
@@ -189,7 +141,7 @@ text_inside (suc n) conversion inside (more (doctype i) ts) s definitions e l = 
 text_inside (suc n) conversion inside (more (text i t) none) s definitions e l =
     let same : s ≡ t = cc in
     ap (λ x. write_text (is_guarded conversion.config.options) x
-    (context_of inside (pre inside) (trims_first inside)) (empty_output definitions)) same
+    (context_of inside (in_pre_or_code inside) (trims_first inside)) (empty_output definitions)) same
 text_inside (suc n) conversion inside (more (text i t) (more u us)) s definitions e l = cc
 text_inside (suc n) conversion inside (more (comment i t) ts) s definitions e l = cc
 text_inside (suc n) conversion inside (more (element i m a c) ts) s definitions e l = cc
@@ -214,24 +166,3 @@ pub asked_lower : (items tree : List Item) (node d : ℕ) (p : PlanView) → IsT
     → node < length tree → IsProper tree node p → p ≡ content_of_descendant d → IsLower items node d
 asked_lower items tree node d p t e l h q =
     below_lower items tree node d t e l (subst (λ (x : PlanView). IsProper tree node x) q h)
-
--- raw HTML of an element that isn't a block element, and of one that is
-pub raw_inline : (at : Occurrence) (name : List ℕ) (attributes : List AttributePair) (definitions : List (List ℕ))
-    → data_at at.conversion.items at.view.node ≡ element_node name attributes → is_block name ≡ false
-    → ◌≡◌ {A = Answer} (record {
-      result =
-          Some (raw_result ((start_tag name attributes ++ (content_of at definitions).text) ++ end_of_element name));
-      definitions = (content_of at definitions).definitions;
-    }) (raw_answer at definitions)
-raw_inline at name attributes definitions e b =
-    sym (ap (λ c. raw_element at c definitions) e
-    ∙ ap (λ x. cond x (record {
-      result =
-          Some (raw_result (raw_block (serialisation (value_tree (tree_of at.conversion.items at.view.node)))));
-      definitions = definitions;
-    })
-    (record {
-      result = Some (raw_result ((start_tag name attributes ++ (content_of at definitions).text)
-          ++ end_of_element name));
-      definitions = (content_of at definitions).definitions;
-    })) b)

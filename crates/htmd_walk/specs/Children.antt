@@ -7,7 +7,7 @@ use Rattle.htmd_tree.specs.Items.{Item}
 use Rattle.htmd_tree.specs.NumberedTrees.{NumberedTree, document, doctype, text, comment, element, tree_of}
 use Rattle.htmd_tree.specs.NumberedTrees.{NumberedForest, none, more}
 use Rattle.htmd_tree.specs.Ancestors.{Ancestor, ancestors_of}
-use Rattle.htmd_walk.specs.OrdinaryText.{pre}
+use Rattle.htmd_walk.specs.OrdinaryText.{in_pre_or_code}
 use Rattle.htmd_walk.specs.Groups.{groups_of}
 use Rattle.htmd_walk.specs.Outputs.{Conversion, Output, replace_text, empty_output, context_of, Writes}
 
@@ -30,14 +30,14 @@ abbrev pub write_children : Writes → List Ancestor → NumberedForest → Bool
 write_children write inside none trim out = out
 write_children write inside (more tree trees) trim out =
     let before = before_child (is_block_tree tree) out in
-    let after = write tree (context_of inside (pre inside) trim) before in
+    let after = write tree (context_of inside (in_pre_or_code inside) trim) before in
     write_children write inside trees (trim_after (is_block_tree tree) before after trim) after
 
 -- The space at the start of a block element's content is dropped, unless it is preformatted. The
 -- Document's tag is html, the name of a block element.
 abbrev pub trims_first : List Ancestor → Bool
 trims_first [] = false
-trims_first (a ∷ above) = is_block a.tag && not (pre (a ∷ above))
+trims_first (a ∷ above) = is_block a.tag && not (in_pre_or_code (a ∷ above))
 
 -- the children of a node, in groups, after what is written so far
 abbrev pub write_groups : Writes → List Ancestor → NumberedForest → Output → Output

@@ -57,7 +57,6 @@ pub mod LinkAttributes
 pub mod Images
 pub mod Anchors
 pub mod BuiltIn
-pub mod Beginnings
 pub mod Views
 pub mod RegisteredHandlers
 pub mod Registries

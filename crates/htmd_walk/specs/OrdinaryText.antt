@@ -13,8 +13,8 @@ abbrev pub is_pre_or_code : Ancestor → Bool
 is_pre_or_code a = bytes_eq a.tag (codes "pre") || bytes_eq a.tag (codes "code")
 
 -- some ancestor is `pre` or `code`
-abbrev pub pre : List Ancestor → Bool
-pre above = list_any is_pre_or_code above
+abbrev pub in_pre_or_code : List Ancestor → Bool
+in_pre_or_code above = list_any is_pre_or_code above
 
 -- the parent is `pre`
 abbrev pub parent_is_pre : List Ancestor → Bool

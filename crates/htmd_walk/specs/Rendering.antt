@@ -10,7 +10,7 @@ use Rattle.htmd_tree.specs.Ancestors.{Ancestor, ancestor_of, ancestors_of}
 use Rattle.htmd_tree.specs.Serialisation.{comment_of}
 use Rattle.htmd_walk.specs.Handling.{ResultView}
 use Rattle.htmd_walk.specs.Seams.{written_at_seam}
-use Rattle.htmd_walk.specs.OrdinaryText.{pre, parent_is_pre, with_written_text}
+use Rattle.htmd_walk.specs.OrdinaryText.{in_pre_or_code, parent_is_pre, with_written_text}
 use Rattle.htmd_walk.specs.Outputs.{Conversion, Output, push_text, replace_text, Context, Writes, is_markdown_alone, is_guarded}
 use Rattle.htmd_walk.specs.Children.{write_groups}
 use Rattle.htmd_walk.specs.Elements.{Answer, answer_after, occurrence_at}
@@ -54,7 +54,7 @@ write_node write conversion (comment id s) context out =
     if is_markdown_alone conversion.config.options then out else push_text out (comment_of s)
 write_node write conversion (element id name attributes children) context out =
     let inside = record { tag = name; attributes = attributes } ∷ context.ancestors in
-    with_answer (is_guarded conversion.config.options) out (pre context.ancestors)
+    with_answer (is_guarded conversion.config.options) out (in_pre_or_code context.ancestors)
     (answer_after 0 name (occurrence_at write conversion id inside children) out.definitions)
 
 -- down through this many levels

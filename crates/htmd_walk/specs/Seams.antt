@@ -20,8 +20,8 @@ joined_by_line_feeds a b out content = (trimmed_end is_line_feed out ++ replicat
     ++ trimmed_start is_line_feed content
 
 -- if there is no line feed at the seam, one of two spaces goes
-abbrev pub joined_texts : ℕ → ℕ → List ℕ → List ℕ → List ℕ
-joined_texts a b out content =
+abbrev pub joined_by_white_space : ℕ → ℕ → List ℕ → List ℕ → List ℕ
+joined_by_white_space a b out content =
     if ((a == 0) && (b == 0)) && (ends_with_space out && begins_with_space content)
     then out ++ drop 1 content
     else joined_by_line_feeds a b out content
@@ -31,7 +31,7 @@ abbrev pub joined_at_seam : List ℕ → List ℕ → Bool → List ℕ
 joined_at_seam out content whole =
     if whole || (length out == 0)
     then out ++ content
-    else joined_texts (suffix_len is_line_feed out) (prefix_len is_line_feed content) out content
+    else joined_by_white_space (suffix_len is_line_feed out) (prefix_len is_line_feed content) out content
 
 -- content after a text in Guarded: mended where they meet, and never whole, since no text is preformatted there
 abbrev pub guarded_at_seam : List ℕ → List ℕ → List ℕ

@@ -7,7 +7,7 @@ use Rattle.htmd_text.specs.Characters.{is_one_of}
 use Rattle.htmd_text.specs.Trims.{trimmed_text, is_line_feed}
 use Rattle.htmd_tree.specs.ValueTrees.{AttributePair}
 use Rattle.htmd_walk.specs.Handling.{ElementView, ResultView, PlanView, content_of_children, HandlerMeaning, of_plan}
-use Rattle.htmd_walk.specs.OrdinaryText.{pre}
+use Rattle.htmd_walk.specs.OrdinaryText.{in_pre_or_code}
 use Rattle.htmd_walk.specs.ElementPlans.{attributes_of, ancestors_of, unless_faithful, markdown_plan}
 use Rattle.htmd_walk.specs.Outputs.{is_guarded}
 
@@ -47,7 +47,7 @@ formula_plan view (Some mark) (Some text) =
 abbrev pub span_result : ElementView → ResultView → Option ResultView
 span_result view content = Some (record {
   content =
-      if is_guarded view.options || pre (ancestors_of view) then content.content
+      if is_guarded view.options || in_pre_or_code (ancestors_of view) then content.content
       else trimmed_text is_line_feed content.content;
   markdown_translated = content.markdown_translated;
 })

@@ -111,10 +111,10 @@ with_parts texts (p ∷ parts) contents =
     with_parts (with_part texts p.kind (take (length p.nodes) contents)) parts (drop (length p.nodes) contents)
 
 -- a text and a line end
-abbrev pub in_line : List ℕ → List ℕ
-in_line s = s ++ line_feed ∷ []
+abbrev pub with_line_end : List ℕ → List ℕ
+with_line_end s = s ++ line_feed ∷ []
 
 -- each caption in a line of its own, before the headers and rows
 abbrev pub table_text : TableTexts → List ℕ
 table_text texts =
-    (blank_line ++ flat_map in_line texts.captions) ++ in_line (table texts.headers texts.rows)
+    (blank_line ++ flat_map with_line_end texts.captions) ++ with_line_end (table texts.headers texts.rows)

@@ -23,7 +23,8 @@ thematic_break_style_of view =
 -- in one line a block with nothing in it
 abbrev pub thematic_break_plan : ElementView → PlanView
 thematic_break_plan view =
-    if is_in_line view then markdown_plan (with_blank_lines []) else text_plan (thematic_break (thematic_break_style_of view)) view
+    if is_in_line view then markdown_plan (with_blank_lines [])
+    else text_plan (thematic_break (thematic_break_style_of view)) view
 
 abbrev pub thematic_breaks : HandlerMeaning
 thematic_breaks = of_plan thematic_break_plan (λ view content. None)

@@ -1,22 +1,27 @@
 -- The definitions that only private clauses use: what the walk refers to on its way.
-use Rattle.std.specs.Prelude.{◌≡◌, ℕ, suc, ◌≤◌, List, Option, Result, All, IfOk, OnErr}
-use Rattle.htmd_tree.specs.Items.{Item, data_at}
-use Rattle.htmd_tree.specs.NumberedTrees.{tree_of, height}
-use Rattle.htmd_tree.specs.Ancestors.{ancestor_of}
+use Rattle.std.specs.Prelude.{◌≡◌, ℕ, suc, ◌≤◌, ◌<◌, Bool, false, List, Option, Result, All, IfOk, IfSome, IsSome, length}
+use Rattle.std.specs.Option.{option_copied}
+use Rattle.htmd_tree.specs.Items.{Item, data_at, parent_at}
+use Rattle.htmd_tree.specs.NumberedTrees.{NumberedForest, tree_of, height}
+use Rattle.htmd_tree.specs.Ancestors.{ancestor_of, ancestors_of}
 use Rattle.htmd_walk.specs.declared.dom_walker.Remembered.{Remembered}
+use Rattle.htmd_walk.specs.declared.dom_walker.visit.Visit.{Visit}
 use Rattle.htmd_walk.specs.declared.element_handler.Element.{Element}
+use Rattle.htmd_walk.specs.declared.options.Options.{Options}
 use Rattle.htmd_walk.specs.declared.element_handler.registry.Request.{Request}
 use Rattle.htmd_walk.specs.declared.element_handler.registry.Request.TheVariants.{OfPlan, Each}
 use Rattle.htmd_walk.specs.declared.element_handler.registry.Outcome.{Outcome}
 use Rattle.htmd_walk.specs.declared.element_handler.registry.Outcome.TheVariants.{Final, ChildrenToo}
 use Rattle.htmd_walk.specs.Handling.{ResultView, PlanView, contents_of_each, OutcomeView, final_result, children_too}
-use Rattle.htmd_walk.specs.Groups.{children_at}
+use Rattle.htmd_walk.specs.Groups.{only_text, group_children, children_at}
 use Rattle.htmd_walk.specs.Children.{content_alone, descendant_tree}
 use Rattle.htmd_walk.specs.Choice.{Config}
 use Rattle.htmd_walk.specs.Outputs.{Conversion, conversion_of, Writes, Output}
-use Rattle.htmd_walk.specs.Elements.{Occurrence, Answer, answer_after, occurrence_at}
-use Rattle.htmd_walk.specs.Rendering.{written_within, inside_of}
-use Rattle.htmd_walk.specs.Beginnings.{Begins}
+use Rattle.htmd_walk.specs.Elements.{Occurrence, Answer, answer_after, occurrence_at, view_at}
+use Rattle.htmd_walk.specs.Rendering.{is_text, written_within, inside_of}
+use Rattle.htmd_walk.specs.OneLineElements.{known_in_line}
+use Rattle.htmd_walk.specs.OrdinaryText.{in_pre_or_code}
+use Rattle.htmd_walk.specs.Code.{language_of_pre}
 use Rattle.htmd_walk.specs.Views.{plan_view, element_view, element_children, optional_result}
 
 abbrev pub request_view : Request → PlanView
@@ -26,6 +31,35 @@ request_view (Each nodes may_ask_children) = contents_of_each nodes.items
 abbrev pub outcome_view : Outcome → OutcomeView
 outcome_view (Final result) = final_result (optional_result result)
 outcome_view ChildrenToo = children_too
+
+-- what the walk knows of where a node stands is so
+pub record IsVisit (o : Options) (items : List Item) (v : Visit) : Type 0 where
+  pub within : v.node < length items
+  pub group : IfSome v.joined (λ _. IsSome (only_text (children_at items v.node)))
+  pub line : v.is_in_line ≡ known_in_line o items v.node
+  pub language : option_copied v.pre_language ≡ language_of_pre items (parent_at items v.node)
+  pub context : is_text (data_at items v.node) ≡ false
+      → v.context.preformatted ≡ in_pre_or_code (ancestors_of items v.node)
+
+-- an element of this tree, shown with these options
+pub record IsElementOf (o : Options) (items : List Item) (e : Element) : Type 0 where
+  pub tree : e.tree.now ≡ items
+  pub options : e.options.now ≡ o
+  pub inside : e.preformatted ≡ in_pre_or_code (inside_of items e.node)
+
+-- the children of a node, or the joined text of the group that begins at it
+abbrev pub shown_children : List Item → Visit → NumberedForest
+shown_children items v = group_children (option_copied v.joined) (children_at items v.node)
+
+-- an element where it stands in the tree, with these children
+abbrev pub shown_occurrence : ℕ → Conversion → ℕ → Bool → NumberedForest → Occurrence
+shown_occurrence n conversion id markdown_translated children = record {
+  write = written_within n conversion;
+  conversion = conversion;
+  view = view_at conversion id markdown_translated children;
+  inside = inside_of conversion.items id;
+  children = children;
+}
 
 -- an element as the walk comes to it
 abbrev pub occurrence_of : ℕ → Conversion → Element → Occurrence
@@ -57,22 +91,11 @@ abbrev pub ElementGives : {A B E : Type 0} → Config → List Item → Element 
 ElementGives config items e wanted seen result =
     IfOk result (λ r. AtElement (conversion_of config items) e (λ at. seen r ≡ wanted at))
 
--- where it stops, the definitions are the old ones and a beginning of what would have been added
-abbrev pub ElementBegins : {A E : Type 0} → Config → List Item → Element → (Occurrence → List (List ℕ))
-    → List (List ℕ) → List (List ℕ) → Result A E → Type 0
-ElementBegins config items e wanted old new result =
-    OnErr result (AtElement (conversion_of config items) e (λ at. Begins old new (wanted at)))
-
 -- the same, for a node
 abbrev pub NodeGives : {A B E : Type 0} → Config → List Item → ℕ → (Writes → B) → (A → B) → Result A E
     → Type 0
 NodeGives config items id wanted seen result =
     IfOk result (λ r. AtNode (conversion_of config items) id (λ write. seen r ≡ wanted write))
-
-abbrev pub NodeBegins : {A E : Type 0} → Config → List Item → ℕ → (Writes → List (List ℕ))
-    → List (List ℕ) → List (List ℕ) → Result A E → Type 0
-NodeBegins config items id wanted old new result =
-    OnErr result (AtNode (conversion_of config items) id (λ write. Begins old new (wanted write)))
 
 -- the content of a node that an element hands over, after these definitions
 abbrev pub content_below : Config → List Item → Option (List ℕ) → ℕ → List (List ℕ) → Writes → Output

@@ -1,28 +1,32 @@
 //! The walk over a tree.
 
 mod results;
+mod visit;
 
-ghost use Rattle.std.specs.Prelude.{◌≡◌, ◌<◌, ℕ, List, None, false, IfOk, IfSome, IsSome, IsTrue, OnOk, OnErr};
+ghost use Rattle.std.specs.Prelude.{◌≡◌, ◌<◌, ℕ, List, None, true, false, IfOk, IfSome, IsTrue, OnOk};
 ghost use Rattle.std.specs.Prelude.{length, string_bytes};
 ghost use Rattle.std.specs.Option.{option_copied};
-ghost use Rattle.htmd_tree.specs.Items.{data_at, parent_at, IsTree};
+ghost use Rattle.htmd_tree.specs.Items.{data_at, element_node, IsTree};
 ghost use Rattle.htmd_tree.specs.NumberedTrees.{tree_of};
 ghost use Rattle.htmd_tree.specs.Ancestors.{ancestors_of};
+ghost use Rattle.htmd_tree.specs.Views.{pairs_of};
 ghost use Rattle.htmd_walk.specs.Handling.{IsProper, contents_of_each};
-ghost use Rattle.htmd_walk.specs.OrdinaryText.{pre};
-ghost use Rattle.htmd_walk.specs.Groups.{only_text, group_tree, children_at};
+ghost use Rattle.htmd_walk.specs.OrdinaryText.{in_pre_or_code};
+ghost use Rattle.htmd_walk.specs.Groups.{group_tree, children_at};
 ghost use Rattle.htmd_walk.specs.Outputs.{conversion_of, context_of, empty_output, is_guarded};
 ghost use Rattle.htmd_walk.specs.Children.{write_groups, content_alone};
 ghost use Rattle.htmd_walk.specs.Elements.{content_of, contents_alone, answer_after, raw_answer};
+ghost use Rattle.htmd_walk.specs.Passing.{IsPassed};
+ghost use Rattle.htmd_walk.specs.Spans.{is_span};
 ghost use Rattle.htmd_walk.specs.Rendering.{is_text, inside_of, with_result};
 ghost use Rattle.htmd_walk.specs.Markdown.{markdown};
+ghost use Rattle.htmd_walk.specs.Staying.{HandlersStay};
 ghost use Rattle.htmd_walk.specs.HandlerAnswers.{IsElement, handled};
-ghost use Rattle.htmd_walk.specs.Beginnings.{Begins};
 ghost use Rattle.htmd_walk.specs.Views.{optional_result, output_view, answer_view, contents_view};
-ghost use Rattle.htmd_walk.specs.Walking.{AtNode, InNode, ElementGives, ElementBegins, NodeGives, NodeBegins};
+ghost use Rattle.htmd_walk.specs.Walking.{IsVisit, IsElementOf, shown_children, shown_occurrence, occurrence_of};
+ghost use Rattle.htmd_walk.specs.Walking.{AtNode, InNode, ElementGives, NodeGives};
 ghost use Rattle.htmd_walk.specs.Walking.{AlwaysGives, AreRemembered, content_below};
 ghost use Rattle.htmd_walk.specs.OneLineElements.{known_in_line, known_in_line_inside};
-ghost use Rattle.htmd_walk.specs.Code.{language_of_pre};
 
 use crate::element_handler::code::{language_above, language_inside};
 use crate::element_handler::plans::{is_guarded, is_markdown_alone};
@@ -31,19 +35,20 @@ use crate::element_handler::{Element, HandlerResult, Links, Plan};
 use crate::group::{group_length, joined_text};
 use crate::line::{is_in_one_line, is_known_in_line};
 use crate::node_util::{
-    is_block, is_inside_pre, is_parent_pre, is_pre_or_code, is_text, trims_first,
+    is_block, is_parent_pre, is_preformatted_alone, preformatted_inside, trims_first,
 };
 use crate::spare_texts::SpareTexts;
 use crate::text_node::{Context, append_text};
 use htmd_text::{
     is_block_element, trim_end_document_white_space, trim_end_line_feeds, trim_newlines,
 };
-use htmd_tree::{NodeData, NodeId, Tree, raw_block};
+use htmd_tree::{Attribute, NodeData, NodeId, Tree, raw_block};
 use results::{
     append_copy, append_result, between_tags, copied, cut_before_child, empty_result, lent,
     push_comment, raw_result, text_shown, trim_after,
 };
 use std::alloc::{AllocError, Global};
+use visit::Visit;
 
 /// What an element gave without adding a definition: it gives the same wherever else it is reached.
 #[derive(Drop)]
@@ -77,6 +82,61 @@ impl<'a, R: Registry> Walk<'a, R> {
             tree,
             remembered: &[],
             spare,
+        }
+    }
+
+    /// A node that is handed over by itself. A text is then ordinary.
+    fn alone(&self, node: NodeId, is_in_line: bool) -> Visit<'a>
+        requires within { node < length self.now.tree.now }
+        requires line { is_in_line ≡ known_in_line (R.config self.now.registry.now).options self.now.tree.now node }
+        ensures here { IsVisit (R.config self.now.registry.now).options self.now.tree.now result }
+        ensures node { result.node ≡ node }
+        ensures joined { option_copied result.joined ≡ None }
+        ensures text { is_text (data_at self.now.tree.now node) ≡ true → result.context.preformatted ≡ false }
+        ensures trim { result.context.trim ≡ true }
+    {
+        Visit {
+            node,
+            joined: None,
+            context: Context {
+                preformatted: is_preformatted_alone(self.tree, node),
+                trim: true,
+            },
+            is_in_line,
+            pre_language: language_above(self.tree, node),
+        }
+    }
+
+    /// The element that is visited, as its handlers are shown it.
+    fn element<'e>(
+        &'e self,
+        visit: &'e Visit,
+        name: &'e str,
+        attrs: &'e [Attribute],
+        markdown_translated: bool,
+    ) -> Element<'e>
+        requires visit { IsVisit (R.config self.now.registry.now).options self.now.tree.now visit.now }
+        requires element { data_at self.now.tree.now visit.now.node ≡ element_node name.now (pairs_of attrs.now) }
+        ensures here { IsElementOf (R.config self.now.registry.now).options self.now.tree.now result }
+        ensures stay { HandlersStay (R.config self.now.registry.now) }
+        ensures node { result.node ≡ visit.now.node }
+        ensures tag { result.tag.now ≡ name.now }
+        ensures occurrence { let conversion = conversion_of (R.config self.now.registry.now) self.now.tree.now in
+            let shown = shown_children self.now.tree.now visit.now in
+            (n : ℕ) → occurrence_of n conversion result
+            ≡ shown_occurrence n conversion visit.now.node markdown_translated shown }
+    {
+        Element {
+            node: visit.node,
+            tag: name,
+            attrs,
+            markdown_translated,
+            tree: self.tree,
+            options: self.registry.options(),
+            text: text_shown(self.tree, visit.node, visit.joined),
+            preformatted: preformatted_inside(self.tree, visit.node, visit.context.preformatted),
+            is_in_line: visit.is_in_line,
+            pre_language: visit.pre_language,
         }
     }
 
@@ -133,8 +193,7 @@ impl<'a, R: Registry> Walk<'a, R> {
 
     /// In Guarded, whether what is below an element is written in one line.
     fn is_line_inside(&self, element: &Element) -> bool
-        requires tree { element.now.tree.now ≡ self.now.tree.now }
-        requires options { element.now.options.now ≡ (R.config self.now.registry.now).options }
+        requires { IsElementOf (R.config self.now.registry.now).options self.now.tree.now element.now }
         ensures { result ≡ known_in_line_inside (R.config self.now.registry.now).options
             self.now.tree.now element.now.node }
     {
@@ -171,38 +230,43 @@ impl<'a, R: Registry> Walk<'a, R> {
         false
     }
 
+    /// Whether an element is a `span` whose handlers needn't be asked.
+    fn goes_past(&self, element: &Element) -> bool
+        requires { IsElementOf (R.config self.now.registry.now).options self.now.tree.now element.now }
+        ensures span { IsTrue result → is_span element.now.tag.now ≡ true }
+        ensures passed { IsTrue result
+            → IsPassed (R.config self.now.registry.now) (data_at self.now.tree.now element.now.node) }
+    {
+        element.tag == "span" && self.registry.goes_past(self.tree, element.node)
+    }
+
     /// What the handlers of an element's tag make of it, from the one after this many newer ones on.
     #[cycle(walk)]
     pub(crate) fn handle(
         &self,
         element: &Element,
-        inside_pre: bool,
         skipped: usize,
         links: &mut Links,
     ) -> Result<Option<HandlerResult>, AllocError>
         requires ready { R.ready self.now.registry.now }
-        requires tree { element.now.tree.now ≡ self.now.tree.now }
-        requires options { element.now.options.now ≡ (R.config self.now.registry.now).options }
-        requires inside { inside_pre ≡ pre (inside_of self.now.tree.now element.now.node) }
-        ensures ok { ElementGives (R.config self.now.registry.now) self.now.tree.now element.now
+        requires here { IsElementOf (R.config self.now.registry.now).options self.now.tree.now element.now }
+        ensures { ElementGives (R.config self.now.registry.now) self.now.tree.now element.now
             (λ at. answer_after skipped element.now.tag.now at links.old) (λ r. answer_view r links.new) result }
-        ensures err { ElementBegins (R.config self.now.registry.now) self.now.tree.now element.now
-            (λ at. (answer_after skipped element.now.tag.now at links.old).definitions) links.old links.new result }
     {
         let Some(index) = self.registry.find(element.tag, skipped) else {
             if is_markdown_alone(self.registry.options()) {
-                return Ok(Some(self.content(element, inside_pre, links)?));
+                return Ok(Some(self.content(element, links)?));
             }
-            return self.raw_html(element, inside_pre, links);
+            return self.raw_html(element, links);
         };
         match self.registry.plan(self.alloc, index, element)? {
             // A pattern in a pattern gets no proof here.
             Request::OfPlan(plan) => match plan {
                 Plan::Skip => Ok(None),
                 Plan::Text(result) => Ok(Some(result)),
-                Plan::RawHtml => self.raw_html(element, inside_pre, links),
+                Plan::RawHtml => self.raw_html(element, links),
                 Plan::Children => {
-                    let content = self.content(element, inside_pre, links)?;
+                    let content = self.content(element, links)?;
                     self.registry
                         .finish(self.alloc, index, element, content, links)
                 }
@@ -214,7 +278,7 @@ impl<'a, R: Registry> Walk<'a, R> {
                 }
                 Plan::Fallback => {
                     let older = skipped + 1;
-                    match self.handle(element, inside_pre, older, links)? {
+                    match self.handle(element, older, links)? {
                         None => Ok(None),
                         Some(content) => self
                             .registry
@@ -247,7 +311,7 @@ impl<'a, R: Registry> Walk<'a, R> {
                             remembered: remembered.as_slice(),
                             spare: self.spare,
                         };
-                        let content = knowing.content(element, inside_pre, links)?;
+                        let content = knowing.content(element, links)?;
                         self.registry
                             .finish(self.alloc, index, element, content, links)
                     }
@@ -256,28 +320,23 @@ impl<'a, R: Registry> Walk<'a, R> {
         }
     }
 
-    /// What an element gives: its content if its handlers needn't be asked.
+    /// What an element gives: the content of a `span` if its handlers needn't be asked.
     #[cycle(walk)]
     fn walk_element(
         &self,
         element: &Element,
-        inside_pre: bool,
         links: &mut Links,
     ) -> Result<Option<HandlerResult>, AllocError>
         requires ready { R.ready self.now.registry.now }
-        requires tree { element.now.tree.now ≡ self.now.tree.now }
-        requires options { element.now.options.now ≡ (R.config self.now.registry.now).options }
-        requires inside { inside_pre ≡ pre (inside_of self.now.tree.now element.now.node) }
-        ensures ok { ElementGives (R.config self.now.registry.now) self.now.tree.now element.now
+        requires here { IsElementOf (R.config self.now.registry.now).options self.now.tree.now element.now }
+        ensures { ElementGives (R.config self.now.registry.now) self.now.tree.now element.now
             (λ at. answer_after 0 element.now.tag.now at links.old) (λ r. answer_view r links.new) result }
-        ensures err { ElementBegins (R.config self.now.registry.now) self.now.tree.now element.now
-            (λ at. (answer_after 0 element.now.tag.now at links.old).definitions) links.old links.new result }
     {
-        if !self.registry.goes_past(self.tree, element.node) {
-            return self.handle(element, inside_pre, 0, links);
+        if !self.goes_past(element) {
+            return self.handle(element, 0, links);
         }
-        let mut content = self.content(element, inside_pre, links)?;
-        if element.tag == "span" && !inside_pre && !is_guarded(self.registry.options()) {
+        let mut content = self.content(element, links)?;
+        if !element.preformatted && !is_guarded(self.registry.options()) {
             trim_newlines(&mut content.content);
         }
         Ok(Some(content))
@@ -289,22 +348,17 @@ impl<'a, R: Registry> Walk<'a, R> {
     fn raw_html(
         &self,
         element: &Element,
-        inside_pre: bool,
         links: &mut Links,
     ) -> Result<Option<HandlerResult>, AllocError>
         requires ready { R.ready self.now.registry.now }
-        requires tree { element.now.tree.now ≡ self.now.tree.now }
-        requires options { element.now.options.now ≡ (R.config self.now.registry.now).options }
-        requires inside { inside_pre ≡ pre (inside_of self.now.tree.now element.now.node) }
-        ensures ok { ElementGives (R.config self.now.registry.now) self.now.tree.now element.now
+        requires here { IsElementOf (R.config self.now.registry.now).options self.now.tree.now element.now }
+        ensures { ElementGives (R.config self.now.registry.now) self.now.tree.now element.now
             (λ at. raw_answer at links.old) (λ r. answer_view r links.new) result }
-        ensures err { ElementBegins (R.config self.now.registry.now) self.now.tree.now element.now
-            (λ at. (raw_answer at links.old).definitions) links.old links.new result }
     {
         if is_block_element(element.tag) {
             return Ok(Some(raw_result(raw_block(self.alloc, self.tree, element.node)?)));
         }
-        let content = self.content(element, inside_pre, links)?;
+        let content = self.content(element, links)?;
         let raw = between_tags(
             self.alloc,
             element.tag,
@@ -326,16 +380,13 @@ impl<'a, R: Registry> Walk<'a, R> {
         links: &mut Links,
     ) -> Result<Vec<HandlerResult>, AllocError>
         requires ready { R.ready self.now.registry.now }
-        requires tree { element.now.tree.now ≡ self.now.tree.now }
-        requires options { element.now.options.now ≡ (R.config self.now.registry.now).options }
+        requires here { IsElementOf (R.config self.now.registry.now).options self.now.tree.now element.now }
         requires proper { IsProper self.now.tree.now element.now.node (contents_of_each nodes.now) }
         requires remembered { AreRemembered (R.config self.now.registry.now) self.now.tree.now remembered.old.items }
         ensures ok { ElementGives (R.config self.now.registry.now) self.now.tree.now element.now
             (λ at. contents_alone at nodes.now links.old) (λ r. contents_view r.items links.new) result }
         ensures remembered { OnOk result
             (AreRemembered (R.config self.now.registry.now) self.now.tree.now remembered.new.items) }
-        ensures err { ElementBegins (R.config self.now.registry.now) self.now.tree.now element.now
-            (λ at. (contents_alone at nodes.now links.old).definitions) links.old links.new result }
     {
         let inside_line = self.is_line_inside(element);
         let mut results = Vec::with_capacity(self.alloc, nodes.len())?;
@@ -348,26 +399,17 @@ impl<'a, R: Registry> Walk<'a, R> {
 
     /// The content of an element's children, or of the one text that it shows.
     #[cycle(walk)]
-    fn content(
-        &self,
-        element: &Element,
-        inside_pre: bool,
-        links: &mut Links,
-    ) -> Result<HandlerResult, AllocError>
+    fn content(&self, element: &Element, links: &mut Links) -> Result<HandlerResult, AllocError>
         requires ready { R.ready self.now.registry.now }
-        requires tree { element.now.tree.now ≡ self.now.tree.now }
-        requires options { element.now.options.now ≡ (R.config self.now.registry.now).options }
-        requires inside { inside_pre ≡ pre (inside_of self.now.tree.now element.now.node) }
-        ensures ok { ElementGives (R.config self.now.registry.now) self.now.tree.now element.now
+        requires here { IsElementOf (R.config self.now.registry.now).options self.now.tree.now element.now }
+        ensures { ElementGives (R.config self.now.registry.now) self.now.tree.now element.now
             (λ at. content_of at links.old) (λ r. output_view r links.new) result }
-        ensures err { ElementBegins (R.config self.now.registry.now) self.now.tree.now element.now
-            (λ at. (content_of at links.old).definitions) links.old links.new result }
     {
         let mut out = empty_result(self.alloc, self.spare);
         if let Some(text) = element.text {
             let context = Context {
-                preformatted: inside_pre,
-                trim: trims_first(self.tree, element.node, inside_pre),
+                preformatted: element.preformatted,
+                trim: trims_first(self.tree, element.node, element.preformatted),
             };
             append_text(
                 self.alloc,
@@ -381,7 +423,13 @@ impl<'a, R: Registry> Walk<'a, R> {
             return Ok(out);
         }
         let inside_line = self.is_line_inside(element);
-        self.walk_children(element.node, inside_pre, inside_line, &mut out, links)?;
+        self.walk_children(
+            element.node,
+            element.preformatted,
+            inside_line,
+            &mut out,
+            links,
+        )?;
         Ok(out)
     }
 
@@ -390,27 +438,22 @@ impl<'a, R: Registry> Walk<'a, R> {
     fn walk_children(
         &self,
         node: NodeId,
-        inside_pre: bool,
+        preformatted: bool,
         inside_line: bool,
         out: &mut HandlerResult,
         links: &mut Links,
     ) -> Result<(), AllocError>
         requires ready { R.ready self.now.registry.now }
         requires within { node < length self.now.tree.now }
-        requires inside { inside_pre ≡ pre (inside_of self.now.tree.now node) }
+        requires inside { preformatted ≡ in_pre_or_code (inside_of self.now.tree.now node) }
         requires line { inside_line ≡ known_in_line_inside (R.config self.now.registry.now).options
             self.now.tree.now node }
-        ensures ok { OnOk result
+        ensures { OnOk result
             (InNode (conversion_of (R.config self.now.registry.now) self.now.tree.now) node
             (λ write. output_view out.new links.new ≡ write_groups write (inside_of self.now.tree.now node)
             (children_at self.now.tree.now node) (output_view out.old links.old))) }
-        ensures err { OnErr result
-            (InNode (conversion_of (R.config self.now.registry.now) self.now.tree.now) node
-            (λ write. Begins links.old links.new
-            (write_groups write (inside_of self.now.tree.now node) (children_at self.now.tree.now node)
-            (output_view out.old links.old)).definitions)) }
     {
-        let mut trim = trims_first(self.tree, node, inside_pre);
+        let mut trim = trims_first(self.tree, node, preformatted);
         let mut rest = self.tree.children(node);
         let pre_language = language_inside(self.tree, node);
         while !rest.is_empty() {
@@ -420,19 +463,14 @@ impl<'a, R: Registry> Walk<'a, R> {
             let is_block = is_block(self.tree, child);
             cut_before_child(out, is_block);
             let before = out.content.as_str().len();
-            let context = Context {
-                preformatted: inside_pre,
-                trim,
-            };
-            self.walk_node(
-                child,
-                lent(&joined),
-                context,
-                inside_line,
+            let visit = Visit {
+                node: child,
+                joined: lent(&joined),
+                context: Context { preformatted, trim },
+                is_in_line: inside_line,
                 pre_language,
-                out,
-                links,
-            )?;
+            };
+            self.walk_node(&visit, out, links)?;
             trim = trim_after(before, out.content.as_str().len(), is_block, trim);
             rest = behind;
         }
@@ -454,13 +492,10 @@ impl<'a, R: Registry> Walk<'a, R> {
             self.now.tree.now element.now.node }
         requires behind { element.now.node < below }
         requires within { below < length self.now.tree.now }
-        ensures ok { NodeGives (R.config self.now.registry.now) self.now.tree.now below
+        ensures { NodeGives (R.config self.now.registry.now) self.now.tree.now below
             (content_below (R.config self.now.registry.now) self.now.tree.now
             (option_copied element.now.text) below links.old)
             (λ r. output_view r links.new) result }
-        ensures err { NodeBegins (R.config self.now.registry.now) self.now.tree.now below
-            (λ write. (content_below (R.config self.now.registry.now) self.now.tree.now
-            (option_copied element.now.text) below links.old write).definitions) links.old links.new result }
     {
         let Some(text) = element.text else {
             let is_in_line = self.is_line_below(element.node, inside_line, below);
@@ -508,9 +543,6 @@ impl<'a, R: Registry> Walk<'a, R> {
             (λ r. output_view r links.new) result }
         ensures remembered { OnOk result
             (AreRemembered (R.config self.now.registry.now) self.now.tree.now remembered.new.items) }
-        ensures err { NodeBegins (R.config self.now.registry.now) self.now.tree.now below
-            (λ write. (content_below (R.config self.now.registry.now) self.now.tree.now
-            (option_copied element.now.text) below links.old write).definitions) links.old links.new result }
     {
         if !may_keep || element.text.is_some() {
             return self.walk_descendant(element, inside_line, below, links);
@@ -518,23 +550,19 @@ impl<'a, R: Registry> Walk<'a, R> {
         let NodeData::Element { name, attrs } = self.tree.data(below) else {
             return self.walk_descendant(element, inside_line, below, links);
         };
-        let child = Element {
-            node: below,
-            tag: name.as_str(),
-            attrs: attrs.as_slice(),
-            markdown_translated: true,
-            tree: self.tree,
-            options: self.registry.options(),
-            text: text_shown(self.tree, below, None),
-            is_in_line: self.is_line_below(element.node, inside_line, below),
-            pre_language: language_above(self.tree, below),
-        };
-        let is_inside_pre = is_inside_pre(self.tree, below);
-        let inside_pre = is_inside_pre || is_pre_or_code(self.tree, below);
+        let is_in_line = self.is_line_below(element.node, inside_line, below);
+        let visit = self.alone(below, is_in_line);
+        let child = (&*self).element(&visit, name.as_str(), attrs.as_slice(), true);
         let before = links.lines.len();
-        let given = self.walk_element(&child, inside_pre, links)?;
+        let given = self.walk_element(&child, links)?;
         let adds_none = links.lines.len() == before;
-        self.keep(below, given, adds_none, is_inside_pre, remembered)
+        self.keep(
+            below,
+            given,
+            adds_none,
+            visit.context.preformatted,
+            remembered,
+        )
     }
 
     /// The content of a node that is handed over by itself.
@@ -548,65 +576,39 @@ impl<'a, R: Registry> Walk<'a, R> {
         requires ready { R.ready self.now.registry.now }
         requires within { node < length self.now.tree.now }
         requires line { is_in_line ≡ known_in_line (R.config self.now.registry.now).options self.now.tree.now node }
-        ensures ok { NodeGives (R.config self.now.registry.now) self.now.tree.now node
+        ensures { NodeGives (R.config self.now.registry.now) self.now.tree.now node
             (λ write. content_alone write (conversion_of (R.config self.now.registry.now) self.now.tree.now)
             (tree_of self.now.tree.now node) node links.old) (λ r. output_view r links.new) result }
-        ensures err { NodeBegins (R.config self.now.registry.now) self.now.tree.now node
-            (λ write. (content_alone write (conversion_of (R.config self.now.registry.now) self.now.tree.now)
-            (tree_of self.now.tree.now node) node links.old).definitions) links.old links.new result }
     {
+        let visit = self.alone(node, is_in_line);
         let mut out = empty_result(self.alloc, self.spare);
-        // A text that is handed over by itself is ordinary.
-        let context = Context {
-            preformatted: !is_text(self.tree, node) && is_inside_pre(self.tree, node),
-            trim: true,
-        };
-        let pre_language = language_above(self.tree, node);
-        self.walk_node(
-            node,
-            None,
-            context,
-            is_in_line,
-            pre_language,
-            &mut out,
-            links,
-        )?;
+        self.walk_node(&visit, &mut out, links)?;
         Ok(out)
     }
 
-    /// Writes a node, or the group with this joined text that begins at it, after what is written so far.
+    /// Writes a node, or the group that begins at it, after what is written so far.
     #[cycle(walk)]
     fn walk_node(
         &self,
-        node: NodeId,
-        joined: Option<&str>,
-        context: Context,
-        is_in_line: bool,
-        pre_language: Option<&str>,
+        visit: &Visit,
         out: &mut HandlerResult,
         links: &mut Links,
     ) -> Result<(), AllocError>
         requires ready { R.ready self.now.registry.now }
-        requires within { node < length self.now.tree.now }
-        requires group { IfSome joined (λ _. IsSome (only_text (children_at self.now.tree.now node))) }
-        requires line { is_in_line ≡ known_in_line (R.config self.now.registry.now).options self.now.tree.now node }
-        requires language { option_copied pre_language
-            ≡ language_of_pre self.now.tree.now (parent_at self.now.tree.now node) }
-        requires context { is_text (data_at self.now.tree.now node) ≡ false
-            → context.preformatted ≡ pre (ancestors_of self.now.tree.now node) }
-        ensures ok { let tree = group_tree (option_copied joined.entry) (tree_of self.now.tree.now node) in
+        requires here { IsVisit (R.config self.now.registry.now).options self.now.tree.now visit.now }
+        ensures { let node = visit.now.node in
+            let tree = group_tree (option_copied visit.now.joined) (tree_of self.now.tree.now node) in
+            let context = visit.now.context in
             let context = context_of (ancestors_of self.now.tree.now node) context.preformatted context.trim in
             OnOk result (AtNode (conversion_of (R.config self.now.registry.now) self.now.tree.now) node (λ write.
             output_view out.new links.new ≡ write tree context (output_view out.old links.old))) }
-        ensures err { let tree = group_tree (option_copied joined.entry) (tree_of self.now.tree.now node) in
-            let context = context_of (ancestors_of self.now.tree.now node) context.preformatted context.trim in
-            OnErr result (AtNode (conversion_of (R.config self.now.registry.now) self.now.tree.now) node (λ write.
-            Begins links.old links.new (write tree context (output_view out.old links.old)).definitions)) }
     {
+        let node = visit.node;
+        let context = visit.context;
         match self.tree.data(node) {
             NodeData::Document => {
                 let markdown_translated = out.markdown_translated;
-                self.walk_children(node, context.preformatted, is_in_line, out, links)?;
+                self.walk_children(node, context.preformatted, visit.is_in_line, out, links)?;
                 trim_end_document_white_space(&mut out.content);
                 out.markdown_translated = markdown_translated;
                 Ok(())
@@ -634,7 +636,7 @@ impl<'a, R: Registry> Walk<'a, R> {
             }
             NodeData::Element { name, attrs } => {
                 let is_guarded = is_guarded(self.registry.options());
-                if let Some(known) = self.recall(node, joined) {
+                if let Some(known) = self.recall(node, visit.joined) {
                     return append_copy(
                         self.alloc,
                         out,
@@ -644,19 +646,8 @@ impl<'a, R: Registry> Walk<'a, R> {
                         self.spare,
                     );
                 }
-                let inside_pre = context.preformatted || is_pre_or_code(self.tree, node);
-                let element = Element {
-                    node,
-                    tag: name.as_str(),
-                    attrs: attrs.as_slice(),
-                    markdown_translated: true,
-                    tree: self.tree,
-                    options: self.registry.options(),
-                    text: text_shown(self.tree, node, joined),
-                    is_in_line,
-                    pre_language,
-                };
-                let given = self.walk_element(&element, inside_pre, links)?;
+                let element = (&*self).element(&*visit, name.as_str(), attrs.as_slice(), true);
+                let given = self.walk_element(&element, links)?;
                 append_result(
                     out,
                     given,
@@ -707,27 +698,15 @@ pub(crate) fn handle_element<R: Registry>(
     requires ready { R.ready registry.now }
     requires within { node < length tree.now }
     requires element { IsElement (data_at tree.now node) }
-    ensures ok { let answer = handled (R.config registry.now) tree.now node markdown_translated skipped links.old in
+    ensures { let answer = handled (R.config registry.now) tree.now node markdown_translated skipped links.old in
         IfOk result (λ r. answer_view r links.new ≡ answer) }
-    ensures err { let answer = handled (R.config registry.now) tree.now node markdown_translated skipped links.old in
-        OnErr result (Begins links.old links.new answer.definitions) }
 {
     let NodeData::Element { name, attrs } = tree.data(node) else {
         unreachable!();
     };
-    let element = Element {
-        node,
-        tag: name.as_str(),
-        attrs: attrs.as_slice(),
-        markdown_translated,
-        tree,
-        options: registry.options(),
-        text: text_shown(tree, node, None),
-        is_in_line: is_known_in_line(registry.options(), tree, node),
-        pre_language: language_above(tree, node),
-    };
-    let inside_pre = is_inside_pre(tree, node) || is_pre_or_code(tree, node);
     let spare = SpareTexts::new(alloc);
     let walk = Walk::new(registry, alloc, tree, &spare);
-    walk.handle(&element, inside_pre, skipped, links)
+    let visit = walk.alone(node, is_known_in_line(registry.options(), tree, node));
+    let element = walk.element(&visit, name.as_str(), attrs.as_slice(), markdown_translated);
+    walk.handle(&element, skipped, links)
 }

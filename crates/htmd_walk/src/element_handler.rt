@@ -63,6 +63,8 @@ pub struct Element<'a> {
     pub(crate) tree: &'a Tree,
     pub(crate) options: &'a Options,
     pub(crate) text: Option<&'a str>,
+    /// Whether it or an ancestor is `pre` or `code`.
+    pub(crate) preformatted: bool,
     /// In Guarded, whether an ancestor is written in one line.
     pub(crate) is_in_line: bool,
     /// The language that the parent names, if it is `pre`.
@@ -155,6 +157,17 @@ pub enum Plan {
     Fallback,
 }
 
+/// A copy of these texts.
+fn copied_texts(alloc: Global, texts: &[String]) -> Result<Vec<String>, AllocError>
+    ensures { IfOk result (λ copy. map (λ s. string_bytes s) copy.items ≡ map (λ s. string_bytes s) texts.now) }
+{
+    let mut copy = Vec::with_capacity(alloc, texts.len())?;
+    for text in texts {
+        copy.push(String::from_str(alloc, text.as_str())?)?;
+    }
+    Ok(copy)
+}
+
 /// The link definitions of a conversion, one on each line.
 #[derive(Drop)]
 pub struct Links {
@@ -184,6 +197,14 @@ impl Links {
         ensures { map string_bytes result.now ≡ self.now }
     {
         self.lines.as_slice()
+    }
+
+    /// A copy of these definitions.
+    pub(crate) fn copied(&self, alloc: Global) -> Result<Links, AllocError>
+        ensures { IfOk result (λ copy. copy ≡ self.now) }
+    {
+        let lines = copied_texts(alloc, self.lines())?;
+        Ok(Links { lines })
     }
 }
 

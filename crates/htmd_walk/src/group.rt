@@ -76,14 +76,12 @@ fn joins(left: &Joint, right: &Joint) -> bool
     may_join(left.name) && alike(left.name, right.name) && same_attributes(left.attrs, right.attrs)
 }
 
-/// Whether a node joins with its next neighbour.
-fn is_joinable(tree: &Tree, left: NodeId, right: NodeId) -> bool
-    requires left { left < length tree.now }
-    requires right { right < length tree.now }
-    ensures { result ≡ spec.is_joinable (tree_of tree.now left) (tree_of tree.now right) }
+/// Whether nodes with these joints join.
+fn both_join(left: &Option<Joint>, right: &Option<Joint>) -> bool
+    ensures { result ≡ spec.both_join (optional_joint left.now) (optional_joint right.now) }
 {
-    match (find_joint(tree, left), find_joint(tree, right)) {
-        (Some(left), Some(right)) => joins(&left, &right),
+    match (left, right) {
+        (Some(left), Some(right)) => joins(left, right),
         _ => false,
     }
 }
@@ -96,11 +94,17 @@ pub(crate) fn group_length(tree: &Tree, ids: &[NodeId]) -> usize
     ensures within { result ≤ length ids.now }
     ensures some { 0 < result }
 {
-    let mut end = 1;
-    while end < ids.len() && is_joinable(tree, ids[end - 1], ids[end]) {
-        end += 1;
+    let mut last = 0;
+    let mut joint = find_joint(tree, ids[0]);
+    while last + 1 < ids.len() {
+        let next = find_joint(tree, ids[last + 1]);
+        if !both_join(&joint, &next) {
+            return last + 1;
+        }
+        joint = next;
+        last += 1;
     }
-    end
+    last + 1
 }
 
 /// The text that a node joins with.

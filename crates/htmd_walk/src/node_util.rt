@@ -1,11 +1,11 @@
 //! What is asked of a node of a tree.
 
-ghost use Rattle.std.specs.Prelude.{◌≡◌, ◌<◌, ◌||◌, length};
+ghost use Rattle.std.specs.Prelude.{◌≡◌, ◌<◌, ◌||◌, true, false, length};
 ghost use Rattle.std.specs.Option.{option_copied};
 ghost use Rattle.htmd_tree.specs.Items.{data_at, IsTree};
 ghost use Rattle.htmd_tree.specs.NumberedTrees.{tree_of};
 ghost use Rattle.htmd_tree.specs.Ancestors.{ancestor_of, ancestors_of};
-ghost use Rattle.htmd_walk.specs.OrdinaryText.{is_pre_or_code, pre, parent_is_pre};
+ghost use Rattle.htmd_walk.specs.OrdinaryText.{is_pre_or_code, in_pre_or_code, parent_is_pre};
 ghost use Rattle.htmd_walk.specs.Groups.{only_text, children_at};
 ghost use Rattle.htmd_walk.specs.Children.{is_block_tree, trims_first};
 ghost use Rattle.htmd_walk.specs.Rendering.{is_text, inside_of};
@@ -25,9 +25,9 @@ pub(crate) fn is_pre_or_code(tree: &Tree, node: NodeId) -> bool
 }
 
 /// Whether an ancestor is `pre` or `code`.
-pub(crate) fn is_inside_pre(tree: &Tree, node: NodeId) -> bool
+pub(crate) fn is_in_pre_or_code(tree: &Tree, node: NodeId) -> bool
     requires { node < length tree.now }
-    ensures { result ≡ pre (ancestors_of tree.now node) }
+    ensures { result ≡ in_pre_or_code (ancestors_of tree.now node) }
 {
     let mut at = node;
     while let Some(parent) = tree.parent(at) {
@@ -37,6 +37,25 @@ pub(crate) fn is_inside_pre(tree: &Tree, node: NodeId) -> bool
         at = parent;
     }
     false
+}
+
+/// Whether what is in an element is preformatted, if this says whether the element itself is.
+pub(crate) fn preformatted_inside(tree: &Tree, node: NodeId, preformatted: bool) -> bool
+    requires within { node < length tree.now }
+    requires context { preformatted ≡ in_pre_or_code (ancestors_of tree.now node) }
+    ensures { result ≡ in_pre_or_code (inside_of tree.now node) }
+{
+    preformatted || is_pre_or_code(tree, node)
+}
+
+/// Whether a node that is handed over by itself is preformatted. A text is then ordinary.
+pub(crate) fn is_preformatted_alone(tree: &Tree, node: NodeId) -> bool
+    requires { node < length tree.now }
+    ensures text { is_text (data_at tree.now node) ≡ true → result ≡ false }
+    ensures other { is_text (data_at tree.now node) ≡ false
+        → result ≡ in_pre_or_code (ancestors_of tree.now node) }
+{
+    !is_text(tree, node) && is_in_pre_or_code(tree, node)
 }
 
 /// Whether the parent is `pre`.
@@ -65,12 +84,12 @@ pub(crate) fn is_block(tree: &Tree, node: NodeId) -> bool
 }
 
 /// Whether the space at the start of a node's content is dropped.
-pub(crate) fn trims_first(tree: &Tree, node: NodeId, inside_pre: bool) -> bool
+pub(crate) fn trims_first(tree: &Tree, node: NodeId, preformatted: bool) -> bool
     requires within { node < length tree.now }
-    requires inside { inside_pre ≡ pre (inside_of tree.now node) }
+    requires inside { preformatted ≡ in_pre_or_code (inside_of tree.now node) }
     ensures { result ≡ trims_first (inside_of tree.now node) }
 {
-    if inside_pre {
+    if preformatted {
         return false;
     }
     match tree.tag_name(node) {

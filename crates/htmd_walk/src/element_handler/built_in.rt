@@ -1,8 +1,7 @@
 //! The built-in handlers, and the tags that they are registered for.
 
-ghost use Rattle.std.specs.Prelude.{◌≡◌, ◌++◌, IfOk, OnOk, OnErr, string_bytes};
+ghost use Rattle.std.specs.Prelude.{◌≡◌, ◌++◌, IfOk, OnOk, string_bytes};
 ghost use Rattle.htmd_walk.specs.Handling.{IsProper};
-ghost use Rattle.htmd_walk.specs.Beginnings.{Begins};
 ghost use Rattle.htmd_walk.specs.Elements.{finish_answer};
 ghost use Rattle.htmd_walk.specs.BuiltIn.{meaning_of};
 ghost use Rattle.htmd_walk.specs.Markdown.{append_text};
@@ -111,11 +110,8 @@ impl BuiltIn {
         content: HandlerResult,
         links: &mut Links,
     ) -> Result<Option<HandlerResult>, AllocError>
-        ensures ok { IfOk result (λ r. answer_view r links.new ≡ finish_answer
+        ensures { IfOk result (λ r. answer_view r links.new ≡ finish_answer
             ((meaning_of self).finish (element_view element.now) (result_view content) links.old) links.old) }
-        ensures err { OnErr result (Begins links.old links.new
-            (links.old
-            ++ ((meaning_of self).finish (element_view element.now) (result_view content) links.old).added)) }
     {
         match self {
             BuiltIn::Image => Ok(None),

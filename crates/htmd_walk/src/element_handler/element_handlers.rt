@@ -225,12 +225,11 @@ impl ElementHandlers {
 impl ElementHandlers {
     ghost use Rattle.htmd_tree.specs.Items.{data_at};
     ghost use Rattle.htmd_walk.specs.HandlerAnswers.{IsElement, handled};
-    ghost use Rattle.htmd_walk.specs.Beginnings.{Begins};
     ghost use Rattle.htmd_walk.specs.Views.{answer_view};
 
     /// What the handlers of an element's tag make of it, from the one after this many newer ones on: a result or
-    /// nothing. The definitions that they add are at the end of the links. `Err` means out of memory; the links then
-    /// hold what they held and a beginning of what is added.
+    /// nothing. The definitions that they add are at the end of the links. `Err` means out of memory; the links are
+    /// then as they were. The walk goes over a copy of them.
     pub fn handle(
         &self,
         alloc: Global,
@@ -245,19 +244,20 @@ impl ElementHandlers {
         ensures ok { let config = ⟦<ElementHandlers as Registry>⟧.config self.now in
             let answer = handled config tree.now node markdown_translated skipped_handlers links.old in
             IfOk result (λ r. answer_view r links.new ≡ answer) }
-        ensures err { let config = ⟦<ElementHandlers as Registry>⟧.config self.now in
-            let answer = handled config tree.now node markdown_translated skipped_handlers links.old in
-            OnErr result (Begins links.old links.new answer.definitions) }
+        ensures err { OnErr result (links.new ≡ links.old) }
     {
-        handle_element(
+        let mut walked = links.copied(alloc)?;
+        let result = handle_element(
             self,
             alloc,
             tree,
             node,
             markdown_translated,
             skipped_handlers,
-            links,
-        )
+            &mut walked,
+        )?;
+        *links = walked;
+        Ok(result)
     }
 }
 
@@ -297,12 +297,12 @@ impl Registry for ElementHandlers {
             return false;
         }
         let tag = name.as_str();
-        let Some(index) = self.find(tag, 0) else {
-            return tag != "span";
-        };
         if tag != "span" {
             return false;
         }
+        let Some(index) = self.find(tag, 0) else {
+            return false;
+        };
         if self.find(tag, 1).is_some() {
             return false;
         }

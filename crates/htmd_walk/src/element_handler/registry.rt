@@ -1,11 +1,10 @@
 //! What a walk goes by: the handlers, as a registry answers for them.
 
-ghost use Rattle.std.specs.Prelude.{◌≡◌, ◌+◌, ◌^◌, ◌<◌, ◌++◌, IfOk, IfSome, OnErr, IsTrue};
+ghost use Rattle.std.specs.Prelude.{◌≡◌, ◌+◌, ◌^◌, ◌<◌, IfOk, IfSome, IsTrue};
 ghost use Rattle.std.specs.Prelude.{length, slice_get, string_bytes};
 ghost use Rattle.htmd_tree.specs.Items.{data_at};
 ghost use Rattle.htmd_walk.specs.Handling.{IsProper};
 ghost use Rattle.htmd_walk.specs.Choice.{Config, handler_at, indexes};
-ghost use Rattle.htmd_walk.specs.Beginnings.{Begins};
 ghost use Rattle.htmd_walk.specs.Elements.{finish_answer};
 ghost use Rattle.htmd_walk.specs.Markdown.{append_texts};
 ghost use Rattle.htmd_walk.specs.Passing.{IsPassed};
@@ -82,12 +81,9 @@ pub trait Registry {
     ) -> Result<Option<HandlerResult>, AllocError>
         requires within { index < length (config self.now).handlers }
         requires ready { ready self.now }
-        ensures ok { let handler = handler_at (config self.now).handlers index in
+        ensures { let handler = handler_at (config self.now).handlers index in
             IfOk result (λ r. answer_view r links.new
-            ≡ finish_answer (handler.finish (element_view element.now) (result_view content) links.old) links.old) }
-        ensures err { let handler = handler_at (config self.now).handlers index in
-            OnErr result (Begins links.old links.new
-            (links.old ++ (handler.finish (element_view element.now) (result_view content) links.old).added)) };
+            ≡ finish_answer (handler.finish (element_view element.now) (result_view content) links.old) links.old) };
 
     /// What the handler at an index makes of the contents of nodes that it asked for. `Err` means out of memory.
     fn finish_each(

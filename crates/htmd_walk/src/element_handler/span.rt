@@ -8,7 +8,7 @@ ghost use Rattle.htmd_walk.specs.Views.{plan_view, element_view, result_view, op
 
 use super::plans::{is_guarded, unless_faithful};
 use super::{Element, HandlerResult, Plan};
-use crate::node_util::is_inside_pre;
+use crate::node_util::is_in_pre_or_code;
 use htmd_text::trim_newlines;
 use htmd_tree::Attribute;
 use std::alloc::{AllocError, Global};
@@ -72,7 +72,7 @@ pub(crate) fn finish(
     ensures { IfOk result
         (λ r. optional_result r ≡ span_result (element_view element.now) (result_view content)) }
 {
-    if !is_guarded(element.options) && !is_inside_pre(element.tree, element.node) {
+    if !is_guarded(element.options) && !is_in_pre_or_code(element.tree, element.node) {
         trim_newlines(&mut content.content);
     }
     Ok(Some(content))

@@ -224,7 +224,7 @@ fn texts_of_parts(
 
 /// Appends a line to a text.
 fn push_line(out: &mut String, line: &str) -> Result<(), AllocError>
-    ensures { OnOk result (string_bytes out.new ≡ string_bytes out.old ++ spec.in_line line.now) }
+    ensures { OnOk result (string_bytes out.new ≡ string_bytes out.old ++ spec.with_line_end line.now) }
 {
     out.push_str(line)?;
     out.push_str("\n")?;
@@ -234,7 +234,7 @@ fn push_line(out: &mut String, line: &str) -> Result<(), AllocError>
 /// Appends each caption in a line of its own.
 fn push_captions(out: &mut String, captions: &[String]) -> Result<(), AllocError>
     ensures { OnOk result (string_bytes out.new
-        ≡ string_bytes out.old ++ flat_map spec.in_line (map (λ text. string_bytes text) captions.now)) }
+        ≡ string_bytes out.old ++ flat_map spec.with_line_end (map (λ text. string_bytes text) captions.now)) }
 {
     for caption in captions {
         push_line(out, caption.as_str())?;

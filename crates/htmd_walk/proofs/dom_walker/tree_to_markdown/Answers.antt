@@ -17,7 +17,7 @@ returns g c =
     let there : Config → List Item → List (List ℕ) → Output =
     λ k t ds. content_alone (written_within (height (tree_of t node)) (conversion_of k t)) (conversion_of k t)
     (tree_of t node) node ds in
-    let walked = c.in_ok-markdown.ensures.ok (height (tree_of c.new-walk.result.tree.now node)) (omega arith)
+    let walked = c.in_ok-markdown.ensures (height (tree_of c.new-walk.result.tree.now node)) (omega arith)
     ∙ ap (λ r. there (g.R.Registry.config r) c.new-walk.result.tree.now c.new-links.result)
     c.new-walk.ensures.registry
     ∙ ap (λ (t : List Item). there config t c.new-links.result) c.new-walk.ensures.tree

@@ -49,7 +49,8 @@ returns c =
     ∙ ap (λ t. without_first_space t (squeezed_text c.args.text.now)) goes in
     let told : guarded_text c.begins_line-begins.result c.without_first_space-shown.result.now
     ≡ guarded_ordinary_text c.args.trim out c.args.text.now =
-    ap (λ b. guarded_text b c.without_first_space-shown.result.now) begins ∙ ap (guarded_text (begins_line out)) rest in
+    ap (λ b. guarded_text b c.without_first_space-shown.result.now) begins
+    ∙ ap (guarded_text (begins_line out)) rest in
     let joined : with_joint out (guarded_text c.begins_line-begins.result c.without_first_space-shown.result.now)
     ≡ with_joint out (guarded_ordinary_text c.args.trim out c.args.text.now) = ap (with_joint out) told in
     c.in_ok-push_guarded.ensures ∙ joined

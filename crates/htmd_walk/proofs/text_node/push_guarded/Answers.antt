@@ -23,6 +23,8 @@ returns c =
     let written : string_bytes c.push_guarded_text.new.out ≡ text =
     c.in_ok-push_guarded_text.ensures ∙ ap (λ s. s ++ text) c.take-written.ensures in
     c.in_ok-push_str.ensures.bytes
-    ∙ ap (λ s. string_bytes c.mend_joint.new.out ++ s) (c.as_str.ensures.value ∙ c.in_ok-mend_joint.ensures.content)
-    ∙ ap (λ s. s ++ (mended_ends out (string_bytes c.push_guarded_text.new.out)).behind) c.in_ok-mend_joint.ensures.out
+    ∙ ap (λ s. string_bytes c.mend_joint.new.out ++ s)
+    (c.as_str.ensures.value ∙ c.in_ok-mend_joint.ensures.content)
+    ∙ ap (λ s. s ++ (mended_ends out (string_bytes c.push_guarded_text.new.out)).behind)
+    c.in_ok-mend_joint.ensures.out
     ∙ ap (λ s. (mended_ends out s).front ++ (mended_ends out s).behind) written

@@ -1,4 +1,4 @@
--- The walk writes what its definition says, and where it breaks off, a beginning of the definitions is left.
+-- The walk writes what its definition says.
 mod HandlerAnswers
 mod ContentAnswers
 mod AloneAnswers
@@ -11,131 +11,59 @@ use Rattle.htmd_walk.proofs.dom_walker.Walk.+walk.Answers.ChildrenAnswers as chi
 use Rattle.htmd_walk.proofs.dom_walker.Walk.+walk.Answers.NodeAnswers as nodes
 use Rattle.htmd_walk.proofs.dom_walker.Walk.+walk.Goals as goal
 
-pub handle-returns-in_err-content-clause-err :
-    goal.handle-returns-in_err-content-clause-err
-handle-returns-in_err-content-clause-err = handlers.handle-returns-in_err-content-clause-err
+pub handle-returns-then-is_markdown_alone :
+    goal.handle-returns-then-is_markdown_alone
+handle-returns-then-is_markdown_alone = handlers.handle-returns-then-is_markdown_alone
 
-pub handle-returns-then-is_markdown_alone-clause-ok :
-    goal.handle-returns-then-is_markdown_alone-clause-ok
-handle-returns-then-is_markdown_alone-clause-ok = handlers.handle-returns-then-is_markdown_alone-clause-ok
-
-pub handle-returns-in_default-clause-ok : goal.handle-returns-in_default-clause-ok
-handle-returns-in_default-clause-ok = handlers.handle-returns-in_default-clause-ok
-
-pub handle-returns-in_default-clause-err : goal.handle-returns-in_default-clause-err
-handle-returns-in_default-clause-err = handlers.handle-returns-in_default-clause-err
-
-pub handle-returns-in_err-plan-clause-err : goal.handle-returns-in_err-plan-clause-err
-handle-returns-in_err-plan-clause-err = handlers.handle-returns-in_err-plan-clause-err
-
-pub handle-returns-in_err-content-in-Children-clause-err : goal.handle-returns-in_err-content-in-Children-clause-err
-handle-returns-in_err-content-in-Children-clause-err = handlers.handle-returns-in_err-content-in-Children-clause-err
+pub handle-returns-in_default : goal.handle-returns-in_default
+handle-returns-in_default = handlers.handle-returns-in_default
 
 pub handle-walk_descendant-requires : goal.handle-walk_descendant-requires
 handle-walk_descendant-requires = handlers.handle-walk_descendant-requires
 
-pub handle-returns-in_err-content-in-Descendant-clause-err : goal.handle-returns-in_err-content-in-Descendant-clause-err
-handle-returns-in_err-content-in-Descendant-clause-err = handlers.handle-returns-in_err-content-in-Descendant-clause-err
+pub handle-returns-in-Skip : goal.handle-returns-in-Skip
+handle-returns-in-Skip = handlers.handle-returns-in-Skip
 
-pub handle-returns-in_err-handle-in-Fallback-clause-err : goal.handle-returns-in_err-handle-in-Fallback-clause-err
-handle-returns-in_err-handle-in-Fallback-clause-err = handlers.handle-returns-in_err-handle-in-Fallback-clause-err
+pub handle-returns-in-Text : goal.handle-returns-in-Text
+handle-returns-in-Text = handlers.handle-returns-in-Text
 
-pub handle-returns-in-Skip-clause-ok : goal.handle-returns-in-Skip-clause-ok
-handle-returns-in-Skip-clause-ok = handlers.handle-returns-in-Skip-clause-ok
+pub handle-returns-in-RawHtml : goal.handle-returns-in-RawHtml
+handle-returns-in-RawHtml = handlers.handle-returns-in-RawHtml
 
-pub handle-returns-in-Text-clause-ok : goal.handle-returns-in-Text-clause-ok
-handle-returns-in-Text-clause-ok = handlers.handle-returns-in-Text-clause-ok
+pub handle-returns-in-Children : goal.handle-returns-in-Children
+handle-returns-in-Children = handlers.handle-returns-in-Children
 
-pub handle-returns-in-RawHtml-clause-ok : goal.handle-returns-in-RawHtml-clause-ok
-handle-returns-in-RawHtml-clause-ok = handlers.handle-returns-in-RawHtml-clause-ok
+pub handle-returns-in-Descendant : goal.handle-returns-in-Descendant
+handle-returns-in-Descendant = handlers.handle-returns-in-Descendant
 
-pub handle-returns-in-RawHtml-clause-err : goal.handle-returns-in-RawHtml-clause-err
-handle-returns-in-RawHtml-clause-err = handlers.handle-returns-in-RawHtml-clause-err
+pub handle-returns-in-None : goal.handle-returns-in-None
+handle-returns-in-None = handlers.handle-returns-in-None
 
-pub handle-returns-in-Children-clause-ok : goal.handle-returns-in-Children-clause-ok
-handle-returns-in-Children-clause-ok = handlers.handle-returns-in-Children-clause-ok
+pub handle-returns-in-OfPlan : goal.handle-returns-in-OfPlan
+handle-returns-in-OfPlan = handlers.handle-returns-in-OfPlan
 
-pub handle-returns-in-Children-clause-err : goal.handle-returns-in-Children-clause-err
-handle-returns-in-Children-clause-err = handlers.handle-returns-in-Children-clause-err
+pub handle-returns-in-Final :
+    goal.handle-returns-in-Final
+handle-returns-in-Final = handlers.handle-returns-in-Final
 
-pub handle-returns-in-Descendant-clause-ok : goal.handle-returns-in-Descendant-clause-ok
-handle-returns-in-Descendant-clause-ok = handlers.handle-returns-in-Descendant-clause-ok
+pub handle-returns :
+    goal.handle-returns
+handle-returns = handlers.handle-returns
 
-pub handle-returns-in-Descendant-clause-err : goal.handle-returns-in-Descendant-clause-err
-handle-returns-in-Descendant-clause-err = handlers.handle-returns-in-Descendant-clause-err
+pub content-returns-in-Some : goal.content-returns-in-Some
+content-returns-in-Some = contents.content-returns-in-Some
 
-pub handle-returns-in-None-clause-ok : goal.handle-returns-in-None-clause-ok
-handle-returns-in-None-clause-ok = handlers.handle-returns-in-None-clause-ok
+pub walk_alone-returns : goal.walk_alone-returns
+walk_alone-returns = alone.walk_alone-returns
 
-pub handle-returns-in-OfPlan-clause-ok : goal.handle-returns-in-OfPlan-clause-ok
-handle-returns-in-OfPlan-clause-ok = handlers.handle-returns-in-OfPlan-clause-ok
-
-pub handle-returns-in-OfPlan-clause-err : goal.handle-returns-in-OfPlan-clause-err
-handle-returns-in-OfPlan-clause-err = handlers.handle-returns-in-OfPlan-clause-err
-
-pub handle-returns-in_err-contents-in-Each-clause-err :
-    goal.handle-returns-in_err-contents-in-Each-clause-err
-handle-returns-in_err-contents-in-Each-clause-err = handlers.handle-returns-in_err-contents-in-Each-clause-err
-
-pub handle-returns-in_err-result-in-Each-clause-err :
-    goal.handle-returns-in_err-result-in-Each-clause-err
-handle-returns-in_err-result-in-Each-clause-err = handlers.handle-returns-in_err-result-in-Each-clause-err
-
-pub handle-returns-in-Final-clause-ok :
-    goal.handle-returns-in-Final-clause-ok
-handle-returns-in-Final-clause-ok = handlers.handle-returns-in-Final-clause-ok
-
-pub handle-returns-in_err-content-in-ChildrenToo-clause-err :
-    goal.handle-returns-in_err-content-in-ChildrenToo-clause-err
-handle-returns-in_err-content-in-ChildrenToo-clause-err =
-    handlers.handle-returns-in_err-content-in-ChildrenToo-clause-err
-
-pub handle-returns-clause-ok :
-    goal.handle-returns-clause-ok
-handle-returns-clause-ok = handlers.handle-returns-clause-ok
-
-pub handle-returns-clause-err :
-    goal.handle-returns-clause-err
-handle-returns-clause-err = handlers.handle-returns-clause-err
-
-pub raw_html-returns-in_err-content-clause-err : goal.raw_html-returns-in_err-content-clause-err
-raw_html-returns-in_err-content-clause-err = contents.raw_html-returns-in_err-content-clause-err
-
-pub raw_html-returns-in_err-raw-clause-err : goal.raw_html-returns-in_err-raw-clause-err
-raw_html-returns-in_err-raw-clause-err = contents.raw_html-returns-in_err-raw-clause-err
-
-pub content-returns-in_err-append_text-clause-err : goal.content-returns-in_err-append_text-clause-err
-content-returns-in_err-append_text-clause-err = contents.content-returns-in_err-append_text-clause-err
-
-pub content-returns-in-Some-clause-ok : goal.content-returns-in-Some-clause-ok
-content-returns-in-Some-clause-ok = contents.content-returns-in-Some-clause-ok
-
-pub content-returns-in_err-walk_children-clause-err : goal.content-returns-in_err-walk_children-clause-err
-content-returns-in_err-walk_children-clause-err = contents.content-returns-in_err-walk_children-clause-err
-
-pub walk_alone-returns-clause-ok : goal.walk_alone-returns-clause-ok
-walk_alone-returns-clause-ok = alone.walk_alone-returns-clause-ok
-
-pub walk_alone-returns-in_err-walk_node-clause-err : goal.walk_alone-returns-in_err-walk_node-clause-err
-walk_alone-returns-in_err-walk_node-clause-err = alone.walk_alone-returns-in_err-walk_node-clause-err
-
-pub walk_descendant-returns-in_err-append_text-clause-err : goal.walk_descendant-returns-in_err-append_text-clause-err
-walk_descendant-returns-in_err-append_text-clause-err = alone.walk_descendant-returns-in_err-append_text-clause-err
-
-pub walk_descendant-returns-clause-ok : goal.walk_descendant-returns-clause-ok
-walk_descendant-returns-clause-ok = alone.walk_descendant-returns-clause-ok
+pub walk_descendant-returns : goal.walk_descendant-returns
+walk_descendant-returns = alone.walk_descendant-returns
 
 pub walk_children-loop-rest-init : goal.walk_children-loop-rest-init
 walk_children-loop-rest-init = children.walk_children-loop-rest-init
 
-pub walk_children-returns-in_err-joined-clause-err : goal.walk_children-returns-in_err-joined-clause-err
-walk_children-returns-in_err-joined-clause-err = children.walk_children-returns-in_err-joined-clause-err
-
 pub walk_children-walk_node-requires : goal.walk_children-walk_node-requires
 walk_children-walk_node-requires = children.walk_children-walk_node-requires
-
-pub walk_children-returns-in_err-walk_node-clause-err : goal.walk_children-returns-in_err-walk_node-clause-err
-walk_children-returns-in_err-walk_node-clause-err = children.walk_children-returns-in_err-walk_node-clause-err
 
 pub walk_children-loop-rest-preserved-in_ok-walk_node : goal.walk_children-loop-rest-preserved-in_ok-walk_node
 walk_children-loop-rest-preserved-in_ok-walk_node = children.walk_children-loop-rest-preserved-in_ok-walk_node
@@ -143,64 +71,36 @@ walk_children-loop-rest-preserved-in_ok-walk_node = children.walk_children-loop-
 pub walk_children-loop-rest-preserved : goal.walk_children-loop-rest-preserved
 walk_children-loop-rest-preserved = children.walk_children-loop-rest-preserved
 
-pub walk_each-returns-in_err-results-clause-err : goal.walk_each-returns-in_err-results-clause-err
-walk_each-returns-in_err-results-clause-err = alone.walk_each-returns-in_err-results-clause-err
-
 pub walk_each-walk_kept-requires : goal.walk_each-walk_kept-requires
 walk_each-walk_kept-requires = alone.walk_each-walk_kept-requires
-
-pub walk_each-returns-in_err-result-clause-err : goal.walk_each-returns-in_err-result-clause-err
-walk_each-returns-in_err-result-clause-err = alone.walk_each-returns-in_err-result-clause-err
-
-pub walk_each-returns-in_err-push-clause-err : goal.walk_each-returns-in_err-push-clause-err
-walk_each-returns-in_err-push-clause-err = alone.walk_each-returns-in_err-push-clause-err
 
 pub walk_each-loop-node-preserved : goal.walk_each-loop-node-preserved
 walk_each-loop-node-preserved = alone.walk_each-loop-node-preserved
 
-pub walk_element-returns-in_err-content-clause-err : goal.walk_element-returns-in_err-content-clause-err
-walk_element-returns-in_err-content-clause-err = contents.walk_element-returns-in_err-content-clause-err
+pub walk_element-returns : goal.walk_element-returns
+walk_element-returns = contents.walk_element-returns
 
-pub walk_element-returns-clause-ok : goal.walk_element-returns-clause-ok
-walk_element-returns-clause-ok = contents.walk_element-returns-clause-ok
-
-pub walk_node-returns-in_ok-walk_children-in-Document-clause-ok :
-    goal.walk_node-returns-in_ok-walk_children-in-Document-clause-ok
-walk_node-returns-in_ok-walk_children-in-Document-clause-ok =
-    nodes.walk_node-returns-in_ok-walk_children-in-Document-clause-ok
-
-pub walk_node-returns-in_err-walk_children-in-Document-clause-err :
-    goal.walk_node-returns-in_err-walk_children-in-Document-clause-err
-walk_node-returns-in_err-walk_children-in-Document-clause-err =
-    nodes.walk_node-returns-in_err-walk_children-in-Document-clause-err
+pub walk_node-returns-in_ok-walk_children-in-Document :
+    goal.walk_node-returns-in_ok-walk_children-in-Document
+walk_node-returns-in_ok-walk_children-in-Document =
+    nodes.walk_node-returns-in_ok-walk_children-in-Document
 
 pub walk_node-walk_children-requires :
     goal.walk_node-walk_children-requires
 walk_node-walk_children-requires =
     nodes.walk_node-walk_children-requires
 
-pub walk_node-returns-in-Doctype-clause-ok : goal.walk_node-returns-in-Doctype-clause-ok
-walk_node-returns-in-Doctype-clause-ok = nodes.walk_node-returns-in-Doctype-clause-ok
+pub walk_node-returns-in-Doctype : goal.walk_node-returns-in-Doctype
+walk_node-returns-in-Doctype = nodes.walk_node-returns-in-Doctype
 
-pub walk_node-returns-then-is_markdown_alone-clause-ok : goal.walk_node-returns-then-is_markdown_alone-clause-ok
-walk_node-returns-then-is_markdown_alone-clause-ok = nodes.walk_node-returns-then-is_markdown_alone-clause-ok
+pub walk_node-returns-then-is_markdown_alone : goal.walk_node-returns-then-is_markdown_alone
+walk_node-returns-then-is_markdown_alone = nodes.walk_node-returns-then-is_markdown_alone
 
-pub walk_node-returns-else-is_markdown_alone-clause-ok : goal.walk_node-returns-else-is_markdown_alone-clause-ok
-walk_node-returns-else-is_markdown_alone-clause-ok = nodes.walk_node-returns-else-is_markdown_alone-clause-ok
+pub walk_node-returns-else-is_markdown_alone : goal.walk_node-returns-else-is_markdown_alone
+walk_node-returns-else-is_markdown_alone = nodes.walk_node-returns-else-is_markdown_alone
 
-pub walk_node-returns-else-is_markdown_alone-clause-err : goal.walk_node-returns-else-is_markdown_alone-clause-err
-walk_node-returns-else-is_markdown_alone-clause-err = nodes.walk_node-returns-else-is_markdown_alone-clause-err
-
-pub walk_node-returns-in-Text-clause-ok : goal.walk_node-returns-in-Text-clause-ok
-walk_node-returns-in-Text-clause-ok = nodes.walk_node-returns-in-Text-clause-ok
-
-pub walk_node-returns-in-Text-clause-err : goal.walk_node-returns-in-Text-clause-err
-walk_node-returns-in-Text-clause-err = nodes.walk_node-returns-in-Text-clause-err
-
-pub walk_kept-returns-in_err-given-clause-err :
-    goal.walk_kept-returns-in_err-given-clause-err
-walk_kept-returns-in_err-given-clause-err =
-    alone.walk_kept-returns-in_err-given-clause-err
+pub walk_node-returns-in-Text : goal.walk_node-returns-in-Text
+walk_node-returns-in-Text = nodes.walk_node-returns-in-Text
 
 pub walk_kept-keep-requires-clause-right :
     goal.walk_kept-keep-requires-clause-right
@@ -212,32 +112,12 @@ pub walk_kept-returns-clause-ok :
 walk_kept-returns-clause-ok =
     alone.walk_kept-returns-clause-ok
 
-pub walk_kept-returns-clause-err :
-    goal.walk_kept-returns-clause-err
-walk_kept-returns-clause-err =
-    alone.walk_kept-returns-clause-err
+pub walk_node-returns-in-Some :
+    goal.walk_node-returns-in-Some
+walk_node-returns-in-Some =
+    nodes.walk_node-returns-in-Some
 
-pub walk_node-returns-in-Some-clause-ok :
-    goal.walk_node-returns-in-Some-clause-ok
-walk_node-returns-in-Some-clause-ok =
-    nodes.walk_node-returns-in-Some-clause-ok
-
-pub walk_node-returns-in-Some-clause-err :
-    goal.walk_node-returns-in-Some-clause-err
-walk_node-returns-in-Some-clause-err =
-    nodes.walk_node-returns-in-Some-clause-err
-
-pub walk_node-returns-in_err-given-in-Element-clause-err :
-    goal.walk_node-returns-in_err-given-in-Element-clause-err
-walk_node-returns-in_err-given-in-Element-clause-err =
-    nodes.walk_node-returns-in_err-given-in-Element-clause-err
-
-pub walk_node-returns-in_ok-given-in-Element-clause-ok :
-    goal.walk_node-returns-in_ok-given-in-Element-clause-ok
-walk_node-returns-in_ok-given-in-Element-clause-ok =
-    nodes.walk_node-returns-in_ok-given-in-Element-clause-ok
-
-pub walk_node-returns-in_ok-given-in-Element-clause-err :
-    goal.walk_node-returns-in_ok-given-in-Element-clause-err
-walk_node-returns-in_ok-given-in-Element-clause-err =
-    nodes.walk_node-returns-in_ok-given-in-Element-clause-err
+pub walk_node-returns-in_ok-given-in-Element :
+    goal.walk_node-returns-in_ok-given-in-Element
+walk_node-returns-in_ok-given-in-Element =
+    nodes.walk_node-returns-in_ok-given-in-Element

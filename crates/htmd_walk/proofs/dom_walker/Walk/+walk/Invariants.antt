@@ -1,6 +1,5 @@
 use Rattle.std.proofs.Common.{◌≡◌, ℕ, suc, ◌+◌, ◌-◌, ◌*◌, ◌≤◌, length, drop, All}
 use Rattle.htmd_tree.specs.NumberedTrees.{forest_of, tree_of, height}
-use Rattle.htmd_walk.specs.Beginnings.{IsBeginning}
 use Rattle.htmd_walk.specs.Choice.{Config}
 use Rattle.htmd_walk.specs.Groups.{groups_of, children_at}
 use Rattle.htmd_walk.specs.Outputs.{conversion_of}
@@ -18,7 +17,8 @@ abbrev behind : ℕ → ℕ → Config → ℕ
 behind count node config = (count - node) * (length config.registered + 7)
 
 abbrev pub decreases-walk_node : goal.decreases-walk_node
-decreases-walk_node g l = behind (length l.self.now.tree.now) l.node (g.R.Registry.config l.self.now.registry.now)
+decreases-walk_node g l = behind (length l.self.now.tree.now) l.visit.now.node
+    (g.R.Registry.config l.self.now.registry.now)
 
 abbrev pub decreases-walk_alone : goal.decreases-walk_alone
 decreases-walk_alone g l = behind (length l.self.now.tree.now) l.node (g.R.Registry.config l.self.now.registry.now) + 1
@@ -62,7 +62,6 @@ invariant-walk_children-loop-rest g l =
     let conversion = conversion_of (g.R.Registry.config l.self.registry.now) l.self.tree.now in
     let inside = inside_of l.self.tree.now l.fn.node in
     record {
-      kept : IsBeginning l.initial.links l.links;
       children : All (IsChild l.self.tree.now l.fn.node) l.rest;
       rest : (n : ℕ) → height (tree_of l.self.tree.now l.fn.node) ≤ suc n →
           write_children (written_within n conversion) inside (groups_of (forest_of (tree_of l.self.tree.now) l.rest))
@@ -78,7 +77,6 @@ abbrev pub invariant-walk_each-loop-node : goal.invariant-walk_each-loop-node
 invariant-walk_each-loop-node g l =
     let conversion = conversion_of (g.R.Registry.config l.self.registry.now) l.self.tree.now in
     record {
-      kept : IsBeginning l.initial.links l.links;
       remembered : All (IsRemembered conversion) l.remembered.items;
       rest : (n : ℕ) → height (tree_of l.self.tree.now l.element.node) ≤ suc n →
           following (results_view l.results.items) (contents_alone (occurrence_of n conversion l.element)

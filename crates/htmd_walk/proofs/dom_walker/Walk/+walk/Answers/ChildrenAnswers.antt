@@ -6,34 +6,25 @@ use Rattle.std.proofs.Common.{string_bytes}
 use Rattle.std.specs.Option.{option_copied}
 use Rattle.std.proofs.lemmas.List.Elements.{All-drop}
 use Rattle.std.proofs.Math.Nat.{mul-le-mul_right}
-use Rattle.htmd_tree.specs.NumberedTrees.{forest_of, tree_of, height}
-use Rattle.htmd_tree.specs.Ancestors.{ancestors_of}
-use Rattle.htmd_walk.specs.OrdinaryText.{pre}
-use Rattle.htmd_walk.specs.Groups.{groups_of, group_length, group_text, group_tree, children_at}
-use Rattle.htmd_walk.specs.Outputs.{Output, conversion_of, context_of}
-use Rattle.htmd_walk.specs.Children.{write_children, write_groups}
+use Rattle.htmd_tree.specs.NumberedTrees.{forest_of, tree_of}
+use Rattle.htmd_walk.specs.OrdinaryText.{in_pre_or_code}
+use Rattle.htmd_walk.specs.Groups.{groups_of, group_length, group_text, children_at}
+use Rattle.htmd_walk.specs.Outputs.{conversion_of}
+use Rattle.htmd_walk.specs.Children.{write_children}
 use Rattle.htmd_walk.specs.Code.{language_of_pre}
 use Rattle.htmd_walk.specs.Rendering.{written_within, inside_of}
-use Rattle.htmd_walk.specs.Beginnings.{Begins}
 use Rattle.htmd_walk.specs.Views.{output_view}
-use Rattle.htmd_walk.specs.Walking.{InNode}
-use Rattle.htmd_walk.proofs.BeginningsLemmas.{beginning-refl, beginning-trans, beginning-to}
-use Rattle.htmd_walk.proofs.BeginningsLemmas.{begins-wider}
-use Rattle.htmd_walk.proofs.BeginningsLemmas.{grows-children}
-use Rattle.htmd_walk.proofs.BeginningsLemmas.{grows-within}
 use Rattle.htmd_walk.proofs.ChildrenLemmas.{IsChild, children-all, child-first, inside-child, nonempty, if_some}
 use Rattle.htmd_walk.proofs.ChildrenLemmas.{first-has_text}
-use Rattle.htmd_walk.proofs.ChildrenLemmas.{group_written, group_grows}
+use Rattle.htmd_walk.proofs.ChildrenLemmas.{group_written}
 use Rattle.htmd_walk.proofs.RenderingLemmas.{cut_before}
 use Rattle.htmd_walk.proofs.OneLineLemmas.{known-child}
 use Rattle.htmd_walk.proofs.dom_walker.Walk.+walk.Goals as goal
-use Rattle.htmd_text.proofs.Cases.{OnErr-always}
 
 pub walk_children-loop-rest-init : goal.walk_children-loop-rest-init
 walk_children-loop-rest-init g t c =
     let v = conversion_of (g.R.Registry.config c.args.self.now.registry.now) c.args.self.now.tree.now in
     record {
-      kept = beginning-refl c.args.links.now;
       children =
           subst (λ xs. All (IsChild c.args.self.now.tree.now c.args.node) xs) (sym c.children-rest.ensures.value)
           (children-all c.args.self.now.tree.now c.args.node c.children-rest.ensures.tree c.requires.within);
@@ -45,21 +36,6 @@ walk_children-loop-rest-init g t c =
           (groups_of (children_at c.args.self.now.tree.now c.args.node)) b
           (output_view c.args.out.now c.args.links.now)) c.trims_first-trim.ensures;
     }
-
-pub walk_children-returns-in_err-joined-clause-err : goal.walk_children-returns-in_err-joined-clause-err
-walk_children-returns-in_err-joined-clause-err g t c =
-    let v = conversion_of (g.R.Registry.config c.args.self.now.registry.now) c.args.self.now.tree.now in
-    OnErr-always {P = InNode v c.args.node (λ write. Begins c.args.links.now c.loop-rest.links
-    (write_groups write (inside_of c.args.self.now.tree.now c.args.node)
-    (children_at c.args.self.now.tree.now c.args.node) (output_view c.args.out.now c.args.links.now)).definitions)}
-    _ (λ n h. record {
-      kept = c.loop-rest.invariant.kept;
-      begun = beginning-to (grows-children (written_within n v) (grows-within n v)
-          (inside_of c.args.self.now.tree.now c.args.node)
-          (groups_of (forest_of (tree_of c.args.self.now.tree.now) c.loop-rest.rest.now)) c.loop-rest.trim
-          (output_view c.loop-rest.out c.loop-rest.links))
-          (ap (λ (o : Output). o.definitions) (c.loop-rest.invariant.rest n h));
-    })
 
 pub walk_children-walk_node-requires : goal.walk_children-walk_node-requires
 walk_children-walk_node-requires g t c κs within =
@@ -85,52 +61,21 @@ walk_children-walk_node-requires g t c κs within =
         within,
         (
           search rules,
-          (
-            inside,
-            (
-              group,
-              (
-                c.requires.line
-                    ∙ known-child (g.R.Registry.config c.args.self.now.registry.now).options c.args.self.now.tree.now
-                    c.children-rest.ensures.tree c.index-rest-0.result c.args.node child.within child.parent,
-                (
-                  c.language_inside-pre_language.ensures
-                      ∙ ap (language_of_pre c.args.self.now.tree.now) (sym child.parent),
-                  λ no_text. c.requires.inside
-                      ∙ sym (ap pre (inside-child c.args.self.now.tree.now c.args.node c.index-rest-0.result
-                      c.children-rest.ensures.tree child)),
-                ),
-              ),
-            ),
-          ),
+          record {
+            within = inside;
+            group = group;
+            line = c.requires.line
+                ∙ known-child (g.R.Registry.config c.args.self.now.registry.now).options c.args.self.now.tree.now
+                c.children-rest.ensures.tree c.index-rest-0.result c.args.node child.within child.parent;
+            language = c.language_inside-pre_language.ensures
+                ∙ ap (language_of_pre c.args.self.now.tree.now) (sym child.parent);
+            context = λ no_text. c.requires.inside
+                ∙ sym (ap in_pre_or_code (inside-child c.args.self.now.tree.now c.args.node c.index-rest-0.result
+                c.children-rest.ensures.tree child));
+          },
         ),
       ),
     )
-
-pub walk_children-returns-in_err-walk_node-clause-err : goal.walk_children-returns-in_err-walk_node-clause-err
-walk_children-returns-in_err-walk_node-clause-err g t c =
-    let v = conversion_of (g.R.Registry.config c.args.self.now.registry.now) c.args.self.now.tree.now in
-    let some : 0 < length c.loop-rest.rest.now = (nonempty (length c.loop-rest.rest.now) c.loop-rest-test.ensures) in
-    let child = child-first c.args.self.now.tree.now c.args.node c.index-rest-0.result c.loop-rest.rest.now some
-    c.index-rest-0.is c.loop-rest.invariant.children in
-    let joined : option_copied c.lent.result ≡ group_text (tree_of c.args.self.now.tree.now)
-    (take (group_length (tree_of c.args.self.now.tree.now) c.loop-rest.rest.now) c.loop-rest.rest.now) =
-    c.lent.ensures ∙ c.in_ok-joined.ensures ∙ ap (group_text (tree_of c.args.self.now.tree.now))
-    (c.split_at.ensures.front ∙ ap (λ k. take k c.loop-rest.rest.now) c.group_length.ensures.value) in
-    OnErr-always {P = InNode v c.args.node (λ write. Begins c.args.links.now c.walk_node.new.links
-    (write_groups write (inside_of c.args.self.now.tree.now c.args.node)
-    (children_at c.args.self.now.tree.now c.args.node) (output_view c.args.out.now c.args.links.now)).definitions)}
-    _ (λ n h.
-    begins-wider c.loop-rest.invariant.kept (c.in_err-walk_node.ensures.err n (omega (arith, child.lower, h)))
-    (beginning-to (group_grows (g.R.Registry.config c.args.self.now.registry.now) c.args.self.now.tree.now c.args.node
-    c.index-rest-0.result c.loop-rest.rest.now n (option_copied c.lent.result) c.is_block-is_block.result
-    c.loop-rest.trim c.args.inside_pre (output_view c.loop-rest.out c.loop-rest.links)
-    (output_view c.cut_before_child.new.out c.loop-rest.links) c.children-rest.ensures.tree some c.index-rest-0.is
-    child c.requires.inside joined c.is_block-is_block.ensures
-    (cut_before c.is_block-is_block.result (output_view c.loop-rest.out c.loop-rest.links)
-    (string_bytes c.cut_before_child.new.out.content) c.cut_before_child.new.out.markdown_translated
-    c.cut_before_child.ensures.text c.cut_before_child.ensures.markdown_translated))
-    (ap (λ (o : Output). o.definitions) (c.loop-rest.invariant.rest n h))))
 
 pub walk_children-loop-rest-preserved-in_ok-walk_node : goal.walk_children-loop-rest-preserved-in_ok-walk_node
 walk_children-loop-rest-preserved-in_ok-walk_node g t c =
@@ -142,8 +87,6 @@ walk_children-loop-rest-preserved-in_ok-walk_node g t c =
     (take (group_length (tree_of c.args.self.now.tree.now) c.loop-rest.rest.now) c.loop-rest.rest.now) =
     c.lent.ensures ∙ c.in_ok-joined.ensures ∙ ap (group_text (tree_of c.args.self.now.tree.now))
     (c.split_at.ensures.front ∙ ap (λ k. take k c.loop-rest.rest.now) c.group_length.ensures.value) in
-    let bound = height (tree_of c.args.self.now.tree.now c.args.node) in
-    let walked = c.in_ok-walk_node.ensures.ok bound (omega (arith, child.lower)) in
     let before = (output_view c.cut_before_child.new.out c.loop-rest.links) in
     let after = (output_view c.walk_node.new.out c.walk_node.new.links) in
     let longer : nat_lt (length c.as_str-before.result.now) (length c.as_str.result.now) ≡ nat_lt (length before.text)
@@ -151,11 +94,6 @@ walk_children-loop-rest-preserved-in_ok-walk_node g t c =
     ap (λ s. nat_lt (length s) (length c.as_str.result.now)) c.as_str-before.ensures.value
     ∙ ap (λ s. nat_lt (length before.text) (length s)) c.as_str.ensures.value in
     record {
-      kept = beginning-trans c.loop-rest.invariant.kept
-          (beginning-to (grows-within bound v
-          (group_tree (option_copied c.lent.result) (tree_of c.args.self.now.tree.now c.index-rest-0.result))
-          (context_of (ancestors_of c.args.self.now.tree.now c.index-rest-0.result) c.args.inside_pre c.loop-rest.trim)
-          before) (sym (ap (λ (o : Output). o.definitions) walked)));
       children = subst (λ xs. All (IsChild c.args.self.now.tree.now c.args.node) xs) (sym c.split_at.ensures.back)
           (All-drop (IsChild c.args.self.now.tree.now c.args.node) c.group_length.result c.loop-rest.rest.now
           c.loop-rest.invariant.children);
@@ -165,13 +103,13 @@ walk_children-loop-rest-preserved-in_ok-walk_node g t c =
           (c.split_at.ensures.back ∙ ap (λ k. drop k c.loop-rest.rest.now) c.group_length.ensures.value)
           ∙ group_written (g.R.Registry.config c.args.self.now.registry.now) c.args.self.now.tree.now c.args.node
           c.index-rest-0.result c.loop-rest.rest.now n (option_copied c.lent.result) c.is_block-is_block.result
-          c.loop-rest.trim c.args.inside_pre (output_view c.loop-rest.out c.loop-rest.links)
+          c.loop-rest.trim c.args.preformatted (output_view c.loop-rest.out c.loop-rest.links)
           (output_view c.cut_before_child.new.out c.loop-rest.links) c.children-rest.ensures.tree some
           c.index-rest-0.is child c.requires.inside joined c.is_block-is_block.ensures
           (cut_before c.is_block-is_block.result (output_view c.loop-rest.out c.loop-rest.links)
           (string_bytes c.cut_before_child.new.out.content) c.cut_before_child.new.out.markdown_translated
           c.cut_before_child.ensures.text c.cut_before_child.ensures.markdown_translated) after
-          c.trim_after-trim.result (c.in_ok-walk_node.ensures.ok n (omega (arith, child.lower, h)))
+          c.trim_after-trim.result (c.in_ok-walk_node.ensures n (omega (arith, child.lower, h)))
           (c.trim_after-trim.ensures ∙ ap (λ b. cond b c.is_block-is_block.result c.loop-rest.trim) longer)
           ∙ c.loop-rest.invariant.rest n h;
     }
@@ -186,8 +124,6 @@ walk_children-loop-rest-preserved g t c =
     (take (group_length (tree_of c.args.self.now.tree.now) c.loop-rest.rest.now) c.loop-rest.rest.now) =
     c.lent.ensures ∙ c.in_ok-joined.ensures ∙ ap (group_text (tree_of c.args.self.now.tree.now))
     (c.split_at.ensures.front ∙ ap (λ k. take k c.loop-rest.rest.now) c.group_length.ensures.value) in
-    let bound = height (tree_of c.args.self.now.tree.now c.args.node) in
-    let walked = c.in_ok-walk_node.ensures.ok bound (omega (arith, child.lower)) in
     let before = (output_view c.cut_before_child.new.out c.loop-rest.links) in
     let after = (output_view c.walk_node.new.out c.walk_node.new.links) in
     let longer : nat_lt (length c.as_str-before.result.now) (length c.as_str.result.now) ≡ nat_lt (length before.text)
@@ -195,11 +131,6 @@ walk_children-loop-rest-preserved g t c =
     ap (λ s. nat_lt (length s) (length c.as_str.result.now)) c.as_str-before.ensures.value
     ∙ ap (λ s. nat_lt (length before.text) (length s)) c.as_str.ensures.value in
     record {
-      kept = beginning-trans c.loop-rest.invariant.kept
-          (beginning-to (grows-within bound v
-          (group_tree (option_copied c.lent.result) (tree_of c.args.self.now.tree.now c.index-rest-0.result))
-          (context_of (ancestors_of c.args.self.now.tree.now c.index-rest-0.result) c.args.inside_pre c.loop-rest.trim)
-          before) (sym (ap (λ (o : Output). o.definitions) walked)));
       children = subst (λ xs. All (IsChild c.args.self.now.tree.now c.args.node) xs) (sym c.split_at.ensures.back)
           (All-drop (IsChild c.args.self.now.tree.now c.args.node) c.group_length.result c.loop-rest.rest.now
           c.loop-rest.invariant.children);
@@ -209,13 +140,13 @@ walk_children-loop-rest-preserved g t c =
           (c.split_at.ensures.back ∙ ap (λ k. drop k c.loop-rest.rest.now) c.group_length.ensures.value)
           ∙ group_written (g.R.Registry.config c.args.self.now.registry.now) c.args.self.now.tree.now c.args.node
           c.index-rest-0.result c.loop-rest.rest.now n (option_copied c.lent.result) c.is_block-is_block.result
-          c.loop-rest.trim c.args.inside_pre (output_view c.loop-rest.out c.loop-rest.links)
+          c.loop-rest.trim c.args.preformatted (output_view c.loop-rest.out c.loop-rest.links)
           (output_view c.cut_before_child.new.out c.loop-rest.links) c.children-rest.ensures.tree some
           c.index-rest-0.is child c.requires.inside joined c.is_block-is_block.ensures
           (cut_before c.is_block-is_block.result (output_view c.loop-rest.out c.loop-rest.links)
           (string_bytes c.cut_before_child.new.out.content) c.cut_before_child.new.out.markdown_translated
           c.cut_before_child.ensures.text c.cut_before_child.ensures.markdown_translated) after
-          c.trim_after-trim.result (c.in_ok-walk_node.ensures.ok n (omega (arith, child.lower, h)))
+          c.trim_after-trim.result (c.in_ok-walk_node.ensures n (omega (arith, child.lower, h)))
           (c.trim_after-trim.ensures ∙ ap (λ b. cond b c.is_block-is_block.result c.loop-rest.trim) longer)
           ∙ c.loop-rest.invariant.rest n h;
     }

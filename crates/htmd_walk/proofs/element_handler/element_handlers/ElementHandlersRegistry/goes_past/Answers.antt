@@ -7,19 +7,9 @@ use Rattle.htmd_walk.specs.Handling.{of_functions}
 use Rattle.htmd_walk.specs.RegisteredHandlers.{handler_meaning}
 use Rattle.htmd_walk.specs.Registries.{config_of}
 use Rattle.htmd_walk.specs.Spans.{formula_mark}
-use Rattle.htmd_walk.proofs.PassingLemmas.{passed-unhandled, passed-span, none_after, not-true, not-false, no_value}
+use Rattle.htmd_walk.proofs.PassingLemmas.{passed-span, none_after, not-false, no_value}
 use Rattle.htmd_walk.proofs.PassingLemmas.{handler_at-map}
 use Rattle.htmd_walk.proofs.element_handler.element_handlers.ElementHandlersRegistry.goes_past.Goals as goal
-
-pub returns-in_default-find : goal.returns-in_default-find
-returns-in_default-find g c = λ t.
-    passed-unhandled (config_of (λ b. of_functions ((goal.ElementHandler-dyn g (b.vtable, b.value)).plan_of b.value)
-    ((goal.ElementHandler-dyn g (b.vtable, b.value)).finish_of b.value)
-    ((goal.ElementHandler-dyn g (b.vtable, b.value)).append_of b.value)) c.args.self.now) c.as_str-tag.result.now
-    (pairs_of c.in-Element.attrs.items) _ (sym c.data.ensures.value ∙ ap data_of c.in-Element.is
-    ∙ ap (λ s. element_node s (pairs_of c.in-Element.attrs.items)) (sym c.as_str-tag.ensures.value))
-    (sym c.is_markdown_alone.ensures ∙ c.if-not-is_markdown_alone.false) c.in_default-find.ensures.value
-    (not-true (sym c.ne.ensures ∙ t))
 
 pub returns : goal.returns
 returns g c = λ t.
@@ -30,7 +20,7 @@ returns g c = λ t.
     ∙ ap (λ s. element_node s (pairs_of c.in-Element.attrs.items)) (sym c.as_str-tag.ensures.value))
     (sym c.is_markdown_alone.ensures ∙ c.if-not-is_markdown_alone.false) c.in-Some.ensures.value
     (none_after c.find-2.result (sym c.is_some.ensures ∙ c.if-is_some.false) ∙ c.find-2.ensures.value)
-    (not-false (sym c.ne-2.ensures ∙ c.if-ne.false))
+    (not-false (sym c.ne.ensures ∙ c.if-ne.false))
     (handler_at-map (handler_meaning
     (λ b. of_functions ((goal.ElementHandler-dyn g (b.vtable, b.value)).plan_of b.value)
     ((goal.ElementHandler-dyn g (b.vtable, b.value)).finish_of b.value)

@@ -1,6 +1,6 @@
 use Rattle.std.proofs.Common.{sym, ◌∙◌, arith}
 use Rattle.htmd_walk.proofs.Nodes.{pre-hit, pre-miss, pre-root}
-use Rattle.htmd_walk.proofs.node_util.is_inside_pre.Goals as goal
+use Rattle.htmd_walk.proofs.node_util.is_in_pre_or_code.Goals as goal
 
 pub returns-then-is_pre_or_code : goal.returns-then-is_pre_or_code
 returns-then-is_pre_or_code c =
