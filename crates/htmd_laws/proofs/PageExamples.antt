@@ -4,7 +4,7 @@ use Rattle.htmd_tree.specs.NumberedTrees.{NumberedTree, document, text, element,
 use Rattle.htmd_laws.specs.PageLetters.{texts_in, hidden_in}
 
 -- <script>x</script>y<b>z</b>
-page : NumberedTree
+abbrev pub page : NumberedTree
 page =
     document 0
     (more (element 1 (codes "script") [] (more (text 2 (codes "x")) none))
@@ -12,13 +12,10 @@ page =
     (more (element 4 (codes "b") [] (more (text 5 (codes "z")) none)) none)))
 
 pub all_texts : texts_in page ≡ codes "x" ∷ codes "y" ∷ codes "z" ∷ []
-unfolding page
 all_texts = refl
 
 pub hidden_in_guarded : hidden_in true page ≡ codes "x" ∷ []
-unfolding page
 hidden_in_guarded = refl
 
 pub shown_in_pure : hidden_in false page ≡ []
-unfolding page
 shown_in_pure = refl
