@@ -43,10 +43,6 @@ module _ (items : List Item) (t : IsTree items) where
 
 -- ---- as the walk hands it down
 
-pub known-unguarded : (options : Options) (items : List Item) (id : ℕ) → false ≡ is_guarded options
-    → false ≡ known_in_line options items id
-known-unguarded options items id e = ap (λ b. b && stands_in_line items id) e
-
 pub known-guarded : (options : Options) (items : List Item) (id : ℕ) → true ≡ is_guarded options
     → stands_in_line items id ≡ known_in_line options items id
 known-guarded options items id e = ap (λ b. b && stands_in_line items id) e

@@ -98,17 +98,6 @@ span-inside tag attributes above e = ap (λ t. in_pre_or_code (record { tag = t;
 
 -- ---- how the registry finds it out
 
-pub passed-unhandled : (config : Config) (name : List ℕ) (attributes : List AttributePair) (d : Data)
-    → d ≡ element_node name attributes → is_markdown_alone config.options ≡ true
-    → None ≡ slice_get (indexes name config.registered) 0 → is_span name ≡ false → IsPassed config d
-passed-unhandled config name attributes d e p h s =
-    subst (IsPassed config) (sym e) (
-      p,
-      subst (λ b. IsPlain (handlers_at config.handlers (indexes name config.registered)) b
-          (has_math_class attributes)) (sym s)
-          (ap (handlers_at config.handlers) (drop_at_none (indexes name config.registered) 0 h)),
-    )
-
 pub passed-span : (config : Config) (name : List ℕ) (attributes : List AttributePair) (d : Data) (index : ℕ)
     → d ≡ element_node name attributes → is_markdown_alone config.options ≡ true
     → Some index ≡ slice_get (indexes name config.registered) 0
@@ -137,10 +126,6 @@ pub append_texts-push : (hs : List HandlerMeaning) (h : HandlerMeaning) (ds : Li
 append_texts-push [] h ds = append-nil (append_text (h.append ds))
 append_texts-push (x ∷ hs) h ds = ap (λ s. append_text (x.append ds) ++ s) (append_texts-push hs h ds)
     ∙ sym (append_assoc (append_text (x.append ds)) (append_texts hs ds) (append_text (h.append ds)))
-
-pub not-true : {b : Bool} → not b ≡ true → b ≡ false
-not-true {b = true} e = cc
-not-true {b = false} e = refl
 
 pub not-false : {b : Bool} → not b ≡ false → b ≡ true
 not-false {b = true} e = refl

@@ -646,6 +646,7 @@ impl<'a, R: Registry> Walk<'a, R> {
                         self.spare,
                     );
                 }
+                // In a cycle of calls the check asks that both are lent again.
                 let element = (&*self).element(&*visit, name.as_str(), attrs.as_slice(), true);
                 let given = self.walk_element(&element, links)?;
                 append_result(
