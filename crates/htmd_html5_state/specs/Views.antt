@@ -1,9 +1,11 @@
 -- What the program's nodes, open elements and entries are.
-use Rattle.std.specs.Prelude.{ℕ, List, map, string_bytes, Option, Some, None}
+use Rattle.std.specs.Prelude.{ℕ, List, [], ◌∷◌, map, string_bytes, Option, Some, None}
 use Rattle.std.specs.Borrow.{Bor}
 use Rattle.htmd_tree.specs.Views.{pairs_of}
 use Rattle.htmd_html5_state.specs.Names.{element_name_of}
 use Rattle.htmd_html5_state.specs.Documents.{KindValue, NodeValue, document, doctype, text, comment, element}
+use Rattle.htmd_html5_state.specs.declared.children.Children.{Children}
+use Rattle.htmd_html5_state.specs.declared.children.Children.TheVariants as kept
 use Rattle.htmd_html5_state.specs.declared.document.Node.{Node}
 use Rattle.htmd_html5_state.specs.declared.document.NodeKind.{NodeKind}
 use Rattle.htmd_html5_state.specs.declared.document.NodeKind.TheVariants.{Document, Doctype, Text, Comment, Element}
@@ -20,8 +22,16 @@ abbrev pub kind_seen : Option (Bor NodeKind) → KindValue
 kind_seen None = document
 kind_seen (Some kind) = kind_of kind.now
 
+-- the numbers of children that are kept
+abbrev pub numbers_of : Children → List ℕ
+numbers_of kept.None = []
+numbers_of (kept.One number) = number ∷ []
+numbers_of (kept.Two numbers) = numbers
+numbers_of (kept.Three numbers) = numbers
+numbers_of (kept.More numbers) = numbers.items
+
 abbrev pub node_of : Node → NodeValue
-node_of node = record { kind = kind_of node.kind; parent = node.parent; children = node.children.items }
+node_of node = record { kind = kind_of node.kind; parent = node.parent; children = numbers_of node.children }
 
 abbrev pub nodes_of : List Node → List NodeValue
 nodes_of nodes = map node_of nodes

@@ -1,10 +1,11 @@
 //! Documents while they are made: nodes by number, each with its parent and its children.
 ghost use Rattle.std.specs.Prelude.{◌≡◌, ◌∷◌, ◌++◌, ◌≤◌, [], insert, length, string_bytes, IfOk, OnOk, MatchBool, Some, None};
 ghost use Rattle.htmd_html5_state.specs.Documents as spec;
-ghost use Rattle.htmd_html5_state.specs.Views.{kind_of, kind_seen, nodes_of};
+ghost use Rattle.htmd_html5_state.specs.Views.{kind_of, kind_seen, nodes_of, numbers_of};
 ghost use Rattle.htmd_tree.specs.Views.{pairs_of};
 
 use crate::attributes::{add_missing, copy_all};
+use crate::children::Children;
 use crate::names::ElementName;
 use htmd_tree::Attribute;
 use std::alloc::{AllocError, Global};
@@ -29,7 +30,7 @@ pub enum NodeKind {
 pub struct Node {
     pub kind: NodeKind,
     pub parent: Option<usize>,
-    pub children: Vec<usize>,
+    pub children: Children,
 }
 
 /// A place for a node: in its parent before a child, or as the last.
@@ -92,21 +93,21 @@ fn place_index(children: &[usize], next: Option<usize>) -> usize
 /// Puts a child before another one, or as the last.
 #[tactic(auto, using(crate::proofs::DocumentLemmas::insert_last))]
 fn insert_child(
-    children: &mut Vec<usize>,
+    alloc: Global,
+    children: &mut Children,
     child: usize,
     next: Option<usize>,
 ) -> Result<(), AllocError>
-    ensures { OnOk result (children.new.items
-        ≡ insert children.old.items (spec.place_index next children.old.items) child) }
+    ensures { OnOk result (numbers_of children.new
+        ≡ insert (numbers_of children.old) (spec.place_index next (numbers_of children.old)) child) }
 {
     match next {
         Some(next) => {
             let index = index_of(children.as_slice(), next);
-            children.insert(index, child)?;
+            children.insert(alloc, index, child)
         }
-        None => children.push(child)?,
+        None => children.push(alloc, child),
     }
-    Ok(())
 }
 
 impl NodeKind {
@@ -135,7 +136,7 @@ impl Document {
         nodes.push(Node {
             kind: NodeKind::Document,
             parent: None,
-            children: Vec::new(alloc),
+            children: Children::None,
         })?;
         Ok(Document { alloc, nodes })
     }
@@ -195,8 +196,9 @@ impl Document {
     {
         if parent < self.nodes.len() {
             let node = &mut self.nodes[parent];
-            let index = index_of(node.children.as_slice(), child);
-            if index < node.children.len() {
+            let children = node.children.as_slice();
+            let index = index_of(children, child);
+            if index < children.len() {
                 node.children.remove(index);
             }
         }
@@ -207,7 +209,7 @@ impl Document {
     {
         if place.parent < self.nodes.len() {
             let node = &mut self.nodes[place.parent];
-            insert_child(&mut node.children, child, place.next)?;
+            insert_child(self.alloc, &mut node.children, child, place.next)?;
         }
         Ok(())
     }
@@ -248,7 +250,7 @@ impl Document {
         self.nodes.push(Node {
             kind,
             parent: None,
-            children: Vec::new(self.alloc),
+            children: Children::None,
         })?;
         Ok(number)
     }
@@ -285,15 +287,15 @@ impl Document {
         }
     }
 
-    fn take_children(&mut self, node: usize) -> Vec<usize>
-        ensures taken { result.items ≡ spec.children_at self.old node }
+    fn take_children(&mut self, node: usize) -> Children
+        ensures taken { numbers_of result ≡ spec.children_at self.old node }
         ensures rest { self.new ≡ spec.with_children node [] self.old }
     {
         if node >= self.nodes.len() {
-            return Vec::new(self.alloc);
+            return Children::None;
         }
         let node = &mut self.nodes[node];
-        mem::replace(&mut node.children, Vec::new(self.alloc))
+        mem::replace(&mut node.children, Children::None)
     }
 
     fn append_children(&mut self, node: usize, children: &[usize]) -> Result<(), AllocError>
@@ -301,7 +303,7 @@ impl Document {
     {
         if node < self.nodes.len() {
             let node = &mut self.nodes[node];
-            node.children.extend_from_slice(children)?;
+            node.children.extend(self.alloc, children)?;
         }
         Ok(())
     }

@@ -4,6 +4,7 @@
 
 mod adoption;
 mod attributes;
+mod children;
 mod document;
 mod foreign;
 mod formatting;
@@ -17,6 +18,7 @@ mod resetting;
 mod sets;
 mod state;
 
+pub use children::Children;
 pub use document::{Node, NodeKind};
 pub use modes::InsertionMode;
 pub use names::{ElementName, HtmlName, Namespace, TagName};

@@ -3,35 +3,35 @@ use Rattle.std.proofs.Common.{◌≡◌, ◌∙◌, ℕ, List, length, sym, ap, 
 use Rattle.std.specs.Prelude.{remove}
 use Rattle.htmd_html5_state.specs.Documents.{NodeValue}
 use Rattle.htmd_html5_state.specs.Documents.{index_of, without_child}
-use Rattle.htmd_html5_state.specs.Views.{node_of}
+use Rattle.htmd_html5_state.specs.Views.{node_of, numbers_of}
 use Rattle.htmd_html5_state.proofs.DocumentLemmas.{written, remove_past}
 use Rattle.htmd_html5_state.proofs.document.Document.remove_child.Goals as goal
 
-pub returns-then-index-len : goal.returns-then-index-len
-returns-then-index-len c =
+pub returns-then-index-children : goal.returns-then-index-children
+returns-then-index-children c =
     let ns = c.self.inside.nodes.items in
     let len : c.len.result ≡ length ns = c.len.ensures ∙ search rules in
     let old = c.index_mut-node.result.now in
-    let index : c.index_of-index.result ≡ index_of c.args.child old.children.items =
-    c.index_of-index.ensures.place ∙ ap (index_of c.args.child) c.as_slice.ensures.value in
-    let children : c.remove.new.self.items ≡ without_child c.args.child old.children.items =
-    c.remove.ensures.items ∙ ap (λ i. remove old.children.items i) index in
+    let index : c.index_of-index.result ≡ index_of c.args.child (numbers_of old.children) =
+    c.index_of-index.ensures.place ∙ ap (index_of c.args.child) c.as_slice-children.ensures in
+    let children : numbers_of c.remove.new.self ≡ without_child c.args.child (numbers_of old.children) =
+    c.remove.ensures ∙ ap (λ i. remove (numbers_of old.children) i) index in
     written ns c.args.self.now c.args.parent old _
     (λ (x : NodeValue). record x { children = without_child c.args.child x.children }) c.self.view_is
     (omega arith) c.index_mut-node.ensures.value
     (ap (λ (cs : List ℕ). record (node_of old) { children = cs }) children)
 
-pub returns-else-index-len : goal.returns-else-index-len
-returns-else-index-len c =
+pub returns-else-index-children : goal.returns-else-index-children
+returns-else-index-children c =
     let ns = c.self.inside.nodes.items in
     let len : c.len.result ≡ length ns = c.len.ensures ∙ search rules in
     let old = c.index_mut-node.result.now in
-    let index : c.index_of-index.result ≡ index_of c.args.child old.children.items =
-    c.index_of-index.ensures.place ∙ ap (index_of c.args.child) c.as_slice.ensures.value in
-    let many : c.len-then-parent-len.result ≡ length old.children.items =
-    c.len-then-parent-len.ensures ∙ search rules in
-    let children : old.children.items ≡ without_child c.args.child old.children.items =
-    sym (remove_past old.children.items (index_of c.args.child old.children.items) (omega arith)) in
+    let index : c.index_of-index.result ≡ index_of c.args.child (numbers_of old.children) =
+    c.index_of-index.ensures.place ∙ ap (index_of c.args.child) c.as_slice-children.ensures in
+    let many : length c.as_slice-children.result.now ≡ length (numbers_of old.children) =
+    ap length c.as_slice-children.ensures in
+    let children : numbers_of old.children ≡ without_child c.args.child (numbers_of old.children) =
+    sym (remove_past (numbers_of old.children) (index_of c.args.child (numbers_of old.children)) (omega arith)) in
     written ns c.args.self.now c.args.parent old _
     (λ (x : NodeValue). record x { children = without_child c.args.child x.children }) c.self.view_is
     (omega arith) c.index_mut-node.ensures.value
