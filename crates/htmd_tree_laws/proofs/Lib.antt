@@ -27,6 +27,7 @@ pub mod TextElements
 pub mod CountedTexts
 pub mod LettersLemmas
 pub mod LettersOfTexts
+pub mod KeptMarks
 pub mod LettersOfLines
 pub mod LettersOfPieces
 pub mod LettersOfLinks
