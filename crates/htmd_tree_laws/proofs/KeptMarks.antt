@@ -56,7 +56,7 @@ pub ends-append : (e : State) (cs ds : List ℕ) → ends e (cs ++ ds) ≡ ends 
 ends-append e [] ds = refl
 ends-append e (c ∷ cs) ds = ends-append (step e c) cs ds
 
-kept-append : (e : State) (cs ds : List ℕ) → kept e (cs ++ ds) ≡ kept e cs ++ kept (ends e cs) ds
+pub kept-append : (e : State) (cs ds : List ℕ) → kept e (cs ++ ds) ≡ kept e cs ++ kept (ends e cs) ds
 kept-append e [] ds = refl
 kept-append e (c ∷ cs) ds =
     ap (λ l. cond (goes e c) l (c ∷ l)) (kept-append (step e c) cs ds) ∙ by (goes e c)
@@ -99,7 +99,7 @@ not_so : (b : Bool) → not b ≡ true → b ≡ false
 not_so true e = absurd (false≢true e)
 not_so false e = refl
 
-step-even : (c : ℕ) → is_backslash c ≡ false → step even c ≡ even
+pub step-even : (c : ℕ) → is_backslash c ≡ false → step even c ≡ even
 step-even c other = cond-false (is_backslash c) odd even other
 
 pub ends-safe : (x : List ℕ) → list_all is_safe x ≡ true → ends even x ≡ even
@@ -126,12 +126,12 @@ below-same even = tt
 below-same odd = tt
 below-same blank = tt
 
-below_even : (f : State) → Below even f → f ≡ even
+pub below_even : (f : State) → Below even f → f ≡ even
 below_even even b = refl
 below_even odd b = absurd b
 below_even blank b = absurd b
 
-plain_step : (f : State) (c : ℕ) → is_backslash c ≡ false → is_white c ≡ false → is_asterisk c ≡ false
+pub plain_step : (f : State) (c : ℕ) → is_backslash c ≡ false → is_white c ≡ false → is_asterisk c ≡ false
     → step f c ≡ even
 plain_step even c s w a = cond-false (is_backslash c) odd even s
 plain_step odd c s w a = cond-false (is_white c) blank even w
@@ -169,22 +169,22 @@ goes_too odd even c b g = absurd b
 goes_too odd odd c b g = g
 goes_too odd blank c b g = absurd b
 
-abbrev seen_more : ℕ → List ℕ → List ℕ
+abbrev pub seen_more : ℕ → List ℕ → List ℕ
 seen_more c l = cond (is_visible c) (c ∷ l) l
 
-more_both : (c : ℕ) (l m : List ℕ) → IsPart l m → IsPart (seen_more c l) (seen_more c m)
+pub more_both : (c : ℕ) (l m : List ℕ) → IsPart l m → IsPart (seen_more c l) (seen_more c m)
 more_both c l m p = by (is_visible c)
   where
     by : (b : Bool) → IsPart (cond b (c ∷ l) l) (cond b (c ∷ m) m)
     by true = inl (refl, p)
     by false = p
 
-more_found : (c : ℕ) (l m : List ℕ) → IsPart l m → IsPart l (seen_more c m)
+pub more_found : (c : ℕ) (l m : List ℕ) → IsPart l m → IsPart l (seen_more c m)
 more_found c l m p =
     cond_both (is_visible c) (c ∷ m) m (λ (x : List ℕ). IsPart l x) (λ _. part-behind l m c p) (λ _. p)
 
 -- no more of them goes
-one_more : (e f : State) (c : ℕ) (l m : List ℕ) → Below e f → IsPart (filter is_visible l) (filter is_visible m)
+pub one_more : (e f : State) (c : ℕ) (l m : List ℕ) → Below e f → IsPart (filter is_visible l) (filter is_visible m)
     → IsPart (filter is_visible (cond (goes e c) l (c ∷ l))) (filter is_visible (cond (goes f c) m (c ∷ m)))
 one_more e f c l m b p =
     cond_both (goes f c) m (c ∷ m)
@@ -251,7 +251,7 @@ stays (b ∷ x) r t high (y, rest, swap, whole, more) =
     absurd (omega (arith, below))) swap in
     (deeper.0, whole ∙ ap (λ z. z ++ rest) first ∙ ap (λ z. b ∷ z) deeper.1, deeper.2)
 
-encodes-safe : (x : List ℕ) → list_all is_safe x ≡ true → encode_utf8_all x ≡ x
+pub encodes-safe : (x : List ℕ) → list_all is_safe x ≡ true → encode_utf8_all x ≡ x
 encodes-safe [] e = refl
 encodes-safe (b ∷ x) e =
     let parts = and_parts (is_safe b) (list_all is_safe x) e in
@@ -261,7 +261,7 @@ encodes-safe (b ∷ x) e =
 ascii_scalar : (b : ℕ) → b < 128 → IsScalar b
 ascii_scalar b low = low_scalar b (omega arith)
 
-scalars-safe : (x : List ℕ) → list_all is_safe x ≡ true → all_scalars x ≡ true
+pub scalars-safe : (x : List ℕ) → list_all is_safe x ≡ true → all_scalars x ≡ true
 scalars-safe [] e = refl
 scalars-safe (b ∷ x) e =
     let parts = and_parts (is_safe b) (list_all is_safe x) e in
@@ -411,11 +411,13 @@ keeps-respaced {s} {t} {l} r p =
           ∙ below_even (ends even w.characters) (subst (λ e. Below e (ends even w.characters)) p.closed both.1);
     }
 
+pub chars-safe : (x : List ℕ) → list_all is_safe x ≡ true → chars x ≡ x
+chars-safe x e = ap chars (sym (encodes-safe x e)) ∙ chars-encodes x (scalars-safe x e)
+
 -- ASCII without backslashes
 pub keeps-safe : (x : List ℕ) → list_all is_safe x ≡ true → Keeps x []
 keeps-safe x e =
-    let same : chars x ≡ x =
-    ap chars (sym (encodes-safe x e)) ∙ chars-encodes x (scalars-safe x e) in
+    let same : chars x ≡ x = chars-safe x e in
     record {
       utf8 = (x, (scalars-safe x e, encodes-safe x e));
       keeps = tt;

@@ -54,6 +54,7 @@ pub mod ShownTables
 pub mod ShownLawsLemmas
 pub mod TextCharacters
 pub mod JointMarks
+pub mod KeptJoints
 mod ParagraphExamples
 mod TextExamples
 mod LettersExamples
