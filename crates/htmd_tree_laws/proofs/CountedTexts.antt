@@ -59,7 +59,7 @@ part-append (x ∷ l) m (c ∷ s) t p q =
     ⊎_elim (λ here. inl (here.0, part-append l m s t here.1 q))
     (λ later. inr (part-append (x ∷ l) m s t later q)) p
 
-part-of_nothing : (l : List ℕ) → IsPart l [] → l ≡ []
+pub part-of_nothing : (l : List ℕ) → IsPart l [] → l ≡ []
 part-of_nothing [] p = refl
 part-of_nothing (x ∷ l) p = absurd p
 

@@ -16,7 +16,7 @@ use Rattle.std.proofs.lemmas.Str.{IsUtf8-append, IsUtf8-nil, chars-nil}
 use Rattle.htmd_text.specs.Characters.{backslash}
 use Rattle.htmd_markdown.specs.Joints.{is_asterisk, is_backslash}
 use Rattle.htmd_tree_laws.specs.Shown.{is_visible, is_counted, IsPart}
-use Rattle.htmd_tree_laws.proofs.CountedTexts.{of_visible, part-behind, part-append, part-then, holds-own}
+use Rattle.htmd_tree_laws.proofs.CountedTexts.{of_visible, part-of_nothing, part-behind, part-append, part-then, holds-own}
 use Rattle.htmd_tree_laws.proofs.LettersLemmas.{Says, is_white}
 use Rattle.htmd_tree_laws.proofs.LettersOfTexts.{bytes_high}
 
@@ -370,6 +370,10 @@ pub record Keeps (s l : List ℕ) : Type 0 where
 
 pub keeps-nil : Keeps [] []
 keeps-nil = record { utf8 = IsUtf8-nil; keeps = tt; closed = ap (ends even) chars-nil }
+
+pub keeps-of_nothing : {l : List ℕ} → Keeps [] l → l ≡ []
+keeps-of_nothing {l} p =
+    part-of_nothing l (subst (λ (x : List ℕ). IsPart l x) (ap (seen even) chars-nil) p.keeps)
 
 pub keeps-append : {s t l m : List ℕ} → Keeps s l → Keeps t m → Keeps (s ++ t) (l ++ m)
 keeps-append {s} {t} {l} {m} p q =

@@ -55,6 +55,7 @@ pub mod ShownLawsLemmas
 pub mod TextCharacters
 pub mod JointMarks
 pub mod KeptJoints
+pub mod KeptLines
 mod ParagraphExamples
 mod TextExamples
 mod LettersExamples
