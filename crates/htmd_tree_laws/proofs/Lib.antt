@@ -27,12 +27,16 @@ pub mod TextElements
 pub mod CountedTexts
 pub mod LettersLemmas
 pub mod LettersOfTexts
-pub mod KeptMarks
 pub mod LettersOfLines
 pub mod LettersOfPieces
 pub mod LettersOfLinks
 pub mod LettersOfGuarded
 pub mod LettersOfJoints
+pub mod JointMarks
+pub mod KeptMarks
+pub mod KeptJoints
+pub mod KeptLines
+pub mod KeptPieces
 pub mod LettersOfHandlers
 pub mod LettersOfTables
 pub mod LettersOfGrids
@@ -53,9 +57,6 @@ pub mod TableChildren
 pub mod ShownTables
 pub mod ShownLawsLemmas
 pub mod TextCharacters
-pub mod JointMarks
-pub mod KeptJoints
-pub mod KeptLines
 mod ParagraphExamples
 mod TextExamples
 mod LettersExamples

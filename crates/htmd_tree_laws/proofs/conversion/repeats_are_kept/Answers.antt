@@ -1,4 +1,4 @@
-use Rattle.htmd_tree_laws.proofs.KeptLines.{keeps-quote}
+use Rattle.htmd_tree_laws.proofs.KeptPieces.{keeps-guarded_emphasis}
 use Rattle.htmd_tree_laws.proofs.ContentLawsLemmas.{repeats_are_kept}
 use Rattle.htmd_tree_laws.proofs.conversion.repeats_are_kept.Goals as goal
 
