@@ -35,10 +35,10 @@ use Rattle.htmd_tree_laws.proofs.LettersOfJoints.{IsRun, run_first, run_last, en
 use Rattle.htmd_tree_laws.proofs.LettersOfTexts.{bytes_high}
 use Rattle.htmd_tree_laws.proofs.Utf8Cuts.{cut_before}
 
-no_backslash : (b : ℕ) → 128 ≤ b → is_backslash b ≡ false
+pub no_backslash : (b : ℕ) → 128 ≤ b → is_backslash b ≡ false
 no_backslash b high = grind (arith, nat_tests)
 
-no_asterisk : (b : ℕ) → 128 ≤ b → is_asterisk b ≡ false
+pub no_asterisk : (b : ℕ) → 128 ≤ b → is_asterisk b ≡ false
 no_asterisk b high = grind (arith, nat_tests)
 
 no_white : (b : ℕ) → 128 ≤ b → is_white b ≡ false
@@ -53,12 +53,12 @@ abbrev closes : State → List ℕ → State
 closes e s = marks.ends e (chars s)
 
 -- how the states stand to what escapes the next byte
-abbrev Agree : State → Bool → Type 0
+abbrev pub Agree : State → Bool → Type 0
 Agree even x = x ≡ false
 Agree odd x = x ≡ true
 Agree blank x = Unit {0}
 
-agree-step : (e : State) (x : Bool) (b : ℕ) → Agree e x → Agree (step e b) ((b == backslash) && not x)
+pub agree-step : (e : State) (x : Bool) (b : ℕ) → Agree e x → Agree (step e b) ((b == backslash) && not x)
 agree-step even x b a =
     cond_both (is_backslash b) odd even (λ s. Agree s ((b == backslash) && not x))
     (λ yes. ap (λ y. y && not x) yes ∙ ap not a) (λ no. ap (λ y. y && not x) no)
@@ -77,7 +77,7 @@ agree-ends : (e : State) (x : Bool) (s : List ℕ) → Agree e x → Agree (mark
 agree-ends e x [] a = a
 agree-ends e x (b ∷ s) a = agree-ends (step e b) ((b == backslash) && not x) s (agree-step e x b a)
 
-high_step : (e : State) (b : ℕ) → 128 ≤ b → step e b ≡ even
+pub high_step : (e : State) (b : ℕ) → 128 ≤ b → step e b ≡ even
 high_step even b high = marks.plain_step even b (no_backslash b high) (no_white b high) (no_asterisk b high)
 high_step odd b high = marks.plain_step odd b (no_backslash b high) (no_white b high) (no_asterisk b high)
 high_step blank b high = marks.plain_step blank b (no_backslash b high) (no_white b high) (no_asterisk b high)

@@ -40,11 +40,13 @@ pub mod KeptPieces
 pub mod LettersOfHandlers
 pub mod LettersOfTables
 pub mod LettersOfGrids
+pub mod KeptTables
 pub mod ElementsByTag
 pub mod WrittenTables
 pub mod LettersOfElements
 pub mod FittingTrees
 pub mod SaidChildren
+pub mod KeptTexts
 pub mod LettersLawsLemmas
 pub mod BlockBeginnings
 pub mod TextLines

@@ -1,4 +1,5 @@
-use Rattle.htmd_tree_laws.proofs.KeptPieces.{keeps-guarded_emphasis}
+use Rattle.htmd_tree_laws.proofs.KeptTexts.{children_are_kept}
+use Rattle.htmd_tree_laws.proofs.ElementsByTag.{by_tag}
 use Rattle.htmd_tree_laws.proofs.ContentLawsLemmas.{repeats_are_kept}
 use Rattle.htmd_tree_laws.proofs.conversion.repeats_are_kept.Goals as goal
 
