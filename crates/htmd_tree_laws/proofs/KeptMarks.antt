@@ -436,7 +436,7 @@ keeps-before {s} {l} x e p = keeps-is (append-nil l) (keeps-append p (keeps-safe
 
 -- ---- what is found at all
 
-seen_all : (e : State) (cs : List ℕ) → IsPart (seen e cs) (filter is_visible cs)
+pub seen_all : (e : State) (cs : List ℕ) → IsPart (seen e cs) (filter is_visible cs)
 seen_all e [] = tt
 seen_all e (c ∷ cs) =
     let l = kept (step e c) cs in
@@ -463,7 +463,7 @@ no_asterisk c e = ap (is_counted true) (eqb-true c 42 e)
 counted_visible : (c : ℕ) → is_visible c ≡ false → is_counted true c ≡ false
 counted_visible c e = ap (λ b. b && not (c == 42)) e
 
-counted_kept : (e : State) (cs : List ℕ) → IsPart (filter (is_counted true) cs) (seen e cs)
+pub counted_kept : (e : State) (cs : List ℕ) → IsPart (filter (is_counted true) cs) (seen e cs)
 counted_kept e [] = tt
 counted_kept e (c ∷ cs) =
     let l = kept (step e c) cs in

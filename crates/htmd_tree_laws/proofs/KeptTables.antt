@@ -65,22 +65,21 @@ record Barred (e : State) (cs t : List ℕ) : Type 0 where
   pub shows : IsPart (seen e cs) (seen e characters)
   pub closed : ends e characters ≡ ends e cs
 
+no_bar : (b : ℕ) → 128 ≤ b → (b == vertical_bar) ≡ false
+no_bar b high = grind (arith, nat_tests)
+
+one_bar : (x : Bool) (b : ℕ) (r : List ℕ) → 128 ≤ b → escaped_bars x (b ∷ r) ≡ b ∷ escaped_bars false r
+one_bar x b r large =
+    ap (λ d. cond (d && not x) (backslash ∷ b ∷ []) (b ∷ []) ++ escaped_bars (is_escaping x b) r) (no_bar b large)
+    ∙ ap (λ d. b ∷ escaped_bars (d && not x) r) (no_backslash b large)
+
 high_bars : (x : Bool) (s r : List ℕ) → 0 < length s → ((k : ℕ) → k < length s → 128 ≤ get_or s k 0)
     → escaped_bars x (s ++ r) ≡ s ++ escaped_bars false r
 high_bars x [] r l high = absurd (omega (arith, l))
-high_bars x (b ∷ s) r l high =
-    let large = high 0 (omega arith) in
-    ap (λ d. cond (d && not x) (backslash ∷ b ∷ []) (b ∷ []) ++ escaped_bars (is_escaping x b) (s ++ r)) (no_bar b large)
-    ∙ ap (λ d. b ∷ escaped_bars (d && not x) (s ++ r)) (no_backslash b large)
-    ∙ ap (λ z. b ∷ z) (by s (λ k m. high (suc k) (omega (arith, m))))
-  where
-    no_bar : (b : ℕ) → 128 ≤ b → (b == vertical_bar) ≡ false
-    no_bar b high = grind (arith, nat_tests)
-
-    by : (s : List ℕ) → ((k : ℕ) → k < length s → 128 ≤ get_or s k 0)
-        → escaped_bars false (s ++ r) ≡ s ++ escaped_bars false r
-    by [] high = refl
-    by (c ∷ s) high = high_bars false (c ∷ s) r (omega arith) high
+high_bars x (b ∷ []) r l high = one_bar x b r (high 0 (omega arith))
+high_bars x (b ∷ c ∷ s) r l high =
+    one_bar x b ((c ∷ s) ++ r) (high 0 (omega arith))
+    ∙ ap (λ z. b ∷ z) (high_bars false (c ∷ s) r (omega arith) (λ k m. high (suc k) (omega (arith, m))))
 
 bar_step : (e : State) → Agree e false → step (step e backslash) vertical_bar ≡ even
 bar_step even a = refl
@@ -98,10 +97,12 @@ bar_first : (e : State) (cs ds : List ℕ) → Agree e false → IsPart (seen ev
     → IsPart (seen e (vertical_bar ∷ cs)) (seen e (backslash ∷ vertical_bar ∷ ds))
     × (ends e (backslash ∷ vertical_bar ∷ ds) ≡ ends e (vertical_bar ∷ cs))
 bar_first even cs ds a p closed =
-    (more_found backslash _ _ (more_both vertical_bar (seen even cs) (seen even ds) p), closed)
+    (more_found backslash (seen_more vertical_bar (seen even cs)) (seen_more vertical_bar (seen even ds))
+    (more_both vertical_bar (seen even cs) (seen even ds) p), closed)
 bar_first odd cs ds a p closed = absurd (false≢true a)
 bar_first blank cs ds a p closed =
-    (more_found backslash _ _ (more_both vertical_bar (seen even cs) (seen even ds) p), closed)
+    (more_found backslash (seen_more vertical_bar (seen even cs)) (seen_more vertical_bar (seen even ds))
+    (more_both vertical_bar (seen even cs) (seen even ds) p), closed)
 
 high_agree : (e : State) (x : Bool) (c : ℕ) → 128 ≤ c → Agree e x → Agree (step e c) false
 high_agree e x c high a = subst (λ s. Agree s false) (sym (high_step e c high)) refl
@@ -123,7 +124,7 @@ bars (c ∷ cs) e x scalars a =
     subst (λ (t : List ℕ). Barred e (c ∷ cs) (escaped_bars x (t ++ encode_utf8_all cs))) (sym (encode_ascii c low))
     (cond_both due (backslash ∷ c ∷ []) (c ∷ [])
     (λ (t : List ℕ). Barred e (c ∷ cs) (t ++ escaped_bars (is_escaping x c) (encode_utf8_all cs)))
-    (λ d. with_bar c cs e x parts.1 a (eqb-true c vertical_bar (and_parts (c == vertical_bar) (not x) d).0)
+    (λ d. with_bar c cs e x (bars cs even false parts.1 refl) a (eqb-true c vertical_bar (and_parts (c == vertical_bar) (not x) d).0)
     (not-true x (and_parts (c == vertical_bar) (not x) d).1))
     (λ _. plain c cs e x low parts.0 (bars cs (step e c) (is_escaping x c) parts.1 (agree-step e x c a)))))
     (λ high.
@@ -155,21 +156,21 @@ bars (c ∷ cs) e x scalars a =
       closed = later.closed;
     }
 
-    with_bar : (c : ℕ) (cs : List ℕ) (e : State) (x : Bool) → all_scalars cs ≡ true → Agree e x → c ≡ vertical_bar
+    with_bar : (c : ℕ) (cs : List ℕ) (e : State) (x : Bool)
+        → Barred even cs (escaped_bars false (encode_utf8_all cs)) → Agree e x → c ≡ vertical_bar
         → x ≡ false
         → Barred e (c ∷ cs) ((backslash ∷ c ∷ []) ++ escaped_bars (is_escaping x c) (encode_utf8_all cs))
-    with_bar c cs e x scalars a is none =
+    with_bar c cs e x later a is none =
         subst (λ (d : ℕ). Barred e (d ∷ cs) ((backslash ∷ d ∷ []) ++ escaped_bars (is_escaping x d) (encode_utf8_all cs)))
         (sym is)
         (subst (λ (y : Bool). Barred e (vertical_bar ∷ cs)
         ((backslash ∷ vertical_bar ∷ []) ++ escaped_bars (is_escaping y vertical_bar) (encode_utf8_all cs))) (sym none)
-        (here cs e scalars (subst (λ y. Agree e y) none a)))
+        (here cs e later (subst (λ y. Agree e y) none a)))
       where
-        here : (cs : List ℕ) (e : State) → all_scalars cs ≡ true → Agree e false
+        here : (cs : List ℕ) (e : State) → Barred even cs (escaped_bars false (encode_utf8_all cs)) → Agree e false
             → Barred e (vertical_bar ∷ cs)
             ((backslash ∷ vertical_bar ∷ []) ++ escaped_bars false (encode_utf8_all cs))
-        here cs e scalars a =
-            let later = bars cs even false scalars refl in
+        here cs e later a =
             let both = bar_first e cs later.characters a later.shows later.closed in
             record {
               characters = backslash ∷ vertical_bar ∷ later.characters;
@@ -209,16 +210,13 @@ keeps-guarded_cell s l p =
 
 -- ---- lines
 
-keep-none : KeepAll [] []
-keep-none = refl
-
 keep-append : (ss rs : List (List ℕ)) (l m : List ℕ) → KeepAll ss l → KeepAll rs m → KeepAll (ss ++ rs) (l ++ m)
 keep-append [] rs l m p q = subst (λ (x : List ℕ). KeepAll rs x) (ap (λ z. z ++ m) (sym p)) q
 keep-append (s ∷ ss) rs l m (a, b, p, q, e) r =
     (a, b ++ m, p, keep-append ss rs b m q r, ap (λ z. z ++ m) e ∙ append_assoc a b m)
 
-keep-is : {ss : List (List ℕ)} {l m : List ℕ} → l ≡ m → KeepAll ss l → KeepAll ss m
-keep-is {ss} e p = subst (λ (x : List ℕ). KeepAll ss x) e p
+keep-is : (ss : List (List ℕ)) {l m : List ℕ} → l ≡ m → KeepAll ss l → KeepAll ss m
+keep-is ss e p = subst (λ (x : List ℕ). KeepAll ss x) e p
 
 keep-mapped : (f : List ℕ → List ℕ) → KeepsBy f → (ss : List (List ℕ)) (l : List ℕ) → KeepAll ss l
     → KeepAll (map f ss) l
@@ -258,7 +256,7 @@ keeps-row f keeps cells widths l fit p =
     let rest : length pad ≡ missing = length-replicate missing [] in
     keeps-before (line_feed ∷ []) refl
     (keeps-line (line_cells_by f (length widths) cells) widths l (omega (arith, size, count, rest, fit))
-    (keep-is (append-nil l)
+    (keep-is (line_cells_by f (length widths) cells) (append-nil l)
     (keep-append (map f cells) (replicate missing []) l [] (keep-mapped f keeps cells l p) (keep-empty missing))))
 
 keep-dashes : (widths : List ℕ) → KeepAll (map dashes widths) []
@@ -276,9 +274,6 @@ keeps-separator widths =
 abbrev KeepRows : List (List (List ℕ)) → List ℕ → Type 0
 KeepRows [] l = l ≡ []
 KeepRows (cells ∷ rows) l = (m n : List ℕ) × KeepAll cells m × KeepRows rows n × (l ≡ m ++ n)
-
-rows-is : {rows : List (List (List ℕ))} {l m : List ℕ} → l ≡ m → KeepRows rows l → KeepRows rows m
-rows-is {rows} e p = subst (λ (x : List ℕ). KeepRows rows x) e p
 
 rows-push : (rows : List (List (List ℕ))) (cells : List (List ℕ)) (l m : List ℕ) → KeepRows rows l
     → KeepAll cells m → KeepRows (rows ++ cells ∷ []) (l ++ m)

@@ -56,7 +56,9 @@ pub mod TextLawsLemmas
 pub mod ShownTrees
 pub mod ShownOfElements
 pub mod TableChildren
+pub mod KeptElements
 pub mod ShownTables
+pub mod KeptLawsLemmas
 pub mod ShownLawsLemmas
 pub mod TextCharacters
 mod ParagraphExamples

@@ -2,20 +2,22 @@
 use Rattle.std.specs.Prelude.{◌≡◌, ◌⊎◌, ℕ, ◌<◌, Bool, true, false, not, ◌&&◌, ◌||◌, if◌then◌else◌, List, [], ◌∷◌, ◌++◌}
 use Rattle.std.specs.Prelude.{◌==◌, filter, codes, length, Option, Some, None}
 use Rattle.std.specs.Char.{is_whitespace}
+use Rattle.std.specs.Option.{is_some}
 use Rattle.std.specs.Str.{chars, bytes_eq}
 use Rattle.htmd_text.specs.Characters.{asterisk}
+use Rattle.htmd_tree.specs.ValueTrees.{AttributePair}
 use Rattle.htmd_tree.specs.Items.{Item, IsTree, HoldTexts}
 use Rattle.htmd_tree.specs.NumberedTrees.{NumberedTree, document, doctype, text, comment, element}
 use Rattle.htmd_tree.specs.NumberedTrees.{NumberedForest, none, more, tree_of}
 use Rattle.htmd_walk.specs.declared.options.Options.{Options}
 use Rattle.htmd_walk.specs.Handling.{ElementView}
 use Rattle.htmd_walk.specs.Anchors.{anchor_address, is_autolinked}
-use Rattle.htmd_walk.specs.ElementPlans.{is_tag_among, attributes_of}
+use Rattle.htmd_walk.specs.ElementPlans.{is_tag_among}
 use Rattle.htmd_walk.specs.Elements.{view_at}
 use Rattle.htmd_walk.specs.GuardedTableLayouts.{is_or_has_row, is_written_as_table}
 use Rattle.htmd_walk.specs.OtherBlocks.{hidden_tags}
 use Rattle.htmd_walk.specs.TableLayouts.{has_tag}
-use Rattle.htmd_walk.specs.Spans.{formula_mark, is_read_in_formula}
+use Rattle.htmd_walk.specs.Spans.{has_math_class}
 use Rattle.htmd_walk.specs.Outputs.{conversion_of, is_markdown_alone, is_guarded}
 use Rattle.htmd_walk.specs.BuiltIn.{built_in}
 use Rattle.htmd_walk.specs.Markdown.{walked_content, markdown}
@@ -58,18 +60,16 @@ abbrev pub is_autolink : Option (List ℕ) → ElementView → Bool
 is_autolink None view = false
 is_autolink (Some address) view = prefers_autolinks view.options.link_style && is_autolinked view address
 
--- a formula: the text stands as it is between these marks
-abbrev pub is_formula : Option (List ℕ) → Option (List ℕ) → Bool
-is_formula None shown = false
-is_formula (Some mark) None = false
-is_formula (Some mark) (Some s) = not (is_read_in_formula s)
+-- a formula: one text of a class of formulas
+abbrev pub is_formula : List AttributePair → Option (List ℕ) → Bool
+is_formula attributes shown = has_math_class attributes && is_some shown
 
 -- In Guarded all text below these is written as one text, and no table below them as a table.
-abbrev pub is_one_text : List ℕ → ElementView → Bool
-is_one_text name view =
+abbrev pub is_one_text : List ℕ → List AttributePair → ElementView → Bool
+is_one_text name attributes view =
     ((bytes_eq name (codes "code") || bytes_eq name (codes "pre"))
     || (bytes_eq name (codes "a") && is_autolink (anchor_address view) view))
-    || (bytes_eq name (codes "span") && is_formula (formula_mark (attributes_of view)) view.text)
+    || (bytes_eq name (codes "span") && is_formula attributes view.text)
 
 -- the node that it is the tree of
 abbrev pub node_of : NumberedTree → ℕ
@@ -100,7 +100,7 @@ module _ (options : Options) (items : List Item) where
     shown_of tables (comment id s) = []
     shown_of tables (element id name attributes children) =
         let view = view_at (conversion_of (built_in options) items) id true children in
-        let tables_below = not (is_one_text name view) && tables in
+        let tables_below = not (is_one_text name attributes view) && tables in
         if is_empty_element (is_guarded options) name then []
         else (if bytes_eq name (codes "table") && (tables_below && is_written_as_table items id)
         then shown_but_later tables_below false children ++ shown_later tables_below false children
