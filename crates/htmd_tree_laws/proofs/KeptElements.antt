@@ -9,7 +9,7 @@ use Rattle.std.proofs.Math.Bool.{and_comm}
 use Rattle.std.proofs.lemmas.Slice.Eq.{bytes_eq-Decides}
 use Rattle.std.proofs.lemmas.List.{append-nil}
 use Rattle.htmd_text.specs.BlankLines.{with_blank_lines}
-use Rattle.htmd_text.specs.Trims.{trimmed_text}
+use Rattle.htmd_text.specs.Trims.{trimmed_text, is_line_feed}
 use Rattle.htmd_text.specs.WhiteSpace.{is_document_white_space}
 use Rattle.htmd_tree.specs.Items.{Item, data_at, children_of}
 use Rattle.htmd_tree.specs.Items as tree
@@ -36,7 +36,7 @@ use Rattle.htmd_walk.specs.Children.{content_inside, content_alone, descendant_t
 use Rattle.htmd_walk.specs.Choice.{indexes, handlers_at}
 use Rattle.htmd_walk.specs.Code.{code, guarded_code_plan}
 use Rattle.htmd_walk.specs.Preformatted.{preformatted_texts, guarded_preformatted, guarded_language}
-use Rattle.htmd_walk.specs.ElementPlans.{tag_of, attributes_of, markdown_plan, is_tag_among, unless_faithful}
+use Rattle.htmd_walk.specs.ElementPlans.{tag_of, attributes_of, ancestors_of, markdown_plan, is_tag_among, unless_faithful}
 use Rattle.htmd_walk.specs.Elements.{Occurrence, Answer, content_of, contents_alone, plan_answer, answer_after, first_answer}
 use Rattle.htmd_walk.specs.Elements.{occurrence_at, with_finish, without_handler, answer_of}
 use Rattle.htmd_walk.specs.Groups.{only_text, children_at}
@@ -47,6 +47,7 @@ use Rattle.htmd_walk.specs.Images.{images, image_address, image_at, alternative_
 use Rattle.htmd_walk.specs.LineBreaks.{line_breaks, break_style_of}
 use Rattle.htmd_walk.specs.LinkAttributes.{title_of}
 use Rattle.htmd_walk.specs.Lists.{lists, blocks_of, blocks_of_list, numbered_list, ordered_text, first_number_of}
+use Rattle.htmd_walk.specs.OrdinaryText.{pre}
 use Rattle.htmd_walk.specs.OneLineElements.{is_in_line, stands_in_line}
 use Rattle.htmd_walk.specs.OtherBlocks.{other_blocks, other_block_plan, hidden_tags}
 use Rattle.htmd_walk.specs.Outputs.{Conversion, conversion_of, Writes, is_markdown_alone, is_guarded, result_of}
@@ -58,7 +59,7 @@ use Rattle.htmd_tree_laws.specs.Shown.{counted_characters, is_empty_element, is_
 use Rattle.htmd_tree_laws.specs.Shown.{shown_among, is_counted, IsPart}
 use Rattle.htmd_tree_laws.proofs.CountedTexts.{of_visible, part-then}
 use Rattle.htmd_tree_laws.proofs.ElementsByTag.{IsOnly, is_named, IsPlain, by_tag, unhandled_answer, child_text, guarded_language_is_text}
-use Rattle.htmd_tree_laws.proofs.KeptLines.{keeps-wrapped, keeps-blank_lines}
+use Rattle.htmd_tree_laws.proofs.KeptLines.{keeps-wrapped, keeps-blank_lines, keeps-trimmed}
 use Rattle.htmd_tree_laws.proofs.KeptMarks.{even, ends, Keeps, keeps-append, keeps-is, keeps-as, keeps-in, keeps-nil, keeps-safe}
 use Rattle.htmd_tree_laws.proofs.KeptMarks.{says-keeps, seen, seen_all, counted_kept}
 use Rattle.htmd_tree_laws.proofs.KeptPieces.{KeepAll, keeps-ordered, keeps-unnumbered_list, keeps-guarded_link}
@@ -74,7 +75,7 @@ use Rattle.htmd_tree_laws.proofs.LettersOfLinks.{IsTextIfAny}
 use Rattle.htmd_tree_laws.proofs.LettersOfTables.{all_of}
 use Rattle.htmd_tree_laws.proofs.LettersOfPieces.{SaysIfAny}
 use Rattle.htmd_tree_laws.proofs.WrittenTables.{guarded_plan}
-use Rattle.htmd_tree_laws.proofs.LettersOfTexts.{says-blank_lines, says-trimmed, document_of_white}
+use Rattle.htmd_tree_laws.proofs.LettersOfTexts.{says-blank_lines, says-trimmed, document_of_white, line_feed_of_white}
 use Rattle.htmd_tree_laws.proofs.ShownTrees.{in_table, shown_inside, no_table}
 
 -- the mark of a formula
@@ -313,19 +314,26 @@ module _ (options : Options) (g : is_guarded options ≡ true) (alone : is_markd
         subst (λ (l : List ℕ). IsPart l all_shown) (sym (in_formula s f))
         (subst (λ (m : List ℕ). IsPart (counted_characters true s) m) (sym (formula true s f)) (less_counted (chars s)))
 
-    -- a formula, or what is in the span
+    -- what is in the span
+    span_content : (l : List ℕ) → Keeps (content_of at definitions).text l
+        → KeepsResult (with_finish spans at.view (content_of at definitions)).result l
+    span_content l p =
+        cond_both (is_guarded options || pre (ancestors_of at.view)) _ _ (λ (s : List ℕ). Keeps s l) (λ _. p)
+        (λ _. keeps-trimmed is_line_feed line_feed_of_white (content_of at definitions).text p)
+
+    -- a formula, or that
     span_gives : (mark text : Option (List ℕ)) → formula_mark own ≡ mark → only_text children ≡ text
         → IsTextIfAny text
         → KeepsResult (plan_answer spans at definitions (formula_plan at.view mark text)
         (without_handler at definitions)).result
         (shown_among options items (not (is_some mark && is_some text) && true) children)
-    span_gives None text e f t = rw alone (within definitions)
-    span_gives (Some mark) None e f t = rw alone (within definitions)
+    span_gives None text e f t = rw alone (span_content all_shown (within definitions))
+    span_gives (Some mark) None e f t = rw alone (span_content all_shown (within definitions))
     span_gives (Some mark) (Some s) e f t =
         cond_both (is_guarded options && is_read_in_formula s) content_of_children (markdown_plan ((mark ++ s) ++ mark))
         (λ (plan : PlanView). KeepsResult (plan_answer spans at definitions plan (without_handler at definitions)).result
         in_tree)
-        (λ _. rw g (keeps-in (less_shown s f) (within definitions)))
+        (λ _. span_content in_tree (keeps-in (less_shown s f) (within definitions)))
         (λ _. keeps-is (sym (in_formula s f))
         (kept_but_asterisks ((mark ++ s) ++ mark) (counted_characters true s)
         (says-formula mark s (formula_marks_fill own mark e) t)
@@ -444,7 +452,7 @@ module _ (options : Options) (g : is_guarded options ≡ true) (alone : is_markd
     said_here d = shown options items (descendant_tree items (only_text children) d)
 
     each_gives : (ds : List ℕ) (before : List (List ℕ)) → EachKeeps at (shown options items) ds
-        → KeepEach said_here ds (contents_alone at ds before).results
+        → KeepEach said_here items ds (contents_alone at ds before).results
     each_gives [] before each = tt
     each_gives (d ∷ ds) before each =
         let out = content_alone write conversion (descendant_tree items (only_text children) d) d before in

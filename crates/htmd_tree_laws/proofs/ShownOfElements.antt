@@ -198,7 +198,7 @@ module _ (options : Options) (pure : is_guarded options ≡ false) (alone : is_m
     image_shows here =
         planned_is_said law at definitions (codes "img") images (image_at (image_address at.view) at.view) []
         refl (rw alone refl)
-        (result_shows_none guarded _ _ (image_gives at definitions (values id) (image_address at.view)
+        (result_shows_none false _ _ (image_gives at definitions (values id) (image_address at.view)
         (last_is_text (codes "href" ∷ codes "src" ∷ []) (attributes_of at.view) (values id))))
 
     anchor_shows : IsShown (codes "a")
