@@ -7,7 +7,6 @@ use Rattle.std.specs.Str.{IsUtf8, bytes_eq, chars}
 use Rattle.std.proofs.lemmas.Bool.{cond_both, cond-false, cond-true, or_from, and_left, true≢false, and_parts}
 use Rattle.std.proofs.Math.Bool.{and_comm}
 use Rattle.std.proofs.lemmas.Slice.Eq.{bytes_eq-Decides}
-use Rattle.std.proofs.lemmas.List.{append-nil}
 use Rattle.htmd_text.specs.BlankLines.{with_blank_lines}
 use Rattle.htmd_text.specs.Trims.{trimmed_text, is_line_feed}
 use Rattle.htmd_text.specs.WhiteSpace.{is_document_white_space}
@@ -16,7 +15,7 @@ use Rattle.htmd_tree.specs.Items as tree
 use Rattle.htmd_tree.specs.ValueTrees.{AttributePair}
 use Rattle.htmd_tree.specs.NumberedTrees.{NumberedTree, NumberedForest}
 use Rattle.htmd_tree.specs.Ancestors.{Ancestor, ancestor_of}
-use Rattle.htmd_markdown.specs.GuardedLinks.{guarded_resource, guarded_image, guarded_autolink, guarded_link}
+use Rattle.htmd_markdown.specs.GuardedLinks.{guarded_image, guarded_autolink, guarded_link}
 use Rattle.htmd_markdown.specs.GuardedCode.{guarded_code, guarded_span_in_line, guarded_code_block}
 use Rattle.htmd_markdown.specs.LineBreaks.{line_break}
 use Rattle.htmd_markdown.specs.Lists.{Block, block_text, guarded_first_number, highest_number}
@@ -41,7 +40,7 @@ use Rattle.htmd_walk.specs.Elements.{Occurrence, Answer, content_of, contents_al
 use Rattle.htmd_walk.specs.Elements.{occurrence_at, with_finish, without_handler, answer_of}
 use Rattle.htmd_walk.specs.Groups.{only_text, children_at}
 use Rattle.htmd_walk.specs.GuardedTableLayouts.{is_written_as_table, table_lines, nodes_of_lines}
-use Rattle.htmd_walk.specs.Handling.{ElementView, PlanView, ResultView, nothing, content_of_children, contents_of_each}
+use Rattle.htmd_walk.specs.Handling.{PlanView, ResultView, nothing, content_of_children, contents_of_each}
 use Rattle.htmd_walk.specs.Handling.{HandlerMeaning, content_of_fallback}
 use Rattle.htmd_walk.specs.Images.{images, image_address, image_at, alternative_text}
 use Rattle.htmd_walk.specs.LineBreaks.{line_breaks, break_style_of}
@@ -51,7 +50,7 @@ use Rattle.htmd_walk.specs.OrdinaryText.{pre}
 use Rattle.htmd_walk.specs.OneLineElements.{is_in_line, stands_in_line}
 use Rattle.htmd_walk.specs.OtherBlocks.{other_blocks, other_block_plan, hidden_tags}
 use Rattle.htmd_walk.specs.Outputs.{Conversion, conversion_of, Writes, is_markdown_alone, is_guarded, result_of}
-use Rattle.htmd_walk.specs.Spans.{spans, formula_mark, formula_plan, is_read_in_formula, has_math_class, mark_of_class}
+use Rattle.htmd_walk.specs.Spans.{spans, formula_mark, formula_plan, is_read_in_formula, mark_of_class}
 use Rattle.htmd_walk.specs.TableElements.{tables, table_plan, is_left_out}
 use Rattle.htmd_walk.specs.ThematicBreaks.{thematic_breaks, thematic_break_plan, thematic_break_style_of}
 use Rattle.htmd_tree_laws.specs.Letters.{said_of_each, prefers_autolinks}
@@ -60,7 +59,7 @@ use Rattle.htmd_tree_laws.specs.Shown.{shown_among, is_counted, IsPart}
 use Rattle.htmd_tree_laws.proofs.CountedTexts.{of_visible, part-then}
 use Rattle.htmd_tree_laws.proofs.ElementsByTag.{IsOnly, is_named, IsPlain, by_tag, unhandled_answer, child_text, guarded_language_is_text}
 use Rattle.htmd_tree_laws.proofs.KeptLines.{keeps-wrapped, keeps-blank_lines, keeps-trimmed}
-use Rattle.htmd_tree_laws.proofs.KeptMarks.{even, ends, Keeps, keeps-append, keeps-is, keeps-as, keeps-in, keeps-nil, keeps-safe}
+use Rattle.htmd_tree_laws.proofs.KeptMarks.{even, ends, Keeps, keeps-is, keeps-as, keeps-in, keeps-nil, keeps-safe}
 use Rattle.htmd_tree_laws.proofs.KeptMarks.{says-keeps, seen, seen_all, counted_kept}
 use Rattle.htmd_tree_laws.proofs.KeptPieces.{KeepAll, keeps-ordered, keeps-unnumbered_list, keeps-guarded_link}
 use Rattle.htmd_tree_laws.proofs.KeptPieces.{keeps-guarded_reference, closed-autolink, closed-image, closed-code, closed-fenced}

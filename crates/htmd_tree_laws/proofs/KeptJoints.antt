@@ -1,18 +1,18 @@
 -- Where two texts meet in Guarded, all that is promised of both is kept.
-use Rattle.std.proofs.Common.{◌≡◌, ℕ, zero, suc, ◌+◌, ◌-◌, ◌<◌, ◌≤◌, Bool, true, false, cond, List, [], ◌∷◌, ◌++◌}
+use Rattle.std.proofs.Common.{◌≡◌, ℕ, suc, ◌+◌, ◌-◌, ◌<◌, ◌≤◌, Bool, true, false, cond, List, [], ◌∷◌, ◌++◌}
 use Rattle.std.proofs.Common.{length, get_or, take, drop, drop-drop, codes, refl, sym, ap, ◌∙◌, arith, subst, append_assoc}
 use Rattle.std.proofs.Common.{⊎_elim, inl, inr}
 use Rattle.std.proofs.lemmas.Bool.Decides.{nat_tests}
 use Rattle.std.specs.Prelude.{◌⊎◌, ◌==◌, ◌&&◌, ◌||◌, not, encode_utf8, encode_utf8_all, filter}
 use Rattle.std.specs.Char.{is_ascii_punctuation}
 use Rattle.std.specs.List.{list_all}
-use Rattle.std.specs.Str.{chars, IsUtf8, all_scalars}
+use Rattle.std.specs.Str.{chars, IsUtf8}
 use Rattle.std.proofs.Math.Seq.{take-append_seam, drop-append_seam}
-use Rattle.std.proofs.lemmas.Bool.{and_parts, and_from, or_cases, or_parts, cases_Bool, cases_lt, cond_both, cond-true}
+use Rattle.std.proofs.lemmas.Bool.{and_parts, and_from, or_parts, cases_lt, cond_both, cond-true}
 use Rattle.std.proofs.lemmas.Bool.{eqb-true, false≢true, true≢false, false_from_ne_true}
-use Rattle.std.proofs.lemmas.List.{append-nil, take-append-drop, length-append, length-drop, length-take-le, drop-take}
-use Rattle.std.proofs.lemmas.Str.{encodes-append, encodes-chars, encode_ascii, chars-append, chars-IsAscii, scalars-chars}
-use Rattle.std.proofs.lemmas.Str.{IsUtf8-from_ascii, chars-encodes, chars-nil, IsUtf8-drop, IsUtf8-take, IsUtf8-append, IsUtf8-nil}
+use Rattle.std.proofs.lemmas.List.{append-nil, take-append-drop, length-take-le, drop-take}
+use Rattle.std.proofs.lemmas.Str.{encodes-append, encodes-chars, encode_ascii, chars-append, chars-IsAscii}
+use Rattle.std.proofs.lemmas.Str.{IsUtf8-from_ascii, chars-nil, IsUtf8-drop, IsUtf8-take, IsUtf8-append, IsUtf8-nil}
 use Rattle.unicode.proofs.CategoryComputing.{ucd_category}
 use Rattle.htmd_text.specs.Characters.{asterisk, backslash, exclamation_mark}
 use Rattle.htmd_markdown.specs.CodeSpans.{ends_with}
@@ -24,14 +24,14 @@ use Rattle.htmd_markdown.specs.Joints.{is_plain_at, is_plain_sign, with_joint}
 use Rattle.htmd_markdown.specs.Titles.{is_filled}
 use Rattle.htmd_markdown.proofs.JointCutsLemmas.{plain_end-cut, plain_start-cut, beginning_run-cut, ending_run-cut}
 use Rattle.htmd_tree_laws.specs.Shown.{IsPart, is_visible}
-use Rattle.htmd_tree_laws.proofs.CountedTexts.{of_letters, of_visible, part-append, part-behind, holds-own}
+use Rattle.htmd_tree_laws.proofs.CountedTexts.{of_visible, part-append, holds-own}
 use Rattle.htmd_tree_laws.proofs.JointMarks.{escapes, run_bare, end_bare, front_signs, encode_size}
 use Rattle.htmd_tree_laws.proofs.KeptMarks.{State, even, odd, blank, step, seen, ends-append, seen-append, Below, below-same}
 use Rattle.htmd_tree_laws.proofs.KeptMarks.{below_even, seen-below, below-ends, one_more, kept, Keeps, keeps-append, keeps-is}
 use Rattle.htmd_tree_laws.proofs.KeptMarks.{keeps-as, keeps-in, keeps-before, is_safe, chars-safe}
 use Rattle.htmd_tree_laws.proofs.KeptMarks as marks
 use Rattle.htmd_tree_laws.proofs.LettersLemmas.{is_white, white_ascii, fillers_ascii}
-use Rattle.htmd_tree_laws.proofs.LettersOfJoints.{IsRun, run_first, run_last, ending, drop_last, some_last, run_fills}
+use Rattle.htmd_tree_laws.proofs.LettersOfJoints.{IsRun, run_first, ending, drop_last, some_last, run_fills}
 use Rattle.htmd_tree_laws.proofs.LettersOfTexts.{bytes_high}
 use Rattle.htmd_tree_laws.proofs.Utf8Cuts.{cut_before}
 

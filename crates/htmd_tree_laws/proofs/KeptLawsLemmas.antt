@@ -1,12 +1,11 @@
 -- In Guarded what a tree shows stands in what is written of it, `*` too.
 use Rattle.std.proofs.Common.{◌≡◌, ℕ, zero, suc, ◌<◌, ◌≤◌, Bool, true, false, List, [], ◌∷◌, ◌++◌, length, Option}
 use Rattle.std.proofs.Common.{Some, None, cond, codes, refl, sym, ap, ◌∙◌, arith, subst}
-use Rattle.std.specs.Str.{bytes_eq}
-use Rattle.std.proofs.lemmas.Bool.{cond_both, false≢true}
+use Rattle.std.proofs.lemmas.Bool.{cond_both}
 use Rattle.std.proofs.lemmas.List.{append-nil}
-use Rattle.htmd_text.specs.Trims.{trimmed_end, is_line_feed}
+use Rattle.htmd_text.specs.Trims.{is_line_feed}
 use Rattle.htmd_text.specs.WhiteSpace.{is_document_white_space}
-use Rattle.htmd_tree.specs.Items.{Item, data_at, children_of, IsTree, HoldsText, HoldTexts}
+use Rattle.htmd_tree.specs.Items.{Item, data_at, children_of, IsTree, HoldsText}
 use Rattle.htmd_tree.specs.NumberedTrees.{NumberedTree, document, doctype, text, comment, element, NumberedForest}
 use Rattle.htmd_tree.specs.NumberedTrees.{forest_of, tree_of, height, tallest}
 use Rattle.htmd_tree.specs.Ancestors.{Ancestor, ancestors_of}
@@ -20,18 +19,16 @@ use Rattle.htmd_walk.specs.CaptionsAndCells.{captions_and_cells}
 use Rattle.htmd_walk.specs.Groups.{only_text, groups_of, children_at, may_join}
 use Rattle.htmd_walk.specs.GuardedTableLayouts.{is_written_as_table, table_lines, nodes_of_lines}
 use Rattle.htmd_walk.specs.Handling.{ResultView}
-use Rattle.htmd_walk.specs.Markdown.{walked_content, walked_node, markdown, append_texts}
+use Rattle.htmd_walk.specs.Markdown.{walked_content}
 use Rattle.htmd_walk.specs.OrdinaryText.{pre}
 use Rattle.htmd_walk.specs.Outputs.{Conversion, conversion_of, Output, Context, context_of, empty_output, is_guarded}
 use Rattle.htmd_walk.specs.Outputs.{is_markdown_alone}
 use Rattle.htmd_walk.specs.Rendering.{with_result, written_within}
-use Rattle.htmd_tree_laws.specs.Shown.{visible, IsPart, shown, shown_of, shown_among}
+use Rattle.htmd_tree_laws.specs.Shown.{visible, shown, shown_of, shown_among}
 use Rattle.htmd_tree_laws.specs.Shown.{tables_fit}
-use Rattle.htmd_tree_laws.proofs.CountedTexts.{Law, of_visible, part-append}
-use Rattle.htmd_tree_laws.proofs.LettersLemmas.{Says, says-own, says-nil, says-is, counted_append}
-use Rattle.htmd_tree_laws.proofs.LettersOfTexts.{document_of_white, line_feed_of_white, says-trimmed_end, says-trimmed}
-use Rattle.htmd_tree_laws.proofs.LettersOfPieces.{says-seam}
-use Rattle.htmd_tree_laws.proofs.LettersOfJoints.{PassesMarks, says-guarded_seam}
+use Rattle.htmd_tree_laws.proofs.CountedTexts.{of_visible}
+use Rattle.htmd_tree_laws.proofs.LettersLemmas.{Says, says-own, says-is}
+use Rattle.htmd_tree_laws.proofs.LettersOfTexts.{document_of_white, line_feed_of_white}
 use Rattle.htmd_tree_laws.proofs.LettersOfTables.{all_of}
 use Rattle.htmd_tree_laws.proofs.LettersOfLinks.{IsTextIfAny}
 use Rattle.htmd_tree_laws.proofs.FittingTrees as fitting
@@ -51,7 +48,7 @@ use Rattle.htmd_tree_laws.specs.Shown.{counted_characters, is_empty_element, is_
 use Rattle.htmd_tree_laws.proofs.ShownTrees.{shown_inside}
 use Rattle.std.specs.Prelude.{◌&&◌, not}
 use Rattle.std.proofs.lemmas.Bool.{true≢false}
-use Rattle.htmd_tree_laws.proofs.LettersLawsLemmas.{values_in, plain_at}
+use Rattle.htmd_tree_laws.proofs.LettersLawsLemmas.{values_in}
 use Rattle.htmd_tree_laws.proofs.ShownTrees.{AllFit, Lies, lies_still, IsLow, all_low, same_among, only_shows, groups_lower}
 use Rattle.htmd_tree_laws.proofs.ShownTrees.{in_table, groups_show, tree_fits, each_shown, ol_is_alone, table_is_alone}
 use Rattle.htmd_tree_laws.proofs.ShownTables.{all_texts_show, table_shows, lines_low}

@@ -1,17 +1,17 @@
 -- Texts that are cut at their ends, put together at a seam or written line by line: only white space is exchanged.
 use Rattle.std.proofs.Common.{◌≡◌, ℕ, zero, suc, ◌+◌, ◌-◌, Bool, true, false, cond, List, [], ◌∷◌, ◌++◌, length, take, drop}
-use Rattle.std.proofs.Common.{refl, sym, ap, ◌∙◌, arith, subst, append_assoc, ⊎_elim, inl, inr, codes, map, min, max}
-use Rattle.std.specs.Prelude.{◌⊎◌, ◌&&◌, ◌||◌, ◌==◌, not, nat_lt, filter, replicate, slice_index, fold}
+use Rattle.std.proofs.Common.{refl, sym, ap, ◌∙◌, arith, subst, append_assoc, ⊎_elim, inr, codes, map, min, max}
+use Rattle.std.specs.Prelude.{◌&&◌, ◌==◌, nat_lt, filter, replicate, slice_index}
 use Rattle.std.specs.List.{list_all, flat_map, slice_split, onto_first, prefix_len, suffix_len}
 use Rattle.std.specs.Str.Lines.{lines, lines_of_parts, strip_carriage_return}
-use Rattle.std.proofs.lemmas.Bool.{and_parts, and_from, cond_both, cond-true, cond-false, cases_Bool, eqb-true}
+use Rattle.std.proofs.lemmas.Bool.{and_parts, and_from, cond_both, cond-false, cases_Bool, eqb-true}
 use Rattle.std.proofs.lemmas.Bool.Decides.{nat_tests}
 use Rattle.std.proofs.lemmas.List.{append-nil, take-append-drop, length-drop, length-take-le}
 use Rattle.std.proofs.lemmas.List.Sums.{suffix_len-le-length, prefix_len-le-length}
 use Rattle.htmd_text.specs.BlankLines.{blank_line, with_blank_lines}
 use Rattle.htmd_text.specs.Characters.{space, line_feed}
 use Rattle.htmd_text.specs.Indents.{line_text, next_line, indented_lines, indented_text}
-use Rattle.htmd_text.specs.Joins.{joined_texts, join_block, joined_blocks}
+use Rattle.htmd_text.specs.Joins.{joined_texts, join_block}
 use Rattle.htmd_text.specs.Trims.{trimmed_start, trimmed_end, trimmed_text, cut_end, is_line_feed, is_space}
 use Rattle.htmd_text.specs.WhiteSpace.{is_document_white_space}
 use Rattle.htmd_markdown.specs.OneLine.{with_spaces_between, one_line}
@@ -20,11 +20,10 @@ use Rattle.htmd_markdown.specs.Titles.{is_filled}
 use Rattle.htmd_walk.specs.Seams.{joined_at_seam, begins_with_space, ends_with_space}
 use Rattle.htmd_tree_laws.proofs.KeptMarks.{Respaced, Swaps, respaced-same, respaced-append, respaced-gone, respaced-for}
 use Rattle.htmd_tree_laws.proofs.KeptMarks.{is_safe, Keeps, keeps-append, keeps-is, keeps-as, keeps-respaced, keeps-safe}
-use Rattle.htmd_tree_laws.proofs.KeptMarks.{keeps-behind, keeps-before, keeps-nil, keeps-of_nothing}
+use Rattle.htmd_tree_laws.proofs.KeptMarks.{keeps-behind, keeps-before, keeps-of_nothing}
 use Rattle.htmd_tree_laws.proofs.LettersLemmas.{is_white}
 use Rattle.htmd_tree_laws.proofs.LettersOfLines.{some_part, last_reads}
 use Rattle.htmd_tree_laws.proofs.LettersOfTexts.{OfWhite, document_of_white, line_feed_of_white, space_of_white, end_white}
-use Rattle.htmd_tree_laws.proofs.LettersOfTexts.{all_reads}
 
 -- ---- one exchange after another
 

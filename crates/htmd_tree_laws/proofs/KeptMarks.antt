@@ -1,13 +1,13 @@
 -- Which `*` of a text stay in Guarded, whatever is put after it: those that a backslash escapes. White space may be put
 -- for other white space.
-use Rattle.std.proofs.Common.{◌≡◌, ℕ, suc, ◌+◌, ◌<◌, ◌≤◌, Bool, true, false, cond, List, [], ◌∷◌, ◌++◌, length, get_or}
+use Rattle.std.proofs.Common.{◌≡◌, ℕ, suc, ◌<◌, ◌≤◌, Bool, true, false, cond, List, [], ◌∷◌, ◌++◌, length, get_or}
 use Rattle.std.proofs.Common.{refl, sym, ap, ◌∙◌, arith, subst, append_assoc, ⊎_elim, inl, inr}
 use Rattle.std.specs.Prelude.{◌⊎◌, ◌&&◌, ◌||◌, ◌==◌, not, nat_lt, filter, encode_utf8, encode_utf8_all}
 use Rattle.std.specs.Char.{IsScalar}
 use Rattle.std.specs.List.{list_all}
 use Rattle.std.specs.Str.{chars, IsUtf8, all_scalars}
 use Rattle.std.proofs.Math.Utf8.{low_scalar}
-use Rattle.std.proofs.lemmas.Bool.{and_parts, and_from, or_cases, or_parts, cases_Bool, cases_lt, cond_both, cond-true}
+use Rattle.std.proofs.lemmas.Bool.{and_parts, and_from, or_parts, cases_lt, cond_both, cond-true}
 use Rattle.std.proofs.lemmas.Bool.{cond-false, eqb-true, false≢true, true≢false, ltb-true, false_from_ne_true}
 use Rattle.std.proofs.lemmas.List.{append-nil}
 use Rattle.std.proofs.lemmas.List.Elements.{filter-append}
@@ -16,7 +16,7 @@ use Rattle.std.proofs.lemmas.Str.{IsUtf8-append, IsUtf8-nil, chars-nil}
 use Rattle.htmd_text.specs.Characters.{backslash}
 use Rattle.htmd_markdown.specs.Joints.{is_asterisk, is_backslash}
 use Rattle.htmd_tree_laws.specs.Shown.{is_visible, is_counted, IsPart}
-use Rattle.htmd_tree_laws.proofs.CountedTexts.{of_visible, part-of_nothing, part-behind, part-append, part-then, holds-own}
+use Rattle.htmd_tree_laws.proofs.CountedTexts.{of_visible, part-of_nothing, part-behind, part-append, part-then}
 use Rattle.htmd_tree_laws.proofs.LettersLemmas.{Says, is_white}
 use Rattle.htmd_tree_laws.proofs.LettersOfTexts.{bytes_high}
 

@@ -1,26 +1,25 @@
 -- What is promised of the pieces of Markdown that Guarded writes.
 use Rattle.std.proofs.Common.{◌≡◌, ℕ, zero, suc, ◌+◌, ◌-◌, ◌<◌, Bool, true, false, cond, List, [], ◌∷◌, ◌++◌, length}
-use Rattle.std.proofs.Common.{take, drop, refl, sym, ap, ◌∙◌, arith, subst, append_assoc, ⊎_elim, inl, inr, codes, map, min, max}
+use Rattle.std.proofs.Common.{take, drop, refl, sym, ap, ◌∙◌, arith, subst, append_assoc, ⊎_elim, inl, inr, codes, map}
 use Rattle.std.proofs.Common.{Option, Some, None}
 use Rattle.std.specs.Prelude.{◌&&◌, ◌||◌, ◌==◌, ◌%◌, ◌/◌, not, nat_lt, nat_le, filter, replicate, fold, unwrap_or, encode_utf8_all}
 use Rattle.std.specs.Prelude.{◌⊎◌}
 use Rattle.std.specs.Option.{option_map}
 use Rattle.std.specs.Char.{is_whitespace}
 use Rattle.std.specs.Fmt.{decimal, digits, digits_onto, digit_glyph}
-use Rattle.std.specs.List.{list_all, flat_map, suffix_len, prefix_len}
+use Rattle.std.specs.List.{list_all, flat_map}
 use Rattle.std.specs.Str.{chars, IsUtf8, all_scalars, trim, trim_start, trim_end}
 use Rattle.std.specs.Str.{skip_leading_whitespace, drop_trailing_whitespace}
-use Rattle.std.proofs.lemmas.Bool.{and_parts, and_from, cond_both, cond-true, cond-false, or_parts, false≢true, eqb-true}
+use Rattle.std.proofs.lemmas.Bool.{and_parts, and_from, cond_both, cond-false, or_parts, false≢true, eqb-true}
 use Rattle.std.proofs.lemmas.Bool.{false_from_ne_true, agree_below_at, ltb-true}
 use Rattle.std.proofs.lemmas.List.{append-nil, length-append}
 use Rattle.std.proofs.Math.Seq.{take-append_seam}
-use Rattle.std.proofs.lemmas.List.Elements.{filter-append}
 use Rattle.std.proofs.lemmas.Nat.{mod_below}
 use Rattle.std.proofs.lemmas.Str.{chars-encodes, encodes-append, encodes-chars, scalars-chars, chars-append}
 use Rattle.htmd_text.specs.BlankLines.{blank_line, with_blank_lines}
-use Rattle.htmd_text.specs.Characters.{space, line_feed, full_stop, hyphen, grave_accent, asterisk, backslash}
+use Rattle.htmd_text.specs.Characters.{space, line_feed, full_stop, hyphen, grave_accent, backslash}
 use Rattle.htmd_text.specs.Joins.{join_block, joined_blocks}
-use Rattle.htmd_text.specs.Trims.{trimmed_start, trimmed_end, trimmed_text, is_line_feed, some_text, white_space_at_start}
+use Rattle.htmd_text.specs.Trims.{trimmed_start, trimmed_text, is_line_feed, some_text, white_space_at_start}
 use Rattle.htmd_text.specs.Trims.{white_space_at_end}
 use Rattle.htmd_text.specs.WhiteSpace.{is_document_white_space}
 use Rattle.htmd_markdown.specs.declared.emphasis.Emphasis.{Emphasis}
@@ -31,10 +30,10 @@ use Rattle.htmd_markdown.specs.declared.heading.HeadingStyle.{HeadingStyle}
 use Rattle.htmd_markdown.specs.declared.heading.HeadingStyle.TheVariants.{Atx, Setex}
 use Rattle.htmd_markdown.specs.declared.list.BulletListMarker.{BulletListMarker}
 use Rattle.htmd_markdown.specs.declared.list.BulletListMarker.TheVariants.{Asterisk, Dash}
-use Rattle.htmd_markdown.specs.CodeSpans.{space_if, code_span, delimiter_len, smallest_unused_len, meets_delimiter, span_content}
+use Rattle.htmd_markdown.specs.CodeSpans.{space_if, delimiter_len, smallest_unused_len, meets_delimiter, span_content}
 use Rattle.htmd_markdown.specs.CodeSpans.{is_between_spaces}
 use Rattle.htmd_markdown.specs.Emphases.{mark, between, emphasised_text, holds_blank_line, guarded_emphasis}
-use Rattle.htmd_markdown.specs.Fences.{symbol_of, fence_len, fenced_code_block, info_string}
+use Rattle.htmd_markdown.specs.Fences.{symbol_of, fence_len, info_string}
 use Rattle.htmd_markdown.specs.CodeBlocks.{code_of}
 use Rattle.htmd_markdown.specs.GuardedAddresses.{guarded_destination}
 use Rattle.htmd_markdown.specs.GuardedTitles.{guarded_title_text}
@@ -52,17 +51,15 @@ use Rattle.htmd_markdown.specs.Lists.{between_line_feeds, list_block}
 use Rattle.htmd_markdown.specs.OneLine.{one_line}
 use Rattle.htmd_markdown.specs.Titles.{is_filled}
 use Rattle.htmd_tree_laws.specs.Shown.{is_visible, IsPart}
-use Rattle.htmd_tree_laws.proofs.CountedTexts.{of_letters, of_visible, part-append, part-behind, holds-own}
+use Rattle.htmd_tree_laws.proofs.CountedTexts.{part-append}
 use Rattle.htmd_tree_laws.proofs.KeptMarks.{State, even, odd, blank, step, kept, ends, seen, ends-append, seen-append}
 use Rattle.htmd_tree_laws.proofs.KeptMarks.{is_safe, ends-safe, chars-safe, plain_step, Keeps, keeps-append, keeps-is, keeps-as}
 use Rattle.htmd_tree_laws.proofs.KeptMarks.{keeps-in, keeps-safe, keeps-behind, keeps-before, keeps-nil, keeps-of_nothing}
 use Rattle.htmd_tree_laws.proofs.KeptMarks as marks
 use Rattle.htmd_tree_laws.proofs.KeptMarks.{step-even, encodes-safe, scalars-safe, keeps-says}
-use Rattle.htmd_tree_laws.proofs.KeptLines.{keeps-trimmed, keeps-trimmed_start, keeps-trimmed_end, keeps-blank_lines, keeps-many}
+use Rattle.htmd_tree_laws.proofs.KeptLines.{keeps-trimmed, keeps-trimmed_start, keeps-blank_lines, keeps-many}
 use Rattle.htmd_tree_laws.proofs.KeptLines.{keeps-indented, keeps-one_line, keeps-block}
-use Rattle.htmd_tree_laws.proofs.LettersLemmas.{Says, is_white}
-use Rattle.htmd_tree_laws.proofs.LettersOfGuarded.{says-guarded_emphasis}
-use Rattle.htmd_tree_laws.proofs.LettersOfLinks.{IsTextIfAny}
+use Rattle.htmd_tree_laws.proofs.LettersLemmas.{is_white}
 use Rattle.htmd_tree_laws.proofs.LettersOfTexts.{document_of_white, line_feed_of_white}
 use Rattle.htmd_tree_laws.proofs.Utf8Cuts.{cut_before}
 

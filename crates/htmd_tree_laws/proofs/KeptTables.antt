@@ -1,11 +1,11 @@
 -- Tables in Guarded keep each `*` of their cells and captions.
 use Rattle.std.proofs.Common.{◌≡◌, ℕ, zero, suc, ◌+◌, ◌-◌, ◌<◌, ◌≤◌, Bool, true, false, cond, List, [], ◌∷◌, ◌++◌}
 use Rattle.std.proofs.Common.{length, get_or, take, drop, map, refl, sym, ap, ◌∙◌, arith, subst, append_assoc, ⊎_elim, inl, inr}
-use Rattle.std.specs.Prelude.{◌⊎◌, ◌&&◌, ◌==◌, not, filter, replicate, encode_utf8, encode_utf8_all}
-use Rattle.std.specs.List.{list_all, flat_map, prefix_len}
-use Rattle.std.specs.Str.{chars, IsUtf8, all_scalars}
-use Rattle.std.proofs.lemmas.Bool.{and_parts, and_from, cases_Bool, cases_lt, cond_both, cond-true, cond-false, eqb-true}
-use Rattle.std.proofs.lemmas.Bool.{not-true, true≢false, false≢true}
+use Rattle.std.specs.Prelude.{◌&&◌, ◌==◌, not, replicate, encode_utf8, encode_utf8_all}
+use Rattle.std.specs.List.{flat_map, prefix_len}
+use Rattle.std.specs.Str.{chars, all_scalars}
+use Rattle.std.proofs.lemmas.Bool.{and_parts, and_from, cases_lt, cond_both, eqb-true}
+use Rattle.std.proofs.lemmas.Bool.{not-true, false≢true}
 use Rattle.std.proofs.lemmas.Bool.Decides.{nat_tests}
 use Rattle.std.proofs.lemmas.List.{append-nil, length-append, length-map, length-replicate}
 use Rattle.std.proofs.lemmas.Str.{encode_ascii, encodes-chars, scalars-chars, chars-encodes}
@@ -16,12 +16,10 @@ use Rattle.htmd_text.specs.WhiteSpace.{is_document_white_space}
 use Rattle.htmd_markdown.specs.GuardedTables.{cell_line, is_escaping, escaped_bars, guarded_cell, guarded_widths}
 use Rattle.htmd_markdown.specs.GuardedTables.{guarded_table}
 use Rattle.htmd_markdown.specs.GuardedTables as guarded
-use Rattle.htmd_markdown.specs.Joints.{is_asterisk, is_backslash}
 use Rattle.htmd_markdown.specs.OneLine.{one_line}
 use Rattle.htmd_markdown.specs.TableGrids.{SpannedCell, SpannedRow, Column, column, columns_of, goes_on, below, laid_row}
 use Rattle.htmd_markdown.specs.TableGrids.{texts_of, rows_of, columns_of_row, grid_below, grid}
 use Rattle.htmd_markdown.specs.Tables.{line_cells_by, padded_cell, barred_cells, line, row_by, dashes, separator, head_by}
-use Rattle.htmd_markdown.specs.Tables.{table_of_widths_by}
 use Rattle.htmd_tree.specs.Items.{Item}
 use Rattle.htmd_walk.specs.GuardedTableLayouts.{TableLine, caption, row, nodes_of_lines, begins_with_header}
 use Rattle.htmd_walk.specs.GuardedTableTexts.{GuardedTexts, no_guarded_texts, spanned_cells, with_caption}
@@ -29,16 +27,15 @@ use Rattle.htmd_walk.specs.GuardedTableTexts.{with_lines, grid_text, with_blank_
 use Rattle.htmd_walk.specs.Handling.{ResultView}
 use Rattle.htmd_walk.specs.Tables.{text_of_cell}
 use Rattle.htmd_walk.proofs.TableOrdersLemmas.{line_cells, line_captions, line_order}
-use Rattle.htmd_tree_laws.specs.Shown.{is_visible, IsPart}
-use Rattle.htmd_tree_laws.proofs.CountedTexts.{part-behind, part-then}
+use Rattle.htmd_tree_laws.specs.Shown.{IsPart}
+use Rattle.htmd_tree_laws.proofs.CountedTexts.{part-then}
 use Rattle.htmd_tree_laws.proofs.KeptJoints.{Agree, agree-step, high_step, no_backslash}
 use Rattle.htmd_tree_laws.proofs.JointMarks.{encode_size}
 use Rattle.std.specs.Char.{IsScalar}
 use Rattle.htmd_tree_laws.proofs.KeptLines.{keeps-trimmed, keeps-one_line, keeps-many}
 use Rattle.htmd_tree_laws.proofs.KeptMarks.{State, even, odd, blank, step, kept, ends, seen, seen_more, more_both, more_found}
-use Rattle.htmd_tree_laws.proofs.KeptMarks.{Respaced, respaced-same, Keeps, keeps-append, keeps-is, keeps-as, keeps-nil}
+use Rattle.htmd_tree_laws.proofs.KeptMarks.{Respaced, Keeps, keeps-append, keeps-is, keeps-nil}
 use Rattle.htmd_tree_laws.proofs.KeptMarks.{keeps-respaced, keeps-behind, keeps-before, keeps-of_nothing, one_more, below-same}
-use Rattle.htmd_tree_laws.proofs.KeptMarks as marks
 use Rattle.htmd_tree_laws.proofs.KeptPieces.{KeepAll, keeps-flat}
 use Rattle.htmd_tree_laws.proofs.LettersOfGrids.{cell_texts, widths_fit, rows_mapped, texts_in}
 use Rattle.htmd_tree_laws.proofs.LettersOfTables.{FitIn, all_of, all-append}

@@ -1,11 +1,11 @@
 -- In Guarded a text and the children of a node keep each `*`.
-use Rattle.std.proofs.Common.{◌≡◌, ℕ, suc, ◌+◌, ◌<◌, ◌≤◌, Bool, true, false, cond, List, [], ◌∷◌, ◌++◌, length, get_or}
+use Rattle.std.proofs.Common.{◌≡◌, ℕ, suc, ◌+◌, ◌<◌, ◌≤◌, Bool, true, false, List, [], ◌∷◌, ◌++◌, length, get_or}
 use Rattle.std.proofs.Common.{refl, sym, ap, ◌∙◌, arith, subst, append_assoc, ⊎_elim, inl, inr}
-use Rattle.std.specs.Prelude.{◌⊎◌, ◌&&◌, ◌||◌, ◌==◌, not, nat_lt, filter, slice_index, encode_utf8, encode_utf8_all}
+use Rattle.std.specs.Prelude.{◌⊎◌, ◌||◌, filter, slice_index, encode_utf8, encode_utf8_all}
 use Rattle.std.specs.Char.{is_ascii_punctuation}
 use Rattle.std.specs.Str.{chars, IsUtf8, all_scalars}
-use Rattle.std.proofs.lemmas.Bool.{and_parts, and_from, or_parts, cases_Bool, cases_lt, cond_both, cond-false, eqb-true}
-use Rattle.std.proofs.lemmas.Bool.{false≢true, true≢false, false_from_ne_true}
+use Rattle.std.proofs.lemmas.Bool.{and_parts, and_from, or_parts, cases_lt, cond_both, cond-false, eqb-true}
+use Rattle.std.proofs.lemmas.Bool.{true≢false, false_from_ne_true}
 use Rattle.std.proofs.lemmas.Bool.Decides.{nat_tests}
 use Rattle.std.proofs.lemmas.List.{append-nil}
 use Rattle.std.proofs.lemmas.Str.{encode_ascii, encodes-chars, scalars-chars, chars-encodes}
@@ -25,12 +25,12 @@ use Rattle.htmd_walk.specs.Rendering.{write_text}
 use Rattle.htmd_walk.specs.Seams.{ends_with_space}
 use Rattle.htmd_tree_laws.specs.Letters.{said_among}
 use Rattle.htmd_tree_laws.specs.Shown.{is_visible, visible, IsPart}
-use Rattle.htmd_tree_laws.proofs.CountedTexts.{of_visible, part-behind, part-append, part-then}
+use Rattle.htmd_tree_laws.proofs.CountedTexts.{of_visible}
 use Rattle.htmd_tree_laws.proofs.KeptJoints.{keeps-joint, no_backslash, no_asterisk}
 use Rattle.htmd_tree_laws.proofs.KeptLines.{keeps-trimmed_end}
-use Rattle.htmd_tree_laws.proofs.KeptMarks.{State, even, odd, blank, step, kept, ends, seen, seen_more, more_both, more_found}
+use Rattle.htmd_tree_laws.proofs.KeptMarks.{even, odd, blank, step, kept, ends, seen, seen_more, more_both, more_found}
 use Rattle.htmd_tree_laws.proofs.KeptMarks.{step-even, Keeps, keeps-in, keeps-is}
-use Rattle.htmd_tree_laws.proofs.LettersLemmas.{Says, says-own, is_white}
+use Rattle.htmd_tree_laws.proofs.LettersLemmas.{says-own, is_white}
 use Rattle.htmd_tree_laws.proofs.LettersOfPieces.{says-first_space}
 use Rattle.htmd_tree_laws.proofs.LettersOfTexts.{bytes_high, says-squeezed, space_of_white, punctuation_low}
 use Rattle.htmd_tree_laws.proofs.SaidChildren.{AllOf}

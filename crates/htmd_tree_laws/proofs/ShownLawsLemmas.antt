@@ -2,7 +2,7 @@
 use Rattle.std.proofs.Common.{◌≡◌, ℕ, zero, suc, ◌<◌, ◌≤◌, Bool, true, false, List, [], ◌∷◌, ◌++◌, length, Option}
 use Rattle.std.proofs.Common.{Some, None, cond, codes, refl, sym, ap, ◌∙◌, arith, subst, ⊎_elim}
 use Rattle.std.specs.Str.{bytes_eq}
-use Rattle.std.proofs.lemmas.Bool.{cond_both, false≢true, true≢false, cases_Bool}
+use Rattle.std.proofs.lemmas.Bool.{cond_both, true≢false, cases_Bool}
 use Rattle.std.proofs.lemmas.List.{append-nil}
 use Rattle.htmd_text.specs.Trims.{trimmed_end, is_line_feed}
 use Rattle.htmd_text.specs.WhiteSpace.{is_document_white_space}
@@ -23,10 +23,10 @@ use Rattle.htmd_walk.specs.OrdinaryText.{pre}
 use Rattle.htmd_walk.specs.Outputs.{Conversion, conversion_of, Output, Context, context_of, empty_output, is_guarded}
 use Rattle.htmd_walk.specs.Outputs.{is_markdown_alone}
 use Rattle.htmd_walk.specs.Rendering.{with_result, written_within}
-use Rattle.htmd_tree_laws.specs.Shown.{visible, IsPart, shown, shown_of, shown_among}
+use Rattle.htmd_tree_laws.specs.Shown.{visible, IsPart, shown, shown_among}
 use Rattle.htmd_tree_laws.specs.Shown.{tables_fit, ShownInContent, ShownInMarkdown}
 use Rattle.htmd_tree_laws.proofs.CountedTexts.{Law, of_visible, part-append}
-use Rattle.htmd_tree_laws.proofs.LettersLemmas.{Says, says-own, says-nil, says-is, counted_append}
+use Rattle.htmd_tree_laws.proofs.LettersLemmas.{Says, says-nil, says-is, counted_append}
 use Rattle.htmd_tree_laws.proofs.LettersOfTexts.{document_of_white, line_feed_of_white, says-trimmed_end, says-trimmed}
 use Rattle.htmd_tree_laws.proofs.LettersOfPieces.{says-seam}
 use Rattle.htmd_tree_laws.proofs.LettersOfLinks.{IsTextIfAny}

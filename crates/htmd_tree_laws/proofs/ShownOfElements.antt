@@ -1,21 +1,18 @@
 -- What elements show in Pure.
 use Rattle.std.proofs.Common.{◌≡◌, ℕ, Bool, true, false, cond, List, [], ◌∷◌, ◌++◌, Option, Some, None}
 use Rattle.std.proofs.Common.{codes, refl, sym, ap, ◌∙◌, subst}
-use Rattle.std.specs.Prelude.{◌&&◌, ◌||◌, not}
+use Rattle.std.specs.Prelude.{◌&&◌, ◌||◌}
 use Rattle.std.specs.List.{list_all}
 use Rattle.std.specs.Option.{unwrap_or}
 use Rattle.std.specs.Str.{IsUtf8, bytes_eq}
 use Rattle.std.proofs.Math.Bool.{and_comm}
-use Rattle.std.proofs.lemmas.Bool.{cond_both, cond-false, or_from, and_left, and_parts}
+use Rattle.std.proofs.lemmas.Bool.{cond_both, cond-false, or_from, and_left}
 use Rattle.std.proofs.lemmas.List.{append-nil}
 use Rattle.std.proofs.lemmas.Slice.Eq.{bytes_eq-Decides}
-use Rattle.htmd_text.specs.Trims.{trimmed_text}
-use Rattle.htmd_text.specs.WhiteSpace.{is_document_white_space}
 use Rattle.htmd_tree.specs.Items.{Item, data_at, children_of}
 use Rattle.htmd_tree.specs.NumberedTrees.{NumberedForest}
 use Rattle.htmd_tree.specs.Ancestors.{Ancestor, ancestor_of}
 use Rattle.htmd_markdown.specs.Addresses.{escaped_address}
-use Rattle.htmd_markdown.specs.GuardedLinks.{guarded_link, guarded_autolink, guarded_resource}
 use Rattle.htmd_markdown.specs.LineBreaks.{line_break}
 use Rattle.htmd_markdown.specs.Links.{inline_link, autolink, resource}
 use Rattle.htmd_walk.specs.declared.options.CodeBlockStyle.{CodeBlockStyle}
@@ -23,50 +20,39 @@ use Rattle.htmd_walk.specs.declared.options.CodeBlockStyle.TheVariants.{Indented
 use Rattle.htmd_walk.specs.declared.options.LinkStyle.{LinkStyle}
 use Rattle.htmd_walk.specs.declared.options.LinkStyle.TheVariants.{Inlined, InlinedPreferAutolinks, Referenced}
 use Rattle.htmd_walk.specs.declared.options.Options.{Options}
-use Rattle.htmd_walk.specs.AllText.{text_or_all, all_text_of}
-use Rattle.htmd_walk.specs.Anchors.{anchors, anchor_address, finish_at, link_finish, guarded_link_finish, is_autolinked}
+use Rattle.htmd_walk.specs.Anchors.{anchors, anchor_address, finish_at, link_finish}
 use Rattle.htmd_walk.specs.BuiltIn.{built_in}
-use Rattle.htmd_walk.specs.CaptionsAndCells.{captions_and_cells}
-use Rattle.htmd_walk.specs.Children.{content_inside, descendant_tree}
+use Rattle.htmd_walk.specs.Children.{content_inside}
 use Rattle.htmd_walk.specs.Choice.{indexes}
-use Rattle.htmd_walk.specs.Code.{code, code_plan, guarded_code_plan, content_plan, is_code_block, language}
-use Rattle.htmd_walk.specs.Preformatted.{preformatted_texts, preformatted_plan, block_plan, guarded_preformatted}
-use Rattle.htmd_walk.specs.Preformatted.{guarded_language}
+use Rattle.htmd_walk.specs.Code.{code, content_plan, is_code_block, language}
+use Rattle.htmd_walk.specs.Preformatted.{preformatted_texts, block_plan}
 use Rattle.htmd_walk.specs.ElementPlans.{tag_of, attributes_of, markdown_plan, is_tag_among, unless_faithful}
 use Rattle.htmd_walk.specs.Elements.{Occurrence, Answer, content_of, plan_answer, answer_after, without_handler}
 use Rattle.htmd_walk.specs.Elements.{occurrence_at, with_finish}
-use Rattle.htmd_walk.specs.Groups.{only_text, children_at}
-use Rattle.htmd_walk.specs.GuardedTableLayouts.{is_written_as_table, table_lines, nodes_of_lines}
+use Rattle.htmd_walk.specs.Groups.{only_text}
 use Rattle.htmd_walk.specs.Handling.{ElementView, PlanView, ResultView, nothing, content_of_children, contents_of_each}
 use Rattle.htmd_walk.specs.Handling.{HandlerMeaning}
 use Rattle.htmd_walk.specs.Images.{images, image_address, image_at}
 use Rattle.htmd_walk.specs.LineBreaks.{line_breaks, break_style_of}
-use Rattle.htmd_walk.specs.OneLineElements.{is_in_line, stands_in_line}
+use Rattle.htmd_walk.specs.OneLineElements.{is_in_line}
 use Rattle.htmd_walk.specs.ThematicBreaks.{thematic_breaks, thematic_break_plan, thematic_break_style_of}
 use Rattle.htmd_walk.specs.LinkAttributes.{title_of}
 use Rattle.htmd_walk.specs.Lists.{lists}
 use Rattle.htmd_walk.specs.Outputs.{Conversion, conversion_of, Writes, is_markdown_alone, is_guarded, result_of}
 use Rattle.htmd_walk.specs.OtherBlocks.{other_blocks, other_block_plan, hidden_tags}
 use Rattle.htmd_walk.specs.Spans.{spans, formula_mark, formula_plan, is_read_in_formula}
-use Rattle.htmd_walk.specs.TableElements.{tables, table_plan}
-use Rattle.htmd_tree_laws.specs.Letters.{said_of_each, prefers_autolinks}
-use Rattle.htmd_tree_laws.specs.Shown.{visible, is_empty_element, is_autolink, is_one_text, shown, shown_among}
+use Rattle.htmd_tree_laws.specs.Letters.{said_of_each}
+use Rattle.htmd_tree_laws.specs.Shown.{visible, is_empty_element, shown, shown_among}
 use Rattle.htmd_tree_laws.proofs.CountedTexts.{Law, of_letters, of_visible}
 use Rattle.htmd_tree_laws.proofs.LettersLemmas.{Says, says-nil, shows-none, says-as, says-is, says-behind, says-before, is_filler}
-use Rattle.htmd_tree_laws.proofs.LettersOfTexts.{says-blank_lines, says-trimmed, document_of_white}
+use Rattle.htmd_tree_laws.proofs.LettersOfTexts.{says-blank_lines}
 use Rattle.htmd_tree_laws.proofs.LettersOfPieces.{SaysIfAny, says-indented_code, says-fenced, says-code_span}
 use Rattle.htmd_tree_laws.proofs.LettersOfLinks.{IsTextIfAny, says-link, says-resource, says-reference}
-use Rattle.htmd_tree_laws.proofs.LettersOfGuarded.{says-guarded_link, says-guarded_resource, says-guarded_autolink}
-use Rattle.htmd_tree_laws.proofs.LettersOfGuarded.{says-guarded_reference, says-guarded_code, says-guarded_span}
-use Rattle.htmd_tree_laws.proofs.LettersOfGuarded.{says-guarded_block, fitting_is_text}
 use Rattle.htmd_tree_laws.proofs.LettersOfHandlers.{SaysResult, AreValues, last_is_text, KeepsContent, wrapped, says-break}
 use Rattle.htmd_tree_laws.proofs.LettersOfHandlers.{says-rule, formula_marks_fill, says-formula, says-span_result}
-use Rattle.htmd_tree_laws.proofs.LettersOfTables.{all_of}
 use Rattle.htmd_tree_laws.proofs.ElementsByTag.{IsOnly, is_named, IsPlain, by_tag, planned_is_said, unhandled_answer}
 use Rattle.htmd_tree_laws.proofs.ElementsByTag.{kept_is_said, either_is_said, image_gives, shown_language}
-use Rattle.htmd_tree_laws.proofs.ElementsByTag.{guarded_language_is_text, EachSays, ordered_gives}
-use Rattle.htmd_tree_laws.proofs.ShownTrees.{in_table, shown_inside, no_table}
-use Rattle.htmd_tree_laws.proofs.WrittenTables.{guarded_table_gives}
+use Rattle.htmd_tree_laws.proofs.ElementsByTag.{EachSays, ordered_gives}
 
 -- ---- links and code
 
