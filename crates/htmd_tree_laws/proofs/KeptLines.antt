@@ -27,7 +27,7 @@ use Rattle.htmd_tree_laws.proofs.LettersOfTexts.{OfWhite, document_of_white, lin
 
 -- ---- one exchange after another
 
-safe-append : (x y : List ℕ) → list_all is_safe x ≡ true → list_all is_safe y ≡ true
+pub safe-append : (x y : List ℕ) → list_all is_safe x ≡ true → list_all is_safe y ≡ true
     → list_all is_safe (x ++ y) ≡ true
 safe-append [] y e f = f
 safe-append (b ∷ x) y e f =
@@ -129,7 +129,7 @@ keeps-wrapped s p = keeps-blank_lines (trimmed_text is_line_feed s) (keeps-trimm
 
 -- ---- seams
 
-safe_many : (n : ℕ) (b : ℕ) → is_safe b ≡ true → list_all is_safe (replicate n b) ≡ true
+pub safe_many : (n : ℕ) (b : ℕ) → is_safe b ≡ true → list_all is_safe (replicate n b) ≡ true
 safe_many zero b e = refl
 safe_many (suc n) b e = and_from (is_safe b) (list_all is_safe (replicate n b)) e (safe_many n b e)
 
@@ -320,9 +320,11 @@ each_line f edits ((b ∷ x) ∷ []) =
     let filled : (length (b ∷ x) == 0) ≡ false = grind (arith, nat_tests) in
     subst (λ (ls : List (List ℕ)). Each ((b ∷ x) ∷ []) (map f ls))
     (sym (cond-false (length (b ∷ x) == 0) [] ((b ∷ x) ∷ []) filled)) (edits (b ∷ x), tt)
-each_line f edits (x ∷ y ∷ more) =
-    (respaced-then x (strip_carriage_return x) (f (strip_carriage_return x)) (respaced-stripped x)
-    (edits (strip_carriage_return x)), each_line f edits (y ∷ more))
+each_line f edits (x ∷ y ∷ more) = (
+  respaced-then x (strip_carriage_return x) (f (strip_carriage_return x)) (respaced-stripped x)
+      (edits (strip_carriage_return x)),
+  each_line f edits (y ∷ more),
+)
 
 respaced-lines : (next f : List ℕ → List ℕ) → Precedes next → ((x : List ℕ) → Respaced x (f x)) → (s : List ℕ)
     → Respaced s (spread next (map f (lines s)))

@@ -7,7 +7,7 @@ use Rattle.std.specs.Char.{IsScalar}
 use Rattle.std.specs.List.{list_all}
 use Rattle.std.specs.Str.{chars, IsUtf8, all_scalars}
 use Rattle.std.proofs.Math.Utf8.{low_scalar}
-use Rattle.std.proofs.lemmas.Bool.{and_parts, and_from, or_parts, cases_lt, cond_both, cond-true}
+use Rattle.std.proofs.lemmas.Bool.{not-true, and_parts, and_from, or_parts, cases_lt, cond_both, cond-true}
 use Rattle.std.proofs.lemmas.Bool.{cond-false, eqb-true, false≢true, true≢false, ltb-true, false_from_ne_true}
 use Rattle.std.proofs.lemmas.List.{append-nil}
 use Rattle.std.proofs.lemmas.List.Elements.{filter-append}
@@ -95,10 +95,6 @@ is_safe b = nat_lt b 128 && not (is_backslash b)
 safe_ascii : (b : ℕ) → is_safe b ≡ true → b < 128
 safe_ascii b e = ltb-true b 128 (and_parts (nat_lt b 128) _ e).0
 
-not_so : (b : Bool) → not b ≡ true → b ≡ false
-not_so true e = absurd (false≢true e)
-not_so false e = refl
-
 pub step-even : (c : ℕ) → is_backslash c ≡ false → step even c ≡ even
 step-even c other = cond-false (is_backslash c) odd even other
 
@@ -106,7 +102,7 @@ pub ends-safe : (x : List ℕ) → list_all is_safe x ≡ true → ends even x �
 ends-safe [] e = refl
 ends-safe (b ∷ x) e =
     let parts = and_parts (is_safe b) (list_all is_safe x) e in
-    let other = not_so (is_backslash b) (and_parts (nat_lt b 128) _ parts.0).1 in
+    let other = not-true (is_backslash b) (and_parts (nat_lt b 128) _ parts.0).1 in
     ap (λ s. ends s x) (step-even b other) ∙ ends-safe x parts.1
 
 -- ---- what is promised after a text
@@ -267,7 +263,8 @@ scalars-safe (b ∷ x) e =
     let parts = and_parts (is_safe b) (list_all is_safe x) e in
     and_from _ (all_scalars x) (ascii_scalar b (safe_ascii b parts.0)) (scalars-safe x parts.1)
 
-scalars-append : (x y : List ℕ) → all_scalars x ≡ true → all_scalars y ≡ true → all_scalars (x ++ y) ≡ true
+pub scalars-append : (x y : List ℕ) → all_scalars x ≡ true → all_scalars y ≡ true
+    → all_scalars (x ++ y) ≡ true
 scalars-append [] y e f = f
 scalars-append (c ∷ x) y e f =
     let parts = and_parts _ (all_scalars x) e in and_from _ (all_scalars (x ++ y)) parts.0 (scalars-append x y parts.1 f)

@@ -10,7 +10,7 @@ use Rattle.std.specs.Fmt.{decimal, digits, digits_onto, digit_glyph}
 use Rattle.std.specs.List.{list_all, flat_map}
 use Rattle.std.specs.Str.{chars, IsUtf8, all_scalars, trim, trim_start, trim_end}
 use Rattle.std.specs.Str.{skip_leading_whitespace, drop_trailing_whitespace}
-use Rattle.std.proofs.lemmas.Bool.{and_parts, and_from, cond_both, cond-false, or_parts, false≢true, eqb-true}
+use Rattle.std.proofs.lemmas.Bool.{not-true, and_parts, and_from, cond_both, cond-false, or_parts, false≢true, eqb-true}
 use Rattle.std.proofs.lemmas.Bool.{false_from_ne_true, agree_below_at, ltb-true}
 use Rattle.std.proofs.lemmas.List.{append-nil, length-append}
 use Rattle.std.proofs.Math.Seq.{take-append_seam}
@@ -52,14 +52,15 @@ use Rattle.htmd_markdown.specs.OneLine.{one_line}
 use Rattle.htmd_markdown.specs.Titles.{is_filled}
 use Rattle.htmd_tree_laws.specs.Shown.{is_visible, IsPart}
 use Rattle.htmd_tree_laws.proofs.CountedTexts.{part-append}
-use Rattle.htmd_tree_laws.proofs.KeptMarks.{State, even, odd, blank, step, kept, ends, seen, ends-append, seen-append}
+use Rattle.htmd_tree_laws.proofs.KeptMarks.{scalars-append, State, even, odd, blank, step, kept, ends, seen, ends-append, seen-append}
 use Rattle.htmd_tree_laws.proofs.KeptMarks.{is_safe, ends-safe, chars-safe, plain_step, Keeps, keeps-append, keeps-is, keeps-as}
 use Rattle.htmd_tree_laws.proofs.KeptMarks.{keeps-in, keeps-safe, keeps-behind, keeps-before, keeps-nil, keeps-of_nothing}
 use Rattle.htmd_tree_laws.proofs.KeptMarks as marks
 use Rattle.htmd_tree_laws.proofs.KeptMarks.{step-even, encodes-safe, scalars-safe, keeps-says}
 use Rattle.htmd_tree_laws.proofs.KeptLines.{keeps-trimmed, keeps-trimmed_start, keeps-blank_lines, keeps-many}
-use Rattle.htmd_tree_laws.proofs.KeptLines.{keeps-indented, keeps-one_line, keeps-block}
+use Rattle.htmd_tree_laws.proofs.KeptLines.{safe-append, safe_many, keeps-indented, keeps-one_line, keeps-block}
 use Rattle.htmd_tree_laws.proofs.LettersLemmas.{is_white}
+use Rattle.htmd_tree_laws.proofs.LettersOfPieces.{nil_of, scalars-front, front_taken, rest_left}
 use Rattle.htmd_tree_laws.proofs.LettersOfTexts.{document_of_white, line_feed_of_white}
 use Rattle.htmd_tree_laws.proofs.Utf8Cuts.{cut_before}
 
@@ -201,16 +202,12 @@ keeps-guarded_heading style level s p =
 abbrev pub is_sign : ℕ → Bool
 is_sign b = nat_lt b 128 && not (is_backslash b || (is_asterisk b || is_white b))
 
-not_so : (b : Bool) → not b ≡ true → b ≡ false
-not_so true e = absurd (false≢true e)
-not_so false e = refl
-
 -- after such a sign, and what holds no backslash, nothing is open
 pub closed_by : (x : List ℕ) (b : ℕ) (y : List ℕ) → IsUtf8 (x ++ b ∷ y) → is_sign b ≡ true → list_all is_safe y ≡ true
     → ends even (chars (x ++ b ∷ y)) ≡ even
 closed_by x b y u sign safe =
     let parts = and_parts (nat_lt b 128) _ sign in
-    let none = not_so _ parts.1 in
+    let none = not-true (is_backslash b || (is_asterisk b || is_white b)) parts.1 in
     let first = or_parts (is_backslash b) _ none in
     let second = or_parts (is_asterisk b) _ first.1 in
     let cut = cut_before x b y (ltb-true b 128 parts.0) u in
@@ -282,17 +279,6 @@ closed-image address alt title u =
 some_signs : (n b : ℕ) → 0 < n → (m : ℕ) × (replicate n b ≡ b ∷ replicate m b)
 some_signs zero b l = absurd (omega (arith, l))
 some_signs (suc m) b l = (m, refl)
-
-safe-append : (x y : List ℕ) → list_all is_safe x ≡ true → list_all is_safe y ≡ true
-    → list_all is_safe (x ++ y) ≡ true
-safe-append [] y e f = f
-safe-append (b ∷ x) y e f =
-    let parts = and_parts (is_safe b) (list_all is_safe x) e in
-    and_from (is_safe b) (list_all is_safe (x ++ y)) parts.0 (safe-append x y parts.1 f)
-
-safe_many : (n b : ℕ) → is_safe b ≡ true → list_all is_safe (replicate n b) ≡ true
-safe_many zero b e = refl
-safe_many (suc n) b e = and_from (is_safe b) (list_all is_safe (replicate n b)) e (safe_many n b e)
 
 -- so many signs, and what holds no backslash, end the text
 closed_many : (s x y : List ℕ) (n b : ℕ) → s ≡ (x ++ replicate n b) ++ y → 0 < n → IsUtf8 s → is_sign b ≡ true
@@ -374,10 +360,6 @@ white_front (c ∷ cs) =
     (λ e. (c ∷ more.0, ap (λ z. c ∷ z) more.1, and_from (is_whitespace c) (list_all is_whitespace more.0) e more.2))
     (λ _. ([], refl, refl))
 
-nil_of : (cs : List ℕ) → (length cs == 0) ≡ true → cs ≡ []
-nil_of [] e = refl
-nil_of (c ∷ cs) e = let none : length (c ∷ cs) ≡ 0 = eqb-true (length (c ∷ cs)) 0 e in absurd (omega arith)
-
 white_back : (cs : List ℕ) → (ws : List ℕ) × (cs ≡ drop_trailing_whitespace cs ++ ws)
     × (list_all is_whitespace ws ≡ true)
 white_back [] = ([], refl, refl)
@@ -433,15 +415,10 @@ mark_safe Strong = refl
 abbrev Encodes : List ℕ → List ℕ → Type 0
 Encodes cs s = (s ≡ encode_utf8_all cs) × (all_scalars cs ≡ true)
 
-scalars-both : (x y : List ℕ) → all_scalars x ≡ true → all_scalars y ≡ true → all_scalars (x ++ y) ≡ true
-scalars-both [] y e f = f
-scalars-both (c ∷ x) y e f =
-    let parts = and_parts _ (all_scalars x) e in and_from _ (all_scalars (x ++ y)) parts.0 (scalars-both x y parts.1 f)
-
 encodes-both : (cs ds s t : List ℕ) → Encodes cs s → Encodes ds t → Encodes (cs ++ ds) (s ++ t)
 encodes-both cs ds s t p q = (
   ap (λ z. z ++ t) p.0 ∙ ap (λ z. encode_utf8_all cs ++ z) q.0 ∙ sym (encodes-append cs ds),
-  scalars-both cs ds p.1 q.1,
+  scalars-append cs ds p.1 q.1,
 )
 
 encodes-mark : (emphasis : Emphasis) → Encodes (mark emphasis) (mark emphasis)
@@ -493,24 +470,6 @@ keeps-between emphasis before middle after ws front vs l p q r white white_behin
         (part-append l [] ((a ++ b) ++ c) d
         (subst (λ (x : List ℕ). IsPart x ((a ++ b) ++ c)) (append-nil l)
         (part-append l [] (a ++ b) c (part-append [] l a b tt p) tt)) tt)
-
-front_taken : (x y : List ℕ) → take (length (x ++ y) - length y) (x ++ y) ≡ x
-front_taken x y =
-    let size : length (x ++ y) ≡ length x + length y = length-append x y in
-    let there : length (x ++ y) - length y ≡ length x = omega (arith, size) in
-    ap (λ n. take n (x ++ y)) there ∙ take-append_seam x y
-
-rest_left : (x y : List ℕ) → drop (length x) (x ++ y) ≡ y
-rest_left [] y = refl
-rest_left (b ∷ x) y = rest_left x y
-
-scalars-front : (xs ys : List ℕ) → all_scalars (xs ++ ys) ≡ true
-    → (all_scalars xs ≡ true) × (all_scalars ys ≡ true)
-scalars-front [] ys e = (refl, e)
-scalars-front (x ∷ xs) ys e =
-    let parts = and_parts _ (all_scalars (xs ++ ys)) e in
-    let more = scalars-front xs ys parts.1 in
-    (and_from _ (all_scalars xs) parts.0 more.0, more.1)
 
 if_some : (emphasis : Emphasis) (before middle after s : List ℕ) {l : List ℕ} → Keeps s l
     → Keeps ((((before ++ mark emphasis) ++ middle) ++ mark emphasis) ++ after) l

@@ -93,13 +93,17 @@ bar_first : (e : State) (cs ds : List ℕ) → Agree e false → IsPart (seen ev
     → ends even ds ≡ ends even cs
     → IsPart (seen e (vertical_bar ∷ cs)) (seen e (backslash ∷ vertical_bar ∷ ds))
     × (ends e (backslash ∷ vertical_bar ∷ ds) ≡ ends e (vertical_bar ∷ cs))
-bar_first even cs ds a p closed =
-    (more_found backslash (seen_more vertical_bar (seen even cs)) (seen_more vertical_bar (seen even ds))
-    (more_both vertical_bar (seen even cs) (seen even ds) p), closed)
+bar_first even cs ds a p closed = (
+  more_found backslash (seen_more vertical_bar (seen even cs)) (seen_more vertical_bar (seen even ds))
+      (more_both vertical_bar (seen even cs) (seen even ds) p),
+  closed,
+)
 bar_first odd cs ds a p closed = absurd (false≢true a)
-bar_first blank cs ds a p closed =
-    (more_found backslash (seen_more vertical_bar (seen even cs)) (seen_more vertical_bar (seen even ds))
-    (more_both vertical_bar (seen even cs) (seen even ds) p), closed)
+bar_first blank cs ds a p closed = (
+  more_found backslash (seen_more vertical_bar (seen even cs)) (seen_more vertical_bar (seen even ds))
+      (more_both vertical_bar (seen even cs) (seen even ds) p),
+  closed,
+)
 
 high_agree : (e : State) (x : Bool) (c : ℕ) → 128 ≤ c → Agree e x → Agree (step e c) false
 high_agree e x c high a = subst (λ s. Agree s false) (sym (high_step e c high)) refl

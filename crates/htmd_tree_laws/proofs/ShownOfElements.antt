@@ -56,23 +56,23 @@ use Rattle.htmd_tree_laws.proofs.ElementsByTag.{EachSays, ordered_gives}
 
 -- ---- links and code
 
-resource_shows : {guarded : Bool} (address : List ℕ) (title : Option (List ℕ)) → IsUtf8 address
+resource_shows : (address : List ℕ) (title : Option (List ℕ)) → IsUtf8 address
     → IsTextIfAny title
-    → Says (of_visible guarded) (resource address title) []
+    → Says (of_visible false) (resource address title) []
 resource_shows address title text titled = shows-none (says-resource address title text titled).utf8
 
-inline_link_shows : {guarded : Bool} (s address : List ℕ) (title : Option (List ℕ)) {l : List ℕ}
-    → Says (of_visible guarded) s l → IsUtf8 address → IsTextIfAny title
-    → Says (of_visible guarded) (inline_link s address title) l
+inline_link_shows : (s address : List ℕ) (title : Option (List ℕ)) {l : List ℕ}
+    → Says (of_visible false) s l → IsUtf8 address → IsTextIfAny title
+    → Says (of_visible false) (inline_link s address title) l
 inline_link_shows s address title {l} p text titled =
     says-is (append-nil l) (says-link s address title p (resource_shows address title text titled))
 
-autolink_shows : {guarded : Bool} (s address : List ℕ) (title : Option (List ℕ)) {l : List ℕ}
-    → Says (of_visible guarded) s l → IsUtf8 address → IsTextIfAny title
-    → Says (of_visible guarded) (unwrap_or (autolink s address) (inline_link s address title)) l
-autolink_shows {guarded} s address title {l} p text titled =
+autolink_shows : (s address : List ℕ) (title : Option (List ℕ)) {l : List ℕ}
+    → Says (of_visible false) s l → IsUtf8 address → IsTextIfAny title
+    → Says (of_visible false) (unwrap_or (autolink s address) (inline_link s address title)) l
+autolink_shows s address title {l} p text titled =
     cond_both (bytes_eq s (escaped_address address)) _ _
-    (λ (o : Option (List ℕ)). Says (of_visible guarded) (unwrap_or o (inline_link s address title)) l)
+    (λ (o : Option (List ℕ)). Says (of_visible false) (unwrap_or o (inline_link s address title)) l)
     (λ same. says-behind (codes "<") refl
     (says-before (codes ">") refl
     (says-as ((bytes_eq-Decides s (escaped_address address)).0 same) p)))
@@ -97,30 +97,28 @@ module _ (view : ElementView) (pure : is_guarded view.options ≡ false) (l : Li
   link_shows content definitions p (Some address) text titled =
       rw pure (link_in_style content.content definitions p view.options.link_style address text titled)
 
-language_shows : (guarded : Bool) (language : Option (List ℕ)) → IsTextIfAny language
-    → SaysIfAny (of_visible guarded) language []
-language_shows guarded None text = refl
-language_shows guarded (Some s) text = shows-none text
+language_shows : (language : Option (List ℕ)) → IsTextIfAny language → SaysIfAny (of_visible false) language []
+language_shows None text = refl
+language_shows (Some s) text = shows-none text
 
-code_shows : {guarded : Bool} (view : ElementView) (s l : List ℕ) → Says (of_visible guarded) s l
+code_shows : (view : ElementView) (s l : List ℕ) → Says (of_visible false) s l
     → IsTextIfAny (language view)
     → (style : CodeBlockStyle) → view.options.code_block_style ≡ style
     → (block : Bool) → is_code_block view ≡ block
-    → SaysResult (of_visible guarded)
+    → SaysResult (of_visible false)
     (code.finish view (record { content = s; markdown_translated = true }) []).result l
 code_shows view s l p text Indented e true here = rw (here, e) (says-indented_code s p)
-code_shows {guarded} view s l p text Fenced e true here =
-    rw (here, e) (says-fenced s (language view) view.options.code_block_fence l [] p (language_shows guarded
-    (language view) text))
+code_shows view s l p text Fenced e true here =
+    rw (here, e) (says-fenced s (language view) view.options.code_block_fence l [] p (language_shows (language view) text))
 code_shows view s l p text style e false here = rw here (says-code_span view.options.preformatted_code s p)
 
 -- ---- elements
 
 -- whatever letters it has, nothing is wanted of it
-result_shows_none : (guarded : Bool) (r : Option ResultView) (l : List ℕ) → SaysResult of_letters r l
-    → SaysResult (of_visible guarded) r []
-result_shows_none guarded None l p = refl
-result_shows_none guarded (Some r) l p = shows-none p.utf8
+result_shows_none : (r : Option ResultView) (l : List ℕ) → SaysResult of_letters r l
+    → SaysResult (of_visible false) r []
+result_shows_none None l p = refl
+result_shows_none (Some r) l p = shows-none p.utf8
 
 -- the same is shown by either plan
 either_shows : (law : Law) (at : Occurrence) (definitions : List (List ℕ)) (handler : HandlerMeaning) (b : Bool)
@@ -184,7 +182,7 @@ module _ (options : Options) (pure : is_guarded options ≡ false) (alone : is_m
     image_shows here =
         planned_is_said law at definitions (codes "img") images (image_at (image_address at.view) at.view) []
         refl (rw alone refl)
-        (result_shows_none false _ _ (image_gives at definitions (values id) (image_address at.view)
+        (result_shows_none _ _ (image_gives at definitions (values id) (image_address at.view)
         (last_is_text (codes "href" ∷ codes "src" ∷ []) (attributes_of at.view) (values id))))
 
     anchor_shows : IsShown (codes "a")
