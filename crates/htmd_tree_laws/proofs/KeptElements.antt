@@ -330,8 +330,8 @@ module _ (options : Options) (g : is_guarded options ≡ true) (alone : is_markd
     span_gives (Some mark) None e f t = rw alone (span_content all_shown (within definitions))
     span_gives (Some mark) (Some s) e f t =
         cond_both (is_guarded options && is_read_in_formula s) content_of_children (markdown_plan ((mark ++ s) ++ mark))
-        (λ (plan : PlanView). KeepsResult (plan_answer spans at definitions plan (without_handler at definitions)).result
-        in_tree)
+        (λ (plan : PlanView). KeepsResult
+        (plan_answer spans at definitions plan (without_handler at definitions)).result in_tree)
         (λ _. span_content in_tree (keeps-in (less_shown s f) (within definitions)))
         (λ _. keeps-is (sym (in_formula s f))
         (kept_but_asterisks ((mark ++ s) ++ mark) (counted_characters true s)

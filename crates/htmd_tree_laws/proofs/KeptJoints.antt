@@ -309,7 +309,8 @@ module _ (out content : List ℕ) (u : IsUtf8 out) (v : IsUtf8 content) (so : cl
           let two : chars (codes "\\!") ≡ codes "\\!" =
           chars-IsAscii (codes "\\!") (fillers_ascii (codes "\\!") refl) in
           record {
-            utf8 = IsUtf8-append front (codes "\\!") text (IsUtf8-from_ascii (codes "\\!") (fillers_ascii (codes "\\!") refl));
+            utf8 = IsUtf8-append front (codes "\\!") text
+                (IsUtf8-from_ascii (codes "\\!") (fillers_ascii (codes "\\!") refl));
             keeps = subst (λ (l : List ℕ). IsPart l (shows even (front ++ codes "\\!")))
                 (sym (ap (shows even) whole ∙ shows-append even front (codes "!") text
                 ∙ ap (λ l. shows even front ++ seen state l) one))
@@ -565,7 +566,8 @@ module _ (out content : List ℕ) (u : IsUtf8 out) (v : IsUtf8 content) (so : cl
       let all : Keeps (head ++ (gone ++ tail)) (shows even out) =
       keeps-alike
       (IsUtf8-append head (gone ++ tail) head_text (IsUtf8-append gone tail (run_text gone gone_run) tail_text))
-      (alike-sym _ _ (run_free head gone tail head_text (run_text gone gone_run) (free head head_text head_bare) gone_run))
+      (alike-sym _ _
+      (run_free head gone tail head_text (run_text gone gone_run) (free head head_text head_bare) gone_run))
       (keeps-as (sym parts) before_keeps) in
       keeps-as
       (ap (λ l. l ++ content) (sym (append_assoc head gone tail)) ∙ append_assoc (head ++ gone) tail content

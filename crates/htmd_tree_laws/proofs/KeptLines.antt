@@ -437,7 +437,8 @@ keeps-one_line s p =
 
 -- ---- blocks
 
-pub keeps-block : (out block : List ℕ) {l m : List ℕ} → Keeps out l → Keeps block m → Keeps (join_block out block) (l ++ m)
+pub keeps-block : (out block : List ℕ) {l m : List ℕ} → Keeps out l → Keeps block m
+    → Keeps (join_block out block) (l ++ m)
 keeps-block out [] {l} {m} p q =
     keeps-is (sym (append-nil l) ∙ ap (λ z. l ++ z) (sym (keeps-of_nothing q))) p
 keeps-block out (b ∷ block) {l} p q =

@@ -267,7 +267,8 @@ pub scalars-append : (x y : List ℕ) → all_scalars x ≡ true → all_scalars
     → all_scalars (x ++ y) ≡ true
 scalars-append [] y e f = f
 scalars-append (c ∷ x) y e f =
-    let parts = and_parts _ (all_scalars x) e in and_from _ (all_scalars (x ++ y)) parts.0 (scalars-append x y parts.1 f)
+    let parts = and_parts _ (all_scalars x) e in
+    and_from _ (all_scalars (x ++ y)) parts.0 (scalars-append x y parts.1 f)
 
 -- what is written instead keeps all that is promised
 abbrev Promises : List ℕ → List ℕ → Type 0

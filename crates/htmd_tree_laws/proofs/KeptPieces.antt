@@ -74,7 +74,8 @@ KeepAll (s ∷ ss) l = (m n : List ℕ) × Keeps s m × KeepAll ss n × (l ≡ m
 pub keeps-flat : (f : List ℕ → List ℕ) → ((s l : List ℕ) → Keeps s l → Keeps (f s) l) → (ss : List (List ℕ))
     (l : List ℕ) → KeepAll ss l → Keeps (flat_map f ss) l
 keeps-flat f keeps [] l p = keeps-is (sym p) keeps-nil
-keeps-flat f keeps (s ∷ ss) l (m, n, p, q, e) = keeps-is (sym e) (keeps-append (keeps s m p) (keeps-flat f keeps ss n q))
+keeps-flat f keeps (s ∷ ss) l (m, n, p, q, e) =
+    keeps-is (sym e) (keeps-append (keeps s m p) (keeps-flat f keeps ss n q))
 
 keeps-blocks_behind : (out : List ℕ) (blocks : List (List ℕ)) (l m : List ℕ) → Keeps out l → KeepAll blocks m
     → Keeps (fold join_block out blocks) (l ++ m)
@@ -169,7 +170,8 @@ keeps-list is_in_item s p =
 keeps-setext : (level : ℕ) (s : List ℕ) {l : List ℕ} → Keeps s l → Keeps (setext level s) l
 keeps-setext level s {l} p =
     keeps-is (append-nil l)
-    (keeps-append (keeps-before (line_feed ∷ []) refl p) (keeps-many (length (chars s)) (underline level) (by (level == 1))))
+    (keeps-append (keeps-before (line_feed ∷ []) refl p)
+    (keeps-many (length (chars s)) (underline level) (by (level == 1))))
   where
     by : (b : Bool) → is_safe (cond b 0x3D hyphen) ≡ true
     by true = refl
@@ -213,7 +215,8 @@ closed_by x b y u sign safe =
     let cut = cut_before x b y (ltb-true b 128 parts.0) u in
     let is_safe_sign : is_safe b ≡ true =
     and_from (nat_lt b 128) (not (is_backslash b)) parts.0 (ap not first.0) in
-    let same : chars (b ∷ y) ≡ b ∷ y = chars-safe (b ∷ y) (and_from (is_safe b) (list_all is_safe y) is_safe_sign safe) in
+    let same : chars (b ∷ y) ≡ b ∷ y =
+    chars-safe (b ∷ y) (and_from (is_safe b) (list_all is_safe y) is_safe_sign safe) in
     ap (ends even) (chars-append x (b ∷ y) cut.0 ∙ ap (λ z. chars x ++ z) same)
     ∙ ends-append even (chars x) (b ∷ y)
     ∙ ap (λ e. ends e y) (plain_step (ends even (chars x)) b first.0 second.1 second.0) ∙ ends-safe y safe
@@ -237,7 +240,8 @@ keeps-in_brackets : (s : List ℕ) {l : List ℕ} → Keeps s l → Keeps (in_br
 keeps-in_brackets s p = keeps-behind (codes "[") refl (keeps-before (codes "]") refl p)
 
 keeps-link_text : (s : List ℕ) {l : List ℕ} → Keeps s l → Keeps (guarded_link_text s) l
-keeps-link_text s p = keeps-append (keeps-spaces (is_space_before s)) (keeps-in_brackets (one_line s) (keeps-one_line s p))
+keeps-link_text s p =
+    keeps-append (keeps-spaces (is_space_before s)) (keeps-in_brackets (one_line s) (keeps-one_line s p))
 
 pub closed-resource : (address : List ℕ) (title : Option (List ℕ)) → IsUtf8 (guarded_resource address title)
     → ends even (chars (guarded_resource address title)) ≡ even

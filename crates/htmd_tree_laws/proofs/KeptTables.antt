@@ -125,8 +125,9 @@ bars (c ∷ cs) e x scalars a =
     subst (λ (t : List ℕ). Barred e (c ∷ cs) (escaped_bars x (t ++ encode_utf8_all cs))) (sym (encode_ascii c low))
     (cond_both due (backslash ∷ c ∷ []) (c ∷ [])
     (λ (t : List ℕ). Barred e (c ∷ cs) (t ++ escaped_bars (is_escaping x c) (encode_utf8_all cs)))
-    (λ d. with_bar c cs e x (bars cs even false parts.1 refl) a (eqb-true c vertical_bar (and_parts (c == vertical_bar) (not x) d).0)
-    (not-true x (and_parts (c == vertical_bar) (not x) d).1))
+    (λ d.
+    let both = and_parts (c == vertical_bar) (not x) d in
+    with_bar c cs e x (bars cs even false parts.1 refl) a (eqb-true c vertical_bar both.0) (not-true x both.1))
     (λ _. plain c cs e x low parts.0 (bars cs (step e c) (is_escaping x c) parts.1 (agree-step e x c a)))))
     (λ high.
     subst (λ (t : List ℕ). Barred e (c ∷ cs) t)
@@ -162,8 +163,8 @@ bars (c ∷ cs) e x scalars a =
         → x ≡ false
         → Barred e (c ∷ cs) ((backslash ∷ c ∷ []) ++ escaped_bars (is_escaping x c) (encode_utf8_all cs))
     with_bar c cs e x later a is none =
-        subst (λ (d : ℕ). Barred e (d ∷ cs) ((backslash ∷ d ∷ []) ++ escaped_bars (is_escaping x d) (encode_utf8_all cs)))
-        (sym is)
+        subst (λ (d : ℕ). Barred e (d ∷ cs)
+        ((backslash ∷ d ∷ []) ++ escaped_bars (is_escaping x d) (encode_utf8_all cs))) (sym is)
         (subst (λ (y : Bool). Barred e (vertical_bar ∷ cs)
         ((backslash ∷ vertical_bar ∷ []) ++ escaped_bars (is_escaping y vertical_bar) (encode_utf8_all cs))) (sym none)
         (here cs e later (subst (λ y. Agree e y) none a)))
@@ -286,7 +287,8 @@ keeps-rows : (f : List ℕ → List ℕ) → KeepsBy f → (rows : List (List (L
     → FitIn (length widths) rows → KeepRows rows l → Keeps (flat_map (λ cells. row_by f cells widths) rows) l
 keeps-rows f keeps [] widths l fit p = keeps-is (sym p) keeps-nil
 keeps-rows f keeps (cells ∷ rows) widths l fit (m, n, p, q, e) =
-    keeps-is (sym e) (keeps-append (keeps-row f keeps cells widths m fit.0 p) (keeps-rows f keeps rows widths n fit.1 q))
+    keeps-is (sym e)
+    (keeps-append (keeps-row f keeps cells widths m fit.0 p) (keeps-rows f keeps rows widths n fit.1 q))
 
 keeps-head : (f : List ℕ → List ℕ) → KeepsBy f → (headers : List (List ℕ)) (widths : List ℕ) (l : List ℕ)
     → length headers ≤ length widths → KeepAll headers l → Keeps (head_by f headers widths) l

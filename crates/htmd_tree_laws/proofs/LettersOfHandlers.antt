@@ -296,7 +296,8 @@ says-listed {law} view list l alone p =
 pub keeps-listed : (view : ElementView) (list : ResultView) (l : List ℕ) → is_markdown_alone view.options ≡ true
     → Keeps list.content l → KeepsResult (list_result view list) l
 keeps-listed view list l alone p =
-    rw alone (keeps-optional (list_block (is_in_item view) list.content) l (keeps-list (is_in_item view) list.content p))
+    rw alone
+    (keeps-optional (list_block (is_in_item view) list.content) l (keeps-list (is_in_item view) list.content p))
 
 pub keeps_lists : {law : Law} → KeepsContent law (codes "ul") lists
 keeps_lists = record {

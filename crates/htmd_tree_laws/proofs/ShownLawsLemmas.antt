@@ -184,7 +184,8 @@ module _ (options : Options) (pure : is_guarded options ≡ false) (alone : is_m
       true≢false (sym (lies.table (ap (λ (tag : List ℕ). bytes_eq tag (codes "table")) is)) ∙ pure))
       name lies.tag in
       result_is_shown out (pre context.ancestors) answer.result answer.definitions l _ p
-      (subst (λ (shown_here : List ℕ). SaysResult law answer.result (cond (is_empty_element guarded name) [] shown_here))
+      (subst (λ (shown_here : List ℕ). SaysResult law answer.result
+      (cond (is_empty_element guarded name) [] shown_here))
       (inside_is id name (not (is_one_text name attributes view)) children) shows)
 
   pub content_is_shown : (start : ℕ) → start < length items

@@ -109,7 +109,8 @@ code_shows : (view : ElementView) (s l : List ℕ) → Says (of_visible false) s
     (code.finish view (record { content = s; markdown_translated = true }) []).result l
 code_shows view s l p text Indented e true here = rw (here, e) (says-indented_code s p)
 code_shows view s l p text Fenced e true here =
-    rw (here, e) (says-fenced s (language view) view.options.code_block_fence l [] p (language_shows (language view) text))
+    rw (here, e)
+    (says-fenced s (language view) view.options.code_block_fence l [] p (language_shows (language view) text))
 code_shows view s l p text style e false here = rw here (says-code_span view.options.preformatted_code s p)
 
 -- ---- elements

@@ -96,7 +96,8 @@ module _ (options : Options) (is_so : is_guarded options ≡ true) (items : List
     unseen tables (text id s) e = white_shows (not tables && guarded) s e
     unseen tables (comment id s) e = refl
     unseen tables (element id name attributes c) e =
-        let inner = not (is_one_text name attributes (view_at (conversion_of (built_in options) items) id true c)) && tables in
+        let view = view_at (conversion_of (built_in options) items) id true c in
+        let inner = not (is_one_text name attributes view) && tables in
         cond_both (is_empty_element guarded name) [] (shown_inside options items id name inner c)
         (λ (l : List ℕ). l ≡ []) (λ _. refl)
         (λ full.

@@ -199,7 +199,8 @@ module _ (options : Options) (items : List Item) where
       let view = view_at (conversion_of (built_in options) items) i true c in
       let inner = not (is_one_text m a view) && tables in
       let same : is_one_text m a view ≡ joined_text m a =
-      ap (λ b. ((bytes_eq m (codes "code") || bytes_eq m (codes "pre")) || (b && is_autolink (anchor_address view) view))
+      ap (λ b. ((bytes_eq m (codes "code") || bytes_eq m (codes "pre"))
+      || (b && is_autolink (anchor_address view) view))
       || (bytes_eq m (codes "span") && is_formula a (only_text c))) apart
       ∙ ap (λ (o : Option (List ℕ)). ((bytes_eq m (codes "code") || bytes_eq m (codes "pre")) || false)
       || (bytes_eq m (codes "span") && is_formula a o)) one
