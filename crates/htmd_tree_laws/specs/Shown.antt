@@ -53,14 +53,14 @@ is_empty_element guarded name =
     ((bytes_eq name (codes "br") || bytes_eq name (codes "hr")) || bytes_eq name (codes "img"))
     || (is_tag_among hidden_tags (Some name) && guarded)
 
--- ---- where captions are written
+-- ---- what is written as one text
 
 -- a link whose text is its address, which is written once
 abbrev pub is_autolink : Option (List ℕ) → ElementView → Bool
 is_autolink None view = false
 is_autolink (Some address) view = prefers_autolinks view.options.link_style && is_autolinked view address
 
--- a formula: one text of a class of formulas
+-- a formula: of a class of formulas, with one text
 abbrev pub is_formula : List AttributePair → Option (List ℕ) → Bool
 is_formula attributes shown = has_math_class attributes && is_some shown
 
