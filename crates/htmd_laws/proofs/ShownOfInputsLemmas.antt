@@ -3,7 +3,6 @@ use Rattle.std.proofs.Common.{◌≡◌, ◌∙◌, refl, sym, ap, subst, ℕ, L
 use Rattle.htmd_tree.specs.NumberedTrees.{tree_of}
 use Rattle.htmd_walk.specs.BuiltIn.{built_in}
 use Rattle.htmd_walk.specs.Markdown.{markdown}
-use Rattle.htmd_walk.specs.Outputs.{is_guarded}
 use Rattle.htmd_html5.specs.Documents.{html5_document}
 use Rattle.htmd_cli.specs.Fields.{read_field}
 use Rattle.htmd_tree_laws.specs.Shown.{IsPart, shown, visible}
@@ -16,7 +15,7 @@ use Rattle.htmd_laws.proofs.InputLawsLemmas.{inputs_hold_texts, whole_input, pag
 pub shown_in_any_page : ShownInAnyPage
 shown_in_any_page options scripting html s alone h fit =
     let items = html5_document scripting html in
-    subst (λ (x : List ℕ). IsPart (shown options items (tree_of items 0)) (visible (is_guarded options) x))
+    subst (λ (x : List ℕ). IsPart (shown options items (tree_of items 0)) (visible x))
     (sym h.is_markdown)
     (shown_in_markdown options items 0 alone h.is_tree h.holds_texts (h.is_tree).not_empty fit)
 
@@ -27,7 +26,7 @@ shown_in_input options settings input s alone same u h =
       held.0,
       held.1,
       λ fit. subst
-          (λ (x : List ℕ). IsPart (shown options held.0 (tree_of held.0 0)) (visible (is_guarded options) x)) (sym e)
+          (λ (x : List ℕ). IsPart (shown options held.0 (tree_of held.0 0)) (visible x)) (sym e)
           (shown_in_markdown options held.0 0 alone held.2 held.3 (held.2).not_empty fit),
     )
 

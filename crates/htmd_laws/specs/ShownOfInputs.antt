@@ -19,7 +19,7 @@ use Rattle.htmd_laws.specs.InputLaws.{IsTreeBy, text_by}
 abbrev pub IsShownIn : Options → List Item → List ℕ → Type 0
 IsShownIn options tree s =
     tables_fit (is_guarded options) (tree_of tree 0) ≡ true
-    → IsPart (shown options tree (tree_of tree 0)) (visible (is_guarded options) s)
+    → IsPart (shown options tree (tree_of tree 0)) (visible s)
 
 -- the same holds for the document that the HTML denotes
 abbrev pub LosesNothingOf : Options → Bool → List ℕ → List ℕ → Type 0

@@ -6,15 +6,15 @@ use Rattle.std.specs.Prelude.{filter}
 use Rattle.std.specs.Char.{is_whitespace}
 use Rattle.std.specs.Str.{chars}
 use Rattle.htmd_tree_laws.specs.Letters.{is_letter}
-use Rattle.htmd_tree_laws.specs.Shown.{is_visible, IsPart}
+use Rattle.htmd_tree_laws.specs.Shown.{is_counted, IsPart}
 
 pub data Law : Type 0 where
   of_letters : Law
-  of_visible : (guarded : Bool) → Law
+  of_visible : (without_asterisks : Bool) → Law
 
 abbrev pub counts : Law → ℕ → Bool
 counts of_letters c = is_letter c
-counts (of_visible guarded) c = is_visible guarded c
+counts (of_visible without) c = is_counted without c
 
 -- the characters of a text that the law counts
 abbrev pub counted : Law → List ℕ → List ℕ
@@ -23,12 +23,13 @@ counted law s = filter (counts law) (chars s)
 -- these are wanted, and these are found
 abbrev pub Holds : Law → List ℕ → List ℕ → Type 0
 Holds of_letters wanted found = found ≡ wanted
-Holds (of_visible guarded) wanted found = IsPart wanted found
+Holds (of_visible without) wanted found = IsPart wanted found
 
 -- white space doesn't count
 pub white_is_uncounted : (law : Law) (c : ℕ) → is_whitespace c ≡ true → counts law c ≡ false
 white_is_uncounted of_letters c e = rw e refl
-white_is_uncounted (of_visible guarded) c e = rw e refl
+white_is_uncounted (of_visible true) c e = rw e refl
+white_is_uncounted (of_visible false) c e = rw e refl
 
 -- ---- parts in order
 
@@ -40,7 +41,7 @@ pub part-behind : (l m : List ℕ) (c : ℕ) → IsPart l m → IsPart l (c ∷ 
 part-behind [] m c p = tt
 part-behind (x ∷ l) m c p = inr p
 
-part-then : (l m n : List ℕ) → IsPart l m → IsPart m n → IsPart l n
+pub part-then : (l m n : List ℕ) → IsPart l m → IsPart m n → IsPart l n
 part-then [] m n p q = tt
 part-then (x ∷ l) [] n p q = absurd p
 part-then (x ∷ l) (y ∷ m) [] p q = absurd q
@@ -58,7 +59,7 @@ part-append (x ∷ l) m (c ∷ s) t p q =
     ⊎_elim (λ here. inl (here.0, part-append l m s t here.1 q))
     (λ later. inr (part-append (x ∷ l) m s t later q)) p
 
-part-of_nothing : (l : List ℕ) → IsPart l [] → l ≡ []
+pub part-of_nothing : (l : List ℕ) → IsPart l [] → l ≡ []
 part-of_nothing [] p = refl
 part-of_nothing (x ∷ l) p = absurd p
 
@@ -66,19 +67,19 @@ part-of_nothing (x ∷ l) p = absurd p
 
 pub holds-own : (law : Law) (l : List ℕ) → Holds law l l
 holds-own of_letters l = refl
-holds-own (of_visible guarded) l = part-own l
+holds-own (of_visible without) l = part-own l
 
 pub holds-then : (law : Law) (l m n : List ℕ) → Holds law l m → Holds law m n → Holds law l n
 holds-then of_letters l m n p q = q ∙ p
-holds-then (of_visible guarded) l m n p q = part-then l m n p q
+holds-then (of_visible without) l m n p q = part-then l m n p q
 
 pub holds-append : (law : Law) (l m s t : List ℕ) → Holds law l s → Holds law m t → Holds law (l ++ m) (s ++ t)
 holds-append of_letters l m s t p q = ap (λ x. x ++ t) p ∙ ap (λ x. l ++ x) q
-holds-append (of_visible guarded) l m s t p q = part-append l m s t p q
+holds-append (of_visible without) l m s t p q = part-append l m s t p q
 
 pub holds-of_nothing : (law : Law) (l : List ℕ) → Holds law l [] → l ≡ []
 holds-of_nothing of_letters l p = sym p
-holds-of_nothing (of_visible guarded) l p = part-of_nothing l p
+holds-of_nothing (of_visible without) l p = part-of_nothing l p
 
 pub holds-as : (law : Law) (l m n : List ℕ) → m ≡ n → Holds law l m → Holds law l n
 holds-as law l m n e p = subst (λ (x : List ℕ). Holds law l x) e p
@@ -87,4 +88,4 @@ holds-as law l m n e p = subst (λ (x : List ℕ). Holds law l x) e p
 pub holds-none : (law : Law) (found : List ℕ) → filter is_letter found ≡ []
     → Holds law [] (filter (counts law) found)
 holds-none of_letters found e = e
-holds-none (of_visible guarded) found e = tt
+holds-none (of_visible without) found e = tt

@@ -500,7 +500,7 @@ pub each_of_all : (law : Law) (at : Occurrence) (says : NumberedTree → List �
 each_of_all law at says [] each = tt
 each_of_all law at says (d ∷ ds) each = (each d, each_of_all law at says ds each)
 
-child_text : (tag : Option (List ℕ)) (s : List ℕ) → s ≡ block_text (block_of_child tag s)
+pub child_text : (tag : Option (List ℕ)) (s : List ℕ) → s ≡ block_text (block_of_child tag s)
 child_text tag s =
     cond_both (is_tag_among (codes "li" ∷ []) tag) _ _ (λ b. s ≡ block_text b) (λ _. refl) (λ _. refl)
 

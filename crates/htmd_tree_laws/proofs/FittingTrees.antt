@@ -26,9 +26,10 @@ both_may name attributes None right e = absurd (false≢true e)
 both_may name attributes (Some s) None e = absurd (false≢true e)
 both_may name attributes (Some s) (Some right) e = (and_parts _ _ (and_parts _ _ e).0).0
 
-module _ (Fit : ℕ → List ℕ → NumberedForest → Type 0)
-    (stays : (id : ℕ) (name s : List ℕ) (children : NumberedForest) → may_join name ≡ true
-    → Fit id name children → Fit id name (with_only_text s children)) where
+module _ (Fit : ℕ → List ℕ → List AttributePair → NumberedForest → Type 0)
+    (stays : (id : ℕ) (name s : List ℕ) (attributes : List AttributePair) (children : NumberedForest)
+    → may_join name ≡ true
+    → Fit id name attributes children → Fit id name attributes (with_only_text s children)) where
   abbrev mutual
     -- texts are text, and this holds of elements
     pub Fits : NumberedTree → Type 0
@@ -36,7 +37,7 @@ module _ (Fit : ℕ → List ℕ → NumberedForest → Type 0)
     Fits (doctype id) = Unit {0}
     Fits (text id s) = IsUtf8 s
     Fits (comment id s) = Unit {0}
-    Fits (element id name attributes children) = Fit id name children × AllFit children
+    Fits (element id name attributes children) = Fit id name attributes children × AllFit children
 
     pub AllFit : NumberedForest → Type 0
     AllFit none = Unit {0}
@@ -70,7 +71,7 @@ module _ (Fit : ℕ → List ℕ → NumberedForest → Type 0)
   with_text_fits s (text i r) first e t fit = fit
   with_text_fits s (comment i r) first e t fit = fit
   with_text_fits s (element i name attributes c) first e t fit =
-      (stays i name s c (both_may name attributes (only_text c) (joint_of first) e) fit.0, with_only_fits s c t fit.1)
+      (stays i name s attributes c (both_may name attributes (only_text c) (joint_of first) e) fit.0, with_only_fits s c t fit.1)
 
   joint_fits : (name : List ℕ) (attributes : List AttributePair) (s : Option (List ℕ)) → IsTextIfAny s
       → IsUtf8 (joint_text (joint_with name attributes s))

@@ -34,7 +34,7 @@ use Rattle.htmd_tree_laws.proofs.LettersOfTexts.{bytes_high}
 
 -- ---- whether what follows a text is escaped
 
-abbrev escapes : Bool → List ℕ → Bool
+abbrev pub escapes : Bool → List ℕ → Bool
 escapes e [] = e
 escapes e (b ∷ s) = escapes ((b == backslash) && not e) s
 
@@ -129,7 +129,7 @@ no_backslash : (b : ℕ) → is_asterisk b ≡ true → (b == backslash) ≡ fal
 no_backslash b e = ap (λ x. x == backslash) (eqb-true b asterisk e)
 
 -- nothing is escaped where the run at the end begins
-run_bare : (s : List ℕ) → escapes false s ≡ false → escapes false (take (length s - ending_run s) s) ≡ false
+pub run_bare : (s : List ℕ) → escapes false s ≡ false → escapes false (take (length s - ending_run s) s) ≡ false
 run_bare s whole = by (escapes_next (take (length s - suffix_len is_asterisk s) s)) refl
   where
     within : suffix_len is_asterisk s ≤ length s
@@ -187,7 +187,7 @@ escapes-high e (b ∷ []) l high = ap (λ x. x && not e) (high_other b (high 0 (
 escapes-high e (b ∷ c ∷ s) l high =
     escapes-high ((b == backslash) && not e) (c ∷ s) (omega arith) (λ k m. high (suc k) (omega (arith, m)))
 
-encode_size : (c : ℕ) → 0 < length (encode_utf8 c)
+pub encode_size : (c : ℕ) → 0 < length (encode_utf8 c)
 encode_size c = omega (arith, length-encode c, (len_utf8_bounds c).0)
 
 escapes-character : (e : Bool) (c : ℕ) → escapes e (encode_utf8 c) ≡ ((c == backslash) && not e)
@@ -240,7 +240,7 @@ plain_bare e (c ∷ cs) so =
         ∙ (or_parts (is_plain_sign c) (is_ascii_punctuation c && true) other).1))
     by false so other = refl
 
-front_signs : (e : Bool) (cs : List ℕ) → plain_signs e cs ++ drop (length (plain_signs e cs)) cs ≡ cs
+pub front_signs : (e : Bool) (cs : List ℕ) → plain_signs e cs ++ drop (length (plain_signs e cs)) cs ≡ cs
 front_signs e [] = refl
 front_signs e (c ∷ cs) =
     let later = plain_signs ((c == backslash) && not e) cs in
@@ -312,7 +312,7 @@ back_bare (c ∷ cs) =
     (ap (λ k. take k (turned (c ∷ cs))) (omega arith) ∙ take-length (turned (c ∷ cs)) ∙ more)
     ∙ last_bare cs c other)
 
-end_bare : (s : List ℕ) → IsUtf8 s → escapes false (take (length s - plain_end s) s) ≡ false
+pub end_bare : (s : List ℕ) → IsUtf8 s → escapes false (take (length s - plain_end s) s) ≡ false
 end_bare s text =
     let cs = reverse (chars s) in
     let same : turned cs ≡ s = ap encode_utf8_all (reverse-reverse (chars s)) ∙ encodes-chars s text in

@@ -49,12 +49,13 @@ use Rattle.htmd_tree_laws.proofs.FittingTrees as fitting
 
 module _ (items : List Item) where
   -- elements have their tags among the items
-  abbrev HasTag : ℕ → List ℕ → NumberedForest → Type 0
-  HasTag id name children = (ancestor_of (data_at items id)).tag ≡ name
+  abbrev HasTag : ℕ → List ℕ → List AttributePair → NumberedForest → Type 0
+  HasTag id name attributes children = (ancestor_of (data_at items id)).tag ≡ name
 
-  tag_stays : (id : ℕ) (name s : List ℕ) (children : NumberedForest) → may_join name ≡ true
-      → HasTag id name children → HasTag id name (with_only_text s children)
-  tag_stays id name s children may has = has
+  tag_stays : (id : ℕ) (name s : List ℕ) (attributes : List AttributePair) (children : NumberedForest)
+      → may_join name ≡ true
+      → HasTag id name attributes children → HasTag id name attributes (with_only_text s children)
+  tag_stays id name s attributes children may has = has
 
   abbrev Fits : NumberedTree → Type 0
   Fits = fitting.Fits HasTag tag_stays

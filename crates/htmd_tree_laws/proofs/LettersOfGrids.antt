@@ -78,7 +78,7 @@ say_grid {law} above (line ∷ rows) {l} p =
 
 -- ---- the text of the grid
 
-widths_fit : (lines : List (List (List ℕ))) → FitIn (length (guarded_widths lines)) lines
+pub widths_fit : (lines : List (List (List ℕ))) → FitIn (length (guarded_widths lines)) lines
 widths_fit lines =
     let widths = column_widths_by guarded_cell_width lines in
     let fit : FitIn (length widths) lines = fit_in guarded_cell_width [] lines in
@@ -101,10 +101,10 @@ says-grid false (cells ∷ rows) p =
 
 -- ---- line by line
 
-abbrev texts_in : List (List ℕ) → List SpannedRow → List (List ℕ) → GuardedTexts
+abbrev pub texts_in : List (List ℕ) → List SpannedRow → List (List ℕ) → GuardedTexts
 texts_in x rows y = record { before = x; rows = rows; behind = y }
 
-rows_mapped : (rows : List SpannedRow) (last : SpannedRow)
+pub rows_mapped : (rows : List SpannedRow) (last : SpannedRow)
     → map cell_texts rows ++ cell_texts last ∷ [] ≡ map cell_texts (rows ++ last ∷ [])
 rows_mapped [] last = refl
 rows_mapped (first ∷ rows) last = ap (λ l. cell_texts first ∷ l) (rows_mapped rows last)

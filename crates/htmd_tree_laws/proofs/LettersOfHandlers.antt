@@ -63,6 +63,11 @@ use Rattle.htmd_tree_laws.proofs.LettersOfLinks.{IsTextIfAny, says-own_if_any, s
 use Rattle.htmd_tree_laws.proofs.LettersOfLinks.{says-link, says-reference, says-resource}
 use Rattle.htmd_tree_laws.proofs.LettersOfGuarded.{says-guarded_link, says-guarded_reference, says-guarded_emphasis}
 use Rattle.htmd_tree_laws.proofs.LettersOfGuarded.{says-guarded_heading, says-guarded_resource}
+use Rattle.std.proofs.lemmas.Bool.{true≢false}
+use Rattle.htmd_tree_laws.proofs.KeptMarks.{Keeps}
+use Rattle.htmd_tree_laws.proofs.KeptLines.{keeps-wrapped, keeps-quote}
+use Rattle.htmd_tree_laws.proofs.KeptPieces.{KeepsIfAny, keeps-bullet, keeps-unnumbered, keeps-heading, keeps-guarded_heading}
+use Rattle.htmd_tree_laws.proofs.KeptPieces.{keeps-guarded_emphasis, keeps-list}
 
 -- a result or nothing, and what it holds
 abbrev pub SaysResult : Law → Option ResultView → List ℕ → Type 0
@@ -73,6 +78,15 @@ says-optional : (law : Law) (s : Option (List ℕ)) (l : List ℕ) → SaysIfAny
     → SaysResult law (optional_markdown s) l
 says-optional law None l p = p
 says-optional law (Some s) l p = p
+
+-- a result or nothing, and what is promised of it
+abbrev pub KeepsResult : Option ResultView → List ℕ → Type 0
+KeepsResult None l = l ≡ []
+KeepsResult (Some r) l = Keeps r.content l
+
+keeps-optional : (s : Option (List ℕ)) (l : List ℕ) → KeepsIfAny s l → KeepsResult (optional_markdown s) l
+keeps-optional None l p = p
+keeps-optional (Some s) l p = p
 
 -- ---- attributes that are text
 
@@ -140,11 +154,16 @@ pub record KeepsContent (law : Law) (tag : List ℕ) (handler : HandlerMeaning) 
   pub finished : (view : ElementView) (content : ResultView) (definitions : List (List ℕ)) (l : List ℕ)
       → is_markdown_alone view.options ≡ true → Says law content.content l
       → SaysResult law (handler.finish view content definitions).result l
+  -- in Guarded what is promised of it too
+  pub kept : (view : ElementView) (content : ResultView) (definitions : List (List ℕ)) (l : List ℕ)
+      → is_markdown_alone view.options ≡ true → is_guarded view.options ≡ true → Keeps content.content l
+      → KeepsResult (handler.finish view content definitions).result l
 
 pub keeps_paragraphs : {law : Law} (tag : List ℕ) → KeepsContent law tag paragraphs
 keeps_paragraphs tag = record {
   planned = λ view alone here. rw alone refl;
   finished = λ view content definitions l alone p. wrapped content.content l p;
+  kept = λ view content definitions l alone g p. keeps-wrapped content.content p;
 }
 
 pub keeps_quotes : {law : Law} (tag : List ℕ) → KeepsContent law tag quotes
@@ -153,36 +172,44 @@ keeps_quotes {law} tag = record {
   finished = λ view content definitions l alone p.
       cond_both (is_in_line view) _ _ (λ (r : Option ResultView). SaysResult law r l)
       (λ _. wrapped content.content l p) (λ _. says-quote content.content l p);
+  kept = λ view content definitions l alone g p.
+      cond_both (is_in_line view) _ _ (λ (r : Option ResultView). KeepsResult r l)
+      (λ _. keeps-wrapped content.content p) (λ _. keeps-quote content.content p);
 }
 
 pub keeps_parts : {law : Law} (tag : List ℕ) → KeepsContent law tag parts_of_page
 keeps_parts tag = record {
   planned = λ view alone here. rw alone refl;
   finished = λ view content definitions l alone p. wrapped content.content l p;
+  kept = λ view content definitions l alone g p. keeps-wrapped content.content p;
 }
 
 pub keeps_pages : {law : Law} (tag : List ℕ) → KeepsContent law tag pages
 keeps_pages tag = record {
   planned = λ view alone here. rw alone refl;
   finished = λ view content definitions l alone p. wrapped content.content l p;
+  kept = λ view content definitions l alone g p. keeps-wrapped content.content p;
 }
 
 pub keeps_cells : {law : Law} (tag : List ℕ) → KeepsContent law tag cells
 keeps_cells tag = record {
   planned = λ view alone here. rw alone refl;
   finished = λ view content definitions l alone p. wrapped content.content l p;
+  kept = λ view content definitions l alone g p. keeps-wrapped content.content p;
 }
 
 pub keeps_rows : {law : Law} (tag : List ℕ) → KeepsContent law tag table_rows
 keeps_rows tag = record {
   planned = λ view alone here. rw alone refl;
   finished = λ view content definitions l alone p. wrapped content.content l p;
+  kept = λ view content definitions l alone g p. keeps-wrapped content.content p;
 }
 
 pub keeps_table_parts : {law : Law} (tag : List ℕ) → KeepsContent law tag table_parts
 keeps_table_parts tag = record {
   planned = λ view alone here. rw alone refl;
   finished = λ view content definitions l alone p. wrapped content.content l p;
+  kept = λ view content definitions l alone g p. keeps-wrapped content.content p;
 }
 
 says-item_of : {law : Law} (view : ElementView) (s : List ℕ) {l : List ℕ} → Says law s l
@@ -197,6 +224,17 @@ says-item_of {law} view s {l} p =
     (λ _. wrapped (guarded_bullet_item marker spacing s) l own))
     (λ _. says-bullet marker spacing s p)
 
+keeps-item_of : (view : ElementView) (s : List ℕ) {l : List ℕ} → Keeps s l → Keeps (bullet_item_of view s) l
+keeps-item_of view s {l} p =
+    let marker = view.options.bullet_list_marker in
+    let spacing = view.options.ul_bullet_spacing in
+    cond_both (is_guarded view.options) _ _ (λ (t : List ℕ). Keeps t l)
+    (λ _.
+    let own = keeps-bullet marker (guarded_spacing spacing) s p in
+    cond_both (is_tag_among list_tags (parent_tag view)) _ _ (λ (t : List ℕ). Keeps t l) (λ _. own)
+    (λ _. keeps-wrapped (guarded_bullet_item marker spacing s) own))
+    (λ _. keeps-bullet marker spacing s p)
+
 pub keeps_items : {law : Law} (tag : List ℕ) → KeepsContent law tag list_items
 keeps_items {law} tag = record {
   planned = λ view alone here. rw alone refl;
@@ -205,6 +243,11 @@ keeps_items {law} tag = record {
       (λ _. wrapped content.content l p)
       (λ _. cond_both (is_in_ordered view) _ _ (λ (t : List ℕ). Says law t l)
       (λ _. says-unnumbered content.content p) (λ _. says-item_of view content.content p));
+  kept = λ view content definitions l alone g p.
+      cond_both (is_in_line view) _ _ (λ (r : Option ResultView). KeepsResult r l)
+      (λ _. keeps-wrapped content.content p)
+      (λ _. cond_both (is_in_ordered view) _ _ (λ (t : List ℕ). Keeps t l)
+      (λ _. keeps-unnumbered content.content p) (λ _. keeps-item_of view content.content p));
 }
 
 pub keeps_headings : {law : Law} (tag : List ℕ) → KeepsContent law tag headings
@@ -219,6 +262,15 @@ keeps_headings {law} tag = record {
       (λ (f : HeadingStyle → ℕ → List ℕ → List ℕ). Says law (f style level content.content) l)
       (λ _. says-guarded_heading style level content.content l p)
       (λ _. says-heading style level content.content p));
+  kept = λ view content definitions l alone g p.
+      let style = view.options.heading_style in
+      let level = level_of (tag_of view) in
+      cond_both (is_in_line view) _ _ (λ (r : Option ResultView). KeepsResult r l)
+      (λ _. keeps-wrapped content.content p)
+      (λ _. cond_both (is_guarded view.options) guarded_heading heading
+      (λ (f : HeadingStyle → ℕ → List ℕ → List ℕ). Keeps (f style level content.content) l)
+      (λ _. keeps-guarded_heading style level content.content p)
+      (λ _. keeps-heading style level content.content p));
 }
 
 pub keeps_emphasis : {law : Law} (emphasis : Emphasis) (tag : List ℕ) → KeepsContent law tag (emphasis_of emphasis)
@@ -229,6 +281,9 @@ keeps_emphasis {law} emphasis tag = record {
       (λ _. says-guarded_emphasis emphasis content.content l p)
       (λ _. says-optional law (emphasised_text emphasis content.content) l
       (says-emphasised emphasis content.content p));
+  kept = λ view content definitions l alone g p.
+      cond_both (is_guarded view.options) _ _ (λ (r : Option ResultView). KeepsResult r l)
+      (λ _. keeps-guarded_emphasis emphasis content.content p) (λ pure. absurd (true≢false (sym g ∙ pure)));
 }
 
 pub says-listed : {law : Law} (view : ElementView) (list : ResultView) (l : List ℕ)
@@ -238,10 +293,17 @@ says-listed {law} view list l alone p =
     rw alone (says-optional law (list_block (is_in_item view) list.content) l (says-list
     (is_in_item view) list.content p))
 
+pub keeps-listed : (view : ElementView) (list : ResultView) (l : List ℕ) → is_markdown_alone view.options ≡ true
+    → Keeps list.content l → KeepsResult (list_result view list) l
+keeps-listed view list l alone p =
+    rw alone
+    (keeps-optional (list_block (is_in_item view) list.content) l (keeps-list (is_in_item view) list.content p))
+
 pub keeps_lists : {law : Law} → KeepsContent law (codes "ul") lists
 keeps_lists = record {
   planned = λ view alone here. rw (alone, here) refl;
   finished = λ view content definitions l alone p. says-listed view content l alone p;
+  kept = λ view content definitions l alone g p. keeps-listed view content l alone p;
 }
 
 -- ---- handlers with more to say

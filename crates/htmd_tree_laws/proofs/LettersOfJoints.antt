@@ -53,7 +53,7 @@ asterisk_fills b e = grind (arith, nat_tests)
 abbrev pub IsRun : List ℕ → Type 0
 IsRun f = list_all is_asterisk f ≡ true
 
-run_fills : (f : List ℕ) → IsRun f → list_all is_filler f ≡ true
+pub run_fills : (f : List ℕ) → IsRun f → list_all is_filler f ≡ true
 run_fills [] e = refl
 run_fills (b ∷ f) e =
     let parts = and_parts (is_asterisk b) (list_all is_asterisk f) e in

@@ -109,7 +109,7 @@ module _ (passes : ℕ → Bool) where
   split_behind (b ∷ x) r plain =
       rw (plain 0 (omega arith)) (ap (onto_first b) (split_behind x r (λ k l. plain (suc k) (omega arith))))
 
-  some_part : (s : List ℕ) → (first : List ℕ) × (rest : List (List ℕ)) ×
+  pub some_part : (s : List ℕ) → (first : List ℕ) × (rest : List (List ℕ)) ×
       (slice_split passes s ≡ first ∷ rest)
   some_part [] = ([], [], refl)
   some_part (b ∷ s) =

@@ -112,7 +112,7 @@ record IsCutBehind (law : Law) (cs front ws : List ℕ) : Type 0 where
   whole : cs ≡ front ++ ws
   silent : filter (counts law) ws ≡ []
 
-nil_of : (cs : List ℕ) → (length cs == 0) ≡ true → cs ≡ []
+pub nil_of : (cs : List ℕ) → (length cs == 0) ≡ true → cs ≡ []
 nil_of [] e = refl
 nil_of (c ∷ cs) e = let none : length (c ∷ cs) ≡ 0 = eqb-true (length (c ∷ cs)) 0 e in absurd (omega arith)
 
@@ -134,7 +134,7 @@ dropped law (c ∷ cs) =
     ))
     (λ _. (more.0, record { whole = ap (λ z. c ∷ z) (more.1).whole; silent = (more.1).silent }))
 
-scalars-front : (xs ys : List ℕ) → all_scalars (xs ++ ys) ≡ true
+pub scalars-front : (xs ys : List ℕ) → all_scalars (xs ++ ys) ≡ true
     → (all_scalars xs ≡ true) × (all_scalars ys ≡ true)
 scalars-front [] ys e = (refl, e)
 scalars-front (x ∷ xs) ys e =
@@ -147,7 +147,7 @@ says-encoded : {law : Law} (cs : List ℕ) → all_scalars cs ≡ true
 says-encoded {law} cs e =
     says-is (ap (filter (counts law)) (chars-encodes cs e)) (says-own (encode_utf8_all cs) (cs, (e, refl)))
 
-front_taken : (x y : List ℕ) → take (length (x ++ y) - length y) (x ++ y) ≡ x
+pub front_taken : (x y : List ℕ) → take (length (x ++ y) - length y) (x ++ y) ≡ x
 front_taken x y =
     let size : length (x ++ y) ≡ length x + length y = length-append x y in
     let there : length (x ++ y) - length y ≡ length x = omega (arith, size) in
@@ -157,7 +157,7 @@ front_taken x y =
     all [] = refl
     all (b ∷ s) = ap (λ l. b ∷ l) (all s)
 
-rest_left : (x y : List ℕ) → drop (length x) (x ++ y) ≡ y
+pub rest_left : (x y : List ℕ) → drop (length x) (x ++ y) ≡ y
 rest_left [] y = refl
 rest_left (b ∷ x) y = rest_left x y
 

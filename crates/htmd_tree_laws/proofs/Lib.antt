@@ -32,14 +32,21 @@ pub mod LettersOfPieces
 pub mod LettersOfLinks
 pub mod LettersOfGuarded
 pub mod LettersOfJoints
+pub mod JointMarks
+pub mod KeptMarks
+pub mod KeptJoints
+pub mod KeptLines
+pub mod KeptPieces
 pub mod LettersOfHandlers
 pub mod LettersOfTables
 pub mod LettersOfGrids
+pub mod KeptTables
 pub mod ElementsByTag
 pub mod WrittenTables
 pub mod LettersOfElements
 pub mod FittingTrees
 pub mod SaidChildren
+pub mod KeptTexts
 pub mod LettersLawsLemmas
 pub mod BlockBeginnings
 pub mod TextLines
@@ -49,10 +56,11 @@ pub mod TextLawsLemmas
 pub mod ShownTrees
 pub mod ShownOfElements
 pub mod TableChildren
+pub mod KeptElements
 pub mod ShownTables
+pub mod KeptLawsLemmas
 pub mod ShownLawsLemmas
 pub mod TextCharacters
-pub mod JointMarks
 mod ParagraphExamples
 mod TextExamples
 mod LettersExamples

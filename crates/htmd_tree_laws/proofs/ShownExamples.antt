@@ -78,11 +78,29 @@ script_shows_text = refl
 abbrev PageShowsGuarded : List ValueTree → List ℕ → Type 0
 PageShowsGuarded trees characters = page_shows guarded trees ≡ characters
 
--- `*` isn't counted
-guarded_text_shows_punctuation : PageShowsGuarded (say (codes "a*, 1") ∷ leaf (codes "i") (codes "b!") ∷ [])
-    (codes "a,1b!")
+-- `*` is counted
+guarded_text_shows_punctuation : PageShowsGuarded (say (codes "a*, 1") ∷ leaf (codes "i") (codes "b*!") ∷ [])
+    (codes "a*,1b*!")
 unfolding tree_of forest_from chars guarded
 guarded_text_shows_punctuation = refl
+
+-- but not in code
+guarded_code_shows_no_asterisk :
+    PageShowsGuarded (leaf (codes "code") (codes "2*3") ∷ tag (codes "pre") (leaf (codes "i") (codes "4*") ∷ []) ∷
+    say (codes "5*") ∷ [])
+    (codes "2345*")
+unfolding tree_of forest_from chars guarded
+guarded_code_shows_no_asterisk = refl
+
+-- nor in a formula, which is one text
+abbrev formula : List ValueTree → ValueTree
+formula trees = tag_with (codes "span") (pair (codes "class") (codes "math math-inline") ∷ []) trees
+
+guarded_formula_shows_no_asterisk :
+    PageShowsGuarded (formula (say (codes "a*b") ∷ []) ∷ formula (leaf (codes "i") (codes "c*") ∷ []) ∷ [])
+    (codes "abc*")
+unfolding tree_of forest_from chars guarded
+guarded_formula_shows_no_asterisk = refl
 
 hidden_script_shows_nothing :
     PageShowsGuarded (leaf (codes "script") (codes "f();") ∷ say (codes "a") ∷ []) (codes "a")

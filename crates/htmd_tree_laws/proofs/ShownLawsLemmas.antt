@@ -1,8 +1,8 @@
 -- In Pure and in Guarded nothing that a reader sees is lost.
 use Rattle.std.proofs.Common.{◌≡◌, ℕ, zero, suc, ◌<◌, ◌≤◌, Bool, true, false, List, [], ◌∷◌, ◌++◌, length, Option}
-use Rattle.std.proofs.Common.{Some, None, codes, refl, sym, ap, ◌∙◌, arith, subst}
+use Rattle.std.proofs.Common.{Some, None, cond, codes, refl, sym, ap, ◌∙◌, arith, subst, ⊎_elim}
 use Rattle.std.specs.Str.{bytes_eq}
-use Rattle.std.proofs.lemmas.Bool.{cond_both, false≢true}
+use Rattle.std.proofs.lemmas.Bool.{cond_both, true≢false, cases_Bool}
 use Rattle.std.proofs.lemmas.List.{append-nil}
 use Rattle.htmd_text.specs.Trims.{trimmed_end, is_line_feed}
 use Rattle.htmd_text.specs.WhiteSpace.{is_document_white_space}
@@ -15,42 +15,39 @@ use Rattle.htmd_walk.specs.declared.options.Options.{Options}
 use Rattle.htmd_walk.specs.BuiltIn.{built_in}
 use Rattle.htmd_walk.specs.Children.{write_groups, content_alone, descendant_tree, trims_first}
 use Rattle.htmd_walk.specs.Elements.{answer_after, occurrence_at}
-use Rattle.htmd_walk.specs.AllText.{text_or_all, all_text_among}
-use Rattle.htmd_walk.specs.CaptionsAndCells.{captions_and_cells}
 use Rattle.htmd_walk.specs.Groups.{only_text, groups_of, children_at, may_join}
-use Rattle.htmd_walk.specs.GuardedTableLayouts.{is_written_as_table, table_lines, nodes_of_lines}
+use Rattle.htmd_walk.specs.GuardedTableLayouts.{is_written_as_table}
 use Rattle.htmd_walk.specs.Handling.{ResultView}
 use Rattle.htmd_walk.specs.Markdown.{walked_content, walked_node, markdown, append_texts}
 use Rattle.htmd_walk.specs.OrdinaryText.{in_pre_or_code}
 use Rattle.htmd_walk.specs.Outputs.{Conversion, conversion_of, Output, Context, context_of, empty_output, is_guarded}
 use Rattle.htmd_walk.specs.Outputs.{is_markdown_alone}
 use Rattle.htmd_walk.specs.Rendering.{with_result, written_within}
-use Rattle.htmd_tree_laws.specs.Shown.{visible, IsPart, shown, shown_of, shown_among}
+use Rattle.htmd_tree_laws.specs.Shown.{visible, IsPart, shown, shown_among}
 use Rattle.htmd_tree_laws.specs.Shown.{tables_fit, ShownInContent, ShownInMarkdown}
 use Rattle.htmd_tree_laws.proofs.CountedTexts.{Law, of_visible, part-append}
-use Rattle.htmd_tree_laws.proofs.LettersLemmas.{Says, says-own, says-nil, says-is, counted_append}
+use Rattle.htmd_tree_laws.proofs.LettersLemmas.{Says, says-nil, says-is, counted_append}
 use Rattle.htmd_tree_laws.proofs.LettersOfTexts.{document_of_white, line_feed_of_white, says-trimmed_end, says-trimmed}
 use Rattle.htmd_tree_laws.proofs.LettersOfPieces.{says-seam}
-use Rattle.htmd_tree_laws.proofs.LettersOfJoints.{PassesMarks, says-guarded_seam}
-use Rattle.htmd_tree_laws.proofs.LettersOfTables.{all_of}
 use Rattle.htmd_tree_laws.proofs.LettersOfLinks.{IsTextIfAny}
 use Rattle.htmd_tree_laws.proofs.LettersOfHandlers.{SaysResult}
 use Rattle.htmd_tree_laws.proofs.ElementsByTag.{EachSays}
 use Rattle.htmd_tree_laws.proofs.FittingTrees as fitting
+use Rattle.htmd_tree_laws.proofs.KeptMarks.{keeps-says}
+use Rattle.htmd_tree_laws.proofs.KeptLawsLemmas.{content_is_kept}
+use Rattle.htmd_tree.specs.ValueTrees.{AttributePair}
+use Rattle.htmd_walk.specs.Children.{content_inside}
+use Rattle.htmd_tree_laws.specs.Shown.{counted_characters, is_empty_element, is_one_text}
+use Rattle.htmd_tree_laws.proofs.ShownTrees.{shown_inside}
+use Rattle.std.specs.Prelude.{◌&&◌, not}
 use Rattle.htmd_tree_laws.proofs.SaidChildren.{AllOf, children_are_said, text_is_said}
 use Rattle.htmd_tree_laws.proofs.LettersLawsLemmas.{values_in, plain_at}
 use Rattle.htmd_tree_laws.proofs.ShownOfElements.{element_shows}
 use Rattle.htmd_tree_laws.proofs.ShownTrees.{AllFit, Lies, lies_still, IsLow, all_low, same_among, only_shows, groups_lower}
-use Rattle.htmd_tree_laws.proofs.ShownTrees.{in_table, groups_show, tree_fits, each_shown, ol_is_alone, table_is_alone}
-use Rattle.htmd_tree_laws.proofs.ShownTables.{all_texts_show, table_shows, lines_low}
+use Rattle.htmd_tree_laws.proofs.ShownTrees.{in_table, groups_show, tree_fits, each_shown, ol_is_alone}
 
--- in Guarded `*` isn't counted
-marks_pass : (guarded : Bool) → guarded ≡ true → PassesMarks (of_visible guarded)
-marks_pass true e = refl
-marks_pass false e = absurd (false≢true e)
-
-module _ (options : Options) (alone : is_markdown_alone options ≡ true) (items : List Item) (t : IsTree items)
-    (plain : (id : ℕ) → HoldsText (data_at items id)) where
+module _ (options : Options) (pure : is_guarded options ≡ false) (alone : is_markdown_alone options ≡ true)
+    (items : List Item) (t : IsTree items) (plain : (id : ℕ) → HoldsText (data_at items id)) where
   abbrev conversion : Conversion
   conversion = conversion_of (built_in options) items
 
@@ -58,7 +55,7 @@ module _ (options : Options) (alone : is_markdown_alone options ≡ true) (items
   guarded = is_guarded options
 
   abbrev law : Law
-  law = of_visible (is_guarded options)
+  law = of_visible false
 
   abbrev AllFitHere : NumberedForest → Type 0
   AllFitHere = AllFit (is_guarded options) items
@@ -66,7 +63,7 @@ module _ (options : Options) (alone : is_markdown_alone options ≡ true) (items
   abbrev IsLowHere : ℕ → NumberedTree → Type 0
   IsLowHere = IsLow (is_guarded options) items
 
-  abbrev LiesHere : ℕ → List ℕ → NumberedForest → Type 0
+  abbrev LiesHere : ℕ → List ℕ → List AttributePair → NumberedForest → Type 0
   LiesHere = Lies (is_guarded options) items
 
   -- what this many levels give shows what is in the tree
@@ -95,8 +92,7 @@ module _ (options : Options) (alone : is_markdown_alone options ≡ true) (items
       says-is (sym (append-nil l) ∙ ap (λ z. l ++ z) (sym q)) p
   result_is_shown out whole (Some result) definitions l m p q =
       cond_both (is_guarded options) _ _ (λ (s : List ℕ). Says law s (l ++ m))
-      (λ e. says-guarded_seam law (marks_pass (is_guarded options) e) out.text result.content l m p q)
-      (λ _. says-seam out.text result.content whole p q)
+      (λ e. absurd (true≢false (sym e ∙ pure))) (λ _. says-seam out.text result.content whole p q)
 
   child_is_shown : (n : ℕ) → AreShown n → (text : Option (List ℕ)) → IsTextIfAny text → (d : ℕ)
       → IsLowHere n (tree_of items d) → (before : List (List ℕ))
@@ -120,44 +116,31 @@ module _ (options : Options) (alone : is_markdown_alone options ≡ true) (items
     each_is_shown n keeps id inside children ds utf8 low.1,
   )
 
-  -- all text shows what the children show in the tree's order
-  whole_shows : (id : ℕ) (name : List ℕ) (children : NumberedForest) (text : Option (List ℕ))
-      → only_text children ≡ text → LiesHere id name children → AllFitHere children → IsTextIfAny text
-      → is_guarded options ≡ true
-      → Says law (text_or_all text (children_at items id)) (shown_among options items false children)
-  whole_shows id name children None e lies fit utf8 g =
-      subst (λ (trees : NumberedForest). Says law (all_text_among trees) (shown_among options items false children))
-      (lies.apart e) (all_texts_show options g items children fit)
-  whole_shows id name children (Some s) e lies fit utf8 g =
-      says-is (sym (only_shows options items false children s e)) (says-own s utf8)
+  -- in Pure all is in the tree's order, and each character counts
+  both_ways_false : (b : Bool) → (not b && b) ≡ false
+  both_ways_false true = refl
+  both_ways_false false = refl
 
-  -- a table shows its captions and cells
-  written_shows : (n : ℕ) → AreShown n → (id : ℕ) (name : List ℕ) (inside : List Ancestor)
-      (children : NumberedForest)
-      → LiesHere id name children → AllFitHere children → tallest children ≤ n
-      → IsTextIfAny (only_text children)
-      → name ≡ codes "table" → is_written_as_table items id ≡ true
-      → EachSays law (occurrence_at (written_within n conversion) conversion id inside children)
-      (shown options items) (nodes_of_lines (table_lines items id))
-      × (all_of (λ d. shown options items (descendant_tree items (only_text children) d))
-      (captions_and_cells items (children_of items id)) ≡ in_table options items guarded children)
-  written_shows n keeps id name inside children lies fit low utf8 is written =
-      let g : is_guarded options ≡ true = lies.table (ap (λ (tag : List ℕ). bytes_eq tag (codes "table")) is) in
-      let same : children ≡ children_at items id = lies.block (ap may_join is ∙ table_is_alone) in
-      let told = table_shows options g items t id lies.within written in
-      let nodes = captions_and_cells items (children_of items id) in
-      let shows : all_of (λ d. shown options items (tree_of items d)) nodes
-      ≡ in_table options items guarded (children_at items id) =
-      subst (λ (tables : Bool). all_of (λ d. shown_of options items tables (tree_of items d)) nodes
-      ≡ in_table options items tables (children_at items id)) (sym g) (sym told.1) in
-      let here : AllOf (IsLowHere n) (children_at items id) =
-      subst (λ (trees : NumberedForest). AllOf (IsLowHere n) trees) same
-      (all_low (is_guarded options) items n children fit low) in (
-        each_is_shown n keeps id inside children (nodes_of_lines (table_lines items id)) utf8
-            (lines_low (is_guarded options) items t n id lies.within here),
-        ap (λ (o : Option (List ℕ)). all_of (λ d. shown options items (descendant_tree items o d)) nodes)
-            (ap only_text same ∙ told.0) ∙ shows ∙ ap (in_table options items guarded) (sym same),
-      )
+  only_is : (children : NumberedForest) (s : List ℕ) → only_text children ≡ Some s
+      → shown_among options items false children ≡ visible s
+  only_is children s e =
+      only_shows options items false children s e ∙ ap (λ b. counted_characters b s) pure
+
+  inside_is : (id : ℕ) (name : List ℕ) (whole : Bool) (children : NumberedForest)
+      → shown_among options items false children
+      ≡ shown_inside options items id name (whole && is_guarded options) children
+  inside_is id name whole children =
+      sym (ap (λ b. shown_inside options items id name (whole && b) children) pure ∙ by (bytes_eq name (codes "table"))
+      whole)
+    where
+      by : (is b : Bool)
+          → cond (is && ((b && false) && is_written_as_table items id)) (in_table options items (b && false) children)
+          (shown_among options items (b && false) children)
+          ≡ shown_among options items false children
+      by true true = refl
+      by true false = refl
+      by false true = refl
+      by false false = refl
 
   within_is_shown : (n : ℕ) → AreShown n
   unfolding written_within
@@ -169,7 +152,8 @@ module _ (options : Options) (alone : is_markdown_alone options ≡ true) (items
       children out l fit.0 (omega (arith, fit.1)) p)
   within_is_shown (suc n) (doctype id) context out l fit p = says-is (sym (append-nil l)) p
   within_is_shown (suc n) (text id s) context out l fit p =
-      text_is_said law (is_guarded options) s context out l (marks_pass (is_guarded options)) fit.0 p
+      says-is (ap (λ b. l ++ counted_characters b s) (sym (both_ways_false (is_guarded options))))
+      (text_is_said law (is_guarded options) s context out l (λ e. absurd (true≢false (sym e ∙ pure))) fit.0 p)
   within_is_shown (suc n) (comment id s) context out l fit p = rw alone (says-is (sym (append-nil l)) p)
   within_is_shown (suc n) (element id name attributes children) context out l fit p =
       let write = written_within n conversion in
@@ -178,27 +162,31 @@ module _ (options : Options) (alone : is_markdown_alone options ≡ true) (items
       let low : tallest children ≤ n = omega (arith, fit.1) in
       let utf8 = fitting.only_fits LiesHere (lies_still guarded items) children fit.0.1 in
       let lies = fit.0.0 in
-      result_is_shown out (in_pre_or_code context.ancestors) answer.result answer.definitions l _ p
-      (element_shows options alone items (λ i. values_in (data_at items i) (plain i)) write id inside
-      children out.definitions utf8 (only_shows options items guarded children)
-      (whole_shows id name children (only_text children) refl lies fit.0.1 utf8)
-      (λ before. groups_are_shown n (within_is_shown n) inside children (empty_output before) [] fit.0.1 low says-nil)
+      let view = (occurrence_at write conversion id inside children).view in
+      let shows = element_shows options pure alone items (λ i. values_in (data_at items i) (plain i)) write id inside
+      children out.definitions utf8 (only_is children)
+      (λ before. subst (λ b. Says law (content_inside write inside children before).text
+      (shown_among options items b children)) pure
+      (groups_are_shown n (within_is_shown n) inside children (empty_output before) [] fit.0.1 low says-nil))
       (λ ordered.
       let is : name ≡ codes "ol" = sym lies.tag ∙ ordered in
       let same : children ≡ children_at items id = lies.block (ap may_join is ∙ ol_is_alone) in (
         each_is_shown n (within_is_shown n) id inside children (children_of items id) utf8
             (subst (λ (trees : NumberedForest). AllOf (IsLowHere n) trees) same
             (all_low guarded items n children fit.0.1 low)),
-        each_shown options items guarded (occurrence_at write conversion id inside children).view
+        each_shown options items guarded view
             (children_of items id) (only_text children) refl (ap only_text (sym same))
-            ∙ ap (shown_among options items guarded) (sym same),
+            ∙ ap (shown_among options items guarded) (sym same)
+            ∙ ap (λ b. shown_among options items b children) pure,
       ))
       (λ table.
-      let is : name ≡ codes "table" = sym lies.tag ∙ table in (
-        lies.table (ap (λ (tag : List ℕ). bytes_eq tag (codes "table")) is),
-        λ written. written_shows n (within_is_shown n) id name inside children lies fit.0.1 low utf8 is written,
-      ))
-      name lies.tag)
+      let is : name ≡ codes "table" = sym lies.tag ∙ table in
+      true≢false (sym (lies.table (ap (λ (tag : List ℕ). bytes_eq tag (codes "table")) is)) ∙ pure))
+      name lies.tag in
+      result_is_shown out (in_pre_or_code context.ancestors) answer.result answer.definitions l _ p
+      (subst (λ (shown_here : List ℕ). SaysResult law answer.result
+      (cond (is_empty_element guarded name) [] shown_here))
+      (inside_is id name (not (is_one_text name attributes view)) children) shows)
 
   pub content_is_shown : (start : ℕ) → start < length items
       → tables_fit (is_guarded options) (tree_of items start) ≡ true
@@ -212,10 +200,13 @@ module _ (options : Options) (alone : is_markdown_alone options ≡ true) (items
 content_shows : (options : Options) (items : List Item) (start : ℕ) → is_markdown_alone options ≡ true
     → IsTree items → HoldTexts items → start < length items
     → tables_fit (is_guarded options) (tree_of items start) ≡ true
-    → Says (of_visible (is_guarded options)) (walked_content (built_in options) items start)
+    → Says (of_visible false) (walked_content (built_in options) items start)
     (shown options items (tree_of items start))
 content_shows options items start alone t plain l e =
-    content_is_shown options alone items t (plain_at items plain) start l e
+    ⊎_elim
+    (λ guarded. keeps-says (content_is_kept options guarded alone items t (plain_at items plain) start l e))
+    (λ pure. content_is_shown options pure alone items t (plain_at items plain) start l e)
+    (cases_Bool (is_guarded options))
 
 pub shown_in_content : ShownInContent
 shown_in_content options items start alone t plain l e = (content_shows options items start alone t plain l e).says
@@ -227,12 +218,11 @@ part-before l s t p = subst (λ (x : List ℕ). IsPart x (s ++ t)) (append-nil l
 pub shown_in_markdown : ShownInMarkdown
 unfolding markdown
 shown_in_markdown options items start alone t plain l e =
-    let guarded = is_guarded options in
     let content = walked_content (built_in options) items start in
     let shows = content_shows options items start alone t plain l e in
     let behind = trimmed_end is_line_feed
     (append_texts (built_in options).handlers (walked_node (built_in options) items start).definitions) in
     subst (λ (x : List ℕ). IsPart (shown options items (tree_of items start)) x)
-    (sym (counted_append (of_visible guarded) content behind shows.utf8))
-    (part-before (shown options items (tree_of items start)) (visible guarded content)
-    (visible guarded behind) shows.says)
+    (sym (counted_append (of_visible false) content behind shows.utf8))
+    (part-before (shown options items (tree_of items start)) (visible content)
+    (visible behind) shows.says)

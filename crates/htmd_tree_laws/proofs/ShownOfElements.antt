@@ -1,21 +1,18 @@
--- What elements show, in Pure and in Guarded.
+-- What elements show in Pure.
 use Rattle.std.proofs.Common.{◌≡◌, ℕ, Bool, true, false, cond, List, [], ◌∷◌, ◌++◌, Option, Some, None}
 use Rattle.std.proofs.Common.{codes, refl, sym, ap, ◌∙◌, subst}
-use Rattle.std.specs.Prelude.{◌&&◌, ◌||◌, not}
+use Rattle.std.specs.Prelude.{◌&&◌, ◌||◌}
 use Rattle.std.specs.List.{list_all}
 use Rattle.std.specs.Option.{unwrap_or}
 use Rattle.std.specs.Str.{IsUtf8, bytes_eq}
 use Rattle.std.proofs.Math.Bool.{and_comm}
-use Rattle.std.proofs.lemmas.Bool.{cond_both, cond-false, or_from, and_left, and_parts}
+use Rattle.std.proofs.lemmas.Bool.{cond_both, cond-false, or_from, and_left}
 use Rattle.std.proofs.lemmas.List.{append-nil}
 use Rattle.std.proofs.lemmas.Slice.Eq.{bytes_eq-Decides}
-use Rattle.htmd_text.specs.Trims.{trimmed_text}
-use Rattle.htmd_text.specs.WhiteSpace.{is_document_white_space}
 use Rattle.htmd_tree.specs.Items.{Item, data_at, children_of}
 use Rattle.htmd_tree.specs.NumberedTrees.{NumberedForest}
 use Rattle.htmd_tree.specs.Ancestors.{Ancestor, ancestor_of}
 use Rattle.htmd_markdown.specs.Addresses.{escaped_address}
-use Rattle.htmd_markdown.specs.GuardedLinks.{guarded_link, guarded_autolink, guarded_resource}
 use Rattle.htmd_markdown.specs.LineBreaks.{line_break}
 use Rattle.htmd_markdown.specs.Links.{inline_link, autolink, resource}
 use Rattle.htmd_walk.specs.declared.options.CodeBlockStyle.{CodeBlockStyle}
@@ -23,179 +20,106 @@ use Rattle.htmd_walk.specs.declared.options.CodeBlockStyle.TheVariants.{Indented
 use Rattle.htmd_walk.specs.declared.options.LinkStyle.{LinkStyle}
 use Rattle.htmd_walk.specs.declared.options.LinkStyle.TheVariants.{Inlined, InlinedPreferAutolinks, Referenced}
 use Rattle.htmd_walk.specs.declared.options.Options.{Options}
-use Rattle.htmd_walk.specs.AllText.{text_or_all, all_text_of}
-use Rattle.htmd_walk.specs.Anchors.{anchors, anchor_address, finish_at, link_finish, guarded_link_finish, is_autolinked}
+use Rattle.htmd_walk.specs.Anchors.{anchors, anchor_address, finish_at, link_finish}
 use Rattle.htmd_walk.specs.BuiltIn.{built_in}
-use Rattle.htmd_walk.specs.CaptionsAndCells.{captions_and_cells}
-use Rattle.htmd_walk.specs.Children.{content_inside, descendant_tree}
+use Rattle.htmd_walk.specs.Children.{content_inside}
 use Rattle.htmd_walk.specs.Choice.{indexes}
-use Rattle.htmd_walk.specs.Code.{code, code_plan, guarded_code_plan, content_plan, is_code_block, language}
-use Rattle.htmd_walk.specs.Preformatted.{preformatted_texts, preformatted_plan, block_plan, guarded_preformatted}
-use Rattle.htmd_walk.specs.Preformatted.{guarded_language}
+use Rattle.htmd_walk.specs.Code.{code, content_plan, is_code_block, language}
+use Rattle.htmd_walk.specs.Preformatted.{preformatted_texts, block_plan}
 use Rattle.htmd_walk.specs.ElementPlans.{tag_of, attributes_of, markdown_plan, is_tag_among, unless_faithful}
 use Rattle.htmd_walk.specs.Elements.{Occurrence, Answer, content_of, plan_answer, answer_after, without_handler}
 use Rattle.htmd_walk.specs.Elements.{occurrence_at, with_finish}
-use Rattle.htmd_walk.specs.Groups.{only_text, children_at}
-use Rattle.htmd_walk.specs.GuardedTableLayouts.{is_written_as_table, table_lines, nodes_of_lines}
+use Rattle.htmd_walk.specs.Groups.{only_text}
 use Rattle.htmd_walk.specs.Handling.{ElementView, PlanView, ResultView, nothing, content_of_children, contents_of_each}
 use Rattle.htmd_walk.specs.Handling.{HandlerMeaning}
 use Rattle.htmd_walk.specs.Images.{images, image_address, image_at}
 use Rattle.htmd_walk.specs.LineBreaks.{line_breaks, break_style_of}
-use Rattle.htmd_walk.specs.OneLineElements.{is_in_line, stands_in_line}
+use Rattle.htmd_walk.specs.OneLineElements.{is_in_line}
 use Rattle.htmd_walk.specs.ThematicBreaks.{thematic_breaks, thematic_break_plan, thematic_break_style_of}
 use Rattle.htmd_walk.specs.LinkAttributes.{title_of}
 use Rattle.htmd_walk.specs.Lists.{lists}
 use Rattle.htmd_walk.specs.Outputs.{Conversion, conversion_of, Writes, is_markdown_alone, is_guarded, result_of}
 use Rattle.htmd_walk.specs.OtherBlocks.{other_blocks, other_block_plan, hidden_tags}
 use Rattle.htmd_walk.specs.Spans.{spans, formula_mark, formula_plan, is_read_in_formula}
-use Rattle.htmd_walk.specs.TableElements.{tables, table_plan}
-use Rattle.htmd_tree_laws.specs.Letters.{said_of_each, prefers_autolinks}
-use Rattle.htmd_tree_laws.specs.Shown.{visible, is_empty_element, is_autolink, is_one_text, shown, shown_among}
+use Rattle.htmd_tree_laws.specs.Letters.{said_of_each}
+use Rattle.htmd_tree_laws.specs.Shown.{visible, is_empty_element, shown, shown_among}
 use Rattle.htmd_tree_laws.proofs.CountedTexts.{Law, of_letters, of_visible}
 use Rattle.htmd_tree_laws.proofs.LettersLemmas.{Says, says-nil, shows-none, says-as, says-is, says-behind, says-before, is_filler}
-use Rattle.htmd_tree_laws.proofs.LettersOfTexts.{says-blank_lines, says-trimmed, document_of_white}
+use Rattle.htmd_tree_laws.proofs.LettersOfTexts.{says-blank_lines}
 use Rattle.htmd_tree_laws.proofs.LettersOfPieces.{SaysIfAny, says-indented_code, says-fenced, says-code_span}
 use Rattle.htmd_tree_laws.proofs.LettersOfLinks.{IsTextIfAny, says-link, says-resource, says-reference}
-use Rattle.htmd_tree_laws.proofs.LettersOfGuarded.{says-guarded_link, says-guarded_resource, says-guarded_autolink}
-use Rattle.htmd_tree_laws.proofs.LettersOfGuarded.{says-guarded_reference, says-guarded_code, says-guarded_span}
-use Rattle.htmd_tree_laws.proofs.LettersOfGuarded.{says-guarded_block, fitting_is_text}
 use Rattle.htmd_tree_laws.proofs.LettersOfHandlers.{SaysResult, AreValues, last_is_text, KeepsContent, wrapped, says-break}
 use Rattle.htmd_tree_laws.proofs.LettersOfHandlers.{says-rule, formula_marks_fill, says-formula, says-span_result}
-use Rattle.htmd_tree_laws.proofs.LettersOfTables.{all_of}
 use Rattle.htmd_tree_laws.proofs.ElementsByTag.{IsOnly, is_named, IsPlain, by_tag, planned_is_said, unhandled_answer}
 use Rattle.htmd_tree_laws.proofs.ElementsByTag.{kept_is_said, either_is_said, image_gives, shown_language}
-use Rattle.htmd_tree_laws.proofs.ElementsByTag.{guarded_language_is_text, EachSays, ordered_gives}
-use Rattle.htmd_tree_laws.proofs.ShownTrees.{in_table, shown_inside, no_table}
-use Rattle.htmd_tree_laws.proofs.WrittenTables.{guarded_table_gives}
+use Rattle.htmd_tree_laws.proofs.ElementsByTag.{EachSays, ordered_gives}
 
 -- ---- links and code
 
-resource_shows : {guarded : Bool} (address : List ℕ) (title : Option (List ℕ)) → IsUtf8 address
+resource_shows : (address : List ℕ) (title : Option (List ℕ)) → IsUtf8 address
     → IsTextIfAny title
-    → Says (of_visible guarded) (resource address title) []
+    → Says (of_visible false) (resource address title) []
 resource_shows address title text titled = shows-none (says-resource address title text titled).utf8
 
-guarded_resource_shows : {guarded : Bool} (address : List ℕ) (title : Option (List ℕ)) → IsUtf8 address
-    → IsTextIfAny title → Says (of_visible guarded) (guarded_resource address title) []
-guarded_resource_shows address title text titled = shows-none (says-guarded_resource address title text titled).utf8
-
-inline_link_shows : {guarded : Bool} (s address : List ℕ) (title : Option (List ℕ)) {l : List ℕ}
-    → Says (of_visible guarded) s l → IsUtf8 address → IsTextIfAny title
-    → Says (of_visible guarded) (inline_link s address title) l
+inline_link_shows : (s address : List ℕ) (title : Option (List ℕ)) {l : List ℕ}
+    → Says (of_visible false) s l → IsUtf8 address → IsTextIfAny title
+    → Says (of_visible false) (inline_link s address title) l
 inline_link_shows s address title {l} p text titled =
     says-is (append-nil l) (says-link s address title p (resource_shows address title text titled))
 
-guarded_link_shows : {guarded : Bool} (s address : List ℕ) (title : Option (List ℕ)) {l : List ℕ}
-    → Says (of_visible guarded) s l → IsUtf8 address → IsTextIfAny title
-    → Says (of_visible guarded) (guarded_link s address title) l
-guarded_link_shows s address title {l} p text titled =
-    says-is (append-nil l) (says-guarded_link s address title p (guarded_resource_shows address title text titled))
-
-autolink_shows : {guarded : Bool} (s address : List ℕ) (title : Option (List ℕ)) {l : List ℕ}
-    → Says (of_visible guarded) s l → IsUtf8 address → IsTextIfAny title
-    → Says (of_visible guarded) (unwrap_or (autolink s address) (inline_link s address title)) l
-autolink_shows {guarded} s address title {l} p text titled =
+autolink_shows : (s address : List ℕ) (title : Option (List ℕ)) {l : List ℕ}
+    → Says (of_visible false) s l → IsUtf8 address → IsTextIfAny title
+    → Says (of_visible false) (unwrap_or (autolink s address) (inline_link s address title)) l
+autolink_shows s address title {l} p text titled =
     cond_both (bytes_eq s (escaped_address address)) _ _
-    (λ (o : Option (List ℕ)). Says (of_visible guarded) (unwrap_or o (inline_link s address title)) l)
+    (λ (o : Option (List ℕ)). Says (of_visible false) (unwrap_or o (inline_link s address title)) l)
     (λ same. says-behind (codes "<") refl
     (says-before (codes ">") refl
     (says-as ((bytes_eq-Decides s (escaped_address address)).0 same) p)))
     (λ _. inline_link_shows s address title p text titled)
 
--- What is shown of a link is in the tree's order where its text is its address, and else as its content shows it.
-module _ (view : ElementView) (shows : Bool → List ℕ) where
-  abbrev in_guarded : Bool
-  in_guarded = is_guarded view.options
-
-  -- if all text is the address, the address shows what is shown
-  guarded_autolink_shows : (s address : List ℕ) → Says (of_visible in_guarded) s (shows in_guarded)
-      → Says (of_visible in_guarded) (all_text_of view) (shows false) → IsUtf8 address
-      → IsTextIfAny (title_of view)
-      → Says (of_visible in_guarded)
-      (cond (is_autolinked view address) (guarded_autolink s address) (guarded_link s address (title_of view)))
-      (shows (not (is_autolinked view address) && in_guarded))
-  guarded_autolink_shows s address p whole text titled =
-      by (is_autolinked view address) (λ e. (bytes_eq-Decides all address).0 (and_parts _ _ (and_parts _ _ e).0).0)
-    where
-      all : List ℕ
-      all = trimmed_text is_document_white_space (all_text_of view)
-
-      by : (b : Bool) → (b ≡ true → all ≡ address)
-          → Says (of_visible in_guarded)
-          (cond b (guarded_autolink s address) (guarded_link s address (title_of view)))
-          (shows (not b && in_guarded))
-      by true same =
-          says-guarded_autolink s address
-          (says-as (same refl) (says-trimmed is_document_white_space document_of_white (all_text_of view) whole))
-      by false same = guarded_link_shows s address (title_of view) p text titled
-
-  -- in Pure there is one order alone
-  in_pure : in_guarded ≡ false → (b : Bool) → shows in_guarded ≡ shows (not b && in_guarded)
-  in_pure pure true = ap shows pure
-  in_pure pure false = refl
-
-  link_in_style : (content : List ℕ) (definitions : List (List ℕ))
-      → Says (of_visible in_guarded) content (shows in_guarded)
-      → (in_guarded ≡ true → Says (of_visible in_guarded) (all_text_of view) (shows false))
+-- a link in Pure, or what it holds if it has no address
+module _ (view : ElementView) (pure : is_guarded view.options ≡ false) (l : List ℕ) where
+  link_in_style : (content : List ℕ) (definitions : List (List ℕ)) → Says (of_visible false) content l
       → (style : LinkStyle) (address : List ℕ) → IsUtf8 address → IsTextIfAny (title_of view)
-      → SaysResult (of_visible in_guarded)
-      ((cond in_guarded guarded_link_finish link_finish) style view content address definitions).result
-      (shows (not (prefers_autolinks style && is_autolinked view address) && in_guarded))
-  link_in_style content definitions p whole Inlined address text titled =
-      cond_both in_guarded guarded_link_finish link_finish
-      (λ finish. SaysResult (of_visible in_guarded) (finish Inlined view content address definitions).result
-      (shows in_guarded))
-      (λ _. guarded_link_shows content address (title_of view) p text titled)
-      (λ _. inline_link_shows content address (title_of view) p text titled)
-  link_in_style content definitions p whole InlinedPreferAutolinks address text titled =
-      cond_both in_guarded guarded_link_finish link_finish
-      (λ finish. SaysResult (of_visible in_guarded)
-      (finish InlinedPreferAutolinks view content address definitions).result
-      (shows (not (is_autolinked view address) && in_guarded)))
-      (λ e. guarded_autolink_shows content address p (whole e) text titled)
-      (λ pure. autolink_shows content address (title_of view)
-      (says-is (in_pure pure (is_autolinked view address)) p) text titled)
-  link_in_style content definitions p whole Referenced address text titled =
-      cond_both in_guarded guarded_link_finish link_finish
-      (λ finish. SaysResult (of_visible in_guarded) (finish Referenced view content address definitions).result
-      (shows in_guarded))
-      (λ _. says-guarded_reference _ content p)
-      (λ _. says-reference view.options.link_reference_style _ content p)
+      → SaysResult (of_visible false) (link_finish style view content address definitions).result l
+  link_in_style content definitions p Inlined address text titled =
+      inline_link_shows content address (title_of view) p text titled
+  link_in_style content definitions p InlinedPreferAutolinks address text titled =
+      autolink_shows content address (title_of view) p text titled
+  link_in_style content definitions p Referenced address text titled =
+      says-reference view.options.link_reference_style _ content p
 
-  link_shows : (content : ResultView) (definitions : List (List ℕ))
-      → Says (of_visible in_guarded) content.content (shows in_guarded)
-      → (in_guarded ≡ true → Says (of_visible in_guarded) (all_text_of view) (shows false))
+  link_shows : (content : ResultView) (definitions : List (List ℕ)) → Says (of_visible false) content.content l
       → (address : Option (List ℕ)) → IsTextIfAny address → IsTextIfAny (title_of view)
-      → SaysResult (of_visible in_guarded) (finish_at address view content definitions).result
-      (shows (not (is_autolink address view) && in_guarded))
-  link_shows content definitions p whole None text titled = p
-  link_shows content definitions p whole (Some address) text titled =
-      link_in_style content.content definitions p whole view.options.link_style address text titled
+      → SaysResult (of_visible false) (finish_at address view content definitions).result l
+  link_shows content definitions p None text titled = p
+  link_shows content definitions p (Some address) text titled =
+      rw pure (link_in_style content.content definitions p view.options.link_style address text titled)
 
-language_shows : (guarded : Bool) (language : Option (List ℕ)) → IsTextIfAny language
-    → SaysIfAny (of_visible guarded) language []
-language_shows guarded None text = refl
-language_shows guarded (Some s) text = shows-none text
+language_shows : (language : Option (List ℕ)) → IsTextIfAny language → SaysIfAny (of_visible false) language []
+language_shows None text = refl
+language_shows (Some s) text = shows-none text
 
-code_shows : {guarded : Bool} (view : ElementView) (s l : List ℕ) → Says (of_visible guarded) s l
+code_shows : (view : ElementView) (s l : List ℕ) → Says (of_visible false) s l
     → IsTextIfAny (language view)
     → (style : CodeBlockStyle) → view.options.code_block_style ≡ style
     → (block : Bool) → is_code_block view ≡ block
-    → SaysResult (of_visible guarded)
+    → SaysResult (of_visible false)
     (code.finish view (record { content = s; markdown_translated = true }) []).result l
 code_shows view s l p text Indented e true here = rw (here, e) (says-indented_code s p)
-code_shows {guarded} view s l p text Fenced e true here =
-    rw (here, e) (says-fenced s (language view) view.options.code_block_fence l [] p (language_shows guarded
-    (language view) text))
+code_shows view s l p text Fenced e true here =
+    rw (here, e)
+    (says-fenced s (language view) view.options.code_block_fence l [] p (language_shows (language view) text))
 code_shows view s l p text style e false here = rw here (says-code_span view.options.preformatted_code s p)
 
 -- ---- elements
 
 -- whatever letters it has, nothing is wanted of it
-result_shows_none : (guarded : Bool) (r : Option ResultView) (l : List ℕ) → SaysResult of_letters r l
-    → SaysResult (of_visible guarded) r []
-result_shows_none guarded None l p = refl
-result_shows_none guarded (Some r) l p = shows-none p.utf8
+result_shows_none : (r : Option ResultView) (l : List ℕ) → SaysResult of_letters r l
+    → SaysResult (of_visible false) r []
+result_shows_none None l p = refl
+result_shows_none (Some r) l p = shows-none p.utf8
 
 -- the same is shown by either plan
 either_shows : (law : Law) (at : Occurrence) (definitions : List (List ℕ)) (handler : HandlerMeaning) (b : Bool)
@@ -209,13 +133,8 @@ either_shows : (law : Law) (at : Occurrence) (definitions : List (List ℕ)) (ha
 either_shows law at definitions handler true first second l p q = p refl
 either_shows law at definitions handler false first second l p q = q refl
 
--- the same choice where both stand for the same
-chosen : {A : Type 0} (b : Bool) (x y z : A) → (b ≡ true → x ≡ y) → cond b x z ≡ cond b y z
-chosen true x y z same = same refl
-chosen false x y z same = refl
-
-module _ (options : Options) (alone : is_markdown_alone options ≡ true) (items : List Item)
-    (values : (id : ℕ) → AreValues (ancestor_of (data_at items id)).attributes) where
+module _ (options : Options) (pure : is_guarded options ≡ false) (alone : is_markdown_alone options ≡ true)
+    (items : List Item) (values : (id : ℕ) → AreValues (ancestor_of (data_at items id)).attributes) where
   abbrev conversion : Conversion
   conversion = conversion_of (built_in options) items
 
@@ -223,43 +142,25 @@ module _ (options : Options) (alone : is_markdown_alone options ≡ true) (items
   guarded = is_guarded options
 
   abbrev law : Law
-  law = of_visible (is_guarded options)
+  law = of_visible false
 
   module _ (write : Writes) (id : ℕ) (inside : List Ancestor) (children : NumberedForest)
-      (definitions : List (List ℕ)) (text : IsTextIfAny (only_text children))
-      (formula : (s : List ℕ) → only_text children ≡ Some s
-      → shown_among options items (is_guarded options) children ≡ visible (is_guarded options) s)
-      (whole : is_guarded options ≡ true
-      → Says (of_visible (is_guarded options)) (text_or_all (only_text children) (children_at items id))
-      (shown_among options items false children))
+      (definitions : List (List ℕ)) (utf8 : IsTextIfAny (only_text children))
+      (formula : (s : List ℕ) → only_text children ≡ Some s → shown_among options items false children ≡ visible s)
       (within : (before : List (List ℕ))
-      → Says (of_visible (is_guarded options)) (content_inside write inside children before).text
-      (shown_among options items (is_guarded options) children)) where
+      → Says (of_visible false) (content_inside write inside children before).text
+      (shown_among options items false children)) where
     abbrev at : Occurrence
     at = occurrence_at write conversion id inside children
 
     abbrev all_shown : List ℕ
-    all_shown = shown_among options items (is_guarded options) children
-
-    -- the same in the tree's order
-    abbrev in_tree : List ℕ
-    in_tree = shown_among options items false children
-
-    -- in Pure there is no other
-    pure_within : is_guarded options ≡ false → (before : List (List ℕ))
-        → Says law (content_inside write inside children before).text in_tree
-    pure_within pure before = says-is (ap (λ tables. shown_among options items tables children) pure) (within before)
-
-    -- what an element with this tag shows of its children
-    abbrev shown_here : List ℕ → List ℕ
-    shown_here tag = shown_inside options items id tag (not (is_one_text tag at.view) && is_guarded options) children
+    all_shown = shown_among options items false children
 
     -- what an element of this tag gives shows what is in it
     abbrev IsShown : List ℕ → Type 0
     IsShown tag =
         tag_of at.view ≡ tag
-        → SaysResult law (answer_after 0 tag at definitions).result
-        (cond (is_empty_element guarded tag) [] (shown_here tag))
+        → SaysResult law (answer_after 0 tag at definitions).result (cond (is_empty_element guarded tag) [] all_shown)
 
     line_break_shows : IsShown (codes "br")
     line_break_shows here =
@@ -282,47 +183,29 @@ module _ (options : Options) (alone : is_markdown_alone options ≡ true) (items
     image_shows here =
         planned_is_said law at definitions (codes "img") images (image_at (image_address at.view) at.view) []
         refl (rw alone refl)
-        (result_shows_none guarded _ _ (image_gives at definitions (values id) (image_address at.view)
+        (result_shows_none _ _ (image_gives at definitions (values id) (image_address at.view)
         (last_is_text (codes "href" ∷ codes "src" ∷ []) (attributes_of at.view) (values id))))
 
     anchor_shows : IsShown (codes "a")
     anchor_shows here =
         let out = content_of at definitions in
-        planned_is_said law at definitions (codes "a") anchors content_of_children
-        (shown_here (codes "a")) refl (rw alone refl)
-        (link_shows at.view (λ tables. shown_among options items tables children) (result_of out) out.definitions
-        (within definitions) whole (anchor_address at.view)
-        (last_is_text (codes "href" ∷ []) (attributes_of at.view) (values id)) titled)
+        planned_is_said law at definitions (codes "a") anchors content_of_children all_shown refl (rw alone refl)
+        (link_shows at.view pure all_shown (result_of out) out.definitions (within definitions)
+        (anchor_address at.view) (last_is_text (codes "href" ∷ []) (attributes_of at.view) (values id)) titled)
 
     code_element_shows : IsShown (codes "code")
     code_element_shows here =
         let out = content_of at definitions in
-        planned_is_said law at definitions (codes "code") code (code_plan at.view) in_tree refl refl
-        (either_shows law at definitions code (is_guarded options) (guarded_code_plan at.view) (content_plan at.view)
-        in_tree
-        (λ g. says-guarded_code (all_text_of at.view) in_tree (whole g))
-        (λ pure. rw alone
-        (code_shows at.view out.text in_tree (pure_within pure definitions)
-        (shown_language items values at.view refl) options.code_block_style refl (is_code_block at.view) refl)))
-
-    guarded_pre_shows : is_guarded options ≡ true → Says law (guarded_preformatted at.view) in_tree
-    guarded_pre_shows g =
-        let s = all_text_of at.view in
-        cond_both (stands_in_line items id) _ _ (λ (t : List ℕ). Says law t in_tree)
-        (λ _. says-guarded_span s in_tree (whole g))
-        (λ _. says-blank_lines _
-        (says-guarded_block {law = law} s (guarded_language at.view) options.code_block_fence []
-        (whole g) (language_shows guarded _ (fitting_is_text (guarded_language at.view)
-        (guarded_language_is_text items values at.view refl)))))
+        planned_is_said law at definitions (codes "code") code (content_plan at.view) all_shown refl (rw pure refl)
+        (rw alone
+        (code_shows at.view out.text all_shown (within definitions)
+        (shown_language items values at.view refl) options.code_block_style refl (is_code_block at.view) refl))
 
     pre_shows : IsShown (codes "pre")
     pre_shows here =
         let out = content_of at definitions in
-        planned_is_said law at definitions (codes "pre") preformatted_texts (preformatted_plan at.view) in_tree refl
-        refl
-        (either_shows law at definitions preformatted_texts (is_guarded options) (markdown_plan
-        (guarded_preformatted at.view)) (block_plan at.view) in_tree guarded_pre_shows
-        (λ pure. rw (alone, alone) (wrapped out.text in_tree (pure_within pure definitions))))
+        planned_is_said law at definitions (codes "pre") preformatted_texts (block_plan at.view) all_shown refl
+        (rw pure refl) (rw (alone, alone) (wrapped out.text all_shown (within definitions)))
 
     span_content : SaysResult law (with_finish spans at.view (content_of at definitions)).result all_shown
     span_content =
@@ -331,7 +214,7 @@ module _ (options : Options) (alone : is_markdown_alone options ≡ true) (items
 
     span_gives : (mark shown : Option (List ℕ))
         → ((m : List ℕ) → mark ≡ Some m → list_all is_filler m ≡ true) → IsTextIfAny shown
-        → ((s : List ℕ) → shown ≡ Some s → all_shown ≡ visible guarded s)
+        → ((s : List ℕ) → shown ≡ Some s → all_shown ≡ visible s)
         → SaysResult law (plan_answer spans at definitions (formula_plan at.view mark shown)
         (without_handler at definitions)).result all_shown
     span_gives None shown fills t shows = rw alone span_content
@@ -347,7 +230,7 @@ module _ (options : Options) (alone : is_markdown_alone options ≡ true) (items
         (formula_plan at.view (formula_mark (attributes_of at.view)) (only_text children)) all_shown refl
         refl
         (span_gives (formula_mark (attributes_of at.view)) (only_text children)
-        (formula_marks_fill (attributes_of at.view)) text formula)
+        (formula_marks_fill (attributes_of at.view)) utf8 formula)
 
     -- not one of those that give no text
     not_empty : (name : List ℕ) → IsPlain name
@@ -355,20 +238,12 @@ module _ (options : Options) (alone : is_markdown_alone options ≡ true) (items
     not_empty name is =
         ap (λ b. b || (is_named hidden_tags name && guarded)) (or_from _ _ (or_from _ _ is.br is.hr) is.img)
 
-    -- and that is no table, and isn't written as one text
-    all_here : (name : List ℕ) → IsPlain name → shown_here name ≡ all_shown
-    all_here name is =
-        let apart : is_one_text name at.view ≡ false =
-        or_from _ _ (or_from _ _ is.code is.pre) (and_left _ (is_autolink (anchor_address at.view) at.view) is.a) in
-        ap (λ b. shown_inside options items id name (not b && is_guarded options) children) apart
-        ∙ no_table options items id name (is_guarded options) children is.table
-
     as_shown : (name : List ℕ) (r : Option ResultView) → IsPlain name → is_named hidden_tags name ≡ false
-        → SaysResult law r all_shown → SaysResult law r (cond (is_empty_element guarded name) [] (shown_here name))
+        → SaysResult law r all_shown → SaysResult law r (cond (is_empty_element guarded name) [] all_shown)
     as_shown name r is seen p =
         subst (λ (l : List ℕ). SaysResult law r l)
-        (sym (cond-false (is_empty_element guarded name) [] (shown_here name)
-        (not_empty name is ∙ and_left _ guarded seen) ∙ all_here name is)) p
+        (sym (cond-false (is_empty_element guarded name) [] all_shown
+        (not_empty name is ∙ and_left _ guarded seen))) p
 
     content_shows : (tag : List ℕ) (handler : HandlerMeaning) → IsOnly options tag handler
         → KeepsContent law tag handler → IsPlain tag → is_named hidden_tags tag ≡ false → IsShown tag
@@ -380,13 +255,12 @@ module _ (options : Options) (alone : is_markdown_alone options ≡ true) (items
     other_shows name only is here =
         let out = content_of at definitions in
         let hides = is_guarded options && is_tag_among hidden_tags (Some (tag_of at.view)) in
-        let same : cond hides [] all_shown ≡ cond (is_empty_element guarded name) [] (shown_here name) =
-        ap (λ l. cond hides [] l) (sym (all_here name is))
-        ∙ ap (λ b. cond b [] (shown_here name))
+        let same : cond hides [] all_shown ≡ cond (is_empty_element guarded name) [] all_shown =
+        ap (λ b. cond b [] all_shown)
         (and_comm (is_guarded options) (is_tag_among hidden_tags (Some (tag_of at.view)))
         ∙ ap (λ (tag : List ℕ). is_named hidden_tags tag && guarded) here ∙ sym (not_empty name is)) in
         planned_is_said law at definitions name other_blocks (other_block_plan at.view)
-        (cond (is_empty_element guarded name) [] (shown_here name)) only refl
+        (cond (is_empty_element guarded name) [] all_shown) only refl
         (subst (λ (l : List ℕ). SaysResult law (plan_answer other_blocks at definitions (other_block_plan at.view)
         (without_handler at definitions)).result l) same
         (either_is_said law at definitions other_blocks hides nothing (unless_faithful at.view) [] all_shown refl
@@ -402,12 +276,7 @@ module _ (options : Options) (alone : is_markdown_alone options ≡ true) (items
 
     module _ (each : tag_of at.view ≡ codes "ol" → EachSays law at (shown options items) (children_of items id)
         × (said_of_each (shown options items) at.view (children_of items id) ≡ all_shown))
-        (written : tag_of at.view ≡ codes "table" → (is_guarded options ≡ true)
-        × (is_written_as_table items id ≡ true
-        → EachSays law at (shown options items) (nodes_of_lines (table_lines items id))
-        × (all_of (λ d. shown options items (descendant_tree items (only_text children) d))
-        (captions_and_cells items (children_of items id))
-        ≡ in_table options items (is_guarded options) children))) where
+        (unwritten : tag_of at.view ≡ codes "table" → ⊥) where
       ordered_shows : IsShown (codes "ol")
       ordered_shows here =
           let nodes = children_of items id in
@@ -419,18 +288,7 @@ module _ (options : Options) (alone : is_markdown_alone options ≡ true) (items
           (each here).0))
 
       table_shows : IsShown (codes "table")
-      table_shows here =
-          let told = written here in
-          let is = is_written_as_table items id in
-          let same : cond is _ all_shown ≡ shown_here (codes "table") =
-          chosen is _ (in_table options items (is_guarded options) children) all_shown (λ e. (told.1 e).1)
-          ∙ ap (λ g. cond (g && is) (in_table options items (is_guarded options) children) all_shown) (sym told.0) in
-          planned_is_said law at definitions (codes "table") tables (table_plan at.view)
-          (shown_here (codes "table")) refl refl
-          (subst (λ (l : List ℕ). SaysResult law (plan_answer tables at definitions (table_plan at.view)
-          (without_handler at definitions)).result l) same
-          (guarded_table_gives law options alone items write (shown options items) id inside children definitions
-          told.0 all_shown (within definitions) (λ e. (told.1 e).0)))
+      table_shows here = absurd (unwritten here)
 
       pub element_shows : (name : List ℕ) → IsShown name
       element_shows name = by_tag {law = law} {options = options} {Shown = IsShown} (record {

@@ -36,7 +36,7 @@ use Rattle.htmd_walk.specs.OtherBlocks.{hidden_tags}
 use Rattle.htmd_walk.specs.Outputs.{conversion_of, is_guarded}
 use Rattle.htmd_walk.specs.TableLayouts.{has_tag, tagged_children, table_child}
 use Rattle.htmd_walk.specs.Tables.{cell_tags, has_table_form}
-use Rattle.htmd_tree_laws.specs.Shown.{is_visible, visible, is_empty_element, is_one_text, node_of, is_caption, is_of_rows}
+use Rattle.htmd_tree_laws.specs.Shown.{is_counted, counted_characters, is_empty_element, is_one_text, node_of, is_caption, is_of_rows}
 use Rattle.htmd_tree_laws.specs.Shown.{shown_of, shown_among, shown_but_later, shown_later}
 use Rattle.htmd_tree_laws.proofs.CountedTexts.{of_visible}
 use Rattle.htmd_tree_laws.proofs.LettersLemmas.{Says, says-own, says-nil, says-append, says-is, says-fillers, shows-none, is_white}
@@ -74,12 +74,12 @@ module _ (options : Options) (is_so : is_guarded options ≡ true) (items : List
   abbrev guarded : Bool
   guarded = is_guarded options
 
-  white_shows : (s : List ℕ) → list_any (λ b. not (is_document_white_space b)) s ≡ false
-      → visible guarded s ≡ []
-  white_shows s e =
+  white_shows : (without : Bool) (s : List ℕ) → list_any (λ b. not (is_document_white_space b)) s ≡ false
+      → counted_characters without s ≡ []
+  white_shows without s e =
       let white = all_white s e in
-      ap (filter (is_visible guarded)) (chars-IsAscii s (fillers_ascii s (whites_fill s white)))
-      ∙ whites_silent (of_visible guarded) s white
+      ap (filter (is_counted without)) (chars-IsAscii s (fillers_ascii s (whites_fill s white)))
+      ∙ whites_silent (of_visible without) s white
 
   -- not an element that shows nothing, and so none that a browser doesn't show
   not_hidden : (name : List ℕ) → is_empty_element guarded name ≡ false
@@ -93,10 +93,11 @@ module _ (options : Options) (is_so : is_guarded options ≡ true) (items : List
         → shown_of options items tables tree ≡ []
     unseen tables (document id c) e = unseen_among tables c e
     unseen tables (doctype id) e = refl
-    unseen tables (text id s) e = white_shows s e
+    unseen tables (text id s) e = white_shows (not tables && guarded) s e
     unseen tables (comment id s) e = refl
     unseen tables (element id name attributes c) e =
-        let inner = not (is_one_text name (view_at (conversion_of (built_in options) items) id true c)) && tables in
+        let view = view_at (conversion_of (built_in options) items) id true c in
+        let inner = not (is_one_text name attributes view) && tables in
         cond_both (is_empty_element guarded name) [] (shown_inside options items id name inner c)
         (λ (l : List ℕ). l ≡ []) (λ _. refl)
         (λ full.
@@ -194,7 +195,7 @@ module _ (options : Options) (is_so : is_guarded options ≡ true) (items : List
     all_text_shows (text id s) fit = says-own s fit
     all_text_shows (comment id s) fit = says-nil
     all_text_shows (element id name attributes c) fit =
-        let whole = not (is_one_text name (view_at (conversion_of (built_in options) items) id true c)) in
+        let whole = not (is_one_text name attributes (view_at (conversion_of (built_in options) items) id true c)) in
         says-is (ap (λ l. cond (is_empty_element guarded name) [] l) (sym (in_tree id name whole c)))
         (inside_shows name c (all_texts_show c fit.1))
 

@@ -72,12 +72,12 @@ texts_are_kept = record {
 -- ---- groups hold the same characters
 
 only_holds : (trees : NumberedForest) (s : List ℕ) → only_text trees ≡ Some s
-    → characters_among trees ≡ visible false s
+    → characters_among trees ≡ visible s
 only_holds none s e = cc
 only_holds (more (document i c) trees) s e = cc
 only_holds (more (doctype i) trees) s e = cc
 only_holds (more (text i r) none) s e =
-    let same : r ≡ s = cc in append-nil (visible false r) ∙ ap (visible false) same
+    let same : r ≡ s = cc in append-nil (visible r) ∙ ap (visible) same
 only_holds (more (text i r) (more tree trees)) s e = cc
 only_holds (more (comment i r) trees) s e = cc
 only_holds (more (element i name attributes c) trees) s e = cc
@@ -92,7 +92,7 @@ elements_join m n a b c d (Some s) None one other e utf8 = absurd (false≢true 
 elements_join m n a b c d (Some s) (Some t) one other e utf8 =
     only_holds (with_only_text (s ++ t) c) (s ++ t) (put_only c s (s ++ t) one)
     ∙ counted_append law s t utf8
-    ∙ ap (λ z. z ++ visible false t) (sym (only_holds c s one))
+    ∙ ap (λ z. z ++ visible t) (sym (only_holds c s one))
     ∙ ap (λ z. characters_among c ++ z) (sym (only_holds d t other))
 
 not_joined : (x : Option Joint) → both_join x None ≡ true → ⊥
@@ -229,7 +229,7 @@ module _ (options : Options) (guarded : is_guarded options ≡ true) (items : Li
 
   text_holds : (s : List ℕ) (context : Context) (out : Output) (l : List ℕ) → IsUtf8 s → IsWhole out.text
       → Says law out.text l
-      → Says law (write_text (is_guarded options) s context out).text (l ++ visible false s)
+      → Says law (write_text (is_guarded options) s context out).text (l ++ visible s)
   text_holds s context out l utf8 e p =
       let goes = context.trim || ends_with_space out.text in
       let begins = reader.begins_line out.text in

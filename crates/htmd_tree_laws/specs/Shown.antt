@@ -2,8 +2,10 @@
 use Rattle.std.specs.Prelude.{◌≡◌, ◌⊎◌, ℕ, ◌<◌, Bool, true, false, not, ◌&&◌, ◌||◌, if◌then◌else◌, List, [], ◌∷◌, ◌++◌}
 use Rattle.std.specs.Prelude.{◌==◌, filter, codes, length, Option, Some, None}
 use Rattle.std.specs.Char.{is_whitespace}
+use Rattle.std.specs.Option.{is_some}
 use Rattle.std.specs.Str.{chars, bytes_eq}
 use Rattle.htmd_text.specs.Characters.{asterisk}
+use Rattle.htmd_tree.specs.ValueTrees.{AttributePair}
 use Rattle.htmd_tree.specs.Items.{Item, IsTree, HoldTexts}
 use Rattle.htmd_tree.specs.NumberedTrees.{NumberedTree, document, doctype, text, comment, element}
 use Rattle.htmd_tree.specs.NumberedTrees.{NumberedForest, none, more, tree_of}
@@ -15,6 +17,7 @@ use Rattle.htmd_walk.specs.Elements.{view_at}
 use Rattle.htmd_walk.specs.GuardedTableLayouts.{is_or_has_row, is_written_as_table}
 use Rattle.htmd_walk.specs.OtherBlocks.{hidden_tags}
 use Rattle.htmd_walk.specs.TableLayouts.{has_tag}
+use Rattle.htmd_walk.specs.Spans.{has_math_class}
 use Rattle.htmd_walk.specs.Outputs.{conversion_of, is_markdown_alone, is_guarded}
 use Rattle.htmd_walk.specs.BuiltIn.{built_in}
 use Rattle.htmd_walk.specs.Markdown.{walked_content, markdown}
@@ -22,12 +25,19 @@ use Rattle.htmd_tree_laws.specs.Letters.{prefers_autolinks}
 
 -- ---- characters that a reader sees
 
--- not white space (Unicode's White_Space); in Guarded not `*` either, since marks of emphasis that meet go there
-abbrev pub is_visible : Bool → ℕ → Bool
-is_visible guarded c = not (is_whitespace c) && not ((c == asterisk) && guarded)
+-- not white space (Unicode's White_Space)
+abbrev pub is_visible : ℕ → Bool
+is_visible c = not (is_whitespace c)
 
-abbrev pub visible : Bool → List ℕ → List ℕ
-visible guarded s = filter (is_visible guarded) (chars s)
+abbrev pub visible : List ℕ → List ℕ
+visible s = filter is_visible (chars s)
+
+-- the same, but for `*` if asterisks aren't counted
+abbrev pub is_counted : Bool → ℕ → Bool
+is_counted without_asterisks c = if without_asterisks then is_visible c && not (c == asterisk) else is_visible c
+
+abbrev pub counted_characters : Bool → List ℕ → List ℕ
+counted_characters without_asterisks s = filter (is_counted without_asterisks) (chars s)
 
 -- the first list's members are in the second, in order
 abbrev pub IsPart : List ℕ → List ℕ → Type 0
@@ -43,18 +53,23 @@ is_empty_element guarded name =
     ((bytes_eq name (codes "br") || bytes_eq name (codes "hr")) || bytes_eq name (codes "img"))
     || (is_tag_among hidden_tags (Some name) && guarded)
 
--- ---- where captions are written
+-- ---- what is written as one text
 
 -- a link whose text is its address, which is written once
 abbrev pub is_autolink : Option (List ℕ) → ElementView → Bool
 is_autolink None view = false
 is_autolink (Some address) view = prefers_autolinks view.options.link_style && is_autolinked view address
 
+-- a formula: of a class of formulas, with one text
+abbrev pub is_formula : List AttributePair → Option (List ℕ) → Bool
+is_formula attributes shown = has_math_class attributes && is_some shown
+
 -- In Guarded all text below these is written as one text, and no table below them as a table.
-abbrev pub is_one_text : List ℕ → ElementView → Bool
-is_one_text name view =
-    (bytes_eq name (codes "code") || bytes_eq name (codes "pre"))
-    || (bytes_eq name (codes "a") && is_autolink (anchor_address view) view)
+abbrev pub is_one_text : List ℕ → List AttributePair → ElementView → Bool
+is_one_text name attributes view =
+    ((bytes_eq name (codes "code") || bytes_eq name (codes "pre"))
+    || (bytes_eq name (codes "a") && is_autolink (anchor_address view) view))
+    || (bytes_eq name (codes "span") && is_formula attributes view.text)
 
 -- the node that it is the tree of
 abbrev pub node_of : NumberedTree → ℕ
@@ -76,15 +91,16 @@ is_of_rows items tree = is_or_has_row items (node_of tree)
 module _ (options : Options) (items : List Item) where
   abbrev mutual
     -- The characters of all texts that are not below an empty element, in the order in which they are written. The flag
-    -- says whether tables are written as tables.
+    -- says whether tables are written as tables; where they aren't in Guarded, all text is written as one, and `*` isn't
+    -- counted: marks of emphasis may go, and no backslash tells a `*` of such a text from them.
     pub shown_of : Bool → NumberedTree → List ℕ
     shown_of tables (document id children) = shown_among tables children
     shown_of tables (doctype id) = []
-    shown_of tables (text id s) = visible (is_guarded options) s
+    shown_of tables (text id s) = counted_characters (not tables && is_guarded options) s
     shown_of tables (comment id s) = []
     shown_of tables (element id name attributes children) =
         let view = view_at (conversion_of (built_in options) items) id true children in
-        let tables_below = not (is_one_text name view) && tables in
+        let tables_below = not (is_one_text name attributes view) && tables in
         if is_empty_element (is_guarded options) name then []
         else (if bytes_eq name (codes "table") && (tables_below && is_written_as_table items id)
         then shown_but_later tables_below false children ++ shown_later tables_below false children
@@ -140,7 +156,7 @@ ShownInContent =
     → IsTree items → HoldTexts items → start < length items
     → tables_fit (is_guarded options) (tree_of items start) ≡ true
     → IsPart (shown options items (tree_of items start))
-    (visible (is_guarded options) (walked_content (built_in options) items start))
+    (visible (walked_content (built_in options) items start))
 
 -- So it is of the whole Markdown: definitions of links stand after the content.
 abbrev pub ShownInMarkdown : Type 0
@@ -149,4 +165,4 @@ ShownInMarkdown =
     → IsTree items → HoldTexts items → start < length items
     → tables_fit (is_guarded options) (tree_of items start) ≡ true
     → IsPart (shown options items (tree_of items start))
-    (visible (is_guarded options) (markdown (built_in options) items start))
+    (visible (markdown (built_in options) items start))

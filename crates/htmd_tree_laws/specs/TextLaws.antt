@@ -82,7 +82,7 @@ abbrev mutual
   pub characters_of : NumberedTree → List ℕ
   characters_of (numbered.document id children) = characters_among children
   characters_of (numbered.doctype id) = []
-  characters_of (numbered.text id s) = visible false s
+  characters_of (numbered.text id s) = visible s
   characters_of (numbered.comment id s) = []
   characters_of (numbered.element id name attributes children) = characters_among children
 
@@ -126,4 +126,4 @@ abbrev pub TextIsWhole : Type 0
 TextIsWhole =
     (options : Options) (items : List Item) (start : ℕ) → is_guarded options ≡ true → HoldTexts items
     → is_page_of_texts (built_in options) (value_tree (tree_of items start)) ≡ true
-    → IsPart (characters_of (tree_of items start)) (visible false (markdown (built_in options) items start))
+    → IsPart (characters_of (tree_of items start)) (visible (markdown (built_in options) items start))

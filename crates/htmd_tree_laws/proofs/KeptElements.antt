@@ -1,0 +1,541 @@
+-- What elements show in Guarded, `*` too, is kept in what is written of them.
+use Rattle.std.proofs.Common.{◌≡◌, ℕ, Bool, true, false, cond, List, [], ◌∷◌, ◌++◌, Option, Some, None}
+use Rattle.std.proofs.Common.{drop, codes, map, refl, sym, ap, ◌∙◌, subst, inl, inr}
+use Rattle.std.specs.Prelude.{◌⊎◌, ◌&&◌, ◌||◌, not, filter}
+use Rattle.std.specs.Option.{is_some}
+use Rattle.std.specs.Str.{IsUtf8, bytes_eq, chars}
+use Rattle.std.proofs.lemmas.Bool.{cond_both, cond-false, cond-true, or_from, and_left, true≢false, and_parts}
+use Rattle.std.proofs.Math.Bool.{and_comm}
+use Rattle.std.proofs.lemmas.Slice.Eq.{bytes_eq-Decides}
+use Rattle.htmd_text.specs.BlankLines.{with_blank_lines}
+use Rattle.htmd_text.specs.Trims.{trimmed_text, is_line_feed}
+use Rattle.htmd_text.specs.WhiteSpace.{is_document_white_space}
+use Rattle.htmd_tree.specs.Items.{Item, data_at, children_of}
+use Rattle.htmd_tree.specs.Items as tree
+use Rattle.htmd_tree.specs.ValueTrees.{AttributePair}
+use Rattle.htmd_tree.specs.NumberedTrees.{NumberedTree, NumberedForest}
+use Rattle.htmd_tree.specs.Ancestors.{Ancestor, ancestor_of}
+use Rattle.htmd_markdown.specs.GuardedLinks.{guarded_image, guarded_autolink, guarded_link}
+use Rattle.htmd_markdown.specs.GuardedCode.{guarded_code, guarded_span_in_line, guarded_code_block}
+use Rattle.htmd_markdown.specs.LineBreaks.{line_break}
+use Rattle.htmd_markdown.specs.Lists.{Block, block_text, guarded_first_number, highest_number}
+use Rattle.htmd_markdown.specs.ListItems.{guarded_spaces}
+use Rattle.htmd_walk.proofs.TableOrdersLemmas.{lines_in_order}
+use Rattle.htmd_walk.specs.declared.options.LinkStyle.{LinkStyle}
+use Rattle.htmd_walk.specs.declared.options.LinkStyle.TheVariants.{Inlined, InlinedPreferAutolinks, Referenced}
+use Rattle.htmd_markdown.specs.declared.thematic_break.HrStyle.{HrStyle}
+use Rattle.htmd_markdown.specs.declared.thematic_break.HrStyle.TheVariants.{Dashes, Asterisks, Underscores}
+use Rattle.htmd_markdown.specs.ThematicBreaks.{thematic_break}
+use Rattle.htmd_walk.specs.declared.options.Options.{Options}
+use Rattle.htmd_walk.specs.AllText.{text_or_all, all_text_of}
+use Rattle.htmd_walk.specs.Anchors.{anchors, anchor_address, finish_at, guarded_link_finish, is_autolinked}
+use Rattle.htmd_walk.specs.BuiltIn.{built_in}
+use Rattle.htmd_walk.specs.CaptionsAndCells.{captions_and_cells}
+use Rattle.htmd_walk.specs.Children.{content_inside, content_alone, descendant_tree}
+use Rattle.htmd_walk.specs.Choice.{indexes, handlers_at}
+use Rattle.htmd_walk.specs.Code.{code, guarded_code_plan}
+use Rattle.htmd_walk.specs.Preformatted.{preformatted_texts, guarded_preformatted, guarded_language}
+use Rattle.htmd_walk.specs.ElementPlans.{tag_of, attributes_of, ancestors_of, markdown_plan, is_tag_among, unless_faithful}
+use Rattle.htmd_walk.specs.Elements.{Occurrence, Answer, content_of, contents_alone, plan_answer, answer_after, first_answer}
+use Rattle.htmd_walk.specs.Elements.{occurrence_at, with_finish, without_handler, answer_of}
+use Rattle.htmd_walk.specs.Groups.{only_text, children_at}
+use Rattle.htmd_walk.specs.GuardedTableLayouts.{is_written_as_table, table_lines, nodes_of_lines}
+use Rattle.htmd_walk.specs.Handling.{PlanView, ResultView, nothing, content_of_children, contents_of_each}
+use Rattle.htmd_walk.specs.Handling.{HandlerMeaning, content_of_fallback}
+use Rattle.htmd_walk.specs.Images.{images, image_address, image_at, alternative_text}
+use Rattle.htmd_walk.specs.LineBreaks.{line_breaks, break_style_of}
+use Rattle.htmd_walk.specs.LinkAttributes.{title_of}
+use Rattle.htmd_walk.specs.Lists.{lists, blocks_of, blocks_of_list, numbered_list, ordered_text, first_number_of}
+use Rattle.htmd_walk.specs.OrdinaryText.{in_pre_or_code}
+use Rattle.htmd_walk.specs.OneLineElements.{is_in_line, stands_in_line}
+use Rattle.htmd_walk.specs.OtherBlocks.{other_blocks, other_block_plan, hidden_tags}
+use Rattle.htmd_walk.specs.Outputs.{Conversion, conversion_of, Writes, is_markdown_alone, is_guarded, result_of}
+use Rattle.htmd_walk.specs.Spans.{spans, formula_mark, formula_plan, is_read_in_formula, mark_of_class}
+use Rattle.htmd_walk.specs.TableElements.{tables, table_plan, is_left_out}
+use Rattle.htmd_walk.specs.ThematicBreaks.{thematic_breaks, thematic_break_plan, thematic_break_style_of}
+use Rattle.htmd_tree_laws.specs.Letters.{said_of_each, prefers_autolinks}
+use Rattle.htmd_tree_laws.specs.Shown.{counted_characters, is_empty_element, is_autolink, is_formula, is_one_text, shown}
+use Rattle.htmd_tree_laws.specs.Shown.{shown_among, is_counted, IsPart}
+use Rattle.htmd_tree_laws.proofs.CountedTexts.{of_visible, part-then}
+use Rattle.htmd_tree_laws.proofs.ElementsByTag.{IsOnly, is_named, IsPlain, by_tag, unhandled_answer, child_text, guarded_language_is_text}
+use Rattle.htmd_tree_laws.proofs.KeptLines.{keeps-wrapped, keeps-blank_lines, keeps-trimmed}
+use Rattle.htmd_tree_laws.proofs.KeptMarks.{even, ends, Keeps, keeps-is, keeps-as, keeps-in, keeps-nil, keeps-safe}
+use Rattle.htmd_tree_laws.proofs.KeptMarks.{says-keeps, seen, seen_all, counted_kept}
+use Rattle.htmd_tree_laws.proofs.KeptPieces.{KeepAll, keeps-ordered, keeps-unnumbered_list, keeps-guarded_link}
+use Rattle.htmd_tree_laws.proofs.KeptPieces.{keeps-guarded_reference, closed-autolink, closed-image, closed-code, closed-fenced}
+use Rattle.htmd_tree_laws.proofs.KeptPieces.{closed-span_in_line, closed-formula}
+use Rattle.htmd_tree_laws.proofs.KeptTables.{KeepEach, keeps-guarded_table}
+use Rattle.htmd_tree_laws.proofs.LettersLemmas.{Says, shows-none, says-as}
+use Rattle.htmd_tree_laws.proofs.LettersOfGuarded.{says-guarded_resource, says-guarded_autolink, says-guarded_code}
+use Rattle.htmd_tree_laws.proofs.LettersOfGuarded.{says-guarded_span, says-guarded_block, fitting_is_text, says-guarded_image}
+use Rattle.htmd_tree_laws.proofs.LettersOfHandlers.{KeepsResult, KeepsContent, AreValues, last_is_text, keeps-listed}
+use Rattle.htmd_tree_laws.proofs.LettersOfHandlers.{says-formula, formula_marks_fill}
+use Rattle.htmd_tree_laws.proofs.LettersOfLinks.{IsTextIfAny}
+use Rattle.htmd_tree_laws.proofs.LettersOfTables.{all_of}
+use Rattle.htmd_tree_laws.proofs.LettersOfPieces.{SaysIfAny}
+use Rattle.htmd_tree_laws.proofs.WrittenTables.{guarded_plan}
+use Rattle.htmd_tree_laws.proofs.LettersOfTexts.{says-blank_lines, says-trimmed, document_of_white, line_feed_of_white}
+use Rattle.htmd_tree_laws.proofs.ShownTrees.{in_table, shown_inside, no_table}
+
+-- the mark of a formula
+mark_of : (s mark : List ℕ) → mark_of_class s ≡ Some mark → (mark ≡ codes "$") ⊎ (mark ≡ codes "$$")
+mark_of s mark =
+    cond_both (bytes_eq s (codes "math math-inline")) _ _
+    (λ (o : Option (List ℕ)). o ≡ Some mark → (mark ≡ codes "$") ⊎ (mark ≡ codes "$$"))
+    (λ _ e. inl (sym (same (codes "$") e)))
+    (λ _. cond_both (bytes_eq s (codes "math math-display")) _ _
+    (λ (o : Option (List ℕ)). o ≡ Some mark → (mark ≡ codes "$") ⊎ (mark ≡ codes "$$"))
+    (λ _ e. inr (sym (same (codes "$$") e))) (λ _ e. cc))
+  where
+    same : (m : List ℕ) → Some m ≡ Some mark → m ≡ mark
+    same m e = cc
+
+mark_is : (attributes : List AttributePair) (mark : List ℕ) → formula_mark attributes ≡ Some mark
+    → (mark ≡ codes "$") ⊎ (mark ≡ codes "$$")
+mark_is [] mark = λ e. cc
+mark_is (a ∷ []) mark =
+    cond_both (bytes_eq a.name (codes "class")) _ _
+    (λ (o : Option (List ℕ)). o ≡ Some mark → (mark ≡ codes "$") ⊎ (mark ≡ codes "$$"))
+    (λ _ e. mark_of a.value mark e) (λ _ e. cc)
+mark_is (a ∷ b ∷ attributes) mark = λ e. cc
+
+less_counted : (cs : List ℕ) → IsPart (filter (is_counted true) cs) (filter (is_counted false) cs)
+less_counted cs =
+    part-then (filter (is_counted true) cs) (seen even cs) (filter (is_counted false) cs) (counted_kept even cs)
+    (seen_all even cs)
+
+-- the same choice where both stand for the same
+chosen : {A : Type 0} (b : Bool) (x y z : A) → (b ≡ true → x ≡ y) → cond b x z ≡ cond b y z
+chosen true x y z same = same refl
+chosen false x y z same = refl
+
+-- the answer of the only handler
+planned_gives : (at : Occurrence) (definitions : List (List ℕ)) (tag : List ℕ)
+    (handler : HandlerMeaning) (plan : PlanView) (l : List ℕ)
+    → handlers_at at.conversion.config.handlers (drop 0 (indexes tag at.conversion.config.registered))
+    ≡ handler ∷ [] → handler.plan at.view ≡ plan
+    → KeepsResult (plan_answer handler at definitions plan (without_handler at definitions)).result l
+    → KeepsResult (answer_after 0 tag at definitions).result l
+planned_gives at definitions tag handler plan l only planned p =
+    let answered : answer_after 0 tag at definitions
+    ≡ plan_answer handler at definitions plan (without_handler at definitions) =
+    ap (λ (hs : List HandlerMeaning). first_answer hs at definitions) only
+    ∙ ap (λ (x : PlanView). plan_answer handler at definitions x (without_handler at definitions)) planned in
+    subst (λ (a : Answer). KeepsResult a.result l) (sym answered) p
+
+-- each of these nodes, handed over by itself, gives what is promised of it
+abbrev pub EachKeeps : Occurrence → (NumberedTree → List ℕ) → List ℕ → Type 0
+EachKeeps at says [] = Unit {0}
+EachKeeps at says (d ∷ ds) =
+    ((before : List (List ℕ)) → Keeps
+    (content_alone at.write at.conversion (descendant_tree at.conversion.items at.view.text d) d before).text
+    (says (descendant_tree at.conversion.items at.view.text d)))
+    × EachKeeps at says ds
+
+-- a text that is only code or an address: `*` isn't promised
+kept_but_asterisks : (s l : List ℕ) → Says (of_visible true) s l → (IsUtf8 s → ends even (chars s) ≡ even) → Keeps s l
+kept_but_asterisks s l p closed = says-keeps (closed p.utf8) p
+
+module _ (options : Options) (g : is_guarded options ≡ true) (alone : is_markdown_alone options ≡ true)
+    (items : List Item) (values : (id : ℕ) → AreValues (ancestor_of (data_at items id)).attributes) where
+  abbrev conversion : Conversion
+  conversion = conversion_of (built_in options) items
+
+  module _ (write : Writes) (id : ℕ) (inside : List Ancestor) (children : NumberedForest)
+      (definitions : List (List ℕ)) (utf8 : IsTextIfAny (only_text children))
+      (formula : (tables : Bool) (s : List ℕ) → only_text children ≡ Some s
+      → shown_among options items tables children ≡ counted_characters (not tables && is_guarded options) s)
+      (whole : Says (of_visible true) (text_or_all (only_text children) (children_at items id))
+      (shown_among options items false children))
+      (within : (before : List (List ℕ))
+      → Keeps (content_inside write inside children before).text
+      (shown_among options items true children)) where
+    abbrev at : Occurrence
+    at = occurrence_at write conversion id inside children
+
+    abbrev all_shown : List ℕ
+    all_shown = shown_among options items true children
+
+    -- the same in the tree's order, without `*`
+    abbrev in_tree : List ℕ
+    in_tree = shown_among options items false children
+
+    abbrev own : List AttributePair
+    own = attributes_of at.view
+
+    -- what an element with this tag shows of its children
+    abbrev shown_here : List ℕ → List ℕ
+    shown_here tag = shown_inside options items id tag (not (is_one_text tag own at.view) && true) children
+
+    -- what an element of this tag gives keeps what is in it
+    abbrev IsKept : List ℕ → Type 0
+    IsKept tag =
+        tag_of at.view ≡ tag
+        → KeepsResult (answer_after 0 tag at definitions).result
+        (cond (is_empty_element (is_guarded options) tag) [] (shown_here tag))
+
+    line_break_keeps : IsKept (codes "br")
+    line_break_keeps here =
+        planned_gives at definitions (codes "br") line_breaks
+        (markdown_plan (line_break (break_style_of at.view))) [] refl (rw alone refl)
+        (rw g (keeps-safe (codes "  \n") refl))
+
+    rule : (style : HrStyle) → Keeps (thematic_break style) []
+    rule Dashes = keeps-safe (thematic_break Dashes) refl
+    rule Asterisks = keeps-safe (thematic_break Asterisks) refl
+    rule Underscores = keeps-safe (thematic_break Underscores) refl
+
+    thematic_break_keeps : IsKept (codes "hr")
+    thematic_break_keeps here =
+        planned_gives at definitions (codes "hr") thematic_breaks (thematic_break_plan at.view) [] refl refl
+        (cond_both (is_in_line at.view) _ _
+        (λ (plan : PlanView). KeepsResult (plan_answer thematic_breaks at definitions plan
+        (without_handler at definitions)).result [])
+        (λ _. keeps-blank_lines [] keeps-nil) (λ _. rw alone (rule (thematic_break_style_of at.view))))
+
+    titled : IsTextIfAny (title_of at.view)
+    titled = last_is_text (codes "title" ∷ []) (attributes_of at.view) (values id)
+
+    image_by : (address : Option (List ℕ)) → IsTextIfAny address
+        → KeepsResult (plan_answer images at definitions (image_at address at.view) (without_handler at
+        definitions)).result []
+    image_by None found = refl
+    image_by (Some address) found =
+        let alt = alternative_text at.view in
+        let title = title_of at.view in
+        let described = last_is_text (codes "alt" ∷ []) (attributes_of at.view) (values id) in
+        rw g (kept_but_asterisks (guarded_image address alt title) []
+        (shows-none (says-guarded_image address alt title found described titled).utf8)
+        (closed-image address alt title))
+
+    image_keeps : IsKept (codes "img")
+    image_keeps here =
+        planned_gives at definitions (codes "img") images (image_at (image_address at.view) at.view) []
+        refl (rw alone refl)
+        (image_by (image_address at.view)
+        (last_is_text (codes "href" ∷ codes "src" ∷ []) (attributes_of at.view) (values id)))
+
+    -- if all text is the address, the address shows what is shown
+    autolink_keeps : (s address : List ℕ) → Keeps s all_shown → IsUtf8 address
+        → Keeps
+        (cond (is_autolinked at.view address) (guarded_autolink s address)
+        (guarded_link s address (title_of at.view)))
+        (shown_among options items (not (is_autolinked at.view address) && true) children)
+    autolink_keeps s address p found =
+        by (is_autolinked at.view address) (λ e. (bytes_eq-Decides all address).0 (and_parts _ _ (and_parts _ _ e).0).0)
+      where
+        all : List ℕ
+        all = trimmed_text is_document_white_space (all_text_of at.view)
+
+        by : (b : Bool) → (b ≡ true → all ≡ address)
+            → Keeps
+            (cond b (guarded_autolink s address) (guarded_link s address (title_of at.view)))
+            (shown_among options items (not b && true) children)
+        by true same =
+            kept_but_asterisks (guarded_autolink s address) in_tree
+            (says-guarded_autolink s address
+            (says-as (same refl) (says-trimmed is_document_white_space document_of_white (all_text_of at.view) whole)))
+            (closed-autolink s address)
+        by false same =
+            keeps-guarded_link s address (title_of at.view) p
+            (says-guarded_resource address (title_of at.view) found titled).utf8
+
+    link_in_style : (content : List ℕ) (before : List (List ℕ)) → Keeps content all_shown → (style : LinkStyle)
+        (address : List ℕ) → IsUtf8 address
+        → KeepsResult (guarded_link_finish style at.view content address before).result
+        (shown_among options items (not (prefers_autolinks style && is_autolinked at.view address) && true) children)
+    link_in_style content before p Inlined address found =
+        keeps-guarded_link content address (title_of at.view) p
+        (says-guarded_resource address (title_of at.view) found titled).utf8
+    link_in_style content before p InlinedPreferAutolinks address found = autolink_keeps content address p found
+    link_in_style content before p Referenced address found = keeps-guarded_reference _ content p
+
+    link_keeps : (content : ResultView) (before : List (List ℕ)) → Keeps content.content all_shown
+        → (address : Option (List ℕ)) → IsTextIfAny address
+        → KeepsResult (finish_at address at.view content before).result
+        (shown_among options items (not (is_autolink address at.view) && true) children)
+    link_keeps content before p None found = p
+    link_keeps content before p (Some address) found =
+        rw g (link_in_style content.content before p options.link_style address found)
+
+    anchor_keeps : IsKept (codes "a")
+    anchor_keeps here =
+        let out = content_of at definitions in
+        let address = anchor_address at.view in
+        let same : is_autolink address at.view ≡ (is_autolink address at.view || false) =
+        sym (or_false (is_autolink address at.view)) in
+        planned_gives at definitions (codes "a") anchors content_of_children
+        (shown_here (codes "a")) refl (rw alone refl)
+        (subst (λ (b : Bool). KeepsResult (finish_at address at.view (result_of out) out.definitions).result
+        (shown_among options items (not b && true) children)) same
+        (link_keeps (result_of out) out.definitions (within definitions) address
+        (last_is_text (codes "href" ∷ []) (attributes_of at.view) (values id))))
+      where
+        or_false : (b : Bool) → (b || false) ≡ b
+        or_false true = refl
+        or_false false = refl
+
+    code_keeps : IsKept (codes "code")
+    code_keeps here =
+        planned_gives at definitions (codes "code") code (guarded_code_plan at.view) in_tree refl (rw g refl)
+        (kept_but_asterisks (guarded_code (all_text_of at.view)) in_tree
+        (says-guarded_code (all_text_of at.view) in_tree whole) (closed-code (all_text_of at.view)))
+
+    language_shows : (language : Option (List ℕ)) → IsTextIfAny language → SaysIfAny (of_visible true) language []
+    language_shows None found = refl
+    language_shows (Some s) found = shows-none found
+
+    preformatted_keeps : Keeps (guarded_preformatted at.view) in_tree
+    preformatted_keeps =
+        let s = all_text_of at.view in
+        cond_both (stands_in_line items id) _ _ (λ (t : List ℕ). Keeps t in_tree)
+        (λ _. kept_but_asterisks (guarded_span_in_line s) in_tree (says-guarded_span s in_tree whole)
+        (closed-span_in_line s))
+        (λ _. kept_but_asterisks
+        (with_blank_lines (guarded_code_block s (guarded_language at.view) options.code_block_fence)) in_tree
+        (says-blank_lines _
+        (says-guarded_block s (guarded_language at.view) options.code_block_fence []
+        whole (language_shows _ (fitting_is_text (guarded_language at.view)
+        (guarded_language_is_text items values at.view refl)))))
+        (closed-fenced s (guarded_language at.view) options.code_block_fence))
+
+    pre_keeps : IsKept (codes "pre")
+    pre_keeps here =
+        planned_gives at definitions (codes "pre") preformatted_texts (markdown_plan (guarded_preformatted at.view))
+        in_tree refl (rw g refl) preformatted_keeps
+
+    -- without `*` less is seen of the only text
+    in_formula : (s : List ℕ) → only_text children ≡ Some s → in_tree ≡ counted_characters true s
+    in_formula s f = formula false s f ∙ ap (λ b. counted_characters b s) g
+
+    less_shown : (s : List ℕ) → only_text children ≡ Some s → IsPart in_tree all_shown
+    less_shown s f =
+        subst (λ (l : List ℕ). IsPart l all_shown) (sym (in_formula s f))
+        (subst (λ (m : List ℕ). IsPart (counted_characters true s) m) (sym (formula true s f)) (less_counted (chars s)))
+
+    -- what is in the span
+    span_content : (l : List ℕ) → Keeps (content_of at definitions).text l
+        → KeepsResult (with_finish spans at.view (content_of at definitions)).result l
+    span_content l p =
+        cond_both (is_guarded options || in_pre_or_code (ancestors_of at.view)) _ _ (λ (s : List ℕ). Keeps s l) (λ _. p)
+        (λ _. keeps-trimmed is_line_feed line_feed_of_white (content_of at definitions).text p)
+
+    -- a formula, or that
+    span_gives : (mark text : Option (List ℕ)) → formula_mark own ≡ mark → only_text children ≡ text
+        → IsTextIfAny text
+        → KeepsResult (plan_answer spans at definitions (formula_plan at.view mark text)
+        (without_handler at definitions)).result
+        (shown_among options items (not (is_some mark && is_some text) && true) children)
+    span_gives None text e f t = rw alone (span_content all_shown (within definitions))
+    span_gives (Some mark) None e f t = rw alone (span_content all_shown (within definitions))
+    span_gives (Some mark) (Some s) e f t =
+        cond_both (is_guarded options && is_read_in_formula s) content_of_children (markdown_plan ((mark ++ s) ++ mark))
+        (λ (plan : PlanView). KeepsResult
+        (plan_answer spans at definitions plan (without_handler at definitions)).result in_tree)
+        (λ _. span_content in_tree (keeps-in (less_shown s f) (within definitions)))
+        (λ _. keeps-is (sym (in_formula s f))
+        (kept_but_asterisks ((mark ++ s) ++ mark) (counted_characters true s)
+        (says-formula mark s (formula_marks_fill own mark e) t)
+        (closed-formula mark s (mark_is own mark e))))
+
+    span_keeps : IsKept (codes "span")
+    span_keeps here =
+        planned_gives at definitions (codes "span") spans
+        (formula_plan at.view (formula_mark own) (only_text children)) (shown_here (codes "span")) refl
+        refl
+        (span_gives (formula_mark own) (only_text children) refl refl utf8)
+
+    -- not one of those that give no text
+    not_empty : (name : List ℕ) → IsPlain name
+        → is_empty_element (is_guarded options) name ≡ is_named hidden_tags name && is_guarded options
+    not_empty name is =
+        ap (λ b. b || (is_named hidden_tags name && is_guarded options)) (or_from _ _ (or_from _ _ is.br is.hr) is.img)
+
+    -- and that is no table, and isn't written as one text
+    all_here : (name : List ℕ) → IsPlain name → shown_here name ≡ all_shown
+    all_here name is =
+        let apart : is_one_text name own at.view ≡ false =
+        or_from _ _
+        (or_from _ _ (or_from _ _ is.code is.pre) (and_left _ (is_autolink (anchor_address at.view) at.view) is.a))
+        (and_left _ (is_formula own (only_text children)) is.span) in
+        ap (λ b. shown_inside options items id name (not b && true) children) apart
+        ∙ no_table options items id name true children is.table
+
+    as_kept : (name : List ℕ) (r : Option ResultView) → IsPlain name → is_named hidden_tags name ≡ false
+        → KeepsResult r all_shown
+        → KeepsResult r (cond (is_empty_element (is_guarded options) name) [] (shown_here name))
+    as_kept name r is seen p =
+        subst (λ (l : List ℕ). KeepsResult r l)
+        (sym (cond-false (is_empty_element (is_guarded options) name) [] (shown_here name)
+        (not_empty name is ∙ and_left _ (is_guarded options) seen) ∙ all_here name is)) p
+
+    content_keeps : (tag : List ℕ) (handler : HandlerMeaning) → IsOnly options tag handler
+        → KeepsContent (of_visible true) tag handler → IsPlain tag → is_named hidden_tags tag ≡ false → IsKept tag
+    content_keeps tag handler only keeps is seen here =
+        let out = content_of at definitions in
+        as_kept tag _ is seen
+        (planned_gives at definitions tag handler content_of_children all_shown only
+        (keeps.planned at.view alone here)
+        (keeps.kept at.view (result_of out) out.definitions all_shown alone g (within definitions)))
+
+    other_keeps : (name : List ℕ) → IsOnly options name other_blocks → IsPlain name → IsKept name
+    other_keeps name only is here =
+        let out = content_of at definitions in
+        let hides = is_guarded options && is_tag_among hidden_tags (Some (tag_of at.view)) in
+        let same : is_empty_element (is_guarded options) name ≡ hides =
+        not_empty name is ∙ and_comm (is_named hidden_tags name) (is_guarded options)
+        ∙ ap (λ (tag : List ℕ). is_guarded options && is_named hidden_tags tag) (sym here) in
+        planned_gives at definitions name other_blocks (other_block_plan at.view)
+        (cond (is_empty_element (is_guarded options) name) [] (shown_here name)) only refl
+        (subst (λ (b : Bool). KeepsResult (plan_answer other_blocks at definitions (other_block_plan at.view)
+        (without_handler at definitions)).result (cond b [] (shown_here name))) (sym same)
+        (by hides (rw alone (keeps-as-is name is (keeps-wrapped out.text (within definitions))))))
+      where
+        keeps-as-is : (name : List ℕ) → IsPlain name → {s : List ℕ} → Keeps s all_shown → Keeps s (shown_here name)
+        keeps-as-is name is p = keeps-is (sym (all_here name is)) p
+
+        by : (b : Bool)
+            → KeepsResult (plan_answer other_blocks at definitions (unless_faithful at.view)
+            (without_handler at definitions)).result (shown_here name)
+            → KeepsResult (plan_answer other_blocks at definitions (cond b nothing (unless_faithful at.view))
+            (without_handler at definitions)).result (cond b [] (shown_here name))
+        by true p = refl
+        by false p = p
+
+    unhandled_keeps : (name : List ℕ) → indexes name (built_in options).registered ≡ [] → IsPlain name
+        → is_named hidden_tags name ≡ false → IsKept name
+    unhandled_keeps name unregistered is seen here =
+        as_kept name _ is seen
+        (subst (λ (a : Answer). KeepsResult a.result all_shown)
+        (sym (unhandled_answer options items write id inside children definitions name alone unregistered))
+        (within definitions))
+
+    -- ---- ordered lists
+
+    blocks_keep : (ds : List ℕ) (before : List (List ℕ)) → EachKeeps at (shown options items) ds
+        → KeepAll (map block_text (blocks_of_list items ds (contents_alone at ds before).results))
+        (said_of_each (shown options items) at.view ds)
+    blocks_keep [] before each = refl
+    blocks_keep (d ∷ ds) before each =
+        let child = descendant_tree items (only_text children) d in
+        let out = content_alone write conversion child d before in (
+          shown options items child,
+          said_of_each (shown options items) at.view ds,
+          keeps-as (child_text (tree.tag_of (data_at items d)) out.text) (each.0 before),
+          blocks_keep ds out.definitions each.1,
+          refl,
+        )
+
+    ordered_keeps : (blocks : List Block) (l : List ℕ) → KeepAll (map block_text blocks) l
+        → Keeps (ordered_text at.view blocks) l
+    ordered_keeps blocks l p =
+        let first = first_number_of at.view in
+        let spacing = options.ol_number_spacing in
+        let number = guarded_first_number first (highest_number first blocks) in
+        cond_both (is_in_line at.view) _ _ (λ (t : List ℕ). Keeps t l) (λ _. keeps-unnumbered_list blocks l p)
+        (λ _. rw g (keeps-ordered (guarded_spaces spacing (highest_number number blocks)) number blocks l p))
+
+    ordered_gives : EachKeeps at (shown options items) (children_of items id)
+        → KeepsResult (plan_answer lists at definitions (contents_of_each (children_of items id))
+        (without_handler at definitions)).result
+        (said_of_each (shown options items) at.view (children_of items id))
+    ordered_gives each =
+        let nodes = children_of items id in
+        let results = (contents_alone at nodes definitions).results in
+        keeps-listed at.view (numbered_list at.view results) (said_of_each (shown options items) at.view nodes) alone
+        (ordered_keeps (blocks_of at.view results) _ (blocks_keep nodes definitions each))
+
+    -- ---- tables
+
+    abbrev said_here : ℕ → List ℕ
+    said_here d = shown options items (descendant_tree items (only_text children) d)
+
+    each_gives : (ds : List ℕ) (before : List (List ℕ)) → EachKeeps at (shown options items) ds
+        → KeepEach said_here items ds (contents_alone at ds before).results
+    each_gives [] before each = tt
+    each_gives (d ∷ ds) before each =
+        let out = content_alone write conversion (descendant_tree items (only_text children) d) d before in
+        (each.0 before, each_gives ds out.definitions each.1)
+
+    abbrev TableGives : PlanView → List ℕ → Type 0
+    TableGives plan l =
+        KeepsResult (plan_answer tables at definitions plan (without_handler at definitions)).result l
+
+    fallback_gives : (l : List ℕ) → is_left_out at.view ≡ true → Keeps (content_of at definitions).text l
+        → TableGives content_of_fallback l
+    fallback_gives l left p =
+        let passed_on : without_handler at definitions ≡ answer_of (content_of at definitions) =
+        cond-true (is_markdown_alone options) _ _ alone in
+        subst
+        (λ (a : Answer). KeepsResult (plan_answer tables at definitions content_of_fallback a).result l)
+        (sym passed_on)
+        (cond_both (is_left_out at.view) _ _ (λ (r : Option ResultView). KeepsResult r l)
+        (λ _. p) (λ other. absurd (true≢false (sym left ∙ other))))
+
+    lines_give : EachKeeps at (shown options items) (nodes_of_lines (table_lines items id))
+        → TableGives (contents_of_each (nodes_of_lines (table_lines items id)))
+        (all_of said_here (captions_and_cells items (children_of items id)))
+    lines_give each =
+        let lines = table_lines items id in
+        let nodes = nodes_of_lines lines in
+        rw g
+        (keeps-is (ap (all_of said_here) (lines_in_order items id))
+        (keeps-guarded_table said_here items lines (contents_alone at nodes definitions).results
+        (each_gives nodes definitions each)))
+
+    table_by : (written : Bool) (l : List ℕ) → is_written_as_table items id ≡ written
+        → Keeps (content_of at definitions).text l
+        → (written ≡ true → EachKeeps at (shown options items) (nodes_of_lines (table_lines items id)))
+        → TableGives
+        (cond written (contents_of_each (nodes_of_lines (table_lines items id))) content_of_fallback)
+        (cond written (all_of said_here (captions_and_cells items (children_of items id))) l)
+    table_by true l is p each = lines_give (each refl)
+    table_by false l is p each = fallback_gives l (rw (alone, g, is) refl) p
+
+    module _ (each : tag_of at.view ≡ codes "ol" → EachKeeps at (shown options items) (children_of items id)
+        × (said_of_each (shown options items) at.view (children_of items id) ≡ all_shown))
+        (written : tag_of at.view ≡ codes "table" → is_written_as_table items id ≡ true
+        → EachKeeps at (shown options items) (nodes_of_lines (table_lines items id))
+        × (all_of (λ d. shown options items (descendant_tree items (only_text children) d))
+        (captions_and_cells items (children_of items id))
+        ≡ in_table options items true children)) where
+      ordered_list_keeps : IsKept (codes "ol")
+      ordered_list_keeps here =
+          let nodes = children_of items id in
+          planned_gives at definitions (codes "ol") lists (contents_of_each nodes) all_shown
+          refl (rw (alone, here) refl)
+          (subst (λ (l : List ℕ). KeepsResult (plan_answer lists at definitions (contents_of_each nodes)
+          (without_handler at definitions)).result l) (each here).1
+          (ordered_gives (each here).0))
+
+      table_keeps : IsKept (codes "table")
+      table_keeps here =
+          let told = written here in
+          let is = is_written_as_table items id in
+          let same : cond is (all_of said_here (captions_and_cells items (children_of items id))) all_shown
+          ≡ shown_here (codes "table") =
+          chosen is _ (in_table options items true children) all_shown (λ e. (told e).1) in
+          planned_gives at definitions (codes "table") tables (table_plan at.view)
+          (shown_here (codes "table")) refl refl
+          (subst (λ (l : List ℕ). TableGives (table_plan at.view) l) same
+          (subst (λ (plan : PlanView). TableGives plan
+          (cond is (all_of said_here (captions_and_cells items (children_of items id))) all_shown))
+          (sym (guarded_plan (of_visible true) options alone items write (shown options items) id inside children
+          definitions g is refl))
+          (table_by is all_shown refl (within definitions) (λ e. (told e).0))))
+
+      pub element_keeps : (name : List ℕ) → IsKept name
+      element_keeps name = by_tag {law = of_visible true} {options = options} {Shown = IsKept} (record {
+        image = image_keeps;
+        anchor = anchor_keeps;
+        ordered = ordered_list_keeps;
+        code = code_keeps;
+        line_break = line_break_keeps;
+        thematic_break = thematic_break_keeps;
+        table = table_keeps;
+        pre = pre_keeps;
+        span = span_keeps;
+        content = content_keeps;
+        other = other_keeps;
+        unhandled = unhandled_keeps;
+      }) name
