@@ -3,9 +3,10 @@ use Rattle.std.proofs.Common.{◌≡◌, ◌∙◌, ℕ, ◌+◌, ◌≤◌, Boo
 use Rattle.std.proofs.Common.{⊎_elim}
 use Rattle.std.specs.Prelude.{count_by, filter, codes, ◌==◌, ◌&&◌, ◌||◌, not}
 use Rattle.std.specs.Str.{chars, bytes_eq}
-use Rattle.std.proofs.lemmas.Bool.{true≢false, eqb-true}
+use Rattle.std.proofs.lemmas.Bool.{true≢false, eqb-true, and_parts}
 use Rattle.std.proofs.lemmas.List.Sums.{sum_by-append, sum_by-cons}
 use Rattle.htmd_text.proofs.Cases.{test}
+use Rattle.htmd_text.specs.Characters.{asterisk}
 use Rattle.htmd_tree.specs.Items.{Item}
 use Rattle.htmd_tree.specs.NumberedTrees.{NumberedTree, document, doctype, text, comment, element}
 use Rattle.htmd_tree.specs.NumberedTrees.{NumberedForest, none, more}
@@ -14,7 +15,8 @@ use Rattle.htmd_walk.specs.Elements.{view_at}
 use Rattle.htmd_walk.specs.GuardedTableLayouts.{is_written_as_table}
 use Rattle.htmd_walk.specs.Outputs.{conversion_of, is_guarded}
 use Rattle.htmd_walk.specs.BuiltIn.{built_in}
-use Rattle.htmd_tree_laws.specs.Shown.{is_visible, visible, IsPart, is_empty_element, is_one_text, is_caption, is_of_rows}
+use Rattle.htmd_tree_laws.specs.Shown.{is_visible, is_counted, counted_characters, IsPart, is_empty_element, is_one_text}
+use Rattle.htmd_tree_laws.specs.Shown.{is_caption, is_of_rows}
 use Rattle.htmd_tree_laws.specs.Shown.{shown_of, shown_among, shown_but_later, shown_later}
 use Rattle.htmd_html5_laws.specs.PageLetters.{is_character, occurrences, occurrences_in}
 use Rattle.htmd_laws.specs.PageLetters.{texts_in, texts_among, hidden_in, hidden_among}
@@ -70,7 +72,7 @@ module _ (c : ℕ) where
   texts_append : (ss ts : List (List ℕ)) → occurrences_in c (ss ++ ts) ≡ occurrences_in c ss + occurrences_in c ts
   texts_append ss ts = sum_by-append (occurrences c) ss ts
 
-  module _ (options : Options) (items : List Item) (seen : is_visible (is_guarded options) c ≡ true) where
+  module _ (options : Options) (items : List Item) (seen : is_counted (is_guarded options) c ≡ true) where
     -- what is shown, and what isn't, make up these texts
     abbrev Whole : List ℕ → List (List ℕ) → List (List ℕ) → Type 0
     Whole shown hidden texts = times shown + occurrences_in c hidden ≡ occurrences_in c texts
@@ -91,9 +93,16 @@ module _ (c : ℕ) where
     in_ways false true in_order later among hidden texts v w = v
     in_ways false false in_order later among hidden texts v w = w
 
-    whole_text : (s : List ℕ) → times (visible (is_guarded options) s) ≡ occurrences c s
+    -- what is counted in one text is counted in any
+    counted_below : (tables guarded : Bool) → is_counted guarded c ≡ true → is_counted (not tables && guarded) c ≡ true
+    counted_below true true e = (and_parts (is_visible c) (not (c == asterisk)) e).0
+    counted_below true false e = e
+    counted_below false guarded e = e
+
+    whole_text : (without_asterisks : Bool) (s : List ℕ) → is_counted without_asterisks c ≡ true
+        → times (counted_characters without_asterisks s) ≡ occurrences c s
     unfolding occurrences
-    whole_text s = times_of_passing (is_visible (is_guarded options)) (chars s) seen
+    whole_text without_asterisks s e = times_of_passing (is_counted without_asterisks) (chars s) e
 
     caption_or_not : (goes : Bool) (l m n : List ℕ) (hs is ts us : List (List ℕ)) → Whole l hs ts
         → Whole (m ++ n) is us
@@ -119,13 +128,14 @@ module _ (c : ℕ) where
       whole tables (document id children) = whole_among tables children
       whole tables (doctype id) = refl
       whole tables (text id s) =
-          let a : times (visible (is_guarded options) s) ≡ occurrences c s = whole_text s in
+          let a : times (counted_characters (not tables && is_guarded options) s) ≡ occurrences c s =
+          whole_text (not tables && is_guarded options) s (counted_below tables (is_guarded options) seen) in
           let b = sum_by-cons (occurrences c) s [] in
           omega arith
       whole tables (comment id s) = refl
       whole tables (element id name attributes children) =
           let view = view_at (conversion_of (built_in options) items) id true children in
-          let below = not (is_one_text name view) && tables in
+          let below = not (is_one_text name attributes view) && tables in
           in_ways (is_empty_element (is_guarded options) name)
           (bytes_eq name (codes "table") && (below && is_written_as_table items id))
           (shown_but_later options items below false children) (shown_later options items below false children)
