@@ -38,7 +38,7 @@ use Rattle.htmd_tree_laws.proofs.KeptLawsLemmas.{content_is_kept}
 use Rattle.htmd_tree.specs.ValueTrees.{AttributePair}
 use Rattle.htmd_walk.specs.Children.{content_inside}
 use Rattle.htmd_tree_laws.specs.Shown.{counted_characters, is_empty_element, is_one_text}
-use Rattle.htmd_tree_laws.proofs.ShownTrees.{shown_inside}
+use Rattle.htmd_tree_laws.proofs.ShownTrees.{shown_inside, in_tree}
 use Rattle.std.specs.Prelude.{◌&&◌, not}
 use Rattle.htmd_tree_laws.proofs.SaidChildren.{AllOf, children_are_said, text_is_said}
 use Rattle.htmd_tree_laws.proofs.LettersLawsLemmas.{values_in, plain_at}
@@ -130,17 +130,8 @@ module _ (options : Options) (pure : is_guarded options ≡ false) (alone : is_m
       → shown_among options items false children
       ≡ shown_inside options items id name (whole && is_guarded options) children
   inside_is id name whole children =
-      sym (ap (λ b. shown_inside options items id name (whole && b) children) pure ∙ by (bytes_eq name (codes "table"))
-      whole)
-    where
-      by : (is b : Bool)
-          → cond (is && ((b && false) && is_written_as_table items id)) (in_table options items (b && false) children)
-          (shown_among options items (b && false) children)
-          ≡ shown_among options items false children
-      by true true = refl
-      by true false = refl
-      by false true = refl
-      by false false = refl
+      sym (ap (λ b. shown_inside options items id name (whole && b) children) pure
+      ∙ in_tree options items id name whole children)
 
   within_is_shown : (n : ℕ) → AreShown n
   unfolding written_within

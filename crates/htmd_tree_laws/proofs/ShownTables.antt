@@ -46,7 +46,7 @@ use Rattle.htmd_tree_laws.proofs.LettersOfTables.{all_of, all-append}
 use Rattle.htmd_tree_laws.proofs.ElementsByTag.{among}
 use Rattle.htmd_tree_laws.proofs.SaidChildren.{AllOf}
 use Rattle.htmd_tree_laws.proofs.TableChildren.{caption_tags, row_tags, each_child, each_line, row_filled, caption_is}
-use Rattle.htmd_tree_laws.proofs.ShownTrees.{in_table, shown_inside, Fits, AllFit, IsLow, all_low, not_alone}
+use Rattle.htmd_tree_laws.proofs.ShownTrees.{in_tree, in_table, shown_inside, Fits, AllFit, IsLow, all_low, not_alone}
 
 -- ---- what isn't seen shows nothing
 
@@ -157,20 +157,6 @@ module _ (options : Options) (is_so : is_guarded options ≡ true) (items : List
       or_right _ (is_tag_among hidden_tags (Some name) && guarded)
       (and_from (is_tag_among hidden_tags (Some name)) guarded e is_so)
 
-  -- without tables all is in the tree's order
-  in_tree : (id : ℕ) (name : List ℕ) (b : Bool) (trees : NumberedForest)
-      → shown_inside options items id name (b && false) trees ≡ shown_among options items false trees
-  in_tree id name b trees = by b (bytes_eq name (codes "table"))
-    where
-      by : (b is : Bool)
-          → cond (is && ((b && false) && is_written_as_table items id)) (in_table options items (b && false) trees)
-          (shown_among options items (b && false) trees)
-          ≡ shown_among options items false trees
-      by true true = refl
-      by true false = refl
-      by false true = refl
-      by false false = refl
-
   inside_shows : (name : List ℕ) (c : NumberedForest)
       → Says (of_visible guarded) (all_text_among c) (shown_among options items false c)
       → Says (of_visible guarded) (cond (bytes_eq name (codes "br")) (line_feed ∷ [])
@@ -196,7 +182,7 @@ module _ (options : Options) (is_so : is_guarded options ≡ true) (items : List
     all_text_shows (comment id s) fit = says-nil
     all_text_shows (element id name attributes c) fit =
         let whole = not (is_one_text name attributes (view_at (conversion_of (built_in options) items) id true c)) in
-        says-is (ap (λ l. cond (is_empty_element guarded name) [] l) (sym (in_tree id name whole c)))
+        says-is (ap (λ l. cond (is_empty_element guarded name) [] l) (sym (in_tree options items id name whole c)))
         (inside_shows name c (all_texts_show c fit.1))
 
     pub all_texts_show : (trees : NumberedForest) → AllFit guarded items trees

@@ -181,6 +181,20 @@ module _ (options : Options) (items : List Item) where
       ap (λ b. cond (b && (tables && is_written_as_table items id)) (in_table tables trees)
       (shown_among options items tables trees)) other
 
+  -- without tables all is in the tree's order
+  pub in_tree : (id : ℕ) (name : List ℕ) (b : Bool) (trees : NumberedForest)
+      → shown_inside id name (b && false) trees ≡ shown_among options items false trees
+  in_tree id name b trees = by b (bytes_eq name (codes "table"))
+    where
+      by : (b is : Bool)
+          → cond (is && ((b && false) && is_written_as_table items id)) (in_table (b && false) trees)
+          (shown_among options items (b && false) trees)
+          ≡ shown_among options items false trees
+      by true true = refl
+      by true false = refl
+      by false true = refl
+      by false false = refl
+
   -- ---- groups
 
   -- all text of an element that may join is written as one text
