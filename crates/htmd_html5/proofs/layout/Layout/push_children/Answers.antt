@@ -13,7 +13,7 @@ returns-clause-value c =
     let l = layout_of c.args.self.now in
     let children : c.children_of-children.result.now ≡ children_at l.nodes c.args.node =
     c.children_of-children.ensures
-    ∙ ap (λ (ns : List Node). children_at (nodes_of ns) c.args.node) c.as_slice.ensures
+    ∙ ap (λ (ns : List Node). children_at (nodes_of ns) c.args.node) c.as_slice.ensures.value
     in
     children-pushed c.push_all.result l c.args.self.now.coming.items c.push_all.new.coming.items
     c.children_of-children.result.now c.args.node c.args.under refl children c.push_all.ensures
