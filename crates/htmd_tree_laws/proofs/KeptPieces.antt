@@ -1,5 +1,5 @@
 -- What is promised of the pieces of Markdown that Guarded writes.
-use Rattle.std.proofs.Common.{◌≡◌, ℕ, zero, suc, ◌+◌, ◌-◌, ◌<◌, Bool, true, false, cond, List, [], ◌∷◌, ◌++◌, length}
+use Rattle.std.proofs.Common.{◌≡◌, ℕ, zero, suc, ◌-◌, ◌<◌, Bool, true, false, cond, List, [], ◌∷◌, ◌++◌, length}
 use Rattle.std.proofs.Common.{take, drop, refl, sym, ap, ◌∙◌, arith, subst, append_assoc, ⊎_elim, inl, inr, codes, map}
 use Rattle.std.proofs.Common.{Option, Some, None}
 use Rattle.std.specs.Prelude.{◌&&◌, ◌||◌, ◌==◌, ◌%◌, ◌/◌, not, nat_lt, nat_le, filter, replicate, fold, unwrap_or, encode_utf8_all}
@@ -12,8 +12,7 @@ use Rattle.std.specs.Str.{chars, IsUtf8, all_scalars, trim, trim_start, trim_end
 use Rattle.std.specs.Str.{skip_leading_whitespace, drop_trailing_whitespace}
 use Rattle.std.proofs.lemmas.Bool.{not-true, and_parts, and_from, cond_both, cond-false, or_parts, false≢true, eqb-true}
 use Rattle.std.proofs.lemmas.Bool.{false_from_ne_true, agree_below_at, ltb-true}
-use Rattle.std.proofs.lemmas.List.{append-nil, length-append}
-use Rattle.std.proofs.Math.Seq.{take-append_seam}
+use Rattle.std.proofs.lemmas.List.{append-nil}
 use Rattle.std.proofs.lemmas.Nat.{mod_below}
 use Rattle.std.proofs.lemmas.Str.{chars-encodes, encodes-append, encodes-chars, scalars-chars, chars-append}
 use Rattle.htmd_text.specs.BlankLines.{blank_line, with_blank_lines}

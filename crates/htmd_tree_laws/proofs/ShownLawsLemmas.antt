@@ -16,7 +16,6 @@ use Rattle.htmd_walk.specs.BuiltIn.{built_in}
 use Rattle.htmd_walk.specs.Children.{write_groups, content_alone, descendant_tree, trims_first}
 use Rattle.htmd_walk.specs.Elements.{answer_after, occurrence_at}
 use Rattle.htmd_walk.specs.Groups.{only_text, groups_of, children_at, may_join}
-use Rattle.htmd_walk.specs.GuardedTableLayouts.{is_written_as_table}
 use Rattle.htmd_walk.specs.Handling.{ResultView}
 use Rattle.htmd_walk.specs.Markdown.{walked_content, walked_node, markdown, append_texts}
 use Rattle.htmd_walk.specs.OrdinaryText.{in_pre_or_code}
@@ -44,7 +43,7 @@ use Rattle.htmd_tree_laws.proofs.SaidChildren.{AllOf, children_are_said, text_is
 use Rattle.htmd_tree_laws.proofs.LettersLawsLemmas.{values_in, plain_at}
 use Rattle.htmd_tree_laws.proofs.ShownOfElements.{element_shows}
 use Rattle.htmd_tree_laws.proofs.ShownTrees.{AllFit, Lies, lies_still, IsLow, all_low, same_among, only_shows, groups_lower}
-use Rattle.htmd_tree_laws.proofs.ShownTrees.{in_table, groups_show, tree_fits, each_shown, ol_is_alone}
+use Rattle.htmd_tree_laws.proofs.ShownTrees.{groups_show, tree_fits, each_shown, ol_is_alone}
 
 module _ (options : Options) (pure : is_guarded options ≡ false) (alone : is_markdown_alone options ≡ true)
     (items : List Item) (t : IsTree items) (plain : (id : ℕ) → HoldsText (data_at items id)) where
