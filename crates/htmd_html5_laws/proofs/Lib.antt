@@ -50,4 +50,7 @@ pub mod ColumnTags
 pub mod HarmlessTokens
 pub mod HarmlessLettersLemmas
 pub mod PageLettersLemmas
+pub mod Sublists
+pub mod Rows
+pub mod OrderedNodes
 mod Examples
