@@ -53,4 +53,5 @@ pub mod PageLettersLemmas
 pub mod Sublists
 pub mod Rows
 pub mod OrderedNodes
+pub mod OrderedInserts
 mod Examples
