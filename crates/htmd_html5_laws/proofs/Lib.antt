@@ -54,4 +54,5 @@ pub mod Sublists
 pub mod Rows
 pub mod OrderedNodes
 pub mod OrderedInserts
+pub mod OrderedTexts
 mod Examples

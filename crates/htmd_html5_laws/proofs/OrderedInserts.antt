@@ -109,19 +109,19 @@ module _ (letters : List ℕ) (nodes : List NodeValue) (l : Labels) (h : FitsBy 
     abbrev new : List NodeValue
     new = grown k p nodes
 
-    abbrev marked : Labels
+    abbrev pub marked : Labels
     marked = mark n (length letters) (length letters + length more) live l
 
-    other_until : (limit m : ℕ) → (m ≡ n → ⊥) → until limit marked m ≡ until limit l m
+    pub other_until : (limit m : ℕ) → (m ≡ n → ⊥) → until limit marked m ≡ until limit l m
     other_until limit m f = rw (ne_eqb m n f) refl
 
     other_lo : (m : ℕ) → (m ≡ n → ⊥) → marked.lo m ≡ l.lo m
     other_lo m f = rw (ne_eqb m n f) refl
 
-    own_lo : marked.lo n ≡ length letters
+    pub own_lo : marked.lo n ≡ length letters
     own_lo = rw (eq-eqb n n refl) refl
 
-    own_until : (limit : ℕ) → length letters + length more < limit
+    pub own_until : (limit : ℕ) → length letters + length more < limit
         → (length letters ≤ until limit marked n) × (until limit marked n ≤ limit)
     own_until limit big =
         subst (λ (b : Bool). (length letters ≤ cond (cond b live (l.live n)) limit
@@ -135,7 +135,7 @@ module _ (letters : List ℕ) (nodes : List NodeValue) (l : Labels) (h : FitsBy 
         either false = (omega arith, omega arith)
 
     -- a row in which the new node doesn't stand
-    row_kept : (limit at : ℕ) (cs : List ℕ) (to : ℕ) → length letters + length more < limit → times n cs ≡ 0
+    pub row_kept : (limit at : ℕ) (cs : List ℕ) (to : ℕ) → length letters + length more < limit → times n cs ≡ 0
         → Row (marks none_out nodes limit l) at cs to → Row (marks none_out new limit marked) at cs to
     row_kept limit at cs to big none r =
         row_marks (marks none_out nodes limit l) (marks none_out new limit marked) at cs to
@@ -153,13 +153,13 @@ module _ (letters : List ℕ) (nodes : List NodeValue) (l : Labels) (h : FitsBy 
         spans c false = h.span c
 
     -- where it may stand in its parent
-    abbrev RowOk : Type 0
+    abbrev pub RowOk : Type 0
     RowOk =
         (limit : ℕ) → length letters + length more < limit
         → Row (marks none_out new limit marked) (l.lo p) (children_at nodes p ++ n ∷ []) (until limit l p)
 
     -- a text's letters are the new ones
-    abbrev TextOk : Type 0
+    abbrev pub TextOk : Type 0
     TextOk = (t : List ℕ) → k ≡ text t → (live ≡ false) × IsUtf8 t × (letters_of t ≡ more)
 
     longer : length (letters ++ more) ≡ length letters + length more
