@@ -55,4 +55,5 @@ pub mod Rows
 pub mod OrderedNodes
 pub mod OrderedInserts
 pub mod OrderedTexts
+pub mod OrderedPaths
 mod Examples

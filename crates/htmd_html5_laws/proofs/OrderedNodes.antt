@@ -182,16 +182,16 @@ child_above rank nodes q c h l b = by_hangs (h.hangs c (bears_solid (kind_at nod
 abbrev pub above : (ℕ → ℕ) → ℕ → ℕ → Bool
 above rank p n = nat_lt (rank p) (rank n)
 
-lt_true : (a b : ℕ) → a < b → nat_lt a b ≡ true
+pub lt_true : (a b : ℕ) → a < b → nat_lt a b ≡ true
 lt_true a b l = grind (arith, l)
 
-lt_false : (a b : ℕ) → b ≤ a → nat_lt a b ≡ false
+pub lt_false : (a b : ℕ) → b ≤ a → nat_lt a b ≡ false
 lt_false a b l = grind (arith, l)
 
-lt_less : (a b : ℕ) → nat_lt a b ≡ true → a < b
+pub lt_less : (a b : ℕ) → nat_lt a b ≡ true → a < b
 lt_less a b e = grind (arith, e)
 
-lt_not : (a b : ℕ) → nat_lt a b ≡ false → b ≤ a
+pub lt_not : (a b : ℕ) → nat_lt a b ≡ false → b ≤ a
 lt_not a b e = grind (arith, e)
 
 -- labels with which all that stands above a node has ended
