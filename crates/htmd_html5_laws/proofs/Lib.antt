@@ -56,4 +56,5 @@ pub mod OrderedNodes
 pub mod OrderedInserts
 pub mod OrderedTexts
 pub mod OrderedPaths
+pub mod OrderedMoves
 mod Examples

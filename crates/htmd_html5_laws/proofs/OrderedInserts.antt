@@ -34,7 +34,7 @@ mark n lo hi live l = record {
 
 -- ---- children
 
-inserted_last : (n : ℕ) (cs : List ℕ) → insert cs (length cs) n ≡ cs ++ n ∷ []
+pub inserted_last : (n : ℕ) (cs : List ℕ) → insert cs (length cs) n ≡ cs ++ n ∷ []
 inserted_last n cs = ap (λ (x : List ℕ). x ++ n ∷ drop (length cs) cs) (take-length cs)
     ∙ ap (λ (x : List ℕ). cs ++ n ∷ x) (drop-length cs)
 

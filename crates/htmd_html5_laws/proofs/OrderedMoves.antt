@@ -1,0 +1,323 @@
+-- Nodes are moved as the adoption agency moves them: the letters stand in order still.
+use Rattle.std.proofs.Common.{◌≡◌, ◌∙◌, ℕ, zero, suc, ◌+◌, ◌<◌, ◌≤◌, Bool, true, false, List, [], ◌∷◌, ◌++◌, length}
+use Rattle.std.proofs.Common.{refl, sym, ap, subst, arith, cond, Option, Some, None, inl, inr, ◌⊎◌}
+use Rattle.std.specs.Prelude.{◌==◌, ◌&&◌, not, insert, remove}
+use Rattle.std.proofs.lemmas.Bool.{true≢false, and_parts, eqb-true, eqb-false, eq-eqb, ne_eqb}
+use Rattle.std.proofs.lemmas.List.{length-set}
+use Rattle.htmd_text.proofs.Cases.{test}
+use Rattle.htmd_html5_state.specs.Documents.{NodeValue, KindValue, text, new_node, kind_at, parent_at, children_at}
+use Rattle.htmd_html5_state.specs.Documents.{with_parent, with_children, with_parents, index_of, without_child, remove_child}
+use Rattle.htmd_html5_state.specs.Documents.{detach_from, detach, move_children, append_children, put, last_in}
+use Rattle.htmd_html5_state.specs.Adoption.{wrap_children}
+use Rattle.htmd_html5_laws.proofs.NodeTexts.{is_element, kinds_move_children}
+use Rattle.htmd_html5_laws.proofs.NodeParts.{times, times_append, children_same, children_other, children_of_parent}
+use Rattle.htmd_html5_laws.proofs.NodeParts.{children_with_new, parent_same}
+use Rattle.htmd_html5_laws.proofs.Forests.{IsForest, length_new, once_under, once_at_most, elsewhere, children_with_parents}
+use Rattle.htmd_html5_laws.proofs.Forests.{length_with_parents, length_moved}
+use Rattle.htmd_html5_laws.proofs.HungNodes.{put_at, put_kind, put_size, children_in, kind_with_new, kind_new_at, kind_by_kinds}
+use Rattle.htmd_html5_laws.proofs.HungChains.{detach_size, detach_kind}
+use Rattle.htmd_html5_laws.proofs.Rows.{Marks, Row, row_low, row_append, row_without, row_marks}
+use Rattle.htmd_html5_laws.proofs.OrderedNodes.{bears, Labels, until, counted, marks, TextIn, FitsBy, none_out}
+use Rattle.htmd_html5_laws.proofs.OrderedInserts.{mark, inserted_last, children_beyond, no_child}
+
+-- ---- children after a node was taken out, or put
+
+pub row_detached : (m : Marks) (n q at to : ℕ) (nodes : List NodeValue) → Row m at (children_at nodes q) to
+    → Row m at (children_at (detach n nodes) q) to
+row_detached m n q at to nodes r = by_parent (parent_at nodes n)
+  where
+    by_same : (p : ℕ) → p ≡ q
+        → (children_at (remove_child p n nodes) p ≡ without_child n (children_at nodes p))
+        ⊎ (children_at (remove_child p n nodes) p ≡ [])
+        → Row m at (children_at (remove_child p n nodes) q) to
+    by_same p e (inl f) =
+        subst (λ (x : ℕ). Row m at (children_at (remove_child p n nodes) x) to) e
+        (subst (λ (cs : List ℕ). Row m at cs to) (sym f)
+        (row_without m at (children_at nodes p) to (index_of n (children_at nodes p))
+        (subst (λ (x : ℕ). Row m at (children_at nodes x) to) (sym e) r)))
+    by_same p e (inr f) =
+        subst (λ (x : ℕ). Row m at (children_at (remove_child p n nodes) x) to) e
+        (subst (λ (cs : List ℕ). Row m at cs to) (sym f) (row_low m at (children_at nodes q) to r))
+
+    by_parent : (o : Option ℕ) → Row m at (children_at (detach_from o n nodes) q) to
+    by_parent None = r
+    by_parent (Some p) =
+        subst (λ (cs : List ℕ). Row m at cs to) (sym (children_of_parent n q None (remove_child p n nodes)))
+        (test (p == q)
+        (λ t. by_same p (eqb-true p q t) (children_same p (without_child n (children_at nodes p)) nodes))
+        (λ t. subst (λ (cs : List ℕ). Row m at cs to)
+        (sym (children_other p q (without_child n (children_at nodes p)) nodes (eqb-false p q t))) r))
+
+abbrev pub put_last : ℕ → ℕ → List NodeValue → List NodeValue
+put_last n p nodes = put_at n p (length (children_at nodes p)) nodes
+
+pub children_put : (n p : ℕ) (nodes : List NodeValue) → p < length nodes
+    → children_at (put_last n p nodes) p ≡ children_at nodes p ++ n ∷ []
+children_put n p nodes l =
+    children_of_parent n p (Some p) (with_children p
+    (insert (children_at nodes p) (length (children_at nodes p)) n) nodes)
+    ∙ children_in p (insert (children_at nodes p) (length (children_at nodes p)) n) nodes l
+    ∙ inserted_last n (children_at nodes p)
+
+pub children_put_other : (n p q : ℕ) (nodes : List NodeValue) → (p ≡ q → ⊥)
+    → children_at (put_last n p nodes) q ≡ children_at nodes q
+children_put_other n p q nodes f =
+    children_of_parent n q (Some p) (with_children p
+    (insert (children_at nodes p) (length (children_at nodes p)) n) nodes)
+    ∙ children_other p q (insert (children_at nodes p) (length (children_at nodes p)) n) nodes f
+
+put_parent : (n p : ℕ) (nodes : List NodeValue) → n < length nodes → parent_at (put_last n p nodes) n ≡ Some p
+put_parent n p nodes l =
+    parent_same n (Some p)
+    (with_children p (insert (children_at nodes p) (length (children_at nodes p)) n) nodes)
+    (let e : length (with_children p (insert (children_at nodes p) (length (children_at nodes p)) n) nodes)
+    ≡ length nodes = length-set nodes p _ in omega arith)
+
+-- it stands nowhere else
+put_nowhere_else : (n p q : ℕ) (nodes : List NodeValue) → n < length nodes → IsForest (put_last n p nodes)
+    → (p ≡ q → ⊥)
+    → times n (children_at nodes q) ≡ 0
+put_nowhere_else n p q nodes l forest f =
+    let a = forest.once n q in
+    let b : once_under (parent_at (put_last n p nodes) n) q ≡ 0 =
+    ap (λ (o : Option ℕ). once_under o q) (put_parent n p nodes l) ∙ elsewhere p q f in
+    let d : times n (children_at (put_last n p nodes) q) ≡ times n (children_at nodes q) =
+    ap (times n) (children_put_other n p q nodes f) in
+    omega arith
+
+put_once : (n p : ℕ) (nodes : List NodeValue) → p < length nodes → IsForest (put_last n p nodes)
+    → times n (children_at nodes p) ≡ 0
+put_once n p nodes l forest =
+    let a = forest.once n p in
+    let b = once_at_most (parent_at (put_last n p nodes) n) p in
+    let d : times n (children_at (put_last n p nodes) p) ≡ times n (children_at nodes p ++ n ∷ []) =
+    ap (times n) (children_put n p nodes l) in
+    let e = times_append n (children_at nodes p) (n ∷ []) in
+    let o : ◌≡◌ {A = ℕ} (cond (n == n) 1 0) 1 = rw (eq-eqb n n refl) refl in
+    omega arith
+
+not_other : (a b : ℕ) → (a ≡ b → ⊥) → not (a == b) ≡ true
+not_other a b f = rw (ne_eqb a b f) refl
+
+both_true : (x y : Bool) → x ≡ true → y ≡ true → (x && y) ≡ true
+both_true x y e f = rw (e, f) refl
+
+member_other : (c n : ℕ) (cs : List ℕ) → times n cs ≡ 0 → 1 ≤ times c cs → c ≡ n → ⊥
+member_other c n cs z k e = let f : times c cs ≡ times n cs = ap (λ (x : ℕ). times x cs) e in omega arith
+
+abbrev pub only : ℕ → ℕ → Bool
+only last n = n == last
+
+-- ---- a node apart from the others, which is to stand last in another
+
+pub record Apart (letters : List ℕ) (nodes : List NodeValue) (p last : ℕ) (l : Labels) : Type 0 where
+  pub fits : FitsBy (only last) letters nodes l
+  pub front : (limit : ℕ) → length letters < limit
+      → Row (marks (only last) nodes limit l) (l.lo p) (children_at nodes p) (l.lo last)
+  pub live_last : l.live last ≡ true
+  pub live_at : l.live p ≡ true
+
+spans : (out : ℕ → Bool) (letters : List ℕ) (nodes : List NodeValue) (l : Labels) → FitsBy out letters nodes l
+    → (limit : ℕ) → length letters < limit → (c : ℕ) (x : Bool) → l.lo c ≤ cond x limit (l.hi c)
+spans out letters nodes l h limit big c true = let a = h.span c in let b = h.high c in omega arith
+spans out letters nodes l h limit big c false = h.span c
+
+module _ (letters : List ℕ) (nodes : List NodeValue) (l : Labels) (p last : ℕ) (h : Apart letters nodes p last l)
+    (p_in : p < length nodes) (last_in_nodes : last < length nodes) (p_other : p ≡ last → ⊥) where
+  -- ---- it is put into a copy of an element, which is apart then
+
+  module _ (k : KindValue) (is : is_element k ≡ true)
+      (forest : IsForest (put_last last (length nodes) (detach last (nodes ++ new_node k ∷ [])))) where
+    abbrev n : ℕ
+    n = length nodes
+
+    abbrev more : List NodeValue
+    more = nodes ++ new_node k ∷ []
+
+    abbrev out : List NodeValue
+    out = detach last more
+
+    abbrev pub copied : List NodeValue
+    copied = put_last last n out
+
+    abbrev pub copied_labels : Labels
+    copied_labels = mark n (l.lo last) (l.hi last) true l
+
+    out_size : length out ≡ suc n
+    out_size = detach_size last more ∙ length_new k nodes
+
+    kind_same : (m : ℕ) → (m ≡ n → ⊥) → kind_at copied m ≡ kind_at nodes m
+    kind_same m f =
+        put_kind last n (length (children_at out n)) out m ∙ (detach_kind last more m ∙ kind_with_new m k nodes f)
+
+    kind_own : kind_at copied n ≡ k
+    kind_own =
+        put_kind last n (length (children_at out n)) out n ∙ (detach_kind last more n ∙ kind_new_at k nodes)
+
+    until_same : (limit m : ℕ) → (m ≡ n → ⊥) → until limit copied_labels m ≡ until limit l m
+    until_same limit m f = rw (ne_eqb m n f) refl
+
+    lo_same : (m : ℕ) → (m ≡ n → ⊥) → copied_labels.lo m ≡ l.lo m
+    lo_same m f = rw (ne_eqb m n f) refl
+
+    lo_own : copied_labels.lo n ≡ l.lo last
+    lo_own = rw (eq-eqb n n refl) refl
+
+    until_own : (limit : ℕ) → until limit copied_labels n ≡ limit
+    until_own limit = rw (eq-eqb n n refl) refl
+
+    until_last : (limit : ℕ) → until limit copied_labels last ≡ limit
+    until_last limit =
+        until_same limit last (λ e. omega arith) ∙ ap (λ (b : Bool). cond b limit (l.hi last)) h.live_last
+
+    kept_row : (limit q to : ℕ) → length letters < limit → (n ≡ q → ⊥)
+        → Row (marks (only last) nodes limit l) (l.lo q) (children_at nodes q) to
+        → Row (marks (only n) copied limit copied_labels) (l.lo q) (children_at copied q) to
+    kept_row limit q to big f r =
+        subst (λ (cs : List ℕ). Row (marks (only n) copied limit copied_labels) (l.lo q) cs to)
+        (sym (children_put_other last n q out f))
+        (row_marks (marks (only last) nodes limit l) (marks (only n) copied limit copied_labels) (l.lo q)
+        (children_at out q) to
+        (λ c m e.
+          let two = and_parts (not (c == n)) (bears (kind_at copied c)) e in
+          let other : c ≡ n → ⊥ = λ g. true≢false (sym two.0 ∙ ap not (eq-eqb c n g)) in
+          let same = kind_same c other in
+          let a = until_same limit c other in
+          let b = lo_same c other in
+          let w = spans (only last) letters nodes l h.fits limit big c (l.live c) in
+          let apart = member_other c last (children_at out q)
+          (put_nowhere_else last n q out (let z = out_size in omega arith) forest f) m in
+          (both_true (not (c == last)) (bears (kind_at nodes c)) (not_other c last apart)
+          (sym (ap bears same) ∙ two.1), omega arith, omega arith, omega arith))
+        (row_detached (marks (only last) nodes limit l) last q (l.lo q) to more
+        (subst (λ (cs : List ℕ). Row (marks (only last) nodes limit l) (l.lo q) cs to)
+        (sym (children_with_new q k nodes)) r)))
+
+    own_row : (limit : ℕ) → length letters < limit
+        → Row (marks (only n) copied limit copied_labels) (copied_labels.lo n) (children_at copied n)
+        (until limit copied_labels n)
+    own_row limit big =
+        subst (λ (cs : List ℕ). Row (marks (only n) copied limit copied_labels) (copied_labels.lo n) cs
+        (until limit copied_labels n)) (sym (children_put last n out (let z = out_size in omega arith)))
+        (row_append (marks (only n) copied limit copied_labels) (copied_labels.lo n) (children_at out n) (l.lo last)
+        (last ∷ []) (until limit copied_labels n)
+        (row_detached (marks (only n) copied limit copied_labels) last n (copied_labels.lo n) (l.lo last) more
+        (subst (λ (cs : List ℕ). Row (marks (only n) copied limit copied_labels) (copied_labels.lo n) cs (l.lo last))
+        (sym (children_with_new n k nodes ∙ children_beyond n nodes (omega arith)))
+        (let a = lo_own in omega arith)))
+        (λ e. let a = lo_same last (λ g. omega arith) in let b = until_last limit in
+        let x = h.fits.span last in let y = h.fits.high last in (omega arith, omega arith),
+        let b = until_last limit in
+        let d = until_own limit in
+        let x = h.fits.span last in let y = h.fits.high last in
+        low (counted (only n) copied last) (until limit copied_labels last) (l.lo last)
+        (until limit copied_labels n) (omega arith) (omega arith)))
+      where
+        low : (b : Bool) (x y z : ℕ) → x ≤ z → y ≤ z → cond b x y ≤ z
+        low true x y z f g = f
+        low false x y z f g = g
+
+    pub apart_copied : Apart letters copied p n copied_labels
+    apart_copied = record {
+      fits = record {
+        span = λ m. test (m == n) (λ t. rw t (h.fits.span last)) (λ t. rw t (h.fits.span m));
+        high = λ m. test (m == n) (λ t. rw t (h.fits.high last)) (λ t. rw t (h.fits.high m));
+        rows = λ limit big q.
+            test (n == q)
+            (λ t. subst (λ (x : ℕ). Row (marks (only n) copied limit copied_labels) (copied_labels.lo x)
+            (children_at copied x) (until limit copied_labels x)) (eqb-true n q t) (own_row limit big))
+            (λ t. let f = eqb-false n q t in
+            subst (λ (x : ℕ). Row (marks (only n) copied limit copied_labels) x (children_at copied q)
+            (until limit copied_labels q)) (sym (lo_same q (λ e. f (sym e))))
+            (subst (λ (x : ℕ). Row (marks (only n) copied limit copied_labels) (l.lo q) (children_at copied q) x)
+            (sym (until_same limit q (λ e. f (sym e))))
+            (kept_row limit q (until limit l q) big f (h.fits.rows limit big q))));
+        texts = λ m t e.
+            test (m == n)
+            (λ u. absurd (no_text (ap is_element (sym (own_at m (eqb-true m n u)) ∙ e)) ))
+            (λ u. let f = eqb-false m n u in
+            let x = h.fits.texts m t (sym (kind_same m f) ∙ e) in
+            record { closed = rw (ne_eqb m n f) x.closed; utf8 = x.utf8; within = rw (ne_eqb m n f) x.within; });
+      };
+      front = λ limit big.
+          subst (λ (x : ℕ). Row (marks (only n) copied limit copied_labels) x (children_at copied p)
+          (copied_labels.lo n)) (sym (lo_same p (λ e. omega arith)))
+          (subst (λ (x : ℕ). Row (marks (only n) copied limit copied_labels) (l.lo p) (children_at copied p) x)
+          (sym lo_own) (kept_row limit p (l.lo last) big (λ e. omega arith) (h.front limit big)));
+      live_last = rw (eq-eqb n n refl) refl;
+      live_at = rw (ne_eqb p n (λ e. omega arith)) h.live_at;
+    }
+      where
+        own_at : (m : ℕ) → m ≡ n → kind_at copied m ≡ k
+        own_at m e = ap (λ (x : ℕ). kind_at copied x) e ∙ kind_own
+
+        no_text : is_element k ≡ false → ⊥
+        no_text e = true≢false (sym is ∙ e)
+
+  -- ---- it is put last in the other
+
+  module _ (forest : IsForest (put_last last p (detach last nodes))) where
+    abbrev taken : List NodeValue
+    taken = detach last nodes
+
+    abbrev pub placed : List NodeValue
+    placed = put_last last p taken
+
+    taken_size : length taken ≡ length nodes
+    taken_size = detach_size last nodes
+
+    placed_kind : (m : ℕ) → kind_at placed m ≡ kind_at nodes m
+    placed_kind m = put_kind last p (length (children_at taken p)) taken m ∙ detach_kind last nodes m
+
+    -- where it doesn't stand
+    row_apart : (limit q at to : ℕ) → length letters < limit → times last (children_at taken q) ≡ 0
+        → Row (marks (only last) nodes limit l) at (children_at nodes q) to
+        → Row (marks none_out placed limit l) at (children_at taken q) to
+    row_apart limit q at to big none r =
+        row_marks (marks (only last) nodes limit l) (marks none_out placed limit l) at (children_at taken q) to
+        (λ c m e.
+          let w = spans (only last) letters nodes l h.fits limit big c (l.live c) in
+          (both_true (not (c == last)) (bears (kind_at nodes c))
+          (not_other c last (member_other c last (children_at taken q) none m))
+          (sym (ap bears (placed_kind c)) ∙ e), omega arith, omega arith, omega arith))
+        (row_detached (marks (only last) nodes limit l) last q at to nodes r)
+
+    placed_row : (limit : ℕ) → length letters < limit
+        → Row (marks none_out placed limit l) (l.lo p) (children_at placed p) (until limit l p)
+    placed_row limit big =
+        subst (λ (cs : List ℕ). Row (marks none_out placed limit l) (l.lo p) cs (until limit l p))
+        (sym (children_put last p taken (let z = taken_size in omega arith)))
+        (row_append (marks none_out placed limit l) (l.lo p) (children_at taken p) (l.lo last) (last ∷ [])
+        (until limit l p)
+        (row_apart limit p (l.lo p) (l.lo last) big
+        (put_once last p taken (let z = taken_size in omega arith) forest) (h.front limit big))
+        (λ e. let b = ends last h.live_last in let x = h.fits.span last in let y = h.fits.high last in
+        (omega arith, omega arith),
+        let b = ends last h.live_last in
+        let d = ends p h.live_at in
+        let x = h.fits.span last in let y = h.fits.high last in
+        low (bears (kind_at placed last)) (until limit l last) (l.lo last) (until limit l p) (omega arith)
+        (omega arith)))
+      where
+        ends : (x : ℕ) → l.live x ≡ true → until limit l x ≡ limit
+        ends x e = rw e refl
+
+        low : (b : Bool) (x y z : ℕ) → x ≤ z → y ≤ z → cond b x y ≤ z
+        low true x y z f g = f
+        low false x y z f g = g
+
+    pub fits_placed : FitsBy none_out letters placed l
+    fits_placed = record {
+      span = h.fits.span;
+      high = h.fits.high;
+      rows = λ limit big q.
+          test (p == q)
+          (λ t. subst (λ (x : ℕ). Row (marks none_out placed limit l) (l.lo x) (children_at placed x) (until limit l x))
+          (eqb-true p q t) (placed_row limit big))
+          (λ t. let f = eqb-false p q t in
+          subst (λ (cs : List ℕ). Row (marks none_out placed limit l) (l.lo q) cs (until limit l q))
+          (sym (children_put_other last p q taken f))
+          (row_apart limit q (l.lo q) (until limit l q) big
+          (put_nowhere_else last p q taken (let z = taken_size in omega arith) forest f) (h.fits.rows limit big q)));
+      texts = λ m t e. h.fits.texts m t (sym (placed_kind m) ∙ e);
+    }
