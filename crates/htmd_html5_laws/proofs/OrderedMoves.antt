@@ -321,3 +321,179 @@ module _ (letters : List ℕ) (nodes : List NodeValue) (l : Labels) (p last : �
           (put_nowhere_else last p q taken (let z = taken_size in omega arith) forest f) (h.fits.rows limit big q)));
       texts = λ m t e. h.fits.texts m t (sym (placed_kind m) ∙ e);
     }
+
+-- ---- all children of a node go into a new one, which is its only child then
+
+module _ (letters : List ℕ) (nodes : List NodeValue) (l : Labels) (h : FitsBy none_out letters nodes l)
+    (forest : IsForest nodes) (formatting block : ℕ) (is : is_element (kind_at nodes formatting) ≡ true)
+    (block_in : block < length nodes) (live : l.live block ≡ true) where
+  abbrev wn : ℕ
+  wn = length nodes
+
+  abbrev wk : KindValue
+  wk = kind_at nodes formatting
+
+  abbrev wmore : List NodeValue
+  wmore = nodes ++ new_node wk ∷ []
+
+  abbrev cs : List ℕ
+  cs = children_at wmore block
+
+  abbrev emptied : List NodeValue
+  emptied = with_children block [] wmore
+
+  abbrev named : List NodeValue
+  named = with_parents wn cs emptied
+
+  abbrev gone : List NodeValue
+  gone = move_children block wn wmore
+
+  abbrev wrapped : List NodeValue
+  wrapped = put_last wn block gone
+
+  abbrev pub wrapped_labels : Labels
+  wrapped_labels = mark wn (l.lo block) (l.hi block) true l
+
+  apart_new : block ≡ wn → ⊥
+  apart_new e = absurd (omega arith)
+
+  more_size : length wmore ≡ suc wn
+  more_size = length_new wk nodes
+
+  gone_size : length gone ≡ suc wn
+  gone_size = length_moved block wn wmore ∙ more_size
+
+  named_size : length named ≡ suc wn
+  named_size =
+      length_with_parents wn cs emptied
+      ∙ (let e : length emptied ≡ length wmore = length-set wmore block _ in e ∙ more_size)
+
+  gone_other : (q : ℕ) → (wn ≡ q → ⊥) → (block ≡ q → ⊥) → children_at gone q ≡ children_at nodes q
+  gone_other q f g =
+      children_other wn q (children_at named wn ++ cs) named f
+      ∙ (children_with_parents wn q cs emptied ∙ (children_other block q [] wmore g ∙ children_with_new q wk nodes))
+
+  gone_block : children_at gone block ≡ []
+  gone_block =
+      children_other wn block (children_at named wn ++ cs) named (λ e. apart_new (sym e))
+      ∙ (children_with_parents wn block cs emptied
+      ∙ children_in block [] wmore (let e = more_size in omega arith))
+
+  gone_new : children_at gone wn ≡ children_at nodes block
+  gone_new =
+      children_in wn (children_at named wn ++ cs) named (let e = named_size in omega arith)
+      ∙ (ap (λ (x : List ℕ). x ++ cs)
+      (children_with_parents wn wn cs emptied ∙ (children_other block wn [] wmore apart_new
+      ∙ (children_with_new wn wk nodes ∙ children_beyond wn nodes (omega arith))))
+      ∙ children_with_new block wk nodes)
+
+  wrapped_kind : (m : ℕ) → kind_at wrapped m ≡ kind_at wmore m
+  wrapped_kind m =
+      put_kind wn block (length (children_at gone block)) gone m
+      ∙ kind_by_kinds wmore gone m (kinds_move_children block wn wmore)
+
+  wrapped_other : (m : ℕ) → (m ≡ wn → ⊥) → kind_at wrapped m ≡ kind_at nodes m
+  wrapped_other m f = wrapped_kind m ∙ kind_with_new m wk nodes f
+
+  w_until_same : (limit m : ℕ) → (m ≡ wn → ⊥) → until limit wrapped_labels m ≡ until limit l m
+  w_until_same limit m f = rw (ne_eqb m wn f) refl
+
+  w_lo_same : (m : ℕ) → (m ≡ wn → ⊥) → wrapped_labels.lo m ≡ l.lo m
+  w_lo_same m f = rw (ne_eqb m wn f) refl
+
+  w_lo_own : wrapped_labels.lo wn ≡ l.lo block
+  w_lo_own = rw (eq-eqb wn wn refl) refl
+
+  w_until_own : (limit : ℕ) → until limit wrapped_labels wn ≡ limit
+  w_until_own limit = rw (eq-eqb wn wn refl) refl
+
+  until_block : (limit : ℕ) → until limit l block ≡ limit
+  until_block limit = ap (λ (b : Bool). cond b limit (l.hi block)) live
+
+  w_row : (limit q to : ℕ) → length letters < limit
+      → Row (marks none_out nodes limit l) (l.lo q) (children_at nodes q) to
+      → Row (marks none_out wrapped limit wrapped_labels) (l.lo q) (children_at nodes q) to
+  w_row limit q to big r =
+      row_marks (marks none_out nodes limit l) (marks none_out wrapped limit wrapped_labels) (l.lo q)
+      (children_at nodes q) to
+      (λ c m e.
+        let other = member_other c wn (children_at nodes q) (no_child nodes q wn forest (omega arith)) m in
+        let a = w_until_same limit c other in
+        let b = w_lo_same c other in
+        let w = spans none_out letters nodes l h limit big c (l.live c) in
+        (sym (ap bears (wrapped_other c other)) ∙ e, omega arith, omega arith, omega arith)) r
+
+  at_new : (limit : ℕ) → length letters < limit → (q : ℕ) → wn ≡ q
+      → Row (marks none_out wrapped limit wrapped_labels) (wrapped_labels.lo q) (children_at wrapped q)
+      (until limit wrapped_labels q)
+  at_new limit big q e =
+      subst (λ (x : ℕ). Row (marks none_out wrapped limit wrapped_labels) (wrapped_labels.lo x) (children_at wrapped x)
+      (until limit wrapped_labels x)) e
+      (subst (λ (x : ℕ). Row (marks none_out wrapped limit wrapped_labels) x (children_at wrapped wn)
+      (until limit wrapped_labels wn)) (sym w_lo_own)
+      (subst (λ (x : ℕ). Row (marks none_out wrapped limit wrapped_labels) (l.lo block) (children_at wrapped wn) x)
+      (sym (w_until_own limit ∙ sym (until_block limit)))
+      (subst (λ (x : List ℕ). Row (marks none_out wrapped limit wrapped_labels) (l.lo block) x (until limit l block))
+      (sym (children_put_other wn block wn gone apart_new ∙ gone_new))
+      (w_row limit block (until limit l block) big (h.rows limit big block)))))
+
+  at_block : (limit : ℕ) → length letters < limit → (q : ℕ) → block ≡ q
+      → Row (marks none_out wrapped limit wrapped_labels) (wrapped_labels.lo q) (children_at wrapped q)
+      (until limit wrapped_labels q)
+  at_block limit big q e =
+      subst (λ (x : ℕ). Row (marks none_out wrapped limit wrapped_labels) (wrapped_labels.lo x) (children_at wrapped x)
+      (until limit wrapped_labels x)) e
+      (subst (λ (x : List ℕ). Row (marks none_out wrapped limit wrapped_labels) (wrapped_labels.lo block) x
+      (until limit wrapped_labels block))
+      (sym (children_put wn block gone (let z = gone_size in omega arith)
+      ∙ ap (λ (x : List ℕ). x ++ wn ∷ []) gone_block))
+      (λ b. let a = w_lo_same block apart_new in let d = w_lo_own in let f = w_until_own limit in
+      let x = h.span block in let y = h.high block in (omega arith, omega arith),
+      let a = w_lo_same block apart_new in
+      let d = w_until_same limit block apart_new in
+      let f = until_block limit in
+      let g = w_until_own limit in
+      let x = h.span block in let y = h.high block in
+      low (bears (kind_at wrapped wn)) (until limit wrapped_labels wn) (wrapped_labels.lo block)
+      (until limit wrapped_labels block) (omega arith) (omega arith)))
+    where
+      low : (b : Bool) (x y z : ℕ) → x ≤ z → y ≤ z → cond b x y ≤ z
+      low true x y z f g = f
+      low false x y z f g = g
+
+  at_other : (limit : ℕ) → length letters < limit → (q : ℕ) → (wn ≡ q → ⊥) → (block ≡ q → ⊥)
+      → Row (marks none_out wrapped limit wrapped_labels) (wrapped_labels.lo q) (children_at wrapped q)
+      (until limit wrapped_labels q)
+  at_other limit big q f g =
+      subst (λ (x : ℕ). Row (marks none_out wrapped limit wrapped_labels) x (children_at wrapped q)
+      (until limit wrapped_labels q)) (sym (w_lo_same q (λ e. f (sym e))))
+      (subst (λ (x : ℕ). Row (marks none_out wrapped limit wrapped_labels) (l.lo q) (children_at wrapped q) x)
+      (sym (w_until_same limit q (λ e. f (sym e))))
+      (subst (λ (x : List ℕ). Row (marks none_out wrapped limit wrapped_labels) (l.lo q) x (until limit l q))
+      (sym (children_put_other wn block q gone g ∙ gone_other q f g))
+      (w_row limit q (until limit l q) big (h.rows limit big q))))
+
+  pub fits_wrapped : FitsBy none_out letters (wrap_children formatting block nodes) wrapped_labels
+  unfolding wrap_children
+  fits_wrapped = record {
+    span = λ m. test (m == wn) (λ t. rw t (h.span block)) (λ t. rw t (h.span m));
+    high = λ m. test (m == wn) (λ t. rw t (h.high block)) (λ t. rw t (h.high m));
+    rows = λ limit big q.
+        test (wn == q)
+        (λ t. at_new limit big q (eqb-true wn q t))
+        (λ t. test (block == q)
+        (λ u. at_block limit big q (eqb-true block q u))
+        (λ u. at_other limit big q (eqb-false wn q t) (eqb-false block q u)));
+    texts = λ m t e.
+        test (m == wn)
+        (λ u. absurd (no_text (ap is_element (sym (own_at m (eqb-true m wn u)) ∙ e))))
+        (λ u. let f = eqb-false m wn u in
+        let x = h.texts m t (sym (wrapped_other m f) ∙ e) in
+        record { closed = rw (ne_eqb m wn f) x.closed; utf8 = x.utf8; within = rw (ne_eqb m wn f) x.within; });
+  }
+    where
+      own_at : (m : ℕ) → m ≡ wn → kind_at wrapped m ≡ wk
+      own_at m e = ap (λ (x : ℕ). kind_at wrapped x) e ∙ (wrapped_kind wn ∙ kind_new_at wk nodes)
+
+      no_text : is_element wk ≡ false → ⊥
+      no_text e = true≢false (sym is ∙ e)
