@@ -57,4 +57,5 @@ pub mod OrderedInserts
 pub mod OrderedTexts
 pub mod OrderedPaths
 pub mod OrderedMoves
+pub mod OrderedStates
 mod Examples

@@ -495,6 +495,14 @@ pub record Goes (rank : ℕ → ℕ) (p : ℕ) (letters : List ℕ) (size : ℕ)
   pub fits : FitsBy none_out letters nodes labels
   pub still : (m : ℕ) → m < size → old.live m ≡ true → rank m ≤ rank p → labels.live m ≡ true
 
+-- the new node is live then
+pub record Opens (rank : ℕ → ℕ) (p : ℕ) (letters : List ℕ) (size : ℕ) (old : Labels) (nodes : List NodeValue)
+    : Type 0 where
+  pub labels : Labels
+  pub fits : FitsBy none_out letters nodes labels
+  pub still : (m : ℕ) → m < size → old.live m ≡ true → rank m ≤ rank p → labels.live m ≡ true
+  pub opened_new : labels.live size ≡ true
+
 -- and in which all is
 pub record GoesOn (letters : List ℕ) (size : ℕ) (old : Labels) (nodes : List NodeValue) : Type 0 where
   pub labels : Labels
@@ -520,10 +528,12 @@ module _ (rank : ℕ → ℕ) (letters : List ℕ) (nodes : List NodeValue) (l :
 
   module _ (live : l.live p ≡ true) where
     -- an element, which is live then
-    pub element_added : (k : KindValue) → is_element k ≡ true → Goes rank p letters (length nodes) l (grown k p nodes)
+    pub element_added : (k : KindValue) → is_element k ≡ true
+        → Opens rank p letters (length nodes) l (grown k p nodes)
     element_added k e =
         let s = settled rank p letters nodes l ranked h in
         record {
+          opened_new = rw (eq-eqb (length nodes) (length nodes) refl) refl;
           labels = marked letters nodes s.labels s.fits ranked.forest k p within [] true;
           fits = fits_same (fits_added letters nodes s.labels s.fits ranked.forest k p within [] true
               (live_row letters nodes s.labels s.fits ranked.forest k p within [] true
