@@ -58,4 +58,6 @@ pub mod OrderedTexts
 pub mod OrderedPaths
 pub mod OrderedMoves
 pub mod OrderedStates
+pub mod OrderedAdoption
+pub mod OrderedBody
 mod Examples
