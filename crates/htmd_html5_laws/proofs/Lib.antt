@@ -60,4 +60,6 @@ pub mod OrderedMoves
 pub mod OrderedStates
 pub mod OrderedAdoption
 pub mod OrderedBody
+pub mod OrderedLate
+pub mod OrderedEarly
 mod Examples

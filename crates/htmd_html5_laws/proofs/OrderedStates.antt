@@ -247,7 +247,7 @@ loose_in letters k p nodes stack head fosters h o within e none =
       no_fostering = o.no_fostering;
     }
 
-no_text : (c t : List ℕ) → comment c ≡ text t → ⊥
+pub no_text : (c t : List ℕ) → comment c ≡ text t → ⊥
 no_text c t e = cc
 
 pub insert_comment_orders : (c : List ℕ) → Orders (insert_comment c)
@@ -283,18 +283,23 @@ missing_text more document t e = e
 missing_text more doctype t e = e
 missing_text more (comment s) t e = e
 
+pub missing_ordered : (letters : List ℕ) (n : ℕ) (more : List AttributePair) (nodes : List NodeValue)
+    (stack : List OpenValue) (fosters : Bool) → OrderedIn letters nodes stack fosters
+    → OrderedIn letters (add_missing n more nodes) stack fosters
+missing_ordered letters n more nodes stack fosters o = record {
+  labels = o.labels;
+  fits = fits_like n (kind_with_missing more (kind_at nodes n)) letters nodes o.labels
+      (missing_bears more (kind_at nodes n))
+      (λ t e. o.fits.texts n t (missing_text more (kind_at nodes n) t e)) o.fits;
+  root = o.root;
+  opens = o.opens;
+  no_fostering = o.no_fostering;
+}
+
 pub add_missing_orders : (n : ℕ) (more : List AttributePair) → Orders (on_nodes (add_missing n more))
 add_missing_orders n more = record {
   stays = add_missing_stays n more;
-  orders = λ letters s h x o. record {
-    labels = o.labels;
-    fits = fits_like n (kind_with_missing more (kind_at s.nodes n)) letters s.nodes o.labels
-        (missing_bears more (kind_at s.nodes n))
-        (λ t e. o.fits.texts n t (missing_text more (kind_at s.nodes n) t e)) o.fits;
-    root = o.root;
-    opens = o.opens;
-    no_fostering = o.no_fostering;
-  };
+  orders = λ letters s h x o. missing_ordered letters n more s.nodes s.stack s.foster_parenting o;
   late = λ s h e. e;
 }
 

@@ -1,5 +1,5 @@
 use Rattle.htmd_html5_laws.proofs.OrderedStates.{is_late}
-use Rattle.htmd_html5_laws.proofs.OrderedBody.{orderly_is_plain}
+use Rattle.htmd_html5_laws.proofs.OrderedEarly.{HtmlOpen}
 use Rattle.htmd_html5_laws.proofs.letters.letters_stand_in_order.Goals as goal
 
 pub returns : goal.returns
