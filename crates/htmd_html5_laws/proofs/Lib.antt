@@ -62,4 +62,5 @@ pub mod OrderedAdoption
 pub mod OrderedBody
 pub mod OrderedLate
 pub mod OrderedEarly
+pub mod OrderedHead
 mod Examples

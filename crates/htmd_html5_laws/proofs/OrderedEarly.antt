@@ -134,12 +134,12 @@ pub record StageAnswer (letters : List ℕ) (a : Answer) : Type 0 where
   pub stage : Staged letters a.state
   pub calm : a.again ≡ true → Calm a.state
 
-calm_answer : (mode : InsertionMode) (more : Bool) (letters : List ℕ) (s : StateValue)
+pub calm_answer : (mode : InsertionMode) (more : Bool) (letters : List ℕ) (s : StateValue)
     → is_text_mode s.content ≡ false → s.mode ≡ mode → Stage false mode letters s
     → StageAnswer letters (answer s more)
 calm_answer mode more letters s e f h = record { stage = staged false mode letters s e f h; calm = λ z. inr e }
 
-raw_answer : (mode : InsertionMode) (letters : List ℕ) (s : StateValue) → is_text_mode s.content ≡ true
+pub raw_answer : (mode : InsertionMode) (letters : List ℕ) (s : StateValue) → is_text_mode s.content ≡ true
     → s.mode ≡ mode → Stage true mode letters s → StageAnswer letters (done s)
 raw_answer mode letters s e f h =
     record { stage = staged true mode letters s e f h; calm = λ z. absurd (true≢false (sym z)) }
@@ -149,7 +149,7 @@ late_answers more letters s h = record { stage = staged_late letters s h; calm =
 
 -- ---- steps
 
-early_step : {f : StateValue → StateValue} → Orders f → (letters : List ℕ) (s : StateValue)
+pub early_step : {f : StateValue → StateValue} → Orders f → (letters : List ℕ) (s : StateValue)
     → EachOpen HtmlOpen (f s).stack → Early letters s → Early letters (f s)
 early_step {f} g letters s names h = record {
   plain = g.stays.stays s h.plain;
@@ -158,16 +158,16 @@ early_step {f} g letters s names h = record {
   names = names;
 }
 
-early_late : (letters : List ℕ) (s : StateValue) (mode : InsertionMode) → is_late mode ≡ true → s.mode ≡ mode
+pub early_late : (letters : List ℕ) (s : StateValue) (mode : InsertionMode) → is_late mode ≡ true → s.mode ≡ mode
     → Early letters s → Late letters s
 early_late letters s mode e f h =
     record { plain = h.plain; hung = h.hung; ordered = h.ordered; late = ap is_late f ∙ e }
 
-names_popped : (stack : List OpenValue) → EachOpen HtmlOpen stack → EachOpen HtmlOpen (pop stack)
+pub names_popped : (stack : List OpenValue) → EachOpen HtmlOpen stack → EachOpen HtmlOpen (pop stack)
 names_popped [] h = tt
 names_popped (e ∷ es) h = h.1
 
-early_fewer : (letters : List ℕ) (s : StateValue) (stack es : List OpenValue) → Fewer es stack
+pub early_fewer : (letters : List ℕ) (s : StateValue) (stack es : List OpenValue) → Fewer es stack
     → EarlyIn letters s stack → EarlyIn letters s es
 early_fewer letters s stack es f h = record {
   plain = plain_stack es (f.each is_plain_open h.plain.names) h.plain;
@@ -201,13 +201,13 @@ root_missing letters tag s stack (Some n) h = record {
 }
 
 -- what stays when the root is given attributes
-record SameBut (s t : StateValue) : Type 0 where
-  stack : t.stack ≡ s.stack
-  head : t.head ≡ s.head
-  mode : t.mode ≡ s.mode
-  content : t.content ≡ s.content
+pub record SameBut (s t : StateValue) : Type 0 where
+  pub stack : t.stack ≡ s.stack
+  pub head : t.head ≡ s.head
+  pub mode : t.mode ≡ s.mode
+  pub content : t.content ≡ s.content
 
-root_same : (tag : StartTagValue) (s : StateValue) → SameBut s (add_to_root tag s)
+pub root_same : (tag : StartTagValue) (s : StateValue) → SameBut s (add_to_root tag s)
 root_same tag s = either (is_open (Only tags.Template) s.stack) (first_open s.stack)
   where
     either : (b : Bool) (n : Option ℕ) → SameBut s (if b then s else add_missing_to n tag.attributes s)
@@ -215,7 +215,7 @@ root_same tag s = either (is_open (Only tags.Template) s.stack) (first_open s.st
     either false None = record { stack = refl; head = refl; mode = refl; content = refl }
     either false (Some n) = record { stack = refl; head = refl; mode = refl; content = refl }
 
-root_early : (letters : List ℕ) (tag : StartTagValue) (s : StateValue) (stack : List OpenValue)
+pub root_early : (letters : List ℕ) (tag : StartTagValue) (s : StateValue) (stack : List OpenValue)
     → EarlyIn letters s stack → EarlyIn letters (add_to_root tag s) stack
 root_early letters tag s stack h = either (is_open (Only tags.Template) s.stack)
   where
@@ -223,7 +223,7 @@ root_early letters tag s stack h = either (is_open (Only tags.Template) s.stack)
     either true = h
     either false = root_missing letters tag s stack (first_open s.stack) h
 
-root_stage : (letters : List ℕ) (tag : StartTagValue) (s : StateValue) (mode : InsertionMode)
+pub root_stage : (letters : List ℕ) (tag : StartTagValue) (s : StateValue) (mode : InsertionMode)
     → is_text_mode s.content ≡ false → s.mode ≡ mode
     → ((t : StateValue) → SameBut s t → ((stack : List OpenValue) → EarlyIn letters s stack → EarlyIn letters t stack)
     → Stage false mode letters t)
@@ -238,14 +238,14 @@ root_stage letters tag s mode e f go =
 no_doctype : (t : List ℕ) → doctype_kind ≡ text t → ⊥
 no_doctype t e = cc
 
-comment_early : (letters : List ℕ) (c : List ℕ) (s : StateValue) → Early letters s → Early letters (insert_comment c s)
+pub comment_early : (letters : List ℕ) (c : List ℕ) (s : StateValue) → Early letters s → Early letters (insert_comment c s)
 comment_early letters c s h = early_step (insert_comment_orders c) letters s h.names h
 
 root_comment_early : (letters : List ℕ) (c : List ℕ) (s : StateValue) → Early letters s
     → Early letters (insert_comment_in 0 c s)
 root_comment_early letters c s h = early_step (insert_comment_root_orders c) letters s h.names h
 
-initial_left : (letters : List ℕ) (s : StateValue) → is_text_mode s.content ≡ false → Stage false Initial letters s
+pub initial_left : (letters : List ℕ) (s : StateValue) → is_text_mode s.content ≡ false → Stage false Initial letters s
     → StageAnswer letters (leave_initial s)
 initial_left letters s e h =
     calm_answer BeforeHtml true letters (record s { mode = BeforeHtml; quirks = true }) e refl (
@@ -258,7 +258,7 @@ initial_left letters s e h =
       h.1,
     )
 
-initial_stage : (t : TokenValue) → IsOrderly t → (letters : List ℕ) (s : StateValue) → s.mode ≡ Initial
+pub initial_stage : (t : TokenValue) → IsOrderly t → (letters : List ℕ) (s : StateValue) → s.mode ≡ Initial
     → is_text_mode s.content ≡ false → Stage false Initial letters s → StageAnswer letters (initial t s)
 initial_stage (run kind c) p letters s m e h = absurd (true≢false p)
 initial_stage (start_tag tag) p letters s m e h = initial_left letters s e h
@@ -295,7 +295,7 @@ root_put letters name attributes s p h = record {
         nonempty : d ∷ ds ≡ [] → ⊥
         nonempty f = cc
 
-root_implied : (letters : List ℕ) (s : StateValue) → is_text_mode s.content ≡ false → Stage false BeforeHtml letters s
+pub root_implied : (letters : List ℕ) (s : StateValue) → is_text_mode s.content ≡ false → Stage false BeforeHtml letters s
     → StageAnswer letters (imply_root s)
 root_implied letters s e h =
     calm_answer BeforeHead true letters (with_root (known tags.Html) [] s) e refl
@@ -322,7 +322,7 @@ end_before_html_stage (known tags.Html) letters s m e h = root_implied letters s
 end_before_html_stage (known tags.Br) letters s m e h = root_implied letters s e h
 end_before_html_stage _ letters s m e h = before_html_still letters s m e h
 
-before_html_stage : (t : TokenValue) → IsOrderly t → (letters : List ℕ) (s : StateValue) → s.mode ≡ BeforeHtml
+pub before_html_stage : (t : TokenValue) → IsOrderly t → (letters : List ℕ) (s : StateValue) → s.mode ≡ BeforeHtml
     → is_text_mode s.content ≡ false → Stage false BeforeHtml letters s → StageAnswer letters (before_html t s)
 before_html_stage (run kind c) p letters s m e h = absurd (true≢false p)
 before_html_stage (start_tag tag) p letters s m e h =
@@ -351,7 +351,7 @@ head_put letters name attributes s p h =
     same : {n m : ℕ} → Some n ≡ Some m → n ≡ m
     same e = cc
 
-head_implied : (letters : List ℕ) (s : StateValue) → is_text_mode s.content ≡ false → Early letters s
+pub head_implied : (letters : List ℕ) (s : StateValue) → is_text_mode s.content ≡ false → Early letters s
     → StageAnswer letters (imply_head s)
 head_implied letters s e h =
     calm_answer InHead true letters (with_head (known tags.Head) [] s) e refl
@@ -377,7 +377,7 @@ end_before_head_stage (known tags.Html) letters s m e h = head_implied letters s
 end_before_head_stage (known tags.Br) letters s m e h = head_implied letters s e h
 end_before_head_stage _ letters s m e h = calm_answer BeforeHead false letters s e m h
 
-before_head_stage : (t : TokenValue) → IsOrderly t → (letters : List ℕ) (s : StateValue) → s.mode ≡ BeforeHead
+pub before_head_stage : (t : TokenValue) → IsOrderly t → (letters : List ℕ) (s : StateValue) → s.mode ≡ BeforeHead
     → is_text_mode s.content ≡ false → Early letters s → StageAnswer letters (before_head t s)
 before_head_stage (run kind c) p letters s m e h = absurd (true≢false p)
 before_head_stage (start_tag tag) p letters s m e h =
