@@ -63,4 +63,5 @@ pub mod OrderedBody
 pub mod OrderedLate
 pub mod OrderedEarly
 pub mod OrderedHead
+pub mod OrderedRuns
 mod Examples

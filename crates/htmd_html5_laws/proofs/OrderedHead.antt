@@ -290,7 +290,7 @@ comment_after letters c s stack real h = record {
   names = h.names;
 }
 
-by_head : (letters : List ℕ) (s t : StateValue) (head : Option ℕ) (stack : List OpenValue)
+pub by_head : (letters : List ℕ) (s t : StateValue) (head : Option ℕ) (stack : List OpenValue)
     → ((es : List OpenValue) → EarlyIn letters s es → EarlyIn letters t es)
     → AfterHeadIn false head stack letters s → AfterHeadIn false head stack letters t
 by_head letters s t None stack f h = f stack h
@@ -462,7 +462,7 @@ module _ (letters : List ℕ) (s : StateValue) (m : s.mode ≡ AfterHead) (e : i
 
 -- ---- all modes
 
-current_html : (stack : List OpenValue) → EachOpen HtmlOpen stack → current_is_html stack ≡ true
+pub current_html : (stack : List OpenValue) → EachOpen HtmlOpen stack → current_is_html stack ≡ true
 current_html [] h = refl
 current_html (e ∷ es) h = h.0
 
@@ -490,14 +490,14 @@ stays_html (end_tag name) s h = by_tests (end_tag name) s h
 stays_html (comment c) s h = by_tests (comment c) s h
 stays_html (doctype quirks) s h = by_tests (doctype quirks) s h
 
-unstaged : (raw : Bool) (mode : InsertionMode) (letters : List ℕ) (s : StateValue) → is_text_mode s.content ≡ raw
+pub unstaged : (raw : Bool) (mode : InsertionMode) (letters : List ℕ) (s : StateValue) → is_text_mode s.content ≡ raw
     → s.mode ≡ mode → Staged letters s → Stage raw mode letters s
 unstaged raw mode letters s e f h =
     subst (λ (m : InsertionMode). Stage raw m letters s) f
     (subst (λ (b : Bool). Stage b s.mode letters s) e h)
 
 -- the names of what is open before the body
-stage_names : (mode : InsertionMode) (letters : List ℕ) (s : StateValue) → is_late mode ≡ false
+pub stage_names : (mode : InsertionMode) (letters : List ℕ) (s : StateValue) → is_late mode ≡ false
     → Stage false mode letters s → EachOpen HtmlOpen s.stack
 stage_names Initial letters s e h = h.0.names
 stage_names BeforeHtml letters s e h = h.0.names

@@ -18,7 +18,7 @@ use Rattle.htmd_html5_laws.proofs.NodeParts.{times, times_append, children_of_ki
 use Rattle.htmd_html5_laws.proofs.Forests.{IsForest, once_under, once_at_most, here, elsewhere}
 use Rattle.htmd_html5_laws.proofs.HungNodes.{is_solid, Hangs, HangsBy, element_solid}
 use Rattle.htmd_html5_laws.proofs.NodeTexts.{is_element}
-use Rattle.htmd_html5_laws.proofs.Sublists.{Sub, window, window_grown, window_new, sub_all, sub_joined, sub_wider}
+use Rattle.htmd_html5_laws.proofs.Sublists.{append_nil, Sub, window, window_grown, window_new, sub_all, sub_joined, sub_wider}
 use Rattle.htmd_html5_laws.proofs.Rows.{Marks, Row, Stands, after, row_from, row_low, row_member, row_append, row_ends}
 use Rattle.htmd_html5_laws.proofs.Rows.{row_marks}
 use Rattle.htmd_html5_laws.proofs.OrderedNodes.{bears, bears_solid, Labels, until, counted, marks, TextIn, FitsBy, none_out}
@@ -32,13 +32,9 @@ pub letters_append : (s t : List ℕ) → IsUtf8 s → letters_of (s ++ t) ≡ l
 unfolding letters_of
 letters_append s t u = ap (filter is_letter) (chars-append s t u) ∙ filter-append is_letter (chars s) (chars t)
 
-nil_after : (xs : List ℕ) → xs ++ [] ≡ xs
-nil_after [] = refl
-nil_after (x ∷ xs) = ap (λ (l : List ℕ). x ∷ l) (nil_after xs)
-
 pub fits_same : {out : ℕ → Bool} {letters : List ℕ} {nodes : List NodeValue} {l : Labels}
     → FitsBy out (letters ++ []) nodes l → FitsBy out letters nodes l
-fits_same {out} {letters} {nodes} {l} h = subst (λ (x : List ℕ). FitsBy out x nodes l) (nil_after letters) h
+fits_same {out} {letters} {nodes} {l} h = subst (λ (x : List ℕ). FitsBy out x nodes l) (append_nil letters) h
 
 -- ---- what a node is changes, but not what its text's letters are
 
@@ -613,7 +609,7 @@ module _ (rank : ℕ → ℕ) (letters : List ℕ) (nodes : List NodeValue) (l :
       joined_same n s is =
           let old = h.texts n s is in
           let same : letters_of (s ++ t) ≡ letters_of s =
-          letters_append s t old.utf8 ∙ (ap (λ (x : List ℕ). letters_of s ++ x) none ∙ nil_after (letters_of s)) in
+          letters_append s t old.utf8 ∙ (ap (λ (x : List ℕ). letters_of s ++ x) none ∙ append_nil (letters_of s)) in
           record {
             labels = l;
             fits = fits_like n (text (s ++ t)) letters nodes l

@@ -126,7 +126,7 @@ outcome_as : {c m limit : ℕ} (n : ℕ) {s : StateValue} {a : Answer} → m ≡
 outcome_as n e (finished t g d) = finished t (grew_as n e g) d
 outcome_as n e (goes_on t g d l) = goes_on t g d l
 
-never_null : (b : ℕ) → is_of_kind (kind_of_byte 0) b ≡ true → b < 128
+pub never_null : (b : ℕ) → is_of_kind (kind_of_byte 0) b ≡ true → b < 128
 never_null b e = grind (arith, nat_tests)
 
 module _ (c : ℕ) (letter : LetterTests c) where

@@ -31,7 +31,7 @@ sub_both (x ∷ xs) ys [] vs h g = absurd h
 sub_both (x ∷ xs) ys (u ∷ us) vs (inl h) g = inl (h.0, sub_both xs ys us vs h.1 g)
 sub_both (x ∷ xs) ys (u ∷ us) vs (inr h) g = inr (sub_both (x ∷ xs) ys us vs h g)
 
-append_nil : (xs : List ℕ) → xs ++ [] ≡ xs
+pub append_nil : (xs : List ℕ) → xs ++ [] ≡ xs
 append_nil [] = refl
 append_nil (x ∷ xs) = ap (λ (l : List ℕ). x ∷ l) (append_nil xs)
 
