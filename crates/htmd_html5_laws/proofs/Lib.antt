@@ -64,4 +64,6 @@ pub mod OrderedLate
 pub mod OrderedEarly
 pub mod OrderedHead
 pub mod OrderedRuns
+pub mod OrderedTokens
+pub mod OrderedLayout
 mod Examples

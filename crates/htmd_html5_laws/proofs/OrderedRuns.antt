@@ -308,7 +308,7 @@ early_runs _ letters t s u m l e h = absurd h
 
 -- ---- in the body and after it
 
-late_writes : (letters t : List ℕ) (s : StateValue) → IsUtf8 t → Late letters s
+pub late_writes : (letters t : List ℕ) (s : StateValue) → IsUtf8 t → Late letters s
     → Late (letters ++ letters_of t) (insert_text t s)
 late_writes letters t s u h = record {
   plain = (insert_text_stays t).stays s h.plain;
