@@ -66,4 +66,5 @@ pub mod OrderedHead
 pub mod OrderedRuns
 pub mod OrderedTokens
 pub mod OrderedLayout
+pub mod LetterOrderLemmas
 mod Examples

@@ -95,7 +95,7 @@ one_letters =
     ap (filter is_letter) (chars_past_char (encode_utf8 replacement_character) [] replacement_character one_utf8 refl
     ∙ ap (λ (x : List ℕ). replacement_character ∷ x) chars-nil)
 
-nil_letters : letters_of [] ≡ []
+pub nil_letters : letters_of [] ≡ []
 unfolding letters_of
 nil_letters = ap (filter is_letter) chars-nil
 

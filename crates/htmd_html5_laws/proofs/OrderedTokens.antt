@@ -308,7 +308,7 @@ end_tag_stage name letters s h = either (is_text_mode s.content) refl
 
 -- ---- names of start tags
 
-apart : (a b c d e : Bool) → (a || b || c || d || e) ≡ false
+pub apart : (a b c d e : Bool) → (a || b || c || d || e) ≡ false
     → (a ≡ false) × ((b ≡ false) × ((c ≡ false) × ((d ≡ false) × (e ≡ false))))
 apart true b c d e f = absurd (true≢false f)
 apart false true c d e f = absurd (true≢false f)
@@ -345,7 +345,7 @@ orderly_name s d = by_found (known_name s) refl
     by_found None e = refl
     by_found (Some tag) e = by_tag tag (spelled s tag e)
 
-orderly_tag : (b : Bool) → not b ≡ true → b ≡ false
+pub orderly_tag : (b : Bool) → not b ≡ true → b ≡ false
 orderly_tag true e = absurd (true≢false (sym e))
 orderly_tag false e = refl
 
