@@ -74,7 +74,6 @@ none_in c (s ∷ texts) e =
 one_harmless : (token : TokenValue) → is_orderly token ≡ true → is_harmless token ≡ true
 one_harmless (start_tag tag) e =
     ap not (apart (drops_text_in tag.name) (bytes_eq tag.name (codes "table")) (bytes_eq tag.name (codes "select"))
-    (bytes_eq tag.name (codes "col")) (bytes_eq tag.name (codes "colgroup"))
     (orderly_tag (moves_text_in tag.name) e)).0
 one_harmless (text s) e = refl
 one_harmless (end_tag tag) e = refl

@@ -45,6 +45,7 @@ use Rattle.htmd_html5_state.specs.declared.names.TagName.TheVariants as tags
 use Rattle.htmd_html5_tokens.specs.declared.tokens.RawElement.TheVariants as raw
 use Rattle.htmd_html5_laws.proofs.PlainNames.{is_plain}
 use Rattle.htmd_html5_laws.proofs.PlainStates.{is_plain_mode, Plain, Stays}
+use Rattle.htmd_html5_laws.proofs.ColumnTags.{IsColumn}
 use Rattle.htmd_html5_laws.proofs.PlainBody.{StaysAnswer, says_plain, answers_either, with_mode_stays, no_frameset_stays}
 use Rattle.htmd_html5_laws.proofs.PlainBody.{end_template_stays, skip_line_feed_stays, with_form_stays, close_noted_form_stays}
 use Rattle.htmd_html5_laws.proofs.OrderedStates.{Ordered, Orders, then_orders, unmoved, orders_by_test, orders_by_state}
@@ -56,21 +57,35 @@ use Rattle.htmd_html5_laws.proofs.OrderedAdoption.{adoption_agency_orders}
 
 -- ---- names
 
--- names of elements that move no text
+-- names of start tags that move no text
 abbrev pub is_orderly_tag : TagName → Bool
 is_orderly_tag tags.Table = false
 is_orderly_tag tags.Select = false
+is_orderly_tag tags.Col = true
+is_orderly_tag tags.ColGroup = true
 is_orderly_tag tag = is_plain tag
 
 abbrev pub is_orderly_name : NameValue → Bool
 is_orderly_name (known tag) = is_orderly_tag tag
 is_orderly_name (other s) = true
 
-pub orderly_is_plain : (name : NameValue) → is_orderly_name name ≡ true → is_plain_name name ≡ true
-orderly_is_plain (known tags.Table) e = refl
-orderly_is_plain (known tags.Select) e = refl
-orderly_is_plain (known tag) e = e
-orderly_is_plain (other s) e = refl
+-- an orderly name is plain, or that of columns, which count for nothing outside a table
+pub plain_or_column : (P : Type 0) (name : NameValue) → is_orderly_name name ≡ true → (is_plain_name name ≡ true → P)
+    → (IsColumn name → P)
+    → P
+plain_or_column P (known tags.Table) e f g = absurd (true≢false (sym e))
+plain_or_column P (known tags.Select) e f g = absurd (true≢false (sym e))
+plain_or_column P (known tags.Col) e f g = g tt
+plain_or_column P (known tags.ColGroup) e f g = g tt
+plain_or_column P (known tag) e f g = f e
+plain_or_column P (other s) e f g = f refl
+
+pub by_column_name : (P : NameValue → Type 0) → P (known tags.Col) → P (known tags.ColGroup) → (name : NameValue)
+    → IsColumn name
+    → P name
+by_column_name P a b (known tags.Col) c = a
+by_column_name P a b (known tags.ColGroup) c = b
+by_column_name P a b _ c = absurd (true≢false c)
 
 -- ---- what a mode answers
 
@@ -380,6 +395,11 @@ module _ (tag : StartTagValue) (p : is_plain_name tag.name ≡ true) where
 
   pub start_in_body_orders : is_orderly_name tag.name ≡ true → Orders (start_in_body tag)
   start_in_body_orders q = start_by_name_orders tag.name q
+
+pub start_orders : (tag : StartTagValue) → is_orderly_name tag.name ≡ true → Orders (start_in_body tag)
+start_orders tag q =
+    plain_or_column (Orders (start_in_body tag)) tag.name q (λ p. start_in_body_orders tag p q)
+    (by_column_name (λ name. Orders (start_by (rule_of_start name) tag)) unmoved unmoved tag.name)
 
 -- ---- end tags
 

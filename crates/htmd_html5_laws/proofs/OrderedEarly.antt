@@ -49,7 +49,7 @@ use Rattle.htmd_html5_laws.proofs.OrderedStates.{OrderedIn, Ordered, Orders, ord
 use Rattle.htmd_html5_laws.proofs.OrderedStates.{no_text, current_within, insert_comment_orders, insert_comment_root_orders}
 use Rattle.htmd_html5_laws.proofs.OrderedStates.{insert_void_orders, insert_raw_orders, insert_element_orders, missing_ordered}
 use Rattle.htmd_html5_laws.proofs.OrderedLate.{IsOrderly, Late, late_step, by_rules_late, first_within}
-use Rattle.htmd_html5_laws.proofs.OrderedBody.{orderly_is_plain, is_orderly_name}
+use Rattle.htmd_html5_laws.proofs.OrderedBody.{plain_or_column, by_column_name}
 use Rattle.htmd_html5_state.specs.declared.names.TagName.TheVariants as tags
 use Rattle.htmd_html5_tokens.specs.declared.tokens.RawElement.TheVariants as raw
 
@@ -326,7 +326,10 @@ pub before_html_stage : (t : TokenValue) → IsOrderly t → (letters : List ℕ
     → is_text_mode s.content ≡ false → Stage false BeforeHtml letters s → StageAnswer letters (before_html t s)
 before_html_stage (run kind c) p letters s m e h = absurd (true≢false p)
 before_html_stage (start_tag tag) p letters s m e h =
-    start_before_html_stage tag (orderly_is_plain tag.name p) tag.name letters s e h
+    plain_or_column (StageAnswer letters (start_before_html tag.name tag s)) tag.name p
+    (λ q. start_before_html_stage tag q tag.name letters s e h)
+    (by_column_name (λ name. StageAnswer letters (start_before_html name tag s)) (root_implied letters s e h)
+    (root_implied letters s e h) tag.name)
 before_html_stage (end_tag name) p letters s m e h = end_before_html_stage name letters s m e h
 before_html_stage (comment c) p letters s m e h =
     calm_answer BeforeHtml false letters (insert_comment_in 0 c s) e m (root_comment_early letters c s h.0, h.1)
@@ -381,7 +384,10 @@ pub before_head_stage : (t : TokenValue) → IsOrderly t → (letters : List ℕ
     → is_text_mode s.content ≡ false → Early letters s → StageAnswer letters (before_head t s)
 before_head_stage (run kind c) p letters s m e h = absurd (true≢false p)
 before_head_stage (start_tag tag) p letters s m e h =
-    start_before_head_stage tag (orderly_is_plain tag.name p) tag.name letters s m e h
+    plain_or_column (StageAnswer letters (start_before_head tag.name tag s)) tag.name p
+    (λ q. start_before_head_stage tag q tag.name letters s m e h)
+    (by_column_name (λ name. StageAnswer letters (start_before_head name tag s)) (head_implied letters s e h)
+    (head_implied letters s e h) tag.name)
 before_head_stage (end_tag name) p letters s m e h = end_before_head_stage name letters s m e h
 before_head_stage (comment c) p letters s m e h =
     calm_answer BeforeHead false letters (insert_comment c s) e m (comment_early letters c s h)

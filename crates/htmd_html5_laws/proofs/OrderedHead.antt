@@ -49,7 +49,7 @@ use Rattle.htmd_html5_laws.proofs.OrderedStates.{OrderedIn, Ordered, Orders, ord
 use Rattle.htmd_html5_laws.proofs.OrderedStates.{no_text, current_within, insert_comment_orders, insert_comment_root_orders}
 use Rattle.htmd_html5_laws.proofs.OrderedStates.{insert_void_orders, insert_raw_orders, insert_element_orders, missing_ordered}
 use Rattle.htmd_html5_laws.proofs.OrderedLate.{IsOrderly, Late, late_step, by_rules_late, first_within}
-use Rattle.htmd_html5_laws.proofs.OrderedBody.{orderly_is_plain, is_orderly_name, no_frameset_orders}
+use Rattle.htmd_html5_laws.proofs.OrderedBody.{plain_or_column, by_column_name, no_frameset_orders}
 use Rattle.htmd_html5_state.specs.declared.names.TagName.TheVariants as tags
 use Rattle.htmd_html5_tokens.specs.declared.tokens.RawElement.TheVariants as raw
 use Rattle.htmd_html5.specs.ForeignContent.{is_for_math_text, is_for_annotation, is_for_html_point}
@@ -220,7 +220,11 @@ module _ (letters : List ℕ) (s : StateValue) (m : s.mode ≡ InHead) (e : is_t
 
   in_head_stage : (t : TokenValue) → IsOrderly t → StageAnswer letters (in_head t s)
   in_head_stage (run kind c) p = absurd (true≢false p)
-  in_head_stage (start_tag tag) p = start_in_head_stage tag (orderly_is_plain tag.name p) tag.name
+  in_head_stage (start_tag tag) p =
+      plain_or_column (StageAnswer letters (start_in_head tag.name tag s)) tag.name p
+      (λ q. start_in_head_stage tag q tag.name)
+      (by_column_name (λ name. StageAnswer letters (start_in_head name tag s)) (head_closed true letters s e h at)
+      (head_closed true letters s e h at) tag.name)
   in_head_stage (end_tag name) p = end_in_head_stage name
   in_head_stage (comment c) p =
       calm_answer InHead false letters (insert_comment c s) e m (comment_early letters c s h, at)
@@ -255,7 +259,11 @@ module _ (letters : List ℕ) (s : StateValue) (m : s.mode ≡ InHeadNoscript) (
 
   in_noscript_stage : (t : TokenValue) → IsOrderly t → StageAnswer letters (in_head_noscript t s)
   in_noscript_stage (run kind c) p = absurd (true≢false p)
-  in_noscript_stage (start_tag tag) p = start_in_noscript_stage tag (orderly_is_plain tag.name p) tag.name
+  in_noscript_stage (start_tag tag) p =
+      plain_or_column (StageAnswer letters (start_in_noscript tag.name tag s)) tag.name p
+      (λ q. start_in_noscript_stage tag q tag.name)
+      (by_column_name (λ name. StageAnswer letters (start_in_noscript name tag s))
+      (noscript_closed true letters s e h at) (noscript_closed true letters s e h at) tag.name)
   in_noscript_stage (end_tag name) p = end_in_noscript_stage name
   in_noscript_stage (comment c) p =
       calm_answer InHeadNoscript false letters (insert_comment c s) e m (comment_early letters c s h, at)
@@ -451,7 +459,9 @@ module _ (letters : List ℕ) (s : StateValue) (m : s.mode ≡ AfterHead) (e : i
   after_head_stage : (t : TokenValue) → IsOrderly t → StageAnswer letters (after_head t s)
   after_head_stage (run kind c) p = absurd (true≢false p)
   after_head_stage (start_tag tag) p =
-      start_after_head_stage tag (orderly_is_plain tag.name p) tag.name (orderly_is_plain tag.name p)
+      plain_or_column (StageAnswer letters (start_after_head tag.name tag s)) tag.name p
+      (λ q. start_after_head_stage tag q tag.name q)
+      (by_column_name (λ name. StageAnswer letters (start_after_head name tag s)) body_implied body_implied tag.name)
   after_head_stage (end_tag name) p = end_after_head_stage name
   after_head_stage (comment c) p =
       calm_answer AfterHead false letters (insert_comment c s) e m

@@ -33,8 +33,8 @@ use Rattle.htmd_html5_laws.proofs.KeepingModes.{EndsIn, foreign_end_in}
 use Rattle.htmd_html5_laws.proofs.OrderedStates.{OrderedIn, Ordered, Orders, then_orders, unmoved, orders_by_state, is_late}
 use Rattle.htmd_html5_laws.proofs.OrderedStates.{on_stack_orders, ordered_fewer, insert_comment_orders, loose_in, no_text}
 use Rattle.htmd_html5_laws.proofs.OrderedStates.{insert_comment_root_orders}
-use Rattle.htmd_html5_laws.proofs.OrderedBody.{is_orderly_name, orderly_is_plain, OrdersAnswer, says_ordered, with_mode_orders}
-use Rattle.htmd_html5_laws.proofs.OrderedBody.{add_to_root_orders, insert_foreign_tag_orders, start_in_body_orders}
+use Rattle.htmd_html5_laws.proofs.OrderedBody.{is_orderly_name, OrdersAnswer, says_ordered, with_mode_orders}
+use Rattle.htmd_html5_laws.proofs.OrderedBody.{add_to_root_orders, insert_foreign_tag_orders, start_orders}
 use Rattle.htmd_html5_laws.proofs.OrderedBody.{end_in_body_orders}
 use Rattle.htmd_html5_state.specs.declared.names.TagName.TheVariants as tags
 use Rattle.htmd_html5_state.specs.Foreign as foreign
@@ -109,7 +109,7 @@ end_of_file_orders = record {
 
 in_body_orders : (t : TokenValue) → IsOrderly t → OrdersAnswer (in_body t)
 in_body_orders (run kind s) p = absurd (true≢false p)
-in_body_orders (start_tag tag) p = says_ordered (start_in_body_orders tag (orderly_is_plain tag.name p) p)
+in_body_orders (start_tag tag) p = says_ordered (start_orders tag p)
 in_body_orders (end_tag name) p = end_in_body_orders name
 in_body_orders (comment s) p = says_ordered (insert_comment_orders s)
 in_body_orders (doctype quirks) p = says_ordered unmoved

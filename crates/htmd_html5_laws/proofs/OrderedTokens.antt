@@ -308,14 +308,11 @@ end_tag_stage name letters s h = either (is_text_mode s.content) refl
 
 -- ---- names of start tags
 
-pub apart : (a b c d e : Bool) → (a || b || c || d || e) ≡ false
-    → (a ≡ false) × ((b ≡ false) × ((c ≡ false) × ((d ≡ false) × (e ≡ false))))
-apart true b c d e f = absurd (true≢false f)
-apart false true c d e f = absurd (true≢false f)
-apart false false true d e f = absurd (true≢false f)
-apart false false false true e f = absurd (true≢false f)
-apart false false false false true f = absurd (true≢false f)
-apart false false false false false f = (refl, (refl, (refl, (refl, refl))))
+pub apart : (a b c : Bool) → (a || b || c) ≡ false → (a ≡ false) × ((b ≡ false) × (c ≡ false))
+apart true b c f = absurd (true≢false f)
+apart false true c f = absurd (true≢false f)
+apart false false true f = absurd (true≢false f)
+apart false false false f = (refl, (refl, refl))
 
 both_false : (a b : Bool) → (a || b) ≡ false → (a ≡ false) × (b ≡ false)
 both_false true b f = absurd (true≢false f)
@@ -324,11 +321,9 @@ both_false false b f = (refl, f)
 orderly_name : (s : List ℕ) → moves_text_in s ≡ false → is_orderly_name (name_of_text s) ≡ true
 orderly_name s d = by_found (known_name s) refl
   where
-    parts : (drops_text_in s ≡ false) × ((bytes_eq s (codes "table") ≡ false)
-        × ((bytes_eq s (codes "select") ≡ false)
-        × ((bytes_eq s (codes "col") ≡ false) × (bytes_eq s (codes "colgroup") ≡ false))))
-    parts = apart (drops_text_in s) (bytes_eq s (codes "table")) (bytes_eq s (codes "select"))
-        (bytes_eq s (codes "col")) (bytes_eq s (codes "colgroup")) d
+    parts : (drops_text_in s ≡ false)
+        × ((bytes_eq s (codes "table") ≡ false) × (bytes_eq s (codes "select") ≡ false))
+    parts = apart (drops_text_in s) (bytes_eq s (codes "table")) (bytes_eq s (codes "select")) d
 
     by_tag : (tag : TagName) → bytes_eq s (spelling tag) ≡ true → is_orderly_name (known tag) ≡ true
     by_tag tags.FrameSet e =
@@ -336,9 +331,7 @@ orderly_name s d = by_found (known_name s) refl
     by_tag tags.Template e =
         absurd (true≢false (sym e ∙ (both_false (bytes_eq s (codes "frameset")) (bytes_eq s (codes "template")) parts.0).1))
     by_tag tags.Table e = absurd (true≢false (sym e ∙ parts.1.0))
-    by_tag tags.Select e = absurd (true≢false (sym e ∙ parts.1.1.0))
-    by_tag tags.Col e = absurd (true≢false (sym e ∙ parts.1.1.1.0))
-    by_tag tags.ColGroup e = absurd (true≢false (sym e ∙ parts.1.1.1.1))
+    by_tag tags.Select e = absurd (true≢false (sym e ∙ parts.1.1))
     by_tag _ e = refl
 
     by_found : (tag : Option TagName) → known_name s ≡ tag → is_orderly_name (known_or s tag) ≡ true

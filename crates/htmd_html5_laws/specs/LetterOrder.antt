@@ -22,9 +22,7 @@ letters_in (s ∷ texts) = letters_of s ++ letters_in texts
 
 -- text in a table, but in none of its cells, is put before the table
 abbrev pub moves_text_in : List ℕ → Bool
-moves_text_in name =
-    drops_text_in name || bytes_eq name (codes "table") || bytes_eq name (codes "select")
-    || bytes_eq name (codes "col") || bytes_eq name (codes "colgroup")
+moves_text_in name = drops_text_in name || bytes_eq name (codes "table") || bytes_eq name (codes "select")
 
 abbrev pub is_orderly : TokenValue → Bool
 is_orderly (start_tag tag) = not (moves_text_in tag.name)
