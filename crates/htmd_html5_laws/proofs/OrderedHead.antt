@@ -162,9 +162,11 @@ head_closed more letters s e h at =
 pub noscript_closed : (more : Bool) (letters : List ℕ) (s : StateValue) → is_text_mode s.content ≡ false
     → Early letters s → HeadAt 1 s → StageAnswer letters (answer (close_noscript s) more)
 noscript_closed more letters s e h at =
-    calm_answer InHead more letters (close_noscript s) e refl
-    (to_mode letters s (pop s.stack) (pop s.stack) InHead refl
-    (early_fewer letters s s.stack (pop s.stack) (pop_fewer s.stack) h), at)
+    calm_answer InHead more letters (close_noscript s) e refl (
+      to_mode letters s (pop s.stack) (pop s.stack) InHead refl
+          (early_fewer letters s s.stack (pop s.stack) (pop_fewer s.stack) h),
+      at,
+    )
 
 no_template_end : (s : StateValue) → Plain s → end_template s ≡ s
 no_template_end s h = rw (no_template_open s.stack h.names) refl
@@ -181,9 +183,11 @@ module _ (letters : List ℕ) (s : StateValue) (m : s.mode ≡ InHead) (e : is_t
           else record (insert_tag tag s) { mode = InHeadNoscript }))
       either true = raw_in_head tag p letters InHead 0 (λ raw t g. g) s m e h at raw.Noscript refl
       either false =
-          calm_answer InHeadNoscript false letters (record (insert_tag tag s) { mode = InHeadNoscript }) e refl
-          (to_mode letters (insert_tag tag s) (insert_tag tag s).stack (insert_tag tag s).stack InHeadNoscript refl
-          (early_step (insert_element_orders tag.name tag.attributes p) letters s (refl, h.names) h), at)
+          calm_answer InHeadNoscript false letters (record (insert_tag tag s) { mode = InHeadNoscript }) e refl (
+            to_mode letters (insert_tag tag s) (insert_tag tag s).stack (insert_tag tag s).stack InHeadNoscript refl
+                (early_step (insert_element_orders tag.name tag.attributes p) letters s (refl, h.names) h),
+            at,
+          )
 
   start_in_head_stage : (tag : StartTagValue) → is_plain_name tag.name ≡ true → (name : NameValue)
       → StageAnswer letters (start_in_head name tag s)
@@ -321,9 +325,9 @@ module _ (letters : List ℕ) (s : StateValue) (m : s.mode ≡ AfterHead) (e : i
   root_after tag =
       root_stage letters tag s AfterHead e m
       (λ t same f.
-        subst (λ (stack : List OpenValue). AfterHeadIn false t.head stack letters t) (sym same.stack)
-        (subst (λ (head : Option ℕ). AfterHeadIn false head s.stack letters t) (sym same.head)
-        (by_head letters s t s.head s.stack f h)))
+      subst (λ (stack : List OpenValue). AfterHeadIn false t.head stack letters t) (sym same.stack)
+      (subst (λ (head : Option ℕ). AfterHeadIn false head s.stack letters t) (sym same.head)
+      (by_head letters s t s.head s.stack f h)))
 
   module _ (tag : StartTagValue) (p : is_plain_name tag.name ≡ true) where
     -- without a head it is put where it stands

@@ -140,13 +140,13 @@ module _ (letters : List ℕ) (nodes : List NodeValue) (l : Labels) (h : FitsBy 
     row_kept limit at cs to big none r =
         row_marks (marks none_out nodes limit l) (marks none_out new limit marked) at cs to
         (λ c k b.
-          let other : c ≡ n → ⊥ = λ e. let z : times c cs ≡ times n cs = ap (λ (x : ℕ). times x cs) e in
-          omega arith in
-          let same = kind_grown _ p nodes c other in
-          let u = other_until limit c other in
-          let v = other_lo c other in
-          let w = spans c (l.live c) in
-          (sym (ap bears same) ∙ b, omega arith, omega arith, omega arith)) r
+        let other : c ≡ n → ⊥ = λ e. let z : times c cs ≡ times n cs = ap (λ (x : ℕ). times x cs) e in
+        omega arith in
+        let same = kind_grown _ p nodes c other in
+        let u = other_until limit c other in
+        let v = other_lo c other in
+        let w = spans c (l.live c) in
+        (sym (ap bears same) ∙ b, omega arith, omega arith, omega arith)) r
       where
         spans : (c : ℕ) (b : Bool) → l.lo c ≤ cond b limit (l.hi c)
         spans c true = let a = h.span c in let b = h.high c in omega arith

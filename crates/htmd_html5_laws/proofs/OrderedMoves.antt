@@ -179,16 +179,20 @@ module _ (letters : List ℕ) (nodes : List NodeValue) (l : Labels) (p last : �
         (row_marks (marks (only last) nodes limit l) (marks (only n) copied limit copied_labels) (l.lo q)
         (children_at out q) to
         (λ c m e.
-          let two = and_parts (not (c == n)) (bears (kind_at copied c)) e in
-          let other : c ≡ n → ⊥ = λ g. true≢false (sym two.0 ∙ ap not (eq-eqb c n g)) in
-          let same = kind_same c other in
-          let a = until_same limit c other in
-          let b = lo_same c other in
-          let w = spans (only last) letters nodes l h.fits limit big c (l.live c) in
-          let apart = member_other c last (children_at out q)
-          (put_nowhere_else last n q out (let z = out_size in omega arith) forest f) m in
-          (both_true (not (c == last)) (bears (kind_at nodes c)) (not_other c last apart)
-          (sym (ap bears same) ∙ two.1), omega arith, omega arith, omega arith))
+        let two = and_parts (not (c == n)) (bears (kind_at copied c)) e in
+        let other : c ≡ n → ⊥ = λ g. true≢false (sym two.0 ∙ ap not (eq-eqb c n g)) in
+        let same = kind_same c other in
+        let a = until_same limit c other in
+        let b = lo_same c other in
+        let w = spans (only last) letters nodes l h.fits limit big c (l.live c) in
+        let apart = member_other c last (children_at out q)
+        (put_nowhere_else last n q out (let z = out_size in omega arith) forest f) m in (
+          both_true (not (c == last)) (bears (kind_at nodes c)) (not_other c last apart)
+              (sym (ap bears same) ∙ two.1),
+          omega arith,
+          omega arith,
+          omega arith,
+        ))
         (row_detached (marks (only last) nodes limit l) last q (l.lo q) to more
         (subst (λ (cs : List ℕ). Row (marks (only last) nodes limit l) (l.lo q) cs to)
         (sym (children_with_new q k nodes)) r)))
@@ -204,14 +208,15 @@ module _ (letters : List ℕ) (nodes : List NodeValue) (l : Labels) (p last : �
         (row_detached (marks (only n) copied limit copied_labels) last n (copied_labels.lo n) (l.lo last) more
         (subst (λ (cs : List ℕ). Row (marks (only n) copied limit copied_labels) (copied_labels.lo n) cs (l.lo last))
         (sym (children_with_new n k nodes ∙ children_beyond n nodes (omega arith)))
-        (let a = lo_own in omega arith)))
-        (λ e. let a = lo_same last (λ g. omega arith) in let b = until_last limit in
-        let x = h.fits.span last in let y = h.fits.high last in (omega arith, omega arith),
-        let b = until_last limit in
-        let d = until_own limit in
-        let x = h.fits.span last in let y = h.fits.high last in
-        low (counted (only n) copied last) (until limit copied_labels last) (l.lo last)
-        (until limit copied_labels n) (omega arith) (omega arith)))
+        (let a = lo_own in omega arith))) (
+          λ e. let a = lo_same last (λ g. omega arith) in let b = until_last limit in
+              let x = h.fits.span last in let y = h.fits.high last in (omega arith, omega arith),
+          let b = until_last limit in
+              let d = until_own limit in
+              let x = h.fits.span last in let y = h.fits.high last in
+              low (counted (only n) copied last) (until limit copied_labels last) (l.lo last)
+              (until limit copied_labels n) (omega arith) (omega arith),
+        ))
       where
         low : (b : Bool) (x y z : ℕ) → x ≤ z → y ≤ z → cond b x y ≤ z
         low true x y z f g = f
@@ -234,10 +239,10 @@ module _ (letters : List ℕ) (nodes : List NodeValue) (l : Labels) (p last : �
             (kept_row limit q (until limit l q) big f (h.fits.rows limit big q))));
         texts = λ m t e.
             test (m == n)
-            (λ u. absurd (no_text (ap is_element (sym (own_at m (eqb-true m n u)) ∙ e)) ))
+            (λ u. absurd (no_text (ap is_element (sym (own_at m (eqb-true m n u)) ∙ e))))
             (λ u. let f = eqb-false m n u in
             let x = h.fits.texts m t (sym (kind_same m f) ∙ e) in
-            record { closed = rw (ne_eqb m n f) x.closed; utf8 = x.utf8; within = rw (ne_eqb m n f) x.within; });
+            record { closed = rw (ne_eqb m n f) x.closed; utf8 = x.utf8; within = rw (ne_eqb m n f) x.within });
       };
       front = λ limit big.
           subst (λ (x : ℕ). Row (marks (only n) copied limit copied_labels) x (children_at copied p)
@@ -276,10 +281,14 @@ module _ (letters : List ℕ) (nodes : List NodeValue) (l : Labels) (p last : �
     row_apart limit q at to big none r =
         row_marks (marks (only last) nodes limit l) (marks none_out placed limit l) at (children_at taken q) to
         (λ c m e.
-          let w = spans (only last) letters nodes l h.fits limit big c (l.live c) in
-          (both_true (not (c == last)) (bears (kind_at nodes c))
-          (not_other c last (member_other c last (children_at taken q) none m))
-          (sym (ap bears (placed_kind c)) ∙ e), omega arith, omega arith, omega arith))
+        let w = spans (only last) letters nodes l h.fits limit big c (l.live c) in (
+          both_true (not (c == last)) (bears (kind_at nodes c))
+              (not_other c last (member_other c last (children_at taken q) none m))
+              (sym (ap bears (placed_kind c)) ∙ e),
+          omega arith,
+          omega arith,
+          omega arith,
+        ))
         (row_detached (marks (only last) nodes limit l) last q at to nodes r)
 
     placed_row : (limit : ℕ) → length letters < limit
@@ -290,14 +299,15 @@ module _ (letters : List ℕ) (nodes : List NodeValue) (l : Labels) (p last : �
         (row_append (marks none_out placed limit l) (l.lo p) (children_at taken p) (l.lo last) (last ∷ [])
         (until limit l p)
         (row_apart limit p (l.lo p) (l.lo last) big
-        (put_once last p taken (let z = taken_size in omega arith) forest) (h.front limit big))
-        (λ e. let b = ends last h.live_last in let x = h.fits.span last in let y = h.fits.high last in
-        (omega arith, omega arith),
-        let b = ends last h.live_last in
-        let d = ends p h.live_at in
-        let x = h.fits.span last in let y = h.fits.high last in
-        low (bears (kind_at placed last)) (until limit l last) (l.lo last) (until limit l p) (omega arith)
-        (omega arith)))
+        (put_once last p taken (let z = taken_size in omega arith) forest) (h.front limit big)) (
+          λ e. let b = ends last h.live_last in let x = h.fits.span last in let y = h.fits.high last in
+              (omega arith, omega arith),
+          let b = ends last h.live_last in
+              let d = ends p h.live_at in
+              let x = h.fits.span last in let y = h.fits.high last in
+              low (bears (kind_at placed last)) (until limit l last) (l.lo last) (until limit l p) (omega arith)
+              (omega arith),
+        ))
       where
         ends : (x : ℕ) → l.live x ≡ true → until limit l x ≡ limit
         ends x e = rw e refl
@@ -417,11 +427,11 @@ module _ (letters : List ℕ) (nodes : List NodeValue) (l : Labels) (h : FitsBy 
       row_marks (marks none_out nodes limit l) (marks none_out wrapped limit wrapped_labels) (l.lo q)
       (children_at nodes q) to
       (λ c m e.
-        let other = member_other c wn (children_at nodes q) (no_child nodes q wn forest (omega arith)) m in
-        let a = w_until_same limit c other in
-        let b = w_lo_same c other in
-        let w = spans none_out letters nodes l h limit big c (l.live c) in
-        (sym (ap bears (wrapped_other c other)) ∙ e, omega arith, omega arith, omega arith)) r
+      let other = member_other c wn (children_at nodes q) (no_child nodes q wn forest (omega arith)) m in
+      let a = w_until_same limit c other in
+      let b = w_lo_same c other in
+      let w = spans none_out letters nodes l h limit big c (l.live c) in
+      (sym (ap bears (wrapped_other c other)) ∙ e, omega arith, omega arith, omega arith)) r
 
   at_new : (limit : ℕ) → length letters < limit → (q : ℕ) → wn ≡ q
       → Row (marks none_out wrapped limit wrapped_labels) (wrapped_labels.lo q) (children_at wrapped q)
@@ -446,16 +456,17 @@ module _ (letters : List ℕ) (nodes : List NodeValue) (l : Labels) (h : FitsBy 
       (subst (λ (x : List ℕ). Row (marks none_out wrapped limit wrapped_labels) (wrapped_labels.lo block) x
       (until limit wrapped_labels block))
       (sym (children_put wn block gone (let z = gone_size in omega arith)
-      ∙ ap (λ (x : List ℕ). x ++ wn ∷ []) gone_block))
-      (λ b. let a = w_lo_same block apart_new in let d = w_lo_own in let f = w_until_own limit in
-      let x = h.span block in let y = h.high block in (omega arith, omega arith),
-      let a = w_lo_same block apart_new in
-      let d = w_until_same limit block apart_new in
-      let f = until_block limit in
-      let g = w_until_own limit in
-      let x = h.span block in let y = h.high block in
-      low (bears (kind_at wrapped wn)) (until limit wrapped_labels wn) (wrapped_labels.lo block)
-      (until limit wrapped_labels block) (omega arith) (omega arith)))
+      ∙ ap (λ (x : List ℕ). x ++ wn ∷ []) gone_block)) (
+        λ b. let a = w_lo_same block apart_new in let d = w_lo_own in let f = w_until_own limit in
+            let x = h.span block in let y = h.high block in (omega arith, omega arith),
+        let a = w_lo_same block apart_new in
+            let d = w_until_same limit block apart_new in
+            let f = until_block limit in
+            let g = w_until_own limit in
+            let x = h.span block in let y = h.high block in
+            low (bears (kind_at wrapped wn)) (until limit wrapped_labels wn) (wrapped_labels.lo block)
+            (until limit wrapped_labels block) (omega arith) (omega arith),
+      ))
     where
       low : (b : Bool) (x y z : ℕ) → x ≤ z → y ≤ z → cond b x y ≤ z
       low true x y z f g = f
@@ -489,7 +500,7 @@ module _ (letters : List ℕ) (nodes : List NodeValue) (l : Labels) (h : FitsBy 
         (λ u. absurd (no_text (ap is_element (sym (own_at m (eqb-true m wn u)) ∙ e))))
         (λ u. let f = eqb-false m wn u in
         let x = h.texts m t (sym (wrapped_other m f) ∙ e) in
-        record { closed = rw (ne_eqb m wn f) x.closed; utf8 = x.utf8; within = rw (ne_eqb m wn f) x.within; });
+        record { closed = rw (ne_eqb m wn f) x.closed; utf8 = x.utf8; within = rw (ne_eqb m wn f) x.within });
   }
     where
       own_at : (m : ℕ) → m ≡ wn → kind_at wrapped m ≡ wk

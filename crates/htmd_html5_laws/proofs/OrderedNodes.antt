@@ -210,8 +210,8 @@ settled rank p letters nodes l ranked h = record {
     begins = λ n e f. let a = h.span n in let b = h.high n in omega arith;
     inner = λ q c e f k b. (
       λ g. let less = child_above rank nodes q c ranked k b in
-      let m = lt_less (rank p) (rank q) f in
-      lt_true (rank p) (rank c) (omega arith),
+          let m = lt_less (rank p) (rank q) f in
+          lt_true (rank p) (rank c) (omega arith),
       λ g. h.high c,
     );
   }) h;

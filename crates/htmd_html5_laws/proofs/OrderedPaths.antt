@@ -286,8 +286,12 @@ module _ (rank : ℕ → ℕ) (letters : List ℕ) (nodes : List NodeValue) (l :
       rows = λ bound big q.
           row_marks (marks none_out nodes bound l) (marks apart nodes bound l) (l.lo q) (children_at nodes q)
           (until bound l q)
-          (λ c k e. ((and_parts (not (c == b)) (bears (kind_at nodes c)) e).1, omega arith, spans bound big c (l.live c),
-          omega arith)) (h.rows bound big q);
+          (λ c k e. (
+            (and_parts (not (c == b)) (bears (kind_at nodes c)) e).1,
+            omega arith,
+            spans bound big c (l.live c),
+            omega arith,
+          )) (h.rows bound big q);
       texts = h.texts;
     }
       where

@@ -187,8 +187,11 @@ element_in letters name attributes p nodes stack head fosters h o within live lo
       labels = g.labels;
       fits = g.fits;
       root = g.still 0 h.filled o.root (let z = h.at_root in omega arith);
-      opens = (g.opened_new, opens_still o.labels.live g.labels.live h.rank p nodes stack g.still h.opened_at low
-          o.opens);
+      opens = (
+        g.opened_new,
+        opens_still o.labels.live g.labels.live h.rank p nodes stack g.still h.opened_at low
+            o.opens,
+      );
       no_fostering = o.no_fostering;
     }
 

@@ -127,13 +127,14 @@ module _ (letters : List ℕ) (nodes : List NodeValue) (l : Labels) (h : FitsBy 
       (no_child nodes p (length nodes) forest (omega arith))
       (row_ends (marks none_out nodes limit l) (l.lo p) (children_at nodes p) (until limit l p) (length letters)
       (let a = h.span p in let b = h.high p in omega arith)
-      (λ c m b. end_low c (l.live c) (ends c m b)) (h.rows limit (omega arith) p)))
-      (λ b. let x = own_lo letters nodes l h forest k p within more live in
-      let y = (own_until letters nodes l h forest k p within more live limit big).0 in (omega arith, omega arith),
-      let z : until limit l p ≡ limit = ap (λ (b : Bool). cond b limit (l.hi p)) e in
-      let y = (own_until letters nodes l h forest k p within more live limit big).1 in
-      let w = low (bears (kind_at (grown k p nodes) (length nodes))) limit (length letters) y (omega arith) in
-      omega arith)
+      (λ c m b. end_low c (l.live c) (ends c m b)) (h.rows limit (omega arith) p))) (
+        λ b. let x = own_lo letters nodes l h forest k p within more live in
+            let y = (own_until letters nodes l h forest k p within more live limit big).0 in (omega arith, omega arith),
+        let z : until limit l p ≡ limit = ap (λ (b : Bool). cond b limit (l.hi p)) e in
+            let y = (own_until letters nodes l h forest k p within more live limit big).1 in
+            let w = low (bears (kind_at (grown k p nodes) (length nodes))) limit (length letters) y (omega arith) in
+            omega arith,
+      )
     where
       end_low : (c : ℕ) (b : Bool) → b ≡ false → cond b limit (l.hi c) ≤ length letters
       end_low c true f = absurd (true≢false f)
@@ -258,13 +259,13 @@ module _ (rank : ℕ → ℕ) (letters : List ℕ) (nodes : List NodeValue) (l :
   more_row_kept limit at cs to big none r =
       row_marks (marks none_out nodes limit l) (marks none_out joined limit with_more) at cs to
       (λ c k b.
-        let other : c ≡ n → ⊥ = λ e. let z : times c cs ≡ times n cs = ap (λ (x : ℕ). times x cs) e in
-        omega arith in
-        let same = kind_set_other n c (text (s ++ t)) nodes (λ e. other (sym e)) in
-        let a = more_other_until limit c other in
-        let d = more_other_lo c other in
-        let w = spans c (l.live c) in
-        (sym (ap bears same) ∙ b, omega arith, omega arith, omega arith)) r
+      let other : c ≡ n → ⊥ = λ e. let z : times c cs ≡ times n cs = ap (λ (x : ℕ). times x cs) e in
+      omega arith in
+      let same = kind_set_other n c (text (s ++ t)) nodes (λ e. other (sym e)) in
+      let a = more_other_until limit c other in
+      let d = more_other_lo c other in
+      let w = spans c (l.live c) in
+      (sym (ap bears same) ∙ b, omega arith, omega arith, omega arith)) r
     where
       spans : (c : ℕ) (b : Bool) → l.lo c ≤ cond b limit (l.hi c)
       spans c true = let a = h.span c in let b = h.high c in omega arith
@@ -338,10 +339,11 @@ module _ (rank : ℕ → ℕ) (letters : List ℕ) (nodes : List NodeValue) (l :
       (sym (more_other_lo p p_other))
       (subst (λ (cs : List ℕ). Row (marks none_out joined limit with_more) (l.lo p) cs limit) (sym stand)
       (row_append (marks none_out joined limit with_more) (l.lo p) ds start (n ∷ []) limit
-      (more_row_kept limit (l.lo p) ds start big n_once (front limit big))
-      (λ b. let x = more_own_lo in let y = more_own_until limit in let z = start_low in (omega arith, omega arith),
-      let y = more_own_until limit in let z = start_low in
-      low (bears (kind_at joined n)) limit start (omega arith) (omega arith))))))
+      (more_row_kept limit (l.lo p) ds start big n_once (front limit big)) (
+        λ b. let x = more_own_lo in let y = more_own_until limit in let z = start_low in (omega arith, omega arith),
+        let y = more_own_until limit in let z = start_low in
+            low (bears (kind_at joined n)) limit start (omega arith) (omega arith),
+      )))))
     where
       low : {x : ℕ} (b : Bool) (z y : ℕ) → x ≤ z → y ≤ z → cond b x y ≤ z
       low true z y f g = f

@@ -28,9 +28,10 @@ Row m at (c ∷ cs) to = Stands m at c × Row m (after m at c) cs to
 module _ (m : Marks) where
   pub row_from : (at low : ℕ) (cs : List ℕ) (to : ℕ) → low ≤ at → Row m at cs to → Row m low cs to
   row_from at low [] to l h = omega arith
-  row_from at low (c ∷ cs) to l h =
-      (λ b. let s = h.0 b in let x = s.0 in (omega arith, s.1),
-      row_from (after m at c) (after m low c) cs to (lower (m.counts c)) h.1)
+  row_from at low (c ∷ cs) to l h = (
+    λ b. let s = h.0 b in let x = s.0 in (omega arith, s.1),
+    row_from (after m at c) (after m low c) cs to (lower (m.counts c)) h.1,
+  )
     where
       lower : (b : Bool) → cond b (m.end c) low ≤ cond b (m.end c) at
       lower true = omega arith
@@ -83,9 +84,11 @@ module _ (m : Marks) where
   pub row_ends : (at : ℕ) (cs : List ℕ) (to high : ℕ) → at ≤ high
       → ((c : ℕ) → 1 ≤ times c cs → m.counts c ≡ true → m.end c ≤ high) → Row m at cs to → Row m at cs high
   row_ends at [] to high l f h = l
-  row_ends at (c ∷ cs) to high l f h =
-      (h.0, row_ends (after m at c) cs to high (low (m.counts c) refl)
-      (λ d k b. f d (omega arith) b) h.1)
+  row_ends at (c ∷ cs) to high l f h = (
+    h.0,
+    row_ends (after m at c) cs to high (low (m.counts c) refl)
+        (λ d k b. f d (omega arith) b) h.1,
+  )
     where
       low : (b : Bool) → m.counts c ≡ b → cond b (m.end c) at ≤ high
       low true e = f c (let o : ◌≡◌ {A = ℕ} (cond (c == c) 1 0) 1 = rw (eq-eqb c c refl) refl in omega arith) e
@@ -135,10 +138,11 @@ pub row_marks : (m m' : Marks) (at : ℕ) (cs : List ℕ) (to : ℕ)
     × (m'.begin c ≤ m'.end c) × (m'.end c ≤ m.end c))
     → Row m at cs to → Row m' at cs to
 row_marks m m' at [] to f h = h
-row_marks m m' at (c ∷ cs) to f h =
-    (λ b. let r = f c own b in let s = h.0 r.0 in let x = s.0 in let y = r.1 in (omega arith, r.2),
-    row_marks m m' (after m' at c) cs to (λ d k b. f d (omega arith) b)
-    (row_from m (after m at c) (after m' at c) cs to (low (m'.counts c) refl (m.counts c) refl) h.1))
+row_marks m m' at (c ∷ cs) to f h = (
+  λ b. let r = f c own b in let s = h.0 r.0 in let x = s.0 in let y = r.1 in (omega arith, r.2),
+  row_marks m m' (after m' at c) cs to (λ d k b. f d (omega arith) b)
+      (row_from m (after m at c) (after m' at c) cs to (low (m'.counts c) refl (m.counts c) refl) h.1),
+)
   where
     own : 1 ≤ times c (c ∷ cs)
     own = let o : ◌≡◌ {A = ℕ} (cond (c == c) 1 0) 1 = rw (eq-eqb c c refl) refl in omega arith
