@@ -5,11 +5,12 @@ use Rattle.htmd_tree.specs.Items.{document_item, text_node, comment_node}
 use Rattle.htmd_html5_state.specs.Adoption.{move_last, wrap_children}
 use Rattle.htmd_html5.specs.BodyEnds.{text_end_rule}
 use Rattle.htmd_html5.specs.BodyStarts.{block_rule, formatting_rule, phrasing_rule}
-use Rattle.htmd_html5.specs.Documents.{state_after}
+use Rattle.htmd_html5.specs.Documents.{state_after, html5_document}
 use Rattle.htmd_html5_laws.specs.PageLetters.{is_letter, texts_of, token_texts}
 use Rattle.htmd_html5_laws.specs.DocumentLetters.{node_texts, all_texts_are_taken}
 use Rattle.htmd_html5_laws.specs.KeptLetters.{is_whole}
 use Rattle.htmd_html5_laws.specs.HarmlessTags.{all_tags_are_harmless}
+use Rattle.htmd_html5_laws.specs.LetterOrder.{all_tags_are_orderly}
 
 a_is_one : is_letter 0x61 ≡ true
 a_is_one = refl
@@ -73,3 +74,21 @@ frames_take_the_place_of_the_body : is_whole (state_after true (codes "<div><sty
     ≡ false
 unfolding block_rule formatting_rule phrasing_rule
 frames_take_the_place_of_the_body = refl
+
+-- ---- letters in order
+
+a_start_tag_of_a_table_counts : all_tags_are_orderly true (codes "<p>a<table>") ≡ false
+unfolding block_rule formatting_rule phrasing_rule
+a_start_tag_of_a_table_counts = refl
+
+a_row_without_a_table_is_orderly : all_tags_are_orderly true (codes "<tr>a<col></table>") ≡ true
+unfolding block_rule formatting_rule phrasing_rule text_end_rule
+a_row_without_a_table_is_orderly = refl
+
+text_goes_before_a_table : texts_of (html5_document true (codes "<table><td>a</td>b")) ≡ codes "b" ∷ codes "a" ∷ []
+unfolding block_rule formatting_rule phrasing_rule html5_document
+text_goes_before_a_table = refl
+
+formatting_keeps_the_order : texts_of (html5_document true (codes "<b>a<p>b</b>c")) ≡ codes "a" ∷ codes "b" ∷ codes "c" ∷ []
+unfolding block_rule formatting_rule phrasing_rule text_end_rule move_last wrap_children html5_document
+formatting_keeps_the_order = refl

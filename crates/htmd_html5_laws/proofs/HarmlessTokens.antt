@@ -56,7 +56,7 @@ use Rattle.htmd_html5_tokens.specs.Tokens as tokens
 abbrev Safe : NameValue → Type 0
 Safe name = (is_plain_name name ≡ true) ⊎ IsColumn name
 
-spelled : (s : List ℕ) (tag : TagName) → known_name s ≡ Some tag → bytes_eq s (spelling tag) ≡ true
+pub spelled : (s : List ℕ) (tag : TagName) → known_name s ≡ Some tag → bytes_eq s (spelling tag) ≡ true
 spelled [] tag e = absurd (cc)
 spelled (b ∷ s) tag e = found (is_spelled (b ∷ s)) (names_with b) tag e
 
@@ -325,7 +325,7 @@ all_taken zero page s e h = refl
 all_taken (suc k) page s e h =
     after_taken k (next_read page s) s e h (λ t f g. all_taken k (next_read page s).rest t f g)
 
-begins_plain : (scripting : Bool) → Plain (initial_state scripting)
+pub begins_plain : (scripting : Bool) → Plain (initial_state scripting)
 begins_plain scripting = record {
   names = tt;
   entries_at = λ n l. absurd (true≢false (sym l));
@@ -333,7 +333,7 @@ begins_plain scripting = record {
   no_modes = refl;
 }
 
-begins_hung : (scripting : Bool) → Hung (initial_state scripting)
+pub begins_hung : (scripting : Bool) → Hung (initial_state scripting)
 begins_hung scripting = record {
   rank = λ n. n;
   limit = 0;

@@ -97,14 +97,14 @@ wrapped_hang formatting block r rank nodes all forest at block_at own spaced =
 
 -- ---- a round
 
-below_each : (rank : ℕ → ℕ) (limit : ℕ) (es : List OpenValue) → Below rank limit es
+pub below_each : (rank : ℕ → ℕ) (limit : ℕ) (es : List OpenValue) → Below rank limit es
     → EachOpen (λ e. rank e.node < limit) es
 below_each rank limit [] h = tt
 below_each rank limit (e ∷ es) h =
     let a = h.0 in
     (h.0, each_more es (λ x l. omega arith) (below_each rank (rank e.node) es h.1))
 
-each_both : (P Q : OpenValue → Type 0) (es : List OpenValue) → EachOpen P es → EachOpen Q es
+pub each_both : (P Q : OpenValue → Type 0) (es : List OpenValue) → EachOpen P es → EachOpen Q es
     → EachOpen (λ e. P e × Q e) es
 each_both P Q [] h g = tt
 each_both P Q (e ∷ es) h g = ((h.0, g.0), each_both P Q es h.1 g.1)

@@ -29,7 +29,7 @@ abbrev pub Within : (ℕ → ℕ) → ℕ → List OpenValue → ℕ → Type 0
 Within rank high [] low = low ≤ high
 Within rank high (e ∷ es) low = (rank e.node < high) × Within rank (rank e.node) es low
 
-within_low : (rank : ℕ → ℕ) (high : ℕ) (es : List OpenValue) (low : ℕ) → Within rank high es low
+pub within_low : (rank : ℕ → ℕ) (high : ℕ) (es : List OpenValue) (low : ℕ) → Within rank high es low
     → low ≤ high
 within_low rank high [] low h = h
 within_low rank high (e ∷ es) low h =

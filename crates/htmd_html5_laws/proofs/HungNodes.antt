@@ -80,13 +80,13 @@ kind_new_at k (x ∷ nodes) = kind_new_at k nodes
 
 -- ---- lists of children
 
-children_in : (p : ℕ) (cs : List ℕ) (nodes : List NodeValue) → p < length nodes
+pub children_in : (p : ℕ) (cs : List ℕ) (nodes : List NodeValue) → p < length nodes
     → children_at (with_children p cs nodes) p ≡ cs
 children_in p cs [] l = absurd (omega arith)
 children_in zero cs (x ∷ nodes) l = refl
 children_in (suc p) cs (x ∷ nodes) l = children_in p cs nodes (omega arith)
 
-children_within : (p n : ℕ) (nodes : List NodeValue) → 1 ≤ times n (children_at nodes p) → p < length nodes
+pub children_within : (p n : ℕ) (nodes : List NodeValue) → 1 ≤ times n (children_at nodes p) → p < length nodes
 children_within p n [] l = absurd (omega arith)
 children_within zero n (x ∷ nodes) l = omega arith
 children_within (suc p) n (x ∷ nodes) l = let h = children_within p n nodes l in omega arith
@@ -123,7 +123,7 @@ pub put_size : (n p i : ℕ) (nodes : List NodeValue) → length (put_at n p i n
 put_size n p i nodes =
     length-set (with_children p (insert (children_at nodes p) i n) nodes) n _ ∙ length-set nodes p _
 
-either_by : (nodes new : List NodeValue) (p : ℕ) → kind_at new p ≡ kind_at nodes p
+pub either_by : (nodes new : List NodeValue) (p : ℕ) → kind_at new p ≡ kind_at nodes p
     → (p ≡ 0) ⊎ (is_element (kind_at nodes p) ≡ true) → (p ≡ 0) ⊎ (is_element (kind_at new p) ≡ true)
 either_by nodes new p e (inl z) = inl z
 either_by nodes new p e (inr f) = inr (ap is_element e ∙ f)

@@ -32,7 +32,7 @@ letter_tests c e =
 
 -- ---- texts of ASCII characters that pass a test that it fails
 
-all_ascii : (p : ℕ → Bool) (t : List ℕ) → ((b : ℕ) → p b ≡ true → b < 128) → list_all p t ≡ true
+pub all_ascii : (p : ℕ → Bool) (t : List ℕ) → ((b : ℕ) → p b ≡ true → b < 128) → list_all p t ≡ true
     → IsAscii t
 all_ascii p [] low e i = omega arith
 all_ascii p (b ∷ t) low e zero = low b (and_parts (p b) (list_all p t) e).0

@@ -50,4 +50,21 @@ pub mod ColumnTags
 pub mod HarmlessTokens
 pub mod HarmlessLettersLemmas
 pub mod PageLettersLemmas
+pub mod Sublists
+pub mod Rows
+pub mod OrderedNodes
+pub mod OrderedInserts
+pub mod OrderedTexts
+pub mod OrderedPaths
+pub mod OrderedMoves
+pub mod OrderedStates
+pub mod OrderedAdoption
+pub mod OrderedBody
+pub mod OrderedLate
+pub mod OrderedEarly
+pub mod OrderedHead
+pub mod OrderedRuns
+pub mod OrderedTokens
+pub mod OrderedLayout
+pub mod LetterOrderLemmas
 mod Examples

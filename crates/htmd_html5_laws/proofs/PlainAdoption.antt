@@ -35,9 +35,9 @@ use Rattle.htmd_html5_laws.proofs.HungStates.{ElementOpen, is_element_open, Hung
 -- ---- the elements between
 
 -- what a chain has made of a state is plain
-record Chained (s : StateValue) (c : Chain) : Type 0 where
-  grown : Grown s c.state
-  copies : PlainStack c.copies
+pub record Chained (s : StateValue) (c : Chain) : Type 0 where
+  pub grown : Grown s c.state
+  pub copies : PlainStack c.copies
 
 copy_kinds : (n last : ℕ) (s : StateValue)
     → kinds (copy_into n last s).nodes ≡ kinds s.nodes ++ kind_at s.nodes n ∷ []
@@ -55,7 +55,7 @@ copy_grown n last s p h = record {
       (plain_before (kinds s.nodes) (kind_at s.nodes n) m e);
 }
 
-next_chained : (left : ℕ) (e : OpenValue) (s : StateValue) (c : Chain) → is_plain_element e.name ≡ true
+pub next_chained : (left : ℕ) (e : OpenValue) (s : StateValue) (c : Chain) → is_plain_element e.name ≡ true
     → Chained s c
     → Chained s (with_next left e c)
 next_chained left e s c p h = either (nat_lt 0 left && is_listed e.node c.state.formatting) refl
@@ -75,7 +75,7 @@ next_chained left e s c p h = either (nat_lt 0 left && is_listed e.node c.state.
       copies = h.copies;
     }
 
-chain_chained : (left : ℕ) (es : List OpenValue) (s : StateValue) (c : Chain) → PlainStack es → Chained s c
+pub chain_chained : (left : ℕ) (es : List OpenValue) (s : StateValue) (c : Chain) → PlainStack es → Chained s c
     → Chained s (chain left es c)
 chain_chained left [] s c p h = h
 chain_chained left (e ∷ es) s c p h =
@@ -94,10 +94,10 @@ move_grown last s h = record {
     same = kinds_put last (place (on_nodes (detach last) s)) (detach last s.nodes) ∙ kinds_detach last s.nodes
 
 -- the furthest block, and what is open inside it and around it, have plain names
-record FurthestPlain (f : Furthest) : Type 0 where
-  inner : PlainStack f.inner
-  block : is_plain_element f.block.name ≡ true
-  between : PlainStack f.between
+pub record FurthestPlain (f : Furthest) : Type 0 where
+  pub inner : PlainStack f.inner
+  pub block : is_plain_element f.block.name ≡ true
+  pub between : PlainStack f.between
 
 finish_plain : (formatting : ℕ) (tag : TagName) (f : Furthest) (c : Chain) (s : StateValue) → is_plain tag ≡ true
     → PlainAt (kinds s.nodes) formatting → FurthestPlain f → PlainStack c.copies → Plain s
@@ -113,7 +113,7 @@ finish_plain formatting tag f c s p at names copies h =
     (p, (names.block, each_append PlainOpen c.copies s.stack copies h.names)))
     (plain_new (kind_at s.nodes formatting) (wrap_kinds formatting f.block.node s.nodes) h))
 
-adopt_plain : (formatting : ℕ) (tag : TagName) (f : Furthest) (s : StateValue) → is_plain tag ≡ true
+pub adopt_plain : (formatting : ℕ) (tag : TagName) (f : Furthest) (s : StateValue) → is_plain tag ≡ true
     → PlainAt (kinds s.nodes) formatting → FurthestPlain f → Plain s → Plain (adopt formatting tag f s)
 adopt_plain formatting tag f s p at names h =
     let chained : Chained s (chain 3 f.between (begin_chain f.block.node s)) =
@@ -130,11 +130,11 @@ adopt_plain formatting tag f s p at names h =
     moved.plain
 
 -- what is open inside the formatting element
-abbrev SomePlain : Option Furthest → Type 0
+abbrev pub SomePlain : Option Furthest → Type 0
 SomePlain None = Unit {0}
 SomePlain (Some f) = FurthestPlain f
 
-furthest_plain : (es : List OpenValue) → PlainStack es → SomePlain (furthest_block es)
+pub furthest_plain : (es : List OpenValue) → PlainStack es → SomePlain (furthest_block es)
 furthest_plain [] h = tt
 furthest_plain (e ∷ es) h = more (furthest_block es) (furthest_plain es h.1)
   where
@@ -145,18 +145,18 @@ furthest_plain (e ∷ es) h = more (furthest_block es) (furthest_plain es h.1)
 
 -- ---- the rounds
 
-after_round : Round → StateValue
+unfoldable pub after_round : Round → StateValue
 after_round (last_round s) = s
 after_round (goes_on s) = s
 
-by_plain : (formatting : ℕ) (tag : TagName) (f : Option Furthest) (s : StateValue) → is_plain tag ≡ true
+pub by_plain : (formatting : ℕ) (tag : TagName) (f : Option Furthest) (s : StateValue) → is_plain tag ≡ true
     → PlainAt (kinds s.nodes) formatting → SomePlain f → Plain s
     → Plain (after_round (round_by formatting tag f s))
 unfolding after_round
 by_plain formatting tag None s p at names h = (without_entry_stays formatting).stays s h
 by_plain formatting tag (Some f) s p at names h = adopt_plain formatting tag f s p at names h
 
-with_plain : (tag : TagName) (formatting : ℕ) (s : StateValue) → is_plain tag ≡ true
+pub with_plain : (tag : TagName) (formatting : ℕ) (s : StateValue) → is_plain tag ≡ true
     → PlainAt (kinds s.nodes) formatting → Plain s → Plain (after_round (round_with tag formatting s))
 unfolding after_round
 with_plain tag formatting s p at h = either (not (is_open_node formatting s.stack))
@@ -174,7 +174,7 @@ with_plain tag formatting s p at h = either (not (is_open_node formatting s.stac
     either false = later (list_any bounds_any (inside formatting s.stack))
 
 -- what is found after the last marker is listed
-found_listed : (p : ℕ → Bool) (entries : List (Option ℕ)) (n : ℕ) → find p (since_marker entries) ≡ Some n
+pub found_listed : (p : ℕ → Bool) (entries : List (Option ℕ)) (n : ℕ) → find p (since_marker entries) ≡ Some n
     → is_listed n entries ≡ true
 found_listed p [] n e = absurd (cc)
 found_listed p (None ∷ entries) n e = absurd (cc)
@@ -185,7 +185,7 @@ found_listed p (Some m ∷ entries) n e =
     first : (m n : ℕ) → Some m ≡ Some n → m ≡ n
     first m n e = cc
 
-of_plain : (tag : TagName) (formatting : Option ℕ) (s : StateValue) → formatting_element tag s ≡ formatting
+pub of_plain : (tag : TagName) (formatting : Option ℕ) (s : StateValue) → formatting_element tag s ≡ formatting
     → is_plain tag ≡ true → Plain s → Plain (after_round (round_of tag formatting s))
 unfolding after_round
 of_plain tag None s e p h = (on_stack_stays (close_name (known tag)) (close_name_fewer (known tag))).stays s h
@@ -193,7 +193,7 @@ of_plain tag (Some formatting) s e p h =
     with_plain tag formatting s p
     (h.entries_at formatting (found_listed (node_is s.nodes tag) s.formatting formatting e)) h
 
-go_on_plain : (more : StateValue → StateValue) (r : Round) → ((s : StateValue) → Plain s → Plain (more s))
+pub go_on_plain : (more : StateValue → StateValue) (r : Round) → ((s : StateValue) → Plain s → Plain (more s))
     → Plain (after_round r) → Plain (go_on more r)
 unfolding after_round
 go_on_plain more (last_round s) f h = h
@@ -215,17 +215,17 @@ plain_is_element document p = absurd (true≢false (sym p))
 plain_is_element doctype p = absurd (true≢false (sym p))
 plain_is_element (comment s) p = absurd (true≢false (sym p))
 
-element_at : (nodes : List NodeValue) (n : ℕ) → PlainAt (kinds nodes) n → is_element (kind_at nodes n) ≡ true
+pub element_at : (nodes : List NodeValue) (n : ℕ) → PlainAt (kinds nodes) n → is_element (kind_at nodes n) ≡ true
 element_at nodes n p = plain_is_element (kind_at nodes n) (ap is_plain_kind (kind_read nodes n) ∙ p)
 
-chain_hung : (old : ℕ → ℕ) (r left : ℕ) (es : List OpenValue) (s : StateValue) (c : Chain) → PlainStack es
+pub chain_hung : (old : ℕ → ℕ) (r left : ℕ) (es : List OpenValue) (s : StateValue) (c : Chain) → PlainStack es
     → Chained s c → ChainHung s old r left c → ChainHung s old r 0 (chain left es c)
 chain_hung old r left [] s c p h x = rested s old r left c x
 chain_hung old r left (e ∷ es) s c p h x =
     chain_hung old r (left - 1) es s (with_next left e c) p.1 (next_chained left e s c p.0 h)
     (next_hung s old r left e c (λ l. element_at c.state.nodes e.node (h.grown.plain.entries_at e.node l)) x)
 
-adopt_hung : (formatting : ℕ) (tag : TagName) (f : Furthest) (s : StateValue) → FurthestPlain f → Plain s
+pub adopt_hung : (formatting : ℕ) (tag : TagName) (f : Furthest) (s : StateValue) → FurthestPlain f → Plain s
     → RoundHung formatting f s → Hung (adopt formatting tag f s)
 adopt_hung formatting tag f s names h x =
     finish_hung formatting tag f s x 0 (chain 3 f.between (begin_chain f.block.node s))
@@ -233,7 +233,7 @@ adopt_hung formatting tag f s names h x =
     (record { grown = record { plain = h; grows = λ n q. q }; copies = tt })
     (begun s f.block x.rank x.hangs x.furthest.block x.forest (let a = x.ranks.block in omega arith)))
 
-open_hung : (formatting : ℕ) (tag : TagName) (s : StateValue) → is_open_node formatting s.stack ≡ true
+pub open_hung : (formatting : ℕ) (tag : TagName) (s : StateValue) → is_open_node formatting s.stack ≡ true
     → is_element (kind_at s.nodes formatting) ≡ true → Plain s → (x : Hung s) (f : Option Furthest)
     → SomeRanks x.rank x.limit (suc (x.rank formatting)) f → SomeAt (ElementOpen s.nodes) f → SomePlain f
     → Hung (after_round (round_by formatting tag f (on_stack (around formatting) s)))
@@ -259,7 +259,7 @@ open_hung formatting tag s l e h x (Some f) ranks at names =
       root = x.root;
     })
 
-with_hung : (tag : TagName) (formatting : ℕ) (s : StateValue) → is_element (kind_at s.nodes formatting) ≡ true
+pub with_hung : (tag : TagName) (formatting : ℕ) (s : StateValue) → is_element (kind_at s.nodes formatting) ≡ true
     → Plain s → Hung s → Hung (after_round (round_with tag formatting s))
 unfolding after_round
 with_hung tag formatting s e h x = either (is_open_node formatting s.stack) refl
@@ -281,7 +281,7 @@ with_hung tag formatting s e h x = either (is_open_node formatting s.stack) refl
     either true l = later l (list_any bounds_any (inside formatting s.stack))
     either false l = x
 
-of_hung : (tag : TagName) (formatting : Option ℕ) (s : StateValue) → formatting_element tag s ≡ formatting
+pub of_hung : (tag : TagName) (formatting : Option ℕ) (s : StateValue) → formatting_element tag s ≡ formatting
     → Plain s → Hung s → Hung (after_round (round_of tag formatting s))
 unfolding after_round
 of_hung tag None s e h x = hung_fewer (close_name (known tag) s.stack) (close_name_fewer (known tag) s.stack) x
@@ -290,7 +290,7 @@ of_hung tag (Some formatting) s e h x =
     (element_at s.nodes formatting
     (h.entries_at formatting (found_listed (node_is s.nodes tag) s.formatting formatting e))) h x
 
-go_on_hung : (more : StateValue → StateValue) (r : Round)
+pub go_on_hung : (more : StateValue → StateValue) (r : Round)
     → ((s : StateValue) → Plain s → Hung s → Hung (more s)) → Plain (after_round r) → Hung (after_round r)
     → Hung (go_on more r)
 unfolding after_round
@@ -304,7 +304,7 @@ rounds_hung (suc k) tag s p h x =
     go_on_hung (rounds k tag) (round tag s) (λ t g y. rounds_hung k tag t p g y)
     (of_plain tag (formatting_element tag s) s refl p h) (of_hung tag (formatting_element tag s) s refl h x)
 
-rounds_stay : (k : ℕ) (tag : TagName) → is_plain tag ≡ true → Stays (rounds k tag)
+pub rounds_stay : (k : ℕ) (tag : TagName) → is_plain tag ≡ true → Stays (rounds k tag)
 rounds_stay k tag p =
     record { stays = λ s h. rounds_plain k tag s p h; hangs = λ s h x. rounds_hung k tag s p h x }
 

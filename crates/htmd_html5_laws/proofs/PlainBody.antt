@@ -105,7 +105,7 @@ add_to_root_stays tag =
     stays_by_test (λ s. is_open (Only tags.Template) s.stack) still
     (stays_by_state (λ s. first_open s.stack) (λ n. add_missing_to_stays n tag.attributes))
 
-skip_line_feed_stays : Stays skip_line_feed
+pub skip_line_feed_stays : Stays skip_line_feed
 skip_line_feed_stays = record { stays = λ s h. h; hangs = λ s h x. x }
 
 pub with_form_stays : Stays with_form
@@ -379,14 +379,18 @@ close_form_stays (Some n) =
     stays_by_test (λ s. is_node_in_scope n s.stack) (on_stack_stays (λ stack. without n (pop_while ImpliedEnd stack))
     (λ stack. fewer_then (without_fewer n (pop_while ImpliedEnd stack)) (pop_while_fewer ImpliedEnd stack))) still
 
+-- the form that is noted
+pub close_noted_form_stays : Stays (λ s. close_form s.form (record s { form = None }))
+close_noted_form_stays = record {
+  stays = λ s h. (close_form_stays s.form).stays (record s { form = None }) h;
+  hangs = λ s h x. (close_form_stays s.form).hangs (record s { form = None }) h x;
+}
+
 end_form_stays : Stays end_form
 end_form_stays =
     stays_by_test (λ s. is_open (Only tags.Template) s.stack)
     (on_stack_stays (close (Only tags.Form) Default) (close_fewer (Only tags.Form) Default))
-    (record {
-      stays = λ s h. (close_form_stays s.form).stays (record s { form = None }) h;
-      hangs = λ s h x. (close_form_stays s.form).hangs (record s { form = None }) h x;
-    })
+    close_noted_form_stays
 
 end_paragraph_stays : Stays end_paragraph
 end_paragraph_stays =

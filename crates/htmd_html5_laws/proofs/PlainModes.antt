@@ -247,12 +247,12 @@ end_after_body_stays : (name : NameValue) → StaysAnswer (end_after_body name)
 end_after_body_stays (known tags.Html) = says_plain (with_mode_stays AfterAfterBody refl)
 end_after_body_stays _ = back_to_body_stays
 
-comment_in_stays : (s : List ℕ) (n : Option ℕ) → Stays (comment_in n s)
+pub comment_in_stays : (s : List ℕ) (n : Option ℕ) → Stays (comment_in n s)
 comment_in_stays s None = still
 comment_in_stays s (Some n) = insert_comment_in_stays n s
 
 -- no template is open
-end_of_file_stays : StaysAnswer end_of_file_in_body
+pub end_of_file_stays : StaysAnswer end_of_file_in_body
 end_of_file_stays = record {
   stays = λ s h. either s (has_modes s.template_modes) (ap has_modes h.no_modes) h;
   hangs = λ s h x. each s (has_modes s.template_modes) (ap has_modes h.no_modes) x;

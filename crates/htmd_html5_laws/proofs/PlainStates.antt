@@ -318,11 +318,11 @@ pub record GrownHung (s new : StateValue) : Type 0 where
 pub grown_then : {s t new : StateValue} → Grown s t → Grown t new → Grown s new
 grown_then a b = record { plain = b.plain; grows = λ n p. b.grows n (a.grows n p) }
 
-abbrev EachPlain : List KindValue → List ℕ → Type 0
+abbrev pub EachPlain : List KindValue → List ℕ → Type 0
 EachPlain ks [] = Unit {0}
 EachPlain ks (n ∷ ns) = PlainAt ks n × EachPlain ks ns
 
-like_grown : (s : StateValue) (k : KindValue) → is_plain_kind k ≡ true → Plain s
+pub like_grown : (s : StateValue) (k : KindValue) → is_plain_kind k ≡ true → Plain s
     → GrownHung s (on_formatting (λ entries. Some (length s.nodes) ∷ entries) (insert_like k s))
 like_grown s (element name attributes) p h = record {
   grown = record {
@@ -338,7 +338,7 @@ like_grown s document p h = absurd (true≢false (sym p))
 like_grown s doctype p h = absurd (true≢false (sym p))
 like_grown s (comment t) p h = absurd (true≢false (sym p))
 
-reopen_all_grown : (ns : List ℕ) (s : StateValue) → EachPlain (kinds s.nodes) ns → Plain s
+pub reopen_all_grown : (ns : List ℕ) (s : StateValue) → EachPlain (kinds s.nodes) ns → Plain s
     → GrownHung s (reopen_all ns s)
 reopen_all_grown [] s all h = record { grown = record { plain = h; grows = λ n p. p }; hung = λ x. x }
 reopen_all_grown (n ∷ ns) s all h =
@@ -347,7 +347,7 @@ reopen_all_grown (n ∷ ns) s all h =
     (ap is_plain_kind (kind_read (reopen_all ns s).nodes n) ∙ before.grown.grows n all.0) before.grown.plain in
     record { grown = grown_then before.grown last.grown; hung = λ x. last.hung (before.hung x) }
 
-closed_plain : (ks : List KindValue) (stack : List OpenValue) (entries : List (Option ℕ))
+pub closed_plain : (ks : List KindValue) (stack : List OpenValue) (entries : List (Option ℕ))
     → ((n : ℕ) → is_listed n entries ≡ true → PlainAt ks n) → EachPlain ks (closed_elements stack entries)
 closed_plain ks stack [] f = tt
 closed_plain ks stack (None ∷ entries) f = tt

@@ -92,7 +92,7 @@ rank_at_most _ = omega arith
 
 -- ---- steps that leave the mode
 
-like_mode : (k : KindValue) (s : StateValue) → (insert_like k s).mode ≡ s.mode
+pub like_mode : (k : KindValue) (s : StateValue) → (insert_like k s).mode ≡ s.mode
 like_mode (element name attributes) s = refl
 like_mode (text t) s = refl
 like_mode document s = refl
@@ -103,7 +103,7 @@ reopen_mode : (ns : List ℕ) (s : StateValue) → (reopen_all ns s).mode ≡ s.
 reopen_mode [] s = refl
 reopen_mode (n ∷ ns) s = like_mode (kind_at (reopen_all ns s).nodes n) (reopen_all ns s) ∙ reopen_mode ns s
 
-reconstruct_mode : (s : StateValue) → (reconstruct s).mode ≡ s.mode
+pub reconstruct_mode : (s : StateValue) → (reconstruct s).mode ≡ s.mode
 reconstruct_mode s = reopen_mode (closed_elements s.stack s.formatting) (on_formatting (after_closed s.stack) s)
 
 -- a run by the rules of the body
@@ -126,7 +126,7 @@ outcome_as : {c m limit : ℕ} (n : ℕ) {s : StateValue} {a : Answer} → m ≡
 outcome_as n e (finished t g d) = finished t (grew_as n e g) d
 outcome_as n e (goes_on t g d l) = goes_on t g d l
 
-never_null : (b : ℕ) → is_of_kind (kind_of_byte 0) b ≡ true → b < 128
+pub never_null : (b : ℕ) → is_of_kind (kind_of_byte 0) b ≡ true → b < 128
 never_null b e = grind (arith, nat_tests)
 
 module _ (c : ℕ) (letter : LetterTests c) where

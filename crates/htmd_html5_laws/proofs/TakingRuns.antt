@@ -33,7 +33,7 @@ use Rattle.htmd_html5_laws.proofs.TextsPut.{occurs_append, occurs_nil}
 use Rattle.htmd_html5_laws.proofs.Taking.{Takes, keeps_takes, takes_after, after_takes, fostered_takes}
 use Rattle.htmd_html5_laws.proofs.Taking.{insert_text_takes, Offers, offers, offers_kept, takes_none, offers_by_test}
 
-one_utf8 : IsUtf8 (encode_utf8 replacement_character)
+pub one_utf8 : IsUtf8 (encode_utf8 replacement_character)
 unfolding encode_utf8
 one_utf8 = (replacement_character ∷ [], (refl, refl))
 

@@ -3,3 +3,4 @@ pub mod PageLetters
 pub mod DocumentLetters
 pub mod KeptLetters
 pub mod HarmlessTags
+pub mod LetterOrder

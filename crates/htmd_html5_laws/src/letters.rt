@@ -2,6 +2,7 @@
 ghost use Rattle.htmd_html5_laws.specs.DocumentLetters.{LettersAreTaken};
 ghost use Rattle.htmd_html5_laws.specs.HarmlessTags.{HarmlessLettersAreKept, HarmlessLettersAreTaken, HarmlessTextsAreTaken};
 ghost use Rattle.htmd_html5_laws.specs.KeptLetters.{LettersAreKept};
+ghost use Rattle.htmd_html5_laws.specs.LetterOrder.{LettersStandInOrder};
 ghost use Rattle.htmd_html5_laws.specs.PageLetters.{NoLetterIsMadeUp, TokensAreUtf8};
 
 /// The texts of the tokens of a page in UTF-8 are in UTF-8.
@@ -42,4 +43,10 @@ pub fn harmless_letters_are_taken()
 /// often as in those of the page's tokens.
 pub fn harmless_letters_are_kept()
     ensures { HarmlessLettersAreKept }
+{}
+
+/// Without a start tag of `frameset`, `template`, `table` or `select` letters stand in order: those of the tree's
+/// texts, in document order, are those of the texts of the page's tokens, in the same order.
+pub fn letters_stand_in_order()
+    ensures { LettersStandInOrder }
 {}

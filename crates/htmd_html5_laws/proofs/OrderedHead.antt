@@ -1,0 +1,558 @@
+-- In the head and after it each token that is no text leaves the letters in order.
+use Rattle.std.proofs.Common.{◌≡◌, ◌∙◌, ℕ, zero, suc, ◌<◌, ◌≤◌, Bool, true, false, List, [], ◌∷◌, ◌++◌, length}
+use Rattle.std.proofs.Common.{Option, Some, None, refl, sym, ap, subst, arith, cond, inl, inr, ◌⊎◌}
+use Rattle.std.specs.Prelude.{if◌then◌else◌, ◌==◌, ◌||◌, not}
+use Rattle.std.proofs.lemmas.Bool.{true≢false, eq-eqb, ne_eqb}
+use Rattle.htmd_text.proofs.Cases.{test}
+use Rattle.htmd_grammar.specs.ValueTrees.{AttributePair}
+use Rattle.htmd_html5_tokens.specs.declared.tokens.Content.{Content}
+use Rattle.htmd_html5_tokens.specs.declared.tokens.RawElement.{RawElement}
+use Rattle.htmd_html5_state.specs.Names.{NameValue, known, html}
+use Rattle.htmd_html5_state.specs.Documents.{NodeValue, KindValue, doctype as doctype_kind, comment as comment_kind, text}
+use Rattle.htmd_html5_state.specs.Documents.{kind_at, last_in, add, add_missing, kind_with_missing}
+use Rattle.htmd_html5_state.specs.OpenElements.{OpenValue, is_open, first_open, pop, without}
+use Rattle.htmd_html5_state.specs.State.{StateValue, on_nodes, on_stack}
+use Rattle.htmd_html5_state.specs.Foreign.{is_html, current_is_html}
+use Rattle.htmd_html5_state.specs.Insertion.{opened, current, insert_element, insert_void, insert_raw, insert_doctype, open_again}
+use Rattle.htmd_html5_state.specs.Insertion.{insert_comment_in, insert_comment}
+use Rattle.htmd_html5_state.specs.declared.modes.InsertionMode.TheVariants.{Initial, BeforeHtml, BeforeHead, InHead}
+use Rattle.htmd_html5_state.specs.declared.modes.InsertionMode.TheVariants.{InHeadNoscript, AfterHead, InBody, AfterBody}
+use Rattle.htmd_html5_state.specs.declared.modes.InsertionMode.TheVariants.{AfterAfterBody}
+use Rattle.htmd_html5_state.specs.declared.modes.InsertionMode.{InsertionMode}
+use Rattle.htmd_html5_state.specs.declared.sets.NameSet.TheVariants.{Only}
+use Rattle.htmd_html5.specs.Tokens.{StartTagValue, TokenValue, start_tag, end_tag, run, comment, doctype, end_of_file}
+use Rattle.htmd_html5.specs.Answers.{Answer, answer, done, again}
+use Rattle.htmd_html5.specs.Feeding.{is_text_mode}
+use Rattle.htmd_html5.specs.SharedRules.{add_missing_to, add_to_root, insert_head_element, insert_raw_tag, insert_void_tag}
+use Rattle.htmd_html5.specs.SharedRules.{end_template, insert_tag}
+use Rattle.htmd_html5.specs.Initial.{leave_initial, initial}
+use Rattle.htmd_html5.specs.BeforeHtml.{with_root, imply_root, start_before_html, end_before_html, before_html}
+use Rattle.htmd_html5.specs.BeforeHead.{with_head, imply_head, start_before_head, end_before_head, before_head}
+use Rattle.htmd_html5.specs.InHead.{close_head, noscript_in_head, start_in_head, end_in_head, in_head}
+use Rattle.htmd_html5.specs.InHeadNoscript.{close_noscript, start_in_noscript, end_in_noscript, in_head_noscript}
+use Rattle.htmd_html5.specs.AfterHead.{with_body, imply_body, insert_in_head, insert_late, start_after_head, end_after_head}
+use Rattle.htmd_html5.specs.AfterHead.{after_head}
+use Rattle.htmd_html5.specs.Modes.{in_mode, by_mode_rules}
+use Rattle.htmd_html5.specs.Processing.{by_rules}
+use Rattle.htmd_html5.specs.ForeignContent.{is_foreign, in_foreign_content}
+use Rattle.htmd_html5_laws.proofs.NodeTexts.{is_element, kinds_add}
+use Rattle.htmd_html5_laws.proofs.OpenNodes.{EachOpen, Below, Fewer, all_of, skip, pop_fewer}
+use Rattle.htmd_html5_laws.proofs.PlainNames.{is_plain_name, is_plain_open, no_template_open}
+use Rattle.htmd_html5_laws.proofs.PlainStates.{is_plain_mode, Plain, PlainIn, Stays, plain_stack, in_plain_mode, plain_new, insert_root_stays}
+use Rattle.htmd_html5_laws.proofs.PlainStates.{insert_doctype_stays, insert_element_stays, missing_grows, plain_grown}
+use Rattle.htmd_html5_laws.proofs.HungStates.{ElementOpen, HungIn, Hung, hung_fewer, hung_last, hung_headed, hung_missing}
+use Rattle.htmd_html5_laws.proofs.HungStates.{hung_named, element_number}
+use Rattle.htmd_html5_laws.proofs.HungNodes.{is_solid, element_solid}
+use Rattle.htmd_html5_laws.proofs.OrderedNodes.{FitsBy}
+use Rattle.htmd_html5_laws.proofs.OrderedTexts.{fits_like}
+use Rattle.htmd_html5_laws.proofs.OrderedStates.{OrderedIn, Ordered, Orders, ordered_fewer, is_late, element_in, loose_in}
+use Rattle.htmd_html5_laws.proofs.OrderedStates.{no_text, current_within, insert_comment_orders, insert_comment_root_orders}
+use Rattle.htmd_html5_laws.proofs.OrderedStates.{insert_void_orders, insert_raw_orders, insert_element_orders, missing_ordered}
+use Rattle.htmd_html5_laws.proofs.OrderedLate.{IsOrderly, Late, late_step, by_rules_late, first_within}
+use Rattle.htmd_html5_laws.proofs.OrderedBody.{plain_or_column, by_column_name, no_frameset_orders}
+use Rattle.htmd_html5_state.specs.declared.names.TagName.TheVariants as tags
+use Rattle.htmd_html5_tokens.specs.declared.tokens.RawElement.TheVariants as raw
+use Rattle.htmd_html5.specs.ForeignContent.{is_for_math_text, is_for_annotation, is_for_html_point}
+use Rattle.htmd_html5_state.specs.Foreign.{is_math_text_point, is_annotation, is_html_point}
+use Rattle.std.specs.Prelude.{◌&&◌}
+use Rattle.htmd_html5_laws.proofs.OrderedEarly.{HtmlOpen, EarlyIn, Early, head_open, AfterHeadIn, popped, HeadAt, Stage, Staged}
+use Rattle.htmd_html5_laws.proofs.OrderedEarly.{staged, late_stage, stage_late, staged_late, Calm, StageAnswer, calm_answer}
+use Rattle.htmd_html5_laws.proofs.OrderedEarly.{raw_answer, late_answers, early_step, early_late, names_popped, early_fewer}
+use Rattle.htmd_html5_laws.proofs.OrderedEarly.{SameBut, root_same, root_early, root_stage, comment_early, initial_stage}
+use Rattle.htmd_html5_laws.proofs.OrderedEarly.{before_html_stage, before_head_stage}
+
+-- ---- elements in the head
+
+void_early : (letters : List ℕ) (name : NameValue) (attributes : List AttributePair) (s : StateValue)
+    → is_plain_name name ≡ true → Early letters s → Early letters (insert_void name attributes s)
+void_early letters name attributes s p h = early_step (insert_void_orders name attributes p) letters s h.names h
+
+raw_early : (letters : List ℕ) (name : NameValue) (element : RawElement) (attributes : List AttributePair)
+    (s : StateValue) → is_plain_name name ≡ true → Early letters s
+    → Early letters (insert_raw name element attributes s)
+raw_early letters name element attributes s p h =
+    early_step (insert_raw_orders name element attributes p) letters s (refl, h.names) h
+
+module _ (tag : StartTagValue) (p : is_plain_name tag.name ≡ true) (letters : List ℕ) (mode : InsertionMode) (k : ℕ)
+    (go : (raw : Bool) (s : StateValue) → Early letters s × HeadAt (cond raw (suc k) k) s → Stage raw mode letters s)
+    (s : StateValue) (m : s.mode ≡ mode) (e : is_text_mode s.content ≡ false) (h : Early letters s)
+    (at : HeadAt k s) where
+  raw_in_head : (element : RawElement) → is_text_mode (insert_raw_tag element tag s).content ≡ true
+      → StageAnswer letters (done (insert_raw_tag element tag s))
+  raw_in_head element f =
+      raw_answer mode letters (insert_raw_tag element tag s) f m
+      (go true (insert_raw_tag element tag s) (raw_early letters tag.name element tag.attributes s p h, at))
+
+  void_in_head : StageAnswer letters (done (insert_void_tag tag s))
+  void_in_head =
+      calm_answer mode false letters (insert_void_tag tag s) e m
+      (go false (insert_void_tag tag s) (void_early letters tag.name tag.attributes s p h, at))
+
+  put_in_head : (name : NameValue) → is_plain_name name ≡ true → StageAnswer letters (done (insert_head_element name tag s))
+  put_in_head (known tags.Title) q = raw_in_head raw.Title refl
+  put_in_head (known tags.NoFrames) q = raw_in_head raw.Noframes refl
+  put_in_head (known tags.Style) q = raw_in_head raw.Style refl
+  put_in_head (known tags.Script) q = raw_in_head raw.Script refl
+  put_in_head (known tags.Template) q = absurd (true≢false (sym q))
+  put_in_head _ q = void_in_head
+
+  still_in_head : StageAnswer letters (done s)
+  still_in_head = calm_answer mode false letters s e m (go false s (h, at))
+
+  root_in_head : StageAnswer letters (done (add_to_root tag s))
+  root_in_head =
+      root_stage letters tag s mode e m
+      (λ t same f. go false t (
+        subst (λ (stack : List OpenValue). EarlyIn letters t stack) (sym same.stack) (f s.stack h),
+        λ n g. ap (λ (stack : List OpenValue). (current (popped k stack)).node) same.stack ∙ at n (sym same.head ∙ g),
+      ))
+
+-- ---- the head is closed
+
+renamed : (letters : List ℕ) (s : StateValue) (n : ℕ) (stack : List OpenValue) → is_element (kind_at s.nodes n) ≡ true
+    → (current stack).node ≡ n → EarlyIn letters s stack → EarlyIn letters s (head_open n ∷ pop stack)
+renamed letters s n [] e f h =
+    absurd (true≢false (sym (element_solid (kind_at s.nodes n) e)
+    ∙ (ap (λ (x : ℕ). is_solid (kind_at s.nodes x)) (sym f) ∙ h.hung.root)))
+renamed letters s n (d ∷ ds) e f h = record {
+  plain = plain_stack (head_open n ∷ ds) (refl, h.plain.names.1) h.plain;
+  hung = record {
+    rank = h.hung.rank;
+    limit = h.hung.limit;
+    at_root = h.hung.at_root;
+    order = subst (λ (x : ℕ). Below h.hung.rank h.hung.limit (head_open x ∷ ds)) f h.hung.order;
+    hangs = h.hung.hangs;
+    opened_at = (e, h.hung.opened_at.1);
+    head_at = h.hung.head_at;
+    forest = h.hung.forest;
+    filled = h.hung.filled;
+    root = h.hung.root;
+  };
+  ordered = record {
+    labels = h.ordered.labels;
+    fits = h.ordered.fits;
+    root = h.ordered.root;
+    opens = (subst (λ (x : ℕ). h.ordered.labels.live x ≡ true) f h.ordered.opens.0, h.ordered.opens.1);
+    no_fostering = h.ordered.no_fostering;
+  };
+  names = (refl, h.names.1);
+}
+
+-- the same nodes and stack in another mode
+to_mode : (letters : List ℕ) (s : StateValue) (stack es : List OpenValue) (mode : InsertionMode)
+    → is_plain_mode mode ≡ true → EarlyIn letters s stack
+    → EarlyIn letters (record s { stack = es; mode = mode }) stack
+to_mode letters s stack es mode p h =
+    record { plain = in_plain_mode mode p h.plain; hung = h.hung; ordered = h.ordered; names = h.names }
+
+head_closed_in : (letters : List ℕ) (s : StateValue) (head : Option ℕ) → s.head ≡ head → Early letters s → HeadAt 0 s
+    → AfterHeadIn false head (pop s.stack) letters (close_head s)
+head_closed_in letters s None e h at =
+    to_mode letters s (pop s.stack) (pop s.stack) AfterHead refl
+    (early_fewer letters s s.stack (pop s.stack) (pop_fewer s.stack) h)
+head_closed_in letters s (Some n) e h at =
+    to_mode letters s (head_open n ∷ pop s.stack) (pop s.stack) AfterHead refl
+    (renamed letters s n s.stack (h.hung.head_at n e) (at n e) h)
+
+pub head_closed : (more : Bool) (letters : List ℕ) (s : StateValue) → is_text_mode s.content ≡ false → Early letters s
+    → HeadAt 0 s → StageAnswer letters (answer (close_head s) more)
+head_closed more letters s e h at =
+    calm_answer AfterHead more letters (close_head s) e refl (head_closed_in letters s s.head refl h at)
+
+pub noscript_closed : (more : Bool) (letters : List ℕ) (s : StateValue) → is_text_mode s.content ≡ false
+    → Early letters s → HeadAt 1 s → StageAnswer letters (answer (close_noscript s) more)
+noscript_closed more letters s e h at =
+    calm_answer InHead more letters (close_noscript s) e refl (
+      to_mode letters s (pop s.stack) (pop s.stack) InHead refl
+          (early_fewer letters s s.stack (pop s.stack) (pop_fewer s.stack) h),
+      at,
+    )
+
+no_template_end : (s : StateValue) → Plain s → end_template s ≡ s
+no_template_end s h = rw (no_template_open s.stack h.names) refl
+
+-- ---- in the head
+
+module _ (letters : List ℕ) (s : StateValue) (m : s.mode ≡ InHead) (e : is_text_mode s.content ≡ false)
+    (h : Early letters s) (at : HeadAt 0 s) where
+  noscript_stage : (tag : StartTagValue) → is_plain_name tag.name ≡ true
+      → StageAnswer letters (done (noscript_in_head tag s))
+  noscript_stage tag p = either s.scripting
+    where
+      either : (b : Bool) → StageAnswer letters (done (if b then insert_raw_tag raw.Noscript tag s
+          else record (insert_tag tag s) { mode = InHeadNoscript }))
+      either true = raw_in_head tag p letters InHead 0 (λ raw t g. g) s m e h at raw.Noscript refl
+      either false =
+          calm_answer InHeadNoscript false letters (record (insert_tag tag s) { mode = InHeadNoscript }) e refl (
+            to_mode letters (insert_tag tag s) (insert_tag tag s).stack (insert_tag tag s).stack InHeadNoscript refl
+                (early_step (insert_element_orders tag.name tag.attributes p) letters s (refl, h.names) h),
+            at,
+          )
+
+  start_in_head_stage : (tag : StartTagValue) → is_plain_name tag.name ≡ true → (name : NameValue)
+      → StageAnswer letters (start_in_head name tag s)
+  start_in_head_stage tag p name = by_name name
+    where
+      element_put : StageAnswer letters (done (insert_head_element tag.name tag s))
+      element_put = put_in_head tag p letters InHead 0 (λ raw t g. g) s m e h at tag.name p
+
+      by_name : (name : NameValue) → StageAnswer letters (start_in_head name tag s)
+      by_name (known tags.Html) = root_in_head tag p letters InHead 0 (λ raw t g. g) s m e h at
+      by_name (known tags.Base) = element_put
+      by_name (known tags.BaseFont) = element_put
+      by_name (known tags.BgSound) = element_put
+      by_name (known tags.Link) = element_put
+      by_name (known tags.Meta) = element_put
+      by_name (known tags.Title) = element_put
+      by_name (known tags.NoFrames) = element_put
+      by_name (known tags.Style) = element_put
+      by_name (known tags.Script) = element_put
+      by_name (known tags.Template) = element_put
+      by_name (known tags.NoScript) = noscript_stage tag p
+      by_name (known tags.Head) = calm_answer InHead false letters s e m (h, at)
+      by_name _ = head_closed true letters s e h at
+
+  end_in_head_stage : (name : NameValue) → StageAnswer letters (end_in_head name s)
+  end_in_head_stage (known tags.Head) = head_closed false letters s e h at
+  end_in_head_stage (known tags.Template) =
+      subst (λ (t : StateValue). StageAnswer letters (done t)) (sym (no_template_end s h.plain))
+      (calm_answer InHead false letters s e m (h, at))
+  end_in_head_stage (known tags.Body) = head_closed true letters s e h at
+  end_in_head_stage (known tags.Html) = head_closed true letters s e h at
+  end_in_head_stage (known tags.Br) = head_closed true letters s e h at
+  end_in_head_stage _ = calm_answer InHead false letters s e m (h, at)
+
+  in_head_stage : (t : TokenValue) → IsOrderly t → StageAnswer letters (in_head t s)
+  in_head_stage (run kind c) p = absurd (true≢false p)
+  in_head_stage (start_tag tag) p =
+      plain_or_column (StageAnswer letters (start_in_head tag.name tag s)) tag.name p
+      (λ q. start_in_head_stage tag q tag.name)
+      (by_column_name (λ name. StageAnswer letters (start_in_head name tag s)) (head_closed true letters s e h at)
+      (head_closed true letters s e h at) tag.name)
+  in_head_stage (end_tag name) p = end_in_head_stage name
+  in_head_stage (comment c) p =
+      calm_answer InHead false letters (insert_comment c s) e m (comment_early letters c s h, at)
+  in_head_stage (doctype quirks) p = calm_answer InHead false letters s e m (h, at)
+  in_head_stage end_of_file p = head_closed true letters s e h at
+
+module _ (letters : List ℕ) (s : StateValue) (m : s.mode ≡ InHeadNoscript) (e : is_text_mode s.content ≡ false)
+    (h : Early letters s) (at : HeadAt 1 s) where
+  start_in_noscript_stage : (tag : StartTagValue) → is_plain_name tag.name ≡ true → (name : NameValue)
+      → StageAnswer letters (start_in_noscript name tag s)
+  start_in_noscript_stage tag p name = by_name name
+    where
+      element_put : StageAnswer letters (done (insert_head_element tag.name tag s))
+      element_put = put_in_head tag p letters InHeadNoscript 1 (λ raw t g. g) s m e h at tag.name p
+
+      by_name : (name : NameValue) → StageAnswer letters (start_in_noscript name tag s)
+      by_name (known tags.Html) = root_in_head tag p letters InHeadNoscript 1 (λ raw t g. g) s m e h at
+      by_name (known tags.BaseFont) = element_put
+      by_name (known tags.BgSound) = element_put
+      by_name (known tags.Link) = element_put
+      by_name (known tags.Meta) = element_put
+      by_name (known tags.NoFrames) = element_put
+      by_name (known tags.Style) = element_put
+      by_name (known tags.Head) = calm_answer InHeadNoscript false letters s e m (h, at)
+      by_name (known tags.NoScript) = calm_answer InHeadNoscript false letters s e m (h, at)
+      by_name _ = noscript_closed true letters s e h at
+
+  end_in_noscript_stage : (name : NameValue) → StageAnswer letters (end_in_noscript name s)
+  end_in_noscript_stage (known tags.NoScript) = noscript_closed false letters s e h at
+  end_in_noscript_stage (known tags.Br) = noscript_closed true letters s e h at
+  end_in_noscript_stage _ = calm_answer InHeadNoscript false letters s e m (h, at)
+
+  in_noscript_stage : (t : TokenValue) → IsOrderly t → StageAnswer letters (in_head_noscript t s)
+  in_noscript_stage (run kind c) p = absurd (true≢false p)
+  in_noscript_stage (start_tag tag) p =
+      plain_or_column (StageAnswer letters (start_in_noscript tag.name tag s)) tag.name p
+      (λ q. start_in_noscript_stage tag q tag.name)
+      (by_column_name (λ name. StageAnswer letters (start_in_noscript name tag s))
+      (noscript_closed true letters s e h at) (noscript_closed true letters s e h at) tag.name)
+  in_noscript_stage (end_tag name) p = end_in_noscript_stage name
+  in_noscript_stage (comment c) p =
+      calm_answer InHeadNoscript false letters (insert_comment c s) e m (comment_early letters c s h, at)
+  in_noscript_stage (doctype quirks) p = calm_answer InHeadNoscript false letters s e m (h, at)
+  in_noscript_stage end_of_file p = noscript_closed true letters s e h at
+
+-- ---- after the head
+
+pub real_of : (letters : List ℕ) (s : StateValue) (head : Option ℕ) (stack : List OpenValue)
+    → AfterHeadIn false head stack letters s → EarlyIn letters s stack
+real_of letters s None stack h = h
+real_of letters s (Some n) stack h =
+    early_fewer letters s (head_open n ∷ stack) stack (skip (head_open n) (all_of stack)) h
+
+body_put : (letters : List ℕ) (name : NameValue) (attributes : List AttributePair) (s : StateValue)
+    → is_plain_name name ≡ true → Early letters s → Late letters (with_body name attributes s)
+body_put letters name attributes s p h = record {
+  plain = in_plain_mode InBody refl ((insert_element_orders name attributes p).stays.stays s h.plain);
+  hung = (insert_element_orders name attributes p).stays.hangs s h.plain h.hung;
+  ordered = (insert_element_orders name attributes p).orders letters s h.plain h.hung h.ordered;
+  late = refl;
+}
+
+-- a comment, with the head open as before
+comment_after : (letters : List ℕ) (c : List ℕ) (s : StateValue) (stack : List OpenValue) → Early letters s
+    → EarlyIn letters s stack → EarlyIn letters (insert_comment c s) stack
+comment_after letters c s stack real h = record {
+  plain = plain_new (comment_kind c) (kinds_add (comment_kind c) (last_in (current s.stack).node) s.nodes) h.plain;
+  hung = hung_last (comment_kind c) (current s.stack).node s.nodes refl h.hung;
+  ordered = loose_in letters (comment_kind c) (current s.stack).node s.nodes stack s.head s.foster_parenting h.hung
+      h.ordered (current_within s.stack real.hung) refl (no_text c);
+  names = h.names;
+}
+
+pub by_head : (letters : List ℕ) (s t : StateValue) (head : Option ℕ) (stack : List OpenValue)
+    → ((es : List OpenValue) → EarlyIn letters s es → EarlyIn letters t es)
+    → AfterHeadIn false head stack letters s → AfterHeadIn false head stack letters t
+by_head letters s t None stack f h = f stack h
+by_head letters s t (Some n) stack f h = f (head_open n ∷ stack) h
+
+module _ (letters : List ℕ) (s : StateValue) (m : s.mode ≡ AfterHead) (e : is_text_mode s.content ≡ false)
+    (h : AfterHeadIn false s.head s.stack letters s) where
+  abbrev real : Early letters s
+  real = real_of letters s s.head s.stack h
+
+  pub body_implied : StageAnswer letters (imply_body s)
+  body_implied =
+      late_answers true letters (with_body (known tags.Body) [] s)
+      (body_put letters (known tags.Body) [] s refl (real_of letters s s.head s.stack h))
+
+  still_after : StageAnswer letters (done s)
+  still_after = calm_answer AfterHead false letters s e m h
+
+  root_after : (tag : StartTagValue) → StageAnswer letters (done (add_to_root tag s))
+  root_after tag =
+      root_stage letters tag s AfterHead e m
+      (λ t same f.
+      subst (λ (stack : List OpenValue). AfterHeadIn false t.head stack letters t) (sym same.stack)
+      (subst (λ (head : Option ℕ). AfterHeadIn false head s.stack letters t) (sym same.head)
+      (by_head letters s t s.head s.stack f h)))
+
+  module _ (tag : StartTagValue) (p : is_plain_name tag.name ≡ true) where
+    -- without a head it is put where it stands
+    late_by_none : (name : NameValue) → is_plain_name name ≡ true → s.head ≡ None → Early letters s
+        → StageAnswer letters (done (insert_head_element name tag s))
+    late_by_none name q f x = by_name name q
+      where
+        in_stage : (raw : Bool) (t : StateValue) → t.head ≡ None → Early letters t → Stage raw AfterHead letters t
+        in_stage raw t g y =
+            subst (λ (head : Option ℕ). AfterHeadIn raw head t.stack letters t) (sym g) y
+
+        raw_put : (element : RawElement) → is_text_mode (insert_raw_tag element tag s).content ≡ true
+            → StageAnswer letters (done (insert_raw_tag element tag s))
+        raw_put element g =
+            raw_answer AfterHead letters (insert_raw_tag element tag s) g m
+            (in_stage true (insert_raw_tag element tag s) f (raw_early letters tag.name element tag.attributes s p x))
+
+        by_name : (name : NameValue) → is_plain_name name ≡ true
+            → StageAnswer letters (done (insert_head_element name tag s))
+        by_name (known tags.Title) q = raw_put raw.Title refl
+        by_name (known tags.NoFrames) q = raw_put raw.Noframes refl
+        by_name (known tags.Style) q = raw_put raw.Style refl
+        by_name (known tags.Script) q = raw_put raw.Script refl
+        by_name (known tags.Template) q = absurd (true≢false (sym q))
+        by_name _ q =
+            calm_answer AfterHead false letters (insert_void_tag tag s) e m
+            (in_stage false (insert_void_tag tag s) f (void_early letters tag.name tag.attributes s p x))
+
+    -- into the head, which is open for that
+    late_by_head : (n : ℕ) (name : NameValue) → is_plain_name name ≡ true → s.head ≡ Some n
+        → EarlyIn letters s (head_open n ∷ s.stack)
+        → StageAnswer letters
+        (done (on_stack (without n) (insert_head_element name tag (open_again n (known tags.Head) s))))
+    late_by_head n name q f x = by_name name q
+      where
+        v : StateValue
+        v = open_again n (known tags.Head) s
+
+        early_v : Early letters (open_again n (known tags.Head) s)
+        early_v = record { plain = x.plain; hung = x.hung; ordered = x.ordered; names = x.names }
+
+        n_within : n < length s.nodes
+        n_within = element_number n s.nodes x.hung.opened_at.0
+
+        raw_put : (element : RawElement) → is_text_mode (insert_raw_tag element tag s).content ≡ true
+            → StageAnswer letters
+            (done (on_stack (without n) (insert_raw_tag element tag (open_again n (known tags.Head) s))))
+        raw_put element g =
+            raw_answer AfterHead letters
+            (on_stack (without n) (insert_raw_tag element tag (open_again n (known tags.Head) s))) g m
+            (subst (λ (head : Option ℕ). AfterHeadIn true head
+            (without n (opened (length s.nodes) (html tag.name) ∷ head_open n ∷ s.stack)) letters
+            (on_stack (without n) (insert_raw_tag element tag (open_again n (known tags.Head) s)))) (sym f)
+            (subst (λ (stack : List OpenValue). AfterHeadIn true (Some n) stack letters
+            (on_stack (without n) (insert_raw_tag element tag (open_again n (known tags.Head) s))))
+            (sym gone) (in_it (raw_early letters tag.name element tag.attributes (open_again n (known tags.Head) s) p early_v))))
+          where
+            gone : without n (opened (length s.nodes) (html tag.name) ∷ head_open n ∷ s.stack)
+                ≡ opened (length s.nodes) (html tag.name) ∷ s.stack
+            gone = rw (ne_eqb (length s.nodes) n (λ z. let w = n_within in omega arith), eq-eqb n n refl) refl
+
+            in_it : Early letters (insert_raw_tag element tag (open_again n (known tags.Head) s))
+                → AfterHeadIn true (Some n) (opened (length s.nodes) (html tag.name) ∷ s.stack) letters
+                (on_stack (without n) (insert_raw_tag element tag (open_again n (known tags.Head) s)))
+            in_it y = record { plain = y.plain; hung = y.hung; ordered = y.ordered; names = y.names }
+
+        void_put : StageAnswer letters
+            (done (on_stack (without n) (insert_void_tag tag (open_again n (known tags.Head) s))))
+        void_put =
+            calm_answer AfterHead false letters
+            (on_stack (without n) (insert_void_tag tag (open_again n (known tags.Head) s))) e m
+            (subst (λ (head : Option ℕ). AfterHeadIn false head (without n (head_open n ∷ s.stack)) letters
+            (on_stack (without n) (insert_void_tag tag (open_again n (known tags.Head) s)))) (sym f)
+            (subst (λ (stack : List OpenValue). AfterHeadIn false (Some n) stack letters
+            (on_stack (without n) (insert_void_tag tag (open_again n (known tags.Head) s))))
+            (sym gone) (in_it (void_early letters tag.name tag.attributes (open_again n (known tags.Head) s) p early_v))))
+          where
+            gone : without n (head_open n ∷ s.stack) ≡ s.stack
+            gone = rw (eq-eqb n n refl) refl
+
+            in_it : Early letters (insert_void_tag tag (open_again n (known tags.Head) s))
+                → AfterHeadIn false (Some n) s.stack letters
+                (on_stack (without n) (insert_void_tag tag (open_again n (known tags.Head) s)))
+            in_it y = record { plain = y.plain; hung = y.hung; ordered = y.ordered; names = y.names }
+
+        by_name : (name : NameValue) → is_plain_name name ≡ true
+            → StageAnswer letters
+            (done (on_stack (without n) (insert_head_element name tag (open_again n (known tags.Head) s))))
+        by_name (known tags.Title) q = raw_put raw.Title refl
+        by_name (known tags.NoFrames) q = raw_put raw.Noframes refl
+        by_name (known tags.Style) q = raw_put raw.Style refl
+        by_name (known tags.Script) q = raw_put raw.Script refl
+        by_name (known tags.Template) q = absurd (true≢false (sym q))
+        by_name _ q = void_put
+
+    late_put : (head : Option ℕ) → s.head ≡ head → AfterHeadIn false head s.stack letters s
+        → StageAnswer letters (done (insert_in_head head tag s))
+    late_put None f x = late_by_none tag.name p f x
+    late_put (Some n) f x = late_by_head n tag.name p f x
+
+    inserted_late : StageAnswer letters (done (insert_late tag s))
+    inserted_late = late_put s.head refl h
+
+    start_after_head_stage : (name : NameValue) → is_plain_name name ≡ true
+        → StageAnswer letters (start_after_head name tag s)
+    start_after_head_stage (known tags.Html) q = root_after tag
+    start_after_head_stage (known tags.Body) q =
+        late_answers false letters _ (late_step no_frameset_orders letters (with_body tag.name tag.attributes s)
+        (body_put letters tag.name tag.attributes s p (real_of letters s s.head s.stack h)))
+    start_after_head_stage (known tags.FrameSet) q = absurd (true≢false (sym q))
+    start_after_head_stage (known tags.Base) q = inserted_late
+    start_after_head_stage (known tags.BaseFont) q = inserted_late
+    start_after_head_stage (known tags.BgSound) q = inserted_late
+    start_after_head_stage (known tags.Link) q = inserted_late
+    start_after_head_stage (known tags.Meta) q = inserted_late
+    start_after_head_stage (known tags.NoFrames) q = inserted_late
+    start_after_head_stage (known tags.Script) q = inserted_late
+    start_after_head_stage (known tags.Style) q = inserted_late
+    start_after_head_stage (known tags.Template) q = inserted_late
+    start_after_head_stage (known tags.Title) q = inserted_late
+    start_after_head_stage (known tags.Head) q = still_after
+    start_after_head_stage _ q = body_implied
+
+  end_after_head_stage : (name : NameValue) → StageAnswer letters (end_after_head name s)
+  end_after_head_stage (known tags.Template) =
+      subst (λ (t : StateValue). StageAnswer letters (done t))
+      (sym (no_template_end s (real_of letters s s.head s.stack h).plain)) still_after
+  end_after_head_stage (known tags.Body) = body_implied
+  end_after_head_stage (known tags.Html) = body_implied
+  end_after_head_stage (known tags.Br) = body_implied
+  end_after_head_stage _ = still_after
+
+  after_head_stage : (t : TokenValue) → IsOrderly t → StageAnswer letters (after_head t s)
+  after_head_stage (run kind c) p = absurd (true≢false p)
+  after_head_stage (start_tag tag) p =
+      plain_or_column (StageAnswer letters (start_after_head tag.name tag s)) tag.name p
+      (λ q. start_after_head_stage tag q tag.name q)
+      (by_column_name (λ name. StageAnswer letters (start_after_head name tag s)) body_implied body_implied tag.name)
+  after_head_stage (end_tag name) p = end_after_head_stage name
+  after_head_stage (comment c) p =
+      calm_answer AfterHead false letters (insert_comment c s) e m
+      (by_head letters s (insert_comment c s) s.head s.stack
+      (λ es x. comment_after letters c s es (real_of letters s s.head s.stack h) x) h)
+  after_head_stage (doctype quirks) p = still_after
+  after_head_stage end_of_file p = body_implied
+
+-- ---- all modes
+
+pub current_html : (stack : List OpenValue) → EachOpen HtmlOpen stack → current_is_html stack ≡ true
+current_html [] h = refl
+current_html (e ∷ es) h = h.0
+
+not_foreign : (a b c d : Bool) → d ≡ true → not (a || b || c || d) ≡ false
+not_foreign true b c d e = refl
+not_foreign false true c d e = refl
+not_foreign false false true d e = refl
+not_foreign false false false d e = ap not e
+
+by_tests : (t : TokenValue) (s : StateValue) → current_is_html s.stack ≡ true
+    → not ((is_for_math_text t && is_math_text_point (current s.stack))
+    || (is_for_annotation t && is_annotation (current s.stack))
+    || (is_for_html_point t && is_html_point s.nodes (current s.stack))
+    || current_is_html s.stack) ≡ false
+by_tests t s h =
+    not_foreign (is_for_math_text t && is_math_text_point (current s.stack))
+    (is_for_annotation t && is_annotation (current s.stack))
+    (is_for_html_point t && is_html_point s.nodes (current s.stack)) (current_is_html s.stack) h
+
+pub stays_html : (t : TokenValue) (s : StateValue) → current_is_html s.stack ≡ true → is_foreign t s ≡ false
+stays_html end_of_file s h = refl
+stays_html (run kind c) s h = by_tests (run kind c) s h
+stays_html (start_tag tag) s h = by_tests (start_tag tag) s h
+stays_html (end_tag name) s h = by_tests (end_tag name) s h
+stays_html (comment c) s h = by_tests (comment c) s h
+stays_html (doctype quirks) s h = by_tests (doctype quirks) s h
+
+pub unstaged : (raw : Bool) (mode : InsertionMode) (letters : List ℕ) (s : StateValue) → is_text_mode s.content ≡ raw
+    → s.mode ≡ mode → Staged letters s → Stage raw mode letters s
+unstaged raw mode letters s e f h =
+    subst (λ (m : InsertionMode). Stage raw m letters s) f
+    (subst (λ (b : Bool). Stage b s.mode letters s) e h)
+
+-- the names of what is open before the body
+pub stage_names : (mode : InsertionMode) (letters : List ℕ) (s : StateValue) → is_late mode ≡ false
+    → Stage false mode letters s → EachOpen HtmlOpen s.stack
+stage_names Initial letters s e h = h.0.names
+stage_names BeforeHtml letters s e h = h.0.names
+stage_names BeforeHead letters s e h = h.names
+stage_names InHead letters s e h = h.0.names
+stage_names InHeadNoscript letters s e h = h.0.names
+stage_names AfterHead letters s e h = (real_of letters s s.head s.stack h).names
+stage_names InBody letters s e h = absurd (true≢false e)
+stage_names AfterBody letters s e h = absurd (true≢false e)
+stage_names AfterAfterBody letters s e h = absurd (true≢false e)
+stage_names _ letters s e h = absurd h
+
+early_modes : (mode : InsertionMode) (t : TokenValue) → IsOrderly t → (letters : List ℕ) (s : StateValue)
+    → s.mode ≡ mode → is_late mode ≡ false → is_text_mode s.content ≡ false → Stage false mode letters s
+    → StageAnswer letters (in_mode mode t s)
+early_modes Initial t p letters s m l e h = initial_stage t p letters s m e h
+early_modes BeforeHtml t p letters s m l e h = before_html_stage t p letters s m e h
+early_modes BeforeHead t p letters s m l e h = before_head_stage t p letters s m e h
+early_modes InHead t p letters s m l e h = in_head_stage letters s m e h.0 h.1 t p
+early_modes InHeadNoscript t p letters s m l e h = in_noscript_stage letters s m e h.0 h.1 t p
+early_modes AfterHead t p letters s m l e h = after_head_stage letters s m e h t p
+early_modes InBody t p letters s m l e h = absurd (true≢false l)
+early_modes AfterBody t p letters s m l e h = absurd (true≢false l)
+early_modes AfterAfterBody t p letters s m l e h = absurd (true≢false l)
+early_modes _ t p letters s m l e h = absurd h
+
+pub by_rules_stage : (t : TokenValue) → IsOrderly t → (letters : List ℕ) (s : StateValue) → Calm s → Staged letters s
+    → StageAnswer letters (by_rules t s)
+by_rules_stage t p letters s calm h = either (is_late s.mode) refl calm
+  where
+    rules : (b : Bool) → b ≡ false → StageAnswer letters (by_mode_rules t s)
+        → StageAnswer letters (if b then in_foreign_content t s else by_mode_rules t s)
+    rules true e x = absurd (true≢false e)
+    rules false e x = x
+
+    either : (b : Bool) → is_late s.mode ≡ b → Calm s → StageAnswer letters (by_rules t s)
+    either true l c =
+        let x = by_rules_late t p letters s (stage_late (is_text_mode s.content) s.mode letters s l h) in
+        record { stage = staged_late letters (by_rules t s).state x; calm = λ z. inl x.late }
+    either false l (inl c) = absurd (true≢false (sym c ∙ l))
+    either false l (inr c) =
+        let x = unstaged false s.mode letters s c refl h in
+        rules (is_foreign t s) (stays_html t s (current_html s.stack (stage_names s.mode letters s l x)))
+        (early_modes s.mode t p letters s refl l c x)
