@@ -1,7 +1,7 @@
 -- The letters of a page stand in order in the tree: they are some of the tokens' in their order, and as many of each.
-use Rattle.std.proofs.Common.{◌≡◌, ◌∙◌, ℕ, zero, suc, ◌+◌, ◌≤◌, Bool, true, false, List, [], ◌∷◌, ◌++◌, length}
-use Rattle.std.proofs.Common.{refl, sym, ap, subst, arith, cond}
-use Rattle.std.specs.Prelude.{◌==◌, ◌||◌, ◌&&◌, not, filter, count_by, codes, IsUtf8}
+use Rattle.std.proofs.Common.{◌≡◌, ◌∙◌, ℕ, Bool, true, false, List, [], ◌∷◌}
+use Rattle.std.proofs.Common.{refl, sym, ap, arith, cond}
+use Rattle.std.specs.Prelude.{◌==◌, not, filter, count_by, codes, IsUtf8}
 use Rattle.std.specs.List.{list_all}
 use Rattle.std.specs.Str.{chars, bytes_eq}
 use Rattle.std.proofs.lemmas.Bool.{true≢false, and_parts, eqb-true}
@@ -11,7 +11,7 @@ use Rattle.htmd_html5_tokens.specs.Tokens.{TokenValue, text, start_tag, end_tag,
 use Rattle.htmd_html5.specs.Documents.{state_after, html5_document}
 use Rattle.htmd_tree.specs.Items.{greatest_depth}
 use Rattle.htmd_html5_laws.specs.PageLetters.{is_letter, is_character, occurrences, occurrences_in, texts_of, token_texts}
-use Rattle.htmd_html5_laws.specs.HarmlessTags.{drops_text_in, is_harmless, page_tokens, all_tags_are_harmless}
+use Rattle.htmd_html5_laws.specs.HarmlessTags.{drops_text_in, is_harmless, page_tokens}
 use Rattle.htmd_html5_laws.specs.LetterOrder.{letters_of, letters_in, moves_text_in, is_orderly, all_tags_are_orderly}
 use Rattle.htmd_html5_laws.specs.LetterOrder.{LettersStandInOrder}
 use Rattle.htmd_html5_laws.proofs.TextsPut.{occurs_cons}

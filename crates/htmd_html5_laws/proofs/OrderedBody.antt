@@ -1,7 +1,7 @@
 -- The rules that many modes share and those of the mode "in body" leave the letters in order, where the tag's name is
 -- of none that moves text.
 use Rattle.std.proofs.Common.{◌≡◌, ℕ, Bool, true, false, List, [], Option, Some, None, refl, sym}
-use Rattle.std.specs.Prelude.{if◌then◌else◌, is_some}
+use Rattle.std.specs.Prelude.{is_some}
 use Rattle.std.proofs.lemmas.Bool.{true≢false}
 use Rattle.htmd_grammar.specs.ValueTrees.{AttributePair}
 use Rattle.htmd_html5_state.specs.Names.{NameValue, known, other, text_of_name}
@@ -10,8 +10,7 @@ use Rattle.htmd_html5_state.specs.OpenElements.{is_in_scope, is_node_in_scope}
 use Rattle.htmd_html5_state.specs.State.{StateValue, on_stack}
 use Rattle.htmd_html5_state.specs.Adoption.{formatting_element}
 use Rattle.htmd_html5_state.specs.declared.modes.InsertionMode.{InsertionMode}
-use Rattle.htmd_html5_state.specs.declared.modes.InsertionMode.TheVariants.{InTable, InCaption, InTableBody, InRow}
-use Rattle.htmd_html5_state.specs.declared.modes.InsertionMode.TheVariants.{InCell, AfterBody}
+use Rattle.htmd_html5_state.specs.declared.modes.InsertionMode.TheVariants.{AfterBody}
 use Rattle.htmd_html5_state.specs.declared.names.TagName.{TagName}
 use Rattle.htmd_html5_state.specs.declared.names.Namespace.{Namespace}
 use Rattle.htmd_html5_state.specs.declared.names.Namespace.TheVariants.{Svg, MathMl}
@@ -28,10 +27,10 @@ use Rattle.htmd_html5.specs.SharedRules.{insert_head_element}
 use Rattle.htmd_html5.specs.BodyStarts.{block_rule, formatting_rule, phrasing_rule, rule_of_start}
 use Rattle.htmd_html5.specs.BodyStarts.{is_in_template, open_body, add_to_this_body, start_block}
 use Rattle.htmd_html5.specs.BodyStarts.{close_heading, start_heading, skip_line_feed, start_preformatted, with_form}
-use Rattle.htmd_html5.specs.BodyStarts.{start_form, start_item, start_table, start_separator}
+use Rattle.htmd_html5.specs.BodyStarts.{start_form, start_item, start_separator}
 use Rattle.htmd_html5.specs.BodyStarts.{start_formatting, forget, start_anchor, close_no_break, start_no_break}
 use Rattle.htmd_html5.specs.BodyStarts.{start_ordinary, start_button, start_embedded, start_void, is_hidden, start_input}
-use Rattle.htmd_html5.specs.BodyStarts.{mode_of_select, start_select, close_option, start_option, start_ruby}
+use Rattle.htmd_html5.specs.BodyStarts.{close_option, start_option, start_ruby}
 use Rattle.htmd_html5.specs.BodyStarts.{start_foreign, start_text_area, start_example}
 use Rattle.htmd_html5.specs.BodyStarts.{start_no_script, start_by, start_in_body}
 use Rattle.htmd_html5.specs.BodyEnds.{text_end_rule, end_rule, has_body, end_body, end_block, close_form, end_form}
@@ -44,9 +43,9 @@ use Rattle.htmd_html5_laws.proofs.HungStates.{Hung}
 use Rattle.htmd_html5_state.specs.declared.names.TagName.TheVariants as tags
 use Rattle.htmd_html5_tokens.specs.declared.tokens.RawElement.TheVariants as raw
 use Rattle.htmd_html5_laws.proofs.PlainNames.{is_plain}
-use Rattle.htmd_html5_laws.proofs.PlainStates.{is_plain_mode, Plain, Stays}
+use Rattle.htmd_html5_laws.proofs.PlainStates.{is_plain_mode, Plain}
 use Rattle.htmd_html5_laws.proofs.ColumnTags.{IsColumn}
-use Rattle.htmd_html5_laws.proofs.PlainBody.{StaysAnswer, says_plain, answers_either, with_mode_stays, no_frameset_stays}
+use Rattle.htmd_html5_laws.proofs.PlainBody.{StaysAnswer, says_plain, with_mode_stays, no_frameset_stays}
 use Rattle.htmd_html5_laws.proofs.PlainBody.{end_template_stays, skip_line_feed_stays, with_form_stays, close_noted_form_stays}
 use Rattle.htmd_html5_laws.proofs.OrderedStates.{Ordered, Orders, then_orders, unmoved, orders_by_test, orders_by_state}
 use Rattle.htmd_html5_laws.proofs.OrderedStates.{is_late, on_stack_orders, insert_element_orders, insert_void_orders}
@@ -103,24 +102,6 @@ says_ordered h = record {
   orders = λ letters s plain x o. h.orders letters s plain x o;
   late = λ s plain e. h.late s plain e;
 }
-
-pub orders_either : {f g : StateValue → Answer} (b : StateValue → Bool) → OrdersAnswer f → OrdersAnswer g
-    → OrdersAnswer (λ s. if b s then f s else g s)
-orders_either {f} {g} b first second = record {
-  stays = answers_either b first.stays second.stays;
-  orders = λ letters s h x o. either (b s) letters s h x o;
-  late = λ s h e. each (b s) s h e;
-}
-  where
-    either : (t : Bool) (letters : List ℕ) (s : StateValue) → Plain s → Hung s → Ordered letters s
-        → Ordered letters (if t then f s else g s).state
-    either true letters s h x o = first.orders letters s h x o
-    either false letters s h x o = second.orders letters s h x o
-
-    each : (t : Bool) (s : StateValue) → Plain s → is_late s.mode ≡ true
-        → is_late (if t then f s else g s).state.mode ≡ true
-    each true s h e = first.late s h e
-    each false s h e = second.late s h e
 
 -- ---- rules that many modes share
 
