@@ -23,7 +23,8 @@ use Rattle.htmd_html5_laws.proofs.OrderedLayout.{laid_in_order}
 
 -- ---- as many of each
 
-many_kept : (c : ℕ) (xs : List ℕ) → is_letter c ≡ true → many c (filter is_letter xs) ≡ count_by (is_character c) xs
+many_kept : (c : ℕ) (xs : List ℕ) → is_letter c ≡ true
+    → many c (filter is_letter xs) ≡ count_by (is_character c) xs
 many_kept c [] e = refl
 many_kept c (x ∷ xs) e =
     let h = many_kept c xs e in
@@ -52,7 +53,8 @@ no_letters : (c : ℕ) (s : List ℕ) → is_letter c ≡ false → many c (lett
 unfolding letters_of
 no_letters c s e = many_none c (chars s) e
 
-many_in : (c : ℕ) (texts : List (List ℕ)) → is_letter c ≡ true → many c (letters_in texts) ≡ occurrences_in c texts
+many_in : (c : ℕ) (texts : List (List ℕ)) → is_letter c ≡ true
+    → many c (letters_in texts) ≡ occurrences_in c texts
 many_in c [] e = refl
 many_in c (s ∷ texts) e =
     let a = many_append c (letters_of s) (letters_in texts) in

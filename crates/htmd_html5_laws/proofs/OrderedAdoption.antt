@@ -86,7 +86,8 @@ module _ (letters : List ℕ) (s : StateValue) (p : ℕ) (base : Labels) (old : 
 
   next_apart : (left : ℕ) (e : OpenValue) (c : Chain)
       → (is_listed e.node c.state.formatting ≡ true → is_element (kind_at c.state.nodes e.node) ≡ true)
-      → ChainHung s old r left c → ChainApart letters s p base c → ChainApart letters s p base (with_next left e c)
+      → ChainHung s old r left c → ChainApart letters s p base c
+      → ChainApart letters s p base (with_next left e c)
   next_apart left e c at h a = either (nat_lt 0 left && is_listed e.node c.state.formatting) refl
     where
       either : (t : Bool) → (nat_lt 0 left && is_listed e.node c.state.formatting) ≡ t
@@ -116,7 +117,8 @@ module _ (letters : List ℕ) (s : StateValue) (p : ℕ) (base : Labels) (old : 
 
 -- ---- a round
 
-module _ (letters : List ℕ) (formatting : ℕ) (tag : TagName) (f : Furthest) (s : StateValue) (names : FurthestPlain f)
+module _ (letters : List ℕ) (formatting : ℕ) (tag : TagName) (f : Furthest) (s : StateValue)
+    (names : FurthestPlain f)
     (plain : Plain s) (x : RoundHung formatting f s) (o : Ordered letters s)
     (inner : EachOpen (λ e. o.labels.live e.node ≡ true) f.inner) (block : o.labels.live f.block.node ≡ true) where
   abbrev b : ℕ

@@ -69,7 +69,8 @@ is_orderly_name (known tag) = is_orderly_tag tag
 is_orderly_name (other s) = true
 
 -- an orderly name is plain, or that of columns, which count for nothing outside a table
-pub plain_or_column : (P : Type 0) (name : NameValue) → is_orderly_name name ≡ true → (is_plain_name name ≡ true → P)
+pub plain_or_column : (P : Type 0) (name : NameValue) → is_orderly_name name ≡ true
+    → (is_plain_name name ≡ true → P)
     → (IsColumn name → P)
     → P
 plain_or_column P (known tags.Table) e f g = absurd (true≢false (sym e))
@@ -79,7 +80,8 @@ plain_or_column P (known tags.ColGroup) e f g = g tt
 plain_or_column P (known tag) e f g = f e
 plain_or_column P (other s) e f g = f refl
 
-pub by_column_name : (P : NameValue → Type 0) → P (known tags.Col) → P (known tags.ColGroup) → (name : NameValue)
+pub by_column_name : (P : NameValue → Type 0) → P (known tags.Col) → P (known tags.ColGroup)
+    → (name : NameValue)
     → IsColumn name
     → P name
 by_column_name P a b (known tags.Col) c = a
@@ -217,7 +219,8 @@ module _ (tag : StartTagValue) (p : is_plain_name tag.name ≡ true) where
 
   start_input_orders : Orders (start_input tag)
   start_input_orders =
-      orders_by_test (λ s. is_hidden tag) (then_orders insert_void_tag_orders reconstruct_orders) (void_tag_orders tag p)
+      orders_by_test (λ s. is_hidden tag) (then_orders insert_void_tag_orders reconstruct_orders)
+      (void_tag_orders tag p)
 
   start_option_orders : Orders (start_option tag)
   start_option_orders = then_orders start_ordinary_orders (on_stack_orders close_option close_option_fewer)
@@ -239,7 +242,8 @@ module _ (tag : StartTagValue) (p : is_plain_name tag.name ≡ true) where
 
   start_heading_orders : Orders (start_heading tag)
   start_heading_orders =
-      then_orders insert_tag_orders (then_orders (on_stack_orders close_heading close_heading_fewer) close_paragraph_orders)
+      then_orders insert_tag_orders (then_orders (on_stack_orders close_heading close_heading_fewer)
+      close_paragraph_orders)
 
   start_preformatted_orders : Orders (start_preformatted tag)
   start_preformatted_orders = then_orders no_frameset_orders (then_orders skip_line_feed_orders start_block_orders)
@@ -326,7 +330,8 @@ module _ (tag : StartTagValue) (p : is_plain_name tag.name ≡ true) where
   start_by_name_orders (known tags.Li) q = start_item_orders (Only tags.Li)
   start_by_name_orders (known tags.Dd) q = start_item_orders DescriptionParts
   start_by_name_orders (known tags.Dt) q = start_item_orders DescriptionParts
-  start_by_name_orders (known tags.PlainText) q = then_orders (insert_raw_tag_orders raw.Plaintext) close_paragraph_orders
+  start_by_name_orders (known tags.PlainText) q =
+      then_orders (insert_raw_tag_orders raw.Plaintext) close_paragraph_orders
   start_by_name_orders (known tags.Table) q = absurd (true≢false (sym q))
   start_by_name_orders (known tags.Hr) q = start_separator_orders
   start_by_name_orders (known tags.Button) q = start_button_orders
@@ -393,7 +398,8 @@ end_block_orders tag = on_stack_orders (close (Only tag) Default) (close_fewer (
 close_form_orders : (form : Option ℕ) → Orders (close_form form)
 close_form_orders None = unmoved
 close_form_orders (Some n) =
-    orders_by_test (λ s. is_node_in_scope n s.stack) (on_stack_orders (λ stack. without n (pop_while ImpliedEnd stack))
+    orders_by_test (λ s. is_node_in_scope n s.stack)
+    (on_stack_orders (λ stack. without n (pop_while ImpliedEnd stack))
     (λ stack. fewer_then (without_fewer n (pop_while ImpliedEnd stack)) (pop_while_fewer ImpliedEnd stack))) unmoved
 
 end_form_orders : Orders end_form

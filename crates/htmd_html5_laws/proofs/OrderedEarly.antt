@@ -85,7 +85,8 @@ Stage raw _ letters s = ⊥
 abbrev pub Staged : List ℕ → StateValue → Type 0
 Staged letters s = Stage (is_text_mode s.content) s.mode letters s
 
-pub staged : (raw : Bool) (mode : InsertionMode) (letters : List ℕ) (s : StateValue) → is_text_mode s.content ≡ raw
+pub staged : (raw : Bool) (mode : InsertionMode) (letters : List ℕ) (s : StateValue)
+    → is_text_mode s.content ≡ raw
     → s.mode ≡ mode → Stage raw mode letters s → Staged letters s
 staged raw mode letters s e f h =
     subst (λ (b : Bool). Stage b s.mode letters s) (sym e)
@@ -127,7 +128,8 @@ pub raw_answer : (mode : InsertionMode) (letters : List ℕ) (s : StateValue) �
 raw_answer mode letters s e f h =
     record { stage = staged true mode letters s e f h; calm = λ z. absurd (true≢false (sym z)) }
 
-pub late_answers : (more : Bool) (letters : List ℕ) (s : StateValue) → Late letters s → StageAnswer letters (answer s more)
+pub late_answers : (more : Bool) (letters : List ℕ) (s : StateValue) → Late letters s
+    → StageAnswer letters (answer s more)
 late_answers more letters s h = record { stage = staged_late letters s h; calm = λ z. inl h.late }
 
 -- ---- steps
@@ -180,13 +182,15 @@ pub root_early : (letters : List ℕ) (tag : StartTagValue) (s : StateValue) (st
     → EarlyIn letters s stack → EarlyIn letters (add_to_root tag s) stack
 root_early letters tag s stack h = either (is_open (Only tags.Template) s.stack)
   where
-    either : (b : Bool) → EarlyIn letters (if b then s else add_missing_to (first_open s.stack) tag.attributes s) stack
+    either : (b : Bool)
+        → EarlyIn letters (if b then s else add_missing_to (first_open s.stack) tag.attributes s) stack
     either true = h
     either false = root_missing letters tag s stack (first_open s.stack) h
 
 pub root_stage : (letters : List ℕ) (tag : StartTagValue) (s : StateValue) (mode : InsertionMode)
     → is_text_mode s.content ≡ false → s.mode ≡ mode
-    → ((t : StateValue) → SameBut s t → ((stack : List OpenValue) → EarlyIn letters s stack → EarlyIn letters t stack)
+    → ((t : StateValue) → SameBut s t → ((stack : List OpenValue) → EarlyIn letters s stack → EarlyIn letters
+    t stack)
     → Stage false mode letters t)
     → StageAnswer letters (done (add_to_root tag s))
 root_stage letters tag s mode e f go =
@@ -199,14 +203,16 @@ root_stage letters tag s mode e f go =
 no_doctype : (t : List ℕ) → doctype_kind ≡ text t → ⊥
 no_doctype t e = cc
 
-pub comment_early : (letters : List ℕ) (c : List ℕ) (s : StateValue) → Early letters s → Early letters (insert_comment c s)
+pub comment_early : (letters : List ℕ) (c : List ℕ) (s : StateValue) → Early letters s
+    → Early letters (insert_comment c s)
 comment_early letters c s h = early_step (insert_comment_orders c) letters s h.names h
 
 root_comment_early : (letters : List ℕ) (c : List ℕ) (s : StateValue) → Early letters s
     → Early letters (insert_comment_in 0 c s)
 root_comment_early letters c s h = early_step (insert_comment_root_orders c) letters s h.names h
 
-pub initial_left : (letters : List ℕ) (s : StateValue) → is_text_mode s.content ≡ false → Stage false Initial letters s
+pub initial_left : (letters : List ℕ) (s : StateValue) → is_text_mode s.content ≡ false
+    → Stage false Initial letters s
     → StageAnswer letters (leave_initial s)
 initial_left letters s e h =
     calm_answer BeforeHtml true letters (record s { mode = BeforeHtml; quirks = true }) e refl (
@@ -256,13 +262,15 @@ root_put letters name attributes s p h = record {
         nonempty : d ∷ ds ≡ [] → ⊥
         nonempty f = cc
 
-pub root_implied : (letters : List ℕ) (s : StateValue) → is_text_mode s.content ≡ false → Stage false BeforeHtml letters s
+pub root_implied : (letters : List ℕ) (s : StateValue) → is_text_mode s.content ≡ false
+    → Stage false BeforeHtml letters s
     → StageAnswer letters (imply_root s)
 root_implied letters s e h =
     calm_answer BeforeHead true letters (with_root (known tags.Html) [] s) e refl
     (root_put letters (known tags.Html) [] s refl h)
 
-start_before_html_stage : (tag : StartTagValue) → is_plain_name tag.name ≡ true → (name : NameValue) (letters : List ℕ)
+start_before_html_stage : (tag : StartTagValue) → is_plain_name tag.name ≡ true
+    → (name : NameValue) (letters : List ℕ)
     (s : StateValue) → is_text_mode s.content ≡ false → Stage false BeforeHtml letters s
     → StageAnswer letters (start_before_html name tag s)
 start_before_html_stage tag p (known tags.Html) letters s e h =
@@ -283,7 +291,8 @@ end_before_html_stage (known tags.Html) letters s m e h = root_implied letters s
 end_before_html_stage (known tags.Br) letters s m e h = root_implied letters s e h
 end_before_html_stage _ letters s m e h = before_html_still letters s m e h
 
-pub before_html_stage : (t : TokenValue) → IsOrderly t → (letters : List ℕ) (s : StateValue) → s.mode ≡ BeforeHtml
+pub before_html_stage : (t : TokenValue) → IsOrderly t → (letters : List ℕ) (s : StateValue)
+    → s.mode ≡ BeforeHtml
     → is_text_mode s.content ≡ false → Stage false BeforeHtml letters s → StageAnswer letters (before_html t s)
 before_html_stage (run kind c) p letters s m e h = absurd (true≢false p)
 before_html_stage (start_tag tag) p letters s m e h =
@@ -321,7 +330,8 @@ head_implied letters s e h =
     calm_answer InHead true letters (with_head (known tags.Head) [] s) e refl
     (head_put letters (known tags.Head) [] s refl h)
 
-start_before_head_stage : (tag : StartTagValue) → is_plain_name tag.name ≡ true → (name : NameValue) (letters : List ℕ)
+start_before_head_stage : (tag : StartTagValue) → is_plain_name tag.name ≡ true
+    → (name : NameValue) (letters : List ℕ)
     (s : StateValue) → s.mode ≡ BeforeHead → is_text_mode s.content ≡ false → Early letters s
     → StageAnswer letters (start_before_head name tag s)
 start_before_head_stage tag p (known tags.Html) letters s m e h =
@@ -341,7 +351,8 @@ end_before_head_stage (known tags.Html) letters s m e h = head_implied letters s
 end_before_head_stage (known tags.Br) letters s m e h = head_implied letters s e h
 end_before_head_stage _ letters s m e h = calm_answer BeforeHead false letters s e m h
 
-pub before_head_stage : (t : TokenValue) → IsOrderly t → (letters : List ℕ) (s : StateValue) → s.mode ≡ BeforeHead
+pub before_head_stage : (t : TokenValue) → IsOrderly t → (letters : List ℕ) (s : StateValue)
+    → s.mode ≡ BeforeHead
     → is_text_mode s.content ≡ false → Early letters s → StageAnswer letters (before_head t s)
 before_head_stage (run kind c) p letters s m e h = absurd (true≢false p)
 before_head_stage (start_tag tag) p letters s m e h =

@@ -64,8 +64,10 @@ raw_early : (letters : List ℕ) (name : NameValue) (element : RawElement) (attr
 raw_early letters name element attributes s p h =
     early_step (insert_raw_orders name element attributes p) letters s (refl, h.names) h
 
-module _ (tag : StartTagValue) (p : is_plain_name tag.name ≡ true) (letters : List ℕ) (mode : InsertionMode) (k : ℕ)
-    (go : (raw : Bool) (s : StateValue) → Early letters s × HeadAt (cond raw (suc k) k) s → Stage raw mode letters s)
+module _ (tag : StartTagValue) (p : is_plain_name tag.name ≡ true) (letters : List ℕ) (mode : InsertionMode)
+    (k : ℕ)
+    (go : (raw : Bool) (s : StateValue) → Early letters s × HeadAt (cond raw (suc k) k) s → Stage raw mode letters
+    s)
     (s : StateValue) (m : s.mode ≡ mode) (e : is_text_mode s.content ≡ false) (h : Early letters s)
     (at : HeadAt k s) where
   raw_in_head : (element : RawElement) → is_text_mode (insert_raw_tag element tag s).content ≡ true
@@ -79,7 +81,8 @@ module _ (tag : StartTagValue) (p : is_plain_name tag.name ≡ true) (letters : 
       calm_answer mode false letters (insert_void_tag tag s) e m
       (go false (insert_void_tag tag s) (void_early letters tag.name tag.attributes s p h, at))
 
-  put_in_head : (name : NameValue) → is_plain_name name ≡ true → StageAnswer letters (done (insert_head_element name tag s))
+  put_in_head : (name : NameValue) → is_plain_name name ≡ true
+      → StageAnswer letters (done (insert_head_element name tag s))
   put_in_head (known tags.Title) q = raw_in_head raw.Title refl
   put_in_head (known tags.NoFrames) q = raw_in_head raw.Noframes refl
   put_in_head (known tags.Style) q = raw_in_head raw.Style refl
@@ -92,12 +95,14 @@ module _ (tag : StartTagValue) (p : is_plain_name tag.name ≡ true) (letters : 
       root_stage letters tag s mode e m
       (λ t same f. go false t (
         subst (λ (stack : List OpenValue). EarlyIn letters t stack) (sym same.stack) (f s.stack h),
-        λ n g. ap (λ (stack : List OpenValue). (current (popped k stack)).node) same.stack ∙ at n (sym same.head ∙ g),
+        λ n g. ap (λ (stack : List OpenValue). (current (popped k stack)).node) same.stack ∙ at n
+            (sym same.head ∙ g),
       ))
 
 -- ---- the head is closed
 
-renamed : (letters : List ℕ) (s : StateValue) (n : ℕ) (stack : List OpenValue) → is_element (kind_at s.nodes n) ≡ true
+renamed : (letters : List ℕ) (s : StateValue) (n : ℕ) (stack : List OpenValue)
+    → is_element (kind_at s.nodes n) ≡ true
     → (current stack).node ≡ n → EarlyIn letters s stack → EarlyIn letters s (head_open n ∷ pop stack)
 renamed letters s n [] e f h =
     absurd (true≢false (sym (element_solid (kind_at s.nodes n) e)
@@ -133,7 +138,8 @@ to_mode : (letters : List ℕ) (s : StateValue) (stack es : List OpenValue) (mod
 to_mode letters s stack es mode p h =
     record { plain = in_plain_mode mode p h.plain; hung = h.hung; ordered = h.ordered; names = h.names }
 
-head_closed_in : (letters : List ℕ) (s : StateValue) (head : Option ℕ) → s.head ≡ head → Early letters s → HeadAt 0 s
+head_closed_in : (letters : List ℕ) (s : StateValue) (head : Option ℕ) → s.head ≡ head → Early letters s
+    → HeadAt 0 s
     → AfterHeadIn false head (pop s.stack) letters (close_head s)
 head_closed_in letters s None e h at =
     to_mode letters s (pop s.stack) (pop s.stack) AfterHead refl
@@ -142,7 +148,8 @@ head_closed_in letters s (Some n) e h at =
     to_mode letters s (head_open n ∷ pop s.stack) (pop s.stack) AfterHead refl
     (renamed letters s n s.stack (h.hung.head_at n e) (at n e) h)
 
-pub head_closed : (more : Bool) (letters : List ℕ) (s : StateValue) → is_text_mode s.content ≡ false → Early letters s
+pub head_closed : (more : Bool) (letters : List ℕ) (s : StateValue) → is_text_mode s.content ≡ false
+    → Early letters s
     → HeadAt 0 s → StageAnswer letters (answer (close_head s) more)
 head_closed more letters s e h at =
     calm_answer AfterHead more letters (close_head s) e refl (head_closed_in letters s s.head refl h at)
@@ -323,7 +330,8 @@ module _ (letters : List ℕ) (s : StateValue) (m : s.mode ≡ AfterHead) (e : i
         → StageAnswer letters (done (insert_head_element name tag s))
     late_by_none name q f x = by_name name q
       where
-        in_stage : (raw : Bool) (t : StateValue) → t.head ≡ None → Early letters t → Stage raw AfterHead letters t
+        in_stage : (raw : Bool) (t : StateValue) → t.head ≡ None → Early letters t
+            → Stage raw AfterHead letters t
         in_stage raw t g y =
             subst (λ (head : Option ℕ). AfterHeadIn raw head t.stack letters t) (sym g) y
 
@@ -371,7 +379,8 @@ module _ (letters : List ℕ) (s : StateValue) (m : s.mode ≡ AfterHead) (e : i
             (on_stack (without n) (insert_raw_tag element tag (open_again n (known tags.Head) s)))) (sym f)
             (subst (λ (stack : List OpenValue). AfterHeadIn true (Some n) stack letters
             (on_stack (without n) (insert_raw_tag element tag (open_again n (known tags.Head) s))))
-            (sym gone) (in_it (raw_early letters tag.name element tag.attributes (open_again n (known tags.Head) s) p early_v))))
+            (sym gone) (in_it (raw_early letters tag.name element tag.attributes (open_again n (known tags.Head) s) p
+            early_v))))
           where
             gone : without n (opened (length s.nodes) (html tag.name) ∷ head_open n ∷ s.stack)
                 ≡ opened (length s.nodes) (html tag.name) ∷ s.stack
@@ -391,7 +400,8 @@ module _ (letters : List ℕ) (s : StateValue) (m : s.mode ≡ AfterHead) (e : i
             (on_stack (without n) (insert_void_tag tag (open_again n (known tags.Head) s)))) (sym f)
             (subst (λ (stack : List OpenValue). AfterHeadIn false (Some n) stack letters
             (on_stack (without n) (insert_void_tag tag (open_again n (known tags.Head) s))))
-            (sym gone) (in_it (void_early letters tag.name tag.attributes (open_again n (known tags.Head) s) p early_v))))
+            (sym gone) (in_it (void_early letters tag.name tag.attributes (open_again n (known tags.Head) s) p
+            early_v))))
           where
             gone : without n (head_open n ∷ s.stack) ≡ s.stack
             gone = rw (eq-eqb n n refl) refl
@@ -492,7 +502,8 @@ stays_html (end_tag name) s h = by_tests (end_tag name) s h
 stays_html (comment c) s h = by_tests (comment c) s h
 stays_html (doctype quirks) s h = by_tests (doctype quirks) s h
 
-pub unstaged : (raw : Bool) (mode : InsertionMode) (letters : List ℕ) (s : StateValue) → is_text_mode s.content ≡ raw
+pub unstaged : (raw : Bool) (mode : InsertionMode) (letters : List ℕ) (s : StateValue)
+    → is_text_mode s.content ≡ raw
     → s.mode ≡ mode → Staged letters s → Stage raw mode letters s
 unstaged raw mode letters s e f h =
     subst (λ (m : InsertionMode). Stage raw m letters s) f
@@ -526,7 +537,8 @@ early_modes AfterBody t p letters s m l e h = absurd (true≢false l)
 early_modes AfterAfterBody t p letters s m l e h = absurd (true≢false l)
 early_modes _ t p letters s m l e h = absurd h
 
-pub by_rules_stage : (t : TokenValue) → IsOrderly t → (letters : List ℕ) (s : StateValue) → Calm s → Staged letters s
+pub by_rules_stage : (t : TokenValue) → IsOrderly t → (letters : List ℕ) (s : StateValue) → Calm s
+    → Staged letters s
     → StageAnswer letters (by_rules t s)
 by_rules_stage t p letters s calm h = either (is_late s.mode) refl calm
   where

@@ -124,7 +124,8 @@ module _ (letters : List ℕ) (nodes : List NodeValue) (l : Labels) (h : FitsBy 
         either false = (omega arith, omega arith)
 
     -- a row in which the new node doesn't stand
-    pub row_kept : (limit at : ℕ) (cs : List ℕ) (to : ℕ) → length letters + length more < limit → times n cs ≡ 0
+    pub row_kept : (limit at : ℕ) (cs : List ℕ) (to : ℕ) → length letters + length more < limit
+        → times n cs ≡ 0
         → Row (marks none_out nodes limit l) at cs to → Row (marks none_out new limit marked) at cs to
     row_kept limit at cs to big none r =
         row_marks (marks none_out nodes limit l) (marks none_out new limit marked) at cs to
@@ -190,7 +191,8 @@ module _ (letters : List ℕ) (nodes : List NodeValue) (l : Labels) (h : FitsBy 
             (subst (λ (cs : List ℕ). Row (marks none_out new limit marked) (l.lo p) cs (until limit l p))
             (sym (children_grown k p nodes within)) (ok limit big))))
 
-        elsewhere_row : (limit : ℕ) → length letters + length more < limit → (q : ℕ) → (q ≡ n → ⊥) → (p ≡ q → ⊥)
+        elsewhere_row : (limit : ℕ) → length letters + length more < limit → (q : ℕ) → (q ≡ n → ⊥)
+            → (p ≡ q → ⊥)
             → Row (marks none_out new limit marked) (marked.lo q) (children_at new q) (until limit marked q)
         elsewhere_row limit big q f g =
             subst (λ (x : ℕ). Row (marks none_out new limit marked) (marked.lo q) (children_at new q) x)
@@ -202,7 +204,8 @@ module _ (letters : List ℕ) (nodes : List NodeValue) (l : Labels) (h : FitsBy 
             (row_kept limit (l.lo q) (children_at nodes q) (until limit l q) big
             (no_child nodes q n forest (omega arith)) (h.rows limit (omega arith) q))))
 
-        new_text : (m : ℕ) (t : List ℕ) → m ≡ n → kind_at new m ≡ text t → TextIn (letters ++ more) marked m t
+        new_text : (m : ℕ) (t : List ℕ) → m ≡ n → kind_at new m ≡ text t
+            → TextIn (letters ++ more) marked m t
         new_text m t e f =
             let x = is t (sym (kind_grown_new k p nodes) ∙ (ap (λ (y : ℕ). kind_at new y) (sym e) ∙ f)) in
             subst (λ (y : ℕ). TextIn (letters ++ more) marked y t) (sym e)

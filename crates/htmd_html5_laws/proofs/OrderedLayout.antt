@@ -1,4 +1,5 @@
--- The letters of a tree's texts stand in the order of the page's, where they do so among the nodes that it is laid out of.
+-- The letters of a tree's texts stand in the order of the page's, where they do so among the nodes that it is laid out
+-- of.
 use Rattle.std.proofs.Common.{◌≡◌, ◌∙◌, ℕ, zero, suc, ◌<◌, ◌≤◌, Bool, true, false, List, [], ◌∷◌, ◌++◌, length}
 use Rattle.std.proofs.Common.{refl, sym, ap, subst, arith, cond, map, Option, Some, None, inl, inr, ◌⊎◌, append_assoc}
 use Rattle.std.specs.Prelude.{if◌then◌else◌, IsUtf8, ◌==◌, not, is_some}
@@ -54,7 +55,8 @@ letters_put (first ∷ items) item = more first.node_data (letters_put items ite
 -- ---- a node that was laid out
 
 kind_marked : (n m : ℕ) (nodes : List NodeValue)
-    → (kind_at (with_kind n document nodes) m ≡ document) ⊎ (kind_at (with_kind n document nodes) m ≡ kind_at nodes m)
+    → (kind_at (with_kind n document nodes) m ≡ document) ⊎
+    (kind_at (with_kind n document nodes) m ≡ kind_at nodes m)
 kind_marked n m nodes =
     test (n == m)
     (λ t. inl (subst (λ (x : ℕ). kind_at (with_kind n document nodes) x ≡ document) (eqb-true n m t)
@@ -92,7 +94,8 @@ module _ (letters : List ℕ) (l : Labels) where
     span = h.span;
     high = h.high;
     rows = λ bound big q.
-        subst (λ (cs : List ℕ). Row (marks none_out (with_kind n document nodes) bound l) (l.lo q) cs (until bound l q))
+        subst (λ (cs : List ℕ). Row (marks none_out (with_kind n document nodes) bound l) (l.lo q) cs
+        (until bound l q))
         (sym (children_of_kind n q document nodes))
         (row_marks (marks none_out nodes bound l) (marks none_out (with_kind n document nodes) bound l) (l.lo q)
         (children_at nodes q) (until bound l q)
@@ -160,7 +163,8 @@ module _ (letters : List ℕ) (l : Labels) where
             to = l.hi n;
             from = let a = h.span n in omega arith;
             high = h.high n;
-            within = sub_wider (letters_of s) letters (l.lo n) (l.hi n) at (l.hi n) x (h.span n) (omega arith) old.within;
+            within = sub_wider (letters_of s) letters (l.lo n) (l.hi n) at (l.hi n) x (h.span n) (omega arith)
+                old.within;
             utf8 = old.utf8;
             row = subst (λ (y : ℕ). Row (marks none_out nodes limit l) y rest limit) ended g;
           }
@@ -247,7 +251,8 @@ module _ (letters : List ℕ) (l : Labels) where
       subst (λ (b : Bool). Row (marks none_out nodes limit l) (cond b (until limit l n) at) rest limit) e r.1
 
   -- an item with these letters, for a node that was taken
-  item_laid : (at to : ℕ) (d : Data) (under n : ℕ) (work : List Coming) (x : Layout) → at ≤ to → to ≤ length letters
+  item_laid : (at to : ℕ) (d : Data) (under n : ℕ) (work : List Coming) (x : Layout) → at ≤ to
+      → to ≤ length letters
       → Sub (letters_in (texts_of x.items)) (window 0 at letters)
       → Sub (data_letters d) (window at to letters)
       → FitsBy none_out letters (with_kind n document x.nodes) l
@@ -313,7 +318,8 @@ module _ (letters : List ℕ) (l : Labels) where
       h.at t.to t.to more.to t.from (omega arith) more.from t.within more.within))
       fits more.row
 
-  children_come : (x : Layout) (c : Coming) (work : List Coming) (under : ℕ) → bears (kind_at x.nodes c.node) ≡ true
+  children_come : (x : Layout) (c : Coming) (work : List Coming) (under : ℕ)
+      → bears (kind_at x.nodes c.node) ≡ true
       → (h : Comes x c work)
       → Row (marks none_out (with_kind c.node document x.nodes) limit l) h.at
       (numbers (map (coming under) (children_at (with_kind c.node document x.nodes) c.node) ++ work)) limit
@@ -380,7 +386,8 @@ module _ (letters : List ℕ) (l : Labels) where
 
   -- ---- the whole tree
 
-  pub laid_in_order : (depth : ℕ) (nodes : List NodeValue) → letters_of [] ≡ [] → FitsBy none_out letters nodes l
+  pub laid_in_order : (depth : ℕ) (nodes : List NodeValue) → letters_of [] ≡ []
+      → FitsBy none_out letters nodes l
       → Sub (letters_in (texts_of (document_of depth nodes))) letters
   laid_in_order depth nodes nil h =
       let r = all_laid depth (length nodes) (first_layout nodes) nil (record {

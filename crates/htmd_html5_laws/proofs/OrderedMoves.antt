@@ -322,7 +322,8 @@ module _ (letters : List ℕ) (nodes : List NodeValue) (l : Labels) (p last : �
       high = h.fits.high;
       rows = λ limit big q.
           test (p == q)
-          (λ t. subst (λ (x : ℕ). Row (marks none_out placed limit l) (l.lo x) (children_at placed x) (until limit l x))
+          (λ t. subst (λ (x : ℕ). Row (marks none_out placed limit l) (l.lo x) (children_at placed x)
+          (until limit l x))
           (eqb-true p q t) (placed_row limit big))
           (λ t. let f = eqb-false p q t in
           subst (λ (cs : List ℕ). Row (marks none_out placed limit l) (l.lo q) cs (until limit l q))
@@ -378,10 +379,12 @@ module _ (letters : List ℕ) (nodes : List NodeValue) (l : Labels) (h : FitsBy 
       length_with_parents fresh moved emptied
       ∙ (let e : length emptied ≡ length with_fresh = length-set with_fresh block _ in e ∙ more_size)
 
-  gone_other : (q : ℕ) → (fresh ≡ q → ⊥) → (block ≡ q → ⊥) → children_at gone q ≡ children_at nodes q
+  gone_other : (q : ℕ) → (fresh ≡ q → ⊥) → (block ≡ q → ⊥)
+      → children_at gone q ≡ children_at nodes q
   gone_other q f g =
       children_other fresh q (children_at named fresh ++ moved) named f
-      ∙ (children_with_parents fresh q moved emptied ∙ (children_other block q [] with_fresh g ∙ children_with_new q fresh_kind nodes))
+      ∙ (children_with_parents fresh q moved emptied
+      ∙ (children_other block q [] with_fresh g ∙ children_with_new q fresh_kind nodes))
 
   gone_block : children_at gone block ≡ []
   gone_block =
@@ -437,11 +440,13 @@ module _ (letters : List ℕ) (nodes : List NodeValue) (l : Labels) (h : FitsBy 
       → Row (marks none_out wrapped limit wrapped_labels) (wrapped_labels.lo q) (children_at wrapped q)
       (until limit wrapped_labels q)
   at_new limit big q e =
-      subst (λ (x : ℕ). Row (marks none_out wrapped limit wrapped_labels) (wrapped_labels.lo x) (children_at wrapped x)
+      subst (λ (x : ℕ). Row (marks none_out wrapped limit wrapped_labels) (wrapped_labels.lo x)
+      (children_at wrapped x)
       (until limit wrapped_labels x)) e
       (subst (λ (x : ℕ). Row (marks none_out wrapped limit wrapped_labels) x (children_at wrapped fresh)
       (until limit wrapped_labels fresh)) (sym lo_fresh)
-      (subst (λ (x : ℕ). Row (marks none_out wrapped limit wrapped_labels) (l.lo block) (children_at wrapped fresh) x)
+      (subst (λ (x : ℕ). Row (marks none_out wrapped limit wrapped_labels) (l.lo block) (children_at wrapped fresh)
+      x)
       (sym (until_fresh limit ∙ sym (until_block limit)))
       (subst (λ (x : List ℕ). Row (marks none_out wrapped limit wrapped_labels) (l.lo block) x (until limit l block))
       (sym (children_put_other fresh block fresh gone apart_new ∙ gone_new))
@@ -451,7 +456,8 @@ module _ (letters : List ℕ) (nodes : List NodeValue) (l : Labels) (h : FitsBy 
       → Row (marks none_out wrapped limit wrapped_labels) (wrapped_labels.lo q) (children_at wrapped q)
       (until limit wrapped_labels q)
   at_block limit big q e =
-      subst (λ (x : ℕ). Row (marks none_out wrapped limit wrapped_labels) (wrapped_labels.lo x) (children_at wrapped x)
+      subst (λ (x : ℕ). Row (marks none_out wrapped limit wrapped_labels) (wrapped_labels.lo x)
+      (children_at wrapped x)
       (until limit wrapped_labels x)) e
       (subst (λ (x : List ℕ). Row (marks none_out wrapped limit wrapped_labels) (wrapped_labels.lo block) x
       (until limit wrapped_labels block))

@@ -20,7 +20,8 @@ element_bears document e = e
 element_bears doctype e = e
 element_bears (comment t) e = e
 
-module _ (rank : ℕ → ℕ) (letters : List ℕ) (nodes : List NodeValue) (l : Labels) (h : FitsBy none_out letters nodes l)
+module _ (rank : ℕ → ℕ) (letters : List ℕ) (nodes : List NodeValue) (l : Labels)
+    (h : FitsBy none_out letters nodes l)
     (ranked : Ranked rank nodes) (at_root : rank 0 ≡ 0) where
   -- a live element, or the Document
   pub record Alive (x : ℕ) : Type 0 where
@@ -103,7 +104,8 @@ module _ (rank : ℕ → ℕ) (letters : List ℕ) (nodes : List NodeValue) (l :
   not_root : (u : ℕ) → l.live u ≡ true → is_element (kind_at nodes u) ≡ true → rank u ≡ 0 → ⊥
   not_root u live e z = let x = (up u live e).less in absurd (omega arith)
 
-  down_step : (k : ℕ) → Paths k → (q u : ℕ) → Alive q → Alive u → rank u < suc k → rank q < rank u → Down q u
+  down_step : (k : ℕ) → Paths k → (q u : ℕ) → Alive q → Alive u → rank u < suc k → rank q < rank u
+      → Down q u
   down_step k p q u a b big less = by_either b.either
     where
       by_ranks : (x : Up u) → is_element (kind_at nodes u) ≡ true
@@ -149,10 +151,12 @@ module _ (rank : ℕ → ℕ) (letters : List ℕ) (nodes : List NodeValue) (l :
           let x = up u b.live e in
           by_ranks x e (cases_lt (rank q) (rank x.by)) (cases_lt (rank x.by) (rank q))
 
-  same_step : (k : ℕ) → Paths k → (q u : ℕ) → Alive q → Alive u → rank q < suc k → rank q ≡ rank u → q ≡ u
+  same_step : (k : ℕ) → Paths k → (q u : ℕ) → Alive q → Alive u → rank q < suc k → rank q ≡ rank u
+      → q ≡ u
   same_step k p q u a b big same = by_either a.either b.either
     where
-      by_ranks : (x : Up q) (y : Up u) → is_element (kind_at nodes q) ≡ true → is_element (kind_at nodes u) ≡ true
+      by_ranks : (x : Up q) (y : Up u) → is_element (kind_at nodes q) ≡ true
+          → is_element (kind_at nodes u) ≡ true
           → (rank x.by < rank y.by) ⊎ (rank y.by ≤ rank x.by)
           → (rank y.by < rank x.by) ⊎ (rank x.by ≤ rank y.by)
           → q ≡ u
@@ -223,7 +227,8 @@ module _ (rank : ℕ → ℕ) (letters : List ℕ) (nodes : List NodeValue) (l :
     alive_b = record { live = live_b; either = inr is_b }
 
     -- what isn't the inner one, and not on the way to it, has ended before it
-    ended_before : (q c : ℕ) → Alive q → rank p ≤ rank q → rank q < rank b → 1 ≤ times c (children_at nodes q)
+    ended_before : (q c : ℕ) → Alive q → rank p ≤ rank q → rank q < rank b
+        → 1 ≤ times c (children_at nodes q)
         → counted apart nodes c ≡ true
         → (l.live c ≡ true → between c ≡ true) × (l.live c ≡ false → l.hi c ≤ l.lo b)
     ended_before q c a from to k counts =

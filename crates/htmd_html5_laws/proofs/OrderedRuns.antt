@@ -57,7 +57,8 @@ use Rattle.htmd_html5_laws.proofs.OrderedHead.{current_html, stays_html, by_head
 
 -- ---- texts without a letter
 
-no_letters : (p : ℕ → Bool) (t : List ℕ) → ((b : ℕ) → p b ≡ true → is_letter b ≡ false) → list_all p t ≡ true
+no_letters : (p : ℕ → Bool) (t : List ℕ) → ((b : ℕ) → p b ≡ true → is_letter b ≡ false)
+    → list_all p t ≡ true
     → filter is_letter t ≡ []
 no_letters p [] f e = refl
 no_letters p (b ∷ t) f e =
@@ -155,7 +156,8 @@ after_grown false (Some n) stack letters more s h = early_grown letters more s (
 after_grown true (Some n) [] letters more s h = absurd h
 after_grown true (Some n) (e ∷ es) letters more s h = early_grown letters more s (e ∷ head_open n ∷ es) h
 
-stage_grown : (raw : Bool) (mode : InsertionMode) (letters more : List ℕ) (s : StateValue) → Stage raw mode letters s
+stage_grown : (raw : Bool) (mode : InsertionMode) (letters more : List ℕ) (s : StateValue)
+    → Stage raw mode letters s
     → Stage raw mode (letters ++ more) s
 stage_grown raw Initial letters more s h = (early_grown letters more s s.stack h.0, h.1)
 stage_grown raw BeforeHtml letters more s h = (early_grown letters more s s.stack h.0, h.1)
@@ -220,7 +222,8 @@ white_early letters t s stack u none real h =
     let p = (current s.stack).node in
     let there = place_last s real.ordered.no_fostering in
     let fits : Fits s.nodes p = subst (λ (x : _). Fits s.nodes x.parent) there (fits_place s real.hung) in
-    let g = white_put h.hung.rank letters s.nodes h.ordered.labels h.ordered.fits (ranked_of h.hung) p fits.0 t u none in
+    let g = white_put h.hung.rank letters s.nodes h.ordered.labels h.ordered.fits (ranked_of h.hung) p fits.0 t u none
+    in
     record {
       plain = plain_grown (text_grows t (place s) s.nodes) h.plain;
       hung = subst (λ (at : _). HungIn (add_text t at s.nodes) stack s.head) (sym there)
@@ -245,7 +248,8 @@ module _ (letters t : List ℕ) (s : StateValue) (e : is_text_mode s.content ≡
       → RunStage letters t (done s)
   same_letters mode m none h =
       run_done letters t s
-      (subst (λ (x : List ℕ). Staged x s) (sym (no_more letters (letters_of t) none)) (staged false mode letters s e m h))
+      (subst (λ (x : List ℕ). Staged x s) (sym (no_more letters (letters_of t) none))
+      (staged false mode letters s e m h))
       (inr e)
 
   white_done : (mode : InsertionMode) → s.mode ≡ mode → letters_of t ≡ []
@@ -314,7 +318,8 @@ late_writes letters t s u h = record {
   late = h.late;
 }
 
-pub late_run : (letters t : List ℕ) (s : StateValue) → Late (letters ++ letters_of t) s → RunStage letters t (done s)
+pub late_run : (letters t : List ℕ) (s : StateValue) → Late (letters ++ letters_of t) s
+    → RunStage letters t (done s)
 late_run letters t s h = run_done letters t s (staged_late (letters ++ letters_of t) s h) (inl h.late)
 
 white_in_body : (letters t : List ℕ) (s : StateValue) → IsUtf8 t → Late letters s
@@ -393,24 +398,25 @@ module _ (letters t : List ℕ) (u : IsUtf8 t) (s : StateValue) where
       ((late_runs s.mode letters t s u h.late h).characters)
 
   -- before it
-  module _ (l : is_late s.mode ≡ false) (e : is_text_mode s.content ≡ false) (h : Stage false s.mode letters s) where
-    early_white : Outcome 32
-    early_white all =
-        not_chosen letters t _ (is_foreign (run (kind_of_byte 32) t) s)
-        (stays_html (run (kind_of_byte 32) t) s (current_html s.stack (stage_names s.mode letters s l h)))
-        ((early_runs s.mode letters t s u refl l e h).white (white_letters t all))
+  module _ (l : is_late s.mode ≡ false) (e : is_text_mode s.content ≡ false) (h : Stage false s.mode letters s)
+    where
+      early_white : Outcome 32
+      early_white all =
+          not_chosen letters t _ (is_foreign (run (kind_of_byte 32) t) s)
+          (stays_html (run (kind_of_byte 32) t) s (current_html s.stack (stage_names s.mode letters s l h)))
+          ((early_runs s.mode letters t s u refl l e h).white (white_letters t all))
 
-    early_nulls : Outcome 0
-    early_nulls all =
-        not_chosen letters t _ (is_foreign (run (kind_of_byte 0) t) s)
-        (stays_html (run (kind_of_byte 0) t) s (current_html s.stack (stage_names s.mode letters s l h)))
-        ((early_runs s.mode letters t s u refl l e h).nulls (null_letters t all))
+      early_nulls : Outcome 0
+      early_nulls all =
+          not_chosen letters t _ (is_foreign (run (kind_of_byte 0) t) s)
+          (stays_html (run (kind_of_byte 0) t) s (current_html s.stack (stage_names s.mode letters s l h)))
+          ((early_runs s.mode letters t s u refl l e h).nulls (null_letters t all))
 
-    early_characters : Outcome 97
-    early_characters all =
-        not_chosen letters t _ (is_foreign (run (kind_of_byte 97) t) s)
-        (stays_html (run (kind_of_byte 97) t) s (current_html s.stack (stage_names s.mode letters s l h)))
-        ((early_runs s.mode letters t s u refl l e h).characters)
+      early_characters : Outcome 97
+      early_characters all =
+          not_chosen letters t _ (is_foreign (run (kind_of_byte 97) t) s)
+          (stays_html (run (kind_of_byte 97) t) s (current_html s.stack (stage_names s.mode letters s l h)))
+          ((early_runs s.mode letters t s u refl l e h).characters)
 
 pub run_stage : (letters whole t : List ℕ) → IsUtf8 t → list_all (is_of_kind (first_kind whole)) t ≡ true
     → (s : StateValue) → Calm s → Staged letters s → RunStage letters t (by_rules (run (first_kind whole) t) s)

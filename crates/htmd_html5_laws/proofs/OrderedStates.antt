@@ -59,7 +59,8 @@ is_late _ = false
 -- a step that leaves the letters in order
 pub record Orders (f : StateValue → StateValue) : Type 0 where
   pub stays : Stays f
-  pub orders : (letters : List ℕ) (s : StateValue) → Plain s → Hung s → Ordered letters s → Ordered letters (f s)
+  pub orders : (letters : List ℕ) (s : StateValue) → Plain s → Hung s → Ordered letters s
+      → Ordered letters (f s)
   pub late : (s : StateValue) → Plain s → is_late s.mode ≡ true → is_late (f s).mode ≡ true
 
 -- ---- steps put together
@@ -88,7 +89,8 @@ orders_by_test {f} {g} b first second = record {
     either true letters s h x o = first.orders letters s h x o
     either false letters s h x o = second.orders letters s h x o
 
-    each : (t : Bool) (s : StateValue) → Plain s → is_late s.mode ≡ true → is_late (if t then f s else g s).mode ≡ true
+    each : (t : Bool) (s : StateValue) → Plain s → is_late s.mode ≡ true
+        → is_late (if t then f s else g s).mode ≡ true
     each true s h e = first.late s h e
     each false s h e = second.late s h e
 
@@ -149,7 +151,8 @@ pub place_last : (s : StateValue) → s.foster_parenting ≡ false → place s �
 place_last s e = rw e refl
 
 -- what is open is live still
-pub opens_still : (old new : ℕ → Bool) (rank : ℕ → ℕ) (p : ℕ) (nodes : List NodeValue) (stack : List OpenValue)
+pub opens_still : (old new : ℕ → Bool) (rank : ℕ → ℕ) (p : ℕ) (nodes : List NodeValue)
+    (stack : List OpenValue)
     → ((m : ℕ) → m < length nodes → old m ≡ true → rank m ≤ rank p → new m ≡ true)
     → EachOpen (ElementOpen nodes) stack → EachOpen (λ e. rank e.node ≤ rank p) stack
     → EachOpen (λ e. old e.node ≡ true) stack
@@ -175,7 +178,8 @@ pub element_in : (letters : List ℕ) (name : ElementNameValue) (attributes : Li
     (nodes : List NodeValue) (stack : List OpenValue) (head : Option ℕ) (fosters : Bool)
     (h : HungIn nodes stack head) (o : OrderedIn letters nodes stack fosters) → p < length nodes
     → o.labels.live p ≡ true → EachOpen (λ e. h.rank e.node ≤ h.rank p) stack
-    → OrderedIn letters (add (element name attributes) (last_in p) nodes) (opened (length nodes) name ∷ stack) fosters
+    → OrderedIn letters (add (element name attributes) (last_in p) nodes) (opened (length nodes) name ∷ stack)
+    fosters
 element_in letters name attributes p nodes stack head fosters h o within live low =
     let g = element_added h.rank letters nodes o.labels o.fits (ranked_of h) p within live (element name attributes)
     refl in

@@ -106,7 +106,8 @@ run_part k text letters a u r more = either a.again refl
       utf8 = (run_parts 0 text u).rest;
     }
 
-within_part : (k : ℕ) (text : List ℕ) (letters : List ℕ) (s : StateValue) → IsUtf8 text → Calm s → Staged letters s
+within_part : (k : ℕ) (text : List ℕ) (letters : List ℕ) (s : StateValue) → IsUtf8 text → Calm s
+    → Staged letters s
     → Part letters text (take_within k text s)
 within_part zero text letters s u calm h = record {
   put = letters_of (first_run text);
@@ -129,7 +130,8 @@ within_part (suc k) text letters s u calm h =
         run_part k text letters (by_rules (first_token text) s) u
         (run_stage letters text (first_run text) (run_parts 0 text u).front (first_all text) s calm h) more
 
-put_stage : (k : ℕ) (text : List ℕ) (letters : List ℕ) (s : StateValue) → IsUtf8 text → Calm s → Staged letters s
+put_stage : (k : ℕ) (text : List ℕ) (letters : List ℕ) (s : StateValue) → IsUtf8 text → Calm s
+    → Staged letters s
     → Staged (letters ++ letters_of text) (put_within k text s)
 put_stage zero text letters s u calm h = staged_grown letters (letters_of text) s h
 put_stage (suc k) text letters s u calm h =
@@ -139,7 +141,8 @@ put_stage (suc k) text letters s u calm h =
     (append_assoc letters p.put (letters_of (take_part text s).rest) ∙ ap (λ (x : List ℕ). letters ++ x) p.fits)
     (put_stage k (take_part text s).rest (letters ++ p.put) (take_part text s).state p.utf8 p.calm p.stage))
   where
-    either : (b : Bool) → Staged (letters ++ letters_of text) (put_within k (take_part text s).rest (take_part text s).state)
+    either : (b : Bool)
+        → Staged (letters ++ letters_of text) (put_within k (take_part text s).rest (take_part text s).state)
         → Staged (letters ++ letters_of text)
         (if b then s else put_within k (take_part text s).rest (take_part text s).state)
     either true more = staged_grown letters (letters_of text) s h
@@ -180,7 +183,8 @@ after_head_text letters t s (Some n) (d ∷ ds) u e h =
         ∙ (ap (λ (stack : List OpenValue). last_in (current stack).node) (sym e)
         ∙ sym (place_last s h.ordered.no_fostering))
 
-raw_text_stage : (mode : InsertionMode) (letters t : List ℕ) (s : StateValue) → IsUtf8 t → Stage true mode letters s
+raw_text_stage : (mode : InsertionMode) (letters t : List ℕ) (s : StateValue) → IsUtf8 t
+    → Stage true mode letters s
     → Stage true mode (letters ++ letters_of t) (insert_text t s)
 raw_text_stage Initial letters t s u h = (early_text letters t s u h.0, h.1)
 raw_text_stage BeforeHtml letters t s u h = (early_text letters t s u h.0, h.1)
@@ -193,7 +197,8 @@ raw_text_stage AfterBody letters t s u h = late_writes letters t s u h
 raw_text_stage AfterAfterBody letters t s u h = late_writes letters t s u h
 raw_text_stage _ letters t s u h = absurd h
 
-put_raw_stage : (letters t : List ℕ) (s : StateValue) → IsUtf8 t → is_text_mode s.content ≡ true → Staged letters s
+put_raw_stage : (letters t : List ℕ) (s : StateValue) → IsUtf8 t → is_text_mode s.content ≡ true
+    → Staged letters s
     → Staged (letters ++ letters_of t) (put_raw_text t s)
 put_raw_stage letters t s u e h = either (is_empty t)
   where
@@ -323,9 +328,11 @@ orderly_name s d = by_found (known_name s) refl
 
     by_tag : (tag : TagName) → bytes_eq s (spelling tag) ≡ true → is_orderly_name (known tag) ≡ true
     by_tag tags.FrameSet e =
-        absurd (true≢false (sym e ∙ (both_false (bytes_eq s (codes "frameset")) (bytes_eq s (codes "template")) parts.0).0))
+        absurd (true≢false (sym e ∙ (both_false (bytes_eq s (codes "frameset")) (bytes_eq s (codes "template"))
+        parts.0).0))
     by_tag tags.Template e =
-        absurd (true≢false (sym e ∙ (both_false (bytes_eq s (codes "frameset")) (bytes_eq s (codes "template")) parts.0).1))
+        absurd (true≢false (sym e ∙ (both_false (bytes_eq s (codes "frameset")) (bytes_eq s (codes "template"))
+        parts.0).1))
     by_tag tags.Table e = absurd (true≢false (sym e ∙ parts.1.0))
     by_tag tags.Select e = absurd (true≢false (sym e ∙ parts.1.1))
     by_tag _ e = refl
@@ -340,7 +347,8 @@ orderly_tag false e = refl
 
 -- ---- a text without its first line feed
 
-letters_dropped : (s : List ℕ) → first_is line_feed s ≡ true → IsUtf8 s → letters_of (drop 1 s) ≡ letters_of s
+letters_dropped : (s : List ℕ) → first_is line_feed s ≡ true → IsUtf8 s
+    → letters_of (drop 1 s) ≡ letters_of s
 unfolding letters_of
 letters_dropped [] e u = absurd (true≢false (sym e))
 letters_dropped (b ∷ s) e u = sym (ap (filter is_letter) (chars_past_char (b ∷ s) s line_feed u whole))
@@ -349,10 +357,12 @@ letters_dropped (b ∷ s) e u = sym (ap (filter is_letter) (chars_past_char (b �
     whole = ap (λ x. x ∷ s) (eqb-true b line_feed e)
         ∙ ap (λ (x : List ℕ). x ++ s) (sym (encode_ascii line_feed (omega arith)))
 
-letters_shortened : (skips : Bool) (s : List ℕ) → IsUtf8 s → letters_of (without_line_feed skips s) ≡ letters_of s
+letters_shortened : (skips : Bool) (s : List ℕ) → IsUtf8 s
+    → letters_of (without_line_feed skips s) ≡ letters_of s
 letters_shortened skips s u = either (skips && first_is line_feed s) refl
   where
-    either : (t : Bool) → (skips && first_is line_feed s) ≡ t → letters_of (if t then drop 1 s else s) ≡ letters_of s
+    either : (t : Bool) → (skips && first_is line_feed s) ≡ t
+        → letters_of (if t then drop 1 s else s) ≡ letters_of s
     either true e = letters_dropped s (and_parts skips (first_is line_feed s) e).1 u
     either false e = refl
 
@@ -435,7 +445,8 @@ feed_stage letters token s u e h =
 
 -- ---- all tokens
 
-ends : (token : tokens.TokenValue) → is_end token ≡ true → (is_orderly token ≡ true) × (token_letters token ≡ [])
+ends : (token : tokens.TokenValue) → is_end token ≡ true
+    → (is_orderly token ≡ true) × (token_letters token ≡ [])
 ends (tokens.text t) f = absurd (true≢false (sym f))
 ends (tokens.start_tag tag) f = absurd (true≢false (sym f))
 ends (tokens.end_tag tag) f = (refl, refl)
@@ -446,7 +457,8 @@ ends tokens.end_of_file f = (refl, refl)
 after_stage : (k : ℕ) (read : Read) (letters : List ℕ) (s : StateValue) → ReadUtf8 read
     → list_all is_orderly (tokens_after (tokens_within k) read s) ≡ true
     → Staged letters s
-    → ((more : List ℕ) (t : StateValue) → list_all is_orderly (tokens_within k read.rest t) ≡ true → Staged more t
+    → ((more : List ℕ) (t : StateValue) → list_all is_orderly (tokens_within k read.rest t) ≡ true → Staged
+    more t
     → Staged (more ++ letters_in (texts_within k read.rest t)) (read_within k read.rest t))
     → Staged (letters ++ letters_in (texts_after (texts_within k) read s)) (after_token (read_within k) read s)
 after_stage k read letters s u e h more = either (is_end read.token) refl e
@@ -506,7 +518,8 @@ begins_ordered scripting = record {
         not_text f = cc
 
     first_row : (limit q : ℕ)
-        → Row (marks none_out (new_node document ∷ []) limit (record { lo = λ n. 0; hi = λ n. 0; live = λ n. n == 0 }))
+        → Row (marks none_out (new_node document ∷ []) limit
+        (record { lo = λ n. 0; hi = λ n. 0; live = λ n. n == 0 }))
         0 (children_at (new_node document ∷ []) q) (cond (q == 0) limit 0)
     first_row limit zero = omega arith
     first_row limit (suc q) = omega arith
