@@ -12,7 +12,7 @@ use Rattle.htmd_html5.specs.Documents.{state_after, html5_document}
 use Rattle.htmd_tree.specs.Items.{greatest_depth}
 use Rattle.htmd_html5_laws.specs.PageLetters.{is_letter, is_character, occurrences, occurrences_in, texts_of, token_texts}
 use Rattle.htmd_html5_laws.specs.HarmlessTags.{drops_text_in, is_harmless, page_tokens}
-use Rattle.htmd_html5_laws.specs.LetterOrder.{letters_of, letters_in, moves_text_in, is_orderly, all_tags_are_orderly}
+use Rattle.htmd_html5_laws.specs.LetterOrder.{letters_of, letters_in, may_move_text_in, is_orderly, all_tags_are_orderly}
 use Rattle.htmd_html5_laws.specs.LetterOrder.{LettersStandInOrder}
 use Rattle.htmd_html5_laws.proofs.TextsPut.{occurs_cons}
 use Rattle.htmd_html5_laws.proofs.HarmlessLettersLemmas.{harmless_letters_kept}
@@ -76,7 +76,7 @@ none_in c (s ∷ texts) e =
 one_harmless : (token : TokenValue) → is_orderly token ≡ true → is_harmless token ≡ true
 one_harmless (start_tag tag) e =
     ap not (apart (drops_text_in tag.name) (bytes_eq tag.name (codes "table")) (bytes_eq tag.name (codes "select"))
-    (orderly_tag (moves_text_in tag.name) e)).0
+    (orderly_tag (may_move_text_in tag.name) e)).0
 one_harmless (text s) e = refl
 one_harmless (end_tag tag) e = refl
 one_harmless (comment s) e = refl

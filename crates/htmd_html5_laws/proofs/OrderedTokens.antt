@@ -36,7 +36,7 @@ use Rattle.htmd_html5.specs.Feeding.{out_of_text_mode, feed_end_tag, named, feed
 use Rattle.htmd_html5.specs.Documents.{next_read, is_end, after_token, read_within, state_after}
 use Rattle.htmd_html5_laws.specs.PageLetters.{is_letter, with_text_of, texts_after, texts_within, token_texts}
 use Rattle.htmd_html5_laws.specs.HarmlessTags.{drops_text_in, tokens_after, tokens_within}
-use Rattle.htmd_html5_laws.specs.LetterOrder.{letters_of, letters_in, moves_text_in, is_orderly, all_tags_are_orderly}
+use Rattle.htmd_html5_laws.specs.LetterOrder.{letters_of, letters_in, may_move_text_in, is_orderly, all_tags_are_orderly}
 use Rattle.htmd_html5_laws.proofs.Utf8Tokens.{TokenUtf8, ReadUtf8, next_token_utf8, preprocessed_utf8}
 use Rattle.htmd_html5_laws.proofs.TakingTexts.{run_parts}
 use Rattle.htmd_html5_laws.proofs.FedTokens.{shortened}
@@ -319,7 +319,7 @@ both_false : (a b : Bool) → (a || b) ≡ false → (a ≡ false) × (b ≡ fal
 both_false true b f = absurd (true≢false f)
 both_false false b f = (refl, f)
 
-orderly_name : (s : List ℕ) → moves_text_in s ≡ false → is_orderly_name (name_of_text s) ≡ true
+orderly_name : (s : List ℕ) → may_move_text_in s ≡ false → is_orderly_name (name_of_text s) ≡ true
 orderly_name s d = by_found (known_name s) refl
   where
     parts : (drops_text_in s ≡ false)
@@ -394,7 +394,7 @@ module _ (letters : List ℕ) where
       (feed_text_stage letters (without_line_feed skips t) s (shortened 0 skips t u).utf8 h)
   feed_at_stage (tokens.start_tag tag) skips s u e h =
       none_put (process (start_tag (named tag)) (out_of_text_mode s))
-      (processed (start_tag (named tag)) (orderly_name tag.name (orderly_tag (moves_text_in tag.name) e)) letters
+      (processed (start_tag (named tag)) (orderly_name tag.name (orderly_tag (may_move_text_in tag.name) e)) letters
       (out_of_text_mode s) (out_of_text letters s h))
   feed_at_stage (tokens.end_tag tag) skips s u e h =
       none_put (feed_end_tag (name_of_text tag.name) s) (end_tag_stage (name_of_text tag.name) letters s h)
