@@ -1,7 +1,7 @@
 -- The letters of a page stand in order in the tree: they are some of the tokens' in their order, and as many of each.
-use Rattle.std.proofs.Common.{◌≡◌, ◌∙◌, ℕ, zero, suc, ◌+◌, ◌≤◌, Bool, true, false, List, [], ◌∷◌, ◌++◌, length}
-use Rattle.std.proofs.Common.{refl, sym, ap, subst, arith, cond}
-use Rattle.std.specs.Prelude.{◌==◌, ◌||◌, ◌&&◌, not, filter, count_by, codes, IsUtf8}
+use Rattle.std.proofs.Common.{◌≡◌, ◌∙◌, ℕ, Bool, true, false, List, [], ◌∷◌}
+use Rattle.std.proofs.Common.{refl, sym, ap, arith, cond}
+use Rattle.std.specs.Prelude.{◌==◌, not, filter, count_by, codes, IsUtf8}
 use Rattle.std.specs.List.{list_all}
 use Rattle.std.specs.Str.{chars, bytes_eq}
 use Rattle.std.proofs.lemmas.Bool.{true≢false, and_parts, eqb-true}
@@ -11,8 +11,8 @@ use Rattle.htmd_html5_tokens.specs.Tokens.{TokenValue, text, start_tag, end_tag,
 use Rattle.htmd_html5.specs.Documents.{state_after, html5_document}
 use Rattle.htmd_tree.specs.Items.{greatest_depth}
 use Rattle.htmd_html5_laws.specs.PageLetters.{is_letter, is_character, occurrences, occurrences_in, texts_of, token_texts}
-use Rattle.htmd_html5_laws.specs.HarmlessTags.{drops_text_in, is_harmless, page_tokens, all_tags_are_harmless}
-use Rattle.htmd_html5_laws.specs.LetterOrder.{letters_of, letters_in, moves_text_in, is_orderly, all_tags_are_orderly}
+use Rattle.htmd_html5_laws.specs.HarmlessTags.{drops_text_in, is_harmless, page_tokens}
+use Rattle.htmd_html5_laws.specs.LetterOrder.{letters_of, letters_in, may_move_text_in, is_orderly, all_tags_are_orderly}
 use Rattle.htmd_html5_laws.specs.LetterOrder.{LettersStandInOrder}
 use Rattle.htmd_html5_laws.proofs.TextsPut.{occurs_cons}
 use Rattle.htmd_html5_laws.proofs.HarmlessLettersLemmas.{harmless_letters_kept}
@@ -23,7 +23,8 @@ use Rattle.htmd_html5_laws.proofs.OrderedLayout.{laid_in_order}
 
 -- ---- as many of each
 
-many_kept : (c : ℕ) (xs : List ℕ) → is_letter c ≡ true → many c (filter is_letter xs) ≡ count_by (is_character c) xs
+many_kept : (c : ℕ) (xs : List ℕ) → is_letter c ≡ true
+    → many c (filter is_letter xs) ≡ count_by (is_character c) xs
 many_kept c [] e = refl
 many_kept c (x ∷ xs) e =
     let h = many_kept c xs e in
@@ -52,7 +53,8 @@ no_letters : (c : ℕ) (s : List ℕ) → is_letter c ≡ false → many c (lett
 unfolding letters_of
 no_letters c s e = many_none c (chars s) e
 
-many_in : (c : ℕ) (texts : List (List ℕ)) → is_letter c ≡ true → many c (letters_in texts) ≡ occurrences_in c texts
+many_in : (c : ℕ) (texts : List (List ℕ)) → is_letter c ≡ true
+    → many c (letters_in texts) ≡ occurrences_in c texts
 many_in c [] e = refl
 many_in c (s ∷ texts) e =
     let a = many_append c (letters_of s) (letters_in texts) in
@@ -74,7 +76,7 @@ none_in c (s ∷ texts) e =
 one_harmless : (token : TokenValue) → is_orderly token ≡ true → is_harmless token ≡ true
 one_harmless (start_tag tag) e =
     ap not (apart (drops_text_in tag.name) (bytes_eq tag.name (codes "table")) (bytes_eq tag.name (codes "select"))
-    (orderly_tag (moves_text_in tag.name) e)).0
+    (orderly_tag (may_move_text_in tag.name) e)).0
 one_harmless (text s) e = refl
 one_harmless (end_tag tag) e = refl
 one_harmless (comment s) e = refl

@@ -1,7 +1,7 @@
 -- The rules that many modes share and those of the mode "in body" leave the letters in order, where the tag's name is
 -- of none that moves text.
 use Rattle.std.proofs.Common.{◌≡◌, ℕ, Bool, true, false, List, [], Option, Some, None, refl, sym}
-use Rattle.std.specs.Prelude.{if◌then◌else◌, is_some}
+use Rattle.std.specs.Prelude.{is_some}
 use Rattle.std.proofs.lemmas.Bool.{true≢false}
 use Rattle.htmd_grammar.specs.ValueTrees.{AttributePair}
 use Rattle.htmd_html5_state.specs.Names.{NameValue, known, other, text_of_name}
@@ -10,8 +10,7 @@ use Rattle.htmd_html5_state.specs.OpenElements.{is_in_scope, is_node_in_scope}
 use Rattle.htmd_html5_state.specs.State.{StateValue, on_stack}
 use Rattle.htmd_html5_state.specs.Adoption.{formatting_element}
 use Rattle.htmd_html5_state.specs.declared.modes.InsertionMode.{InsertionMode}
-use Rattle.htmd_html5_state.specs.declared.modes.InsertionMode.TheVariants.{InTable, InCaption, InTableBody, InRow}
-use Rattle.htmd_html5_state.specs.declared.modes.InsertionMode.TheVariants.{InCell, AfterBody}
+use Rattle.htmd_html5_state.specs.declared.modes.InsertionMode.TheVariants.{AfterBody}
 use Rattle.htmd_html5_state.specs.declared.names.TagName.{TagName}
 use Rattle.htmd_html5_state.specs.declared.names.Namespace.{Namespace}
 use Rattle.htmd_html5_state.specs.declared.names.Namespace.TheVariants.{Svg, MathMl}
@@ -28,10 +27,10 @@ use Rattle.htmd_html5.specs.SharedRules.{insert_head_element}
 use Rattle.htmd_html5.specs.BodyStarts.{block_rule, formatting_rule, phrasing_rule, rule_of_start}
 use Rattle.htmd_html5.specs.BodyStarts.{is_in_template, open_body, add_to_this_body, start_block}
 use Rattle.htmd_html5.specs.BodyStarts.{close_heading, start_heading, skip_line_feed, start_preformatted, with_form}
-use Rattle.htmd_html5.specs.BodyStarts.{start_form, start_item, start_table, start_separator}
+use Rattle.htmd_html5.specs.BodyStarts.{start_form, start_item, start_separator}
 use Rattle.htmd_html5.specs.BodyStarts.{start_formatting, forget, start_anchor, close_no_break, start_no_break}
 use Rattle.htmd_html5.specs.BodyStarts.{start_ordinary, start_button, start_embedded, start_void, is_hidden, start_input}
-use Rattle.htmd_html5.specs.BodyStarts.{mode_of_select, start_select, close_option, start_option, start_ruby}
+use Rattle.htmd_html5.specs.BodyStarts.{close_option, start_option, start_ruby}
 use Rattle.htmd_html5.specs.BodyStarts.{start_foreign, start_text_area, start_example}
 use Rattle.htmd_html5.specs.BodyStarts.{start_no_script, start_by, start_in_body}
 use Rattle.htmd_html5.specs.BodyEnds.{text_end_rule, end_rule, has_body, end_body, end_block, close_form, end_form}
@@ -44,9 +43,9 @@ use Rattle.htmd_html5_laws.proofs.HungStates.{Hung}
 use Rattle.htmd_html5_state.specs.declared.names.TagName.TheVariants as tags
 use Rattle.htmd_html5_tokens.specs.declared.tokens.RawElement.TheVariants as raw
 use Rattle.htmd_html5_laws.proofs.PlainNames.{is_plain}
-use Rattle.htmd_html5_laws.proofs.PlainStates.{is_plain_mode, Plain, Stays}
+use Rattle.htmd_html5_laws.proofs.PlainStates.{is_plain_mode, Plain}
 use Rattle.htmd_html5_laws.proofs.ColumnTags.{IsColumn}
-use Rattle.htmd_html5_laws.proofs.PlainBody.{StaysAnswer, says_plain, answers_either, with_mode_stays, no_frameset_stays}
+use Rattle.htmd_html5_laws.proofs.PlainBody.{StaysAnswer, says_plain, with_mode_stays, no_frameset_stays}
 use Rattle.htmd_html5_laws.proofs.PlainBody.{end_template_stays, skip_line_feed_stays, with_form_stays, close_noted_form_stays}
 use Rattle.htmd_html5_laws.proofs.OrderedStates.{Ordered, Orders, then_orders, unmoved, orders_by_test, orders_by_state}
 use Rattle.htmd_html5_laws.proofs.OrderedStates.{is_late, on_stack_orders, insert_element_orders, insert_void_orders}
@@ -70,7 +69,8 @@ is_orderly_name (known tag) = is_orderly_tag tag
 is_orderly_name (other s) = true
 
 -- an orderly name is plain, or that of columns, which count for nothing outside a table
-pub plain_or_column : (P : Type 0) (name : NameValue) → is_orderly_name name ≡ true → (is_plain_name name ≡ true → P)
+pub plain_or_column : (P : Type 0) (name : NameValue) → is_orderly_name name ≡ true
+    → (is_plain_name name ≡ true → P)
     → (IsColumn name → P)
     → P
 plain_or_column P (known tags.Table) e f g = absurd (true≢false (sym e))
@@ -80,7 +80,8 @@ plain_or_column P (known tags.ColGroup) e f g = g tt
 plain_or_column P (known tag) e f g = f e
 plain_or_column P (other s) e f g = f refl
 
-pub by_column_name : (P : NameValue → Type 0) → P (known tags.Col) → P (known tags.ColGroup) → (name : NameValue)
+pub by_column_name : (P : NameValue → Type 0) → P (known tags.Col) → P (known tags.ColGroup)
+    → (name : NameValue)
     → IsColumn name
     → P name
 by_column_name P a b (known tags.Col) c = a
@@ -103,24 +104,6 @@ says_ordered h = record {
   orders = λ letters s plain x o. h.orders letters s plain x o;
   late = λ s plain e. h.late s plain e;
 }
-
-pub orders_either : {f g : StateValue → Answer} (b : StateValue → Bool) → OrdersAnswer f → OrdersAnswer g
-    → OrdersAnswer (λ s. if b s then f s else g s)
-orders_either {f} {g} b first second = record {
-  stays = answers_either b first.stays second.stays;
-  orders = λ letters s h x o. either (b s) letters s h x o;
-  late = λ s h e. each (b s) s h e;
-}
-  where
-    either : (t : Bool) (letters : List ℕ) (s : StateValue) → Plain s → Hung s → Ordered letters s
-        → Ordered letters (if t then f s else g s).state
-    either true letters s h x o = first.orders letters s h x o
-    either false letters s h x o = second.orders letters s h x o
-
-    each : (t : Bool) (s : StateValue) → Plain s → is_late s.mode ≡ true
-        → is_late (if t then f s else g s).state.mode ≡ true
-    each true s h e = first.late s h e
-    each false s h e = second.late s h e
 
 -- ---- rules that many modes share
 
@@ -236,7 +219,8 @@ module _ (tag : StartTagValue) (p : is_plain_name tag.name ≡ true) where
 
   start_input_orders : Orders (start_input tag)
   start_input_orders =
-      orders_by_test (λ s. is_hidden tag) (then_orders insert_void_tag_orders reconstruct_orders) (void_tag_orders tag p)
+      orders_by_test (λ s. is_hidden tag) (then_orders insert_void_tag_orders reconstruct_orders)
+      (void_tag_orders tag p)
 
   start_option_orders : Orders (start_option tag)
   start_option_orders = then_orders start_ordinary_orders (on_stack_orders close_option close_option_fewer)
@@ -258,7 +242,8 @@ module _ (tag : StartTagValue) (p : is_plain_name tag.name ≡ true) where
 
   start_heading_orders : Orders (start_heading tag)
   start_heading_orders =
-      then_orders insert_tag_orders (then_orders (on_stack_orders close_heading close_heading_fewer) close_paragraph_orders)
+      then_orders insert_tag_orders (then_orders (on_stack_orders close_heading close_heading_fewer)
+      close_paragraph_orders)
 
   start_preformatted_orders : Orders (start_preformatted tag)
   start_preformatted_orders = then_orders no_frameset_orders (then_orders skip_line_feed_orders start_block_orders)
@@ -345,7 +330,8 @@ module _ (tag : StartTagValue) (p : is_plain_name tag.name ≡ true) where
   start_by_name_orders (known tags.Li) q = start_item_orders (Only tags.Li)
   start_by_name_orders (known tags.Dd) q = start_item_orders DescriptionParts
   start_by_name_orders (known tags.Dt) q = start_item_orders DescriptionParts
-  start_by_name_orders (known tags.PlainText) q = then_orders (insert_raw_tag_orders raw.Plaintext) close_paragraph_orders
+  start_by_name_orders (known tags.PlainText) q =
+      then_orders (insert_raw_tag_orders raw.Plaintext) close_paragraph_orders
   start_by_name_orders (known tags.Table) q = absurd (true≢false (sym q))
   start_by_name_orders (known tags.Hr) q = start_separator_orders
   start_by_name_orders (known tags.Button) q = start_button_orders
@@ -412,7 +398,8 @@ end_block_orders tag = on_stack_orders (close (Only tag) Default) (close_fewer (
 close_form_orders : (form : Option ℕ) → Orders (close_form form)
 close_form_orders None = unmoved
 close_form_orders (Some n) =
-    orders_by_test (λ s. is_node_in_scope n s.stack) (on_stack_orders (λ stack. without n (pop_while ImpliedEnd stack))
+    orders_by_test (λ s. is_node_in_scope n s.stack)
+    (on_stack_orders (λ stack. without n (pop_while ImpliedEnd stack))
     (λ stack. fewer_then (without_fewer n (pop_while ImpliedEnd stack)) (pop_while_fewer ImpliedEnd stack))) unmoved
 
 end_form_orders : Orders end_form

@@ -1,19 +1,15 @@
 -- Before the body each token that is no text leaves the letters in order: the head may be opened once more after it.
-use Rattle.std.proofs.Common.{◌≡◌, ◌∙◌, ℕ, zero, suc, ◌<◌, ◌≤◌, Bool, true, false, List, [], ◌∷◌, ◌++◌, length}
-use Rattle.std.proofs.Common.{Option, Some, None, refl, sym, ap, subst, arith, cond, inl, inr, ◌⊎◌}
-use Rattle.std.specs.Prelude.{if◌then◌else◌, ◌==◌, ◌||◌, not}
-use Rattle.std.proofs.lemmas.Bool.{true≢false, eq-eqb, ne_eqb}
-use Rattle.htmd_text.proofs.Cases.{test}
+use Rattle.std.proofs.Common.{◌≡◌, ◌∙◌, ℕ, zero, suc, ◌≤◌, Bool, true, false, List, [], ◌∷◌, length}
+use Rattle.std.proofs.Common.{Option, Some, None, refl, sym, ap, subst, cond, inl, inr, ◌⊎◌}
+use Rattle.std.specs.Prelude.{if◌then◌else◌}
+use Rattle.std.proofs.lemmas.Bool.{true≢false}
 use Rattle.htmd_grammar.specs.ValueTrees.{AttributePair}
-use Rattle.htmd_html5_tokens.specs.declared.tokens.Content.{Content}
-use Rattle.htmd_html5_tokens.specs.declared.tokens.RawElement.{RawElement}
 use Rattle.htmd_html5_state.specs.Names.{NameValue, known, html}
-use Rattle.htmd_html5_state.specs.Documents.{NodeValue, KindValue, doctype as doctype_kind, comment as comment_kind, text, element}
-use Rattle.htmd_html5_state.specs.Documents.{kind_at, last_in, add, add_missing, kind_with_missing}
-use Rattle.htmd_html5_state.specs.OpenElements.{OpenValue, is_open, first_open, pop, without}
-use Rattle.htmd_html5_state.specs.State.{StateValue, on_nodes, on_stack}
-use Rattle.htmd_html5_state.specs.Foreign.{is_html, current_is_html}
-use Rattle.htmd_html5_state.specs.Insertion.{opened, current, insert_element, insert_void, insert_raw, insert_doctype, open_again}
+use Rattle.htmd_html5_state.specs.Documents.{doctype as doctype_kind, text}
+use Rattle.htmd_html5_state.specs.OpenElements.{OpenValue, is_open, first_open, pop}
+use Rattle.htmd_html5_state.specs.State.{StateValue}
+use Rattle.htmd_html5_state.specs.Foreign.{is_html}
+use Rattle.htmd_html5_state.specs.Insertion.{opened, current, insert_doctype}
 use Rattle.htmd_html5_state.specs.Insertion.{insert_comment_in, insert_comment}
 use Rattle.htmd_html5_state.specs.declared.modes.InsertionMode.TheVariants.{Initial, BeforeHtml, BeforeHead, InHead}
 use Rattle.htmd_html5_state.specs.declared.modes.InsertionMode.TheVariants.{InHeadNoscript, AfterHead, InBody, AfterBody}
@@ -21,37 +17,24 @@ use Rattle.htmd_html5_state.specs.declared.modes.InsertionMode.TheVariants.{Afte
 use Rattle.htmd_html5_state.specs.declared.modes.InsertionMode.{InsertionMode}
 use Rattle.htmd_html5_state.specs.declared.sets.NameSet.TheVariants.{Only}
 use Rattle.htmd_html5.specs.Tokens.{StartTagValue, TokenValue, start_tag, end_tag, run, comment, doctype, end_of_file}
-use Rattle.htmd_html5.specs.Answers.{Answer, answer, done, again}
+use Rattle.htmd_html5.specs.Answers.{Answer, answer, done}
 use Rattle.htmd_html5.specs.Feeding.{is_text_mode}
-use Rattle.htmd_html5.specs.SharedRules.{add_missing_to, add_to_root, insert_head_element, insert_raw_tag, insert_void_tag}
-use Rattle.htmd_html5.specs.SharedRules.{end_template, insert_tag}
+use Rattle.htmd_html5.specs.SharedRules.{add_missing_to, add_to_root}
 use Rattle.htmd_html5.specs.Initial.{leave_initial, initial}
 use Rattle.htmd_html5.specs.BeforeHtml.{with_root, imply_root, start_before_html, end_before_html, before_html}
 use Rattle.htmd_html5.specs.BeforeHead.{with_head, imply_head, start_before_head, end_before_head, before_head}
-use Rattle.htmd_html5.specs.InHead.{close_head, noscript_in_head, start_in_head, end_in_head, in_head}
-use Rattle.htmd_html5.specs.InHeadNoscript.{close_noscript, start_in_noscript, end_in_noscript, in_head_noscript}
-use Rattle.htmd_html5.specs.AfterHead.{with_body, imply_body, insert_in_head, insert_late, start_after_head, end_after_head}
-use Rattle.htmd_html5.specs.AfterHead.{after_head}
-use Rattle.htmd_html5.specs.Modes.{in_mode, by_mode_rules}
-use Rattle.htmd_html5.specs.Processing.{by_rules}
-use Rattle.htmd_html5.specs.ForeignContent.{is_foreign, in_foreign_content}
-use Rattle.htmd_html5_laws.proofs.NodeTexts.{is_element, kinds_add}
-use Rattle.htmd_html5_laws.proofs.OpenNodes.{EachOpen, Fewer, all_of, skip, pop_fewer}
-use Rattle.htmd_html5_laws.proofs.PlainNames.{is_plain_name, is_plain_open, no_template_open}
-use Rattle.htmd_html5_laws.proofs.PlainStates.{Plain, PlainIn, Stays, plain_stack, in_plain_mode, plain_new, insert_root_stays}
+use Rattle.htmd_html5_laws.proofs.OpenNodes.{EachOpen, Fewer}
+use Rattle.htmd_html5_laws.proofs.PlainNames.{is_plain_name, is_plain_open}
+use Rattle.htmd_html5_laws.proofs.PlainStates.{Plain, plain_stack, in_plain_mode, insert_root_stays}
 use Rattle.htmd_html5_laws.proofs.PlainStates.{insert_doctype_stays, insert_element_stays, missing_grows, plain_grown}
-use Rattle.htmd_html5_laws.proofs.HungStates.{ElementOpen, HungIn, Hung, hung_fewer, hung_last, hung_headed, hung_missing}
-use Rattle.htmd_html5_laws.proofs.HungStates.{hung_named, element_number}
-use Rattle.htmd_html5_laws.proofs.HungNodes.{is_solid, element_solid}
-use Rattle.htmd_html5_laws.proofs.OrderedNodes.{FitsBy}
-use Rattle.htmd_html5_laws.proofs.OrderedTexts.{fits_like}
-use Rattle.htmd_html5_laws.proofs.OrderedStates.{OrderedIn, Ordered, Orders, ordered_fewer, is_late, element_in, loose_in}
-use Rattle.htmd_html5_laws.proofs.OrderedStates.{no_text, current_within, insert_comment_orders, insert_comment_root_orders}
-use Rattle.htmd_html5_laws.proofs.OrderedStates.{insert_void_orders, insert_raw_orders, insert_element_orders, missing_ordered}
-use Rattle.htmd_html5_laws.proofs.OrderedLate.{IsOrderly, Late, late_step, by_rules_late, first_within}
+use Rattle.htmd_html5_laws.proofs.HungStates.{HungIn, hung_fewer, hung_headed, hung_missing}
+use Rattle.htmd_html5_laws.proofs.HungStates.{hung_named}
+use Rattle.htmd_html5_laws.proofs.OrderedStates.{OrderedIn, Orders, ordered_fewer, is_late, element_in, loose_in}
+use Rattle.htmd_html5_laws.proofs.OrderedStates.{insert_comment_orders, insert_comment_root_orders}
+use Rattle.htmd_html5_laws.proofs.OrderedStates.{insert_element_orders, missing_ordered}
+use Rattle.htmd_html5_laws.proofs.OrderedLate.{IsOrderly, Late}
 use Rattle.htmd_html5_laws.proofs.OrderedBody.{plain_or_column, by_column_name}
 use Rattle.htmd_html5_state.specs.declared.names.TagName.TheVariants as tags
-use Rattle.htmd_html5_tokens.specs.declared.tokens.RawElement.TheVariants as raw
 
 -- ---- states before the body
 
@@ -102,7 +85,8 @@ Stage raw _ letters s = ⊥
 abbrev pub Staged : List ℕ → StateValue → Type 0
 Staged letters s = Stage (is_text_mode s.content) s.mode letters s
 
-pub staged : (raw : Bool) (mode : InsertionMode) (letters : List ℕ) (s : StateValue) → is_text_mode s.content ≡ raw
+pub staged : (raw : Bool) (mode : InsertionMode) (letters : List ℕ) (s : StateValue)
+    → is_text_mode s.content ≡ raw
     → s.mode ≡ mode → Stage raw mode letters s → Staged letters s
 staged raw mode letters s e f h =
     subst (λ (b : Bool). Stage b s.mode letters s) (sym e)
@@ -144,7 +128,8 @@ pub raw_answer : (mode : InsertionMode) (letters : List ℕ) (s : StateValue) �
 raw_answer mode letters s e f h =
     record { stage = staged true mode letters s e f h; calm = λ z. absurd (true≢false (sym z)) }
 
-pub late_answers : (more : Bool) (letters : List ℕ) (s : StateValue) → Late letters s → StageAnswer letters (answer s more)
+pub late_answers : (more : Bool) (letters : List ℕ) (s : StateValue) → Late letters s
+    → StageAnswer letters (answer s more)
 late_answers more letters s h = record { stage = staged_late letters s h; calm = λ z. inl h.late }
 
 -- ---- steps
@@ -158,15 +143,6 @@ early_step {f} g letters s names h = record {
   names = names;
 }
 
-pub early_late : (letters : List ℕ) (s : StateValue) (mode : InsertionMode) → is_late mode ≡ true → s.mode ≡ mode
-    → Early letters s → Late letters s
-early_late letters s mode e f h =
-    record { plain = h.plain; hung = h.hung; ordered = h.ordered; late = ap is_late f ∙ e }
-
-pub names_popped : (stack : List OpenValue) → EachOpen HtmlOpen stack → EachOpen HtmlOpen (pop stack)
-names_popped [] h = tt
-names_popped (e ∷ es) h = h.1
-
 pub early_fewer : (letters : List ℕ) (s : StateValue) (stack es : List OpenValue) → Fewer es stack
     → EarlyIn letters s stack → EarlyIn letters s es
 early_fewer letters s stack es f h = record {
@@ -174,19 +150,6 @@ early_fewer letters s stack es f h = record {
   hung = hung_fewer es f h.hung;
   ordered = ordered_fewer es f h.ordered;
   names = f.each is_html h.names;
-}
-
--- only the mode changes
-pub early_mode : (letters : List ℕ) (s t : StateValue) (stack : List OpenValue) → Plain (record t { stack = stack })
-    → t.nodes ≡ s.nodes → t.head ≡ s.head → t.foster_parenting ≡ s.foster_parenting
-    → EarlyIn letters s stack → EarlyIn letters t stack
-early_mode letters s t stack plain e f g h = record {
-  plain = plain;
-  hung = subst (λ (x : List NodeValue). HungIn x stack t.head) (sym e)
-      (subst (λ (x : Option ℕ). HungIn s.nodes stack x) (sym f) h.hung);
-  ordered = subst (λ (x : List NodeValue). OrderedIn letters x stack t.foster_parenting) (sym e)
-      (subst (λ (x : Bool). OrderedIn letters s.nodes stack x) (sym g) h.ordered);
-  names = h.names;
 }
 
 -- attributes of the outermost element
@@ -219,13 +182,15 @@ pub root_early : (letters : List ℕ) (tag : StartTagValue) (s : StateValue) (st
     → EarlyIn letters s stack → EarlyIn letters (add_to_root tag s) stack
 root_early letters tag s stack h = either (is_open (Only tags.Template) s.stack)
   where
-    either : (b : Bool) → EarlyIn letters (if b then s else add_missing_to (first_open s.stack) tag.attributes s) stack
+    either : (b : Bool)
+        → EarlyIn letters (if b then s else add_missing_to (first_open s.stack) tag.attributes s) stack
     either true = h
     either false = root_missing letters tag s stack (first_open s.stack) h
 
 pub root_stage : (letters : List ℕ) (tag : StartTagValue) (s : StateValue) (mode : InsertionMode)
     → is_text_mode s.content ≡ false → s.mode ≡ mode
-    → ((t : StateValue) → SameBut s t → ((stack : List OpenValue) → EarlyIn letters s stack → EarlyIn letters t stack)
+    → ((t : StateValue) → SameBut s t → ((stack : List OpenValue) → EarlyIn letters s stack → EarlyIn letters
+    t stack)
     → Stage false mode letters t)
     → StageAnswer letters (done (add_to_root tag s))
 root_stage letters tag s mode e f go =
@@ -238,14 +203,16 @@ root_stage letters tag s mode e f go =
 no_doctype : (t : List ℕ) → doctype_kind ≡ text t → ⊥
 no_doctype t e = cc
 
-pub comment_early : (letters : List ℕ) (c : List ℕ) (s : StateValue) → Early letters s → Early letters (insert_comment c s)
+pub comment_early : (letters : List ℕ) (c : List ℕ) (s : StateValue) → Early letters s
+    → Early letters (insert_comment c s)
 comment_early letters c s h = early_step (insert_comment_orders c) letters s h.names h
 
 root_comment_early : (letters : List ℕ) (c : List ℕ) (s : StateValue) → Early letters s
     → Early letters (insert_comment_in 0 c s)
 root_comment_early letters c s h = early_step (insert_comment_root_orders c) letters s h.names h
 
-pub initial_left : (letters : List ℕ) (s : StateValue) → is_text_mode s.content ≡ false → Stage false Initial letters s
+pub initial_left : (letters : List ℕ) (s : StateValue) → is_text_mode s.content ≡ false
+    → Stage false Initial letters s
     → StageAnswer letters (leave_initial s)
 initial_left letters s e h =
     calm_answer BeforeHtml true letters (record s { mode = BeforeHtml; quirks = true }) e refl (
@@ -295,13 +262,15 @@ root_put letters name attributes s p h = record {
         nonempty : d ∷ ds ≡ [] → ⊥
         nonempty f = cc
 
-pub root_implied : (letters : List ℕ) (s : StateValue) → is_text_mode s.content ≡ false → Stage false BeforeHtml letters s
+pub root_implied : (letters : List ℕ) (s : StateValue) → is_text_mode s.content ≡ false
+    → Stage false BeforeHtml letters s
     → StageAnswer letters (imply_root s)
 root_implied letters s e h =
     calm_answer BeforeHead true letters (with_root (known tags.Html) [] s) e refl
     (root_put letters (known tags.Html) [] s refl h)
 
-start_before_html_stage : (tag : StartTagValue) → is_plain_name tag.name ≡ true → (name : NameValue) (letters : List ℕ)
+start_before_html_stage : (tag : StartTagValue) → is_plain_name tag.name ≡ true
+    → (name : NameValue) (letters : List ℕ)
     (s : StateValue) → is_text_mode s.content ≡ false → Stage false BeforeHtml letters s
     → StageAnswer letters (start_before_html name tag s)
 start_before_html_stage tag p (known tags.Html) letters s e h =
@@ -322,7 +291,8 @@ end_before_html_stage (known tags.Html) letters s m e h = root_implied letters s
 end_before_html_stage (known tags.Br) letters s m e h = root_implied letters s e h
 end_before_html_stage _ letters s m e h = before_html_still letters s m e h
 
-pub before_html_stage : (t : TokenValue) → IsOrderly t → (letters : List ℕ) (s : StateValue) → s.mode ≡ BeforeHtml
+pub before_html_stage : (t : TokenValue) → IsOrderly t → (letters : List ℕ) (s : StateValue)
+    → s.mode ≡ BeforeHtml
     → is_text_mode s.content ≡ false → Stage false BeforeHtml letters s → StageAnswer letters (before_html t s)
 before_html_stage (run kind c) p letters s m e h = absurd (true≢false p)
 before_html_stage (start_tag tag) p letters s m e h =
@@ -360,7 +330,8 @@ head_implied letters s e h =
     calm_answer InHead true letters (with_head (known tags.Head) [] s) e refl
     (head_put letters (known tags.Head) [] s refl h)
 
-start_before_head_stage : (tag : StartTagValue) → is_plain_name tag.name ≡ true → (name : NameValue) (letters : List ℕ)
+start_before_head_stage : (tag : StartTagValue) → is_plain_name tag.name ≡ true
+    → (name : NameValue) (letters : List ℕ)
     (s : StateValue) → s.mode ≡ BeforeHead → is_text_mode s.content ≡ false → Early letters s
     → StageAnswer letters (start_before_head name tag s)
 start_before_head_stage tag p (known tags.Html) letters s m e h =
@@ -380,7 +351,8 @@ end_before_head_stage (known tags.Html) letters s m e h = head_implied letters s
 end_before_head_stage (known tags.Br) letters s m e h = head_implied letters s e h
 end_before_head_stage _ letters s m e h = calm_answer BeforeHead false letters s e m h
 
-pub before_head_stage : (t : TokenValue) → IsOrderly t → (letters : List ℕ) (s : StateValue) → s.mode ≡ BeforeHead
+pub before_head_stage : (t : TokenValue) → IsOrderly t → (letters : List ℕ) (s : StateValue)
+    → s.mode ≡ BeforeHead
     → is_text_mode s.content ≡ false → Early letters s → StageAnswer letters (before_head t s)
 before_head_stage (run kind c) p letters s m e h = absurd (true≢false p)
 before_head_stage (start_tag tag) p letters s m e h =

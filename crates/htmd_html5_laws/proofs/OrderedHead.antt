@@ -1,33 +1,27 @@
 -- In the head and after it each token that is no text leaves the letters in order.
-use Rattle.std.proofs.Common.{◌≡◌, ◌∙◌, ℕ, zero, suc, ◌<◌, ◌≤◌, Bool, true, false, List, [], ◌∷◌, ◌++◌, length}
-use Rattle.std.proofs.Common.{Option, Some, None, refl, sym, ap, subst, arith, cond, inl, inr, ◌⊎◌}
-use Rattle.std.specs.Prelude.{if◌then◌else◌, ◌==◌, ◌||◌, not}
+use Rattle.std.proofs.Common.{◌≡◌, ◌∙◌, ℕ, suc, ◌<◌, Bool, true, false, List, [], ◌∷◌, length}
+use Rattle.std.proofs.Common.{Option, Some, None, refl, sym, ap, subst, arith, cond, inl, inr}
+use Rattle.std.specs.Prelude.{if◌then◌else◌, ◌||◌, not}
 use Rattle.std.proofs.lemmas.Bool.{true≢false, eq-eqb, ne_eqb}
-use Rattle.htmd_text.proofs.Cases.{test}
 use Rattle.htmd_grammar.specs.ValueTrees.{AttributePair}
-use Rattle.htmd_html5_tokens.specs.declared.tokens.Content.{Content}
 use Rattle.htmd_html5_tokens.specs.declared.tokens.RawElement.{RawElement}
 use Rattle.htmd_html5_state.specs.Names.{NameValue, known, html}
-use Rattle.htmd_html5_state.specs.Documents.{NodeValue, KindValue, doctype as doctype_kind, comment as comment_kind, text}
-use Rattle.htmd_html5_state.specs.Documents.{kind_at, last_in, add, add_missing, kind_with_missing}
-use Rattle.htmd_html5_state.specs.OpenElements.{OpenValue, is_open, first_open, pop, without}
-use Rattle.htmd_html5_state.specs.State.{StateValue, on_nodes, on_stack}
-use Rattle.htmd_html5_state.specs.Foreign.{is_html, current_is_html}
-use Rattle.htmd_html5_state.specs.Insertion.{opened, current, insert_element, insert_void, insert_raw, insert_doctype, open_again}
-use Rattle.htmd_html5_state.specs.Insertion.{insert_comment_in, insert_comment}
+use Rattle.htmd_html5_state.specs.Documents.{comment as comment_kind}
+use Rattle.htmd_html5_state.specs.Documents.{kind_at, last_in}
+use Rattle.htmd_html5_state.specs.OpenElements.{OpenValue, pop, without}
+use Rattle.htmd_html5_state.specs.State.{StateValue, on_stack}
+use Rattle.htmd_html5_state.specs.Foreign.{current_is_html}
+use Rattle.htmd_html5_state.specs.Insertion.{opened, current, insert_void, insert_raw, open_again}
+use Rattle.htmd_html5_state.specs.Insertion.{insert_comment}
 use Rattle.htmd_html5_state.specs.declared.modes.InsertionMode.TheVariants.{Initial, BeforeHtml, BeforeHead, InHead}
 use Rattle.htmd_html5_state.specs.declared.modes.InsertionMode.TheVariants.{InHeadNoscript, AfterHead, InBody, AfterBody}
 use Rattle.htmd_html5_state.specs.declared.modes.InsertionMode.TheVariants.{AfterAfterBody}
 use Rattle.htmd_html5_state.specs.declared.modes.InsertionMode.{InsertionMode}
-use Rattle.htmd_html5_state.specs.declared.sets.NameSet.TheVariants.{Only}
 use Rattle.htmd_html5.specs.Tokens.{StartTagValue, TokenValue, start_tag, end_tag, run, comment, doctype, end_of_file}
-use Rattle.htmd_html5.specs.Answers.{Answer, answer, done, again}
+use Rattle.htmd_html5.specs.Answers.{answer, done}
 use Rattle.htmd_html5.specs.Feeding.{is_text_mode}
-use Rattle.htmd_html5.specs.SharedRules.{add_missing_to, add_to_root, insert_head_element, insert_raw_tag, insert_void_tag}
+use Rattle.htmd_html5.specs.SharedRules.{add_to_root, insert_head_element, insert_raw_tag, insert_void_tag}
 use Rattle.htmd_html5.specs.SharedRules.{end_template, insert_tag}
-use Rattle.htmd_html5.specs.Initial.{leave_initial, initial}
-use Rattle.htmd_html5.specs.BeforeHtml.{with_root, imply_root, start_before_html, end_before_html, before_html}
-use Rattle.htmd_html5.specs.BeforeHead.{with_head, imply_head, start_before_head, end_before_head, before_head}
 use Rattle.htmd_html5.specs.InHead.{close_head, noscript_in_head, start_in_head, end_in_head, in_head}
 use Rattle.htmd_html5.specs.InHeadNoscript.{close_noscript, start_in_noscript, end_in_noscript, in_head_noscript}
 use Rattle.htmd_html5.specs.AfterHead.{with_body, imply_body, insert_in_head, insert_late, start_after_head, end_after_head}
@@ -36,19 +30,16 @@ use Rattle.htmd_html5.specs.Modes.{in_mode, by_mode_rules}
 use Rattle.htmd_html5.specs.Processing.{by_rules}
 use Rattle.htmd_html5.specs.ForeignContent.{is_foreign, in_foreign_content}
 use Rattle.htmd_html5_laws.proofs.NodeTexts.{is_element, kinds_add}
-use Rattle.htmd_html5_laws.proofs.OpenNodes.{EachOpen, Below, Fewer, all_of, skip, pop_fewer}
-use Rattle.htmd_html5_laws.proofs.PlainNames.{is_plain_name, is_plain_open, no_template_open}
-use Rattle.htmd_html5_laws.proofs.PlainStates.{is_plain_mode, Plain, PlainIn, Stays, plain_stack, in_plain_mode, plain_new, insert_root_stays}
-use Rattle.htmd_html5_laws.proofs.PlainStates.{insert_doctype_stays, insert_element_stays, missing_grows, plain_grown}
-use Rattle.htmd_html5_laws.proofs.HungStates.{ElementOpen, HungIn, Hung, hung_fewer, hung_last, hung_headed, hung_missing}
-use Rattle.htmd_html5_laws.proofs.HungStates.{hung_named, element_number}
+use Rattle.htmd_html5_laws.proofs.OpenNodes.{EachOpen, Below, all_of, skip, pop_fewer}
+use Rattle.htmd_html5_laws.proofs.PlainNames.{is_plain_name, no_template_open}
+use Rattle.htmd_html5_laws.proofs.PlainStates.{is_plain_mode, Plain, plain_stack, in_plain_mode, plain_new}
+use Rattle.htmd_html5_laws.proofs.HungStates.{hung_last}
+use Rattle.htmd_html5_laws.proofs.HungStates.{element_number}
 use Rattle.htmd_html5_laws.proofs.HungNodes.{is_solid, element_solid}
-use Rattle.htmd_html5_laws.proofs.OrderedNodes.{FitsBy}
-use Rattle.htmd_html5_laws.proofs.OrderedTexts.{fits_like}
-use Rattle.htmd_html5_laws.proofs.OrderedStates.{OrderedIn, Ordered, Orders, ordered_fewer, is_late, element_in, loose_in}
-use Rattle.htmd_html5_laws.proofs.OrderedStates.{no_text, current_within, insert_comment_orders, insert_comment_root_orders}
-use Rattle.htmd_html5_laws.proofs.OrderedStates.{insert_void_orders, insert_raw_orders, insert_element_orders, missing_ordered}
-use Rattle.htmd_html5_laws.proofs.OrderedLate.{IsOrderly, Late, late_step, by_rules_late, first_within}
+use Rattle.htmd_html5_laws.proofs.OrderedStates.{is_late, loose_in}
+use Rattle.htmd_html5_laws.proofs.OrderedStates.{no_text, current_within}
+use Rattle.htmd_html5_laws.proofs.OrderedStates.{insert_void_orders, insert_raw_orders, insert_element_orders}
+use Rattle.htmd_html5_laws.proofs.OrderedLate.{IsOrderly, Late, late_step, by_rules_late}
 use Rattle.htmd_html5_laws.proofs.OrderedBody.{plain_or_column, by_column_name, no_frameset_orders}
 use Rattle.htmd_html5_state.specs.declared.names.TagName.TheVariants as tags
 use Rattle.htmd_html5_tokens.specs.declared.tokens.RawElement.TheVariants as raw
@@ -56,9 +47,9 @@ use Rattle.htmd_html5.specs.ForeignContent.{is_for_math_text, is_for_annotation,
 use Rattle.htmd_html5_state.specs.Foreign.{is_math_text_point, is_annotation, is_html_point}
 use Rattle.std.specs.Prelude.{◌&&◌}
 use Rattle.htmd_html5_laws.proofs.OrderedEarly.{HtmlOpen, EarlyIn, Early, head_open, AfterHeadIn, popped, HeadAt, Stage, Staged}
-use Rattle.htmd_html5_laws.proofs.OrderedEarly.{staged, late_stage, stage_late, staged_late, Calm, StageAnswer, calm_answer}
-use Rattle.htmd_html5_laws.proofs.OrderedEarly.{raw_answer, late_answers, early_step, early_late, names_popped, early_fewer}
-use Rattle.htmd_html5_laws.proofs.OrderedEarly.{SameBut, root_same, root_early, root_stage, comment_early, initial_stage}
+use Rattle.htmd_html5_laws.proofs.OrderedEarly.{stage_late, staged_late, Calm, StageAnswer, calm_answer}
+use Rattle.htmd_html5_laws.proofs.OrderedEarly.{raw_answer, late_answers, early_step, early_fewer}
+use Rattle.htmd_html5_laws.proofs.OrderedEarly.{root_stage, comment_early, initial_stage}
 use Rattle.htmd_html5_laws.proofs.OrderedEarly.{before_html_stage, before_head_stage}
 
 -- ---- elements in the head
@@ -73,8 +64,10 @@ raw_early : (letters : List ℕ) (name : NameValue) (element : RawElement) (attr
 raw_early letters name element attributes s p h =
     early_step (insert_raw_orders name element attributes p) letters s (refl, h.names) h
 
-module _ (tag : StartTagValue) (p : is_plain_name tag.name ≡ true) (letters : List ℕ) (mode : InsertionMode) (k : ℕ)
-    (go : (raw : Bool) (s : StateValue) → Early letters s × HeadAt (cond raw (suc k) k) s → Stage raw mode letters s)
+module _ (tag : StartTagValue) (p : is_plain_name tag.name ≡ true) (letters : List ℕ) (mode : InsertionMode)
+    (k : ℕ)
+    (go : (raw : Bool) (s : StateValue) → Early letters s × HeadAt (cond raw (suc k) k) s → Stage raw mode letters
+    s)
     (s : StateValue) (m : s.mode ≡ mode) (e : is_text_mode s.content ≡ false) (h : Early letters s)
     (at : HeadAt k s) where
   raw_in_head : (element : RawElement) → is_text_mode (insert_raw_tag element tag s).content ≡ true
@@ -88,7 +81,8 @@ module _ (tag : StartTagValue) (p : is_plain_name tag.name ≡ true) (letters : 
       calm_answer mode false letters (insert_void_tag tag s) e m
       (go false (insert_void_tag tag s) (void_early letters tag.name tag.attributes s p h, at))
 
-  put_in_head : (name : NameValue) → is_plain_name name ≡ true → StageAnswer letters (done (insert_head_element name tag s))
+  put_in_head : (name : NameValue) → is_plain_name name ≡ true
+      → StageAnswer letters (done (insert_head_element name tag s))
   put_in_head (known tags.Title) q = raw_in_head raw.Title refl
   put_in_head (known tags.NoFrames) q = raw_in_head raw.Noframes refl
   put_in_head (known tags.Style) q = raw_in_head raw.Style refl
@@ -96,20 +90,19 @@ module _ (tag : StartTagValue) (p : is_plain_name tag.name ≡ true) (letters : 
   put_in_head (known tags.Template) q = absurd (true≢false (sym q))
   put_in_head _ q = void_in_head
 
-  still_in_head : StageAnswer letters (done s)
-  still_in_head = calm_answer mode false letters s e m (go false s (h, at))
-
   root_in_head : StageAnswer letters (done (add_to_root tag s))
   root_in_head =
       root_stage letters tag s mode e m
       (λ t same f. go false t (
         subst (λ (stack : List OpenValue). EarlyIn letters t stack) (sym same.stack) (f s.stack h),
-        λ n g. ap (λ (stack : List OpenValue). (current (popped k stack)).node) same.stack ∙ at n (sym same.head ∙ g),
+        λ n g. ap (λ (stack : List OpenValue). (current (popped k stack)).node) same.stack ∙ at n
+            (sym same.head ∙ g),
       ))
 
 -- ---- the head is closed
 
-renamed : (letters : List ℕ) (s : StateValue) (n : ℕ) (stack : List OpenValue) → is_element (kind_at s.nodes n) ≡ true
+renamed : (letters : List ℕ) (s : StateValue) (n : ℕ) (stack : List OpenValue)
+    → is_element (kind_at s.nodes n) ≡ true
     → (current stack).node ≡ n → EarlyIn letters s stack → EarlyIn letters s (head_open n ∷ pop stack)
 renamed letters s n [] e f h =
     absurd (true≢false (sym (element_solid (kind_at s.nodes n) e)
@@ -145,7 +138,8 @@ to_mode : (letters : List ℕ) (s : StateValue) (stack es : List OpenValue) (mod
 to_mode letters s stack es mode p h =
     record { plain = in_plain_mode mode p h.plain; hung = h.hung; ordered = h.ordered; names = h.names }
 
-head_closed_in : (letters : List ℕ) (s : StateValue) (head : Option ℕ) → s.head ≡ head → Early letters s → HeadAt 0 s
+head_closed_in : (letters : List ℕ) (s : StateValue) (head : Option ℕ) → s.head ≡ head → Early letters s
+    → HeadAt 0 s
     → AfterHeadIn false head (pop s.stack) letters (close_head s)
 head_closed_in letters s None e h at =
     to_mode letters s (pop s.stack) (pop s.stack) AfterHead refl
@@ -154,7 +148,8 @@ head_closed_in letters s (Some n) e h at =
     to_mode letters s (head_open n ∷ pop s.stack) (pop s.stack) AfterHead refl
     (renamed letters s n s.stack (h.hung.head_at n e) (at n e) h)
 
-pub head_closed : (more : Bool) (letters : List ℕ) (s : StateValue) → is_text_mode s.content ≡ false → Early letters s
+pub head_closed : (more : Bool) (letters : List ℕ) (s : StateValue) → is_text_mode s.content ≡ false
+    → Early letters s
     → HeadAt 0 s → StageAnswer letters (answer (close_head s) more)
 head_closed more letters s e h at =
     calm_answer AfterHead more letters (close_head s) e refl (head_closed_in letters s s.head refl h at)
@@ -335,7 +330,8 @@ module _ (letters : List ℕ) (s : StateValue) (m : s.mode ≡ AfterHead) (e : i
         → StageAnswer letters (done (insert_head_element name tag s))
     late_by_none name q f x = by_name name q
       where
-        in_stage : (raw : Bool) (t : StateValue) → t.head ≡ None → Early letters t → Stage raw AfterHead letters t
+        in_stage : (raw : Bool) (t : StateValue) → t.head ≡ None → Early letters t
+            → Stage raw AfterHead letters t
         in_stage raw t g y =
             subst (λ (head : Option ℕ). AfterHeadIn raw head t.stack letters t) (sym g) y
 
@@ -383,7 +379,8 @@ module _ (letters : List ℕ) (s : StateValue) (m : s.mode ≡ AfterHead) (e : i
             (on_stack (without n) (insert_raw_tag element tag (open_again n (known tags.Head) s)))) (sym f)
             (subst (λ (stack : List OpenValue). AfterHeadIn true (Some n) stack letters
             (on_stack (without n) (insert_raw_tag element tag (open_again n (known tags.Head) s))))
-            (sym gone) (in_it (raw_early letters tag.name element tag.attributes (open_again n (known tags.Head) s) p early_v))))
+            (sym gone) (in_it (raw_early letters tag.name element tag.attributes (open_again n (known tags.Head) s) p
+            early_v))))
           where
             gone : without n (opened (length s.nodes) (html tag.name) ∷ head_open n ∷ s.stack)
                 ≡ opened (length s.nodes) (html tag.name) ∷ s.stack
@@ -403,7 +400,8 @@ module _ (letters : List ℕ) (s : StateValue) (m : s.mode ≡ AfterHead) (e : i
             (on_stack (without n) (insert_void_tag tag (open_again n (known tags.Head) s)))) (sym f)
             (subst (λ (stack : List OpenValue). AfterHeadIn false (Some n) stack letters
             (on_stack (without n) (insert_void_tag tag (open_again n (known tags.Head) s))))
-            (sym gone) (in_it (void_early letters tag.name tag.attributes (open_again n (known tags.Head) s) p early_v))))
+            (sym gone) (in_it (void_early letters tag.name tag.attributes (open_again n (known tags.Head) s) p
+            early_v))))
           where
             gone : without n (head_open n ∷ s.stack) ≡ s.stack
             gone = rw (eq-eqb n n refl) refl
@@ -504,7 +502,8 @@ stays_html (end_tag name) s h = by_tests (end_tag name) s h
 stays_html (comment c) s h = by_tests (comment c) s h
 stays_html (doctype quirks) s h = by_tests (doctype quirks) s h
 
-pub unstaged : (raw : Bool) (mode : InsertionMode) (letters : List ℕ) (s : StateValue) → is_text_mode s.content ≡ raw
+pub unstaged : (raw : Bool) (mode : InsertionMode) (letters : List ℕ) (s : StateValue)
+    → is_text_mode s.content ≡ raw
     → s.mode ≡ mode → Staged letters s → Stage raw mode letters s
 unstaged raw mode letters s e f h =
     subst (λ (m : InsertionMode). Stage raw m letters s) f
@@ -538,7 +537,8 @@ early_modes AfterBody t p letters s m l e h = absurd (true≢false l)
 early_modes AfterAfterBody t p letters s m l e h = absurd (true≢false l)
 early_modes _ t p letters s m l e h = absurd h
 
-pub by_rules_stage : (t : TokenValue) → IsOrderly t → (letters : List ℕ) (s : StateValue) → Calm s → Staged letters s
+pub by_rules_stage : (t : TokenValue) → IsOrderly t → (letters : List ℕ) (s : StateValue) → Calm s
+    → Staged letters s
     → StageAnswer letters (by_rules t s)
 by_rules_stage t p letters s calm h = either (is_late s.mode) refl calm
   where

@@ -1,27 +1,23 @@
 -- A new node at the end of an open one, or more at the end of its last text: the letters stand in order still.
 use Rattle.std.proofs.Common.{◌≡◌, ◌∙◌, ℕ, zero, suc, ◌+◌, ◌<◌, ◌≤◌, Bool, true, false, List, [], ◌∷◌, ◌++◌, length}
-use Rattle.std.proofs.Common.{take, drop, refl, sym, ap, subst, arith, cond, Option, Some, None, inl, inr, ◌⊎◌}
+use Rattle.std.proofs.Common.{drop, refl, sym, ap, subst, arith, cond, Option, Some}
 use Rattle.std.proofs.Common.{length-append}
-use Rattle.std.specs.Prelude.{◌==◌, ◌&&◌, not, insert, IsUtf8, slice_get}
-use Rattle.std.proofs.lemmas.Bool.{true≢false, eqb-true, eqb-false, eq-eqb, ne_eqb}
-use Rattle.std.proofs.lemmas.Str.{IsUtf8-append}
-use Rattle.std.proofs.lemmas.List.{length-set}
+use Rattle.std.specs.Prelude.{◌==◌, insert, IsUtf8}
+use Rattle.std.proofs.lemmas.Bool.{eqb-true, eqb-false, eq-eqb, ne_eqb}
 use Rattle.std.proofs.Math.Seq.{take-length, drop-length}
 use Rattle.htmd_text.proofs.Cases.{test}
-use Rattle.htmd_grammar.specs.CharacterClasses.{is_empty}
-use Rattle.htmd_html5_state.specs.Documents.{NodeValue, KindValue, document, doctype, text, comment, element, new_node}
-use Rattle.htmd_html5_state.specs.Documents.{kind_at, parent_at, children_at, with_kind, with_children, with_parent, last_in}
-use Rattle.htmd_html5_state.specs.Documents.{add, text_of, child_before, place_index, preceding, add_text, or_add, joined_with}
-use Rattle.htmd_html5_state.specs.Documents.{joined_to}
+use Rattle.htmd_html5_state.specs.Documents.{NodeValue, KindValue, text, new_node}
+use Rattle.htmd_html5_state.specs.Documents.{kind_at, parent_at, children_at, with_children, last_in}
+use Rattle.htmd_html5_state.specs.Documents.{add}
 use Rattle.htmd_html5_laws.specs.LetterOrder.{letters_of}
-use Rattle.htmd_html5_laws.proofs.NodeParts.{times, times_append, children_same, children_other, children_of_parent}
-use Rattle.htmd_html5_laws.proofs.NodeParts.{children_with_new, children_of_kind, parent_beyond}
-use Rattle.htmd_html5_laws.proofs.Forests.{IsForest, length_new, once_under, here, elsewhere, once_at_most}
-use Rattle.htmd_html5_laws.proofs.HungNodes.{put_at, put_kind, children_in, kind_with_new, kind_new_at}
-use Rattle.htmd_html5_laws.proofs.Sublists.{Sub, window, window_grown, window_new, sub_all, sub_joined, sub_wider}
-use Rattle.htmd_html5_laws.proofs.Rows.{Marks, Row, Stands, after, row_from, row_low, row_member, row_append, row_ends}
+use Rattle.htmd_html5_laws.proofs.NodeParts.{times, children_other, children_of_parent}
+use Rattle.htmd_html5_laws.proofs.NodeParts.{children_with_new, parent_beyond}
+use Rattle.htmd_html5_laws.proofs.Forests.{IsForest, length_new, once_under}
+use Rattle.htmd_html5_laws.proofs.HungNodes.{put_kind, children_in, kind_with_new, kind_new_at}
+use Rattle.htmd_html5_laws.proofs.Sublists.{Sub, window_grown, window_new, sub_all}
+use Rattle.htmd_html5_laws.proofs.Rows.{Row}
 use Rattle.htmd_html5_laws.proofs.Rows.{row_marks}
-use Rattle.htmd_html5_laws.proofs.OrderedNodes.{bears, Labels, until, counted, marks, TextIn, FitsBy, none_out, child_parent}
+use Rattle.htmd_html5_laws.proofs.OrderedNodes.{bears, Labels, until, marks, TextIn, FitsBy, none_out}
 
 -- ---- one node's label
 
@@ -91,13 +87,6 @@ children_beyond m [] l = refl
 children_beyond zero (x ∷ nodes) l = absurd (omega arith)
 children_beyond (suc m) (x ∷ nodes) l = children_beyond m nodes (omega arith)
 
--- ---- what follows a step: labels of the nodes then, with what was live still live
-
-pub record Goes (letters : List ℕ) (size : ℕ) (old : Labels) (nodes : List NodeValue) : Type 0 where
-  pub labels : Labels
-  pub fits : FitsBy none_out letters nodes labels
-  pub still : (m : ℕ) → m < size → old.live m ≡ true → labels.live m ≡ true
-
 module _ (letters : List ℕ) (nodes : List NodeValue) (l : Labels) (h : FitsBy none_out letters nodes l)
     (forest : IsForest nodes) where
   -- ---- a new node
@@ -135,7 +124,8 @@ module _ (letters : List ℕ) (nodes : List NodeValue) (l : Labels) (h : FitsBy 
         either false = (omega arith, omega arith)
 
     -- a row in which the new node doesn't stand
-    pub row_kept : (limit at : ℕ) (cs : List ℕ) (to : ℕ) → length letters + length more < limit → times n cs ≡ 0
+    pub row_kept : (limit at : ℕ) (cs : List ℕ) (to : ℕ) → length letters + length more < limit
+        → times n cs ≡ 0
         → Row (marks none_out nodes limit l) at cs to → Row (marks none_out new limit marked) at cs to
     row_kept limit at cs to big none r =
         row_marks (marks none_out nodes limit l) (marks none_out new limit marked) at cs to
@@ -201,7 +191,8 @@ module _ (letters : List ℕ) (nodes : List NodeValue) (l : Labels) (h : FitsBy 
             (subst (λ (cs : List ℕ). Row (marks none_out new limit marked) (l.lo p) cs (until limit l p))
             (sym (children_grown k p nodes within)) (ok limit big))))
 
-        elsewhere_row : (limit : ℕ) → length letters + length more < limit → (q : ℕ) → (q ≡ n → ⊥) → (p ≡ q → ⊥)
+        elsewhere_row : (limit : ℕ) → length letters + length more < limit → (q : ℕ) → (q ≡ n → ⊥)
+            → (p ≡ q → ⊥)
             → Row (marks none_out new limit marked) (marked.lo q) (children_at new q) (until limit marked q)
         elsewhere_row limit big q f g =
             subst (λ (x : ℕ). Row (marks none_out new limit marked) (marked.lo q) (children_at new q) x)
@@ -213,7 +204,8 @@ module _ (letters : List ℕ) (nodes : List NodeValue) (l : Labels) (h : FitsBy 
             (row_kept limit (l.lo q) (children_at nodes q) (until limit l q) big
             (no_child nodes q n forest (omega arith)) (h.rows limit (omega arith) q))))
 
-        new_text : (m : ℕ) (t : List ℕ) → m ≡ n → kind_at new m ≡ text t → TextIn (letters ++ more) marked m t
+        new_text : (m : ℕ) (t : List ℕ) → m ≡ n → kind_at new m ≡ text t
+            → TextIn (letters ++ more) marked m t
         new_text m t e f =
             let x = is t (sym (kind_grown_new k p nodes) ∙ (ap (λ (y : ℕ). kind_at new y) (sym e) ∙ f)) in
             subst (λ (y : ℕ). TextIn (letters ++ more) marked y t) (sym e)

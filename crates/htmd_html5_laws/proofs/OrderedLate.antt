@@ -1,6 +1,7 @@
--- In the body and after it each token that is no text leaves the letters in order, by the rules of the mode and in foreign
+-- In the body and after it each token that is no text leaves the letters in order, by the rules of the mode and in
+-- foreign
 -- content.
-use Rattle.std.proofs.Common.{◌≡◌, ◌∙◌, ℕ, zero, suc, ◌<◌, Bool, true, false, List, [], ◌∷◌, length}
+use Rattle.std.proofs.Common.{◌≡◌, ℕ, ◌<◌, Bool, true, false, List, [], ◌∷◌, length}
 use Rattle.std.proofs.Common.{Option, Some, None, refl, sym, ap, subst}
 use Rattle.std.specs.Prelude.{if◌then◌else◌}
 use Rattle.std.proofs.lemmas.Bool.{true≢false}
@@ -26,12 +27,12 @@ use Rattle.htmd_html5.specs.ForeignContent.{start_foreign_element, start_in_fore
 use Rattle.htmd_html5.specs.ForeignContent.{in_foreign_content}
 use Rattle.htmd_html5_laws.proofs.OpenNodes.{EachOpen, Fewer, leave_foreign_fewer}
 use Rattle.htmd_html5_laws.proofs.PlainNames.{is_plain_open}
-use Rattle.htmd_html5_laws.proofs.PlainStates.{Plain, Stays, plain_stack, stays_by_state}
-use Rattle.htmd_html5_laws.proofs.HungStates.{ElementOpen, HungIn, Hung, hung_fewer, element_number}
+use Rattle.htmd_html5_laws.proofs.PlainStates.{Plain, plain_stack, stays_by_state}
+use Rattle.htmd_html5_laws.proofs.HungStates.{ElementOpen, Hung, hung_fewer, element_number}
 use Rattle.htmd_html5_laws.proofs.PlainModes.{comment_in_stays, end_of_file_stays}
 use Rattle.htmd_html5_laws.proofs.KeepingModes.{EndsIn, foreign_end_in}
-use Rattle.htmd_html5_laws.proofs.OrderedStates.{OrderedIn, Ordered, Orders, then_orders, unmoved, orders_by_state, is_late}
-use Rattle.htmd_html5_laws.proofs.OrderedStates.{on_stack_orders, ordered_fewer, insert_comment_orders, loose_in, no_text}
+use Rattle.htmd_html5_laws.proofs.OrderedStates.{Ordered, Orders, unmoved, orders_by_state, is_late}
+use Rattle.htmd_html5_laws.proofs.OrderedStates.{ordered_fewer, insert_comment_orders, loose_in, no_text}
 use Rattle.htmd_html5_laws.proofs.OrderedStates.{insert_comment_root_orders}
 use Rattle.htmd_html5_laws.proofs.OrderedBody.{is_orderly_name, OrdersAnswer, says_ordered, with_mode_orders}
 use Rattle.htmd_html5_laws.proofs.OrderedBody.{add_to_root_orders, insert_foreign_tag_orders, start_orders}
@@ -79,7 +80,8 @@ comment_in_root_orders c = record {
   late = λ s h e. same_mode s (first_open s.stack) e;
 }
   where
-    same_mode : (s : StateValue) (n : Option ℕ) → is_late s.mode ≡ true → is_late (comment_in n c s).mode ≡ true
+    same_mode : (s : StateValue) (n : Option ℕ) → is_late s.mode ≡ true
+        → is_late (comment_in n c s).mode ≡ true
     same_mode s None e = e
     same_mode s (Some n) e = e
 
@@ -139,7 +141,8 @@ pub record Late (letters : List ℕ) (s : StateValue) : Type 0 where
   pub ordered : Ordered letters s
   pub late : is_late s.mode ≡ true
 
-pub late_answer : {f : StateValue → Answer} → OrdersAnswer f → (letters : List ℕ) (s : StateValue) → Late letters s
+pub late_answer : {f : StateValue → Answer} → OrdersAnswer f → (letters : List ℕ) (s : StateValue)
+    → Late letters s
     → Late letters (f s).state
 late_answer f letters s h = record {
   plain = f.stays.stays s h.plain;
@@ -148,7 +151,8 @@ late_answer f letters s h = record {
   late = f.late s h.plain h.late;
 }
 
-pub late_step : {f : StateValue → StateValue} → Orders f → (letters : List ℕ) (s : StateValue) → Late letters s
+pub late_step : {f : StateValue → StateValue} → Orders f → (letters : List ℕ) (s : StateValue)
+    → Late letters s
     → Late letters (f s)
 late_step f letters s h = record {
   plain = f.stays.stays s h.plain;
@@ -197,7 +201,8 @@ start_foreign_late : (tag : StartTagValue) → IsOrderly (start_tag tag) → (le
     → Late letters (start_in_foreign tag s).state
 start_foreign_late tag p letters s h = either (tag_breaks_out tag.name tag.attributes)
   where
-    either : (b : Bool) → Late letters (if b then break_out (start_tag tag) s else done (start_foreign_element tag s)).state
+    either : (b : Bool)
+        → Late letters (if b then break_out (start_tag tag) s else done (start_foreign_element tag s)).state
     either true = break_out_late (start_tag tag) p letters s h
     either false = late_step (start_foreign_orders tag) letters s h
 

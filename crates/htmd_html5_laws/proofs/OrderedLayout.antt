@@ -1,4 +1,5 @@
--- The letters of a tree's texts stand in the order of the page's, where they do so among the nodes that it is laid out of.
+-- The letters of a tree's texts stand in the order of the page's, where they do so among the nodes that it is laid out
+-- of.
 use Rattle.std.proofs.Common.{◌≡◌, ◌∙◌, ℕ, zero, suc, ◌<◌, ◌≤◌, Bool, true, false, List, [], ◌∷◌, ◌++◌, length}
 use Rattle.std.proofs.Common.{refl, sym, ap, subst, arith, cond, map, Option, Some, None, inl, inr, ◌⊎◌, append_assoc}
 use Rattle.std.specs.Prelude.{if◌then◌else◌, IsUtf8, ◌==◌, not, is_some}
@@ -10,15 +11,15 @@ use Rattle.htmd_html5_state.specs.Names.{text_of_element_name}
 use Rattle.htmd_html5_state.specs.Documents.{KindValue, NodeValue, document, doctype, text, comment, element, kind_at}
 use Rattle.htmd_html5_state.specs.Documents.{children_at, with_kind, text_of}
 use Rattle.htmd_html5.specs.Layout.{Coming, coming, Layout, text_under, or_text, next_texts, after_next_texts, with_text}
-use Rattle.htmd_html5.specs.Layout.{with_kind_of, without_node, put_next, put_node, layout_within, first_layout, document_of}
+use Rattle.htmd_html5.specs.Layout.{with_kind_of, without_node, put_next, layout_within, first_layout, document_of}
 use Rattle.htmd_html5.specs.Layout.{is_deepest}
 use Rattle.htmd_tree.specs.Items.{Item, Data, doctype_node, text_node, comment_node, element_node, new_item}
 use Rattle.htmd_html5_laws.specs.PageLetters.{texts_of, with_text_in}
 use Rattle.htmd_html5_laws.specs.LetterOrder.{letters_of, letters_in}
-use Rattle.htmd_html5_laws.proofs.NodeParts.{times, children_of_kind}
+use Rattle.htmd_html5_laws.proofs.NodeParts.{children_of_kind}
 use Rattle.htmd_html5_laws.proofs.PendingNodes.{numbers, numbers_coming}
 use Rattle.htmd_html5_laws.proofs.Sublists.{append_nil, Sub, window, sub_joined, sub_wider, window_all}
-use Rattle.htmd_html5_laws.proofs.Rows.{Marks, Row, row_from, row_low, row_to, row_append, row_marks}
+use Rattle.htmd_html5_laws.proofs.Rows.{Row, row_from, row_to, row_append, row_marks}
 use Rattle.htmd_html5_laws.proofs.OrderedNodes.{bears, Labels, until, marks, TextIn, FitsBy, none_out}
 use Rattle.htmd_html5_laws.proofs.OrderedTexts.{letters_append, kind_set_other}
 use Rattle.htmd_html5_laws.proofs.WholeTexts.{kind_same}
@@ -54,7 +55,8 @@ letters_put (first ∷ items) item = more first.node_data (letters_put items ite
 -- ---- a node that was laid out
 
 kind_marked : (n m : ℕ) (nodes : List NodeValue)
-    → (kind_at (with_kind n document nodes) m ≡ document) ⊎ (kind_at (with_kind n document nodes) m ≡ kind_at nodes m)
+    → (kind_at (with_kind n document nodes) m ≡ document) ⊎
+    (kind_at (with_kind n document nodes) m ≡ kind_at nodes m)
 kind_marked n m nodes =
     test (n == m)
     (λ t. inl (subst (λ (x : ℕ). kind_at (with_kind n document nodes) x ≡ document) (eqb-true n m t)
@@ -92,7 +94,8 @@ module _ (letters : List ℕ) (l : Labels) where
     span = h.span;
     high = h.high;
     rows = λ bound big q.
-        subst (λ (cs : List ℕ). Row (marks none_out (with_kind n document nodes) bound l) (l.lo q) cs (until bound l q))
+        subst (λ (cs : List ℕ). Row (marks none_out (with_kind n document nodes) bound l) (l.lo q) cs
+        (until bound l q))
         (sym (children_of_kind n q document nodes))
         (row_marks (marks none_out nodes bound l) (marks none_out (with_kind n document nodes) bound l) (l.lo q)
         (children_at nodes q) (until bound l q)
@@ -160,7 +163,8 @@ module _ (letters : List ℕ) (l : Labels) where
             to = l.hi n;
             from = let a = h.span n in omega arith;
             high = h.high n;
-            within = sub_wider (letters_of s) letters (l.lo n) (l.hi n) at (l.hi n) x (h.span n) (omega arith) old.within;
+            within = sub_wider (letters_of s) letters (l.lo n) (l.hi n) at (l.hi n) x (h.span n) (omega arith)
+                old.within;
             utf8 = old.utf8;
             row = subst (λ (y : ℕ). Row (marks none_out nodes limit l) y rest limit) ended g;
           }
@@ -247,7 +251,8 @@ module _ (letters : List ℕ) (l : Labels) where
       subst (λ (b : Bool). Row (marks none_out nodes limit l) (cond b (until limit l n) at) rest limit) e r.1
 
   -- an item with these letters, for a node that was taken
-  item_laid : (at to : ℕ) (d : Data) (under n : ℕ) (work : List Coming) (x : Layout) → at ≤ to → to ≤ length letters
+  item_laid : (at to : ℕ) (d : Data) (under n : ℕ) (work : List Coming) (x : Layout) → at ≤ to
+      → to ≤ length letters
       → Sub (letters_in (texts_of x.items)) (window 0 at letters)
       → Sub (data_letters d) (window at to letters)
       → FitsBy none_out letters (with_kind n document x.nodes) l
@@ -275,9 +280,6 @@ module _ (letters : List ℕ) (l : Labels) where
     items : Sub (letters_in (texts_of x.items)) (window 0 at letters)
     fits : FitsBy none_out letters x.nodes l
     row : Row (marks none_out x.nodes limit l) at (c.node ∷ numbers work) limit
-
-  nothing_in : (at : ℕ) → Sub [] (window at at letters)
-  nothing_in at = tt
 
   loose_laid : (x : Layout) (c : Coming) (work : List Coming) (d : Data) → bears (kind_at x.nodes c.node) ≡ false
       → data_letters d ≡ [] → Comes x c work
@@ -316,7 +318,8 @@ module _ (letters : List ℕ) (l : Labels) where
       h.at t.to t.to more.to t.from (omega arith) more.from t.within more.within))
       fits more.row
 
-  children_come : (x : Layout) (c : Coming) (work : List Coming) (under : ℕ) → bears (kind_at x.nodes c.node) ≡ true
+  children_come : (x : Layout) (c : Coming) (work : List Coming) (under : ℕ)
+      → bears (kind_at x.nodes c.node) ≡ true
       → (h : Comes x c work)
       → Row (marks none_out (with_kind c.node document x.nodes) limit l) h.at
       (numbers (map (coming under) (children_at (with_kind c.node document x.nodes) c.node) ++ work)) limit
@@ -383,7 +386,8 @@ module _ (letters : List ℕ) (l : Labels) where
 
   -- ---- the whole tree
 
-  pub laid_in_order : (depth : ℕ) (nodes : List NodeValue) → letters_of [] ≡ [] → FitsBy none_out letters nodes l
+  pub laid_in_order : (depth : ℕ) (nodes : List NodeValue) → letters_of [] ≡ []
+      → FitsBy none_out letters nodes l
       → Sub (letters_in (texts_of (document_of depth nodes))) letters
   laid_in_order depth nodes nil h =
       let r = all_laid depth (length nodes) (first_layout nodes) nil (record {

@@ -1,23 +1,23 @@
 -- Nodes are moved as the adoption agency moves them: the letters stand in order still.
-use Rattle.std.proofs.Common.{◌≡◌, ◌∙◌, ℕ, zero, suc, ◌+◌, ◌<◌, ◌≤◌, Bool, true, false, List, [], ◌∷◌, ◌++◌, length}
+use Rattle.std.proofs.Common.{◌≡◌, ◌∙◌, ℕ, suc, ◌<◌, ◌≤◌, Bool, true, false, List, [], ◌∷◌, ◌++◌, length}
 use Rattle.std.proofs.Common.{refl, sym, ap, subst, arith, cond, Option, Some, None, inl, inr, ◌⊎◌}
-use Rattle.std.specs.Prelude.{◌==◌, ◌&&◌, not, insert, remove}
+use Rattle.std.specs.Prelude.{◌==◌, ◌&&◌, not, insert}
 use Rattle.std.proofs.lemmas.Bool.{true≢false, and_parts, eqb-true, eqb-false, eq-eqb, ne_eqb}
 use Rattle.std.proofs.lemmas.List.{length-set}
 use Rattle.htmd_text.proofs.Cases.{test}
-use Rattle.htmd_html5_state.specs.Documents.{NodeValue, KindValue, text, new_node, kind_at, parent_at, children_at}
-use Rattle.htmd_html5_state.specs.Documents.{with_parent, with_children, with_parents, index_of, without_child, remove_child}
-use Rattle.htmd_html5_state.specs.Documents.{detach_from, detach, move_children, append_children, put, last_in}
+use Rattle.htmd_html5_state.specs.Documents.{NodeValue, KindValue, new_node, kind_at, parent_at, children_at}
+use Rattle.htmd_html5_state.specs.Documents.{with_children, with_parents, index_of, without_child, remove_child}
+use Rattle.htmd_html5_state.specs.Documents.{detach_from, detach, move_children}
 use Rattle.htmd_html5_state.specs.Adoption.{wrap_children}
 use Rattle.htmd_html5_laws.proofs.NodeTexts.{is_element, kinds_move_children}
 use Rattle.htmd_html5_laws.proofs.NodeParts.{times, times_append, children_same, children_other, children_of_parent}
 use Rattle.htmd_html5_laws.proofs.NodeParts.{children_with_new, parent_same}
 use Rattle.htmd_html5_laws.proofs.Forests.{IsForest, length_new, once_under, once_at_most, elsewhere, children_with_parents}
 use Rattle.htmd_html5_laws.proofs.Forests.{length_with_parents, length_moved}
-use Rattle.htmd_html5_laws.proofs.HungNodes.{put_at, put_kind, put_size, children_in, kind_with_new, kind_new_at, kind_by_kinds}
+use Rattle.htmd_html5_laws.proofs.HungNodes.{put_at, put_kind, children_in, kind_with_new, kind_new_at, kind_by_kinds}
 use Rattle.htmd_html5_laws.proofs.HungChains.{detach_size, detach_kind}
 use Rattle.htmd_html5_laws.proofs.Rows.{Marks, Row, row_low, row_append, row_without, row_marks}
-use Rattle.htmd_html5_laws.proofs.OrderedNodes.{bears, Labels, until, counted, marks, TextIn, FitsBy, none_out}
+use Rattle.htmd_html5_laws.proofs.OrderedNodes.{bears, Labels, until, counted, marks, FitsBy, none_out}
 use Rattle.htmd_html5_laws.proofs.OrderedInserts.{mark, inserted_last, children_beyond, no_child}
 
 -- ---- children after a node was taken out, or put
@@ -322,7 +322,8 @@ module _ (letters : List ℕ) (nodes : List NodeValue) (l : Labels) (p last : �
       high = h.fits.high;
       rows = λ limit big q.
           test (p == q)
-          (λ t. subst (λ (x : ℕ). Row (marks none_out placed limit l) (l.lo x) (children_at placed x) (until limit l x))
+          (λ t. subst (λ (x : ℕ). Row (marks none_out placed limit l) (l.lo x) (children_at placed x)
+          (until limit l x))
           (eqb-true p q t) (placed_row limit big))
           (λ t. let f = eqb-false p q t in
           subst (λ (cs : List ℕ). Row (marks none_out placed limit l) (l.lo q) cs (until limit l q))
@@ -337,134 +338,139 @@ module _ (letters : List ℕ) (nodes : List NodeValue) (l : Labels) (p last : �
 module _ (letters : List ℕ) (nodes : List NodeValue) (l : Labels) (h : FitsBy none_out letters nodes l)
     (forest : IsForest nodes) (formatting block : ℕ) (is : is_element (kind_at nodes formatting) ≡ true)
     (block_in : block < length nodes) (live : l.live block ≡ true) where
-  abbrev wn : ℕ
-  wn = length nodes
+  abbrev fresh : ℕ
+  fresh = length nodes
 
-  abbrev wk : KindValue
-  wk = kind_at nodes formatting
+  abbrev fresh_kind : KindValue
+  fresh_kind = kind_at nodes formatting
 
-  abbrev wmore : List NodeValue
-  wmore = nodes ++ new_node wk ∷ []
+  abbrev with_fresh : List NodeValue
+  with_fresh = nodes ++ new_node fresh_kind ∷ []
 
-  abbrev cs : List ℕ
-  cs = children_at wmore block
+  abbrev moved : List ℕ
+  moved = children_at with_fresh block
 
   abbrev emptied : List NodeValue
-  emptied = with_children block [] wmore
+  emptied = with_children block [] with_fresh
 
   abbrev named : List NodeValue
-  named = with_parents wn cs emptied
+  named = with_parents fresh moved emptied
 
   abbrev gone : List NodeValue
-  gone = move_children block wn wmore
+  gone = move_children block fresh with_fresh
 
   abbrev wrapped : List NodeValue
-  wrapped = put_last wn block gone
+  wrapped = put_last fresh block gone
 
   abbrev pub wrapped_labels : Labels
-  wrapped_labels = mark wn (l.lo block) (l.hi block) true l
+  wrapped_labels = mark fresh (l.lo block) (l.hi block) true l
 
-  apart_new : block ≡ wn → ⊥
+  apart_new : block ≡ fresh → ⊥
   apart_new e = absurd (omega arith)
 
-  more_size : length wmore ≡ suc wn
-  more_size = length_new wk nodes
+  more_size : length with_fresh ≡ suc fresh
+  more_size = length_new fresh_kind nodes
 
-  gone_size : length gone ≡ suc wn
-  gone_size = length_moved block wn wmore ∙ more_size
+  gone_size : length gone ≡ suc fresh
+  gone_size = length_moved block fresh with_fresh ∙ more_size
 
-  named_size : length named ≡ suc wn
+  named_size : length named ≡ suc fresh
   named_size =
-      length_with_parents wn cs emptied
-      ∙ (let e : length emptied ≡ length wmore = length-set wmore block _ in e ∙ more_size)
+      length_with_parents fresh moved emptied
+      ∙ (let e : length emptied ≡ length with_fresh = length-set with_fresh block _ in e ∙ more_size)
 
-  gone_other : (q : ℕ) → (wn ≡ q → ⊥) → (block ≡ q → ⊥) → children_at gone q ≡ children_at nodes q
+  gone_other : (q : ℕ) → (fresh ≡ q → ⊥) → (block ≡ q → ⊥)
+      → children_at gone q ≡ children_at nodes q
   gone_other q f g =
-      children_other wn q (children_at named wn ++ cs) named f
-      ∙ (children_with_parents wn q cs emptied ∙ (children_other block q [] wmore g ∙ children_with_new q wk nodes))
+      children_other fresh q (children_at named fresh ++ moved) named f
+      ∙ (children_with_parents fresh q moved emptied
+      ∙ (children_other block q [] with_fresh g ∙ children_with_new q fresh_kind nodes))
 
   gone_block : children_at gone block ≡ []
   gone_block =
-      children_other wn block (children_at named wn ++ cs) named (λ e. apart_new (sym e))
-      ∙ (children_with_parents wn block cs emptied
-      ∙ children_in block [] wmore (let e = more_size in omega arith))
+      children_other fresh block (children_at named fresh ++ moved) named (λ e. apart_new (sym e))
+      ∙ (children_with_parents fresh block moved emptied
+      ∙ children_in block [] with_fresh (let e = more_size in omega arith))
 
-  gone_new : children_at gone wn ≡ children_at nodes block
+  gone_new : children_at gone fresh ≡ children_at nodes block
   gone_new =
-      children_in wn (children_at named wn ++ cs) named (let e = named_size in omega arith)
-      ∙ (ap (λ (x : List ℕ). x ++ cs)
-      (children_with_parents wn wn cs emptied ∙ (children_other block wn [] wmore apart_new
-      ∙ (children_with_new wn wk nodes ∙ children_beyond wn nodes (omega arith))))
-      ∙ children_with_new block wk nodes)
+      children_in fresh (children_at named fresh ++ moved) named (let e = named_size in omega arith)
+      ∙ (ap (λ (x : List ℕ). x ++ moved)
+      (children_with_parents fresh fresh moved emptied ∙ (children_other block fresh [] with_fresh apart_new
+      ∙ (children_with_new fresh fresh_kind nodes ∙ children_beyond fresh nodes (omega arith))))
+      ∙ children_with_new block fresh_kind nodes)
 
-  wrapped_kind : (m : ℕ) → kind_at wrapped m ≡ kind_at wmore m
+  wrapped_kind : (m : ℕ) → kind_at wrapped m ≡ kind_at with_fresh m
   wrapped_kind m =
-      put_kind wn block (length (children_at gone block)) gone m
-      ∙ kind_by_kinds wmore gone m (kinds_move_children block wn wmore)
+      put_kind fresh block (length (children_at gone block)) gone m
+      ∙ kind_by_kinds with_fresh gone m (kinds_move_children block fresh with_fresh)
 
-  wrapped_other : (m : ℕ) → (m ≡ wn → ⊥) → kind_at wrapped m ≡ kind_at nodes m
-  wrapped_other m f = wrapped_kind m ∙ kind_with_new m wk nodes f
+  wrapped_other : (m : ℕ) → (m ≡ fresh → ⊥) → kind_at wrapped m ≡ kind_at nodes m
+  wrapped_other m f = wrapped_kind m ∙ kind_with_new m fresh_kind nodes f
 
-  w_until_same : (limit m : ℕ) → (m ≡ wn → ⊥) → until limit wrapped_labels m ≡ until limit l m
-  w_until_same limit m f = rw (ne_eqb m wn f) refl
+  until_other : (limit m : ℕ) → (m ≡ fresh → ⊥) → until limit wrapped_labels m ≡ until limit l m
+  until_other limit m f = rw (ne_eqb m fresh f) refl
 
-  w_lo_same : (m : ℕ) → (m ≡ wn → ⊥) → wrapped_labels.lo m ≡ l.lo m
-  w_lo_same m f = rw (ne_eqb m wn f) refl
+  lo_other : (m : ℕ) → (m ≡ fresh → ⊥) → wrapped_labels.lo m ≡ l.lo m
+  lo_other m f = rw (ne_eqb m fresh f) refl
 
-  w_lo_own : wrapped_labels.lo wn ≡ l.lo block
-  w_lo_own = rw (eq-eqb wn wn refl) refl
+  lo_fresh : wrapped_labels.lo fresh ≡ l.lo block
+  lo_fresh = rw (eq-eqb fresh fresh refl) refl
 
-  w_until_own : (limit : ℕ) → until limit wrapped_labels wn ≡ limit
-  w_until_own limit = rw (eq-eqb wn wn refl) refl
+  until_fresh : (limit : ℕ) → until limit wrapped_labels fresh ≡ limit
+  until_fresh limit = rw (eq-eqb fresh fresh refl) refl
 
   until_block : (limit : ℕ) → until limit l block ≡ limit
   until_block limit = ap (λ (b : Bool). cond b limit (l.hi block)) live
 
-  w_row : (limit q to : ℕ) → length letters < limit
+  row_other : (limit q to : ℕ) → length letters < limit
       → Row (marks none_out nodes limit l) (l.lo q) (children_at nodes q) to
       → Row (marks none_out wrapped limit wrapped_labels) (l.lo q) (children_at nodes q) to
-  w_row limit q to big r =
+  row_other limit q to big r =
       row_marks (marks none_out nodes limit l) (marks none_out wrapped limit wrapped_labels) (l.lo q)
       (children_at nodes q) to
       (λ c m e.
-      let other = member_other c wn (children_at nodes q) (no_child nodes q wn forest (omega arith)) m in
-      let a = w_until_same limit c other in
-      let b = w_lo_same c other in
+      let other = member_other c fresh (children_at nodes q) (no_child nodes q fresh forest (omega arith)) m in
+      let a = until_other limit c other in
+      let b = lo_other c other in
       let w = spans none_out letters nodes l h limit big c (l.live c) in
       (sym (ap bears (wrapped_other c other)) ∙ e, omega arith, omega arith, omega arith)) r
 
-  at_new : (limit : ℕ) → length letters < limit → (q : ℕ) → wn ≡ q
+  at_new : (limit : ℕ) → length letters < limit → (q : ℕ) → fresh ≡ q
       → Row (marks none_out wrapped limit wrapped_labels) (wrapped_labels.lo q) (children_at wrapped q)
       (until limit wrapped_labels q)
   at_new limit big q e =
-      subst (λ (x : ℕ). Row (marks none_out wrapped limit wrapped_labels) (wrapped_labels.lo x) (children_at wrapped x)
+      subst (λ (x : ℕ). Row (marks none_out wrapped limit wrapped_labels) (wrapped_labels.lo x)
+      (children_at wrapped x)
       (until limit wrapped_labels x)) e
-      (subst (λ (x : ℕ). Row (marks none_out wrapped limit wrapped_labels) x (children_at wrapped wn)
-      (until limit wrapped_labels wn)) (sym w_lo_own)
-      (subst (λ (x : ℕ). Row (marks none_out wrapped limit wrapped_labels) (l.lo block) (children_at wrapped wn) x)
-      (sym (w_until_own limit ∙ sym (until_block limit)))
+      (subst (λ (x : ℕ). Row (marks none_out wrapped limit wrapped_labels) x (children_at wrapped fresh)
+      (until limit wrapped_labels fresh)) (sym lo_fresh)
+      (subst (λ (x : ℕ). Row (marks none_out wrapped limit wrapped_labels) (l.lo block) (children_at wrapped fresh)
+      x)
+      (sym (until_fresh limit ∙ sym (until_block limit)))
       (subst (λ (x : List ℕ). Row (marks none_out wrapped limit wrapped_labels) (l.lo block) x (until limit l block))
-      (sym (children_put_other wn block wn gone apart_new ∙ gone_new))
-      (w_row limit block (until limit l block) big (h.rows limit big block)))))
+      (sym (children_put_other fresh block fresh gone apart_new ∙ gone_new))
+      (row_other limit block (until limit l block) big (h.rows limit big block)))))
 
   at_block : (limit : ℕ) → length letters < limit → (q : ℕ) → block ≡ q
       → Row (marks none_out wrapped limit wrapped_labels) (wrapped_labels.lo q) (children_at wrapped q)
       (until limit wrapped_labels q)
   at_block limit big q e =
-      subst (λ (x : ℕ). Row (marks none_out wrapped limit wrapped_labels) (wrapped_labels.lo x) (children_at wrapped x)
+      subst (λ (x : ℕ). Row (marks none_out wrapped limit wrapped_labels) (wrapped_labels.lo x)
+      (children_at wrapped x)
       (until limit wrapped_labels x)) e
       (subst (λ (x : List ℕ). Row (marks none_out wrapped limit wrapped_labels) (wrapped_labels.lo block) x
       (until limit wrapped_labels block))
-      (sym (children_put wn block gone (let z = gone_size in omega arith)
-      ∙ ap (λ (x : List ℕ). x ++ wn ∷ []) gone_block)) (
-        λ b. let a = w_lo_same block apart_new in let d = w_lo_own in let f = w_until_own limit in
+      (sym (children_put fresh block gone (let z = gone_size in omega arith)
+      ∙ ap (λ (x : List ℕ). x ++ fresh ∷ []) gone_block)) (
+        λ b. let a = lo_other block apart_new in let d = lo_fresh in let f = until_fresh limit in
             let x = h.span block in let y = h.high block in (omega arith, omega arith),
-        let a = w_lo_same block apart_new in
-            let d = w_until_same limit block apart_new in
+        let a = lo_other block apart_new in
+            let d = until_other limit block apart_new in
             let f = until_block limit in
-            let g = w_until_own limit in
+            let g = until_fresh limit in
             let x = h.span block in let y = h.high block in
-            low (bears (kind_at wrapped wn)) (until limit wrapped_labels wn) (wrapped_labels.lo block)
+            low (bears (kind_at wrapped fresh)) (until limit wrapped_labels fresh) (wrapped_labels.lo block)
             (until limit wrapped_labels block) (omega arith) (omega arith),
       ))
     where
@@ -472,39 +478,39 @@ module _ (letters : List ℕ) (nodes : List NodeValue) (l : Labels) (h : FitsBy 
       low true x y z f g = f
       low false x y z f g = g
 
-  at_other : (limit : ℕ) → length letters < limit → (q : ℕ) → (wn ≡ q → ⊥) → (block ≡ q → ⊥)
+  at_other : (limit : ℕ) → length letters < limit → (q : ℕ) → (fresh ≡ q → ⊥) → (block ≡ q → ⊥)
       → Row (marks none_out wrapped limit wrapped_labels) (wrapped_labels.lo q) (children_at wrapped q)
       (until limit wrapped_labels q)
   at_other limit big q f g =
       subst (λ (x : ℕ). Row (marks none_out wrapped limit wrapped_labels) x (children_at wrapped q)
-      (until limit wrapped_labels q)) (sym (w_lo_same q (λ e. f (sym e))))
+      (until limit wrapped_labels q)) (sym (lo_other q (λ e. f (sym e))))
       (subst (λ (x : ℕ). Row (marks none_out wrapped limit wrapped_labels) (l.lo q) (children_at wrapped q) x)
-      (sym (w_until_same limit q (λ e. f (sym e))))
+      (sym (until_other limit q (λ e. f (sym e))))
       (subst (λ (x : List ℕ). Row (marks none_out wrapped limit wrapped_labels) (l.lo q) x (until limit l q))
-      (sym (children_put_other wn block q gone g ∙ gone_other q f g))
-      (w_row limit q (until limit l q) big (h.rows limit big q))))
+      (sym (children_put_other fresh block q gone g ∙ gone_other q f g))
+      (row_other limit q (until limit l q) big (h.rows limit big q))))
 
   pub fits_wrapped : FitsBy none_out letters (wrap_children formatting block nodes) wrapped_labels
   unfolding wrap_children
   fits_wrapped = record {
-    span = λ m. test (m == wn) (λ t. rw t (h.span block)) (λ t. rw t (h.span m));
-    high = λ m. test (m == wn) (λ t. rw t (h.high block)) (λ t. rw t (h.high m));
+    span = λ m. test (m == fresh) (λ t. rw t (h.span block)) (λ t. rw t (h.span m));
+    high = λ m. test (m == fresh) (λ t. rw t (h.high block)) (λ t. rw t (h.high m));
     rows = λ limit big q.
-        test (wn == q)
-        (λ t. at_new limit big q (eqb-true wn q t))
+        test (fresh == q)
+        (λ t. at_new limit big q (eqb-true fresh q t))
         (λ t. test (block == q)
         (λ u. at_block limit big q (eqb-true block q u))
-        (λ u. at_other limit big q (eqb-false wn q t) (eqb-false block q u)));
+        (λ u. at_other limit big q (eqb-false fresh q t) (eqb-false block q u)));
     texts = λ m t e.
-        test (m == wn)
-        (λ u. absurd (no_text (ap is_element (sym (own_at m (eqb-true m wn u)) ∙ e))))
-        (λ u. let f = eqb-false m wn u in
+        test (m == fresh)
+        (λ u. absurd (no_text (ap is_element (sym (own_at m (eqb-true m fresh u)) ∙ e))))
+        (λ u. let f = eqb-false m fresh u in
         let x = h.texts m t (sym (wrapped_other m f) ∙ e) in
-        record { closed = rw (ne_eqb m wn f) x.closed; utf8 = x.utf8; within = rw (ne_eqb m wn f) x.within });
+        record { closed = rw (ne_eqb m fresh f) x.closed; utf8 = x.utf8; within = rw (ne_eqb m fresh f) x.within });
   }
     where
-      own_at : (m : ℕ) → m ≡ wn → kind_at wrapped m ≡ wk
-      own_at m e = ap (λ (x : ℕ). kind_at wrapped x) e ∙ (wrapped_kind wn ∙ kind_new_at wk nodes)
+      own_at : (m : ℕ) → m ≡ fresh → kind_at wrapped m ≡ fresh_kind
+      own_at m e = ap (λ (x : ℕ). kind_at wrapped x) e ∙ (wrapped_kind fresh ∙ kind_new_at fresh_kind nodes)
 
-      no_text : is_element wk ≡ false → ⊥
+      no_text : is_element fresh_kind ≡ false → ⊥
       no_text e = true≢false (sym is ∙ e)

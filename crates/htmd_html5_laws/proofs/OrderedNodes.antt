@@ -1,25 +1,17 @@
 -- Nodes whose texts stand in the order of the page's letters: what a node holds lies between two places among them.
-use Rattle.std.proofs.Common.{◌≡◌, ◌∙◌, ℕ, zero, suc, ◌+◌, ◌<◌, ◌≤◌, Bool, true, false, List, [], ◌∷◌, ◌++◌, length}
-use Rattle.std.proofs.Common.{take, drop, refl, sym, ap, subst, arith, cond, Option, Some, None, inl, inr, ◌⊎◌}
-use Rattle.std.proofs.Common.{length-append}
-use Rattle.std.specs.Prelude.{◌==◌, ◌&&◌, not, nat_lt, insert, IsUtf8, slice_get}
-use Rattle.std.proofs.lemmas.Bool.{true≢false, and_parts, eqb-true, eqb-false, eq-eqb, ne_eqb}
-use Rattle.std.proofs.lemmas.List.{length-set}
-use Rattle.std.proofs.lemmas.Str.{IsUtf8-append}
-use Rattle.std.proofs.Math.Seq.{take-length, drop-length}
-use Rattle.htmd_text.proofs.Cases.{test}
+use Rattle.std.proofs.Common.{◌≡◌, ◌∙◌, ℕ, ◌<◌, ◌≤◌, Bool, true, false, List, length}
+use Rattle.std.proofs.Common.{refl, sym, ap, subst, arith, cond, Some, inl, inr}
+use Rattle.std.specs.Prelude.{◌&&◌, not, nat_lt, IsUtf8}
+use Rattle.std.proofs.lemmas.Bool.{true≢false}
 use Rattle.htmd_grammar.specs.CharacterClasses.{is_empty}
-use Rattle.htmd_html5_state.specs.Documents.{NodeValue, KindValue, document, doctype, text, comment, element, new_node}
-use Rattle.htmd_html5_state.specs.Documents.{kind_at, parent_at, children_at, with_kind, with_children, with_parent, last_in}
-use Rattle.htmd_html5_state.specs.Documents.{add, text_of, child_before}
+use Rattle.htmd_html5_state.specs.Documents.{NodeValue, KindValue, document, doctype, text, comment, element}
+use Rattle.htmd_html5_state.specs.Documents.{kind_at, parent_at, children_at}
 use Rattle.htmd_html5_laws.specs.LetterOrder.{letters_of}
-use Rattle.htmd_html5_laws.proofs.NodeParts.{times, times_append, children_same, children_other, children_of_parent}
-use Rattle.htmd_html5_laws.proofs.NodeParts.{children_with_new, children_of_kind, parent_beyond}
-use Rattle.htmd_html5_laws.proofs.Forests.{IsForest, length_new, once_under, here, elsewhere, under_itself}
-use Rattle.htmd_html5_laws.proofs.HungNodes.{is_solid, HangsBy, Hangs, AllHang, put_at, put_kind, put_size, children_in}
-use Rattle.htmd_html5_laws.proofs.HungNodes.{kind_with_new, kind_new_at, solid_within}
-use Rattle.htmd_html5_laws.proofs.Sublists.{Sub, window, window_grown, window_new, sub_all, sub_joined, sub_wider, sub_after}
-use Rattle.htmd_html5_laws.proofs.Rows.{Marks, Row, after, row_from, row_low, row_to, row_member, row_append, row_ends}
+use Rattle.htmd_html5_laws.proofs.NodeParts.{times}
+use Rattle.htmd_html5_laws.proofs.Forests.{IsForest, under_itself}
+use Rattle.htmd_html5_laws.proofs.HungNodes.{is_solid, Hangs, AllHang}
+use Rattle.htmd_html5_laws.proofs.Sublists.{Sub, window}
+use Rattle.htmd_html5_laws.proofs.Rows.{Marks, Row, row_ends}
 use Rattle.htmd_html5_laws.proofs.Rows.{row_marks}
 
 -- ---- labels
@@ -94,7 +86,8 @@ fits_ended out ends at letters nodes l within may h = record {
   };
 }
   where
-    spans : (n : ℕ) (b : Bool) → l.live n ≡ b → (d : Bool) → ends n ≡ d → l.lo n ≤ cond (b && d) at (l.hi n)
+    spans : (n : ℕ) (b : Bool) → l.live n ≡ b → (d : Bool) → ends n ≡ d
+        → l.lo n ≤ cond (b && d) at (l.hi n)
     spans n true e true f = may.begins n e f
     spans n true e false f = h.span n
     spans n false e d f = h.span n
@@ -104,7 +97,8 @@ fits_ended out ends at letters nodes l within may h = record {
     highs n true false = h.high n
     highs n false d = h.high n
 
-    ends_by : (limit : ℕ) → length letters < limit → (n : ℕ) (b : Bool) → l.live n ≡ b → (d : Bool) → ends n ≡ d
+    ends_by : (limit : ℕ) → length letters < limit → (n : ℕ) (b : Bool) → l.live n ≡ b → (d : Bool)
+        → ends n ≡ d
         → (l.lo n ≤ cond (b && not d) limit (cond (b && d) at (l.hi n)))
         × (cond (b && not d) limit (cond (b && d) at (l.hi n)) ≤ cond b limit (l.hi n))
     ends_by limit big n true e true f = (may.begins n e f, omega arith)
@@ -125,7 +119,8 @@ fits_ended out ends at letters nodes l within may h = record {
     inner_end limit c true e false f x = absurd (true≢false (sym (x.0 e) ∙ f))
     inner_end limit c false e d f x = x.1 e
 
-    row : (limit : ℕ) → length letters < limit → (q : ℕ) (b : Bool) → l.live q ≡ b → (d : Bool) → ends q ≡ d
+    row : (limit : ℕ) → length letters < limit → (q : ℕ) (b : Bool) → l.live q ≡ b → (d : Bool)
+        → ends q ≡ d
         → Row (marks out nodes limit (ended ends at l)) (l.lo q) (children_at nodes q)
         (cond (b && not d) limit (cond (b && d) at (l.hi q)))
     row limit big q true e true f =
@@ -191,18 +186,17 @@ lt_false a b l = grind (arith, l)
 pub lt_less : (a b : ℕ) → nat_lt a b ≡ true → a < b
 lt_less a b e = grind (arith, e)
 
-pub lt_not : (a b : ℕ) → nat_lt a b ≡ false → b ≤ a
-lt_not a b e = grind (arith, e)
-
 -- labels with which all that stands above a node has ended
-pub record Settled (rank : ℕ → ℕ) (p : ℕ) (letters : List ℕ) (nodes : List NodeValue) (old : Labels) : Type 0 where
-  pub labels : Labels
-  pub fits : FitsBy none_out letters nodes labels
-  pub still : (n : ℕ) → old.live n ≡ true → rank n ≤ rank p → labels.live n ≡ true
-  pub children : (c : ℕ) → 1 ≤ times c (children_at nodes p) → bears (kind_at nodes c) ≡ true
-      → labels.live c ≡ false
+pub record Settled (rank : ℕ → ℕ) (p : ℕ) (letters : List ℕ) (nodes : List NodeValue) (old : Labels) : Type 0
+  where
+    pub labels : Labels
+    pub fits : FitsBy none_out letters nodes labels
+    pub still : (n : ℕ) → old.live n ≡ true → rank n ≤ rank p → labels.live n ≡ true
+    pub children : (c : ℕ) → 1 ≤ times c (children_at nodes p) → bears (kind_at nodes c) ≡ true
+        → labels.live c ≡ false
 
-pub settled : (rank : ℕ → ℕ) (p : ℕ) (letters : List ℕ) (nodes : List NodeValue) (l : Labels) → Ranked rank nodes
+pub settled : (rank : ℕ → ℕ) (p : ℕ) (letters : List ℕ) (nodes : List NodeValue) (l : Labels)
+    → Ranked rank nodes
     → FitsBy none_out letters nodes l → Settled rank p letters nodes l
 settled rank p letters nodes l ranked h = record {
   labels = ended (above rank p) (length letters) l;

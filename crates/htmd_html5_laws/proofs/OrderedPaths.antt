@@ -1,17 +1,17 @@
 -- What is live is one path: between two live nodes stands a live child of the outer one.
-use Rattle.std.proofs.Common.{◌≡◌, ◌∙◌, ℕ, zero, suc, ◌+◌, ◌<◌, ◌≤◌, Bool, true, false, List, [], ◌∷◌, length}
-use Rattle.std.proofs.Common.{refl, sym, ap, subst, arith, cond, Option, Some, None, inl, inr, ◌⊎◌}
+use Rattle.std.proofs.Common.{◌≡◌, ◌∙◌, ℕ, zero, suc, ◌<◌, ◌≤◌, Bool, true, false, List, length}
+use Rattle.std.proofs.Common.{refl, sym, ap, subst, arith, cond, inl, inr, ◌⊎◌}
 use Rattle.std.specs.Prelude.{◌==◌, ◌&&◌, not, nat_lt}
-use Rattle.std.proofs.lemmas.Bool.{true≢false, and_parts, eqb-true, eqb-false, eq-eqb, ne_eqb, cases_lt}
+use Rattle.std.proofs.lemmas.Bool.{true≢false, and_parts, eqb-true, eqb-false, cases_lt}
 use Rattle.htmd_text.proofs.Cases.{test}
 use Rattle.htmd_html5_state.specs.Documents.{NodeValue, KindValue, document, doctype, text, comment, element, kind_at}
-use Rattle.htmd_html5_state.specs.Documents.{parent_at, children_at}
+use Rattle.htmd_html5_state.specs.Documents.{children_at}
 use Rattle.htmd_html5_laws.proofs.NodeTexts.{is_element}
 use Rattle.htmd_html5_laws.proofs.NodeParts.{times}
-use Rattle.htmd_html5_laws.proofs.HungNodes.{is_solid, Hangs, HangsBy, element_solid}
-use Rattle.htmd_html5_laws.proofs.Rows.{Marks, Row, row_low, row_member, row_last, row_marks, row_ends}
-use Rattle.htmd_html5_laws.proofs.OrderedNodes.{bears, Labels, until, counted, marks, TextIn, FitsBy, none_out, Ranked, above}
-use Rattle.htmd_html5_laws.proofs.OrderedNodes.{MayEnd, ended, fits_ended, lt_true, lt_less, child_above}
+use Rattle.htmd_html5_laws.proofs.HungNodes.{is_solid, Hangs, element_solid}
+use Rattle.htmd_html5_laws.proofs.Rows.{Row, row_member, row_last, row_marks, row_ends}
+use Rattle.htmd_html5_laws.proofs.OrderedNodes.{bears, Labels, until, counted, marks, FitsBy, none_out, Ranked, above}
+use Rattle.htmd_html5_laws.proofs.OrderedNodes.{ended, fits_ended, lt_true, lt_less, child_above}
 
 pub element_bears : (k : KindValue) → is_element k ≡ true → bears k ≡ true
 element_bears (element name attributes) e = refl
@@ -20,7 +20,8 @@ element_bears document e = e
 element_bears doctype e = e
 element_bears (comment t) e = e
 
-module _ (rank : ℕ → ℕ) (letters : List ℕ) (nodes : List NodeValue) (l : Labels) (h : FitsBy none_out letters nodes l)
+module _ (rank : ℕ → ℕ) (letters : List ℕ) (nodes : List NodeValue) (l : Labels)
+    (h : FitsBy none_out letters nodes l)
     (ranked : Ranked rank nodes) (at_root : rank 0 ≡ 0) where
   -- a live element, or the Document
   pub record Alive (x : ℕ) : Type 0 where
@@ -103,7 +104,8 @@ module _ (rank : ℕ → ℕ) (letters : List ℕ) (nodes : List NodeValue) (l :
   not_root : (u : ℕ) → l.live u ≡ true → is_element (kind_at nodes u) ≡ true → rank u ≡ 0 → ⊥
   not_root u live e z = let x = (up u live e).less in absurd (omega arith)
 
-  down_step : (k : ℕ) → Paths k → (q u : ℕ) → Alive q → Alive u → rank u < suc k → rank q < rank u → Down q u
+  down_step : (k : ℕ) → Paths k → (q u : ℕ) → Alive q → Alive u → rank u < suc k → rank q < rank u
+      → Down q u
   down_step k p q u a b big less = by_either b.either
     where
       by_ranks : (x : Up u) → is_element (kind_at nodes u) ≡ true
@@ -149,10 +151,12 @@ module _ (rank : ℕ → ℕ) (letters : List ℕ) (nodes : List NodeValue) (l :
           let x = up u b.live e in
           by_ranks x e (cases_lt (rank q) (rank x.by)) (cases_lt (rank x.by) (rank q))
 
-  same_step : (k : ℕ) → Paths k → (q u : ℕ) → Alive q → Alive u → rank q < suc k → rank q ≡ rank u → q ≡ u
+  same_step : (k : ℕ) → Paths k → (q u : ℕ) → Alive q → Alive u → rank q < suc k → rank q ≡ rank u
+      → q ≡ u
   same_step k p q u a b big same = by_either a.either b.either
     where
-      by_ranks : (x : Up q) (y : Up u) → is_element (kind_at nodes q) ≡ true → is_element (kind_at nodes u) ≡ true
+      by_ranks : (x : Up q) (y : Up u) → is_element (kind_at nodes q) ≡ true
+          → is_element (kind_at nodes u) ≡ true
           → (rank x.by < rank y.by) ⊎ (rank y.by ≤ rank x.by)
           → (rank y.by < rank x.by) ⊎ (rank x.by ≤ rank y.by)
           → q ≡ u
@@ -223,7 +227,8 @@ module _ (rank : ℕ → ℕ) (letters : List ℕ) (nodes : List NodeValue) (l :
     alive_b = record { live = live_b; either = inr is_b }
 
     -- what isn't the inner one, and not on the way to it, has ended before it
-    ended_before : (q c : ℕ) → Alive q → rank p ≤ rank q → rank q < rank b → 1 ≤ times c (children_at nodes q)
+    ended_before : (q c : ℕ) → Alive q → rank p ≤ rank q → rank q < rank b
+        → 1 ≤ times c (children_at nodes q)
         → counted apart nodes c ≡ true
         → (l.live c ≡ true → between c ≡ true) × (l.live c ≡ false → l.hi c ≤ l.lo b)
     ended_before q c a from to k counts =

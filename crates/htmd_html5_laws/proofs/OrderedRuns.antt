@@ -1,13 +1,11 @@
 -- A run of a text leaves the letters in order, and its own stand after all others.
-use Rattle.std.proofs.Common.{◌≡◌, ◌∙◌, ℕ, zero, suc, ◌+◌, ◌<◌, ◌≤◌, Bool, true, false, List, [], ◌∷◌, ◌++◌, length}
-use Rattle.std.proofs.Common.{Option, Some, None, refl, sym, ap, subst, arith, cond, inl, inr, ◌⊎◌, length-append}
+use Rattle.std.proofs.Common.{◌≡◌, ◌∙◌, ℕ, ◌<◌, Bool, true, false, List, [], ◌∷◌, ◌++◌, length}
+use Rattle.std.proofs.Common.{Option, Some, None, refl, sym, ap, subst, arith, inl, inr, length-append}
 use Rattle.std.specs.Prelude.{if◌then◌else◌, IsUtf8, ◌==◌, ◌||◌, not, filter}
 use Rattle.std.specs.List.{list_all}
-use Rattle.std.specs.Str.{chars}
 use Rattle.std.specs.Char.{encode_utf8}
 use Rattle.std.proofs.lemmas.Bool.{true≢false, and_parts}
 use Rattle.std.proofs.lemmas.Str.{chars-IsAscii, chars-nil, chars_past_char}
-use Rattle.htmd_text.proofs.Cases.{test}
 use Rattle.htmd_text.proofs.WhiteSpaceLemmas.{white_is_ascii}
 use Rattle.htmd_text.specs.WhiteSpace.{is_ascii_white_space}
 use Rattle.htmd_text.specs.Characters.{null}
@@ -25,42 +23,42 @@ use Rattle.htmd_html5_state.specs.declared.modes.InsertionMode.TheVariants.{InHe
 use Rattle.htmd_html5_state.specs.declared.modes.InsertionMode.TheVariants.{AfterAfterBody}
 use Rattle.htmd_html5.specs.Tokens.{run}
 use Rattle.htmd_html5.specs.Runs.{kind_of_byte, is_of_kind, first_kind}
-use Rattle.htmd_html5.specs.Answers.{Answer, answer, done, again}
+use Rattle.htmd_html5.specs.Answers.{Answer, done}
 use Rattle.htmd_html5.specs.Feeding.{is_text_mode}
 use Rattle.htmd_html5.specs.InBody.{run_in_body}
 use Rattle.htmd_html5.specs.AfterBody.{back_to_body}
 use Rattle.htmd_html5.specs.SharedRules.{no_frameset}
-use Rattle.htmd_html5.specs.Modes.{in_mode, by_mode_rules}
-use Rattle.htmd_html5.specs.ForeignContent.{is_foreign, replacements, run_in_foreign, in_foreign_content}
+use Rattle.htmd_html5.specs.Modes.{in_mode}
+use Rattle.htmd_html5.specs.ForeignContent.{is_foreign, replacements}
 use Rattle.htmd_html5.specs.Processing.{by_rules}
 use Rattle.htmd_html5_laws.specs.LetterOrder.{letters_of}
 use Rattle.htmd_html5_laws.specs.PageLetters.{is_letter}
 use Rattle.htmd_html5_laws.proofs.NodeTexts.{is_element}
 use Rattle.htmd_html5_laws.proofs.Forests.{forest_add}
 use Rattle.htmd_html5_laws.proofs.HungNodes.{is_solid, Fits}
-use Rattle.htmd_html5_laws.proofs.HungStates.{HungIn, Hung, hung_added, hung_like, fits_place}
-use Rattle.htmd_html5_laws.proofs.OpenNodes.{EachOpen}
+use Rattle.htmd_html5_laws.proofs.HungStates.{HungIn, hung_added, hung_like, fits_place}
 use Rattle.htmd_html5_laws.proofs.LetterLemmas.{all_ascii}
 use Rattle.htmd_html5_laws.proofs.TakingRuns.{by_first_kind, one_utf8, replaced_utf8}
 use Rattle.htmd_html5_laws.proofs.PuttingRuns.{never_null}
-use Rattle.htmd_html5_laws.proofs.PlainStates.{Plain, Stays, then_stays, still, plain_grown}
+use Rattle.htmd_html5_laws.proofs.PlainStates.{plain_grown}
 use Rattle.htmd_html5_laws.proofs.PlainRuns.{insert_text_stays, text_grows}
-use Rattle.htmd_html5_laws.proofs.Sublists.{append_nil, Sub, window, window_grown}
+use Rattle.htmd_html5_laws.proofs.Sublists.{append_nil, Sub, window_grown}
 use Rattle.htmd_html5_laws.proofs.OrderedNodes.{FitsBy, Labels, none_out}
 use Rattle.htmd_html5_laws.proofs.OrderedTexts.{letters_append, white_put}
-use Rattle.htmd_html5_laws.proofs.OrderedStates.{OrderedIn, Ordered, Orders, is_late, text_ordered, place_last, ranked_of}
-use Rattle.htmd_html5_laws.proofs.OrderedStates.{current_within, stack_still, reconstruct_orders}
+use Rattle.htmd_html5_laws.proofs.OrderedStates.{OrderedIn, is_late, text_ordered, place_last, ranked_of}
+use Rattle.htmd_html5_laws.proofs.OrderedStates.{stack_still, reconstruct_orders}
 use Rattle.htmd_html5_laws.proofs.OrderedBody.{no_frameset_orders, with_mode_orders}
 use Rattle.htmd_html5_laws.proofs.OrderedLate.{Late, late_step}
-use Rattle.htmd_html5_laws.proofs.OrderedEarly.{HtmlOpen, EarlyIn, Early, head_open, AfterHeadIn, HeadAt, Stage, Staged, staged}
-use Rattle.htmd_html5_laws.proofs.OrderedEarly.{staged_late, stage_late, late_stage, Calm, StageAnswer, initial_left}
+use Rattle.htmd_html5_laws.proofs.OrderedEarly.{EarlyIn, Early, head_open, AfterHeadIn, Stage, Staged, staged}
+use Rattle.htmd_html5_laws.proofs.OrderedEarly.{staged_late, stage_late, Calm, StageAnswer, initial_left}
 use Rattle.htmd_html5_laws.proofs.OrderedEarly.{root_implied, head_implied}
 use Rattle.htmd_html5_laws.proofs.OrderedHead.{real_of, head_closed, noscript_closed, body_implied, unstaged, stage_names}
 use Rattle.htmd_html5_laws.proofs.OrderedHead.{current_html, stays_html, by_head}
 
 -- ---- texts without a letter
 
-no_letters : (p : ℕ → Bool) (t : List ℕ) → ((b : ℕ) → p b ≡ true → is_letter b ≡ false) → list_all p t ≡ true
+no_letters : (p : ℕ → Bool) (t : List ℕ) → ((b : ℕ) → p b ≡ true → is_letter b ≡ false)
+    → list_all p t ≡ true
     → filter is_letter t ≡ []
 no_letters p [] f e = refl
 no_letters p (b ∷ t) f e =
@@ -158,7 +156,8 @@ after_grown false (Some n) stack letters more s h = early_grown letters more s (
 after_grown true (Some n) [] letters more s h = absurd h
 after_grown true (Some n) (e ∷ es) letters more s h = early_grown letters more s (e ∷ head_open n ∷ es) h
 
-stage_grown : (raw : Bool) (mode : InsertionMode) (letters more : List ℕ) (s : StateValue) → Stage raw mode letters s
+stage_grown : (raw : Bool) (mode : InsertionMode) (letters more : List ℕ) (s : StateValue)
+    → Stage raw mode letters s
     → Stage raw mode (letters ++ more) s
 stage_grown raw Initial letters more s h = (early_grown letters more s s.stack h.0, h.1)
 stage_grown raw BeforeHtml letters more s h = (early_grown letters more s s.stack h.0, h.1)
@@ -223,7 +222,8 @@ white_early letters t s stack u none real h =
     let p = (current s.stack).node in
     let there = place_last s real.ordered.no_fostering in
     let fits : Fits s.nodes p = subst (λ (x : _). Fits s.nodes x.parent) there (fits_place s real.hung) in
-    let g = white_put h.hung.rank letters s.nodes h.ordered.labels h.ordered.fits (ranked_of h.hung) p fits.0 t u none in
+    let g = white_put h.hung.rank letters s.nodes h.ordered.labels h.ordered.fits (ranked_of h.hung) p fits.0 t u none
+    in
     record {
       plain = plain_grown (text_grows t (place s) s.nodes) h.plain;
       hung = subst (λ (at : _). HungIn (add_text t at s.nodes) stack s.head) (sym there)
@@ -248,7 +248,8 @@ module _ (letters t : List ℕ) (s : StateValue) (e : is_text_mode s.content ≡
       → RunStage letters t (done s)
   same_letters mode m none h =
       run_done letters t s
-      (subst (λ (x : List ℕ). Staged x s) (sym (no_more letters (letters_of t) none)) (staged false mode letters s e m h))
+      (subst (λ (x : List ℕ). Staged x s) (sym (no_more letters (letters_of t) none))
+      (staged false mode letters s e m h))
       (inr e)
 
   white_done : (mode : InsertionMode) → s.mode ≡ mode → letters_of t ≡ []
@@ -317,7 +318,8 @@ late_writes letters t s u h = record {
   late = h.late;
 }
 
-pub late_run : (letters t : List ℕ) (s : StateValue) → Late (letters ++ letters_of t) s → RunStage letters t (done s)
+pub late_run : (letters t : List ℕ) (s : StateValue) → Late (letters ++ letters_of t) s
+    → RunStage letters t (done s)
 late_run letters t s h = run_done letters t s (staged_late (letters ++ letters_of t) s h) (inl h.late)
 
 white_in_body : (letters t : List ℕ) (s : StateValue) → IsUtf8 t → Late letters s
@@ -396,24 +398,25 @@ module _ (letters t : List ℕ) (u : IsUtf8 t) (s : StateValue) where
       ((late_runs s.mode letters t s u h.late h).characters)
 
   -- before it
-  module _ (l : is_late s.mode ≡ false) (e : is_text_mode s.content ≡ false) (h : Stage false s.mode letters s) where
-    early_white : Outcome 32
-    early_white all =
-        not_chosen letters t _ (is_foreign (run (kind_of_byte 32) t) s)
-        (stays_html (run (kind_of_byte 32) t) s (current_html s.stack (stage_names s.mode letters s l h)))
-        ((early_runs s.mode letters t s u refl l e h).white (white_letters t all))
+  module _ (l : is_late s.mode ≡ false) (e : is_text_mode s.content ≡ false) (h : Stage false s.mode letters s)
+    where
+      early_white : Outcome 32
+      early_white all =
+          not_chosen letters t _ (is_foreign (run (kind_of_byte 32) t) s)
+          (stays_html (run (kind_of_byte 32) t) s (current_html s.stack (stage_names s.mode letters s l h)))
+          ((early_runs s.mode letters t s u refl l e h).white (white_letters t all))
 
-    early_nulls : Outcome 0
-    early_nulls all =
-        not_chosen letters t _ (is_foreign (run (kind_of_byte 0) t) s)
-        (stays_html (run (kind_of_byte 0) t) s (current_html s.stack (stage_names s.mode letters s l h)))
-        ((early_runs s.mode letters t s u refl l e h).nulls (null_letters t all))
+      early_nulls : Outcome 0
+      early_nulls all =
+          not_chosen letters t _ (is_foreign (run (kind_of_byte 0) t) s)
+          (stays_html (run (kind_of_byte 0) t) s (current_html s.stack (stage_names s.mode letters s l h)))
+          ((early_runs s.mode letters t s u refl l e h).nulls (null_letters t all))
 
-    early_characters : Outcome 97
-    early_characters all =
-        not_chosen letters t _ (is_foreign (run (kind_of_byte 97) t) s)
-        (stays_html (run (kind_of_byte 97) t) s (current_html s.stack (stage_names s.mode letters s l h)))
-        ((early_runs s.mode letters t s u refl l e h).characters)
+      early_characters : Outcome 97
+      early_characters all =
+          not_chosen letters t _ (is_foreign (run (kind_of_byte 97) t) s)
+          (stays_html (run (kind_of_byte 97) t) s (current_html s.stack (stage_names s.mode letters s l h)))
+          ((early_runs s.mode letters t s u refl l e h).characters)
 
 pub run_stage : (letters whole t : List ℕ) → IsUtf8 t → list_all (is_of_kind (first_kind whole)) t ≡ true
     → (s : StateValue) → Calm s → Staged letters s → RunStage letters t (by_rules (run (first_kind whole) t) s)

@@ -1,43 +1,39 @@
 -- States in which the letters stand in order, and steps that leave them so.
-use Rattle.std.proofs.Common.{◌≡◌, ◌∙◌, ℕ, zero, suc, ◌+◌, ◌<◌, ◌≤◌, Bool, true, false, List, [], ◌∷◌, ◌++◌, length}
-use Rattle.std.proofs.Common.{refl, sym, ap, subst, arith, Option, Some, None, inl, inr, ◌⊎◌}
-use Rattle.std.specs.Prelude.{if◌then◌else◌, ◌&&◌, IsUtf8}
-use Rattle.std.proofs.lemmas.Bool.{true≢false}
-use Rattle.htmd_text.proofs.Cases.{test}
+use Rattle.std.proofs.Common.{◌≡◌, ◌∙◌, ℕ, ◌<◌, ◌≤◌, Bool, true, false, List, [], ◌∷◌, ◌++◌, length}
+use Rattle.std.proofs.Common.{refl, sym, ap, subst, arith, Option}
+use Rattle.std.specs.Prelude.{if◌then◌else◌, IsUtf8}
 use Rattle.htmd_grammar.specs.ValueTrees.{AttributePair}
 use Rattle.htmd_html5_tokens.specs.declared.tokens.RawElement.{RawElement}
 use Rattle.htmd_html5_state.specs.Names.{NameValue, ElementNameValue, html}
 use Rattle.htmd_html5_state.specs.Documents.{KindValue, NodeValue, document, doctype, text, comment, element, kind_at}
 use Rattle.htmd_html5_state.specs.Documents.{last_in, add, add_text, add_missing, kind_with_missing}
-use Rattle.htmd_html5_state.specs.OpenElements.{OpenValue, pop, is_in}
+use Rattle.htmd_html5_state.specs.OpenElements.{OpenValue, pop}
 use Rattle.htmd_html5_state.specs.State.{StateValue, on_nodes, on_stack, on_formatting}
 use Rattle.htmd_html5_state.specs.Foreign.{foreign_name, foreign_attributes, pop_if, insert_foreign}
 use Rattle.htmd_html5_state.specs.Insertion.{opened, current, place, insert_named, insert_element, insert_void, insert_raw}
-use Rattle.htmd_html5_state.specs.Insertion.{insert_text, insert_comment_in, insert_comment, foster_place}
+use Rattle.htmd_html5_state.specs.Insertion.{insert_text, insert_comment_in, insert_comment}
 use Rattle.htmd_html5_state.specs.Formatting.{push_marker, clear_to_marker, without_entry, insert_formatting}
 use Rattle.htmd_html5_state.specs.Formatting.{closed_elements, after_closed, insert_like, reopen_all, reconstruct}
 use Rattle.htmd_html5_state.specs.declared.modes.InsertionMode.{InsertionMode}
 use Rattle.htmd_html5_state.specs.declared.modes.InsertionMode.TheVariants.{InBody, AfterBody, AfterAfterBody}
 use Rattle.htmd_html5_state.specs.declared.names.Namespace.{Namespace}
-use Rattle.htmd_html5_state.specs.declared.sets.NameSet.TheVariants.{Fostering}
 use Rattle.htmd_html5_laws.specs.LetterOrder.{letters_of}
-use Rattle.htmd_html5_laws.proofs.NodeTexts.{is_element, kinds, with_missing_element, kind_read}
+use Rattle.htmd_html5_laws.proofs.NodeTexts.{kinds}
 use Rattle.htmd_html5_laws.proofs.OpenNodes.{EachOpen, Below, each_more, Fewer, pop_fewer, pop_if_fewer}
-use Rattle.htmd_html5_laws.proofs.HungNodes.{is_solid}
 use Rattle.htmd_html5_laws.proofs.HungStates.{ElementOpen, HungIn, Hung, element_number}
 use Rattle.htmd_html5_laws.proofs.HungAdoption.{below_each, each_both}
-use Rattle.htmd_html5_laws.proofs.PlainNames.{is_plain_name, is_plain_element, is_plain_kind, foreign_is_plain}
-use Rattle.htmd_html5_laws.proofs.PlainStates.{PlainAt, Plain, Stays, then_stays, still, stays_by_test, stays_by_state}
-use Rattle.htmd_html5_laws.proofs.PlainStates.{on_stack_stays, insert_named_stays, insert_void_stays, insert_raw_stays}
-use Rattle.htmd_html5_laws.proofs.PlainStates.{insert_foreign_stays, insert_comment_in_stays, add_missing_stays}
+use Rattle.htmd_html5_laws.proofs.PlainNames.{is_plain_name, is_plain_element, foreign_is_plain}
+use Rattle.htmd_html5_laws.proofs.PlainStates.{Plain, Stays, then_stays, still, stays_by_test, stays_by_state}
+use Rattle.htmd_html5_laws.proofs.PlainStates.{on_stack_stays, insert_named_stays, insert_raw_stays}
+use Rattle.htmd_html5_laws.proofs.PlainStates.{insert_comment_in_stays, add_missing_stays}
 use Rattle.htmd_html5_laws.proofs.PlainStates.{without_entry_stays, push_marker_stays, clear_to_marker_stays}
 use Rattle.htmd_html5_laws.proofs.PlainStates.{insert_formatting_stays, reconstruct_stays, EachPlain, reopen_all_grown}
 use Rattle.htmd_html5_laws.proofs.PlainStates.{closed_plain, plain_entries}
 use Rattle.htmd_html5_laws.proofs.KeepingInsertion.{listed_closed}
-use Rattle.htmd_html5_laws.proofs.PuttingRuns.{like_mode, reconstruct_mode}
-use Rattle.htmd_html5_laws.proofs.OrderedNodes.{bears, Labels, FitsBy, TextIn, none_out, Ranked}
-use Rattle.htmd_html5_laws.proofs.OrderedTexts.{Goes, Opens, GoesOn, goes_on, loose_added, element_added, text_put}
-use Rattle.htmd_html5_laws.proofs.OrderedTexts.{white_put, fits_like}
+use Rattle.htmd_html5_laws.proofs.PuttingRuns.{reconstruct_mode}
+use Rattle.htmd_html5_laws.proofs.OrderedNodes.{bears, Labels, FitsBy, none_out, Ranked}
+use Rattle.htmd_html5_laws.proofs.OrderedTexts.{loose_added, element_added, text_put}
+use Rattle.htmd_html5_laws.proofs.OrderedTexts.{fits_like}
 
 -- ---- states
 
@@ -63,7 +59,8 @@ is_late _ = false
 -- a step that leaves the letters in order
 pub record Orders (f : StateValue → StateValue) : Type 0 where
   pub stays : Stays f
-  pub orders : (letters : List ℕ) (s : StateValue) → Plain s → Hung s → Ordered letters s → Ordered letters (f s)
+  pub orders : (letters : List ℕ) (s : StateValue) → Plain s → Hung s → Ordered letters s
+      → Ordered letters (f s)
   pub late : (s : StateValue) → Plain s → is_late s.mode ≡ true → is_late (f s).mode ≡ true
 
 -- ---- steps put together
@@ -92,7 +89,8 @@ orders_by_test {f} {g} b first second = record {
     either true letters s h x o = first.orders letters s h x o
     either false letters s h x o = second.orders letters s h x o
 
-    each : (t : Bool) (s : StateValue) → Plain s → is_late s.mode ≡ true → is_late (if t then f s else g s).mode ≡ true
+    each : (t : Bool) (s : StateValue) → Plain s → is_late s.mode ≡ true
+        → is_late (if t then f s else g s).mode ≡ true
     each true s h e = first.late s h e
     each false s h e = second.late s h e
 
@@ -153,7 +151,8 @@ pub place_last : (s : StateValue) → s.foster_parenting ≡ false → place s �
 place_last s e = rw e refl
 
 -- what is open is live still
-pub opens_still : (old new : ℕ → Bool) (rank : ℕ → ℕ) (p : ℕ) (nodes : List NodeValue) (stack : List OpenValue)
+pub opens_still : (old new : ℕ → Bool) (rank : ℕ → ℕ) (p : ℕ) (nodes : List NodeValue)
+    (stack : List OpenValue)
     → ((m : ℕ) → m < length nodes → old m ≡ true → rank m ≤ rank p → new m ≡ true)
     → EachOpen (ElementOpen nodes) stack → EachOpen (λ e. rank e.node ≤ rank p) stack
     → EachOpen (λ e. old e.node ≡ true) stack
@@ -179,7 +178,8 @@ pub element_in : (letters : List ℕ) (name : ElementNameValue) (attributes : Li
     (nodes : List NodeValue) (stack : List OpenValue) (head : Option ℕ) (fosters : Bool)
     (h : HungIn nodes stack head) (o : OrderedIn letters nodes stack fosters) → p < length nodes
     → o.labels.live p ≡ true → EachOpen (λ e. h.rank e.node ≤ h.rank p) stack
-    → OrderedIn letters (add (element name attributes) (last_in p) nodes) (opened (length nodes) name ∷ stack) fosters
+    → OrderedIn letters (add (element name attributes) (last_in p) nodes) (opened (length nodes) name ∷ stack)
+    fosters
 element_in letters name attributes p nodes stack head fosters h o within live low =
     let g = element_added h.rank letters nodes o.labels o.fits (ranked_of h) p within live (element name attributes)
     refl in
@@ -357,11 +357,6 @@ reconstruct_orders = record {
 -- ---- text
 
 -- its letters stand after all others then
-pub record Writes (t : List ℕ) (f : StateValue → StateValue) : Type 0 where
-  pub stays : Stays f
-  pub orders : (letters : List ℕ) (s : StateValue) → Plain s → Hung s → Ordered letters s
-      → Ordered (letters ++ letters_of t) (f s)
-
 pub text_ordered : (letters t : List ℕ) (s : StateValue) → IsUtf8 t → Hung s → Ordered letters s
     → Ordered (letters ++ letters_of t) (insert_text t s)
 text_ordered letters t s u h o =

@@ -1,7 +1,7 @@
 -- Text is put at the end of an open node, in a new text or at the end of its last one.
 use Rattle.std.proofs.Common.{◌≡◌, ◌∙◌, ℕ, zero, suc, ◌+◌, ◌<◌, ◌≤◌, Bool, true, false, List, [], ◌∷◌, ◌++◌, length}
 use Rattle.std.proofs.Common.{refl, sym, ap, subst, arith, cond, Option, Some, None, inl, inr, ◌⊎◌, length-append}
-use Rattle.std.specs.Prelude.{◌==◌, ◌&&◌, not, IsUtf8, slice_get}
+use Rattle.std.specs.Prelude.{◌==◌, not, IsUtf8}
 use Rattle.std.proofs.lemmas.Bool.{true≢false, eqb-true, eqb-false, eq-eqb, ne_eqb}
 use Rattle.std.proofs.lemmas.List.Elements.{filter-append}
 use Rattle.std.proofs.lemmas.Str.{IsUtf8-append, chars-append}
@@ -9,22 +9,22 @@ use Rattle.std.specs.Prelude.{filter}
 use Rattle.std.specs.Str.{chars}
 use Rattle.htmd_text.proofs.Cases.{test}
 use Rattle.htmd_grammar.specs.CharacterClasses.{is_empty}
-use Rattle.htmd_html5_state.specs.Documents.{NodeValue, KindValue, document, doctype, text, comment, element, new_node}
+use Rattle.htmd_html5_state.specs.Documents.{NodeValue, KindValue, document, doctype, text, comment, element}
 use Rattle.htmd_html5_state.specs.Documents.{kind_at, parent_at, children_at, with_kind, last_in, text_of, child_before}
-use Rattle.htmd_html5_state.specs.Documents.{add, preceding, add_text, or_add, joined_with, joined_to, place_index}
+use Rattle.htmd_html5_state.specs.Documents.{preceding, add_text, or_add, joined_with, joined_to}
 use Rattle.htmd_html5_laws.specs.LetterOrder.{letters_of}
 use Rattle.htmd_html5_laws.specs.PageLetters.{is_letter}
 use Rattle.htmd_html5_laws.proofs.NodeParts.{times, times_append, children_of_kind}
-use Rattle.htmd_html5_laws.proofs.Forests.{IsForest, once_under, once_at_most, here, elsewhere}
-use Rattle.htmd_html5_laws.proofs.HungNodes.{is_solid, Hangs, HangsBy, element_solid}
+use Rattle.htmd_html5_laws.proofs.Forests.{IsForest, once_under, once_at_most, elsewhere}
+use Rattle.htmd_html5_laws.proofs.HungNodes.{is_solid, Hangs}
 use Rattle.htmd_html5_laws.proofs.NodeTexts.{is_element}
-use Rattle.htmd_html5_laws.proofs.Sublists.{append_nil, Sub, window, window_grown, window_new, sub_all, sub_joined, sub_wider}
-use Rattle.htmd_html5_laws.proofs.Rows.{Marks, Row, Stands, after, row_from, row_low, row_member, row_append, row_ends}
+use Rattle.htmd_html5_laws.proofs.Sublists.{append_nil, Sub, window, window_grown, window_new, sub_all, sub_joined}
+use Rattle.htmd_html5_laws.proofs.Rows.{Marks, Row, after, row_append, row_ends}
 use Rattle.htmd_html5_laws.proofs.Rows.{row_marks}
-use Rattle.htmd_html5_laws.proofs.OrderedNodes.{bears, bears_solid, Labels, until, counted, marks, TextIn, FitsBy, none_out}
-use Rattle.htmd_html5_laws.proofs.OrderedNodes.{Ranked, Settled, settled, child_parent}
-use Rattle.htmd_html5_laws.proofs.OrderedInserts.{mark, grown, no_child, kind_grown_new, RowOk, TextOk, row_kept, own_lo}
-use Rattle.htmd_html5_laws.proofs.OrderedInserts.{own_until, other_until, fits_added, marked}
+use Rattle.htmd_html5_laws.proofs.OrderedNodes.{bears, bears_solid, Labels, until, marks, TextIn, FitsBy, none_out}
+use Rattle.htmd_html5_laws.proofs.OrderedNodes.{Ranked, settled, child_parent}
+use Rattle.htmd_html5_laws.proofs.OrderedInserts.{mark, grown, no_child, kind_grown_new, RowOk, row_kept, own_lo}
+use Rattle.htmd_html5_laws.proofs.OrderedInserts.{own_until, fits_added, marked}
 
 -- ---- letters of texts
 
@@ -82,7 +82,8 @@ fits_like n k letters nodes l same is h = record {
     alike : (c : ℕ) → bears (kind_at (with_kind n k nodes) c) ≡ bears (kind_at nodes c)
     alike c =
         test (n == c)
-        (λ u. subst (λ (x : ℕ). bears (kind_at (with_kind n k nodes) x) ≡ bears (kind_at nodes x)) (eqb-true n c u)
+        (λ u. subst (λ (x : ℕ). bears (kind_at (with_kind n k nodes) x) ≡ bears (kind_at nodes x))
+        (eqb-true n c u)
         (own_bears (kind_set_own n k nodes)))
         (λ u. ap bears (kind_set_other n c k nodes (eqb-false n c u)))
 
@@ -99,50 +100,55 @@ fits_like n k letters nodes l same is h = record {
 -- ---- where a new node stands
 
 module _ (letters : List ℕ) (nodes : List NodeValue) (l : Labels) (h : FitsBy none_out letters nodes l)
-    (forest : IsForest nodes) (k : KindValue) (p : ℕ) (within : p < length nodes) (more : List ℕ) (live : Bool) where
-  -- what bears nothing may stand anywhere
-  pub loose_row : bears k ≡ false → RowOk letters nodes l h forest k p within more live
-  loose_row e limit big =
-      row_append (marks none_out (grown k p nodes) limit (marked letters nodes l h forest k p within more live))
-      (l.lo p) (children_at nodes p) (until limit l p) (length nodes ∷ []) (until limit l p)
-      (row_kept letters nodes l h forest k p within more live limit (l.lo p) (children_at nodes p) (until limit l p) big
-      (no_child nodes p (length nodes) forest (omega arith)) (h.rows limit (omega arith) p))
-      (λ b. absurd (true≢false (sym b ∙ none)), low _ _ (bears (kind_at (grown k p nodes) (length nodes))) none)
-    where
-      none : bears (kind_at (grown k p nodes) (length nodes)) ≡ false
-      none = ap bears (kind_grown_new k p nodes) ∙ e
+    (forest : IsForest nodes) (k : KindValue) (p : ℕ) (within : p < length nodes) (more : List ℕ) (live : Bool)
+  where
+    -- what bears nothing may stand anywhere
+    pub loose_row : bears k ≡ false → RowOk letters nodes l h forest k p within more live
+    loose_row e limit big =
+        row_append (marks none_out (grown k p nodes) limit (marked letters nodes l h forest k p within more live))
+        (l.lo p) (children_at nodes p) (until limit l p) (length nodes ∷ []) (until limit l p)
+        (row_kept letters nodes l h forest k p within more live limit (l.lo p) (children_at nodes p) (until limit l p)
+        big
+        (no_child nodes p (length nodes) forest (omega arith)) (h.rows limit (omega arith) p))
+        (λ b. absurd (true≢false (sym b ∙ none)), low _ _ (bears (kind_at (grown k p nodes) (length nodes))) none)
+      where
+        none : bears (kind_at (grown k p nodes) (length nodes)) ≡ false
+        none = ap bears (kind_grown_new k p nodes) ∙ e
 
-      low : (x y : ℕ) (b : Bool) → b ≡ false → cond b x y ≤ y
-      low x y true f = absurd (true≢false f)
-      low x y false f = omega arith
+        low : (x y : ℕ) (b : Bool) → b ≡ false → cond b x y ≤ y
+        low x y true f = absurd (true≢false f)
+        low x y false f = omega arith
 
-  -- and anything at the end of what is live, where the children before have ended
-  pub live_row : l.live p ≡ true
-      → ((c : ℕ) → 1 ≤ times c (children_at nodes p) → bears (kind_at nodes c) ≡ true → l.live c ≡ false)
-      → RowOk letters nodes l h forest k p within more live
-  live_row e ends limit big =
-      row_append (marks none_out (grown k p nodes) limit (marked letters nodes l h forest k p within more live))
-      (l.lo p) (children_at nodes p) (length letters) (length nodes ∷ []) (until limit l p)
-      (row_kept letters nodes l h forest k p within more live limit (l.lo p) (children_at nodes p) (length letters) big
-      (no_child nodes p (length nodes) forest (omega arith))
-      (row_ends (marks none_out nodes limit l) (l.lo p) (children_at nodes p) (until limit l p) (length letters)
-      (let a = h.span p in let b = h.high p in omega arith)
-      (λ c m b. end_low c (l.live c) (ends c m b)) (h.rows limit (omega arith) p))) (
-        λ b. let x = own_lo letters nodes l h forest k p within more live in
-            let y = (own_until letters nodes l h forest k p within more live limit big).0 in (omega arith, omega arith),
-        let z : until limit l p ≡ limit = ap (λ (b : Bool). cond b limit (l.hi p)) e in
-            let y = (own_until letters nodes l h forest k p within more live limit big).1 in
-            let w = low (bears (kind_at (grown k p nodes) (length nodes))) limit (length letters) y (omega arith) in
-            omega arith,
-      )
-    where
-      end_low : (c : ℕ) (b : Bool) → b ≡ false → cond b limit (l.hi c) ≤ length letters
-      end_low c true f = absurd (true≢false f)
-      end_low c false f = h.high c
+    -- and anything at the end of what is live, where the children before have ended
+    pub live_row : l.live p ≡ true
+        → ((c : ℕ) → 1 ≤ times c (children_at nodes p) → bears (kind_at nodes c) ≡ true → l.live c ≡
+        false)
+        → RowOk letters nodes l h forest k p within more live
+    live_row e ends limit big =
+        row_append (marks none_out (grown k p nodes) limit (marked letters nodes l h forest k p within more live))
+        (l.lo p) (children_at nodes p) (length letters) (length nodes ∷ []) (until limit l p)
+        (row_kept letters nodes l h forest k p within more live limit (l.lo p) (children_at nodes p) (length letters)
+        big
+        (no_child nodes p (length nodes) forest (omega arith))
+        (row_ends (marks none_out nodes limit l) (l.lo p) (children_at nodes p) (until limit l p) (length letters)
+        (let a = h.span p in let b = h.high p in omega arith)
+        (λ c m b. end_low c (l.live c) (ends c m b)) (h.rows limit (omega arith) p))) (
+          λ b. let x = own_lo letters nodes l h forest k p within more live in
+              let y = (own_until letters nodes l h forest k p within more live limit big).0 in
+              (omega arith, omega arith),
+          let z : until limit l p ≡ limit = ap (λ (b : Bool). cond b limit (l.hi p)) e in
+              let y = (own_until letters nodes l h forest k p within more live limit big).1 in
+              let w = low (bears (kind_at (grown k p nodes) (length nodes))) limit (length letters) y (omega arith) in
+              omega arith,
+        )
+      where
+        end_low : (c : ℕ) (b : Bool) → b ≡ false → cond b limit (l.hi c) ≤ length letters
+        end_low c true f = absurd (true≢false f)
+        end_low c false f = h.high c
 
-      low : {x : ℕ} (b : Bool) (z y : ℕ) → x ≤ z → y ≤ z → cond b x y ≤ z
-      low true z y f g = f
-      low false z y f g = g
+        low : {x : ℕ} (b : Bool) (z y : ℕ) → x ≤ z → y ≤ z → cond b x y ≤ z
+        low true z y f g = f
+        low false z y f g = g
 
 -- ---- more at the end of a text
 
@@ -163,7 +169,8 @@ row_split m at [] n to h = record {
 row_split m at (c ∷ cs) n to h =
     let r = row_split m (after m at c) cs n to h.1 in record { front = (h.0, r.front); last = r.last }
 
-last_child : (n : ℕ) (cs : List ℕ) → child_before (length cs) cs ≡ Some n → (ds : List ℕ) × (cs ≡ ds ++ n ∷ [])
+last_child : (n : ℕ) (cs : List ℕ) → child_before (length cs) cs ≡ Some n
+    → (ds : List ℕ) × (cs ≡ ds ++ n ∷ [])
 last_child n [] e = absurd (none_some e)
   where
     none_some : None ≡ Some n → ⊥
@@ -206,8 +213,11 @@ bare rank nodes n c s ranked e l b = by_hangs (ranked.hangs c (bears_solid (kind
 row_uncounted : (m : Marks) (at : ℕ) (cs : List ℕ) (to : ℕ) → at ≤ to
     → ((c : ℕ) → 1 ≤ times c cs → m.counts c ≡ true → ⊥) → Row m at cs to
 row_uncounted m at [] to l f = l
-row_uncounted m at (c ∷ cs) to l f =
-    (λ b. absurd (f c own b), row_uncounted m (after m at c) cs to (low (m.counts c) refl) (λ d k b. f d (omega arith) b))
+row_uncounted m at (c ∷ cs) to l f = (
+  λ b. absurd (f c own b),
+  row_uncounted m (after m at c) cs to (low (m.counts c) refl)
+      (λ d k b. f d (omega arith) b),
+)
   where
     own : 1 ≤ times c (c ∷ cs)
     own = let o : ◌≡◌ {A = ℕ} (cond (c == c) 1 0) 1 = rw (eq-eqb c c refl) refl in omega arith
@@ -216,10 +226,12 @@ row_uncounted m at (c ∷ cs) to l f =
     low true e = absurd (f c own e)
     low false e = l
 
-module _ (rank : ℕ → ℕ) (letters : List ℕ) (nodes : List NodeValue) (l : Labels) (h : FitsBy none_out letters nodes l)
+module _ (rank : ℕ → ℕ) (letters : List ℕ) (nodes : List NodeValue) (l : Labels)
+    (h : FitsBy none_out letters nodes l)
     (ranked : Ranked rank nodes) (p n : ℕ) (s t : List ℕ) (is : kind_at nodes n ≡ text s) (ds : List ℕ)
     (stand : children_at nodes p ≡ ds ++ n ∷ []) (live : l.live p ≡ true) (u : IsUtf8 t)
-    (ends : (c : ℕ) → 1 ≤ times c (children_at nodes p) → bears (kind_at nodes c) ≡ true → l.live c ≡ false) where
+    (ends : (c : ℕ) → 1 ≤ times c (children_at nodes p) → bears (kind_at nodes c) ≡ true → l.live c ≡
+    false) where
   abbrev start : ℕ
   start = cond (bears (kind_at nodes n)) (l.lo n) (length letters)
 
@@ -494,7 +506,8 @@ pub record Goes (rank : ℕ → ℕ) (p : ℕ) (letters : List ℕ) (size : ℕ)
   pub still : (m : ℕ) → m < size → old.live m ≡ true → rank m ≤ rank p → labels.live m ≡ true
 
 -- the new node is live then
-pub record Opens (rank : ℕ → ℕ) (p : ℕ) (letters : List ℕ) (size : ℕ) (old : Labels) (nodes : List NodeValue)
+pub record Opens (rank : ℕ → ℕ) (p : ℕ) (letters : List ℕ) (size : ℕ) (old : Labels)
+    (nodes : List NodeValue)
     : Type 0 where
   pub labels : Labels
   pub fits : FitsBy none_out letters nodes labels
@@ -507,11 +520,8 @@ pub record GoesOn (letters : List ℕ) (size : ℕ) (old : Labels) (nodes : List
   pub fits : FitsBy none_out letters nodes labels
   pub still : (m : ℕ) → m < size → old.live m ≡ true → labels.live m ≡ true
 
-pub goes_on : (rank : ℕ → ℕ) (p : ℕ) {letters : List ℕ} {size : ℕ} {old : Labels} {nodes : List NodeValue}
-    → GoesOn letters size old nodes → Goes rank p letters size old nodes
-goes_on rank p g = record { labels = g.labels; fits = g.fits; still = λ m k e r. g.still m k e }
-
-module _ (rank : ℕ → ℕ) (letters : List ℕ) (nodes : List NodeValue) (l : Labels) (h : FitsBy none_out letters nodes l)
+module _ (rank : ℕ → ℕ) (letters : List ℕ) (nodes : List NodeValue) (l : Labels)
+    (h : FitsBy none_out letters nodes l)
     (ranked : Ranked rank nodes) (p : ℕ) (within : p < length nodes) where
   -- what bears nothing
   pub loose_added : (k : KindValue) → bears k ≡ false
@@ -569,7 +579,8 @@ module _ (rank : ℕ → ℕ) (letters : List ℕ) (nodes : List NodeValue) (l :
               (x.still p live (omega arith)) u x.children;
           still = λ m k e r.
               let a = x.still m e r in
-              rw (ne_eqb m n (λ f. true≢false (sym (sym (ap x.labels.live f) ∙ a) ∙ (x.fits.texts n s is).closed))) a;
+              rw (ne_eqb m n (λ f. true≢false
+              (sym (sym (ap x.labels.live f) ∙ a) ∙ (x.fits.texts n s is).closed))) a;
         }
 
     pub text_put : (t : List ℕ) → IsUtf8 t
@@ -611,7 +622,8 @@ module _ (rank : ℕ → ℕ) (letters : List ℕ) (nodes : List NodeValue) (l :
       joined_same n s is =
           let old = h.texts n s is in
           let same : letters_of (s ++ t) ≡ letters_of s =
-          letters_append s t old.utf8 ∙ (ap (λ (x : List ℕ). letters_of s ++ x) none ∙ append_nil (letters_of s)) in
+          letters_append s t old.utf8 ∙ (ap (λ (x : List ℕ). letters_of s ++ x) none ∙ append_nil (letters_of s))
+          in
           record {
             labels = l;
             fits = fits_like n (text (s ++ t)) letters nodes l

@@ -1,22 +1,21 @@
 -- The tokens of a page, one after another: the letters of their texts stand in order among the nodes.
 use Rattle.std.proofs.Common.{◌≡◌, ◌∙◌, ℕ, zero, suc, Bool, true, false, List, [], ◌∷◌, ◌++◌, length, drop}
-use Rattle.std.proofs.Common.{Option, Some, None, refl, sym, ap, subst, arith, cond, inl, inr, ◌⊎◌, append_assoc}
+use Rattle.std.proofs.Common.{Option, Some, None, refl, sym, ap, subst, arith, cond, inr, append_assoc}
 use Rattle.std.specs.Prelude.{IsUtf8, if◌then◌else◌, ◌&&◌, ◌||◌, ◌==◌, not, codes, filter}
 use Rattle.std.specs.List.{list_all}
-use Rattle.std.specs.Str.{bytes_eq, chars}
+use Rattle.std.specs.Str.{bytes_eq}
 use Rattle.std.specs.Char.{encode_utf8}
 use Rattle.std.proofs.lemmas.Bool.{true≢false, and_parts, eqb-true}
 use Rattle.std.proofs.lemmas.Str.{chars_past_char, encode_ascii}
-use Rattle.htmd_text.proofs.Cases.{test}
 use Rattle.htmd_text.specs.Characters.{line_feed}
 use Rattle.htmd_grammar.specs.CharacterClasses.{is_empty, first_is}
 use Rattle.htmd_grammar.proofs.TagReadingLemmas.{front_all, back_split}
 use Rattle.htmd_html5_tokens.specs.Preprocessing.{preprocessed}
 use Rattle.htmd_html5_tokens.specs.Tokens.{Read}
 use Rattle.htmd_html5_state.specs.Names.{NameValue, known, known_name, known_or, name_of_text, spelling}
-use Rattle.htmd_html5_state.specs.Documents.{NodeValue, document, text as text_kind, new_node, kind_at, children_at, last_in, add_text}
+use Rattle.htmd_html5_state.specs.Documents.{document, text as text_kind, new_node, kind_at, children_at, last_in, add_text}
 use Rattle.htmd_html5_state.specs.OpenElements.{OpenValue, current_is, pop}
-use Rattle.htmd_html5_state.specs.State.{StateValue, initial_state, on_stack}
+use Rattle.htmd_html5_state.specs.State.{StateValue, initial_state}
 use Rattle.htmd_html5_state.specs.Insertion.{current, place, insert_text}
 use Rattle.htmd_html5_state.specs.Foreign.{current_is_html}
 use Rattle.htmd_html5_state.specs.declared.names.TagName.{TagName}
@@ -29,7 +28,7 @@ use Rattle.htmd_html5.specs.Tokens.{TokenValue, start_tag, end_tag, comment, doc
 use Rattle.htmd_html5.specs.Runs.{is_of_kind, first_kind, first_run, after_first_run}
 use Rattle.htmd_html5.specs.Answers.{Answer}
 use Rattle.htmd_html5.specs.InTable.{table_text}
-use Rattle.htmd_html5.specs.Processing.{by_rules, turns, process_within, process, after_answer}
+use Rattle.htmd_html5.specs.Processing.{by_rules, turns, process_within, process}
 use Rattle.htmd_html5.specs.Texts.{Taken, is_table_mode, takes_all, taken, after_run, first_token, take_within, take_part}
 use Rattle.htmd_html5.specs.Texts.{put_within, put_text}
 use Rattle.htmd_html5.specs.Feeding.{is_text_mode, put_raw_text, feed_text, without_line_feed, with_nothing_skipped, close_raw}
@@ -37,23 +36,20 @@ use Rattle.htmd_html5.specs.Feeding.{out_of_text_mode, feed_end_tag, named, feed
 use Rattle.htmd_html5.specs.Documents.{next_read, is_end, after_token, read_within, state_after}
 use Rattle.htmd_html5_laws.specs.PageLetters.{is_letter, with_text_of, texts_after, texts_within, token_texts}
 use Rattle.htmd_html5_laws.specs.HarmlessTags.{drops_text_in, tokens_after, tokens_within}
-use Rattle.htmd_html5_laws.specs.LetterOrder.{letters_of, letters_in, moves_text_in, is_orderly, all_tags_are_orderly}
-use Rattle.htmd_html5_laws.proofs.NodeTexts.{kinds}
+use Rattle.htmd_html5_laws.specs.LetterOrder.{letters_of, letters_in, may_move_text_in, is_orderly, all_tags_are_orderly}
 use Rattle.htmd_html5_laws.proofs.Utf8Tokens.{TokenUtf8, ReadUtf8, next_token_utf8, preprocessed_utf8}
 use Rattle.htmd_html5_laws.proofs.TakingTexts.{run_parts}
 use Rattle.htmd_html5_laws.proofs.FedTokens.{shortened}
 use Rattle.htmd_html5_laws.proofs.OpenNodes.{Fewer, all_of, skip, pop_fewer}
-use Rattle.htmd_html5_laws.proofs.PlainStates.{Plain}
-use Rattle.htmd_html5_laws.proofs.HungStates.{Hung, HungIn}
 use Rattle.htmd_html5_laws.proofs.PlainRuns.{insert_text_stays}
 use Rattle.htmd_html5_laws.proofs.HarmlessTokens.{spelled, begins_plain, begins_hung}
 use Rattle.htmd_html5_laws.proofs.Rows.{Row}
 use Rattle.htmd_html5_laws.proofs.OrderedNodes.{FitsBy, Labels, none_out, marks}
 use Rattle.htmd_html5_laws.proofs.OrderedTexts.{letters_append}
-use Rattle.htmd_html5_laws.proofs.OrderedStates.{OrderedIn, Ordered, is_late, text_ordered, place_last, on_stack_orders}
+use Rattle.htmd_html5_laws.proofs.OrderedStates.{OrderedIn, Ordered, text_ordered, place_last, on_stack_orders}
 use Rattle.htmd_html5_laws.proofs.OrderedBody.{is_orderly_name}
 use Rattle.htmd_html5_laws.proofs.OrderedLate.{IsOrderly, Late, late_step}
-use Rattle.htmd_html5_laws.proofs.OrderedEarly.{EarlyIn, Early, head_open, AfterHeadIn, HeadAt, Stage, Staged, staged_late, Calm}
+use Rattle.htmd_html5_laws.proofs.OrderedEarly.{EarlyIn, Early, head_open, AfterHeadIn, Stage, Staged, Calm}
 use Rattle.htmd_html5_laws.proofs.OrderedEarly.{StageAnswer, early_fewer}
 use Rattle.htmd_html5_laws.proofs.OrderedHead.{by_rules_stage, unstaged}
 use Rattle.htmd_html5_laws.proofs.OrderedRuns.{no_more, staged_grown, RunStage, run_stage, late_writes}
@@ -110,7 +106,8 @@ run_part k text letters a u r more = either a.again refl
       utf8 = (run_parts 0 text u).rest;
     }
 
-within_part : (k : ℕ) (text : List ℕ) (letters : List ℕ) (s : StateValue) → IsUtf8 text → Calm s → Staged letters s
+within_part : (k : ℕ) (text : List ℕ) (letters : List ℕ) (s : StateValue) → IsUtf8 text → Calm s
+    → Staged letters s
     → Part letters text (take_within k text s)
 within_part zero text letters s u calm h = record {
   put = letters_of (first_run text);
@@ -133,7 +130,8 @@ within_part (suc k) text letters s u calm h =
         run_part k text letters (by_rules (first_token text) s) u
         (run_stage letters text (first_run text) (run_parts 0 text u).front (first_all text) s calm h) more
 
-put_stage : (k : ℕ) (text : List ℕ) (letters : List ℕ) (s : StateValue) → IsUtf8 text → Calm s → Staged letters s
+put_stage : (k : ℕ) (text : List ℕ) (letters : List ℕ) (s : StateValue) → IsUtf8 text → Calm s
+    → Staged letters s
     → Staged (letters ++ letters_of text) (put_within k text s)
 put_stage zero text letters s u calm h = staged_grown letters (letters_of text) s h
 put_stage (suc k) text letters s u calm h =
@@ -143,7 +141,8 @@ put_stage (suc k) text letters s u calm h =
     (append_assoc letters p.put (letters_of (take_part text s).rest) ∙ ap (λ (x : List ℕ). letters ++ x) p.fits)
     (put_stage k (take_part text s).rest (letters ++ p.put) (take_part text s).state p.utf8 p.calm p.stage))
   where
-    either : (b : Bool) → Staged (letters ++ letters_of text) (put_within k (take_part text s).rest (take_part text s).state)
+    either : (b : Bool)
+        → Staged (letters ++ letters_of text) (put_within k (take_part text s).rest (take_part text s).state)
         → Staged (letters ++ letters_of text)
         (if b then s else put_within k (take_part text s).rest (take_part text s).state)
     either true more = staged_grown letters (letters_of text) s h
@@ -184,7 +183,8 @@ after_head_text letters t s (Some n) (d ∷ ds) u e h =
         ∙ (ap (λ (stack : List OpenValue). last_in (current stack).node) (sym e)
         ∙ sym (place_last s h.ordered.no_fostering))
 
-raw_text_stage : (mode : InsertionMode) (letters t : List ℕ) (s : StateValue) → IsUtf8 t → Stage true mode letters s
+raw_text_stage : (mode : InsertionMode) (letters t : List ℕ) (s : StateValue) → IsUtf8 t
+    → Stage true mode letters s
     → Stage true mode (letters ++ letters_of t) (insert_text t s)
 raw_text_stage Initial letters t s u h = (early_text letters t s u h.0, h.1)
 raw_text_stage BeforeHtml letters t s u h = (early_text letters t s u h.0, h.1)
@@ -197,7 +197,8 @@ raw_text_stage AfterBody letters t s u h = late_writes letters t s u h
 raw_text_stage AfterAfterBody letters t s u h = late_writes letters t s u h
 raw_text_stage _ letters t s u h = absurd h
 
-put_raw_stage : (letters t : List ℕ) (s : StateValue) → IsUtf8 t → is_text_mode s.content ≡ true → Staged letters s
+put_raw_stage : (letters t : List ℕ) (s : StateValue) → IsUtf8 t → is_text_mode s.content ≡ true
+    → Staged letters s
     → Staged (letters ++ letters_of t) (put_raw_text t s)
 put_raw_stage letters t s u e h = either (is_empty t)
   where
@@ -318,7 +319,7 @@ both_false : (a b : Bool) → (a || b) ≡ false → (a ≡ false) × (b ≡ fal
 both_false true b f = absurd (true≢false f)
 both_false false b f = (refl, f)
 
-orderly_name : (s : List ℕ) → moves_text_in s ≡ false → is_orderly_name (name_of_text s) ≡ true
+orderly_name : (s : List ℕ) → may_move_text_in s ≡ false → is_orderly_name (name_of_text s) ≡ true
 orderly_name s d = by_found (known_name s) refl
   where
     parts : (drops_text_in s ≡ false)
@@ -327,9 +328,11 @@ orderly_name s d = by_found (known_name s) refl
 
     by_tag : (tag : TagName) → bytes_eq s (spelling tag) ≡ true → is_orderly_name (known tag) ≡ true
     by_tag tags.FrameSet e =
-        absurd (true≢false (sym e ∙ (both_false (bytes_eq s (codes "frameset")) (bytes_eq s (codes "template")) parts.0).0))
+        absurd (true≢false (sym e ∙ (both_false (bytes_eq s (codes "frameset")) (bytes_eq s (codes "template"))
+        parts.0).0))
     by_tag tags.Template e =
-        absurd (true≢false (sym e ∙ (both_false (bytes_eq s (codes "frameset")) (bytes_eq s (codes "template")) parts.0).1))
+        absurd (true≢false (sym e ∙ (both_false (bytes_eq s (codes "frameset")) (bytes_eq s (codes "template"))
+        parts.0).1))
     by_tag tags.Table e = absurd (true≢false (sym e ∙ parts.1.0))
     by_tag tags.Select e = absurd (true≢false (sym e ∙ parts.1.1))
     by_tag _ e = refl
@@ -344,7 +347,8 @@ orderly_tag false e = refl
 
 -- ---- a text without its first line feed
 
-letters_dropped : (s : List ℕ) → first_is line_feed s ≡ true → IsUtf8 s → letters_of (drop 1 s) ≡ letters_of s
+letters_dropped : (s : List ℕ) → first_is line_feed s ≡ true → IsUtf8 s
+    → letters_of (drop 1 s) ≡ letters_of s
 unfolding letters_of
 letters_dropped [] e u = absurd (true≢false (sym e))
 letters_dropped (b ∷ s) e u = sym (ap (filter is_letter) (chars_past_char (b ∷ s) s line_feed u whole))
@@ -353,10 +357,12 @@ letters_dropped (b ∷ s) e u = sym (ap (filter is_letter) (chars_past_char (b �
     whole = ap (λ x. x ∷ s) (eqb-true b line_feed e)
         ∙ ap (λ (x : List ℕ). x ++ s) (sym (encode_ascii line_feed (omega arith)))
 
-letters_shortened : (skips : Bool) (s : List ℕ) → IsUtf8 s → letters_of (without_line_feed skips s) ≡ letters_of s
+letters_shortened : (skips : Bool) (s : List ℕ) → IsUtf8 s
+    → letters_of (without_line_feed skips s) ≡ letters_of s
 letters_shortened skips s u = either (skips && first_is line_feed s) refl
   where
-    either : (t : Bool) → (skips && first_is line_feed s) ≡ t → letters_of (if t then drop 1 s else s) ≡ letters_of s
+    either : (t : Bool) → (skips && first_is line_feed s) ≡ t
+        → letters_of (if t then drop 1 s else s) ≡ letters_of s
     either true e = letters_dropped s (and_parts skips (first_is line_feed s) e).1 u
     either false e = refl
 
@@ -388,7 +394,7 @@ module _ (letters : List ℕ) where
       (feed_text_stage letters (without_line_feed skips t) s (shortened 0 skips t u).utf8 h)
   feed_at_stage (tokens.start_tag tag) skips s u e h =
       none_put (process (start_tag (named tag)) (out_of_text_mode s))
-      (processed (start_tag (named tag)) (orderly_name tag.name (orderly_tag (moves_text_in tag.name) e)) letters
+      (processed (start_tag (named tag)) (orderly_name tag.name (orderly_tag (may_move_text_in tag.name) e)) letters
       (out_of_text_mode s) (out_of_text letters s h))
   feed_at_stage (tokens.end_tag tag) skips s u e h =
       none_put (feed_end_tag (name_of_text tag.name) s) (end_tag_stage (name_of_text tag.name) letters s h)
@@ -439,7 +445,8 @@ feed_stage letters token s u e h =
 
 -- ---- all tokens
 
-ends : (token : tokens.TokenValue) → is_end token ≡ true → (is_orderly token ≡ true) × (token_letters token ≡ [])
+ends : (token : tokens.TokenValue) → is_end token ≡ true
+    → (is_orderly token ≡ true) × (token_letters token ≡ [])
 ends (tokens.text t) f = absurd (true≢false (sym f))
 ends (tokens.start_tag tag) f = absurd (true≢false (sym f))
 ends (tokens.end_tag tag) f = (refl, refl)
@@ -450,7 +457,8 @@ ends tokens.end_of_file f = (refl, refl)
 after_stage : (k : ℕ) (read : Read) (letters : List ℕ) (s : StateValue) → ReadUtf8 read
     → list_all is_orderly (tokens_after (tokens_within k) read s) ≡ true
     → Staged letters s
-    → ((more : List ℕ) (t : StateValue) → list_all is_orderly (tokens_within k read.rest t) ≡ true → Staged more t
+    → ((more : List ℕ) (t : StateValue) → list_all is_orderly (tokens_within k read.rest t) ≡ true → Staged
+    more t
     → Staged (more ++ letters_in (texts_within k read.rest t)) (read_within k read.rest t))
     → Staged (letters ++ letters_in (texts_after (texts_within k) read s)) (after_token (read_within k) read s)
 after_stage k read letters s u e h more = either (is_end read.token) refl e
@@ -510,7 +518,8 @@ begins_ordered scripting = record {
         not_text f = cc
 
     first_row : (limit q : ℕ)
-        → Row (marks none_out (new_node document ∷ []) limit (record { lo = λ n. 0; hi = λ n. 0; live = λ n. n == 0 }))
+        → Row (marks none_out (new_node document ∷ []) limit
+        (record { lo = λ n. 0; hi = λ n. 0; live = λ n. n == 0 }))
         0 (children_at (new_node document ∷ []) q) (cond (q == 0) limit 0)
     first_row limit zero = omega arith
     first_row limit (suc q) = omega arith

@@ -1,9 +1,8 @@
 -- Lists whose elements stand in another, in the same order.
-use Rattle.std.proofs.Common.{◌≡◌, ◌∙◌, ℕ, zero, suc, ◌+◌, ◌<◌, ◌≤◌, Bool, true, false, List, [], ◌∷◌, ◌++◌}
-use Rattle.std.proofs.Common.{length, take, drop, refl, sym, ap, subst, arith, cond, inl, inr, ◌⊎◌, length-append}
-use Rattle.std.specs.Prelude.{◌==◌, ◌-◌}
-use Rattle.std.proofs.lemmas.Bool.{eqb-true, eqb-false, eq-eqb}
-use Rattle.std.proofs.lemmas.List.{take-append-le}
+use Rattle.std.proofs.Common.{◌≡◌, ◌∙◌, ℕ, zero, suc, ◌+◌, ◌≤◌, List, [], ◌∷◌, ◌++◌}
+use Rattle.std.proofs.Common.{length, refl, sym, ap, subst, arith, cond, inl, inr, ◌⊎◌}
+use Rattle.std.specs.Prelude.{◌==◌}
+use Rattle.std.proofs.lemmas.Bool.{eq-eqb}
 
 -- ---- sublists
 
@@ -96,7 +95,8 @@ window_empty zero l = refl
 window_empty (suc a) [] = refl
 window_empty (suc a) (x ∷ l) = window_empty a l
 
-pub window_split : (a b c : ℕ) (l : List ℕ) → a ≤ b → b ≤ c → window a c l ≡ window a b l ++ window b c l
+pub window_split : (a b c : ℕ) (l : List ℕ) → a ≤ b → b ≤ c
+    → window a c l ≡ window a b l ++ window b c l
 window_split zero zero c l h g = refl
 window_split zero (suc b) zero l h g = absurd (omega arith)
 window_split zero (suc b) (suc c) [] h g = refl
