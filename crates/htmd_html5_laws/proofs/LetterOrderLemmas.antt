@@ -81,7 +81,7 @@ one_harmless (comment s) e = refl
 one_harmless (doctype quirks) e = refl
 one_harmless end_of_file e = refl
 
-all_harmless : (ts : List TokenValue) → list_all is_orderly ts ≡ true → list_all is_harmless ts ≡ true
+pub all_harmless : (ts : List TokenValue) → list_all is_orderly ts ≡ true → list_all is_harmless ts ≡ true
 all_harmless [] e = refl
 all_harmless (t ∷ ts) e =
     let parts = and_parts (is_orderly t) (list_all is_orderly ts) e in

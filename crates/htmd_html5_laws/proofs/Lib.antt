@@ -67,4 +67,6 @@ pub mod OrderedRuns
 pub mod OrderedTokens
 pub mod OrderedLayout
 pub mod LetterOrderLemmas
+pub mod KeptTexts
+pub mod KeptTokens
 mod Examples

@@ -62,16 +62,16 @@ use Rattle.htmd_html5_tokens.specs.Tokens as tokens
 
 -- ---- a text, run by run
 
-first_all : (s : List ℕ) → list_all (is_of_kind (first_kind s)) (first_run s) ≡ true
+pub first_all : (s : List ℕ) → list_all (is_of_kind (first_kind s)) (first_run s) ≡ true
 first_all s = front_all (is_of_kind (first_kind s)) s
 
 -- a part of a text was put, and this is left
-record Part (letters text : List ℕ) (t : Taken) : Type 0 where
-  put : List ℕ
-  stage : Staged (letters ++ put) t.state
-  calm : Calm t.state
-  fits : put ++ letters_of t.rest ≡ letters_of text
-  utf8 : IsUtf8 t.rest
+pub record Part (letters text : List ℕ) (t : Taken) : Type 0 where
+  pub put : List ℕ
+  pub stage : Staged (letters ++ put) t.state
+  pub calm : Calm t.state
+  pub fits : put ++ letters_of t.rest ≡ letters_of text
+  pub utf8 : IsUtf8 t.rest
 
 letters_split : (s : List ℕ) → IsUtf8 s
     → letters_of (first_run s) ++ letters_of (after_first_run s) ≡ letters_of s
@@ -80,7 +80,7 @@ letters_split s u =
     ∙ ap letters_of (sym (back_split (is_of_kind (first_kind s)) s))
 
 -- no mode here is one of tables
-no_tables : (raw : Bool) (mode : InsertionMode) (letters : List ℕ) (s : StateValue) → Stage raw mode letters s
+pub no_tables : (raw : Bool) (mode : InsertionMode) (letters : List ℕ) (s : StateValue) → Stage raw mode letters s
     → is_table_mode mode ≡ false
 no_tables raw Initial letters s h = refl
 no_tables raw BeforeHtml letters s h = refl
@@ -110,7 +110,7 @@ run_part k text letters a u r more = either a.again refl
       utf8 = (run_parts 0 text u).rest;
     }
 
-within_part : (k : ℕ) (text : List ℕ) (letters : List ℕ) (s : StateValue) → IsUtf8 text → Calm s → Staged letters s
+pub within_part : (k : ℕ) (text : List ℕ) (letters : List ℕ) (s : StateValue) → IsUtf8 text → Calm s → Staged letters s
     → Part letters text (take_within k text s)
 within_part zero text letters s u calm h = record {
   put = letters_of (first_run text);
@@ -362,7 +362,7 @@ letters_shortened skips s u = either (skips && first_is line_feed s) refl
 
 -- ---- tokens of the tokenizer
 
-abbrev token_letters : tokens.TokenValue → List ℕ
+abbrev pub token_letters : tokens.TokenValue → List ℕ
 token_letters (tokens.text t) = letters_of t
 token_letters _ = []
 
@@ -417,7 +417,7 @@ after_head_skipped false letters s (Some n) stack h = early_skipped letters s (h
 after_head_skipped true letters s (Some n) [] h = absurd h
 after_head_skipped true letters s (Some n) (d ∷ ds) h = early_skipped letters s (d ∷ head_open n ∷ ds) h
 
-stage_skipped : (raw : Bool) (mode : InsertionMode) (letters : List ℕ) (s : StateValue) → Stage raw mode letters s
+pub stage_skipped : (raw : Bool) (mode : InsertionMode) (letters : List ℕ) (s : StateValue) → Stage raw mode letters s
     → Stage raw mode letters (with_nothing_skipped s)
 stage_skipped raw Initial letters s h = (early_skipped letters s s.stack h.0, h.1)
 stage_skipped raw BeforeHtml letters s h = (early_skipped letters s s.stack h.0, h.1)
@@ -430,7 +430,7 @@ stage_skipped raw AfterBody letters s h = late_skipped letters s h
 stage_skipped raw AfterAfterBody letters s h = late_skipped letters s h
 stage_skipped raw _ letters s h = absurd h
 
-feed_stage : (letters : List ℕ) (token : tokens.TokenValue) (s : StateValue) → TokenUtf8 token
+pub feed_stage : (letters : List ℕ) (token : tokens.TokenValue) (s : StateValue) → TokenUtf8 token
     → is_orderly token ≡ true → Staged letters s
     → Staged (letters ++ token_letters token) (feed token s)
 feed_stage letters token s u e h =
@@ -439,7 +439,7 @@ feed_stage letters token s u e h =
 
 -- ---- all tokens
 
-ends : (token : tokens.TokenValue) → is_end token ≡ true → (is_orderly token ≡ true) × (token_letters token ≡ [])
+pub ends : (token : tokens.TokenValue) → is_end token ≡ true → (is_orderly token ≡ true) × (token_letters token ≡ [])
 ends (tokens.text t) f = absurd (true≢false (sym f))
 ends (tokens.start_tag tag) f = absurd (true≢false (sym f))
 ends (tokens.end_tag tag) f = (refl, refl)
@@ -515,7 +515,7 @@ begins_ordered scripting = record {
     first_row limit zero = omega arith
     first_row limit (suc q) = omega arith
 
-begins_staged : (scripting : Bool) → Staged [] (initial_state scripting)
+pub begins_staged : (scripting : Bool) → Staged [] (initial_state scripting)
 begins_staged scripting = (
   record {
     plain = begins_plain scripting;
