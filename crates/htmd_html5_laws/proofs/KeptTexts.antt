@@ -42,6 +42,7 @@ use Rattle.htmd_html5_laws.proofs.OrderedEarly.{Stage, Staged, Calm}
 use Rattle.htmd_html5_laws.proofs.OrderedHead.{unstaged, stage_names, current_html, stays_html}
 use Rattle.htmd_html5_laws.proofs.OrderedRuns.{RunStage, run_stage}
 use Rattle.htmd_html5_laws.proofs.OrderedTokens.{first_all, no_tables, within_part}
+use Rattle.htmd_html5_laws.proofs.Counted.{letter_choice}
 
 -- ---- the white space that a text begins with
 
@@ -105,7 +106,7 @@ characters_go_on _ t s e = absurd (true≢false (sym e))
 
 -- in no mode here text is dropped
 stage_takes : (raw : Bool) (mode : InsertionMode) (letters : List ℕ) (s : StateValue) (stack : List OpenValue)
-    → Stage raw mode letters s → drops_in mode stack ≡ false
+    → Stage letter_choice raw mode letters s → drops_in mode stack ≡ false
 stage_takes raw Initial letters s stack h = refl
 stage_takes raw BeforeHtml letters s stack h = refl
 stage_takes raw BeforeHead letters s stack h = refl
@@ -118,13 +119,13 @@ stage_takes raw AfterAfterBody letters s stack h = refl
 stage_takes raw _ letters s stack h = absurd h
 
 -- nothing foreign is open there
-html_before : (token : TokenValue) (letters : List ℕ) (s : StateValue) → Calm s → Staged letters s
+html_before : (token : TokenValue) (letters : List ℕ) (s : StateValue) → Calm s → Staged letter_choice letters s
     → is_before_head s.mode ≡ true → is_foreign token s ≡ false
 html_before token letters s (inl l) h e = absurd (true≢false (sym l ∙ before_is_early s.mode e))
 html_before token letters s (inr c) h e =
     stays_html token s
     (current_html s.stack
-    (stage_names s.mode letters s (before_is_early s.mode e) (unstaged false s.mode letters s c refl h)))
+    (stage_names letter_choice s.mode letters s (before_is_early s.mode e) (unstaged letter_choice false s.mode letters s c refl h)))
 
 by_mode_again : (token : TokenValue) (s : StateValue) → is_foreign token s ≡ false
     → (in_mode s.mode token s).again ≡ true → (by_rules token s).again ≡ true
@@ -171,9 +172,9 @@ module _ (c : ℕ) (tests : CharacterTests c) where
       fits_by false = sym parts.count
 
   other_part : (text letters : List ℕ) (s : StateValue) (a : Answer) (go : StateValue → Taken) → Dark text
-      → (is_before_head s.mode ≡ true → a.again ≡ true) → RunParts c text → RunStage letters (first_run text) a
+      → (is_before_head s.mode ≡ true → a.again ≡ true) → RunParts c text → RunStage letter_choice letters (first_run text) a
       → Outcome c (occurrences c (first_run text)) (rank s.mode) s a
-      → ((t : StateValue) → rank t.mode < rank s.mode → Sound t → Calm t → Staged letters t
+      → ((t : StateValue) → rank t.mode < rank s.mode → Sound t → Calm t → Staged letter_choice letters t
       → KeptPart text t (go t))
       → KeptPart text s (after_run go (after_first_run text) a)
   other_part text letters s a go dark again parts r (finished h) more =
@@ -204,14 +205,14 @@ module _ (c : ℕ) (tests : CharacterTests c) where
       })
 
   -- the first run, of whatever kind
-  module _ (text letters : List ℕ) (s : StateValue) (u : IsUtf8 text) (calm : Calm s) (h : Staged letters s)
+  module _ (text letters : List ℕ) (s : StateValue) (u : IsUtf8 text) (calm : Calm s) (h : Staged letter_choice letters s)
       (sound : Sound s) (go : StateValue → Taken)
-      (more : (t : StateValue) → rank t.mode < rank s.mode → Sound t → Calm t → Staged letters t
+      (more : (t : StateValue) → rank t.mode < rank s.mode → Sound t → Calm t → Staged letter_choice letters t
       → KeptPart text t (go t)) where
     abbrev RunKept : ℕ → Type 0
     RunKept b =
         first_kind text ≡ kind_of_byte b → list_all (is_of_kind (kind_of_byte b)) (first_run text) ≡ true
-        → RunStage letters (first_run text) (by_rules (run (kind_of_byte b) (first_run text)) s)
+        → RunStage letter_choice letters (first_run text) (by_rules (run (kind_of_byte b) (first_run text)) s)
         → KeptPart text s (after_run go (after_first_run text) (by_rules (run (kind_of_byte b) (first_run text)) s))
 
     takes : drops_text s ≡ false
@@ -246,27 +247,27 @@ module _ (c : ℕ) (tests : CharacterTests c) where
     run_kept =
         by_first_kind
         (λ kind. first_kind text ≡ kind → list_all (is_of_kind kind) (first_run text) ≡ true
-        → RunStage letters (first_run text) (by_rules (run kind (first_run text)) s)
+        → RunStage letter_choice letters (first_run text) (by_rules (run kind (first_run text)) s)
         → KeptPart text s (after_run go (after_first_run text) (by_rules (run kind (first_run text)) s)))
         white_kept nulls_kept characters_kept text refl (first_all text)
-        (run_stage letters text (first_run text) parts.front (first_all text) s calm h)
+        (run_stage letter_choice letters text (first_run text) parts.front (first_all text) s calm h)
 
   within_kept : (k : ℕ) (text letters : List ℕ) (s : StateValue) → rank s.mode ≤ k → IsUtf8 text → Calm s
-      → Staged letters s → Sound s → KeptPart text s (take_within k text s)
+      → Staged letter_choice letters s → Sound s → KeptPart text s (take_within k text s)
   within_kept zero text letters s l u calm h sound = absurd (let r = rank_positive s.mode in omega arith)
   within_kept (suc k) text letters s l u calm h sound =
       either (takes_all s) refl
-      (λ (t : StateValue) (m : rank t.mode < rank s.mode) (x : Sound t) (y : Calm t) (z : Staged letters t).
+      (λ (t : StateValue) (m : rank t.mode < rank s.mode) (x : Sound t) (y : Calm t) (z : Staged letter_choice letters t).
       within_kept k text letters t (omega arith) u y z x)
     where
       either : (b : Bool) → takes_all s ≡ b
-          → ((t : StateValue) → rank t.mode < rank s.mode → Sound t → Calm t → Staged letters t
+          → ((t : StateValue) → rank t.mode < rank s.mode → Sound t → Calm t → Staged letter_choice letters t
           → KeptPart text t (take_within k text t))
           → KeptPart text s (if b then taken (table_text text s) []
           else after_run (take_within k text) (after_first_run text) (by_rules (first_token text) s))
       either true e more =
           absurd (true≢false (sym (and_parts (is_table_mode s.mode) (current_is Fostering s.stack) e).0
-          ∙ no_tables (is_text_mode s.content) s.mode letters s h))
+          ∙ no_tables letter_choice (is_text_mode s.content) s.mode letters s h))
       either false e more = run_kept text letters s u calm h sound (take_within k text) more
 
   -- ---- a text
@@ -278,7 +279,7 @@ module _ (c : ℕ) (tests : CharacterTests c) where
   nothing_kept (b ∷ text) drops e = absurd (true≢false (sym e))
 
   put_kept : (k : ℕ) (text letters : List ℕ) (s : StateValue) → length text ≤ k → IsUtf8 text → Calm s
-      → Staged letters s → Sound s → Grew c (occurrences c (kept text s)) s (put_within k text s)
+      → Staged letter_choice letters s → Sound s → Grew c (occurrences c (kept text s)) s (put_within k text s)
   put_kept zero [] letters s l u calm h sound =
       grew_as (occurrences c (kept [] s)) (sym (nothing_kept [] (is_before_head s.mode) refl))
       (kept_grew (kept_same sound))
@@ -289,13 +290,13 @@ module _ (c : ℕ) (tests : CharacterTests c) where
       (kept_grew (kept_same sound))))
       (λ e. let r = rank_at_most s.mode in
       let p = within_kept (turns s) text letters s (omega arith) u calm h sound in
-      let x = within_part (turns s) text letters s u calm h in
+      let x = within_part letter_choice (turns s) text letters s u calm h in
       let shorter = part_shorter text s (filled text e) in
       let f = p.fits in
       let later = put_kept k (take_part text s).rest (letters ++ x.put) (take_part text s).state
       (omega arith) x.utf8 x.calm x.stage p.grew.sound in
       rw e (grew_then (occurrences c (kept text s)) (omega arith) p.grew later))
 
-  pub put_text_kept : (text letters : List ℕ) (s : StateValue) → IsUtf8 text → Calm s → Staged letters s → Sound s
+  pub put_text_kept : (text letters : List ℕ) (s : StateValue) → IsUtf8 text → Calm s → Staged letter_choice letters s → Sound s
       → Grew c (occurrences c (without_white (is_before_head s.mode) text)) s (put_text text s)
   put_text_kept text letters s u calm h sound = put_kept (length text) text letters s (omega arith) u calm h sound

@@ -37,6 +37,7 @@ use Rattle.htmd_html5_laws.proofs.OrderedEarly.{Staged}
 use Rattle.htmd_html5_laws.proofs.OrderedTokens.{feed_stage, stage_skipped, begins_staged, token_letters, ends}
 use Rattle.htmd_html5_laws.proofs.LetterOrderLemmas.{all_harmless}
 use Rattle.htmd_html5_tokens.specs.Tokens as tokens
+use Rattle.htmd_html5_laws.proofs.Counted.{letter_choice}
 
 character_tests : (c : ℕ) → is_kept c ≡ true → CharacterTests c
 character_tests c e =
@@ -49,7 +50,7 @@ character_tests c e =
     apart true other e = absurd (true≢false (sym e))
 
 module _ (c : ℕ) (tests : CharacterTests c) where
-  feed_text_kept : (text letters : List ℕ) (s : StateValue) → IsUtf8 text → Staged letters s → Sound s
+  feed_text_kept : (text letters : List ℕ) (s : StateValue) → IsUtf8 text → Staged letter_choice letters s → Sound s
       → Grew c (occurrences c (without_white (drops_white s) text)) s (feed_text text s)
   feed_text_kept text letters s u h sound = either (is_text_mode s.content) refl
     where
@@ -64,7 +65,7 @@ module _ (c : ℕ) (tests : CharacterTests c) where
   kept_count (tokens.text text) s = occurrences c (kept_text text s)
   kept_count _ s = 0
 
-  fed_kept : (token : tokens.TokenValue) (letters : List ℕ) (s : StateValue) → TokenUtf8 token → Staged letters s
+  fed_kept : (token : tokens.TokenValue) (letters : List ℕ) (s : StateValue) → TokenUtf8 token → Staged letter_choice letters s
       → Sound s → Grew c (kept_count token s) s (feed token s)
   fed_kept token letters s u h sound = by_token token u (kept_grew (with_nothing_skipped_keeps.keeps s sound))
     where
@@ -77,7 +78,7 @@ module _ (c : ℕ) (tests : CharacterTests c) where
           grew_then (occurrences c (kept_text text s)) (omega arith) a
           (feed_text_kept (without_line_feed s.skips_line_feed text) letters skipped
           (shortened c s.skips_line_feed text u).utf8
-          (stage_skipped (is_text_mode s.content) s.mode letters s h) a.sound)
+          (stage_skipped letter_choice (is_text_mode s.content) s.mode letters s h) a.sound)
       by_token (tokens.start_tag tag) u a =
           grew_then 0 (omega arith) a
           (kept_grew (others_kept (tokens.start_tag tag) s.skips_line_feed skipped a.sound))
@@ -114,9 +115,9 @@ module _ (c : ℕ) (tests : CharacterTests c) where
   -- ---- all tokens
 
   after_kept_all : (k : ℕ) (read : Read) (letters : List ℕ) (s : StateValue) → Sound s → ReadUtf8 read
-      → list_all is_orderly (tokens_after (tokens_within k) read s) ≡ true → Staged letters s
+      → list_all is_orderly (tokens_after (tokens_within k) read s) ≡ true → Staged letter_choice letters s
       → ((more : List ℕ) (t : StateValue) → list_all is_orderly (tokens_within k read.rest t) ≡ true
-      → Staged more t → Sound t
+      → Staged letter_choice more t → Sound t
       → Grew c (occurrences_in c (kept_within k read.rest t)) t (read_within k read.rest t))
       → Grew c (occurrences_in c (kept_after (kept_within k) read s)) s (after_token (read_within k) read s)
   after_kept_all k read letters s sound u e h more = either (is_end read.token) refl e
@@ -137,11 +138,11 @@ module _ (c : ℕ) (tests : CharacterTests c) where
           grew_then
           (occurrences_in c (with_kept_text read.token s (kept_within k read.rest (feed read.token s))))
           (omega arith) first
-          (more (letters ++ token_letters read.token) (feed read.token s) both.1
-          (feed_stage letters read.token s u.token both.0 h) first.sound)
+          (more (letters ++ token_letters letter_choice read.token) (feed read.token s) both.1
+          (feed_stage letter_choice letters read.token s u.token both.0 h) first.sound)
 
   read_kept : (k : ℕ) (page : List ℕ) (letters : List ℕ) (s : StateValue) → IsUtf8 page
-      → list_all is_orderly (tokens_within k page s) ≡ true → Staged letters s → Sound s
+      → list_all is_orderly (tokens_within k page s) ≡ true → Staged letter_choice letters s → Sound s
       → Grew c (occurrences_in c (kept_within k page s)) s (read_within k page s)
   read_kept zero page letters s u e h sound = fed_kept tokens.end_of_file letters s tt h sound
   read_kept (suc k) page letters s u e h sound =
@@ -153,7 +154,7 @@ module _ (c : ℕ) (tests : CharacterTests c) where
       → Grew c (occurrences_in c (kept_texts scripting page)) (initial_state scripting) (state_after scripting page)
   state_kept scripting page u e =
       read_kept (length (preprocessed page)) (preprocessed page) [] (initial_state scripting)
-      (preprocessed_utf8 page u) e (begins_staged scripting) (initial_sound scripting)
+      (preprocessed_utf8 page u) e (begins_staged letter_choice scripting) (initial_sound scripting)
 
 -- ---- the law
 

@@ -52,6 +52,7 @@ pub mod HarmlessLettersLemmas
 pub mod PageLettersLemmas
 pub mod Sublists
 pub mod Rows
+pub mod Counted
 pub mod OrderedNodes
 pub mod OrderedInserts
 pub mod OrderedTexts
@@ -63,6 +64,7 @@ pub mod OrderedBody
 pub mod OrderedLate
 pub mod OrderedEarly
 pub mod OrderedHead
+pub mod WhiteRuns
 pub mod OrderedRuns
 pub mod OrderedTokens
 pub mod OrderedLayout

@@ -6,14 +6,16 @@ use Rattle.htmd_text.specs.Characters.{null}
 use Rattle.htmd_grammar.specs.CharacterClasses.{behind_run}
 use Rattle.htmd_html5_tokens.specs.Preprocessing.{preprocessed}
 use Rattle.htmd_html5_tokens.specs.References.{replacement_character}
-use Rattle.htmd_html5_tokens.specs.Tokens.{TokenValue, Read, text}
+use Rattle.htmd_html5_tokens.specs.Tokens.{TokenValue, Read, text, start_tag}
+use Rattle.htmd_html5_state.specs.Names.{NameValue, known, name_of_text}
 use Rattle.htmd_html5_state.specs.State.{StateValue, initial_state}
 use Rattle.htmd_html5_state.specs.declared.modes.InsertionMode.{InsertionMode}
-use Rattle.htmd_html5_state.specs.declared.modes.InsertionMode.TheVariants.{Initial, BeforeHtml, BeforeHead}
+use Rattle.htmd_html5_state.specs.declared.modes.InsertionMode.TheVariants.{Initial, BeforeHtml, BeforeHead, AfterHead}
 use Rattle.htmd_html5.specs.Feeding.{is_text_mode, without_line_feed, feed}
 use Rattle.htmd_html5.specs.Documents.{next_read, is_end, html5_document}
 use Rattle.htmd_html5_laws.specs.PageLetters.{occurrences_in, texts_of}
 use Rattle.htmd_html5_laws.specs.LetterOrder.{all_tags_are_orderly}
+use Rattle.htmd_html5_state.specs.declared.names.TagName.TheVariants as tags
 
 -- ---- what is kept of a text
 
@@ -56,7 +58,46 @@ abbrev pub kept_texts : Bool → List ℕ → List (List ℕ)
 kept_texts scripting page =
     kept_within (length (preprocessed page)) (preprocessed page) (initial_state scripting)
 
--- ---- the law
+-- ---- tags of the head that come after it
+
+abbrev pub is_head_name : NameValue → Bool
+is_head_name (known tags.Base) = true
+is_head_name (known tags.BaseFont) = true
+is_head_name (known tags.BgSound) = true
+is_head_name (known tags.Link) = true
+is_head_name (known tags.Meta) = true
+is_head_name (known tags.NoFrames) = true
+is_head_name (known tags.Script) = true
+is_head_name (known tags.Style) = true
+is_head_name (known tags.Template) = true
+is_head_name (known tags.Title) = true
+is_head_name _ = false
+
+abbrev pub is_after_head : InsertionMode → Bool
+is_after_head AfterHead = true
+is_after_head _ = false
+
+-- between the head and the body such a start tag goes into the head, before white space that came in between
+-- (13.2.6.4.6)
+abbrev pub comes_late : TokenValue → StateValue → Bool
+comes_late (start_tag tag) s = is_after_head s.mode && is_head_name (name_of_text tag.name)
+comes_late _ s = false
+
+abbrev pub early_after : (List ℕ → StateValue → Bool) → Read → StateValue → Bool
+early_after go read s =
+    if is_end read.token then true else not (comes_late read.token s) && go read.rest (feed read.token s)
+
+-- of the tokens that are read from a state on none comes late
+abbrev pub early_within : ℕ → List ℕ → StateValue → Bool
+early_within zero page s = true
+early_within (suc k) page s = early_after (early_within k) (next_read page s) s
+
+-- nor of those of a page
+abbrev pub no_tag_comes_late : Bool → List ℕ → Bool
+no_tag_comes_late scripting page =
+    early_within (length (preprocessed page)) (preprocessed page) (initial_state scripting)
+
+-- ---- the laws
 
 -- neither U+0000, which goes, nor U+FFFD, which replaces it
 abbrev pub is_kept : ℕ → Bool
