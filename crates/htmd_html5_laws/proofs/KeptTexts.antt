@@ -40,55 +40,13 @@ use Rattle.htmd_html5_laws.proofs.PuttingTexts.{filled}
 use Rattle.htmd_html5_laws.proofs.OrderedStates.{is_late}
 use Rattle.htmd_html5_laws.proofs.OrderedEarly.{Stage, Staged, Calm}
 use Rattle.htmd_html5_laws.proofs.OrderedHead.{unstaged, stage_names, current_html, stays_html}
-use Rattle.htmd_html5_laws.proofs.OrderedRuns.{RunStage, run_stage}
+use Rattle.htmd_html5_laws.proofs.OrderedRuns.{run_of}
+use Rattle.htmd_html5_laws.proofs.WhiteRuns.{Dark, behind_twice, behind_white, dark_whole, dark_nulls, dark_characters}
+use Rattle.htmd_html5_laws.proofs.WhiteRuns.{before_is_early}
 use Rattle.htmd_html5_laws.proofs.OrderedTokens.{first_all, no_tables, within_part}
 use Rattle.htmd_html5_laws.proofs.Counted.{letter_choice}
 
--- ---- the white space that a text begins with
-
-behind_twice : (p : ℕ → Bool) (s : List ℕ) → behind_run p (behind_run p s) ≡ behind_run p s
-behind_twice p [] = refl
-behind_twice p (b ∷ s) = test (p b) (λ t. rw t (behind_twice p s)) (λ t. rw t (rw t refl))
-
-behind_white : (s : List ℕ) → first_kind s ≡ kind_of_byte 32 → after_first_run s
-    ≡ behind_run is_ascii_white_space s
-behind_white s e = ap (λ (kind : _). behind_run (is_of_kind kind) s) e
-
--- a text that begins with none
-abbrev Dark : List ℕ → Type 0
-Dark s = behind_run is_ascii_white_space s ≡ s
-
-dark_whole : (s : List ℕ) → Dark s → (drops : Bool) → without_white drops s ≡ s
-dark_whole s d true = d
-dark_whole s d false = refl
-
-dark_nulls : (s : List ℕ) → first_kind s ≡ kind_of_byte 0 → Dark s
-dark_nulls [] e = refl
-dark_nulls (b ∷ s) e = either (is_ascii_white_space b) (is_null b) e
-  where
-    either : (x y : Bool) → (if x then kind_of_byte 32 else if y then kind_of_byte 0 else kind_of_byte 97)
-        ≡ kind_of_byte 0
-        → (if x then behind_run is_ascii_white_space s else b ∷ s) ≡ b ∷ s
-    either true y f = absurd (cc)
-    either false y f = refl
-
-dark_characters : (s : List ℕ) → first_kind s ≡ kind_of_byte 97 → Dark s
-dark_characters [] e = refl
-dark_characters (b ∷ s) e = either (is_ascii_white_space b) (is_null b) e
-  where
-    either : (x y : Bool) → (if x then kind_of_byte 32 else if y then kind_of_byte 0 else kind_of_byte 97)
-        ≡ kind_of_byte 97
-        → (if x then behind_run is_ascii_white_space s else b ∷ s) ≡ b ∷ s
-    either true y f = absurd (cc)
-    either false y f = refl
-
 -- ---- states before the head
-
-before_is_early : (mode : InsertionMode) → is_before_head mode ≡ true → is_late mode ≡ false
-before_is_early Initial e = refl
-before_is_early BeforeHtml e = refl
-before_is_early BeforeHead e = refl
-before_is_early _ e = absurd (true≢false (sym e))
 
 nulls_go_on : (mode : InsertionMode) (t : List ℕ) (s : StateValue) → is_before_head mode ≡ true
     → (in_mode mode (run (kind_of_byte 0) t) s).again ≡ true
@@ -136,6 +94,10 @@ by_mode_again token s f e = either (is_foreign token s) f
     either true g = absurd (true≢false g)
     either false g = e
 
+-- the state that a run is left to
+abbrev Going : List ℕ → Answer → Type 0
+Going letters a = (a.again ≡ true → Staged letter_choice letters a.state) × Calm a.state
+
 module _ (c : ℕ) (tests : CharacterTests c) where
   abbrev kept : List ℕ → StateValue → List ℕ
   kept text s = without_white (is_before_head s.mode) text
@@ -172,7 +134,7 @@ module _ (c : ℕ) (tests : CharacterTests c) where
       fits_by false = sym parts.count
 
   other_part : (text letters : List ℕ) (s : StateValue) (a : Answer) (go : StateValue → Taken) → Dark text
-      → (is_before_head s.mode ≡ true → a.again ≡ true) → RunParts c text → RunStage letter_choice letters (first_run text) a
+      → (is_before_head s.mode ≡ true → a.again ≡ true) → RunParts c text → Going letters a
       → Outcome c (occurrences c (first_run text)) (rank s.mode) s a
       → ((t : StateValue) → rank t.mode < rank s.mode → Sound t → Calm t → Staged letter_choice letters t
       → KeptPart text t (go t))
@@ -193,7 +155,7 @@ module _ (c : ℕ) (tests : CharacterTests c) where
       fits_by true e = absurd (true≢false (sym (again e) ∙ h.again))
       fits_by false e = sym parts.count
   other_part text letters s a go dark again parts r (goes_on e g d l) more =
-      let p = more a.state l g.sound r.calm (r.keeps e) in
+      let p = more a.state l g.sound r.1 (r.0 e) in
       rw e (record {
         count = p.count;
         grew = grew_then p.count (omega arith) g p.grew;
@@ -212,7 +174,7 @@ module _ (c : ℕ) (tests : CharacterTests c) where
     abbrev RunKept : ℕ → Type 0
     RunKept b =
         first_kind text ≡ kind_of_byte b → list_all (is_of_kind (kind_of_byte b)) (first_run text) ≡ true
-        → RunStage letter_choice letters (first_run text) (by_rules (run (kind_of_byte b) (first_run text)) s)
+        → Going letters (by_rules (run (kind_of_byte b) (first_run text)) s)
         → KeptPart text s (after_run go (after_first_run text) (by_rules (run (kind_of_byte b) (first_run text)) s))
 
     takes : drops_text s ≡ false
@@ -247,10 +209,10 @@ module _ (c : ℕ) (tests : CharacterTests c) where
     run_kept =
         by_first_kind
         (λ kind. first_kind text ≡ kind → list_all (is_of_kind kind) (first_run text) ≡ true
-        → RunStage letter_choice letters (first_run text) (by_rules (run kind (first_run text)) s)
+        → Going letters (by_rules (run kind (first_run text)) s)
         → KeptPart text s (after_run go (after_first_run text) (by_rules (run kind (first_run text)) s)))
         white_kept nulls_kept characters_kept text refl (first_all text)
-        (run_stage letter_choice letters text (first_run text) parts.front (first_all text) s calm h)
+        (let r = run_of letter_choice letters text parts.front (first_all text) s calm h in (r.stage.keeps, r.stage.calm))
 
   within_kept : (k : ℕ) (text letters : List ℕ) (s : StateValue) → rank s.mode ≤ k → IsUtf8 text → Calm s
       → Staged letter_choice letters s → Sound s → KeptPart text s (take_within k text s)

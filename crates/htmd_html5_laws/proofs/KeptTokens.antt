@@ -17,8 +17,10 @@ use Rattle.htmd_html5.specs.Texts.{put_text}
 use Rattle.htmd_html5.specs.Feeding.{is_text_mode, put_raw_text, feed_text, without_line_feed, with_nothing_skipped, feed_at, feed}
 use Rattle.htmd_html5.specs.Documents.{next_read, is_end, after_token, read_within, state_after, html5_document}
 use Rattle.htmd_html5_laws.specs.PageLetters.{occurrences, occurrences_in}
-use Rattle.htmd_html5_laws.specs.HarmlessTags.{tokens_after, tokens_within, page_tokens}
-use Rattle.htmd_html5_laws.specs.LetterOrder.{is_orderly, all_tags_are_orderly}
+use Rattle.htmd_html5_laws.specs.HarmlessTags.{tokens_after, tokens_within, page_tokens, drops_text_in, is_harmless}
+use Rattle.std.specs.Prelude.{codes}
+use Rattle.std.specs.Str.{bytes_eq}
+use Rattle.htmd_html5_laws.specs.LetterOrder.{is_orderly, all_tags_are_orderly, moves_text_in}
 use Rattle.htmd_html5_laws.specs.TextKept.{is_before_head, drops_white, without_white, kept_text, with_kept_text, kept_after}
 use Rattle.htmd_html5_laws.specs.TextKept.{kept_within, kept_texts, is_kept, CharactersAreKept}
 use Rattle.htmd_html5_laws.proofs.Utf8Tokens.{TokenUtf8, ReadUtf8, next_token_utf8, preprocessed_utf8}
@@ -34,8 +36,7 @@ use Rattle.htmd_html5_laws.proofs.LaidTexts.{laid_texts}
 use Rattle.htmd_html5_laws.proofs.WholeTrees.{ranked_hang, whole_texts}
 use Rattle.htmd_html5_laws.proofs.HarmlessTokens.{harmless_hung}
 use Rattle.htmd_html5_laws.proofs.OrderedEarly.{Staged}
-use Rattle.htmd_html5_laws.proofs.OrderedTokens.{feed_stage, stage_skipped, begins_staged, token_letters, ends}
-use Rattle.htmd_html5_laws.proofs.LetterOrderLemmas.{all_harmless}
+use Rattle.htmd_html5_laws.proofs.OrderedTokens.{feed_stage, stage_skipped, begins_staged, kept_letters, apart, orderly_tag}
 use Rattle.htmd_html5_tokens.specs.Tokens as tokens
 use Rattle.htmd_html5_laws.proofs.Counted.{letter_choice}
 
@@ -138,8 +139,8 @@ module _ (c : ℕ) (tests : CharacterTests c) where
           grew_then
           (occurrences_in c (with_kept_text read.token s (kept_within k read.rest (feed read.token s))))
           (omega arith) first
-          (more (letters ++ token_letters letter_choice read.token) (feed read.token s) both.1
-          (feed_stage letter_choice letters read.token s u.token both.0 h) first.sound)
+          (more (letters ++ kept_letters letter_choice read.token s) (feed read.token s) both.1
+          (feed_stage letter_choice letters read.token s u.token both.0 (λ z. absurd (true≢false z)) h) first.sound)
 
   read_kept : (k : ℕ) (page : List ℕ) (letters : List ℕ) (s : StateValue) → IsUtf8 page
       → list_all is_orderly (tokens_within k page s) ≡ true → Staged letter_choice letters s → Sound s
@@ -155,6 +156,24 @@ module _ (c : ℕ) (tests : CharacterTests c) where
   state_kept scripting page u e =
       read_kept (length (preprocessed page)) (preprocessed page) [] (initial_state scripting)
       (preprocessed_utf8 page u) e (begins_staged letter_choice scripting) (initial_sound scripting)
+
+-- ---- such a page drops no text
+
+one_harmless : (token : tokens.TokenValue) → is_orderly token ≡ true → is_harmless token ≡ true
+one_harmless (tokens.start_tag tag) e =
+    ap not (apart (drops_text_in tag.name) (bytes_eq tag.name (codes "table")) (bytes_eq tag.name (codes "select"))
+    (orderly_tag (moves_text_in tag.name) e)).0
+one_harmless (tokens.text s) e = refl
+one_harmless (tokens.end_tag tag) e = refl
+one_harmless (tokens.comment s) e = refl
+one_harmless (tokens.doctype quirks) e = refl
+one_harmless tokens.end_of_file e = refl
+
+pub all_harmless : (ts : List tokens.TokenValue) → list_all is_orderly ts ≡ true → list_all is_harmless ts ≡ true
+all_harmless [] e = refl
+all_harmless (t ∷ ts) e =
+    let parts = and_parts (is_orderly t) (list_all is_orderly ts) e in
+    rw (one_harmless t parts.0) (all_harmless ts parts.1)
 
 -- ---- the law
 

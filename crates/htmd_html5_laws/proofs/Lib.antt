@@ -68,7 +68,9 @@ pub mod WhiteRuns
 pub mod OrderedRuns
 pub mod OrderedTokens
 pub mod OrderedLayout
-pub mod LetterOrderLemmas
 pub mod KeptTexts
 pub mod KeptTokens
+pub mod CountedOrder
+pub mod LetterOrderLemmas
+pub mod TextKeptLemmas
 mod Examples

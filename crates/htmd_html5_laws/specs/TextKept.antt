@@ -1,6 +1,7 @@
 -- The texts of a page as they are kept, white space too.
-use Rattle.std.specs.Prelude.{◌≡◌, ℕ, zero, suc, Bool, true, false, not, ◌||◌, ◌&&◌, ◌==◌, if◌then◌else◌, List, [], ◌∷◌}
-use Rattle.std.specs.Prelude.{length, IsUtf8}
+use Rattle.std.specs.Prelude.{◌≡◌, ℕ, zero, suc, Bool, true, false, not, ◌||◌, ◌&&◌, ◌==◌, if◌then◌else◌, List, [], ◌∷◌, ◌++◌}
+use Rattle.std.specs.Prelude.{length, filter, IsUtf8}
+use Rattle.std.specs.Str.{chars}
 use Rattle.htmd_text.specs.WhiteSpace.{is_ascii_white_space}
 use Rattle.htmd_text.specs.Characters.{null}
 use Rattle.htmd_grammar.specs.CharacterClasses.{behind_run}
@@ -109,3 +110,19 @@ CharactersAreKept =
     (scripting : Bool) (page : List ℕ) (c : ℕ) → IsUtf8 page → all_tags_are_orderly scripting page ≡ true
     → is_kept c ≡ true
     → occurrences_in c (texts_of (html5_document scripting page)) ≡ occurrences_in c (kept_texts scripting page)
+
+-- the characters of a text that are kept
+unfoldable pub characters_of : List ℕ → List ℕ
+characters_of s = filter is_kept (chars s)
+
+-- and of all of these, one after another
+abbrev pub characters_in : List (List ℕ) → List ℕ
+characters_in [] = []
+characters_in (s ∷ texts) = characters_of s ++ characters_in texts
+
+-- The characters of the tree's texts, in document order, are what is kept of the tokens' texts, in the same order.
+abbrev pub TextIsKept : Type 0
+TextIsKept =
+    (scripting : Bool) (page : List ℕ) → IsUtf8 page → all_tags_are_orderly scripting page ≡ true
+    → no_tag_comes_late scripting page ≡ true
+    → characters_in (texts_of (html5_document scripting page)) ≡ characters_in (kept_texts scripting page)
