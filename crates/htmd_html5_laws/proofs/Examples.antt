@@ -89,6 +89,7 @@ text_goes_before_a_table : texts_of (html5_document true (codes "<table><td>a</t
 unfolding block_rule formatting_rule phrasing_rule html5_document
 text_goes_before_a_table = refl
 
-formatting_keeps_the_order : texts_of (html5_document true (codes "<b>a<p>b</b>c")) ≡ codes "a" ∷ codes "b" ∷ codes "c" ∷ []
+formatting_keeps_the_order : texts_of (html5_document true (codes "<b>a<p>b</b>c")) ≡ codes "a" ∷ codes "b" ∷ codes
+    "c" ∷ []
 unfolding block_rule formatting_rule phrasing_rule text_end_rule move_last wrap_children html5_document
 formatting_keeps_the_order = refl

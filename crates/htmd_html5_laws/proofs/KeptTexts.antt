@@ -83,7 +83,8 @@ html_before token letters s (inl l) h e = absurd (true≢false (sym l ∙ before
 html_before token letters s (inr c) h e =
     stays_html token s
     (current_html s.stack
-    (stage_names letter_choice s.mode letters s (before_is_early s.mode e) (unstaged letter_choice false s.mode letters s c refl h)))
+    (stage_names letter_choice s.mode letters s (before_is_early s.mode e)
+    (unstaged letter_choice false s.mode letters s c refl h)))
 
 by_mode_again : (token : TokenValue) (s : StateValue) → is_foreign token s ≡ false
     → (in_mode s.mode token s).again ≡ true → (by_rules token s).again ≡ true
@@ -167,7 +168,8 @@ module _ (c : ℕ) (tests : CharacterTests c) where
       })
 
   -- the first run, of whatever kind
-  module _ (text letters : List ℕ) (s : StateValue) (u : IsUtf8 text) (calm : Calm s) (h : Staged letter_choice letters s)
+  module _ (text letters : List ℕ) (s : StateValue) (u : IsUtf8 text) (calm : Calm s)
+      (h : Staged letter_choice letters s)
       (sound : Sound s) (go : StateValue → Taken)
       (more : (t : StateValue) → rank t.mode < rank s.mode → Sound t → Calm t → Staged letter_choice letters t
       → KeptPart text t (go t)) where
@@ -212,14 +214,16 @@ module _ (c : ℕ) (tests : CharacterTests c) where
         → Going letters (by_rules (run kind (first_run text)) s)
         → KeptPart text s (after_run go (after_first_run text) (by_rules (run kind (first_run text)) s)))
         white_kept nulls_kept characters_kept text refl (first_all text)
-        (let r = run_of letter_choice letters text parts.front (first_all text) s calm h in (r.stage.keeps, r.stage.calm))
+        (let r = run_of letter_choice letters text parts.front (first_all text) s calm h in
+        (r.stage.keeps, r.stage.calm))
 
   within_kept : (k : ℕ) (text letters : List ℕ) (s : StateValue) → rank s.mode ≤ k → IsUtf8 text → Calm s
       → Staged letter_choice letters s → Sound s → KeptPart text s (take_within k text s)
   within_kept zero text letters s l u calm h sound = absurd (let r = rank_positive s.mode in omega arith)
   within_kept (suc k) text letters s l u calm h sound =
       either (takes_all s) refl
-      (λ (t : StateValue) (m : rank t.mode < rank s.mode) (x : Sound t) (y : Calm t) (z : Staged letter_choice letters t).
+      (λ (t : StateValue) (m : rank t.mode < rank s.mode) (x : Sound t) (y : Calm t)
+      (z : Staged letter_choice letters t).
       within_kept k text letters t (omega arith) u y z x)
     where
       either : (b : Bool) → takes_all s ≡ b
@@ -259,6 +263,7 @@ module _ (c : ℕ) (tests : CharacterTests c) where
       (omega arith) x.utf8 x.calm x.stage p.grew.sound in
       rw e (grew_then (occurrences c (kept text s)) (omega arith) p.grew later))
 
-  pub put_text_kept : (text letters : List ℕ) (s : StateValue) → IsUtf8 text → Calm s → Staged letter_choice letters s → Sound s
+  pub put_text_kept : (text letters : List ℕ) (s : StateValue) → IsUtf8 text → Calm s → Staged letter_choice letters s
+      → Sound s
       → Grew c (occurrences c (without_white (is_before_head s.mode) text)) s (put_text text s)
   put_text_kept text letters s u calm h sound = put_kept (length text) text letters s (omega arith) u calm h sound

@@ -66,7 +66,8 @@ module _ (c : ℕ) (tests : CharacterTests c) where
   kept_count (tokens.text text) s = occurrences c (kept_text text s)
   kept_count _ s = 0
 
-  fed_kept : (token : tokens.TokenValue) (letters : List ℕ) (s : StateValue) → TokenUtf8 token → Staged letter_choice letters s
+  fed_kept : (token : tokens.TokenValue) (letters : List ℕ) (s : StateValue) → TokenUtf8 token → Staged letter_choice
+      letters s
       → Sound s → Grew c (kept_count token s) s (feed token s)
   fed_kept token letters s u h sound = by_token token u (kept_grew (with_nothing_skipped_keeps.keeps s sound))
     where

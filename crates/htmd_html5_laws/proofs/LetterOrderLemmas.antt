@@ -54,7 +54,8 @@ letters_whitened true s u =
     by_first_kind (λ kind. first_kind s ≡ kind → list_all (is_of_kind kind) (first_run s) ≡ true
     → letters_of (behind_run is_ascii_white_space s) ≡ letters_of s)
     (λ e all. ap letters_of (sym (behind_white s e))
-    ∙ (ap (λ (x : List ℕ). x ++ letters_of (after_first_run s)) (sym (white_letters letter_choice (first_run s) refl all))
+    ∙ (ap (λ (x : List ℕ). x ++ letters_of (after_first_run s))
+    (sym (white_letters letter_choice (first_run s) refl all))
     ∙ letters_split letter_choice s u))
     (λ e all. ap letters_of (dark_nulls s e)) (λ e all. ap letters_of (dark_characters s e)) s refl (first_all s)
 

@@ -61,12 +61,15 @@ module _ (choice : Choice) where
         let forest = forest_attach c.last (last_in (length c.state.nodes)) (c.state.nodes ++ new_node k ∷ [])
         (let w = length_new k c.state.nodes in omega arith) (forest_new k c.state.nodes h.forest) in
         record {
-          labels = copied_labels choice letters c.state.nodes a.labels p c.last a.apart a.within last_in_nodes a.other k is
+          labels = copied_labels choice letters c.state.nodes a.labels p c.last a.apart a.within last_in_nodes a.other
+              k is
               forest;
-          apart = apart_copied choice letters c.state.nodes a.labels p c.last a.apart a.within last_in_nodes a.other k is
+          apart = apart_copied choice letters c.state.nodes a.labels p c.last a.apart a.within last_in_nodes a.other k
+              is
               forest;
           copies = each_append
-              (λ x. (copied_labels choice letters c.state.nodes a.labels p c.last a.apart a.within last_in_nodes a.other k is
+              (λ x. (copied_labels choice letters c.state.nodes a.labels p c.last a.apart a.within last_in_nodes
+              a.other k is
               forest).live x.node ≡ true) c.copies (opened (length c.state.nodes) e.name ∷ [])
               (each_more c.copies
               (λ x o. rw (ne_eqb x.node (length c.state.nodes)
@@ -186,9 +189,11 @@ module _ (choice : Choice) where
     begun_apart = record {
       labels = base;
       apart = record {
-        fits = parted_fits choice x.rank letters s.nodes o.labels o.fits ranked x.at_root p b alive block x.furthest.block less;
+        fits = parted_fits choice x.rank letters s.nodes o.labels o.fits ranked x.at_root p b alive block
+            x.furthest.block less;
         front =
-            front_ends choice x.rank letters s.nodes o.labels o.fits ranked x.at_root p b alive block x.furthest.block less;
+            front_ends choice x.rank letters s.nodes o.labels o.fits ranked x.at_root p b alive block x.furthest.block
+            less;
         live_last = live_high b block (omega arith);
         live_at = live_low p alive.live (omega arith);
       };
@@ -226,7 +231,8 @@ module _ (choice : Choice) where
 
     back_fits : FitsBy choice none_out letters back made_apart.labels
     back_fits =
-        fits_placed choice letters made.state.nodes made_apart.labels p made.last made_apart.apart made_apart.within last_within
+        fits_placed choice letters made.state.nodes made_apart.labels p made.last made_apart.apart made_apart.within
+        last_within
         made_apart.other back_forest
 
     back_kind : (m : ℕ) → m < length s.nodes → kind_at back m ≡ kind_at s.nodes m
@@ -253,7 +259,8 @@ module _ (choice : Choice) where
 
     abbrev after_labels : Labels
     after_labels =
-        wrapped_labels choice letters back made_apart.labels back_fits back_forest formatting b formatting_at block_within
+        wrapped_labels choice letters back made_apart.labels back_fits back_forest formatting b formatting_at
+        block_within
         block_live
 
     after_fits : FitsBy choice none_out letters (wrap_children formatting b back) after_labels
@@ -334,7 +341,8 @@ module _ (choice : Choice) where
     adopt_ordered : Ordered choice letters (adopt formatting tag f s)
     unfolding move_last
     adopt_ordered =
-        subst (λ (fosters : Bool). OrderedIn choice letters (adopt formatting tag f s).nodes (adopt formatting tag f s).stack
+        subst (λ (fosters : Bool). OrderedIn choice letters (adopt formatting tag f s).nodes
+        (adopt formatting tag f s).stack
         fosters) (sym made_apart.no_fostering)
         (subst (λ (at : _). OrderedIn choice letters
         (wrap_children formatting b (put made.last at (detach made.last made.state.nodes)))

@@ -135,7 +135,8 @@ module _ (choice : Choice) where
   no_frameset_orders = record { stays = no_frameset_stays; orders = λ letters s h x o. o; late = λ s h e. e }
 
   pub close_paragraph_orders : Orders choice close_paragraph
-  close_paragraph_orders = on_stack_orders choice (close (Only tags.P) ButtonScope) (close_fewer (Only tags.P) ButtonScope)
+  close_paragraph_orders = on_stack_orders choice (close (Only tags.P) ButtonScope)
+      (close_fewer (Only tags.P) ButtonScope)
 
   add_missing_to_orders : (n : Option ℕ) (attributes : List AttributePair) → Orders choice (add_missing_to n attributes)
   add_missing_to_orders None attributes = unmoved choice
@@ -149,7 +150,8 @@ module _ (choice : Choice) where
     late = λ s h e. rw (no_template_open s.stack h.names) e;
   }
 
-  pub insert_foreign_tag_orders : (space : Namespace) (tag : StartTagValue) → Orders choice (insert_foreign_tag space tag)
+  pub insert_foreign_tag_orders : (space : Namespace) (tag : StartTagValue) → Orders choice
+      (insert_foreign_tag space tag)
   insert_foreign_tag_orders space tag =
       insert_foreign_orders choice space (text_of_name tag.name) tag.attributes tag.self_closing
 
@@ -172,13 +174,15 @@ module _ (choice : Choice) where
 
   close_no_break_orders : Orders choice close_no_break
   close_no_break_orders =
-      orders_by_test choice (λ s. is_in_scope (Only tags.NoBr) Default s.stack) (adoption_agency_orders choice tags.NoBr refl) (unmoved choice)
+      orders_by_test choice (λ s. is_in_scope (Only tags.NoBr) Default s.stack)
+      (adoption_agency_orders choice tags.NoBr refl) (unmoved choice)
 
   -- ---- start tags
 
   void_tag_orders : (tag : StartTagValue) → is_plain_name tag.name ≡ true → Orders choice (start_void tag)
   void_tag_orders tag p =
-      then_orders choice no_frameset_orders (then_orders choice (insert_void_orders choice tag.name tag.attributes p) (reconstruct_orders choice))
+      then_orders choice no_frameset_orders (then_orders choice (insert_void_orders choice tag.name tag.attributes p)
+      (reconstruct_orders choice))
 
   module _ (tag : StartTagValue) (p : is_plain_name tag.name ≡ true) where
     pub insert_tag_orders : Orders choice (insert_tag tag)
@@ -204,7 +208,8 @@ module _ (choice : Choice) where
     add_to_this_body_orders : (body : Option ℕ) → Orders choice (add_to_this_body body tag)
     add_to_this_body_orders None = unmoved choice
     add_to_this_body_orders (Some body) =
-        orders_by_test choice is_in_template (unmoved choice) (then_orders choice no_frameset_orders (add_missing_orders choice body tag.attributes))
+        orders_by_test choice is_in_template (unmoved choice)
+        (then_orders choice no_frameset_orders (add_missing_orders choice body tag.attributes))
 
     start_block_orders : Orders choice (start_block tag)
     start_block_orders = then_orders choice insert_tag_orders close_paragraph_orders
@@ -212,7 +217,8 @@ module _ (choice : Choice) where
     start_form_orders : Orders choice (start_form tag)
     start_form_orders =
         orders_by_test choice is_in_template start_block_orders
-        (orders_by_test choice (λ s. is_some s.form) (unmoved choice) (then_orders choice with_form_orders start_block_orders))
+        (orders_by_test choice (λ s. is_some s.form) (unmoved choice)
+        (then_orders choice with_form_orders start_block_orders))
 
     start_item_orders : (alike : NameSet) → Orders choice (start_item alike tag)
     start_item_orders alike =
@@ -222,10 +228,12 @@ module _ (choice : Choice) where
     -- ---- what is in text
 
     start_formatting_orders : Orders choice (start_formatting tag)
-    start_formatting_orders = then_orders choice (insert_formatting_orders choice tag.name tag.attributes p) (reconstruct_orders choice)
+    start_formatting_orders = then_orders choice (insert_formatting_orders choice tag.name tag.attributes p)
+        (reconstruct_orders choice)
 
     start_anchor_orders : Orders choice (start_anchor tag)
-    start_anchor_orders = then_orders choice start_formatting_orders (orders_by_state choice (formatting_element tags.A) forget_orders)
+    start_anchor_orders = then_orders choice start_formatting_orders
+        (orders_by_state choice (formatting_element tags.A) forget_orders)
 
     start_ordinary_orders : Orders choice (start_ordinary tag)
     start_ordinary_orders = then_orders choice insert_tag_orders (reconstruct_orders choice)
@@ -238,10 +246,12 @@ module _ (choice : Choice) where
 
     start_input_orders : Orders choice (start_input tag)
     start_input_orders =
-        orders_by_test choice (λ s. is_hidden tag) (then_orders choice insert_void_tag_orders (reconstruct_orders choice)) (void_tag_orders tag p)
+        orders_by_test choice (λ s. is_hidden tag) (then_orders choice insert_void_tag_orders
+        (reconstruct_orders choice)) (void_tag_orders tag p)
 
     start_option_orders : Orders choice (start_option tag)
-    start_option_orders = then_orders choice start_ordinary_orders (on_stack_orders choice close_option close_option_fewer)
+    start_option_orders = then_orders choice start_ordinary_orders
+        (on_stack_orders choice close_option close_option_fewer)
 
     start_ruby_orders : (implied : NameSet) → Orders choice (start_ruby implied tag)
     start_ruby_orders implied =
@@ -252,7 +262,8 @@ module _ (choice : Choice) where
     start_example_orders : Orders choice (start_example tag)
     start_example_orders =
         then_orders choice no_frameset_orders
-        (then_orders choice (insert_raw_tag_orders raw.Xmp) (then_orders choice (reconstruct_orders choice) close_paragraph_orders))
+        (then_orders choice (insert_raw_tag_orders raw.Xmp) (then_orders choice (reconstruct_orders choice)
+        close_paragraph_orders))
 
     start_no_script_orders : Orders choice (start_no_script tag)
     start_no_script_orders =
@@ -260,23 +271,29 @@ module _ (choice : Choice) where
 
     start_heading_orders : Orders choice (start_heading tag)
     start_heading_orders =
-        then_orders choice insert_tag_orders (then_orders choice (on_stack_orders choice close_heading close_heading_fewer) close_paragraph_orders)
+        then_orders choice insert_tag_orders (then_orders choice
+        (on_stack_orders choice close_heading close_heading_fewer) close_paragraph_orders)
 
     start_preformatted_orders : Orders choice (start_preformatted tag)
-    start_preformatted_orders = then_orders choice no_frameset_orders (then_orders choice skip_line_feed_orders start_block_orders)
+    start_preformatted_orders = then_orders choice no_frameset_orders
+        (then_orders choice skip_line_feed_orders start_block_orders)
 
     start_separator_orders : Orders choice (start_separator tag)
-    start_separator_orders = then_orders choice no_frameset_orders (then_orders choice insert_void_tag_orders close_paragraph_orders)
+    start_separator_orders = then_orders choice no_frameset_orders
+        (then_orders choice insert_void_tag_orders close_paragraph_orders)
 
     start_no_break_orders : Orders choice (start_no_break tag)
-    start_no_break_orders = then_orders choice start_formatting_orders (then_orders choice close_no_break_orders (reconstruct_orders choice))
+    start_no_break_orders = then_orders choice start_formatting_orders
+        (then_orders choice close_no_break_orders (reconstruct_orders choice))
 
     start_embedded_orders : Orders choice (start_embedded tag)
-    start_embedded_orders = then_orders choice no_frameset_orders (then_orders choice (push_marker_orders choice) start_ordinary_orders)
+    start_embedded_orders = then_orders choice no_frameset_orders
+        (then_orders choice (push_marker_orders choice) start_ordinary_orders)
 
     start_text_area_orders : Orders choice (start_text_area tag)
     start_text_area_orders =
-        then_orders choice no_frameset_orders (then_orders choice skip_line_feed_orders (insert_raw_tag_orders raw.Textarea))
+        then_orders choice no_frameset_orders (then_orders choice skip_line_feed_orders
+        (insert_raw_tag_orders raw.Textarea))
 
     start_foreign_orders : (space : Namespace) → Orders choice (start_foreign space tag)
     start_foreign_orders space = then_orders choice (insert_foreign_tag_orders space tag) (reconstruct_orders choice)
@@ -347,7 +364,8 @@ module _ (choice : Choice) where
     start_by_name_orders (known tags.Li) q = start_item_orders (Only tags.Li)
     start_by_name_orders (known tags.Dd) q = start_item_orders DescriptionParts
     start_by_name_orders (known tags.Dt) q = start_item_orders DescriptionParts
-    start_by_name_orders (known tags.PlainText) q = then_orders choice (insert_raw_tag_orders raw.Plaintext) close_paragraph_orders
+    start_by_name_orders (known tags.PlainText) q = then_orders choice (insert_raw_tag_orders raw.Plaintext)
+        close_paragraph_orders
     start_by_name_orders (known tags.Table) q = absurd (true≢false (sym q))
     start_by_name_orders (known tags.Hr) q = start_separator_orders
     start_by_name_orders (known tags.Button) q = start_button_orders
@@ -381,7 +399,8 @@ module _ (choice : Choice) where
     start_by_name_orders (known tags.Image) q = void_tag_orders (record tag { name = known tags.Img }) refl
     start_by_name_orders (known tags.TextArea) q = start_text_area_orders
     start_by_name_orders (known tags.Xmp) q = start_example_orders
-    start_by_name_orders (known tags.Iframe) q = then_orders choice (insert_raw_tag_orders raw.Iframe) no_frameset_orders
+    start_by_name_orders (known tags.Iframe) q = then_orders choice (insert_raw_tag_orders raw.Iframe)
+        no_frameset_orders
     start_by_name_orders (known tags.NoEmbed) q = insert_raw_tag_orders raw.Noembed
     start_by_name_orders (known tags.NoScript) q = start_no_script_orders
     start_by_name_orders (known tags.Select) q = absurd (true≢false (sym q))
@@ -401,7 +420,8 @@ module _ (choice : Choice) where
   pub start_orders : (tag : StartTagValue) → is_orderly_name tag.name ≡ true → Orders choice (start_in_body tag)
   start_orders tag q =
       plain_or_column (Orders choice (start_in_body tag)) tag.name q (λ p. start_in_body_orders tag p q)
-      (by_column_name (λ name. Orders choice (start_by (rule_of_start name) tag)) (unmoved choice) (unmoved choice) tag.name)
+      (by_column_name (λ name. Orders choice (start_by (rule_of_start name) tag)) (unmoved choice) (unmoved choice)
+      tag.name)
 
   -- ---- end tags
 
@@ -414,8 +434,10 @@ module _ (choice : Choice) where
   close_form_orders : (form : Option ℕ) → Orders choice (close_form form)
   close_form_orders None = unmoved choice
   close_form_orders (Some n) =
-      orders_by_test choice (λ s. is_node_in_scope n s.stack) (on_stack_orders choice (λ stack. without n (pop_while ImpliedEnd stack))
-      (λ stack. fewer_then (without_fewer n (pop_while ImpliedEnd stack)) (pop_while_fewer ImpliedEnd stack))) (unmoved choice)
+      orders_by_test choice (λ s. is_node_in_scope n s.stack)
+      (on_stack_orders choice (λ stack. without n (pop_while ImpliedEnd stack))
+      (λ stack. fewer_then (without_fewer n (pop_while ImpliedEnd stack)) (pop_while_fewer ImpliedEnd stack)))
+      (unmoved choice)
 
   end_form_orders : Orders choice end_form
   end_form_orders =
@@ -440,7 +462,8 @@ module _ (choice : Choice) where
 
   line_break_orders : Orders choice line_break
   line_break_orders =
-      then_orders choice no_frameset_orders (then_orders choice (insert_void_orders choice (known tags.Br) [] refl) (reconstruct_orders choice))
+      then_orders choice no_frameset_orders (then_orders choice (insert_void_orders choice (known tags.Br) [] refl)
+      (reconstruct_orders choice))
 
   close_any_heading_orders : Orders choice (on_stack (close Headings Default))
   close_any_heading_orders = on_stack_orders choice (close Headings Default) (close_fewer Headings Default)
@@ -511,4 +534,5 @@ module _ (choice : Choice) where
 
   pub end_in_body_orders : (name : NameValue) → OrdersAnswer (end_in_body name)
   end_in_body_orders (known tag) = end_by_name_orders tag
-  end_in_body_orders (other t) = says_ordered (on_stack_orders choice (close_name (other t)) (close_name_fewer (other t)))
+  end_in_body_orders (other t) = says_ordered (on_stack_orders choice (close_name (other t))
+      (close_name_fewer (other t)))

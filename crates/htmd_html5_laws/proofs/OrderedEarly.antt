@@ -153,7 +153,8 @@ module _ (choice : Choice) where
   raw_answer mode letters s e f h =
       record { stage = staged choice true mode letters s e f h; calm = λ z. absurd (true≢false (sym z)) }
 
-  pub late_answers : (more : Bool) (letters : List ℕ) (s : StateValue) → Late choice letters s → StageAnswer letters (answer s more)
+  pub late_answers : (more : Bool) (letters : List ℕ) (s : StateValue) → Late choice letters s → StageAnswer letters
+      (answer s more)
   late_answers more letters s h = record { stage = staged_late choice letters s h; calm = λ z. inl h.late }
 
   -- ---- steps
@@ -230,13 +231,15 @@ module _ (choice : Choice) where
       → EarlyIn choice letters s stack → EarlyIn choice letters (add_to_root tag s) stack
   root_early letters tag s stack h = either (is_open (Only tags.Template) s.stack)
     where
-      either : (b : Bool) → EarlyIn choice letters (if b then s else add_missing_to (first_open s.stack) tag.attributes s) stack
+      either : (b : Bool) → EarlyIn choice letters (if b then s else add_missing_to (first_open s.stack)
+          tag.attributes s) stack
       either true = h
       either false = root_missing choice letters tag s stack (first_open s.stack) h
 
   pub root_stage : (letters : List ℕ) (tag : StartTagValue) (s : StateValue) (mode : InsertionMode)
       → is_text_mode s.content ≡ false → s.mode ≡ mode
-      → ((t : StateValue) → SameBut s t → ((stack : List OpenValue) → EarlyIn choice letters s stack → EarlyIn choice letters t stack)
+      → ((t : StateValue) → SameBut s t → ((stack : List OpenValue) → EarlyIn choice letters s stack → EarlyIn choice
+      letters t stack)
       → Stage choice false mode letters t)
       → StageAnswer choice letters (done (add_to_root tag s))
   root_stage letters tag s mode e f go =
@@ -250,14 +253,16 @@ no_doctype : (t : List ℕ) → doctype_kind ≡ text t → ⊥
 no_doctype t e = cc
 
 module _ (choice : Choice) where
-  pub comment_early : (letters : List ℕ) (c : List ℕ) (s : StateValue) → Early choice letters s → Early choice letters (insert_comment c s)
+  pub comment_early : (letters : List ℕ) (c : List ℕ) (s : StateValue) → Early choice letters s → Early choice letters
+      (insert_comment c s)
   comment_early letters c s h = early_step choice (insert_comment_orders choice c) letters s h.names h
 
   root_comment_early : (letters : List ℕ) (c : List ℕ) (s : StateValue) → Early choice letters s
       → Early choice letters (insert_comment_in 0 c s)
   root_comment_early letters c s h = early_step choice (insert_comment_root_orders choice c) letters s h.names h
 
-  pub initial_left : (letters : List ℕ) (s : StateValue) → is_text_mode s.content ≡ false → Stage choice false Initial letters s
+  pub initial_left : (letters : List ℕ) (s : StateValue) → is_text_mode s.content ≡ false → Stage choice false Initial
+      letters s
       → StageAnswer choice letters (leave_initial s)
   initial_left letters s e h =
       calm_answer choice BeforeHtml true letters (record s { mode = BeforeHtml; quirks = true }) e refl (
@@ -278,11 +283,13 @@ module _ (choice : Choice) where
   initial_stage (comment c) p letters s m e h =
       calm_answer choice Initial false letters (insert_comment_in 0 c s) e m (root_comment_early letters c s h.0, h.1)
   initial_stage (doctype quirks) p letters s m e h =
-      calm_answer choice BeforeHtml false letters (record (insert_doctype s) { mode = BeforeHtml; quirks = quirks }) e refl (
+      calm_answer choice BeforeHtml false letters (record (insert_doctype s) { mode = BeforeHtml; quirks = quirks }) e
+      refl (
         record {
           plain = in_plain_mode BeforeHtml refl (insert_doctype_stays.stays s h.0.plain);
           hung = insert_doctype_stays.hangs s h.0.plain h.0.hung;
-          ordered = loose_in choice letters doctype_kind 0 s.nodes s.stack s.head s.foster_parenting h.0.hung h.0.ordered
+          ordered = loose_in choice letters doctype_kind 0 s.nodes s.stack s.head s.foster_parenting h.0.hung
+              h.0.ordered
               h.0.hung.filled refl no_doctype;
           names = h.0.names;
         },
@@ -291,11 +298,13 @@ module _ (choice : Choice) where
   initial_stage end_of_file p letters s m e h = initial_left letters s e h
 
   root_put : (letters : List ℕ) (name : NameValue) (attributes : List AttributePair) (s : StateValue)
-      → is_plain_name name ≡ true → Stage choice false BeforeHtml letters s → Early choice letters (with_root name attributes s)
+      → is_plain_name name ≡ true → Stage choice false BeforeHtml letters s → Early choice letters
+      (with_root name attributes s)
   root_put letters name attributes s p h = record {
     plain = in_plain_mode BeforeHead refl ((insert_root_stays name attributes p).stays s h.0.plain);
     hung = (insert_root_stays name attributes p).hangs s h.0.plain h.0.hung;
-    ordered = element_in choice letters (html name) attributes 0 s.nodes s.stack s.head s.foster_parenting h.0.hung h.0.ordered
+    ordered = element_in choice letters (html name) attributes 0 s.nodes s.stack s.head s.foster_parenting h.0.hung
+        h.0.ordered
         h.0.hung.filled h.0.ordered.root (none s.stack h.1);
     names = (refl, h.0.names);
   }
@@ -307,13 +316,15 @@ module _ (choice : Choice) where
           nonempty : d ∷ ds ≡ [] → ⊥
           nonempty f = cc
 
-  pub root_implied : (letters : List ℕ) (s : StateValue) → is_text_mode s.content ≡ false → Stage choice false BeforeHtml letters s
+  pub root_implied : (letters : List ℕ) (s : StateValue) → is_text_mode s.content ≡ false → Stage choice false
+      BeforeHtml letters s
       → StageAnswer choice letters (imply_root s)
   root_implied letters s e h =
       calm_answer choice BeforeHead true letters (with_root (known tags.Html) [] s) e refl
       (root_put letters (known tags.Html) [] s refl h)
 
-  start_before_html_stage : (tag : StartTagValue) → is_plain_name tag.name ≡ true → (name : NameValue) (letters : List ℕ)
+  start_before_html_stage : (tag : StartTagValue) → is_plain_name tag.name ≡ true → (name : NameValue)
+      (letters : List ℕ)
       (s : StateValue) → is_text_mode s.content ≡ false → Stage choice false BeforeHtml letters s
       → StageAnswer choice letters (start_before_html name tag s)
   start_before_html_stage tag p (known tags.Html) letters s e h =
@@ -335,7 +346,8 @@ module _ (choice : Choice) where
   end_before_html_stage _ letters s m e h = before_html_still letters s m e h
 
   pub before_html_stage : (t : TokenValue) → IsOrderly t → (letters : List ℕ) (s : StateValue) → s.mode ≡ BeforeHtml
-      → is_text_mode s.content ≡ false → Stage choice false BeforeHtml letters s → StageAnswer choice letters (before_html t s)
+      → is_text_mode s.content ≡ false → Stage choice false BeforeHtml letters s → StageAnswer choice letters
+      (before_html t s)
   before_html_stage (run kind c) p letters s m e h = absurd (true≢false p)
   before_html_stage (start_tag tag) p letters s m e h =
       plain_or_column (StageAnswer choice letters (start_before_html tag.name tag s)) tag.name p
@@ -344,14 +356,16 @@ module _ (choice : Choice) where
       (root_implied letters s e h) tag.name)
   before_html_stage (end_tag name) p letters s m e h = end_before_html_stage name letters s m e h
   before_html_stage (comment c) p letters s m e h =
-      calm_answer choice BeforeHtml false letters (insert_comment_in 0 c s) e m (root_comment_early letters c s h.0, h.1)
+      calm_answer choice BeforeHtml false letters (insert_comment_in 0 c s) e m
+      (root_comment_early letters c s h.0, h.1)
   before_html_stage (doctype quirks) p letters s m e h = before_html_still letters s m e h
   before_html_stage end_of_file p letters s m e h = root_implied letters s e h
 
   -- ---- before the head
 
   head_put : (letters : List ℕ) (name : NameValue) (attributes : List AttributePair) (s : StateValue)
-      → is_plain_name name ≡ true → Early choice letters s → Stage choice false InHead letters (with_head name attributes s)
+      → is_plain_name name ≡ true → Early choice letters s → Stage choice false InHead letters
+      (with_head name attributes s)
   head_put letters name attributes s p h =
       let y = hung_named (html name) attributes s h.hung in (
         record {
@@ -372,7 +386,8 @@ module _ (choice : Choice) where
       calm_answer choice InHead true letters (with_head (known tags.Head) [] s) e refl
       (head_put letters (known tags.Head) [] s refl h)
 
-  start_before_head_stage : (tag : StartTagValue) → is_plain_name tag.name ≡ true → (name : NameValue) (letters : List ℕ)
+  start_before_head_stage : (tag : StartTagValue) → is_plain_name tag.name ≡ true → (name : NameValue)
+      (letters : List ℕ)
       (s : StateValue) → s.mode ≡ BeforeHead → is_text_mode s.content ≡ false → Early choice letters s
       → StageAnswer choice letters (start_before_head name tag s)
   start_before_head_stage tag p (known tags.Html) letters s m e h =

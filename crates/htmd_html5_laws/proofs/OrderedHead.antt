@@ -68,7 +68,8 @@ module _ (choice : Choice) where
 
   void_early : (letters : List ℕ) (name : NameValue) (attributes : List AttributePair) (s : StateValue)
       → is_plain_name name ≡ true → Early choice letters s → Early choice letters (insert_void name attributes s)
-  void_early letters name attributes s p h = early_step choice (insert_void_orders choice name attributes p) letters s h.names h
+  void_early letters name attributes s p h = early_step choice (insert_void_orders choice name attributes p) letters s
+      h.names h
 
   raw_early : (letters : List ℕ) (name : NameValue) (element : RawElement) (attributes : List AttributePair)
       (s : StateValue) → is_plain_name name ≡ true → Early choice letters s
@@ -77,7 +78,8 @@ module _ (choice : Choice) where
       early_step choice (insert_raw_orders choice name element attributes p) letters s (refl, h.names) h
 
   module _ (tag : StartTagValue) (p : is_plain_name tag.name ≡ true) (letters : List ℕ) (mode : InsertionMode) (k : ℕ)
-      (go : (raw : Bool) (s : StateValue) → Early choice letters s × HeadAt (cond raw (suc k) k) s → Stage choice raw mode letters s)
+      (go : (raw : Bool) (s : StateValue) → Early choice letters s × HeadAt (cond raw (suc k) k) s → Stage choice raw
+      mode letters s)
       (s : StateValue) (m : s.mode ≡ mode) (e : is_text_mode s.content ≡ false) (h : Early choice letters s)
       (at : HeadAt k s) where
     raw_in_head : (element : RawElement) → is_text_mode (insert_raw_tag element tag s).content ≡ true
@@ -91,7 +93,8 @@ module _ (choice : Choice) where
         calm_answer choice mode false letters (insert_void_tag tag s) e m
         (go false (insert_void_tag tag s) (void_early letters tag.name tag.attributes s p h, at))
 
-    put_in_head : (name : NameValue) → is_plain_name name ≡ true → StageAnswer choice letters (done (insert_head_element name tag s))
+    put_in_head : (name : NameValue) → is_plain_name name ≡ true → StageAnswer choice letters
+        (done (insert_head_element name tag s))
     put_in_head (known tags.Title) q = raw_in_head raw.Title refl
     put_in_head (known tags.NoFrames) q = raw_in_head raw.Noframes refl
     put_in_head (known tags.Style) q = raw_in_head raw.Style refl
@@ -160,10 +163,12 @@ module _ (choice : Choice) where
       to_mode letters s (head_open n ∷ pop s.stack) (pop s.stack) AfterHead refl
       (renamed letters s n s.stack (h.hung.head_at n e) (at n e) h)
 
-  pub head_closed : (more : Bool) (letters : List ℕ) (s : StateValue) → is_text_mode s.content ≡ false → Early choice letters s
+  pub head_closed : (more : Bool) (letters : List ℕ) (s : StateValue) → is_text_mode s.content ≡ false → Early choice
+      letters s
       → HeadAt 0 s → StageAnswer choice letters (answer (close_head s) more)
   head_closed more letters s e h at =
-      calm_answer choice AfterHead more letters (close_head s) e refl (head_closed_in choice.reopens letters s s.head refl h at)
+      calm_answer choice AfterHead more letters (close_head s) e refl
+      (head_closed_in choice.reopens letters s s.head refl h at)
 
   pub noscript_closed : (more : Bool) (letters : List ℕ) (s : StateValue) → is_text_mode s.content ≡ false
       → Early choice letters s → HeadAt 1 s → StageAnswer choice letters (answer (close_noscript s) more)
@@ -195,9 +200,12 @@ module _ (choice : Choice) where
             else record (insert_tag tag s) { mode = InHeadNoscript }))
         either true = raw_in_head choice tag p letters InHead 0 (λ raw t g. g) s m e h at raw.Noscript refl
         either false =
-            calm_answer choice InHeadNoscript false letters (record (insert_tag tag s) { mode = InHeadNoscript }) e refl (
-              to_mode choice letters (insert_tag tag s) (insert_tag tag s).stack (insert_tag tag s).stack InHeadNoscript refl
-                  (early_step choice (insert_element_orders choice tag.name tag.attributes p) letters s (refl, h.names) h),
+            calm_answer choice InHeadNoscript false letters (record (insert_tag tag s) { mode = InHeadNoscript }) e
+            refl (
+              to_mode choice letters (insert_tag tag s) (insert_tag tag s).stack (insert_tag tag s).stack
+                  InHeadNoscript refl
+                  (early_step choice (insert_element_orders choice tag.name tag.attributes p) letters s
+                  (refl, h.names) h),
               at,
             )
 
@@ -239,7 +247,8 @@ module _ (choice : Choice) where
     in_head_stage (start_tag tag) p =
         plain_or_column (StageAnswer choice letters (start_in_head tag.name tag s)) tag.name p
         (λ q. start_in_head_stage tag q tag.name)
-        (by_column_name (λ name. StageAnswer choice letters (start_in_head name tag s)) (head_closed choice true letters s e h at)
+        (by_column_name (λ name. StageAnswer choice letters (start_in_head name tag s))
+        (head_closed choice true letters s e h at)
         (head_closed choice true letters s e h at) tag.name)
     in_head_stage (end_tag name) p = end_in_head_stage name
     in_head_stage (comment c) p =
@@ -282,7 +291,8 @@ module _ (choice : Choice) where
         (noscript_closed choice true letters s e h at) (noscript_closed choice true letters s e h at) tag.name)
     in_noscript_stage (end_tag name) p = end_in_noscript_stage name
     in_noscript_stage (comment c) p =
-        calm_answer choice InHeadNoscript false letters (insert_comment c s) e m (comment_early choice letters c s h, at)
+        calm_answer choice InHeadNoscript false letters (insert_comment c s) e m
+        (comment_early choice letters c s h, at)
     in_noscript_stage (doctype quirks) p = calm_answer choice InHeadNoscript false letters s e m (h, at)
     in_noscript_stage end_of_file p = noscript_closed choice true letters s e h at
 
@@ -314,7 +324,8 @@ module _ (choice : Choice) where
   comment_after letters c s stack real h = record {
     plain = plain_new (comment_kind c) (kinds_add (comment_kind c) (last_in (current s.stack).node) s.nodes) h.plain;
     hung = hung_last (comment_kind c) (current s.stack).node s.nodes refl h.hung;
-    ordered = loose_in choice letters (comment_kind c) (current s.stack).node s.nodes stack s.head s.foster_parenting h.hung
+    ordered = loose_in choice letters (comment_kind c) (current s.stack).node s.nodes stack s.head s.foster_parenting
+        h.hung
         h.ordered (current_within s.stack real.hung) refl (no_text c);
     names = h.names;
   }
@@ -358,7 +369,8 @@ module _ (choice : Choice) where
           → StageAnswer choice letters (done (insert_head_element name tag s))
       late_by_none name q f x = by_name name q
         where
-          in_stage : (raw : Bool) (t : StateValue) → t.head ≡ None → Early choice letters t → Stage choice raw AfterHead letters t
+          in_stage : (raw : Bool) (t : StateValue) → t.head ≡ None → Early choice letters t → Stage choice raw
+              AfterHead letters t
           in_stage raw t g y =
               subst (λ (head : Option ℕ). AfterHeadIn choice raw head t.stack letters t) (sym g)
               (none_at choice.reopens raw letters t y)
@@ -367,7 +379,8 @@ module _ (choice : Choice) where
               → StageAnswer choice letters (done (insert_raw_tag element tag s))
           raw_put element g =
               raw_answer choice AfterHead letters (insert_raw_tag element tag s) g m
-              (in_stage true (insert_raw_tag element tag s) f (raw_early choice letters tag.name element tag.attributes s p x))
+              (in_stage true (insert_raw_tag element tag s) f
+              (raw_early choice letters tag.name element tag.attributes s p x))
 
           by_name : (name : NameValue) → is_plain_name name ≡ true
               → StageAnswer choice letters (done (insert_head_element name tag s))
@@ -407,7 +420,8 @@ module _ (choice : Choice) where
               (on_stack (without n) (insert_raw_tag element tag (open_again n (known tags.Head) s)))) (sym f)
               (subst (λ (stack : List OpenValue). AfterHeadIn choice true (Some n) stack letters
               (on_stack (without n) (insert_raw_tag element tag (open_again n (known tags.Head) s))))
-              (sym gone) (in_it (raw_early choice letters tag.name element tag.attributes (open_again n (known tags.Head) s) p early_v))))
+              (sym gone) (in_it (raw_early choice letters tag.name element tag.attributes
+              (open_again n (known tags.Head) s) p early_v))))
             where
               gone : without n (opened (length s.nodes) (html tag.name) ∷ head_open n ∷ s.stack)
                   ≡ opened (length s.nodes) (html tag.name) ∷ s.stack
@@ -431,7 +445,8 @@ module _ (choice : Choice) where
               (on_stack (without n) (insert_void_tag tag (open_again n (known tags.Head) s)))) (sym f)
               (subst (λ (stack : List OpenValue). AfterHeadIn choice false (Some n) stack letters
               (on_stack (without n) (insert_void_tag tag (open_again n (known tags.Head) s))))
-              (sym gone) (in_it (void_early choice letters tag.name tag.attributes (open_again n (known tags.Head) s) p early_v))))
+              (sym gone) (in_it (void_early choice letters tag.name tag.attributes (open_again n (known tags.Head) s)
+              p early_v))))
             where
               gone : without n (head_open n ∷ s.stack) ≡ s.stack
               gone = rw (eq-eqb n n refl) refl
@@ -478,7 +493,8 @@ module _ (choice : Choice) where
           → StageAnswer choice letters (start_after_head name tag s)
       start_after_head_stage (known tags.Html) q r = root_after tag
       start_after_head_stage (known tags.Body) q r =
-          late_answers choice false letters _ (late_step choice (no_frameset_orders choice) letters (with_body tag.name tag.attributes s)
+          late_answers choice false letters _ (late_step choice (no_frameset_orders choice) letters
+          (with_body tag.name tag.attributes s)
           (body_put letters tag.name tag.attributes s p (real_of choice.reopens letters s s.head s.stack h)))
       start_after_head_stage (known tags.FrameSet) q r = absurd (true≢false (sym q))
       start_after_head_stage (known tags.Base) q r = late_tag r
@@ -509,7 +525,8 @@ module _ (choice : Choice) where
     after_head_stage (start_tag tag) p r =
         plain_or_column (StageAnswer choice letters (start_after_head tag.name tag s)) tag.name p
         (λ q. start_after_head_stage tag q tag.name q r)
-        (by_column_name (λ name. StageAnswer choice letters (start_after_head name tag s)) body_implied body_implied tag.name)
+        (by_column_name (λ name. StageAnswer choice letters (start_after_head name tag s)) body_implied body_implied
+        tag.name)
     after_head_stage (end_tag name) p r = end_after_head_stage name
     after_head_stage (comment c) p r =
         calm_answer choice AfterHead false letters (insert_comment c s) e m
@@ -584,7 +601,8 @@ module _ (choice : Choice) where
   early_modes AfterAfterBody t p letters s m l e h r = absurd (true≢false l)
   early_modes _ t p letters s m l e h r = absurd h
 
-  pub by_rules_stage : (t : TokenValue) → IsOrderly t → (letters : List ℕ) (s : StateValue) → Calm s → Staged choice letters s
+  pub by_rules_stage : (t : TokenValue) → IsOrderly t → (letters : List ℕ) (s : StateValue) → Calm s → Staged choice
+      letters s
       → MayCome choice t s
       → StageAnswer choice letters (by_rules t s)
   by_rules_stage t p letters s calm h may = either (is_late s.mode) refl calm
@@ -596,7 +614,8 @@ module _ (choice : Choice) where
 
       either : (b : Bool) → is_late s.mode ≡ b → Calm s → StageAnswer choice letters (by_rules t s)
       either true l c =
-          let x = by_rules_late choice t p letters s (stage_late choice (is_text_mode s.content) s.mode letters s l h) in
+          let x = by_rules_late choice t p letters s (stage_late choice (is_text_mode s.content) s.mode letters s l h)
+          in
           record { stage = staged_late choice letters (by_rules t s).state x; calm = λ z. inl x.late }
       either false l (inl c) = absurd (true≢false (sym c ∙ l))
       either false l (inr c) =

@@ -188,7 +188,8 @@ module _ (choice : Choice) where
           at_new limit big q e =
               subst (λ (x : ℕ). Row (marks choice none_out new limit marked) (marked.lo x) (children_at new x)
               (until limit marked x)) (sym e)
-              (subst (λ (cs : List ℕ). Row (marks choice none_out new limit marked) (marked.lo n) cs (until limit marked n))
+              (subst (λ (cs : List ℕ). Row (marks choice none_out new limit marked) (marked.lo n) cs
+              (until limit marked n))
               (sym (children_elsewhere k p n nodes (λ f. omega arith) ∙ children_beyond n nodes (omega arith)))
               (let a = own_lo in let b = (own_until limit big).0 in omega arith))
 

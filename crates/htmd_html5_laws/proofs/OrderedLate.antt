@@ -1,5 +1,5 @@
--- In the body and after it each token that is no text leaves the letters in order, by the rules of the mode and in foreign
--- content.
+-- In the body and after it each token that is no text leaves the letters in order, by the rules of the mode and in
+-- foreign content.
 use Rattle.std.proofs.Common.{◌≡◌, ◌∙◌, ℕ, zero, suc, ◌<◌, Bool, true, false, List, [], ◌∷◌, length}
 use Rattle.std.proofs.Common.{Option, Some, None, refl, sym, ap, subst}
 use Rattle.std.specs.Prelude.{if◌then◌else◌}
@@ -142,7 +142,8 @@ module _ (choice : Choice) where
     pub ordered : Ordered choice letters s
     pub late : is_late s.mode ≡ true
 
-  pub late_answer : {f : StateValue → Answer} → OrdersAnswer choice f → (letters : List ℕ) (s : StateValue) → Late letters s
+  pub late_answer : {f : StateValue → Answer} → OrdersAnswer choice f → (letters : List ℕ) (s : StateValue) → Late
+      letters s
       → Late letters (f s).state
   late_answer f letters s h = record {
     plain = f.stays.stays s h.plain;
@@ -200,7 +201,8 @@ module _ (choice : Choice) where
       → Late letters (start_in_foreign tag s).state
   start_foreign_late tag p letters s h = either (tag_breaks_out tag.name tag.attributes)
     where
-      either : (b : Bool) → Late letters (if b then break_out (start_tag tag) s else done (start_foreign_element tag s)).state
+      either : (b : Bool) → Late letters (if b then break_out (start_tag tag) s else done
+          (start_foreign_element tag s)).state
       either true = break_out_late (start_tag tag) p letters s h
       either false = late_step (start_foreign_orders tag) letters s h
 

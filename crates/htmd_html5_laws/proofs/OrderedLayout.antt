@@ -1,4 +1,5 @@
--- The letters of a tree's texts stand in the order of the page's, where they do so among the nodes that it is laid out of.
+-- The letters of a tree's texts stand in the order of the page's, where they do so among the nodes that it is laid out
+-- of.
 use Rattle.std.proofs.Common.{◌≡◌, ◌∙◌, ℕ, zero, suc, ◌<◌, ◌≤◌, Bool, true, false, List, [], ◌∷◌, ◌++◌, length}
 use Rattle.std.proofs.Common.{refl, sym, ap, subst, arith, cond, map, Option, Some, None, inl, inr, ◌⊎◌, append_assoc}
 use Rattle.std.specs.Prelude.{if◌then◌else◌, IsUtf8, ◌==◌, not, is_some}
@@ -31,7 +32,8 @@ module _ (choice : Choice) where
   data_letters _ = []
 
   letters_put : (items : List Item) (item : Item)
-      → counted_in choice (texts_of (items ++ item ∷ [])) ≡ counted_in choice (texts_of items) ++ data_letters item.node_data
+      → counted_in choice (texts_of (items ++ item ∷ [])) ≡ counted_in choice (texts_of items) ++ data_letters
+      item.node_data
   unfolding data_letters
   letters_put [] item = last item.node_data
     where
@@ -44,7 +46,8 @@ module _ (choice : Choice) where
   letters_put (first ∷ items) item = more first.node_data (letters_put items item)
     where
       more : (d : Data)
-          → counted_in choice (texts_of (items ++ item ∷ [])) ≡ counted_in choice (texts_of items) ++ data_letters item.node_data
+          → counted_in choice (texts_of (items ++ item ∷ [])) ≡ counted_in choice (texts_of items) ++ data_letters
+          item.node_data
           → counted_in choice (with_text_in d (texts_of (items ++ item ∷ [])))
           ≡ counted_in choice (with_text_in d (texts_of items)) ++ data_letters item.node_data
       more (text_node s) e =
@@ -84,7 +87,8 @@ module _ (choice : Choice) where
         → Row (marks choice none_out nodes limit l) at cs to
         → Row (marks choice none_out (with_kind n document nodes) limit l) at cs to
     row_marked n at to cs nodes h r =
-        row_marks (marks choice none_out nodes limit l) (marks choice none_out (with_kind n document nodes) limit l) at cs to
+        row_marks (marks choice none_out nodes limit l) (marks choice none_out (with_kind n document nodes) limit l)
+        at cs to
         (λ c m e. (bears_marked n c nodes e, omega arith, spans nodes h c (l.live c), omega arith)) r
 
     fits_marked : (n : ℕ) (nodes : List NodeValue) → FitsBy choice none_out letters nodes l
@@ -93,9 +97,11 @@ module _ (choice : Choice) where
       span = h.span;
       high = h.high;
       rows = λ bound big q.
-          subst (λ (cs : List ℕ). Row (marks choice none_out (with_kind n document nodes) bound l) (l.lo q) cs (until bound l q))
+          subst (λ (cs : List ℕ). Row (marks choice none_out (with_kind n document nodes) bound l) (l.lo q) cs
+          (until bound l q))
           (sym (children_of_kind n q document nodes))
-          (row_marks (marks choice none_out nodes bound l) (marks choice none_out (with_kind n document nodes) bound l) (l.lo q)
+          (row_marks (marks choice none_out nodes bound l) (marks choice none_out (with_kind n document nodes) bound
+          l) (l.lo q)
           (children_at nodes q) (until bound l q)
           (λ c m e. (bears_marked n c nodes e, omega arith, any_span bound big c (l.live c), omega arith))
           (h.rows bound big q));
@@ -135,7 +141,8 @@ module _ (choice : Choice) where
       utf8 : IsUtf8 s
       row : Row (marks choice none_out nodes limit l) to rest limit
 
-    next_text : (nodes : List NodeValue) (at n : ℕ) (s : List ℕ) (rest : List ℕ) → FitsBy choice none_out letters nodes l
+    next_text : (nodes : List NodeValue) (at n : ℕ) (s : List ℕ) (rest : List ℕ) → FitsBy choice none_out letters
+        nodes l
         → at ≤ length letters → kind_at nodes n ≡ text s
         → Row (marks choice none_out nodes limit l) at (n ∷ rest) limit
         → NextText nodes at n s rest
@@ -161,7 +168,8 @@ module _ (choice : Choice) where
               to = l.hi n;
               from = let a = h.span n in omega arith;
               high = h.high n;
-              within = sub_wider (counted_of choice s) letters (l.lo n) (l.hi n) at (l.hi n) x (h.span n) (omega arith) old.within;
+              within = sub_wider (counted_of choice s) letters (l.lo n) (l.hi n) at (l.hi n) x (h.span n)
+                  (omega arith) old.within;
               utf8 = old.utf8;
               row = subst (λ (y : ℕ). Row (marks choice none_out nodes limit l) y rest limit) ended g;
             }
@@ -199,7 +207,8 @@ module _ (choice : Choice) where
     texts_next nodes under at (c ∷ work) nil h low r =
         by_text (text_under nodes under c) refl
         (λ (to : ℕ) (high : to ≤ length letters)
-        (row : Row (marks choice none_out nodes limit l) to (numbers work) limit). texts_next nodes under to work nil h high row)
+        (row : Row (marks choice none_out nodes limit l) to (numbers work) limit). texts_next nodes under to work nil
+        h high row)
       where
         under_text : (s : List ℕ) → (b : Bool) → (if b then text_of (kind_at nodes c.node) else None) ≡ Some s
             → (k : KindValue) → kind_at nodes c.node ≡ k → text_of k ≡ text_of (kind_at nodes c.node)
@@ -234,7 +243,8 @@ module _ (choice : Choice) where
               high = later.high;
               within = subst (λ (x : List ℕ). Sub x (window at later.to letters))
                   (sym (letters_append choice s (next_texts nodes under work) first.utf8))
-                  (sub_joined (counted_of choice s) (counted_of choice (next_texts nodes under work)) letters at first.to first.to
+                  (sub_joined (counted_of choice s) (counted_of choice (next_texts nodes under work)) letters at
+                  first.to first.to
                   later.to first.from (omega arith) later.from first.within later.within);
               utf8 = IsUtf8-append s (next_texts nodes under work) first.utf8 later.utf8;
               row = later.row;
@@ -243,7 +253,8 @@ module _ (choice : Choice) where
     -- ---- a step
 
     uncounted : (nodes : List NodeValue) (at n : ℕ) (rest : List ℕ) → bears choice (kind_at nodes n) ≡ false
-        → Row (marks choice none_out nodes limit l) at (n ∷ rest) limit → Row (marks choice none_out nodes limit l) at rest limit
+        → Row (marks choice none_out nodes limit l) at (n ∷ rest) limit → Row (marks choice none_out nodes limit l) at
+        rest limit
     uncounted nodes at n rest e r =
         subst (λ (b : Bool). Row (marks choice none_out nodes limit l) (cond b (until limit l n) at) rest limit) e r.1
 
@@ -263,7 +274,8 @@ module _ (choice : Choice) where
       low = high;
       items = subst (λ (y : List ℕ). Sub y (window 0 to letters))
           (sym (letters_put x.items (new_item x.items under d)))
-          (sub_joined (counted_in choice (texts_of x.items)) (data_letters d) letters 0 at at to (omega arith) (omega arith) from
+          (sub_joined (counted_in choice (texts_of x.items)) (data_letters d) letters 0 at at to (omega arith)
+          (omega arith) from
           items more);
       fits = fits;
       row = row;
@@ -280,7 +292,8 @@ module _ (choice : Choice) where
     nothing_in : (at : ℕ) → Sub [] (window at at letters)
     nothing_in at = tt
 
-    loose_laid : (x : Layout) (c : Coming) (work : List Coming) (d : Data) → bears choice (kind_at x.nodes c.node) ≡ false
+    loose_laid : (x : Layout) (c : Coming) (work : List Coming) (d : Data) → bears choice
+        (kind_at x.nodes c.node) ≡ false
         → data_letters d ≡ [] → Comes x c work
         → LaidTo (record x {
           nodes = with_kind c.node document x.nodes;
@@ -313,11 +326,13 @@ module _ (choice : Choice) where
         (let a = t.from in let b = more.from in omega arith) more.high h.items
         (subst (λ (y : List ℕ). Sub y (window h.at more.to letters))
         (sym (letters_append choice s (next_texts (with_kind c.node document x.nodes) c.under work) t.utf8))
-        (sub_joined (counted_of choice s) (counted_of choice (next_texts (with_kind c.node document x.nodes) c.under work)) letters
+        (sub_joined (counted_of choice s) (counted_of choice (next_texts (with_kind c.node document x.nodes) c.under
+        work)) letters
         h.at t.to t.to more.to t.from (omega arith) more.from t.within more.within))
         fits more.row
 
-    children_come : (x : Layout) (c : Coming) (work : List Coming) (under : ℕ) → bears choice (kind_at x.nodes c.node) ≡ true
+    children_come : (x : Layout) (c : Coming) (work : List Coming) (under : ℕ) → bears choice
+        (kind_at x.nodes c.node) ≡ true
         → (h : Comes x c work)
         → Row (marks choice none_out (with_kind c.node document x.nodes) limit l) h.at
         (numbers (map (coming under) (children_at (with_kind c.node document x.nodes) c.node) ++ work)) limit
@@ -330,7 +345,8 @@ module _ (choice : Choice) where
         (numbers work) limit
         (row_from (marks choice none_out x.nodes limit l) (l.lo c.node) h.at (children_at x.nodes c.node)
         (until limit l c.node) (h.row.0 e).0 (h.fits.rows limit (omega arith) c.node))
-        (subst (λ (b : Bool). Row (marks choice none_out x.nodes limit l) (cond b (until limit l c.node) h.at) (numbers work)
+        (subst (λ (b : Bool). Row (marks choice none_out x.nodes limit l) (cond b (until limit l c.node) h.at)
+        (numbers work)
         limit) e h.row.1)))
 
     element_laid : (x : Layout) (c : Coming) (work : List Coming) (d : Data) (under : ℕ)
@@ -346,7 +362,8 @@ module _ (choice : Choice) where
         h.items (subst (λ (y : List ℕ). Sub y (window h.at h.at letters)) (sym none) tt)
         (fits_marked c.node x.nodes h.fits) (children_come x c work under e h)
 
-    kind_laid : (k : KindValue) (x : Layout) (c : Coming) (work : List Coming) (deepest : Bool) → counted_of choice [] ≡ []
+    kind_laid : (k : KindValue) (x : Layout) (c : Coming) (work : List Coming) (deepest : Bool) → counted_of choice
+        [] ≡ []
         → kind_at x.nodes c.node ≡ k → Comes x c work
         → LaidTo (with_kind_of deepest k c (without_node c.node (record x { work = work })))
     unfolding data_letters
@@ -384,7 +401,8 @@ module _ (choice : Choice) where
 
     -- ---- the whole tree
 
-    pub laid_in_order : (depth : ℕ) (nodes : List NodeValue) → counted_of choice [] ≡ [] → FitsBy choice none_out letters nodes l
+    pub laid_in_order : (depth : ℕ) (nodes : List NodeValue) → counted_of choice [] ≡ [] → FitsBy choice none_out
+        letters nodes l
         → Sub (counted_in choice (texts_of (document_of depth nodes))) letters
     laid_in_order depth nodes nil h =
         let r = all_laid depth (length nodes) (first_layout nodes) nil (record {
@@ -400,7 +418,8 @@ module _ (choice : Choice) where
         }) in
         subst (λ (y : List ℕ). Sub (counted_in choice (texts_of (document_of depth nodes))) y)
         (window_all (length letters) letters refl)
-        (sub_wider (counted_in choice (texts_of (document_of depth nodes))) letters 0 r.at 0 (length letters) (omega arith)
+        (sub_wider (counted_in choice (texts_of (document_of depth nodes))) letters 0 r.at 0 (length letters)
+        (omega arith)
         (omega arith) r.low r.items)
       where
         until_low : (b : Bool) → cond b limit (l.hi 0) ≤ limit

@@ -179,7 +179,8 @@ module _ (choice : Choice) where
       kept_row limit q to big f r =
           subst (λ (cs : List ℕ). Row (marks choice (only n) copied limit copied_labels) (l.lo q) cs to)
           (sym (children_put_other choice last n q out f))
-          (row_marks (marks choice (only last) nodes limit l) (marks choice (only n) copied limit copied_labels) (l.lo q)
+          (row_marks (marks choice (only last) nodes limit l) (marks choice (only n) copied limit copied_labels)
+          (l.lo q)
           (children_at out q) to
           (λ c m e.
           let two = and_parts (not (c == n)) (bears choice (kind_at copied c)) e in
@@ -206,10 +207,13 @@ module _ (choice : Choice) where
       own_row limit big =
           subst (λ (cs : List ℕ). Row (marks choice (only n) copied limit copied_labels) (copied_labels.lo n) cs
           (until limit copied_labels n)) (sym (children_put choice last n out (let z = out_size in omega arith)))
-          (row_append (marks choice (only n) copied limit copied_labels) (copied_labels.lo n) (children_at out n) (l.lo last)
+          (row_append (marks choice (only n) copied limit copied_labels) (copied_labels.lo n) (children_at out n)
+          (l.lo last)
           (last ∷ []) (until limit copied_labels n)
-          (row_detached choice (marks choice (only n) copied limit copied_labels) last n (copied_labels.lo n) (l.lo last) more
-          (subst (λ (cs : List ℕ). Row (marks choice (only n) copied limit copied_labels) (copied_labels.lo n) cs (l.lo last))
+          (row_detached choice (marks choice (only n) copied limit copied_labels) last n (copied_labels.lo n)
+          (l.lo last) more
+          (subst (λ (cs : List ℕ). Row (marks choice (only n) copied limit copied_labels) (copied_labels.lo n) cs
+          (l.lo last))
           (sym (children_with_new n k nodes ∙ children_beyond n nodes (omega arith)))
           (let a = lo_own in omega arith))) (
             λ e. let a = lo_same last (λ g. omega arith) in let b = until_last limit in
@@ -237,7 +241,8 @@ module _ (choice : Choice) where
               (λ t. let f = eqb-false n q t in
               subst (λ (x : ℕ). Row (marks choice (only n) copied limit copied_labels) x (children_at copied q)
               (until limit copied_labels q)) (sym (lo_same q (λ e. f (sym e))))
-              (subst (λ (x : ℕ). Row (marks choice (only n) copied limit copied_labels) (l.lo q) (children_at copied q) x)
+              (subst (λ (x : ℕ). Row (marks choice (only n) copied limit copied_labels) (l.lo q)
+              (children_at copied q) x)
               (sym (until_same limit q (λ e. f (sym e))))
               (kept_row limit q (until limit l q) big f (h.fits.rows limit big q))));
           texts = λ m t e.
@@ -282,7 +287,8 @@ module _ (choice : Choice) where
           → Row (marks choice (only last) nodes limit l) at (children_at nodes q) to
           → Row (marks choice none_out placed limit l) at (children_at taken q) to
       row_apart limit q at to big none r =
-          row_marks (marks choice (only last) nodes limit l) (marks choice none_out placed limit l) at (children_at taken q) to
+          row_marks (marks choice (only last) nodes limit l) (marks choice none_out placed limit l) at
+          (children_at taken q) to
           (λ c m e.
           let w = spans (only last) letters nodes l h.fits limit big c (l.live c) in (
             both_true (not (c == last)) (bears choice (kind_at nodes c))
@@ -308,7 +314,8 @@ module _ (choice : Choice) where
             let b = ends last h.live_last in
                 let d = ends p h.live_at in
                 let x = h.fits.span last in let y = h.fits.high last in
-                low (bears choice (kind_at placed last)) (until limit l last) (l.lo last) (until limit l p) (omega arith)
+                low (bears choice (kind_at placed last)) (until limit l last) (l.lo last) (until limit l p)
+                (omega arith)
                 (omega arith),
           ))
         where
@@ -325,13 +332,15 @@ module _ (choice : Choice) where
         high = h.fits.high;
         rows = λ limit big q.
             test (p == q)
-            (λ t. subst (λ (x : ℕ). Row (marks choice none_out placed limit l) (l.lo x) (children_at placed x) (until limit l x))
+            (λ t. subst (λ (x : ℕ). Row (marks choice none_out placed limit l) (l.lo x) (children_at placed x)
+            (until limit l x))
             (eqb-true p q t) (placed_row limit big))
             (λ t. let f = eqb-false p q t in
             subst (λ (cs : List ℕ). Row (marks choice none_out placed limit l) (l.lo q) cs (until limit l q))
             (sym (children_put_other choice last p q taken f))
             (row_apart limit q (l.lo q) (until limit l q) big
-            (put_nowhere_else choice last p q taken (let z = taken_size in omega arith) forest f) (h.fits.rows limit big q)));
+            (put_nowhere_else choice last p q taken (let z = taken_size in omega arith) forest f)
+            (h.fits.rows limit big q)));
         texts = λ m t e. h.fits.texts m t (sym (placed_kind m) ∙ e);
       }
 
@@ -440,13 +449,16 @@ module _ (choice : Choice) where
         → Row (marks choice none_out wrapped limit wrapped_labels) (wrapped_labels.lo q) (children_at wrapped q)
         (until limit wrapped_labels q)
     at_new limit big q e =
-        subst (λ (x : ℕ). Row (marks choice none_out wrapped limit wrapped_labels) (wrapped_labels.lo x) (children_at wrapped x)
+        subst (λ (x : ℕ). Row (marks choice none_out wrapped limit wrapped_labels) (wrapped_labels.lo x)
+        (children_at wrapped x)
         (until limit wrapped_labels x)) e
         (subst (λ (x : ℕ). Row (marks choice none_out wrapped limit wrapped_labels) x (children_at wrapped wn)
         (until limit wrapped_labels wn)) (sym w_lo_own)
-        (subst (λ (x : ℕ). Row (marks choice none_out wrapped limit wrapped_labels) (l.lo block) (children_at wrapped wn) x)
+        (subst (λ (x : ℕ). Row (marks choice none_out wrapped limit wrapped_labels) (l.lo block)
+        (children_at wrapped wn) x)
         (sym (w_until_own limit ∙ sym (until_block limit)))
-        (subst (λ (x : List ℕ). Row (marks choice none_out wrapped limit wrapped_labels) (l.lo block) x (until limit l block))
+        (subst (λ (x : List ℕ). Row (marks choice none_out wrapped limit wrapped_labels) (l.lo block) x
+        (until limit l block))
         (sym (children_put_other choice wn block wn gone apart_new ∙ gone_new))
         (w_row limit block (until limit l block) big (h.rows limit big block)))))
 
@@ -454,7 +466,8 @@ module _ (choice : Choice) where
         → Row (marks choice none_out wrapped limit wrapped_labels) (wrapped_labels.lo q) (children_at wrapped q)
         (until limit wrapped_labels q)
     at_block limit big q e =
-        subst (λ (x : ℕ). Row (marks choice none_out wrapped limit wrapped_labels) (wrapped_labels.lo x) (children_at wrapped x)
+        subst (λ (x : ℕ). Row (marks choice none_out wrapped limit wrapped_labels) (wrapped_labels.lo x)
+        (children_at wrapped x)
         (until limit wrapped_labels x)) e
         (subst (λ (x : List ℕ). Row (marks choice none_out wrapped limit wrapped_labels) (wrapped_labels.lo block) x
         (until limit wrapped_labels block))

@@ -92,7 +92,8 @@ module _ (choice : Choice) where
     texts = λ n t e. let x = h.texts n t e in record {
       closed = rw x.closed refl;
       utf8 = x.utf8;
-      within = subst (λ (b : Bool). Sub (counted_of choice t) (window (l.lo n) (cond (b && ends n) at (l.hi n)) letters))
+      within = subst (λ (b : Bool). Sub (counted_of choice t)
+          (window (l.lo n) (cond (b && ends n) at (l.hi n)) letters))
           (sym x.closed) x.within;
     };
   }
@@ -118,7 +119,8 @@ module _ (choice : Choice) where
           → Row (marks choice out nodes limit l) (l.lo q) (children_at nodes q) to
           → Row (marks choice out nodes limit (ended ends at l)) (l.lo q) (children_at nodes q) to
       lowered limit big q to r =
-          row_marks (marks choice out nodes limit l) (marks choice out nodes limit (ended ends at l)) (l.lo q) (children_at nodes q) to
+          row_marks (marks choice out nodes limit l) (marks choice out nodes limit (ended ends at l)) (l.lo q)
+          (children_at nodes q) to
           (λ c k b. let x = ends_by limit big c (l.live c) refl (ends c) refl in (b, omega arith, x.0, x.1)) r
 
       inner_end : (limit : ℕ) (c : ℕ) (b : Bool) → l.live c ≡ b → (d : Bool) → ends c ≡ d
@@ -138,11 +140,13 @@ module _ (choice : Choice) where
           (lowered limit big q (until limit l q) (h.rows limit big q))
       row limit big q true e false f =
           lowered limit big q limit
-          (subst (λ (b : Bool). Row (marks choice out nodes limit l) (l.lo q) (children_at nodes q) (cond b limit (l.hi q))) e
+          (subst (λ (b : Bool). Row (marks choice out nodes limit l) (l.lo q) (children_at nodes q)
+          (cond b limit (l.hi q))) e
           (h.rows limit big q))
       row limit big q false e d f =
           lowered limit big q (l.hi q)
-          (subst (λ (b : Bool). Row (marks choice out nodes limit l) (l.lo q) (children_at nodes q) (cond b limit (l.hi q))) e
+          (subst (λ (b : Bool). Row (marks choice out nodes limit l) (l.lo q) (children_at nodes q)
+          (cond b limit (l.hi q))) e
           (h.rows limit big q))
 
 -- ---- what a node holds ends with the letters that there are

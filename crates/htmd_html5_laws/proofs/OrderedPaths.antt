@@ -22,7 +22,8 @@ module _ (choice : Choice) where
   element_bears doctype e = e
   element_bears (comment t) e = e
 
-  module _ (rank : ℕ → ℕ) (letters : List ℕ) (nodes : List NodeValue) (l : Labels) (h : FitsBy choice none_out letters nodes l)
+  module _ (rank : ℕ → ℕ) (letters : List ℕ) (nodes : List NodeValue) (l : Labels)
+      (h : FitsBy choice none_out letters nodes l)
       (ranked : Ranked rank nodes) (at_root : rank 0 ≡ 0) where
     -- a live element, or the Document
     pub record Alive (x : ℕ) : Type 0 where
@@ -55,7 +56,8 @@ module _ (choice : Choice) where
             absurd (true≢false (sym (element_solid (kind_at nodes u) e)
             ∙ (ap (λ (x : ℕ). is_solid (kind_at nodes x)) z ∙ ranked.root)))
         by_hangs (inr g) =
-            let r = row_member (marks choice none_out nodes limit l) u (l.lo g.by) (children_at nodes g.by) (until limit l g.by)
+            let r = row_member (marks choice none_out nodes limit l) u (l.lo g.by) (children_at nodes g.by)
+            (until limit l g.by)
             g.holder.stands (element_bears (kind_at nodes u) e) (h.rows limit (omega arith) g.by) in
             let m = live_until u live in
             let y = r.2 in
@@ -82,7 +84,8 @@ module _ (choice : Choice) where
         → 1 ≤ times d (children_at nodes q) → bears choice (kind_at nodes d) ≡ true
         → (d ≡ c) ⊎ (until limit l d ≤ l.lo c)
     beside q c d k live e m b =
-        row_last (marks choice none_out nodes limit l) c d (l.lo q) (children_at nodes q) (until limit l q) (length letters) k
+        row_last (marks choice none_out nodes limit l) c d (l.lo q) (children_at nodes q) (until limit l q)
+        (length letters) k
         (element_bears (kind_at nodes c) e) m b (let x = live_until c live in omega arith)
         (λ x. let y = h.span x in let z = h.high x in omega arith) (h.rows limit (omega arith) q)
 
@@ -286,7 +289,8 @@ module _ (choice : Choice) where
         span = h.span;
         high = h.high;
         rows = λ bound big q.
-            row_marks (marks choice none_out nodes bound l) (marks choice apart nodes bound l) (l.lo q) (children_at nodes q)
+            row_marks (marks choice none_out nodes bound l) (marks choice apart nodes bound l) (l.lo q)
+            (children_at nodes q)
             (until bound l q)
             (λ c k e. (
               (and_parts (not (c == b)) (bears choice (kind_at nodes c)) e).1,
@@ -323,7 +327,8 @@ module _ (choice : Choice) where
       pub front_ends : (bound : ℕ) → length letters < bound
           → Row (marks choice apart nodes bound parted) (l.lo p) (children_at nodes p) (l.lo b)
       front_ends bound big =
-          row_ends (marks choice apart nodes bound parted) (l.lo p) (children_at nodes p) (until bound parted p) (l.lo b)
+          row_ends (marks choice apart nodes bound parted) (l.lo p) (children_at nodes p) (until bound parted p)
+          (l.lo b)
           begins_low
           (λ c k counts. low c (l.live c) refl (between c) refl (ended_before p c alive_p (omega arith) less k counts))
           (parted_fits.rows bound big p)

@@ -91,7 +91,8 @@ module _ (choice : Choice) where
   one_letters : counted_of choice (encode_utf8 replacement_character) ≡ []
   unfolding counted_of encode_utf8
   one_letters =
-      ap (filter choice.counts) (chars_past_char (encode_utf8 replacement_character) [] replacement_character one_utf8 refl
+      ap (filter choice.counts) (chars_past_char (encode_utf8 replacement_character) [] replacement_character one_utf8
+      refl
       ∙ ap (λ (x : List ℕ). replacement_character ∷ x) chars-nil) ∙ rw choice.no_replacement refl
 
   pub nil_letters : counted_of choice [] ≡ []
@@ -165,7 +166,8 @@ module _ (choice : Choice) where
   after_grown true true (Some n) [] letters more s h = absurd h
   after_grown true true (Some n) (e ∷ es) letters more s h = early_grown letters more s (e ∷ head_open n ∷ es) h
 
-  stage_grown : (raw : Bool) (mode : InsertionMode) (letters more : List ℕ) (s : StateValue) → Stage choice raw mode letters s
+  stage_grown : (raw : Bool) (mode : InsertionMode) (letters more : List ℕ) (s : StateValue) → Stage choice raw mode
+      letters s
       → Stage choice raw mode (letters ++ more) s
   stage_grown raw Initial letters more s h = (early_grown letters more s s.stack h.0, h.1)
   stage_grown raw BeforeHtml letters more s h = (early_grown letters more s s.stack h.0, h.1)
@@ -178,7 +180,8 @@ module _ (choice : Choice) where
   stage_grown raw AfterAfterBody letters more s h = late_grown letters more s h
   stage_grown raw _ letters more s h = absurd h
 
-  pub staged_grown : (letters more : List ℕ) (s : StateValue) → Staged choice letters s → Staged choice (letters ++ more) s
+  pub staged_grown : (letters more : List ℕ) (s : StateValue) → Staged choice letters s → Staged choice
+      (letters ++ more) s
   staged_grown letters more s h = stage_grown (is_text_mode s.content) s.mode letters more s h
 
   -- ---- what a run does
@@ -243,12 +246,14 @@ module _ (choice : Choice) where
       let p = (current s.stack).node in
       let there = place_last s real.ordered.no_fostering in
       let fits : Fits s.nodes p = subst (λ (x : _). Fits s.nodes x.parent) there (fits_place s real.hung) in
-      let g = white_put choice h.hung.rank letters s.nodes h.ordered.labels h.ordered.fits (ranked_of h.hung) p fits.0 t u none in
+      let g = white_put choice h.hung.rank letters s.nodes h.ordered.labels h.ordered.fits (ranked_of h.hung) p fits.0
+      t u none in
       record {
         plain = plain_grown (text_grows t (place s) s.nodes) h.plain;
         hung = subst (λ (at : _). HungIn (add_text t at s.nodes) stack s.head) (sym there)
             (hung_text_in t p s.nodes fits h.hung);
-        ordered = subst (λ (at : _). OrderedIn choice letters (add_text t at s.nodes) stack s.foster_parenting) (sym there)
+        ordered = subst (λ (at : _). OrderedIn choice letters (add_text t at s.nodes) stack s.foster_parenting)
+            (sym there)
             (record {
               labels = g.labels;
               fits = g.fits;
@@ -368,7 +373,8 @@ module _ (choice : Choice) where
 
   white_in_body : (letters t : List ℕ) (s : StateValue) → IsUtf8 t → Late choice letters s
       → Late choice (letters ++ counted_of choice t) (run_in_body (kind_of_byte 32) t s)
-  white_in_body letters t s u h = late_writes letters t (reconstruct s) u (late_step choice (reconstruct_orders choice) letters s h)
+  white_in_body letters t s u h = late_writes letters t (reconstruct s) u
+      (late_step choice (reconstruct_orders choice) letters s h)
 
   characters_in_body : (letters t : List ℕ) (s : StateValue) → IsUtf8 t → Late choice letters s
       → Late choice (letters ++ counted_of choice t) (run_in_body (kind_of_byte 97) t s)

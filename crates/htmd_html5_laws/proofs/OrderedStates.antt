@@ -65,7 +65,8 @@ module _ (choice : Choice) where
   -- a step that leaves the letters in order
   pub record Orders (f : StateValue → StateValue) : Type 0 where
     pub stays : Stays f
-    pub orders : (letters : List ℕ) (s : StateValue) → Plain s → Hung s → Ordered choice letters s → Ordered choice letters (f s)
+    pub orders : (letters : List ℕ) (s : StateValue) → Plain s → Hung s → Ordered choice letters s → Ordered choice
+        letters (f s)
     pub late : (s : StateValue) → Plain s → is_late s.mode ≡ true → is_late (f s).mode ≡ true
 
   -- ---- steps put together
@@ -94,7 +95,8 @@ module _ (choice : Choice) where
       either true letters s h x o = first.orders letters s h x o
       either false letters s h x o = second.orders letters s h x o
 
-      each : (t : Bool) (s : StateValue) → Plain s → is_late s.mode ≡ true → is_late (if t then f s else g s).mode ≡ true
+      each : (t : Bool) (s : StateValue) → Plain s → is_late s.mode ≡ true → is_late
+          (if t then f s else g s).mode ≡ true
       each true s h e = first.late s h e
       each false s h e = second.late s h e
 
@@ -182,9 +184,11 @@ module _ (choice : Choice) where
       (nodes : List NodeValue) (stack : List OpenValue) (head : Option ℕ) (fosters : Bool)
       (h : HungIn nodes stack head) (o : OrderedIn choice letters nodes stack fosters) → p < length nodes
       → o.labels.live p ≡ true → EachOpen (λ e. h.rank e.node ≤ h.rank p) stack
-      → OrderedIn choice letters (add (element name attributes) (last_in p) nodes) (opened (length nodes) name ∷ stack) fosters
+      → OrderedIn choice letters (add (element name attributes) (last_in p) nodes)
+      (opened (length nodes) name ∷ stack) fosters
   element_in letters name attributes p nodes stack head fosters h o within live low =
-      let g = element_added choice h.rank letters nodes o.labels o.fits (ranked_of h) p within live (element name attributes)
+      let g = element_added choice h.rank letters nodes o.labels o.fits (ranked_of h) p within live
+      (element name attributes)
       refl in
       record {
         labels = g.labels;
@@ -236,7 +240,8 @@ module _ (choice : Choice) where
       → Orders choice (insert_foreign space name attributes closes)
   insert_foreign_orders space name attributes closes =
       then_orders choice (on_stack_orders choice (pop_if closes) (pop_if_fewer closes))
-      (insert_named_orders (foreign_name space name) (foreign_attributes space attributes) (foreign_is_plain space name))
+      (insert_named_orders (foreign_name space name) (foreign_attributes space attributes)
+      (foreign_is_plain space name))
 
   -- what bears no letter may be put at the end of any node
   pub loose_in : (letters : List ℕ) (k : KindValue) (p : ℕ) (nodes : List NodeValue) (stack : List OpenValue)
@@ -244,7 +249,8 @@ module _ (choice : Choice) where
       → p < length nodes → bears choice k ≡ false → ((t : List ℕ) → k ≡ text t → ⊥)
       → OrderedIn choice letters (add k (last_in p) nodes) stack fosters
   loose_in letters k p nodes stack head fosters h o within e none =
-      let g = loose_added choice h.rank letters nodes o.labels o.fits (ranked_of h) p within k e (λ t f. absurd (none t f)) in
+      let g = loose_added choice h.rank letters nodes o.labels o.fits (ranked_of h) p within k e
+      (λ t f. absurd (none t f)) in
       record {
         labels = g.labels;
         fits = g.fits;
@@ -370,7 +376,8 @@ module _ (choice : Choice) where
   pub text_ordered : (letters t : List ℕ) (s : StateValue) → IsUtf8 t → Hung s → Ordered choice letters s
       → Ordered choice (letters ++ counted_of choice t) (insert_text t s)
   text_ordered letters t s u h o =
-      subst (λ (at : _). OrderedIn choice (letters ++ counted_of choice t) (add_text t at s.nodes) s.stack s.foster_parenting)
+      subst (λ (at : _). OrderedIn choice (letters ++ counted_of choice t) (add_text t at s.nodes) s.stack
+      s.foster_parenting)
       (sym (place_last s o.no_fostering))
       (let p = (current s.stack).node in
       let g = text_put choice h.rank letters s.nodes o.labels o.fits (ranked_of h) p (current_within s.stack h)

@@ -29,9 +29,11 @@ use Rattle.htmd_html5_laws.proofs.Counted.{Choice, counted_of}
 module _ (choice : Choice) where
   -- ---- letters of texts
 
-  pub letters_append : (s t : List ℕ) → IsUtf8 s → counted_of choice (s ++ t) ≡ counted_of choice s ++ counted_of choice t
+  pub letters_append : (s t : List ℕ) → IsUtf8 s → counted_of choice (s ++ t) ≡ counted_of choice s ++ counted_of
+      choice t
   unfolding counted_of
-  letters_append s t u = ap (filter choice.counts) (chars-append s t u) ∙ filter-append choice.counts (chars s) (chars t)
+  letters_append s t u = ap (filter choice.counts) (chars-append s t u) ∙ filter-append choice.counts (chars s)
+      (chars t)
 
   pub fits_same : {out : ℕ → Bool} {letters : List ℕ} {nodes : List NodeValue} {l : Labels}
       → FitsBy choice out (letters ++ []) nodes l → FitsBy choice out letters nodes l
@@ -84,7 +86,8 @@ module _ (choice : Choice) where
       alike : (c : ℕ) → bears choice (kind_at (with_kind n k nodes) c) ≡ bears choice (kind_at nodes c)
       alike c =
           test (n == c)
-          (λ u. subst (λ (x : ℕ). bears choice (kind_at (with_kind n k nodes) x) ≡ bears choice (kind_at nodes x)) (eqb-true n c u)
+          (λ u. subst (λ (x : ℕ). bears choice (kind_at (with_kind n k nodes) x) ≡ bears choice (kind_at nodes x))
+          (eqb-true n c u)
           (own_bears (kind_set_own n k nodes)))
           (λ u. ap (bears choice) (kind_set_other n c k nodes (eqb-false n c u)))
 
@@ -105,11 +108,16 @@ module _ (choice : Choice) where
     -- what bears nothing may stand anywhere
     pub loose_row : bears choice k ≡ false → RowOk choice letters nodes l h forest k p within more live
     loose_row e limit big =
-        row_append (marks choice none_out (grown k p nodes) limit (marked choice letters nodes l h forest k p within more live))
+        row_append (marks choice none_out (grown k p nodes) limit
+        (marked choice letters nodes l h forest k p within more live))
         (l.lo p) (children_at nodes p) (until limit l p) (length nodes ∷ []) (until limit l p)
-        (row_kept choice letters nodes l h forest k p within more live limit (l.lo p) (children_at nodes p) (until limit l p) big
-        (no_child nodes p (length nodes) forest (omega arith)) (h.rows limit (omega arith) p))
-        (λ b. absurd (true≢false (sym b ∙ none)), low _ _ (bears choice (kind_at (grown k p nodes) (length nodes))) none)
+        (row_kept choice letters nodes l h forest k p within more live limit (l.lo p) (children_at nodes p)
+        (until limit l p) big
+        (no_child nodes p (length nodes) forest (omega arith)) (h.rows limit (omega arith) p)) (
+          λ b. absurd (true≢false (sym b ∙ none)),
+          low _ _ (bears choice (kind_at (grown k p nodes) (length nodes)))
+              none,
+        )
       where
         none : bears choice (kind_at (grown k p nodes) (length nodes)) ≡ false
         none = ap (bears choice) (kind_grown_new k p nodes) ∙ e
@@ -123,18 +131,23 @@ module _ (choice : Choice) where
         → ((c : ℕ) → 1 ≤ times c (children_at nodes p) → bears choice (kind_at nodes c) ≡ true → l.live c ≡ false)
         → RowOk choice letters nodes l h forest k p within more live
     live_row e ends limit big =
-        row_append (marks choice none_out (grown k p nodes) limit (marked choice letters nodes l h forest k p within more live))
+        row_append (marks choice none_out (grown k p nodes) limit
+        (marked choice letters nodes l h forest k p within more live))
         (l.lo p) (children_at nodes p) (length letters) (length nodes ∷ []) (until limit l p)
-        (row_kept choice letters nodes l h forest k p within more live limit (l.lo p) (children_at nodes p) (length letters) big
+        (row_kept choice letters nodes l h forest k p within more live limit (l.lo p) (children_at nodes p)
+        (length letters) big
         (no_child nodes p (length nodes) forest (omega arith))
-        (row_ends (marks choice none_out nodes limit l) (l.lo p) (children_at nodes p) (until limit l p) (length letters)
+        (row_ends (marks choice none_out nodes limit l) (l.lo p) (children_at nodes p) (until limit l p)
+        (length letters)
         (let a = h.span p in let b = h.high p in omega arith)
         (λ c m b. end_low c (l.live c) (ends c m b)) (h.rows limit (omega arith) p))) (
           λ b. let x = own_lo choice letters nodes l h forest k p within more live in
-              let y = (own_until choice letters nodes l h forest k p within more live limit big).0 in (omega arith, omega arith),
+              let y = (own_until choice letters nodes l h forest k p within more live limit big).0 in
+              (omega arith, omega arith),
           let z : until limit l p ≡ limit = ap (λ (b : Bool). cond b limit (l.hi p)) e in
               let y = (own_until choice letters nodes l h forest k p within more live limit big).1 in
-              let w = low (bears choice (kind_at (grown k p nodes) (length nodes))) limit (length letters) y (omega arith) in
+              let w = low (bears choice (kind_at (grown k p nodes) (length nodes))) limit (length letters) y
+              (omega arith) in
               omega arith,
         )
       where
@@ -209,8 +222,11 @@ module _ (choice : Choice) where
 row_uncounted : (m : Marks) (at : ℕ) (cs : List ℕ) (to : ℕ) → at ≤ to
     → ((c : ℕ) → 1 ≤ times c cs → m.counts c ≡ true → ⊥) → Row m at cs to
 row_uncounted m at [] to l f = l
-row_uncounted m at (c ∷ cs) to l f =
-    (λ b. absurd (f c own b), row_uncounted m (after m at c) cs to (low (m.counts c) refl) (λ d k b. f d (omega arith) b))
+row_uncounted m at (c ∷ cs) to l f = (
+  λ b. absurd (f c own b),
+  row_uncounted m (after m at c) cs to (low (m.counts c) refl)
+      (λ d k b. f d (omega arith) b),
+)
   where
     own : 1 ≤ times c (c ∷ cs)
     own = let o : ◌≡◌ {A = ℕ} (cond (c == c) 1 0) 1 = rw (eq-eqb c c refl) refl in omega arith
@@ -220,273 +236,283 @@ row_uncounted m at (c ∷ cs) to l f =
     low false e = l
 
 module _ (choice : Choice) where
-  module _ (rank : ℕ → ℕ) (letters : List ℕ) (nodes : List NodeValue) (l : Labels) (h : FitsBy choice none_out letters nodes l)
+  module _ (rank : ℕ → ℕ) (letters : List ℕ) (nodes : List NodeValue) (l : Labels)
+      (h : FitsBy choice none_out letters nodes l)
       (ranked : Ranked rank nodes) (p n : ℕ) (s t : List ℕ) (is : kind_at nodes n ≡ text s) (ds : List ℕ)
       (stand : children_at nodes p ≡ ds ++ n ∷ []) (live : l.live p ≡ true) (u : IsUtf8 t)
-      (ends : (c : ℕ) → 1 ≤ times c (children_at nodes p) → bears choice (kind_at nodes c) ≡ true → l.live c ≡ false) where
-    abbrev start : ℕ
-    start = cond (bears choice (kind_at nodes n)) (l.lo n) (length letters)
+      (ends : (c : ℕ) → 1 ≤ times c (children_at nodes p) → bears choice (kind_at nodes c) ≡ true → l.live c ≡ false)
+    where
+      abbrev start : ℕ
+      start = cond (bears choice (kind_at nodes n)) (l.lo n) (length letters)
 
-    abbrev stop : ℕ
-    stop = length letters + length (counted_of choice t)
+      abbrev stop : ℕ
+      stop = length letters + length (counted_of choice t)
 
-    abbrev joined : List NodeValue
-    joined = with_kind n (text (s ++ t)) nodes
+      abbrev joined : List NodeValue
+      joined = with_kind n (text (s ++ t)) nodes
 
-    abbrev pub with_more : Labels
-    with_more = mark choice n start stop false l
+      abbrev pub with_more : Labels
+      with_more = mark choice n start stop false l
 
-    start_low : start ≤ length letters
-    start_low = low (bears choice (kind_at nodes n))
-      where
-        low : (b : Bool) → cond b (l.lo n) (length letters) ≤ length letters
-        low true = let a = h.span n in let b = h.high n in omega arith
-        low false = omega arith
+      start_low : start ≤ length letters
+      start_low = low (bears choice (kind_at nodes n))
+        where
+          low : (b : Bool) → cond b (l.lo n) (length letters) ≤ length letters
+          low true = let a = h.span n in let b = h.high n in omega arith
+          low false = omega arith
 
-    old_text : TextIn choice letters l n s
-    old_text = h.texts n s is
+      old_text : TextIn choice letters l n s
+      old_text = h.texts n s is
 
-    more_other_until : (limit m : ℕ) → (m ≡ n → ⊥) → until limit with_more m ≡ until limit l m
-    more_other_until limit m f = rw (ne_eqb m n f) refl
+      more_other_until : (limit m : ℕ) → (m ≡ n → ⊥) → until limit with_more m ≡ until limit l m
+      more_other_until limit m f = rw (ne_eqb m n f) refl
 
-    more_other_lo : (m : ℕ) → (m ≡ n → ⊥) → with_more.lo m ≡ l.lo m
-    more_other_lo m f = rw (ne_eqb m n f) refl
+      more_other_lo : (m : ℕ) → (m ≡ n → ⊥) → with_more.lo m ≡ l.lo m
+      more_other_lo m f = rw (ne_eqb m n f) refl
 
-    more_own_lo : with_more.lo n ≡ start
-    more_own_lo = rw (eq-eqb n n refl) refl
+      more_own_lo : with_more.lo n ≡ start
+      more_own_lo = rw (eq-eqb n n refl) refl
 
-    more_own_until : (limit : ℕ) → until limit with_more n ≡ stop
-    more_own_until limit = rw (eq-eqb n n refl) refl
+      more_own_until : (limit : ℕ) → until limit with_more n ≡ stop
+      more_own_until limit = rw (eq-eqb n n refl) refl
 
-    more_row_kept : (limit at : ℕ) (cs : List ℕ) (to : ℕ) → stop < limit → times n cs ≡ 0
-        → Row (marks choice none_out nodes limit l) at cs to → Row (marks choice none_out joined limit with_more) at cs to
-    more_row_kept limit at cs to big none r =
-        row_marks (marks choice none_out nodes limit l) (marks choice none_out joined limit with_more) at cs to
-        (λ c k b.
-        let other : c ≡ n → ⊥ = λ e. let z : times c cs ≡ times n cs = ap (λ (x : ℕ). times x cs) e in
-        omega arith in
-        let same = kind_set_other n c (text (s ++ t)) nodes (λ e. other (sym e)) in
-        let a = more_other_until limit c other in
-        let d = more_other_lo c other in
-        let w = spans c (l.live c) in
-        (sym (ap (bears choice) same) ∙ b, omega arith, omega arith, omega arith)) r
-      where
-        spans : (c : ℕ) (b : Bool) → l.lo c ≤ cond b limit (l.hi c)
-        spans c true = let a = h.span c in let b = h.high c in omega arith
-        spans c false = h.span c
+      more_row_kept : (limit at : ℕ) (cs : List ℕ) (to : ℕ) → stop < limit → times n cs ≡ 0
+          → Row (marks choice none_out nodes limit l) at cs to → Row (marks choice none_out joined limit with_more) at
+          cs to
+      more_row_kept limit at cs to big none r =
+          row_marks (marks choice none_out nodes limit l) (marks choice none_out joined limit with_more) at cs to
+          (λ c k b.
+          let other : c ≡ n → ⊥ = λ e. let z : times c cs ≡ times n cs = ap (λ (x : ℕ). times x cs) e in
+          omega arith in
+          let same = kind_set_other n c (text (s ++ t)) nodes (λ e. other (sym e)) in
+          let a = more_other_until limit c other in
+          let d = more_other_lo c other in
+          let w = spans c (l.live c) in
+          (sym (ap (bears choice) same) ∙ b, omega arith, omega arith, omega arith)) r
+        where
+          spans : (c : ℕ) (b : Bool) → l.lo c ≤ cond b limit (l.hi c)
+          spans c true = let a = h.span c in let b = h.high c in omega arith
+          spans c false = h.span c
 
-    n_in : 1 ≤ times n (children_at nodes p)
-    n_in =
-        let a = times_append n ds (n ∷ []) in
-        let o : ◌≡◌ {A = ℕ} (cond (n == n) 1 0) 1 = rw (eq-eqb n n refl) refl in
-        let b : times n (children_at nodes p) ≡ times n (ds ++ n ∷ []) = ap (times n) stand in
-        omega arith
+      n_in : 1 ≤ times n (children_at nodes p)
+      n_in =
+          let a = times_append n ds (n ∷ []) in
+          let o : ◌≡◌ {A = ℕ} (cond (n == n) 1 0) 1 = rw (eq-eqb n n refl) refl in
+          let b : times n (children_at nodes p) ≡ times n (ds ++ n ∷ []) = ap (times n) stand in
+          omega arith
 
-    n_once : times n ds ≡ 0
-    n_once =
-        let a = times_append n ds (n ∷ []) in
-        let o : ◌≡◌ {A = ℕ} (cond (n == n) 1 0) 1 = rw (eq-eqb n n refl) refl in
-        let b : times n (children_at nodes p) ≡ times n (ds ++ n ∷ []) = ap (times n) stand in
-        let d = ranked.forest.once n p in
-        let e = once_at_most (parent_at nodes n) p in
-        omega arith
+      n_once : times n ds ≡ 0
+      n_once =
+          let a = times_append n ds (n ∷ []) in
+          let o : ◌≡◌ {A = ℕ} (cond (n == n) 1 0) 1 = rw (eq-eqb n n refl) refl in
+          let b : times n (children_at nodes p) ≡ times n (ds ++ n ∷ []) = ap (times n) stand in
+          let d = ranked.forest.once n p in
+          let e = once_at_most (parent_at nodes n) p in
+          omega arith
 
-    n_parent : parent_at nodes n ≡ Some p
-    n_parent = child_parent nodes p n ranked.forest n_in
+      n_parent : parent_at nodes n ≡ Some p
+      n_parent = child_parent nodes p n ranked.forest n_in
 
-    n_elsewhere : (q : ℕ) → (p ≡ q → ⊥) → times n (children_at nodes q) ≡ 0
-    n_elsewhere q f =
-        let a = ranked.forest.once n q in
-        let b : once_under (parent_at nodes n) q ≡ 0 =
-        ap (λ (o : Option ℕ). once_under o q) n_parent ∙ elsewhere p q f in
-        omega arith
+      n_elsewhere : (q : ℕ) → (p ≡ q → ⊥) → times n (children_at nodes q) ≡ 0
+      n_elsewhere q f =
+          let a = ranked.forest.once n q in
+          let b : once_under (parent_at nodes n) q ≡ 0 =
+          ap (λ (o : Option ℕ). once_under o q) n_parent ∙ elsewhere p q f in
+          omega arith
 
-    longer_by : length (letters ++ counted_of choice t) ≡ stop
-    longer_by = length-append letters (counted_of choice t)
+      longer_by : length (letters ++ counted_of choice t) ≡ stop
+      longer_by = length-append letters (counted_of choice t)
 
-    front : (limit : ℕ) → stop < limit → Row (marks choice none_out nodes limit l) (l.lo p) ds start
-    front limit big = either (bears choice (kind_at nodes n)) refl
-        (row_split choice (marks choice none_out nodes limit l) (l.lo p) ds n (until limit l p)
-        (subst (λ (cs : List ℕ). Row (marks choice none_out nodes limit l) (l.lo p) cs (until limit l p)) stand
-        (h.rows limit (omega arith) p))).front
-      where
-        end_low : (c : ℕ) (b : Bool) → b ≡ false → cond b limit (l.hi c) ≤ length letters
-        end_low c true f = absurd (true≢false f)
-        end_low c false f = h.high c
+      front : (limit : ℕ) → stop < limit → Row (marks choice none_out nodes limit l) (l.lo p) ds start
+      front limit big = either (bears choice (kind_at nodes n)) refl
+          (row_split choice (marks choice none_out nodes limit l) (l.lo p) ds n (until limit l p)
+          (subst (λ (cs : List ℕ). Row (marks choice none_out nodes limit l) (l.lo p) cs (until limit l p)) stand
+          (h.rows limit (omega arith) p))).front
+        where
+          end_low : (c : ℕ) (b : Bool) → b ≡ false → cond b limit (l.hi c) ≤ length letters
+          end_low c true f = absurd (true≢false f)
+          end_low c false f = h.high c
 
-        member : (c : ℕ) → 1 ≤ times c ds → 1 ≤ times c (children_at nodes p)
-        member c k =
-            let a = times_append c ds (n ∷ []) in
-            let b : times c (children_at nodes p) ≡ times c (ds ++ n ∷ []) = ap (times c) stand in
-            omega arith
+          member : (c : ℕ) → 1 ≤ times c ds → 1 ≤ times c (children_at nodes p)
+          member c k =
+              let a = times_append c ds (n ∷ []) in
+              let b : times c (children_at nodes p) ≡ times c (ds ++ n ∷ []) = ap (times c) stand in
+              omega arith
 
-        either : (b : Bool) → bears choice (kind_at nodes n) ≡ b
-            → Row (marks choice none_out nodes limit l) (l.lo p) ds (cond b (l.lo n) (until limit l p))
-            → Row (marks choice none_out nodes limit l) (l.lo p) ds (cond b (l.lo n) (length letters))
-        either true e r = r
-        either false e r =
-            row_ends (marks choice none_out nodes limit l) (l.lo p) ds (until limit l p) (length letters)
-            (let a = h.span p in let b = h.high p in omega arith)
-            (λ c k b. end_low c (l.live c) (ends c (member c k) b)) r
+          either : (b : Bool) → bears choice (kind_at nodes n) ≡ b
+              → Row (marks choice none_out nodes limit l) (l.lo p) ds (cond b (l.lo n) (until limit l p))
+              → Row (marks choice none_out nodes limit l) (l.lo p) ds (cond b (l.lo n) (length letters))
+          either true e r = r
+          either false e r =
+              row_ends (marks choice none_out nodes limit l) (l.lo p) ds (until limit l p) (length letters)
+              (let a = h.span p in let b = h.high p in omega arith)
+              (λ c k b. end_low c (l.live c) (ends c (member c k) b)) r
 
-    p_other : p ≡ n → ⊥
-    p_other e = true≢false (sym (ap l.live (sym e) ∙ live) ∙ old_text.closed)
+      p_other : p ≡ n → ⊥
+      p_other e = true≢false (sym (ap l.live (sym e) ∙ live) ∙ old_text.closed)
 
-    at_parent : (limit : ℕ) → stop < limit → (q : ℕ) → p ≡ q
-        → Row (marks choice none_out joined limit with_more) (with_more.lo q) (children_at nodes q) (until limit with_more q)
-    at_parent limit big q e =
-        subst (λ (x : ℕ). Row (marks choice none_out joined limit with_more) (with_more.lo x) (children_at nodes x)
-        (until limit with_more x)) e
-        (subst (λ (x : ℕ). Row (marks choice none_out joined limit with_more) (with_more.lo p) (children_at nodes p) x)
-        (sym (more_other_until limit p p_other ∙ ap (λ (b : Bool). cond b limit (l.hi p)) live))
-        (subst (λ (x : ℕ). Row (marks choice none_out joined limit with_more) x (children_at nodes p) limit)
-        (sym (more_other_lo p p_other))
-        (subst (λ (cs : List ℕ). Row (marks choice none_out joined limit with_more) (l.lo p) cs limit) (sym stand)
-        (row_append (marks choice none_out joined limit with_more) (l.lo p) ds start (n ∷ []) limit
-        (more_row_kept limit (l.lo p) ds start big n_once (front limit big)) (
-          λ b. let x = more_own_lo in let y = more_own_until limit in let z = start_low in (omega arith, omega arith),
-          let y = more_own_until limit in let z = start_low in
-              low (bears choice (kind_at joined n)) limit start (omega arith) (omega arith),
-        )))))
-      where
-        low : {x : ℕ} (b : Bool) (z y : ℕ) → x ≤ z → y ≤ z → cond b x y ≤ z
-        low true z y f g = f
-        low false z y f g = g
+      at_parent : (limit : ℕ) → stop < limit → (q : ℕ) → p ≡ q
+          → Row (marks choice none_out joined limit with_more) (with_more.lo q) (children_at nodes q)
+          (until limit with_more q)
+      at_parent limit big q e =
+          subst (λ (x : ℕ). Row (marks choice none_out joined limit with_more) (with_more.lo x) (children_at nodes x)
+          (until limit with_more x)) e
+          (subst (λ (x : ℕ). Row (marks choice none_out joined limit with_more) (with_more.lo p) (children_at nodes p) x)
+          (sym (more_other_until limit p p_other ∙ ap (λ (b : Bool). cond b limit (l.hi p)) live))
+          (subst (λ (x : ℕ). Row (marks choice none_out joined limit with_more) x (children_at nodes p) limit)
+          (sym (more_other_lo p p_other))
+          (subst (λ (cs : List ℕ). Row (marks choice none_out joined limit with_more) (l.lo p) cs limit) (sym stand)
+          (row_append (marks choice none_out joined limit with_more) (l.lo p) ds start (n ∷ []) limit
+          (more_row_kept limit (l.lo p) ds start big n_once (front limit big)) (
+            λ b. let x = more_own_lo in let y = more_own_until limit in let z = start_low in (omega arith, omega arith),
+            let y = more_own_until limit in let z = start_low in
+                low (bears choice (kind_at joined n)) limit start (omega arith) (omega arith),
+          )))))
+        where
+          low : {x : ℕ} (b : Bool) (z y : ℕ) → x ≤ z → y ≤ z → cond b x y ≤ z
+          low true z y f g = f
+          low false z y f g = g
 
-    at_own : (limit : ℕ) → stop < limit → (q : ℕ) → n ≡ q
-        → Row (marks choice none_out joined limit with_more) (with_more.lo q) (children_at nodes q) (until limit with_more q)
-    at_own limit big q e =
-        subst (λ (x : ℕ). Row (marks choice none_out joined limit with_more) (with_more.lo x) (children_at nodes x)
-        (until limit with_more x)) e
-        (row_uncounted (marks choice none_out joined limit with_more) (with_more.lo n) (children_at nodes n)
-        (until limit with_more n)
-        (let x = more_own_lo in let y = more_own_until limit in let z = start_low in omega arith)
-        (λ c k b. none c k b))
-      where
-        none : (c : ℕ) → 1 ≤ times c (children_at nodes n) → bears choice (kind_at joined c) ≡ true → ⊥
-        none c k b =
-            test (n == c)
-            (λ v. p_other (some_same (sym n_parent
-            ∙ child_parent nodes n n ranked.forest
-            (let f : times c (children_at nodes n) ≡ times n (children_at nodes n) =
-            ap (λ (x : ℕ). times x (children_at nodes n)) (sym (eqb-true n c v)) in omega arith))))
-            (λ v. bare choice rank nodes n c s ranked is k
-            (sym (ap (bears choice) (kind_set_other n c (text (s ++ t)) nodes (eqb-false n c v))) ∙ b))
-          where
-            some_same : {x y : ℕ} → Some x ≡ Some y → x ≡ y
-            some_same r = cc
+      at_own : (limit : ℕ) → stop < limit → (q : ℕ) → n ≡ q
+          → Row (marks choice none_out joined limit with_more) (with_more.lo q) (children_at nodes q)
+          (until limit with_more q)
+      at_own limit big q e =
+          subst (λ (x : ℕ). Row (marks choice none_out joined limit with_more) (with_more.lo x) (children_at nodes x)
+          (until limit with_more x)) e
+          (row_uncounted (marks choice none_out joined limit with_more) (with_more.lo n) (children_at nodes n)
+          (until limit with_more n)
+          (let x = more_own_lo in let y = more_own_until limit in let z = start_low in omega arith)
+          (λ c k b. none c k b))
+        where
+          none : (c : ℕ) → 1 ≤ times c (children_at nodes n) → bears choice (kind_at joined c) ≡ true → ⊥
+          none c k b =
+              test (n == c)
+              (λ v. p_other (some_same (sym n_parent
+              ∙ child_parent nodes n n ranked.forest
+              (let f : times c (children_at nodes n) ≡ times n (children_at nodes n) =
+              ap (λ (x : ℕ). times x (children_at nodes n)) (sym (eqb-true n c v)) in omega arith))))
+              (λ v. bare choice rank nodes n c s ranked is k
+              (sym (ap (bears choice) (kind_set_other n c (text (s ++ t)) nodes (eqb-false n c v))) ∙ b))
+            where
+              some_same : {x y : ℕ} → Some x ≡ Some y → x ≡ y
+              some_same r = cc
 
-    at_other : (limit : ℕ) → stop < limit → (q : ℕ) → (p ≡ q → ⊥) → (n ≡ q → ⊥)
-        → Row (marks choice none_out joined limit with_more) (with_more.lo q) (children_at nodes q) (until limit with_more q)
-    at_other limit big q f g =
-        subst (λ (x : ℕ). Row (marks choice none_out joined limit with_more) (with_more.lo q) (children_at nodes q) x)
-        (sym (more_other_until limit q (λ e. g (sym e))))
-        (subst (λ (x : ℕ). Row (marks choice none_out joined limit with_more) x (children_at nodes q) (until limit l q))
-        (sym (more_other_lo q (λ e. g (sym e))))
-        (more_row_kept limit (l.lo q) (children_at nodes q) (until limit l q) big (n_elsewhere q f)
-        (h.rows limit (omega arith) q)))
+      at_other : (limit : ℕ) → stop < limit → (q : ℕ) → (p ≡ q → ⊥) → (n ≡ q → ⊥)
+          → Row (marks choice none_out joined limit with_more) (with_more.lo q) (children_at nodes q)
+          (until limit with_more q)
+      at_other limit big q f g =
+          subst (λ (x : ℕ). Row (marks choice none_out joined limit with_more) (with_more.lo q) (children_at nodes q) x)
+          (sym (more_other_until limit q (λ e. g (sym e))))
+          (subst (λ (x : ℕ). Row (marks choice none_out joined limit with_more) x (children_at nodes q) (until limit l q))
+          (sym (more_other_lo q (λ e. g (sym e))))
+          (more_row_kept limit (l.lo q) (children_at nodes q) (until limit l q) big (n_elsewhere q f)
+          (h.rows limit (omega arith) q)))
 
-    whole_text : Sub (counted_of choice (s ++ t)) (window start stop (letters ++ counted_of choice t))
-    whole_text =
-        subst (λ (x : List ℕ). Sub x (window start stop (letters ++ counted_of choice t)))
-        (sym (letters_append choice s t old_text.utf8)) (either (bears choice (kind_at nodes n)) refl)
-      where
-        last : Sub (counted_of choice t) (window (length letters) stop (letters ++ counted_of choice t))
-        last =
-            subst (λ (x : List ℕ). Sub (counted_of choice t) x)
-            (sym (window_new letters (counted_of choice t) (length letters) stop refl refl)) (sub_all (counted_of choice t))
+      whole_text : Sub (counted_of choice (s ++ t)) (window start stop (letters ++ counted_of choice t))
+      whole_text =
+          subst (λ (x : List ℕ). Sub x (window start stop (letters ++ counted_of choice t)))
+          (sym (letters_append choice s t old_text.utf8)) (either (bears choice (kind_at nodes n)) refl)
+        where
+          last : Sub (counted_of choice t) (window (length letters) stop (letters ++ counted_of choice t))
+          last =
+              subst (λ (x : List ℕ). Sub (counted_of choice t) x)
+              (sym (window_new letters (counted_of choice t) (length letters) stop refl refl))
+              (sub_all (counted_of choice t))
 
-        no_letters : (x : List ℕ) → not (is_empty x) ≡ false → x ≡ []
-        no_letters [] e = refl
-        no_letters (y ∷ x) e = absurd (true≢false e)
+          no_letters : (x : List ℕ) → not (is_empty x) ≡ false → x ≡ []
+          no_letters [] e = refl
+          no_letters (y ∷ x) e = absurd (true≢false e)
 
-        either : (b : Bool) → bears choice (kind_at nodes n) ≡ b
-            → Sub (counted_of choice s ++ counted_of choice t)
-            (window (cond b (l.lo n) (length letters)) stop (letters ++ counted_of choice t))
-        either true e =
-            sub_joined (counted_of choice s) (counted_of choice t) (letters ++ counted_of choice t) (l.lo n) (l.hi n) (length letters) stop
-            (h.span n) (h.high n) (omega arith)
-            (subst (λ (x : List ℕ). Sub (counted_of choice s) x)
-            (sym (window_grown (l.lo n) (l.hi n) letters (counted_of choice t) (h.high n))) old_text.within) last
-        either false e =
-            subst (λ (x : List ℕ). Sub (x ++ counted_of choice t) (window (length letters) stop (letters ++ counted_of choice t)))
-            (sym (no_letters (counted_of choice s) (sym (ap (bears choice) is) ∙ e))) last
+          either : (b : Bool) → bears choice (kind_at nodes n) ≡ b
+              → Sub (counted_of choice s ++ counted_of choice t)
+              (window (cond b (l.lo n) (length letters)) stop (letters ++ counted_of choice t))
+          either true e =
+              sub_joined (counted_of choice s) (counted_of choice t) (letters ++ counted_of choice t) (l.lo n) (l.hi n)
+              (length letters) stop
+              (h.span n) (h.high n) (omega arith)
+              (subst (λ (x : List ℕ). Sub (counted_of choice s) x)
+              (sym (window_grown (l.lo n) (l.hi n) letters (counted_of choice t) (h.high n))) old_text.within) last
+          either false e =
+              subst (λ (x : List ℕ). Sub (x ++ counted_of choice t)
+              (window (length letters) stop (letters ++ counted_of choice t)))
+              (sym (no_letters (counted_of choice s) (sym (ap (bears choice) is) ∙ e))) last
 
-    pub fits_joined : FitsBy choice none_out (letters ++ counted_of choice t) joined with_more
-    fits_joined = record {
-      span = λ m. let z = start_low in test (m == n) (λ v. rw v (omega arith)) (λ v. rw v (h.span m));
-      high = λ m. let a = longer_by in
-          test (m == n) (λ v. rw v (omega arith)) (λ v. let b = h.high m in rw v (omega arith));
-      rows = λ limit big q.
-          let a = longer_by in
-          subst (λ (cs : List ℕ). Row (marks choice none_out joined limit with_more) (with_more.lo q) cs
-          (until limit with_more q)) (sym (children_of_kind n q (text (s ++ t)) nodes))
-          (test (p == q)
-          (λ v. at_parent limit (omega arith) q (eqb-true p q v))
-          (λ v. test (n == q)
-          (λ w. at_own limit (omega arith) q (eqb-true n q w))
-          (λ w. at_other limit (omega arith) q (eqb-false p q v) (eqb-false n q w))));
-      texts = λ m x e.
-          test (n == m)
-          (λ v. own_text m x (eqb-true n m v) e (kind_set_own n (text (s ++ t)) nodes))
-          (λ v. other_text m x (eqb-false n m v) e);
-    }
-      where
-        other_text : (m : ℕ) (x : List ℕ) → (n ≡ m → ⊥) → kind_at joined m ≡ text x
-            → TextIn choice (letters ++ counted_of choice t) with_more m x
-        other_text m x f e =
-            let y = h.texts m x (sym (kind_set_other n m (text (s ++ t)) nodes f) ∙ e) in
-            let o : (m == n) ≡ false = ne_eqb m n (λ g. f (sym g)) in
-            record {
-              closed = rw o y.closed;
-              utf8 = y.utf8;
-              within =
-                  rw o
-                  (subst (λ (z : List ℕ). Sub (counted_of choice x) z)
-                  (sym (window_grown (l.lo m) (l.hi m) letters (counted_of choice t) (h.high m))) y.within);
-            }
+      pub fits_joined : FitsBy choice none_out (letters ++ counted_of choice t) joined with_more
+      fits_joined = record {
+        span = λ m. let z = start_low in test (m == n) (λ v. rw v (omega arith)) (λ v. rw v (h.span m));
+        high = λ m. let a = longer_by in
+            test (m == n) (λ v. rw v (omega arith)) (λ v. let b = h.high m in rw v (omega arith));
+        rows = λ limit big q.
+            let a = longer_by in
+            subst (λ (cs : List ℕ). Row (marks choice none_out joined limit with_more) (with_more.lo q) cs
+            (until limit with_more q)) (sym (children_of_kind n q (text (s ++ t)) nodes))
+            (test (p == q)
+            (λ v. at_parent limit (omega arith) q (eqb-true p q v))
+            (λ v. test (n == q)
+            (λ w. at_own limit (omega arith) q (eqb-true n q w))
+            (λ w. at_other limit (omega arith) q (eqb-false p q v) (eqb-false n q w))));
+        texts = λ m x e.
+            test (n == m)
+            (λ v. own_text m x (eqb-true n m v) e (kind_set_own n (text (s ++ t)) nodes))
+            (λ v. other_text m x (eqb-false n m v) e);
+      }
+        where
+          other_text : (m : ℕ) (x : List ℕ) → (n ≡ m → ⊥) → kind_at joined m ≡ text x
+              → TextIn choice (letters ++ counted_of choice t) with_more m x
+          other_text m x f e =
+              let y = h.texts m x (sym (kind_set_other n m (text (s ++ t)) nodes f) ∙ e) in
+              let o : (m == n) ≡ false = ne_eqb m n (λ g. f (sym g)) in
+              record {
+                closed = rw o y.closed;
+                utf8 = y.utf8;
+                within =
+                    rw o
+                    (subst (λ (z : List ℕ). Sub (counted_of choice x) z)
+                    (sym (window_grown (l.lo m) (l.hi m) letters (counted_of choice t) (h.high m))) y.within);
+              }
 
-        text_same : {x y : List ℕ} → text x ≡ text y → x ≡ y
-        text_same e = cc
+          text_same : {x y : List ℕ} → text x ≡ text y → x ≡ y
+          text_same e = cc
 
-        own_by : (x : List ℕ) → kind_at joined n ≡ text x
-            → (kind_at joined n ≡ text (s ++ t)) ⊎ (kind_at joined n ≡ kind_at nodes n)
-            → TextIn choice (letters ++ counted_of choice t) with_more n x
-        own_by x e (inl g) =
-            subst (λ (y : List ℕ). TextIn choice (letters ++ counted_of choice t) with_more n y) (text_same (sym g ∙ e))
-            (record {
-              closed = rw (eq-eqb n n refl) refl;
-              utf8 = IsUtf8-append s t old_text.utf8 u;
-              within = rw (eq-eqb n n refl) whole_text;
-            })
-        own_by x e (inr g) =
-            let same : s ≡ x = text_same (sym is ∙ (sym g ∙ e)) in
-            subst (λ (y : List ℕ). TextIn choice (letters ++ counted_of choice t) with_more n y) same
-            (record {
-              closed = rw (eq-eqb n n refl) refl;
-              utf8 = old_text.utf8;
-              within = rw (eq-eqb n n refl) (part whole_text);
-            })
-          where
-            front_of : (a b c : List ℕ) → Sub (a ++ b) c → Sub a c
-            front_of [] b c z = tt
-            front_of (y ∷ a) b [] z = absurd z
-            front_of (y ∷ a) b (w ∷ c) (inl z) = inl (z.0, front_of a b c z.1)
-            front_of (y ∷ a) b (w ∷ c) (inr z) = inr (front_of (y ∷ a) b c z)
+          own_by : (x : List ℕ) → kind_at joined n ≡ text x
+              → (kind_at joined n ≡ text (s ++ t)) ⊎ (kind_at joined n ≡ kind_at nodes n)
+              → TextIn choice (letters ++ counted_of choice t) with_more n x
+          own_by x e (inl g) =
+              subst (λ (y : List ℕ). TextIn choice (letters ++ counted_of choice t) with_more n y) (text_same (sym g ∙ e))
+              (record {
+                closed = rw (eq-eqb n n refl) refl;
+                utf8 = IsUtf8-append s t old_text.utf8 u;
+                within = rw (eq-eqb n n refl) whole_text;
+              })
+          own_by x e (inr g) =
+              let same : s ≡ x = text_same (sym is ∙ (sym g ∙ e)) in
+              subst (λ (y : List ℕ). TextIn choice (letters ++ counted_of choice t) with_more n y) same
+              (record {
+                closed = rw (eq-eqb n n refl) refl;
+                utf8 = old_text.utf8;
+                within = rw (eq-eqb n n refl) (part whole_text);
+              })
+            where
+              front_of : (a b c : List ℕ) → Sub (a ++ b) c → Sub a c
+              front_of [] b c z = tt
+              front_of (y ∷ a) b [] z = absurd z
+              front_of (y ∷ a) b (w ∷ c) (inl z) = inl (z.0, front_of a b c z.1)
+              front_of (y ∷ a) b (w ∷ c) (inr z) = inr (front_of (y ∷ a) b c z)
 
-            part : Sub (counted_of choice (s ++ t)) (window start stop (letters ++ counted_of choice t))
-                → Sub (counted_of choice s) (window start stop (letters ++ counted_of choice t))
-            part z =
-                front_of (counted_of choice s) (counted_of choice t) (window start stop (letters ++ counted_of choice t))
-                (subst (λ (y : List ℕ). Sub y (window start stop (letters ++ counted_of choice t)))
-                (letters_append choice s t old_text.utf8) z)
+              part : Sub (counted_of choice (s ++ t)) (window start stop (letters ++ counted_of choice t))
+                  → Sub (counted_of choice s) (window start stop (letters ++ counted_of choice t))
+              part z =
+                  front_of (counted_of choice s) (counted_of choice t)
+                  (window start stop (letters ++ counted_of choice t))
+                  (subst (λ (y : List ℕ). Sub y (window start stop (letters ++ counted_of choice t)))
+                  (letters_append choice s t old_text.utf8) z)
 
-        own_text : (m : ℕ) (x : List ℕ) → n ≡ m → kind_at joined m ≡ text x
-            → (kind_at joined n ≡ text (s ++ t)) ⊎ (kind_at joined n ≡ kind_at nodes n)
-            → TextIn choice (letters ++ counted_of choice t) with_more m x
-        own_text m x e f g =
-            subst (λ (y : ℕ). TextIn choice (letters ++ counted_of choice t) with_more y x) e
-            (own_by x (ap (λ (y : ℕ). kind_at joined y) e ∙ f) g)
+          own_text : (m : ℕ) (x : List ℕ) → n ≡ m → kind_at joined m ≡ text x
+              → (kind_at joined n ≡ text (s ++ t)) ⊎ (kind_at joined n ≡ kind_at nodes n)
+              → TextIn choice (letters ++ counted_of choice t) with_more m x
+          own_text m x e f g =
+              subst (λ (y : ℕ). TextIn choice (letters ++ counted_of choice t) with_more y x) e
+              (own_by x (ap (λ (y : ℕ). kind_at joined y) e ∙ f) g)
 
   -- ---- text at the end of what is live
 
@@ -515,7 +541,8 @@ module _ (choice : Choice) where
       → GoesOn letters size old nodes → Goes rank p letters size old nodes
   goes_on rank p g = record { labels = g.labels; fits = g.fits; still = λ m k e r. g.still m k e }
 
-  module _ (rank : ℕ → ℕ) (letters : List ℕ) (nodes : List NodeValue) (l : Labels) (h : FitsBy choice none_out letters nodes l)
+  module _ (rank : ℕ → ℕ) (letters : List ℕ) (nodes : List NodeValue) (l : Labels)
+      (h : FitsBy choice none_out letters nodes l)
       (ranked : Ranked rank nodes) (p : ℕ) (within : p < length nodes) where
     -- what bears nothing
     pub loose_added : (k : KindValue) → bears choice k ≡ false
@@ -524,7 +551,8 @@ module _ (choice : Choice) where
     loose_added k e is = record {
       labels = marked choice letters nodes l h ranked.forest k p within [] false;
       fits = fits_same choice (fits_added choice letters nodes l h ranked.forest k p within [] false
-          (loose_row choice letters nodes l h ranked.forest k p within [] false e) (λ t f. let x = is t f in (refl, x.0, x.1)));
+          (loose_row choice letters nodes l h ranked.forest k p within [] false e)
+          (λ t f. let x = is t f in (refl, x.0, x.1)));
       still = λ m k e. rw (ne_eqb m (length nodes) (λ f. omega arith)) e;
     }
 
@@ -549,11 +577,19 @@ module _ (choice : Choice) where
       text_added t u =
           let s = settled choice rank p letters nodes l ranked h in
           record {
-            labels = marked choice letters nodes s.labels s.fits ranked.forest (text t) p within (counted_of choice t) false;
-            fits = fits_added choice letters nodes s.labels s.fits ranked.forest (text t) p within (counted_of choice t) false
-                (live_row choice letters nodes s.labels s.fits ranked.forest (text t) p within (counted_of choice t) false
+            labels = marked choice letters nodes s.labels s.fits ranked.forest (text t) p within (counted_of choice t)
+                false;
+            fits = fits_added choice letters nodes s.labels s.fits ranked.forest (text t) p within
+                (counted_of choice t) false
+                (live_row choice letters nodes s.labels s.fits ranked.forest (text t) p within (counted_of choice t)
+                false
                 (s.still p live (omega arith)) s.children)
-                (λ x f. let same : t ≡ x = text_same f in (refl, subst IsUtf8 same u, ap (counted_of choice) (sym same)));
+                (λ x f. let same : t ≡ x = text_same f in (
+                  refl,
+                  subst IsUtf8 same u,
+                  ap (counted_of choice)
+                      (sym same),
+                ));
             still = λ m k e r. rw (ne_eqb m (length nodes) (λ f. omega arith)) (s.still m e r);
           }
         where
@@ -615,7 +651,8 @@ module _ (choice : Choice) where
         joined_same n s is =
             let old = h.texts n s is in
             let same : counted_of choice (s ++ t) ≡ counted_of choice s =
-            letters_append choice s t old.utf8 ∙ (ap (λ (x : List ℕ). counted_of choice s ++ x) none ∙ append_nil (counted_of choice s)) in
+            letters_append choice s t old.utf8 ∙ (ap (λ (x : List ℕ). counted_of choice s ++ x) none ∙ append_nil
+            (counted_of choice s)) in
             record {
               labels = l;
               fits = fits_like choice n (text (s ++ t)) letters nodes l

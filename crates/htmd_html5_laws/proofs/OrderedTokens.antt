@@ -91,7 +91,8 @@ module _ (choice : Choice) where
       ∙ ap (counted_of choice) (sym (back_split (is_of_kind (first_kind s)) s))
 
   -- no mode here is one of tables
-  pub no_tables : (raw : Bool) (mode : InsertionMode) (letters : List ℕ) (s : StateValue) → Stage choice raw mode letters s
+  pub no_tables : (raw : Bool) (mode : InsertionMode) (letters : List ℕ) (s : StateValue) → Stage choice raw mode
+      letters s
       → is_table_mode mode ≡ false
   no_tables raw Initial letters s h = refl
   no_tables raw BeforeHtml letters s h = refl
@@ -235,7 +236,8 @@ module _ (choice : Choice) where
 
   -- ---- in an element of only text
 
-  after_head_text : (reopens : Bool) (letters t : List ℕ) (s : StateValue) (head : Option ℕ) (stack : List OpenValue) → IsUtf8 t
+  after_head_text : (reopens : Bool) (letters t : List ℕ) (s : StateValue) (head : Option ℕ) (stack : List OpenValue)
+      → IsUtf8 t
       → s.stack ≡ stack
       → AfterHeadAt choice reopens true head stack letters s
       → AfterHeadAt choice reopens true head stack (letters ++ counted_of choice t) (insert_text t s)
@@ -262,7 +264,8 @@ module _ (choice : Choice) where
           ∙ (ap (λ (stack : List OpenValue). last_in (current stack).node) (sym e)
           ∙ sym (place_last s h.ordered.no_fostering))
 
-  raw_text_stage : (mode : InsertionMode) (letters t : List ℕ) (s : StateValue) → IsUtf8 t → Stage choice true mode letters s
+  raw_text_stage : (mode : InsertionMode) (letters t : List ℕ) (s : StateValue) → IsUtf8 t → Stage choice true mode
+      letters s
       → Stage choice true mode (letters ++ counted_of choice t) (insert_text t s)
   raw_text_stage Initial letters t s u h = (early_text choice letters t s u h.0, h.1)
   raw_text_stage BeforeHtml letters t s u h = (early_text choice letters t s u h.0, h.1)
@@ -275,7 +278,8 @@ module _ (choice : Choice) where
   raw_text_stage AfterAfterBody letters t s u h = late_writes choice letters t s u h
   raw_text_stage _ letters t s u h = absurd h
 
-  put_raw_stage : (letters t : List ℕ) (s : StateValue) → IsUtf8 t → is_text_mode s.content ≡ true → Staged choice letters s
+  put_raw_stage : (letters t : List ℕ) (s : StateValue) → IsUtf8 t → is_text_mode s.content ≡ true → Staged choice
+      letters s
       → Staged choice (letters ++ counted_of choice t) (put_raw_text t s)
   put_raw_stage letters t s u e h = either (is_empty t)
     where
@@ -424,9 +428,11 @@ orderly_name s d = by_found (known_name s) refl
 
     by_tag : (tag : TagName) → bytes_eq s (spelling tag) ≡ true → is_orderly_name (known tag) ≡ true
     by_tag tags.FrameSet e =
-        absurd (true≢false (sym e ∙ (both_false (bytes_eq s (codes "frameset")) (bytes_eq s (codes "template")) parts.0).0))
+        absurd (true≢false (sym e ∙ (both_false (bytes_eq s (codes "frameset")) (bytes_eq s (codes "template"))
+        parts.0).0))
     by_tag tags.Template e =
-        absurd (true≢false (sym e ∙ (both_false (bytes_eq s (codes "frameset")) (bytes_eq s (codes "template")) parts.0).1))
+        absurd (true≢false (sym e ∙ (both_false (bytes_eq s (codes "frameset")) (bytes_eq s (codes "template"))
+        parts.0).1))
     by_tag tags.Table e = absurd (true≢false (sym e ∙ parts.1.0))
     by_tag tags.Select e = absurd (true≢false (sym e ∙ parts.1.1))
     by_tag _ e = refl
@@ -475,7 +481,8 @@ module _ (choice : Choice) where
   early_skipped letters s stack h =
       record { plain = h.plain; hung = h.hung; ordered = h.ordered; names = h.names }
 
-  late_skipped : (letters : List ℕ) (s : StateValue) → Late choice letters s → Late choice letters (with_nothing_skipped s)
+  late_skipped : (letters : List ℕ) (s : StateValue) → Late choice letters s → Late choice letters
+      (with_nothing_skipped s)
   late_skipped letters s h = record { plain = h.plain; hung = h.hung; ordered = h.ordered; late = h.late }
 
   after_head_skipped : (reopens raw : Bool) (letters : List ℕ) (s : StateValue) (head : Option ℕ)
@@ -487,7 +494,8 @@ module _ (choice : Choice) where
   after_head_skipped true true letters s (Some n) [] h = absurd h
   after_head_skipped true true letters s (Some n) (d ∷ ds) h = early_skipped letters s (d ∷ head_open n ∷ ds) h
 
-  pub stage_skipped : (raw : Bool) (mode : InsertionMode) (letters : List ℕ) (s : StateValue) → Stage choice raw mode letters s
+  pub stage_skipped : (raw : Bool) (mode : InsertionMode) (letters : List ℕ) (s : StateValue) → Stage choice raw mode
+      letters s
       → Stage choice raw mode letters (with_nothing_skipped s)
   stage_skipped raw Initial letters s h = (early_skipped letters s s.stack h.0, h.1)
   stage_skipped raw BeforeHtml letters s h = (early_skipped letters s s.stack h.0, h.1)
@@ -525,7 +533,8 @@ module _ (choice : Choice) where
             feed_text_stage choice letters (without_line_feed s.skips_line_feed t) skipped
             (shortened 0 s.skips_line_feed t u).utf8 x
         by_token (tokens.start_tag tag) u e late x =
-            others_stage (start_tag (named tag)) (orderly_name tag.name (orderly_tag (moves_text_in tag.name) e)) skipped x
+            others_stage (start_tag (named tag)) (orderly_name tag.name (orderly_tag (moves_text_in tag.name) e))
+            skipped x
             (λ z m. and_false (is_after_head s.mode) (is_head_name (name_of_text tag.name))
             (ap is_after_head (sym (out_of_text_stays skipped) ∙ m)) (late z))
         by_token (tokens.end_tag tag) u e late x =
@@ -627,7 +636,8 @@ module _ (choice : Choice) where
           not_text f = cc
 
       first_row : (limit q : ℕ)
-          → Row (marks choice none_out (new_node document ∷ []) limit (record { lo = λ n. 0; hi = λ n. 0; live = λ n. n == 0 }))
+          → Row (marks choice none_out (new_node document ∷ []) limit
+          (record { lo = λ n. 0; hi = λ n. 0; live = λ n. n == 0 }))
           0 (children_at (new_node document ∷ []) q) (cond (q == 0) limit 0)
       first_row limit zero = omega arith
       first_row limit (suc q) = omega arith

@@ -116,7 +116,8 @@ module _ (c : ℕ) (letter : LetterTests c) where
       let shorter = first_run_shortens text (filled text e) in
       let first : Grew c (occurrences c (first_run text)) s
       (fostered (run_in_body (first_kind text) (first_run text)) s) =
-      (fostered_puts (run_in_body_puts c letter.character text (first_run text) parts.front (first_all text))).puts s h in
+      (fostered_puts (run_in_body_puts c letter.character text (first_run text) parts.front (first_all text))).puts s
+      h in
       let count = parts.count in
       let later = foster_grew k (after_first_run text)
       (fostered (run_in_body (first_kind text) (first_run text)) s) (omega arith) parts.rest first.sound in
