@@ -1,6 +1,6 @@
 -- The characters that count stand in order in the tree: they are some of those that are kept of the tokens' texts, in
 -- their order, and as many of each.
-use Rattle.std.proofs.Common.{◌≡◌, ◌∙◌, ℕ, zero, suc, ◌+◌, ◌≤◌, Bool, true, false, List, [], ◌∷◌, ◌++◌, length}
+use Rattle.std.proofs.Common.{◌≡◌, ◌∙◌, ℕ, Bool, true, false, List, [], ◌∷◌}
 use Rattle.std.proofs.Common.{refl, sym, ap, arith, cond}
 use Rattle.std.specs.Prelude.{◌==◌, ◌||◌, not, filter, count_by, IsUtf8}
 use Rattle.std.specs.Str.{chars}

@@ -1,7 +1,7 @@
 -- A text, run by run, where no table is open: what is kept of it is put into the texts, white space too.
 use Rattle.std.proofs.Common.{◌≡◌, ◌∙◌, ℕ, zero, suc, ◌+◌, ◌<◌, ◌≤◌, Bool, true, false, List, [], ◌∷◌, ◌++◌, length}
-use Rattle.std.proofs.Common.{refl, sym, ap, subst, arith, cond, inl, inr}
-use Rattle.std.specs.Prelude.{IsUtf8, if◌then◌else◌, not}
+use Rattle.std.proofs.Common.{refl, sym, ap, arith, cond, inl, inr}
+use Rattle.std.specs.Prelude.{IsUtf8, if◌then◌else◌}
 use Rattle.std.specs.List.{list_all}
 use Rattle.std.proofs.lemmas.Bool.{true≢false, and_parts}
 use Rattle.htmd_text.specs.WhiteSpace.{is_ascii_white_space}
@@ -15,7 +15,7 @@ use Rattle.htmd_html5_state.specs.declared.modes.InsertionMode.TheVariants.{InHe
 use Rattle.htmd_html5_state.specs.declared.modes.InsertionMode.TheVariants.{AfterAfterBody}
 use Rattle.htmd_html5_state.specs.declared.sets.NameSet.TheVariants.{Fostering}
 use Rattle.htmd_html5.specs.Tokens.{TokenValue, run}
-use Rattle.htmd_html5.specs.Runs.{kind_of_byte, is_of_kind, first_kind, first_run, after_first_run, is_null}
+use Rattle.htmd_html5.specs.Runs.{kind_of_byte, is_of_kind, first_kind, first_run, after_first_run}
 use Rattle.htmd_html5.specs.Answers.{Answer}
 use Rattle.htmd_html5.specs.InTable.{table_text}
 use Rattle.htmd_html5.specs.Modes.{in_mode, by_mode_rules}
@@ -37,7 +37,6 @@ use Rattle.htmd_html5_laws.proofs.TakingTexts.{RunParts, run_parts}
 use Rattle.htmd_html5_laws.proofs.PuttingRuns.{rank, rank_positive, rank_at_most, Ended, Outcome, finished, goes_on, white_of}
 use Rattle.htmd_html5_laws.proofs.PuttingRuns.{white_ended, nulls_outcome, characters_outcome}
 use Rattle.htmd_html5_laws.proofs.PuttingTexts.{filled}
-use Rattle.htmd_html5_laws.proofs.OrderedStates.{is_late}
 use Rattle.htmd_html5_laws.proofs.OrderedEarly.{Stage, Staged, Calm}
 use Rattle.htmd_html5_laws.proofs.OrderedHead.{unstaged, stage_names, current_html, stays_html}
 use Rattle.htmd_html5_laws.proofs.OrderedRuns.{run_of}

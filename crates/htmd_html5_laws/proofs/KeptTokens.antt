@@ -1,20 +1,18 @@
 -- The tokens of a page, one after another: the texts of the nodes hold what is kept of the tokens' texts.
-use Rattle.std.proofs.Common.{◌≡◌, ◌∙◌, ℕ, zero, suc, ◌+◌, Bool, true, false, List, [], ◌∷◌, ◌++◌, length, refl, sym, ap, arith}
+use Rattle.std.proofs.Common.{◌≡◌, ℕ, zero, suc, ◌+◌, Bool, true, false, List, [], ◌∷◌, ◌++◌, length, refl, sym, ap, arith}
 use Rattle.std.proofs.Common.{inr}
 use Rattle.std.specs.Prelude.{IsUtf8, if◌then◌else◌, ◌&&◌, ◌||◌, ◌==◌, not}
 use Rattle.std.specs.List.{list_all}
 use Rattle.std.proofs.lemmas.Bool.{true≢false, and_parts}
-use Rattle.htmd_text.proofs.Cases.{test}
 use Rattle.htmd_text.specs.Characters.{null}
 use Rattle.htmd_tree.specs.Items.{greatest_depth}
-use Rattle.htmd_grammar.specs.CharacterClasses.{is_empty}
 use Rattle.htmd_html5_tokens.specs.Preprocessing.{preprocessed}
 use Rattle.htmd_html5_tokens.specs.References.{replacement_character}
 use Rattle.htmd_html5_tokens.specs.Tokens.{Read}
 use Rattle.htmd_html5_state.specs.State.{StateValue, initial_state}
 use Rattle.htmd_html5_state.specs.Foreign.{current_is_html}
 use Rattle.htmd_html5.specs.Texts.{put_text}
-use Rattle.htmd_html5.specs.Feeding.{is_text_mode, put_raw_text, feed_text, without_line_feed, with_nothing_skipped, feed_at, feed}
+use Rattle.htmd_html5.specs.Feeding.{is_text_mode, put_raw_text, feed_text, without_line_feed, with_nothing_skipped, feed}
 use Rattle.htmd_html5.specs.Documents.{next_read, is_end, after_token, read_within, state_after, html5_document}
 use Rattle.htmd_html5_laws.specs.PageLetters.{occurrences, occurrences_in}
 use Rattle.htmd_html5_laws.specs.HarmlessTags.{tokens_after, tokens_within, page_tokens, drops_text_in, is_harmless}

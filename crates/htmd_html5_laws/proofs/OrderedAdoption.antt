@@ -1,18 +1,17 @@
 -- The adoption agency leaves the letters in order.
 use Rattle.std.proofs.Common.{◌≡◌, ◌∙◌, ℕ, zero, suc, ◌<◌, ◌≤◌, Bool, true, false, List, [], ◌∷◌, ◌++◌, length}
 use Rattle.std.proofs.Common.{refl, sym, ap, subst, arith, Option, Some, None, inl, inr, ◌⊎◌}
-use Rattle.std.specs.Prelude.{if◌then◌else◌, ◌==◌, ◌&&◌, ◌-◌, not, nat_lt}
+use Rattle.std.specs.Prelude.{if◌then◌else◌, ◌&&◌, ◌-◌, not, nat_lt}
 use Rattle.std.specs.List.{list_any}
-use Rattle.std.proofs.lemmas.Bool.{true≢false, and_parts, eq-eqb, ne_eqb}
-use Rattle.htmd_text.proofs.Cases.{test}
+use Rattle.std.proofs.lemmas.Bool.{and_parts, eq-eqb, ne_eqb}
 use Rattle.htmd_html5_state.specs.Names.{known, html}
-use Rattle.htmd_html5_state.specs.Documents.{NodeValue, KindValue, kind_at, children_at, new_node, last_in, detach, put}
+use Rattle.htmd_html5_state.specs.Documents.{NodeValue, kind_at, children_at, new_node, last_in, detach, put}
 use Rattle.htmd_html5_state.specs.OpenElements.{OpenValue, is_open_node, pop, close_name, inside, around}
 use Rattle.htmd_html5_state.specs.State.{StateValue, on_nodes, on_stack, on_formatting}
 use Rattle.htmd_html5_state.specs.Insertion.{opened, current, place}
 use Rattle.htmd_html5_state.specs.Formatting.{is_listed, without_entry}
 use Rattle.htmd_html5_state.specs.Adoption.{formatting_element, node_is, bounds_any, Furthest, furthest_block, Chain}
-use Rattle.htmd_html5_state.specs.Adoption.{begin_chain, with_copy, with_next, chain, move_last, wrap_children, finish, adopt}
+use Rattle.htmd_html5_state.specs.Adoption.{begin_chain, with_copy, with_next, chain, move_last, wrap_children, adopt}
 use Rattle.htmd_html5_state.specs.Adoption.{Round, last_round, goes_on, round_by, round_open, round_with, round_of, round}
 use Rattle.htmd_html5_state.specs.Adoption.{go_on, rounds, closes_at_once, adoption_agency}
 use Rattle.htmd_html5_state.specs.declared.names.TagName.{TagName}
@@ -20,23 +19,23 @@ use Rattle.htmd_html5_laws.proofs.NodeTexts.{is_element}
 use Rattle.htmd_html5_laws.proofs.Forests.{IsForest, length_new, forest_new, forest_attach, forest_detached_put}
 use Rattle.htmd_html5_laws.proofs.OpenNodes.{EachOpen, Below, each_more, each_append, pop_fewer, close_name_fewer}
 use Rattle.htmd_html5_laws.proofs.OpenNodes.{inside_fewer, around_fewer}
-use Rattle.htmd_html5_laws.proofs.HungNodes.{is_solid, put_kind, put_size}
-use Rattle.htmd_html5_laws.proofs.HungStates.{ElementOpen, is_element_open, HungIn, Hung, element_number}
+use Rattle.htmd_html5_laws.proofs.HungNodes.{put_kind, put_size}
+use Rattle.htmd_html5_laws.proofs.HungStates.{ElementOpen, is_element_open, Hung, element_number}
 use Rattle.htmd_html5_laws.proofs.HungChains.{Within, within_low}
-use Rattle.htmd_html5_laws.proofs.HungChains.{FurthestAt, SomeAt, SomeRanks, furthest_at, furthest_ranks, inside_within}
+use Rattle.htmd_html5_laws.proofs.HungChains.{SomeAt, SomeRanks, furthest_at, furthest_ranks, inside_within}
 use Rattle.htmd_html5_laws.proofs.HungChains.{around_below, ChainHung, begun, next_hung, detach_size, detach_kind}
-use Rattle.htmd_html5_laws.proofs.HungAdoption.{RoundHung, below_each, each_both}
+use Rattle.htmd_html5_laws.proofs.HungAdoption.{RoundHung, each_both}
 use Rattle.htmd_html5_laws.proofs.PlainNames.{is_plain, PlainStack, is_plain_open}
-use Rattle.htmd_html5_laws.proofs.PlainStates.{Plain, Stays, plain_stack, Grown}
-use Rattle.htmd_html5_laws.proofs.PlainAdoption.{Chained, next_chained, chain_chained, FurthestPlain, SomePlain, furthest_plain}
+use Rattle.htmd_html5_laws.proofs.PlainStates.{Plain, Stays, plain_stack}
+use Rattle.htmd_html5_laws.proofs.PlainAdoption.{Chained, next_chained, FurthestPlain, SomePlain, furthest_plain}
 use Rattle.htmd_html5_laws.proofs.PlainAdoption.{after_round, of_plain, of_hung, found_listed, element_at, chain_hung}
 use Rattle.htmd_html5_laws.proofs.PlainAdoption.{rounds_stay}
 use Rattle.htmd_html5_laws.proofs.OrderedNodes.{Labels, FitsBy, none_out, Ranked, lt_false}
 use Rattle.htmd_html5_laws.proofs.OrderedPaths.{Alive, parted, parted_fits, front_ends}
-use Rattle.htmd_html5_laws.proofs.OrderedMoves.{Apart, apart_copied, copied, copied_labels, fits_placed, placed, fits_wrapped}
+use Rattle.htmd_html5_laws.proofs.OrderedMoves.{Apart, apart_copied, copied_labels, fits_placed, fits_wrapped}
 use Rattle.htmd_html5_laws.proofs.OrderedMoves.{wrapped_labels}
 use Rattle.htmd_html5_laws.proofs.OrderedStates.{OrderedIn, Ordered, Orders, ordered_fewer, is_late, low_ranks, place_last}
-use Rattle.htmd_html5_laws.proofs.OrderedStates.{orders_by_test, on_stack_orders, opens_still}
+use Rattle.htmd_html5_laws.proofs.OrderedStates.{orders_by_test, on_stack_orders}
 use Rattle.htmd_html5_laws.proofs.Counted.{Choice}
 
 module _ (choice : Choice) where

@@ -10,8 +10,7 @@ use Rattle.htmd_html5_state.specs.OpenElements.{is_in_scope, is_node_in_scope}
 use Rattle.htmd_html5_state.specs.State.{StateValue, on_stack}
 use Rattle.htmd_html5_state.specs.Adoption.{formatting_element}
 use Rattle.htmd_html5_state.specs.declared.modes.InsertionMode.{InsertionMode}
-use Rattle.htmd_html5_state.specs.declared.modes.InsertionMode.TheVariants.{InTable, InCaption, InTableBody, InRow}
-use Rattle.htmd_html5_state.specs.declared.modes.InsertionMode.TheVariants.{InCell, AfterBody}
+use Rattle.htmd_html5_state.specs.declared.modes.InsertionMode.TheVariants.{AfterBody}
 use Rattle.htmd_html5_state.specs.declared.names.TagName.{TagName}
 use Rattle.htmd_html5_state.specs.declared.names.Namespace.{Namespace}
 use Rattle.htmd_html5_state.specs.declared.names.Namespace.TheVariants.{Svg, MathMl}
@@ -28,10 +27,10 @@ use Rattle.htmd_html5.specs.SharedRules.{insert_head_element}
 use Rattle.htmd_html5.specs.BodyStarts.{block_rule, formatting_rule, phrasing_rule, rule_of_start}
 use Rattle.htmd_html5.specs.BodyStarts.{is_in_template, open_body, add_to_this_body, start_block}
 use Rattle.htmd_html5.specs.BodyStarts.{close_heading, start_heading, skip_line_feed, start_preformatted, with_form}
-use Rattle.htmd_html5.specs.BodyStarts.{start_form, start_item, start_table, start_separator}
+use Rattle.htmd_html5.specs.BodyStarts.{start_form, start_item, start_separator}
 use Rattle.htmd_html5.specs.BodyStarts.{start_formatting, forget, start_anchor, close_no_break, start_no_break}
 use Rattle.htmd_html5.specs.BodyStarts.{start_ordinary, start_button, start_embedded, start_void, is_hidden, start_input}
-use Rattle.htmd_html5.specs.BodyStarts.{mode_of_select, start_select, close_option, start_option, start_ruby}
+use Rattle.htmd_html5.specs.BodyStarts.{close_option, start_option, start_ruby}
 use Rattle.htmd_html5.specs.BodyStarts.{start_foreign, start_text_area, start_example}
 use Rattle.htmd_html5.specs.BodyStarts.{start_no_script, start_by, start_in_body}
 use Rattle.htmd_html5.specs.BodyEnds.{text_end_rule, end_rule, has_body, end_body, end_block, close_form, end_form}
@@ -44,7 +43,7 @@ use Rattle.htmd_html5_laws.proofs.HungStates.{Hung}
 use Rattle.htmd_html5_state.specs.declared.names.TagName.TheVariants as tags
 use Rattle.htmd_html5_tokens.specs.declared.tokens.RawElement.TheVariants as raw
 use Rattle.htmd_html5_laws.proofs.PlainNames.{is_plain}
-use Rattle.htmd_html5_laws.proofs.PlainStates.{is_plain_mode, Plain, Stays}
+use Rattle.htmd_html5_laws.proofs.PlainStates.{is_plain_mode, Plain}
 use Rattle.htmd_html5_laws.proofs.ColumnTags.{IsColumn}
 use Rattle.htmd_html5_laws.proofs.PlainBody.{StaysAnswer, says_plain, answers_either, with_mode_stays, no_frameset_stays}
 use Rattle.htmd_html5_laws.proofs.PlainBody.{end_template_stays, skip_line_feed_stays, with_form_stays, close_noted_form_stays}

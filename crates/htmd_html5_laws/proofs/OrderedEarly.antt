@@ -1,19 +1,15 @@
 -- Before the body each token that is no text leaves the letters in order: the head may be opened once more after it.
-use Rattle.std.proofs.Common.{◌≡◌, ◌∙◌, ℕ, zero, suc, ◌<◌, ◌≤◌, Bool, true, false, List, [], ◌∷◌, ◌++◌, length}
-use Rattle.std.proofs.Common.{Option, Some, None, refl, sym, ap, subst, arith, cond, inl, inr, ◌⊎◌}
-use Rattle.std.specs.Prelude.{if◌then◌else◌, ◌==◌, ◌||◌, not}
-use Rattle.std.proofs.lemmas.Bool.{true≢false, eq-eqb, ne_eqb}
-use Rattle.htmd_text.proofs.Cases.{test}
+use Rattle.std.proofs.Common.{◌≡◌, ◌∙◌, ℕ, zero, suc, ◌≤◌, Bool, true, false, List, [], ◌∷◌, length}
+use Rattle.std.proofs.Common.{Option, Some, None, refl, sym, ap, subst, cond, inl, inr, ◌⊎◌}
+use Rattle.std.specs.Prelude.{if◌then◌else◌}
+use Rattle.std.proofs.lemmas.Bool.{true≢false}
 use Rattle.htmd_grammar.specs.ValueTrees.{AttributePair}
-use Rattle.htmd_html5_tokens.specs.declared.tokens.Content.{Content}
-use Rattle.htmd_html5_tokens.specs.declared.tokens.RawElement.{RawElement}
 use Rattle.htmd_html5_state.specs.Names.{NameValue, known, html}
-use Rattle.htmd_html5_state.specs.Documents.{NodeValue, KindValue, doctype as doctype_kind, comment as comment_kind, text, element}
-use Rattle.htmd_html5_state.specs.Documents.{kind_at, last_in, add, add_missing, kind_with_missing}
-use Rattle.htmd_html5_state.specs.OpenElements.{OpenValue, is_open, first_open, pop, without}
-use Rattle.htmd_html5_state.specs.State.{StateValue, on_nodes, on_stack}
-use Rattle.htmd_html5_state.specs.Foreign.{is_html, current_is_html}
-use Rattle.htmd_html5_state.specs.Insertion.{opened, current, insert_element, insert_void, insert_raw, insert_doctype, open_again}
+use Rattle.htmd_html5_state.specs.Documents.{NodeValue, doctype as doctype_kind, text}
+use Rattle.htmd_html5_state.specs.OpenElements.{OpenValue, is_open, first_open, pop}
+use Rattle.htmd_html5_state.specs.State.{StateValue}
+use Rattle.htmd_html5_state.specs.Foreign.{is_html}
+use Rattle.htmd_html5_state.specs.Insertion.{opened, current, insert_doctype}
 use Rattle.htmd_html5_state.specs.Insertion.{insert_comment_in, insert_comment}
 use Rattle.htmd_html5_state.specs.declared.modes.InsertionMode.TheVariants.{Initial, BeforeHtml, BeforeHead, InHead}
 use Rattle.htmd_html5_state.specs.declared.modes.InsertionMode.TheVariants.{InHeadNoscript, AfterHead, InBody, AfterBody}
@@ -21,37 +17,24 @@ use Rattle.htmd_html5_state.specs.declared.modes.InsertionMode.TheVariants.{Afte
 use Rattle.htmd_html5_state.specs.declared.modes.InsertionMode.{InsertionMode}
 use Rattle.htmd_html5_state.specs.declared.sets.NameSet.TheVariants.{Only}
 use Rattle.htmd_html5.specs.Tokens.{StartTagValue, TokenValue, start_tag, end_tag, run, comment, doctype, end_of_file}
-use Rattle.htmd_html5.specs.Answers.{Answer, answer, done, again}
+use Rattle.htmd_html5.specs.Answers.{Answer, answer, done}
 use Rattle.htmd_html5.specs.Feeding.{is_text_mode}
-use Rattle.htmd_html5.specs.SharedRules.{add_missing_to, add_to_root, insert_head_element, insert_raw_tag, insert_void_tag}
-use Rattle.htmd_html5.specs.SharedRules.{end_template, insert_tag}
+use Rattle.htmd_html5.specs.SharedRules.{add_missing_to, add_to_root}
 use Rattle.htmd_html5.specs.Initial.{leave_initial, initial}
 use Rattle.htmd_html5.specs.BeforeHtml.{with_root, imply_root, start_before_html, end_before_html, before_html}
 use Rattle.htmd_html5.specs.BeforeHead.{with_head, imply_head, start_before_head, end_before_head, before_head}
-use Rattle.htmd_html5.specs.InHead.{close_head, noscript_in_head, start_in_head, end_in_head, in_head}
-use Rattle.htmd_html5.specs.InHeadNoscript.{close_noscript, start_in_noscript, end_in_noscript, in_head_noscript}
-use Rattle.htmd_html5.specs.AfterHead.{with_body, imply_body, insert_in_head, insert_late, start_after_head, end_after_head}
-use Rattle.htmd_html5.specs.AfterHead.{after_head}
-use Rattle.htmd_html5.specs.Modes.{in_mode, by_mode_rules}
-use Rattle.htmd_html5.specs.Processing.{by_rules}
-use Rattle.htmd_html5.specs.ForeignContent.{is_foreign, in_foreign_content}
-use Rattle.htmd_html5_laws.proofs.NodeTexts.{is_element, kinds_add}
-use Rattle.htmd_html5_laws.proofs.OpenNodes.{EachOpen, Fewer, all_of, skip, pop_fewer}
-use Rattle.htmd_html5_laws.proofs.PlainNames.{is_plain_name, is_plain_open, no_template_open}
-use Rattle.htmd_html5_laws.proofs.PlainStates.{Plain, PlainIn, Stays, plain_stack, in_plain_mode, plain_new, insert_root_stays}
+use Rattle.htmd_html5_laws.proofs.OpenNodes.{EachOpen, Fewer}
+use Rattle.htmd_html5_laws.proofs.PlainNames.{is_plain_name, is_plain_open}
+use Rattle.htmd_html5_laws.proofs.PlainStates.{Plain, plain_stack, in_plain_mode, insert_root_stays}
 use Rattle.htmd_html5_laws.proofs.PlainStates.{insert_doctype_stays, insert_element_stays, missing_grows, plain_grown}
-use Rattle.htmd_html5_laws.proofs.HungStates.{ElementOpen, HungIn, Hung, hung_fewer, hung_last, hung_headed, hung_missing}
-use Rattle.htmd_html5_laws.proofs.HungStates.{hung_named, element_number}
-use Rattle.htmd_html5_laws.proofs.HungNodes.{is_solid, element_solid}
-use Rattle.htmd_html5_laws.proofs.OrderedNodes.{FitsBy}
-use Rattle.htmd_html5_laws.proofs.OrderedTexts.{fits_like}
-use Rattle.htmd_html5_laws.proofs.OrderedStates.{OrderedIn, Ordered, Orders, ordered_fewer, is_late, element_in, loose_in}
-use Rattle.htmd_html5_laws.proofs.OrderedStates.{no_text, current_within, insert_comment_orders, insert_comment_root_orders}
-use Rattle.htmd_html5_laws.proofs.OrderedStates.{insert_void_orders, insert_raw_orders, insert_element_orders, missing_ordered}
-use Rattle.htmd_html5_laws.proofs.OrderedLate.{IsOrderly, Late, late_step, by_rules_late, first_within}
+use Rattle.htmd_html5_laws.proofs.HungStates.{HungIn, hung_fewer, hung_headed, hung_missing}
+use Rattle.htmd_html5_laws.proofs.HungStates.{hung_named}
+use Rattle.htmd_html5_laws.proofs.OrderedStates.{OrderedIn, Orders, ordered_fewer, is_late, element_in, loose_in}
+use Rattle.htmd_html5_laws.proofs.OrderedStates.{insert_comment_orders, insert_comment_root_orders}
+use Rattle.htmd_html5_laws.proofs.OrderedStates.{insert_element_orders, missing_ordered}
+use Rattle.htmd_html5_laws.proofs.OrderedLate.{IsOrderly, Late}
 use Rattle.htmd_html5_laws.proofs.OrderedBody.{plain_or_column, by_column_name}
 use Rattle.htmd_html5_state.specs.declared.names.TagName.TheVariants as tags
-use Rattle.htmd_html5_tokens.specs.declared.tokens.RawElement.TheVariants as raw
 use Rattle.htmd_html5_laws.proofs.Counted.{Choice}
 
 -- ---- states before the body

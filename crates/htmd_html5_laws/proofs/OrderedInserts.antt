@@ -1,26 +1,22 @@
 -- A new node at the end of an open one, or more at the end of its last text: the letters stand in order still.
 use Rattle.std.proofs.Common.{◌≡◌, ◌∙◌, ℕ, zero, suc, ◌+◌, ◌<◌, ◌≤◌, Bool, true, false, List, [], ◌∷◌, ◌++◌, length}
-use Rattle.std.proofs.Common.{take, drop, refl, sym, ap, subst, arith, cond, Option, Some, None, inl, inr, ◌⊎◌}
+use Rattle.std.proofs.Common.{drop, refl, sym, ap, subst, arith, cond, Option, Some}
 use Rattle.std.proofs.Common.{length-append}
-use Rattle.std.specs.Prelude.{◌==◌, ◌&&◌, not, insert, IsUtf8, slice_get}
-use Rattle.std.proofs.lemmas.Bool.{true≢false, eqb-true, eqb-false, eq-eqb, ne_eqb}
-use Rattle.std.proofs.lemmas.Str.{IsUtf8-append}
-use Rattle.std.proofs.lemmas.List.{length-set}
+use Rattle.std.specs.Prelude.{◌==◌, insert, IsUtf8}
+use Rattle.std.proofs.lemmas.Bool.{eqb-true, eqb-false, eq-eqb, ne_eqb}
 use Rattle.std.proofs.Math.Seq.{take-length, drop-length}
 use Rattle.htmd_text.proofs.Cases.{test}
-use Rattle.htmd_grammar.specs.CharacterClasses.{is_empty}
-use Rattle.htmd_html5_state.specs.Documents.{NodeValue, KindValue, document, doctype, text, comment, element, new_node}
-use Rattle.htmd_html5_state.specs.Documents.{kind_at, parent_at, children_at, with_kind, with_children, with_parent, last_in}
-use Rattle.htmd_html5_state.specs.Documents.{add, text_of, child_before, place_index, preceding, add_text, or_add, joined_with}
-use Rattle.htmd_html5_state.specs.Documents.{joined_to}
-use Rattle.htmd_html5_laws.proofs.NodeParts.{times, times_append, children_same, children_other, children_of_parent}
-use Rattle.htmd_html5_laws.proofs.NodeParts.{children_with_new, children_of_kind, parent_beyond}
-use Rattle.htmd_html5_laws.proofs.Forests.{IsForest, length_new, once_under, here, elsewhere, once_at_most}
-use Rattle.htmd_html5_laws.proofs.HungNodes.{put_at, put_kind, children_in, kind_with_new, kind_new_at}
-use Rattle.htmd_html5_laws.proofs.Sublists.{Sub, window, window_grown, window_new, sub_all, sub_joined, sub_wider}
-use Rattle.htmd_html5_laws.proofs.Rows.{Marks, Row, Stands, after, row_from, row_low, row_member, row_append, row_ends}
+use Rattle.htmd_html5_state.specs.Documents.{NodeValue, KindValue, text, new_node}
+use Rattle.htmd_html5_state.specs.Documents.{kind_at, parent_at, children_at, with_children, last_in}
+use Rattle.htmd_html5_state.specs.Documents.{add}
+use Rattle.htmd_html5_laws.proofs.NodeParts.{times, children_other, children_of_parent}
+use Rattle.htmd_html5_laws.proofs.NodeParts.{children_with_new, parent_beyond}
+use Rattle.htmd_html5_laws.proofs.Forests.{IsForest, length_new, once_under}
+use Rattle.htmd_html5_laws.proofs.HungNodes.{put_kind, children_in, kind_with_new, kind_new_at}
+use Rattle.htmd_html5_laws.proofs.Sublists.{Sub, window_grown, window_new, sub_all}
+use Rattle.htmd_html5_laws.proofs.Rows.{Row}
 use Rattle.htmd_html5_laws.proofs.Rows.{row_marks}
-use Rattle.htmd_html5_laws.proofs.OrderedNodes.{bears, Labels, until, counted, marks, TextIn, FitsBy, none_out, child_parent}
+use Rattle.htmd_html5_laws.proofs.OrderedNodes.{bears, Labels, until, marks, TextIn, FitsBy, none_out}
 use Rattle.htmd_html5_laws.proofs.Counted.{Choice, counted_of}
 
 module _ (choice : Choice) where

@@ -1,6 +1,6 @@
 -- In the body and after it each token that is no text leaves the letters in order, by the rules of the mode and in
 -- foreign content.
-use Rattle.std.proofs.Common.{◌≡◌, ◌∙◌, ℕ, zero, suc, ◌<◌, Bool, true, false, List, [], ◌∷◌, length}
+use Rattle.std.proofs.Common.{◌≡◌, ℕ, ◌<◌, Bool, true, false, List, [], ◌∷◌, length}
 use Rattle.std.proofs.Common.{Option, Some, None, refl, sym, ap, subst}
 use Rattle.std.specs.Prelude.{if◌then◌else◌}
 use Rattle.std.proofs.lemmas.Bool.{true≢false}
@@ -26,12 +26,12 @@ use Rattle.htmd_html5.specs.ForeignContent.{start_foreign_element, start_in_fore
 use Rattle.htmd_html5.specs.ForeignContent.{in_foreign_content}
 use Rattle.htmd_html5_laws.proofs.OpenNodes.{EachOpen, Fewer, leave_foreign_fewer}
 use Rattle.htmd_html5_laws.proofs.PlainNames.{is_plain_open}
-use Rattle.htmd_html5_laws.proofs.PlainStates.{Plain, Stays, plain_stack, stays_by_state}
-use Rattle.htmd_html5_laws.proofs.HungStates.{ElementOpen, HungIn, Hung, hung_fewer, element_number}
+use Rattle.htmd_html5_laws.proofs.PlainStates.{Plain, plain_stack, stays_by_state}
+use Rattle.htmd_html5_laws.proofs.HungStates.{ElementOpen, Hung, hung_fewer, element_number}
 use Rattle.htmd_html5_laws.proofs.PlainModes.{comment_in_stays, end_of_file_stays}
 use Rattle.htmd_html5_laws.proofs.KeepingModes.{EndsIn, foreign_end_in}
-use Rattle.htmd_html5_laws.proofs.OrderedStates.{OrderedIn, Ordered, Orders, then_orders, unmoved, orders_by_state, is_late}
-use Rattle.htmd_html5_laws.proofs.OrderedStates.{on_stack_orders, ordered_fewer, insert_comment_orders, loose_in, no_text}
+use Rattle.htmd_html5_laws.proofs.OrderedStates.{Ordered, Orders, unmoved, orders_by_state, is_late}
+use Rattle.htmd_html5_laws.proofs.OrderedStates.{ordered_fewer, insert_comment_orders, loose_in, no_text}
 use Rattle.htmd_html5_laws.proofs.OrderedStates.{insert_comment_root_orders}
 use Rattle.htmd_html5_laws.proofs.OrderedBody.{is_orderly_name, OrdersAnswer, says_ordered, with_mode_orders}
 use Rattle.htmd_html5_laws.proofs.OrderedBody.{add_to_root_orders, insert_foreign_tag_orders, start_orders}

@@ -1,24 +1,16 @@
 -- Nodes whose texts stand in the order of the page's letters: what a node holds lies between two places among them.
-use Rattle.std.proofs.Common.{◌≡◌, ◌∙◌, ℕ, zero, suc, ◌+◌, ◌<◌, ◌≤◌, Bool, true, false, List, [], ◌∷◌, ◌++◌, length}
-use Rattle.std.proofs.Common.{take, drop, refl, sym, ap, subst, arith, cond, Option, Some, None, inl, inr, ◌⊎◌}
-use Rattle.std.proofs.Common.{length-append}
-use Rattle.std.specs.Prelude.{◌==◌, ◌&&◌, not, nat_lt, insert, IsUtf8, slice_get}
-use Rattle.std.proofs.lemmas.Bool.{true≢false, and_parts, eqb-true, eqb-false, eq-eqb, ne_eqb}
-use Rattle.std.proofs.lemmas.List.{length-set}
-use Rattle.std.proofs.lemmas.Str.{IsUtf8-append}
-use Rattle.std.proofs.Math.Seq.{take-length, drop-length}
-use Rattle.htmd_text.proofs.Cases.{test}
+use Rattle.std.proofs.Common.{◌≡◌, ◌∙◌, ℕ, ◌<◌, ◌≤◌, Bool, true, false, List, length}
+use Rattle.std.proofs.Common.{refl, sym, ap, subst, arith, cond, Some, inl, inr}
+use Rattle.std.specs.Prelude.{◌&&◌, not, nat_lt, IsUtf8}
+use Rattle.std.proofs.lemmas.Bool.{true≢false}
 use Rattle.htmd_grammar.specs.CharacterClasses.{is_empty}
-use Rattle.htmd_html5_state.specs.Documents.{NodeValue, KindValue, document, doctype, text, comment, element, new_node}
-use Rattle.htmd_html5_state.specs.Documents.{kind_at, parent_at, children_at, with_kind, with_children, with_parent, last_in}
-use Rattle.htmd_html5_state.specs.Documents.{add, text_of, child_before}
-use Rattle.htmd_html5_laws.proofs.NodeParts.{times, times_append, children_same, children_other, children_of_parent}
-use Rattle.htmd_html5_laws.proofs.NodeParts.{children_with_new, children_of_kind, parent_beyond}
-use Rattle.htmd_html5_laws.proofs.Forests.{IsForest, length_new, once_under, here, elsewhere, under_itself}
-use Rattle.htmd_html5_laws.proofs.HungNodes.{is_solid, HangsBy, Hangs, AllHang, put_at, put_kind, put_size, children_in}
-use Rattle.htmd_html5_laws.proofs.HungNodes.{kind_with_new, kind_new_at, solid_within}
-use Rattle.htmd_html5_laws.proofs.Sublists.{Sub, window, window_grown, window_new, sub_all, sub_joined, sub_wider, sub_after}
-use Rattle.htmd_html5_laws.proofs.Rows.{Marks, Row, after, row_from, row_low, row_to, row_member, row_append, row_ends}
+use Rattle.htmd_html5_state.specs.Documents.{NodeValue, KindValue, document, doctype, text, comment, element}
+use Rattle.htmd_html5_state.specs.Documents.{kind_at, parent_at, children_at}
+use Rattle.htmd_html5_laws.proofs.NodeParts.{times}
+use Rattle.htmd_html5_laws.proofs.Forests.{IsForest, under_itself}
+use Rattle.htmd_html5_laws.proofs.HungNodes.{is_solid, Hangs, AllHang}
+use Rattle.htmd_html5_laws.proofs.Sublists.{Sub, window}
+use Rattle.htmd_html5_laws.proofs.Rows.{Marks, Row, row_ends}
 use Rattle.htmd_html5_laws.proofs.Rows.{row_marks}
 use Rattle.htmd_html5_laws.proofs.Counted.{Choice, counted_of}
 

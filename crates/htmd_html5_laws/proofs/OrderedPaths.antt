@@ -1,17 +1,17 @@
 -- What is live is one path: between two live nodes stands a live child of the outer one.
-use Rattle.std.proofs.Common.{◌≡◌, ◌∙◌, ℕ, zero, suc, ◌+◌, ◌<◌, ◌≤◌, Bool, true, false, List, [], ◌∷◌, length}
-use Rattle.std.proofs.Common.{refl, sym, ap, subst, arith, cond, Option, Some, None, inl, inr, ◌⊎◌}
+use Rattle.std.proofs.Common.{◌≡◌, ◌∙◌, ℕ, zero, suc, ◌<◌, ◌≤◌, Bool, true, false, List, length}
+use Rattle.std.proofs.Common.{refl, sym, ap, subst, arith, cond, inl, inr, ◌⊎◌}
 use Rattle.std.specs.Prelude.{◌==◌, ◌&&◌, not, nat_lt}
-use Rattle.std.proofs.lemmas.Bool.{true≢false, and_parts, eqb-true, eqb-false, eq-eqb, ne_eqb, cases_lt}
+use Rattle.std.proofs.lemmas.Bool.{true≢false, and_parts, eqb-true, eqb-false, cases_lt}
 use Rattle.htmd_text.proofs.Cases.{test}
 use Rattle.htmd_html5_state.specs.Documents.{NodeValue, KindValue, document, doctype, text, comment, element, kind_at}
-use Rattle.htmd_html5_state.specs.Documents.{parent_at, children_at}
+use Rattle.htmd_html5_state.specs.Documents.{children_at}
 use Rattle.htmd_html5_laws.proofs.NodeTexts.{is_element}
 use Rattle.htmd_html5_laws.proofs.NodeParts.{times}
-use Rattle.htmd_html5_laws.proofs.HungNodes.{is_solid, Hangs, HangsBy, element_solid}
-use Rattle.htmd_html5_laws.proofs.Rows.{Marks, Row, row_low, row_member, row_last, row_marks, row_ends}
-use Rattle.htmd_html5_laws.proofs.OrderedNodes.{bears, Labels, until, counted, marks, TextIn, FitsBy, none_out, Ranked, above}
-use Rattle.htmd_html5_laws.proofs.OrderedNodes.{MayEnd, ended, fits_ended, lt_true, lt_less, child_above}
+use Rattle.htmd_html5_laws.proofs.HungNodes.{is_solid, Hangs, element_solid}
+use Rattle.htmd_html5_laws.proofs.Rows.{Row, row_member, row_last, row_marks, row_ends}
+use Rattle.htmd_html5_laws.proofs.OrderedNodes.{bears, Labels, until, counted, marks, FitsBy, none_out, Ranked, above}
+use Rattle.htmd_html5_laws.proofs.OrderedNodes.{ended, fits_ended, lt_true, lt_less, child_above}
 use Rattle.htmd_html5_laws.proofs.Counted.{Choice}
 
 module _ (choice : Choice) where

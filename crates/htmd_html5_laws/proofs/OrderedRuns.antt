@@ -1,13 +1,11 @@
 -- A run of a text leaves the letters in order, and its own stand after all others.
-use Rattle.std.proofs.Common.{◌≡◌, ◌∙◌, ℕ, zero, suc, ◌+◌, ◌<◌, ◌≤◌, Bool, true, false, List, [], ◌∷◌, ◌++◌, length}
-use Rattle.std.proofs.Common.{Option, Some, None, refl, sym, ap, subst, arith, cond, inl, inr, ◌⊎◌, length-append}
-use Rattle.std.specs.Prelude.{if◌then◌else◌, IsUtf8, ◌==◌, ◌&&◌, ◌||◌, not, filter}
+use Rattle.std.proofs.Common.{◌≡◌, ◌∙◌, ℕ, ◌<◌, Bool, true, false, List, [], ◌∷◌, ◌++◌, length}
+use Rattle.std.proofs.Common.{Option, Some, None, refl, sym, ap, subst, arith, inl, inr, length-append}
+use Rattle.std.specs.Prelude.{if◌then◌else◌, IsUtf8, ◌&&◌, filter}
 use Rattle.std.specs.List.{list_all}
-use Rattle.std.specs.Str.{chars}
 use Rattle.std.specs.Char.{encode_utf8}
 use Rattle.std.proofs.lemmas.Bool.{true≢false, and_parts, eqb-true}
 use Rattle.std.proofs.lemmas.Str.{chars-IsAscii, chars-nil, chars_past_char}
-use Rattle.htmd_text.proofs.Cases.{test}
 use Rattle.htmd_text.proofs.WhiteSpaceLemmas.{white_is_ascii}
 use Rattle.htmd_text.specs.WhiteSpace.{is_ascii_white_space}
 use Rattle.htmd_text.specs.Characters.{null}
@@ -29,34 +27,32 @@ use Rattle.htmd_html5.specs.Texts.{first_token}
 use Rattle.htmd_grammar.specs.CharacterClasses.{behind_run}
 use Rattle.htmd_html5_laws.specs.TextKept.{is_before_head}
 use Rattle.htmd_html5_laws.proofs.WhiteRuns.{Dark, behind_white, dark_nulls, dark_characters, late_is_after}
-use Rattle.htmd_html5.specs.Answers.{Answer, answer, done, again}
+use Rattle.htmd_html5.specs.Answers.{Answer, done}
 use Rattle.htmd_html5.specs.Feeding.{is_text_mode}
 use Rattle.htmd_html5.specs.InBody.{run_in_body}
 use Rattle.htmd_html5.specs.AfterBody.{back_to_body}
 use Rattle.htmd_html5.specs.SharedRules.{no_frameset}
-use Rattle.htmd_html5.specs.Modes.{in_mode, by_mode_rules}
-use Rattle.htmd_html5.specs.ForeignContent.{is_foreign, replacements, run_in_foreign, in_foreign_content}
+use Rattle.htmd_html5.specs.Modes.{in_mode}
+use Rattle.htmd_html5.specs.ForeignContent.{is_foreign, replacements}
 use Rattle.htmd_html5.specs.Processing.{by_rules}
-use Rattle.htmd_html5_laws.specs.PageLetters.{is_letter}
 use Rattle.htmd_html5_laws.proofs.NodeTexts.{is_element}
 use Rattle.htmd_html5_laws.proofs.Forests.{forest_add}
 use Rattle.htmd_html5_laws.proofs.HungNodes.{is_solid, Fits}
-use Rattle.htmd_html5_laws.proofs.HungStates.{HungIn, Hung, hung_added, hung_like, fits_place}
-use Rattle.htmd_html5_laws.proofs.OpenNodes.{EachOpen}
+use Rattle.htmd_html5_laws.proofs.HungStates.{HungIn, hung_added, hung_like, fits_place}
 use Rattle.htmd_html5_laws.proofs.LetterLemmas.{all_ascii}
 use Rattle.htmd_html5_laws.proofs.TakingRuns.{by_first_kind, one_utf8, replaced_utf8}
 use Rattle.htmd_html5_laws.proofs.PuttingRuns.{never_null}
-use Rattle.htmd_html5_laws.proofs.PlainStates.{Plain, Stays, then_stays, still, plain_grown}
+use Rattle.htmd_html5_laws.proofs.PlainStates.{plain_grown}
 use Rattle.htmd_html5_laws.proofs.PlainRuns.{insert_text_stays, text_grows}
-use Rattle.htmd_html5_laws.proofs.Sublists.{append_nil, Sub, window, window_grown}
+use Rattle.htmd_html5_laws.proofs.Sublists.{append_nil, Sub, window_grown}
 use Rattle.htmd_html5_laws.proofs.OrderedNodes.{FitsBy, Labels, none_out}
 use Rattle.htmd_html5_laws.proofs.OrderedTexts.{letters_append, white_put}
-use Rattle.htmd_html5_laws.proofs.OrderedStates.{OrderedIn, Ordered, Orders, is_late, text_ordered, place_last, ranked_of}
-use Rattle.htmd_html5_laws.proofs.OrderedStates.{current_within, stack_still, reconstruct_orders}
+use Rattle.htmd_html5_laws.proofs.OrderedStates.{OrderedIn, is_late, text_ordered, place_last, ranked_of}
+use Rattle.htmd_html5_laws.proofs.OrderedStates.{stack_still, reconstruct_orders}
 use Rattle.htmd_html5_laws.proofs.OrderedBody.{no_frameset_orders, with_mode_orders}
 use Rattle.htmd_html5_laws.proofs.OrderedLate.{Late, late_step}
-use Rattle.htmd_html5_laws.proofs.OrderedEarly.{HtmlOpen, EarlyIn, Early, head_open, AfterHeadAt, HeadAt, Stage, Staged, staged}
-use Rattle.htmd_html5_laws.proofs.OrderedEarly.{staged_late, stage_late, late_stage, Calm, StageAnswer, initial_left}
+use Rattle.htmd_html5_laws.proofs.OrderedEarly.{EarlyIn, Early, head_open, AfterHeadAt, Stage, Staged, staged}
+use Rattle.htmd_html5_laws.proofs.OrderedEarly.{staged_late, stage_late, Calm, StageAnswer, initial_left}
 use Rattle.htmd_html5_laws.proofs.OrderedEarly.{root_implied, head_implied}
 use Rattle.htmd_html5_laws.proofs.OrderedHead.{real_of, head_closed, noscript_closed, body_implied, unstaged, stage_names}
 use Rattle.htmd_html5_laws.proofs.OrderedHead.{current_html, stays_html, by_head}

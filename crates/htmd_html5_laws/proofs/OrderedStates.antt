@@ -1,42 +1,38 @@
 -- States in which the letters stand in order, and steps that leave them so.
-use Rattle.std.proofs.Common.{◌≡◌, ◌∙◌, ℕ, zero, suc, ◌+◌, ◌<◌, ◌≤◌, Bool, true, false, List, [], ◌∷◌, ◌++◌, length}
-use Rattle.std.proofs.Common.{refl, sym, ap, subst, arith, Option, Some, None, inl, inr, ◌⊎◌}
-use Rattle.std.specs.Prelude.{if◌then◌else◌, ◌&&◌, IsUtf8}
-use Rattle.std.proofs.lemmas.Bool.{true≢false}
-use Rattle.htmd_text.proofs.Cases.{test}
+use Rattle.std.proofs.Common.{◌≡◌, ◌∙◌, ℕ, ◌<◌, ◌≤◌, Bool, true, false, List, [], ◌∷◌, ◌++◌, length}
+use Rattle.std.proofs.Common.{refl, sym, ap, subst, arith, Option}
+use Rattle.std.specs.Prelude.{if◌then◌else◌, IsUtf8}
 use Rattle.htmd_grammar.specs.ValueTrees.{AttributePair}
 use Rattle.htmd_html5_tokens.specs.declared.tokens.RawElement.{RawElement}
 use Rattle.htmd_html5_state.specs.Names.{NameValue, ElementNameValue, html}
 use Rattle.htmd_html5_state.specs.Documents.{KindValue, NodeValue, document, doctype, text, comment, element, kind_at}
 use Rattle.htmd_html5_state.specs.Documents.{last_in, add, add_text, add_missing, kind_with_missing}
-use Rattle.htmd_html5_state.specs.OpenElements.{OpenValue, pop, is_in}
+use Rattle.htmd_html5_state.specs.OpenElements.{OpenValue, pop}
 use Rattle.htmd_html5_state.specs.State.{StateValue, on_nodes, on_stack, on_formatting}
 use Rattle.htmd_html5_state.specs.Foreign.{foreign_name, foreign_attributes, pop_if, insert_foreign}
 use Rattle.htmd_html5_state.specs.Insertion.{opened, current, place, insert_named, insert_element, insert_void, insert_raw}
-use Rattle.htmd_html5_state.specs.Insertion.{insert_text, insert_comment_in, insert_comment, foster_place}
+use Rattle.htmd_html5_state.specs.Insertion.{insert_text, insert_comment_in, insert_comment}
 use Rattle.htmd_html5_state.specs.Formatting.{push_marker, clear_to_marker, without_entry, insert_formatting}
 use Rattle.htmd_html5_state.specs.Formatting.{closed_elements, after_closed, insert_like, reopen_all, reconstruct}
 use Rattle.htmd_html5_state.specs.declared.modes.InsertionMode.{InsertionMode}
 use Rattle.htmd_html5_state.specs.declared.modes.InsertionMode.TheVariants.{InBody, AfterBody, AfterAfterBody}
 use Rattle.htmd_html5_state.specs.declared.names.Namespace.{Namespace}
-use Rattle.htmd_html5_state.specs.declared.sets.NameSet.TheVariants.{Fostering}
-use Rattle.htmd_html5_laws.proofs.NodeTexts.{is_element, kinds, with_missing_element, kind_read}
+use Rattle.htmd_html5_laws.proofs.NodeTexts.{kinds}
 use Rattle.htmd_html5_laws.proofs.OpenNodes.{EachOpen, Below, each_more, Fewer, pop_fewer, pop_if_fewer}
-use Rattle.htmd_html5_laws.proofs.HungNodes.{is_solid}
 use Rattle.htmd_html5_laws.proofs.HungStates.{ElementOpen, HungIn, Hung, element_number}
 use Rattle.htmd_html5_laws.proofs.HungAdoption.{below_each, each_both}
-use Rattle.htmd_html5_laws.proofs.PlainNames.{is_plain_name, is_plain_element, is_plain_kind, foreign_is_plain}
-use Rattle.htmd_html5_laws.proofs.PlainStates.{PlainAt, Plain, Stays, then_stays, still, stays_by_test, stays_by_state}
-use Rattle.htmd_html5_laws.proofs.PlainStates.{on_stack_stays, insert_named_stays, insert_void_stays, insert_raw_stays}
-use Rattle.htmd_html5_laws.proofs.PlainStates.{insert_foreign_stays, insert_comment_in_stays, add_missing_stays}
+use Rattle.htmd_html5_laws.proofs.PlainNames.{is_plain_name, is_plain_element, foreign_is_plain}
+use Rattle.htmd_html5_laws.proofs.PlainStates.{Plain, Stays, then_stays, still, stays_by_test, stays_by_state}
+use Rattle.htmd_html5_laws.proofs.PlainStates.{on_stack_stays, insert_named_stays, insert_raw_stays}
+use Rattle.htmd_html5_laws.proofs.PlainStates.{insert_comment_in_stays, add_missing_stays}
 use Rattle.htmd_html5_laws.proofs.PlainStates.{without_entry_stays, push_marker_stays, clear_to_marker_stays}
 use Rattle.htmd_html5_laws.proofs.PlainStates.{insert_formatting_stays, reconstruct_stays, EachPlain, reopen_all_grown}
 use Rattle.htmd_html5_laws.proofs.PlainStates.{closed_plain, plain_entries}
 use Rattle.htmd_html5_laws.proofs.KeepingInsertion.{listed_closed}
-use Rattle.htmd_html5_laws.proofs.PuttingRuns.{like_mode, reconstruct_mode}
-use Rattle.htmd_html5_laws.proofs.OrderedNodes.{bears, Labels, FitsBy, TextIn, none_out, Ranked}
-use Rattle.htmd_html5_laws.proofs.OrderedTexts.{Goes, Opens, GoesOn, goes_on, loose_added, element_added, text_put}
-use Rattle.htmd_html5_laws.proofs.OrderedTexts.{white_put, fits_like}
+use Rattle.htmd_html5_laws.proofs.PuttingRuns.{reconstruct_mode}
+use Rattle.htmd_html5_laws.proofs.OrderedNodes.{bears, Labels, FitsBy, none_out, Ranked}
+use Rattle.htmd_html5_laws.proofs.OrderedTexts.{loose_added, element_added, text_put}
+use Rattle.htmd_html5_laws.proofs.OrderedTexts.{fits_like}
 use Rattle.htmd_html5_laws.proofs.Counted.{Choice, counted_of}
 
 module _ (choice : Choice) where

@@ -1,7 +1,7 @@
 -- Text is put at the end of an open node, in a new text or at the end of its last one.
 use Rattle.std.proofs.Common.{◌≡◌, ◌∙◌, ℕ, zero, suc, ◌+◌, ◌<◌, ◌≤◌, Bool, true, false, List, [], ◌∷◌, ◌++◌, length}
 use Rattle.std.proofs.Common.{refl, sym, ap, subst, arith, cond, Option, Some, None, inl, inr, ◌⊎◌, length-append}
-use Rattle.std.specs.Prelude.{◌==◌, ◌&&◌, not, IsUtf8, slice_get}
+use Rattle.std.specs.Prelude.{◌==◌, not, IsUtf8}
 use Rattle.std.proofs.lemmas.Bool.{true≢false, eqb-true, eqb-false, eq-eqb, ne_eqb}
 use Rattle.std.proofs.lemmas.List.Elements.{filter-append}
 use Rattle.std.proofs.lemmas.Str.{IsUtf8-append, chars-append}
@@ -9,21 +9,20 @@ use Rattle.std.specs.Prelude.{filter}
 use Rattle.std.specs.Str.{chars}
 use Rattle.htmd_text.proofs.Cases.{test}
 use Rattle.htmd_grammar.specs.CharacterClasses.{is_empty}
-use Rattle.htmd_html5_state.specs.Documents.{NodeValue, KindValue, document, doctype, text, comment, element, new_node}
+use Rattle.htmd_html5_state.specs.Documents.{NodeValue, KindValue, document, doctype, text, comment, element}
 use Rattle.htmd_html5_state.specs.Documents.{kind_at, parent_at, children_at, with_kind, last_in, text_of, child_before}
-use Rattle.htmd_html5_state.specs.Documents.{add, preceding, add_text, or_add, joined_with, joined_to, place_index}
-use Rattle.htmd_html5_laws.specs.PageLetters.{is_letter}
+use Rattle.htmd_html5_state.specs.Documents.{preceding, add_text, or_add, joined_with, joined_to}
 use Rattle.htmd_html5_laws.proofs.NodeParts.{times, times_append, children_of_kind}
-use Rattle.htmd_html5_laws.proofs.Forests.{IsForest, once_under, once_at_most, here, elsewhere}
-use Rattle.htmd_html5_laws.proofs.HungNodes.{is_solid, Hangs, HangsBy, element_solid}
+use Rattle.htmd_html5_laws.proofs.Forests.{IsForest, once_under, once_at_most, elsewhere}
+use Rattle.htmd_html5_laws.proofs.HungNodes.{is_solid, Hangs}
 use Rattle.htmd_html5_laws.proofs.NodeTexts.{is_element}
-use Rattle.htmd_html5_laws.proofs.Sublists.{append_nil, Sub, window, window_grown, window_new, sub_all, sub_joined, sub_wider}
-use Rattle.htmd_html5_laws.proofs.Rows.{Marks, Row, Stands, after, row_from, row_low, row_member, row_append, row_ends}
+use Rattle.htmd_html5_laws.proofs.Sublists.{append_nil, Sub, window, window_grown, window_new, sub_all, sub_joined}
+use Rattle.htmd_html5_laws.proofs.Rows.{Marks, Row, after, row_append, row_ends}
 use Rattle.htmd_html5_laws.proofs.Rows.{row_marks}
-use Rattle.htmd_html5_laws.proofs.OrderedNodes.{bears, bears_solid, Labels, until, counted, marks, TextIn, FitsBy, none_out}
-use Rattle.htmd_html5_laws.proofs.OrderedNodes.{Ranked, Settled, settled, child_parent}
-use Rattle.htmd_html5_laws.proofs.OrderedInserts.{mark, grown, no_child, kind_grown_new, RowOk, TextOk, row_kept, own_lo}
-use Rattle.htmd_html5_laws.proofs.OrderedInserts.{own_until, other_until, fits_added, marked}
+use Rattle.htmd_html5_laws.proofs.OrderedNodes.{bears, bears_solid, Labels, until, marks, TextIn, FitsBy, none_out}
+use Rattle.htmd_html5_laws.proofs.OrderedNodes.{Ranked, settled, child_parent}
+use Rattle.htmd_html5_laws.proofs.OrderedInserts.{mark, grown, no_child, kind_grown_new, RowOk, row_kept, own_lo}
+use Rattle.htmd_html5_laws.proofs.OrderedInserts.{own_until, fits_added, marked}
 use Rattle.htmd_html5_laws.proofs.Counted.{Choice, counted_of}
 
 module _ (choice : Choice) where

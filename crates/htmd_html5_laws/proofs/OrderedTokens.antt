@@ -1,22 +1,18 @@
 -- The tokens of a page, one after another: the letters of their texts stand in order among the nodes.
-use Rattle.std.proofs.Common.{◌≡◌, ◌∙◌, ℕ, zero, suc, Bool, true, false, List, [], ◌∷◌, ◌++◌, length, drop}
+use Rattle.std.proofs.Common.{◌≡◌, ◌∙◌, ℕ, zero, suc, Bool, true, false, List, [], ◌∷◌, ◌++◌, length}
 use Rattle.std.proofs.Common.{Option, Some, None, refl, sym, ap, subst, arith, cond, inl, inr, ◌⊎◌, append_assoc}
-use Rattle.std.specs.Prelude.{IsUtf8, if◌then◌else◌, ◌&&◌, ◌||◌, ◌==◌, not, codes, filter}
+use Rattle.std.specs.Prelude.{IsUtf8, if◌then◌else◌, ◌&&◌, ◌||◌, ◌==◌, not, codes}
 use Rattle.std.specs.List.{list_all}
-use Rattle.std.specs.Str.{bytes_eq, chars}
-use Rattle.std.specs.Char.{encode_utf8}
-use Rattle.std.proofs.lemmas.Bool.{true≢false, and_parts, eqb-true}
-use Rattle.std.proofs.lemmas.Str.{chars_past_char, encode_ascii}
-use Rattle.htmd_text.proofs.Cases.{test}
-use Rattle.htmd_text.specs.Characters.{line_feed}
-use Rattle.htmd_grammar.specs.CharacterClasses.{is_empty, first_is}
+use Rattle.std.specs.Str.{bytes_eq}
+use Rattle.std.proofs.lemmas.Bool.{true≢false, and_parts}
+use Rattle.htmd_grammar.specs.CharacterClasses.{is_empty}
 use Rattle.htmd_grammar.proofs.TagReadingLemmas.{front_all, back_split}
 use Rattle.htmd_html5_tokens.specs.Preprocessing.{preprocessed}
 use Rattle.htmd_html5_tokens.specs.Tokens.{Read}
 use Rattle.htmd_html5_state.specs.Names.{NameValue, known, known_name, known_or, name_of_text, spelling}
-use Rattle.htmd_html5_state.specs.Documents.{NodeValue, document, text as text_kind, new_node, kind_at, children_at, last_in, add_text}
+use Rattle.htmd_html5_state.specs.Documents.{document, text as text_kind, new_node, kind_at, children_at, last_in, add_text}
 use Rattle.htmd_html5_state.specs.OpenElements.{OpenValue, current_is, pop}
-use Rattle.htmd_html5_state.specs.State.{StateValue, initial_state, on_stack}
+use Rattle.htmd_html5_state.specs.State.{StateValue, initial_state}
 use Rattle.htmd_html5_state.specs.Insertion.{current, place, insert_text}
 use Rattle.htmd_html5_state.specs.Foreign.{current_is_html}
 use Rattle.htmd_html5_state.specs.declared.names.TagName.{TagName}
@@ -29,31 +25,26 @@ use Rattle.htmd_html5.specs.Tokens.{TokenValue, start_tag, end_tag, comment, doc
 use Rattle.htmd_html5.specs.Runs.{is_of_kind, first_kind, first_run, after_first_run}
 use Rattle.htmd_html5.specs.Answers.{Answer}
 use Rattle.htmd_html5.specs.InTable.{table_text}
-use Rattle.htmd_html5.specs.Processing.{by_rules, turns, process_within, process, after_answer}
+use Rattle.htmd_html5.specs.Processing.{by_rules, turns, process_within, process}
 use Rattle.htmd_html5.specs.Texts.{Taken, is_table_mode, takes_all, taken, after_run, first_token, take_within, take_part}
 use Rattle.htmd_html5.specs.Texts.{put_within, put_text}
 use Rattle.htmd_html5.specs.Feeding.{is_text_mode, put_raw_text, feed_text, without_line_feed, with_nothing_skipped, close_raw}
-use Rattle.htmd_html5.specs.Feeding.{out_of_text_mode, feed_end_tag, named, feed_at, feed}
+use Rattle.htmd_html5.specs.Feeding.{out_of_text_mode, feed_end_tag, named, feed}
 use Rattle.htmd_html5.specs.Documents.{next_read, is_end, after_token, read_within, state_after}
-use Rattle.htmd_html5_laws.specs.PageLetters.{is_letter, with_text_of, texts_after, texts_within, token_texts}
 use Rattle.htmd_html5_laws.specs.HarmlessTags.{drops_text_in, tokens_after, tokens_within}
 use Rattle.htmd_html5_laws.specs.LetterOrder.{moves_text_in, is_orderly, all_tags_are_orderly}
-use Rattle.htmd_html5_laws.proofs.NodeTexts.{kinds}
 use Rattle.htmd_html5_laws.proofs.Utf8Tokens.{TokenUtf8, ReadUtf8, next_token_utf8, preprocessed_utf8}
 use Rattle.htmd_html5_laws.proofs.TakingTexts.{run_parts}
 use Rattle.htmd_html5_laws.proofs.FedTokens.{shortened}
 use Rattle.htmd_html5_laws.proofs.OpenNodes.{Fewer, all_of, skip, pop_fewer}
-use Rattle.htmd_html5_laws.proofs.PlainStates.{Plain}
-use Rattle.htmd_html5_laws.proofs.HungStates.{Hung, HungIn}
-use Rattle.htmd_html5_laws.proofs.PlainRuns.{insert_text_stays}
 use Rattle.htmd_html5_laws.proofs.HarmlessTokens.{spelled, begins_plain, begins_hung}
 use Rattle.htmd_html5_laws.proofs.Rows.{Row}
 use Rattle.htmd_html5_laws.proofs.OrderedNodes.{FitsBy, Labels, none_out, marks}
 use Rattle.htmd_html5_laws.proofs.OrderedTexts.{letters_append}
-use Rattle.htmd_html5_laws.proofs.OrderedStates.{OrderedIn, Ordered, is_late, text_ordered, place_last, on_stack_orders}
+use Rattle.htmd_html5_laws.proofs.OrderedStates.{OrderedIn, Ordered, place_last, on_stack_orders}
 use Rattle.htmd_html5_laws.proofs.OrderedBody.{is_orderly_name}
 use Rattle.htmd_html5_laws.proofs.OrderedLate.{IsOrderly, Late, late_step}
-use Rattle.htmd_html5_laws.proofs.OrderedEarly.{EarlyIn, Early, head_open, AfterHeadAt, HeadAt, Stage, Staged, staged_late, Calm}
+use Rattle.htmd_html5_laws.proofs.OrderedEarly.{EarlyIn, head_open, AfterHeadAt, Stage, Staged, Calm}
 use Rattle.htmd_html5_laws.proofs.OrderedEarly.{StageAnswer, early_fewer}
 use Rattle.htmd_html5_laws.proofs.OrderedHead.{by_rules_stage, unstaged, MayCome, opens_head, never_after_head}
 use Rattle.htmd_html5_laws.proofs.OrderedRuns.{no_more, staged_grown, RunOf, run_of, late_writes, unless, nil_letters, early_text}

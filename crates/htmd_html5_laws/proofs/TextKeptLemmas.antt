@@ -1,7 +1,5 @@
 -- The text of a page is kept.
-use Rattle.std.proofs.Common.{◌≡◌, ◌∙◌, ℕ, true, false, List, [], ◌∷◌, ◌++◌, refl, sym, ap}
-use Rattle.std.specs.Prelude.{filter}
-use Rattle.std.specs.Str.{chars}
+use Rattle.std.proofs.Common.{◌≡◌, ◌∙◌, ℕ, false, List, [], ◌∷◌, ◌++◌, refl, sym, ap}
 use Rattle.std.proofs.lemmas.Bool.{true≢false}
 use Rattle.htmd_html5.specs.Documents.{html5_document}
 use Rattle.htmd_html5_laws.specs.PageLetters.{texts_of}
