@@ -1,4 +1,4 @@
--- Which characters of a text count, in order.
+-- Which characters of a text count, in order. Where the modules above speak of letters, they mean those that count.
 use Rattle.std.proofs.Common.{◌≡◌, ℕ, Bool, true, false, List, [], ◌∷◌, ◌++◌, refl}
 use Rattle.std.specs.Prelude.{filter}
 use Rattle.std.specs.Str.{chars}
