@@ -11,6 +11,7 @@ use Rattle.htmd_html5_laws.specs.DocumentLetters.{node_texts, all_texts_are_take
 use Rattle.htmd_html5_laws.specs.KeptLetters.{is_whole}
 use Rattle.htmd_html5_laws.specs.HarmlessTags.{all_tags_are_harmless}
 use Rattle.htmd_html5_laws.specs.LetterOrder.{all_tags_are_orderly}
+use Rattle.htmd_html5_laws.specs.TextKept.{kept_texts, no_tag_comes_late}
 
 a_is_one : is_letter 0x61 ≡ true
 a_is_one = refl
@@ -85,12 +86,39 @@ a_row_without_a_table_is_orderly : all_tags_are_orderly true (codes "<tr>a<col><
 unfolding block_rule formatting_rule phrasing_rule text_end_rule
 a_row_without_a_table_is_orderly = refl
 
-text_goes_before_a_table : texts_of (html5_document true (codes "<table><td>a</td>b"))
-    ≡ codes "b" ∷ codes "a" ∷ []
+text_goes_before_a_table : texts_of (html5_document true (codes "<table><td>a</td>b")) ≡ codes "b" ∷ codes "a" ∷ []
 unfolding block_rule formatting_rule phrasing_rule html5_document
 text_goes_before_a_table = refl
 
-formatting_keeps_the_order : texts_of (html5_document true (codes "<b>a<p>b</b>c"))
-    ≡ codes "a" ∷ codes "b" ∷ codes "c" ∷ []
+formatting_keeps_the_order : texts_of (html5_document true (codes "<b>a<p>b</b>c")) ≡ codes "a" ∷ codes "b" ∷ codes
+    "c" ∷ []
 unfolding block_rule formatting_rule phrasing_rule text_end_rule move_last wrap_children html5_document
 formatting_keeps_the_order = refl
+
+-- ---- text that is kept
+
+white_space_before_the_head_goes : kept_texts true (codes " <html> <head> a") ≡ [] ∷ [] ∷ codes " a" ∷ []
+unfolding block_rule formatting_rule phrasing_rule
+white_space_before_the_head_goes = refl
+
+white_space_from_the_head_on_stays : texts_of (html5_document true (codes " <html> <head> <body> a <i> b"))
+    ≡ codes " " ∷ codes " a " ∷ codes " b" ∷ []
+unfolding block_rule formatting_rule phrasing_rule html5_document
+white_space_from_the_head_on_stays = refl
+
+a_line_feed_goes : kept_texts true (codes "<pre>\n\na\n") ≡ codes "\na\n" ∷ []
+unfolding block_rule formatting_rule phrasing_rule
+a_line_feed_goes = refl
+
+a_style_after_the_head_comes_late : no_tag_comes_late true (codes "<head></head> <style>a</style>") ≡ false
+unfolding block_rule formatting_rule phrasing_rule text_end_rule
+a_style_after_the_head_comes_late = refl
+
+in_the_body_it_does_not : no_tag_comes_late true (codes "<head></head> <body><style>a</style>") ≡ true
+unfolding block_rule formatting_rule phrasing_rule text_end_rule
+in_the_body_it_does_not = refl
+
+it_goes_before_white_space : texts_of (html5_document true (codes "<head></head> <style>a</style>"))
+    ≡ codes "a" ∷ codes " " ∷ []
+unfolding block_rule formatting_rule phrasing_rule text_end_rule html5_document
+it_goes_before_white_space = refl

@@ -12,16 +12,20 @@ use Rattle.htmd_text.specs.WhiteSpace.{is_ascii_white_space}
 use Rattle.htmd_html5_tokens.specs.References.{replacement_character}
 use Rattle.htmd_html5_laws.specs.PageLetters.{is_letter, is_character, occurrences}
 
--- a letter is neither white space nor U+0000, nor what comes for that
-pub record LetterTests (c : ℕ) : Type 0 where
-  pub white : is_ascii_white_space c ≡ false
+-- a character that is neither U+0000, nor what comes for that
+pub record CharacterTests (c : ℕ) : Type 0 where
   pub null_is_none : (c == null) ≡ false
   pub other : (c == replacement_character) ≡ false
+
+-- nor white space: a letter
+pub record LetterTests (c : ℕ) : Type 0 where
+  pub white : is_ascii_white_space c ≡ false
+  pub character : CharacterTests c
 
 pub letter_tests : (c : ℕ) → is_letter c ≡ true → LetterTests c
 letter_tests c e =
     let tests = apart (is_ascii_white_space c) (c == null) (c == replacement_character) e in
-    record { white = tests.0; null_is_none = tests.1.0; other = tests.1.1 }
+    record { white = tests.0; character = record { null_is_none = tests.1.0; other = tests.1.1 } }
   where
     apart : (white none other : Bool) → not (white || none || other) ≡ true
         → (white ≡ false) × ((none ≡ false) × (other ≡ false))

@@ -52,6 +52,7 @@ pub mod HarmlessLettersLemmas
 pub mod PageLettersLemmas
 pub mod Sublists
 pub mod Rows
+pub mod Counted
 pub mod OrderedNodes
 pub mod OrderedInserts
 pub mod OrderedTexts
@@ -63,8 +64,13 @@ pub mod OrderedBody
 pub mod OrderedLate
 pub mod OrderedEarly
 pub mod OrderedHead
+pub mod WhiteRuns
 pub mod OrderedRuns
 pub mod OrderedTokens
 pub mod OrderedLayout
+pub mod KeptTexts
+pub mod KeptTokens
+pub mod CountedOrder
 pub mod LetterOrderLemmas
+pub mod TextKeptLemmas
 mod Examples

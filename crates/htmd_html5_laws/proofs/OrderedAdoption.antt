@@ -36,402 +36,410 @@ use Rattle.htmd_html5_laws.proofs.OrderedMoves.{Apart, apart_copied, copied_labe
 use Rattle.htmd_html5_laws.proofs.OrderedMoves.{wrapped_labels}
 use Rattle.htmd_html5_laws.proofs.OrderedStates.{OrderedIn, Ordered, Orders, ordered_fewer, is_late, low_ranks, place_last}
 use Rattle.htmd_html5_laws.proofs.OrderedStates.{orders_by_test, on_stack_orders}
+use Rattle.htmd_html5_laws.proofs.Counted.{Choice}
 
--- ---- the elements between
+module _ (choice : Choice) where
+  -- ---- the elements between
 
--- what was made last is apart from the nodes, and what is open is live
-record ChainApart (letters : List ℕ) (s : StateValue) (p : ℕ) (base : Labels) (c : Chain) : Type 0 where
-  labels : Labels
-  apart : Apart letters c.state.nodes p c.last labels
-  copies : EachOpen (λ e. labels.live e.node ≡ true) c.copies
-  still : (m : ℕ) → m < length s.nodes → base.live m ≡ true → labels.live m ≡ true
-  other : p ≡ c.last → ⊥
-  within : p < length c.state.nodes
-  no_fostering : c.state.foster_parenting ≡ false
+  -- what was made last is apart from the nodes, and what is open is live
+  record ChainApart (letters : List ℕ) (s : StateValue) (p : ℕ) (base : Labels) (c : Chain) : Type 0 where
+    labels : Labels
+    apart : Apart choice letters c.state.nodes p c.last labels
+    copies : EachOpen (λ e. labels.live e.node ≡ true) c.copies
+    still : (m : ℕ) → m < length s.nodes → base.live m ≡ true → labels.live m ≡ true
+    other : p ≡ c.last → ⊥
+    within : p < length c.state.nodes
+    no_fostering : c.state.foster_parenting ≡ false
 
-module _ (letters : List ℕ) (s : StateValue) (p : ℕ) (base : Labels) (old : ℕ → ℕ) (r : ℕ) where
-  copy_apart : (left : ℕ) (e : OpenValue) (c : Chain) → is_element (kind_at c.state.nodes e.node) ≡ true
-      → ChainHung s old r left c → ChainApart letters s p base c → ChainApart letters s p base (with_copy e c)
-  copy_apart left e c is h a =
-      let last_in_nodes = element_number c.last c.state.nodes h.last_at in
-      let k = kind_at c.state.nodes e.node in
-      let forest = forest_attach c.last (last_in (length c.state.nodes)) (c.state.nodes ++ new_node k ∷ [])
-      (let w = length_new k c.state.nodes in omega arith) (forest_new k c.state.nodes h.forest) in
-      record {
-        labels = copied_labels letters c.state.nodes a.labels p c.last a.apart a.within last_in_nodes a.other k is
-            forest;
-        apart = apart_copied letters c.state.nodes a.labels p c.last a.apart a.within last_in_nodes a.other k is
-            forest;
-        copies = each_append
-            (λ x. (copied_labels letters c.state.nodes a.labels p c.last a.apart a.within last_in_nodes a.other k is
-            forest).live x.node ≡ true) c.copies (opened (length c.state.nodes) e.name ∷ [])
-            (each_more c.copies
-            (λ x o. rw (ne_eqb x.node (length c.state.nodes)
-            (λ f. let w = element_number x.node c.state.nodes o.0 in omega arith)) o.1)
-            (each_both (ElementOpen c.state.nodes) (λ x. a.labels.live x.node ≡ true) c.copies h.copies_at a.copies))
-            (rw (eq-eqb (length c.state.nodes) (length c.state.nodes) refl) refl, tt);
-        still = λ m l e.
-            let size = h.size in rw (ne_eqb m (length c.state.nodes) (λ f. omega arith)) (a.still m l e);
-        other = λ f. let w = a.within in omega arith;
-        within =
-            let x = put_size c.last (length c.state.nodes)
-            (length (children_at (detach c.last (c.state.nodes ++ new_node k ∷ [])) (length c.state.nodes)))
-            (detach c.last (c.state.nodes ++ new_node k ∷ [])) in
-            let y = detach_size c.last (c.state.nodes ++ new_node k ∷ []) in
-            let z = length_new k c.state.nodes in
-            let w = a.within in
-            omega arith;
-        no_fostering = a.no_fostering;
-      }
+  module _ (letters : List ℕ) (s : StateValue) (p : ℕ) (base : Labels) (old : ℕ → ℕ) (r : ℕ) where
+    copy_apart : (left : ℕ) (e : OpenValue) (c : Chain) → is_element (kind_at c.state.nodes e.node) ≡ true
+        → ChainHung s old r left c → ChainApart letters s p base c → ChainApart letters s p base (with_copy e c)
+    copy_apart left e c is h a =
+        let last_in_nodes = element_number c.last c.state.nodes h.last_at in
+        let k = kind_at c.state.nodes e.node in
+        let forest = forest_attach c.last (last_in (length c.state.nodes)) (c.state.nodes ++ new_node k ∷ [])
+        (let w = length_new k c.state.nodes in omega arith) (forest_new k c.state.nodes h.forest) in
+        record {
+          labels = copied_labels choice letters c.state.nodes a.labels p c.last a.apart a.within last_in_nodes a.other
+              k is
+              forest;
+          apart = apart_copied choice letters c.state.nodes a.labels p c.last a.apart a.within last_in_nodes a.other k
+              is
+              forest;
+          copies = each_append
+              (λ x. (copied_labels choice letters c.state.nodes a.labels p c.last a.apart a.within last_in_nodes
+              a.other k is
+              forest).live x.node ≡ true) c.copies (opened (length c.state.nodes) e.name ∷ [])
+              (each_more c.copies
+              (λ x o. rw (ne_eqb x.node (length c.state.nodes)
+              (λ f. let w = element_number x.node c.state.nodes o.0 in omega arith)) o.1)
+              (each_both (ElementOpen c.state.nodes) (λ x. a.labels.live x.node ≡ true) c.copies h.copies_at a.copies))
+              (rw (eq-eqb (length c.state.nodes) (length c.state.nodes) refl) refl, tt);
+          still = λ m l e.
+              let size = h.size in rw (ne_eqb m (length c.state.nodes) (λ f. omega arith)) (a.still m l e);
+          other = λ f. let w = a.within in omega arith;
+          within =
+              let x = put_size c.last (length c.state.nodes)
+              (length (children_at (detach c.last (c.state.nodes ++ new_node k ∷ [])) (length c.state.nodes)))
+              (detach c.last (c.state.nodes ++ new_node k ∷ [])) in
+              let y = detach_size c.last (c.state.nodes ++ new_node k ∷ []) in
+              let z = length_new k c.state.nodes in
+              let w = a.within in
+              omega arith;
+          no_fostering = a.no_fostering;
+        }
 
-  next_apart : (left : ℕ) (e : OpenValue) (c : Chain)
-      → (is_listed e.node c.state.formatting ≡ true → is_element (kind_at c.state.nodes e.node) ≡ true)
-      → ChainHung s old r left c → ChainApart letters s p base c
-      → ChainApart letters s p base (with_next left e c)
-  next_apart left e c at h a = either (nat_lt 0 left && is_listed e.node c.state.formatting) refl
-    where
-      either : (t : Bool) → (nat_lt 0 left && is_listed e.node c.state.formatting) ≡ t
-          → ChainApart letters s p base
-          (if t then with_copy e c else record c { state = on_formatting (without_entry e.node) c.state })
-      either true t =
-          copy_apart left e c (at (and_parts (nat_lt 0 left) (is_listed e.node c.state.formatting) t).1) h a
-      either false t = record {
-        labels = a.labels;
-        apart = a.apart;
-        copies = a.copies;
-        still = a.still;
-        other = a.other;
-        within = a.within;
-        no_fostering = a.no_fostering;
-      }
+    next_apart : (left : ℕ) (e : OpenValue) (c : Chain)
+        → (is_listed e.node c.state.formatting ≡ true → is_element (kind_at c.state.nodes e.node) ≡ true)
+        → ChainHung s old r left c → ChainApart letters s p base c → ChainApart letters s p base (with_next left e c)
+    next_apart left e c at h a = either (nat_lt 0 left && is_listed e.node c.state.formatting) refl
+      where
+        either : (t : Bool) → (nat_lt 0 left && is_listed e.node c.state.formatting) ≡ t
+            → ChainApart letters s p base
+            (if t then with_copy e c else record c { state = on_formatting (without_entry e.node) c.state })
+        either true t =
+            copy_apart left e c (at (and_parts (nat_lt 0 left) (is_listed e.node c.state.formatting) t).1) h a
+        either false t = record {
+          labels = a.labels;
+          apart = a.apart;
+          copies = a.copies;
+          still = a.still;
+          other = a.other;
+          within = a.within;
+          no_fostering = a.no_fostering;
+        }
 
-  chain_apart : (left : ℕ) (es : List OpenValue) (c : Chain) → PlainStack es → Chained s c
-      → ChainHung s old r left c → ChainApart letters s p base c
-      → ChainApart letters s p base (chain left es c)
-  chain_apart left [] c names plain h a = a
-  chain_apart left (e ∷ es) c names plain h a =
-      let at : is_listed e.node c.state.formatting ≡ true → is_element (kind_at c.state.nodes e.node) ≡ true =
-      λ l. element_at c.state.nodes e.node (plain.grown.plain.entries_at e.node l) in
-      chain_apart (left - 1) es (with_next left e c) names.1 (next_chained left e s c names.0 plain)
-      (next_hung s old r left e c at h) (next_apart left e c at h a)
+    chain_apart : (left : ℕ) (es : List OpenValue) (c : Chain) → PlainStack es → Chained s c
+        → ChainHung s old r left c → ChainApart letters s p base c
+        → ChainApart letters s p base (chain left es c)
+    chain_apart left [] c names plain h a = a
+    chain_apart left (e ∷ es) c names plain h a =
+        let at : is_listed e.node c.state.formatting ≡ true → is_element (kind_at c.state.nodes e.node) ≡ true =
+        λ l. element_at c.state.nodes e.node (plain.grown.plain.entries_at e.node l) in
+        chain_apart (left - 1) es (with_next left e c) names.1 (next_chained left e s c names.0 plain)
+        (next_hung s old r left e c at h) (next_apart left e c at h a)
 
--- ---- a round
+  -- ---- a round
 
-module _ (letters : List ℕ) (formatting : ℕ) (tag : TagName) (f : Furthest) (s : StateValue)
-    (names : FurthestPlain f)
-    (plain : Plain s) (x : RoundHung formatting f s) (o : Ordered letters s)
-    (inner : EachOpen (λ e. o.labels.live e.node ≡ true) f.inner) (block : o.labels.live f.block.node ≡ true) where
-  abbrev b : ℕ
-  b = f.block.node
+  module _ (letters : List ℕ) (formatting : ℕ) (tag : TagName) (f : Furthest) (s : StateValue) (names : FurthestPlain f)
+      (plain : Plain s) (x : RoundHung formatting f s) (o : Ordered choice letters s)
+      (inner : EachOpen (λ e. o.labels.live e.node ≡ true) f.inner) (block : o.labels.live f.block.node ≡ true) where
+    abbrev b : ℕ
+    b = f.block.node
 
-  abbrev p : ℕ
-  p = (current s.stack).node
+    abbrev p : ℕ
+    p = (current s.stack).node
 
-  ranked : Ranked x.rank s.nodes
-  ranked = record { hangs = x.hangs; forest = x.forest; root = x.root }
+    ranked : Ranked x.rank s.nodes
+    ranked = record { hangs = x.hangs; forest = x.forest; root = x.root }
 
-  less : x.rank p < x.rank b
-  less = by_stack s.stack x.order
-    where
-      by_stack : (stack : List OpenValue) → Below x.rank (x.rank formatting) stack
-          → x.rank (current stack).node < x.rank b
-      by_stack [] order = let z = x.at_root in let y = x.ranks.block in omega arith
-      by_stack (e ∷ es) order = let z = order.0 in let y = x.ranks.block in omega arith
+    less : x.rank p < x.rank b
+    less = by_stack s.stack x.order
+      where
+        by_stack : (stack : List OpenValue) → Below x.rank (x.rank formatting) stack
+            → x.rank (current stack).node < x.rank b
+        by_stack [] order = let z = x.at_root in let y = x.ranks.block in omega arith
+        by_stack (e ∷ es) order = let z = order.0 in let y = x.ranks.block in omega arith
 
-  alive : Alive x.rank letters s.nodes o.labels o.fits ranked x.at_root p
-  alive = record { live = live s.stack o.opens; either = either s.stack x.opened_at }
-    where
-      live : (stack : List OpenValue) → EachOpen (λ e. o.labels.live e.node ≡ true) stack
-          → o.labels.live (current stack).node ≡ true
-      live [] opens = o.root
-      live (e ∷ es) opens = opens.0
+    alive : Alive choice x.rank letters s.nodes o.labels o.fits ranked x.at_root p
+    alive = record { live = live s.stack o.opens; either = either s.stack x.opened_at }
+      where
+        live : (stack : List OpenValue) → EachOpen (λ e. o.labels.live e.node ≡ true) stack
+            → o.labels.live (current stack).node ≡ true
+        live [] opens = o.root
+        live (e ∷ es) opens = opens.0
 
-      either : (stack : List OpenValue) → EachOpen (ElementOpen s.nodes) stack
-          → ((current stack).node ≡ 0) ⊎ (is_element (kind_at s.nodes (current stack).node) ≡ true)
-      either [] opens = inl refl
-      either (e ∷ es) opens = inr opens.0
+        either : (stack : List OpenValue) → EachOpen (ElementOpen s.nodes) stack
+            → ((current stack).node ≡ 0) ⊎ (is_element (kind_at s.nodes (current stack).node) ≡ true)
+        either [] opens = inl refl
+        either (e ∷ es) opens = inr opens.0
 
-  p_within : p < length s.nodes
-  p_within = by_stack s.stack x.opened_at
-    where
-      by_stack : (stack : List OpenValue) → EachOpen (ElementOpen s.nodes) stack
-          → (current stack).node < length s.nodes
-      by_stack [] opens = x.filled
-      by_stack (e ∷ es) opens = element_number e.node s.nodes opens.0
+    p_within : p < length s.nodes
+    p_within = by_stack s.stack x.opened_at
+      where
+        by_stack : (stack : List OpenValue) → EachOpen (ElementOpen s.nodes) stack
+            → (current stack).node < length s.nodes
+        by_stack [] opens = x.filled
+        by_stack (e ∷ es) opens = element_number e.node s.nodes opens.0
 
-  abbrev base : Labels
-  base =
-      parted x.rank letters s.nodes o.labels o.fits ranked x.at_root p b alive block x.furthest.block less
+    abbrev base : Labels
+    base =
+        parted choice x.rank letters s.nodes o.labels o.fits ranked x.at_root p b alive block x.furthest.block less
 
-  -- at most as deep as the common ancestor, or as deep as the block
-  live_low : (m : ℕ) → o.labels.live m ≡ true → x.rank m ≤ x.rank p → base.live m ≡ true
-  live_low m e l = rw (e, lt_false (x.rank p) (x.rank m) l) (ends (is_element (kind_at s.nodes m)))
-    where
-      ends : (t : Bool) → not (t && false) ≡ true
-      ends true = refl
-      ends false = refl
+    -- at most as deep as the common ancestor, or as deep as the block
+    live_low : (m : ℕ) → o.labels.live m ≡ true → x.rank m ≤ x.rank p → base.live m ≡ true
+    live_low m e l = rw (e, lt_false (x.rank p) (x.rank m) l) (ends (is_element (kind_at s.nodes m)))
+      where
+        ends : (t : Bool) → not (t && false) ≡ true
+        ends true = refl
+        ends false = refl
 
-  live_high : (m : ℕ) → o.labels.live m ≡ true → x.rank b ≤ x.rank m → base.live m ≡ true
-  live_high m e l =
-      rw (e, lt_false (x.rank m) (x.rank b) l)
-      (ends (is_element (kind_at s.nodes m)) (nat_lt (x.rank p) (x.rank m)))
-    where
-      ends : (t u : Bool) → not (t && (u && false)) ≡ true
-      ends true true = refl
-      ends true false = refl
-      ends false u = refl
+    live_high : (m : ℕ) → o.labels.live m ≡ true → x.rank b ≤ x.rank m → base.live m ≡ true
+    live_high m e l =
+        rw (e, lt_false (x.rank m) (x.rank b) l)
+        (ends (is_element (kind_at s.nodes m)) (nat_lt (x.rank p) (x.rank m)))
+      where
+        ends : (t u : Bool) → not (t && (u && false)) ≡ true
+        ends true true = refl
+        ends true false = refl
+        ends false u = refl
 
-  begun_apart : ChainApart letters s p base (begin_chain b s)
-  begun_apart = record {
-    labels = base;
-    apart = record {
-      fits = parted_fits x.rank letters s.nodes o.labels o.fits ranked x.at_root p b alive block x.furthest.block less;
-      front =
-          front_ends x.rank letters s.nodes o.labels o.fits ranked x.at_root p b alive block x.furthest.block less;
-      live_last = live_high b block (omega arith);
-      live_at = live_low p alive.live (omega arith);
-    };
-    copies = tt;
-    still = λ m l e. e;
-    other = λ e. let y = less in let z : x.rank p ≡ x.rank b = ap x.rank e in omega arith;
-    within = p_within;
-    no_fostering = o.no_fostering;
-  }
-
-  abbrev first_chained : Chained s (begin_chain b s)
-  first_chained = record { grown = record { plain = plain; grows = λ n q. q }; copies = tt }
-
-  abbrev made : Chain
-  made = chain 3 f.between (begin_chain b s)
-
-  made_apart : ChainApart letters s p base made
-  made_apart =
-      chain_apart letters s p base x.rank (x.rank b) 3 f.between (begin_chain b s) names.between first_chained
-      (begun s f.block x.rank x.hangs x.furthest.block x.forest (let a = x.ranks.block in omega arith)) begun_apart
-
-  made_hung : ChainHung s x.rank (x.rank b) 0 made
-  made_hung =
-      chain_hung x.rank (x.rank b) 3 f.between s (begin_chain b s) names.between first_chained
-      (begun s f.block x.rank x.hangs x.furthest.block x.forest (let a = x.ranks.block in omega arith))
-
-  last_within : made.last < length made.state.nodes
-  last_within = element_number made.last made.state.nodes made_hung.last_at
-
-  abbrev back : List NodeValue
-  back = put made.last (last_in p) (detach made.last made.state.nodes)
-
-  back_forest : IsForest back
-  back_forest = forest_detached_put made.last (last_in p) made.state.nodes last_within made_hung.forest
-
-  back_fits : FitsBy none_out letters back made_apart.labels
-  back_fits =
-      fits_placed letters made.state.nodes made_apart.labels p made.last made_apart.apart made_apart.within last_within
-      made_apart.other back_forest
-
-  back_kind : (m : ℕ) → m < length s.nodes → kind_at back m ≡ kind_at s.nodes m
-  back_kind m l =
-      put_kind made.last p _ (detach made.last made.state.nodes) m
-      ∙ (detach_kind made.last made.state.nodes m ∙ made_hung.grows m l)
-
-  back_size : length back ≡ length made.state.nodes
-  back_size = put_size made.last p _ (detach made.last made.state.nodes) ∙ detach_size made.last made.state.nodes
-
-  formatting_at : is_element (kind_at back formatting) ≡ true
-  formatting_at =
-      ap is_element (back_kind formatting (element_number formatting s.nodes x.formatting_at)) ∙ x.formatting_at
-
-  block_within : b < length back
-  block_within =
-      let a = element_number b s.nodes x.furthest.block in
-      let c = back_size in
-      let d = made_hung.size in
-      omega arith
-
-  block_live : made_apart.labels.live b ≡ true
-  block_live = made_apart.still b (element_number b s.nodes x.furthest.block) (live_high b block (omega arith))
-
-  abbrev after_labels : Labels
-  after_labels =
-      wrapped_labels letters back made_apart.labels back_fits back_forest formatting b formatting_at block_within
-      block_live
-
-  after_fits : FitsBy none_out letters (wrap_children formatting b back) after_labels
-  after_fits =
-      fits_wrapped letters back made_apart.labels back_fits back_forest formatting b formatting_at block_within
-      block_live
-
-  old_live : (m : ℕ) → m < length s.nodes → base.live m ≡ true → after_labels.live m ≡ true
-  old_live m l e =
-      let c = back_size in
-      let d = made_hung.size in
-      rw (ne_eqb m (length back) (λ g. omega arith)) (made_apart.still m l e)
-
-  inner_live : EachOpen (λ e. after_labels.live e.node ≡ true) f.inner
-  inner_live =
-      each_more f.inner
-      (λ e y. old_live e.node (element_number e.node s.nodes y.0) (live_high e.node y.1.0 y.1.1))
-      (each_both (ElementOpen s.nodes) (λ e. (o.labels.live e.node ≡ true) × (x.rank b ≤ x.rank e.node)) f.inner
-      x.furthest.inner
-      (each_both (λ e. o.labels.live e.node ≡ true) (λ e. x.rank b ≤ x.rank e.node) f.inner inner
-      (inner_high x.limit f.inner x.ranks.inner)))
-    where
-      within_above : (rank : ℕ → ℕ) (high low : ℕ) (es : List OpenValue) → Within rank high es low
-          → EachOpen (λ e. low ≤ rank e.node) es
-      within_above rank high low [] h = tt
-      within_above rank high low (e ∷ es) h =
-          (within_low rank (rank e.node) es low h.1, within_above rank (rank e.node) low es h.1)
-
-      inner_high : (high : ℕ) (es : List OpenValue) → Within x.rank high es (suc (x.rank b))
-          → EachOpen (λ e. x.rank b ≤ x.rank e.node) es
-      inner_high high es h = each_more es (λ e l. omega arith) (within_above x.rank high (suc (x.rank b)) es h)
-
-  copies_live : EachOpen (λ e. after_labels.live e.node ≡ true) made.copies
-  copies_live =
-      each_more made.copies
-      (λ e y. let c = back_size in
-      rw (ne_eqb e.node (length back) (λ g. let w = element_number e.node made.state.nodes y.0 in omega arith)) y.1)
-      (each_both (ElementOpen made.state.nodes) (λ e. made_apart.labels.live e.node ≡ true) made.copies
-      made_hung.copies_at made_apart.copies)
-
-  around_live : EachOpen (λ e. after_labels.live e.node ≡ true) s.stack
-  around_live =
-      each_more s.stack
-      (λ e y. old_live e.node (element_number e.node s.nodes y.0) (live_low e.node y.1.0 y.1.1))
-      (each_both (ElementOpen s.nodes) (λ e. (o.labels.live e.node ≡ true) × (x.rank e.node ≤ x.rank p)) s.stack
-      x.opened_at
-      (each_both (λ e. o.labels.live e.node ≡ true) (λ e. x.rank e.node ≤ x.rank p) s.stack o.opens
-      (low_ranks x.rank (x.rank formatting) s.stack x.order)))
-
-  whole_live : EachOpen (λ e. after_labels.live e.node ≡ true)
-      (f.inner ++ opened (length back) (html (known tag)) ∷ f.block ∷ (made.copies ++ s.stack))
-  whole_live =
-      each_append (λ e. after_labels.live e.node ≡ true) f.inner
-      (opened (length back) (html (known tag)) ∷ f.block ∷ (made.copies ++ s.stack)) inner_live (
-        rw (eq-eqb (length back) (length back) refl) refl,
-        (
-          old_live b (element_number b s.nodes x.furthest.block) (live_high b block (omega arith)),
-          each_append (λ e. after_labels.live e.node ≡ true) made.copies s.stack copies_live around_live,
-        ),
-      )
-
-  adopted : OrderedIn letters (wrap_children formatting b back)
-      (f.inner ++ opened (length back) (html (known tag)) ∷ f.block ∷ (made.copies ++ s.stack)) false
-  adopted = record {
-    labels = after_labels;
-    fits = after_fits;
-    root = old_live 0 x.filled (live_low 0 o.root (let z = x.at_root in omega arith));
-    opens = whole_live;
-    no_fostering = refl;
-  }
-
-  -- where it is put
-  there : place (on_nodes (detach made.last) made.state) ≡ last_in p
-  there =
-      place_last (on_nodes (detach made.last) made.state) made_apart.no_fostering
-      ∙ ap (λ (stack : List OpenValue). last_in (current stack).node) made_hung.same_stack
-
-  adopt_ordered : Ordered letters (adopt formatting tag f s)
-  unfolding move_last
-  adopt_ordered =
-      subst (λ (fosters : Bool). OrderedIn letters (adopt formatting tag f s).nodes (adopt formatting tag f s).stack
-      fosters) (sym made_apart.no_fostering)
-      (subst (λ (at : _). OrderedIn letters
-      (wrap_children formatting b (put made.last at (detach made.last made.state.nodes)))
-      (f.inner ++ opened (length (put made.last at (detach made.last made.state.nodes))) (html (known tag)) ∷ f.block
-      ∷ (made.copies ++ made.state.stack)) false) (sym there)
-      (subst (λ (stack : List OpenValue). OrderedIn letters (wrap_children formatting b back)
-      (f.inner ++ opened (length back) (html (known tag)) ∷ f.block ∷ (made.copies ++ stack)) false)
-      (sym made_hung.same_stack) adopted))
-
--- ---- the rounds
-
-open_ordered : (letters : List ℕ) (formatting : ℕ) (tag : TagName) (s : StateValue)
-    → is_open_node formatting s.stack ≡ true → is_element (kind_at s.nodes formatting) ≡ true → Plain s
-    → (x : Hung s) (o : Ordered letters s) (f : Option Furthest)
-    → SomeRanks x.rank x.limit (suc (x.rank formatting)) f → SomeAt (ElementOpen s.nodes) f → SomePlain f
-    → SomeAt (λ e. o.labels.live e.node ≡ true) f
-    → Ordered letters (after_round (round_by formatting tag f (on_stack (around formatting) s)))
-unfolding after_round
-open_ordered letters formatting tag s l e h x o None ranks at names live =
-    ordered_fewer (around formatting s.stack) (around_fewer formatting s.stack) o
-open_ordered letters formatting tag s l e h x o (Some f) ranks at names live =
-    adopt_ordered letters formatting tag f (on_stack (around formatting) s) names
-    (plain_stack (around formatting s.stack) ((around_fewer formatting s.stack).each is_plain_open h.names) h)
-    (record {
-      rank = x.rank;
-      limit = x.limit;
-      at_root = x.at_root;
-      order = around_below x.rank x.limit formatting s.stack l x.order;
-      ranks = ranks;
-      hangs = x.hangs;
-      opened_at = (around_fewer formatting s.stack).each (is_element_open s.nodes) x.opened_at;
-      furthest = at;
-      formatting_at = e;
-      head_at = x.head_at;
-      forest = x.forest;
-      filled = x.filled;
-      root = x.root;
-    })
-    (record {
-      labels = o.labels;
-      fits = o.fits;
-      root = o.root;
-      opens = (around_fewer formatting s.stack).each (λ e. o.labels.live e.node) o.opens;
+    begun_apart : ChainApart letters s p base (begin_chain b s)
+    begun_apart = record {
+      labels = base;
+      apart = record {
+        fits = parted_fits choice x.rank letters s.nodes o.labels o.fits ranked x.at_root p b alive block
+            x.furthest.block less;
+        front =
+            front_ends choice x.rank letters s.nodes o.labels o.fits ranked x.at_root p b alive block x.furthest.block
+            less;
+        live_last = live_high b block (omega arith);
+        live_at = live_low p alive.live (omega arith);
+      };
+      copies = tt;
+      still = λ m l e. e;
+      other = λ e. let y = less in let z : x.rank p ≡ x.rank b = ap x.rank e in omega arith;
+      within = p_within;
       no_fostering = o.no_fostering;
-    }) live.inner live.block
+    }
 
-with_ordered : (letters : List ℕ) (tag : TagName) (formatting : ℕ) (s : StateValue)
-    → is_element (kind_at s.nodes formatting) ≡ true
-    → Plain s → Hung s → Ordered letters s → Ordered letters (after_round (round_with tag formatting s))
-unfolding after_round
-with_ordered letters tag formatting s e h x o = either (is_open_node formatting s.stack) refl
-  where
-    later : is_open_node formatting s.stack ≡ true → (t : Bool)
-        → Ordered letters (after_round (if t then last_round s else round_open tag formatting s))
-    later l true = o
-    later l false =
-        open_ordered letters formatting tag s l e h x o (furthest_block (inside formatting s.stack))
-        (furthest_ranks x.rank x.limit (inside formatting s.stack) (suc (x.rank formatting))
-        (inside_within x.rank x.limit formatting s.stack l x.order))
-        (furthest_at (ElementOpen s.nodes) (inside formatting s.stack)
-        ((inside_fewer formatting s.stack).each (is_element_open s.nodes) x.opened_at))
-        (furthest_plain (inside formatting s.stack) ((inside_fewer formatting s.stack).each is_plain_open h.names))
-        (furthest_at (λ e. o.labels.live e.node ≡ true) (inside formatting s.stack)
-        ((inside_fewer formatting s.stack).each (λ e. o.labels.live e.node) o.opens))
+    abbrev first_chained : Chained s (begin_chain b s)
+    first_chained = record { grown = record { plain = plain; grows = λ n q. q }; copies = tt }
 
-    either : (b : Bool) → is_open_node formatting s.stack ≡ b
-        → Ordered letters (after_round (if not b then last_round (on_formatting (without_entry formatting) s)
-        else if list_any bounds_any (inside formatting s.stack) then last_round s else round_open tag formatting s))
-    either true l = later l (list_any bounds_any (inside formatting s.stack))
-    either false l = o
+    abbrev made : Chain
+    made = chain 3 f.between (begin_chain b s)
 
-of_ordered : (letters : List ℕ) (tag : TagName) (formatting : Option ℕ) (s : StateValue)
-    → formatting_element tag s ≡ formatting
-    → Plain s → Hung s → Ordered letters s → Ordered letters (after_round (round_of tag formatting s))
-unfolding after_round
-of_ordered letters tag None s e h x o =
-    ordered_fewer (close_name (known tag) s.stack) (close_name_fewer (known tag) s.stack) o
-of_ordered letters tag (Some formatting) s e h x o =
-    with_ordered letters tag formatting s
-    (element_at s.nodes formatting
-    (h.entries_at formatting (found_listed (node_is s.nodes tag) s.formatting formatting e))) h x o
+    made_apart : ChainApart letters s p base made
+    made_apart =
+        chain_apart letters s p base x.rank (x.rank b) 3 f.between (begin_chain b s) names.between first_chained
+        (begun s f.block x.rank x.hangs x.furthest.block x.forest (let a = x.ranks.block in omega arith)) begun_apart
 
-go_on_ordered : (letters : List ℕ) (more : StateValue → StateValue) (r : Round)
-    → ((s : StateValue) → Plain s → Hung s → Ordered letters s → Ordered letters (more s))
-    → Plain (after_round r) → Hung (after_round r) → Ordered letters (after_round r)
-    → Ordered letters (go_on more r)
-unfolding after_round
-go_on_ordered letters more (last_round s) f h x o = o
-go_on_ordered letters more (goes_on s) f h x o = f s h x o
+    made_hung : ChainHung s x.rank (x.rank b) 0 made
+    made_hung =
+        chain_hung x.rank (x.rank b) 3 f.between s (begin_chain b s) names.between first_chained
+        (begun s f.block x.rank x.hangs x.furthest.block x.forest (let a = x.ranks.block in omega arith))
 
-rounds_ordered : (letters : List ℕ) (k : ℕ) (tag : TagName) (s : StateValue) → is_plain tag ≡ true → Plain s
-    → Hung s → Ordered letters s
-    → Ordered letters (rounds k tag s)
-rounds_ordered letters zero tag s p h x o = o
-rounds_ordered letters (suc k) tag s p h x o =
-    go_on_ordered letters (rounds k tag) (round tag s) (λ t g y z. rounds_ordered letters k tag t p g y z)
-    (of_plain tag (formatting_element tag s) s refl p h) (of_hung tag (formatting_element tag s) s refl h x)
-    (of_ordered letters tag (formatting_element tag s) s refl h x o)
+    last_within : made.last < length made.state.nodes
+    last_within = element_number made.last made.state.nodes made_hung.last_at
+
+    abbrev back : List NodeValue
+    back = put made.last (last_in p) (detach made.last made.state.nodes)
+
+    back_forest : IsForest back
+    back_forest = forest_detached_put made.last (last_in p) made.state.nodes last_within made_hung.forest
+
+    back_fits : FitsBy choice none_out letters back made_apart.labels
+    back_fits =
+        fits_placed choice letters made.state.nodes made_apart.labels p made.last made_apart.apart made_apart.within
+        last_within
+        made_apart.other back_forest
+
+    back_kind : (m : ℕ) → m < length s.nodes → kind_at back m ≡ kind_at s.nodes m
+    back_kind m l =
+        put_kind made.last p _ (detach made.last made.state.nodes) m
+        ∙ (detach_kind made.last made.state.nodes m ∙ made_hung.grows m l)
+
+    back_size : length back ≡ length made.state.nodes
+    back_size = put_size made.last p _ (detach made.last made.state.nodes) ∙ detach_size made.last made.state.nodes
+
+    formatting_at : is_element (kind_at back formatting) ≡ true
+    formatting_at =
+        ap is_element (back_kind formatting (element_number formatting s.nodes x.formatting_at)) ∙ x.formatting_at
+
+    block_within : b < length back
+    block_within =
+        let a = element_number b s.nodes x.furthest.block in
+        let c = back_size in
+        let d = made_hung.size in
+        omega arith
+
+    block_live : made_apart.labels.live b ≡ true
+    block_live = made_apart.still b (element_number b s.nodes x.furthest.block) (live_high b block (omega arith))
+
+    abbrev after_labels : Labels
+    after_labels =
+        wrapped_labels choice letters back made_apart.labels back_fits back_forest formatting b formatting_at
+        block_within
+        block_live
+
+    after_fits : FitsBy choice none_out letters (wrap_children formatting b back) after_labels
+    after_fits =
+        fits_wrapped choice letters back made_apart.labels back_fits back_forest formatting b formatting_at block_within
+        block_live
+
+    old_live : (m : ℕ) → m < length s.nodes → base.live m ≡ true → after_labels.live m ≡ true
+    old_live m l e =
+        let c = back_size in
+        let d = made_hung.size in
+        rw (ne_eqb m (length back) (λ g. omega arith)) (made_apart.still m l e)
+
+    inner_live : EachOpen (λ e. after_labels.live e.node ≡ true) f.inner
+    inner_live =
+        each_more f.inner
+        (λ e y. old_live e.node (element_number e.node s.nodes y.0) (live_high e.node y.1.0 y.1.1))
+        (each_both (ElementOpen s.nodes) (λ e. (o.labels.live e.node ≡ true) × (x.rank b ≤ x.rank e.node)) f.inner
+        x.furthest.inner
+        (each_both (λ e. o.labels.live e.node ≡ true) (λ e. x.rank b ≤ x.rank e.node) f.inner inner
+        (inner_high x.limit f.inner x.ranks.inner)))
+      where
+        within_above : (rank : ℕ → ℕ) (high low : ℕ) (es : List OpenValue) → Within rank high es low
+            → EachOpen (λ e. low ≤ rank e.node) es
+        within_above rank high low [] h = tt
+        within_above rank high low (e ∷ es) h =
+            (within_low rank (rank e.node) es low h.1, within_above rank (rank e.node) low es h.1)
+
+        inner_high : (high : ℕ) (es : List OpenValue) → Within x.rank high es (suc (x.rank b))
+            → EachOpen (λ e. x.rank b ≤ x.rank e.node) es
+        inner_high high es h = each_more es (λ e l. omega arith) (within_above x.rank high (suc (x.rank b)) es h)
+
+    copies_live : EachOpen (λ e. after_labels.live e.node ≡ true) made.copies
+    copies_live =
+        each_more made.copies
+        (λ e y. let c = back_size in
+        rw (ne_eqb e.node (length back) (λ g. let w = element_number e.node made.state.nodes y.0 in omega arith)) y.1)
+        (each_both (ElementOpen made.state.nodes) (λ e. made_apart.labels.live e.node ≡ true) made.copies
+        made_hung.copies_at made_apart.copies)
+
+    around_live : EachOpen (λ e. after_labels.live e.node ≡ true) s.stack
+    around_live =
+        each_more s.stack
+        (λ e y. old_live e.node (element_number e.node s.nodes y.0) (live_low e.node y.1.0 y.1.1))
+        (each_both (ElementOpen s.nodes) (λ e. (o.labels.live e.node ≡ true) × (x.rank e.node ≤ x.rank p)) s.stack
+        x.opened_at
+        (each_both (λ e. o.labels.live e.node ≡ true) (λ e. x.rank e.node ≤ x.rank p) s.stack o.opens
+        (low_ranks x.rank (x.rank formatting) s.stack x.order)))
+
+    whole_live : EachOpen (λ e. after_labels.live e.node ≡ true)
+        (f.inner ++ opened (length back) (html (known tag)) ∷ f.block ∷ (made.copies ++ s.stack))
+    whole_live =
+        each_append (λ e. after_labels.live e.node ≡ true) f.inner
+        (opened (length back) (html (known tag)) ∷ f.block ∷ (made.copies ++ s.stack)) inner_live (
+          rw (eq-eqb (length back) (length back) refl) refl,
+          (
+            old_live b (element_number b s.nodes x.furthest.block) (live_high b block (omega arith)),
+            each_append (λ e. after_labels.live e.node ≡ true) made.copies s.stack copies_live around_live,
+          ),
+        )
+
+    adopted : OrderedIn choice letters (wrap_children formatting b back)
+        (f.inner ++ opened (length back) (html (known tag)) ∷ f.block ∷ (made.copies ++ s.stack)) false
+    adopted = record {
+      labels = after_labels;
+      fits = after_fits;
+      root = old_live 0 x.filled (live_low 0 o.root (let z = x.at_root in omega arith));
+      opens = whole_live;
+      no_fostering = refl;
+    }
+
+    -- where it is put
+    there : place (on_nodes (detach made.last) made.state) ≡ last_in p
+    there =
+        place_last (on_nodes (detach made.last) made.state) made_apart.no_fostering
+        ∙ ap (λ (stack : List OpenValue). last_in (current stack).node) made_hung.same_stack
+
+    adopt_ordered : Ordered choice letters (adopt formatting tag f s)
+    unfolding move_last
+    adopt_ordered =
+        subst (λ (fosters : Bool). OrderedIn choice letters (adopt formatting tag f s).nodes
+        (adopt formatting tag f s).stack
+        fosters) (sym made_apart.no_fostering)
+        (subst (λ (at : _). OrderedIn choice letters
+        (wrap_children formatting b (put made.last at (detach made.last made.state.nodes)))
+        (f.inner ++ opened (length (put made.last at (detach made.last made.state.nodes))) (html (known tag)) ∷ f.block
+        ∷ (made.copies ++ made.state.stack)) false) (sym there)
+        (subst (λ (stack : List OpenValue). OrderedIn choice letters (wrap_children formatting b back)
+        (f.inner ++ opened (length back) (html (known tag)) ∷ f.block ∷ (made.copies ++ stack)) false)
+        (sym made_hung.same_stack) adopted))
+
+  -- ---- the rounds
+
+  open_ordered : (letters : List ℕ) (formatting : ℕ) (tag : TagName) (s : StateValue)
+      → is_open_node formatting s.stack ≡ true → is_element (kind_at s.nodes formatting) ≡ true → Plain s
+      → (x : Hung s) (o : Ordered choice letters s) (f : Option Furthest)
+      → SomeRanks x.rank x.limit (suc (x.rank formatting)) f → SomeAt (ElementOpen s.nodes) f → SomePlain f
+      → SomeAt (λ e. o.labels.live e.node ≡ true) f
+      → Ordered choice letters (after_round (round_by formatting tag f (on_stack (around formatting) s)))
+  unfolding after_round
+  open_ordered letters formatting tag s l e h x o None ranks at names live =
+      ordered_fewer choice (around formatting s.stack) (around_fewer formatting s.stack) o
+  open_ordered letters formatting tag s l e h x o (Some f) ranks at names live =
+      adopt_ordered letters formatting tag f (on_stack (around formatting) s) names
+      (plain_stack (around formatting s.stack) ((around_fewer formatting s.stack).each is_plain_open h.names) h)
+      (record {
+        rank = x.rank;
+        limit = x.limit;
+        at_root = x.at_root;
+        order = around_below x.rank x.limit formatting s.stack l x.order;
+        ranks = ranks;
+        hangs = x.hangs;
+        opened_at = (around_fewer formatting s.stack).each (is_element_open s.nodes) x.opened_at;
+        furthest = at;
+        formatting_at = e;
+        head_at = x.head_at;
+        forest = x.forest;
+        filled = x.filled;
+        root = x.root;
+      })
+      (record {
+        labels = o.labels;
+        fits = o.fits;
+        root = o.root;
+        opens = (around_fewer formatting s.stack).each (λ e. o.labels.live e.node) o.opens;
+        no_fostering = o.no_fostering;
+      }) live.inner live.block
+
+  with_ordered : (letters : List ℕ) (tag : TagName) (formatting : ℕ) (s : StateValue)
+      → is_element (kind_at s.nodes formatting) ≡ true
+      → Plain s → Hung s → Ordered choice letters s → Ordered choice letters (after_round (round_with tag formatting s))
+  unfolding after_round
+  with_ordered letters tag formatting s e h x o = either (is_open_node formatting s.stack) refl
+    where
+      later : is_open_node formatting s.stack ≡ true → (t : Bool)
+          → Ordered choice letters (after_round (if t then last_round s else round_open tag formatting s))
+      later l true = o
+      later l false =
+          open_ordered letters formatting tag s l e h x o (furthest_block (inside formatting s.stack))
+          (furthest_ranks x.rank x.limit (inside formatting s.stack) (suc (x.rank formatting))
+          (inside_within x.rank x.limit formatting s.stack l x.order))
+          (furthest_at (ElementOpen s.nodes) (inside formatting s.stack)
+          ((inside_fewer formatting s.stack).each (is_element_open s.nodes) x.opened_at))
+          (furthest_plain (inside formatting s.stack) ((inside_fewer formatting s.stack).each is_plain_open h.names))
+          (furthest_at (λ e. o.labels.live e.node ≡ true) (inside formatting s.stack)
+          ((inside_fewer formatting s.stack).each (λ e. o.labels.live e.node) o.opens))
+
+      either : (b : Bool) → is_open_node formatting s.stack ≡ b
+          → Ordered choice letters (after_round (if not b then last_round (on_formatting (without_entry formatting) s)
+          else if list_any bounds_any (inside formatting s.stack) then last_round s else round_open tag formatting s))
+      either true l = later l (list_any bounds_any (inside formatting s.stack))
+      either false l = o
+
+  of_ordered : (letters : List ℕ) (tag : TagName) (formatting : Option ℕ) (s : StateValue)
+      → formatting_element tag s ≡ formatting
+      → Plain s → Hung s → Ordered choice letters s → Ordered choice letters (after_round (round_of tag formatting s))
+  unfolding after_round
+  of_ordered letters tag None s e h x o =
+      ordered_fewer choice (close_name (known tag) s.stack) (close_name_fewer (known tag) s.stack) o
+  of_ordered letters tag (Some formatting) s e h x o =
+      with_ordered letters tag formatting s
+      (element_at s.nodes formatting
+      (h.entries_at formatting (found_listed (node_is s.nodes tag) s.formatting formatting e))) h x o
+
+  go_on_ordered : (letters : List ℕ) (more : StateValue → StateValue) (r : Round)
+      → ((s : StateValue) → Plain s → Hung s → Ordered choice letters s → Ordered choice letters (more s))
+      → Plain (after_round r) → Hung (after_round r) → Ordered choice letters (after_round r)
+      → Ordered choice letters (go_on more r)
+  unfolding after_round
+  go_on_ordered letters more (last_round s) f h x o = o
+  go_on_ordered letters more (goes_on s) f h x o = f s h x o
+
+  rounds_ordered : (letters : List ℕ) (k : ℕ) (tag : TagName) (s : StateValue) → is_plain tag ≡ true → Plain s
+      → Hung s → Ordered choice letters s
+      → Ordered choice letters (rounds k tag s)
+  rounds_ordered letters zero tag s p h x o = o
+  rounds_ordered letters (suc k) tag s p h x o =
+      go_on_ordered letters (rounds k tag) (round tag s) (λ t g y z. rounds_ordered letters k tag t p g y z)
+      (of_plain tag (formatting_element tag s) s refl p h) (of_hung tag (formatting_element tag s) s refl h x)
+      (of_ordered letters tag (formatting_element tag s) s refl h x o)
 
 -- ---- the mode stays
 
@@ -479,25 +487,26 @@ unfolding after_round
 of_mode tag None s = refl
 of_mode tag (Some formatting) s = with_mode_of tag formatting s
 
-go_on_mode : (more : StateValue → StateValue) (r : Round) → ((s : StateValue) → (more s).mode ≡ s.mode)
-    → (go_on more r).mode ≡ (after_round r).mode
-unfolding after_round
-go_on_mode more (last_round s) f = refl
-go_on_mode more (goes_on s) f = f s
+module _ (choice : Choice) where
+  go_on_mode : (more : StateValue → StateValue) (r : Round) → ((s : StateValue) → (more s).mode ≡ s.mode)
+      → (go_on more r).mode ≡ (after_round r).mode
+  unfolding after_round
+  go_on_mode more (last_round s) f = refl
+  go_on_mode more (goes_on s) f = f s
 
-rounds_mode : (k : ℕ) (tag : TagName) (s : StateValue) → (rounds k tag s).mode ≡ s.mode
-rounds_mode zero tag s = refl
-rounds_mode (suc k) tag s =
-    go_on_mode (rounds k tag) (round tag s) (λ t. rounds_mode k tag t) ∙ of_mode tag (formatting_element tag s) s
+  rounds_mode : (k : ℕ) (tag : TagName) (s : StateValue) → (rounds k tag s).mode ≡ s.mode
+  rounds_mode zero tag s = refl
+  rounds_mode (suc k) tag s =
+      go_on_mode (rounds k tag) (round tag s) (λ t. rounds_mode k tag t) ∙ of_mode tag (formatting_element tag s) s
 
-rounds_order : (k : ℕ) (tag : TagName) → is_plain tag ≡ true → Stays (rounds k tag) → Orders (rounds k tag)
-rounds_order k tag p stays = record {
-  stays = stays;
-  orders = λ letters s h x o. rounds_ordered letters k tag s p h x o;
-  late = λ s h e. ap is_late (rounds_mode k tag s) ∙ e;
-}
+  rounds_order : (k : ℕ) (tag : TagName) → is_plain tag ≡ true → Stays (rounds k tag) → Orders choice (rounds k tag)
+  rounds_order k tag p stays = record {
+    stays = stays;
+    orders = λ letters s h x o. rounds_ordered choice letters k tag s p h x o;
+    late = λ s h e. ap is_late (rounds_mode k tag s) ∙ e;
+  }
 
-pub adoption_agency_orders : (tag : TagName) → is_plain tag ≡ true → Orders (adoption_agency tag)
-adoption_agency_orders tag p =
-    orders_by_test (closes_at_once tag) (on_stack_orders pop pop_fewer)
-    (rounds_order 8 tag p (rounds_stay 8 tag p))
+  pub adoption_agency_orders : (tag : TagName) → is_plain tag ≡ true → Orders choice (adoption_agency tag)
+  adoption_agency_orders tag p =
+      orders_by_test choice (closes_at_once tag) (on_stack_orders choice pop pop_fewer)
+      (rounds_order 8 tag p (rounds_stay 8 tag p))

@@ -1,6 +1,5 @@
 -- In the body and after it each token that is no text leaves the letters in order, by the rules of the mode and in
--- foreign
--- content.
+-- foreign content.
 use Rattle.std.proofs.Common.{◌≡◌, ℕ, ◌<◌, Bool, true, false, List, [], ◌∷◌, length}
 use Rattle.std.proofs.Common.{Option, Some, None, refl, sym, ap, subst}
 use Rattle.std.specs.Prelude.{if◌then◌else◌}
@@ -39,6 +38,7 @@ use Rattle.htmd_html5_laws.proofs.OrderedBody.{add_to_root_orders, insert_foreig
 use Rattle.htmd_html5_laws.proofs.OrderedBody.{end_in_body_orders}
 use Rattle.htmd_html5_state.specs.declared.names.TagName.TheVariants as tags
 use Rattle.htmd_html5_state.specs.Foreign as foreign
+use Rattle.htmd_html5_laws.proofs.Counted.{Choice}
 
 -- a token that is no text, and whose name moves none if it is a start tag
 abbrev pub IsOrderly : TokenValue → Type 0
@@ -46,18 +46,19 @@ IsOrderly (run kind s) = true ≡ false
 IsOrderly (start_tag tag) = is_orderly_name tag.name ≡ true
 IsOrderly _ = Unit {0}
 
--- ---- the modes
+module _ (choice : Choice) where
+  -- ---- the modes
 
-back_to_body_orders : OrdersAnswer back_to_body
-back_to_body_orders = says_ordered (with_mode_orders InBody refl refl)
+  back_to_body_orders : OrdersAnswer choice back_to_body
+  back_to_body_orders = says_ordered choice (with_mode_orders choice InBody refl refl)
 
-start_after_body_orders : (tag : StartTagValue) (name : NameValue) → OrdersAnswer (start_after_body name tag)
-start_after_body_orders tag (known tags.Html) = says_ordered (add_to_root_orders tag)
-start_after_body_orders tag _ = back_to_body_orders
+  start_after_body_orders : (tag : StartTagValue) (name : NameValue) → OrdersAnswer choice (start_after_body name tag)
+  start_after_body_orders tag (known tags.Html) = says_ordered choice (add_to_root_orders choice tag)
+  start_after_body_orders tag _ = back_to_body_orders
 
-end_after_body_orders : (name : NameValue) → OrdersAnswer (end_after_body name)
-end_after_body_orders (known tags.Html) = says_ordered (with_mode_orders AfterAfterBody refl refl)
-end_after_body_orders _ = back_to_body_orders
+  end_after_body_orders : (name : NameValue) → OrdersAnswer choice (end_after_body name)
+  end_after_body_orders (known tags.Html) = says_ordered choice (with_mode_orders choice AfterAfterBody refl refl)
+  end_after_body_orders _ = back_to_body_orders
 
 pub first_within : (nodes : List NodeValue) (stack : List OpenValue) (n : ℕ) → first_open stack ≡ Some n
     → EachOpen (ElementOpen nodes) stack → n < length nodes
@@ -72,171 +73,170 @@ first_within nodes (d ∷ []) n e h =
     same f = cc
 first_within nodes (d ∷ f ∷ es) n e h = first_within nodes (f ∷ es) n e h.1
 
--- a comment after the body goes to the outermost element
-comment_in_root_orders : (c : List ℕ) → Orders (λ s. comment_in (first_open s.stack) c s)
-comment_in_root_orders c = record {
-  stays = stays_by_state (λ s. first_open s.stack) (comment_in_stays c);
-  orders = λ letters s h x o. by_first letters s (first_open s.stack) refl x o;
-  late = λ s h e. same_mode s (first_open s.stack) e;
-}
-  where
-    same_mode : (s : StateValue) (n : Option ℕ) → is_late s.mode ≡ true
-        → is_late (comment_in n c s).mode ≡ true
-    same_mode s None e = e
-    same_mode s (Some n) e = e
+module _ (choice : Choice) where
+  -- a comment after the body goes to the outermost element
+  comment_in_root_orders : (c : List ℕ) → Orders choice (λ s. comment_in (first_open s.stack) c s)
+  comment_in_root_orders c = record {
+    stays = stays_by_state (λ s. first_open s.stack) (comment_in_stays c);
+    orders = λ letters s h x o. by_first letters s (first_open s.stack) refl x o;
+    late = λ s h e. same_mode s (first_open s.stack) e;
+  }
+    where
+      same_mode : (s : StateValue) (n : Option ℕ) → is_late s.mode ≡ true → is_late (comment_in n c s).mode ≡ true
+      same_mode s None e = e
+      same_mode s (Some n) e = e
 
-    by_first : (letters : List ℕ) (s : StateValue) (n : Option ℕ) → first_open s.stack ≡ n → Hung s
-        → Ordered letters s → Ordered letters (comment_in n c s)
-    by_first letters s None e x o = o
-    by_first letters s (Some n) e x o =
-        loose_in letters (comment_kind c) n s.nodes s.stack s.head s.foster_parenting x o
-        (first_within s.nodes s.stack n e x.opened_at) refl (no_text c)
+      by_first : (letters : List ℕ) (s : StateValue) (n : Option ℕ) → first_open s.stack ≡ n → Hung s
+          → Ordered choice letters s → Ordered choice letters (comment_in n c s)
+      by_first letters s None e x o = o
+      by_first letters s (Some n) e x o =
+          loose_in choice letters (comment_kind c) n s.nodes s.stack s.head s.foster_parenting x o
+          (first_within s.nodes s.stack n e x.opened_at) refl (no_text c)
 
-end_of_file_orders : OrdersAnswer end_of_file_in_body
-end_of_file_orders = record {
-  stays = end_of_file_stays;
-  orders = λ letters s h x o. either letters s (has_modes s.template_modes) (ap has_modes h.no_modes) o;
-  late = λ s h e. late s (has_modes s.template_modes) (ap has_modes h.no_modes) e;
-}
-  where
-    either : (letters : List ℕ) (s : StateValue) (b : Bool) → b ≡ false → Ordered letters s
-        → Ordered letters (if b then end_of_file_in_template s else done s).state
-    either letters s true e o = absurd (true≢false e)
-    either letters s false e o = o
+  end_of_file_orders : OrdersAnswer choice end_of_file_in_body
+  end_of_file_orders = record {
+    stays = end_of_file_stays;
+    orders = λ letters s h x o. either letters s (has_modes s.template_modes) (ap has_modes h.no_modes) o;
+    late = λ s h e. late s (has_modes s.template_modes) (ap has_modes h.no_modes) e;
+  }
+    where
+      either : (letters : List ℕ) (s : StateValue) (b : Bool) → b ≡ false → Ordered choice letters s
+          → Ordered choice letters (if b then end_of_file_in_template s else done s).state
+      either letters s true e o = absurd (true≢false e)
+      either letters s false e o = o
 
-    late : (s : StateValue) (b : Bool) → b ≡ false → is_late s.mode ≡ true
-        → is_late (if b then end_of_file_in_template s else done s).state.mode ≡ true
-    late s true e l = absurd (true≢false e)
-    late s false e l = l
+      late : (s : StateValue) (b : Bool) → b ≡ false → is_late s.mode ≡ true
+          → is_late (if b then end_of_file_in_template s else done s).state.mode ≡ true
+      late s true e l = absurd (true≢false e)
+      late s false e l = l
 
-in_body_orders : (t : TokenValue) → IsOrderly t → OrdersAnswer (in_body t)
-in_body_orders (run kind s) p = absurd (true≢false p)
-in_body_orders (start_tag tag) p = says_ordered (start_orders tag p)
-in_body_orders (end_tag name) p = end_in_body_orders name
-in_body_orders (comment s) p = says_ordered (insert_comment_orders s)
-in_body_orders (doctype quirks) p = says_ordered unmoved
-in_body_orders end_of_file p = end_of_file_orders
+  in_body_orders : (t : TokenValue) → IsOrderly t → OrdersAnswer choice (in_body t)
+  in_body_orders (run kind s) p = absurd (true≢false p)
+  in_body_orders (start_tag tag) p = says_ordered choice (start_orders choice tag p)
+  in_body_orders (end_tag name) p = end_in_body_orders choice name
+  in_body_orders (comment s) p = says_ordered choice (insert_comment_orders choice s)
+  in_body_orders (doctype quirks) p = says_ordered choice (unmoved choice)
+  in_body_orders end_of_file p = end_of_file_orders
 
-after_body_orders : (t : TokenValue) → IsOrderly t → OrdersAnswer (after_body t)
-after_body_orders (run kind s) p = absurd (true≢false p)
-after_body_orders (start_tag tag) p = start_after_body_orders tag tag.name
-after_body_orders (end_tag name) p = end_after_body_orders name
-after_body_orders (comment s) p = says_ordered (comment_in_root_orders s)
-after_body_orders (doctype quirks) p = says_ordered unmoved
-after_body_orders end_of_file p = says_ordered unmoved
+  after_body_orders : (t : TokenValue) → IsOrderly t → OrdersAnswer choice (after_body t)
+  after_body_orders (run kind s) p = absurd (true≢false p)
+  after_body_orders (start_tag tag) p = start_after_body_orders choice tag tag.name
+  after_body_orders (end_tag name) p = end_after_body_orders choice name
+  after_body_orders (comment s) p = says_ordered choice (comment_in_root_orders s)
+  after_body_orders (doctype quirks) p = says_ordered choice (unmoved choice)
+  after_body_orders end_of_file p = says_ordered choice (unmoved choice)
 
-after_after_body_orders : (t : TokenValue) → IsOrderly t → OrdersAnswer (after_after_body t)
-after_after_body_orders (run kind s) p = absurd (true≢false p)
-after_after_body_orders (start_tag tag) p = start_after_body_orders tag tag.name
-after_after_body_orders (end_tag name) p = back_to_body_orders
-after_after_body_orders (comment s) p = says_ordered (insert_comment_root_orders s)
-after_after_body_orders (doctype quirks) p = says_ordered unmoved
-after_after_body_orders end_of_file p = says_ordered unmoved
+  after_after_body_orders : (t : TokenValue) → IsOrderly t → OrdersAnswer choice (after_after_body t)
+  after_after_body_orders (run kind s) p = absurd (true≢false p)
+  after_after_body_orders (start_tag tag) p = start_after_body_orders choice tag tag.name
+  after_after_body_orders (end_tag name) p = back_to_body_orders choice
+  after_after_body_orders (comment s) p = says_ordered choice (insert_comment_root_orders choice s)
+  after_after_body_orders (doctype quirks) p = says_ordered choice (unmoved choice)
+  after_after_body_orders end_of_file p = says_ordered choice (unmoved choice)
 
--- ---- states in the body or after it
+  -- ---- states in the body or after it
 
-pub record Late (letters : List ℕ) (s : StateValue) : Type 0 where
-  pub plain : Plain s
-  pub hung : Hung s
-  pub ordered : Ordered letters s
-  pub late : is_late s.mode ≡ true
+  pub record Late (letters : List ℕ) (s : StateValue) : Type 0 where
+    pub plain : Plain s
+    pub hung : Hung s
+    pub ordered : Ordered choice letters s
+    pub late : is_late s.mode ≡ true
 
-pub late_answer : {f : StateValue → Answer} → OrdersAnswer f → (letters : List ℕ) (s : StateValue)
-    → Late letters s
-    → Late letters (f s).state
-late_answer f letters s h = record {
-  plain = f.stays.stays s h.plain;
-  hung = f.stays.hangs s h.plain h.hung;
-  ordered = f.orders letters s h.plain h.hung h.ordered;
-  late = f.late s h.plain h.late;
-}
+  pub late_answer : {f : StateValue → Answer} → OrdersAnswer choice f → (letters : List ℕ) (s : StateValue) → Late
+      letters s
+      → Late letters (f s).state
+  late_answer f letters s h = record {
+    plain = f.stays.stays s h.plain;
+    hung = f.stays.hangs s h.plain h.hung;
+    ordered = f.orders letters s h.plain h.hung h.ordered;
+    late = f.late s h.plain h.late;
+  }
 
-pub late_step : {f : StateValue → StateValue} → Orders f → (letters : List ℕ) (s : StateValue)
-    → Late letters s
-    → Late letters (f s)
-late_step f letters s h = record {
-  plain = f.stays.stays s h.plain;
-  hung = f.stays.hangs s h.plain h.hung;
-  ordered = f.orders letters s h.plain h.hung h.ordered;
-  late = f.late s h.plain h.late;
-}
+  pub late_step : {f : StateValue → StateValue} → Orders choice f → (letters : List ℕ) (s : StateValue) → Late letters s
+      → Late letters (f s)
+  late_step f letters s h = record {
+    plain = f.stays.stays s h.plain;
+    hung = f.stays.hangs s h.plain h.hung;
+    ordered = f.orders letters s h.plain h.hung h.ordered;
+    late = f.late s h.plain h.late;
+  }
 
-late_fewer : (letters : List ℕ) (es : List OpenValue) (s : StateValue) → Fewer es s.stack → Late letters s
-    → Late letters (record s { stack = es })
-late_fewer letters es s f h = record {
-  plain = plain_stack es (f.each is_plain_open h.plain.names) h.plain;
-  hung = hung_fewer es f h.hung;
-  ordered = ordered_fewer es f h.ordered;
-  late = h.late;
-}
+  late_fewer : (letters : List ℕ) (es : List OpenValue) (s : StateValue) → Fewer es s.stack → Late letters s
+      → Late letters (record s { stack = es })
+  late_fewer letters es s f h = record {
+    plain = plain_stack es (f.each is_plain_open h.plain.names) h.plain;
+    hung = hung_fewer es f h.hung;
+    ordered = ordered_fewer choice es f h.ordered;
+    late = h.late;
+  }
 
-in_mode_late : (mode : InsertionMode) → is_late mode ≡ true → (t : TokenValue) → IsOrderly t
-    → OrdersAnswer (in_mode mode t)
-in_mode_late InBody e t p = in_body_orders t p
-in_mode_late AfterBody e t p = after_body_orders t p
-in_mode_late AfterAfterBody e t p = after_after_body_orders t p
-in_mode_late _ e t p = absurd (true≢false (sym e))
+  in_mode_late : (mode : InsertionMode) → is_late mode ≡ true → (t : TokenValue) → IsOrderly t
+      → OrdersAnswer choice (in_mode mode t)
+  in_mode_late InBody e t p = in_body_orders t p
+  in_mode_late AfterBody e t p = after_body_orders t p
+  in_mode_late AfterAfterBody e t p = after_after_body_orders t p
+  in_mode_late _ e t p = absurd (true≢false (sym e))
 
-by_mode_late : (t : TokenValue) → IsOrderly t → (letters : List ℕ) (s : StateValue) → Late letters s
-    → Late letters (by_mode_rules t s).state
-by_mode_late t p letters s h = late_answer (in_mode_late s.mode h.late t p) letters s h
+  by_mode_late : (t : TokenValue) → IsOrderly t → (letters : List ℕ) (s : StateValue) → Late letters s
+      → Late letters (by_mode_rules t s).state
+  by_mode_late t p letters s h = late_answer (in_mode_late s.mode h.late t p) letters s h
 
--- ---- foreign content
+  -- ---- foreign content
 
-break_out_late : (t : TokenValue) → IsOrderly t → (letters : List ℕ) (s : StateValue) → Late letters s
-    → Late letters (break_out t s).state
-break_out_late t p letters s h =
-    by_mode_late t p letters (on_stack (leave_foreign s.nodes) s)
-    (late_fewer letters (leave_foreign s.nodes s.stack) s (leave_foreign_fewer s.nodes s.stack) h)
+  break_out_late : (t : TokenValue) → IsOrderly t → (letters : List ℕ) (s : StateValue) → Late letters s
+      → Late letters (break_out t s).state
+  break_out_late t p letters s h =
+      by_mode_late t p letters (on_stack (leave_foreign s.nodes) s)
+      (late_fewer letters (leave_foreign s.nodes s.stack) s (leave_foreign_fewer s.nodes s.stack) h)
 
-insert_alike_orders : (tag : StartTagValue) (space : Option Namespace) → Orders (insert_alike space tag)
-insert_alike_orders tag None = unmoved
-insert_alike_orders tag (Some space) = insert_foreign_tag_orders space tag
+  insert_alike_orders : (tag : StartTagValue) (space : Option Namespace) → Orders choice (insert_alike space tag)
+  insert_alike_orders tag None = unmoved choice
+  insert_alike_orders tag (Some space) = insert_foreign_tag_orders choice space tag
 
-start_foreign_orders : (tag : StartTagValue) → Orders (start_foreign_element tag)
-start_foreign_orders tag = orders_by_state (λ s. namespace_of (current s.stack).name) (insert_alike_orders tag)
+  start_foreign_orders : (tag : StartTagValue) → Orders choice (start_foreign_element tag)
+  start_foreign_orders tag = orders_by_state choice (λ s. namespace_of (current s.stack).name) (insert_alike_orders tag)
 
-start_foreign_late : (tag : StartTagValue) → IsOrderly (start_tag tag) → (letters : List ℕ) (s : StateValue)
-    → Late letters s
-    → Late letters (start_in_foreign tag s).state
-start_foreign_late tag p letters s h = either (tag_breaks_out tag.name tag.attributes)
-  where
-    either : (b : Bool)
-        → Late letters (if b then break_out (start_tag tag) s else done (start_foreign_element tag s)).state
-    either true = break_out_late (start_tag tag) p letters s h
-    either false = late_step (start_foreign_orders tag) letters s h
+  start_foreign_late : (tag : StartTagValue) → IsOrderly (start_tag tag) → (letters : List ℕ) (s : StateValue)
+      → Late letters s
+      → Late letters (start_in_foreign tag s).state
+  start_foreign_late tag p letters s h = either (tag_breaks_out tag.name tag.attributes)
+    where
+      either : (b : Bool) → Late letters (if b then break_out (start_tag tag) s else done
+          (start_foreign_element tag s)).state
+      either true = break_out_late (start_tag tag) p letters s h
+      either false = late_step (start_foreign_orders tag) letters s h
 
-end_foreign_late : (name : NameValue) (ending : ForeignEnd) (letters : List ℕ) (s : StateValue)
-    → EndsIn ending s.stack → Late letters s
-    → Late letters (end_foreign name ending s).state
-end_foreign_late name by_mode letters s e h = by_mode_late (end_tag name) tt letters s h
-end_foreign_late name (closed_to es) letters s e h = late_fewer letters es s e h
-end_foreign_late name foreign.nothing letters s e h = h
+  end_foreign_late : (name : NameValue) (ending : ForeignEnd) (letters : List ℕ) (s : StateValue)
+      → EndsIn ending s.stack → Late letters s
+      → Late letters (end_foreign name ending s).state
+  end_foreign_late name by_mode letters s e h = by_mode_late (end_tag name) tt letters s h
+  end_foreign_late name (closed_to es) letters s e h = late_fewer letters es s e h
+  end_foreign_late name foreign.nothing letters s e h = h
 
-end_in_foreign_late : (name : NameValue) (letters : List ℕ) (s : StateValue) → Late letters s
-    → Late letters (end_in_foreign name s).state
-end_in_foreign_late name letters s h = either (end_breaks_out name)
-  where
-    either : (b : Bool) → Late letters (if b then break_out (end_tag name) s
-        else end_foreign name (foreign_end (text_of_name name) s.stack) s).state
-    either true = break_out_late (end_tag name) tt letters s h
-    either false =
-        end_foreign_late name (foreign_end (text_of_name name) s.stack) letters s
-        (foreign_end_in (text_of_name name) s.stack) h
+  end_in_foreign_late : (name : NameValue) (letters : List ℕ) (s : StateValue) → Late letters s
+      → Late letters (end_in_foreign name s).state
+  end_in_foreign_late name letters s h = either (end_breaks_out name)
+    where
+      either : (b : Bool) → Late letters (if b then break_out (end_tag name) s
+          else end_foreign name (foreign_end (text_of_name name) s.stack) s).state
+      either true = break_out_late (end_tag name) tt letters s h
+      either false =
+          end_foreign_late name (foreign_end (text_of_name name) s.stack) letters s
+          (foreign_end_in (text_of_name name) s.stack) h
 
-in_foreign_late : (t : TokenValue) → IsOrderly t → (letters : List ℕ) (s : StateValue) → Late letters s
-    → Late letters (in_foreign_content t s).state
-in_foreign_late (run kind c) p letters s h = absurd (true≢false p)
-in_foreign_late (start_tag tag) p letters s h = start_foreign_late tag p letters s h
-in_foreign_late (end_tag name) p letters s h = end_in_foreign_late name letters s h
-in_foreign_late (comment c) p letters s h = late_step (insert_comment_orders c) letters s h
-in_foreign_late (doctype quirks) p letters s h = h
-in_foreign_late end_of_file p letters s h = h
+  in_foreign_late : (t : TokenValue) → IsOrderly t → (letters : List ℕ) (s : StateValue) → Late letters s
+      → Late letters (in_foreign_content t s).state
+  in_foreign_late (run kind c) p letters s h = absurd (true≢false p)
+  in_foreign_late (start_tag tag) p letters s h = start_foreign_late tag p letters s h
+  in_foreign_late (end_tag name) p letters s h = end_in_foreign_late name letters s h
+  in_foreign_late (comment c) p letters s h = late_step (insert_comment_orders choice c) letters s h
+  in_foreign_late (doctype quirks) p letters s h = h
+  in_foreign_late end_of_file p letters s h = h
 
-pub by_rules_late : (t : TokenValue) → IsOrderly t → (letters : List ℕ) (s : StateValue) → Late letters s
-    → Late letters (by_rules t s).state
-by_rules_late t p letters s h = either (is_foreign t s)
-  where
-    either : (b : Bool) → Late letters (if b then in_foreign_content t s else by_mode_rules t s).state
-    either true = in_foreign_late t p letters s h
-    either false = by_mode_late t p letters s h
+  pub by_rules_late : (t : TokenValue) → IsOrderly t → (letters : List ℕ) (s : StateValue) → Late letters s
+      → Late letters (by_rules t s).state
+  by_rules_late t p letters s h = either (is_foreign t s)
+    where
+      either : (b : Bool) → Late letters (if b then in_foreign_content t s else by_mode_rules t s).state
+      either true = in_foreign_late t p letters s h
+      either false = by_mode_late t p letters s h

@@ -19,82 +19,84 @@ use Rattle.htmd_html5_laws.proofs.HungChains.{detach_size, detach_kind}
 use Rattle.htmd_html5_laws.proofs.Rows.{Marks, Row, row_low, row_append, row_without, row_marks}
 use Rattle.htmd_html5_laws.proofs.OrderedNodes.{bears, Labels, until, counted, marks, FitsBy, none_out}
 use Rattle.htmd_html5_laws.proofs.OrderedInserts.{mark, inserted_last, children_beyond, no_child}
+use Rattle.htmd_html5_laws.proofs.Counted.{Choice}
 
--- ---- children after a node was taken out, or put
+module _ (choice : Choice) where
+  -- ---- children after a node was taken out, or put
 
-pub row_detached : (m : Marks) (n q at to : ℕ) (nodes : List NodeValue) → Row m at (children_at nodes q) to
-    → Row m at (children_at (detach n nodes) q) to
-row_detached m n q at to nodes r = by_parent (parent_at nodes n)
-  where
-    by_same : (p : ℕ) → p ≡ q
-        → (children_at (remove_child p n nodes) p ≡ without_child n (children_at nodes p))
-        ⊎ (children_at (remove_child p n nodes) p ≡ [])
-        → Row m at (children_at (remove_child p n nodes) q) to
-    by_same p e (inl f) =
-        subst (λ (x : ℕ). Row m at (children_at (remove_child p n nodes) x) to) e
-        (subst (λ (cs : List ℕ). Row m at cs to) (sym f)
-        (row_without m at (children_at nodes p) to (index_of n (children_at nodes p))
-        (subst (λ (x : ℕ). Row m at (children_at nodes x) to) (sym e) r)))
-    by_same p e (inr f) =
-        subst (λ (x : ℕ). Row m at (children_at (remove_child p n nodes) x) to) e
-        (subst (λ (cs : List ℕ). Row m at cs to) (sym f) (row_low m at (children_at nodes q) to r))
+  pub row_detached : (m : Marks) (n q at to : ℕ) (nodes : List NodeValue) → Row m at (children_at nodes q) to
+      → Row m at (children_at (detach n nodes) q) to
+  row_detached m n q at to nodes r = by_parent (parent_at nodes n)
+    where
+      by_same : (p : ℕ) → p ≡ q
+          → (children_at (remove_child p n nodes) p ≡ without_child n (children_at nodes p))
+          ⊎ (children_at (remove_child p n nodes) p ≡ [])
+          → Row m at (children_at (remove_child p n nodes) q) to
+      by_same p e (inl f) =
+          subst (λ (x : ℕ). Row m at (children_at (remove_child p n nodes) x) to) e
+          (subst (λ (cs : List ℕ). Row m at cs to) (sym f)
+          (row_without m at (children_at nodes p) to (index_of n (children_at nodes p))
+          (subst (λ (x : ℕ). Row m at (children_at nodes x) to) (sym e) r)))
+      by_same p e (inr f) =
+          subst (λ (x : ℕ). Row m at (children_at (remove_child p n nodes) x) to) e
+          (subst (λ (cs : List ℕ). Row m at cs to) (sym f) (row_low m at (children_at nodes q) to r))
 
-    by_parent : (o : Option ℕ) → Row m at (children_at (detach_from o n nodes) q) to
-    by_parent None = r
-    by_parent (Some p) =
-        subst (λ (cs : List ℕ). Row m at cs to) (sym (children_of_parent n q None (remove_child p n nodes)))
-        (test (p == q)
-        (λ t. by_same p (eqb-true p q t) (children_same p (without_child n (children_at nodes p)) nodes))
-        (λ t. subst (λ (cs : List ℕ). Row m at cs to)
-        (sym (children_other p q (without_child n (children_at nodes p)) nodes (eqb-false p q t))) r))
+      by_parent : (o : Option ℕ) → Row m at (children_at (detach_from o n nodes) q) to
+      by_parent None = r
+      by_parent (Some p) =
+          subst (λ (cs : List ℕ). Row m at cs to) (sym (children_of_parent n q None (remove_child p n nodes)))
+          (test (p == q)
+          (λ t. by_same p (eqb-true p q t) (children_same p (without_child n (children_at nodes p)) nodes))
+          (λ t. subst (λ (cs : List ℕ). Row m at cs to)
+          (sym (children_other p q (without_child n (children_at nodes p)) nodes (eqb-false p q t))) r))
 
-abbrev pub put_last : ℕ → ℕ → List NodeValue → List NodeValue
-put_last n p nodes = put_at n p (length (children_at nodes p)) nodes
+  abbrev pub put_last : ℕ → ℕ → List NodeValue → List NodeValue
+  put_last n p nodes = put_at n p (length (children_at nodes p)) nodes
 
-pub children_put : (n p : ℕ) (nodes : List NodeValue) → p < length nodes
-    → children_at (put_last n p nodes) p ≡ children_at nodes p ++ n ∷ []
-children_put n p nodes l =
-    children_of_parent n p (Some p) (with_children p
-    (insert (children_at nodes p) (length (children_at nodes p)) n) nodes)
-    ∙ children_in p (insert (children_at nodes p) (length (children_at nodes p)) n) nodes l
-    ∙ inserted_last n (children_at nodes p)
+  pub children_put : (n p : ℕ) (nodes : List NodeValue) → p < length nodes
+      → children_at (put_last n p nodes) p ≡ children_at nodes p ++ n ∷ []
+  children_put n p nodes l =
+      children_of_parent n p (Some p) (with_children p
+      (insert (children_at nodes p) (length (children_at nodes p)) n) nodes)
+      ∙ children_in p (insert (children_at nodes p) (length (children_at nodes p)) n) nodes l
+      ∙ inserted_last choice n (children_at nodes p)
 
-pub children_put_other : (n p q : ℕ) (nodes : List NodeValue) → (p ≡ q → ⊥)
-    → children_at (put_last n p nodes) q ≡ children_at nodes q
-children_put_other n p q nodes f =
-    children_of_parent n q (Some p) (with_children p
-    (insert (children_at nodes p) (length (children_at nodes p)) n) nodes)
-    ∙ children_other p q (insert (children_at nodes p) (length (children_at nodes p)) n) nodes f
+  pub children_put_other : (n p q : ℕ) (nodes : List NodeValue) → (p ≡ q → ⊥)
+      → children_at (put_last n p nodes) q ≡ children_at nodes q
+  children_put_other n p q nodes f =
+      children_of_parent n q (Some p) (with_children p
+      (insert (children_at nodes p) (length (children_at nodes p)) n) nodes)
+      ∙ children_other p q (insert (children_at nodes p) (length (children_at nodes p)) n) nodes f
 
-put_parent : (n p : ℕ) (nodes : List NodeValue) → n < length nodes → parent_at (put_last n p nodes) n ≡ Some p
-put_parent n p nodes l =
-    parent_same n (Some p)
-    (with_children p (insert (children_at nodes p) (length (children_at nodes p)) n) nodes)
-    (let e : length (with_children p (insert (children_at nodes p) (length (children_at nodes p)) n) nodes)
-    ≡ length nodes = length-set nodes p _ in omega arith)
+  put_parent : (n p : ℕ) (nodes : List NodeValue) → n < length nodes → parent_at (put_last n p nodes) n ≡ Some p
+  put_parent n p nodes l =
+      parent_same n (Some p)
+      (with_children p (insert (children_at nodes p) (length (children_at nodes p)) n) nodes)
+      (let e : length (with_children p (insert (children_at nodes p) (length (children_at nodes p)) n) nodes)
+      ≡ length nodes = length-set nodes p _ in omega arith)
 
--- it stands nowhere else
-put_nowhere_else : (n p q : ℕ) (nodes : List NodeValue) → n < length nodes → IsForest (put_last n p nodes)
-    → (p ≡ q → ⊥)
-    → times n (children_at nodes q) ≡ 0
-put_nowhere_else n p q nodes l forest f =
-    let a = forest.once n q in
-    let b : once_under (parent_at (put_last n p nodes) n) q ≡ 0 =
-    ap (λ (o : Option ℕ). once_under o q) (put_parent n p nodes l) ∙ elsewhere p q f in
-    let d : times n (children_at (put_last n p nodes) q) ≡ times n (children_at nodes q) =
-    ap (times n) (children_put_other n p q nodes f) in
-    omega arith
+  -- it stands nowhere else
+  put_nowhere_else : (n p q : ℕ) (nodes : List NodeValue) → n < length nodes → IsForest (put_last n p nodes)
+      → (p ≡ q → ⊥)
+      → times n (children_at nodes q) ≡ 0
+  put_nowhere_else n p q nodes l forest f =
+      let a = forest.once n q in
+      let b : once_under (parent_at (put_last n p nodes) n) q ≡ 0 =
+      ap (λ (o : Option ℕ). once_under o q) (put_parent n p nodes l) ∙ elsewhere p q f in
+      let d : times n (children_at (put_last n p nodes) q) ≡ times n (children_at nodes q) =
+      ap (times n) (children_put_other n p q nodes f) in
+      omega arith
 
-put_once : (n p : ℕ) (nodes : List NodeValue) → p < length nodes → IsForest (put_last n p nodes)
-    → times n (children_at nodes p) ≡ 0
-put_once n p nodes l forest =
-    let a = forest.once n p in
-    let b = once_at_most (parent_at (put_last n p nodes) n) p in
-    let d : times n (children_at (put_last n p nodes) p) ≡ times n (children_at nodes p ++ n ∷ []) =
-    ap (times n) (children_put n p nodes l) in
-    let e = times_append n (children_at nodes p) (n ∷ []) in
-    let o : ◌≡◌ {A = ℕ} (cond (n == n) 1 0) 1 = rw (eq-eqb n n refl) refl in
-    omega arith
+  put_once : (n p : ℕ) (nodes : List NodeValue) → p < length nodes → IsForest (put_last n p nodes)
+      → times n (children_at nodes p) ≡ 0
+  put_once n p nodes l forest =
+      let a = forest.once n p in
+      let b = once_at_most (parent_at (put_last n p nodes) n) p in
+      let d : times n (children_at (put_last n p nodes) p) ≡ times n (children_at nodes p ++ n ∷ []) =
+      ap (times n) (children_put n p nodes l) in
+      let e = times_append n (children_at nodes p) (n ∷ []) in
+      let o : ◌≡◌ {A = ℕ} (cond (n == n) 1 0) 1 = rw (eq-eqb n n refl) refl in
+      omega arith
 
 not_other : (a b : ℕ) → (a ≡ b → ⊥) → not (a == b) ≡ true
 not_other a b f = rw (ne_eqb a b f) refl
@@ -102,415 +104,423 @@ not_other a b f = rw (ne_eqb a b f) refl
 both_true : (x y : Bool) → x ≡ true → y ≡ true → (x && y) ≡ true
 both_true x y e f = rw (e, f) refl
 
-member_other : (c n : ℕ) (cs : List ℕ) → times n cs ≡ 0 → 1 ≤ times c cs → c ≡ n → ⊥
-member_other c n cs z k e = let f : times c cs ≡ times n cs = ap (λ (x : ℕ). times x cs) e in omega arith
+module _ (choice : Choice) where
+  member_other : (c n : ℕ) (cs : List ℕ) → times n cs ≡ 0 → 1 ≤ times c cs → c ≡ n → ⊥
+  member_other c n cs z k e = let f : times c cs ≡ times n cs = ap (λ (x : ℕ). times x cs) e in omega arith
 
-abbrev pub only : ℕ → ℕ → Bool
-only last n = n == last
+  abbrev pub only : ℕ → ℕ → Bool
+  only last n = n == last
 
--- ---- a node apart from the others, which is to stand last in another
+  -- ---- a node apart from the others, which is to stand last in another
 
-pub record Apart (letters : List ℕ) (nodes : List NodeValue) (p last : ℕ) (l : Labels) : Type 0 where
-  pub fits : FitsBy (only last) letters nodes l
-  pub front : (limit : ℕ) → length letters < limit
-      → Row (marks (only last) nodes limit l) (l.lo p) (children_at nodes p) (l.lo last)
-  pub live_last : l.live last ≡ true
-  pub live_at : l.live p ≡ true
+  pub record Apart (letters : List ℕ) (nodes : List NodeValue) (p last : ℕ) (l : Labels) : Type 0 where
+    pub fits : FitsBy choice (only last) letters nodes l
+    pub front : (limit : ℕ) → length letters < limit
+        → Row (marks choice (only last) nodes limit l) (l.lo p) (children_at nodes p) (l.lo last)
+    pub live_last : l.live last ≡ true
+    pub live_at : l.live p ≡ true
 
-spans : (out : ℕ → Bool) (letters : List ℕ) (nodes : List NodeValue) (l : Labels) → FitsBy out letters nodes l
-    → (limit : ℕ) → length letters < limit → (c : ℕ) (x : Bool) → l.lo c ≤ cond x limit (l.hi c)
-spans out letters nodes l h limit big c true = let a = h.span c in let b = h.high c in omega arith
-spans out letters nodes l h limit big c false = h.span c
+  spans : (out : ℕ → Bool) (letters : List ℕ) (nodes : List NodeValue) (l : Labels) → FitsBy choice out letters nodes l
+      → (limit : ℕ) → length letters < limit → (c : ℕ) (x : Bool) → l.lo c ≤ cond x limit (l.hi c)
+  spans out letters nodes l h limit big c true = let a = h.span c in let b = h.high c in omega arith
+  spans out letters nodes l h limit big c false = h.span c
 
-module _ (letters : List ℕ) (nodes : List NodeValue) (l : Labels) (p last : ℕ) (h : Apart letters nodes p last l)
-    (p_in : p < length nodes) (last_in_nodes : last < length nodes) (p_other : p ≡ last → ⊥) where
-  -- ---- it is put into a copy of an element, which is apart then
+  module _ (letters : List ℕ) (nodes : List NodeValue) (l : Labels) (p last : ℕ) (h : Apart letters nodes p last l)
+      (p_in : p < length nodes) (last_in_nodes : last < length nodes) (p_other : p ≡ last → ⊥) where
+    -- ---- it is put into a copy of an element, which is apart then
 
-  module _ (k : KindValue) (is : is_element k ≡ true)
-      (forest : IsForest (put_last last (length nodes) (detach last (nodes ++ new_node k ∷ [])))) where
-    abbrev n : ℕ
-    n = length nodes
+    module _ (k : KindValue) (is : is_element k ≡ true)
+        (forest : IsForest (put_last choice last (length nodes) (detach last (nodes ++ new_node k ∷ [])))) where
+      abbrev n : ℕ
+      n = length nodes
 
-    abbrev more : List NodeValue
-    more = nodes ++ new_node k ∷ []
+      abbrev more : List NodeValue
+      more = nodes ++ new_node k ∷ []
 
-    abbrev out : List NodeValue
-    out = detach last more
+      abbrev out : List NodeValue
+      out = detach last more
 
-    abbrev pub copied : List NodeValue
-    copied = put_last last n out
+      abbrev pub copied : List NodeValue
+      copied = put_last choice last n out
 
-    abbrev pub copied_labels : Labels
-    copied_labels = mark n (l.lo last) (l.hi last) true l
+      abbrev pub copied_labels : Labels
+      copied_labels = mark choice n (l.lo last) (l.hi last) true l
 
-    out_size : length out ≡ suc n
-    out_size = detach_size last more ∙ length_new k nodes
+      out_size : length out ≡ suc n
+      out_size = detach_size last more ∙ length_new k nodes
 
-    kind_same : (m : ℕ) → (m ≡ n → ⊥) → kind_at copied m ≡ kind_at nodes m
-    kind_same m f =
-        put_kind last n (length (children_at out n)) out m ∙ (detach_kind last more m ∙ kind_with_new m k nodes f)
+      kind_same : (m : ℕ) → (m ≡ n → ⊥) → kind_at copied m ≡ kind_at nodes m
+      kind_same m f =
+          put_kind last n (length (children_at out n)) out m ∙ (detach_kind last more m ∙ kind_with_new m k nodes f)
 
-    kind_own : kind_at copied n ≡ k
-    kind_own =
-        put_kind last n (length (children_at out n)) out n ∙ (detach_kind last more n ∙ kind_new_at k nodes)
+      kind_own : kind_at copied n ≡ k
+      kind_own =
+          put_kind last n (length (children_at out n)) out n ∙ (detach_kind last more n ∙ kind_new_at k nodes)
 
-    until_same : (limit m : ℕ) → (m ≡ n → ⊥) → until limit copied_labels m ≡ until limit l m
-    until_same limit m f = rw (ne_eqb m n f) refl
+      until_same : (limit m : ℕ) → (m ≡ n → ⊥) → until limit copied_labels m ≡ until limit l m
+      until_same limit m f = rw (ne_eqb m n f) refl
 
-    lo_same : (m : ℕ) → (m ≡ n → ⊥) → copied_labels.lo m ≡ l.lo m
-    lo_same m f = rw (ne_eqb m n f) refl
+      lo_same : (m : ℕ) → (m ≡ n → ⊥) → copied_labels.lo m ≡ l.lo m
+      lo_same m f = rw (ne_eqb m n f) refl
 
-    lo_own : copied_labels.lo n ≡ l.lo last
-    lo_own = rw (eq-eqb n n refl) refl
+      lo_own : copied_labels.lo n ≡ l.lo last
+      lo_own = rw (eq-eqb n n refl) refl
 
-    until_own : (limit : ℕ) → until limit copied_labels n ≡ limit
-    until_own limit = rw (eq-eqb n n refl) refl
+      until_own : (limit : ℕ) → until limit copied_labels n ≡ limit
+      until_own limit = rw (eq-eqb n n refl) refl
 
-    until_last : (limit : ℕ) → until limit copied_labels last ≡ limit
-    until_last limit =
-        until_same limit last (λ e. omega arith) ∙ ap (λ (b : Bool). cond b limit (l.hi last)) h.live_last
+      until_last : (limit : ℕ) → until limit copied_labels last ≡ limit
+      until_last limit =
+          until_same limit last (λ e. omega arith) ∙ ap (λ (b : Bool). cond b limit (l.hi last)) h.live_last
 
-    kept_row : (limit q to : ℕ) → length letters < limit → (n ≡ q → ⊥)
-        → Row (marks (only last) nodes limit l) (l.lo q) (children_at nodes q) to
-        → Row (marks (only n) copied limit copied_labels) (l.lo q) (children_at copied q) to
-    kept_row limit q to big f r =
-        subst (λ (cs : List ℕ). Row (marks (only n) copied limit copied_labels) (l.lo q) cs to)
-        (sym (children_put_other last n q out f))
-        (row_marks (marks (only last) nodes limit l) (marks (only n) copied limit copied_labels) (l.lo q)
-        (children_at out q) to
-        (λ c m e.
-        let two = and_parts (not (c == n)) (bears (kind_at copied c)) e in
-        let other : c ≡ n → ⊥ = λ g. true≢false (sym two.0 ∙ ap not (eq-eqb c n g)) in
-        let same = kind_same c other in
-        let a = until_same limit c other in
-        let b = lo_same c other in
-        let w = spans (only last) letters nodes l h.fits limit big c (l.live c) in
-        let apart = member_other c last (children_at out q)
-        (put_nowhere_else last n q out (let z = out_size in omega arith) forest f) m in (
-          both_true (not (c == last)) (bears (kind_at nodes c)) (not_other c last apart)
-              (sym (ap bears same) ∙ two.1),
-          omega arith,
-          omega arith,
-          omega arith,
-        ))
-        (row_detached (marks (only last) nodes limit l) last q (l.lo q) to more
-        (subst (λ (cs : List ℕ). Row (marks (only last) nodes limit l) (l.lo q) cs to)
-        (sym (children_with_new q k nodes)) r)))
+      kept_row : (limit q to : ℕ) → length letters < limit → (n ≡ q → ⊥)
+          → Row (marks choice (only last) nodes limit l) (l.lo q) (children_at nodes q) to
+          → Row (marks choice (only n) copied limit copied_labels) (l.lo q) (children_at copied q) to
+      kept_row limit q to big f r =
+          subst (λ (cs : List ℕ). Row (marks choice (only n) copied limit copied_labels) (l.lo q) cs to)
+          (sym (children_put_other choice last n q out f))
+          (row_marks (marks choice (only last) nodes limit l) (marks choice (only n) copied limit copied_labels)
+          (l.lo q)
+          (children_at out q) to
+          (λ c m e.
+          let two = and_parts (not (c == n)) (bears choice (kind_at copied c)) e in
+          let other : c ≡ n → ⊥ = λ g. true≢false (sym two.0 ∙ ap not (eq-eqb c n g)) in
+          let same = kind_same c other in
+          let a = until_same limit c other in
+          let b = lo_same c other in
+          let w = spans (only last) letters nodes l h.fits limit big c (l.live c) in
+          let apart = member_other c last (children_at out q)
+          (put_nowhere_else choice last n q out (let z = out_size in omega arith) forest f) m in (
+            both_true (not (c == last)) (bears choice (kind_at nodes c)) (not_other c last apart)
+                (sym (ap (bears choice) same) ∙ two.1),
+            omega arith,
+            omega arith,
+            omega arith,
+          ))
+          (row_detached choice (marks choice (only last) nodes limit l) last q (l.lo q) to more
+          (subst (λ (cs : List ℕ). Row (marks choice (only last) nodes limit l) (l.lo q) cs to)
+          (sym (children_with_new q k nodes)) r)))
 
-    own_row : (limit : ℕ) → length letters < limit
-        → Row (marks (only n) copied limit copied_labels) (copied_labels.lo n) (children_at copied n)
-        (until limit copied_labels n)
-    own_row limit big =
-        subst (λ (cs : List ℕ). Row (marks (only n) copied limit copied_labels) (copied_labels.lo n) cs
-        (until limit copied_labels n)) (sym (children_put last n out (let z = out_size in omega arith)))
-        (row_append (marks (only n) copied limit copied_labels) (copied_labels.lo n) (children_at out n) (l.lo last)
-        (last ∷ []) (until limit copied_labels n)
-        (row_detached (marks (only n) copied limit copied_labels) last n (copied_labels.lo n) (l.lo last) more
-        (subst (λ (cs : List ℕ). Row (marks (only n) copied limit copied_labels) (copied_labels.lo n) cs (l.lo last))
-        (sym (children_with_new n k nodes ∙ children_beyond n nodes (omega arith)))
-        (let a = lo_own in omega arith))) (
-          λ e. let a = lo_same last (λ g. omega arith) in let b = until_last limit in
-              let x = h.fits.span last in let y = h.fits.high last in (omega arith, omega arith),
-          let b = until_last limit in
-              let d = until_own limit in
-              let x = h.fits.span last in let y = h.fits.high last in
-              low (counted (only n) copied last) (until limit copied_labels last) (l.lo last)
-              (until limit copied_labels n) (omega arith) (omega arith),
-        ))
-      where
-        low : (b : Bool) (x y z : ℕ) → x ≤ z → y ≤ z → cond b x y ≤ z
-        low true x y z f g = f
-        low false x y z f g = g
+      own_row : (limit : ℕ) → length letters < limit
+          → Row (marks choice (only n) copied limit copied_labels) (copied_labels.lo n) (children_at copied n)
+          (until limit copied_labels n)
+      own_row limit big =
+          subst (λ (cs : List ℕ). Row (marks choice (only n) copied limit copied_labels) (copied_labels.lo n) cs
+          (until limit copied_labels n)) (sym (children_put choice last n out (let z = out_size in omega arith)))
+          (row_append (marks choice (only n) copied limit copied_labels) (copied_labels.lo n) (children_at out n)
+          (l.lo last)
+          (last ∷ []) (until limit copied_labels n)
+          (row_detached choice (marks choice (only n) copied limit copied_labels) last n (copied_labels.lo n)
+          (l.lo last) more
+          (subst (λ (cs : List ℕ). Row (marks choice (only n) copied limit copied_labels) (copied_labels.lo n) cs
+          (l.lo last))
+          (sym (children_with_new n k nodes ∙ children_beyond n nodes (omega arith)))
+          (let a = lo_own in omega arith))) (
+            λ e. let a = lo_same last (λ g. omega arith) in let b = until_last limit in
+                let x = h.fits.span last in let y = h.fits.high last in (omega arith, omega arith),
+            let b = until_last limit in
+                let d = until_own limit in
+                let x = h.fits.span last in let y = h.fits.high last in
+                low (counted choice (only n) copied last) (until limit copied_labels last) (l.lo last)
+                (until limit copied_labels n) (omega arith) (omega arith),
+          ))
+        where
+          low : (b : Bool) (x y z : ℕ) → x ≤ z → y ≤ z → cond b x y ≤ z
+          low true x y z f g = f
+          low false x y z f g = g
 
-    pub apart_copied : Apart letters copied p n copied_labels
-    apart_copied = record {
-      fits = record {
-        span = λ m. test (m == n) (λ t. rw t (h.fits.span last)) (λ t. rw t (h.fits.span m));
-        high = λ m. test (m == n) (λ t. rw t (h.fits.high last)) (λ t. rw t (h.fits.high m));
+      pub apart_copied : Apart letters copied p n copied_labels
+      apart_copied = record {
+        fits = record {
+          span = λ m. test (m == n) (λ t. rw t (h.fits.span last)) (λ t. rw t (h.fits.span m));
+          high = λ m. test (m == n) (λ t. rw t (h.fits.high last)) (λ t. rw t (h.fits.high m));
+          rows = λ limit big q.
+              test (n == q)
+              (λ t. subst (λ (x : ℕ). Row (marks choice (only n) copied limit copied_labels) (copied_labels.lo x)
+              (children_at copied x) (until limit copied_labels x)) (eqb-true n q t) (own_row limit big))
+              (λ t. let f = eqb-false n q t in
+              subst (λ (x : ℕ). Row (marks choice (only n) copied limit copied_labels) x (children_at copied q)
+              (until limit copied_labels q)) (sym (lo_same q (λ e. f (sym e))))
+              (subst (λ (x : ℕ). Row (marks choice (only n) copied limit copied_labels) (l.lo q)
+              (children_at copied q) x)
+              (sym (until_same limit q (λ e. f (sym e))))
+              (kept_row limit q (until limit l q) big f (h.fits.rows limit big q))));
+          texts = λ m t e.
+              test (m == n)
+              (λ u. absurd (no_text (ap is_element (sym (own_at m (eqb-true m n u)) ∙ e))))
+              (λ u. let f = eqb-false m n u in
+              let x = h.fits.texts m t (sym (kind_same m f) ∙ e) in
+              record { closed = rw (ne_eqb m n f) x.closed; utf8 = x.utf8; within = rw (ne_eqb m n f) x.within });
+        };
+        front = λ limit big.
+            subst (λ (x : ℕ). Row (marks choice (only n) copied limit copied_labels) x (children_at copied p)
+            (copied_labels.lo n)) (sym (lo_same p (λ e. omega arith)))
+            (subst (λ (x : ℕ). Row (marks choice (only n) copied limit copied_labels) (l.lo p) (children_at copied p) x)
+            (sym lo_own) (kept_row limit p (l.lo last) big (λ e. omega arith) (h.front limit big)));
+        live_last = rw (eq-eqb n n refl) refl;
+        live_at = rw (ne_eqb p n (λ e. omega arith)) h.live_at;
+      }
+        where
+          own_at : (m : ℕ) → m ≡ n → kind_at copied m ≡ k
+          own_at m e = ap (λ (x : ℕ). kind_at copied x) e ∙ kind_own
+
+          no_text : is_element k ≡ false → ⊥
+          no_text e = true≢false (sym is ∙ e)
+
+    -- ---- it is put last in the other
+
+    module _ (forest : IsForest (put_last choice last p (detach last nodes))) where
+      abbrev taken : List NodeValue
+      taken = detach last nodes
+
+      abbrev pub placed : List NodeValue
+      placed = put_last choice last p taken
+
+      taken_size : length taken ≡ length nodes
+      taken_size = detach_size last nodes
+
+      placed_kind : (m : ℕ) → kind_at placed m ≡ kind_at nodes m
+      placed_kind m = put_kind last p (length (children_at taken p)) taken m ∙ detach_kind last nodes m
+
+      -- where it doesn't stand
+      row_apart : (limit q at to : ℕ) → length letters < limit → times last (children_at taken q) ≡ 0
+          → Row (marks choice (only last) nodes limit l) at (children_at nodes q) to
+          → Row (marks choice none_out placed limit l) at (children_at taken q) to
+      row_apart limit q at to big none r =
+          row_marks (marks choice (only last) nodes limit l) (marks choice none_out placed limit l) at
+          (children_at taken q) to
+          (λ c m e.
+          let w = spans (only last) letters nodes l h.fits limit big c (l.live c) in (
+            both_true (not (c == last)) (bears choice (kind_at nodes c))
+                (not_other c last (member_other c last (children_at taken q) none m))
+                (sym (ap (bears choice) (placed_kind c)) ∙ e),
+            omega arith,
+            omega arith,
+            omega arith,
+          ))
+          (row_detached choice (marks choice (only last) nodes limit l) last q at to nodes r)
+
+      placed_row : (limit : ℕ) → length letters < limit
+          → Row (marks choice none_out placed limit l) (l.lo p) (children_at placed p) (until limit l p)
+      placed_row limit big =
+          subst (λ (cs : List ℕ). Row (marks choice none_out placed limit l) (l.lo p) cs (until limit l p))
+          (sym (children_put choice last p taken (let z = taken_size in omega arith)))
+          (row_append (marks choice none_out placed limit l) (l.lo p) (children_at taken p) (l.lo last) (last ∷ [])
+          (until limit l p)
+          (row_apart limit p (l.lo p) (l.lo last) big
+          (put_once choice last p taken (let z = taken_size in omega arith) forest) (h.front limit big)) (
+            λ e. let b = ends last h.live_last in let x = h.fits.span last in let y = h.fits.high last in
+                (omega arith, omega arith),
+            let b = ends last h.live_last in
+                let d = ends p h.live_at in
+                let x = h.fits.span last in let y = h.fits.high last in
+                low (bears choice (kind_at placed last)) (until limit l last) (l.lo last) (until limit l p)
+                (omega arith)
+                (omega arith),
+          ))
+        where
+          ends : (x : ℕ) → l.live x ≡ true → until limit l x ≡ limit
+          ends x e = rw e refl
+
+          low : (b : Bool) (x y z : ℕ) → x ≤ z → y ≤ z → cond b x y ≤ z
+          low true x y z f g = f
+          low false x y z f g = g
+
+      pub fits_placed : FitsBy choice none_out letters placed l
+      fits_placed = record {
+        span = h.fits.span;
+        high = h.fits.high;
         rows = λ limit big q.
-            test (n == q)
-            (λ t. subst (λ (x : ℕ). Row (marks (only n) copied limit copied_labels) (copied_labels.lo x)
-            (children_at copied x) (until limit copied_labels x)) (eqb-true n q t) (own_row limit big))
-            (λ t. let f = eqb-false n q t in
-            subst (λ (x : ℕ). Row (marks (only n) copied limit copied_labels) x (children_at copied q)
-            (until limit copied_labels q)) (sym (lo_same q (λ e. f (sym e))))
-            (subst (λ (x : ℕ). Row (marks (only n) copied limit copied_labels) (l.lo q) (children_at copied q) x)
-            (sym (until_same limit q (λ e. f (sym e))))
-            (kept_row limit q (until limit l q) big f (h.fits.rows limit big q))));
-        texts = λ m t e.
-            test (m == n)
-            (λ u. absurd (no_text (ap is_element (sym (own_at m (eqb-true m n u)) ∙ e))))
-            (λ u. let f = eqb-false m n u in
-            let x = h.fits.texts m t (sym (kind_same m f) ∙ e) in
-            record { closed = rw (ne_eqb m n f) x.closed; utf8 = x.utf8; within = rw (ne_eqb m n f) x.within });
-      };
-      front = λ limit big.
-          subst (λ (x : ℕ). Row (marks (only n) copied limit copied_labels) x (children_at copied p)
-          (copied_labels.lo n)) (sym (lo_same p (λ e. omega arith)))
-          (subst (λ (x : ℕ). Row (marks (only n) copied limit copied_labels) (l.lo p) (children_at copied p) x)
-          (sym lo_own) (kept_row limit p (l.lo last) big (λ e. omega arith) (h.front limit big)));
-      live_last = rw (eq-eqb n n refl) refl;
-      live_at = rw (ne_eqb p n (λ e. omega arith)) h.live_at;
-    }
-      where
-        own_at : (m : ℕ) → m ≡ n → kind_at copied m ≡ k
-        own_at m e = ap (λ (x : ℕ). kind_at copied x) e ∙ kind_own
+            test (p == q)
+            (λ t. subst (λ (x : ℕ). Row (marks choice none_out placed limit l) (l.lo x) (children_at placed x)
+            (until limit l x))
+            (eqb-true p q t) (placed_row limit big))
+            (λ t. let f = eqb-false p q t in
+            subst (λ (cs : List ℕ). Row (marks choice none_out placed limit l) (l.lo q) cs (until limit l q))
+            (sym (children_put_other choice last p q taken f))
+            (row_apart limit q (l.lo q) (until limit l q) big
+            (put_nowhere_else choice last p q taken (let z = taken_size in omega arith) forest f)
+            (h.fits.rows limit big q)));
+        texts = λ m t e. h.fits.texts m t (sym (placed_kind m) ∙ e);
+      }
 
-        no_text : is_element k ≡ false → ⊥
-        no_text e = true≢false (sym is ∙ e)
+  -- ---- all children of a node go into a new one, which is its only child then
 
-  -- ---- it is put last in the other
+  module _ (letters : List ℕ) (nodes : List NodeValue) (l : Labels) (h : FitsBy choice none_out letters nodes l)
+      (forest : IsForest nodes) (formatting block : ℕ) (is : is_element (kind_at nodes formatting) ≡ true)
+      (block_in : block < length nodes) (live : l.live block ≡ true) where
+    abbrev wn : ℕ
+    wn = length nodes
 
-  module _ (forest : IsForest (put_last last p (detach last nodes))) where
-    abbrev taken : List NodeValue
-    taken = detach last nodes
+    abbrev wk : KindValue
+    wk = kind_at nodes formatting
 
-    abbrev pub placed : List NodeValue
-    placed = put_last last p taken
+    abbrev wmore : List NodeValue
+    wmore = nodes ++ new_node wk ∷ []
 
-    taken_size : length taken ≡ length nodes
-    taken_size = detach_size last nodes
+    abbrev cs : List ℕ
+    cs = children_at wmore block
 
-    placed_kind : (m : ℕ) → kind_at placed m ≡ kind_at nodes m
-    placed_kind m = put_kind last p (length (children_at taken p)) taken m ∙ detach_kind last nodes m
+    abbrev emptied : List NodeValue
+    emptied = with_children block [] wmore
 
-    -- where it doesn't stand
-    row_apart : (limit q at to : ℕ) → length letters < limit → times last (children_at taken q) ≡ 0
-        → Row (marks (only last) nodes limit l) at (children_at nodes q) to
-        → Row (marks none_out placed limit l) at (children_at taken q) to
-    row_apart limit q at to big none r =
-        row_marks (marks (only last) nodes limit l) (marks none_out placed limit l) at (children_at taken q) to
+    abbrev named : List NodeValue
+    named = with_parents wn cs emptied
+
+    abbrev gone : List NodeValue
+    gone = move_children block wn wmore
+
+    abbrev wrapped : List NodeValue
+    wrapped = put_last choice wn block gone
+
+    abbrev pub wrapped_labels : Labels
+    wrapped_labels = mark choice wn (l.lo block) (l.hi block) true l
+
+    apart_new : block ≡ wn → ⊥
+    apart_new e = absurd (omega arith)
+
+    more_size : length wmore ≡ suc wn
+    more_size = length_new wk nodes
+
+    gone_size : length gone ≡ suc wn
+    gone_size = length_moved block wn wmore ∙ more_size
+
+    named_size : length named ≡ suc wn
+    named_size =
+        length_with_parents wn cs emptied
+        ∙ (let e : length emptied ≡ length wmore = length-set wmore block _ in e ∙ more_size)
+
+    gone_other : (q : ℕ) → (wn ≡ q → ⊥) → (block ≡ q → ⊥) → children_at gone q ≡ children_at nodes q
+    gone_other q f g =
+        children_other wn q (children_at named wn ++ cs) named f
+        ∙ (children_with_parents wn q cs emptied ∙ (children_other block q [] wmore g ∙ children_with_new q wk nodes))
+
+    gone_block : children_at gone block ≡ []
+    gone_block =
+        children_other wn block (children_at named wn ++ cs) named (λ e. apart_new (sym e))
+        ∙ (children_with_parents wn block cs emptied
+        ∙ children_in block [] wmore (let e = more_size in omega arith))
+
+    gone_new : children_at gone wn ≡ children_at nodes block
+    gone_new =
+        children_in wn (children_at named wn ++ cs) named (let e = named_size in omega arith)
+        ∙ (ap (λ (x : List ℕ). x ++ cs)
+        (children_with_parents wn wn cs emptied ∙ (children_other block wn [] wmore apart_new
+        ∙ (children_with_new wn wk nodes ∙ children_beyond wn nodes (omega arith))))
+        ∙ children_with_new block wk nodes)
+
+    wrapped_kind : (m : ℕ) → kind_at wrapped m ≡ kind_at wmore m
+    wrapped_kind m =
+        put_kind wn block (length (children_at gone block)) gone m
+        ∙ kind_by_kinds wmore gone m (kinds_move_children block wn wmore)
+
+    wrapped_other : (m : ℕ) → (m ≡ wn → ⊥) → kind_at wrapped m ≡ kind_at nodes m
+    wrapped_other m f = wrapped_kind m ∙ kind_with_new m wk nodes f
+
+    w_until_same : (limit m : ℕ) → (m ≡ wn → ⊥) → until limit wrapped_labels m ≡ until limit l m
+    w_until_same limit m f = rw (ne_eqb m wn f) refl
+
+    w_lo_same : (m : ℕ) → (m ≡ wn → ⊥) → wrapped_labels.lo m ≡ l.lo m
+    w_lo_same m f = rw (ne_eqb m wn f) refl
+
+    w_lo_own : wrapped_labels.lo wn ≡ l.lo block
+    w_lo_own = rw (eq-eqb wn wn refl) refl
+
+    w_until_own : (limit : ℕ) → until limit wrapped_labels wn ≡ limit
+    w_until_own limit = rw (eq-eqb wn wn refl) refl
+
+    until_block : (limit : ℕ) → until limit l block ≡ limit
+    until_block limit = ap (λ (b : Bool). cond b limit (l.hi block)) live
+
+    w_row : (limit q to : ℕ) → length letters < limit
+        → Row (marks choice none_out nodes limit l) (l.lo q) (children_at nodes q) to
+        → Row (marks choice none_out wrapped limit wrapped_labels) (l.lo q) (children_at nodes q) to
+    w_row limit q to big r =
+        row_marks (marks choice none_out nodes limit l) (marks choice none_out wrapped limit wrapped_labels) (l.lo q)
+        (children_at nodes q) to
         (λ c m e.
-        let w = spans (only last) letters nodes l h.fits limit big c (l.live c) in (
-          both_true (not (c == last)) (bears (kind_at nodes c))
-              (not_other c last (member_other c last (children_at taken q) none m))
-              (sym (ap bears (placed_kind c)) ∙ e),
-          omega arith,
-          omega arith,
-          omega arith,
-        ))
-        (row_detached (marks (only last) nodes limit l) last q at to nodes r)
+        let other = member_other c wn (children_at nodes q) (no_child nodes q wn forest (omega arith)) m in
+        let a = w_until_same limit c other in
+        let b = w_lo_same c other in
+        let w = spans none_out letters nodes l h limit big c (l.live c) in
+        (sym (ap (bears choice) (wrapped_other c other)) ∙ e, omega arith, omega arith, omega arith)) r
 
-    placed_row : (limit : ℕ) → length letters < limit
-        → Row (marks none_out placed limit l) (l.lo p) (children_at placed p) (until limit l p)
-    placed_row limit big =
-        subst (λ (cs : List ℕ). Row (marks none_out placed limit l) (l.lo p) cs (until limit l p))
-        (sym (children_put last p taken (let z = taken_size in omega arith)))
-        (row_append (marks none_out placed limit l) (l.lo p) (children_at taken p) (l.lo last) (last ∷ [])
-        (until limit l p)
-        (row_apart limit p (l.lo p) (l.lo last) big
-        (put_once last p taken (let z = taken_size in omega arith) forest) (h.front limit big)) (
-          λ e. let b = ends last h.live_last in let x = h.fits.span last in let y = h.fits.high last in
-              (omega arith, omega arith),
-          let b = ends last h.live_last in
-              let d = ends p h.live_at in
-              let x = h.fits.span last in let y = h.fits.high last in
-              low (bears (kind_at placed last)) (until limit l last) (l.lo last) (until limit l p) (omega arith)
-              (omega arith),
+    at_new : (limit : ℕ) → length letters < limit → (q : ℕ) → wn ≡ q
+        → Row (marks choice none_out wrapped limit wrapped_labels) (wrapped_labels.lo q) (children_at wrapped q)
+        (until limit wrapped_labels q)
+    at_new limit big q e =
+        subst (λ (x : ℕ). Row (marks choice none_out wrapped limit wrapped_labels) (wrapped_labels.lo x)
+        (children_at wrapped x)
+        (until limit wrapped_labels x)) e
+        (subst (λ (x : ℕ). Row (marks choice none_out wrapped limit wrapped_labels) x (children_at wrapped wn)
+        (until limit wrapped_labels wn)) (sym w_lo_own)
+        (subst (λ (x : ℕ). Row (marks choice none_out wrapped limit wrapped_labels) (l.lo block)
+        (children_at wrapped wn) x)
+        (sym (w_until_own limit ∙ sym (until_block limit)))
+        (subst (λ (x : List ℕ). Row (marks choice none_out wrapped limit wrapped_labels) (l.lo block) x
+        (until limit l block))
+        (sym (children_put_other choice wn block wn gone apart_new ∙ gone_new))
+        (w_row limit block (until limit l block) big (h.rows limit big block)))))
+
+    at_block : (limit : ℕ) → length letters < limit → (q : ℕ) → block ≡ q
+        → Row (marks choice none_out wrapped limit wrapped_labels) (wrapped_labels.lo q) (children_at wrapped q)
+        (until limit wrapped_labels q)
+    at_block limit big q e =
+        subst (λ (x : ℕ). Row (marks choice none_out wrapped limit wrapped_labels) (wrapped_labels.lo x)
+        (children_at wrapped x)
+        (until limit wrapped_labels x)) e
+        (subst (λ (x : List ℕ). Row (marks choice none_out wrapped limit wrapped_labels) (wrapped_labels.lo block) x
+        (until limit wrapped_labels block))
+        (sym (children_put choice wn block gone (let z = gone_size in omega arith)
+        ∙ ap (λ (x : List ℕ). x ++ wn ∷ []) gone_block)) (
+          λ b. let a = w_lo_same block apart_new in let d = w_lo_own in let f = w_until_own limit in
+              let x = h.span block in let y = h.high block in (omega arith, omega arith),
+          let a = w_lo_same block apart_new in
+              let d = w_until_same limit block apart_new in
+              let f = until_block limit in
+              let g = w_until_own limit in
+              let x = h.span block in let y = h.high block in
+              low (bears choice (kind_at wrapped wn)) (until limit wrapped_labels wn) (wrapped_labels.lo block)
+              (until limit wrapped_labels block) (omega arith) (omega arith),
         ))
       where
-        ends : (x : ℕ) → l.live x ≡ true → until limit l x ≡ limit
-        ends x e = rw e refl
-
         low : (b : Bool) (x y z : ℕ) → x ≤ z → y ≤ z → cond b x y ≤ z
         low true x y z f g = f
         low false x y z f g = g
 
-    pub fits_placed : FitsBy none_out letters placed l
-    fits_placed = record {
-      span = h.fits.span;
-      high = h.fits.high;
+    at_other : (limit : ℕ) → length letters < limit → (q : ℕ) → (wn ≡ q → ⊥) → (block ≡ q → ⊥)
+        → Row (marks choice none_out wrapped limit wrapped_labels) (wrapped_labels.lo q) (children_at wrapped q)
+        (until limit wrapped_labels q)
+    at_other limit big q f g =
+        subst (λ (x : ℕ). Row (marks choice none_out wrapped limit wrapped_labels) x (children_at wrapped q)
+        (until limit wrapped_labels q)) (sym (w_lo_same q (λ e. f (sym e))))
+        (subst (λ (x : ℕ). Row (marks choice none_out wrapped limit wrapped_labels) (l.lo q) (children_at wrapped q) x)
+        (sym (w_until_same limit q (λ e. f (sym e))))
+        (subst (λ (x : List ℕ). Row (marks choice none_out wrapped limit wrapped_labels) (l.lo q) x (until limit l q))
+        (sym (children_put_other choice wn block q gone g ∙ gone_other q f g))
+        (w_row limit q (until limit l q) big (h.rows limit big q))))
+
+    pub fits_wrapped : FitsBy choice none_out letters (wrap_children formatting block nodes) wrapped_labels
+    unfolding wrap_children
+    fits_wrapped = record {
+      span = λ m. test (m == wn) (λ t. rw t (h.span block)) (λ t. rw t (h.span m));
+      high = λ m. test (m == wn) (λ t. rw t (h.high block)) (λ t. rw t (h.high m));
       rows = λ limit big q.
-          test (p == q)
-          (λ t. subst (λ (x : ℕ). Row (marks none_out placed limit l) (l.lo x) (children_at placed x)
-          (until limit l x))
-          (eqb-true p q t) (placed_row limit big))
-          (λ t. let f = eqb-false p q t in
-          subst (λ (cs : List ℕ). Row (marks none_out placed limit l) (l.lo q) cs (until limit l q))
-          (sym (children_put_other last p q taken f))
-          (row_apart limit q (l.lo q) (until limit l q) big
-          (put_nowhere_else last p q taken (let z = taken_size in omega arith) forest f) (h.fits.rows limit big q)));
-      texts = λ m t e. h.fits.texts m t (sym (placed_kind m) ∙ e);
+          test (wn == q)
+          (λ t. at_new limit big q (eqb-true wn q t))
+          (λ t. test (block == q)
+          (λ u. at_block limit big q (eqb-true block q u))
+          (λ u. at_other limit big q (eqb-false wn q t) (eqb-false block q u)));
+      texts = λ m t e.
+          test (m == wn)
+          (λ u. absurd (no_text (ap is_element (sym (own_at m (eqb-true m wn u)) ∙ e))))
+          (λ u. let f = eqb-false m wn u in
+          let x = h.texts m t (sym (wrapped_other m f) ∙ e) in
+          record { closed = rw (ne_eqb m wn f) x.closed; utf8 = x.utf8; within = rw (ne_eqb m wn f) x.within });
     }
+      where
+        own_at : (m : ℕ) → m ≡ wn → kind_at wrapped m ≡ wk
+        own_at m e = ap (λ (x : ℕ). kind_at wrapped x) e ∙ (wrapped_kind wn ∙ kind_new_at wk nodes)
 
--- ---- all children of a node go into a new one, which is its only child then
-
-module _ (letters : List ℕ) (nodes : List NodeValue) (l : Labels) (h : FitsBy none_out letters nodes l)
-    (forest : IsForest nodes) (formatting block : ℕ) (is : is_element (kind_at nodes formatting) ≡ true)
-    (block_in : block < length nodes) (live : l.live block ≡ true) where
-  abbrev fresh : ℕ
-  fresh = length nodes
-
-  abbrev fresh_kind : KindValue
-  fresh_kind = kind_at nodes formatting
-
-  abbrev with_fresh : List NodeValue
-  with_fresh = nodes ++ new_node fresh_kind ∷ []
-
-  abbrev moved : List ℕ
-  moved = children_at with_fresh block
-
-  abbrev emptied : List NodeValue
-  emptied = with_children block [] with_fresh
-
-  abbrev named : List NodeValue
-  named = with_parents fresh moved emptied
-
-  abbrev gone : List NodeValue
-  gone = move_children block fresh with_fresh
-
-  abbrev wrapped : List NodeValue
-  wrapped = put_last fresh block gone
-
-  abbrev pub wrapped_labels : Labels
-  wrapped_labels = mark fresh (l.lo block) (l.hi block) true l
-
-  apart_new : block ≡ fresh → ⊥
-  apart_new e = absurd (omega arith)
-
-  more_size : length with_fresh ≡ suc fresh
-  more_size = length_new fresh_kind nodes
-
-  gone_size : length gone ≡ suc fresh
-  gone_size = length_moved block fresh with_fresh ∙ more_size
-
-  named_size : length named ≡ suc fresh
-  named_size =
-      length_with_parents fresh moved emptied
-      ∙ (let e : length emptied ≡ length with_fresh = length-set with_fresh block _ in e ∙ more_size)
-
-  gone_other : (q : ℕ) → (fresh ≡ q → ⊥) → (block ≡ q → ⊥)
-      → children_at gone q ≡ children_at nodes q
-  gone_other q f g =
-      children_other fresh q (children_at named fresh ++ moved) named f
-      ∙ (children_with_parents fresh q moved emptied
-      ∙ (children_other block q [] with_fresh g ∙ children_with_new q fresh_kind nodes))
-
-  gone_block : children_at gone block ≡ []
-  gone_block =
-      children_other fresh block (children_at named fresh ++ moved) named (λ e. apart_new (sym e))
-      ∙ (children_with_parents fresh block moved emptied
-      ∙ children_in block [] with_fresh (let e = more_size in omega arith))
-
-  gone_new : children_at gone fresh ≡ children_at nodes block
-  gone_new =
-      children_in fresh (children_at named fresh ++ moved) named (let e = named_size in omega arith)
-      ∙ (ap (λ (x : List ℕ). x ++ moved)
-      (children_with_parents fresh fresh moved emptied ∙ (children_other block fresh [] with_fresh apart_new
-      ∙ (children_with_new fresh fresh_kind nodes ∙ children_beyond fresh nodes (omega arith))))
-      ∙ children_with_new block fresh_kind nodes)
-
-  wrapped_kind : (m : ℕ) → kind_at wrapped m ≡ kind_at with_fresh m
-  wrapped_kind m =
-      put_kind fresh block (length (children_at gone block)) gone m
-      ∙ kind_by_kinds with_fresh gone m (kinds_move_children block fresh with_fresh)
-
-  wrapped_other : (m : ℕ) → (m ≡ fresh → ⊥) → kind_at wrapped m ≡ kind_at nodes m
-  wrapped_other m f = wrapped_kind m ∙ kind_with_new m fresh_kind nodes f
-
-  until_other : (limit m : ℕ) → (m ≡ fresh → ⊥) → until limit wrapped_labels m ≡ until limit l m
-  until_other limit m f = rw (ne_eqb m fresh f) refl
-
-  lo_other : (m : ℕ) → (m ≡ fresh → ⊥) → wrapped_labels.lo m ≡ l.lo m
-  lo_other m f = rw (ne_eqb m fresh f) refl
-
-  lo_fresh : wrapped_labels.lo fresh ≡ l.lo block
-  lo_fresh = rw (eq-eqb fresh fresh refl) refl
-
-  until_fresh : (limit : ℕ) → until limit wrapped_labels fresh ≡ limit
-  until_fresh limit = rw (eq-eqb fresh fresh refl) refl
-
-  until_block : (limit : ℕ) → until limit l block ≡ limit
-  until_block limit = ap (λ (b : Bool). cond b limit (l.hi block)) live
-
-  row_other : (limit q to : ℕ) → length letters < limit
-      → Row (marks none_out nodes limit l) (l.lo q) (children_at nodes q) to
-      → Row (marks none_out wrapped limit wrapped_labels) (l.lo q) (children_at nodes q) to
-  row_other limit q to big r =
-      row_marks (marks none_out nodes limit l) (marks none_out wrapped limit wrapped_labels) (l.lo q)
-      (children_at nodes q) to
-      (λ c m e.
-      let other = member_other c fresh (children_at nodes q) (no_child nodes q fresh forest (omega arith)) m in
-      let a = until_other limit c other in
-      let b = lo_other c other in
-      let w = spans none_out letters nodes l h limit big c (l.live c) in
-      (sym (ap bears (wrapped_other c other)) ∙ e, omega arith, omega arith, omega arith)) r
-
-  at_new : (limit : ℕ) → length letters < limit → (q : ℕ) → fresh ≡ q
-      → Row (marks none_out wrapped limit wrapped_labels) (wrapped_labels.lo q) (children_at wrapped q)
-      (until limit wrapped_labels q)
-  at_new limit big q e =
-      subst (λ (x : ℕ). Row (marks none_out wrapped limit wrapped_labels) (wrapped_labels.lo x)
-      (children_at wrapped x)
-      (until limit wrapped_labels x)) e
-      (subst (λ (x : ℕ). Row (marks none_out wrapped limit wrapped_labels) x (children_at wrapped fresh)
-      (until limit wrapped_labels fresh)) (sym lo_fresh)
-      (subst (λ (x : ℕ). Row (marks none_out wrapped limit wrapped_labels) (l.lo block) (children_at wrapped fresh)
-      x)
-      (sym (until_fresh limit ∙ sym (until_block limit)))
-      (subst (λ (x : List ℕ). Row (marks none_out wrapped limit wrapped_labels) (l.lo block) x (until limit l block))
-      (sym (children_put_other fresh block fresh gone apart_new ∙ gone_new))
-      (row_other limit block (until limit l block) big (h.rows limit big block)))))
-
-  at_block : (limit : ℕ) → length letters < limit → (q : ℕ) → block ≡ q
-      → Row (marks none_out wrapped limit wrapped_labels) (wrapped_labels.lo q) (children_at wrapped q)
-      (until limit wrapped_labels q)
-  at_block limit big q e =
-      subst (λ (x : ℕ). Row (marks none_out wrapped limit wrapped_labels) (wrapped_labels.lo x)
-      (children_at wrapped x)
-      (until limit wrapped_labels x)) e
-      (subst (λ (x : List ℕ). Row (marks none_out wrapped limit wrapped_labels) (wrapped_labels.lo block) x
-      (until limit wrapped_labels block))
-      (sym (children_put fresh block gone (let z = gone_size in omega arith)
-      ∙ ap (λ (x : List ℕ). x ++ fresh ∷ []) gone_block)) (
-        λ b. let a = lo_other block apart_new in let d = lo_fresh in let f = until_fresh limit in
-            let x = h.span block in let y = h.high block in (omega arith, omega arith),
-        let a = lo_other block apart_new in
-            let d = until_other limit block apart_new in
-            let f = until_block limit in
-            let g = until_fresh limit in
-            let x = h.span block in let y = h.high block in
-            low (bears (kind_at wrapped fresh)) (until limit wrapped_labels fresh) (wrapped_labels.lo block)
-            (until limit wrapped_labels block) (omega arith) (omega arith),
-      ))
-    where
-      low : (b : Bool) (x y z : ℕ) → x ≤ z → y ≤ z → cond b x y ≤ z
-      low true x y z f g = f
-      low false x y z f g = g
-
-  at_other : (limit : ℕ) → length letters < limit → (q : ℕ) → (fresh ≡ q → ⊥) → (block ≡ q → ⊥)
-      → Row (marks none_out wrapped limit wrapped_labels) (wrapped_labels.lo q) (children_at wrapped q)
-      (until limit wrapped_labels q)
-  at_other limit big q f g =
-      subst (λ (x : ℕ). Row (marks none_out wrapped limit wrapped_labels) x (children_at wrapped q)
-      (until limit wrapped_labels q)) (sym (lo_other q (λ e. f (sym e))))
-      (subst (λ (x : ℕ). Row (marks none_out wrapped limit wrapped_labels) (l.lo q) (children_at wrapped q) x)
-      (sym (until_other limit q (λ e. f (sym e))))
-      (subst (λ (x : List ℕ). Row (marks none_out wrapped limit wrapped_labels) (l.lo q) x (until limit l q))
-      (sym (children_put_other fresh block q gone g ∙ gone_other q f g))
-      (row_other limit q (until limit l q) big (h.rows limit big q))))
-
-  pub fits_wrapped : FitsBy none_out letters (wrap_children formatting block nodes) wrapped_labels
-  unfolding wrap_children
-  fits_wrapped = record {
-    span = λ m. test (m == fresh) (λ t. rw t (h.span block)) (λ t. rw t (h.span m));
-    high = λ m. test (m == fresh) (λ t. rw t (h.high block)) (λ t. rw t (h.high m));
-    rows = λ limit big q.
-        test (fresh == q)
-        (λ t. at_new limit big q (eqb-true fresh q t))
-        (λ t. test (block == q)
-        (λ u. at_block limit big q (eqb-true block q u))
-        (λ u. at_other limit big q (eqb-false fresh q t) (eqb-false block q u)));
-    texts = λ m t e.
-        test (m == fresh)
-        (λ u. absurd (no_text (ap is_element (sym (own_at m (eqb-true m fresh u)) ∙ e))))
-        (λ u. let f = eqb-false m fresh u in
-        let x = h.texts m t (sym (wrapped_other m f) ∙ e) in
-        record { closed = rw (ne_eqb m fresh f) x.closed; utf8 = x.utf8; within = rw (ne_eqb m fresh f) x.within });
-  }
-    where
-      own_at : (m : ℕ) → m ≡ fresh → kind_at wrapped m ≡ fresh_kind
-      own_at m e = ap (λ (x : ℕ). kind_at wrapped x) e ∙ (wrapped_kind fresh ∙ kind_new_at fresh_kind nodes)
-
-      no_text : is_element fresh_kind ≡ false → ⊥
-      no_text e = true≢false (sym is ∙ e)
+        no_text : is_element wk ≡ false → ⊥
+        no_text e = true≢false (sym is ∙ e)

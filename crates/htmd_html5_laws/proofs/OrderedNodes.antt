@@ -6,21 +6,22 @@ use Rattle.std.proofs.lemmas.Bool.{true≢false}
 use Rattle.htmd_grammar.specs.CharacterClasses.{is_empty}
 use Rattle.htmd_html5_state.specs.Documents.{NodeValue, KindValue, document, doctype, text, comment, element}
 use Rattle.htmd_html5_state.specs.Documents.{kind_at, parent_at, children_at}
-use Rattle.htmd_html5_laws.specs.LetterOrder.{letters_of}
 use Rattle.htmd_html5_laws.proofs.NodeParts.{times}
 use Rattle.htmd_html5_laws.proofs.Forests.{IsForest, under_itself}
 use Rattle.htmd_html5_laws.proofs.HungNodes.{is_solid, Hangs, AllHang}
 use Rattle.htmd_html5_laws.proofs.Sublists.{Sub, window}
 use Rattle.htmd_html5_laws.proofs.Rows.{Marks, Row, row_ends}
 use Rattle.htmd_html5_laws.proofs.Rows.{row_marks}
+use Rattle.htmd_html5_laws.proofs.Counted.{Choice, counted_of}
 
--- ---- labels
+module _ (choice : Choice) where
+  -- ---- labels
 
--- a text with a letter, or an element
-abbrev pub bears : KindValue → Bool
-bears (text t) = not (is_empty (letters_of t))
-bears (element name attributes) = true
-bears _ = false
+  -- a text with a letter, or an element
+  abbrev pub bears : KindValue → Bool
+  bears (text t) = not (is_empty (counted_of choice t))
+  bears (element name attributes) = true
+  bears _ = false
 
 -- where what a node holds begins and ends among the letters; what is live ends nowhere yet
 pub record Labels : Type 0 where
@@ -32,25 +33,26 @@ pub record Labels : Type 0 where
 abbrev pub until : ℕ → Labels → ℕ → ℕ
 until limit l n = cond (l.live n) limit (l.hi n)
 
-abbrev pub counted : (ℕ → Bool) → List NodeValue → ℕ → Bool
-counted out nodes n = not (out n) && bears (kind_at nodes n)
+module _ (choice : Choice) where
+  abbrev pub counted : (ℕ → Bool) → List NodeValue → ℕ → Bool
+  counted out nodes n = not (out n) && bears choice (kind_at nodes n)
 
-abbrev pub marks : (ℕ → Bool) → List NodeValue → ℕ → Labels → Marks
-marks out nodes limit l = record { counts = counted out nodes; begin = l.lo; end = until limit l }
+  abbrev pub marks : (ℕ → Bool) → List NodeValue → ℕ → Labels → Marks
+  marks out nodes limit l = record { counts = counted out nodes; begin = l.lo; end = until limit l }
 
--- what a text is like whose letters stand between two places
-pub record TextIn (letters : List ℕ) (l : Labels) (n : ℕ) (t : List ℕ) : Type 0 where
-  pub closed : l.live n ≡ false
-  pub utf8 : IsUtf8 t
-  pub within : Sub (letters_of t) (window (l.lo n) (l.hi n) letters)
+  -- what a text is like whose letters stand between two places
+  pub record TextIn (letters : List ℕ) (l : Labels) (n : ℕ) (t : List ℕ) : Type 0 where
+    pub closed : l.live n ≡ false
+    pub utf8 : IsUtf8 t
+    pub within : Sub (counted_of choice t) (window (l.lo n) (l.hi n) letters)
 
--- these labels fit the nodes, but for those that are out
-pub record FitsBy (out : ℕ → Bool) (letters : List ℕ) (nodes : List NodeValue) (l : Labels) : Type 0 where
-  pub span : (n : ℕ) → l.lo n ≤ l.hi n
-  pub high : (n : ℕ) → l.hi n ≤ length letters
-  pub rows : (limit : ℕ) → length letters < limit → (q : ℕ)
-      → Row (marks out nodes limit l) (l.lo q) (children_at nodes q) (until limit l q)
-  pub texts : (n : ℕ) (t : List ℕ) → kind_at nodes n ≡ text t → TextIn letters l n t
+  -- these labels fit the nodes, but for those that are out
+  pub record FitsBy (out : ℕ → Bool) (letters : List ℕ) (nodes : List NodeValue) (l : Labels) : Type 0 where
+    pub span : (n : ℕ) → l.lo n ≤ l.hi n
+    pub high : (n : ℕ) → l.hi n ≤ length letters
+    pub rows : (limit : ℕ) → length letters < limit → (q : ℕ)
+        → Row (marks out nodes limit l) (l.lo q) (children_at nodes q) (until limit l q)
+    pub texts : (n : ℕ) (t : List ℕ) → kind_at nodes n ≡ text t → TextIn letters l n t
 
 abbrev pub none_out : ℕ → Bool
 none_out n = false
@@ -64,78 +66,80 @@ ended ends at l = record {
   live = λ n. l.live n && not (ends n);
 }
 
--- where what they hold ends at this place
-pub record MayEnd (out ends : ℕ → Bool) (at : ℕ) (nodes : List NodeValue) (l : Labels) : Type 0 where
-  pub begins : (n : ℕ) → l.live n ≡ true → ends n ≡ true → l.lo n ≤ at
-  pub inner : (q c : ℕ) → l.live q ≡ true → ends q ≡ true → 1 ≤ times c (children_at nodes q)
-      → counted out nodes c ≡ true
-      → (l.live c ≡ true → ends c ≡ true) × (l.live c ≡ false → l.hi c ≤ at)
-
-pub fits_ended : (out ends : ℕ → Bool) (at : ℕ) (letters : List ℕ) (nodes : List NodeValue) (l : Labels)
-    → at ≤ length letters → MayEnd out ends at nodes l → FitsBy out letters nodes l
-    → FitsBy out letters nodes (ended ends at l)
-fits_ended out ends at letters nodes l within may h = record {
-  span = λ n. spans n (l.live n) refl (ends n) refl;
-  high = λ n. highs n (l.live n) (ends n);
-  rows = λ limit big q. row limit big q (l.live q) refl (ends q) refl;
-  texts = λ n t e. let x = h.texts n t e in record {
-    closed = rw x.closed refl;
-    utf8 = x.utf8;
-    within = subst (λ (b : Bool). Sub (letters_of t) (window (l.lo n) (cond (b && ends n) at (l.hi n)) letters))
-        (sym x.closed) x.within;
-  };
-}
-  where
-    spans : (n : ℕ) (b : Bool) → l.live n ≡ b → (d : Bool) → ends n ≡ d
-        → l.lo n ≤ cond (b && d) at (l.hi n)
-    spans n true e true f = may.begins n e f
-    spans n true e false f = h.span n
-    spans n false e d f = h.span n
-
-    highs : (n : ℕ) (b d : Bool) → cond (b && d) at (l.hi n) ≤ length letters
-    highs n true true = within
-    highs n true false = h.high n
-    highs n false d = h.high n
-
-    ends_by : (limit : ℕ) → length letters < limit → (n : ℕ) (b : Bool) → l.live n ≡ b → (d : Bool)
-        → ends n ≡ d
-        → (l.lo n ≤ cond (b && not d) limit (cond (b && d) at (l.hi n)))
-        × (cond (b && not d) limit (cond (b && d) at (l.hi n)) ≤ cond b limit (l.hi n))
-    ends_by limit big n true e true f = (may.begins n e f, omega arith)
-    ends_by limit big n true e false f = (let x = h.span n in let y = h.high n in omega arith, omega arith)
-    ends_by limit big n false e d f = (h.span n, omega arith)
-
-    lowered : (limit : ℕ) → length letters < limit → (q to : ℕ)
-        → Row (marks out nodes limit l) (l.lo q) (children_at nodes q) to
-        → Row (marks out nodes limit (ended ends at l)) (l.lo q) (children_at nodes q) to
-    lowered limit big q to r =
-        row_marks (marks out nodes limit l) (marks out nodes limit (ended ends at l)) (l.lo q) (children_at nodes q) to
-        (λ c k b. let x = ends_by limit big c (l.live c) refl (ends c) refl in (b, omega arith, x.0, x.1)) r
-
-    inner_end : (limit : ℕ) (c : ℕ) (b : Bool) → l.live c ≡ b → (d : Bool) → ends c ≡ d
+module _ (choice : Choice) where
+  -- where what they hold ends at this place
+  pub record MayEnd (out ends : ℕ → Bool) (at : ℕ) (nodes : List NodeValue) (l : Labels) : Type 0 where
+    pub begins : (n : ℕ) → l.live n ≡ true → ends n ≡ true → l.lo n ≤ at
+    pub inner : (q c : ℕ) → l.live q ≡ true → ends q ≡ true → 1 ≤ times c (children_at nodes q)
+        → counted choice out nodes c ≡ true
         → (l.live c ≡ true → ends c ≡ true) × (l.live c ≡ false → l.hi c ≤ at)
-        → cond (b && not d) limit (cond (b && d) at (l.hi c)) ≤ at
-    inner_end limit c true e true f x = omega arith
-    inner_end limit c true e false f x = absurd (true≢false (sym (x.0 e) ∙ f))
-    inner_end limit c false e d f x = x.1 e
 
-    row : (limit : ℕ) → length letters < limit → (q : ℕ) (b : Bool) → l.live q ≡ b → (d : Bool)
-        → ends q ≡ d
-        → Row (marks out nodes limit (ended ends at l)) (l.lo q) (children_at nodes q)
-        (cond (b && not d) limit (cond (b && d) at (l.hi q)))
-    row limit big q true e true f =
-        row_ends (marks out nodes limit (ended ends at l)) (l.lo q) (children_at nodes q) (until limit l q) at
-        (may.begins q e f)
-        (λ c k b. inner_end limit c (l.live c) refl (ends c) refl (may.inner q c e f k b))
-        (lowered limit big q (until limit l q) (h.rows limit big q))
-    row limit big q true e false f =
-        lowered limit big q limit
-        (subst (λ (b : Bool). Row (marks out nodes limit l) (l.lo q) (children_at nodes q) (cond b limit (l.hi q))) e
-        (h.rows limit big q))
-    row limit big q false e d f =
-        lowered limit big q (l.hi q)
-        (subst (λ (b : Bool). Row (marks out nodes limit l) (l.lo q) (children_at nodes q) (cond b limit (l.hi q))) e
-        (h.rows limit big q))
+  pub fits_ended : (out ends : ℕ → Bool) (at : ℕ) (letters : List ℕ) (nodes : List NodeValue) (l : Labels)
+      → at ≤ length letters → MayEnd out ends at nodes l → FitsBy choice out letters nodes l
+      → FitsBy choice out letters nodes (ended ends at l)
+  fits_ended out ends at letters nodes l within may h = record {
+    span = λ n. spans n (l.live n) refl (ends n) refl;
+    high = λ n. highs n (l.live n) (ends n);
+    rows = λ limit big q. row limit big q (l.live q) refl (ends q) refl;
+    texts = λ n t e. let x = h.texts n t e in record {
+      closed = rw x.closed refl;
+      utf8 = x.utf8;
+      within = subst (λ (b : Bool). Sub (counted_of choice t)
+          (window (l.lo n) (cond (b && ends n) at (l.hi n)) letters))
+          (sym x.closed) x.within;
+    };
+  }
+    where
+      spans : (n : ℕ) (b : Bool) → l.live n ≡ b → (d : Bool) → ends n ≡ d → l.lo n ≤ cond (b && d) at (l.hi n)
+      spans n true e true f = may.begins n e f
+      spans n true e false f = h.span n
+      spans n false e d f = h.span n
+
+      highs : (n : ℕ) (b d : Bool) → cond (b && d) at (l.hi n) ≤ length letters
+      highs n true true = within
+      highs n true false = h.high n
+      highs n false d = h.high n
+
+      ends_by : (limit : ℕ) → length letters < limit → (n : ℕ) (b : Bool) → l.live n ≡ b → (d : Bool) → ends n ≡ d
+          → (l.lo n ≤ cond (b && not d) limit (cond (b && d) at (l.hi n)))
+          × (cond (b && not d) limit (cond (b && d) at (l.hi n)) ≤ cond b limit (l.hi n))
+      ends_by limit big n true e true f = (may.begins n e f, omega arith)
+      ends_by limit big n true e false f = (let x = h.span n in let y = h.high n in omega arith, omega arith)
+      ends_by limit big n false e d f = (h.span n, omega arith)
+
+      lowered : (limit : ℕ) → length letters < limit → (q to : ℕ)
+          → Row (marks choice out nodes limit l) (l.lo q) (children_at nodes q) to
+          → Row (marks choice out nodes limit (ended ends at l)) (l.lo q) (children_at nodes q) to
+      lowered limit big q to r =
+          row_marks (marks choice out nodes limit l) (marks choice out nodes limit (ended ends at l)) (l.lo q)
+          (children_at nodes q) to
+          (λ c k b. let x = ends_by limit big c (l.live c) refl (ends c) refl in (b, omega arith, x.0, x.1)) r
+
+      inner_end : (limit : ℕ) (c : ℕ) (b : Bool) → l.live c ≡ b → (d : Bool) → ends c ≡ d
+          → (l.live c ≡ true → ends c ≡ true) × (l.live c ≡ false → l.hi c ≤ at)
+          → cond (b && not d) limit (cond (b && d) at (l.hi c)) ≤ at
+      inner_end limit c true e true f x = omega arith
+      inner_end limit c true e false f x = absurd (true≢false (sym (x.0 e) ∙ f))
+      inner_end limit c false e d f x = x.1 e
+
+      row : (limit : ℕ) → length letters < limit → (q : ℕ) (b : Bool) → l.live q ≡ b → (d : Bool) → ends q ≡ d
+          → Row (marks choice out nodes limit (ended ends at l)) (l.lo q) (children_at nodes q)
+          (cond (b && not d) limit (cond (b && d) at (l.hi q)))
+      row limit big q true e true f =
+          row_ends (marks choice out nodes limit (ended ends at l)) (l.lo q) (children_at nodes q) (until limit l q) at
+          (may.begins q e f)
+          (λ c k b. inner_end limit c (l.live c) refl (ends c) refl (may.inner q c e f k b))
+          (lowered limit big q (until limit l q) (h.rows limit big q))
+      row limit big q true e false f =
+          lowered limit big q limit
+          (subst (λ (b : Bool). Row (marks choice out nodes limit l) (l.lo q) (children_at nodes q)
+          (cond b limit (l.hi q))) e
+          (h.rows limit big q))
+      row limit big q false e d f =
+          lowered limit big q (l.hi q)
+          (subst (λ (b : Bool). Row (marks choice out nodes limit l) (l.lo q) (children_at nodes q)
+          (cond b limit (l.hi q))) e
+          (h.rows limit big q))
 
 -- ---- what a node holds ends with the letters that there are
 
@@ -145,34 +149,36 @@ pub record Ranked (rank : ℕ → ℕ) (nodes : List NodeValue) : Type 0 where
   pub forest : IsForest nodes
   pub root : is_solid (kind_at nodes 0) ≡ false
 
-pub bears_solid : (k : KindValue) → bears k ≡ true → is_solid k ≡ true
-bears_solid (text t) e = refl
-bears_solid (element name attributes) e = refl
-bears_solid document e = e
-bears_solid doctype e = e
-bears_solid (comment t) e = e
+module _ (choice : Choice) where
+  pub bears_solid : (k : KindValue) → bears choice k ≡ true → is_solid k ≡ true
+  bears_solid (text t) e = refl
+  bears_solid (element name attributes) e = refl
+  bears_solid document e = e
+  bears_solid doctype e = e
+  bears_solid (comment t) e = e
 
 pub child_parent : (nodes : List NodeValue) (q c : ℕ) → IsForest nodes → 1 ≤ times c (children_at nodes q)
     → parent_at nodes c ≡ Some q
 child_parent nodes q c forest l =
     under_itself (parent_at nodes c) q (let a = forest.once c q in omega arith)
 
-pub child_above : (rank : ℕ → ℕ) (nodes : List NodeValue) (q c : ℕ) → Ranked rank nodes
-    → 1 ≤ times c (children_at nodes q) → bears (kind_at nodes c) ≡ true → rank q < rank c
-child_above rank nodes q c h l b = by_hangs (h.hangs c (bears_solid (kind_at nodes c) b))
-  where
-    by_hangs : Hangs rank nodes c → rank q < rank c
-    by_hangs (inl z) =
-        absurd (true≢false (sym (bears_solid (kind_at nodes c) b)
-        ∙ (ap (λ (x : ℕ). is_solid (kind_at nodes x)) z ∙ h.root)))
-    by_hangs (inr g) =
-        let same : g.by ≡ q = some_same (sym g.parent ∙ child_parent nodes q c h.forest l) in
-        let less = g.less in
-        let e : rank g.by ≡ rank q = ap rank same in
-        omega arith
-      where
-        some_same : {a b : ℕ} → Some a ≡ Some b → a ≡ b
-        some_same r = cc
+module _ (choice : Choice) where
+  pub child_above : (rank : ℕ → ℕ) (nodes : List NodeValue) (q c : ℕ) → Ranked rank nodes
+      → 1 ≤ times c (children_at nodes q) → bears choice (kind_at nodes c) ≡ true → rank q < rank c
+  child_above rank nodes q c h l b = by_hangs (h.hangs c (bears_solid choice (kind_at nodes c) b))
+    where
+      by_hangs : Hangs rank nodes c → rank q < rank c
+      by_hangs (inl z) =
+          absurd (true≢false (sym (bears_solid choice (kind_at nodes c) b)
+          ∙ (ap (λ (x : ℕ). is_solid (kind_at nodes x)) z ∙ h.root)))
+      by_hangs (inr g) =
+          let same : g.by ≡ q = some_same (sym g.parent ∙ child_parent nodes q c h.forest l) in
+          let less = g.less in
+          let e : rank g.by ≡ rank q = ap rank same in
+          omega arith
+        where
+          some_same : {a b : ℕ} → Some a ≡ Some b → a ≡ b
+          some_same r = cc
 
 abbrev pub above : (ℕ → ℕ) → ℕ → ℕ → Bool
 above rank p n = nat_lt (rank p) (rank n)
@@ -186,34 +192,36 @@ lt_false a b l = grind (arith, l)
 pub lt_less : (a b : ℕ) → nat_lt a b ≡ true → a < b
 lt_less a b e = grind (arith, e)
 
--- labels with which all that stands above a node has ended
-pub record Settled (rank : ℕ → ℕ) (p : ℕ) (letters : List ℕ) (nodes : List NodeValue) (old : Labels) : Type 0
-  where
+pub lt_not : (a b : ℕ) → nat_lt a b ≡ false → b ≤ a
+lt_not a b e = grind (arith, e)
+
+module _ (choice : Choice) where
+  -- labels with which all that stands above a node has ended
+  pub record Settled (rank : ℕ → ℕ) (p : ℕ) (letters : List ℕ) (nodes : List NodeValue) (old : Labels) : Type 0 where
     pub labels : Labels
-    pub fits : FitsBy none_out letters nodes labels
+    pub fits : FitsBy choice none_out letters nodes labels
     pub still : (n : ℕ) → old.live n ≡ true → rank n ≤ rank p → labels.live n ≡ true
-    pub children : (c : ℕ) → 1 ≤ times c (children_at nodes p) → bears (kind_at nodes c) ≡ true
+    pub children : (c : ℕ) → 1 ≤ times c (children_at nodes p) → bears choice (kind_at nodes c) ≡ true
         → labels.live c ≡ false
 
-pub settled : (rank : ℕ → ℕ) (p : ℕ) (letters : List ℕ) (nodes : List NodeValue) (l : Labels)
-    → Ranked rank nodes
-    → FitsBy none_out letters nodes l → Settled rank p letters nodes l
-settled rank p letters nodes l ranked h = record {
-  labels = ended (above rank p) (length letters) l;
-  fits = fits_ended none_out (above rank p) (length letters) letters nodes l (omega arith) (record {
-    begins = λ n e f. let a = h.span n in let b = h.high n in omega arith;
-    inner = λ q c e f k b. (
-      λ g. let less = child_above rank nodes q c ranked k b in
-          let m = lt_less (rank p) (rank q) f in
-          lt_true (rank p) (rank c) (omega arith),
-      λ g. h.high c,
-    );
-  }) h;
-  still = λ n e m. rw (e, lt_false (rank p) (rank n) m) refl;
-  children = λ c k b. stops (l.live c) (above rank p c)
-      (lt_true (rank p) (rank c) (child_above rank nodes p c ranked k b));
-}
-  where
-    stops : (b d : Bool) → d ≡ true → (b && not d) ≡ false
-    stops true d e = rw e refl
-    stops false d e = refl
+  pub settled : (rank : ℕ → ℕ) (p : ℕ) (letters : List ℕ) (nodes : List NodeValue) (l : Labels) → Ranked rank nodes
+      → FitsBy choice none_out letters nodes l → Settled rank p letters nodes l
+  settled rank p letters nodes l ranked h = record {
+    labels = ended (above rank p) (length letters) l;
+    fits = fits_ended choice none_out (above rank p) (length letters) letters nodes l (omega arith) (record {
+      begins = λ n e f. let a = h.span n in let b = h.high n in omega arith;
+      inner = λ q c e f k b. (
+        λ g. let less = child_above choice rank nodes q c ranked k b in
+            let m = lt_less (rank p) (rank q) f in
+            lt_true (rank p) (rank c) (omega arith),
+        λ g. h.high c,
+      );
+    }) h;
+    still = λ n e m. rw (e, lt_false (rank p) (rank n) m) refl;
+    children = λ c k b. stops (l.live c) (above rank p c)
+        (lt_true (rank p) (rank c) (child_above choice rank nodes p c ranked k b));
+  }
+    where
+      stops : (b d : Bool) → d ≡ true → (b && not d) ≡ false
+      stops true d e = rw e refl
+      stops false d e = refl

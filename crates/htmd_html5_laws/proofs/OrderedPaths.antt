@@ -12,337 +12,339 @@ use Rattle.htmd_html5_laws.proofs.HungNodes.{is_solid, Hangs, element_solid}
 use Rattle.htmd_html5_laws.proofs.Rows.{Row, row_member, row_last, row_marks, row_ends}
 use Rattle.htmd_html5_laws.proofs.OrderedNodes.{bears, Labels, until, counted, marks, FitsBy, none_out, Ranked, above}
 use Rattle.htmd_html5_laws.proofs.OrderedNodes.{ended, fits_ended, lt_true, lt_less, child_above}
+use Rattle.htmd_html5_laws.proofs.Counted.{Choice}
 
-pub element_bears : (k : KindValue) → is_element k ≡ true → bears k ≡ true
-element_bears (element name attributes) e = refl
-element_bears (text t) e = absurd (true≢false (sym e))
-element_bears document e = e
-element_bears doctype e = e
-element_bears (comment t) e = e
+module _ (choice : Choice) where
+  pub element_bears : (k : KindValue) → is_element k ≡ true → bears choice k ≡ true
+  element_bears (element name attributes) e = refl
+  element_bears (text t) e = absurd (true≢false (sym e))
+  element_bears document e = e
+  element_bears doctype e = e
+  element_bears (comment t) e = e
 
-module _ (rank : ℕ → ℕ) (letters : List ℕ) (nodes : List NodeValue) (l : Labels)
-    (h : FitsBy none_out letters nodes l)
-    (ranked : Ranked rank nodes) (at_root : rank 0 ≡ 0) where
-  -- a live element, or the Document
-  pub record Alive (x : ℕ) : Type 0 where
-    pub live : l.live x ≡ true
-    pub either : (x ≡ 0) ⊎ (is_element (kind_at nodes x) ≡ true)
+  module _ (rank : ℕ → ℕ) (letters : List ℕ) (nodes : List NodeValue) (l : Labels)
+      (h : FitsBy choice none_out letters nodes l)
+      (ranked : Ranked rank nodes) (at_root : rank 0 ≡ 0) where
+    -- a live element, or the Document
+    pub record Alive (x : ℕ) : Type 0 where
+      pub live : l.live x ≡ true
+      pub either : (x ≡ 0) ⊎ (is_element (kind_at nodes x) ≡ true)
 
-  abbrev limit : ℕ
-  limit = suc (length letters)
+    abbrev limit : ℕ
+    limit = suc (length letters)
 
-  live_until : (x : ℕ) → l.live x ≡ true → until limit l x ≡ limit
-  live_until x e = rw e refl
+    live_until : (x : ℕ) → l.live x ≡ true → until limit l x ≡ limit
+    live_until x e = rw e refl
 
-  -- the parent of a live element
-  record Up (u : ℕ) : Type 0 where
-    by : ℕ
-    holds : 1 ≤ times u (children_at nodes by)
-    less : rank by < rank u
-    alive : Alive by
-    low : l.lo by ≤ l.lo u
+    -- the parent of a live element
+    record Up (u : ℕ) : Type 0 where
+      by : ℕ
+      holds : 1 ≤ times u (children_at nodes by)
+      less : rank by < rank u
+      alive : Alive by
+      low : l.lo by ≤ l.lo u
 
-  up : (u : ℕ) → l.live u ≡ true → is_element (kind_at nodes u) ≡ true → Up u
-  up u live e = by_hangs (ranked.hangs u (element_solid (kind_at nodes u) e))
-    where
-      alive_by : (b : Bool) (by : ℕ) → l.live by ≡ b → limit ≤ cond b limit (l.hi by) → l.live by ≡ true
-      alive_by true by f g = f
-      alive_by false by f g = absurd (let x = h.high by in omega arith)
-
-      by_hangs : Hangs rank nodes u → Up u
-      by_hangs (inl z) =
-          absurd (true≢false (sym (element_solid (kind_at nodes u) e)
-          ∙ (ap (λ (x : ℕ). is_solid (kind_at nodes x)) z ∙ ranked.root)))
-      by_hangs (inr g) =
-          let r = row_member (marks none_out nodes limit l) u (l.lo g.by) (children_at nodes g.by) (until limit l g.by)
-          g.holder.stands (element_bears (kind_at nodes u) e) (h.rows limit (omega arith) g.by) in
-          let m = live_until u live in
-          let y = r.2 in
-          record {
-            by = g.by;
-            holds = g.holder.stands;
-            less = g.less;
-            alive = record { live = alive_by (l.live g.by) g.by refl (omega arith); either = g.holder.either };
-            low = r.0;
-          }
-
-  -- a live child, up to a node further in
-  pub record Down (q u : ℕ) : Type 0 where
-    pub child : ℕ
-    pub holds : 1 ≤ times child (children_at nodes q)
-    pub live : l.live child ≡ true
-    pub is : is_element (kind_at nodes child) ≡ true
-    pub low : l.lo child ≤ l.lo u
-    pub rank_at : rank child ≤ rank u
-
-  -- a counted child beside a live one has ended before it
-  pub beside : (q c d : ℕ) → 1 ≤ times c (children_at nodes q) → l.live c ≡ true
-      → is_element (kind_at nodes c) ≡ true
-      → 1 ≤ times d (children_at nodes q) → bears (kind_at nodes d) ≡ true
-      → (d ≡ c) ⊎ (until limit l d ≤ l.lo c)
-  beside q c d k live e m b =
-      row_last (marks none_out nodes limit l) c d (l.lo q) (children_at nodes q) (until limit l q) (length letters) k
-      (element_bears (kind_at nodes c) e) m b (let x = live_until c live in omega arith)
-      (λ x. let y = h.span x in let z = h.high x in omega arith) (h.rows limit (omega arith) q)
-
-  pub one_live : (q c d : ℕ) → 1 ≤ times c (children_at nodes q) → l.live c ≡ true
-      → is_element (kind_at nodes c) ≡ true
-      → 1 ≤ times d (children_at nodes q) → l.live d ≡ true → bears (kind_at nodes d) ≡ true → d ≡ c
-  one_live q c d k live e m live_d b = either (beside q c d k live e m b)
-    where
-      either : (d ≡ c) ⊎ (until limit l d ≤ l.lo c) → d ≡ c
-      either (inl x) = x
-      either (inr x) =
-          absurd (let y = live_until d live_d in let z = h.span c in let w = h.high c in omega arith)
-
-  -- below a bound on ranks
-  pub record Paths (k : ℕ) : Type 0 where
-    pub same : (q u : ℕ) → Alive q → Alive u → rank q < k → rank q ≡ rank u → q ≡ u
-    pub down : (q u : ℕ) → Alive q → Alive u → rank u < k → rank q < rank u → Down q u
-
-  -- no live element has the rank of the Document
-  not_root : (u : ℕ) → l.live u ≡ true → is_element (kind_at nodes u) ≡ true → rank u ≡ 0 → ⊥
-  not_root u live e z = let x = (up u live e).less in absurd (omega arith)
-
-  down_step : (k : ℕ) → Paths k → (q u : ℕ) → Alive q → Alive u → rank u < suc k → rank q < rank u
-      → Down q u
-  down_step k p q u a b big less = by_either b.either
-    where
-      by_ranks : (x : Up u) → is_element (kind_at nodes u) ≡ true
-          → (rank q < rank x.by) ⊎ (rank x.by ≤ rank q)
-          → (rank x.by < rank q) ⊎ (rank q ≤ rank x.by)
-          → Down q u
-      by_ranks x e (inl g) m =
-          let r = x.less in
-          let d = p.down q x.by a x.alive (omega arith) g in
-          let low = d.low in
-          let low_x = x.low in
-          let at = d.rank_at in
-          record {
-            child = d.child;
-            holds = d.holds;
-            live = d.live;
-            is = d.is;
-            low = omega arith;
-            rank_at = omega arith;
-          }
-      by_ranks x e (inr g) (inl m) =
-          let r = x.less in
-          let d = p.down x.by q x.alive a (omega arith) m in
-          let at = d.rank_at in
-          let same = one_live x.by u d.child x.holds b.live e d.holds d.live (element_bears _ d.is) in
-          let f : rank d.child ≡ rank u = ap rank same in
-          absurd (omega arith)
-      by_ranks x e (inr g) (inr m) =
-          let r = x.less in
-          let same = p.same q x.by a x.alive (omega arith) (omega arith) in
-          record {
-            child = u;
-            holds = subst (λ (y : ℕ). 1 ≤ times u (children_at nodes y)) (sym same) x.holds;
-            live = b.live;
-            is = e;
-            low = omega arith;
-            rank_at = omega arith;
-          }
-
-      by_either : (u ≡ 0) ⊎ (is_element (kind_at nodes u) ≡ true) → Down q u
-      by_either (inl z) = absurd (let e : rank u ≡ rank 0 = ap rank z in let r = at_root in omega arith)
-      by_either (inr e) =
-          let x = up u b.live e in
-          by_ranks x e (cases_lt (rank q) (rank x.by)) (cases_lt (rank x.by) (rank q))
-
-  same_step : (k : ℕ) → Paths k → (q u : ℕ) → Alive q → Alive u → rank q < suc k → rank q ≡ rank u
-      → q ≡ u
-  same_step k p q u a b big same = by_either a.either b.either
-    where
-      by_ranks : (x : Up q) (y : Up u) → is_element (kind_at nodes q) ≡ true
-          → is_element (kind_at nodes u) ≡ true
-          → (rank x.by < rank y.by) ⊎ (rank y.by ≤ rank x.by)
-          → (rank y.by < rank x.by) ⊎ (rank x.by ≤ rank y.by)
-          → q ≡ u
-      by_ranks x y e f (inl g) m =
-          let r = x.less in
-          let s = y.less in
-          let d = p.down x.by y.by x.alive y.alive (omega arith) g in
-          let at = d.rank_at in
-          let one = one_live x.by q d.child x.holds a.live e d.holds d.live (element_bears _ d.is) in
-          let z : rank d.child ≡ rank q = ap rank one in
-          absurd (omega arith)
-      by_ranks x y e f (inr g) (inl m) =
-          let r = x.less in
-          let s = y.less in
-          let d = p.down y.by x.by y.alive x.alive (omega arith) m in
-          let at = d.rank_at in
-          let one = one_live y.by u d.child y.holds b.live f d.holds d.live (element_bears _ d.is) in
-          let z : rank d.child ≡ rank u = ap rank one in
-          absurd (omega arith)
-      by_ranks x y e f (inr g) (inr m) =
-          let r = x.less in
-          let s = y.less in
-          let one = p.same x.by y.by x.alive y.alive (omega arith) (omega arith) in
-          one_live y.by u q y.holds b.live f
-          (subst (λ (z : ℕ). 1 ≤ times q (children_at nodes z)) one x.holds) a.live (element_bears _ e)
-
-      by_either : (q ≡ 0) ⊎ (is_element (kind_at nodes q) ≡ true)
-          → (u ≡ 0) ⊎ (is_element (kind_at nodes u) ≡ true) → q ≡ u
-      by_either (inl z) (inl w) = z ∙ sym w
-      by_either (inl z) (inr f) =
-          absurd (not_root u b.live f (let e : rank q ≡ rank 0 = ap rank z in let r = at_root in omega arith))
-      by_either (inr e) (inl w) =
-          absurd (not_root q a.live e (let f : rank u ≡ rank 0 = ap rank w in let r = at_root in omega arith))
-      by_either (inr e) (inr f) =
-          let x = up q a.live e in
-          let y = up u b.live f in
-          by_ranks x y e f (cases_lt (rank x.by) (rank y.by)) (cases_lt (rank y.by) (rank x.by))
-
-  paths : (k : ℕ) → Paths k
-  paths zero = record {
-    same = λ q u a b big e. absurd (omega arith);
-    down = λ q u a b big less. absurd (omega arith);
-  }
-  paths (suc k) =
-      let p = paths k in
-      record { same = same_step k p; down = down_step k p }
-
-  pub down_to : (q u : ℕ) → Alive q → Alive u → rank q < rank u → Down q u
-  down_to q u a b less = (paths (suc (rank u))).down q u a b (omega arith) less
-
-  pub same_node : (q u : ℕ) → Alive q → Alive u → rank q ≡ rank u → q ≡ u
-  same_node q u a b e = (paths (suc (rank q))).same q u a b (omega arith) e
-
-  -- ---- what stands between two of them ends where the inner begins
-
-  module _ (p b : ℕ) (alive_p : Alive p) (live_b : l.live b ≡ true) (is_b : is_element (kind_at nodes b) ≡ true)
-      (less : rank p < rank b) where
-    abbrev pub apart : ℕ → Bool
-    apart n = n == b
-
-    abbrev pub between : ℕ → Bool
-    between n = is_element (kind_at nodes n) && (above rank p n && nat_lt (rank n) (rank b))
-
-    abbrev pub parted : Labels
-    parted = ended between (l.lo b) l
-
-    alive_b : Alive b
-    alive_b = record { live = live_b; either = inr is_b }
-
-    -- what isn't the inner one, and not on the way to it, has ended before it
-    ended_before : (q c : ℕ) → Alive q → rank p ≤ rank q → rank q < rank b
-        → 1 ≤ times c (children_at nodes q)
-        → counted apart nodes c ≡ true
-        → (l.live c ≡ true → between c ≡ true) × (l.live c ≡ false → l.hi c ≤ l.lo b)
-    ended_before q c a from to k counts =
-        let d = down_to q b a alive_b to in
-        let two = and_parts (not (c == b)) (bears (kind_at nodes c)) counts in
-        let by = beside q d.child c d.holds d.live d.is k two.1 in
-        (λ e. on_way d e two.0 by, λ e. ended_at d e by)
+    up : (u : ℕ) → l.live u ≡ true → is_element (kind_at nodes u) ≡ true → Up u
+    up u live e = by_hangs (ranked.hangs u (element_solid (kind_at nodes u) e))
       where
-        not_true : (x : Bool) → not x ≡ true → x ≡ false
-        not_true true e = absurd (true≢false (sym e))
-        not_true false e = refl
+        alive_by : (b : Bool) (by : ℕ) → l.live by ≡ b → limit ≤ cond b limit (l.hi by) → l.live by ≡ true
+        alive_by true by f g = f
+        alive_by false by f g = absurd (let x = h.high by in omega arith)
 
-        all_true : (x y z : Bool) → x ≡ true → y ≡ true → z ≡ true → (x && (y && z)) ≡ true
-        all_true x y z e f g = rw (e, f, g) refl
+        by_hangs : Hangs rank nodes u → Up u
+        by_hangs (inl z) =
+            absurd (true≢false (sym (element_solid (kind_at nodes u) e)
+            ∙ (ap (λ (x : ℕ). is_solid (kind_at nodes x)) z ∙ ranked.root)))
+        by_hangs (inr g) =
+            let r = row_member (marks choice none_out nodes limit l) u (l.lo g.by) (children_at nodes g.by)
+            (until limit l g.by)
+            g.holder.stands (element_bears (kind_at nodes u) e) (h.rows limit (omega arith) g.by) in
+            let m = live_until u live in
+            let y = r.2 in
+            record {
+              by = g.by;
+              holds = g.holder.stands;
+              less = g.less;
+              alive = record { live = alive_by (l.live g.by) g.by refl (omega arith); either = g.holder.either };
+              low = r.0;
+            }
 
-        above_q : (d : Down q b) → rank q < rank d.child
-        above_q d = child_rank d.child d.holds d.is
-          where
-            child_rank : (x : ℕ) → 1 ≤ times x (children_at nodes q) → is_element (kind_at nodes x) ≡ true
-                → rank q < rank x
-            child_rank x m e = child_above rank nodes q x ranked m (element_bears (kind_at nodes x) e)
+    -- a live child, up to a node further in
+    pub record Down (q u : ℕ) : Type 0 where
+      pub child : ℕ
+      pub holds : 1 ≤ times child (children_at nodes q)
+      pub live : l.live child ≡ true
+      pub is : is_element (kind_at nodes child) ≡ true
+      pub low : l.lo child ≤ l.lo u
+      pub rank_at : rank child ≤ rank u
 
-        on_way : (d : Down q b) → l.live c ≡ true → not (c == b) ≡ true
-            → (c ≡ d.child) ⊎ (until limit l c ≤ l.lo d.child) → between c ≡ true
-        on_way d e other (inr x) =
-            absurd (let y = live_until c e in let z = h.span d.child in let w = h.high d.child in omega arith)
-        on_way d e other (inl x) =
-            let is : is_element (kind_at nodes c) ≡ true =
-            subst (λ (y : ℕ). is_element (kind_at nodes y) ≡ true) (sym x) d.is in
-            let r : rank c ≡ rank d.child = ap rank x in
-            let at = d.rank_at in
-            let up_q = above_q d in
-            let apart_b = eqb-false c b (not_true (c == b) other) in
-            test (rank c == rank b)
-            (λ t. absurd (apart_b (same_node c b (record { live = e; either = inr is }) alive_b
-            (eqb-true (rank c) (rank b) t))))
-            (λ t. let ne = eqb-false (rank c) (rank b) t in
-            all_true (is_element (kind_at nodes c)) (above rank p c) (nat_lt (rank c) (rank b)) is
-            (lt_true (rank p) (rank c) (omega arith)) (lt_true (rank c) (rank b) (omega arith)))
+    -- a counted child beside a live one has ended before it
+    pub beside : (q c d : ℕ) → 1 ≤ times c (children_at nodes q) → l.live c ≡ true
+        → is_element (kind_at nodes c) ≡ true
+        → 1 ≤ times d (children_at nodes q) → bears choice (kind_at nodes d) ≡ true
+        → (d ≡ c) ⊎ (until limit l d ≤ l.lo c)
+    beside q c d k live e m b =
+        row_last (marks choice none_out nodes limit l) c d (l.lo q) (children_at nodes q) (until limit l q)
+        (length letters) k
+        (element_bears (kind_at nodes c) e) m b (let x = live_until c live in omega arith)
+        (λ x. let y = h.span x in let z = h.high x in omega arith) (h.rows limit (omega arith) q)
 
-        ended_at : (d : Down q b) → l.live c ≡ false
-            → (c ≡ d.child) ⊎ (until limit l c ≤ l.lo d.child) → l.hi c ≤ l.lo b
-        ended_at d e (inl x) = absurd (true≢false (sym d.live ∙ (ap l.live (sym x) ∙ e)))
-        ended_at d e (inr x) =
-            let y : until limit l c ≡ l.hi c = ap (λ (z : Bool). cond z limit (l.hi c)) e in
+    pub one_live : (q c d : ℕ) → 1 ≤ times c (children_at nodes q) → l.live c ≡ true
+        → is_element (kind_at nodes c) ≡ true
+        → 1 ≤ times d (children_at nodes q) → l.live d ≡ true → bears choice (kind_at nodes d) ≡ true → d ≡ c
+    one_live q c d k live e m live_d b = either (beside q c d k live e m b)
+      where
+        either : (d ≡ c) ⊎ (until limit l d ≤ l.lo c) → d ≡ c
+        either (inl x) = x
+        either (inr x) =
+            absurd (let y = live_until d live_d in let z = h.span c in let w = h.high c in omega arith)
+
+    -- below a bound on ranks
+    pub record Paths (k : ℕ) : Type 0 where
+      pub same : (q u : ℕ) → Alive q → Alive u → rank q < k → rank q ≡ rank u → q ≡ u
+      pub down : (q u : ℕ) → Alive q → Alive u → rank u < k → rank q < rank u → Down q u
+
+    -- no live element has the rank of the Document
+    not_root : (u : ℕ) → l.live u ≡ true → is_element (kind_at nodes u) ≡ true → rank u ≡ 0 → ⊥
+    not_root u live e z = let x = (up u live e).less in absurd (omega arith)
+
+    down_step : (k : ℕ) → Paths k → (q u : ℕ) → Alive q → Alive u → rank u < suc k → rank q < rank u → Down q u
+    down_step k p q u a b big less = by_either b.either
+      where
+        by_ranks : (x : Up u) → is_element (kind_at nodes u) ≡ true
+            → (rank q < rank x.by) ⊎ (rank x.by ≤ rank q)
+            → (rank x.by < rank q) ⊎ (rank q ≤ rank x.by)
+            → Down q u
+        by_ranks x e (inl g) m =
+            let r = x.less in
+            let d = p.down q x.by a x.alive (omega arith) g in
             let low = d.low in
-            omega arith
+            let low_x = x.low in
+            let at = d.rank_at in
+            record {
+              child = d.child;
+              holds = d.holds;
+              live = d.live;
+              is = d.is;
+              low = omega arith;
+              rank_at = omega arith;
+            }
+        by_ranks x e (inr g) (inl m) =
+            let r = x.less in
+            let d = p.down x.by q x.alive a (omega arith) m in
+            let at = d.rank_at in
+            let same = one_live x.by u d.child x.holds b.live e d.holds d.live (element_bears _ d.is) in
+            let f : rank d.child ≡ rank u = ap rank same in
+            absurd (omega arith)
+        by_ranks x e (inr g) (inr m) =
+            let r = x.less in
+            let same = p.same q x.by a x.alive (omega arith) (omega arith) in
+            record {
+              child = u;
+              holds = subst (λ (y : ℕ). 1 ≤ times u (children_at nodes y)) (sym same) x.holds;
+              live = b.live;
+              is = e;
+              low = omega arith;
+              rank_at = omega arith;
+            }
 
-    parts : (n : ℕ) → between n ≡ true
-        → (is_element (kind_at nodes n) ≡ true) × ((rank p < rank n) × (rank n < rank b))
-    parts n e =
-        let a = and_parts (is_element (kind_at nodes n)) (above rank p n && nat_lt (rank n) (rank b)) e in
-        let c = and_parts (above rank p n) (nat_lt (rank n) (rank b)) a.1 in
-        (a.0, (lt_less (rank p) (rank n) c.0, lt_less (rank n) (rank b) c.1))
+        by_either : (u ≡ 0) ⊎ (is_element (kind_at nodes u) ≡ true) → Down q u
+        by_either (inl z) = absurd (let e : rank u ≡ rank 0 = ap rank z in let r = at_root in omega arith)
+        by_either (inr e) =
+            let x = up u b.live e in
+            by_ranks x e (cases_lt (rank q) (rank x.by)) (cases_lt (rank x.by) (rank q))
 
-    ignoring : FitsBy apart letters nodes l
-    ignoring = record {
-      span = h.span;
-      high = h.high;
-      rows = λ bound big q.
-          row_marks (marks none_out nodes bound l) (marks apart nodes bound l) (l.lo q) (children_at nodes q)
-          (until bound l q)
-          (λ c k e. (
-            (and_parts (not (c == b)) (bears (kind_at nodes c)) e).1,
-            omega arith,
-            spans bound big c (l.live c),
-            omega arith,
-          )) (h.rows bound big q);
-      texts = h.texts;
-    }
+    same_step : (k : ℕ) → Paths k → (q u : ℕ) → Alive q → Alive u → rank q < suc k → rank q ≡ rank u → q ≡ u
+    same_step k p q u a b big same = by_either a.either b.either
       where
-        spans : (bound : ℕ) → length letters < bound → (c : ℕ) (x : Bool) → l.lo c ≤ cond x bound (l.hi c)
-        spans bound big c true = let a = h.span c in let b = h.high c in omega arith
-        spans bound big c false = h.span c
+        by_ranks : (x : Up q) (y : Up u) → is_element (kind_at nodes q) ≡ true → is_element (kind_at nodes u) ≡ true
+            → (rank x.by < rank y.by) ⊎ (rank y.by ≤ rank x.by)
+            → (rank y.by < rank x.by) ⊎ (rank x.by ≤ rank y.by)
+            → q ≡ u
+        by_ranks x y e f (inl g) m =
+            let r = x.less in
+            let s = y.less in
+            let d = p.down x.by y.by x.alive y.alive (omega arith) g in
+            let at = d.rank_at in
+            let one = one_live x.by q d.child x.holds a.live e d.holds d.live (element_bears _ d.is) in
+            let z : rank d.child ≡ rank q = ap rank one in
+            absurd (omega arith)
+        by_ranks x y e f (inr g) (inl m) =
+            let r = x.less in
+            let s = y.less in
+            let d = p.down y.by x.by y.alive x.alive (omega arith) m in
+            let at = d.rank_at in
+            let one = one_live y.by u d.child y.holds b.live f d.holds d.live (element_bears _ d.is) in
+            let z : rank d.child ≡ rank u = ap rank one in
+            absurd (omega arith)
+        by_ranks x y e f (inr g) (inr m) =
+            let r = x.less in
+            let s = y.less in
+            let one = p.same x.by y.by x.alive y.alive (omega arith) (omega arith) in
+            one_live y.by u q y.holds b.live f
+            (subst (λ (z : ℕ). 1 ≤ times q (children_at nodes z)) one x.holds) a.live (element_bears _ e)
 
-    pub parted_fits : FitsBy apart letters nodes parted
-    parted_fits =
-        fits_ended apart between (l.lo b) letters nodes l (let x = h.span b in let y = h.high b in omega arith)
-        (record {
-          begins = λ n live e.
-              let x = parts n e in
-              let d = down_to n b (record { live = live; either = inr x.0 }) alive_b x.1.1 in
-              let r = row_member (marks none_out nodes limit l) d.child (l.lo n) (children_at nodes n)
-              (until limit l n) d.holds (element_bears (kind_at nodes d.child) d.is) (h.rows limit (omega arith) n) in
+        by_either : (q ≡ 0) ⊎ (is_element (kind_at nodes q) ≡ true)
+            → (u ≡ 0) ⊎ (is_element (kind_at nodes u) ≡ true) → q ≡ u
+        by_either (inl z) (inl w) = z ∙ sym w
+        by_either (inl z) (inr f) =
+            absurd (not_root u b.live f (let e : rank q ≡ rank 0 = ap rank z in let r = at_root in omega arith))
+        by_either (inr e) (inl w) =
+            absurd (not_root q a.live e (let f : rank u ≡ rank 0 = ap rank w in let r = at_root in omega arith))
+        by_either (inr e) (inr f) =
+            let x = up q a.live e in
+            let y = up u b.live f in
+            by_ranks x y e f (cases_lt (rank x.by) (rank y.by)) (cases_lt (rank y.by) (rank x.by))
+
+    paths : (k : ℕ) → Paths k
+    paths zero = record {
+      same = λ q u a b big e. absurd (omega arith);
+      down = λ q u a b big less. absurd (omega arith);
+    }
+    paths (suc k) =
+        let p = paths k in
+        record { same = same_step k p; down = down_step k p }
+
+    pub down_to : (q u : ℕ) → Alive q → Alive u → rank q < rank u → Down q u
+    down_to q u a b less = (paths (suc (rank u))).down q u a b (omega arith) less
+
+    pub same_node : (q u : ℕ) → Alive q → Alive u → rank q ≡ rank u → q ≡ u
+    same_node q u a b e = (paths (suc (rank q))).same q u a b (omega arith) e
+
+    -- ---- what stands between two of them ends where the inner begins
+
+    module _ (p b : ℕ) (alive_p : Alive p) (live_b : l.live b ≡ true) (is_b : is_element (kind_at nodes b) ≡ true)
+        (less : rank p < rank b) where
+      abbrev pub apart : ℕ → Bool
+      apart n = n == b
+
+      abbrev pub between : ℕ → Bool
+      between n = is_element (kind_at nodes n) && (above rank p n && nat_lt (rank n) (rank b))
+
+      abbrev pub parted : Labels
+      parted = ended between (l.lo b) l
+
+      alive_b : Alive b
+      alive_b = record { live = live_b; either = inr is_b }
+
+      -- what isn't the inner one, and not on the way to it, has ended before it
+      ended_before : (q c : ℕ) → Alive q → rank p ≤ rank q → rank q < rank b → 1 ≤ times c (children_at nodes q)
+          → counted choice apart nodes c ≡ true
+          → (l.live c ≡ true → between c ≡ true) × (l.live c ≡ false → l.hi c ≤ l.lo b)
+      ended_before q c a from to k counts =
+          let d = down_to q b a alive_b to in
+          let two = and_parts (not (c == b)) (bears choice (kind_at nodes c)) counts in
+          let by = beside q d.child c d.holds d.live d.is k two.1 in
+          (λ e. on_way d e two.0 by, λ e. ended_at d e by)
+        where
+          not_true : (x : Bool) → not x ≡ true → x ≡ false
+          not_true true e = absurd (true≢false (sym e))
+          not_true false e = refl
+
+          all_true : (x y z : Bool) → x ≡ true → y ≡ true → z ≡ true → (x && (y && z)) ≡ true
+          all_true x y z e f g = rw (e, f, g) refl
+
+          above_q : (d : Down q b) → rank q < rank d.child
+          above_q d = child_rank d.child d.holds d.is
+            where
+              child_rank : (x : ℕ) → 1 ≤ times x (children_at nodes q) → is_element (kind_at nodes x) ≡ true
+                  → rank q < rank x
+              child_rank x m e = child_above choice rank nodes q x ranked m (element_bears (kind_at nodes x) e)
+
+          on_way : (d : Down q b) → l.live c ≡ true → not (c == b) ≡ true
+              → (c ≡ d.child) ⊎ (until limit l c ≤ l.lo d.child) → between c ≡ true
+          on_way d e other (inr x) =
+              absurd (let y = live_until c e in let z = h.span d.child in let w = h.high d.child in omega arith)
+          on_way d e other (inl x) =
+              let is : is_element (kind_at nodes c) ≡ true =
+              subst (λ (y : ℕ). is_element (kind_at nodes y) ≡ true) (sym x) d.is in
+              let r : rank c ≡ rank d.child = ap rank x in
+              let at = d.rank_at in
+              let up_q = above_q d in
+              let apart_b = eqb-false c b (not_true (c == b) other) in
+              test (rank c == rank b)
+              (λ t. absurd (apart_b (same_node c b (record { live = e; either = inr is }) alive_b
+              (eqb-true (rank c) (rank b) t))))
+              (λ t. let ne = eqb-false (rank c) (rank b) t in
+              all_true (is_element (kind_at nodes c)) (above rank p c) (nat_lt (rank c) (rank b)) is
+              (lt_true (rank p) (rank c) (omega arith)) (lt_true (rank c) (rank b) (omega arith)))
+
+          ended_at : (d : Down q b) → l.live c ≡ false
+              → (c ≡ d.child) ⊎ (until limit l c ≤ l.lo d.child) → l.hi c ≤ l.lo b
+          ended_at d e (inl x) = absurd (true≢false (sym d.live ∙ (ap l.live (sym x) ∙ e)))
+          ended_at d e (inr x) =
+              let y : until limit l c ≡ l.hi c = ap (λ (z : Bool). cond z limit (l.hi c)) e in
+              let low = d.low in
+              omega arith
+
+      parts : (n : ℕ) → between n ≡ true
+          → (is_element (kind_at nodes n) ≡ true) × ((rank p < rank n) × (rank n < rank b))
+      parts n e =
+          let a = and_parts (is_element (kind_at nodes n)) (above rank p n && nat_lt (rank n) (rank b)) e in
+          let c = and_parts (above rank p n) (nat_lt (rank n) (rank b)) a.1 in
+          (a.0, (lt_less (rank p) (rank n) c.0, lt_less (rank n) (rank b) c.1))
+
+      ignoring : FitsBy choice apart letters nodes l
+      ignoring = record {
+        span = h.span;
+        high = h.high;
+        rows = λ bound big q.
+            row_marks (marks choice none_out nodes bound l) (marks choice apart nodes bound l) (l.lo q)
+            (children_at nodes q)
+            (until bound l q)
+            (λ c k e. (
+              (and_parts (not (c == b)) (bears choice (kind_at nodes c)) e).1,
+              omega arith,
+              spans bound big c (l.live c),
+              omega arith,
+            )) (h.rows bound big q);
+        texts = h.texts;
+      }
+        where
+          spans : (bound : ℕ) → length letters < bound → (c : ℕ) (x : Bool) → l.lo c ≤ cond x bound (l.hi c)
+          spans bound big c true = let a = h.span c in let b = h.high c in omega arith
+          spans bound big c false = h.span c
+
+      pub parted_fits : FitsBy choice apart letters nodes parted
+      parted_fits =
+          fits_ended choice apart between (l.lo b) letters nodes l (let x = h.span b in let y = h.high b in omega arith)
+          (record {
+            begins = λ n live e.
+                let x = parts n e in
+                let d = down_to n b (record { live = live; either = inr x.0 }) alive_b x.1.1 in
+                let r = row_member (marks choice none_out nodes limit l) d.child (l.lo n) (children_at nodes n)
+                (until limit l n) d.holds (element_bears (kind_at nodes d.child) d.is) (h.rows limit (omega arith) n) in
+                let y = r.0 in
+                let z = d.low in
+                omega arith;
+            inner = λ q c live e k counts.
+                let x = parts q e in
+                let y = x.1.0 in
+                ended_before q c (record { live = live; either = inr x.0 }) (omega arith) x.1.1 k counts;
+          }) ignoring
+
+      -- so do all children of the outer one
+      pub front_ends : (bound : ℕ) → length letters < bound
+          → Row (marks choice apart nodes bound parted) (l.lo p) (children_at nodes p) (l.lo b)
+      front_ends bound big =
+          row_ends (marks choice apart nodes bound parted) (l.lo p) (children_at nodes p) (until bound parted p)
+          (l.lo b)
+          begins_low
+          (λ c k counts. low c (l.live c) refl (between c) refl (ended_before p c alive_p (omega arith) less k counts))
+          (parted_fits.rows bound big p)
+        where
+          begins_low : l.lo p ≤ l.lo b
+          begins_low =
+              let d = down_to p b alive_p alive_b less in
+              let r = row_member (marks choice none_out nodes limit l) d.child (l.lo p) (children_at nodes p)
+              (until limit l p) d.holds (element_bears (kind_at nodes d.child) d.is) (h.rows limit (omega arith) p) in
               let y = r.0 in
               let z = d.low in
-              omega arith;
-          inner = λ q c live e k counts.
-              let x = parts q e in
-              let y = x.1.0 in
-              ended_before q c (record { live = live; either = inr x.0 }) (omega arith) x.1.1 k counts;
-        }) ignoring
+              omega arith
 
-    -- so do all children of the outer one
-    pub front_ends : (bound : ℕ) → length letters < bound
-        → Row (marks apart nodes bound parted) (l.lo p) (children_at nodes p) (l.lo b)
-    front_ends bound big =
-        row_ends (marks apart nodes bound parted) (l.lo p) (children_at nodes p) (until bound parted p) (l.lo b)
-        begins_low
-        (λ c k counts. low c (l.live c) refl (between c) refl (ended_before p c alive_p (omega arith) less k counts))
-        (parted_fits.rows bound big p)
-      where
-        begins_low : l.lo p ≤ l.lo b
-        begins_low =
-            let d = down_to p b alive_p alive_b less in
-            let r = row_member (marks none_out nodes limit l) d.child (l.lo p) (children_at nodes p)
-            (until limit l p) d.holds (element_bears (kind_at nodes d.child) d.is) (h.rows limit (omega arith) p) in
-            let y = r.0 in
-            let z = d.low in
-            omega arith
-
-        low : (c : ℕ) (x : Bool) → l.live c ≡ x → (y : Bool) → between c ≡ y
-            → (l.live c ≡ true → between c ≡ true) × (l.live c ≡ false → l.hi c ≤ l.lo b)
-            → cond (x && not y) bound (cond (x && y) (l.lo b) (l.hi c)) ≤ l.lo b
-        low c true e true f g = omega arith
-        low c true e false f g = absurd (true≢false (sym (g.0 e) ∙ f))
-        low c false e y f g = g.1 e
+          low : (c : ℕ) (x : Bool) → l.live c ≡ x → (y : Bool) → between c ≡ y
+              → (l.live c ≡ true → between c ≡ true) × (l.live c ≡ false → l.hi c ≤ l.lo b)
+              → cond (x && not y) bound (cond (x && y) (l.lo b) (l.hi c)) ≤ l.lo b
+          low c true e true f g = omega arith
+          low c true e false f g = absurd (true≢false (sym (g.0 e) ∙ f))
+          low c false e y f g = g.1 e

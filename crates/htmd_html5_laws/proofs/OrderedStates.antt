@@ -17,7 +17,6 @@ use Rattle.htmd_html5_state.specs.Formatting.{closed_elements, after_closed, ins
 use Rattle.htmd_html5_state.specs.declared.modes.InsertionMode.{InsertionMode}
 use Rattle.htmd_html5_state.specs.declared.modes.InsertionMode.TheVariants.{InBody, AfterBody, AfterAfterBody}
 use Rattle.htmd_html5_state.specs.declared.names.Namespace.{Namespace}
-use Rattle.htmd_html5_laws.specs.LetterOrder.{letters_of}
 use Rattle.htmd_html5_laws.proofs.NodeTexts.{kinds}
 use Rattle.htmd_html5_laws.proofs.OpenNodes.{EachOpen, Below, each_more, Fewer, pop_fewer, pop_if_fewer}
 use Rattle.htmd_html5_laws.proofs.HungStates.{ElementOpen, HungIn, Hung, element_number}
@@ -34,20 +33,22 @@ use Rattle.htmd_html5_laws.proofs.PuttingRuns.{reconstruct_mode}
 use Rattle.htmd_html5_laws.proofs.OrderedNodes.{bears, Labels, FitsBy, none_out, Ranked}
 use Rattle.htmd_html5_laws.proofs.OrderedTexts.{loose_added, element_added, text_put}
 use Rattle.htmd_html5_laws.proofs.OrderedTexts.{fits_like}
+use Rattle.htmd_html5_laws.proofs.Counted.{Choice, counted_of}
 
--- ---- states
+module _ (choice : Choice) where
+  -- ---- states
 
--- the letters stand in order among the nodes, and what is open is live
-pub record OrderedIn (letters : List ℕ) (nodes : List NodeValue) (stack : List OpenValue) (fosters : Bool)
-    : Type 0 where
-  pub labels : Labels
-  pub fits : FitsBy none_out letters nodes labels
-  pub root : labels.live 0 ≡ true
-  pub opens : EachOpen (λ e. labels.live e.node ≡ true) stack
-  pub no_fostering : fosters ≡ false
+  -- the letters stand in order among the nodes, and what is open is live
+  pub record OrderedIn (letters : List ℕ) (nodes : List NodeValue) (stack : List OpenValue) (fosters : Bool)
+      : Type 0 where
+    pub labels : Labels
+    pub fits : FitsBy choice none_out letters nodes labels
+    pub root : labels.live 0 ≡ true
+    pub opens : EachOpen (λ e. labels.live e.node ≡ true) stack
+    pub no_fostering : fosters ≡ false
 
-abbrev pub Ordered : List ℕ → StateValue → Type 0
-Ordered letters s = OrderedIn letters s.nodes s.stack s.foster_parenting
+  abbrev pub Ordered : List ℕ → StateValue → Type 0
+  Ordered letters s = OrderedIn letters s.nodes s.stack s.foster_parenting
 
 -- in the body or after it
 abbrev pub is_late : InsertionMode → Bool
@@ -56,73 +57,74 @@ is_late AfterBody = true
 is_late AfterAfterBody = true
 is_late _ = false
 
--- a step that leaves the letters in order
-pub record Orders (f : StateValue → StateValue) : Type 0 where
-  pub stays : Stays f
-  pub orders : (letters : List ℕ) (s : StateValue) → Plain s → Hung s → Ordered letters s
-      → Ordered letters (f s)
-  pub late : (s : StateValue) → Plain s → is_late s.mode ≡ true → is_late (f s).mode ≡ true
+module _ (choice : Choice) where
+  -- a step that leaves the letters in order
+  pub record Orders (f : StateValue → StateValue) : Type 0 where
+    pub stays : Stays f
+    pub orders : (letters : List ℕ) (s : StateValue) → Plain s → Hung s → Ordered choice letters s → Ordered choice
+        letters (f s)
+    pub late : (s : StateValue) → Plain s → is_late s.mode ≡ true → is_late (f s).mode ≡ true
 
--- ---- steps put together
+  -- ---- steps put together
 
-pub then_orders : {f g : StateValue → StateValue} → Orders f → Orders g → Orders (λ s. f (g s))
-then_orders {f} {g} first second = record {
-  stays = then_stays first.stays second.stays;
-  orders = λ letters s h x o. first.orders letters (g s) (second.stays.stays s h) (second.stays.hangs s h x)
-      (second.orders letters s h x o);
-  late = λ s h e. first.late (g s) (second.stays.stays s h) (second.late s h e);
-}
+  pub then_orders : {f g : StateValue → StateValue} → Orders f → Orders g → Orders (λ s. f (g s))
+  then_orders {f} {g} first second = record {
+    stays = then_stays first.stays second.stays;
+    orders = λ letters s h x o. first.orders letters (g s) (second.stays.stays s h) (second.stays.hangs s h x)
+        (second.orders letters s h x o);
+    late = λ s h e. first.late (g s) (second.stays.stays s h) (second.late s h e);
+  }
 
-pub unmoved : Orders (λ s. s)
-unmoved = record { stays = still; orders = λ letters s h x o. o; late = λ s h e. e }
+  pub unmoved : Orders (λ s. s)
+  unmoved = record { stays = still; orders = λ letters s h x o. o; late = λ s h e. e }
 
-pub orders_by_test : {f g : StateValue → StateValue} (b : StateValue → Bool) → Orders f → Orders g
-    → Orders (λ s. if b s then f s else g s)
-orders_by_test {f} {g} b first second = record {
-  stays = stays_by_test b first.stays second.stays;
-  orders = λ letters s h x o. either (b s) letters s h x o;
-  late = λ s h e. each (b s) s h e;
-}
-  where
-    either : (t : Bool) (letters : List ℕ) (s : StateValue) → Plain s → Hung s → Ordered letters s
-        → Ordered letters (if t then f s else g s)
-    either true letters s h x o = first.orders letters s h x o
-    either false letters s h x o = second.orders letters s h x o
+  pub orders_by_test : {f g : StateValue → StateValue} (b : StateValue → Bool) → Orders f → Orders g
+      → Orders (λ s. if b s then f s else g s)
+  orders_by_test {f} {g} b first second = record {
+    stays = stays_by_test b first.stays second.stays;
+    orders = λ letters s h x o. either (b s) letters s h x o;
+    late = λ s h e. each (b s) s h e;
+  }
+    where
+      either : (t : Bool) (letters : List ℕ) (s : StateValue) → Plain s → Hung s → Ordered choice letters s
+          → Ordered choice letters (if t then f s else g s)
+      either true letters s h x o = first.orders letters s h x o
+      either false letters s h x o = second.orders letters s h x o
 
-    each : (t : Bool) (s : StateValue) → Plain s → is_late s.mode ≡ true
-        → is_late (if t then f s else g s).mode ≡ true
-    each true s h e = first.late s h e
-    each false s h e = second.late s h e
+      each : (t : Bool) (s : StateValue) → Plain s → is_late s.mode ≡ true → is_late
+          (if t then f s else g s).mode ≡ true
+      each true s h e = first.late s h e
+      each false s h e = second.late s h e
 
-pub orders_by_state : {A : Type 0} {f : A → StateValue → StateValue} (a : StateValue → A)
-    → ((x : A) → Orders (f x))
-    → Orders (λ s. f (a s) s)
-orders_by_state a h = record {
-  stays = stays_by_state a (λ x. (h x).stays);
-  orders = λ letters s plain x o. (h (a s)).orders letters s plain x o;
-  late = λ s plain e. (h (a s)).late s plain e;
-}
+  pub orders_by_state : {A : Type 0} {f : A → StateValue → StateValue} (a : StateValue → A)
+      → ((x : A) → Orders (f x))
+      → Orders (λ s. f (a s) s)
+  orders_by_state a h = record {
+    stays = stays_by_state a (λ x. (h x).stays);
+    orders = λ letters s plain x o. (h (a s)).orders letters s plain x o;
+    late = λ s plain e. (h (a s)).late s plain e;
+  }
 
--- ---- parts of a state changed
+  -- ---- parts of a state changed
 
-pub ordered_fewer : {letters : List ℕ} {nodes : List NodeValue} {stack : List OpenValue} {fosters : Bool}
-    (es : List OpenValue) → Fewer es stack → OrderedIn letters nodes stack fosters
-    → OrderedIn letters nodes es fosters
-ordered_fewer es f o = record {
-  labels = o.labels;
-  fits = o.fits;
-  root = o.root;
-  opens = f.each (λ e. o.labels.live e.node) o.opens;
-  no_fostering = o.no_fostering;
-}
+  pub ordered_fewer : {letters : List ℕ} {nodes : List NodeValue} {stack : List OpenValue} {fosters : Bool}
+      (es : List OpenValue) → Fewer es stack → OrderedIn choice letters nodes stack fosters
+      → OrderedIn choice letters nodes es fosters
+  ordered_fewer es f o = record {
+    labels = o.labels;
+    fits = o.fits;
+    root = o.root;
+    opens = f.each (λ e. o.labels.live e.node) o.opens;
+    no_fostering = o.no_fostering;
+  }
 
-pub on_stack_orders : (f : List OpenValue → List OpenValue) → ((stack : List OpenValue) → Fewer (f stack) stack)
-    → Orders (on_stack f)
-on_stack_orders f fewer = record {
-  stays = on_stack_stays f fewer;
-  orders = λ letters s h x o. ordered_fewer (f s.stack) (fewer s.stack) o;
-  late = λ s h e. e;
-}
+  pub on_stack_orders : (f : List OpenValue → List OpenValue) → ((stack : List OpenValue) → Fewer (f stack) stack)
+      → Orders (on_stack f)
+  on_stack_orders f fewer = record {
+    stays = on_stack_stays f fewer;
+    orders = λ letters s h x o. ordered_fewer (f s.stack) (fewer s.stack) o;
+    late = λ s h e. e;
+  }
 
 pub ranked_of : {nodes : List NodeValue} {stack : List OpenValue} {head : Option ℕ} (h : HungIn nodes stack head)
     → Ranked h.rank nodes
@@ -151,8 +153,7 @@ pub place_last : (s : StateValue) → s.foster_parenting ≡ false → place s �
 place_last s e = rw e refl
 
 -- what is open is live still
-pub opens_still : (old new : ℕ → Bool) (rank : ℕ → ℕ) (p : ℕ) (nodes : List NodeValue)
-    (stack : List OpenValue)
+pub opens_still : (old new : ℕ → Bool) (rank : ℕ → ℕ) (p : ℕ) (nodes : List NodeValue) (stack : List OpenValue)
     → ((m : ℕ) → m < length nodes → old m ≡ true → rank m ≤ rank p → new m ≡ true)
     → EachOpen (ElementOpen nodes) stack → EachOpen (λ e. rank e.node ≤ rank p) stack
     → EachOpen (λ e. old e.node ≡ true) stack
@@ -171,112 +172,117 @@ stack_still old new nodes stack still at opens =
     each_more stack (λ e x. still e.node (element_number e.node nodes x.0) x.1)
     (each_both (ElementOpen nodes) (λ e. old e.node ≡ true) stack at opens)
 
--- ---- what is inserted
+module _ (choice : Choice) where
+  -- ---- what is inserted
 
--- an element at the end of a live node, with what is open around it
-pub element_in : (letters : List ℕ) (name : ElementNameValue) (attributes : List AttributePair) (p : ℕ)
-    (nodes : List NodeValue) (stack : List OpenValue) (head : Option ℕ) (fosters : Bool)
-    (h : HungIn nodes stack head) (o : OrderedIn letters nodes stack fosters) → p < length nodes
-    → o.labels.live p ≡ true → EachOpen (λ e. h.rank e.node ≤ h.rank p) stack
-    → OrderedIn letters (add (element name attributes) (last_in p) nodes) (opened (length nodes) name ∷ stack)
-    fosters
-element_in letters name attributes p nodes stack head fosters h o within live low =
-    let g = element_added h.rank letters nodes o.labels o.fits (ranked_of h) p within live (element name attributes)
-    refl in
-    record {
-      labels = g.labels;
-      fits = g.fits;
-      root = g.still 0 h.filled o.root (let z = h.at_root in omega arith);
-      opens = (
-        g.opened_new,
-        opens_still o.labels.live g.labels.live h.rank p nodes stack g.still h.opened_at low
-            o.opens,
-      );
-      no_fostering = o.no_fostering;
-    }
+  -- an element at the end of a live node, with what is open around it
+  pub element_in : (letters : List ℕ) (name : ElementNameValue) (attributes : List AttributePair) (p : ℕ)
+      (nodes : List NodeValue) (stack : List OpenValue) (head : Option ℕ) (fosters : Bool)
+      (h : HungIn nodes stack head) (o : OrderedIn choice letters nodes stack fosters) → p < length nodes
+      → o.labels.live p ≡ true → EachOpen (λ e. h.rank e.node ≤ h.rank p) stack
+      → OrderedIn choice letters (add (element name attributes) (last_in p) nodes)
+      (opened (length nodes) name ∷ stack) fosters
+  element_in letters name attributes p nodes stack head fosters h o within live low =
+      let g = element_added choice h.rank letters nodes o.labels o.fits (ranked_of h) p within live
+      (element name attributes)
+      refl in
+      record {
+        labels = g.labels;
+        fits = g.fits;
+        root = g.still 0 h.filled o.root (let z = h.at_root in omega arith);
+        opens = (
+          g.opened_new,
+          opens_still o.labels.live g.labels.live h.rank p nodes stack g.still h.opened_at low
+              o.opens,
+        );
+        no_fostering = o.no_fostering;
+      }
 
-named_ordered : (letters : List ℕ) (name : ElementNameValue) (attributes : List AttributePair) (s : StateValue)
-    → Hung s → Ordered letters s → Ordered letters (insert_named name attributes s)
-named_ordered letters name attributes s h o =
-    subst (λ (at : _). OrderedIn letters (add (element name attributes) at s.nodes)
-    (opened (length s.nodes) name ∷ s.stack) s.foster_parenting) (sym (place_last s o.no_fostering))
-    (element_in letters name attributes (current s.stack).node s.nodes s.stack s.head s.foster_parenting h o
-    (current_within s.stack h) (current_live o.labels.live s.stack o.root o.opens)
-    (low_ranks h.rank h.limit s.stack h.order))
+  named_ordered : (letters : List ℕ) (name : ElementNameValue) (attributes : List AttributePair) (s : StateValue)
+      → Hung s → Ordered choice letters s → Ordered choice letters (insert_named name attributes s)
+  named_ordered letters name attributes s h o =
+      subst (λ (at : _). OrderedIn choice letters (add (element name attributes) at s.nodes)
+      (opened (length s.nodes) name ∷ s.stack) s.foster_parenting) (sym (place_last s o.no_fostering))
+      (element_in letters name attributes (current s.stack).node s.nodes s.stack s.head s.foster_parenting h o
+      (current_within s.stack h) (current_live o.labels.live s.stack o.root o.opens)
+      (low_ranks h.rank h.limit s.stack h.order))
 
-pub insert_named_orders : (name : ElementNameValue) (attributes : List AttributePair) → is_plain_element name ≡ true
-    → Orders (insert_named name attributes)
-insert_named_orders name attributes p = record {
-  stays = insert_named_stays name attributes p;
-  orders = λ letters s h x o. named_ordered letters name attributes s x o;
-  late = λ s h e. e;
-}
+  pub insert_named_orders : (name : ElementNameValue) (attributes : List AttributePair) → is_plain_element name ≡ true
+      → Orders choice (insert_named name attributes)
+  insert_named_orders name attributes p = record {
+    stays = insert_named_stays name attributes p;
+    orders = λ letters s h x o. named_ordered letters name attributes s x o;
+    late = λ s h e. e;
+  }
 
-pub insert_element_orders : (name : NameValue) (attributes : List AttributePair) → is_plain_name name ≡ true
-    → Orders (insert_element name attributes)
-insert_element_orders name attributes p = insert_named_orders (html name) attributes p
+  pub insert_element_orders : (name : NameValue) (attributes : List AttributePair) → is_plain_name name ≡ true
+      → Orders choice (insert_element name attributes)
+  insert_element_orders name attributes p = insert_named_orders (html name) attributes p
 
-pub insert_void_orders : (name : NameValue) (attributes : List AttributePair) → is_plain_name name ≡ true
-    → Orders (insert_void name attributes)
-insert_void_orders name attributes p =
-    then_orders (on_stack_orders pop pop_fewer) (insert_element_orders name attributes p)
+  pub insert_void_orders : (name : NameValue) (attributes : List AttributePair) → is_plain_name name ≡ true
+      → Orders choice (insert_void name attributes)
+  insert_void_orders name attributes p =
+      then_orders choice (on_stack_orders choice pop pop_fewer) (insert_element_orders name attributes p)
 
-pub insert_raw_orders : (name : NameValue) (raw : RawElement) (attributes : List AttributePair)
-    → is_plain_name name ≡ true → Orders (insert_raw name raw attributes)
-insert_raw_orders name raw attributes p = record {
-  stays = insert_raw_stays name raw attributes p;
-  orders = λ letters s h x o. (insert_element_orders name attributes p).orders letters s h x o;
-  late = λ s h e. e;
-}
+  pub insert_raw_orders : (name : NameValue) (raw : RawElement) (attributes : List AttributePair)
+      → is_plain_name name ≡ true → Orders choice (insert_raw name raw attributes)
+  insert_raw_orders name raw attributes p = record {
+    stays = insert_raw_stays name raw attributes p;
+    orders = λ letters s h x o. (insert_element_orders name attributes p).orders letters s h x o;
+    late = λ s h e. e;
+  }
 
-pub insert_foreign_orders : (space : Namespace) (name : List ℕ) (attributes : List AttributePair) (closes : Bool)
-    → Orders (insert_foreign space name attributes closes)
-insert_foreign_orders space name attributes closes =
-    then_orders (on_stack_orders (pop_if closes) (pop_if_fewer closes))
-    (insert_named_orders (foreign_name space name) (foreign_attributes space attributes) (foreign_is_plain space name))
+  pub insert_foreign_orders : (space : Namespace) (name : List ℕ) (attributes : List AttributePair) (closes : Bool)
+      → Orders choice (insert_foreign space name attributes closes)
+  insert_foreign_orders space name attributes closes =
+      then_orders choice (on_stack_orders choice (pop_if closes) (pop_if_fewer closes))
+      (insert_named_orders (foreign_name space name) (foreign_attributes space attributes)
+      (foreign_is_plain space name))
 
--- what bears no letter may be put at the end of any node
-pub loose_in : (letters : List ℕ) (k : KindValue) (p : ℕ) (nodes : List NodeValue) (stack : List OpenValue)
-    (head : Option ℕ) (fosters : Bool) → HungIn nodes stack head → OrderedIn letters nodes stack fosters
-    → p < length nodes → bears k ≡ false → ((t : List ℕ) → k ≡ text t → ⊥)
-    → OrderedIn letters (add k (last_in p) nodes) stack fosters
-loose_in letters k p nodes stack head fosters h o within e none =
-    let g = loose_added h.rank letters nodes o.labels o.fits (ranked_of h) p within k e (λ t f. absurd (none t f)) in
-    record {
-      labels = g.labels;
-      fits = g.fits;
-      root = g.still 0 h.filled o.root;
-      opens = stack_still o.labels.live g.labels.live nodes stack g.still h.opened_at o.opens;
-      no_fostering = o.no_fostering;
-    }
+  -- what bears no letter may be put at the end of any node
+  pub loose_in : (letters : List ℕ) (k : KindValue) (p : ℕ) (nodes : List NodeValue) (stack : List OpenValue)
+      (head : Option ℕ) (fosters : Bool) → HungIn nodes stack head → OrderedIn choice letters nodes stack fosters
+      → p < length nodes → bears choice k ≡ false → ((t : List ℕ) → k ≡ text t → ⊥)
+      → OrderedIn choice letters (add k (last_in p) nodes) stack fosters
+  loose_in letters k p nodes stack head fosters h o within e none =
+      let g = loose_added choice h.rank letters nodes o.labels o.fits (ranked_of h) p within k e
+      (λ t f. absurd (none t f)) in
+      record {
+        labels = g.labels;
+        fits = g.fits;
+        root = g.still 0 h.filled o.root;
+        opens = stack_still o.labels.live g.labels.live nodes stack g.still h.opened_at o.opens;
+        no_fostering = o.no_fostering;
+      }
 
 pub no_text : (c t : List ℕ) → comment c ≡ text t → ⊥
 no_text c t e = cc
 
-pub insert_comment_orders : (c : List ℕ) → Orders (insert_comment c)
-insert_comment_orders c = record {
-  stays = stays_by_state (λ s. (current s.stack).node) (λ n. insert_comment_in_stays n c);
-  orders = λ letters s h x o. loose_in letters (comment c) (current s.stack).node s.nodes s.stack s.head
-      s.foster_parenting x o (current_within s.stack x) refl (no_text c);
-  late = λ s h e. e;
-}
+module _ (choice : Choice) where
+  pub insert_comment_orders : (c : List ℕ) → Orders choice (insert_comment c)
+  insert_comment_orders c = record {
+    stays = stays_by_state (λ s. (current s.stack).node) (λ n. insert_comment_in_stays n c);
+    orders = λ letters s h x o. loose_in choice letters (comment c) (current s.stack).node s.nodes s.stack s.head
+        s.foster_parenting x o (current_within s.stack x) refl (no_text c);
+    late = λ s h e. e;
+  }
 
-pub insert_comment_root_orders : (c : List ℕ) → Orders (insert_comment_in 0 c)
-insert_comment_root_orders c = record {
-  stays = insert_comment_in_stays 0 c;
-  orders = λ letters s h x o. loose_in letters (comment c) 0 s.nodes s.stack s.head
-      s.foster_parenting x o x.filled refl (no_text c);
-  late = λ s h e. e;
-}
+  pub insert_comment_root_orders : (c : List ℕ) → Orders choice (insert_comment_in 0 c)
+  insert_comment_root_orders c = record {
+    stays = insert_comment_in_stays 0 c;
+    orders = λ letters s h x o. loose_in choice letters (comment c) 0 s.nodes s.stack s.head
+        s.foster_parenting x o x.filled refl (no_text c);
+    late = λ s h e. e;
+  }
 
--- ---- attributes that an element lacks
+  -- ---- attributes that an element lacks
 
-missing_bears : (more : List AttributePair) (k : KindValue) → bears (kind_with_missing more k) ≡ bears k
-missing_bears more (element name attributes) = refl
-missing_bears more (text s) = refl
-missing_bears more document = refl
-missing_bears more doctype = refl
-missing_bears more (comment s) = refl
+  missing_bears : (more : List AttributePair) (k : KindValue) → bears choice (kind_with_missing more k) ≡ bears choice k
+  missing_bears more (element name attributes) = refl
+  missing_bears more (text s) = refl
+  missing_bears more document = refl
+  missing_bears more doctype = refl
+  missing_bears more (comment s) = refl
 
 missing_text : (more : List AttributePair) (k : KindValue) (t : List ℕ) → kind_with_missing more k ≡ text t
     → k ≡ text t
@@ -286,90 +292,97 @@ missing_text more document t e = e
 missing_text more doctype t e = e
 missing_text more (comment s) t e = e
 
-pub missing_ordered : (letters : List ℕ) (n : ℕ) (more : List AttributePair) (nodes : List NodeValue)
-    (stack : List OpenValue) (fosters : Bool) → OrderedIn letters nodes stack fosters
-    → OrderedIn letters (add_missing n more nodes) stack fosters
-missing_ordered letters n more nodes stack fosters o = record {
-  labels = o.labels;
-  fits = fits_like n (kind_with_missing more (kind_at nodes n)) letters nodes o.labels
-      (missing_bears more (kind_at nodes n))
-      (λ t e. o.fits.texts n t (missing_text more (kind_at nodes n) t e)) o.fits;
-  root = o.root;
-  opens = o.opens;
-  no_fostering = o.no_fostering;
-}
+module _ (choice : Choice) where
+  pub missing_ordered : (letters : List ℕ) (n : ℕ) (more : List AttributePair) (nodes : List NodeValue)
+      (stack : List OpenValue) (fosters : Bool) → OrderedIn choice letters nodes stack fosters
+      → OrderedIn choice letters (add_missing n more nodes) stack fosters
+  missing_ordered letters n more nodes stack fosters o = record {
+    labels = o.labels;
+    fits = fits_like choice n (kind_with_missing more (kind_at nodes n)) letters nodes o.labels
+        (missing_bears choice more (kind_at nodes n))
+        (λ t e. o.fits.texts n t (missing_text more (kind_at nodes n) t e)) o.fits;
+    root = o.root;
+    opens = o.opens;
+    no_fostering = o.no_fostering;
+  }
 
-pub add_missing_orders : (n : ℕ) (more : List AttributePair) → Orders (on_nodes (add_missing n more))
-add_missing_orders n more = record {
-  stays = add_missing_stays n more;
-  orders = λ letters s h x o. missing_ordered letters n more s.nodes s.stack s.foster_parenting o;
-  late = λ s h e. e;
-}
+  pub add_missing_orders : (n : ℕ) (more : List AttributePair) → Orders choice (on_nodes (add_missing n more))
+  add_missing_orders n more = record {
+    stays = add_missing_stays n more;
+    orders = λ letters s h x o. missing_ordered letters n more s.nodes s.stack s.foster_parenting o;
+    late = λ s h e. e;
+  }
 
--- ---- the list of active formatting elements
+  -- ---- the list of active formatting elements
 
-pub without_entry_orders : (n : ℕ) → Orders (on_formatting (without_entry n))
-without_entry_orders n =
-    record { stays = without_entry_stays n; orders = λ letters s h x o. o; late = λ s h e. e }
+  pub without_entry_orders : (n : ℕ) → Orders choice (on_formatting (without_entry n))
+  without_entry_orders n =
+      record { stays = without_entry_stays n; orders = λ letters s h x o. o; late = λ s h e. e }
 
-pub push_marker_orders : Orders push_marker
-push_marker_orders = record { stays = push_marker_stays; orders = λ letters s h x o. o; late = λ s h e. e }
+  pub push_marker_orders : Orders choice push_marker
+  push_marker_orders = record { stays = push_marker_stays; orders = λ letters s h x o. o; late = λ s h e. e }
 
-pub clear_to_marker_orders : Orders clear_to_marker
-clear_to_marker_orders = record { stays = clear_to_marker_stays; orders = λ letters s h x o. o; late = λ s h e. e }
+  pub clear_to_marker_orders : Orders choice clear_to_marker
+  clear_to_marker_orders = record { stays = clear_to_marker_stays; orders = λ letters s h x o. o; late = λ s h e. e }
 
-pub insert_formatting_orders : (name : NameValue) (attributes : List AttributePair) → is_plain_name name ≡ true
-    → Orders (insert_formatting name attributes)
-insert_formatting_orders name attributes p = record {
-  stays = insert_formatting_stays name attributes p;
-  orders = λ letters s h x o. (insert_element_orders name attributes p).orders letters s h x o;
-  late = λ s h e. e;
-}
+  pub insert_formatting_orders : (name : NameValue) (attributes : List AttributePair) → is_plain_name name ≡ true
+      → Orders choice (insert_formatting name attributes)
+  insert_formatting_orders name attributes p = record {
+    stays = insert_formatting_stays name attributes p;
+    orders = λ letters s h x o. (insert_element_orders choice name attributes p).orders letters s h x o;
+    late = λ s h e. e;
+  }
 
--- ---- elements are reconstructed
+  -- ---- elements are reconstructed
 
-like_ordered : (letters : List ℕ) (s : StateValue) (k : KindValue) → Hung s → Ordered letters s
-    → Ordered letters (insert_like k s)
-like_ordered letters s (element name attributes) h o = named_ordered letters name attributes s h o
-like_ordered letters s (text t) h o = o
-like_ordered letters s document h o = o
-like_ordered letters s doctype h o = o
-like_ordered letters s (comment t) h o = o
+  like_ordered : (letters : List ℕ) (s : StateValue) (k : KindValue) → Hung s → Ordered choice letters s
+      → Ordered choice letters (insert_like k s)
+  like_ordered letters s (element name attributes) h o = named_ordered choice letters name attributes s h o
+  like_ordered letters s (text t) h o = o
+  like_ordered letters s document h o = o
+  like_ordered letters s doctype h o = o
+  like_ordered letters s (comment t) h o = o
 
-reopen_all_ordered : (letters : List ℕ) (ns : List ℕ) (s : StateValue) → EachPlain (kinds s.nodes) ns → Plain s
-    → Hung s → Ordered letters s → Ordered letters (reopen_all ns s)
-reopen_all_ordered letters [] s all h x o = o
-reopen_all_ordered letters (n ∷ ns) s all h x o =
-    let before = reopen_all_grown ns s all.1 h in
-    like_ordered letters (reopen_all ns s) (kind_at (reopen_all ns s).nodes n) (before.hung x)
-    (reopen_all_ordered letters ns s all.1 h x o)
+  reopen_all_ordered : (letters : List ℕ) (ns : List ℕ) (s : StateValue) → EachPlain (kinds s.nodes) ns → Plain s
+      → Hung s → Ordered choice letters s → Ordered choice letters (reopen_all ns s)
+  reopen_all_ordered letters [] s all h x o = o
+  reopen_all_ordered letters (n ∷ ns) s all h x o =
+      let before = reopen_all_grown ns s all.1 h in
+      like_ordered letters (reopen_all ns s) (kind_at (reopen_all ns s).nodes n) (before.hung x)
+      (reopen_all_ordered letters ns s all.1 h x o)
 
-pub reconstruct_orders : Orders reconstruct
-reconstruct_orders = record {
-  stays = reconstruct_stays;
-  orders = λ letters s h x o.
-      reopen_all_ordered letters (closed_elements s.stack s.formatting) (on_formatting (after_closed s.stack) s)
-      (closed_plain (kinds s.nodes) s.stack s.formatting h.entries_at)
-      (plain_entries (λ n l. h.entries_at n (listed_closed n s.stack s.formatting l)) h) x o;
-  late = λ s h e. ap is_late (reconstruct_mode s) ∙ e;
-}
+  pub reconstruct_orders : Orders choice reconstruct
+  reconstruct_orders = record {
+    stays = reconstruct_stays;
+    orders = λ letters s h x o.
+        reopen_all_ordered letters (closed_elements s.stack s.formatting) (on_formatting (after_closed s.stack) s)
+        (closed_plain (kinds s.nodes) s.stack s.formatting h.entries_at)
+        (plain_entries (λ n l. h.entries_at n (listed_closed n s.stack s.formatting l)) h) x o;
+    late = λ s h e. ap is_late (reconstruct_mode s) ∙ e;
+  }
 
--- ---- text
+  -- ---- text
 
--- its letters stand after all others then
-pub text_ordered : (letters t : List ℕ) (s : StateValue) → IsUtf8 t → Hung s → Ordered letters s
-    → Ordered (letters ++ letters_of t) (insert_text t s)
-text_ordered letters t s u h o =
-    subst (λ (at : _). OrderedIn (letters ++ letters_of t) (add_text t at s.nodes) s.stack s.foster_parenting)
-    (sym (place_last s o.no_fostering))
-    (let p = (current s.stack).node in
-    let g = text_put h.rank letters s.nodes o.labels o.fits (ranked_of h) p (current_within s.stack h)
-    (current_live o.labels.live s.stack o.root o.opens) t u in
-    record {
-      labels = g.labels;
-      fits = g.fits;
-      root = g.still 0 h.filled o.root (let z = h.at_root in omega arith);
-      opens = opens_still o.labels.live g.labels.live h.rank p s.nodes s.stack g.still h.opened_at
-          (low_ranks h.rank h.limit s.stack h.order) o.opens;
-      no_fostering = o.no_fostering;
-    })
+  -- its letters stand after all others then
+  pub record Writes (t : List ℕ) (f : StateValue → StateValue) : Type 0 where
+    pub stays : Stays f
+    pub orders : (letters : List ℕ) (s : StateValue) → Plain s → Hung s → Ordered choice letters s
+        → Ordered choice (letters ++ counted_of choice t) (f s)
+
+  pub text_ordered : (letters t : List ℕ) (s : StateValue) → IsUtf8 t → Hung s → Ordered choice letters s
+      → Ordered choice (letters ++ counted_of choice t) (insert_text t s)
+  text_ordered letters t s u h o =
+      subst (λ (at : _). OrderedIn choice (letters ++ counted_of choice t) (add_text t at s.nodes) s.stack
+      s.foster_parenting)
+      (sym (place_last s o.no_fostering))
+      (let p = (current s.stack).node in
+      let g = text_put choice h.rank letters s.nodes o.labels o.fits (ranked_of h) p (current_within s.stack h)
+      (current_live o.labels.live s.stack o.root o.opens) t u in
+      record {
+        labels = g.labels;
+        fits = g.fits;
+        root = g.still 0 h.filled o.root (let z = h.at_root in omega arith);
+        opens = opens_still o.labels.live g.labels.live h.rank p s.nodes s.stack g.still h.opened_at
+            (low_ranks h.rank h.limit s.stack h.order) o.opens;
+        no_fostering = o.no_fostering;
+      })

@@ -10,7 +10,7 @@ use Rattle.htmd_html5_laws.proofs.LaidTexts.{laid_texts}
 pub no_letter_made_up : NoLetterIsMadeUp
 unfolding html5_document
 no_letter_made_up scripting page c utf8 letter =
-    let a = state_took c (letter_tests c letter).other scripting page utf8 in
+    let a = state_took c (letter_tests c letter).character.other scripting page utf8 in
     let b = laid_texts c greatest_depth (state_after scripting page).nodes a.sound in
     let d = a.at_most in
     omega arith

@@ -1,5 +1,5 @@
 -- A run of a text, by the rules of each mode that takes it: its letters are put into the texts.
-use Rattle.std.proofs.Common.{◌≡◌, ◌∙◌, ℕ, ◌<◌, ◌≤◌, Bool, true, false, List, [], ◌∷◌, refl, sym, ap, arith}
+use Rattle.std.proofs.Common.{◌≡◌, ◌∙◌, ℕ, ◌<◌, ◌≤◌, Bool, true, false, List, [], ◌∷◌, refl, sym, ap, arith, cond}
 use Rattle.std.specs.Prelude.{IsUtf8, if◌then◌else◌, not}
 use Rattle.std.specs.List.{list_all}
 use Rattle.std.proofs.lemmas.Bool.{true≢false}
@@ -33,12 +33,13 @@ use Rattle.htmd_html5.specs.InHead.{close_head}
 use Rattle.htmd_html5.specs.InHeadNoscript.{close_noscript}
 use Rattle.htmd_html5.specs.AfterHead.{imply_body}
 use Rattle.htmd_html5.specs.AfterBody.{back_to_body}
-use Rattle.htmd_html5.specs.Modes.{in_mode}
-use Rattle.htmd_html5.specs.ForeignContent.{is_foreign, replacements}
+use Rattle.htmd_html5.specs.Modes.{in_mode, by_mode_rules}
+use Rattle.htmd_html5.specs.ForeignContent.{is_foreign, replacements, in_foreign_content}
 use Rattle.htmd_html5.specs.Processing.{by_rules}
 use Rattle.htmd_html5_laws.specs.PageLetters.{occurrences}
 use Rattle.htmd_html5_laws.specs.DocumentLetters.{drops_in, drops_text}
-use Rattle.htmd_html5_laws.proofs.LetterLemmas.{LetterTests, none_of_class}
+use Rattle.htmd_html5_laws.specs.TextKept.{is_before_head}
+use Rattle.htmd_html5_laws.proofs.LetterLemmas.{CharacterTests, LetterTests, none_of_class}
 use Rattle.htmd_html5_laws.proofs.Keeping.{Sound, kept_same, nothing}
 use Rattle.htmd_html5_laws.proofs.KeepingInsertion.{reconstruct_keeps}
 use Rattle.htmd_html5_laws.proofs.KeepingRules.{KeepsAnswer, says, no_frameset_keeps}
@@ -115,39 +116,65 @@ body_mode s t state =
 
 -- ---- what a mode answers
 
--- It puts so many in, or goes on with a mode that comes later; text is taken then too.
+-- It puts so many in, and is done, in the same mode; text is taken then too.
+pub record Ended (c n : ℕ) (s : StateValue) (a : Answer) : Type 0 where
+  pub again : a.again ≡ false
+  pub grew : Grew c n s a.state
+  pub mode : a.state.mode ≡ s.mode
+  pub takes : drops_text a.state ≡ false
+
+-- Or it goes on with a mode that comes later.
 pub data Outcome (c n limit : ℕ) (s : StateValue) (a : Answer) : Type 0 where
-  finished : a.again ≡ false → Grew c n s a.state → drops_text a.state ≡ false → Outcome c n limit s a
+  finished : Ended c n s a → Outcome c n limit s a
   goes_on : a.again ≡ true → Grew c 0 s a.state → drops_text a.state ≡ false → rank a.state.mode < limit
       → Outcome c n limit s a
 
+ended_as : {c m : ℕ} (n : ℕ) {s : StateValue} {a : Answer} → m ≡ n → Ended c m s a → Ended c n s a
+ended_as n e h = record { again = h.again; grew = grew_as n e h.grew; mode = h.mode; takes = h.takes }
+
 outcome_as : {c m limit : ℕ} (n : ℕ) {s : StateValue} {a : Answer} → m ≡ n → Outcome c m limit s a
     → Outcome c n limit s a
-outcome_as n e (finished t g d) = finished t (grew_as n e g) d
+outcome_as n e (finished h) = finished (ended_as n e h)
 outcome_as n e (goes_on t g d l) = goes_on t g d l
 
 pub never_null : (b : ℕ) → is_of_kind (kind_of_byte 0) b ≡ true → b < 128
 never_null b e = grind (arith, nat_tests)
 
-module _ (c : ℕ) (letter : LetterTests c) where
+-- before the head white space is dropped
+abbrev pub white_of : ℕ → InsertionMode → List ℕ → ℕ
+white_of c mode t = cond (is_before_head mode) 0 (occurrences c t)
+
+module _ (c : ℕ) (tests : CharacterTests c) where
   -- a mode's answer, where it takes text
   abbrev Answers : ℕ → InsertionMode → (StateValue → Answer) → Type 0
   Answers n mode f =
       (s : StateValue) → s.mode ≡ mode → drops_in mode s.stack ≡ false → Sound s
       → Outcome c n (rank mode) s (f s)
 
-  nothing_done : (mode : InsertionMode) → Answers 0 mode (λ s. done s)
-  nothing_done mode s e d h =
-      finished refl (kept_grew (kept_same h)) (ap (λ (m : InsertionMode). drops_in m s.stack) e ∙ d)
+  -- one that ends the run
+  abbrev Ends : ℕ → InsertionMode → (StateValue → Answer) → Type 0
+  Ends n mode f =
+      (s : StateValue) → s.mode ≡ mode → drops_in mode s.stack ≡ false → Sound s → Ended c n s (f s)
+
+  ends : {n : ℕ} {mode : InsertionMode} {f : StateValue → Answer} → Ends n mode f → Answers n mode f
+  ends f s e d h = finished (f s e d h)
+
+  nothing_done : (mode : InsertionMode) → Ends 0 mode (λ s. done s)
+  nothing_done mode s e d h = record {
+    again = refl;
+    grew = kept_grew (kept_same h);
+    mode = refl;
+    takes = ap (λ (m : InsertionMode). drops_in m s.stack) e ∙ d;
+  }
 
   text_done : (mode : InsertionMode) (t : List ℕ) → IsUtf8 t
-      → Answers (occurrences c t) mode (λ s. done (insert_text t s))
-  text_done mode t u s e d h =
-      finished refl ((insert_text_puts c t u).puts s h) (ap (λ (m : InsertionMode). drops_in m s.stack) e ∙ d)
-
-  space_done : (mode : InsertionMode) (t : List ℕ) → IsUtf8 t → occurrences c t ≡ 0
-      → Answers 0 mode (λ s. done (insert_text t s))
-  space_done mode t u z s e d h = outcome_as 0 z (text_done mode t u s e d h)
+      → Ends (occurrences c t) mode (λ s. done (insert_text t s))
+  text_done mode t u s e d h = record {
+    again = refl;
+    grew = (insert_text_puts c t u).puts s h;
+    mode = refl;
+    takes = ap (λ (m : InsertionMode). drops_in m s.stack) e ∙ d;
+  }
 
   -- by the rules of the body
   white_puts : (t : List ℕ) → IsUtf8 t → Puts c (occurrences c t) (run_in_body (kind_of_byte 32) t)
@@ -158,40 +185,41 @@ module _ (c : ℕ) (letter : LetterTests c) where
 
   done_by : (mode : InsertionMode) {n : ℕ} {f : StateValue → StateValue} → Puts c n f
       → ((s : StateValue) → (f s).mode ≡ s.mode) → ((stack : List OpenValue) → drops_in mode stack ≡ false)
-      → Answers n mode (λ s. done (f s))
-  done_by mode {n} {f} p same none s e d h =
-      finished refl (p.puts s h)
-      (ap (λ (m : InsertionMode). drops_in m (f s).stack) (same s ∙ e) ∙ none (f s).stack)
+      → Ends n mode (λ s. done (f s))
+  done_by mode {n} {f} p same none s e d h = record {
+    again = refl;
+    grew = p.puts s h;
+    mode = same s;
+    takes = ap (λ (m : InsertionMode). drops_in m (f s).stack) (same s ∙ e) ∙ none (f s).stack;
+  }
 
-  white_done : (mode : InsertionMode) (t : List ℕ) → IsUtf8 t → occurrences c t ≡ 0
+  white_done : (mode : InsertionMode) (t : List ℕ) → IsUtf8 t
       → ((stack : List OpenValue) → drops_in mode stack ≡ false)
-      → Answers 0 mode (λ s. done (run_in_body (kind_of_byte 32) t s))
-  white_done mode t u z none s e d h =
-      outcome_as 0 z (done_by mode (white_puts t u) reconstruct_mode none s e d h)
+      → Ends (occurrences c t) mode (λ s. done (run_in_body (kind_of_byte 32) t s))
+  white_done mode t u none = done_by mode (white_puts t u) reconstruct_mode none
 
   characters_done : (mode : InsertionMode) (t : List ℕ) → IsUtf8 t
       → ((stack : List OpenValue) → drops_in mode stack ≡ false)
       → Answers (occurrences c t) mode (λ s. done (run_in_body (kind_of_byte 97) t s))
-  characters_done mode t u none = done_by mode (characters_puts t u) reconstruct_mode none
+  characters_done mode t u none = ends (done_by mode (characters_puts t u) reconstruct_mode none)
 
   fostered_mode : (s : StateValue) → (reconstruct (record s { foster_parenting = true })).mode ≡ s.mode
   fostered_mode s = reconstruct_mode (record s { foster_parenting = true })
 
-  white_fostered : (mode : InsertionMode) (t : List ℕ) → IsUtf8 t → occurrences c t ≡ 0
+  white_fostered : (mode : InsertionMode) (t : List ℕ) → IsUtf8 t
       → ((stack : List OpenValue) → drops_in mode stack ≡ false)
-      → Answers 0 mode (λ s. done (fostered (run_in_body (kind_of_byte 32) t) s))
-  white_fostered mode t u z none s e d h =
-      outcome_as 0 z (done_by mode (fostered_puts (white_puts t u)) fostered_mode none s e d h)
+      → Ends (occurrences c t) mode (λ s. done (fostered (run_in_body (kind_of_byte 32) t) s))
+  white_fostered mode t u none = done_by mode (fostered_puts (white_puts t u)) fostered_mode none
 
   nulls_fostered : (mode : InsertionMode) (t : List ℕ)
       → ((stack : List OpenValue) → drops_in mode stack ≡ false)
       → Answers 0 mode (λ s. done (fostered (run_in_body (kind_of_byte 0) t) s))
-  nulls_fostered mode t none = done_by mode (fostered_puts (keeps_puts nothing)) (λ s. refl) none
+  nulls_fostered mode t none = ends (done_by mode (fostered_puts (keeps_puts nothing)) (λ s. refl) none)
 
   characters_fostered : (mode : InsertionMode) (t : List ℕ) → IsUtf8 t
       → ((stack : List OpenValue) → drops_in mode stack ≡ false)
       → Answers (occurrences c t) mode (λ s. done (fostered (run_in_body (kind_of_byte 97) t) s))
-  characters_fostered mode t u none = done_by mode (fostered_puts (characters_puts t u)) fostered_mode none
+  characters_fostered mode t u none = ends (done_by mode (fostered_puts (characters_puts t u)) fostered_mode none)
 
   -- ---- modes that others follow
 
@@ -237,7 +265,7 @@ module _ (c : ℕ) (letter : LetterTests c) where
   -- ---- the runs of each kind
 
   record OutcomesEach (mode : InsertionMode) (t : List ℕ) : Type 0 where
-    white : occurrences c t ≡ 0 → Answers 0 mode (in_mode mode (run (kind_of_byte 32) t))
+    white : Ends (white_of c mode t) mode (in_mode mode (run (kind_of_byte 32) t))
     nulls : Answers 0 mode (in_mode mode (run (kind_of_byte 0) t))
     characters : Answers (occurrences c t) mode (in_mode mode (run (kind_of_byte 97) t))
 
@@ -248,107 +276,107 @@ module _ (c : ℕ) (letter : LetterTests c) where
 
   in_mode_outcomes : (mode : InsertionMode) (t : List ℕ) → IsUtf8 t → OutcomesEach mode t
   in_mode_outcomes Initial t u = record {
-    white = λ z. nothing_done Initial;
+    white = nothing_done Initial;
     nulls = initial_left;
     characters = initial_left;
   }
   in_mode_outcomes BeforeHtml t u = record {
-    white = λ z. nothing_done BeforeHtml;
+    white = nothing_done BeforeHtml;
     nulls = root_implied;
     characters = root_implied;
   }
   in_mode_outcomes BeforeHead t u = record {
-    white = λ z. nothing_done BeforeHead;
+    white = nothing_done BeforeHead;
     nulls = head_implied;
     characters = head_implied;
   }
   in_mode_outcomes InHead t u = record {
-    white = λ z. space_done InHead t u z;
+    white = text_done InHead t u;
     nulls = head_closed;
     characters = head_closed;
   }
   in_mode_outcomes InHeadNoscript t u = record {
-    white = λ z. space_done InHeadNoscript t u z;
+    white = text_done InHeadNoscript t u;
     nulls = noscript_closed;
     characters = noscript_closed;
   }
   in_mode_outcomes AfterHead t u = record {
-    white = λ z. space_done AfterHead t u z;
+    white = text_done AfterHead t u;
     nulls = body_implied;
     characters = body_implied;
   }
   in_mode_outcomes InBody t u = record {
-    white = λ z. white_done InBody t u z (λ stack. refl);
-    nulls = nothing_done InBody;
+    white = white_done InBody t u (λ stack. refl);
+    nulls = ends (nothing_done InBody);
     characters = characters_done InBody t u (λ stack. refl);
   }
   in_mode_outcomes InTable t u = record {
-    white = λ z. white_fostered InTable t u z (λ stack. refl);
+    white = white_fostered InTable t u (λ stack. refl);
     nulls = nulls_fostered InTable t (λ stack. refl);
     characters = characters_fostered InTable t u (λ stack. refl);
   }
   in_mode_outcomes InCaption t u = record {
-    white = λ z. white_done InCaption t u z (λ stack. refl);
-    nulls = nothing_done InCaption;
+    white = white_done InCaption t u (λ stack. refl);
+    nulls = ends (nothing_done InCaption);
     characters = characters_done InCaption t u (λ stack. refl);
   }
   in_mode_outcomes InColumnGroup t u = record {
-    white = λ z. space_done InColumnGroup t u z;
+    white = text_done InColumnGroup t u;
     nulls = columns_left;
     characters = columns_left;
   }
   in_mode_outcomes InTableBody t u = record {
-    white = λ z. white_fostered InTableBody t u z (λ stack. refl);
+    white = white_fostered InTableBody t u (λ stack. refl);
     nulls = nulls_fostered InTableBody t (λ stack. refl);
     characters = characters_fostered InTableBody t u (λ stack. refl);
   }
   in_mode_outcomes InRow t u = record {
-    white = λ z. white_fostered InRow t u z (λ stack. refl);
+    white = white_fostered InRow t u (λ stack. refl);
     nulls = nulls_fostered InRow t (λ stack. refl);
     characters = characters_fostered InRow t u (λ stack. refl);
   }
   in_mode_outcomes InCell t u = record {
-    white = λ z. white_done InCell t u z (λ stack. refl);
-    nulls = nothing_done InCell;
+    white = white_done InCell t u (λ stack. refl);
+    nulls = ends (nothing_done InCell);
     characters = characters_done InCell t u (λ stack. refl);
   }
   in_mode_outcomes InSelect t u = record {
-    white = λ z. space_done InSelect t u z;
-    nulls = nothing_done InSelect;
-    characters = text_done InSelect t u;
+    white = text_done InSelect t u;
+    nulls = ends (nothing_done InSelect);
+    characters = ends (text_done InSelect t u);
   }
   in_mode_outcomes InSelectInTable t u = record {
-    white = λ z. space_done InSelectInTable t u z;
-    nulls = nothing_done InSelectInTable;
-    characters = text_done InSelectInTable t u;
+    white = text_done InSelectInTable t u;
+    nulls = ends (nothing_done InSelectInTable);
+    characters = ends (text_done InSelectInTable t u);
   }
   in_mode_outcomes InTemplate t u = record {
-    white = λ z. white_done InTemplate t u z (λ stack. refl);
-    nulls = nothing_done InTemplate;
+    white = white_done InTemplate t u (λ stack. refl);
+    nulls = ends (nothing_done InTemplate);
     characters = characters_done InTemplate t u (λ stack. refl);
   }
   in_mode_outcomes AfterBody t u = record {
-    white = λ z. white_done AfterBody t u z (λ stack. refl);
+    white = white_done AfterBody t u (λ stack. refl);
     nulls = back_in_body;
     characters = back_in_body;
   }
   in_mode_outcomes AfterAfterBody t u = record {
-    white = λ z. white_done AfterAfterBody t u z (λ stack. refl);
+    white = white_done AfterAfterBody t u (λ stack. refl);
     nulls = back_from_end;
     characters = back_from_end;
   }
   in_mode_outcomes InFrameset t u = record {
-    white = λ z. frames InFrameset _ (λ stack. refl);
+    white = λ s e d h. absurd (true≢false d);
     nulls = frames InFrameset _ (λ stack. refl);
     characters = frames InFrameset _ (λ stack. refl);
   }
   in_mode_outcomes AfterFrameset t u = record {
-    white = λ z. frames AfterFrameset _ (λ stack. refl);
+    white = λ s e d h. absurd (true≢false d);
     nulls = frames AfterFrameset _ (λ stack. refl);
     characters = frames AfterFrameset _ (λ stack. refl);
   }
   in_mode_outcomes AfterAfterFrameset t u = record {
-    white = λ z. frames AfterAfterFrameset _ (λ stack. refl);
+    white = λ s e d h. absurd (true≢false d);
     nulls = frames AfterAfterFrameset _ (λ stack. refl);
     characters = frames AfterAfterFrameset _ (λ stack. refl);
   }
@@ -367,43 +395,62 @@ module _ (c : ℕ) (letter : LetterTests c) where
   chosen true f m = f
   chosen false f m = m
 
-  white_outcome : RunOutcome 32
-  white_outcome t u all s d h =
-      let none = none_of_class c (is_of_kind (kind_of_byte 32)) t white_is_ascii letter.white all in
-      let m = (in_mode_outcomes s.mode t u).white none s refl d h in
-      chosen (is_foreign (run (kind_of_byte 32) t) s) (finished refl ((insert_text_puts c t u).puts s h) d)
-      (outcome_as (occurrences c t) (sym none) m)
+  -- a run of white space, which puts so many in by either rules
+  white_by : (n : ℕ) (t : List ℕ) → IsUtf8 t → (s : StateValue) → drops_text s ≡ false → Sound s
+      → (is_foreign (run (kind_of_byte 32) t) s ≡ true → occurrences c t ≡ n) → white_of c s.mode t ≡ n
+      → Ended c n s (by_rules (run (kind_of_byte 32) t) s)
+  white_by n t u s d h foreign mode = either (is_foreign (run (kind_of_byte 32) t) s) refl
+    where
+      either : (b : Bool) → is_foreign (run (kind_of_byte 32) t) s ≡ b
+          → Ended c n s
+          (if b then in_foreign_content (run (kind_of_byte 32) t) s else by_mode_rules (run (kind_of_byte 32) t) s)
+      either true f =
+          ended_as n (foreign f)
+          (record { again = refl; grew = (insert_text_puts c t u).puts s h; mode = refl; takes = d })
+      either false f = ended_as n mode ((in_mode_outcomes s.mode t u).white s refl d h)
 
-  nulls_outcome : RunOutcome 0
+  -- before the head nothing foreign is open
+  pub white_ended : (t : List ℕ) → IsUtf8 t → (s : StateValue) → drops_text s ≡ false → Sound s
+      → (is_before_head s.mode ≡ true → is_foreign (run (kind_of_byte 32) t) s ≡ false)
+      → Ended c (white_of c s.mode t) s (by_rules (run (kind_of_byte 32) t) s)
+  white_ended t u s d h no_foreign =
+      white_by (white_of c s.mode t) t u s d h (late (is_before_head s.mode) refl) refl
+    where
+      late : (b : Bool) → is_before_head s.mode ≡ b → is_foreign (run (kind_of_byte 32) t) s ≡ true
+          → occurrences c t ≡ cond b 0 (occurrences c t)
+      late true e f = absurd (true≢false (sym f ∙ no_foreign e))
+      late false e f = refl
+
+  pub nulls_outcome : RunOutcome 0
   nulls_outcome t u all s d h =
-      let none = none_of_class c (is_of_kind (kind_of_byte 0)) t never_null letter.null_is_none all in
+      let none = none_of_class c (is_of_kind (kind_of_byte 0)) t never_null tests.null_is_none all in
       let m = (in_mode_outcomes s.mode t u).nulls s refl d h in
       let f = (insert_text_puts c (replacements t) (replaced_utf8 c t)).puts s h in
       chosen (is_foreign (run (kind_of_byte 0) t) s)
-      (finished refl (grew_as (occurrences c t) (replaced_none c letter.other t ∙ sym none) f) d)
+      (finished (record {
+        again = refl;
+        grew = grew_as (occurrences c t) (replaced_none c tests.other t ∙ sym none) f;
+        mode = refl;
+        takes = d;
+      }))
       (outcome_as (occurrences c t) (sym none) m)
 
-  characters_outcome : RunOutcome 97
+  pub characters_outcome : RunOutcome 97
   characters_outcome t u all s d h =
       let m = (in_mode_outcomes s.mode t u).characters s refl d h in
       chosen (is_foreign (run (kind_of_byte 97) t) s)
-      (finished refl ((after_puts no_frameset_keeps (insert_text_puts c t u)).puts s h) d) m
-
-  pub run_outcome : (whole t : List ℕ) → IsUtf8 t → list_all (is_of_kind (first_kind whole)) t ≡ true
-      → (s : StateValue) → drops_text s ≡ false → Sound s
-      → Outcome c (occurrences c t) (rank s.mode) s (by_rules (run (first_kind whole) t) s)
-  run_outcome whole t =
-      by_first_kind
-      (λ kind. IsUtf8 t → list_all (is_of_kind kind) t ≡ true → (s : StateValue) → drops_text s ≡ false
-      → Sound s
-      → Outcome c (occurrences c t) (rank s.mode) s (by_rules (run kind t) s))
-      (white_outcome t) (nulls_outcome t) (characters_outcome t) whole
+      (finished (record {
+        again = refl;
+        grew = (after_puts no_frameset_keeps (insert_text_puts c t u)).puts s h;
+        mode = refl;
+        takes = d;
+      })) m
 
   -- the same by the rules of the body alone
   nulls_put : (t : List ℕ) → IsUtf8 t → list_all (is_of_kind (kind_of_byte 0)) t ≡ true
       → Puts c (occurrences c t) (run_in_body (kind_of_byte 0) t)
   nulls_put t u all =
-      let none = none_of_class c (is_of_kind (kind_of_byte 0)) t never_null letter.null_is_none all in
+      let none = none_of_class c (is_of_kind (kind_of_byte 0)) t never_null tests.null_is_none all in
       record { puts = λ s h. grew_as (occurrences c t) (sym none) (kept_grew (kept_same h)) }
 
   pub run_in_body_puts : (whole t : List ℕ) → IsUtf8 t → list_all (is_of_kind (first_kind whole)) t ≡ true
@@ -422,7 +469,7 @@ module _ (c : ℕ) (letter : LetterTests c) where
   no_nulls : (s : List ℕ) → IsUtf8 s → list_all (is_of_kind (kind_of_byte 0)) s ≡ true
       → SameLetters s (kept_of (kind_of_byte 0) s)
   no_nulls s u all =
-      let none = none_of_class c (is_of_kind (kind_of_byte 0)) s never_null letter.null_is_none all in
+      let none = none_of_class c (is_of_kind (kind_of_byte 0)) s never_null tests.null_is_none all in
       record { utf8 = IsUtf8-nil; same = occurs_nil c ∙ sym none }
 
   pub kept_letters : (whole s : List ℕ) → IsUtf8 s → list_all (is_of_kind (first_kind whole)) s ≡ true
@@ -430,3 +477,26 @@ module _ (c : ℕ) (letter : LetterTests c) where
   kept_letters whole s =
       by_first_kind (λ kind. IsUtf8 s → list_all (is_of_kind kind) s ≡ true → SameLetters s (kept_of kind s))
       (λ u all. record { utf8 = u; same = refl }) (no_nulls s) (λ u all. record { utf8 = u; same = refl }) whole
+
+-- ---- letters, of which white space holds none
+
+module _ (c : ℕ) (letter : LetterTests c) where
+  white_outcome : (t : List ℕ) → IsUtf8 t → list_all (is_of_kind (kind_of_byte 32)) t ≡ true → (s : StateValue)
+      → drops_text s ≡ false → Sound s
+      → Outcome c (occurrences c t) (rank s.mode) s (by_rules (run (kind_of_byte 32) t) s)
+  white_outcome t u all s d h =
+      finished (white_by c letter.character (occurrences c t) t u s d h (λ f. refl) (none_in (is_before_head s.mode)))
+    where
+      none_in : (b : Bool) → cond b 0 (occurrences c t) ≡ occurrences c t
+      none_in true = sym (none_of_class c (is_of_kind (kind_of_byte 32)) t white_is_ascii letter.white all)
+      none_in false = refl
+
+  pub run_outcome : (whole t : List ℕ) → IsUtf8 t → list_all (is_of_kind (first_kind whole)) t ≡ true
+      → (s : StateValue) → drops_text s ≡ false → Sound s
+      → Outcome c (occurrences c t) (rank s.mode) s (by_rules (run (first_kind whole) t) s)
+  run_outcome whole t =
+      by_first_kind
+      (λ kind. IsUtf8 t → list_all (is_of_kind kind) t ≡ true → (s : StateValue) → drops_text s ≡ false
+      → Sound s
+      → Outcome c (occurrences c t) (rank s.mode) s (by_rules (run kind t) s))
+      (white_outcome t) (nulls_outcome c letter.character t) (characters_outcome c letter.character t) whole

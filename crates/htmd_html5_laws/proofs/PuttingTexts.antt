@@ -37,7 +37,7 @@ pub empty_none : (c : ℕ) (s : List ℕ) → is_empty s ≡ true → occurrence
 empty_none c [] e = occurs_nil c
 empty_none c (b ∷ s) e = absurd (true≢false (sym e))
 
-filled : (s : List ℕ) → is_empty s ≡ false → 0 < length s
+pub filled : (s : List ℕ) → is_empty s ≡ false → 0 < length s
 filled [] e = absurd (true≢false e)
 filled (b ∷ s) e = omega arith
 
@@ -79,21 +79,21 @@ table_takes _ stack e = absurd (true≢false (sym e))
 module _ (c : ℕ) (letter : LetterTests c) where
   -- ---- text in a table
 
-  nulls_gone : (k : ℕ) (s : List ℕ) → length s ≤ k → IsUtf8 s → SameLetters c letter s (without_nulls s)
+  nulls_gone : (k : ℕ) (s : List ℕ) → length s ≤ k → IsUtf8 s → SameLetters c letter.character s (without_nulls s)
   nulls_gone k [] l u = record { utf8 = IsUtf8-nil; same = refl }
   nulls_gone zero (b ∷ s) l u = absurd (omega arith)
   nulls_gone (suc k) (b ∷ s) l u =
       let parts = run_parts c (b ∷ s) u in
       let shorter = first_run_shortens (b ∷ s) (omega arith) in
-      put parts (kept_letters c letter (b ∷ s) (first_run (b ∷ s)) parts.front (first_all (b ∷ s)))
+      put parts (kept_letters c letter.character (b ∷ s) (first_run (b ∷ s)) parts.front (first_all (b ∷ s)))
       (nulls_gone k (after_first_run (b ∷ s)) (omega arith) parts.rest)
     where
       put : RunParts c (b ∷ s)
-          → SameLetters c letter (first_run (b ∷ s)) (kept_of (first_kind (b ∷ s)) (first_run (b ∷ s)))
-          → SameLetters c letter (after_first_run (b ∷ s)) (without_nulls (after_first_run (b ∷ s)))
-          → SameLetters c letter (b ∷ s) (without_nulls (b ∷ s))
+          → SameLetters c letter.character (first_run (b ∷ s)) (kept_of (first_kind (b ∷ s)) (first_run (b ∷ s)))
+          → SameLetters c letter.character (after_first_run (b ∷ s)) (without_nulls (after_first_run (b ∷ s)))
+          → SameLetters c letter.character (b ∷ s) (without_nulls (b ∷ s))
       put parts x y =
-          subst (SameLetters c letter (b ∷ s)) (sym (kept_run (first_kind (b ∷ s)) (b ∷ s)))
+          subst (SameLetters c letter.character (b ∷ s)) (sym (kept_run (first_kind (b ∷ s)) (b ∷ s)))
           (record {
             utf8 = IsUtf8-append _ _ x.utf8 y.utf8;
             same =
@@ -116,7 +116,8 @@ module _ (c : ℕ) (letter : LetterTests c) where
       let shorter = first_run_shortens text (filled text e) in
       let first : Grew c (occurrences c (first_run text)) s
       (fostered (run_in_body (first_kind text) (first_run text)) s) =
-      (fostered_puts (run_in_body_puts c letter text (first_run text) parts.front (first_all text))).puts s h in
+      (fostered_puts (run_in_body_puts c letter.character text (first_run text) parts.front (first_all text))).puts s
+      h in
       let count = parts.count in
       let later = foster_grew k (after_first_run text)
       (fostered (run_in_body (first_kind text) (first_run text)) s) (omega arith) parts.rest first.sound in
@@ -152,13 +153,13 @@ module _ (c : ℕ) (letter : LetterTests c) where
       → ((t : StateValue) → rank t.mode < rank s.mode → drops_text t ≡ false → Sound t
       → PutPart text t (take_within k text t))
       → PutPart text s (after_run (take_within k text) (after_first_run text) a)
-  run_part k text s a parts (finished e g d) more =
-      rw e (record {
+  run_part k text s a parts (finished h) more =
+      rw h.again (record {
         count = occurrences c (first_run text);
-        grew = g;
+        grew = h.grew;
         fits = let f = parts.count in omega arith;
         utf8 = parts.rest;
-        takes = d;
+        takes = h.takes;
       })
   run_part k text s a parts (goes_on e g d l) more =
       let p = more a.state l d g.sound in

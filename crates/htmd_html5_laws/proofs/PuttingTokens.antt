@@ -24,15 +24,15 @@ use Rattle.htmd_html5_laws.proofs.FedTokens.{end_counts_none, initial_sound}
 use Rattle.htmd_html5_laws.proofs.PuttingTexts.{empty_none, put_text_grew}
 use Rattle.htmd_html5_tokens.specs.Tokens as tokens
 
-module _ (c : ℕ) (letter : LetterTests c) where
-  raw_grew : (text : List ℕ) (s : StateValue) → IsUtf8 text → Sound s
-      → Grew c (occurrences c text) s (put_raw_text text s)
-  raw_grew text s u h =
-      let inserted = (insert_text_puts c text u).puts s h in
-      test (is_empty text)
-      (λ e. rw e (grew_as (occurrences c text) (sym (empty_none c text e)) (kept_grew (kept_same h))))
-      (λ e. rw e inserted)
+pub raw_grew : (c : ℕ) (text : List ℕ) (s : StateValue) → IsUtf8 text → Sound s
+    → Grew c (occurrences c text) s (put_raw_text text s)
+raw_grew c text s u h =
+    let inserted = (insert_text_puts c text u).puts s h in
+    test (is_empty text)
+    (λ e. rw e (grew_as (occurrences c text) (sym (empty_none c text e)) (kept_grew (kept_same h))))
+    (λ e. rw e inserted)
 
+module _ (c : ℕ) (letter : LetterTests c) where
   feed_text_grew : (text : List ℕ) (s : StateValue) → IsUtf8 text → takes_text s ≡ true → Sound s
       → Grew c (occurrences c text) s (feed_text text s)
   feed_text_grew text s u takes h = either (is_text_mode s.content) takes
@@ -43,7 +43,7 @@ module _ (c : ℕ) (letter : LetterTests c) where
 
       either : (t : Bool) → (t || not (drops_text s)) ≡ true
           → Grew c (occurrences c text) s (if t then put_raw_text text s else put_text text s)
-      either true e = raw_grew text s u h
+      either true e = raw_grew c text s u h
       either false e = put_text_grew c letter text s u (taken (drops_text s) e) h
 
   fed_grew : (token : tokens.TokenValue) (skips : Bool) (s : StateValue) → TokenUtf8 token → is_taken token s

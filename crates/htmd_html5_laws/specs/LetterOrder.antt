@@ -18,17 +18,15 @@ abbrev pub letters_in : List (List ℕ) → List ℕ
 letters_in [] = []
 letters_in (s ∷ texts) = letters_of s ++ letters_in texts
 
--- ---- start tags that may move text
+-- ---- start tags that move text
 
--- Text in a table, but in none of its cells, is put before the table (13.2.6.1). The end of a `select` resets the mode
--- by
--- what is open (13.2.4.1).
-abbrev pub may_move_text_in : List ℕ → Bool
-may_move_text_in name =
-    drops_text_in name || bytes_eq name (codes "table") || bytes_eq name (codes "select")
+-- text in a table, but in none of its cells, is put before the table; the end of a `select` resets the mode by what is
+-- open
+abbrev pub moves_text_in : List ℕ → Bool
+moves_text_in name = drops_text_in name || bytes_eq name (codes "table") || bytes_eq name (codes "select")
 
 abbrev pub is_orderly : TokenValue → Bool
-is_orderly (start_tag tag) = not (may_move_text_in tag.name)
+is_orderly (start_tag tag) = not (moves_text_in tag.name)
 is_orderly _ = true
 
 -- no start tag of the page is named so

@@ -4,3 +4,4 @@ pub mod DocumentLetters
 pub mod KeptLetters
 pub mod HarmlessTags
 pub mod LetterOrder
+pub mod TextKept

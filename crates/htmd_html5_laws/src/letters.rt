@@ -4,6 +4,7 @@ ghost use Rattle.htmd_html5_laws.specs.HarmlessTags.{HarmlessLettersAreKept, Har
 ghost use Rattle.htmd_html5_laws.specs.KeptLetters.{LettersAreKept};
 ghost use Rattle.htmd_html5_laws.specs.LetterOrder.{LettersStandInOrder};
 ghost use Rattle.htmd_html5_laws.specs.PageLetters.{NoLetterIsMadeUp, TokensAreUtf8};
+ghost use Rattle.htmd_html5_laws.specs.TextKept.{CharactersAreKept, TextIsKept};
 
 /// The texts of the tokens of a page in UTF-8 are in UTF-8.
 pub fn tokens_are_utf8()
@@ -49,4 +50,18 @@ pub fn harmless_letters_are_kept()
 /// texts, in document order, are those of the texts of the page's tokens, in the same order.
 pub fn letters_stand_in_order()
     ensures { LettersStandInOrder }
+{}
+
+/// Without such a start tag each character but U+0000 and U+FFFD, white space too, stands in the texts of the tree as
+/// often as in what is kept of the texts of the page's tokens: white space before the head goes, and a line feed right
+/// after a start tag of `pre`, `listing` or `textarea`.
+pub fn characters_are_kept()
+    ensures { CharactersAreKept }
+{}
+
+/// Without such a start tag, and without one of the head between the head and the body, text is kept: the characters
+/// of the tree's texts but U+0000 and U+FFFD, white space too, are in document order what is kept of the texts of the
+/// page's tokens, in the same order.
+pub fn text_is_kept()
+    ensures { TextIsKept }
 {}

@@ -1,0 +1,35 @@
+-- Which characters of a text count, in order. Where the modules above speak of letters, they mean those that count.
+use Rattle.std.proofs.Common.{◌≡◌, ℕ, Bool, true, false, List, [], ◌∷◌, ◌++◌, refl}
+use Rattle.std.specs.Prelude.{filter}
+use Rattle.std.specs.Str.{chars}
+use Rattle.htmd_text.specs.WhiteSpace.{is_ascii_white_space}
+use Rattle.htmd_text.specs.Characters.{null}
+use Rattle.htmd_html5_tokens.specs.References.{replacement_character}
+use Rattle.htmd_html5_laws.specs.PageLetters.{is_letter}
+
+-- U+0000 and U+FFFD don't count; and white space only if the head isn't opened once more after it
+pub record Choice : Type 0 where
+  pub counts : ℕ → Bool
+  pub reopens : Bool
+  pub no_null : counts null ≡ false
+  pub no_replacement : counts replacement_character ≡ false
+  pub no_white : reopens ≡ true → (c : ℕ) → is_ascii_white_space c ≡ true → counts c ≡ false
+
+-- those of a text
+unfoldable pub counted_of : Choice → List ℕ → List ℕ
+counted_of choice s = filter choice.counts (chars s)
+
+-- and of all of these, one after another
+abbrev pub counted_in : Choice → List (List ℕ) → List ℕ
+counted_in choice [] = []
+counted_in choice (s ∷ texts) = counted_of choice s ++ counted_in choice texts
+
+-- letters, with no white space among them
+abbrev pub letter_choice : Choice
+letter_choice = record {
+  counts = is_letter;
+  reopens = true;
+  no_null = refl;
+  no_replacement = refl;
+  no_white = λ e c w. rw w refl;
+}

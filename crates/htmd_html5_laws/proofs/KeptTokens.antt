@@ -1,0 +1,189 @@
+-- The tokens of a page, one after another: the texts of the nodes hold what is kept of the tokens' texts.
+use Rattle.std.proofs.Common.{◌≡◌, ℕ, zero, suc, ◌+◌, Bool, true, false, List, [], ◌∷◌, ◌++◌, length, refl, sym, ap, arith}
+use Rattle.std.proofs.Common.{inr}
+use Rattle.std.specs.Prelude.{IsUtf8, if◌then◌else◌, ◌&&◌, ◌||◌, ◌==◌, not}
+use Rattle.std.specs.List.{list_all}
+use Rattle.std.proofs.lemmas.Bool.{true≢false, and_parts}
+use Rattle.htmd_text.specs.Characters.{null}
+use Rattle.htmd_tree.specs.Items.{greatest_depth}
+use Rattle.htmd_html5_tokens.specs.Preprocessing.{preprocessed}
+use Rattle.htmd_html5_tokens.specs.References.{replacement_character}
+use Rattle.htmd_html5_tokens.specs.Tokens.{Read}
+use Rattle.htmd_html5_state.specs.State.{StateValue, initial_state}
+use Rattle.htmd_html5_state.specs.Foreign.{current_is_html}
+use Rattle.htmd_html5.specs.Texts.{put_text}
+use Rattle.htmd_html5.specs.Feeding.{is_text_mode, put_raw_text, feed_text, without_line_feed, with_nothing_skipped, feed}
+use Rattle.htmd_html5.specs.Documents.{next_read, is_end, after_token, read_within, state_after, html5_document}
+use Rattle.htmd_html5_laws.specs.PageLetters.{occurrences, occurrences_in}
+use Rattle.htmd_html5_laws.specs.HarmlessTags.{tokens_after, tokens_within, page_tokens, drops_text_in, is_harmless}
+use Rattle.std.specs.Prelude.{codes}
+use Rattle.std.specs.Str.{bytes_eq}
+use Rattle.htmd_html5_laws.specs.LetterOrder.{is_orderly, all_tags_are_orderly, moves_text_in}
+use Rattle.htmd_html5_laws.specs.TextKept.{is_before_head, drops_white, without_white, kept_text, with_kept_text, kept_after}
+use Rattle.htmd_html5_laws.specs.TextKept.{kept_within, kept_texts, is_kept, CharactersAreKept}
+use Rattle.htmd_html5_laws.proofs.Utf8Tokens.{TokenUtf8, ReadUtf8, next_token_utf8, preprocessed_utf8}
+use Rattle.htmd_html5_laws.proofs.LetterLemmas.{CharacterTests}
+use Rattle.htmd_html5_laws.proofs.Keeping.{Sound}
+use Rattle.htmd_html5_laws.proofs.TextsPut.{occurs_cons}
+use Rattle.htmd_html5_laws.proofs.Taking.{Grew, kept_grew, grew_as, grew_then}
+use Rattle.htmd_html5_laws.proofs.FedTokens.{shortened, with_nothing_skipped_keeps, others_kept, initial_sound}
+use Rattle.htmd_html5_laws.proofs.PuttingTokens.{raw_grew}
+use Rattle.htmd_html5_laws.proofs.KeptTexts.{put_text_kept}
+use Rattle.htmd_html5_laws.proofs.NodeWeights.{nodes_utf8}
+use Rattle.htmd_html5_laws.proofs.LaidTexts.{laid_texts}
+use Rattle.htmd_html5_laws.proofs.WholeTrees.{ranked_hang, whole_texts}
+use Rattle.htmd_html5_laws.proofs.HarmlessTokens.{harmless_hung}
+use Rattle.htmd_html5_laws.proofs.OrderedEarly.{Staged}
+use Rattle.htmd_html5_laws.proofs.OrderedTokens.{feed_stage, stage_skipped, begins_staged, kept_letters, apart, orderly_tag}
+use Rattle.htmd_html5_tokens.specs.Tokens as tokens
+use Rattle.htmd_html5_laws.proofs.Counted.{letter_choice}
+
+character_tests : (c : ℕ) → is_kept c ≡ true → CharacterTests c
+character_tests c e =
+    let tests = apart (c == null) (c == replacement_character) e in
+    record { null_is_none = tests.0; other = tests.1 }
+  where
+    apart : (none other : Bool) → not (none || other) ≡ true → (none ≡ false) × (other ≡ false)
+    apart false false e = (refl, refl)
+    apart false true e = absurd (true≢false (sym e))
+    apart true other e = absurd (true≢false (sym e))
+
+module _ (c : ℕ) (tests : CharacterTests c) where
+  feed_text_kept : (text letters : List ℕ) (s : StateValue) → IsUtf8 text → Staged letter_choice letters s → Sound s
+      → Grew c (occurrences c (without_white (drops_white s) text)) s (feed_text text s)
+  feed_text_kept text letters s u h sound = either (is_text_mode s.content) refl
+    where
+      either : (b : Bool) → is_text_mode s.content ≡ b
+          → Grew c (occurrences c (without_white (not b && is_before_head s.mode) text)) s
+          (if b then put_raw_text text s else put_text text s)
+      either true e = raw_grew c text s u sound
+      either false e = put_text_kept c tests text letters s u (inr e) h sound
+
+  -- how often the character stands in what is kept of a token
+  abbrev kept_count : tokens.TokenValue → StateValue → ℕ
+  kept_count (tokens.text text) s = occurrences c (kept_text text s)
+  kept_count _ s = 0
+
+  fed_kept : (token : tokens.TokenValue) (letters : List ℕ) (s : StateValue) → TokenUtf8 token → Staged letter_choice
+      letters s
+      → Sound s → Grew c (kept_count token s) s (feed token s)
+  fed_kept token letters s u h sound = by_token token u (kept_grew (with_nothing_skipped_keeps.keeps s sound))
+    where
+      skipped : StateValue
+      skipped = with_nothing_skipped s
+
+      by_token : (token : tokens.TokenValue) → TokenUtf8 token → Grew c 0 s skipped
+          → Grew c (kept_count token s) s (feed token s)
+      by_token (tokens.text text) u a =
+          grew_then (occurrences c (kept_text text s)) (omega arith) a
+          (feed_text_kept (without_line_feed s.skips_line_feed text) letters skipped
+          (shortened c s.skips_line_feed text u).utf8
+          (stage_skipped letter_choice (is_text_mode s.content) s.mode letters s h) a.sound)
+      by_token (tokens.start_tag tag) u a =
+          grew_then 0 (omega arith) a
+          (kept_grew (others_kept (tokens.start_tag tag) s.skips_line_feed skipped a.sound))
+      by_token (tokens.end_tag tag) u a =
+          grew_then 0 (omega arith) a
+          (kept_grew (others_kept (tokens.end_tag tag) s.skips_line_feed skipped a.sound))
+      by_token (tokens.comment text) u a =
+          grew_then 0 (omega arith) a
+          (kept_grew (others_kept (tokens.comment text) s.skips_line_feed skipped a.sound))
+      by_token (tokens.doctype quirks) u a =
+          grew_then 0 (omega arith) a
+          (kept_grew (others_kept (tokens.doctype quirks) s.skips_line_feed skipped a.sound))
+      by_token tokens.end_of_file u a =
+          grew_then 0 (omega arith) a
+          (kept_grew (others_kept tokens.end_of_file s.skips_line_feed skipped a.sound))
+
+  count_kept : (token : tokens.TokenValue) (s : StateValue) (more : List (List ℕ))
+      → occurrences_in c (with_kept_text token s more) ≡ kept_count token s + occurrences_in c more
+  count_kept (tokens.text text) s more = occurs_cons c (kept_text text s) more
+  count_kept (tokens.start_tag tag) s more = omega arith
+  count_kept (tokens.end_tag tag) s more = omega arith
+  count_kept (tokens.comment text) s more = omega arith
+  count_kept (tokens.doctype quirks) s more = omega arith
+  count_kept tokens.end_of_file s more = omega arith
+
+  end_keeps_none : (token : tokens.TokenValue) (s : StateValue) → is_end token ≡ true → kept_count token s ≡ 0
+  end_keeps_none (tokens.text text) s e = absurd (true≢false (sym e))
+  end_keeps_none (tokens.start_tag tag) s e = refl
+  end_keeps_none (tokens.end_tag tag) s e = refl
+  end_keeps_none (tokens.comment text) s e = refl
+  end_keeps_none (tokens.doctype quirks) s e = refl
+  end_keeps_none tokens.end_of_file s e = refl
+
+  -- ---- all tokens
+
+  after_kept_all : (k : ℕ) (read : Read) (letters : List ℕ) (s : StateValue) → Sound s → ReadUtf8 read
+      → list_all is_orderly (tokens_after (tokens_within k) read s) ≡ true → Staged letter_choice letters s
+      → ((more : List ℕ) (t : StateValue) → list_all is_orderly (tokens_within k read.rest t) ≡ true
+      → Staged letter_choice more t → Sound t
+      → Grew c (occurrences_in c (kept_within k read.rest t)) t (read_within k read.rest t))
+      → Grew c (occurrences_in c (kept_after (kept_within k) read s)) s (after_token (read_within k) read s)
+  after_kept_all k read letters s sound u e h more = either (is_end read.token) refl e
+    where
+      either : (b : Bool) → is_end read.token ≡ b
+          → list_all is_orderly
+          (if b then [] else read.token ∷ tokens_within k read.rest (feed read.token s)) ≡ true
+          → Grew c
+          (occurrences_in c (if b then [] else with_kept_text read.token s (kept_within k read.rest
+          (feed read.token s)))) s
+          (if b then feed read.token s else read_within k read.rest (feed read.token s))
+      either true g f = grew_as 0 (end_keeps_none read.token s g) (fed_kept read.token letters s u.token h sound)
+      either false g f =
+          let sum = count_kept read.token s (kept_within k read.rest (feed read.token s)) in
+          let both = and_parts (is_orderly read.token)
+          (list_all is_orderly (tokens_within k read.rest (feed read.token s))) f in
+          let first = fed_kept read.token letters s u.token h sound in
+          grew_then
+          (occurrences_in c (with_kept_text read.token s (kept_within k read.rest (feed read.token s))))
+          (omega arith) first
+          (more (letters ++ kept_letters letter_choice read.token s) (feed read.token s) both.1
+          (feed_stage letter_choice letters read.token s u.token both.0 (λ z. absurd (true≢false z)) h) first.sound)
+
+  read_kept : (k : ℕ) (page : List ℕ) (letters : List ℕ) (s : StateValue) → IsUtf8 page
+      → list_all is_orderly (tokens_within k page s) ≡ true → Staged letter_choice letters s → Sound s
+      → Grew c (occurrences_in c (kept_within k page s)) s (read_within k page s)
+  read_kept zero page letters s u e h sound = fed_kept tokens.end_of_file letters s tt h sound
+  read_kept (suc k) page letters s u e h sound =
+      let r = next_token_utf8 s.content (not (current_is_html s.stack)) page u in
+      after_kept_all k (next_read page s) letters s sound r e h
+      (λ more t f g x. read_kept k (next_read page s).rest more t r.rest f g x)
+
+  pub state_kept : (scripting : Bool) (page : List ℕ) → IsUtf8 page → all_tags_are_orderly scripting page ≡ true
+      → Grew c (occurrences_in c (kept_texts scripting page)) (initial_state scripting) (state_after scripting page)
+  state_kept scripting page u e =
+      read_kept (length (preprocessed page)) (preprocessed page) [] (initial_state scripting)
+      (preprocessed_utf8 page u) e (begins_staged letter_choice scripting) (initial_sound scripting)
+
+-- ---- such a page drops no text
+
+one_harmless : (token : tokens.TokenValue) → is_orderly token ≡ true → is_harmless token ≡ true
+one_harmless (tokens.start_tag tag) e =
+    ap not (apart (drops_text_in tag.name) (bytes_eq tag.name (codes "table")) (bytes_eq tag.name (codes "select"))
+    (orderly_tag (moves_text_in tag.name) e)).0
+one_harmless (tokens.text s) e = refl
+one_harmless (tokens.end_tag tag) e = refl
+one_harmless (tokens.comment s) e = refl
+one_harmless (tokens.doctype quirks) e = refl
+one_harmless tokens.end_of_file e = refl
+
+pub all_harmless : (ts : List tokens.TokenValue) → list_all is_orderly ts ≡ true → list_all is_harmless ts ≡ true
+all_harmless [] e = refl
+all_harmless (t ∷ ts) e =
+    let parts = and_parts (is_orderly t) (list_all is_orderly ts) e in
+    rw (one_harmless t parts.0) (all_harmless ts parts.1)
+
+-- ---- the law
+
+pub characters_kept : CharactersAreKept
+unfolding html5_document
+characters_kept scripting page c u orderly is =
+    let a = state_kept c (character_tests c is) scripting page u orderly in
+    let hung = harmless_hung scripting page (all_harmless (page_tokens scripting page) orderly) in
+    let b = laid_texts c greatest_depth (state_after scripting page).nodes a.sound in
+    let d = whole_texts c (state_after scripting page).nodes a.sound.root a.sound.forest
+    (ranked_hang hung.rank (state_after scripting page).nodes a.sound.root hung.root hung.hangs) greatest_depth
+    (nodes_utf8 (state_after scripting page).nodes a.sound.utf8) in
+    let e = a.grows in
+    omega arith
