@@ -356,7 +356,8 @@ module _ (choice : Choice) where
       at_parent limit big q e =
           subst (λ (x : ℕ). Row (marks choice none_out joined limit with_more) (with_more.lo x) (children_at nodes x)
           (until limit with_more x)) e
-          (subst (λ (x : ℕ). Row (marks choice none_out joined limit with_more) (with_more.lo p) (children_at nodes p) x)
+          (subst
+          (λ (x : ℕ). Row (marks choice none_out joined limit with_more) (with_more.lo p) (children_at nodes p) x)
           (sym (more_other_until limit p p_other ∙ ap (λ (b : Bool). cond b limit (l.hi p)) live))
           (subst (λ (x : ℕ). Row (marks choice none_out joined limit with_more) x (children_at nodes p) limit)
           (sym (more_other_lo p p_other))
@@ -402,7 +403,8 @@ module _ (choice : Choice) where
       at_other limit big q f g =
           subst (λ (x : ℕ). Row (marks choice none_out joined limit with_more) (with_more.lo q) (children_at nodes q) x)
           (sym (more_other_until limit q (λ e. g (sym e))))
-          (subst (λ (x : ℕ). Row (marks choice none_out joined limit with_more) x (children_at nodes q) (until limit l q))
+          (subst
+          (λ (x : ℕ). Row (marks choice none_out joined limit with_more) x (children_at nodes q) (until limit l q))
           (sym (more_other_lo q (λ e. g (sym e))))
           (more_row_kept limit (l.lo q) (children_at nodes q) (until limit l q) big (n_elsewhere q f)
           (h.rows limit (omega arith) q)))
@@ -477,7 +479,8 @@ module _ (choice : Choice) where
               → (kind_at joined n ≡ text (s ++ t)) ⊎ (kind_at joined n ≡ kind_at nodes n)
               → TextIn choice (letters ++ counted_of choice t) with_more n x
           own_by x e (inl g) =
-              subst (λ (y : List ℕ). TextIn choice (letters ++ counted_of choice t) with_more n y) (text_same (sym g ∙ e))
+              subst (λ (y : List ℕ). TextIn choice (letters ++ counted_of choice t) with_more n y)
+              (text_same (sym g ∙ e))
               (record {
                 closed = rw (eq-eqb n n refl) refl;
                 utf8 = IsUtf8-append s t old_text.utf8 u;

@@ -56,10 +56,10 @@ pub fn nothing_is_lost()
     ensures row { ShownInRow }
 {}
 
-/// In Guarded, and in Pure if no table is there, the letters of any page stand in its Markdown: if the page has no start
-/// tag of `frameset` or `template`, each letter stands in the Markdown at least as often as in the page's text tokens,
-/// but for texts below elements that aren't shown. A letter is a character that isn't white space, U+0000 or U+FFFD; in
-/// Guarded `*` isn't counted.
+/// In Guarded, and in Pure if no table is there, the letters of any page stand in its Markdown: if the page has no
+/// start tag of `frameset` or `template`, each letter stands in the Markdown at least as often as in the page's text
+/// tokens, but for texts below elements that aren't shown. A letter is a character that isn't white space, U+0000 or
+/// U+FFFD; in Guarded `*` isn't counted.
 pub fn page_letters_are_written()
     ensures { PageLettersAreWritten }
 {}

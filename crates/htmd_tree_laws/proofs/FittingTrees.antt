@@ -70,8 +70,10 @@ module _ (Fit : ℕ → List ℕ → List AttributePair → NumberedForest → T
   with_text_fits s (doctype i) first e t fit = fit
   with_text_fits s (text i r) first e t fit = fit
   with_text_fits s (comment i r) first e t fit = fit
-  with_text_fits s (element i name attributes c) first e t fit =
-      (stays i name s attributes c (both_may name attributes (only_text c) (joint_of first) e) fit.0, with_only_fits s c t fit.1)
+  with_text_fits s (element i name attributes c) first e t fit = (
+    stays i name s attributes c (both_may name attributes (only_text c) (joint_of first) e) fit.0,
+    with_only_fits s c t fit.1,
+  )
 
   joint_fits : (name : List ℕ) (attributes : List AttributePair) (s : Option (List ℕ)) → IsTextIfAny s
       → IsUtf8 (joint_text (joint_with name attributes s))

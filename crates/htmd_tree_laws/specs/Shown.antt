@@ -90,9 +90,9 @@ is_of_rows items tree = is_or_has_row items (node_of tree)
 
 module _ (options : Options) (items : List Item) where
   abbrev mutual
-    -- The characters of all texts that are not below an empty element, in the order in which they are written. The flag
-    -- says whether tables are written as tables; where they aren't in Guarded, all text is written as one, and `*` isn't
-    -- counted: marks of emphasis may go, and no backslash tells a `*` of such a text from them.
+    -- The characters of all texts that are not below an empty element, in the order in which they are written. The
+    -- flag says whether tables are written as tables; where they aren't in Guarded, all text is written as one, and
+    -- `*` isn't counted: marks of emphasis may go, and no backslash tells a `*` of such a text from them.
     pub shown_of : Bool → NumberedTree → List ℕ
     shown_of tables (document id children) = shown_among tables children
     shown_of tables (doctype id) = []
