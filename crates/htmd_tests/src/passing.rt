@@ -37,14 +37,14 @@ fn passes(alloc: Global, handlers: &ElementHandlers, tag: &str, class: &str) -> 
     Ok(handlers.goes_past(&tree, element))
 }
 
-// In Pure the walk goes past elements without handlers, and a `span` that isn't a formula.
+// In Pure the walk goes past a `span` that isn't a formula. An element without handlers has none to ask.
 #[test]
 fn goes_past_elements(rt: HostRuntime) -> Result<(), Fail> {
     let pure = TranslationMode::Pure;
     let faithful = TranslationMode::Faithful;
     let table: [(TranslationMode, &str, &str, bool); 6] = [
         (pure, "span", "", true),
-        (pure, "mark", "", true),
+        (pure, "mark", "", false),
         (pure, "p", "", false),
         (pure, "span", "math math-inline", false),
         (faithful, "mark", "", false),
@@ -62,11 +62,11 @@ fn goes_past_elements(rt: HostRuntime) -> Result<(), Fail> {
 #[test]
 fn asks_handlers_of_ones_own(rt: HostRuntime) -> Result<(), Fail> {
     let mut handlers = ElementHandlers::new(rt.alloc(), Options::default())?;
+    assert!(rt; passes(rt.alloc(), &handlers, "span", "")?);
     let handler: Box<dyn ElementHandler> = Box::new(rt.alloc(), PassesOn { appended: None })?;
     if handlers.add_handler(&["span"], handler).is_err() {
         return Err(Fail::from("there is memory"));
     }
     assert!(rt; !passes(rt.alloc(), &handlers, "span", "")?);
-    assert!(rt; passes(rt.alloc(), &handlers, "mark", "")?);
     Ok(())
 }
