@@ -7,12 +7,13 @@ use Rattle.htmd_text.specs.Characters.{null}
 use Rattle.htmd_html5_tokens.specs.References.{replacement_character}
 use Rattle.htmd_html5_laws.specs.PageLetters.{is_letter}
 
--- U+0000 and U+FFFD don't count; and white space only if the head isn't opened once more after it
+-- U+0000 and U+FFFD count only if no U+0000 comes, and white space only if the head isn't opened once more after it
 pub record Choice : Type 0 where
   pub counts : ℕ → Bool
   pub reopens : Bool
-  pub no_null : counts null ≡ false
-  pub no_replacement : counts replacement_character ≡ false
+  pub nulls : Bool
+  pub no_null : nulls ≡ true → counts null ≡ false
+  pub no_replacement : nulls ≡ true → counts replacement_character ≡ false
   pub no_white : reopens ≡ true → (c : ℕ) → is_ascii_white_space c ≡ true → counts c ≡ false
 
 -- those of a text
@@ -29,7 +30,8 @@ abbrev pub letter_choice : Choice
 letter_choice = record {
   counts = is_letter;
   reopens = true;
-  no_null = refl;
-  no_replacement = refl;
+  nulls = true;
+  no_null = λ e. refl;
+  no_replacement = λ e. refl;
   no_white = λ e c w. rw w refl;
 }

@@ -2,7 +2,7 @@
 -- their order, and as many of each.
 use Rattle.std.proofs.Common.{◌≡◌, ◌∙◌, ℕ, Bool, true, false, List, [], ◌∷◌}
 use Rattle.std.proofs.Common.{refl, sym, ap, arith, cond}
-use Rattle.std.specs.Prelude.{◌==◌, ◌||◌, not, filter, count_by, IsUtf8}
+use Rattle.std.specs.Prelude.{◌==◌, filter, count_by, IsUtf8}
 use Rattle.std.specs.Str.{chars}
 use Rattle.std.proofs.lemmas.Bool.{true≢false, eqb-true}
 use Rattle.std.proofs.lemmas.List.Sums.{sum_by-cons}
@@ -13,14 +13,15 @@ use Rattle.htmd_html5.specs.Documents.{state_after, html5_document}
 use Rattle.htmd_tree.specs.Items.{greatest_depth}
 use Rattle.htmd_html5_laws.specs.PageLetters.{is_character, occurrences, occurrences_in, texts_of}
 use Rattle.htmd_html5_laws.specs.LetterOrder.{all_tags_are_orderly}
-use Rattle.htmd_html5_laws.specs.TextKept.{is_kept, kept_texts, no_tag_comes_late}
+use Rattle.htmd_html5_laws.specs.TextKept.{kept_texts, no_tag_comes_late, no_null_comes}
+use Rattle.htmd_html5_laws.proofs.LetterLemmas.{CharacterTests}
 use Rattle.htmd_html5_laws.proofs.TextsPut.{occurs_cons}
 use Rattle.htmd_html5_laws.proofs.Sublists.{Sub, many, many_append, equal_by_counts}
 use Rattle.htmd_html5_laws.proofs.Counted.{Choice, counted_of, counted_in}
 use Rattle.htmd_html5_laws.proofs.OrderedRuns.{nil_letters}
 use Rattle.htmd_html5_laws.proofs.OrderedTokens.{state_staged, staged_ordered}
 use Rattle.htmd_html5_laws.proofs.OrderedLayout.{laid_in_order}
-use Rattle.htmd_html5_laws.proofs.KeptTokens.{characters_kept}
+use Rattle.htmd_html5_laws.proofs.KeptTokens.{counts_kept}
 
 -- ---- as many of each
 
@@ -76,33 +77,34 @@ module _ (choice : Choice) (c : ℕ) where
 module _ (choice : Choice) where
   counted_some : (scripting : Bool) (page : List ℕ) → IsUtf8 page → all_tags_are_orderly scripting page ≡ true
       → (choice.reopens ≡ false → no_tag_comes_late scripting page ≡ true)
+      → (choice.nulls ≡ false → no_null_comes scripting page ≡ true)
       → Sub (counted_in choice (texts_of (html5_document scripting page)))
       (counted_in choice (kept_texts scripting page))
   unfolding html5_document
-  counted_some scripting page u e early =
+  counted_some scripting page u e early clean =
       let l = staged_ordered choice (counted_in choice (kept_texts scripting page)) (state_after scripting page)
-      (state_staged choice scripting page u e early) in
+      (state_staged choice scripting page u e early clean) in
       laid_in_order choice (counted_in choice (kept_texts scripting page)) l.0 greatest_depth
       (state_after scripting page).nodes (nil_letters choice) l.1
 
-  counts_kept : (c : ℕ) → choice.counts c ≡ true → is_kept c ≡ true
-  counts_kept c e = either (c == null) (c == replacement_character) refl refl
+  choice_tests : (c : ℕ) → choice.counts c ≡ true → choice.nulls ≡ true → CharacterTests c
+  choice_tests c e n = record {
+    null_is_none = other null (choice.no_null n);
+    other = other replacement_character (choice.no_replacement n);
+  }
     where
-      either : (x y : Bool) → (c == null) ≡ x → (c == replacement_character) ≡ y → not (x || y) ≡ true
-      either true y f g =
-          absurd (true≢false (sym e ∙ (ap choice.counts (eqb-true c null f) ∙ choice.no_null)))
-      either false true f g =
-          absurd (true≢false (sym e ∙ (ap choice.counts (eqb-true c replacement_character g) ∙ choice.no_replacement)))
-      either false false f g = refl
+      other : (d : ℕ) → choice.counts d ≡ false → (c == d) ≡ false
+      other d f = test (c == d) (λ t. absurd (true≢false (sym e ∙ (ap choice.counts (eqb-true c d t) ∙ f)))) (λ t. t)
 
   pub counted_in_order : (scripting : Bool) (page : List ℕ) → IsUtf8 page → all_tags_are_orderly scripting page ≡ true
       → (choice.reopens ≡ false → no_tag_comes_late scripting page ≡ true)
+      → (choice.nulls ≡ false → no_null_comes scripting page ≡ true)
       → counted_in choice (texts_of (html5_document scripting page)) ≡ counted_in choice (kept_texts scripting page)
-  counted_in_order scripting page u e early =
+  counted_in_order scripting page u e early clean =
       equal_by_counts (counted_in choice (texts_of (html5_document scripting page)))
-      (counted_in choice (kept_texts scripting page)) (counted_some scripting page u e early)
+      (counted_in choice (kept_texts scripting page)) (counted_some scripting page u e early clean)
       (λ c. test (choice.counts c)
-      (λ t. let a = characters_kept scripting page c u e (counts_kept c t) in
+      (λ t. let a = counts_kept c choice.nulls (choice_tests c t) scripting page u e clean in
       let b = many_in choice c (texts_of (html5_document scripting page)) t in
       let d = many_in choice c (kept_texts scripting page) t in
       omega arith)

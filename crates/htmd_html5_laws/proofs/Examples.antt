@@ -11,7 +11,7 @@ use Rattle.htmd_html5_laws.specs.DocumentLetters.{node_texts, all_texts_are_take
 use Rattle.htmd_html5_laws.specs.KeptLetters.{is_whole}
 use Rattle.htmd_html5_laws.specs.HarmlessTags.{all_tags_are_harmless}
 use Rattle.htmd_html5_laws.specs.LetterOrder.{all_tags_are_orderly}
-use Rattle.htmd_html5_laws.specs.TextKept.{kept_texts, no_tag_comes_late}
+use Rattle.htmd_html5_laws.specs.TextKept.{kept_texts, no_tag_comes_late, no_null_comes}
 
 a_is_one : is_letter 0x61 ≡ true
 a_is_one = refl
@@ -122,3 +122,10 @@ it_goes_before_white_space : texts_of (html5_document true (codes "<head></head>
     ≡ codes "a" ∷ codes " " ∷ []
 unfolding block_rule formatting_rule phrasing_rule text_end_rule html5_document
 it_goes_before_white_space = refl
+
+a_page_with_null : no_null_comes true (0x61 ∷ 0 ∷ []) ≡ false
+a_page_with_null = refl
+
+a_page_without : no_null_comes true (codes "a<p>b") ≡ true
+unfolding block_rule formatting_rule phrasing_rule
+a_page_without = refl

@@ -41,7 +41,7 @@ use Rattle.htmd_html5_laws.proofs.OrderedEarly.{Stage, Staged, Calm}
 use Rattle.htmd_html5_laws.proofs.OrderedHead.{unstaged, stage_names, current_html, stays_html}
 use Rattle.htmd_html5_laws.proofs.OrderedRuns.{run_of}
 use Rattle.htmd_html5_laws.proofs.WhiteRuns.{Dark, behind_twice, behind_white, dark_whole, dark_nulls, dark_characters}
-use Rattle.htmd_html5_laws.proofs.WhiteRuns.{before_is_early}
+use Rattle.htmd_html5_laws.proofs.WhiteRuns.{before_is_early, Clean, clean_rest, nulls_come}
 use Rattle.htmd_html5_laws.proofs.OrderedTokens.{first_all, no_tables, within_part}
 use Rattle.htmd_html5_laws.proofs.Counted.{letter_choice}
 
@@ -98,7 +98,7 @@ by_mode_again token s f e = either (is_foreign token s) f
 abbrev Going : List ℕ → Answer → Type 0
 Going letters a = (a.again ≡ true → Staged letter_choice letters a.state) × Calm a.state
 
-module _ (c : ℕ) (tests : CharacterTests c) where
+module _ (c : ℕ) (nulls : Bool) (tests : nulls ≡ true → CharacterTests c) where
   abbrev kept : List ℕ → StateValue → List ℕ
   kept text s = without_white (is_before_head s.mode) text
 
@@ -109,11 +109,13 @@ module _ (c : ℕ) (tests : CharacterTests c) where
     count : ℕ
     grew : Grew c count s t.state
     fits : count + occurrences c (kept t.rest t.state) ≡ occurrences c (kept text s)
+    clean : Clean nulls t.rest
 
   white_part : (text : List ℕ) (s : StateValue) (a : Answer) (go : StateValue → Taken)
-      → first_kind text ≡ kind_of_byte 32 → RunParts c text → Ended c (white_of c s.mode (first_run text)) s a
+      → first_kind text ≡ kind_of_byte 32 → Clean nulls text → RunParts c text → Ended c
+      (white_of c s.mode (first_run text)) s a
       → KeptPart text s (after_run go (after_first_run text) a)
-  white_part text s a go first parts h =
+  white_part text s a go first clean parts h =
       rw h.again (record {
         count = white_of c s.mode (first_run text);
         grew = h.grew;
@@ -121,6 +123,7 @@ module _ (c : ℕ) (tests : CharacterTests c) where
             ap (λ (m : InsertionMode). white_of c s.mode (first_run text)
             + occurrences c (without_white (is_before_head m) (after_first_run text))) h.mode
             ∙ fits_by (is_before_head s.mode);
+        clean = clean_rest nulls text clean;
       })
     where
       fits_by : (b : Bool)
@@ -133,13 +136,14 @@ module _ (c : ℕ) (tests : CharacterTests c) where
           omega arith
       fits_by false = sym parts.count
 
-  other_part : (text letters : List ℕ) (s : StateValue) (a : Answer) (go : StateValue → Taken) → Dark text
+  other_part : (text letters : List ℕ) (s : StateValue) (a : Answer) (go : StateValue → Taken) → Clean nulls text →
+      Dark text
       → (is_before_head s.mode ≡ true → a.again ≡ true) → RunParts c text → Going letters a
       → Outcome c (occurrences c (first_run text)) (rank s.mode) s a
       → ((t : StateValue) → rank t.mode < rank s.mode → Sound t → Calm t → Staged letter_choice letters t
       → KeptPart text t (go t))
       → KeptPart text s (after_run go (after_first_run text) a)
-  other_part text letters s a go dark again parts r (finished h) more =
+  other_part text letters s a go clean dark again parts r (finished h) more =
       rw h.again (record {
         count = occurrences c (first_run text);
         grew = h.grew;
@@ -147,6 +151,7 @@ module _ (c : ℕ) (tests : CharacterTests c) where
             ap (λ (m : InsertionMode). occurrences c (first_run text)
             + occurrences c (without_white (is_before_head m) (after_first_run text))) h.mode
             ∙ fits_by (is_before_head s.mode) refl;
+        clean = clean_rest nulls text clean;
       })
     where
       fits_by : (b : Bool) → is_before_head s.mode ≡ b
@@ -154,7 +159,7 @@ module _ (c : ℕ) (tests : CharacterTests c) where
           ≡ occurrences c (without_white b text)
       fits_by true e = absurd (true≢false (sym (again e) ∙ h.again))
       fits_by false e = sym parts.count
-  other_part text letters s a go dark again parts r (goes_on e g d l) more =
+  other_part text letters s a go clean dark again parts r (goes_on e g d l) more =
       let p = more a.state l g.sound r.1 (r.0 e) in
       rw e (record {
         count = p.count;
@@ -164,10 +169,11 @@ module _ (c : ℕ) (tests : CharacterTests c) where
             ∙ ap (occurrences c)
             (dark_whole text dark (is_before_head a.state.mode)
             ∙ sym (dark_whole text dark (is_before_head s.mode)));
+        clean = p.clean;
       })
 
   -- the first run, of whatever kind
-  module _ (text letters : List ℕ) (s : StateValue) (u : IsUtf8 text) (calm : Calm s)
+  module _ (text letters : List ℕ) (s : StateValue) (u : IsUtf8 text) (clean : Clean nulls text) (calm : Calm s)
       (h : Staged letter_choice letters s)
       (sound : Sound s) (go : StateValue → Taken)
       (more : (t : StateValue) → rank t.mode < rank s.mode → Sound t → Calm t → Staged letter_choice letters t
@@ -186,25 +192,27 @@ module _ (c : ℕ) (tests : CharacterTests c) where
 
     white_kept : RunKept 32
     white_kept e all r =
-        white_part text s (by_rules (run (kind_of_byte 32) (first_run text)) s) go e parts
-        (white_ended c tests (first_run text) parts.front s takes sound
+        white_part text s (by_rules (run (kind_of_byte 32) (first_run text)) s) go e clean parts
+        (white_ended c (first_run text) parts.front s takes sound
         (html_before (run (kind_of_byte 32) (first_run text)) letters s calm h))
 
     nulls_kept : RunKept 0
     nulls_kept e all r =
-        other_part text letters s (by_rules (run (kind_of_byte 0) (first_run text)) s) go (dark_nulls text e)
+        other_part text letters s (by_rules (run (kind_of_byte 0) (first_run text)) s) go clean (dark_nulls text e)
         (λ b. by_mode_again (run (kind_of_byte 0) (first_run text)) s
         (html_before (run (kind_of_byte 0) (first_run text)) letters s calm h b)
         (nulls_go_on s.mode (first_run text) s b))
-        parts r (nulls_outcome c tests (first_run text) parts.front all s takes sound) more
+        parts r (nulls_outcome c (tests (nulls_come nulls text clean e)) (first_run text) parts.front all s takes
+        sound) more
 
     characters_kept : RunKept 97
     characters_kept e all r =
-        other_part text letters s (by_rules (run (kind_of_byte 97) (first_run text)) s) go (dark_characters text e)
+        other_part text letters s (by_rules (run (kind_of_byte 97) (first_run text)) s) go clean
+        (dark_characters text e)
         (λ b. by_mode_again (run (kind_of_byte 97) (first_run text)) s
         (html_before (run (kind_of_byte 97) (first_run text)) letters s calm h b)
         (characters_go_on s.mode (first_run text) s b))
-        parts r (characters_outcome c tests (first_run text) parts.front all s takes sound) more
+        parts r (characters_outcome c (first_run text) parts.front all s takes sound) more
 
     run_kept : KeptPart text s (after_run go (after_first_run text) (by_rules (first_token text) s))
     run_kept =
@@ -213,17 +221,18 @@ module _ (c : ℕ) (tests : CharacterTests c) where
         → Going letters (by_rules (run kind (first_run text)) s)
         → KeptPart text s (after_run go (after_first_run text) (by_rules (run kind (first_run text)) s)))
         white_kept nulls_kept characters_kept text refl (first_all text)
-        (let r = run_of letter_choice letters text parts.front (first_all text) s calm h in
+        (let r = run_of letter_choice letters text parts.front (λ z. absurd (true≢false z)) (first_all text) s calm h in
         (r.stage.keeps, r.stage.calm))
 
-  within_kept : (k : ℕ) (text letters : List ℕ) (s : StateValue) → rank s.mode ≤ k → IsUtf8 text → Calm s
+  within_kept : (k : ℕ) (text letters : List ℕ) (s : StateValue) → rank s.mode ≤ k → IsUtf8 text → Clean nulls text →
+      Calm s
       → Staged letter_choice letters s → Sound s → KeptPart text s (take_within k text s)
-  within_kept zero text letters s l u calm h sound = absurd (let r = rank_positive s.mode in omega arith)
-  within_kept (suc k) text letters s l u calm h sound =
+  within_kept zero text letters s l u clean calm h sound = absurd (let r = rank_positive s.mode in omega arith)
+  within_kept (suc k) text letters s l u clean calm h sound =
       either (takes_all s) refl
       (λ (t : StateValue) (m : rank t.mode < rank s.mode) (x : Sound t) (y : Calm t)
       (z : Staged letter_choice letters t).
-      within_kept k text letters t (omega arith) u y z x)
+      within_kept k text letters t (omega arith) u clean y z x)
     where
       either : (b : Bool) → takes_all s ≡ b
           → ((t : StateValue) → rank t.mode < rank s.mode → Sound t → Calm t → Staged letter_choice letters t
@@ -233,7 +242,7 @@ module _ (c : ℕ) (tests : CharacterTests c) where
       either true e more =
           absurd (true≢false (sym (and_parts (is_table_mode s.mode) (current_is Fostering s.stack) e).0
           ∙ no_tables letter_choice (is_text_mode s.content) s.mode letters s h))
-      either false e more = run_kept text letters s u calm h sound (take_within k text) more
+      either false e more = run_kept text letters s u clean calm h sound (take_within k text) more
 
   -- ---- a text
 
@@ -243,26 +252,29 @@ module _ (c : ℕ) (tests : CharacterTests c) where
   nothing_kept [] false e = occurs_nil c
   nothing_kept (b ∷ text) drops e = absurd (true≢false (sym e))
 
-  put_kept : (k : ℕ) (text letters : List ℕ) (s : StateValue) → length text ≤ k → IsUtf8 text → Calm s
+  put_kept : (k : ℕ) (text letters : List ℕ) (s : StateValue) → length text ≤ k → IsUtf8 text → Clean nulls text →
+      Calm s
       → Staged letter_choice letters s → Sound s → Grew c (occurrences c (kept text s)) s (put_within k text s)
-  put_kept zero [] letters s l u calm h sound =
+  put_kept zero [] letters s l u clean calm h sound =
       grew_as (occurrences c (kept [] s)) (sym (nothing_kept [] (is_before_head s.mode) refl))
       (kept_grew (kept_same sound))
-  put_kept zero (b ∷ text) letters s l u calm h sound = absurd (omega arith)
-  put_kept (suc k) text letters s l u calm h sound =
+  put_kept zero (b ∷ text) letters s l u clean calm h sound = absurd (omega arith)
+  put_kept (suc k) text letters s l u clean calm h sound =
       test (is_empty text)
       (λ e. rw e (grew_as (occurrences c (kept text s)) (sym (nothing_kept text (is_before_head s.mode) e))
       (kept_grew (kept_same sound))))
       (λ e. let r = rank_at_most s.mode in
-      let p = within_kept (turns s) text letters s (omega arith) u calm h sound in
-      let x = within_part letter_choice (turns s) text letters s u calm h in
+      let p = within_kept (turns s) text letters s (omega arith) u clean calm h sound in
+      let x = within_part letter_choice (turns s) text letters s u (λ z. absurd (true≢false z)) calm h in
       let shorter = part_shorter text s (filled text e) in
       let f = p.fits in
       let later = put_kept k (take_part text s).rest (letters ++ x.put) (take_part text s).state
-      (omega arith) x.utf8 x.calm x.stage p.grew.sound in
+      (omega arith) x.utf8 p.clean x.calm x.stage p.grew.sound in
       rw e (grew_then (occurrences c (kept text s)) (omega arith) p.grew later))
 
-  pub put_text_kept : (text letters : List ℕ) (s : StateValue) → IsUtf8 text → Calm s → Staged letter_choice letters s
+  pub put_text_kept : (text letters : List ℕ) (s : StateValue) → IsUtf8 text → Clean nulls text → Calm s → Staged
+      letter_choice letters s
       → Sound s
       → Grew c (occurrences c (without_white (is_before_head s.mode) text)) s (put_text text s)
-  put_text_kept text letters s u calm h sound = put_kept (length text) text letters s (omega arith) u calm h sound
+  put_text_kept text letters s u clean calm h sound = put_kept (length text) text letters s (omega arith) u clean calm
+      h sound

@@ -14,7 +14,9 @@ use Rattle.htmd_html5_state.specs.Foreign.{current_is_html}
 use Rattle.htmd_html5.specs.Texts.{put_text}
 use Rattle.htmd_html5.specs.Feeding.{is_text_mode, put_raw_text, feed_text, without_line_feed, with_nothing_skipped, feed}
 use Rattle.htmd_html5.specs.Documents.{next_read, is_end, after_token, read_within, state_after, html5_document}
-use Rattle.htmd_html5_laws.specs.PageLetters.{occurrences, occurrences_in}
+use Rattle.htmd_html5_laws.specs.PageLetters.{occurrences, occurrences_in, texts_of}
+use Rattle.htmd_html5_laws.specs.TextKept.{has_no_null, no_null_comes}
+use Rattle.htmd_html5_laws.proofs.WhiteRuns.{Clean, clean_shortened}
 use Rattle.htmd_html5_laws.specs.HarmlessTags.{tokens_after, tokens_within, page_tokens, drops_text_in, is_harmless}
 use Rattle.std.specs.Prelude.{codes}
 use Rattle.std.specs.Str.{bytes_eq}
@@ -48,50 +50,55 @@ character_tests c e =
     apart false true e = absurd (true≢false (sym e))
     apart true other e = absurd (true≢false (sym e))
 
-module _ (c : ℕ) (tests : CharacterTests c) where
-  feed_text_kept : (text letters : List ℕ) (s : StateValue) → IsUtf8 text → Staged letter_choice letters s → Sound s
+module _ (c : ℕ) (nulls : Bool) (tests : nulls ≡ true → CharacterTests c) where
+  -- none holds U+0000, if none may come
+  abbrev NoNull : tokens.TokenValue → Type 0
+  NoNull token = nulls ≡ false → has_no_null token ≡ true
+
+  feed_text_kept : (text letters : List ℕ) (s : StateValue) → IsUtf8 text → Clean nulls text
+      → Staged letter_choice letters s → Sound s
       → Grew c (occurrences c (without_white (drops_white s) text)) s (feed_text text s)
-  feed_text_kept text letters s u h sound = either (is_text_mode s.content) refl
+  feed_text_kept text letters s u clean h sound = either (is_text_mode s.content) refl
     where
       either : (b : Bool) → is_text_mode s.content ≡ b
           → Grew c (occurrences c (without_white (not b && is_before_head s.mode) text)) s
           (if b then put_raw_text text s else put_text text s)
       either true e = raw_grew c text s u sound
-      either false e = put_text_kept c tests text letters s u (inr e) h sound
+      either false e = put_text_kept c nulls tests text letters s u clean (inr e) h sound
 
   -- how often the character stands in what is kept of a token
   abbrev kept_count : tokens.TokenValue → StateValue → ℕ
   kept_count (tokens.text text) s = occurrences c (kept_text text s)
   kept_count _ s = 0
 
-  fed_kept : (token : tokens.TokenValue) (letters : List ℕ) (s : StateValue) → TokenUtf8 token → Staged letter_choice
-      letters s
-      → Sound s → Grew c (kept_count token s) s (feed token s)
-  fed_kept token letters s u h sound = by_token token u (kept_grew (with_nothing_skipped_keeps.keeps s sound))
+  fed_kept : (token : tokens.TokenValue) (letters : List ℕ) (s : StateValue) → TokenUtf8 token → NoNull token
+      → Staged letter_choice letters s → Sound s → Grew c (kept_count token s) s (feed token s)
+  fed_kept token letters s u clean h sound = by_token token u clean
+      (kept_grew (with_nothing_skipped_keeps.keeps s sound))
     where
       skipped : StateValue
       skipped = with_nothing_skipped s
 
-      by_token : (token : tokens.TokenValue) → TokenUtf8 token → Grew c 0 s skipped
+      by_token : (token : tokens.TokenValue) → TokenUtf8 token → NoNull token → Grew c 0 s skipped
           → Grew c (kept_count token s) s (feed token s)
-      by_token (tokens.text text) u a =
+      by_token (tokens.text text) u clean a =
           grew_then (occurrences c (kept_text text s)) (omega arith) a
           (feed_text_kept (without_line_feed s.skips_line_feed text) letters skipped
-          (shortened c s.skips_line_feed text u).utf8
+          (shortened c s.skips_line_feed text u).utf8 (clean_shortened nulls s.skips_line_feed text clean)
           (stage_skipped letter_choice (is_text_mode s.content) s.mode letters s h) a.sound)
-      by_token (tokens.start_tag tag) u a =
+      by_token (tokens.start_tag tag) u clean a =
           grew_then 0 (omega arith) a
           (kept_grew (others_kept (tokens.start_tag tag) s.skips_line_feed skipped a.sound))
-      by_token (tokens.end_tag tag) u a =
+      by_token (tokens.end_tag tag) u clean a =
           grew_then 0 (omega arith) a
           (kept_grew (others_kept (tokens.end_tag tag) s.skips_line_feed skipped a.sound))
-      by_token (tokens.comment text) u a =
+      by_token (tokens.comment text) u clean a =
           grew_then 0 (omega arith) a
           (kept_grew (others_kept (tokens.comment text) s.skips_line_feed skipped a.sound))
-      by_token (tokens.doctype quirks) u a =
+      by_token (tokens.doctype quirks) u clean a =
           grew_then 0 (omega arith) a
           (kept_grew (others_kept (tokens.doctype quirks) s.skips_line_feed skipped a.sound))
-      by_token tokens.end_of_file u a =
+      by_token tokens.end_of_file u clean a =
           grew_then 0 (omega arith) a
           (kept_grew (others_kept tokens.end_of_file s.skips_line_feed skipped a.sound))
 
@@ -112,49 +119,73 @@ module _ (c : ℕ) (tests : CharacterTests c) where
   end_keeps_none (tokens.doctype quirks) s e = refl
   end_keeps_none tokens.end_of_file s e = refl
 
+  end_is_clean : (token : tokens.TokenValue) → is_end token ≡ true → has_no_null token ≡ true
+  end_is_clean (tokens.text text) e = absurd (true≢false (sym e))
+  end_is_clean (tokens.start_tag tag) e = refl
+  end_is_clean (tokens.end_tag tag) e = refl
+  end_is_clean (tokens.comment text) e = refl
+  end_is_clean (tokens.doctype quirks) e = refl
+  end_is_clean tokens.end_of_file e = refl
+
   -- ---- all tokens
 
+  -- the tokens that are read from a state on
+  record Allowed (k : ℕ) (page : List ℕ) (s : StateValue) : Type 0 where
+    orderly : list_all is_orderly (tokens_within k page s) ≡ true
+    clean : nulls ≡ false → list_all has_no_null (tokens_within k page s) ≡ true
+
   after_kept_all : (k : ℕ) (read : Read) (letters : List ℕ) (s : StateValue) → Sound s → ReadUtf8 read
-      → list_all is_orderly (tokens_after (tokens_within k) read s) ≡ true → Staged letter_choice letters s
-      → ((more : List ℕ) (t : StateValue) → list_all is_orderly (tokens_within k read.rest t) ≡ true
-      → Staged letter_choice more t → Sound t
+      → list_all is_orderly (tokens_after (tokens_within k) read s) ≡ true
+      → (nulls ≡ false → list_all has_no_null (tokens_after (tokens_within k) read s) ≡ true)
+      → Staged letter_choice letters s
+      → ((more : List ℕ) (t : StateValue) → Allowed k read.rest t → Staged letter_choice more t → Sound t
       → Grew c (occurrences_in c (kept_within k read.rest t)) t (read_within k read.rest t))
       → Grew c (occurrences_in c (kept_after (kept_within k) read s)) s (after_token (read_within k) read s)
-  after_kept_all k read letters s sound u e h more = either (is_end read.token) refl e
+  after_kept_all k read letters s sound u e n h more = either (is_end read.token) refl e n
     where
       either : (b : Bool) → is_end read.token ≡ b
           → list_all is_orderly
           (if b then [] else read.token ∷ tokens_within k read.rest (feed read.token s)) ≡ true
+          → (nulls ≡ false → list_all has_no_null
+          (if b then [] else read.token ∷ tokens_within k read.rest (feed read.token s)) ≡ true)
           → Grew c
           (occurrences_in c (if b then [] else with_kept_text read.token s (kept_within k read.rest
           (feed read.token s)))) s
           (if b then feed read.token s else read_within k read.rest (feed read.token s))
-      either true g f = grew_as 0 (end_keeps_none read.token s g) (fed_kept read.token letters s u.token h sound)
-      either false g f =
+      either true g f n =
+          grew_as 0 (end_keeps_none read.token s g)
+          (fed_kept read.token letters s u.token (λ z. end_is_clean read.token g) h sound)
+      either false g f n =
           let sum = count_kept read.token s (kept_within k read.rest (feed read.token s)) in
           let both = and_parts (is_orderly read.token)
           (list_all is_orderly (tokens_within k read.rest (feed read.token s))) f in
-          let first = fed_kept read.token letters s u.token h sound in
+          let none = λ (z : nulls ≡ false). and_parts (has_no_null read.token)
+          (list_all has_no_null (tokens_within k read.rest (feed read.token s))) (n z) in
+          let first = fed_kept read.token letters s u.token (λ z. (none z).0) h sound in
           grew_then
           (occurrences_in c (with_kept_text read.token s (kept_within k read.rest (feed read.token s))))
           (omega arith) first
-          (more (letters ++ kept_letters letter_choice read.token s) (feed read.token s) both.1
-          (feed_stage letter_choice letters read.token s u.token both.0 (λ z. absurd (true≢false z)) h) first.sound)
+          (more (letters ++ kept_letters letter_choice read.token s) (feed read.token s)
+          (record { orderly = both.1; clean = λ z. (none z).1 })
+          (feed_stage letter_choice letters read.token s u.token both.0 (λ z. absurd (true≢false z))
+          (λ z. absurd (true≢false z)) h) first.sound)
 
-  read_kept : (k : ℕ) (page : List ℕ) (letters : List ℕ) (s : StateValue) → IsUtf8 page
-      → list_all is_orderly (tokens_within k page s) ≡ true → Staged letter_choice letters s → Sound s
+  read_kept : (k : ℕ) (page : List ℕ) (letters : List ℕ) (s : StateValue) → IsUtf8 page → Allowed k page s
+      → Staged letter_choice letters s → Sound s
       → Grew c (occurrences_in c (kept_within k page s)) s (read_within k page s)
-  read_kept zero page letters s u e h sound = fed_kept tokens.end_of_file letters s tt h sound
-  read_kept (suc k) page letters s u e h sound =
+  read_kept zero page letters s u a h sound = fed_kept tokens.end_of_file letters s tt (λ z. refl) h sound
+  read_kept (suc k) page letters s u a h sound =
       let r = next_token_utf8 s.content (not (current_is_html s.stack)) page u in
-      after_kept_all k (next_read page s) letters s sound r e h
+      after_kept_all k (next_read page s) letters s sound r a.orderly a.clean h
       (λ more t f g x. read_kept k (next_read page s).rest more t r.rest f g x)
 
-  pub state_kept : (scripting : Bool) (page : List ℕ) → IsUtf8 page → all_tags_are_orderly scripting page ≡ true
+  state_kept : (scripting : Bool) (page : List ℕ) → IsUtf8 page → all_tags_are_orderly scripting page ≡ true
+      → (nulls ≡ false → no_null_comes scripting page ≡ true)
       → Grew c (occurrences_in c (kept_texts scripting page)) (initial_state scripting) (state_after scripting page)
-  state_kept scripting page u e =
+  state_kept scripting page u e n =
       read_kept (length (preprocessed page)) (preprocessed page) [] (initial_state scripting)
-      (preprocessed_utf8 page u) e (begins_staged letter_choice scripting) (initial_sound scripting)
+      (preprocessed_utf8 page u) (record { orderly = e; clean = n }) (begins_staged letter_choice scripting)
+      (initial_sound scripting)
 
 -- ---- such a page drops no text
 
@@ -176,14 +207,21 @@ all_harmless (t ∷ ts) e =
 
 -- ---- the law
 
+module _ (c : ℕ) (nulls : Bool) (tests : nulls ≡ true → CharacterTests c) where
+  pub counts_kept : (scripting : Bool) (page : List ℕ) → IsUtf8 page → all_tags_are_orderly scripting page ≡ true
+      → (nulls ≡ false → no_null_comes scripting page ≡ true)
+      → occurrences_in c (texts_of (html5_document scripting page)) ≡ occurrences_in c (kept_texts scripting page)
+  unfolding html5_document
+  counts_kept scripting page u orderly clean =
+      let a = state_kept c nulls tests scripting page u orderly clean in
+      let hung = harmless_hung scripting page (all_harmless (page_tokens scripting page) orderly) in
+      let b = laid_texts c greatest_depth (state_after scripting page).nodes a.sound in
+      let d = whole_texts c (state_after scripting page).nodes a.sound.root a.sound.forest
+      (ranked_hang hung.rank (state_after scripting page).nodes a.sound.root hung.root hung.hangs) greatest_depth
+      (nodes_utf8 (state_after scripting page).nodes a.sound.utf8) in
+      let e = a.grows in
+      omega arith
+
 pub characters_kept : CharactersAreKept
-unfolding html5_document
 characters_kept scripting page c u orderly is =
-    let a = state_kept c (character_tests c is) scripting page u orderly in
-    let hung = harmless_hung scripting page (all_harmless (page_tokens scripting page) orderly) in
-    let b = laid_texts c greatest_depth (state_after scripting page).nodes a.sound in
-    let d = whole_texts c (state_after scripting page).nodes a.sound.root a.sound.forest
-    (ranked_hang hung.rank (state_after scripting page).nodes a.sound.root hung.root hung.hangs) greatest_depth
-    (nodes_utf8 (state_after scripting page).nodes a.sound.utf8) in
-    let e = a.grows in
-    omega arith
+    counts_kept c true (λ n. character_tests c is) scripting page u orderly (λ z. absurd (true≢false z))

@@ -107,4 +107,5 @@ pub letters_in_order : LettersStandInOrder
 letters_in_order scripting page u e =
     sym (same_letters (texts_of (html5_document scripting page)))
     ∙ (counted_in_order letter_choice scripting page u e (λ z. absurd (true≢false z))
+    (λ z. absurd (true≢false z))
     ∙ (same_letters (kept_texts scripting page) ∙ kept_letters_same scripting page u))

@@ -26,7 +26,7 @@ use Rattle.htmd_html5.specs.Runs.{kind_of_byte, is_of_kind, first_kind, first_ru
 use Rattle.htmd_html5.specs.Texts.{first_token}
 use Rattle.htmd_grammar.specs.CharacterClasses.{behind_run}
 use Rattle.htmd_html5_laws.specs.TextKept.{is_before_head}
-use Rattle.htmd_html5_laws.proofs.WhiteRuns.{Dark, behind_white, dark_nulls, dark_characters, late_is_after}
+use Rattle.htmd_html5_laws.proofs.WhiteRuns.{Dark, behind_white, dark_nulls, dark_characters, late_is_after, Clean, nulls_come}
 use Rattle.htmd_html5.specs.Answers.{Answer, done}
 use Rattle.htmd_html5.specs.Feeding.{is_text_mode}
 use Rattle.htmd_html5.specs.InBody.{run_in_body}
@@ -74,32 +74,33 @@ module _ (choice : Choice) where
   class_letters p t low f e =
       ap (filter choice.counts) (chars-IsAscii t (all_ascii p t low e)) ∙ none_pass choice.counts p t f e
 
-  null_counts_not : (b : ℕ) → is_of_kind (kind_of_byte 0) b ≡ true → choice.counts b ≡ false
-  null_counts_not b e = ap choice.counts (eqb-true b null e) ∙ choice.no_null
+  null_counts_not : choice.nulls ≡ true → (b : ℕ) → is_of_kind (kind_of_byte 0) b ≡ true → choice.counts b ≡ false
+  null_counts_not n b e = ap choice.counts (eqb-true b null e) ∙ choice.no_null n
 
   pub white_letters : (t : List ℕ) → choice.reopens ≡ true → list_all (is_of_kind (kind_of_byte 32)) t ≡ true
       → counted_of choice t ≡ []
   white_letters t r e = class_letters (is_of_kind (kind_of_byte 32)) t white_is_ascii (choice.no_white r) e
 
-  null_letters : (t : List ℕ) → list_all (is_of_kind (kind_of_byte 0)) t ≡ true → counted_of choice t ≡ []
-  null_letters t e = class_letters (is_of_kind (kind_of_byte 0)) t never_null null_counts_not e
+  null_letters : (t : List ℕ) → choice.nulls ≡ true → list_all (is_of_kind (kind_of_byte 0)) t ≡ true → counted_of
+      choice t ≡ []
+  null_letters t n e = class_letters (is_of_kind (kind_of_byte 0)) t never_null (null_counts_not n) e
 
-  one_letters : counted_of choice (encode_utf8 replacement_character) ≡ []
+  one_letters : choice.nulls ≡ true → counted_of choice (encode_utf8 replacement_character) ≡ []
   unfolding counted_of encode_utf8
-  one_letters =
+  one_letters n =
       ap (filter choice.counts) (chars_past_char (encode_utf8 replacement_character) [] replacement_character one_utf8
       refl
-      ∙ ap (λ (x : List ℕ). replacement_character ∷ x) chars-nil) ∙ rw choice.no_replacement refl
+      ∙ ap (λ (x : List ℕ). replacement_character ∷ x) chars-nil) ∙ rw (choice.no_replacement n) refl
 
   pub nil_letters : counted_of choice [] ≡ []
   unfolding counted_of
   nil_letters = ap (filter choice.counts) chars-nil
 
-  replaced_letters : (t : List ℕ) → counted_of choice (replacements t) ≡ []
-  replaced_letters [] = nil_letters
-  replaced_letters (b ∷ t) =
+  replaced_letters : choice.nulls ≡ true → (t : List ℕ) → counted_of choice (replacements t) ≡ []
+  replaced_letters n [] = nil_letters
+  replaced_letters n (b ∷ t) =
       letters_append choice (encode_utf8 replacement_character) (replacements t) one_utf8
-      ∙ (ap (λ (x : List ℕ). x ++ counted_of choice (replacements t)) one_letters ∙ replaced_letters t)
+      ∙ (ap (λ (x : List ℕ). x ++ counted_of choice (replacements t)) (one_letters n) ∙ replaced_letters n t)
 
 -- a text, unless it goes
 abbrev pub unless : Bool → List ℕ → List ℕ
@@ -435,15 +436,15 @@ module _ (choice : Choice) where
           (late_writes letters t s u h))
           ((late_runs s.mode letters t s u h.late h).white (λ r. white_letters choice t r all))
 
-      late_nulls : Outcome 0 false
-      late_nulls all =
+      late_nulls : choice.nulls ≡ true → Outcome 0 false
+      late_nulls n all =
           let x = late_writes letters (replacements t) s (replaced_utf8 0 t) h in
           chosen letters t (is_before_head s.mode) false (is_foreign (run (kind_of_byte 0) t) s)
           (late_run letters t (is_before_head s.mode) false (insert_text (replacements t) s)
           (late_is_after s.mode h.late)
           (subst (λ (more : List ℕ). Late choice (letters ++ more) (insert_text (replacements t) s))
-          (replaced_letters choice t ∙ sym (null_letters choice t all)) x))
-          ((late_runs s.mode letters t s u h.late h).nulls (null_letters choice t all))
+          (replaced_letters choice n t ∙ sym (null_letters choice t n all)) x))
+          ((late_runs s.mode letters t s u h.late h).nulls (null_letters choice t n all))
 
       late_characters : Outcome 97 false
       late_characters all =
@@ -464,12 +465,12 @@ module _ (choice : Choice) where
           (current_html s.stack (stage_names choice s.mode letters s l h)))
           ((early_runs s.mode letters t s u refl l e h).white (λ r. white_letters choice t r all))
 
-      early_nulls : Outcome 0 false
-      early_nulls all =
+      early_nulls : choice.nulls ≡ true → Outcome 0 false
+      early_nulls n all =
           not_chosen letters t (is_before_head s.mode) false _ (is_foreign (run (kind_of_byte 0) t) s)
           (stays_html (run (kind_of_byte 0) t) s
           (current_html s.stack (stage_names choice s.mode letters s l h)))
-          ((early_runs s.mode letters t s u refl l e h).nulls (null_letters choice t all))
+          ((early_runs s.mode letters t s u refl l e h).nulls (null_letters choice t n all))
 
       early_characters : Outcome 97 false
       early_characters all =
@@ -492,8 +493,8 @@ module _ (choice : Choice) where
       white_stage : Outcome 32 true
       white_stage all = by_stage (λ x. late_white x all) (λ l c x. early_white l c x all)
 
-      nulls_stage : Outcome 0 false
-      nulls_stage all = by_stage (λ x. late_nulls x all) (λ l c x. early_nulls l c x all)
+      nulls_stage : choice.nulls ≡ true → Outcome 0 false
+      nulls_stage n all = by_stage (λ x. late_nulls x n all) (λ l c x. early_nulls l c x n all)
 
       characters_stage : Outcome 97 false
       characters_stage all = by_stage (λ x. late_characters x all) (λ l c x. early_characters l c x all)
@@ -507,10 +508,10 @@ module _ (choice : Choice) where
     pub dark : white ≡ false → Dark whole
     pub stage : RunStage choice letters (first_run whole) (is_before_head s.mode) white a
 
-  pub run_of : (letters whole : List ℕ) → IsUtf8 (first_run whole)
+  pub run_of : (letters whole : List ℕ) → IsUtf8 (first_run whole) → Clean choice.nulls whole
       → list_all (is_of_kind (first_kind whole)) (first_run whole) ≡ true → (s : StateValue) → Calm s
       → Staged choice letters s → RunOf letters whole s (by_rules (first_token whole) s)
-  run_of letters whole u all s calm h =
+  run_of letters whole u clean all s calm h =
       by_first_kind
       (λ kind. first_kind whole ≡ kind → list_all (is_of_kind kind) (first_run whole) ≡ true
       → RunOf letters whole s (by_rules (run kind (first_run whole)) s))
@@ -524,7 +525,7 @@ module _ (choice : Choice) where
         white = false;
         bright = λ z. absurd (true≢false (sym z));
         dark = λ z. dark_nulls whole e;
-        stage = nulls_stage letters (first_run whole) u s calm h x;
+        stage = nulls_stage letters (first_run whole) u s calm h (nulls_come choice.nulls whole clean e) x;
       })
       (λ e x. record {
         white = false;

@@ -356,8 +356,8 @@ module _ (choice : Choice) where
       at_parent limit big q e =
           subst (λ (x : ℕ). Row (marks choice none_out joined limit with_more) (with_more.lo x) (children_at nodes x)
           (until limit with_more x)) e
-          (subst
-          (λ (x : ℕ). Row (marks choice none_out joined limit with_more) (with_more.lo p) (children_at nodes p) x)
+          (subst (λ (x : ℕ). Row (marks choice none_out joined limit with_more) (with_more.lo p) (children_at nodes p)
+          x)
           (sym (more_other_until limit p p_other ∙ ap (λ (b : Bool). cond b limit (l.hi p)) live))
           (subst (λ (x : ℕ). Row (marks choice none_out joined limit with_more) x (children_at nodes p) limit)
           (sym (more_other_lo p p_other))
@@ -403,8 +403,8 @@ module _ (choice : Choice) where
       at_other limit big q f g =
           subst (λ (x : ℕ). Row (marks choice none_out joined limit with_more) (with_more.lo q) (children_at nodes q) x)
           (sym (more_other_until limit q (λ e. g (sym e))))
-          (subst
-          (λ (x : ℕ). Row (marks choice none_out joined limit with_more) x (children_at nodes q) (until limit l q))
+          (subst (λ (x : ℕ). Row (marks choice none_out joined limit with_more) x (children_at nodes q)
+          (until limit l q))
           (sym (more_other_lo q (λ e. g (sym e))))
           (more_row_kept limit (l.lo q) (children_at nodes q) (until limit l q) big (n_elsewhere q f)
           (h.rows limit (omega arith) q)))

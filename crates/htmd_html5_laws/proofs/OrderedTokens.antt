@@ -48,10 +48,10 @@ use Rattle.htmd_html5_laws.proofs.OrderedEarly.{EarlyIn, head_open, AfterHeadAt,
 use Rattle.htmd_html5_laws.proofs.OrderedEarly.{StageAnswer, early_fewer}
 use Rattle.htmd_html5_laws.proofs.OrderedHead.{by_rules_stage, unstaged, MayCome, opens_head, never_after_head}
 use Rattle.htmd_html5_laws.proofs.OrderedRuns.{no_more, staged_grown, RunOf, run_of, late_writes, unless, nil_letters, early_text}
-use Rattle.htmd_html5_laws.proofs.WhiteRuns.{Dark, dark_whole, behind_twice, white_or_dark}
+use Rattle.htmd_html5_laws.proofs.WhiteRuns.{Dark, dark_whole, behind_twice, white_or_dark, Clean, clean_rest, clean_shortened}
 use Rattle.htmd_html5_laws.specs.TextKept.{is_before_head, drops_white, without_white, kept_text, with_kept_text, kept_after}
 use Rattle.htmd_html5_laws.specs.TextKept.{kept_within, kept_texts, is_head_name, is_after_head, comes_late, early_after}
-use Rattle.htmd_html5_laws.specs.TextKept.{early_within, no_tag_comes_late}
+use Rattle.htmd_html5_laws.specs.TextKept.{early_within, no_tag_comes_late, has_no_null, no_null_comes}
 use Rattle.htmd_text.specs.WhiteSpace.{is_ascii_white_space}
 use Rattle.htmd_grammar.specs.CharacterClasses.{behind_run}
 use Rattle.htmd_html5_state.specs.declared.names.TagName.TheVariants as tags
@@ -74,6 +74,7 @@ module _ (choice : Choice) where
     pub calm : Calm t.state
     pub fits : put ++ counted_of choice (kept t.rest t.state) ≡ counted_of choice (kept text s)
     pub utf8 : IsUtf8 t.rest
+    pub clean : Clean choice.nulls t.rest
 
   pub letters_split : (s : List ℕ) → IsUtf8 s
       → counted_of choice (first_run s) ++ counted_of choice (after_first_run s) ≡ counted_of choice s
@@ -147,11 +148,12 @@ module _ (choice : Choice) where
                 ∙ (letters_split text u ∙ ap (counted_of choice) (sym dark))),
           )
 
-  run_part : (k : ℕ) (text : List ℕ) (letters : List ℕ) (s : StateValue) (a : Answer) → IsUtf8 text
+  run_part : (k : ℕ) (text : List ℕ) (letters : List ℕ) (s : StateValue) (a : Answer) → IsUtf8 text → Clean
+      choice.nulls text
       → RunOf choice letters text s a
       → ((t : StateValue) → Calm t → Staged choice letters t → Part letters text t (take_within k text t))
       → Part letters text s (after_run (take_within k text) (after_first_run text) a)
-  run_part k text letters s a u r more = either a.again refl
+  run_part k text letters s a u clean r more = either a.again refl
     where
       either : (b : Bool) → a.again ≡ b
           → Part letters text s (if b then take_within k text a.state else taken a.state (after_first_run text))
@@ -168,6 +170,7 @@ module _ (choice : Choice) where
                 (dark_whole text dark (is_before_head a.state.mode)
                 ∙ sym (dark_whole text dark (is_before_head s.mode)));
             utf8 = p.utf8;
+            clean = p.clean;
           }
       either false e = record {
         put = counted_of choice (unless (is_before_head s.mode && r.white) (first_run text));
@@ -178,11 +181,13 @@ module _ (choice : Choice) where
             ++ counted_of choice (without_white b (after_first_run text))) (r.stage.after e)
             ∙ parts_fit text (is_before_head s.mode) r.white u r.bright r.dark;
         utf8 = (run_parts 0 text u).rest;
+        clean = clean_rest choice.nulls text clean;
       }
 
-  pub within_part : (k : ℕ) (text : List ℕ) (letters : List ℕ) (s : StateValue) → IsUtf8 text → Calm s
+  pub within_part : (k : ℕ) (text : List ℕ) (letters : List ℕ) (s : StateValue) → IsUtf8 text → Clean choice.nulls
+      text → Calm s
       → Staged choice letters s → Part letters text s (take_within k text s)
-  within_part zero text letters s u calm h =
+  within_part zero text letters s u clean calm h =
       let x = skipped_fit text u (is_before_head s.mode) in
       record {
         put = x.0;
@@ -190,9 +195,10 @@ module _ (choice : Choice) where
         calm = calm;
         fits = x.1;
         utf8 = (run_parts 0 text u).rest;
+        clean = clean_rest choice.nulls text clean;
       }
-  within_part (suc k) text letters s u calm h =
-      either (takes_all s) refl (λ t c x. within_part k text letters t u c x)
+  within_part (suc k) text letters s u clean calm h =
+      either (takes_all s) refl (λ t c x. within_part k text letters t u clean c x)
     where
       either : (b : Bool) → takes_all s ≡ b
           → ((t : StateValue) → Calm t → Staged choice letters t → Part letters text t (take_within k text t))
@@ -202,20 +208,21 @@ module _ (choice : Choice) where
           absurd (true≢false (sym (and_parts (is_table_mode s.mode) (current_is Fostering s.stack) e).0
           ∙ no_tables (is_text_mode s.content) s.mode letters s h))
       either false e more =
-          run_part k text letters s (by_rules (first_token text) s) u
-          (run_of choice letters text (run_parts 0 text u).front (first_all text) s calm h) more
+          run_part k text letters s (by_rules (first_token text) s) u clean
+          (run_of choice letters text (run_parts 0 text u).front clean (first_all text) s calm h) more
 
-  put_stage : (k : ℕ) (text : List ℕ) (letters : List ℕ) (s : StateValue) → IsUtf8 text → Calm s
+  put_stage : (k : ℕ) (text : List ℕ) (letters : List ℕ) (s : StateValue) → IsUtf8 text → Clean choice.nulls text →
+      Calm s
       → Staged choice letters s
       → Staged choice (letters ++ counted_of choice (kept text s)) (put_within k text s)
-  put_stage zero text letters s u calm h = staged_grown choice letters (counted_of choice (kept text s)) s h
-  put_stage (suc k) text letters s u calm h =
-      let p = within_part (turns s) text letters s u calm h in
+  put_stage zero text letters s u clean calm h = staged_grown choice letters (counted_of choice (kept text s)) s h
+  put_stage (suc k) text letters s u clean calm h =
+      let p = within_part (turns s) text letters s u clean calm h in
       let rest = kept (take_part text s).rest (take_part text s).state in
       either (is_empty text)
       (subst (λ (x : List ℕ). Staged choice x (put_within k (take_part text s).rest (take_part text s).state))
       (append_assoc letters p.put (counted_of choice rest) ∙ ap (λ (x : List ℕ). letters ++ x) p.fits)
-      (put_stage k (take_part text s).rest (letters ++ p.put) (take_part text s).state p.utf8 p.calm p.stage))
+      (put_stage k (take_part text s).rest (letters ++ p.put) (take_part text s).state p.utf8 p.clean p.calm p.stage))
     where
       either : (b : Bool)
           → Staged choice (letters ++ counted_of choice (kept text s))
@@ -280,15 +287,15 @@ module _ (choice : Choice) where
           subst (λ (b : Bool). Stage choice b s.mode (letters ++ counted_of choice t) (insert_text t s)) (sym e)
           (raw_text_stage s.mode letters t s u (unstaged choice true s.mode letters s e refl h))
 
-  feed_text_stage : (letters t : List ℕ) (s : StateValue) → IsUtf8 t → Staged choice letters s
+  feed_text_stage : (letters t : List ℕ) (s : StateValue) → IsUtf8 t → Clean choice.nulls t → Staged choice letters s
       → Staged choice (letters ++ counted_of choice (without_white (drops_white s) t)) (feed_text t s)
-  feed_text_stage letters t s u h = either (is_text_mode s.content) refl
+  feed_text_stage letters t s u clean h = either (is_text_mode s.content) refl
     where
       either : (b : Bool) → is_text_mode s.content ≡ b
           → Staged choice (letters ++ counted_of choice (without_white (not b && is_before_head s.mode) t))
           (if b then put_raw_text t s else put_text t s)
       either true e = put_raw_stage letters t s u e h
-      either false e = put_stage (length t) t letters s u (inr e) h
+      either false e = put_stage (length t) t letters s u clean (inr e) h
 
 -- ---- an element of only text is closed
 
@@ -454,6 +461,10 @@ module _ (choice : Choice) where
   abbrev NotLate : tokens.TokenValue → StateValue → Type 0
   NotLate token s = choice.reopens ≡ false → comes_late token s ≡ false
 
+  -- none holds U+0000, if none may come
+  abbrev NoNull : tokens.TokenValue → Type 0
+  NoNull token = choice.nulls ≡ false → has_no_null token ≡ true
+
   abbrev pub kept_letters : tokens.TokenValue → StateValue → List ℕ
   kept_letters (tokens.text t) s = counted_of choice (kept_text t s)
   kept_letters _ s = []
@@ -510,30 +521,33 @@ module _ (choice : Choice) where
         (processed choice t p letters (out_of_text_mode s) (out_of_text choice letters s h) may)
 
     pub feed_stage : (token : tokens.TokenValue) (s : StateValue) → TokenUtf8 token → is_orderly token ≡ true
-        → NotLate token s → Staged choice letters s
+        → NotLate token s → NoNull token → Staged choice letters s
         → Staged choice (letters ++ kept_letters token s) (feed token s)
-    feed_stage token s u e late h = by_token token u e late (stage_skipped (is_text_mode s.content) s.mode letters s h)
+    feed_stage token s u e late clean h =
+        by_token token u e late clean (stage_skipped (is_text_mode s.content) s.mode letters s h)
       where
         skipped : StateValue
         skipped = with_nothing_skipped s
 
-        by_token : (token : tokens.TokenValue) → TokenUtf8 token → is_orderly token ≡ true → NotLate token s
+        by_token : (token : tokens.TokenValue) → TokenUtf8 token → is_orderly token ≡ true → NotLate token s → NoNull
+            token
             → Staged choice letters (with_nothing_skipped s)
             → Staged choice (letters ++ kept_letters token s) (feed token s)
-        by_token (tokens.text t) u e late x =
+        by_token (tokens.text t) u e late clean x =
             feed_text_stage choice letters (without_line_feed s.skips_line_feed t) skipped
-            (shortened 0 s.skips_line_feed t u).utf8 x
-        by_token (tokens.start_tag tag) u e late x =
+            (shortened 0 s.skips_line_feed t u).utf8
+            (clean_shortened choice.nulls s.skips_line_feed t clean) x
+        by_token (tokens.start_tag tag) u e late clean x =
             others_stage (start_tag (named tag)) (orderly_name tag.name (orderly_tag (moves_text_in tag.name) e))
             skipped x
             (λ z m. and_false (is_after_head s.mode) (is_head_name (name_of_text tag.name))
             (ap is_after_head (sym (out_of_text_stays skipped) ∙ m)) (late z))
-        by_token (tokens.end_tag tag) u e late x =
+        by_token (tokens.end_tag tag) u e late clean x =
             none_put (feed_end_tag (name_of_text tag.name) skipped)
             (end_tag_stage choice (name_of_text tag.name) letters skipped x)
-        by_token (tokens.comment t) u e late x = others_stage (comment t) tt skipped x (λ z m. refl)
-        by_token (tokens.doctype quirks) u e late x = others_stage (doctype quirks) tt skipped x (λ z m. refl)
-        by_token tokens.end_of_file u e late x = others_stage end_of_file tt skipped x (λ z m. refl)
+        by_token (tokens.comment t) u e late clean x = others_stage (comment t) tt skipped x (λ z m. refl)
+        by_token (tokens.doctype quirks) u e late clean x = others_stage (doctype quirks) tt skipped x (λ z m. refl)
+        by_token tokens.end_of_file u e late clean x = others_stage end_of_file tt skipped x (λ z m. refl)
 
   -- ---- all tokens
 
@@ -541,63 +555,71 @@ module _ (choice : Choice) where
     orderly : is_orderly token ≡ true
     none : kept_letters token s ≡ []
     early : comes_late token s ≡ false
+    clean : has_no_null token ≡ true
 
   ends : (token : tokens.TokenValue) (s : StateValue) → is_end token ≡ true → EndToken token s
   ends (tokens.text t) s f = absurd (true≢false (sym f))
   ends (tokens.start_tag tag) s f = absurd (true≢false (sym f))
-  ends (tokens.end_tag tag) s f = record { orderly = refl; none = refl; early = refl }
-  ends (tokens.comment t) s f = record { orderly = refl; none = refl; early = refl }
-  ends (tokens.doctype quirks) s f = record { orderly = refl; none = refl; early = refl }
-  ends tokens.end_of_file s f = record { orderly = refl; none = refl; early = refl }
+  ends (tokens.end_tag tag) s f = record { orderly = refl; none = refl; early = refl; clean = refl }
+  ends (tokens.comment t) s f = record { orderly = refl; none = refl; early = refl; clean = refl }
+  ends (tokens.doctype quirks) s f = record { orderly = refl; none = refl; early = refl; clean = refl }
+  ends tokens.end_of_file s f = record { orderly = refl; none = refl; early = refl; clean = refl }
 
   -- the tokens that are read from a state on
   pub record Allowed (k : ℕ) (page : List ℕ) (s : StateValue) : Type 0 where
     pub orderly : list_all is_orderly (tokens_within k page s) ≡ true
     pub early : choice.reopens ≡ false → early_within k page s ≡ true
+    pub clean : choice.nulls ≡ false → list_all has_no_null (tokens_within k page s) ≡ true
 
   after_stage : (k : ℕ) (read : Read) (letters : List ℕ) (s : StateValue) → ReadUtf8 read
       → list_all is_orderly (tokens_after (tokens_within k) read s) ≡ true
       → (choice.reopens ≡ false → early_after (early_within k) read s ≡ true)
+      → (choice.nulls ≡ false → list_all has_no_null (tokens_after (tokens_within k) read s) ≡ true)
       → Staged choice letters s
       → ((more : List ℕ) (t : StateValue) → Allowed k read.rest t → Staged choice more t
       → Staged choice (more ++ counted_in choice (kept_within k read.rest t)) (read_within k read.rest t))
       → Staged choice (letters ++ counted_in choice (kept_after (kept_within k) read s))
       (after_token (read_within k) read s)
-  after_stage k read letters s u e l h more = either (is_end read.token) refl e l
+  after_stage k read letters s u e l n h more = either (is_end read.token) refl e l n
     where
       either : (b : Bool) → is_end read.token ≡ b
           → list_all is_orderly
           (if b then [] else read.token ∷ tokens_within k read.rest (feed read.token s)) ≡ true
           → (choice.reopens ≡ false
           → (if b then true else not (comes_late read.token s) && early_within k read.rest (feed read.token s)) ≡ true)
+          → (choice.nulls ≡ false → list_all has_no_null
+          (if b then [] else read.token ∷ tokens_within k read.rest (feed read.token s)) ≡ true)
           → Staged choice (letters ++ counted_in choice
           (if b then [] else with_kept_text read.token s (kept_within k read.rest (feed read.token s))))
           (if b then feed read.token s else read_within k read.rest (feed read.token s))
-      either true g f l =
+      either true g f l n =
           let x = ends read.token s g in
           subst (λ (x : List ℕ). Staged choice (letters ++ x) (feed read.token s)) x.none
-          (feed_stage letters read.token s u.token x.orderly (λ z. x.early) h)
-      either false g f l =
+          (feed_stage letters read.token s u.token x.orderly (λ z. x.early) (λ z. x.clean) h)
+      either false g f l n =
           let parts = and_parts (is_orderly read.token)
           (list_all is_orderly (tokens_within k read.rest (feed read.token s))) f in
           let apart = λ (z : choice.reopens ≡ false). and_parts (not (comes_late read.token s))
           (early_within k read.rest (feed read.token s)) (l z) in
+          let none = λ (z : choice.nulls ≡ false). and_parts (has_no_null read.token)
+          (list_all has_no_null (tokens_within k read.rest (feed read.token s))) (n z) in
           subst (λ (x : List ℕ). Staged choice x (read_within k read.rest (feed read.token s)))
           (append_assoc letters (kept_letters read.token s)
           (counted_in choice (kept_within k read.rest (feed read.token s)))
           ∙ ap (λ (x : List ℕ). letters ++ x)
           (sym (letters_with read.token s (kept_within k read.rest (feed read.token s)))))
           (more (letters ++ kept_letters read.token s) (feed read.token s)
-          (record { orderly = parts.1; early = λ z. (apart z).1 })
-          (feed_stage letters read.token s u.token parts.0 (λ z. orderly_tag (comes_late read.token s) (apart z).0) h))
+          (record { orderly = parts.1; early = λ z. (apart z).1; clean = λ z. (none z).1 })
+          (feed_stage letters read.token s u.token parts.0 (λ z. orderly_tag (comes_late read.token s) (apart z).0)
+          (λ z. (none z).0) h))
 
   read_stage : (k : ℕ) (page : List ℕ) (letters : List ℕ) (s : StateValue) → IsUtf8 page → Allowed k page s
       → Staged choice letters s
       → Staged choice (letters ++ counted_in choice (kept_within k page s)) (read_within k page s)
-  read_stage zero page letters s u a h = feed_stage letters tokens.end_of_file s tt refl (λ z. refl) h
+  read_stage zero page letters s u a h = feed_stage letters tokens.end_of_file s tt refl (λ z. refl) (λ z. refl) h
   read_stage (suc k) page letters s u a h =
       let r = next_token_utf8 s.content (not (current_is_html s.stack)) page u in
-      after_stage k (next_read page s) letters s r a.orderly a.early h
+      after_stage k (next_read page s) letters s r a.orderly a.early a.clean h
       (λ more t f g. read_stage k (next_read page s).rest more t r.rest f g)
 
   -- ---- the first state
@@ -646,10 +668,11 @@ module _ (choice : Choice) where
 
   pub state_staged : (scripting : Bool) (page : List ℕ) → IsUtf8 page → all_tags_are_orderly scripting page ≡ true
       → (choice.reopens ≡ false → no_tag_comes_late scripting page ≡ true)
+      → (choice.nulls ≡ false → no_null_comes scripting page ≡ true)
       → Staged choice (counted_in choice (kept_texts scripting page)) (state_after scripting page)
-  state_staged scripting page u e l =
+  state_staged scripting page u e l n =
       read_stage (length (preprocessed page)) (preprocessed page) [] (initial_state scripting)
-      (preprocessed_utf8 page u) (record { orderly = e; early = l }) (begins_staged scripting)
+      (preprocessed_utf8 page u) (record { orderly = e; early = l; clean = n }) (begins_staged scripting)
 
   -- the letters stand in order among the nodes, in whatever mode the page ends
   pub staged_ordered : (letters : List ℕ) (s : StateValue) → Staged choice letters s

@@ -144,7 +144,7 @@ never_null b e = grind (arith, nat_tests)
 abbrev pub white_of : ℕ → InsertionMode → List ℕ → ℕ
 white_of c mode t = cond (is_before_head mode) 0 (occurrences c t)
 
-module _ (c : ℕ) (tests : CharacterTests c) where
+module _ (c : ℕ) where
   -- a mode's answer, where it takes text
   abbrev Answers : ℕ → InsertionMode → (StateValue → Answer) → Type 0
   Answers n mode f =
@@ -421,20 +421,6 @@ module _ (c : ℕ) (tests : CharacterTests c) where
       late true e f = absurd (true≢false (sym f ∙ no_foreign e))
       late false e f = refl
 
-  pub nulls_outcome : RunOutcome 0
-  nulls_outcome t u all s d h =
-      let none = none_of_class c (is_of_kind (kind_of_byte 0)) t never_null tests.null_is_none all in
-      let m = (in_mode_outcomes s.mode t u).nulls s refl d h in
-      let f = (insert_text_puts c (replacements t) (replaced_utf8 c t)).puts s h in
-      chosen (is_foreign (run (kind_of_byte 0) t) s)
-      (finished (record {
-        again = refl;
-        grew = grew_as (occurrences c t) (replaced_none c tests.other t ∙ sym none) f;
-        mode = refl;
-        takes = d;
-      }))
-      (outcome_as (occurrences c t) (sym none) m)
-
   pub characters_outcome : RunOutcome 97
   characters_outcome t u all s d h =
       let m = (in_mode_outcomes s.mode t u).characters s refl d h in
@@ -445,6 +431,23 @@ module _ (c : ℕ) (tests : CharacterTests c) where
         mode = refl;
         takes = d;
       })) m
+
+-- ---- U+0000
+
+module _ (c : ℕ) (tests : CharacterTests c) where
+  pub nulls_outcome : RunOutcome c 0
+  nulls_outcome t u all s d h =
+      let none = none_of_class c (is_of_kind (kind_of_byte 0)) t never_null tests.null_is_none all in
+      let m = (in_mode_outcomes c s.mode t u).nulls s refl d h in
+      let f = (insert_text_puts c (replacements t) (replaced_utf8 c t)).puts s h in
+      chosen c (is_foreign (run (kind_of_byte 0) t) s)
+      (finished (record {
+        again = refl;
+        grew = grew_as (occurrences c t) (replaced_none c tests.other t ∙ sym none) f;
+        mode = refl;
+        takes = d;
+      }))
+      (outcome_as (occurrences c t) (sym none) m)
 
   -- the same by the rules of the body alone
   nulls_put : (t : List ℕ) → IsUtf8 t → list_all (is_of_kind (kind_of_byte 0)) t ≡ true
@@ -458,7 +461,7 @@ module _ (c : ℕ) (tests : CharacterTests c) where
   run_in_body_puts whole t =
       by_first_kind
       (λ kind. IsUtf8 t → list_all (is_of_kind kind) t ≡ true → Puts c (occurrences c t) (run_in_body kind t))
-      (λ u all. white_puts t u) (nulls_put t) (λ u all. characters_puts t u) whole
+      (λ u all. white_puts c t u) (nulls_put t) (λ u all. characters_puts c t u) whole
 
   -- ---- without its U+0000
 
@@ -485,7 +488,7 @@ module _ (c : ℕ) (letter : LetterTests c) where
       → drops_text s ≡ false → Sound s
       → Outcome c (occurrences c t) (rank s.mode) s (by_rules (run (kind_of_byte 32) t) s)
   white_outcome t u all s d h =
-      finished (white_by c letter.character (occurrences c t) t u s d h (λ f. refl) (none_in (is_before_head s.mode)))
+      finished (white_by c (occurrences c t) t u s d h (λ f. refl) (none_in (is_before_head s.mode)))
     where
       none_in : (b : Bool) → cond b 0 (occurrences c t) ≡ occurrences c t
       none_in true = sym (none_of_class c (is_of_kind (kind_of_byte 32)) t white_is_ascii letter.white all)
@@ -499,4 +502,4 @@ module _ (c : ℕ) (letter : LetterTests c) where
       (λ kind. IsUtf8 t → list_all (is_of_kind kind) t ≡ true → (s : StateValue) → drops_text s ≡ false
       → Sound s
       → Outcome c (occurrences c t) (rank s.mode) s (by_rules (run kind t) s))
-      (white_outcome t) (nulls_outcome c letter.character t) (characters_outcome c letter.character t) whole
+      (white_outcome t) (nulls_outcome c letter.character t) (characters_outcome c t) whole

@@ -1,14 +1,17 @@
 -- The white space that a text begins with.
-use Rattle.std.proofs.Common.{◌≡◌, ℕ, Bool, true, false, List, [], ◌∷◌, refl, sym, ap, inl, inr, ◌⊎◌}
-use Rattle.std.specs.Prelude.{if◌then◌else◌}
-use Rattle.std.proofs.lemmas.Bool.{true≢false}
+use Rattle.std.proofs.Common.{◌≡◌, ℕ, Bool, true, false, List, [], ◌∷◌, drop, refl, sym, ap, inl, inr, ◌⊎◌}
+use Rattle.std.specs.Prelude.{if◌then◌else◌, ◌&&◌, not}
+use Rattle.std.specs.List.{list_all}
+use Rattle.std.proofs.lemmas.Bool.{true≢false, and_parts}
 use Rattle.htmd_text.specs.WhiteSpace.{is_ascii_white_space}
 use Rattle.htmd_text.proofs.Cases.{test}
-use Rattle.htmd_grammar.specs.CharacterClasses.{behind_run}
+use Rattle.htmd_text.specs.Characters.{line_feed}
+use Rattle.htmd_grammar.specs.CharacterClasses.{behind_run, first_is}
+use Rattle.htmd_html5.specs.Feeding.{without_line_feed}
 use Rattle.htmd_html5_state.specs.declared.modes.InsertionMode.{InsertionMode}
 use Rattle.htmd_html5_state.specs.declared.modes.InsertionMode.TheVariants.{Initial, BeforeHtml, BeforeHead}
 use Rattle.htmd_html5.specs.Runs.{kind_of_byte, is_of_kind, first_kind, after_first_run, is_null}
-use Rattle.htmd_html5_laws.specs.TextKept.{is_before_head, without_white}
+use Rattle.htmd_html5_laws.specs.TextKept.{is_before_head, without_white, is_no_null}
 use Rattle.htmd_html5_laws.proofs.TakingRuns.{by_first_kind}
 use Rattle.htmd_html5_laws.proofs.OrderedStates.{is_late}
 
@@ -54,6 +57,48 @@ white_or_dark s =
     by_first_kind
     (λ kind. first_kind s ≡ kind → (after_first_run s ≡ behind_run is_ascii_white_space s) ⊎ Dark s)
     (λ e. inl (behind_white s e)) (λ e. inr (dark_nulls s e)) (λ e. inr (dark_characters s e)) s refl
+
+-- ---- texts without U+0000
+
+-- if none may come
+abbrev pub Clean : Bool → List ℕ → Type 0
+Clean nulls s = nulls ≡ false → list_all is_no_null s ≡ true
+
+all_behind : (f p : ℕ → Bool) (s : List ℕ) → list_all f s ≡ true → list_all f (behind_run p s) ≡ true
+all_behind f p [] e = refl
+all_behind f p (b ∷ s) e =
+    test (p b) (λ t. rw t (all_behind f p s (and_parts (f b) (list_all f s) e).1)) (λ t. rw t e)
+
+pub clean_rest : (nulls : Bool) (s : List ℕ) → Clean nulls s → Clean nulls (after_first_run s)
+clean_rest nulls s clean z = all_behind is_no_null (is_of_kind (first_kind s)) s (clean z)
+
+all_dropped : (s : List ℕ) → list_all is_no_null s ≡ true → list_all is_no_null (drop 1 s) ≡ true
+all_dropped [] e = refl
+all_dropped (b ∷ s) e = (and_parts (is_no_null b) (list_all is_no_null s) e).1
+
+pub clean_shortened : (nulls skips : Bool) (s : List ℕ) → Clean nulls s → Clean nulls (without_line_feed skips s)
+clean_shortened nulls skips s clean z = either (skips && first_is line_feed s)
+  where
+    either : (b : Bool) → list_all is_no_null (if b then drop 1 s else s) ≡ true
+    either true = all_dropped s (clean z)
+    either false = clean z
+
+no_null_first : (s : List ℕ) → first_kind s ≡ kind_of_byte 0 → list_all is_no_null s ≡ true → ⊥
+no_null_first [] e f = cc
+no_null_first (b ∷ s) e f =
+    either (is_ascii_white_space b) (is_null b) e (and_parts (is_no_null b) (list_all is_no_null s) f).0
+  where
+    either : (x y : Bool) → (if x then kind_of_byte 32 else if y then kind_of_byte 0 else kind_of_byte 97)
+        ≡ kind_of_byte 0
+        → not y ≡ true → ⊥
+    either true y f g = cc
+    either false true f g = true≢false (sym g)
+    either false false f g = cc
+
+-- a text that begins with one
+pub nulls_come : (nulls : Bool) (s : List ℕ) → Clean nulls s → first_kind s ≡ kind_of_byte 0 → nulls ≡ true
+nulls_come true s clean e = refl
+nulls_come false s clean e = absurd (no_null_first s e (clean refl))
 
 -- ---- modes before the head
 

@@ -1,6 +1,7 @@
 -- The texts of a page as they are kept, white space too.
 use Rattle.std.specs.Prelude.{◌≡◌, ℕ, zero, suc, Bool, true, false, not, ◌||◌, ◌&&◌, ◌==◌, if◌then◌else◌, List, [], ◌∷◌, ◌++◌}
 use Rattle.std.specs.Prelude.{length, filter, IsUtf8}
+use Rattle.std.specs.List.{list_all}
 use Rattle.std.specs.Str.{chars}
 use Rattle.htmd_text.specs.WhiteSpace.{is_ascii_white_space}
 use Rattle.htmd_text.specs.Characters.{null}
@@ -12,9 +13,11 @@ use Rattle.htmd_html5_state.specs.Names.{NameValue, known, name_of_text}
 use Rattle.htmd_html5_state.specs.State.{StateValue, initial_state}
 use Rattle.htmd_html5_state.specs.declared.modes.InsertionMode.{InsertionMode}
 use Rattle.htmd_html5_state.specs.declared.modes.InsertionMode.TheVariants.{Initial, BeforeHtml, BeforeHead, AfterHead}
+use Rattle.htmd_html5.specs.Runs.{is_null}
 use Rattle.htmd_html5.specs.Feeding.{is_text_mode, without_line_feed, feed}
 use Rattle.htmd_html5.specs.Documents.{next_read, is_end, html5_document}
 use Rattle.htmd_html5_laws.specs.PageLetters.{occurrences_in, texts_of}
+use Rattle.htmd_html5_laws.specs.HarmlessTags.{page_tokens}
 use Rattle.htmd_html5_laws.specs.LetterOrder.{all_tags_are_orderly}
 use Rattle.htmd_html5_state.specs.declared.names.TagName.TheVariants as tags
 
@@ -98,6 +101,19 @@ abbrev pub no_tag_comes_late : Bool → List ℕ → Bool
 no_tag_comes_late scripting page =
     early_within (length (preprocessed page)) (preprocessed page) (initial_state scripting)
 
+-- ---- U+0000
+
+abbrev pub is_no_null : ℕ → Bool
+is_no_null b = not (is_null b)
+
+abbrev pub has_no_null : TokenValue → Bool
+has_no_null (text t) = list_all is_no_null t
+has_no_null _ = true
+
+-- none stands in the texts of the tokens
+abbrev pub no_null_comes : Bool → List ℕ → Bool
+no_null_comes scripting page = list_all has_no_null (page_tokens scripting page)
+
 -- ---- the laws
 
 -- neither U+0000, which goes, nor U+FFFD, which replaces it
@@ -126,3 +142,15 @@ TextIsKept =
     (scripting : Bool) (page : List ℕ) → IsUtf8 page → all_tags_are_orderly scripting page ≡ true
     → no_tag_comes_late scripting page ≡ true
     → characters_in (texts_of (html5_document scripting page)) ≡ characters_in (kept_texts scripting page)
+
+-- all characters of these texts, one after another
+abbrev pub all_characters : List (List ℕ) → List ℕ
+all_characters [] = []
+all_characters (s ∷ texts) = chars s ++ all_characters texts
+
+-- Without U+0000 the same holds of all characters.
+abbrev pub WholeTextIsKept : Type 0
+WholeTextIsKept =
+    (scripting : Bool) (page : List ℕ) → IsUtf8 page → all_tags_are_orderly scripting page ≡ true
+    → no_tag_comes_late scripting page ≡ true → no_null_comes scripting page ≡ true
+    → all_characters (texts_of (html5_document scripting page)) ≡ all_characters (kept_texts scripting page)

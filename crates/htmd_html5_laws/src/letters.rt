@@ -4,7 +4,7 @@ ghost use Rattle.htmd_html5_laws.specs.HarmlessTags.{HarmlessLettersAreKept, Har
 ghost use Rattle.htmd_html5_laws.specs.KeptLetters.{LettersAreKept};
 ghost use Rattle.htmd_html5_laws.specs.LetterOrder.{LettersStandInOrder};
 ghost use Rattle.htmd_html5_laws.specs.PageLetters.{NoLetterIsMadeUp, TokensAreUtf8};
-ghost use Rattle.htmd_html5_laws.specs.TextKept.{CharactersAreKept, TextIsKept};
+ghost use Rattle.htmd_html5_laws.specs.TextKept.{CharactersAreKept, TextIsKept, WholeTextIsKept};
 
 /// The texts of the tokens of a page in UTF-8 are in UTF-8.
 pub fn tokens_are_utf8()
@@ -64,4 +64,9 @@ pub fn characters_are_kept()
 /// page's tokens, in the same order.
 pub fn text_is_kept()
     ensures { TextIsKept }
+{}
+
+/// And if no U+0000 stands in the texts of the page's tokens, so are all characters, U+FFFD too.
+pub fn whole_text_is_kept()
+    ensures { WholeTextIsKept }
 {}
