@@ -25,7 +25,8 @@ use Rattle.htmd_html5_laws.proofs.KeptTokens.{counts_kept}
 
 -- ---- as many of each
 
-many_kept : (f : ℕ → Bool) (c : ℕ) (xs : List ℕ) → f c ≡ true → many c (filter f xs) ≡ count_by (is_character c) xs
+many_kept : (f : ℕ → Bool) (c : ℕ) (xs : List ℕ) → f c ≡ true → many c (filter f xs)
+    ≡ count_by (is_character c) xs
 many_kept f c [] e = refl
 many_kept f c (x ∷ xs) e =
     let h = many_kept f c xs e in
@@ -55,7 +56,8 @@ module _ (choice : Choice) (c : ℕ) where
   unfolding counted_of
   none_counted s e = many_none choice.counts c (chars s) e
 
-  many_in : (texts : List (List ℕ)) → choice.counts c ≡ true → many c (counted_in choice texts) ≡ occurrences_in c texts
+  many_in : (texts : List (List ℕ)) → choice.counts c ≡ true → many c (counted_in choice texts)
+      ≡ occurrences_in c texts
   many_in [] e = refl
   many_in (s ∷ texts) e =
       let a = many_append c (counted_of choice s) (counted_in choice texts) in
@@ -94,9 +96,11 @@ module _ (choice : Choice) where
   }
     where
       other : (d : ℕ) → choice.counts d ≡ false → (c == d) ≡ false
-      other d f = test (c == d) (λ t. absurd (true≢false (sym e ∙ (ap choice.counts (eqb-true c d t) ∙ f)))) (λ t. t)
+      other d f = test (c == d) (λ t. absurd (true≢false (sym e ∙ (ap choice.counts (eqb-true c d t) ∙ f))))
+          (λ t. t)
 
-  pub counted_in_order : (scripting : Bool) (page : List ℕ) → IsUtf8 page → all_tags_are_orderly scripting page ≡ true
+  pub counted_in_order : (scripting : Bool) (page : List ℕ) → IsUtf8 page → all_tags_are_orderly scripting page
+      ≡ true
       → (choice.reopens ≡ false → no_tag_comes_late scripting page ≡ true)
       → (choice.nulls ≡ false → no_null_comes scripting page ≡ true)
       → counted_in choice (texts_of (html5_document scripting page)) ≡ counted_in choice (kept_texts scripting page)

@@ -86,11 +86,13 @@ a_row_without_a_table_is_orderly : all_tags_are_orderly true (codes "<tr>a<col><
 unfolding block_rule formatting_rule phrasing_rule text_end_rule
 a_row_without_a_table_is_orderly = refl
 
-text_goes_before_a_table : texts_of (html5_document true (codes "<table><td>a</td>b")) ≡ codes "b" ∷ codes "a" ∷ []
+text_goes_before_a_table : texts_of (html5_document true (codes "<table><td>a</td>b")) ≡ codes "b" ∷ codes "a"
+    ∷ []
 unfolding block_rule formatting_rule phrasing_rule html5_document
 text_goes_before_a_table = refl
 
-formatting_keeps_the_order : texts_of (html5_document true (codes "<b>a<p>b</b>c")) ≡ codes "a" ∷ codes "b" ∷ codes
+formatting_keeps_the_order : texts_of (html5_document true (codes "<b>a<p>b</b>c")) ≡ codes "a" ∷ codes "b"
+    ∷ codes
     "c" ∷ []
 unfolding block_rule formatting_rule phrasing_rule text_end_rule move_last wrap_children html5_document
 formatting_keeps_the_order = refl

@@ -136,7 +136,8 @@ module _ (c : ℕ) (nulls : Bool) (tests : nulls ≡ true → CharacterTests c) 
           omega arith
       fits_by false = sym parts.count
 
-  other_part : (text letters : List ℕ) (s : StateValue) (a : Answer) (go : StateValue → Taken) → Clean nulls text →
+  other_part : (text letters : List ℕ) (s : StateValue) (a : Answer) (go : StateValue → Taken)
+      → Clean nulls text →
       Dark text
       → (is_before_head s.mode ≡ true → a.again ≡ true) → RunParts c text → Going letters a
       → Outcome c (occurrences c (first_run text)) (rank s.mode) s a
@@ -221,10 +222,12 @@ module _ (c : ℕ) (nulls : Bool) (tests : nulls ≡ true → CharacterTests c) 
         → Going letters (by_rules (run kind (first_run text)) s)
         → KeptPart text s (after_run go (after_first_run text) (by_rules (run kind (first_run text)) s)))
         white_kept nulls_kept characters_kept text refl (first_all text)
-        (let r = run_of letter_choice letters text parts.front (λ z. absurd (true≢false z)) (first_all text) s calm h in
+        (let r = run_of letter_choice letters text parts.front (λ z. absurd (true≢false z))
+        (first_all text) s calm h in
         (r.stage.keeps, r.stage.calm))
 
-  within_kept : (k : ℕ) (text letters : List ℕ) (s : StateValue) → rank s.mode ≤ k → IsUtf8 text → Clean nulls text →
+  within_kept : (k : ℕ) (text letters : List ℕ) (s : StateValue) → rank s.mode ≤ k → IsUtf8 text
+      → Clean nulls text →
       Calm s
       → Staged letter_choice letters s → Sound s → KeptPart text s (take_within k text s)
   within_kept zero text letters s l u clean calm h sound = absurd (let r = rank_positive s.mode in omega arith)
@@ -252,7 +255,8 @@ module _ (c : ℕ) (nulls : Bool) (tests : nulls ≡ true → CharacterTests c) 
   nothing_kept [] false e = occurs_nil c
   nothing_kept (b ∷ text) drops e = absurd (true≢false (sym e))
 
-  put_kept : (k : ℕ) (text letters : List ℕ) (s : StateValue) → length text ≤ k → IsUtf8 text → Clean nulls text →
+  put_kept : (k : ℕ) (text letters : List ℕ) (s : StateValue) → length text ≤ k → IsUtf8 text
+      → Clean nulls text →
       Calm s
       → Staged letter_choice letters s → Sound s → Grew c (occurrences c (kept text s)) s (put_within k text s)
   put_kept zero [] letters s l u clean calm h sound =
@@ -272,7 +276,8 @@ module _ (c : ℕ) (nulls : Bool) (tests : nulls ≡ true → CharacterTests c) 
       (omega arith) x.utf8 p.clean x.calm x.stage p.grew.sound in
       rw e (grew_then (occurrences c (kept text s)) (omega arith) p.grew later))
 
-  pub put_text_kept : (text letters : List ℕ) (s : StateValue) → IsUtf8 text → Clean nulls text → Calm s → Staged
+  pub put_text_kept : (text letters : List ℕ) (s : StateValue) → IsUtf8 text → Clean nulls text → Calm s
+      → Staged
       letter_choice letters s
       → Sound s
       → Grew c (occurrences c (without_white (is_before_head s.mode) text)) s (put_text text s)

@@ -199,7 +199,8 @@ one_harmless (tokens.comment s) e = refl
 one_harmless (tokens.doctype quirks) e = refl
 one_harmless tokens.end_of_file e = refl
 
-pub all_harmless : (ts : List tokens.TokenValue) → list_all is_orderly ts ≡ true → list_all is_harmless ts ≡ true
+pub all_harmless : (ts : List tokens.TokenValue) → list_all is_orderly ts ≡ true → list_all is_harmless ts
+    ≡ true
 all_harmless [] e = refl
 all_harmless (t ∷ ts) e =
     let parts = and_parts (is_orderly t) (list_all is_orderly ts) e in
@@ -208,7 +209,8 @@ all_harmless (t ∷ ts) e =
 -- ---- the law
 
 module _ (c : ℕ) (nulls : Bool) (tests : nulls ≡ true → CharacterTests c) where
-  pub counts_kept : (scripting : Bool) (page : List ℕ) → IsUtf8 page → all_tags_are_orderly scripting page ≡ true
+  pub counts_kept : (scripting : Bool) (page : List ℕ) → IsUtf8 page → all_tags_are_orderly scripting page
+      ≡ true
       → (nulls ≡ false → no_null_comes scripting page ≡ true)
       → occurrences_in c (texts_of (html5_document scripting page)) ≡ occurrences_in c (kept_texts scripting page)
   unfolding html5_document

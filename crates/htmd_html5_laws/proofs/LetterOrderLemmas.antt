@@ -30,7 +30,8 @@ use Rattle.htmd_html5_laws.proofs.CountedOrder.{counted_in_order}
 
 -- ---- what is kept of a text has all of its letters
 
-letters_dropped : (s : List ℕ) → first_is line_feed s ≡ true → IsUtf8 s → letters_of (drop 1 s) ≡ letters_of s
+letters_dropped : (s : List ℕ) → first_is line_feed s ≡ true → IsUtf8 s → letters_of (drop 1 s)
+    ≡ letters_of s
 unfolding letters_of
 letters_dropped [] e u = absurd (true≢false (sym e))
 letters_dropped (b ∷ s) e u = sym (ap (filter is_letter) (chars_past_char (b ∷ s) s line_feed u whole))
@@ -39,10 +40,12 @@ letters_dropped (b ∷ s) e u = sym (ap (filter is_letter) (chars_past_char (b �
     whole = ap (λ x. x ∷ s) (eqb-true b line_feed e)
         ∙ ap (λ (x : List ℕ). x ++ s) (sym (encode_ascii line_feed (omega arith)))
 
-letters_shortened : (skips : Bool) (s : List ℕ) → IsUtf8 s → letters_of (without_line_feed skips s) ≡ letters_of s
+letters_shortened : (skips : Bool) (s : List ℕ) → IsUtf8 s → letters_of (without_line_feed skips s)
+    ≡ letters_of s
 letters_shortened skips s u = either (skips && first_is line_feed s) refl
   where
-    either : (t : Bool) → (skips && first_is line_feed s) ≡ t → letters_of (if t then drop 1 s else s) ≡ letters_of s
+    either : (t : Bool) → (skips && first_is line_feed s) ≡ t → letters_of (if t then drop 1 s else s)
+        ≡ letters_of s
     either true e = letters_dropped s (and_parts skips (first_is line_feed s) e).1 u
     either false e = refl
 

@@ -73,7 +73,8 @@ module _ (choice : Choice) where
               (each_more c.copies
               (λ x o. rw (ne_eqb x.node (length c.state.nodes)
               (λ f. let w = element_number x.node c.state.nodes o.0 in omega arith)) o.1)
-              (each_both (ElementOpen c.state.nodes) (λ x. a.labels.live x.node ≡ true) c.copies h.copies_at a.copies))
+              (each_both (ElementOpen c.state.nodes)
+              (λ x. a.labels.live x.node ≡ true) c.copies h.copies_at a.copies))
               (rw (eq-eqb (length c.state.nodes) (length c.state.nodes) refl) refl, tt);
           still = λ m l e.
               let size = h.size in rw (ne_eqb m (length c.state.nodes) (λ f. omega arith)) (a.still m l e);
@@ -91,7 +92,8 @@ module _ (choice : Choice) where
 
     next_apart : (left : ℕ) (e : OpenValue) (c : Chain)
         → (is_listed e.node c.state.formatting ≡ true → is_element (kind_at c.state.nodes e.node) ≡ true)
-        → ChainHung s old r left c → ChainApart letters s p base c → ChainApart letters s p base (with_next left e c)
+        → ChainHung s old r left c → ChainApart letters s p base c
+        → ChainApart letters s p base (with_next left e c)
     next_apart left e c at h a = either (nat_lt 0 left && is_listed e.node c.state.formatting) refl
       where
         either : (t : Bool) → (nat_lt 0 left && is_listed e.node c.state.formatting) ≡ t
@@ -121,9 +123,11 @@ module _ (choice : Choice) where
 
   -- ---- a round
 
-  module _ (letters : List ℕ) (formatting : ℕ) (tag : TagName) (f : Furthest) (s : StateValue) (names : FurthestPlain f)
+  module _ (letters : List ℕ) (formatting : ℕ) (tag : TagName) (f : Furthest) (s : StateValue)
+      (names : FurthestPlain f)
       (plain : Plain s) (x : RoundHung formatting f s) (o : Ordered choice letters s)
-      (inner : EachOpen (λ e. o.labels.live e.node ≡ true) f.inner) (block : o.labels.live f.block.node ≡ true) where
+      (inner : EachOpen (λ e. o.labels.live e.node ≡ true) f.inner)
+      (block : o.labels.live f.block.node ≡ true) where
     abbrev b : ℕ
     b = f.block.node
 
@@ -345,7 +349,8 @@ module _ (choice : Choice) where
         fosters) (sym made_apart.no_fostering)
         (subst (λ (at : _). OrderedIn choice letters
         (wrap_children formatting b (put made.last at (detach made.last made.state.nodes)))
-        (f.inner ++ opened (length (put made.last at (detach made.last made.state.nodes))) (html (known tag)) ∷ f.block
+        (f.inner ++ opened (length (put made.last at (detach made.last made.state.nodes))) (html (known tag))
+        ∷ f.block
         ∷ (made.copies ++ made.state.stack)) false) (sym there)
         (subst (λ (stack : List OpenValue). OrderedIn choice letters (wrap_children formatting b back)
         (f.inner ++ opened (length back) (html (known tag)) ∷ f.block ∷ (made.copies ++ stack)) false)
@@ -390,7 +395,8 @@ module _ (choice : Choice) where
 
   with_ordered : (letters : List ℕ) (tag : TagName) (formatting : ℕ) (s : StateValue)
       → is_element (kind_at s.nodes formatting) ≡ true
-      → Plain s → Hung s → Ordered choice letters s → Ordered choice letters (after_round (round_with tag formatting s))
+      → Plain s → Hung s → Ordered choice letters s
+      → Ordered choice letters (after_round (round_with tag formatting s))
   unfolding after_round
   with_ordered letters tag formatting s e h x o = either (is_open_node formatting s.stack) refl
     where
@@ -415,7 +421,8 @@ module _ (choice : Choice) where
 
   of_ordered : (letters : List ℕ) (tag : TagName) (formatting : Option ℕ) (s : StateValue)
       → formatting_element tag s ≡ formatting
-      → Plain s → Hung s → Ordered choice letters s → Ordered choice letters (after_round (round_of tag formatting s))
+      → Plain s → Hung s → Ordered choice letters s
+      → Ordered choice letters (after_round (round_of tag formatting s))
   unfolding after_round
   of_ordered letters tag None s e h x o =
       ordered_fewer choice (close_name (known tag) s.stack) (close_name_fewer (known tag) s.stack) o
@@ -499,7 +506,8 @@ module _ (choice : Choice) where
   rounds_mode (suc k) tag s =
       go_on_mode (rounds k tag) (round tag s) (λ t. rounds_mode k tag t) ∙ of_mode tag (formatting_element tag s) s
 
-  rounds_order : (k : ℕ) (tag : TagName) → is_plain tag ≡ true → Stays (rounds k tag) → Orders choice (rounds k tag)
+  rounds_order : (k : ℕ) (tag : TagName) → is_plain tag ≡ true → Stays (rounds k tag)
+      → Orders choice (rounds k tag)
   rounds_order k tag p stays = record {
     stays = stays;
     orders = λ letters s h x o. rounds_ordered choice letters k tag s p h x o;

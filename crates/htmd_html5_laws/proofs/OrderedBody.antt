@@ -70,7 +70,8 @@ is_orderly_name (known tag) = is_orderly_tag tag
 is_orderly_name (other s) = true
 
 -- an orderly name is plain, or that of columns, which count for nothing outside a table
-pub plain_or_column : (P : Type 0) (name : NameValue) → is_orderly_name name ≡ true → (is_plain_name name ≡ true → P)
+pub plain_or_column : (P : Type 0) (name : NameValue) → is_orderly_name name ≡ true
+    → (is_plain_name name ≡ true → P)
     → (IsColumn name → P)
     → P
 plain_or_column P (known tags.Table) e f g = absurd (true≢false (sym e))
@@ -80,7 +81,8 @@ plain_or_column P (known tags.ColGroup) e f g = g tt
 plain_or_column P (known tag) e f g = f e
 plain_or_column P (other s) e f g = f refl
 
-pub by_column_name : (P : NameValue → Type 0) → P (known tags.Col) → P (known tags.ColGroup) → (name : NameValue)
+pub by_column_name : (P : NameValue → Type 0) → P (known tags.Col) → P (known tags.ColGroup)
+    → (name : NameValue)
     → IsColumn name
     → P name
 by_column_name P a b (known tags.Col) c = a
@@ -137,7 +139,8 @@ module _ (choice : Choice) where
   close_paragraph_orders = on_stack_orders choice (close (Only tags.P) ButtonScope)
       (close_fewer (Only tags.P) ButtonScope)
 
-  add_missing_to_orders : (n : Option ℕ) (attributes : List AttributePair) → Orders choice (add_missing_to n attributes)
+  add_missing_to_orders : (n : Option ℕ) (attributes : List AttributePair)
+      → Orders choice (add_missing_to n attributes)
   add_missing_to_orders None attributes = unmoved choice
   add_missing_to_orders (Some n) attributes = add_missing_orders choice n attributes
 

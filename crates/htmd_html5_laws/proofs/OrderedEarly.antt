@@ -93,7 +93,8 @@ module _ (choice : Choice) where
   abbrev pub Staged : List ℕ → StateValue → Type 0
   Staged letters s = Stage (is_text_mode s.content) s.mode letters s
 
-  pub staged : (raw : Bool) (mode : InsertionMode) (letters : List ℕ) (s : StateValue) → is_text_mode s.content ≡ raw
+  pub staged : (raw : Bool) (mode : InsertionMode) (letters : List ℕ) (s : StateValue) → is_text_mode s.content
+      ≡ raw
       → s.mode ≡ mode → Stage raw mode letters s → Staged letters s
   staged raw mode letters s e f h =
       subst (λ (b : Bool). Stage b s.mode letters s) (sym e)
@@ -129,14 +130,16 @@ module _ (choice : Choice) where
   pub calm_answer : (mode : InsertionMode) (more : Bool) (letters : List ℕ) (s : StateValue)
       → is_text_mode s.content ≡ false → s.mode ≡ mode → Stage choice false mode letters s
       → StageAnswer letters (answer s more)
-  calm_answer mode more letters s e f h = record { stage = staged choice false mode letters s e f h; calm = λ z. inr e }
+  calm_answer mode more letters s e f h =
+      record { stage = staged choice false mode letters s e f h; calm = λ z. inr e }
 
   pub raw_answer : (mode : InsertionMode) (letters : List ℕ) (s : StateValue) → is_text_mode s.content ≡ true
       → s.mode ≡ mode → Stage choice true mode letters s → StageAnswer letters (done s)
   raw_answer mode letters s e f h =
       record { stage = staged choice true mode letters s e f h; calm = λ z. absurd (true≢false (sym z)) }
 
-  pub late_answers : (more : Bool) (letters : List ℕ) (s : StateValue) → Late choice letters s → StageAnswer letters
+  pub late_answers : (more : Bool) (letters : List ℕ) (s : StateValue) → Late choice letters s
+      → StageAnswer letters
       (answer s more)
   late_answers more letters s h = record { stage = staged_late choice letters s h; calm = λ z. inl h.late }
 
@@ -151,7 +154,8 @@ module _ (choice : Choice) where
     names = names;
   }
 
-  pub early_late : (letters : List ℕ) (s : StateValue) (mode : InsertionMode) → is_late mode ≡ true → s.mode ≡ mode
+  pub early_late : (letters : List ℕ) (s : StateValue) (mode : InsertionMode) → is_late mode ≡ true → s.mode
+      ≡ mode
       → Early choice letters s → Late choice letters s
   early_late letters s mode e f h =
       record { plain = h.plain; hung = h.hung; ordered = h.ordered; late = ap is_late f ∙ e }
@@ -171,7 +175,8 @@ module _ (choice : Choice) where
   }
 
   -- only the mode changes
-  pub early_mode : (letters : List ℕ) (s t : StateValue) (stack : List OpenValue) → Plain (record t { stack = stack })
+  pub early_mode : (letters : List ℕ) (s t : StateValue) (stack : List OpenValue)
+      → Plain (record t { stack = stack })
       → t.nodes ≡ s.nodes → t.head ≡ s.head → t.foster_parenting ≡ s.foster_parenting
       → EarlyIn choice letters s stack → EarlyIn choice letters t stack
   early_mode letters s t stack plain e f g h = record {
@@ -221,7 +226,8 @@ module _ (choice : Choice) where
 
   pub root_stage : (letters : List ℕ) (tag : StartTagValue) (s : StateValue) (mode : InsertionMode)
       → is_text_mode s.content ≡ false → s.mode ≡ mode
-      → ((t : StateValue) → SameBut s t → ((stack : List OpenValue) → EarlyIn choice letters s stack → EarlyIn choice
+      → ((t : StateValue) → SameBut s t → ((stack : List OpenValue) → EarlyIn choice letters s stack
+      → EarlyIn choice
       letters t stack)
       → Stage choice false mode letters t)
       → StageAnswer choice letters (done (add_to_root tag s))
@@ -236,7 +242,8 @@ no_doctype : (t : List ℕ) → doctype_kind ≡ text t → ⊥
 no_doctype t e = cc
 
 module _ (choice : Choice) where
-  pub comment_early : (letters : List ℕ) (c : List ℕ) (s : StateValue) → Early choice letters s → Early choice letters
+  pub comment_early : (letters : List ℕ) (c : List ℕ) (s : StateValue) → Early choice letters s
+      → Early choice letters
       (insert_comment c s)
   comment_early letters c s h = early_step choice (insert_comment_orders choice c) letters s h.names h
 
@@ -244,7 +251,8 @@ module _ (choice : Choice) where
       → Early choice letters (insert_comment_in 0 c s)
   root_comment_early letters c s h = early_step choice (insert_comment_root_orders choice c) letters s h.names h
 
-  pub initial_left : (letters : List ℕ) (s : StateValue) → is_text_mode s.content ≡ false → Stage choice false Initial
+  pub initial_left : (letters : List ℕ) (s : StateValue) → is_text_mode s.content ≡ false
+      → Stage choice false Initial
       letters s
       → StageAnswer choice letters (leave_initial s)
   initial_left letters s e h =
@@ -259,7 +267,8 @@ module _ (choice : Choice) where
       )
 
   pub initial_stage : (t : TokenValue) → IsOrderly t → (letters : List ℕ) (s : StateValue) → s.mode ≡ Initial
-      → is_text_mode s.content ≡ false → Stage choice false Initial letters s → StageAnswer choice letters (initial t s)
+      → is_text_mode s.content ≡ false → Stage choice false Initial letters s
+      → StageAnswer choice letters (initial t s)
   initial_stage (run kind c) p letters s m e h = absurd (true≢false p)
   initial_stage (start_tag tag) p letters s m e h = initial_left letters s e h
   initial_stage (end_tag name) p letters s m e h = initial_left letters s e h
@@ -292,7 +301,8 @@ module _ (choice : Choice) where
     names = (refl, h.0.names);
   }
     where
-      none : (stack : List OpenValue) → stack ≡ [] → EachOpen (λ e. h.0.hung.rank e.node ≤ h.0.hung.rank 0) stack
+      none : (stack : List OpenValue) → stack ≡ []
+          → EachOpen (λ e. h.0.hung.rank e.node ≤ h.0.hung.rank 0) stack
       none [] e = tt
       none (d ∷ ds) e = absurd (nonempty e)
         where
@@ -315,7 +325,8 @@ module _ (choice : Choice) where
       (root_put letters tag.name tag.attributes s p h)
   start_before_html_stage tag p _ letters s e h = root_implied letters s e h
 
-  before_html_still : (letters : List ℕ) (s : StateValue) → s.mode ≡ BeforeHtml → is_text_mode s.content ≡ false
+  before_html_still : (letters : List ℕ) (s : StateValue) → s.mode ≡ BeforeHtml → is_text_mode s.content
+      ≡ false
       → Stage choice false BeforeHtml letters s → StageAnswer choice letters (done s)
   before_html_still letters s m e h = calm_answer choice BeforeHtml false letters s e m h
 
@@ -328,7 +339,8 @@ module _ (choice : Choice) where
   end_before_html_stage (known tags.Br) letters s m e h = root_implied letters s e h
   end_before_html_stage _ letters s m e h = before_html_still letters s m e h
 
-  pub before_html_stage : (t : TokenValue) → IsOrderly t → (letters : List ℕ) (s : StateValue) → s.mode ≡ BeforeHtml
+  pub before_html_stage : (t : TokenValue) → IsOrderly t → (letters : List ℕ) (s : StateValue) → s.mode
+      ≡ BeforeHtml
       → is_text_mode s.content ≡ false → Stage choice false BeforeHtml letters s → StageAnswer choice letters
       (before_html t s)
   before_html_stage (run kind c) p letters s m e h = absurd (true≢false p)
@@ -363,7 +375,8 @@ module _ (choice : Choice) where
       same : {n m : ℕ} → Some n ≡ Some m → n ≡ m
       same e = cc
 
-  pub head_implied : (letters : List ℕ) (s : StateValue) → is_text_mode s.content ≡ false → Early choice letters s
+  pub head_implied : (letters : List ℕ) (s : StateValue) → is_text_mode s.content ≡ false
+      → Early choice letters s
       → StageAnswer choice letters (imply_head s)
   head_implied letters s e h =
       calm_answer choice InHead true letters (with_head (known tags.Head) [] s) e refl
@@ -375,7 +388,8 @@ module _ (choice : Choice) where
       → StageAnswer choice letters (start_before_head name tag s)
   start_before_head_stage tag p (known tags.Html) letters s m e h =
       root_stage choice letters tag s BeforeHead e m
-      (λ t same go. subst (λ (stack : List OpenValue). EarlyIn choice letters t stack) (sym same.stack) (go s.stack h))
+      (λ t same go. subst (λ (stack : List OpenValue). EarlyIn choice letters t stack) (sym same.stack)
+      (go s.stack h))
   start_before_head_stage tag p (known tags.Head) letters s m e h =
       calm_answer choice InHead false letters (with_head tag.name tag.attributes s) e refl
       (head_put letters tag.name tag.attributes s p h)
@@ -390,7 +404,8 @@ module _ (choice : Choice) where
   end_before_head_stage (known tags.Br) letters s m e h = head_implied letters s e h
   end_before_head_stage _ letters s m e h = calm_answer choice BeforeHead false letters s e m h
 
-  pub before_head_stage : (t : TokenValue) → IsOrderly t → (letters : List ℕ) (s : StateValue) → s.mode ≡ BeforeHead
+  pub before_head_stage : (t : TokenValue) → IsOrderly t → (letters : List ℕ) (s : StateValue) → s.mode
+      ≡ BeforeHead
       → is_text_mode s.content ≡ false → Early choice letters s → StageAnswer choice letters (before_head t s)
   before_head_stage (run kind c) p letters s m e h = absurd (true≢false p)
   before_head_stage (start_tag tag) p letters s m e h =

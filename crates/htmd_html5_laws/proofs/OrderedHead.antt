@@ -60,7 +60,8 @@ module _ (choice : Choice) where
   -- ---- elements in the head
 
   void_early : (letters : List ℕ) (name : NameValue) (attributes : List AttributePair) (s : StateValue)
-      → is_plain_name name ≡ true → Early choice letters s → Early choice letters (insert_void name attributes s)
+      → is_plain_name name ≡ true → Early choice letters s
+      → Early choice letters (insert_void name attributes s)
   void_early letters name attributes s p h = early_step choice (insert_void_orders choice name attributes p) letters s
       h.names h
 
@@ -70,8 +71,10 @@ module _ (choice : Choice) where
   raw_early letters name element attributes s p h =
       early_step choice (insert_raw_orders choice name element attributes p) letters s (refl, h.names) h
 
-  module _ (tag : StartTagValue) (p : is_plain_name tag.name ≡ true) (letters : List ℕ) (mode : InsertionMode) (k : ℕ)
-      (go : (raw : Bool) (s : StateValue) → Early choice letters s × HeadAt (cond raw (suc k) k) s → Stage choice raw
+  module _ (tag : StartTagValue) (p : is_plain_name tag.name ≡ true) (letters : List ℕ) (mode : InsertionMode)
+      (k : ℕ)
+      (go : (raw : Bool) (s : StateValue) → Early choice letters s × HeadAt (cond raw (suc k) k) s
+      → Stage choice raw
       mode letters s)
       (s : StateValue) (m : s.mode ≡ mode) (e : is_text_mode s.content ≡ false) (h : Early choice letters s)
       (at : HeadAt k s) where
@@ -103,13 +106,16 @@ module _ (choice : Choice) where
         root_stage choice letters tag s mode e m
         (λ t same f. go false t (
           subst (λ (stack : List OpenValue). EarlyIn choice letters t stack) (sym same.stack) (f s.stack h),
-          λ n g. ap (λ (stack : List OpenValue). (current (popped k stack)).node) same.stack ∙ at n (sym same.head ∙ g),
+          λ n g. ap (λ (stack : List OpenValue). (current (popped k stack)).node) same.stack
+              ∙ at n (sym same.head ∙ g),
         ))
 
   -- ---- the head is closed
 
-  renamed : (letters : List ℕ) (s : StateValue) (n : ℕ) (stack : List OpenValue) → is_element (kind_at s.nodes n) ≡ true
-      → (current stack).node ≡ n → EarlyIn choice letters s stack → EarlyIn choice letters s (head_open n ∷ pop stack)
+  renamed : (letters : List ℕ) (s : StateValue) (n : ℕ) (stack : List OpenValue) → is_element (kind_at s.nodes n)
+      ≡ true
+      → (current stack).node ≡ n → EarlyIn choice letters s stack
+      → EarlyIn choice letters s (head_open n ∷ pop stack)
   renamed letters s n [] e f h =
       absurd (true≢false (sym (element_solid (kind_at s.nodes n) e)
       ∙ (ap (λ (x : ℕ). is_solid (kind_at s.nodes x)) (sym f) ∙ h.hung.root)))
@@ -145,7 +151,8 @@ module _ (choice : Choice) where
       record { plain = in_plain_mode mode p h.plain; hung = h.hung; ordered = h.ordered; names = h.names }
 
   head_closed_in : (reopens : Bool) (letters : List ℕ) (s : StateValue) (head : Option ℕ) → s.head ≡ head
-      → Early choice letters s → HeadAt 0 s → AfterHeadAt choice reopens false head (pop s.stack) letters (close_head s)
+      → Early choice letters s → HeadAt 0 s
+      → AfterHeadAt choice reopens false head (pop s.stack) letters (close_head s)
   head_closed_in false letters s head e h at =
       to_mode letters s (pop s.stack) (pop s.stack) AfterHead refl
       (early_fewer choice letters s s.stack (pop s.stack) (pop_fewer s.stack) h)
@@ -156,7 +163,8 @@ module _ (choice : Choice) where
       to_mode letters s (head_open n ∷ pop s.stack) (pop s.stack) AfterHead refl
       (renamed letters s n s.stack (h.hung.head_at n e) (at n e) h)
 
-  pub head_closed : (more : Bool) (letters : List ℕ) (s : StateValue) → is_text_mode s.content ≡ false → Early choice
+  pub head_closed : (more : Bool) (letters : List ℕ) (s : StateValue) → is_text_mode s.content ≡ false
+      → Early choice
       letters s
       → HeadAt 0 s → StageAnswer choice letters (answer (close_head s) more)
   head_closed more letters s e h at =
@@ -312,7 +320,8 @@ module _ (choice : Choice) where
   }
 
   -- a comment, with the head open as before
-  comment_after : (letters : List ℕ) (c : List ℕ) (s : StateValue) (stack : List OpenValue) → Early choice letters s
+  comment_after : (letters : List ℕ) (c : List ℕ) (s : StateValue) (stack : List OpenValue)
+      → Early choice letters s
       → EarlyIn choice letters s stack → EarlyIn choice letters (insert_comment c s) stack
   comment_after letters c s stack real h = record {
     plain = plain_new (comment_kind c) (kinds_add (comment_kind c) (last_in (current s.stack).node) s.nodes) h.plain;
@@ -325,7 +334,8 @@ module _ (choice : Choice) where
 
   pub by_head : (reopens : Bool) (letters : List ℕ) (s t : StateValue) (head : Option ℕ) (stack : List OpenValue)
       → ((es : List OpenValue) → EarlyIn choice letters s es → EarlyIn choice letters t es)
-      → AfterHeadAt choice reopens false head stack letters s → AfterHeadAt choice reopens false head stack letters t
+      → AfterHeadAt choice reopens false head stack letters s
+      → AfterHeadAt choice reopens false head stack letters t
   by_head false letters s t head stack f h = f stack h
   by_head true letters s t None stack f h = f stack h
   by_head true letters s t (Some n) stack f h = f (head_open n ∷ stack) h
@@ -387,7 +397,8 @@ module _ (choice : Choice) where
               (in_stage false (insert_void_tag tag s) f (void_early choice letters tag.name tag.attributes s p x))
 
       -- into the head, which is open for that
-      late_by_head : choice.reopens ≡ true → (n : ℕ) (name : NameValue) → is_plain_name name ≡ true → s.head ≡ Some n
+      late_by_head : choice.reopens ≡ true → (n : ℕ) (name : NameValue) → is_plain_name name ≡ true → s.head
+          ≡ Some n
           → EarlyIn choice letters s (head_open n ∷ s.stack)
           → StageAnswer choice letters
           (done (on_stack (without n) (insert_head_element name tag (open_again n (known tags.Head) s))))
@@ -434,7 +445,8 @@ module _ (choice : Choice) where
           void_put =
               calm_answer choice AfterHead false letters
               (on_stack (without n) (insert_void_tag tag (open_again n (known tags.Head) s))) e m
-              (subst (λ (head : Option ℕ). AfterHeadIn choice false head (without n (head_open n ∷ s.stack)) letters
+              (subst (λ (head : Option ℕ). AfterHeadIn choice false head
+              (without n (head_open n ∷ s.stack)) letters
               (on_stack (without n) (insert_void_tag tag (open_again n (known tags.Head) s)))) (sym f)
               (subst (λ (stack : List OpenValue). AfterHeadIn choice false (Some n) stack letters
               (on_stack (without n) (insert_void_tag tag (open_again n (known tags.Head) s))))
@@ -559,7 +571,8 @@ stays_html (comment c) s h = by_tests (comment c) s h
 stays_html (doctype quirks) s h = by_tests (doctype quirks) s h
 
 module _ (choice : Choice) where
-  pub unstaged : (raw : Bool) (mode : InsertionMode) (letters : List ℕ) (s : StateValue) → is_text_mode s.content ≡ raw
+  pub unstaged : (raw : Bool) (mode : InsertionMode) (letters : List ℕ) (s : StateValue) → is_text_mode s.content
+      ≡ raw
       → s.mode ≡ mode → Staged choice letters s → Stage choice raw mode letters s
   unstaged raw mode letters s e f h =
       subst (λ (m : InsertionMode). Stage choice raw m letters s) f
@@ -580,7 +593,8 @@ module _ (choice : Choice) where
   stage_names _ letters s e h = absurd h
 
   early_modes : (mode : InsertionMode) (t : TokenValue) → IsOrderly t → (letters : List ℕ) (s : StateValue)
-      → s.mode ≡ mode → is_late mode ≡ false → is_text_mode s.content ≡ false → Stage choice false mode letters s
+      → s.mode ≡ mode → is_late mode ≡ false → is_text_mode s.content ≡ false
+      → Stage choice false mode letters s
       → (choice.reopens ≡ false → mode ≡ AfterHead → opens_head t ≡ false)
       → StageAnswer choice letters (in_mode mode t s)
   early_modes Initial t p letters s m l e h r = initial_stage choice t p letters s m e h
@@ -594,7 +608,8 @@ module _ (choice : Choice) where
   early_modes AfterAfterBody t p letters s m l e h r = absurd (true≢false l)
   early_modes _ t p letters s m l e h r = absurd h
 
-  pub by_rules_stage : (t : TokenValue) → IsOrderly t → (letters : List ℕ) (s : StateValue) → Calm s → Staged choice
+  pub by_rules_stage : (t : TokenValue) → IsOrderly t → (letters : List ℕ) (s : StateValue) → Calm s
+      → Staged choice
       letters s
       → MayCome choice t s
       → StageAnswer choice letters (by_rules t s)
@@ -672,13 +687,15 @@ module _ (choice : Choice) where
     early_away _ letters p f l h e m = absurd h
 
   pub never_after_head : (t : TokenValue) → IsOrderly t → (letters : List ℕ) (s : StateValue) → Calm s
-      → Staged choice letters s → opens_head t ≡ true → (s.mode ≡ AfterHead → ⊥) → (by_rules t s).again ≡ true
+      → Staged choice letters s → opens_head t ≡ true → (s.mode ≡ AfterHead → ⊥) → (by_rules t s).again
+      ≡ true
       → (by_rules t s).state.mode ≡ AfterHead → ⊥
   never_after_head (start_tag tag) p letters s calm h opens f e m = either (is_late s.mode) refl calm
     where
       by_mode : (b : Bool) → b ≡ false → Stage choice false s.mode letters s → is_late s.mode ≡ false
           → (if b then in_foreign_content (start_tag tag) s else by_mode_rules (start_tag tag) s).again ≡ true
-          → (if b then in_foreign_content (start_tag tag) s else by_mode_rules (start_tag tag) s).state.mode ≡ AfterHead
+          → (if b then in_foreign_content (start_tag tag) s else by_mode_rules (start_tag tag) s).state.mode
+          ≡ AfterHead
           → ⊥
       by_mode true g x l e m = absurd (true≢false g)
       by_mode false g x l e m = early_away tag s s.mode letters opens f l x e m

@@ -134,8 +134,10 @@ module _ (choice : Choice) where
           either false = (omega arith, omega arith)
 
       -- a row in which the new node doesn't stand
-      pub row_kept : (limit at : ℕ) (cs : List ℕ) (to : ℕ) → length letters + length more < limit → times n cs ≡ 0
-          → Row (marks choice none_out nodes limit l) at cs to → Row (marks choice none_out new limit marked) at cs to
+      pub row_kept : (limit at : ℕ) (cs : List ℕ) (to : ℕ) → length letters + length more < limit → times n cs
+          ≡ 0
+          → Row (marks choice none_out nodes limit l) at cs to
+          → Row (marks choice none_out new limit marked) at cs to
       row_kept limit at cs to big none r =
           row_marks (marks choice none_out nodes limit l) (marks choice none_out new limit marked) at cs to
           (λ c k b.
@@ -196,24 +198,28 @@ module _ (choice : Choice) where
               (until limit marked x)) e
               (subst (λ (x : ℕ). Row (marks choice none_out new limit marked) (marked.lo p) (children_at new p) x)
               (sym (other_until limit p (λ f. omega arith)))
-              (subst (λ (x : ℕ). Row (marks choice none_out new limit marked) x (children_at new p) (until limit l p))
+              (subst (λ (x : ℕ). Row (marks choice none_out new limit marked) x (children_at new p)
+              (until limit l p))
               (sym (other_lo p (λ f. omega arith)))
               (subst (λ (cs : List ℕ). Row (marks choice none_out new limit marked) (l.lo p) cs (until limit l p))
               (sym (children_grown choice k p nodes within)) (ok limit big))))
 
-          elsewhere_row : (limit : ℕ) → length letters + length more < limit → (q : ℕ) → (q ≡ n → ⊥) → (p ≡ q → ⊥)
+          elsewhere_row : (limit : ℕ) → length letters + length more < limit → (q : ℕ) → (q ≡ n → ⊥)
+              → (p ≡ q → ⊥)
               → Row (marks choice none_out new limit marked) (marked.lo q) (children_at new q) (until limit marked q)
           elsewhere_row limit big q f g =
               subst (λ (x : ℕ). Row (marks choice none_out new limit marked) (marked.lo q) (children_at new q) x)
               (sym (other_until limit q f))
-              (subst (λ (x : ℕ). Row (marks choice none_out new limit marked) x (children_at new q) (until limit l q))
+              (subst (λ (x : ℕ). Row (marks choice none_out new limit marked) x (children_at new q)
+              (until limit l q))
               (sym (other_lo q f))
               (subst (λ (cs : List ℕ). Row (marks choice none_out new limit marked) (l.lo q) cs (until limit l q))
               (sym (children_elsewhere k p q nodes g))
               (row_kept limit (l.lo q) (children_at nodes q) (until limit l q) big
               (no_child nodes q n forest (omega arith)) (h.rows limit (omega arith) q))))
 
-          new_text : (m : ℕ) (t : List ℕ) → m ≡ n → kind_at new m ≡ text t → TextIn choice (letters ++ more) marked m t
+          new_text : (m : ℕ) (t : List ℕ) → m ≡ n → kind_at new m ≡ text t
+              → TextIn choice (letters ++ more) marked m t
           new_text m t e f =
               let x = is t (sym (kind_grown_new k p nodes) ∙ (ap (λ (y : ℕ). kind_at new y) (sym e) ∙ f)) in
               subst (λ (y : ℕ). TextIn choice (letters ++ more) marked y t) (sym e)

@@ -82,7 +82,8 @@ module _ (choice : Choice) where
     late = λ s h e. same_mode s (first_open s.stack) e;
   }
     where
-      same_mode : (s : StateValue) (n : Option ℕ) → is_late s.mode ≡ true → is_late (comment_in n c s).mode ≡ true
+      same_mode : (s : StateValue) (n : Option ℕ) → is_late s.mode ≡ true → is_late (comment_in n c s).mode
+          ≡ true
       same_mode s None e = e
       same_mode s (Some n) e = e
 
@@ -142,7 +143,8 @@ module _ (choice : Choice) where
     pub ordered : Ordered choice letters s
     pub late : is_late s.mode ≡ true
 
-  pub late_answer : {f : StateValue → Answer} → OrdersAnswer choice f → (letters : List ℕ) (s : StateValue) → Late
+  pub late_answer : {f : StateValue → Answer} → OrdersAnswer choice f → (letters : List ℕ) (s : StateValue)
+      → Late
       letters s
       → Late letters (f s).state
   late_answer f letters s h = record {
@@ -152,7 +154,8 @@ module _ (choice : Choice) where
     late = f.late s h.plain h.late;
   }
 
-  pub late_step : {f : StateValue → StateValue} → Orders choice f → (letters : List ℕ) (s : StateValue) → Late letters s
+  pub late_step : {f : StateValue → StateValue} → Orders choice f → (letters : List ℕ) (s : StateValue)
+      → Late letters s
       → Late letters (f s)
   late_step f letters s h = record {
     plain = f.stays.stays s h.plain;
@@ -194,7 +197,8 @@ module _ (choice : Choice) where
   insert_alike_orders tag (Some space) = insert_foreign_tag_orders choice space tag
 
   start_foreign_orders : (tag : StartTagValue) → Orders choice (start_foreign_element tag)
-  start_foreign_orders tag = orders_by_state choice (λ s. namespace_of (current s.stack).name) (insert_alike_orders tag)
+  start_foreign_orders tag = orders_by_state choice (λ s. namespace_of (current s.stack).name)
+      (insert_alike_orders tag)
 
   start_foreign_late : (tag : StartTagValue) → IsOrderly (start_tag tag) → (letters : List ℕ) (s : StateValue)
       → Late letters s

@@ -52,13 +52,15 @@ module _ (choice : Choice) where
           ≡ counted_in choice (with_text_in d (texts_of items)) ++ data_letters item.node_data
       more (text_node s) e =
           ap (λ (x : List ℕ). counted_of choice s ++ x) e
-          ∙ sym (append_assoc (counted_of choice s) (counted_in choice (texts_of items)) (data_letters item.node_data))
+          ∙ sym (append_assoc (counted_of choice s) (counted_in choice (texts_of items))
+          (data_letters item.node_data))
       more _ e = e
 
   -- ---- a node that was laid out
 
   kind_marked : (n m : ℕ) (nodes : List NodeValue)
-      → (kind_at (with_kind n document nodes) m ≡ document) ⊎ (kind_at (with_kind n document nodes) m ≡ kind_at nodes m)
+      → (kind_at (with_kind n document nodes) m ≡ document)
+      ⊎ (kind_at (with_kind n document nodes) m ≡ kind_at nodes m)
   kind_marked n m nodes =
       test (n == m)
       (λ t. inl (subst (λ (x : ℕ). kind_at (with_kind n document nodes) x ≡ document) (eqb-true n m t)
@@ -108,7 +110,8 @@ module _ (choice : Choice) where
       texts = λ m t e. by_kind m t e (kind_marked n m nodes);
     }
       where
-        any_span : (bound : ℕ) → length letters < bound → (c : ℕ) (x : Bool) → l.lo c ≤ cond x bound (l.hi c)
+        any_span : (bound : ℕ) → length letters < bound → (c : ℕ) (x : Bool) → l.lo c
+            ≤ cond x bound (l.hi c)
         any_span bound big c true = let a = h.span c in let b = h.high c in omega arith
         any_span bound big c false = h.span c
 
@@ -141,7 +144,8 @@ module _ (choice : Choice) where
       utf8 : IsUtf8 s
       row : Row (marks choice none_out nodes limit l) to rest limit
 
-    next_text : (nodes : List NodeValue) (at n : ℕ) (s : List ℕ) (rest : List ℕ) → FitsBy choice none_out letters
+    next_text : (nodes : List NodeValue) (at n : ℕ) (s : List ℕ) (rest : List ℕ)
+        → FitsBy choice none_out letters
         nodes l
         → at ≤ length letters → kind_at nodes n ≡ text s
         → Row (marks choice none_out nodes limit l) at (n ∷ rest) limit
@@ -221,7 +225,8 @@ module _ (choice : Choice) where
         under_text s false e k f g = absurd (let z : None ≡ Some s = e in cc)
 
         by_text : (o : Option (List ℕ)) → text_under nodes under c ≡ o
-            → ((to : ℕ) → to ≤ length letters → Row (marks choice none_out nodes limit l) to (numbers work) limit
+            → ((to : ℕ) → to ≤ length letters → Row (marks choice none_out nodes limit l) to
+            (numbers work) limit
             → NextTexts nodes to (next_texts nodes under work) (numbers (after_next_texts nodes under work)))
             → NextTexts nodes at (or_text o (next_texts nodes under work))
             (numbers (if is_some o then after_next_texts nodes under work else c ∷ work))
@@ -253,13 +258,15 @@ module _ (choice : Choice) where
     -- ---- a step
 
     uncounted : (nodes : List NodeValue) (at n : ℕ) (rest : List ℕ) → bears choice (kind_at nodes n) ≡ false
-        → Row (marks choice none_out nodes limit l) at (n ∷ rest) limit → Row (marks choice none_out nodes limit l) at
+        → Row (marks choice none_out nodes limit l) at (n ∷ rest) limit
+        → Row (marks choice none_out nodes limit l) at
         rest limit
     uncounted nodes at n rest e r =
         subst (λ (b : Bool). Row (marks choice none_out nodes limit l) (cond b (until limit l n) at) rest limit) e r.1
 
     -- an item with these letters, for a node that was taken
-    item_laid : (at to : ℕ) (d : Data) (under n : ℕ) (work : List Coming) (x : Layout) → at ≤ to → to ≤ length letters
+    item_laid : (at to : ℕ) (d : Data) (under n : ℕ) (work : List Coming) (x : Layout) → at ≤ to → to
+        ≤ length letters
         → Sub (counted_in choice (texts_of x.items)) (window 0 at letters)
         → Sub (data_letters d) (window at to letters)
         → FitsBy choice none_out letters (with_kind n document x.nodes) l
@@ -306,7 +313,8 @@ module _ (choice : Choice) where
         (row_marked c.node h.at limit (numbers work) x.nodes h.fits
         (uncounted x.nodes h.at c.node (numbers work) e h.row))
 
-    text_laid : (x : Layout) (c : Coming) (work : List Coming) (s : List ℕ) (deepest : Bool) → counted_of choice [] ≡ []
+    text_laid : (x : Layout) (c : Coming) (work : List Coming) (s : List ℕ) (deepest : Bool) → counted_of choice []
+        ≡ []
         → kind_at x.nodes c.node ≡ text s → Comes x c work
         → LaidTo (with_text deepest s c.under (without_node c.node (record x { work = work })))
     unfolding data_letters
@@ -337,7 +345,8 @@ module _ (choice : Choice) where
         → Row (marks choice none_out (with_kind c.node document x.nodes) limit l) h.at
         (numbers (map (coming under) (children_at (with_kind c.node document x.nodes) c.node) ++ work)) limit
     children_come x c work under e h =
-        subst (λ (ns : List ℕ). Row (marks choice none_out (with_kind c.node document x.nodes) limit l) h.at ns limit)
+        subst (λ (ns : List ℕ). Row (marks choice none_out (with_kind c.node document x.nodes) limit l) h.at ns
+        limit)
         (sym (numbers_coming under (children_at (with_kind c.node document x.nodes) c.node) work
         ∙ ap (λ (ns : List ℕ). ns ++ numbers work) (children_of_kind c.node c.node document x.nodes)))
         (row_marked c.node h.at limit (children_at x.nodes c.node ++ numbers work) x.nodes h.fits
@@ -382,7 +391,8 @@ module _ (choice : Choice) where
         element_laid x c work (element_node (text_of_element_name name) attributes)
         (if deepest then c.under else length x.items) (ap (bears choice) e) refl h
 
-    next_laid : (depth : ℕ) (work : List Coming) (x : Layout) → counted_of choice [] ≡ [] → x.work ≡ work → LaidTo x
+    next_laid : (depth : ℕ) (work : List Coming) (x : Layout) → counted_of choice [] ≡ [] → x.work ≡ work
+        → LaidTo x
         → LaidTo (put_next depth work x)
     next_laid depth [] x nil e h = h
     next_laid depth (c ∷ work) x nil e h =
@@ -391,17 +401,20 @@ module _ (choice : Choice) where
           low = h.low;
           items = h.items;
           fits = h.fits;
-          row = subst (λ (w : List Coming). Row (marks choice none_out x.nodes limit l) h.at (numbers w) limit) e h.row;
+          row = subst (λ (w : List Coming). Row (marks choice none_out x.nodes limit l) h.at (numbers w) limit)
+              e h.row;
         })
 
-    all_laid : (depth k : ℕ) (x : Layout) → counted_of choice [] ≡ [] → LaidTo x → LaidTo (layout_within depth k x)
+    all_laid : (depth k : ℕ) (x : Layout) → counted_of choice [] ≡ [] → LaidTo x
+        → LaidTo (layout_within depth k x)
     all_laid depth zero x nil h = h
     all_laid depth (suc k) x nil h =
         all_laid depth k (put_next depth x.work x) nil (next_laid depth x.work x nil refl h)
 
     -- ---- the whole tree
 
-    pub laid_in_order : (depth : ℕ) (nodes : List NodeValue) → counted_of choice [] ≡ [] → FitsBy choice none_out
+    pub laid_in_order : (depth : ℕ) (nodes : List NodeValue) → counted_of choice [] ≡ []
+        → FitsBy choice none_out
         letters nodes l
         → Sub (counted_in choice (texts_of (document_of depth nodes))) letters
     laid_in_order depth nodes nil h =

@@ -120,7 +120,8 @@ module _ (choice : Choice) where
     pub live_last : l.live last ≡ true
     pub live_at : l.live p ≡ true
 
-  spans : (out : ℕ → Bool) (letters : List ℕ) (nodes : List NodeValue) (l : Labels) → FitsBy choice out letters nodes l
+  spans : (out : ℕ → Bool) (letters : List ℕ) (nodes : List NodeValue) (l : Labels)
+      → FitsBy choice out letters nodes l
       → (limit : ℕ) → length letters < limit → (c : ℕ) (x : Bool) → l.lo c ≤ cond x limit (l.hi c)
   spans out letters nodes l h limit big c true = let a = h.span c in let b = h.high c in omega arith
   spans out letters nodes l h limit big c false = h.span c
@@ -255,7 +256,8 @@ module _ (choice : Choice) where
         front = λ limit big.
             subst (λ (x : ℕ). Row (marks choice (only n) copied limit copied_labels) x (children_at copied p)
             (copied_labels.lo n)) (sym (lo_same p (λ e. omega arith)))
-            (subst (λ (x : ℕ). Row (marks choice (only n) copied limit copied_labels) (l.lo p) (children_at copied p) x)
+            (subst (λ (x : ℕ). Row (marks choice (only n) copied limit copied_labels) (l.lo p)
+            (children_at copied p) x)
             (sym lo_own) (kept_row limit p (l.lo last) big (λ e. omega arith) (h.front limit big)));
         live_last = rw (eq-eqb n n refl) refl;
         live_at = rw (ne_eqb p n (λ e. omega arith)) h.live_at;
@@ -390,10 +392,12 @@ module _ (choice : Choice) where
         length_with_parents wn cs emptied
         ∙ (let e : length emptied ≡ length wmore = length-set wmore block _ in e ∙ more_size)
 
-    gone_other : (q : ℕ) → (wn ≡ q → ⊥) → (block ≡ q → ⊥) → children_at gone q ≡ children_at nodes q
+    gone_other : (q : ℕ) → (wn ≡ q → ⊥) → (block ≡ q → ⊥) → children_at gone q
+        ≡ children_at nodes q
     gone_other q f g =
         children_other wn q (children_at named wn ++ cs) named f
-        ∙ (children_with_parents wn q cs emptied ∙ (children_other block q [] wmore g ∙ children_with_new q wk nodes))
+        ∙ (children_with_parents wn q cs emptied
+        ∙ (children_other block q [] wmore g ∙ children_with_new q wk nodes))
 
     gone_block : children_at gone block ≡ []
     gone_block =
@@ -494,9 +498,11 @@ module _ (choice : Choice) where
     at_other limit big q f g =
         subst (λ (x : ℕ). Row (marks choice none_out wrapped limit wrapped_labels) x (children_at wrapped q)
         (until limit wrapped_labels q)) (sym (w_lo_same q (λ e. f (sym e))))
-        (subst (λ (x : ℕ). Row (marks choice none_out wrapped limit wrapped_labels) (l.lo q) (children_at wrapped q) x)
+        (subst (λ (x : ℕ). Row (marks choice none_out wrapped limit wrapped_labels) (l.lo q)
+        (children_at wrapped q) x)
         (sym (w_until_same limit q (λ e. f (sym e))))
-        (subst (λ (x : List ℕ). Row (marks choice none_out wrapped limit wrapped_labels) (l.lo q) x (until limit l q))
+        (subst (λ (x : List ℕ). Row (marks choice none_out wrapped limit wrapped_labels) (l.lo q) x
+        (until limit l q))
         (sym (children_put_other choice wn block q gone g ∙ gone_other q f g))
         (w_row limit q (until limit l q) big (h.rows limit big q))))
 

@@ -90,7 +90,8 @@ module _ (choice : Choice) where
     };
   }
     where
-      spans : (n : ℕ) (b : Bool) → l.live n ≡ b → (d : Bool) → ends n ≡ d → l.lo n ≤ cond (b && d) at (l.hi n)
+      spans : (n : ℕ) (b : Bool) → l.live n ≡ b → (d : Bool) → ends n ≡ d → l.lo n
+          ≤ cond (b && d) at (l.hi n)
       spans n true e true f = may.begins n e f
       spans n true e false f = h.span n
       spans n false e d f = h.span n
@@ -100,7 +101,8 @@ module _ (choice : Choice) where
       highs n true false = h.high n
       highs n false d = h.high n
 
-      ends_by : (limit : ℕ) → length letters < limit → (n : ℕ) (b : Bool) → l.live n ≡ b → (d : Bool) → ends n ≡ d
+      ends_by : (limit : ℕ) → length letters < limit → (n : ℕ) (b : Bool) → l.live n ≡ b → (d : Bool)
+          → ends n ≡ d
           → (l.lo n ≤ cond (b && not d) limit (cond (b && d) at (l.hi n)))
           × (cond (b && not d) limit (cond (b && d) at (l.hi n)) ≤ cond b limit (l.hi n))
       ends_by limit big n true e true f = (may.begins n e f, omega arith)
@@ -122,7 +124,8 @@ module _ (choice : Choice) where
       inner_end limit c true e false f x = absurd (true≢false (sym (x.0 e) ∙ f))
       inner_end limit c false e d f x = x.1 e
 
-      row : (limit : ℕ) → length letters < limit → (q : ℕ) (b : Bool) → l.live q ≡ b → (d : Bool) → ends q ≡ d
+      row : (limit : ℕ) → length letters < limit → (q : ℕ) (b : Bool) → l.live q ≡ b → (d : Bool)
+          → ends q ≡ d
           → Row (marks choice out nodes limit (ended ends at l)) (l.lo q) (children_at nodes q)
           (cond (b && not d) limit (cond (b && d) at (l.hi q)))
       row limit big q true e true f =
@@ -197,14 +200,16 @@ lt_not a b e = grind (arith, e)
 
 module _ (choice : Choice) where
   -- labels with which all that stands above a node has ended
-  pub record Settled (rank : ℕ → ℕ) (p : ℕ) (letters : List ℕ) (nodes : List NodeValue) (old : Labels) : Type 0 where
+  pub record Settled (rank : ℕ → ℕ) (p : ℕ) (letters : List ℕ) (nodes : List NodeValue)
+      (old : Labels) : Type 0 where
     pub labels : Labels
     pub fits : FitsBy choice none_out letters nodes labels
     pub still : (n : ℕ) → old.live n ≡ true → rank n ≤ rank p → labels.live n ≡ true
     pub children : (c : ℕ) → 1 ≤ times c (children_at nodes p) → bears choice (kind_at nodes c) ≡ true
         → labels.live c ≡ false
 
-  pub settled : (rank : ℕ → ℕ) (p : ℕ) (letters : List ℕ) (nodes : List NodeValue) (l : Labels) → Ranked rank nodes
+  pub settled : (rank : ℕ → ℕ) (p : ℕ) (letters : List ℕ) (nodes : List NodeValue) (l : Labels)
+      → Ranked rank nodes
       → FitsBy choice none_out letters nodes l → Settled rank p letters nodes l
   settled rank p letters nodes l ranked h = record {
     labels = ended (above rank p) (length letters) l;

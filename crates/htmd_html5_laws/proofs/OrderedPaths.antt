@@ -91,7 +91,8 @@ module _ (choice : Choice) where
 
     pub one_live : (q c d : ℕ) → 1 ≤ times c (children_at nodes q) → l.live c ≡ true
         → is_element (kind_at nodes c) ≡ true
-        → 1 ≤ times d (children_at nodes q) → l.live d ≡ true → bears choice (kind_at nodes d) ≡ true → d ≡ c
+        → 1 ≤ times d (children_at nodes q) → l.live d ≡ true → bears choice (kind_at nodes d) ≡ true → d
+        ≡ c
     one_live q c d k live e m live_d b = either (beside q c d k live e m b)
       where
         either : (d ≡ c) ⊎ (until limit l d ≤ l.lo c) → d ≡ c
@@ -108,7 +109,8 @@ module _ (choice : Choice) where
     not_root : (u : ℕ) → l.live u ≡ true → is_element (kind_at nodes u) ≡ true → rank u ≡ 0 → ⊥
     not_root u live e z = let x = (up u live e).less in absurd (omega arith)
 
-    down_step : (k : ℕ) → Paths k → (q u : ℕ) → Alive q → Alive u → rank u < suc k → rank q < rank u → Down q u
+    down_step : (k : ℕ) → Paths k → (q u : ℕ) → Alive q → Alive u → rank u < suc k → rank q < rank u
+        → Down q u
     down_step k p q u a b big less = by_either b.either
       where
         by_ranks : (x : Up u) → is_element (kind_at nodes u) ≡ true
@@ -154,10 +156,12 @@ module _ (choice : Choice) where
             let x = up u b.live e in
             by_ranks x e (cases_lt (rank q) (rank x.by)) (cases_lt (rank x.by) (rank q))
 
-    same_step : (k : ℕ) → Paths k → (q u : ℕ) → Alive q → Alive u → rank q < suc k → rank q ≡ rank u → q ≡ u
+    same_step : (k : ℕ) → Paths k → (q u : ℕ) → Alive q → Alive u → rank q < suc k → rank q ≡ rank u
+        → q ≡ u
     same_step k p q u a b big same = by_either a.either b.either
       where
-        by_ranks : (x : Up q) (y : Up u) → is_element (kind_at nodes q) ≡ true → is_element (kind_at nodes u) ≡ true
+        by_ranks : (x : Up q) (y : Up u) → is_element (kind_at nodes q) ≡ true → is_element (kind_at nodes u)
+            ≡ true
             → (rank x.by < rank y.by) ⊎ (rank y.by ≤ rank x.by)
             → (rank y.by < rank x.by) ⊎ (rank x.by ≤ rank y.by)
             → q ≡ u
@@ -228,7 +232,8 @@ module _ (choice : Choice) where
       alive_b = record { live = live_b; either = inr is_b }
 
       -- what isn't the inner one, and not on the way to it, has ended before it
-      ended_before : (q c : ℕ) → Alive q → rank p ≤ rank q → rank q < rank b → 1 ≤ times c (children_at nodes q)
+      ended_before : (q c : ℕ) → Alive q → rank p ≤ rank q → rank q < rank b → 1
+          ≤ times c (children_at nodes q)
           → counted choice apart nodes c ≡ true
           → (l.live c ≡ true → between c ≡ true) × (l.live c ≡ false → l.hi c ≤ l.lo b)
       ended_before q c a from to k counts =

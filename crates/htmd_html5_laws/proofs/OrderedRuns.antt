@@ -60,7 +60,8 @@ use Rattle.htmd_html5_laws.proofs.Counted.{Choice, counted_of}
 
 -- ---- texts of which nothing counts
 
-none_pass : (f p : ℕ → Bool) (t : List ℕ) → ((b : ℕ) → p b ≡ true → f b ≡ false) → list_all p t ≡ true
+none_pass : (f p : ℕ → Bool) (t : List ℕ) → ((b : ℕ) → p b ≡ true → f b ≡ false) → list_all p t
+    ≡ true
     → filter f t ≡ []
 none_pass f p [] g e = refl
 none_pass f p (b ∷ t) g e =
@@ -74,14 +75,16 @@ module _ (choice : Choice) where
   class_letters p t low f e =
       ap (filter choice.counts) (chars-IsAscii t (all_ascii p t low e)) ∙ none_pass choice.counts p t f e
 
-  null_counts_not : choice.nulls ≡ true → (b : ℕ) → is_of_kind (kind_of_byte 0) b ≡ true → choice.counts b ≡ false
+  null_counts_not : choice.nulls ≡ true → (b : ℕ) → is_of_kind (kind_of_byte 0) b ≡ true → choice.counts b
+      ≡ false
   null_counts_not n b e = ap choice.counts (eqb-true b null e) ∙ choice.no_null n
 
   pub white_letters : (t : List ℕ) → choice.reopens ≡ true → list_all (is_of_kind (kind_of_byte 32)) t ≡ true
       → counted_of choice t ≡ []
   white_letters t r e = class_letters (is_of_kind (kind_of_byte 32)) t white_is_ascii (choice.no_white r) e
 
-  null_letters : (t : List ℕ) → choice.nulls ≡ true → list_all (is_of_kind (kind_of_byte 0)) t ≡ true → counted_of
+  null_letters : (t : List ℕ) → choice.nulls ≡ true → list_all (is_of_kind (kind_of_byte 0)) t ≡ true
+      → counted_of
       choice t ≡ []
   null_letters t n e = class_letters (is_of_kind (kind_of_byte 0)) t never_null (null_counts_not n) e
 
@@ -237,7 +240,8 @@ hung_text_in t p nodes {stack} {head} fits h = by_before (preceding (last_in p) 
     by_before (Some n) = by_kind n (kind_at nodes n) refl
 
 module _ (choice : Choice) where
-  white_early : (letters t : List ℕ) (s : StateValue) (stack : List OpenValue) → IsUtf8 t → counted_of choice t ≡ []
+  white_early : (letters t : List ℕ) (s : StateValue) (stack : List OpenValue) → IsUtf8 t → counted_of choice t
+      ≡ []
       → Early choice letters s → EarlyIn choice letters s stack → EarlyIn choice letters (insert_text t s) stack
   white_early letters t s stack u none real h =
       let p = (current s.stack).node in
@@ -275,7 +279,8 @@ module _ (choice : Choice) where
 
   -- white space under the root, where the head may be opened once more only if it doesn't count
   after_head_white : (reopens : Bool) (letters t : List ℕ) (s : StateValue) → IsUtf8 t
-      → (reopens ≡ true → counted_of choice t ≡ []) → AfterHeadAt choice reopens false s.head s.stack letters s
+      → (reopens ≡ true → counted_of choice t ≡ [])
+      → AfterHeadAt choice reopens false s.head s.stack letters s
       → AfterHeadAt choice reopens false s.head s.stack (letters ++ counted_of choice t) (insert_text t s)
   after_head_white false letters t s u none h = early_text letters t s u h
   after_head_white true letters t s u none h =
@@ -291,7 +296,8 @@ module _ (choice : Choice) where
         → RunStage choice letters t true true (done s)
     white_gone mode m before h =
         run_done choice letters t true true s
-        (subst (λ (x : List ℕ). Staged choice x s) (sym (no_more letters (counted_of choice []) (nil_letters choice)))
+        (subst (λ (x : List ℕ). Staged choice x s)
+        (sym (no_more letters (counted_of choice []) (nil_letters choice)))
         (staged choice false mode letters s e m h))
         (ap is_before_head m ∙ before) (inr e)
 
@@ -482,7 +488,8 @@ module _ (choice : Choice) where
     -- whether it is white space
     module _ (calm : Calm s) (h : Staged choice letters s) where
       by_stage : {P : Type 0} → (Late choice letters s → P)
-          → (is_late s.mode ≡ false → is_text_mode s.content ≡ false → Stage choice false s.mode letters s → P) → P
+          → (is_late s.mode ≡ false → is_text_mode s.content ≡ false → Stage choice false s.mode letters s
+          → P) → P
       by_stage {P} late early = either (is_late s.mode) refl calm
         where
           either : (b : Bool) → is_late s.mode ≡ b → Calm s → P

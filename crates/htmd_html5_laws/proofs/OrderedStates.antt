@@ -61,7 +61,8 @@ module _ (choice : Choice) where
   -- a step that leaves the letters in order
   pub record Orders (f : StateValue → StateValue) : Type 0 where
     pub stays : Stays f
-    pub orders : (letters : List ℕ) (s : StateValue) → Plain s → Hung s → Ordered choice letters s → Ordered choice
+    pub orders : (letters : List ℕ) (s : StateValue) → Plain s → Hung s → Ordered choice letters s
+        → Ordered choice
         letters (f s)
     pub late : (s : StateValue) → Plain s → is_late s.mode ≡ true → is_late (f s).mode ≡ true
 
@@ -153,7 +154,8 @@ pub place_last : (s : StateValue) → s.foster_parenting ≡ false → place s �
 place_last s e = rw e refl
 
 -- what is open is live still
-pub opens_still : (old new : ℕ → Bool) (rank : ℕ → ℕ) (p : ℕ) (nodes : List NodeValue) (stack : List OpenValue)
+pub opens_still : (old new : ℕ → Bool) (rank : ℕ → ℕ) (p : ℕ) (nodes : List NodeValue)
+    (stack : List OpenValue)
     → ((m : ℕ) → m < length nodes → old m ≡ true → rank m ≤ rank p → new m ≡ true)
     → EachOpen (ElementOpen nodes) stack → EachOpen (λ e. rank e.node ≤ rank p) stack
     → EachOpen (λ e. old e.node ≡ true) stack
@@ -207,7 +209,8 @@ module _ (choice : Choice) where
       (current_within s.stack h) (current_live o.labels.live s.stack o.root o.opens)
       (low_ranks h.rank h.limit s.stack h.order))
 
-  pub insert_named_orders : (name : ElementNameValue) (attributes : List AttributePair) → is_plain_element name ≡ true
+  pub insert_named_orders : (name : ElementNameValue) (attributes : List AttributePair) → is_plain_element name
+      ≡ true
       → Orders choice (insert_named name attributes)
   insert_named_orders name attributes p = record {
     stays = insert_named_stays name attributes p;
@@ -277,7 +280,8 @@ module _ (choice : Choice) where
 
   -- ---- attributes that an element lacks
 
-  missing_bears : (more : List AttributePair) (k : KindValue) → bears choice (kind_with_missing more k) ≡ bears choice k
+  missing_bears : (more : List AttributePair) (k : KindValue) → bears choice (kind_with_missing more k)
+      ≡ bears choice k
   missing_bears more (element name attributes) = refl
   missing_bears more (text s) = refl
   missing_bears more document = refl
@@ -343,7 +347,8 @@ module _ (choice : Choice) where
   like_ordered letters s doctype h o = o
   like_ordered letters s (comment t) h o = o
 
-  reopen_all_ordered : (letters : List ℕ) (ns : List ℕ) (s : StateValue) → EachPlain (kinds s.nodes) ns → Plain s
+  reopen_all_ordered : (letters : List ℕ) (ns : List ℕ) (s : StateValue) → EachPlain (kinds s.nodes) ns
+      → Plain s
       → Hung s → Ordered choice letters s → Ordered choice letters (reopen_all ns s)
   reopen_all_ordered letters [] s all h x o = o
   reopen_all_ordered letters (n ∷ ns) s all h x o =

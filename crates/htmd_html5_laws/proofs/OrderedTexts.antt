@@ -28,7 +28,8 @@ use Rattle.htmd_html5_laws.proofs.Counted.{Choice, counted_of}
 module _ (choice : Choice) where
   -- ---- letters of texts
 
-  pub letters_append : (s t : List ℕ) → IsUtf8 s → counted_of choice (s ++ t) ≡ counted_of choice s ++ counted_of
+  pub letters_append : (s t : List ℕ) → IsUtf8 s → counted_of choice (s ++ t) ≡ counted_of choice s
+      ++ counted_of
       choice t
   unfolding counted_of
   letters_append s t u = ap (filter choice.counts) (chars-append s t u) ∙ filter-append choice.counts (chars s)
@@ -36,7 +37,8 @@ module _ (choice : Choice) where
 
   pub fits_same : {out : ℕ → Bool} {letters : List ℕ} {nodes : List NodeValue} {l : Labels}
       → FitsBy choice out (letters ++ []) nodes l → FitsBy choice out letters nodes l
-  fits_same {out} {letters} {nodes} {l} h = subst (λ (x : List ℕ). FitsBy choice out x nodes l) (append_nil letters) h
+  fits_same {out} {letters} {nodes} {l} h =
+      subst (λ (x : List ℕ). FitsBy choice out x nodes l) (append_nil letters) h
 
 -- ---- what a node is changes, but not what its text's letters are
 
@@ -56,13 +58,15 @@ kind_set_own (suc n) k (x ∷ nodes) = kind_set_own n k nodes
 
 module _ (choice : Choice) where
   pub fits_like : (n : ℕ) (k : KindValue) (letters : List ℕ) (nodes : List NodeValue) (l : Labels)
-      → bears choice k ≡ bears choice (kind_at nodes n) → ((t : List ℕ) → k ≡ text t → TextIn choice letters l n t)
+      → bears choice k ≡ bears choice (kind_at nodes n)
+      → ((t : List ℕ) → k ≡ text t → TextIn choice letters l n t)
       → FitsBy choice none_out letters nodes l → FitsBy choice none_out letters (with_kind n k nodes) l
   fits_like n k letters nodes l same is h = record {
     span = h.span;
     high = h.high;
     rows = λ limit big q.
-        subst (λ (cs : List ℕ). Row (marks choice none_out (with_kind n k nodes) limit l) (l.lo q) cs (until limit l q))
+        subst (λ (cs : List ℕ). Row (marks choice none_out (with_kind n k nodes) limit l) (l.lo q) cs
+        (until limit l q))
         (sym (children_of_kind n q k nodes))
         (row_marks (marks choice none_out nodes limit l) (marks choice none_out (with_kind n k nodes) limit l) (l.lo q)
         (children_at nodes q) (until limit l q)
@@ -103,7 +107,8 @@ module _ (choice : Choice) where
   -- ---- where a new node stands
 
   module _ (letters : List ℕ) (nodes : List NodeValue) (l : Labels) (h : FitsBy choice none_out letters nodes l)
-      (forest : IsForest nodes) (k : KindValue) (p : ℕ) (within : p < length nodes) (more : List ℕ) (live : Bool) where
+      (forest : IsForest nodes) (k : KindValue) (p : ℕ) (within : p < length nodes) (more : List ℕ)
+      (live : Bool) where
     -- what bears nothing may stand anywhere
     pub loose_row : bears choice k ≡ false → RowOk choice letters nodes l h forest k p within more live
     loose_row e limit big =
@@ -127,7 +132,8 @@ module _ (choice : Choice) where
 
     -- and anything at the end of what is live, where the children before have ended
     pub live_row : l.live p ≡ true
-        → ((c : ℕ) → 1 ≤ times c (children_at nodes p) → bears choice (kind_at nodes c) ≡ true → l.live c ≡ false)
+        → ((c : ℕ) → 1 ≤ times c (children_at nodes p) → bears choice (kind_at nodes c) ≡ true → l.live c
+        ≡ false)
         → RowOk choice letters nodes l h forest k p within more live
     live_row e ends limit big =
         row_append (marks choice none_out (grown k p nodes) limit
@@ -164,7 +170,8 @@ module _ (choice : Choice) where
     front : Row m at cs (cond (m.counts n) (m.begin n) to)
     last : m.counts n ≡ true → (m.begin n ≤ m.end n) × (m.end n ≤ to)
 
-  row_split : (m : Marks) (at : ℕ) (cs : List ℕ) (n to : ℕ) → Row m at (cs ++ n ∷ []) to → Split m at cs n to
+  row_split : (m : Marks) (at : ℕ) (cs : List ℕ) (n to : ℕ) → Row m at (cs ++ n ∷ []) to
+      → Split m at cs n to
   row_split m at [] n to h = record {
     front = either (m.counts n) refl h.1;
     last = λ b. let s = h.0 b in
@@ -177,7 +184,8 @@ module _ (choice : Choice) where
   row_split m at (c ∷ cs) n to h =
       let r = row_split m (after m at c) cs n to h.1 in record { front = (h.0, r.front); last = r.last }
 
-last_child : (n : ℕ) (cs : List ℕ) → child_before (length cs) cs ≡ Some n → (ds : List ℕ) × (cs ≡ ds ++ n ∷ [])
+last_child : (n : ℕ) (cs : List ℕ) → child_before (length cs) cs ≡ Some n → (ds : List ℕ)
+    × (cs ≡ ds ++ n ∷ [])
 last_child n [] e = absurd (none_some e)
   where
     none_some : None ≡ Some n → ⊥
@@ -239,7 +247,8 @@ module _ (choice : Choice) where
       (h : FitsBy choice none_out letters nodes l)
       (ranked : Ranked rank nodes) (p n : ℕ) (s t : List ℕ) (is : kind_at nodes n ≡ text s) (ds : List ℕ)
       (stand : children_at nodes p ≡ ds ++ n ∷ []) (live : l.live p ≡ true) (u : IsUtf8 t)
-      (ends : (c : ℕ) → 1 ≤ times c (children_at nodes p) → bears choice (kind_at nodes c) ≡ true → l.live c ≡ false)
+      (ends : (c : ℕ) → 1 ≤ times c (children_at nodes p) → bears choice (kind_at nodes c) ≡ true → l.live c
+      ≡ false)
     where
       abbrev start : ℕ
       start = cond (bears choice (kind_at nodes n)) (l.lo n) (length letters)
@@ -276,7 +285,8 @@ module _ (choice : Choice) where
       more_own_until limit = rw (eq-eqb n n refl) refl
 
       more_row_kept : (limit at : ℕ) (cs : List ℕ) (to : ℕ) → stop < limit → times n cs ≡ 0
-          → Row (marks choice none_out nodes limit l) at cs to → Row (marks choice none_out joined limit with_more) at
+          → Row (marks choice none_out nodes limit l) at cs to
+          → Row (marks choice none_out joined limit with_more) at
           cs to
       more_row_kept limit at cs to big none r =
           row_marks (marks choice none_out nodes limit l) (marks choice none_out joined limit with_more) at cs to
@@ -356,7 +366,8 @@ module _ (choice : Choice) where
       at_parent limit big q e =
           subst (λ (x : ℕ). Row (marks choice none_out joined limit with_more) (with_more.lo x) (children_at nodes x)
           (until limit with_more x)) e
-          (subst (λ (x : ℕ). Row (marks choice none_out joined limit with_more) (with_more.lo p) (children_at nodes p)
+          (subst (λ (x : ℕ). Row (marks choice none_out joined limit with_more) (with_more.lo p)
+          (children_at nodes p)
           x)
           (sym (more_other_until limit p p_other ∙ ap (λ (b : Bool). cond b limit (l.hi p)) live))
           (subst (λ (x : ℕ). Row (marks choice none_out joined limit with_more) x (children_at nodes p) limit)
@@ -364,7 +375,8 @@ module _ (choice : Choice) where
           (subst (λ (cs : List ℕ). Row (marks choice none_out joined limit with_more) (l.lo p) cs limit) (sym stand)
           (row_append (marks choice none_out joined limit with_more) (l.lo p) ds start (n ∷ []) limit
           (more_row_kept limit (l.lo p) ds start big n_once (front limit big)) (
-            λ b. let x = more_own_lo in let y = more_own_until limit in let z = start_low in (omega arith, omega arith),
+            λ b. let x = more_own_lo in let y = more_own_until limit in let z =
+                start_low in (omega arith, omega arith),
             let y = more_own_until limit in let z = start_low in
                 low (bears choice (kind_at joined n)) limit start (omega arith) (omega arith),
           )))))
@@ -401,7 +413,8 @@ module _ (choice : Choice) where
           → Row (marks choice none_out joined limit with_more) (with_more.lo q) (children_at nodes q)
           (until limit with_more q)
       at_other limit big q f g =
-          subst (λ (x : ℕ). Row (marks choice none_out joined limit with_more) (with_more.lo q) (children_at nodes q) x)
+          subst (λ (x : ℕ). Row (marks choice none_out joined limit with_more) (with_more.lo q)
+          (children_at nodes q) x)
           (sym (more_other_until limit q (λ e. g (sym e))))
           (subst (λ (x : ℕ). Row (marks choice none_out joined limit with_more) x (children_at nodes q)
           (until limit l q))
@@ -519,14 +532,16 @@ module _ (choice : Choice) where
   -- ---- text at the end of what is live
 
   -- labels that fit after a step, in which what was live is still so, but for what stands above a node
-  pub record Goes (rank : ℕ → ℕ) (p : ℕ) (letters : List ℕ) (size : ℕ) (old : Labels) (nodes : List NodeValue)
+  pub record Goes (rank : ℕ → ℕ) (p : ℕ) (letters : List ℕ) (size : ℕ) (old : Labels)
+      (nodes : List NodeValue)
       : Type 0 where
     pub labels : Labels
     pub fits : FitsBy choice none_out letters nodes labels
     pub still : (m : ℕ) → m < size → old.live m ≡ true → rank m ≤ rank p → labels.live m ≡ true
 
   -- the new node is live then
-  pub record Opens (rank : ℕ → ℕ) (p : ℕ) (letters : List ℕ) (size : ℕ) (old : Labels) (nodes : List NodeValue)
+  pub record Opens (rank : ℕ → ℕ) (p : ℕ) (letters : List ℕ) (size : ℕ) (old : Labels)
+      (nodes : List NodeValue)
       : Type 0 where
     pub labels : Labels
     pub fits : FitsBy choice none_out letters nodes labels
@@ -611,7 +626,8 @@ module _ (choice : Choice) where
                 (x.still p live (omega arith)) u x.children;
             still = λ m k e r.
                 let a = x.still m e r in
-                rw (ne_eqb m n (λ f. true≢false (sym (sym (ap x.labels.live f) ∙ a) ∙ (x.fits.texts n s is).closed))) a;
+                rw (ne_eqb m n (λ f. true≢false (sym (sym (ap x.labels.live f) ∙ a)
+                ∙ (x.fits.texts n s is).closed))) a;
           }
 
       pub text_put : (t : List ℕ) → IsUtf8 t
@@ -646,7 +662,8 @@ module _ (choice : Choice) where
 
         added : GoesOn letters (length nodes) l (grown (text t) p nodes)
         added = loose_added (text t) loose
-            (λ x f. let same : t ≡ x = text_same f in (subst IsUtf8 same u, ap (counted_of choice) (sym same) ∙ none))
+            (λ x f. let same : t ≡ x = text_same f in
+            (subst IsUtf8 same u, ap (counted_of choice) (sym same) ∙ none))
 
         joined_same : (n : ℕ) (s : List ℕ) → kind_at nodes n ≡ text s
             → GoesOn letters (length nodes) l (with_kind n (text (s ++ t)) nodes)

@@ -99,7 +99,8 @@ module _ (choice : Choice) where
 
   -- what is put of the first run and what is kept of the rest are what is kept of the text
   parts_fit : (text : List ℕ) (before white : Bool) → IsUtf8 text
-      → (white ≡ true → after_first_run text ≡ behind_run is_ascii_white_space text) → (white ≡ false → Dark text)
+      → (white ≡ true → after_first_run text ≡ behind_run is_ascii_white_space text)
+      → (white ≡ false → Dark text)
       → counted_of choice (unless (before && white) (first_run text))
       ++ counted_of choice (without_white (before && white) (after_first_run text))
       ≡ counted_of choice (without_white before text)
@@ -184,7 +185,8 @@ module _ (choice : Choice) where
         clean = clean_rest choice.nulls text clean;
       }
 
-  pub within_part : (k : ℕ) (text : List ℕ) (letters : List ℕ) (s : StateValue) → IsUtf8 text → Clean choice.nulls
+  pub within_part : (k : ℕ) (text : List ℕ) (letters : List ℕ) (s : StateValue) → IsUtf8 text
+      → Clean choice.nulls
       text → Calm s
       → Staged choice letters s → Part letters text s (take_within k text s)
   within_part zero text letters s u clean calm h =
@@ -211,7 +213,8 @@ module _ (choice : Choice) where
           run_part k text letters s (by_rules (first_token text) s) u clean
           (run_of choice letters text (run_parts 0 text u).front clean (first_all text) s calm h) more
 
-  put_stage : (k : ℕ) (text : List ℕ) (letters : List ℕ) (s : StateValue) → IsUtf8 text → Clean choice.nulls text →
+  put_stage : (k : ℕ) (text : List ℕ) (letters : List ℕ) (s : StateValue) → IsUtf8 text
+      → Clean choice.nulls text →
       Calm s
       → Staged choice letters s
       → Staged choice (letters ++ counted_of choice (kept text s)) (put_within k text s)
@@ -234,7 +237,8 @@ module _ (choice : Choice) where
 
   -- ---- in an element of only text
 
-  after_head_text : (reopens : Bool) (letters t : List ℕ) (s : StateValue) (head : Option ℕ) (stack : List OpenValue)
+  after_head_text : (reopens : Bool) (letters t : List ℕ) (s : StateValue) (head : Option ℕ)
+      (stack : List OpenValue)
       → IsUtf8 t
       → s.stack ≡ stack
       → AfterHeadAt choice reopens true head stack letters s
@@ -262,7 +266,8 @@ module _ (choice : Choice) where
           ∙ (ap (λ (stack : List OpenValue). last_in (current stack).node) (sym e)
           ∙ sym (place_last s h.ordered.no_fostering))
 
-  raw_text_stage : (mode : InsertionMode) (letters t : List ℕ) (s : StateValue) → IsUtf8 t → Stage choice true mode
+  raw_text_stage : (mode : InsertionMode) (letters t : List ℕ) (s : StateValue) → IsUtf8 t
+      → Stage choice true mode
       letters s
       → Stage choice true mode (letters ++ counted_of choice t) (insert_text t s)
   raw_text_stage Initial letters t s u h = (early_text choice letters t s u h.0, h.1)
@@ -276,7 +281,8 @@ module _ (choice : Choice) where
   raw_text_stage AfterAfterBody letters t s u h = late_writes choice letters t s u h
   raw_text_stage _ letters t s u h = absurd h
 
-  put_raw_stage : (letters t : List ℕ) (s : StateValue) → IsUtf8 t → is_text_mode s.content ≡ true → Staged choice
+  put_raw_stage : (letters t : List ℕ) (s : StateValue) → IsUtf8 t → is_text_mode s.content ≡ true
+      → Staged choice
       letters s
       → Staged choice (letters ++ counted_of choice t) (put_raw_text t s)
   put_raw_stage letters t s u e h = either (is_empty t)
@@ -287,7 +293,8 @@ module _ (choice : Choice) where
           subst (λ (b : Bool). Stage choice b s.mode (letters ++ counted_of choice t) (insert_text t s)) (sym e)
           (raw_text_stage s.mode letters t s u (unstaged choice true s.mode letters s e refl h))
 
-  feed_text_stage : (letters t : List ℕ) (s : StateValue) → IsUtf8 t → Clean choice.nulls t → Staged choice letters s
+  feed_text_stage : (letters t : List ℕ) (s : StateValue) → IsUtf8 t → Clean choice.nulls t
+      → Staged choice letters s
       → Staged choice (letters ++ counted_of choice (without_white (drops_white s) t)) (feed_text t s)
   feed_text_stage letters t s u clean h = either (is_text_mode s.content) refl
     where
@@ -314,7 +321,8 @@ module _ (choice : Choice) where
       let y = early_fewer choice letters s stack es f h in
       record { plain = y.plain; hung = y.hung; ordered = y.ordered; names = y.names }
 
-  after_head_closed : (reopens : Bool) (letters : List ℕ) (s : StateValue) (head : Option ℕ) (stack : List OpenValue)
+  after_head_closed : (reopens : Bool) (letters : List ℕ) (s : StateValue) (head : Option ℕ)
+      (stack : List OpenValue)
       → AfterHeadAt choice reopens true head stack letters s
       → AfterHeadAt choice reopens false head (pop stack) letters (close_raw s)
   after_head_closed false letters s head stack h = early_closed letters s stack (pop stack) (pop_fewer stack) h
@@ -345,7 +353,8 @@ module _ (choice : Choice) where
   raw_closed AfterAfterBody letters s h = late_closed letters s h
   raw_closed _ letters s h = absurd h
 
-  raw_closed_staged : (letters : List ℕ) (s : StateValue) → is_text_mode s.content ≡ true → Staged choice letters s
+  raw_closed_staged : (letters : List ℕ) (s : StateValue) → is_text_mode s.content ≡ true
+      → Staged choice letters s
       → Staged choice letters (close_raw s)
   raw_closed_staged letters s e h = raw_closed s.mode letters s (unstaged choice true s.mode letters s e refl h)
 
@@ -364,7 +373,8 @@ module _ (choice : Choice) where
   -- ---- a token by the rules
 
   -- a token that opens the head is never left to the mode after the head
-  may_again : (t : TokenValue) → IsOrderly t → (letters : List ℕ) (s : StateValue) → Calm s → Staged choice letters s
+  may_again : (t : TokenValue) → IsOrderly t → (letters : List ℕ) (s : StateValue) → Calm s
+      → Staged choice letters s
       → MayCome choice t s → (by_rules t s).again ≡ true → MayCome choice t (by_rules t s).state
   may_again t p letters s calm h may again z m = by_head (opens_head t) refl
     where
@@ -496,7 +506,8 @@ module _ (choice : Choice) where
   after_head_skipped true true letters s (Some n) [] h = absurd h
   after_head_skipped true true letters s (Some n) (d ∷ ds) h = early_skipped letters s (d ∷ head_open n ∷ ds) h
 
-  pub stage_skipped : (raw : Bool) (mode : InsertionMode) (letters : List ℕ) (s : StateValue) → Stage choice raw mode
+  pub stage_skipped : (raw : Bool) (mode : InsertionMode) (letters : List ℕ) (s : StateValue)
+      → Stage choice raw mode
       letters s
       → Stage choice raw mode letters (with_nothing_skipped s)
   stage_skipped raw Initial letters s h = (early_skipped letters s s.stack h.0, h.1)
@@ -529,7 +540,8 @@ module _ (choice : Choice) where
         skipped : StateValue
         skipped = with_nothing_skipped s
 
-        by_token : (token : tokens.TokenValue) → TokenUtf8 token → is_orderly token ≡ true → NotLate token s → NoNull
+        by_token : (token : tokens.TokenValue) → TokenUtf8 token → is_orderly token ≡ true → NotLate token s
+            → NoNull
             token
             → Staged choice letters (with_nothing_skipped s)
             → Staged choice (letters ++ kept_letters token s) (feed token s)
@@ -586,7 +598,8 @@ module _ (choice : Choice) where
           → list_all is_orderly
           (if b then [] else read.token ∷ tokens_within k read.rest (feed read.token s)) ≡ true
           → (choice.reopens ≡ false
-          → (if b then true else not (comes_late read.token s) && early_within k read.rest (feed read.token s)) ≡ true)
+          → (if b then true else not (comes_late read.token s) && early_within k read.rest (feed read.token s))
+          ≡ true)
           → (choice.nulls ≡ false → list_all has_no_null
           (if b then [] else read.token ∷ tokens_within k read.rest (feed read.token s)) ≡ true)
           → Staged choice (letters ++ counted_in choice
@@ -666,7 +679,8 @@ module _ (choice : Choice) where
     refl,
   )
 
-  pub state_staged : (scripting : Bool) (page : List ℕ) → IsUtf8 page → all_tags_are_orderly scripting page ≡ true
+  pub state_staged : (scripting : Bool) (page : List ℕ) → IsUtf8 page → all_tags_are_orderly scripting page
+      ≡ true
       → (choice.reopens ≡ false → no_tag_comes_late scripting page ≡ true)
       → (choice.nulls ≡ false → no_null_comes scripting page ≡ true)
       → Staged choice (counted_in choice (kept_texts scripting page)) (state_after scripting page)

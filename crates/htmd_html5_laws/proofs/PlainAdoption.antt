@@ -174,7 +174,8 @@ with_plain tag formatting s p at h = either (not (is_open_node formatting s.stac
     either false = later (list_any bounds_any (inside formatting s.stack))
 
 -- what is found after the last marker is listed
-pub found_listed : (p : ℕ → Bool) (entries : List (Option ℕ)) (n : ℕ) → find p (since_marker entries) ≡ Some n
+pub found_listed : (p : ℕ → Bool) (entries : List (Option ℕ)) (n : ℕ) → find p (since_marker entries)
+    ≡ Some n
     → is_listed n entries ≡ true
 found_listed p [] n e = absurd (cc)
 found_listed p (None ∷ entries) n e = absurd (cc)
@@ -215,7 +216,8 @@ plain_is_element document p = absurd (true≢false (sym p))
 plain_is_element doctype p = absurd (true≢false (sym p))
 plain_is_element (comment s) p = absurd (true≢false (sym p))
 
-pub element_at : (nodes : List NodeValue) (n : ℕ) → PlainAt (kinds nodes) n → is_element (kind_at nodes n) ≡ true
+pub element_at : (nodes : List NodeValue) (n : ℕ) → PlainAt (kinds nodes) n → is_element (kind_at nodes n)
+    ≡ true
 element_at nodes n p = plain_is_element (kind_at nodes n) (ap is_plain_kind (kind_read nodes n) ∙ p)
 
 pub chain_hung : (old : ℕ → ℕ) (r left : ℕ) (es : List OpenValue) (s : StateValue) (c : Chain) → PlainStack es

@@ -484,7 +484,8 @@ module _ (c : ℕ) (tests : CharacterTests c) where
 -- ---- letters, of which white space holds none
 
 module _ (c : ℕ) (letter : LetterTests c) where
-  white_outcome : (t : List ℕ) → IsUtf8 t → list_all (is_of_kind (kind_of_byte 32)) t ≡ true → (s : StateValue)
+  white_outcome : (t : List ℕ) → IsUtf8 t → list_all (is_of_kind (kind_of_byte 32)) t ≡ true
+      → (s : StateValue)
       → drops_text s ≡ false → Sound s
       → Outcome c (occurrences c t) (rank s.mode) s (by_rules (run (kind_of_byte 32) t) s)
   white_outcome t u all s d h =

@@ -79,7 +79,8 @@ table_takes _ stack e = absurd (true≢false (sym e))
 module _ (c : ℕ) (letter : LetterTests c) where
   -- ---- text in a table
 
-  nulls_gone : (k : ℕ) (s : List ℕ) → length s ≤ k → IsUtf8 s → SameLetters c letter.character s (without_nulls s)
+  nulls_gone : (k : ℕ) (s : List ℕ) → length s ≤ k → IsUtf8 s
+      → SameLetters c letter.character s (without_nulls s)
   nulls_gone k [] l u = record { utf8 = IsUtf8-nil; same = refl }
   nulls_gone zero (b ∷ s) l u = absurd (omega arith)
   nulls_gone (suc k) (b ∷ s) l u =
@@ -89,7 +90,8 @@ module _ (c : ℕ) (letter : LetterTests c) where
       (nulls_gone k (after_first_run (b ∷ s)) (omega arith) parts.rest)
     where
       put : RunParts c (b ∷ s)
-          → SameLetters c letter.character (first_run (b ∷ s)) (kept_of (first_kind (b ∷ s)) (first_run (b ∷ s)))
+          → SameLetters c letter.character (first_run (b ∷ s))
+          (kept_of (first_kind (b ∷ s)) (first_run (b ∷ s)))
           → SameLetters c letter.character (after_first_run (b ∷ s)) (without_nulls (after_first_run (b ∷ s)))
           → SameLetters c letter.character (b ∷ s) (without_nulls (b ∷ s))
       put parts x y =

@@ -52,7 +52,8 @@ module _ (m : Marks) where
   row_to at (c ∷ cs) to high l h = (h.0, row_to (after m at c) cs to high l h.1)
 
   -- what stands in a row
-  pub row_member : (c at : ℕ) (cs : List ℕ) (to : ℕ) → 1 ≤ times c cs → m.counts c ≡ true → Row m at cs to
+  pub row_member : (c at : ℕ) (cs : List ℕ) (to : ℕ) → 1 ≤ times c cs → m.counts c ≡ true
+      → Row m at cs to
       → (at ≤ m.begin c) × (m.begin c ≤ m.end c) × (m.end c ≤ to)
   row_member c at [] to l b h = absurd (omega arith)
   row_member c at (d ∷ cs) to l b h =
@@ -75,14 +76,16 @@ module _ (m : Marks) where
           → (at ≤ m.begin c) × (m.begin c ≤ m.end c) × (m.end c ≤ to)
       there r = let x = low (m.counts d) refl in let y = r.0 in (omega arith, r.1, r.2)
 
-  pub row_append : (at : ℕ) (cs : List ℕ) (mid : ℕ) (ds : List ℕ) (to : ℕ) → Row m at cs mid → Row m mid ds to
+  pub row_append : (at : ℕ) (cs : List ℕ) (mid : ℕ) (ds : List ℕ) (to : ℕ) → Row m at cs mid
+      → Row m mid ds to
       → Row m at (cs ++ ds) to
   row_append at [] mid ds to h g = row_from mid at ds to h g
   row_append at (c ∷ cs) mid ds to h g = (h.0, row_append (after m at c) cs mid ds to h.1 g)
 
   -- up to a place before which all end
   pub row_ends : (at : ℕ) (cs : List ℕ) (to high : ℕ) → at ≤ high
-      → ((c : ℕ) → 1 ≤ times c cs → m.counts c ≡ true → m.end c ≤ high) → Row m at cs to → Row m at cs high
+      → ((c : ℕ) → 1 ≤ times c cs → m.counts c ≡ true → m.end c ≤ high) → Row m at cs to
+      → Row m at cs high
   row_ends at [] to high l f h = l
   row_ends at (c ∷ cs) to high l f h = (
     h.0,
@@ -106,7 +109,8 @@ module _ (m : Marks) where
   row_without at (c ∷ cs) to (suc i) h = (h.0, row_without (after m at c) cs to i h.1)
 
   -- what ends beyond all beginnings is the last that counts
-  pub row_last : (c d at : ℕ) (cs : List ℕ) (to limit : ℕ) → 1 ≤ times c cs → m.counts c ≡ true → 1 ≤ times d cs
+  pub row_last : (c d at : ℕ) (cs : List ℕ) (to limit : ℕ) → 1 ≤ times c cs → m.counts c ≡ true → 1
+      ≤ times d cs
       → m.counts d ≡ true → limit < m.end c → ((x : ℕ) → m.begin x ≤ limit) → Row m at cs to
       → (d ≡ c) ⊎ (m.end d ≤ m.begin c)
   row_last c d at [] to limit l b k e big low h = absurd (omega arith)
@@ -147,7 +151,8 @@ row_marks m m' at (c ∷ cs) to f h = (
     own : 1 ≤ times c (c ∷ cs)
     own = let o : ◌≡◌ {A = ℕ} (cond (c == c) 1 0) 1 = rw (eq-eqb c c refl) refl in omega arith
 
-    low : (b : Bool) → m'.counts c ≡ b → (d : Bool) → m.counts c ≡ d → cond b (m'.end c) at ≤ cond d (m.end c) at
+    low : (b : Bool) → m'.counts c ≡ b → (d : Bool) → m.counts c ≡ d → cond b (m'.end c) at
+        ≤ cond d (m.end c) at
     low true e true g = (f c own e).3
     low true e false g = absurd (true≢false (sym (f c own e).0 ∙ g))
     low false e true g = let s = h.0 g in let x = s.0 in let y = s.1 in omega arith

@@ -95,7 +95,8 @@ window_empty zero l = refl
 window_empty (suc a) [] = refl
 window_empty (suc a) (x ∷ l) = window_empty a l
 
-pub window_split : (a b c : ℕ) (l : List ℕ) → a ≤ b → b ≤ c → window a c l ≡ window a b l ++ window b c l
+pub window_split : (a b c : ℕ) (l : List ℕ) → a ≤ b → b ≤ c → window a c l ≡ window a b l
+    ++ window b c l
 window_split zero zero c l h g = refl
 window_split zero (suc b) zero l h g = absurd (omega arith)
 window_split zero (suc b) (suc c) [] h g = refl

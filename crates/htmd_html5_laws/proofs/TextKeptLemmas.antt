@@ -28,7 +28,8 @@ same_characters (s ∷ texts) = ap (λ (x : List ℕ). characters_of s ++ x) (sa
 pub text_kept : TextIsKept
 text_kept scripting page u e early =
     sym (same_characters (texts_of (html5_document scripting page)))
-    ∙ (counted_in_order kept_choice scripting page u e (λ z. early) (λ z. absurd (true≢false z)) ∙ same_characters
+    ∙ (counted_in_order kept_choice scripting page u e (λ z. early) (λ z. absurd (true≢false z))
+    ∙ same_characters
     (kept_texts scripting page))
 
 -- ---- without U+0000
@@ -57,4 +58,5 @@ same_text (s ∷ texts) =
 pub whole_text_kept : WholeTextIsKept
 whole_text_kept scripting page u e early clean =
     sym (same_text (texts_of (html5_document scripting page)))
-    ∙ (counted_in_order all_choice scripting page u e (λ z. early) (λ z. clean) ∙ same_text (kept_texts scripting page))
+    ∙ (counted_in_order all_choice scripting page u e (λ z. early) (λ z. clean)
+    ∙ same_text (kept_texts scripting page))

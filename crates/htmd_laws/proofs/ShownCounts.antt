@@ -94,7 +94,8 @@ module _ (c : ℕ) where
     in_ways false false in_order later among hidden texts v w = w
 
     -- what is counted in one text is counted in any
-    counted_below : (tables guarded : Bool) → is_counted guarded c ≡ true → is_counted (not tables && guarded) c ≡ true
+    counted_below : (tables guarded : Bool) → is_counted guarded c ≡ true → is_counted (not tables && guarded) c
+        ≡ true
     counted_below true true e = (and_parts (is_visible c) (not (c == asterisk)) e).0
     counted_below true false e = e
     counted_below false guarded e = e

@@ -157,7 +157,8 @@ module _ (c : ℕ) where
       let is : is_child q item.parent ≡ true = ap (is_child q) h.1 ∙ eq-eqb q q refl in
       rw is (texts_append (texts_in (with_children b item.node_data below))
       (texts_among (forest_from (suc b) items q))) in
-      let others : (p : ℕ) → (q == p) ≡ false → within_forest b (item ∷ items) p ≡ within_forest (suc b) items p =
+      let others : (p : ℕ) → (q == p) ≡ false → within_forest b (item ∷ items) p
+      ≡ within_forest (suc b) items p =
       λ p n. let is : is_child p item.parent ≡ false = ap (is_child p) h.1 ∙ n in rw is refl in
       let sums = sum_with (within_forest b (item ∷ items)) (within_forest (suc b) items) q own b h.2 at others in
       let more = texts_of_forests (suc b) items h.4 in

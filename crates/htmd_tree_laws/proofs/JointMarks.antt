@@ -129,7 +129,8 @@ no_backslash : (b : ℕ) → is_asterisk b ≡ true → (b == backslash) ≡ fal
 no_backslash b e = ap (λ x. x == backslash) (eqb-true b asterisk e)
 
 -- nothing is escaped where the run at the end begins
-pub run_bare : (s : List ℕ) → escapes false s ≡ false → escapes false (take (length s - ending_run s) s) ≡ false
+pub run_bare : (s : List ℕ) → escapes false s ≡ false → escapes false (take (length s - ending_run s) s)
+    ≡ false
 run_bare s whole = by (escapes_next (take (length s - suffix_len is_asterisk s) s)) refl
   where
     within : suffix_len is_asterisk s ≤ length s

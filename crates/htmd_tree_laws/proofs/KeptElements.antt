@@ -133,7 +133,8 @@ EachKeeps at says (d ∷ ds) =
     × EachKeeps at says ds
 
 -- a text that is only code or an address: `*` isn't promised
-kept_but_asterisks : (s l : List ℕ) → Says (of_visible true) s l → (IsUtf8 s → ends even (chars s) ≡ even) → Keeps s l
+kept_but_asterisks : (s l : List ℕ) → Says (of_visible true) s l → (IsUtf8 s → ends even (chars s) ≡ even)
+    → Keeps s l
 kept_but_asterisks s l p closed = says-keeps (closed p.utf8) p
 
 module _ (options : Options) (g : is_guarded options ≡ true) (alone : is_markdown_alone options ≡ true)
@@ -222,7 +223,8 @@ module _ (options : Options) (g : is_guarded options ≡ true) (alone : is_markd
         (guarded_link s address (title_of at.view)))
         (shown_among options items (not (is_autolinked at.view address) && true) children)
     autolink_keeps s address p found =
-        by (is_autolinked at.view address) (λ e. (bytes_eq-Decides all address).0 (and_parts _ _ (and_parts _ _ e).0).0)
+        by (is_autolinked at.view address) (λ e. (bytes_eq-Decides all address).0
+        (and_parts _ _ (and_parts _ _ e).0).0)
       where
         all : List ℕ
         all = trimmed_text is_document_white_space (all_text_of at.view)
@@ -311,13 +313,15 @@ module _ (options : Options) (g : is_guarded options ≡ true) (alone : is_markd
     less_shown : (s : List ℕ) → only_text children ≡ Some s → IsPart in_tree all_shown
     less_shown s f =
         subst (λ (l : List ℕ). IsPart l all_shown) (sym (in_formula s f))
-        (subst (λ (m : List ℕ). IsPart (counted_characters true s) m) (sym (formula true s f)) (less_counted (chars s)))
+        (subst (λ (m : List ℕ). IsPart (counted_characters true s) m) (sym (formula true s f))
+        (less_counted (chars s)))
 
     -- what is in the span
     span_content : (l : List ℕ) → Keeps (content_of at definitions).text l
         → KeepsResult (with_finish spans at.view (content_of at definitions)).result l
     span_content l p =
-        cond_both (is_guarded options || in_pre_or_code (ancestors_of at.view)) _ _ (λ (s : List ℕ). Keeps s l) (λ _. p)
+        cond_both (is_guarded options || in_pre_or_code (ancestors_of at.view)) _ _ (λ (s : List ℕ). Keeps s l)
+        (λ _. p)
         (λ _. keeps-trimmed is_line_feed line_feed_of_white (content_of at definitions).text p)
 
     -- a formula, or that
@@ -370,7 +374,8 @@ module _ (options : Options) (g : is_guarded options ≡ true) (alone : is_markd
         (not_empty name is ∙ and_left _ (is_guarded options) seen) ∙ all_here name is)) p
 
     content_keeps : (tag : List ℕ) (handler : HandlerMeaning) → IsOnly options tag handler
-        → KeepsContent (of_visible true) tag handler → IsPlain tag → is_named hidden_tags tag ≡ false → IsKept tag
+        → KeepsContent (of_visible true) tag handler → IsPlain tag → is_named hidden_tags tag ≡ false
+        → IsKept tag
     content_keeps tag handler only keeps is seen here =
         let out = content_of at definitions in
         as_kept tag _ is seen
@@ -391,7 +396,8 @@ module _ (options : Options) (g : is_guarded options ≡ true) (alone : is_markd
         (without_handler at definitions)).result (cond b [] (shown_here name))) (sym same)
         (by hides (rw alone (keeps-as-is name is (keeps-wrapped out.text (within definitions))))))
       where
-        keeps-as-is : (name : List ℕ) → IsPlain name → {s : List ℕ} → Keeps s all_shown → Keeps s (shown_here name)
+        keeps-as-is : (name : List ℕ) → IsPlain name → {s : List ℕ} → Keeps s all_shown
+            → Keeps s (shown_here name)
         keeps-as-is name is p = keeps-is (sym (all_here name is)) p
 
         by : (b : Bool)

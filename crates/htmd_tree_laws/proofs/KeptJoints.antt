@@ -168,7 +168,8 @@ run_kept e (b ∷ f) r all =
     )
 
 -- a run is none of what is promised
-run_free : (x f y : List ℕ) → IsUtf8 x → IsUtf8 f → Free (closes even x) → IsRun f → Alike (x ++ (f ++ y)) (x ++ y)
+run_free : (x f y : List ℕ) → IsUtf8 x → IsUtf8 f → Free (closes even x) → IsRun f
+    → Alike (x ++ (f ++ y)) (x ++ y)
 run_free x f y u v r all =
     let e = closes even x in
     let goes = run_kept e f r all in
@@ -206,7 +207,8 @@ alike-sym s t a = (sym a.0, sym a.1)
 
 -- a mark after them begins no run
 plain_next : (x : Bool) (cs : List ℕ) → escapes x (plain_signs x cs) ≡ true
-    → (c : ℕ) (ds : List ℕ) → drop (length (plain_signs x cs)) cs ≡ c ∷ ds → is_asterisk c ≡ true → ⊥
+    → (c : ℕ) (ds : List ℕ) → drop (length (plain_signs x cs)) cs ≡ c ∷ ds → is_asterisk c ≡ true
+    → ⊥
 plain_next x [] e c ds is star = cc
 plain_next x (b ∷ cs) e c ds is star =
     cond_both (is_plain_at x b) (b ∷ plain_signs ((b == backslash) && not x) cs) []
@@ -224,7 +226,8 @@ plain_next x (b ∷ cs) e c ds is star =
 word_is : (c : ℕ) → is_word_character c ≡ true → (is_backslash c ≡ false) × (is_asterisk c ≡ false)
 unfolding ucd_category
 word_is c e = (
-  false_from_ne_true (is_backslash c) (λ is. false≢true (ap is_word_character (sym (eqb-true c backslash is)) ∙ e)),
+  false_from_ne_true (is_backslash c) (λ is. false≢true
+      (ap is_word_character (sym (eqb-true c backslash is)) ∙ e)),
   false_from_ne_true (is_asterisk c) (λ is. false≢true (ap is_word_character (sym (eqb-true c asterisk is)) ∙ e)),
 )
 
@@ -302,7 +305,8 @@ module _ (out content : List ℕ) (u : IsUtf8 out) (v : IsUtf8 content) (so : cl
       sign odd = (inr (inl (refl, tt)), refl)
       sign blank = (inr (inl (refl, tt)), refl)
 
-      by : (front : List ℕ) → IsUtf8 front → out ≡ front ++ codes "!" → Keeps (front ++ codes "\\!") (shows even out)
+      by : (front : List ℕ) → IsUtf8 front → out ≡ front ++ codes "!"
+          → Keeps (front ++ codes "\\!") (shows even out)
       by front text whole =
           let state = closes even front in
           let one : chars (codes "!") ≡ codes "!" = chars-safe (codes "!") refl in
@@ -477,7 +481,8 @@ module _ (out content : List ℕ) (u : IsUtf8 out) (v : IsUtf8 content) (so : cl
       high_first (b ∷ s) t l high =
           ap (λ x. cond x (1 + beginning_run (s ++ t)) 0) (no_asterisk b (high 0 (omega arith)))
 
-      first_other : (c : ℕ) (ds : List ℕ) → is_asterisk c ≡ false → beginning_run (encode_utf8_all (c ∷ ds)) ≡ 0
+      first_other : (c : ℕ) (ds : List ℕ) → is_asterisk c ≡ false → beginning_run (encode_utf8_all (c ∷ ds))
+          ≡ 0
       first_other c ds other =
           ⊎_elim
           (λ low. ap (λ z. beginning_run (z ++ encode_utf8_all ds)) (encode_ascii c low)

@@ -132,7 +132,8 @@ module _ (options : Options) (g : is_guarded options ≡ true) (alone : is_markd
   -- all text shows what the children show in the tree's order
   whole_shows : (id : ℕ) (name : List ℕ) (attributes : List AttributePair) (children : NumberedForest)
       (text : Option (List ℕ))
-      → only_text children ≡ text → LiesHere id name attributes children → AllFitHere children → IsTextIfAny text
+      → only_text children ≡ text → LiesHere id name attributes children → AllFitHere children
+      → IsTextIfAny text
       → Says (of_visible (is_guarded options)) (text_or_all text (children_at items id))
       (shown_among options items false children)
   whole_shows id name attributes children None e lies fit utf8 =

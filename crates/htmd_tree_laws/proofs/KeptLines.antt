@@ -104,7 +104,8 @@ respaced-trimmed_end passes fills s =
     (respaced-as (t ++ w) (t ++ []) t (append-nil t)
     (respaced-append t t w [] (respaced-same t) (respaced-gone w (end_white passes fills s))))
 
-pub respaced-trimmed : (passes : ℕ → Bool) → OfWhite passes → (s : List ℕ) → Respaced s (trimmed_text passes s)
+pub respaced-trimmed : (passes : ℕ → Bool) → OfWhite passes → (s : List ℕ)
+    → Respaced s (trimmed_text passes s)
 respaced-trimmed passes fills s =
     respaced-then s (trimmed_start passes s) (trimmed_text passes s) (respaced-trimmed_start passes fills s)
     (respaced-trimmed_end passes fills (trimmed_start passes s))
@@ -124,7 +125,8 @@ keeps-trimmed passes fills s p = keeps-respaced (respaced-trimmed passes fills s
 pub keeps-blank_lines : (s : List ℕ) {l : List ℕ} → Keeps s l → Keeps (with_blank_lines s) l
 keeps-blank_lines s p = keeps-before blank_line refl (keeps-behind blank_line refl p)
 
-pub keeps-wrapped : (s : List ℕ) {l : List ℕ} → Keeps s l → Keeps (with_blank_lines (trimmed_text is_line_feed s)) l
+pub keeps-wrapped : (s : List ℕ) {l : List ℕ} → Keeps s l
+    → Keeps (with_blank_lines (trimmed_text is_line_feed s)) l
 keeps-wrapped s p = keeps-blank_lines (trimmed_text is_line_feed s) (keeps-trimmed is_line_feed line_feed_of_white s p)
 
 -- ---- seams
@@ -243,7 +245,8 @@ rejoin [] = []
 rejoin (x ∷ []) = x
 rejoin (x ∷ y ∷ more) = x ++ line_feed ∷ rejoin (y ∷ more)
 
-rejoin_onto : (b : ℕ) (x : List ℕ) (rest : List (List ℕ)) → rejoin (onto_first b (x ∷ rest)) ≡ b ∷ rejoin (x ∷ rest)
+rejoin_onto : (b : ℕ) (x : List ℕ) (rest : List (List ℕ)) → rejoin (onto_first b (x ∷ rest)) ≡ b
+    ∷ rejoin (x ∷ rest)
 rejoin_onto b x [] = refl
 rejoin_onto b x (y ∷ more) = refl
 
@@ -253,7 +256,8 @@ split_is (b ∷ s) =
     let some = some_part (λ b. b == 10) s in
     let later : rejoin (some.0 ∷ some.1) ≡ s = ap rejoin (sym some.2) ∙ split_is s in
     cond_both (b == 10) _ _ (λ (parts : List (List ℕ)). rejoin parts ≡ b ∷ s)
-    (λ e. ap (λ z. rejoin ([] ∷ z)) some.2 ∙ ap (λ z. line_feed ∷ z) later ∙ ap (λ c. c ∷ s) (sym (eqb-true b 10 e)))
+    (λ e. ap (λ z. rejoin ([] ∷ z)) some.2 ∙ ap (λ z. line_feed ∷ z) later
+    ∙ ap (λ c. c ∷ s) (sym (eqb-true b 10 e)))
     (λ _. ap (λ z. rejoin (onto_first b z)) some.2 ∙ rejoin_onto b some.0 some.1 ∙ ap (λ z. b ∷ z) later)
 
 -- a line feed and what follows it
@@ -326,7 +330,8 @@ each_line f edits (x ∷ y ∷ more) = (
   each_line f edits (y ∷ more),
 )
 
-respaced-lines : (next f : List ℕ → List ℕ) → Precedes next → ((x : List ℕ) → Respaced x (f x)) → (s : List ℕ)
+respaced-lines : (next f : List ℕ → List ℕ) → Precedes next → ((x : List ℕ) → Respaced x (f x))
+    → (s : List ℕ)
     → Respaced s (spread next (map f (lines s)))
 respaced-lines next f puts edits s =
     let ss = slice_split (λ b. b == 10) s in
@@ -366,7 +371,8 @@ keeps-indented s indent trim_line_end p = keeps-respaced (respaced-indented s in
 abbrev quoted_next : List ℕ → List ℕ
 quoted_next x = codes "\n> " ++ x
 
-quoted_is : (x : List ℕ) (xs : List (List ℕ)) → codes "> " ++ spread quoted_next (x ∷ xs) ≡ quoted_lines (x ∷ xs)
+quoted_is : (x : List ℕ) (xs : List (List ℕ)) → codes "> " ++ spread quoted_next (x ∷ xs)
+    ≡ quoted_lines (x ∷ xs)
 quoted_is x xs =
     sym (append_assoc (codes "> ") x (flat_map quoted_next xs)) ∙ ap (λ l. quoted_line x ++ l) (rest xs)
   where
@@ -427,7 +433,8 @@ filled_parts (x ∷ y ∷ more) =
         respaced-append x (b ∷ t) (line_feed ∷ rejoin (y ∷ more)) [] r
         (feed_first (rejoin (y ∷ more)) [] [] refl q)
     by (b ∷ t) r (z ∷ ls) q =
-        respaced-append x (b ∷ t) (line_feed ∷ rejoin (y ∷ more)) (codes " " ++ joined_texts (space ∷ []) (z ∷ ls)) r
+        respaced-append x (b ∷ t) (line_feed ∷ rejoin (y ∷ more))
+        (codes " " ++ joined_texts (space ∷ []) (z ∷ ls)) r
         (feed_first (rejoin (y ∷ more)) (joined_texts (space ∷ []) (z ∷ ls)) (codes " ") refl q)
 
 pub keeps-one_line : (s : List ℕ) {l : List ℕ} → Keeps s l → Keeps (one_line s) l

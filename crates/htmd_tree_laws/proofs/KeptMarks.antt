@@ -180,7 +180,8 @@ more_found c l m p =
     cond_both (is_visible c) (c ∷ m) m (λ (x : List ℕ). IsPart l x) (λ _. part-behind l m c p) (λ _. p)
 
 -- no more of them goes
-pub one_more : (e f : State) (c : ℕ) (l m : List ℕ) → Below e f → IsPart (filter is_visible l) (filter is_visible m)
+pub one_more : (e f : State) (c : ℕ) (l m : List ℕ) → Below e f
+    → IsPart (filter is_visible l) (filter is_visible m)
     → IsPart (filter is_visible (cond (goes e c) l (c ∷ l))) (filter is_visible (cond (goes f c) m (c ∷ m)))
 one_more e f c l m b p =
     cond_both (goes f c) m (c ∷ m)
@@ -287,7 +288,8 @@ same_first c cs ds p e f b =
     let later = p (step e c) (step f c) (below-step e f c b) in
     (one_more e f c (kept (step e c) cs) (kept (step f c) ds) b later.0, later.1)
 
-white_below : (e f : State) (c : ℕ) (x : List ℕ) → is_white c ≡ true → list_all is_safe x ≡ true → Below e f
+white_below : (e f : State) (c : ℕ) (x : List ℕ) → is_white c ≡ true → list_all is_safe x ≡ true
+    → Below e f
     → Below (step e c) (ends f x)
 white_below blank f c x w s b =
     cond_both (is_backslash c || (is_asterisk c || is_white c)) blank even (λ e. Below e (ends f x)) (λ _. tt)

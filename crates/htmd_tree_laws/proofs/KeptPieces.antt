@@ -70,7 +70,8 @@ abbrev pub KeepAll : List (List ℕ) → List ℕ → Type 0
 KeepAll [] l = l ≡ []
 KeepAll (s ∷ ss) l = (m n : List ℕ) × Keeps s m × KeepAll ss n × (l ≡ m ++ n)
 
-pub keeps-flat : (f : List ℕ → List ℕ) → ((s l : List ℕ) → Keeps s l → Keeps (f s) l) → (ss : List (List ℕ))
+pub keeps-flat : (f : List ℕ → List ℕ) → ((s l : List ℕ) → Keeps s l → Keeps (f s) l)
+    → (ss : List (List ℕ))
     (l : List ℕ) → KeepAll ss l → Keeps (flat_map f ss) l
 keeps-flat f keeps [] l p = keeps-is (sym p) keeps-nil
 keeps-flat f keeps (s ∷ ss) l (m, n, p, q, e) =
@@ -83,7 +84,8 @@ keeps-blocks_behind out (b ∷ blocks) l m p (x, y, first, rest, e) =
     keeps-is (append_assoc l x y ∙ ap (λ z. l ++ z) (sym e))
     (keeps-blocks_behind (join_block out b) blocks (l ++ x) y (keeps-block out b p first) rest)
 
-pub keeps-joined_blocks : (blocks : List (List ℕ)) (m : List ℕ) → KeepAll blocks m → Keeps (joined_blocks blocks) m
+pub keeps-joined_blocks : (blocks : List (List ℕ)) (m : List ℕ) → KeepAll blocks m
+    → Keeps (joined_blocks blocks) m
 keeps-joined_blocks blocks m q = keeps-blocks_behind [] blocks [] m keeps-nil q
 
 -- ---- lists
@@ -125,7 +127,8 @@ keeps-unnumbered s p =
     keeps-behind (line_feed ∷ []) refl
     (keeps-before (line_feed ∷ []) refl (keeps-trimmed_start is_document_white_space document_of_white s p))
 
-keeps-numbered : (spaces number : ℕ) (s : List ℕ) {l : List ℕ} → Keeps s l → Keeps (numbered_item spaces number s) l
+keeps-numbered : (spaces number : ℕ) (s : List ℕ) {l : List ℕ} → Keeps s l
+    → Keeps (numbered_item spaces number s) l
 keeps-numbered spaces number s p =
     keeps-item (number_marker spaces number) (trimmed_start is_line_feed s)
     (keeps-append (keeps-decimal number) (keeps-behind (full_stop ∷ []) refl (keeps-many spaces space refl)))
@@ -159,7 +162,8 @@ between_feeds n (b ∷ s) {l} p =
     keeps-is (append-nil l)
     (keeps-append (keeps-append (keeps-many n line_feed refl) p) (keeps-many n line_feed refl))
 
-pub keeps-list : (is_in_item : Bool) (s : List ℕ) {l : List ℕ} → Keeps s l → KeepsIfAny (list_block is_in_item s) l
+pub keeps-list : (is_in_item : Bool) (s : List ℕ) {l : List ℕ} → Keeps s l
+    → KeepsIfAny (list_block is_in_item s) l
 keeps-list is_in_item s p =
     between_feeds (cond is_in_item 1 2) (trimmed_text is_line_feed s)
     (keeps-trimmed is_line_feed line_feed_of_white s p)
@@ -204,7 +208,8 @@ abbrev pub is_sign : ℕ → Bool
 is_sign b = nat_lt b 128 && not (is_backslash b || (is_asterisk b || is_white b))
 
 -- after such a sign, and what holds no backslash, nothing is open
-pub closed_by : (x : List ℕ) (b : ℕ) (y : List ℕ) → IsUtf8 (x ++ b ∷ y) → is_sign b ≡ true → list_all is_safe y ≡ true
+pub closed_by : (x : List ℕ) (b : ℕ) (y : List ℕ) → IsUtf8 (x ++ b ∷ y) → is_sign b ≡ true
+    → list_all is_safe y ≡ true
     → ends even (chars (x ++ b ∷ y)) ≡ even
 closed_by x b y u sign safe =
     let parts = and_parts (nat_lt b 128) _ sign in
@@ -255,7 +260,8 @@ keeps-guarded_link s address title {l} p u =
     keeps-is (append-nil (l ++ []) ∙ append-nil l)
     (keeps-append (keeps-append (keeps-link_text s p) place) (keeps-spaces (ends_white s)))
 
-pub keeps-guarded_reference : (number : ℕ) (s : List ℕ) {l : List ℕ} → Keeps s l → Keeps (guarded_reference number s) l
+pub keeps-guarded_reference : (number : ℕ) (s : List ℕ) {l : List ℕ} → Keeps s l
+    → Keeps (guarded_reference number s) l
 keeps-guarded_reference number s {l} p =
     keeps-is (append-nil (l ++ []) ∙ append-nil l)
     (keeps-append (keeps-append (keeps-link_text s p) (keeps-in_brackets (decimal number) (keeps-decimal number)))
@@ -284,7 +290,8 @@ some_signs zero b l = absurd (omega (arith, l))
 some_signs (suc m) b l = (m, refl)
 
 -- so many signs, and what holds no backslash, end the text
-closed_many : (s x y : List ℕ) (n b : ℕ) → s ≡ (x ++ replicate n b) ++ y → 0 < n → IsUtf8 s → is_sign b ≡ true
+closed_many : (s x y : List ℕ) (n b : ℕ) → s ≡ (x ++ replicate n b) ++ y → 0 < n → IsUtf8 s → is_sign b
+    ≡ true
     → is_safe b ≡ true → list_all is_safe y ≡ true → ends even (chars s) ≡ even
 closed_many s x y n b e some u sign safe others =
     let first = some_signs n b some in
@@ -294,7 +301,8 @@ closed_many s x y n b e some u sign safe others =
 
 delimiter_some : (s : List ℕ) → 0 < delimiter_len s
 delimiter_some s =
-    cond_both (meets_delimiter s) _ (smallest_unused_len s) (λ (n : ℕ). 0 < n) (λ _. omega arith) (λ _. omega arith)
+    cond_both (meets_delimiter s) _ (smallest_unused_len s) (λ (n : ℕ). 0 < n) (λ _. omega arith)
+    (λ _. omega arith)
 
 closed-span : (before behind : Bool) (line : List ℕ) → IsUtf8 (spaced_span before behind line)
     → ends even (chars (spaced_span before behind line)) ≡ even
@@ -342,7 +350,8 @@ closed-fenced s language fence u =
     safe Backticks = refl
 
 -- a formula
-pub closed-formula : (mark s : List ℕ) → (mark ≡ codes "$") ⊎ (mark ≡ codes "$$") → IsUtf8 ((mark ++ s) ++ mark)
+pub closed-formula : (mark s : List ℕ) → (mark ≡ codes "$") ⊎ (mark ≡ codes "$$")
+    → IsUtf8 ((mark ++ s) ++ mark)
     → ends even (chars ((mark ++ s) ++ mark)) ≡ even
 closed-formula mark s which u =
     ⊎_elim
@@ -360,7 +369,12 @@ white_front (c ∷ cs) =
     let more = white_front cs in
     cond_both (is_whitespace c) _ _
     (λ (z : List ℕ). (ws : List ℕ) × (c ∷ cs ≡ ws ++ z) × (list_all is_whitespace ws ≡ true))
-    (λ e. (c ∷ more.0, ap (λ z. c ∷ z) more.1, and_from (is_whitespace c) (list_all is_whitespace more.0) e more.2))
+    (λ e. (
+      c ∷ more.0,
+      ap (λ z. c ∷ z) more.1,
+      and_from (is_whitespace c)
+          (list_all is_whitespace more.0) e more.2,
+    ))
     (λ _. ([], refl, refl))
 
 white_back : (cs : List ℕ) → (ws : List ℕ) × (cs ≡ drop_trailing_whitespace cs ++ ws)
@@ -431,7 +445,8 @@ encodes-mark emphasis = (
 )
 
 keeps-between : (emphasis : Emphasis) (before middle after ws front vs l : List ℕ) → Encodes ws before
-    → Encodes front middle → Encodes vs after → list_all is_whitespace ws ≡ true → list_all is_whitespace vs ≡ true
+    → Encodes front middle → Encodes vs after → list_all is_whitespace ws ≡ true → list_all is_whitespace vs
+    ≡ true
     → IsPart l (seen even front) → ends (ends even front) vs ≡ even
     → Keeps ((((before ++ mark emphasis) ++ middle) ++ mark emphasis) ++ after) l
 keeps-between emphasis before middle after ws front vs l p q r white white_behind part closed =
@@ -441,7 +456,8 @@ keeps-between emphasis before middle after ws front vs l p q r white white_behin
     (encodes-both (ws ++ m) front (before ++ m) middle (encodes-both ws m before m p (encodes-mark emphasis)) q)
     (encodes-mark emphasis)) r in
     let cs = (((ws ++ m) ++ front) ++ m) ++ vs in
-    let same : chars ((((before ++ m) ++ middle) ++ m) ++ after) ≡ cs = ap chars whole.0 ∙ chars-encodes cs whole.1 in
+    let same : chars ((((before ++ m) ++ middle) ++ m) ++ after) ≡ cs = ap chars whole.0
+    ∙ chars-encodes cs whole.1 in
     let start : ends even (ws ++ m) ≡ even =
     ends-append even ws m ∙ ap (λ e. ends e m) (white_even ws white) ∙ ends-safe m (mark_safe emphasis) in
     let third : ends even ((ws ++ m) ++ front) ≡ ends even front =

@@ -67,7 +67,8 @@ no_bar b high = grind (arith, nat_tests)
 
 one_bar : (x : Bool) (b : ℕ) (r : List ℕ) → 128 ≤ b → escaped_bars x (b ∷ r) ≡ b ∷ escaped_bars false r
 one_bar x b r large =
-    ap (λ d. cond (d && not x) (backslash ∷ b ∷ []) (b ∷ []) ++ escaped_bars (is_escaping x b) r) (no_bar b large)
+    ap (λ d. cond (d && not x) (backslash ∷ b ∷ []) (b ∷ []) ++ escaped_bars (is_escaping x b) r)
+    (no_bar b large)
     ∙ ap (λ d. b ∷ escaped_bars (d && not x) r) (no_backslash b large)
 
 high_bars : (x : Bool) (s r : List ℕ) → 0 < length s → ((k : ℕ) → k < length s → 128 ≤ get_or s k 0)
@@ -166,10 +167,12 @@ bars (c ∷ cs) e x scalars a =
         subst (λ (d : ℕ). Barred e (d ∷ cs)
         ((backslash ∷ d ∷ []) ++ escaped_bars (is_escaping x d) (encode_utf8_all cs))) (sym is)
         (subst (λ (y : Bool). Barred e (vertical_bar ∷ cs)
-        ((backslash ∷ vertical_bar ∷ []) ++ escaped_bars (is_escaping y vertical_bar) (encode_utf8_all cs))) (sym none)
+        ((backslash ∷ vertical_bar ∷ []) ++ escaped_bars (is_escaping y vertical_bar) (encode_utf8_all cs)))
+        (sym none)
         (here cs e later (subst (λ y. Agree e y) none a)))
       where
-        here : (cs : List ℕ) (e : State) → Barred even cs (escaped_bars false (encode_utf8_all cs)) → Agree e false
+        here : (cs : List ℕ) (e : State) → Barred even cs (escaped_bars false (encode_utf8_all cs))
+            → Agree e false
             → Barred e (vertical_bar ∷ cs)
             ((backslash ∷ vertical_bar ∷ []) ++ escaped_bars false (encode_utf8_all cs))
         here cs e later a =
@@ -212,7 +215,8 @@ keeps-guarded_cell s l p =
 
 -- ---- lines
 
-keep-append : (ss rs : List (List ℕ)) (l m : List ℕ) → KeepAll ss l → KeepAll rs m → KeepAll (ss ++ rs) (l ++ m)
+keep-append : (ss rs : List (List ℕ)) (l m : List ℕ) → KeepAll ss l → KeepAll rs m
+    → KeepAll (ss ++ rs) (l ++ m)
 keep-append [] rs l m p q = subst (λ (x : List ℕ). KeepAll rs x) (ap (λ z. z ++ m) (sym p)) q
 keep-append (s ∷ ss) rs l m (a, b, p, q, e) r =
     (a, b ++ m, p, keep-append ss rs b m q r, ap (λ z. z ++ m) e ∙ append_assoc a b m)
@@ -283,14 +287,16 @@ rows-push [] cells l m p q = (m, [], q, refl, ap (λ z. z ++ m) p ∙ sym (appen
 rows-push (first ∷ rows) cells l m (a, b, p, q, e) r =
     (a, b ++ m, p, rows-push rows cells b m q r, ap (λ z. z ++ m) e ∙ append_assoc a b m)
 
-keeps-rows : (f : List ℕ → List ℕ) → KeepsBy f → (rows : List (List (List ℕ))) (widths : List ℕ) (l : List ℕ)
+keeps-rows : (f : List ℕ → List ℕ) → KeepsBy f
+    → (rows : List (List (List ℕ))) (widths : List ℕ) (l : List ℕ)
     → FitIn (length widths) rows → KeepRows rows l → Keeps (flat_map (λ cells. row_by f cells widths) rows) l
 keeps-rows f keeps [] widths l fit p = keeps-is (sym p) keeps-nil
 keeps-rows f keeps (cells ∷ rows) widths l fit (m, n, p, q, e) =
     keeps-is (sym e)
     (keeps-append (keeps-row f keeps cells widths m fit.0 p) (keeps-rows f keeps rows widths n fit.1 q))
 
-keeps-head : (f : List ℕ → List ℕ) → KeepsBy f → (headers : List (List ℕ)) (widths : List ℕ) (l : List ℕ)
+keeps-head : (f : List ℕ → List ℕ) → KeepsBy f
+    → (headers : List (List ℕ)) (widths : List ℕ) (l : List ℕ)
     → length headers ≤ length widths → KeepAll headers l → Keeps (head_by f headers widths) l
 keeps-head f keeps [] widths l fit p = keeps-is (sym p) keeps-nil
 keeps-head f keeps (header ∷ headers) widths l fit p =
@@ -394,7 +400,8 @@ module _ (f : ℕ → List ℕ) (items : List Item) where
     refl,
   )
 
-  one_more_row : (rows : List SpannedRow) (begins_group : Bool) (cells : List ℕ) (own : List ResultView) (l : List ℕ)
+  one_more_row : (rows : List SpannedRow) (begins_group : Bool) (cells : List ℕ) (own : List ResultView)
+      (l : List ℕ)
       → KeepRows (map cell_texts rows) l → KeepEach cells own
       → KeepRows (map cell_texts
       (rows ++ (record { begins_group = begins_group; cells = spanned_cells items cells own }) ∷ []))

@@ -204,7 +204,8 @@ text_is_kept s context out l t p =
 
 -- ---- children
 
-before_is_kept : (block : Bool) (out : Output) {l : List ℕ} → Keeps out.text l → Keeps (before_child block out).text l
+before_is_kept : (block : Bool) (out : Output) {l : List ℕ} → Keeps out.text l
+    → Keeps (before_child block out).text l
 before_is_kept true out p = keeps-trimmed_end is_space space_of_white out.text p
 before_is_kept false out p = p
 

@@ -146,7 +146,8 @@ module _ (options : Options) (pure : is_guarded options ≡ false) (alone : is_m
 
   module _ (write : Writes) (id : ℕ) (inside : List Ancestor) (children : NumberedForest)
       (definitions : List (List ℕ)) (utf8 : IsTextIfAny (only_text children))
-      (formula : (s : List ℕ) → only_text children ≡ Some s → shown_among options items false children ≡ visible s)
+      (formula : (s : List ℕ) → only_text children ≡ Some s → shown_among options items false children
+      ≡ visible s)
       (within : (before : List (List ℕ))
       → Says (of_visible false) (content_inside write inside children before).text
       (shown_among options items false children)) where

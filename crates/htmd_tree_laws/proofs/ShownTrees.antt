@@ -208,7 +208,8 @@ module _ (options : Options) (items : List Item) where
 
   one_shows : (tables : Bool) (i : ℕ) (m : List ℕ) (a : List AttributePair) (c : NumberedForest) (s : List ℕ)
       → bytes_eq m (codes "table") ≡ false → bytes_eq m (codes "a") ≡ false → only_text c ≡ Some s
-      → shown_of options items tables (element i m a c) ≡ cond (is_empty_element guarded m) [] (one_text tables m a s)
+      → shown_of options items tables (element i m a c)
+      ≡ cond (is_empty_element guarded m) [] (one_text tables m a s)
   one_shows tables i m a c s other apart one =
       let view = view_at (conversion_of (built_in options) items) i true c in
       let inner = not (is_one_text m a view) && tables in
@@ -218,7 +219,8 @@ module _ (options : Options) (items : List Item) where
       || (bytes_eq m (codes "span") && is_formula a (only_text c))) apart
       ∙ ap (λ (o : Option (List ℕ)). ((bytes_eq m (codes "code") || bytes_eq m (codes "pre")) || false)
       || (bytes_eq m (codes "span") && is_formula a o)) one
-      ∙ plain (bytes_eq m (codes "code") || bytes_eq m (codes "pre")) (bytes_eq m (codes "span")) (has_math_class a) in
+      ∙ plain (bytes_eq m (codes "code") || bytes_eq m (codes "pre")) (bytes_eq m (codes "span"))
+      (has_math_class a) in
       ap (λ z. cond (is_empty_element guarded m) [] z)
       (no_table i m inner c other ∙ only_shows inner c s one
       ∙ ap (λ b. counted_characters (not (not b && tables) && guarded) s) same)
@@ -292,7 +294,8 @@ module _ (options : Options) (items : List Item) where
 module _ (guarded : Bool) (items : List Item) where
   -- an element lies among the items, a table in Guarded, and the children are those of its node unless they were
   -- joined
-  pub record Lies (id : ℕ) (name : List ℕ) (attributes : List AttributePair) (children : NumberedForest) : Type 0 where
+  pub record Lies (id : ℕ) (name : List ℕ) (attributes : List AttributePair)
+      (children : NumberedForest) : Type 0 where
     pub tag : (ancestor_of (data_at items id)).tag ≡ name
     pub own : (ancestor_of (data_at items id)).attributes ≡ attributes
     pub within : id < length items
