@@ -1,6 +1,6 @@
 -- A text, run by run, where no table is open: what is kept of it is put into the texts, white space too.
 use Rattle.std.proofs.Common.{◌≡◌, ◌∙◌, ℕ, zero, suc, ◌+◌, ◌<◌, ◌≤◌, Bool, true, false, List, [], ◌∷◌, ◌++◌, length}
-use Rattle.std.proofs.Common.{refl, sym, ap, arith, cond, inl, inr}
+use Rattle.std.proofs.Common.{refl, sym, ap, arith, cond}
 use Rattle.std.specs.Prelude.{IsUtf8, if◌then◌else◌}
 use Rattle.std.specs.List.{list_all}
 use Rattle.std.proofs.lemmas.Bool.{true≢false, and_parts}
@@ -12,7 +12,7 @@ use Rattle.htmd_html5_state.specs.State.{StateValue}
 use Rattle.htmd_html5_state.specs.declared.modes.InsertionMode.{InsertionMode}
 use Rattle.htmd_html5_state.specs.declared.modes.InsertionMode.TheVariants.{Initial, BeforeHtml, BeforeHead, InHead}
 use Rattle.htmd_html5_state.specs.declared.modes.InsertionMode.TheVariants.{InHeadNoscript, AfterHead, InBody, AfterBody}
-use Rattle.htmd_html5_state.specs.declared.modes.InsertionMode.TheVariants.{AfterAfterBody}
+use Rattle.htmd_html5_state.specs.declared.modes.InsertionMode.TheVariants.{AfterAfterBody, InSelect}
 use Rattle.htmd_html5_state.specs.declared.sets.NameSet.TheVariants.{Fostering}
 use Rattle.htmd_html5.specs.Tokens.{TokenValue, run}
 use Rattle.htmd_html5.specs.Runs.{kind_of_byte, is_of_kind, first_kind, first_run, after_first_run}
@@ -71,6 +71,7 @@ stage_takes raw InHead letters s stack h = refl
 stage_takes raw InHeadNoscript letters s stack h = refl
 stage_takes raw AfterHead letters s stack h = refl
 stage_takes raw InBody letters s stack h = refl
+stage_takes raw InSelect letters s stack h = refl
 stage_takes raw AfterBody letters s stack h = refl
 stage_takes raw AfterAfterBody letters s stack h = refl
 stage_takes raw _ letters s stack h = absurd h
@@ -78,8 +79,7 @@ stage_takes raw _ letters s stack h = absurd h
 -- nothing foreign is open there
 html_before : (token : TokenValue) (letters : List ℕ) (s : StateValue) → Calm s → Staged letter_choice letters s
     → is_before_head s.mode ≡ true → is_foreign token s ≡ false
-html_before token letters s (inl l) h e = absurd (true≢false (sym l ∙ before_is_early s.mode e))
-html_before token letters s (inr c) h e =
+html_before token letters s c h e =
     stays_html token s
     (current_html s.stack
     (stage_names letter_choice s.mode letters s (before_is_early s.mode e)

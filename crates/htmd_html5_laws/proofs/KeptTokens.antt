@@ -1,6 +1,5 @@
 -- The tokens of a page, one after another: the texts of the nodes hold what is kept of the tokens' texts.
 use Rattle.std.proofs.Common.{◌≡◌, ℕ, zero, suc, ◌+◌, Bool, true, false, List, [], ◌∷◌, ◌++◌, length, refl, sym, ap, arith}
-use Rattle.std.proofs.Common.{inr}
 use Rattle.std.specs.Prelude.{IsUtf8, if◌then◌else◌, ◌&&◌, ◌||◌, ◌==◌, not}
 use Rattle.std.specs.List.{list_all}
 use Rattle.std.proofs.lemmas.Bool.{true≢false, and_parts}
@@ -36,7 +35,7 @@ use Rattle.htmd_html5_laws.proofs.LaidTexts.{laid_texts}
 use Rattle.htmd_html5_laws.proofs.WholeTrees.{ranked_hang, whole_texts}
 use Rattle.htmd_html5_laws.proofs.HarmlessTokens.{harmless_hung}
 use Rattle.htmd_html5_laws.proofs.OrderedEarly.{Staged}
-use Rattle.htmd_html5_laws.proofs.OrderedTokens.{feed_stage, stage_skipped, begins_staged, kept_letters, apart, orderly_tag}
+use Rattle.htmd_html5_laws.proofs.OrderedTokens.{feed_stage, stage_skipped, begins_staged, kept_letters, both_false, orderly_tag}
 use Rattle.htmd_html5_tokens.specs.Tokens as tokens
 use Rattle.htmd_html5_laws.proofs.Counted.{letter_choice}
 
@@ -64,7 +63,7 @@ module _ (c : ℕ) (nulls : Bool) (tests : nulls ≡ true → CharacterTests c) 
           → Grew c (occurrences c (without_white (not b && is_before_head s.mode) text)) s
           (if b then put_raw_text text s else put_text text s)
       either true e = raw_grew c text s u sound
-      either false e = put_text_kept c nulls tests text letters s u clean (inr e) h sound
+      either false e = put_text_kept c nulls tests text letters s u clean e h sound
 
   -- how often the character stands in what is kept of a token
   abbrev kept_count : tokens.TokenValue → StateValue → ℕ
@@ -191,7 +190,7 @@ module _ (c : ℕ) (nulls : Bool) (tests : nulls ≡ true → CharacterTests c) 
 
 one_harmless : (token : tokens.TokenValue) → is_orderly token ≡ true → is_harmless token ≡ true
 one_harmless (tokens.start_tag tag) e =
-    ap not (apart (drops_text_in tag.name) (bytes_eq tag.name (codes "table")) (bytes_eq tag.name (codes "select"))
+    ap not (both_false (drops_text_in tag.name) (bytes_eq tag.name (codes "table"))
     (orderly_tag (moves_text_in tag.name) e)).0
 one_harmless (tokens.text s) e = refl
 one_harmless (tokens.end_tag tag) e = refl

@@ -6,6 +6,8 @@ pub mod NodeTexts
 pub mod NodeParts
 pub mod Forests
 pub mod OpenNodes
+pub mod RootedStacks
+pub mod RootedStates
 pub mod Keeping
 pub mod KeepingInsertion
 pub mod KeepingAdoption
@@ -40,6 +42,7 @@ pub mod HungChains
 pub mod HungAdoption
 pub mod PlainStates
 pub mod PlainAdoption
+pub mod RootedAdoption
 pub mod PlainBody
 pub mod PlainTables
 pub mod PlainModes
@@ -61,6 +64,8 @@ pub mod OrderedMoves
 pub mod OrderedStates
 pub mod OrderedAdoption
 pub mod OrderedBody
+pub mod RootedRules
+pub mod RootedModes
 pub mod OrderedLate
 pub mod OrderedEarly
 pub mod OrderedHead

@@ -34,7 +34,7 @@ use Rattle.htmd_html5_laws.proofs.OrderedNodes.{Labels, FitsBy, none_out, Ranked
 use Rattle.htmd_html5_laws.proofs.OrderedPaths.{Alive, parted, parted_fits, front_ends}
 use Rattle.htmd_html5_laws.proofs.OrderedMoves.{Apart, apart_copied, copied_labels, fits_placed, fits_wrapped}
 use Rattle.htmd_html5_laws.proofs.OrderedMoves.{wrapped_labels}
-use Rattle.htmd_html5_laws.proofs.OrderedStates.{OrderedIn, Ordered, Orders, ordered_fewer, is_late, low_ranks, place_last}
+use Rattle.htmd_html5_laws.proofs.OrderedStates.{OrderedIn, Ordered, Orders, ordered_fewer, low_ranks, place_last}
 use Rattle.htmd_html5_laws.proofs.OrderedStates.{orders_by_test, on_stack_orders}
 use Rattle.htmd_html5_laws.proofs.Counted.{Choice}
 
@@ -448,70 +448,12 @@ module _ (choice : Choice) where
       (of_plain tag (formatting_element tag s) s refl p h) (of_hung tag (formatting_element tag s) s refl h x)
       (of_ordered letters tag (formatting_element tag s) s refl h x o)
 
--- ---- the mode stays
-
-chain_mode : (left : ℕ) (es : List OpenValue) (c : Chain) → (chain left es c).state.mode ≡ c.state.mode
-chain_mode left [] c = refl
-chain_mode left (e ∷ es) c = chain_mode (left - 1) es (with_next left e c) ∙ next_mode
-    (nat_lt 0 left && is_listed e.node c.state.formatting)
-  where
-    next_mode : (t : Bool)
-        → (if t then with_copy e c else record c { state = on_formatting (without_entry e.node) c.state }).state.mode
-        ≡ c.state.mode
-    next_mode true = refl
-    next_mode false = refl
-
-adopt_mode : (formatting : ℕ) (tag : TagName) (f : Furthest) (s : StateValue)
-    → (adopt formatting tag f s).mode ≡ s.mode
-unfolding move_last
-adopt_mode formatting tag f s = chain_mode 3 f.between (begin_chain f.block.node s)
-
-by_mode_of : (formatting : ℕ) (tag : TagName) (f : Option Furthest) (s : StateValue)
-    → (after_round (round_by formatting tag f s)).mode ≡ s.mode
-unfolding after_round
-by_mode_of formatting tag None s = refl
-by_mode_of formatting tag (Some f) s = adopt_mode formatting tag f s
-
-with_mode_of : (tag : TagName) (formatting : ℕ) (s : StateValue)
-    → (after_round (round_with tag formatting s)).mode ≡ s.mode
-unfolding after_round
-with_mode_of tag formatting s = either (not (is_open_node formatting s.stack))
-  where
-    later : (t : Bool) → (after_round (if t then last_round s else round_open tag formatting s)).mode ≡ s.mode
-    later true = refl
-    later false =
-        by_mode_of formatting tag (furthest_block (inside formatting s.stack)) (on_stack (around formatting) s)
-
-    either : (t : Bool) → (after_round (if t then last_round (on_formatting (without_entry formatting) s)
-        else if list_any bounds_any (inside formatting s.stack) then last_round s
-        else round_open tag formatting s)).mode ≡ s.mode
-    either true = refl
-    either false = later (list_any bounds_any (inside formatting s.stack))
-
-of_mode : (tag : TagName) (formatting : Option ℕ) (s : StateValue)
-    → (after_round (round_of tag formatting s)).mode ≡ s.mode
-unfolding after_round
-of_mode tag None s = refl
-of_mode tag (Some formatting) s = with_mode_of tag formatting s
-
 module _ (choice : Choice) where
-  go_on_mode : (more : StateValue → StateValue) (r : Round) → ((s : StateValue) → (more s).mode ≡ s.mode)
-      → (go_on more r).mode ≡ (after_round r).mode
-  unfolding after_round
-  go_on_mode more (last_round s) f = refl
-  go_on_mode more (goes_on s) f = f s
-
-  rounds_mode : (k : ℕ) (tag : TagName) (s : StateValue) → (rounds k tag s).mode ≡ s.mode
-  rounds_mode zero tag s = refl
-  rounds_mode (suc k) tag s =
-      go_on_mode (rounds k tag) (round tag s) (λ t. rounds_mode k tag t) ∙ of_mode tag (formatting_element tag s) s
-
   rounds_order : (k : ℕ) (tag : TagName) → is_plain tag ≡ true → Stays (rounds k tag)
       → Orders choice (rounds k tag)
   rounds_order k tag p stays = record {
     stays = stays;
     orders = λ letters s h x o. rounds_ordered choice letters k tag s p h x o;
-    late = λ s h e. ap is_late (rounds_mode k tag s) ∙ e;
   }
 
   pub adoption_agency_orders : (tag : TagName) → is_plain tag ≡ true → Orders choice (adoption_agency tag)

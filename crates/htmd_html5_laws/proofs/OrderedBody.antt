@@ -19,7 +19,7 @@ use Rattle.htmd_html5_state.specs.declared.sets.NameSet.TheVariants.{Only, Headi
 use Rattle.htmd_html5_state.specs.declared.sets.NameSet.TheVariants.{DescriptionParts}
 use Rattle.htmd_html5_state.specs.declared.sets.Scope.TheVariants.{Default, Items, ListItem, Button as ButtonScope}
 use Rattle.htmd_html5_tokens.specs.declared.tokens.RawElement.{RawElement}
-use Rattle.htmd_html5.specs.Tokens.{StartTagValue}
+use Rattle.htmd_html5.specs.Tokens.{StartTagValue, TokenValue, start_tag, run}
 use Rattle.htmd_html5.specs.Answers.{Answer, answer}
 use Rattle.htmd_html5.specs.SharedRules.{with_mode, insert_tag, insert_void_tag, insert_raw_tag, insert_foreign_tag}
 use Rattle.htmd_html5.specs.SharedRules.{no_frameset, close_paragraph, add_missing_to, add_to_root, end_template}
@@ -30,7 +30,7 @@ use Rattle.htmd_html5.specs.BodyStarts.{close_heading, start_heading, skip_line_
 use Rattle.htmd_html5.specs.BodyStarts.{start_form, start_item, start_separator}
 use Rattle.htmd_html5.specs.BodyStarts.{start_formatting, forget, start_anchor, close_no_break, start_no_break}
 use Rattle.htmd_html5.specs.BodyStarts.{start_ordinary, start_button, start_embedded, start_void, is_hidden, start_input}
-use Rattle.htmd_html5.specs.BodyStarts.{close_option, start_option, start_ruby}
+use Rattle.htmd_html5.specs.BodyStarts.{start_select, close_option, start_option, start_ruby}
 use Rattle.htmd_html5.specs.BodyStarts.{start_foreign, start_text_area, start_example}
 use Rattle.htmd_html5.specs.BodyStarts.{start_no_script, start_by, start_in_body}
 use Rattle.htmd_html5.specs.BodyEnds.{text_end_rule, end_rule, has_body, end_body, end_block, close_form, end_form}
@@ -46,9 +46,10 @@ use Rattle.htmd_html5_laws.proofs.PlainNames.{is_plain}
 use Rattle.htmd_html5_laws.proofs.PlainStates.{is_plain_mode, Plain}
 use Rattle.htmd_html5_laws.proofs.ColumnTags.{IsColumn}
 use Rattle.htmd_html5_laws.proofs.PlainBody.{StaysAnswer, says_plain, answers_either, with_mode_stays, no_frameset_stays}
-use Rattle.htmd_html5_laws.proofs.PlainBody.{end_template_stays, skip_line_feed_stays, with_form_stays, close_noted_form_stays}
+use Rattle.htmd_html5_laws.proofs.PlainBody.{end_template_stays, skip_line_feed_stays, with_form_stays, start_select_stays}
+use Rattle.htmd_html5_laws.proofs.PlainBody.{close_noted_form_stays}
 use Rattle.htmd_html5_laws.proofs.OrderedStates.{Ordered, Orders, then_orders, unmoved, orders_by_test, orders_by_state}
-use Rattle.htmd_html5_laws.proofs.OrderedStates.{is_late, on_stack_orders, insert_element_orders, insert_void_orders}
+use Rattle.htmd_html5_laws.proofs.OrderedStates.{on_stack_orders, insert_element_orders, insert_void_orders}
 use Rattle.htmd_html5_laws.proofs.OrderedStates.{insert_raw_orders, insert_foreign_orders, add_missing_orders}
 use Rattle.htmd_html5_laws.proofs.OrderedStates.{without_entry_orders, push_marker_orders, clear_to_marker_orders}
 use Rattle.htmd_html5_laws.proofs.OrderedStates.{insert_formatting_orders, reconstruct_orders}
@@ -60,7 +61,6 @@ use Rattle.htmd_html5_laws.proofs.Counted.{Choice}
 -- names of start tags that move no text
 abbrev pub is_orderly_tag : TagName → Bool
 is_orderly_tag tags.Table = false
-is_orderly_tag tags.Select = false
 is_orderly_tag tags.Col = true
 is_orderly_tag tags.ColGroup = true
 is_orderly_tag tag = is_plain tag
@@ -75,7 +75,6 @@ pub plain_or_column : (P : Type 0) (name : NameValue) → is_orderly_name name �
     → (IsColumn name → P)
     → P
 plain_or_column P (known tags.Table) e f g = absurd (true≢false (sym e))
-plain_or_column P (known tags.Select) e f g = absurd (true≢false (sym e))
 plain_or_column P (known tags.Col) e f g = g tt
 plain_or_column P (known tags.ColGroup) e f g = g tt
 plain_or_column P (known tag) e f g = f e
@@ -89,6 +88,12 @@ by_column_name P a b (known tags.Col) c = a
 by_column_name P a b (known tags.ColGroup) c = b
 by_column_name P a b _ c = absurd (true≢false c)
 
+-- a token that is no text, and whose name moves none if it is a start tag
+abbrev pub IsOrderly : TokenValue → Type 0
+IsOrderly (run kind s) = true ≡ false
+IsOrderly (start_tag tag) = is_orderly_name tag.name ≡ true
+IsOrderly _ = Unit {0}
+
 module _ (choice : Choice) where
   -- ---- what a mode answers
 
@@ -97,14 +102,12 @@ module _ (choice : Choice) where
     pub stays : StaysAnswer f
     pub orders : (letters : List ℕ) (s : StateValue) → Plain s → Hung s → Ordered choice letters s
         → Ordered choice letters (f s).state
-    pub late : (s : StateValue) → Plain s → is_late s.mode ≡ true → is_late (f s).state.mode ≡ true
 
   pub says_ordered : {f : StateValue → StateValue} {more : StateValue → Bool} → Orders choice f
       → OrdersAnswer (λ s. answer (f s) (more s))
   says_ordered h = record {
     stays = says_plain h.stays;
     orders = λ letters s plain x o. h.orders letters s plain x o;
-    late = λ s plain e. h.late s plain e;
   }
 
   pub orders_either : {f g : StateValue → Answer} (b : StateValue → Bool) → OrdersAnswer f → OrdersAnswer g
@@ -112,7 +115,6 @@ module _ (choice : Choice) where
   orders_either {f} {g} b first second = record {
     stays = answers_either b first.stays second.stays;
     orders = λ letters s h x o. either (b s) letters s h x o;
-    late = λ s h e. each (b s) s h e;
   }
     where
       either : (t : Bool) (letters : List ℕ) (s : StateValue) → Plain s → Hung s → Ordered choice letters s
@@ -120,20 +122,13 @@ module _ (choice : Choice) where
       either true letters s h x o = first.orders letters s h x o
       either false letters s h x o = second.orders letters s h x o
 
-      each : (t : Bool) (s : StateValue) → Plain s → is_late s.mode ≡ true
-          → is_late (if t then f s else g s).state.mode ≡ true
-      each true s h e = first.late s h e
-      each false s h e = second.late s h e
-
   -- ---- rules that many modes share
 
-  pub with_mode_orders : (mode : InsertionMode) → is_plain_mode mode ≡ true → is_late mode ≡ true
-      → Orders choice (with_mode mode)
-  with_mode_orders mode p l =
-      record { stays = with_mode_stays mode p; orders = λ letters s h x o. o; late = λ s h e. l }
+  pub with_mode_orders : (mode : InsertionMode) → is_plain_mode mode ≡ true → Orders choice (with_mode mode)
+  with_mode_orders mode p = record { stays = with_mode_stays mode p; orders = λ letters s h x o. o }
 
   pub no_frameset_orders : Orders choice no_frameset
-  no_frameset_orders = record { stays = no_frameset_stays; orders = λ letters s h x o. o; late = λ s h e. e }
+  no_frameset_orders = record { stays = no_frameset_stays; orders = λ letters s h x o. o }
 
   pub close_paragraph_orders : Orders choice close_paragraph
   close_paragraph_orders = on_stack_orders choice (close (Only tags.P) ButtonScope)
@@ -149,7 +144,6 @@ module _ (choice : Choice) where
   end_template_orders = record {
     stays = end_template_stays;
     orders = λ letters s h x o. rw (no_template_open s.stack h.names) o;
-    late = λ s h e. rw (no_template_open s.stack h.names) e;
   }
 
   pub insert_foreign_tag_orders : (space : Namespace) (tag : StartTagValue) → Orders choice
@@ -163,10 +157,10 @@ module _ (choice : Choice) where
       (orders_by_state choice (λ s. first_open s.stack) (λ n. add_missing_to_orders n tag.attributes))
 
   skip_line_feed_orders : Orders choice skip_line_feed
-  skip_line_feed_orders = record { stays = skip_line_feed_stays; orders = λ letters s h x o. o; late = λ s h e. e }
+  skip_line_feed_orders = record { stays = skip_line_feed_stays; orders = λ letters s h x o. o }
 
   pub with_form_orders : Orders choice with_form
-  with_form_orders = record { stays = with_form_stays; orders = λ letters s h x o. o; late = λ s h e. e }
+  with_form_orders = record { stays = with_form_stays; orders = λ letters s h x o. o }
 
   forget_orders : (n : Option ℕ) → Orders choice (forget n)
   forget_orders None = unmoved choice
@@ -254,6 +248,12 @@ module _ (choice : Choice) where
     start_option_orders : Orders choice (start_option tag)
     start_option_orders = then_orders choice start_ordinary_orders
         (on_stack_orders choice close_option close_option_fewer)
+
+    start_select_orders : Orders choice (start_select tag)
+    start_select_orders = record {
+      stays = start_select_stays tag p;
+      orders = λ letters s h x o. (then_orders choice no_frameset_orders start_ordinary_orders).orders letters s h x o;
+    }
 
     start_ruby_orders : (implied : NameSet) → Orders choice (start_ruby implied tag)
     start_ruby_orders implied =
@@ -405,7 +405,7 @@ module _ (choice : Choice) where
         no_frameset_orders
     start_by_name_orders (known tags.NoEmbed) q = insert_raw_tag_orders raw.Noembed
     start_by_name_orders (known tags.NoScript) q = start_no_script_orders
-    start_by_name_orders (known tags.Select) q = absurd (true≢false (sym q))
+    start_by_name_orders (known tags.Select) q = start_select_orders
     start_by_name_orders (known tags.OptGroup) q = start_option_orders
     start_by_name_orders (known tags.OptionTag) q = start_option_orders
     start_by_name_orders (known tags.Rb) q = start_ruby_orders ImpliedEnd
@@ -428,7 +428,7 @@ module _ (choice : Choice) where
   -- ---- end tags
 
   end_body_orders : Orders choice end_body
-  end_body_orders = orders_by_test choice has_body (with_mode_orders AfterBody refl refl) (unmoved choice)
+  end_body_orders = orders_by_test choice has_body (with_mode_orders AfterBody refl) (unmoved choice)
 
   end_block_orders : (tag : TagName) → Orders choice (end_block tag)
   end_block_orders tag = on_stack_orders choice (close (Only tag) Default) (close_fewer (Only tag) Default)
@@ -448,7 +448,6 @@ module _ (choice : Choice) where
       (record {
         stays = close_noted_form_stays;
         orders = λ letters s h x o. (close_form_orders s.form).orders letters (record s { form = None }) h x o;
-        late = λ s h e. (close_form_orders s.form).late (record s { form = None }) h e;
       })
 
   end_paragraph_orders : Orders choice end_paragraph

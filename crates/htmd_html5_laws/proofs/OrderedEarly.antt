@@ -8,12 +8,11 @@ use Rattle.htmd_html5_state.specs.Names.{NameValue, known, html}
 use Rattle.htmd_html5_state.specs.Documents.{NodeValue, doctype as doctype_kind, text}
 use Rattle.htmd_html5_state.specs.OpenElements.{OpenValue, is_open, first_open, pop}
 use Rattle.htmd_html5_state.specs.State.{StateValue}
-use Rattle.htmd_html5_state.specs.Foreign.{is_html}
 use Rattle.htmd_html5_state.specs.Insertion.{opened, current, insert_doctype}
 use Rattle.htmd_html5_state.specs.Insertion.{insert_comment_in, insert_comment}
 use Rattle.htmd_html5_state.specs.declared.modes.InsertionMode.TheVariants.{Initial, BeforeHtml, BeforeHead, InHead}
 use Rattle.htmd_html5_state.specs.declared.modes.InsertionMode.TheVariants.{InHeadNoscript, AfterHead, InBody, AfterBody}
-use Rattle.htmd_html5_state.specs.declared.modes.InsertionMode.TheVariants.{AfterAfterBody}
+use Rattle.htmd_html5_state.specs.declared.modes.InsertionMode.TheVariants.{AfterAfterBody, InSelect}
 use Rattle.htmd_html5_state.specs.declared.modes.InsertionMode.{InsertionMode}
 use Rattle.htmd_html5_state.specs.declared.sets.NameSet.TheVariants.{Only}
 use Rattle.htmd_html5.specs.Tokens.{StartTagValue, TokenValue, start_tag, end_tag, run, comment, doctype, end_of_file}
@@ -29,26 +28,35 @@ use Rattle.htmd_html5_laws.proofs.PlainStates.{Plain, plain_stack, in_plain_mode
 use Rattle.htmd_html5_laws.proofs.PlainStates.{insert_doctype_stays, insert_element_stays, missing_grows, plain_grown}
 use Rattle.htmd_html5_laws.proofs.HungStates.{HungIn, hung_fewer, hung_headed, hung_missing}
 use Rattle.htmd_html5_laws.proofs.HungStates.{hung_named}
-use Rattle.htmd_html5_laws.proofs.OrderedStates.{OrderedIn, Orders, ordered_fewer, is_late, element_in, loose_in}
+use Rattle.htmd_html5_laws.proofs.OrderedStates.{OrderedIn, Orders, ordered_fewer, element_in, loose_in}
 use Rattle.htmd_html5_laws.proofs.OrderedStates.{insert_comment_orders, insert_comment_root_orders}
 use Rattle.htmd_html5_laws.proofs.OrderedStates.{insert_element_orders, missing_ordered}
-use Rattle.htmd_html5_laws.proofs.OrderedLate.{IsOrderly, Late}
-use Rattle.htmd_html5_laws.proofs.OrderedBody.{plain_or_column, by_column_name}
+use Rattle.htmd_html5_laws.proofs.RootedStacks.{is_late, is_outer, is_outer_name}
+use Rattle.htmd_html5_laws.proofs.OrderedLate.{Late}
+use Rattle.htmd_html5_laws.proofs.OrderedBody.{IsOrderly, plain_or_column, by_column_name}
 use Rattle.htmd_html5_state.specs.declared.names.TagName.TheVariants as tags
 use Rattle.htmd_html5_laws.proofs.Counted.{Choice}
 
 -- ---- states before the body
 
-abbrev pub HtmlOpen : OpenValue → Type 0
-HtmlOpen e = is_html e ≡ true
+abbrev pub is_outer_open : OpenValue → Bool
+is_outer_open e = is_outer e.name
+
+abbrev pub OuterOpen : OpenValue → Type 0
+OuterOpen e = is_outer_open e ≡ true
+
+-- no element may be opened again, and no form is noted
+abbrev pub Unused : StateValue → Type 0
+Unused s = (s.formatting ≡ []) × (s.form ≡ None)
 
 module _ (choice : Choice) where
-  -- only elements of HTML are open
+  -- only the root, the head and elements of only text are open
   pub record EarlyIn (letters : List ℕ) (s : StateValue) (stack : List OpenValue) : Type 0 where
     pub plain : Plain (record s { stack = stack })
     pub hung : HungIn s.nodes stack s.head
     pub ordered : OrderedIn choice letters s.nodes stack s.foster_parenting
-    pub names : EachOpen HtmlOpen stack
+    pub names : EachOpen OuterOpen stack
+    pub unused : Unused s
 
   abbrev pub Early : List ℕ → StateValue → Type 0
   Early letters s = EarlyIn letters s s.stack
@@ -86,6 +94,7 @@ module _ (choice : Choice) where
   Stage raw InHeadNoscript letters s = Early choice letters s × HeadAt (cond raw 2 1) s
   Stage raw AfterHead letters s = AfterHeadIn choice raw s.head s.stack letters s
   Stage raw InBody letters s = Late choice letters s
+  Stage raw InSelect letters s = Late choice letters s
   Stage raw AfterBody letters s = Late choice letters s
   Stage raw AfterAfterBody letters s = Late choice letters s
   Stage raw _ letters s = ⊥
@@ -103,6 +112,7 @@ module _ (choice : Choice) where
   pub late_stage : (raw : Bool) (mode : InsertionMode) (letters : List ℕ) (s : StateValue) → is_late mode ≡ true
       → Late choice letters s → Stage raw mode letters s
   late_stage raw InBody letters s e h = h
+  late_stage raw InSelect letters s e h = h
   late_stage raw AfterBody letters s e h = h
   late_stage raw AfterAfterBody letters s e h = h
   late_stage raw _ letters s e h = absurd (true≢false (sym e))
@@ -110,16 +120,17 @@ module _ (choice : Choice) where
   pub stage_late : (raw : Bool) (mode : InsertionMode) (letters : List ℕ) (s : StateValue) → is_late mode ≡ true
       → Stage raw mode letters s → Late choice letters s
   stage_late raw InBody letters s e h = h
+  stage_late raw InSelect letters s e h = h
   stage_late raw AfterBody letters s e h = h
   stage_late raw AfterAfterBody letters s e h = h
   stage_late raw _ letters s e h = absurd (true≢false (sym e))
 
   pub staged_late : (letters : List ℕ) (s : StateValue) → Late choice letters s → Staged letters s
-  staged_late letters s h = late_stage (is_text_mode s.content) s.mode letters s h.late h
+  staged_late letters s h = late_stage (is_text_mode s.content) s.mode letters s h.rooted.late h
 
--- it isn't in an element of only text, or in the body
+-- it isn't in an element of only text
 abbrev pub Calm : StateValue → Type 0
-Calm s = (is_late s.mode ≡ true) ⊎ (is_text_mode s.content ≡ false)
+Calm s = is_text_mode s.content ≡ false
 
 module _ (choice : Choice) where
   -- what a mode answers
@@ -131,7 +142,7 @@ module _ (choice : Choice) where
       → is_text_mode s.content ≡ false → s.mode ≡ mode → Stage choice false mode letters s
       → StageAnswer letters (answer s more)
   calm_answer mode more letters s e f h =
-      record { stage = staged choice false mode letters s e f h; calm = λ z. inr e }
+      record { stage = staged choice false mode letters s e f h; calm = λ z. e }
 
   pub raw_answer : (mode : InsertionMode) (letters : List ℕ) (s : StateValue) → is_text_mode s.content ≡ true
       → s.mode ≡ mode → Stage choice true mode letters s → StageAnswer letters (done s)
@@ -139,30 +150,20 @@ module _ (choice : Choice) where
       record { stage = staged choice true mode letters s e f h; calm = λ z. absurd (true≢false (sym z)) }
 
   pub late_answers : (more : Bool) (letters : List ℕ) (s : StateValue) → Late choice letters s
-      → StageAnswer letters
-      (answer s more)
-  late_answers more letters s h = record { stage = staged_late choice letters s h; calm = λ z. inl h.late }
+      → is_text_mode s.content ≡ false → StageAnswer letters (answer s more)
+  late_answers more letters s h e = record { stage = staged_late choice letters s h; calm = λ z. e }
 
   -- ---- steps
 
   pub early_step : {f : StateValue → StateValue} → Orders choice f → (letters : List ℕ) (s : StateValue)
-      → EachOpen HtmlOpen (f s).stack → Early choice letters s → Early choice letters (f s)
-  early_step {f} g letters s names h = record {
+      → EachOpen OuterOpen (f s).stack → Unused (f s) → Early choice letters s → Early choice letters (f s)
+  early_step {f} g letters s names unused h = record {
     plain = g.stays.stays s h.plain;
     hung = g.stays.hangs s h.plain h.hung;
     ordered = g.orders letters s h.plain h.hung h.ordered;
     names = names;
+    unused = unused;
   }
-
-  pub early_late : (letters : List ℕ) (s : StateValue) (mode : InsertionMode) → is_late mode ≡ true → s.mode
-      ≡ mode
-      → Early choice letters s → Late choice letters s
-  early_late letters s mode e f h =
-      record { plain = h.plain; hung = h.hung; ordered = h.ordered; late = ap is_late f ∙ e }
-
-pub names_popped : (stack : List OpenValue) → EachOpen HtmlOpen stack → EachOpen HtmlOpen (pop stack)
-names_popped [] h = tt
-names_popped (e ∷ es) h = h.1
 
 module _ (choice : Choice) where
   pub early_fewer : (letters : List ℕ) (s : StateValue) (stack es : List OpenValue) → Fewer es stack
@@ -171,21 +172,8 @@ module _ (choice : Choice) where
     plain = plain_stack es (f.each is_plain_open h.plain.names) h.plain;
     hung = hung_fewer es f h.hung;
     ordered = ordered_fewer choice es f h.ordered;
-    names = f.each is_html h.names;
-  }
-
-  -- only the mode changes
-  pub early_mode : (letters : List ℕ) (s t : StateValue) (stack : List OpenValue)
-      → Plain (record t { stack = stack })
-      → t.nodes ≡ s.nodes → t.head ≡ s.head → t.foster_parenting ≡ s.foster_parenting
-      → EarlyIn choice letters s stack → EarlyIn choice letters t stack
-  early_mode letters s t stack plain e f g h = record {
-    plain = plain;
-    hung = subst (λ (x : List NodeValue). HungIn x stack t.head) (sym e)
-        (subst (λ (x : Option ℕ). HungIn s.nodes stack x) (sym f) h.hung);
-    ordered = subst (λ (x : List NodeValue). OrderedIn choice letters x stack t.foster_parenting) (sym e)
-        (subst (λ (x : Bool). OrderedIn choice letters s.nodes stack x) (sym g) h.ordered);
-    names = h.names;
+    names = f.each is_outer_open h.names;
+    unused = h.unused;
   }
 
   -- attributes of the outermost element
@@ -197,6 +185,7 @@ module _ (choice : Choice) where
     hung = hung_missing n tag.attributes s.nodes h.hung;
     ordered = missing_ordered choice letters n tag.attributes s.nodes stack s.foster_parenting h.ordered;
     names = h.names;
+    unused = h.unused;
   }
 
 -- what stays when the root is given attributes
@@ -245,11 +234,11 @@ module _ (choice : Choice) where
   pub comment_early : (letters : List ℕ) (c : List ℕ) (s : StateValue) → Early choice letters s
       → Early choice letters
       (insert_comment c s)
-  comment_early letters c s h = early_step choice (insert_comment_orders choice c) letters s h.names h
+  comment_early letters c s h = early_step choice (insert_comment_orders choice c) letters s h.names h.unused h
 
   root_comment_early : (letters : List ℕ) (c : List ℕ) (s : StateValue) → Early choice letters s
       → Early choice letters (insert_comment_in 0 c s)
-  root_comment_early letters c s h = early_step choice (insert_comment_root_orders choice c) letters s h.names h
+  root_comment_early letters c s h = early_step choice (insert_comment_root_orders choice c) letters s h.names h.unused h
 
   pub initial_left : (letters : List ℕ) (s : StateValue) → is_text_mode s.content ≡ false
       → Stage choice false Initial
@@ -262,6 +251,7 @@ module _ (choice : Choice) where
           hung = h.0.hung;
           ordered = h.0.ordered;
           names = h.0.names;
+          unused = h.0.unused;
         },
         h.1,
       )
@@ -284,21 +274,23 @@ module _ (choice : Choice) where
               h.0.ordered
               h.0.hung.filled refl no_doctype;
           names = h.0.names;
+          unused = h.0.unused;
         },
         h.1,
       )
   initial_stage end_of_file p letters s m e h = initial_left letters s e h
 
   root_put : (letters : List ℕ) (name : NameValue) (attributes : List AttributePair) (s : StateValue)
-      → is_plain_name name ≡ true → Stage choice false BeforeHtml letters s → Early choice letters
-      (with_root name attributes s)
-  root_put letters name attributes s p h = record {
+      → is_plain_name name ≡ true → is_outer_name name ≡ true → Stage choice false BeforeHtml letters s
+      → Early choice letters (with_root name attributes s)
+  root_put letters name attributes s p o h = record {
     plain = in_plain_mode BeforeHead refl ((insert_root_stays name attributes p).stays s h.0.plain);
     hung = (insert_root_stays name attributes p).hangs s h.0.plain h.0.hung;
     ordered = element_in choice letters (html name) attributes 0 s.nodes s.stack s.head s.foster_parenting h.0.hung
         h.0.ordered
         h.0.hung.filled h.0.ordered.root (none s.stack h.1);
-    names = (refl, h.0.names);
+    names = (o, h.0.names);
+    unused = h.0.unused;
   }
     where
       none : (stack : List OpenValue) → stack ≡ []
@@ -314,16 +306,15 @@ module _ (choice : Choice) where
       → StageAnswer choice letters (imply_root s)
   root_implied letters s e h =
       calm_answer choice BeforeHead true letters (with_root (known tags.Html) [] s) e refl
-      (root_put letters (known tags.Html) [] s refl h)
+      (root_put letters (known tags.Html) [] s refl refl h)
 
   start_before_html_stage : (tag : StartTagValue) → is_plain_name tag.name ≡ true → (name : NameValue)
-      (letters : List ℕ)
-      (s : StateValue) → is_text_mode s.content ≡ false → Stage choice false BeforeHtml letters s
-      → StageAnswer choice letters (start_before_html name tag s)
-  start_before_html_stage tag p (known tags.Html) letters s e h =
+      → tag.name ≡ name → (letters : List ℕ) (s : StateValue) → is_text_mode s.content ≡ false
+      → Stage choice false BeforeHtml letters s → StageAnswer choice letters (start_before_html name tag s)
+  start_before_html_stage tag p (known tags.Html) n letters s e h =
       calm_answer choice BeforeHead false letters (with_root tag.name tag.attributes s) e refl
-      (root_put letters tag.name tag.attributes s p h)
-  start_before_html_stage tag p _ letters s e h = root_implied letters s e h
+      (root_put letters tag.name tag.attributes s p (ap is_outer_name n) h)
+  start_before_html_stage tag p _ n letters s e h = root_implied letters s e h
 
   before_html_still : (letters : List ℕ) (s : StateValue) → s.mode ≡ BeforeHtml → is_text_mode s.content
       ≡ false
@@ -346,7 +337,7 @@ module _ (choice : Choice) where
   before_html_stage (run kind c) p letters s m e h = absurd (true≢false p)
   before_html_stage (start_tag tag) p letters s m e h =
       plain_or_column (StageAnswer choice letters (start_before_html tag.name tag s)) tag.name p
-      (λ q. start_before_html_stage tag q tag.name letters s e h)
+      (λ q. start_before_html_stage tag q tag.name refl letters s e h)
       (by_column_name (λ name. StageAnswer choice letters (start_before_html name tag s)) (root_implied letters s e h)
       (root_implied letters s e h) tag.name)
   before_html_stage (end_tag name) p letters s m e h = end_before_html_stage name letters s m e h
@@ -359,15 +350,16 @@ module _ (choice : Choice) where
   -- ---- before the head
 
   head_put : (letters : List ℕ) (name : NameValue) (attributes : List AttributePair) (s : StateValue)
-      → is_plain_name name ≡ true → Early choice letters s → Stage choice false InHead letters
-      (with_head name attributes s)
-  head_put letters name attributes s p h =
+      → is_plain_name name ≡ true → is_outer_name name ≡ true → Early choice letters s
+      → Stage choice false InHead letters (with_head name attributes s)
+  head_put letters name attributes s p o h =
       let y = hung_named (html name) attributes s h.hung in (
         record {
           plain = in_plain_mode InHead refl ((insert_element_stays name attributes p).stays s h.plain);
           hung = hung_headed (length s.nodes) y.opened_at.0 y;
           ordered = (insert_element_orders choice name attributes p).orders letters s h.plain h.hung h.ordered;
-          names = (refl, h.names);
+          names = (o, h.names);
+          unused = h.unused;
         },
         λ n e. same e,
       )
@@ -380,20 +372,19 @@ module _ (choice : Choice) where
       → StageAnswer choice letters (imply_head s)
   head_implied letters s e h =
       calm_answer choice InHead true letters (with_head (known tags.Head) [] s) e refl
-      (head_put letters (known tags.Head) [] s refl h)
+      (head_put letters (known tags.Head) [] s refl refl h)
 
   start_before_head_stage : (tag : StartTagValue) → is_plain_name tag.name ≡ true → (name : NameValue)
-      (letters : List ℕ)
-      (s : StateValue) → s.mode ≡ BeforeHead → is_text_mode s.content ≡ false → Early choice letters s
+      → tag.name ≡ name → (letters : List ℕ) (s : StateValue) → s.mode ≡ BeforeHead → is_text_mode s.content ≡ false → Early choice letters s
       → StageAnswer choice letters (start_before_head name tag s)
-  start_before_head_stage tag p (known tags.Html) letters s m e h =
+  start_before_head_stage tag p (known tags.Html) n letters s m e h =
       root_stage choice letters tag s BeforeHead e m
       (λ t same go. subst (λ (stack : List OpenValue). EarlyIn choice letters t stack) (sym same.stack)
       (go s.stack h))
-  start_before_head_stage tag p (known tags.Head) letters s m e h =
+  start_before_head_stage tag p (known tags.Head) n letters s m e h =
       calm_answer choice InHead false letters (with_head tag.name tag.attributes s) e refl
-      (head_put letters tag.name tag.attributes s p h)
-  start_before_head_stage tag p _ letters s m e h = head_implied letters s e h
+      (head_put letters tag.name tag.attributes s p (ap is_outer_name n) h)
+  start_before_head_stage tag p _ n letters s m e h = head_implied letters s e h
 
   end_before_head_stage : (name : NameValue) (letters : List ℕ) (s : StateValue) → s.mode ≡ BeforeHead
       → is_text_mode s.content ≡ false → Early choice letters s
@@ -410,7 +401,7 @@ module _ (choice : Choice) where
   before_head_stage (run kind c) p letters s m e h = absurd (true≢false p)
   before_head_stage (start_tag tag) p letters s m e h =
       plain_or_column (StageAnswer choice letters (start_before_head tag.name tag s)) tag.name p
-      (λ q. start_before_head_stage tag q tag.name letters s m e h)
+      (λ q. start_before_head_stage tag q tag.name refl letters s m e h)
       (by_column_name (λ name. StageAnswer choice letters (start_before_head name tag s)) (head_implied letters s e h)
       (head_implied letters s e h) tag.name)
   before_head_stage (end_tag name) p letters s m e h = end_before_head_stage name letters s m e h

@@ -5,17 +5,18 @@ use Rattle.std.specs.Prelude.{if◌then◌else◌, ◌||◌, not}
 use Rattle.std.proofs.lemmas.Bool.{true≢false, eq-eqb, ne_eqb}
 use Rattle.htmd_grammar.specs.ValueTrees.{AttributePair}
 use Rattle.htmd_html5_tokens.specs.declared.tokens.RawElement.{RawElement}
-use Rattle.htmd_html5_state.specs.Names.{NameValue, known, html}
+use Rattle.htmd_html5_state.specs.Names.{NameValue, ElementNameValue, known, html, svg, math}
 use Rattle.htmd_html5_state.specs.Documents.{comment as comment_kind}
-use Rattle.htmd_html5_state.specs.Documents.{kind_at, last_in}
+use Rattle.htmd_html5_state.specs.Documents.{NodeValue, kind_at, last_in}
 use Rattle.htmd_html5_state.specs.OpenElements.{OpenValue, pop, without}
 use Rattle.htmd_html5_state.specs.State.{StateValue, on_stack}
-use Rattle.htmd_html5_state.specs.Foreign.{current_is_html}
-use Rattle.htmd_html5_state.specs.Insertion.{opened, current, insert_void, insert_raw, open_again}
+use Rattle.htmd_html5_state.specs.Foreign.{current_is_html, is_html_name}
+use Rattle.htmd_html5_state.specs.Formatting.{is_listed}
+use Rattle.htmd_html5_state.specs.Insertion.{opened, current, insert_element, insert_void, insert_raw, open_again}
 use Rattle.htmd_html5_state.specs.Insertion.{insert_comment}
 use Rattle.htmd_html5_state.specs.declared.modes.InsertionMode.TheVariants.{Initial, BeforeHtml, BeforeHead, InHead}
 use Rattle.htmd_html5_state.specs.declared.modes.InsertionMode.TheVariants.{InHeadNoscript, AfterHead, InBody, AfterBody}
-use Rattle.htmd_html5_state.specs.declared.modes.InsertionMode.TheVariants.{AfterAfterBody}
+use Rattle.htmd_html5_state.specs.declared.modes.InsertionMode.TheVariants.{AfterAfterBody, InSelect}
 use Rattle.htmd_html5_state.specs.declared.modes.InsertionMode.{InsertionMode}
 use Rattle.htmd_html5.specs.Tokens.{StartTagValue, TokenValue, start_tag, end_tag, run, comment, doctype, end_of_file}
 use Rattle.htmd_html5.specs.Answers.{answer, done, again}
@@ -33,23 +34,26 @@ use Rattle.htmd_html5.specs.Processing.{by_rules}
 use Rattle.htmd_html5.specs.ForeignContent.{is_foreign, in_foreign_content}
 use Rattle.htmd_html5_laws.specs.TextKept.{is_head_name}
 use Rattle.htmd_html5_laws.proofs.NodeTexts.{is_element, kinds_add}
-use Rattle.htmd_html5_laws.proofs.OpenNodes.{EachOpen, Below, all_of, skip, pop_fewer}
+use Rattle.htmd_html5_laws.proofs.OpenNodes.{EachOpen, Below, each_more, all_of, skip, pop_fewer}
 use Rattle.htmd_html5_laws.proofs.PlainNames.{is_plain_name, no_template_open}
 use Rattle.htmd_html5_laws.proofs.PlainStates.{is_plain_mode, Plain, plain_stack, in_plain_mode, plain_new}
-use Rattle.htmd_html5_laws.proofs.HungStates.{hung_last}
-use Rattle.htmd_html5_laws.proofs.HungStates.{element_number}
+use Rattle.htmd_html5_laws.proofs.HungStates.{ElementOpen, hung_last, element_number}
+use Rattle.htmd_html5_laws.proofs.HungAdoption.{each_both}
 use Rattle.htmd_html5_laws.proofs.HungNodes.{is_solid, element_solid}
-use Rattle.htmd_html5_laws.proofs.OrderedStates.{is_late, loose_in}
+use Rattle.std.proofs.lemmas.List.{length-map}
+use Rattle.htmd_html5_laws.proofs.RootedStacks.{is_late, is_outer, is_outer_name, Before}
+use Rattle.htmd_html5_laws.proofs.RootedRules.{no_frameset_roots}
+use Rattle.htmd_html5_laws.proofs.OrderedStates.{loose_in}
 use Rattle.htmd_html5_laws.proofs.OrderedStates.{no_text, current_within}
 use Rattle.htmd_html5_laws.proofs.OrderedStates.{insert_void_orders, insert_raw_orders, insert_element_orders}
-use Rattle.htmd_html5_laws.proofs.OrderedLate.{IsOrderly, Late, late_step, by_rules_late}
-use Rattle.htmd_html5_laws.proofs.OrderedBody.{plain_or_column, by_column_name, no_frameset_orders}
+use Rattle.htmd_html5_laws.proofs.OrderedLate.{Late, late_step, by_rules_late}
+use Rattle.htmd_html5_laws.proofs.OrderedBody.{IsOrderly, plain_or_column, by_column_name, no_frameset_orders}
 use Rattle.htmd_html5_state.specs.declared.names.TagName.TheVariants as tags
 use Rattle.htmd_html5_tokens.specs.declared.tokens.RawElement.TheVariants as raw
 use Rattle.htmd_html5.specs.ForeignContent.{is_for_math_text, is_for_annotation, is_for_html_point}
 use Rattle.htmd_html5_state.specs.Foreign.{is_math_text_point, is_annotation, is_html_point}
 use Rattle.std.specs.Prelude.{◌&&◌}
-use Rattle.htmd_html5_laws.proofs.OrderedEarly.{HtmlOpen, EarlyIn, Early, head_open, AfterHeadAt, AfterHeadIn, popped, HeadAt, Stage, Staged}
+use Rattle.htmd_html5_laws.proofs.OrderedEarly.{OuterOpen, EarlyIn, Early, head_open, AfterHeadAt, AfterHeadIn, popped, HeadAt, Stage, Staged}
 use Rattle.htmd_html5_laws.proofs.OrderedEarly.{stage_late, staged_late, Calm, StageAnswer, calm_answer}
 use Rattle.htmd_html5_laws.proofs.OrderedEarly.{raw_answer, late_answers, early_step, early_fewer}
 use Rattle.htmd_html5_laws.proofs.OrderedEarly.{root_stage, comment_early, initial_stage}
@@ -62,14 +66,14 @@ module _ (choice : Choice) where
   void_early : (letters : List ℕ) (name : NameValue) (attributes : List AttributePair) (s : StateValue)
       → is_plain_name name ≡ true → Early choice letters s
       → Early choice letters (insert_void name attributes s)
-  void_early letters name attributes s p h = early_step choice (insert_void_orders choice name attributes p) letters s
-      h.names h
+  void_early letters name attributes s p h =
+      early_step choice (insert_void_orders choice name attributes p) letters s h.names h.unused h
 
   raw_early : (letters : List ℕ) (name : NameValue) (element : RawElement) (attributes : List AttributePair)
-      (s : StateValue) → is_plain_name name ≡ true → Early choice letters s
+      (s : StateValue) → is_plain_name name ≡ true → is_outer_name name ≡ true → Early choice letters s
       → Early choice letters (insert_raw name element attributes s)
-  raw_early letters name element attributes s p h =
-      early_step choice (insert_raw_orders choice name element attributes p) letters s (refl, h.names) h
+  raw_early letters name element attributes s p o h =
+      early_step choice (insert_raw_orders choice name element attributes p) letters s (o, h.names) h.unused h
 
   module _ (tag : StartTagValue) (p : is_plain_name tag.name ≡ true) (letters : List ℕ) (mode : InsertionMode)
       (k : ℕ)
@@ -79,24 +83,24 @@ module _ (choice : Choice) where
       (s : StateValue) (m : s.mode ≡ mode) (e : is_text_mode s.content ≡ false) (h : Early choice letters s)
       (at : HeadAt k s) where
     raw_in_head : (element : RawElement) → is_text_mode (insert_raw_tag element tag s).content ≡ true
-        → StageAnswer choice letters (done (insert_raw_tag element tag s))
-    raw_in_head element f =
+        → is_outer_name tag.name ≡ true → StageAnswer choice letters (done (insert_raw_tag element tag s))
+    raw_in_head element f o =
         raw_answer choice mode letters (insert_raw_tag element tag s) f m
-        (go true (insert_raw_tag element tag s) (raw_early letters tag.name element tag.attributes s p h, at))
+        (go true (insert_raw_tag element tag s) (raw_early letters tag.name element tag.attributes s p o h, at))
 
     void_in_head : StageAnswer choice letters (done (insert_void_tag tag s))
     void_in_head =
         calm_answer choice mode false letters (insert_void_tag tag s) e m
         (go false (insert_void_tag tag s) (void_early letters tag.name tag.attributes s p h, at))
 
-    put_in_head : (name : NameValue) → is_plain_name name ≡ true → StageAnswer choice letters
-        (done (insert_head_element name tag s))
-    put_in_head (known tags.Title) q = raw_in_head raw.Title refl
-    put_in_head (known tags.NoFrames) q = raw_in_head raw.Noframes refl
-    put_in_head (known tags.Style) q = raw_in_head raw.Style refl
-    put_in_head (known tags.Script) q = raw_in_head raw.Script refl
-    put_in_head (known tags.Template) q = absurd (true≢false (sym q))
-    put_in_head _ q = void_in_head
+    put_in_head : (name : NameValue) → tag.name ≡ name → is_plain_name name ≡ true
+        → StageAnswer choice letters (done (insert_head_element name tag s))
+    put_in_head (known tags.Title) n q = raw_in_head raw.Title refl (ap is_outer_name n)
+    put_in_head (known tags.NoFrames) n q = raw_in_head raw.Noframes refl (ap is_outer_name n)
+    put_in_head (known tags.Style) n q = raw_in_head raw.Style refl (ap is_outer_name n)
+    put_in_head (known tags.Script) n q = raw_in_head raw.Script refl (ap is_outer_name n)
+    put_in_head (known tags.Template) n q = absurd (true≢false (sym q))
+    put_in_head _ n q = void_in_head
 
     still_in_head : StageAnswer choice letters (done s)
     still_in_head = calm_answer choice mode false letters s e m (go false s (h, at))
@@ -141,6 +145,7 @@ module _ (choice : Choice) where
       no_fostering = h.ordered.no_fostering;
     };
     names = (refl, h.names.1);
+    unused = h.unused;
   }
 
   -- the same nodes and stack in another mode
@@ -148,7 +153,13 @@ module _ (choice : Choice) where
       → is_plain_mode mode ≡ true → EarlyIn choice letters s stack
       → EarlyIn choice letters (record s { stack = es; mode = mode }) stack
   to_mode letters s stack es mode p h =
-      record { plain = in_plain_mode mode p h.plain; hung = h.hung; ordered = h.ordered; names = h.names }
+      record {
+        plain = in_plain_mode mode p h.plain;
+        hung = h.hung;
+        ordered = h.ordered;
+        names = h.names;
+        unused = h.unused;
+      }
 
   head_closed_in : (reopens : Bool) (letters : List ℕ) (s : StateValue) (head : Option ℕ) → s.head ≡ head
       → Early choice letters s → HeadAt 0 s
@@ -193,45 +204,45 @@ module _ (choice : Choice) where
 
   module _ (letters : List ℕ) (s : StateValue) (m : s.mode ≡ InHead) (e : is_text_mode s.content ≡ false)
       (h : Early choice letters s) (at : HeadAt 0 s) where
-    noscript_stage : (tag : StartTagValue) → is_plain_name tag.name ≡ true
+    noscript_stage : (tag : StartTagValue) → is_plain_name tag.name ≡ true → is_outer_name tag.name ≡ true
         → StageAnswer choice letters (done (noscript_in_head tag s))
-    noscript_stage tag p = either s.scripting
+    noscript_stage tag p o = either s.scripting
       where
         either : (b : Bool) → StageAnswer choice letters (done (if b then insert_raw_tag raw.Noscript tag s
             else record (insert_tag tag s) { mode = InHeadNoscript }))
-        either true = raw_in_head choice tag p letters InHead 0 (λ raw t g. g) s m e h at raw.Noscript refl
+        either true = raw_in_head choice tag p letters InHead 0 (λ raw t g. g) s m e h at raw.Noscript refl o
         either false =
             calm_answer choice InHeadNoscript false letters (record (insert_tag tag s) { mode = InHeadNoscript }) e
             refl (
               to_mode choice letters (insert_tag tag s) (insert_tag tag s).stack (insert_tag tag s).stack
                   InHeadNoscript refl
                   (early_step choice (insert_element_orders choice tag.name tag.attributes p) letters s
-                  (refl, h.names) h),
+                  (o, h.names) h.unused h),
               at,
             )
 
-    start_in_head_stage : (tag : StartTagValue) → is_plain_name tag.name ≡ true → (name : NameValue)
-        → StageAnswer choice letters (start_in_head name tag s)
-    start_in_head_stage tag p name = by_name name
+    start_in_head_stage : (tag : StartTagValue) → is_plain_name tag.name ≡ true
+        → StageAnswer choice letters (start_in_head tag.name tag s)
+    start_in_head_stage tag p = by_name tag.name refl
       where
         element_put : StageAnswer choice letters (done (insert_head_element tag.name tag s))
-        element_put = put_in_head choice tag p letters InHead 0 (λ raw t g. g) s m e h at tag.name p
+        element_put = put_in_head choice tag p letters InHead 0 (λ raw t g. g) s m e h at tag.name refl p
 
-        by_name : (name : NameValue) → StageAnswer choice letters (start_in_head name tag s)
-        by_name (known tags.Html) = root_in_head choice tag p letters InHead 0 (λ raw t g. g) s m e h at
-        by_name (known tags.Base) = element_put
-        by_name (known tags.BaseFont) = element_put
-        by_name (known tags.BgSound) = element_put
-        by_name (known tags.Link) = element_put
-        by_name (known tags.Meta) = element_put
-        by_name (known tags.Title) = element_put
-        by_name (known tags.NoFrames) = element_put
-        by_name (known tags.Style) = element_put
-        by_name (known tags.Script) = element_put
-        by_name (known tags.Template) = element_put
-        by_name (known tags.NoScript) = noscript_stage tag p
-        by_name (known tags.Head) = calm_answer choice InHead false letters s e m (h, at)
-        by_name _ = head_closed choice true letters s e h at
+        by_name : (name : NameValue) → tag.name ≡ name → StageAnswer choice letters (start_in_head name tag s)
+        by_name (known tags.Html) n = root_in_head choice tag p letters InHead 0 (λ raw t g. g) s m e h at
+        by_name (known tags.Base) n = element_put
+        by_name (known tags.BaseFont) n = element_put
+        by_name (known tags.BgSound) n = element_put
+        by_name (known tags.Link) n = element_put
+        by_name (known tags.Meta) n = element_put
+        by_name (known tags.Title) n = element_put
+        by_name (known tags.NoFrames) n = element_put
+        by_name (known tags.Style) n = element_put
+        by_name (known tags.Script) n = element_put
+        by_name (known tags.Template) n = element_put
+        by_name (known tags.NoScript) n = noscript_stage tag p (ap is_outer_name n)
+        by_name (known tags.Head) n = calm_answer choice InHead false letters s e m (h, at)
+        by_name _ n = head_closed choice true letters s e h at
 
     end_in_head_stage : (name : NameValue) → StageAnswer choice letters (end_in_head name s)
     end_in_head_stage (known tags.Head) = head_closed choice false letters s e h at
@@ -247,7 +258,7 @@ module _ (choice : Choice) where
     in_head_stage (run kind c) p = absurd (true≢false p)
     in_head_stage (start_tag tag) p =
         plain_or_column (StageAnswer choice letters (start_in_head tag.name tag s)) tag.name p
-        (λ q. start_in_head_stage tag q tag.name)
+        (λ q. start_in_head_stage tag q)
         (by_column_name (λ name. StageAnswer choice letters (start_in_head name tag s))
         (head_closed choice true letters s e h at)
         (head_closed choice true letters s e h at) tag.name)
@@ -264,7 +275,7 @@ module _ (choice : Choice) where
     start_in_noscript_stage tag p name = by_name name
       where
         element_put : StageAnswer choice letters (done (insert_head_element tag.name tag s))
-        element_put = put_in_head choice tag p letters InHeadNoscript 1 (λ raw t g. g) s m e h at tag.name p
+        element_put = put_in_head choice tag p letters InHeadNoscript 1 (λ raw t g. g) s m e h at tag.name refl p
 
         by_name : (name : NameValue) → StageAnswer choice letters (start_in_noscript name tag s)
         by_name (known tags.Html) = root_in_head choice tag p letters InHeadNoscript 1 (λ raw t g. g) s m e h at
@@ -311,13 +322,34 @@ module _ (choice : Choice) where
       early_fewer choice letters s (head_open n ∷ stack) stack (skip (head_open n) (all_of stack)) h
 
   body_put : (letters : List ℕ) (name : NameValue) (attributes : List AttributePair) (s : StateValue)
-      → is_plain_name name ≡ true → Early choice letters s → Late choice letters (with_body name attributes s)
-  body_put letters name attributes s p h = record {
-    plain = in_plain_mode InBody refl ((insert_element_orders choice name attributes p).stays.stays s h.plain);
-    hung = (insert_element_orders choice name attributes p).stays.hangs s h.plain h.hung;
-    ordered = (insert_element_orders choice name attributes p).orders letters s h.plain h.hung h.ordered;
-    late = refl;
-  }
+      → is_plain_name name ≡ true → name ≡ known tags.Body → is_text_mode s.content ≡ false → Early choice letters s
+      → Late choice letters (with_body name attributes s)
+  body_put letters name attributes s p n e h =
+      let y = (insert_element_orders choice name attributes p).stays.hangs s h.plain h.hung in
+      record {
+        plain = in_plain_mode InBody refl ((insert_element_orders choice name attributes p).stays.stays s h.plain);
+        hung = y;
+        ordered = (insert_element_orders choice name attributes p).orders letters s h.plain h.hung h.ordered;
+        body = length s.nodes;
+        rooted = record {
+          within = subst (λ (m : ℕ). length s.nodes < m) (sym (length-map (insert_element name attributes s).nodes _))
+              (element_number (length s.nodes) (insert_element name attributes s).nodes y.opened_at.0);
+          rooted = inl ((ap html n, refl), open_before s.nodes s.stack h.hung.opened_at h.names);
+          entries_at = λ m l. absurd (true≢false (sym l ∙ ap (is_listed m) h.unused.0));
+          form_at = λ m f. absurd (no_number m (sym h.unused.1 ∙ f));
+          late = refl;
+        };
+        raw = λ r. absurd (true≢false (sym r ∙ e));
+      }
+    where
+      no_number : (m : ℕ) → None ≡ Some m → ⊥
+      no_number m f = cc
+
+      open_before : (nodes : List NodeValue) (stack : List OpenValue) → EachOpen (ElementOpen nodes) stack
+          → EachOpen OuterOpen stack → EachOpen (Before (length nodes)) stack
+      open_before nodes stack at names =
+          each_more stack (λ d x. (x.1, element_number d.node nodes x.0))
+          (each_both (ElementOpen nodes) OuterOpen stack at names)
 
   -- a comment, with the head open as before
   comment_after : (letters : List ℕ) (c : List ℕ) (s : StateValue) (stack : List OpenValue)
@@ -330,6 +362,7 @@ module _ (choice : Choice) where
         h.hung
         h.ordered (current_within s.stack real.hung) refl (no_text c);
     names = h.names;
+    unused = h.unused;
   }
 
   pub by_head : (reopens : Bool) (letters : List ℕ) (s t : StateValue) (head : Option ℕ) (stack : List OpenValue)
@@ -353,7 +386,7 @@ module _ (choice : Choice) where
     pub body_implied : StageAnswer choice letters (imply_body s)
     body_implied =
         late_answers choice true letters (with_body (known tags.Body) [] s)
-        (body_put letters (known tags.Body) [] s refl (real_of choice.reopens letters s s.head s.stack h))
+        (body_put letters (known tags.Body) [] s refl refl e (real_of choice.reopens letters s s.head s.stack h)) e
 
     still_after : StageAnswer choice letters (done s)
     still_after = calm_answer choice AfterHead false letters s e m h
@@ -368,9 +401,9 @@ module _ (choice : Choice) where
 
     module _ (tag : StartTagValue) (p : is_plain_name tag.name ≡ true) where
       -- without a head it is put where it stands
-      late_by_none : (name : NameValue) → is_plain_name name ≡ true → s.head ≡ None → Early choice letters s
-          → StageAnswer choice letters (done (insert_head_element name tag s))
-      late_by_none name q f x = by_name name q
+      late_by_none : s.head ≡ None → Early choice letters s
+          → StageAnswer choice letters (done (insert_head_element tag.name tag s))
+      late_by_none f x = by_name tag.name refl p
         where
           in_stage : (raw : Bool) (t : StateValue) → t.head ≡ None → Early choice letters t → Stage choice raw
               AfterHead letters t
@@ -379,44 +412,49 @@ module _ (choice : Choice) where
               (none_at choice.reopens raw letters t y)
 
           raw_put : (element : RawElement) → is_text_mode (insert_raw_tag element tag s).content ≡ true
-              → StageAnswer choice letters (done (insert_raw_tag element tag s))
-          raw_put element g =
+              → is_outer_name tag.name ≡ true → StageAnswer choice letters (done (insert_raw_tag element tag s))
+          raw_put element g o =
               raw_answer choice AfterHead letters (insert_raw_tag element tag s) g m
               (in_stage true (insert_raw_tag element tag s) f
-              (raw_early choice letters tag.name element tag.attributes s p x))
+              (raw_early choice letters tag.name element tag.attributes s p o x))
 
-          by_name : (name : NameValue) → is_plain_name name ≡ true
+          by_name : (name : NameValue) → tag.name ≡ name → is_plain_name name ≡ true
               → StageAnswer choice letters (done (insert_head_element name tag s))
-          by_name (known tags.Title) q = raw_put raw.Title refl
-          by_name (known tags.NoFrames) q = raw_put raw.Noframes refl
-          by_name (known tags.Style) q = raw_put raw.Style refl
-          by_name (known tags.Script) q = raw_put raw.Script refl
-          by_name (known tags.Template) q = absurd (true≢false (sym q))
-          by_name _ q =
+          by_name (known tags.Title) n q = raw_put raw.Title refl (ap is_outer_name n)
+          by_name (known tags.NoFrames) n q = raw_put raw.Noframes refl (ap is_outer_name n)
+          by_name (known tags.Style) n q = raw_put raw.Style refl (ap is_outer_name n)
+          by_name (known tags.Script) n q = raw_put raw.Script refl (ap is_outer_name n)
+          by_name (known tags.Template) n q = absurd (true≢false (sym q))
+          by_name _ n q =
               calm_answer choice AfterHead false letters (insert_void_tag tag s) e m
               (in_stage false (insert_void_tag tag s) f (void_early choice letters tag.name tag.attributes s p x))
 
       -- into the head, which is open for that
-      late_by_head : choice.reopens ≡ true → (n : ℕ) (name : NameValue) → is_plain_name name ≡ true → s.head
-          ≡ Some n
+      late_by_head : choice.reopens ≡ true → (n : ℕ) → s.head ≡ Some n
           → EarlyIn choice letters s (head_open n ∷ s.stack)
           → StageAnswer choice letters
-          (done (on_stack (without n) (insert_head_element name tag (open_again n (known tags.Head) s))))
-      late_by_head again n name q f x = by_name name q
+          (done (on_stack (without n) (insert_head_element tag.name tag (open_again n (known tags.Head) s))))
+      late_by_head again n f x = by_name tag.name refl p
         where
           v : StateValue
           v = open_again n (known tags.Head) s
 
           early_v : Early choice letters (open_again n (known tags.Head) s)
-          early_v = record { plain = x.plain; hung = x.hung; ordered = x.ordered; names = x.names }
+          early_v = record {
+            plain = x.plain;
+            hung = x.hung;
+            ordered = x.ordered;
+            names = x.names;
+            unused = x.unused;
+          }
 
           n_within : n < length s.nodes
           n_within = element_number n s.nodes x.hung.opened_at.0
 
           raw_put : (element : RawElement) → is_text_mode (insert_raw_tag element tag s).content ≡ true
-              → StageAnswer choice letters
+              → is_outer_name tag.name ≡ true → StageAnswer choice letters
               (done (on_stack (without n) (insert_raw_tag element tag (open_again n (known tags.Head) s))))
-          raw_put element g =
+          raw_put element g o =
               raw_answer choice AfterHead letters
               (on_stack (without n) (insert_raw_tag element tag (open_again n (known tags.Head) s))) g m
               (subst (λ (head : Option ℕ). AfterHeadIn choice true head
@@ -425,7 +463,7 @@ module _ (choice : Choice) where
               (subst (λ (stack : List OpenValue). AfterHeadIn choice true (Some n) stack letters
               (on_stack (without n) (insert_raw_tag element tag (open_again n (known tags.Head) s))))
               (sym gone) (in_it (raw_early choice letters tag.name element tag.attributes
-              (open_again n (known tags.Head) s) p early_v))))
+              (open_again n (known tags.Head) s) p o early_v))))
             where
               gone : without n (opened (length s.nodes) (html tag.name) ∷ head_open n ∷ s.stack)
                   ≡ opened (length s.nodes) (html tag.name) ∷ s.stack
@@ -438,7 +476,13 @@ module _ (choice : Choice) where
                   subst (λ (b : Bool). AfterHeadAt choice b true (Some n)
                   (opened (length s.nodes) (html tag.name) ∷ s.stack) letters
                   (on_stack (without n) (insert_raw_tag element tag (open_again n (known tags.Head) s)))) (sym again)
-                  (record { plain = y.plain; hung = y.hung; ordered = y.ordered; names = y.names })
+                  (record {
+                    plain = y.plain;
+                    hung = y.hung;
+                    ordered = y.ordered;
+                    names = y.names;
+                    unused = y.unused;
+                  })
 
           void_put : StageAnswer choice letters
               (done (on_stack (without n) (insert_void_tag tag (open_again n (known tags.Head) s))))
@@ -462,23 +506,29 @@ module _ (choice : Choice) where
               in_it y =
                   subst (λ (b : Bool). AfterHeadAt choice b false (Some n) s.stack letters
                   (on_stack (without n) (insert_void_tag tag (open_again n (known tags.Head) s)))) (sym again)
-                  (record { plain = y.plain; hung = y.hung; ordered = y.ordered; names = y.names })
+                  (record {
+                    plain = y.plain;
+                    hung = y.hung;
+                    ordered = y.ordered;
+                    names = y.names;
+                    unused = y.unused;
+                  })
 
-          by_name : (name : NameValue) → is_plain_name name ≡ true
+          by_name : (name : NameValue) → tag.name ≡ name → is_plain_name name ≡ true
               → StageAnswer choice letters
               (done (on_stack (without n) (insert_head_element name tag (open_again n (known tags.Head) s))))
-          by_name (known tags.Title) q = raw_put raw.Title refl
-          by_name (known tags.NoFrames) q = raw_put raw.Noframes refl
-          by_name (known tags.Style) q = raw_put raw.Style refl
-          by_name (known tags.Script) q = raw_put raw.Script refl
-          by_name (known tags.Template) q = absurd (true≢false (sym q))
-          by_name _ q = void_put
+          by_name (known tags.Title) o q = raw_put raw.Title refl (ap is_outer_name o)
+          by_name (known tags.NoFrames) o q = raw_put raw.Noframes refl (ap is_outer_name o)
+          by_name (known tags.Style) o q = raw_put raw.Style refl (ap is_outer_name o)
+          by_name (known tags.Script) o q = raw_put raw.Script refl (ap is_outer_name o)
+          by_name (known tags.Template) o q = absurd (true≢false (sym q))
+          by_name _ o q = void_put
 
       late_put : choice.reopens ≡ true → (head : Option ℕ) → s.head ≡ head
           → AfterHeadAt choice true false head s.stack letters s
           → StageAnswer choice letters (done (insert_in_head head tag s))
-      late_put again None f x = late_by_none tag.name p f x
-      late_put again (Some n) f x = late_by_head again n tag.name p f x
+      late_put again None f x = late_by_none f x
+      late_put again (Some n) f x = late_by_head again n f x
 
       inserted_late : choice.reopens ≡ true → StageAnswer choice letters (done (insert_late tag s))
       inserted_late again =
@@ -493,27 +543,27 @@ module _ (choice : Choice) where
           either true e = e
           either false e = absurd (true≢false (may e))
 
-      start_after_head_stage : (name : NameValue) → is_plain_name name ≡ true
+      start_after_head_stage : (name : NameValue) → tag.name ≡ name → is_plain_name name ≡ true
           → (choice.reopens ≡ false → is_head_name name ≡ false)
           → StageAnswer choice letters (start_after_head name tag s)
-      start_after_head_stage (known tags.Html) q r = root_after tag
-      start_after_head_stage (known tags.Body) q r =
-          late_answers choice false letters _ (late_step choice (no_frameset_orders choice) letters
-          (with_body tag.name tag.attributes s)
-          (body_put letters tag.name tag.attributes s p (real_of choice.reopens letters s s.head s.stack h)))
-      start_after_head_stage (known tags.FrameSet) q r = absurd (true≢false (sym q))
-      start_after_head_stage (known tags.Base) q r = late_tag r
-      start_after_head_stage (known tags.BaseFont) q r = late_tag r
-      start_after_head_stage (known tags.BgSound) q r = late_tag r
-      start_after_head_stage (known tags.Link) q r = late_tag r
-      start_after_head_stage (known tags.Meta) q r = late_tag r
-      start_after_head_stage (known tags.NoFrames) q r = late_tag r
-      start_after_head_stage (known tags.Script) q r = late_tag r
-      start_after_head_stage (known tags.Style) q r = late_tag r
-      start_after_head_stage (known tags.Template) q r = late_tag r
-      start_after_head_stage (known tags.Title) q r = late_tag r
-      start_after_head_stage (known tags.Head) q r = still_after
-      start_after_head_stage _ q r = body_implied
+      start_after_head_stage (known tags.Html) n q r = root_after tag
+      start_after_head_stage (known tags.Body) n q r =
+          late_answers choice false letters _ (late_step choice (no_frameset_orders choice) no_frameset_roots letters
+          (with_body tag.name tag.attributes s) e
+          (body_put letters tag.name tag.attributes s p n e (real_of choice.reopens letters s s.head s.stack h))) e
+      start_after_head_stage (known tags.FrameSet) n q r = absurd (true≢false (sym q))
+      start_after_head_stage (known tags.Base) n q r = late_tag r
+      start_after_head_stage (known tags.BaseFont) n q r = late_tag r
+      start_after_head_stage (known tags.BgSound) n q r = late_tag r
+      start_after_head_stage (known tags.Link) n q r = late_tag r
+      start_after_head_stage (known tags.Meta) n q r = late_tag r
+      start_after_head_stage (known tags.NoFrames) n q r = late_tag r
+      start_after_head_stage (known tags.Script) n q r = late_tag r
+      start_after_head_stage (known tags.Style) n q r = late_tag r
+      start_after_head_stage (known tags.Template) n q r = late_tag r
+      start_after_head_stage (known tags.Title) n q r = late_tag r
+      start_after_head_stage (known tags.Head) n q r = still_after
+      start_after_head_stage _ n q r = body_implied
 
     end_after_head_stage : (name : NameValue) → StageAnswer choice letters (end_after_head name s)
     end_after_head_stage (known tags.Template) =
@@ -529,7 +579,7 @@ module _ (choice : Choice) where
     after_head_stage (run kind c) p r = absurd (true≢false p)
     after_head_stage (start_tag tag) p r =
         plain_or_column (StageAnswer choice letters (start_after_head tag.name tag s)) tag.name p
-        (λ q. start_after_head_stage tag q tag.name q r)
+        (λ q. start_after_head_stage tag q tag.name refl q r)
         (by_column_name (λ name. StageAnswer choice letters (start_after_head name tag s)) body_implied body_implied
         tag.name)
     after_head_stage (end_tag name) p r = end_after_head_stage name
@@ -542,9 +592,14 @@ module _ (choice : Choice) where
 
 -- ---- all modes
 
-pub current_html : (stack : List OpenValue) → EachOpen HtmlOpen stack → current_is_html stack ≡ true
+outer_html : (name : ElementNameValue) → is_outer name ≡ true → is_html_name name ≡ true
+outer_html (html name) o = refl
+outer_html (svg s) o = o
+outer_html (math s) o = o
+
+pub current_html : (stack : List OpenValue) → EachOpen OuterOpen stack → current_is_html stack ≡ true
 current_html [] h = refl
-current_html (e ∷ es) h = h.0
+current_html (e ∷ es) h = outer_html e.name h.0
 
 not_foreign : (a b c d : Bool) → d ≡ true → not (a || b || c || d) ≡ false
 not_foreign true b c d e = refl
@@ -580,7 +635,7 @@ module _ (choice : Choice) where
 
   -- the names of what is open before the body
   pub stage_names : (mode : InsertionMode) (letters : List ℕ) (s : StateValue) → is_late mode ≡ false
-      → Stage choice false mode letters s → EachOpen HtmlOpen s.stack
+      → Stage choice false mode letters s → EachOpen OuterOpen s.stack
   stage_names Initial letters s e h = h.0.names
   stage_names BeforeHtml letters s e h = h.0.names
   stage_names BeforeHead letters s e h = h.names
@@ -588,6 +643,7 @@ module _ (choice : Choice) where
   stage_names InHeadNoscript letters s e h = h.0.names
   stage_names AfterHead letters s e h = (real_of choice choice.reopens letters s s.head s.stack h).names
   stage_names InBody letters s e h = absurd (true≢false e)
+  stage_names InSelect letters s e h = absurd (true≢false e)
   stage_names AfterBody letters s e h = absurd (true≢false e)
   stage_names AfterAfterBody letters s e h = absurd (true≢false e)
   stage_names _ letters s e h = absurd h
@@ -604,6 +660,7 @@ module _ (choice : Choice) where
   early_modes InHeadNoscript t p letters s m l e h r = in_noscript_stage choice letters s m e h.0 h.1 t p
   early_modes AfterHead t p letters s m l e h r = after_head_stage choice letters s m e h t p (λ z. r z refl)
   early_modes InBody t p letters s m l e h r = absurd (true≢false l)
+  early_modes InSelect t p letters s m l e h r = absurd (true≢false l)
   early_modes AfterBody t p letters s m l e h r = absurd (true≢false l)
   early_modes AfterAfterBody t p letters s m l e h r = absurd (true≢false l)
   early_modes _ t p letters s m l e h r = absurd h
@@ -613,23 +670,22 @@ module _ (choice : Choice) where
       letters s
       → MayCome choice t s
       → StageAnswer choice letters (by_rules t s)
-  by_rules_stage t p letters s calm h may = either (is_late s.mode) refl calm
+  by_rules_stage t p letters s calm h may = either (is_late s.mode) refl
     where
       rules : (b : Bool) → b ≡ false → StageAnswer choice letters (by_mode_rules t s)
           → StageAnswer choice letters (if b then in_foreign_content t s else by_mode_rules t s)
       rules true e x = absurd (true≢false e)
       rules false e x = x
 
-      either : (b : Bool) → is_late s.mode ≡ b → Calm s → StageAnswer choice letters (by_rules t s)
-      either true l c =
-          let x = by_rules_late choice t p letters s (stage_late choice (is_text_mode s.content) s.mode letters s l h)
-          in
-          record { stage = staged_late choice letters (by_rules t s).state x; calm = λ z. inl x.late }
-      either false l (inl c) = absurd (true≢false (sym c ∙ l))
-      either false l (inr c) =
-          let x = unstaged false s.mode letters s c refl h in
+      either : (b : Bool) → is_late s.mode ≡ b → StageAnswer choice letters (by_rules t s)
+      either true l =
+          let x = by_rules_late choice t p letters s calm
+          (stage_late choice (is_text_mode s.content) s.mode letters s l h) in
+          record { stage = staged_late choice letters (by_rules t s).state x.late; calm = x.calm }
+      either false l =
+          let x = unstaged false s.mode letters s calm refl h in
           rules (is_foreign t s) (stays_html t s (current_html s.stack (stage_names s.mode letters s l x)))
-          (early_modes s.mode t p letters s refl l c x may)
+          (early_modes s.mode t p letters s refl l calm x may)
 
   -- a start tag that opens the head is left to another mode, but never to the mode after the head
 
@@ -682,6 +738,7 @@ module _ (choice : Choice) where
     early_away InHeadNoscript letters p f l h e m = noscript_away tag.name e m
     early_away AfterHead letters p f l h e m = f refl
     early_away InBody letters p f l h e m = absurd (true≢false l)
+    early_away InSelect letters p f l h e m = absurd (true≢false l)
     early_away AfterBody letters p f l h e m = absurd (true≢false l)
     early_away AfterAfterBody letters p f l h e m = absurd (true≢false l)
     early_away _ letters p f l h e m = absurd h
@@ -690,7 +747,7 @@ module _ (choice : Choice) where
       → Staged choice letters s → opens_head t ≡ true → (s.mode ≡ AfterHead → ⊥) → (by_rules t s).again
       ≡ true
       → (by_rules t s).state.mode ≡ AfterHead → ⊥
-  never_after_head (start_tag tag) p letters s calm h opens f e m = either (is_late s.mode) refl calm
+  never_after_head (start_tag tag) p letters s calm h opens f e m = either (is_late s.mode) refl
     where
       by_mode : (b : Bool) → b ≡ false → Stage choice false s.mode letters s → is_late s.mode ≡ false
           → (if b then in_foreign_content (start_tag tag) s else by_mode_rules (start_tag tag) s).again ≡ true
@@ -700,14 +757,13 @@ module _ (choice : Choice) where
       by_mode true g x l e m = absurd (true≢false g)
       by_mode false g x l e m = early_away tag s s.mode letters opens f l x e m
 
-      either : (b : Bool) → is_late s.mode ≡ b → Calm s → ⊥
-      either true l c =
-          let x = by_rules_late choice (start_tag tag) p letters s
+      either : (b : Bool) → is_late s.mode ≡ b → ⊥
+      either true l =
+          let x = by_rules_late choice (start_tag tag) p letters s calm
           (stage_late choice (is_text_mode s.content) s.mode letters s l h) in
-          true≢false (sym x.late ∙ ap is_late m)
-      either false l (inl c) = true≢false (sym c ∙ l)
-      either false l (inr c) =
-          let x = unstaged false s.mode letters s c refl h in
+          true≢false (sym x.late.rooted.late ∙ ap is_late m)
+      either false l =
+          let x = unstaged false s.mode letters s calm refl h in
           by_mode (is_foreign (start_tag tag) s)
           (stays_html (start_tag tag) s (current_html s.stack (stage_names s.mode letters s l x))) x l e m
   never_after_head (run kind c) p letters s calm h opens f e m = true≢false (sym opens)

@@ -20,7 +20,7 @@ use Rattle.htmd_html5_state.specs.Formatting.{reconstruct}
 use Rattle.htmd_html5_state.specs.declared.modes.InsertionMode.{InsertionMode}
 use Rattle.htmd_html5_state.specs.declared.modes.InsertionMode.TheVariants.{Initial, BeforeHtml, BeforeHead, InHead}
 use Rattle.htmd_html5_state.specs.declared.modes.InsertionMode.TheVariants.{InHeadNoscript, AfterHead, InBody, AfterBody}
-use Rattle.htmd_html5_state.specs.declared.modes.InsertionMode.TheVariants.{AfterAfterBody}
+use Rattle.htmd_html5_state.specs.declared.modes.InsertionMode.TheVariants.{AfterAfterBody, InSelect}
 use Rattle.htmd_html5.specs.Tokens.{run}
 use Rattle.htmd_html5.specs.Runs.{kind_of_byte, is_of_kind, first_kind, first_run, after_first_run}
 use Rattle.htmd_html5.specs.Texts.{first_token}
@@ -47,9 +47,12 @@ use Rattle.htmd_html5_laws.proofs.PlainRuns.{insert_text_stays, text_grows}
 use Rattle.htmd_html5_laws.proofs.Sublists.{append_nil, Sub, window_grown}
 use Rattle.htmd_html5_laws.proofs.OrderedNodes.{FitsBy, Labels, none_out}
 use Rattle.htmd_html5_laws.proofs.OrderedTexts.{letters_append, white_put}
-use Rattle.htmd_html5_laws.proofs.OrderedStates.{OrderedIn, is_late, text_ordered, place_last, ranked_of}
+use Rattle.htmd_html5_laws.proofs.OrderedStates.{OrderedIn, text_ordered, place_last, ranked_of}
 use Rattle.htmd_html5_laws.proofs.OrderedStates.{stack_still, reconstruct_orders}
 use Rattle.htmd_html5_laws.proofs.OrderedBody.{no_frameset_orders, with_mode_orders}
+use Rattle.htmd_html5_laws.proofs.RootedStacks.{is_late}
+use Rattle.htmd_html5_laws.proofs.RootedStates.{insert_text_roots, reconstruct_content, reconstruct_roots}
+use Rattle.htmd_html5_laws.proofs.RootedRules.{with_mode_roots, no_frameset_roots}
 use Rattle.htmd_html5_laws.proofs.OrderedLate.{Late, late_step}
 use Rattle.htmd_html5_laws.proofs.OrderedEarly.{EarlyIn, Early, head_open, AfterHeadAt, Stage, Staged, staged}
 use Rattle.htmd_html5_laws.proofs.OrderedEarly.{staged_late, stage_late, Calm, StageAnswer, initial_left}
@@ -144,7 +147,9 @@ module _ (choice : Choice) where
     plain = h.plain;
     hung = h.hung;
     ordered = ordered_grown letters more s.nodes s.stack s.foster_parenting h.ordered;
-    late = h.late;
+    body = h.body;
+    rooted = h.rooted;
+    raw = h.raw;
   }
 
   early_grown : (letters more : List ℕ) (s : StateValue) (stack : List OpenValue) → EarlyIn choice letters s stack
@@ -154,6 +159,7 @@ module _ (choice : Choice) where
     hung = h.hung;
     ordered = ordered_grown letters more s.nodes stack s.foster_parenting h.ordered;
     names = h.names;
+    unused = h.unused;
   }
 
   after_grown : (reopens raw : Bool) (head : Option ℕ) (stack : List OpenValue) (letters more : List ℕ)
@@ -176,6 +182,7 @@ module _ (choice : Choice) where
   stage_grown raw InHeadNoscript letters more s h = (early_grown letters more s s.stack h.0, h.1)
   stage_grown raw AfterHead letters more s h = after_grown choice.reopens raw s.head s.stack letters more s h
   stage_grown raw InBody letters more s h = late_grown letters more s h
+  stage_grown raw InSelect letters more s h = late_grown letters more s h
   stage_grown raw AfterBody letters more s h = late_grown letters more s h
   stage_grown raw AfterAfterBody letters more s h = late_grown letters more s h
   stage_grown raw _ letters more s h = absurd h
@@ -264,6 +271,7 @@ module _ (choice : Choice) where
               no_fostering = h.ordered.no_fostering;
             });
         names = h.names;
+        unused = h.unused;
       }
 
   -- ---- the modes before the body
@@ -275,6 +283,7 @@ module _ (choice : Choice) where
     hung = (insert_text_stays t).hangs s h.plain h.hung;
     ordered = text_ordered choice letters t s u h.hung h.ordered;
     names = h.names;
+    unused = h.unused;
   }
 
   -- white space under the root, where the head may be opened once more only if it doesn't count
@@ -299,7 +308,7 @@ module _ (choice : Choice) where
         (subst (λ (x : List ℕ). Staged choice x s)
         (sym (no_more letters (counted_of choice []) (nil_letters choice)))
         (staged choice false mode letters s e m h))
-        (ap is_before_head m ∙ before) (inr e)
+        (ap is_before_head m ∙ before) e
 
     white_put_in : (mode : InsertionMode) → s.mode ≡ mode → is_before_head mode ≡ false
         → Stage choice false mode (letters ++ counted_of choice t) (insert_text t s)
@@ -307,7 +316,7 @@ module _ (choice : Choice) where
     white_put_in mode m after h =
         run_done choice letters t false true (insert_text t s)
         (staged choice false mode (letters ++ counted_of choice t) (insert_text t s) e m h)
-        (ap is_before_head m ∙ after) (inr e)
+        (ap is_before_head m ∙ after) e
 
   -- what a mode answers to a run of each kind
   record RunsStage (mode : InsertionMode) (letters t : List ℕ) (s : StateValue) : Type 0 where
@@ -351,6 +360,7 @@ module _ (choice : Choice) where
     characters = run_again choice letters t false refl (body_implied choice letters s m e h);
   }
   early_runs InBody letters t s u m l e h = absurd (true≢false l)
+  early_runs InSelect letters t s u m l e h = absurd (true≢false l)
   early_runs AfterBody letters t s u m l e h = absurd (true≢false l)
   early_runs AfterAfterBody letters t s u m l e h = absurd (true≢false l)
   early_runs _ letters t s u m l e h = absurd h
@@ -363,53 +373,69 @@ module _ (choice : Choice) where
     plain = (insert_text_stays t).stays s h.plain;
     hung = (insert_text_stays t).hangs s h.plain h.hung;
     ordered = text_ordered choice letters t s u h.hung h.ordered;
-    late = h.late;
+    body = h.body;
+    rooted = (insert_text_roots t).rooted h.body s h.rooted;
+    raw = h.raw;
   }
 
   -- where the mode isn't one before the head
   late_run : (letters t : List ℕ) (before white : Bool) (s : StateValue) → before ≡ false
-      → Late choice (letters ++ counted_of choice t) s → RunStage choice letters t before white (done s)
-  late_run letters t before white s off h =
+      → is_text_mode s.content ≡ false → Late choice (letters ++ counted_of choice t) s
+      → RunStage choice letters t before white (done s)
+  late_run letters t before white s off e h =
       subst (λ (b : Bool). RunStage choice letters t b white (done s)) (sym off)
       (run_done choice letters t false white s (staged_late choice (letters ++ counted_of choice t) s h)
-      (late_is_after s.mode h.late) (inl h.late))
+      (late_is_after s.mode h.rooted.late) e)
 
-  white_in_body : (letters t : List ℕ) (s : StateValue) → IsUtf8 t → Late choice letters s
-      → Late choice (letters ++ counted_of choice t) (run_in_body (kind_of_byte 32) t s)
-  white_in_body letters t s u h = late_writes letters t (reconstruct s) u
-      (late_step choice (reconstruct_orders choice) letters s h)
+  module _ (letters t : List ℕ) (s : StateValue) (u : IsUtf8 t) (e : is_text_mode s.content ≡ false)
+      (h : Late choice letters s) where
+    reopened : Late choice letters (reconstruct s)
+    reopened = late_step choice (reconstruct_orders choice) reconstruct_roots letters s e h
 
-  characters_in_body : (letters t : List ℕ) (s : StateValue) → IsUtf8 t → Late choice letters s
-      → Late choice (letters ++ counted_of choice t) (run_in_body (kind_of_byte 97) t s)
-  characters_in_body letters t s u h =
-      late_step choice (no_frameset_orders choice) (letters ++ counted_of choice t) (insert_text t (reconstruct s))
-      (late_writes letters t (reconstruct s) u (late_step choice (reconstruct_orders choice) letters s h))
+    reopened_calm : is_text_mode (reconstruct s).content ≡ false
+    reopened_calm = ap is_text_mode (reconstruct_content s) ∙ e
 
-  back_in_body : (letters t : List ℕ) (s : StateValue) → Late choice letters s
-      → RunStage choice letters t false false (back_to_body s)
-  back_in_body letters t s h =
-      let x = late_step choice (with_mode_orders choice InBody refl refl) letters s h in
-      run_again choice letters t false refl
-      (record { stage = staged_late choice letters (back_to_body s).state x; calm = λ z. inl refl })
+    white_in_body : Late choice (letters ++ counted_of choice t) (run_in_body (kind_of_byte 32) t s)
+    white_in_body = late_writes letters t (reconstruct s) u reopened
+
+    characters_in_body : Late choice (letters ++ counted_of choice t) (run_in_body (kind_of_byte 97) t s)
+    characters_in_body =
+        late_step choice (no_frameset_orders choice) no_frameset_roots (letters ++ counted_of choice t)
+        (insert_text t (reconstruct s)) reopened_calm (late_writes letters t (reconstruct s) u reopened)
+
+    back_in_body : RunStage choice letters t false false (back_to_body s)
+    back_in_body =
+        let x = late_step choice (with_mode_orders choice InBody refl) (with_mode_roots InBody refl) letters s e h in
+        run_again choice letters t false refl
+        (record { stage = staged_late choice letters (back_to_body s).state x; calm = λ z. e })
 
   late_runs : (mode : InsertionMode) (letters t : List ℕ) (s : StateValue) → IsUtf8 t → is_late mode ≡ true
-      → Late choice letters s → RunsStage mode letters t s
-  late_runs InBody letters t s u l h = record {
-    white = λ z. late_run letters t false true _ refl (white_in_body letters t s u h);
-    nulls = λ z. late_run letters t false false s refl (late_grown choice letters (counted_of choice t) s h);
-    characters = late_run letters t false false _ refl (characters_in_body letters t s u h);
+      → is_text_mode s.content ≡ false → Late choice letters s → RunsStage mode letters t s
+  late_runs InBody letters t s u l e h = record {
+    white = λ z. late_run letters t false true _ refl (reopened_calm letters t s u e h)
+        (white_in_body letters t s u e h);
+    nulls = λ z. late_run letters t false false s refl e (late_grown choice letters (counted_of choice t) s h);
+    characters = late_run letters t false false _ refl (reopened_calm letters t s u e h)
+        (characters_in_body letters t s u e h);
   }
-  late_runs AfterBody letters t s u l h = record {
-    white = λ z. late_run letters t false true _ refl (white_in_body letters t s u h);
-    nulls = λ z. back_in_body letters t s h;
-    characters = back_in_body letters t s h;
+  late_runs InSelect letters t s u l e h = record {
+    white = λ z. late_run letters t false true _ refl e (late_writes letters t s u h);
+    nulls = λ z. late_run letters t false false s refl e (late_grown choice letters (counted_of choice t) s h);
+    characters = late_run letters t false false _ refl e (late_writes letters t s u h);
   }
-  late_runs AfterAfterBody letters t s u l h = record {
-    white = λ z. late_run letters t false true _ refl (white_in_body letters t s u h);
-    nulls = λ z. back_in_body letters t s h;
-    characters = back_in_body letters t s h;
+  late_runs AfterBody letters t s u l e h = record {
+    white = λ z. late_run letters t false true _ refl (reopened_calm letters t s u e h)
+        (white_in_body letters t s u e h);
+    nulls = λ z. back_in_body letters t s u e h;
+    characters = back_in_body letters t s u e h;
   }
-  late_runs _ letters t s u l h = absurd (true≢false (sym l))
+  late_runs AfterAfterBody letters t s u l e h = record {
+    white = λ z. late_run letters t false true _ refl (reopened_calm letters t s u e h)
+        (white_in_body letters t s u e h);
+    nulls = λ z. back_in_body letters t s u e h;
+    characters = back_in_body letters t s u e h;
+  }
+  late_runs _ letters t s u l e h = absurd (true≢false (sym l))
 
   -- ---- in foreign content or by the mode
 
@@ -434,32 +460,32 @@ module _ (choice : Choice) where
         → RunStage choice letters t (is_before_head s.mode) white (by_rules (run (kind_of_byte b) t) s)
 
     -- in the body
-    module _ (h : Late choice letters s) where
+    module _ (e : is_text_mode s.content ≡ false) (h : Late choice letters s) where
       late_white : Outcome 32 true
       late_white all =
           chosen letters t (is_before_head s.mode) true (is_foreign (run (kind_of_byte 32) t) s)
-          (late_run letters t (is_before_head s.mode) true (insert_text t s) (late_is_after s.mode h.late)
+          (late_run letters t (is_before_head s.mode) true (insert_text t s) (late_is_after s.mode h.rooted.late) e
           (late_writes letters t s u h))
-          ((late_runs s.mode letters t s u h.late h).white (λ r. white_letters choice t r all))
+          ((late_runs s.mode letters t s u h.rooted.late e h).white (λ r. white_letters choice t r all))
 
       late_nulls : choice.nulls ≡ true → Outcome 0 false
       late_nulls n all =
           let x = late_writes letters (replacements t) s (replaced_utf8 0 t) h in
           chosen letters t (is_before_head s.mode) false (is_foreign (run (kind_of_byte 0) t) s)
           (late_run letters t (is_before_head s.mode) false (insert_text (replacements t) s)
-          (late_is_after s.mode h.late)
+          (late_is_after s.mode h.rooted.late) e
           (subst (λ (more : List ℕ). Late choice (letters ++ more) (insert_text (replacements t) s))
           (replaced_letters choice n t ∙ sym (null_letters choice t n all)) x))
-          ((late_runs s.mode letters t s u h.late h).nulls (null_letters choice t n all))
+          ((late_runs s.mode letters t s u h.rooted.late e h).nulls (null_letters choice t n all))
 
       late_characters : Outcome 97 false
       late_characters all =
           chosen letters t (is_before_head s.mode) false (is_foreign (run (kind_of_byte 97) t) s)
           (late_run letters t (is_before_head s.mode) false (no_frameset (insert_text t s))
-          (late_is_after s.mode h.late)
-          (late_step choice (no_frameset_orders choice) (letters ++ counted_of choice t) (insert_text t s)
-          (late_writes letters t s u h)))
-          ((late_runs s.mode letters t s u h.late h).characters)
+          (late_is_after s.mode h.rooted.late) e
+          (late_step choice (no_frameset_orders choice) no_frameset_roots (letters ++ counted_of choice t)
+          (insert_text t s) e (late_writes letters t s u h)))
+          ((late_runs s.mode letters t s u h.rooted.late e h).characters)
 
     -- before it
     module _ (l : is_late s.mode ≡ false) (e : is_text_mode s.content ≡ false)
@@ -490,21 +516,20 @@ module _ (choice : Choice) where
       by_stage : {P : Type 0} → (Late choice letters s → P)
           → (is_late s.mode ≡ false → is_text_mode s.content ≡ false → Stage choice false s.mode letters s
           → P) → P
-      by_stage {P} late early = either (is_late s.mode) refl calm
+      by_stage {P} late early = either (is_late s.mode) refl
         where
-          either : (b : Bool) → is_late s.mode ≡ b → Calm s → P
-          either true l c = late (stage_late choice (is_text_mode s.content) s.mode letters s l h)
-          either false l (inl c) = absurd (true≢false (sym c ∙ l))
-          either false l (inr c) = early l c (unstaged choice false s.mode letters s c refl h)
+          either : (b : Bool) → is_late s.mode ≡ b → P
+          either true l = late (stage_late choice (is_text_mode s.content) s.mode letters s l h)
+          either false l = early l calm (unstaged choice false s.mode letters s calm refl h)
 
       white_stage : Outcome 32 true
-      white_stage all = by_stage (λ x. late_white x all) (λ l c x. early_white l c x all)
+      white_stage all = by_stage (λ x. late_white calm x all) (λ l c x. early_white l c x all)
 
       nulls_stage : choice.nulls ≡ true → Outcome 0 false
-      nulls_stage n all = by_stage (λ x. late_nulls x n all) (λ l c x. early_nulls l c x n all)
+      nulls_stage n all = by_stage (λ x. late_nulls calm x n all) (λ l c x. early_nulls l c x n all)
 
       characters_stage : Outcome 97 false
-      characters_stage all = by_stage (λ x. late_characters x all) (λ l c x. early_characters l c x all)
+      characters_stage all = by_stage (λ x. late_characters calm x all) (λ l c x. early_characters l c x all)
 
   -- ---- the first run of a text
 

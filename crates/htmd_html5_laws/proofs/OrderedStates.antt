@@ -50,13 +50,6 @@ module _ (choice : Choice) where
   abbrev pub Ordered : List ℕ → StateValue → Type 0
   Ordered letters s = OrderedIn letters s.nodes s.stack s.foster_parenting
 
--- in the body or after it
-abbrev pub is_late : InsertionMode → Bool
-is_late InBody = true
-is_late AfterBody = true
-is_late AfterAfterBody = true
-is_late _ = false
-
 module _ (choice : Choice) where
   -- a step that leaves the letters in order
   pub record Orders (f : StateValue → StateValue) : Type 0 where
@@ -64,7 +57,6 @@ module _ (choice : Choice) where
     pub orders : (letters : List ℕ) (s : StateValue) → Plain s → Hung s → Ordered choice letters s
         → Ordered choice
         letters (f s)
-    pub late : (s : StateValue) → Plain s → is_late s.mode ≡ true → is_late (f s).mode ≡ true
 
   -- ---- steps put together
 
@@ -73,18 +65,16 @@ module _ (choice : Choice) where
     stays = then_stays first.stays second.stays;
     orders = λ letters s h x o. first.orders letters (g s) (second.stays.stays s h) (second.stays.hangs s h x)
         (second.orders letters s h x o);
-    late = λ s h e. first.late (g s) (second.stays.stays s h) (second.late s h e);
   }
 
   pub unmoved : Orders (λ s. s)
-  unmoved = record { stays = still; orders = λ letters s h x o. o; late = λ s h e. e }
+  unmoved = record { stays = still; orders = λ letters s h x o. o }
 
   pub orders_by_test : {f g : StateValue → StateValue} (b : StateValue → Bool) → Orders f → Orders g
       → Orders (λ s. if b s then f s else g s)
   orders_by_test {f} {g} b first second = record {
     stays = stays_by_test b first.stays second.stays;
     orders = λ letters s h x o. either (b s) letters s h x o;
-    late = λ s h e. each (b s) s h e;
   }
     where
       either : (t : Bool) (letters : List ℕ) (s : StateValue) → Plain s → Hung s → Ordered choice letters s
@@ -92,18 +82,12 @@ module _ (choice : Choice) where
       either true letters s h x o = first.orders letters s h x o
       either false letters s h x o = second.orders letters s h x o
 
-      each : (t : Bool) (s : StateValue) → Plain s → is_late s.mode ≡ true → is_late
-          (if t then f s else g s).mode ≡ true
-      each true s h e = first.late s h e
-      each false s h e = second.late s h e
-
   pub orders_by_state : {A : Type 0} {f : A → StateValue → StateValue} (a : StateValue → A)
       → ((x : A) → Orders (f x))
       → Orders (λ s. f (a s) s)
   orders_by_state a h = record {
     stays = stays_by_state a (λ x. (h x).stays);
     orders = λ letters s plain x o. (h (a s)).orders letters s plain x o;
-    late = λ s plain e. (h (a s)).late s plain e;
   }
 
   -- ---- parts of a state changed
@@ -124,7 +108,6 @@ module _ (choice : Choice) where
   on_stack_orders f fewer = record {
     stays = on_stack_stays f fewer;
     orders = λ letters s h x o. ordered_fewer (f s.stack) (fewer s.stack) o;
-    late = λ s h e. e;
   }
 
 pub ranked_of : {nodes : List NodeValue} {stack : List OpenValue} {head : Option ℕ} (h : HungIn nodes stack head)
@@ -215,7 +198,6 @@ module _ (choice : Choice) where
   insert_named_orders name attributes p = record {
     stays = insert_named_stays name attributes p;
     orders = λ letters s h x o. named_ordered letters name attributes s x o;
-    late = λ s h e. e;
   }
 
   pub insert_element_orders : (name : NameValue) (attributes : List AttributePair) → is_plain_name name ≡ true
@@ -232,7 +214,6 @@ module _ (choice : Choice) where
   insert_raw_orders name raw attributes p = record {
     stays = insert_raw_stays name raw attributes p;
     orders = λ letters s h x o. (insert_element_orders name attributes p).orders letters s h x o;
-    late = λ s h e. e;
   }
 
   pub insert_foreign_orders : (space : Namespace) (name : List ℕ) (attributes : List AttributePair) (closes : Bool)
@@ -267,7 +248,6 @@ module _ (choice : Choice) where
     stays = stays_by_state (λ s. (current s.stack).node) (λ n. insert_comment_in_stays n c);
     orders = λ letters s h x o. loose_in choice letters (comment c) (current s.stack).node s.nodes s.stack s.head
         s.foster_parenting x o (current_within s.stack x) refl (no_text c);
-    late = λ s h e. e;
   }
 
   pub insert_comment_root_orders : (c : List ℕ) → Orders choice (insert_comment_in 0 c)
@@ -275,7 +255,6 @@ module _ (choice : Choice) where
     stays = insert_comment_in_stays 0 c;
     orders = λ letters s h x o. loose_in choice letters (comment c) 0 s.nodes s.stack s.head
         s.foster_parenting x o x.filled refl (no_text c);
-    late = λ s h e. e;
   }
 
   -- ---- attributes that an element lacks
@@ -314,27 +293,25 @@ module _ (choice : Choice) where
   add_missing_orders n more = record {
     stays = add_missing_stays n more;
     orders = λ letters s h x o. missing_ordered letters n more s.nodes s.stack s.foster_parenting o;
-    late = λ s h e. e;
   }
 
   -- ---- the list of active formatting elements
 
   pub without_entry_orders : (n : ℕ) → Orders choice (on_formatting (without_entry n))
   without_entry_orders n =
-      record { stays = without_entry_stays n; orders = λ letters s h x o. o; late = λ s h e. e }
+      record { stays = without_entry_stays n; orders = λ letters s h x o. o }
 
   pub push_marker_orders : Orders choice push_marker
-  push_marker_orders = record { stays = push_marker_stays; orders = λ letters s h x o. o; late = λ s h e. e }
+  push_marker_orders = record { stays = push_marker_stays; orders = λ letters s h x o. o }
 
   pub clear_to_marker_orders : Orders choice clear_to_marker
-  clear_to_marker_orders = record { stays = clear_to_marker_stays; orders = λ letters s h x o. o; late = λ s h e. e }
+  clear_to_marker_orders = record { stays = clear_to_marker_stays; orders = λ letters s h x o. o }
 
   pub insert_formatting_orders : (name : NameValue) (attributes : List AttributePair) → is_plain_name name ≡ true
       → Orders choice (insert_formatting name attributes)
   insert_formatting_orders name attributes p = record {
     stays = insert_formatting_stays name attributes p;
     orders = λ letters s h x o. (insert_element_orders choice name attributes p).orders letters s h x o;
-    late = λ s h e. e;
   }
 
   -- ---- elements are reconstructed
@@ -363,7 +340,6 @@ module _ (choice : Choice) where
         reopen_all_ordered letters (closed_elements s.stack s.formatting) (on_formatting (after_closed s.stack) s)
         (closed_plain (kinds s.nodes) s.stack s.formatting h.entries_at)
         (plain_entries (λ n l. h.entries_at n (listed_closed n s.stack s.formatting l)) h) x o;
-    late = λ s h e. ap is_late (reconstruct_mode s) ∙ e;
   }
 
   -- ---- text

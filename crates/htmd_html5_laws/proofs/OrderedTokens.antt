@@ -19,7 +19,7 @@ use Rattle.htmd_html5_state.specs.declared.names.TagName.{TagName}
 use Rattle.htmd_html5_state.specs.declared.modes.InsertionMode.{InsertionMode}
 use Rattle.htmd_html5_state.specs.declared.modes.InsertionMode.TheVariants.{Initial, BeforeHtml, BeforeHead, InHead}
 use Rattle.htmd_html5_state.specs.declared.modes.InsertionMode.TheVariants.{InHeadNoscript, AfterHead, InBody, AfterBody}
-use Rattle.htmd_html5_state.specs.declared.modes.InsertionMode.TheVariants.{AfterAfterBody}
+use Rattle.htmd_html5_state.specs.declared.modes.InsertionMode.TheVariants.{AfterAfterBody, InSelect}
 use Rattle.htmd_html5_state.specs.declared.sets.NameSet.TheVariants.{Fostering}
 use Rattle.htmd_html5.specs.Tokens.{TokenValue, start_tag, end_tag, comment, doctype, end_of_file}
 use Rattle.htmd_html5.specs.Runs.{is_of_kind, first_kind, first_run, after_first_run}
@@ -42,8 +42,9 @@ use Rattle.htmd_html5_laws.proofs.Rows.{Row}
 use Rattle.htmd_html5_laws.proofs.OrderedNodes.{FitsBy, Labels, none_out, marks}
 use Rattle.htmd_html5_laws.proofs.OrderedTexts.{letters_append}
 use Rattle.htmd_html5_laws.proofs.OrderedStates.{OrderedIn, Ordered, place_last, on_stack_orders}
-use Rattle.htmd_html5_laws.proofs.OrderedBody.{is_orderly_name}
-use Rattle.htmd_html5_laws.proofs.OrderedLate.{IsOrderly, Late, late_step}
+use Rattle.htmd_html5_laws.proofs.OrderedBody.{is_orderly_name, IsOrderly}
+use Rattle.htmd_html5_laws.proofs.RootedStates.{rooted_stack}
+use Rattle.htmd_html5_laws.proofs.OrderedLate.{Late}
 use Rattle.htmd_html5_laws.proofs.OrderedEarly.{EarlyIn, head_open, AfterHeadAt, Stage, Staged, Calm}
 use Rattle.htmd_html5_laws.proofs.OrderedEarly.{StageAnswer, early_fewer}
 use Rattle.htmd_html5_laws.proofs.OrderedHead.{by_rules_stage, unstaged, MayCome, opens_head, never_after_head}
@@ -93,6 +94,7 @@ module _ (choice : Choice) where
   no_tables raw InHeadNoscript letters s h = refl
   no_tables raw AfterHead letters s h = refl
   no_tables raw InBody letters s h = refl
+  no_tables raw InSelect letters s h = refl
   no_tables raw AfterBody letters s h = refl
   no_tables raw AfterAfterBody letters s h = refl
   no_tables raw _ letters s h = absurd h
@@ -252,10 +254,10 @@ module _ (choice : Choice) where
   after_head_text true letters t s (Some n) [] u e h = absurd h
   after_head_text true letters t s (Some n) (d ∷ ds) u e h =
       let y = early_text choice letters t v u
-      (record { plain = h.plain; hung = h.hung; ordered = h.ordered; names = h.names }) in
+      (record { plain = h.plain; hung = h.hung; ordered = h.ordered; names = h.names; unused = h.unused }) in
       subst (λ (at : _). EarlyIn choice (letters ++ counted_of choice t) (record s { nodes = add_text t at s.nodes })
       (d ∷ head_open n ∷ ds)) same
-      (record { plain = y.plain; hung = y.hung; ordered = y.ordered; names = y.names })
+      (record { plain = y.plain; hung = y.hung; ordered = y.ordered; names = y.names; unused = y.unused })
     where
       v : StateValue
       v = record s { stack = d ∷ head_open n ∷ ds }
@@ -277,6 +279,7 @@ module _ (choice : Choice) where
   raw_text_stage InHeadNoscript letters t s u h = (early_text choice letters t s u h.0, h.1)
   raw_text_stage AfterHead letters t s u h = after_head_text choice.reopens letters t s s.head s.stack u refl h
   raw_text_stage InBody letters t s u h = late_writes choice letters t s u h
+  raw_text_stage InSelect letters t s u h = late_writes choice letters t s u h
   raw_text_stage AfterBody letters t s u h = late_writes choice letters t s u h
   raw_text_stage AfterAfterBody letters t s u h = late_writes choice letters t s u h
   raw_text_stage _ letters t s u h = absurd h
@@ -302,7 +305,7 @@ module _ (choice : Choice) where
           → Staged choice (letters ++ counted_of choice (without_white (not b && is_before_head s.mode) t))
           (if b then put_raw_text t s else put_text t s)
       either true e = put_raw_stage letters t s u e h
-      either false e = put_stage (length t) t letters s u clean (inr e) h
+      either false e = put_stage (length t) t letters s u clean e h
 
 -- ---- an element of only text is closed
 
@@ -319,7 +322,7 @@ module _ (choice : Choice) where
       → EarlyIn choice letters (close_raw s) es
   early_closed letters s stack es f h =
       let y = early_fewer choice letters s stack es f h in
-      record { plain = y.plain; hung = y.hung; ordered = y.ordered; names = y.names }
+      record { plain = y.plain; hung = y.hung; ordered = y.ordered; names = y.names; unused = y.unused }
 
   after_head_closed : (reopens : Bool) (letters : List ℕ) (s : StateValue) (head : Option ℕ)
       (stack : List OpenValue)
@@ -331,32 +334,45 @@ module _ (choice : Choice) where
   after_head_closed true letters s (Some n) (d ∷ ds) h =
       early_closed letters s (d ∷ head_open n ∷ ds) (head_open n ∷ ds) (skip d (all_of (head_open n ∷ ds))) h
 
-  late_closed : (letters : List ℕ) (s : StateValue) → Late choice letters s → Late choice letters (close_raw s)
-  late_closed letters s h =
-      let y = late_step choice (on_stack_orders choice pop pop_fewer) letters s h in
-      record { plain = y.plain; hung = y.hung; ordered = y.ordered; late = y.late }
+  late_closed : (letters : List ℕ) (s : StateValue) → is_text_mode s.content ≡ true → Late choice letters s
+      → Late choice letters (close_raw s)
+  late_closed letters s e h =
+      let f = on_stack_orders choice pop pop_fewer in
+      let plain = f.stays.stays s h.plain in
+      let hung = f.stays.hangs s h.plain h.hung in
+      let ordered = f.orders letters s h.plain h.hung h.ordered in
+      record {
+        plain = plain;
+        hung = hung;
+        ordered = ordered;
+        body = h.body;
+        rooted = rooted_stack (pop s.stack) (h.raw e) h.rooted;
+        raw = λ r. absurd (true≢false (sym r));
+      }
 
-  raw_closed : (mode : InsertionMode) (letters : List ℕ) (s : StateValue) → Stage choice true mode letters s
+  raw_closed : (mode : InsertionMode) (letters : List ℕ) (s : StateValue) → is_text_mode s.content ≡ true
+      → Stage choice true mode letters s
       → Stage choice false mode letters (close_raw s)
-  raw_closed Initial letters s h =
+  raw_closed Initial letters s e h =
       (early_closed letters s s.stack (pop s.stack) (pop_fewer s.stack) h.0, no_more_open s.stack h.1)
-  raw_closed BeforeHtml letters s h =
+  raw_closed BeforeHtml letters s e h =
       (early_closed letters s s.stack (pop s.stack) (pop_fewer s.stack) h.0, no_more_open s.stack h.1)
-  raw_closed BeforeHead letters s h = early_closed letters s s.stack (pop s.stack) (pop_fewer s.stack) h
-  raw_closed InHead letters s h =
+  raw_closed BeforeHead letters s e h = early_closed letters s s.stack (pop s.stack) (pop_fewer s.stack) h
+  raw_closed InHead letters s e h =
       (early_closed letters s s.stack (pop s.stack) (pop_fewer s.stack) h.0, h.1)
-  raw_closed InHeadNoscript letters s h =
+  raw_closed InHeadNoscript letters s e h =
       (early_closed letters s s.stack (pop s.stack) (pop_fewer s.stack) h.0, h.1)
-  raw_closed AfterHead letters s h = after_head_closed choice.reopens letters s s.head s.stack h
-  raw_closed InBody letters s h = late_closed letters s h
-  raw_closed AfterBody letters s h = late_closed letters s h
-  raw_closed AfterAfterBody letters s h = late_closed letters s h
-  raw_closed _ letters s h = absurd h
+  raw_closed AfterHead letters s e h = after_head_closed choice.reopens letters s s.head s.stack h
+  raw_closed InBody letters s e h = late_closed letters s e h
+  raw_closed InSelect letters s e h = late_closed letters s e h
+  raw_closed AfterBody letters s e h = late_closed letters s e h
+  raw_closed AfterAfterBody letters s e h = late_closed letters s e h
+  raw_closed _ letters s e h = absurd h
 
   raw_closed_staged : (letters : List ℕ) (s : StateValue) → is_text_mode s.content ≡ true
       → Staged choice letters s
       → Staged choice letters (close_raw s)
-  raw_closed_staged letters s e h = raw_closed s.mode letters s (unstaged choice true s.mode letters s e refl h)
+  raw_closed_staged letters s e h = raw_closed s.mode letters s e (unstaged choice true s.mode letters s e refl h)
 
   -- a state that isn't in the mode "text"
   record Ready (letters : List ℕ) (s : StateValue) : Type 0 where
@@ -404,7 +420,7 @@ module _ (choice : Choice) where
   processed : (t : TokenValue) → IsOrderly t → (letters : List ℕ) (s : StateValue) → Ready letters s
       → MayCome choice t s
       → Staged choice letters (process t s)
-  processed t p letters s h may = process_stage (turns s) t p letters s (inr h.no_raw) h.stage may
+  processed t p letters s h may = process_stage (turns s) t p letters s h.no_raw h.stage may
 
   end_tag_stage : (name : NameValue) (letters : List ℕ) (s : StateValue) → Staged choice letters s
       → Staged choice letters (feed_end_tag name s)
@@ -417,22 +433,15 @@ module _ (choice : Choice) where
 
 -- ---- names of start tags
 
-pub apart : (a b c : Bool) → (a || b || c) ≡ false → (a ≡ false) × ((b ≡ false) × (c ≡ false))
-apart true b c f = absurd (true≢false f)
-apart false true c f = absurd (true≢false f)
-apart false false true f = absurd (true≢false f)
-apart false false false f = (refl, (refl, refl))
-
-both_false : (a b : Bool) → (a || b) ≡ false → (a ≡ false) × (b ≡ false)
+pub both_false : (a b : Bool) → (a || b) ≡ false → (a ≡ false) × (b ≡ false)
 both_false true b f = absurd (true≢false f)
 both_false false b f = (refl, f)
 
 orderly_name : (s : List ℕ) → moves_text_in s ≡ false → is_orderly_name (name_of_text s) ≡ true
 orderly_name s d = by_found (known_name s) refl
   where
-    parts : (drops_text_in s ≡ false)
-        × ((bytes_eq s (codes "table") ≡ false) × (bytes_eq s (codes "select") ≡ false))
-    parts = apart (drops_text_in s) (bytes_eq s (codes "table")) (bytes_eq s (codes "select")) d
+    parts : (drops_text_in s ≡ false) × (bytes_eq s (codes "table") ≡ false)
+    parts = both_false (drops_text_in s) (bytes_eq s (codes "table")) d
 
     by_tag : (tag : TagName) → bytes_eq s (spelling tag) ≡ true → is_orderly_name (known tag) ≡ true
     by_tag tags.FrameSet e =
@@ -441,8 +450,7 @@ orderly_name s d = by_found (known_name s) refl
     by_tag tags.Template e =
         absurd (true≢false (sym e ∙ (both_false (bytes_eq s (codes "frameset")) (bytes_eq s (codes "template"))
         parts.0).1))
-    by_tag tags.Table e = absurd (true≢false (sym e ∙ parts.1.0))
-    by_tag tags.Select e = absurd (true≢false (sym e ∙ parts.1.1))
+    by_tag tags.Table e = absurd (true≢false (sym e ∙ parts.1))
     by_tag _ e = refl
 
     by_found : (tag : Option TagName) → known_name s ≡ tag → is_orderly_name (known_or s tag) ≡ true
@@ -491,11 +499,18 @@ module _ (choice : Choice) where
   early_skipped : (letters : List ℕ) (s : StateValue) (stack : List OpenValue) → EarlyIn choice letters s stack
       → EarlyIn choice letters (with_nothing_skipped s) stack
   early_skipped letters s stack h =
-      record { plain = h.plain; hung = h.hung; ordered = h.ordered; names = h.names }
+      record { plain = h.plain; hung = h.hung; ordered = h.ordered; names = h.names; unused = h.unused }
 
   late_skipped : (letters : List ℕ) (s : StateValue) → Late choice letters s → Late choice letters
       (with_nothing_skipped s)
-  late_skipped letters s h = record { plain = h.plain; hung = h.hung; ordered = h.ordered; late = h.late }
+  late_skipped letters s h = record {
+    plain = h.plain;
+    hung = h.hung;
+    ordered = h.ordered;
+    body = h.body;
+    rooted = h.rooted;
+    raw = h.raw;
+  }
 
   after_head_skipped : (reopens raw : Bool) (letters : List ℕ) (s : StateValue) (head : Option ℕ)
       (stack : List OpenValue) → AfterHeadAt choice reopens raw head stack letters s
@@ -517,6 +532,7 @@ module _ (choice : Choice) where
   stage_skipped raw InHeadNoscript letters s h = (early_skipped letters s s.stack h.0, h.1)
   stage_skipped raw AfterHead letters s h = after_head_skipped choice.reopens raw letters s s.head s.stack h
   stage_skipped raw InBody letters s h = late_skipped letters s h
+  stage_skipped raw InSelect letters s h = late_skipped letters s h
   stage_skipped raw AfterBody letters s h = late_skipped letters s h
   stage_skipped raw AfterAfterBody letters s h = late_skipped letters s h
   stage_skipped raw _ letters s h = absurd h
@@ -675,6 +691,7 @@ module _ (choice : Choice) where
       hung = begins_hung scripting;
       ordered = begins_ordered scripting;
       names = tt;
+      unused = (refl, refl);
     },
     refl,
   )
@@ -715,6 +732,7 @@ module _ (choice : Choice) where
       by_stage raw InHeadNoscript x = fits_of x.0.ordered
       by_stage raw AfterHead x = after choice.reopens raw s.head s.stack x
       by_stage raw InBody x = fits_of x.ordered
+      by_stage raw InSelect x = fits_of x.ordered
       by_stage raw AfterBody x = fits_of x.ordered
       by_stage raw AfterAfterBody x = fits_of x.ordered
       by_stage raw _ x = absurd x

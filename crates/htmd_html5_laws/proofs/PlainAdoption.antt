@@ -39,7 +39,7 @@ pub record Chained (s : StateValue) (c : Chain) : Type 0 where
   pub grown : Grown s c.state
   pub copies : PlainStack c.copies
 
-copy_kinds : (n last : ℕ) (s : StateValue)
+pub copy_kinds : (n last : ℕ) (s : StateValue)
     → kinds (copy_into n last s).nodes ≡ kinds s.nodes ++ kind_at s.nodes n ∷ []
 copy_kinds n last s =
     kinds_attach last (last_in (length s.nodes)) (s.nodes ++ new_node (kind_at s.nodes n) ∷ [])

@@ -201,7 +201,7 @@ module _ (tag : StartTagValue) (p : is_plain_name tag.name ≡ true) where
   start_input_stays =
       stays_by_test (λ s. is_hidden tag) (then_stays insert_void_tag_stays reconstruct_stays) (void_tag_stays tag p)
 
-  start_select_stays : Stays (start_select tag)
+  pub start_select_stays : Stays (start_select tag)
   start_select_stays = record {
     stays = λ s h. in_plain_mode (mode_of_select s.mode) (select_mode_is_plain s.mode)
         ((then_stays no_frameset_stays start_ordinary_stays).stays s h);

@@ -309,12 +309,12 @@ end_in_cell_stays name = end_in_body_stays name
 
 -- ---- select
 
-close_select_stays : Stays close_select
+pub close_select_stays : Stays close_select
 close_select_stays =
     then_stays reset_insertion_mode_stays (on_stack_stays (pop_until (Only tags.Select))
     (pop_until_fewer (Only tags.Select)))
 
-end_select_stays : Stays end_select
+pub end_select_stays : Stays end_select
 end_select_stays = stays_by_test (λ s. has_select s) close_select_stays still
 
 leave_select_stays : StaysAnswer leave_select

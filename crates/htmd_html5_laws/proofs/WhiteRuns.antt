@@ -13,7 +13,7 @@ use Rattle.htmd_html5_state.specs.declared.modes.InsertionMode.TheVariants.{Init
 use Rattle.htmd_html5.specs.Runs.{kind_of_byte, is_of_kind, first_kind, after_first_run, is_null}
 use Rattle.htmd_html5_laws.specs.TextKept.{is_before_head, without_white, is_no_null}
 use Rattle.htmd_html5_laws.proofs.TakingRuns.{by_first_kind}
-use Rattle.htmd_html5_laws.proofs.OrderedStates.{is_late}
+use Rattle.htmd_html5_laws.proofs.RootedStacks.{is_late}
 
 pub behind_twice : (p : ℕ → Bool) (s : List ℕ) → behind_run p (behind_run p s) ≡ behind_run p s
 behind_twice p [] = refl

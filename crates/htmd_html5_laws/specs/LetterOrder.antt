@@ -20,10 +20,9 @@ letters_in (s ∷ texts) = letters_of s ++ letters_in texts
 
 -- ---- start tags that move text
 
--- text in a table, but in none of its cells, is put before the table; the end of a `select` resets the mode by what is
--- open
+-- text in a table, but in none of its cells, is put before the table
 abbrev pub moves_text_in : List ℕ → Bool
-moves_text_in name = drops_text_in name || bytes_eq name (codes "table") || bytes_eq name (codes "select")
+moves_text_in name = drops_text_in name || bytes_eq name (codes "table")
 
 abbrev pub is_orderly : TokenValue → Bool
 is_orderly (start_tag tag) = not (moves_text_in tag.name)

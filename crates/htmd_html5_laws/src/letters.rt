@@ -46,8 +46,8 @@ pub fn harmless_letters_are_kept()
     ensures { HarmlessLettersAreKept }
 {}
 
-/// Without a start tag of `frameset`, `template`, `table` or `select` letters stand in order: those of the tree's
-/// texts, in document order, are those of the texts of the page's tokens, in the same order.
+/// Without a start tag of `frameset`, `template` or `table` letters stand in order: those of the tree's texts, in
+/// document order, are those of the texts of the page's tokens, in the same order.
 pub fn letters_stand_in_order()
     ensures { LettersStandInOrder }
 {}

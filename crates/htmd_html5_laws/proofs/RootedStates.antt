@@ -1,0 +1,416 @@
+-- States in which the body is open in one of its modes, and steps that leave them so.
+use Rattle.std.proofs.Common.{◌≡◌, ◌∙◌, ℕ, zero, suc, ◌<◌, ◌≤◌, Bool, true, false, List, [], ◌∷◌, ◌++◌, length, get_or, set}
+use Rattle.std.proofs.Common.{Option, Some, None, refl, sym, ap, subst, arith, inl, inr, ◌⊎◌}
+use Rattle.std.specs.Prelude.{if◌then◌else◌}
+use Rattle.std.proofs.lemmas.Bool.{true≢false, eq-eqb}
+use Rattle.std.proofs.lemmas.List.{length-map, length-set, length-append}
+use Rattle.htmd_text.proofs.Cases.{test}
+use Rattle.htmd_grammar.specs.ValueTrees.{AttributePair}
+use Rattle.htmd_html5_tokens.specs.declared.tokens.Content.{Content}
+use Rattle.htmd_html5_tokens.specs.declared.tokens.RawElement.{RawElement}
+use Rattle.htmd_html5_state.specs.Names.{NameValue, ElementNameValue, html}
+use Rattle.htmd_html5_state.specs.Documents.{KindValue, NodeValue, document, doctype, text, comment, element, kind_at}
+use Rattle.htmd_html5_state.specs.Documents.{last_in, add, add_text, add_missing, kind_with_missing, text_of, joined_with}
+use Rattle.htmd_html5_state.specs.Documents.{joined_to, or_add, preceding}
+use Rattle.htmd_html5_state.specs.OpenElements.{OpenValue, is_open_node}
+use Rattle.htmd_html5_state.specs.State.{StateValue, on_nodes, on_stack, on_formatting}
+use Rattle.htmd_html5_state.specs.Foreign.{foreign_name, foreign_attributes, insert_foreign}
+use Rattle.htmd_html5_state.specs.Insertion.{opened, current, place, insert_named, insert_element, insert_void, insert_raw}
+use Rattle.htmd_html5_state.specs.Insertion.{insert_text, insert_comment_in, insert_comment}
+use Rattle.htmd_html5_state.specs.Formatting.{is_listed, push_marker, clear_to_marker, without_entry, insert_formatting}
+use Rattle.htmd_html5_state.specs.Formatting.{closed_elements, after_closed, insert_like, reopen_all, reconstruct}
+use Rattle.htmd_html5_state.specs.declared.modes.InsertionMode.{InsertionMode}
+use Rattle.htmd_html5_state.specs.declared.names.Namespace.{Namespace}
+use Rattle.htmd_html5_state.specs.declared.names.Namespace.TheVariants.{Svg, MathMl}
+use Rattle.htmd_html5_laws.proofs.NodeTexts.{kinds, kinds_add, kinds_with_kind, kind_read, kind_new}
+use Rattle.htmd_html5_laws.proofs.KeepingInsertion.{listed_more, listed_without, listed_after_marker, listed_closed, listed_first}
+use Rattle.htmd_html5_laws.proofs.KeepingInsertion.{listed_pushed}
+use Rattle.htmd_html5_laws.proofs.RootedStacks.{is_late, is_inner, is_inner_name, Rooted}
+
+-- ---- states
+
+abbrev pub is_inner_kind : KindValue → Bool
+is_inner_kind (element name attributes) = is_inner name
+is_inner_kind _ = false
+
+-- a node of these is an element with an inner name
+abbrev pub InnerAt : List KindValue → ℕ → Type 0
+InnerAt ks n = is_inner_kind (get_or ks n document) ≡ true
+
+-- the body is open, and what may be opened again, and the form, came after it
+pub record RootedIn (body : ℕ) (ks : List KindValue) (entries : List (Option ℕ)) (form : Option ℕ)
+    (stack : List OpenValue) (mode : InsertionMode)
+    : Type 0 where
+  pub within : body < length ks
+  pub rooted : Rooted body stack
+  pub entries_at : (n : ℕ) → is_listed n entries ≡ true → (body < n) × InnerAt ks n
+  pub form_at : (n : ℕ) → form ≡ Some n → body < n
+  pub late : is_late mode ≡ true
+
+abbrev pub RootedAt : ℕ → StateValue → Type 0
+RootedAt body s = RootedIn body (kinds s.nodes) s.formatting s.form s.stack s.mode
+
+-- a step that leaves the body open, and the tokenizer to read on as before
+pub record Roots (f : StateValue → StateValue) : Type 0 where
+  pub rooted : (body : ℕ) (s : StateValue) → RootedAt body s → RootedAt body (f s)
+  pub content : (body : ℕ) (s : StateValue) → RootedAt body s → (f s).content ≡ s.content
+
+-- ---- steps put together
+
+pub then_roots : {f g : StateValue → StateValue} → Roots f → Roots g → Roots (λ s. f (g s))
+then_roots {f} {g} first second = record {
+  rooted = λ body s h. first.rooted body (g s) (second.rooted body s h);
+  content = λ body s h. first.content body (g s) (second.rooted body s h) ∙ second.content body s h;
+}
+
+pub rooted_still : Roots (λ s. s)
+rooted_still = record { rooted = λ body s h. h; content = λ body s h. refl }
+
+pub roots_by_test : {f g : StateValue → StateValue} (b : StateValue → Bool) → Roots f → Roots g
+    → Roots (λ s. if b s then f s else g s)
+roots_by_test {f} {g} b first second =
+    record { rooted = λ body s h. either (b s) body s h; content = λ body s h. each (b s) body s h }
+  where
+    either : (t : Bool) (body : ℕ) (s : StateValue) → RootedAt body s → RootedAt body (if t then f s else g s)
+    either true body s h = first.rooted body s h
+    either false body s h = second.rooted body s h
+
+    each : (t : Bool) (body : ℕ) (s : StateValue) → RootedAt body s
+        → (if t then f s else g s).content ≡ s.content
+    each true body s h = first.content body s h
+    each false body s h = second.content body s h
+
+pub roots_by_state : {A : Type 0} {f : A → StateValue → StateValue} (a : StateValue → A)
+    → ((x : A) → Roots (f x))
+    → Roots (λ s. f (a s) s)
+roots_by_state a h = record {
+  rooted = λ body s r. (h (a s)).rooted body s r;
+  content = λ body s r. (h (a s)).content body s r;
+}
+
+-- ---- parts of a state changed
+
+-- there are no fewer nodes, and elements have the same names
+pub record Grows (ks new : List KindValue) : Type 0 where
+  pub size : length ks ≤ length new
+  pub names : (n : ℕ) → InnerAt ks n → InnerAt new n
+
+pub grows_same : {ks new : List KindValue} → new ≡ ks → Grows ks new
+grows_same {ks} {new} e =
+    subst (λ (x : List KindValue). Grows ks x) (sym e) (record { size = omega arith; names = λ n p. p })
+
+pub grows_then : {ks some new : List KindValue} → Grows ks some → Grows some new → Grows ks new
+grows_then a b = record {
+  size = let x = a.size in let y = b.size in omega arith;
+  names = λ n p. b.names n (a.names n p);
+}
+
+module _ {body : ℕ} {ks : List KindValue} {entries : List (Option ℕ)} {form : Option ℕ} {stack : List OpenValue}
+    {mode : InsertionMode} where
+  pub rooted_grown : {new : List KindValue} → Grows ks new → RootedIn body ks entries form stack mode
+      → RootedIn body new entries form stack mode
+  rooted_grown g h = record {
+    within = let a = g.size in let b = h.within in omega arith;
+    rooted = h.rooted;
+    entries_at = λ n l. let x = h.entries_at n l in (x.0, g.names n x.1);
+    form_at = h.form_at;
+    late = h.late;
+  }
+
+  pub rooted_stack : (es : List OpenValue) → Rooted body es → RootedIn body ks entries form stack mode
+      → RootedIn body ks entries form es mode
+  rooted_stack es r h = record {
+    within = h.within;
+    rooted = r;
+    entries_at = h.entries_at;
+    form_at = h.form_at;
+    late = h.late;
+  }
+
+  pub rooted_entries : {later : List (Option ℕ)}
+      → ((n : ℕ) → is_listed n later ≡ true → (body < n) × InnerAt ks n)
+      → RootedIn body ks entries form stack mode → RootedIn body ks later form stack mode
+  rooted_entries f h = record {
+    within = h.within;
+    rooted = h.rooted;
+    entries_at = f;
+    form_at = h.form_at;
+    late = h.late;
+  }
+
+  pub rooted_form : {new : Option ℕ} → ((n : ℕ) → new ≡ Some n → body < n)
+      → RootedIn body ks entries form stack mode → RootedIn body ks entries new stack mode
+  rooted_form f h = record {
+    within = h.within;
+    rooted = h.rooted;
+    entries_at = h.entries_at;
+    form_at = f;
+    late = h.late;
+  }
+
+  pub rooted_mode : (new : InsertionMode) → is_late new ≡ true → RootedIn body ks entries form stack mode
+      → RootedIn body ks entries form stack new
+  rooted_mode new l h = record {
+    within = h.within;
+    rooted = h.rooted;
+    entries_at = h.entries_at;
+    form_at = h.form_at;
+    late = l;
+  }
+
+pub on_stack_roots : (f : List OpenValue → List OpenValue)
+    → ((body : ℕ) (stack : List OpenValue) → Rooted body stack → Rooted body (f stack)) → Roots (on_stack f)
+on_stack_roots f g = record {
+  rooted = λ body s h. rooted_stack (f s.stack) (g body s.stack h.rooted) h;
+  content = λ body s h. refl;
+}
+
+-- ---- one more node
+
+inner_before : (ks : List KindValue) (k : KindValue) (n : ℕ) → InnerAt ks n → InnerAt (ks ++ k ∷ []) n
+inner_before [] k n e = absurd (true≢false (sym e))
+inner_before (x ∷ ks) k zero e = e
+inner_before (x ∷ ks) k (suc n) e = inner_before ks k n e
+
+pub grows_new : {ks new : List KindValue} (k : KindValue) → new ≡ ks ++ k ∷ [] → Grows ks new
+grows_new {ks} k e =
+    subst (λ (x : List KindValue). Grows ks x) (sym e)
+    (record { size = let a = length-append ks (k ∷ []) in omega arith; names = inner_before ks k })
+
+pub inner_added : (nodes : List NodeValue) (k : KindValue) {new : List KindValue} → new ≡ kinds nodes ++ k ∷ []
+    → is_inner_kind k ≡ true → InnerAt new (length nodes)
+inner_added nodes k e p =
+    subst (λ (ks : List KindValue). InnerAt ks (length nodes)) (sym e)
+    (subst (λ (m : ℕ). InnerAt (kinds nodes ++ k ∷ []) m) (length-map nodes _)
+    (ap is_inner_kind (kind_new (kinds nodes) k) ∙ p))
+
+-- it comes after the body
+pub number_after : (body : ℕ) (s : StateValue) → RootedAt body s → body < length s.nodes
+number_after body s h = subst (λ (m : ℕ). body < m) (length-map s.nodes _) h.within
+
+-- ---- what is inserted
+
+pub insert_named_roots : (name : ElementNameValue) (attributes : List AttributePair) → is_inner name ≡ true
+    → Roots (insert_named name attributes)
+insert_named_roots name attributes p = record {
+  rooted = λ body s h. rooted_stack (opened (length s.nodes) name ∷ s.stack) (inr (p, h.rooted))
+      (rooted_grown (grows_new (element name attributes) (kinds_add (element name attributes) (place s) s.nodes)) h);
+  content = λ body s h. refl;
+}
+
+pub insert_element_roots : (name : NameValue) (attributes : List AttributePair) → is_inner_name name ≡ true
+    → Roots (insert_element name attributes)
+insert_element_roots name attributes p = insert_named_roots (html name) attributes p
+
+-- it is closed at once, whatever its name
+pub insert_void_roots : (name : NameValue) (attributes : List AttributePair) → Roots (insert_void name attributes)
+insert_void_roots name attributes = record {
+  rooted = λ body s h. rooted_grown (grows_new (element (html name) attributes)
+      (kinds_add (element (html name) attributes) (place s) s.nodes)) h;
+  content = λ body s h. refl;
+}
+
+pub insert_raw_rooted : (name : NameValue) (raw : RawElement) (attributes : List AttributePair)
+    → is_inner_name name ≡ true → (body : ℕ) (s : StateValue) → RootedAt body s
+    → RootedAt body (insert_raw name raw attributes s)
+insert_raw_rooted name raw attributes p body s h = (insert_element_roots name attributes p).rooted body s h
+
+foreign_is_inner : (space : Namespace) (name : List ℕ) → is_inner (foreign_name space name) ≡ true
+foreign_is_inner Svg name = refl
+foreign_is_inner MathMl name = refl
+
+pub insert_foreign_roots : (space : Namespace) (name : List ℕ) (attributes : List AttributePair) (closes : Bool)
+    → Roots (insert_foreign space name attributes closes)
+insert_foreign_roots space name attributes true = record {
+  rooted = λ body s h. rooted_grown
+      (grows_new (element (foreign_name space name) (foreign_attributes space attributes))
+      (kinds_add (element (foreign_name space name) (foreign_attributes space attributes)) (place s) s.nodes)) h;
+  content = λ body s h. refl;
+}
+insert_foreign_roots space name attributes false = record {
+  rooted = λ body s h. (insert_named_roots (foreign_name space name) (foreign_attributes space attributes)
+      (foreign_is_inner space name)).rooted body s h;
+  content = λ body s h. refl;
+}
+
+pub insert_comment_in_roots : (parent : ℕ) (c : List ℕ) → Roots (insert_comment_in parent c)
+insert_comment_in_roots parent c = record {
+  rooted = λ body s h. rooted_grown (grows_new (comment c) (kinds_add (comment c) (last_in parent) s.nodes)) h;
+  content = λ body s h. refl;
+}
+
+pub insert_comment_roots : (c : List ℕ) → Roots (insert_comment c)
+insert_comment_roots c = roots_by_state (λ s. (current s.stack).node) (λ n. insert_comment_in_roots n c)
+
+-- ---- a node of another kind, with the same name
+
+inner_set : (ks : List KindValue) (n m : ℕ) (k : KindValue)
+    → is_inner_kind k ≡ is_inner_kind (get_or ks n document) → InnerAt ks m → InnerAt (set ks n k) m
+inner_set [] n m k e p = p
+inner_set (x ∷ ks) zero zero k e p = e ∙ p
+inner_set (x ∷ ks) zero (suc m) k e p = p
+inner_set (x ∷ ks) (suc n) zero k e p = p
+inner_set (x ∷ ks) (suc n) (suc m) k e p = inner_set ks n m k e p
+
+grows_set : {ks new : List KindValue} (n : ℕ) (k : KindValue) → new ≡ set ks n k
+    → is_inner_kind k ≡ is_inner_kind (get_or ks n document) → Grows ks new
+grows_set {ks} n k e p =
+    subst (λ (x : List KindValue). Grows ks x) (sym e)
+    (record { size = let a = length-set ks n k in omega arith; names = λ m q. inner_set ks n m k p q })
+
+missing_inner : (more : List AttributePair) (k : KindValue)
+    → is_inner_kind (kind_with_missing more k) ≡ is_inner_kind k
+missing_inner more (element name attributes) = refl
+missing_inner more (text s) = refl
+missing_inner more document = refl
+missing_inner more doctype = refl
+missing_inner more (comment s) = refl
+
+pub add_missing_roots : (n : ℕ) (more : List AttributePair) → Roots (on_nodes (add_missing n more))
+add_missing_roots n more = record {
+  rooted = λ body s h. rooted_grown (grows_set n (kind_with_missing more (kind_at s.nodes n))
+      (kinds_with_kind n (kind_with_missing more (kind_at s.nodes n)) s.nodes)
+      (missing_inner more (kind_at s.nodes n) ∙ ap is_inner_kind (kind_read s.nodes n))) h;
+  content = λ body s h. refl;
+}
+
+text_grows : (t : List ℕ) (at : _) (nodes : List NodeValue) → Grows (kinds nodes) (kinds (add_text t at nodes))
+text_grows t at nodes = by_before (preceding at nodes)
+  where
+    added : Grows (kinds nodes) (kinds (or_add t at nodes None))
+    added = grows_new (text t) (kinds_add (text t) at nodes)
+
+    by_kind : (n : ℕ) (k : KindValue) → kind_at nodes n ≡ k
+        → Grows (kinds nodes) (kinds (or_add t at nodes (joined_with t n (text_of k) nodes)))
+    by_kind n (text c) e =
+        grows_set n (text (c ++ t)) (kinds_with_kind n (text (c ++ t)) nodes)
+        (sym (sym (ap is_inner_kind (kind_read nodes n)) ∙ ap is_inner_kind e))
+    by_kind n document e = added
+    by_kind n doctype e = added
+    by_kind n (comment c) e = added
+    by_kind n (element name attributes) e = added
+
+    by_before : (before : Option ℕ) → Grows (kinds nodes) (kinds (or_add t at nodes (joined_to t before nodes)))
+    by_before None = added
+    by_before (Some n) = by_kind n (kind_at nodes n) refl
+
+pub insert_text_roots : (t : List ℕ) → Roots (insert_text t)
+insert_text_roots t = record {
+  rooted = λ body s h. rooted_grown (text_grows t (place s) s.nodes) h;
+  content = λ body s h. refl;
+}
+
+-- ---- the list of active formatting elements
+
+pub without_entry_roots : (n : ℕ) → Roots (on_formatting (without_entry n))
+without_entry_roots n = record {
+  rooted = λ body s h. rooted_entries (λ m l. h.entries_at m (listed_without m n s.formatting l)) h;
+  content = λ body s h. refl;
+}
+
+pub push_marker_roots : Roots push_marker
+push_marker_roots =
+    record { rooted = λ body s h. rooted_entries (λ n l. h.entries_at n l) h; content = λ body s h. refl }
+
+pub clear_to_marker_roots : Roots clear_to_marker
+clear_to_marker_roots = record {
+  rooted = λ body s h. rooted_entries (λ n l. h.entries_at n (listed_after_marker n s.formatting l)) h;
+  content = λ body s h. refl;
+}
+
+-- what is listed then is one new element, or was listed before
+pub rooted_listed : {body : ℕ} {ks : List KindValue} {entries later : List (Option ℕ)} {form : Option ℕ}
+    {stack : List OpenValue} {mode : InsertionMode} (m : ℕ) → (body < m) × InnerAt ks m
+    → ((n : ℕ) → is_listed n later ≡ true → (n ≡ m) ⊎ (is_listed n entries ≡ true))
+    → RootedIn body ks entries form stack mode → RootedIn body ks later form stack mode
+rooted_listed {body} {ks} {entries} m p f h = rooted_entries (λ n l. either n (f n l)) h
+  where
+    either : (n : ℕ) → (n ≡ m) ⊎ (is_listed n entries ≡ true) → (body < n) × InnerAt ks n
+    either n (inl e) = subst (λ (x : ℕ). (body < x) × InnerAt ks x) (sym e) p
+    either n (inr l) = h.entries_at n l
+
+pub insert_formatting_roots : (name : NameValue) (attributes : List AttributePair) → is_inner_name name ≡ true
+    → Roots (insert_formatting name attributes)
+insert_formatting_roots name attributes p = record {
+  rooted = λ body s h. rooted_listed (length s.nodes) (
+        number_after body s h,
+        inner_added s.nodes (element (html name) attributes)
+            (kinds_add (element (html name) attributes) (place s) s.nodes) p,
+      )
+      (λ n l. listed_pushed n (length s.nodes) (insert_element name attributes s).nodes s.formatting l)
+      ((insert_element_roots name attributes p).rooted body s h);
+  content = λ body s h. refl;
+}
+
+-- ---- elements are reconstructed
+
+-- a step that leaves the body open, and elements with their names
+record RootedGrown (body : ℕ) (s new : StateValue) : Type 0 where
+  rooted : RootedAt body new
+  grows : Grows (kinds s.nodes) (kinds new.nodes)
+
+abbrev EachInner : List KindValue → List ℕ → Type 0
+EachInner ks [] = Unit {0}
+EachInner ks (n ∷ ns) = InnerAt ks n × EachInner ks ns
+
+like_grown : (body : ℕ) (s : StateValue) (k : KindValue) → is_inner_kind k ≡ true → RootedAt body s
+    → RootedGrown body s (on_formatting (λ entries. Some (length s.nodes) ∷ entries) (insert_like k s))
+like_grown body s (element name attributes) p h = record {
+  rooted = rooted_listed (length s.nodes) (
+      number_after body s h,
+      inner_added s.nodes (element name attributes) (kinds_add (element name attributes) (place s) s.nodes) p,
+    )
+      (λ n l. listed_first n (length s.nodes) s.formatting l) ((insert_named_roots name attributes p).rooted body s h);
+  grows = grows_new (element name attributes) (kinds_add (element name attributes) (place s) s.nodes);
+}
+like_grown body s (text t) p h = absurd (true≢false (sym p))
+like_grown body s document p h = absurd (true≢false (sym p))
+like_grown body s doctype p h = absurd (true≢false (sym p))
+like_grown body s (comment t) p h = absurd (true≢false (sym p))
+
+reopen_all_grown : (body : ℕ) (ns : List ℕ) (s : StateValue) → EachInner (kinds s.nodes) ns → RootedAt body s
+    → RootedGrown body s (reopen_all ns s)
+reopen_all_grown body [] s all h = record { rooted = h; grows = grows_same refl }
+reopen_all_grown body (n ∷ ns) s all h =
+    let before : RootedGrown body s (reopen_all ns s) = reopen_all_grown body ns s all.1 h in
+    let last = like_grown body (reopen_all ns s) (kind_at (reopen_all ns s).nodes n)
+    (ap is_inner_kind (kind_read (reopen_all ns s).nodes n) ∙ before.grows.names n all.0) before.rooted in
+    record { rooted = last.rooted; grows = grows_then before.grows last.grows }
+
+closed_inner : (ks : List KindValue) (stack : List OpenValue) (entries : List (Option ℕ))
+    → ((n : ℕ) → is_listed n entries ≡ true → InnerAt ks n) → EachInner ks (closed_elements stack entries)
+closed_inner ks stack [] f = tt
+closed_inner ks stack (None ∷ entries) f = tt
+closed_inner ks stack (Some m ∷ entries) f =
+    test (is_open_node m stack) (λ t. rw t tt)
+    (λ t. rw t (
+      f m (rw (eq-eqb m m refl) refl),
+      closed_inner ks stack entries (λ n l. f n (listed_more n (Some m) entries l)),
+    ))
+
+-- ---- how the tokenizer reads on
+
+like_content : (k : KindValue) (s : StateValue) → (insert_like k s).content ≡ s.content
+like_content (element name attributes) s = refl
+like_content (text t) s = refl
+like_content document s = refl
+like_content doctype s = refl
+like_content (comment t) s = refl
+
+reopen_content : (ns : List ℕ) (s : StateValue) → (reopen_all ns s).content ≡ s.content
+reopen_content [] s = refl
+reopen_content (n ∷ ns) s =
+    like_content (kind_at (reopen_all ns s).nodes n) (reopen_all ns s) ∙ reopen_content ns s
+
+pub reconstruct_content : (s : StateValue) → (reconstruct s).content ≡ s.content
+reconstruct_content s =
+    reopen_content (closed_elements s.stack s.formatting) (on_formatting (after_closed s.stack) s)
+
+pub reconstruct_roots : Roots reconstruct
+reconstruct_roots = record {
+  rooted = λ body s h. (reopen_all_grown body (closed_elements s.stack s.formatting)
+      (on_formatting (after_closed s.stack) s)
+      (closed_inner (kinds s.nodes) s.stack s.formatting (λ n l. (h.entries_at n l).1))
+      (rooted_entries (λ n l. h.entries_at n (listed_closed n s.stack s.formatting l)) h)).rooted;
+  content = λ body s h. reconstruct_content s;
+}
