@@ -238,7 +238,8 @@ module _ (choice : Choice) where
 
   root_comment_early : (letters : List ℕ) (c : List ℕ) (s : StateValue) → Early choice letters s
       → Early choice letters (insert_comment_in 0 c s)
-  root_comment_early letters c s h = early_step choice (insert_comment_root_orders choice c) letters s h.names h.unused h
+  root_comment_early letters c s h =
+      early_step choice (insert_comment_root_orders choice c) letters s h.names h.unused h
 
   pub initial_left : (letters : List ℕ) (s : StateValue) → is_text_mode s.content ≡ false
       → Stage choice false Initial
@@ -375,7 +376,8 @@ module _ (choice : Choice) where
       (head_put letters (known tags.Head) [] s refl refl h)
 
   start_before_head_stage : (tag : StartTagValue) → is_plain_name tag.name ≡ true → (name : NameValue)
-      → tag.name ≡ name → (letters : List ℕ) (s : StateValue) → s.mode ≡ BeforeHead → is_text_mode s.content ≡ false → Early choice letters s
+      → tag.name ≡ name → (letters : List ℕ) (s : StateValue) → s.mode ≡ BeforeHead
+      → is_text_mode s.content ≡ false → Early choice letters s
       → StageAnswer choice letters (start_before_head name tag s)
   start_before_head_stage tag p (known tags.Html) n letters s m e h =
       root_stage choice letters tag s BeforeHead e m

@@ -322,8 +322,8 @@ module _ (choice : Choice) where
       early_fewer choice letters s (head_open n ∷ stack) stack (skip (head_open n) (all_of stack)) h
 
   body_put : (letters : List ℕ) (name : NameValue) (attributes : List AttributePair) (s : StateValue)
-      → is_plain_name name ≡ true → name ≡ known tags.Body → is_text_mode s.content ≡ false → Early choice letters s
-      → Late choice letters (with_body name attributes s)
+      → is_plain_name name ≡ true → name ≡ known tags.Body → is_text_mode s.content ≡ false
+      → Early choice letters s → Late choice letters (with_body name attributes s)
   body_put letters name attributes s p n e h =
       let y = (insert_element_orders choice name attributes p).stays.hangs s h.plain h.hung in
       record {
@@ -332,7 +332,8 @@ module _ (choice : Choice) where
         ordered = (insert_element_orders choice name attributes p).orders letters s h.plain h.hung h.ordered;
         body = length s.nodes;
         rooted = record {
-          within = subst (λ (m : ℕ). length s.nodes < m) (sym (length-map (insert_element name attributes s).nodes _))
+          within = subst (λ (m : ℕ). length s.nodes < m)
+              (sym (length-map (insert_element name attributes s).nodes _))
               (element_number (length s.nodes) (insert_element name attributes s).nodes y.opened_at.0);
           rooted = inl ((ap html n, refl), open_before s.nodes s.stack h.hung.opened_at h.names);
           entries_at = λ m l. absurd (true≢false (sym l ∙ ap (is_listed m) h.unused.0));

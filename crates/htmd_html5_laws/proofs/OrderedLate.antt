@@ -223,8 +223,8 @@ module _ (choice : Choice) where
 
   -- ---- foreign content
 
-  break_out_order : (t : TokenValue) → IsOrderly t → (letters : List ℕ) (s : StateValue) → is_late s.mode ≡ true
-      → InOrder letters s → InOrder letters (break_out t s).state
+  break_out_order : (t : TokenValue) → IsOrderly t → (letters : List ℕ) (s : StateValue)
+      → is_late s.mode ≡ true → InOrder letters s → InOrder letters (break_out t s).state
   break_out_order t p letters s l h =
       by_mode_order t p letters (on_stack (leave_foreign s.nodes) s) l
       (order_fewer letters (leave_foreign s.nodes s.stack) s (leave_foreign_fewer s.nodes s.stack) h)
@@ -264,8 +264,8 @@ module _ (choice : Choice) where
           end_foreign_order name (foreign_end (text_of_name name) s.stack) letters s
           (foreign_end_in (text_of_name name) s.stack) l h
 
-  in_foreign_order : (t : TokenValue) → IsOrderly t → (letters : List ℕ) (s : StateValue) → is_late s.mode ≡ true
-      → InOrder letters s → InOrder letters (in_foreign_content t s).state
+  in_foreign_order : (t : TokenValue) → IsOrderly t → (letters : List ℕ) (s : StateValue)
+      → is_late s.mode ≡ true → InOrder letters s → InOrder letters (in_foreign_content t s).state
   in_foreign_order (run kind c) p letters s l h = absurd (true≢false p)
   in_foreign_order (start_tag tag) p letters s l h = start_foreign_order tag p letters s l h
   in_foreign_order (end_tag name) p letters s l h = end_in_foreign_order name letters s l h
@@ -273,8 +273,8 @@ module _ (choice : Choice) where
   in_foreign_order (doctype quirks) p letters s l h = h
   in_foreign_order end_of_file p letters s l h = h
 
-  by_rules_order : (t : TokenValue) → IsOrderly t → (letters : List ℕ) (s : StateValue) → is_late s.mode ≡ true
-      → InOrder letters s → InOrder letters (by_rules t s).state
+  by_rules_order : (t : TokenValue) → IsOrderly t → (letters : List ℕ) (s : StateValue)
+      → is_late s.mode ≡ true → InOrder letters s → InOrder letters (by_rules t s).state
   by_rules_order t p letters s l h = either (is_foreign t s)
     where
       either : (b : Bool) → InOrder letters (if b then in_foreign_content t s else by_mode_rules t s).state
@@ -327,8 +327,8 @@ module _ (choice : Choice) where
       calm_of body a (inr x) r = absurd (true≢false (sym r ∙ x.0))
 
   -- a step that leaves what is read on, where no element of only text is open
-  pub late_step : {f : StateValue → StateValue} → Orders choice f → Roots f → (letters : List ℕ) (s : StateValue)
-      → is_text_mode s.content ≡ false → Late letters s → Late letters (f s)
+  pub late_step : {f : StateValue → StateValue} → Orders choice f → Roots f → (letters : List ℕ)
+      (s : StateValue) → is_text_mode s.content ≡ false → Late letters s → Late letters (f s)
   late_step f g letters s e h = record {
     plain = f.stays.stays s h.plain;
     hung = f.stays.hangs s h.plain h.hung;

@@ -91,7 +91,8 @@ move_rooted : (body last : ℕ) (s : StateValue) → RootedAt body s → RootedA
 unfolding move_last
 move_rooted body last s h =
     rooted_grown
-    (grows_same (kinds_put last (place (on_nodes (detach last) s)) (detach last s.nodes) ∙ kinds_detach last s.nodes)) h
+    (grows_same
+    (kinds_put last (place (on_nodes (detach last) s)) (detach last s.nodes) ∙ kinds_detach last s.nodes)) h
 
 -- what is open inside the furthest block, and around it
 record FurthestInner (f : Furthest) : Type 0 where
@@ -113,8 +114,8 @@ furthest_inner (e ∷ es) h = more (furthest_block es) (furthest_inner es h.1)
     more (Some f) g = record { inner = (h.0, g.inner); block = g.block; between = g.between }
 
 finish_rooted : (body formatting : ℕ) (tag : TagName) (f : Furthest) (c : Chain) (s : StateValue)
-    → is_inner_tag tag ≡ true → InnerAt (kinds s.nodes) formatting → FurthestInner f → EachOpen InnerOpen c.copies
-    → RootedAt body s → RootedAt body (finish formatting tag f c s)
+    → is_inner_tag tag ≡ true → InnerAt (kinds s.nodes) formatting → FurthestInner f
+    → EachOpen InnerOpen c.copies → RootedAt body s → RootedAt body (finish formatting tag f c s)
 finish_rooted body formatting tag f c s p at names copies h =
     rooted_listed (length s.nodes) (
       number_after body s h,

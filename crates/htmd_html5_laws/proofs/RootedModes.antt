@@ -81,7 +81,8 @@ start_in_select_roots : (tag : StartTagValue) (name : NameValue) → tag.name �
     → AnswerRoots (start_in_select name tag)
 start_in_select_roots tag (known tags.Html) e q = says_rooted (add_to_root_roots tag)
 start_in_select_roots tag (known tags.OptionTag) e q =
-    says_rooted (then_roots (insert_tag_roots tag (ap is_inner_name e)) (on_stack_roots close_option close_option_rooted))
+    says_rooted (then_roots (insert_tag_roots tag (ap is_inner_name e))
+    (on_stack_roots close_option close_option_rooted))
 start_in_select_roots tag (known tags.OptGroup) e q =
     says_rooted (then_roots (insert_tag_roots tag (ap is_inner_name e)) option_and_group_roots)
 start_in_select_roots tag (known tags.Select) e q = says_rooted end_select_roots

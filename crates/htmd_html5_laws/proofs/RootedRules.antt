@@ -146,8 +146,8 @@ forget_roots = record {
   content = λ body s h. (by_found body s h (formatting_element tags.A s) refl).content;
 }
   where
-    by_found : (body : ℕ) (s : StateValue) → RootedAt body s → (n : Option ℕ) → formatting_element tags.A s ≡ n
-        → OneStep body s (forget n s)
+    by_found : (body : ℕ) (s : StateValue) → RootedAt body s → (n : Option ℕ)
+        → formatting_element tags.A s ≡ n → OneStep body s (forget n s)
     by_found body s h None e = record { rooted = h; content = refl }
     by_found body s h (Some n) e =
         let agency = adoption_agency_roots tags.A refl in
@@ -162,7 +162,8 @@ forget_roots = record {
 
 close_no_break_roots : Roots close_no_break
 close_no_break_roots =
-    roots_by_test (λ s. is_in_scope (Only tags.NoBr) Default s.stack) (adoption_agency_roots tags.NoBr refl) rooted_still
+    roots_by_test (λ s. is_in_scope (Only tags.NoBr) Default s.stack) (adoption_agency_roots tags.NoBr refl)
+    rooted_still
 
 select_late : (mode : InsertionMode) → is_late mode ≡ true → is_late (mode_of_select mode) ≡ true
 select_late InBody l = refl
@@ -341,13 +342,18 @@ module _ (tag : StartTagValue) where
   start_by_name_roots (known tags.Pre) e q = steady (start_preformatted_roots tag (ap is_inner_name e))
   start_by_name_roots (known tags.Listing) e q = steady (start_preformatted_roots tag (ap is_inner_name e))
   start_by_name_roots (known tags.Form) e q = steady (start_form_roots tag (ap is_inner_name e))
-  start_by_name_roots (known tags.Li) e q = steady (start_item_roots tag (ap is_inner_name e) (Only tags.Li) (only_spares tags.Li refl))
-  start_by_name_roots (known tags.Dd) e q = steady (start_item_roots tag (ap is_inner_name e) DescriptionParts parts_spare)
-  start_by_name_roots (known tags.Dt) e q = steady (start_item_roots tag (ap is_inner_name e) DescriptionParts parts_spare)
-  start_by_name_roots (known tags.PlainText) e q = raw_tag_roots tag (ap is_inner_name e) raw.Plaintext close_paragraph_roots
+  start_by_name_roots (known tags.Li) e q =
+      steady (start_item_roots tag (ap is_inner_name e) (Only tags.Li) (only_spares tags.Li refl))
+  start_by_name_roots (known tags.Dd) e q =
+      steady (start_item_roots tag (ap is_inner_name e) DescriptionParts parts_spare)
+  start_by_name_roots (known tags.Dt) e q =
+      steady (start_item_roots tag (ap is_inner_name e) DescriptionParts parts_spare)
+  start_by_name_roots (known tags.PlainText) e q =
+      raw_tag_roots tag (ap is_inner_name e) raw.Plaintext close_paragraph_roots
   start_by_name_roots (known tags.Hr) e q = steady (start_separator_roots tag)
   start_by_name_roots (known tags.Button) e q = steady (start_button_roots tag (ap is_inner_name e))
-  start_by_name_roots (known tags.A) e q = steady (then_roots (start_formatting_roots tag (ap is_inner_name e)) forget_roots)
+  start_by_name_roots (known tags.A) e q =
+      steady (then_roots (start_formatting_roots tag (ap is_inner_name e)) forget_roots)
   start_by_name_roots (known tags.B) e q = steady (start_formatting_roots tag (ap is_inner_name e))
   start_by_name_roots (known tags.Big) e q = steady (start_formatting_roots tag (ap is_inner_name e))
   start_by_name_roots (known tags.Code) e q = steady (start_formatting_roots tag (ap is_inner_name e))

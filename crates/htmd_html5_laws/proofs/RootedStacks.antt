@@ -123,8 +123,8 @@ spared set f (math s) p = absurd (true≢false (sym p))
 
 pub only_spares : (tag : TagName) → is_outer_tag tag ≡ false → Spares (Only tag)
 only_spares tag e u p =
-    test (same_tag tag u) (λ t. absurd (true≢false (sym p ∙ (sym (ap is_outer_tag (same_tag-true tag u t)) ∙ e))))
-    (λ t. t)
+    test (same_tag tag u)
+    (λ t. absurd (true≢false (sym p ∙ (sym (ap is_outer_tag (same_tag-true tag u t)) ∙ e)))) (λ t. t)
 
 -- a name that has no mode of its own isn't the body's
 pub not_body : (tag : TagName) → is_inner_tag tag ≡ true
@@ -307,7 +307,8 @@ option_in_group_rooted body stack h =
 
 -- ---- an element that was opened after the body
 
-without_each : (P : OpenValue → Type 0) (n : ℕ) (es : List OpenValue) → EachOpen P es → EachOpen P (without n es)
+without_each : (P : OpenValue → Type 0) (n : ℕ) (es : List OpenValue) → EachOpen P es
+    → EachOpen P (without n es)
 without_each P n [] h = tt
 without_each P n (e ∷ es) h =
     test (e.node == n) (λ t. rw t h.1) (λ t. rw t (h.0, without_each P n es h.1))
@@ -355,7 +356,8 @@ pub leave_foreign_rooted : (nodes : List NodeValue) (body : ℕ) (stack : List O
 leave_foreign_rooted nodes body [] h = h
 leave_foreign_rooted nodes body (e ∷ es) (inl h) = rw (ends nodes e h.0.0) (inl h)
   where
-    ends : (nodes : List NodeValue) (e : OpenValue) → e.name ≡ html (known tags.Body) → ends_foreign nodes e ≡ true
+    ends : (nodes : List NodeValue) (e : OpenValue) → e.name ≡ html (known tags.Body)
+        → ends_foreign nodes e ≡ true
     ends nodes e n = rw n refl
 leave_foreign_rooted nodes body (e ∷ es) (inr h) =
     test (ends_foreign nodes e) (λ t. rw t (inr h)) (λ t. rw t (leave_foreign_rooted nodes body es h.1))

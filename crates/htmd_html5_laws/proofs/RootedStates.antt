@@ -333,10 +333,10 @@ pub insert_formatting_roots : (name : NameValue) (attributes : List AttributePai
     → Roots (insert_formatting name attributes)
 insert_formatting_roots name attributes p = record {
   rooted = λ body s h. rooted_listed (length s.nodes) (
-        number_after body s h,
-        inner_added s.nodes (element (html name) attributes)
-            (kinds_add (element (html name) attributes) (place s) s.nodes) p,
-      )
+    number_after body s h,
+    inner_added s.nodes (element (html name) attributes)
+        (kinds_add (element (html name) attributes) (place s) s.nodes) p,
+  )
       (λ n l. listed_pushed n (length s.nodes) (insert_element name attributes s).nodes s.formatting l)
       ((insert_element_roots name attributes p).rooted body s h);
   content = λ body s h. refl;
@@ -357,9 +357,9 @@ like_grown : (body : ℕ) (s : StateValue) (k : KindValue) → is_inner_kind k �
     → RootedGrown body s (on_formatting (λ entries. Some (length s.nodes) ∷ entries) (insert_like k s))
 like_grown body s (element name attributes) p h = record {
   rooted = rooted_listed (length s.nodes) (
-      number_after body s h,
-      inner_added s.nodes (element name attributes) (kinds_add (element name attributes) (place s) s.nodes) p,
-    )
+    number_after body s h,
+    inner_added s.nodes (element name attributes) (kinds_add (element name attributes) (place s) s.nodes) p,
+  )
       (λ n l. listed_first n (length s.nodes) s.formatting l) ((insert_named_roots name attributes p).rooted body s h);
   grows = grows_new (element name attributes) (kinds_add (element name attributes) (place s) s.nodes);
 }
