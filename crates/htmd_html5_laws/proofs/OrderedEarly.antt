@@ -1,11 +1,11 @@
 -- Before the body each token that is no text leaves the letters in order: the head may be opened once more after it.
 use Rattle.std.proofs.Common.{◌≡◌, ◌∙◌, ℕ, zero, suc, ◌≤◌, Bool, true, false, List, [], ◌∷◌, length}
-use Rattle.std.proofs.Common.{Option, Some, None, refl, sym, ap, subst, cond, inl, inr, ◌⊎◌}
+use Rattle.std.proofs.Common.{Option, Some, None, refl, sym, ap, subst, cond}
 use Rattle.std.specs.Prelude.{if◌then◌else◌}
 use Rattle.std.proofs.lemmas.Bool.{true≢false}
 use Rattle.htmd_grammar.specs.ValueTrees.{AttributePair}
 use Rattle.htmd_html5_state.specs.Names.{NameValue, known, html}
-use Rattle.htmd_html5_state.specs.Documents.{NodeValue, doctype as doctype_kind, text}
+use Rattle.htmd_html5_state.specs.Documents.{doctype as doctype_kind, text}
 use Rattle.htmd_html5_state.specs.OpenElements.{OpenValue, is_open, first_open, pop}
 use Rattle.htmd_html5_state.specs.State.{StateValue}
 use Rattle.htmd_html5_state.specs.Insertion.{opened, current, insert_doctype}

@@ -1,6 +1,6 @@
 -- States in which the letters stand in order, and steps that leave them so.
-use Rattle.std.proofs.Common.{◌≡◌, ◌∙◌, ℕ, ◌<◌, ◌≤◌, Bool, true, false, List, [], ◌∷◌, ◌++◌, length}
-use Rattle.std.proofs.Common.{refl, sym, ap, subst, arith, Option}
+use Rattle.std.proofs.Common.{◌≡◌, ℕ, ◌<◌, ◌≤◌, Bool, true, false, List, [], ◌∷◌, ◌++◌, length}
+use Rattle.std.proofs.Common.{refl, sym, subst, arith, Option}
 use Rattle.std.specs.Prelude.{if◌then◌else◌, IsUtf8}
 use Rattle.htmd_grammar.specs.ValueTrees.{AttributePair}
 use Rattle.htmd_html5_tokens.specs.declared.tokens.RawElement.{RawElement}
@@ -14,8 +14,6 @@ use Rattle.htmd_html5_state.specs.Insertion.{opened, current, place, insert_name
 use Rattle.htmd_html5_state.specs.Insertion.{insert_text, insert_comment_in, insert_comment}
 use Rattle.htmd_html5_state.specs.Formatting.{push_marker, clear_to_marker, without_entry, insert_formatting}
 use Rattle.htmd_html5_state.specs.Formatting.{closed_elements, after_closed, insert_like, reopen_all, reconstruct}
-use Rattle.htmd_html5_state.specs.declared.modes.InsertionMode.{InsertionMode}
-use Rattle.htmd_html5_state.specs.declared.modes.InsertionMode.TheVariants.{InBody, AfterBody, AfterAfterBody}
 use Rattle.htmd_html5_state.specs.declared.names.Namespace.{Namespace}
 use Rattle.htmd_html5_laws.proofs.NodeTexts.{kinds}
 use Rattle.htmd_html5_laws.proofs.OpenNodes.{EachOpen, Below, each_more, Fewer, pop_fewer, pop_if_fewer}
@@ -29,7 +27,6 @@ use Rattle.htmd_html5_laws.proofs.PlainStates.{without_entry_stays, push_marker_
 use Rattle.htmd_html5_laws.proofs.PlainStates.{insert_formatting_stays, reconstruct_stays, EachPlain, reopen_all_grown}
 use Rattle.htmd_html5_laws.proofs.PlainStates.{closed_plain, plain_entries}
 use Rattle.htmd_html5_laws.proofs.KeepingInsertion.{listed_closed}
-use Rattle.htmd_html5_laws.proofs.PuttingRuns.{reconstruct_mode}
 use Rattle.htmd_html5_laws.proofs.OrderedNodes.{bears, Labels, FitsBy, none_out, Ranked}
 use Rattle.htmd_html5_laws.proofs.OrderedTexts.{loose_added, element_added, text_put}
 use Rattle.htmd_html5_laws.proofs.OrderedTexts.{fits_like}

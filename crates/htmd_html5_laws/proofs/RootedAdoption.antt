@@ -23,7 +23,7 @@ use Rattle.htmd_html5_laws.proofs.KeepingInsertion.{listed_replaced}
 use Rattle.htmd_html5_laws.proofs.KeepingAdoption.{wrap_kinds, listed_marked}
 use Rattle.htmd_html5_laws.proofs.OpenNodes.{EachOpen, each_append}
 use Rattle.htmd_html5_laws.proofs.PlainAdoption.{copy_kinds, after_round, found_listed}
-use Rattle.htmd_html5_laws.proofs.RootedStacks.{is_inner_tag, InnerOpen, Rooted, rooted_under, not_body, close_name_rooted}
+use Rattle.htmd_html5_laws.proofs.RootedStacks.{is_inner_tag, InnerOpen, rooted_under, not_body, close_name_rooted}
 use Rattle.htmd_html5_laws.proofs.RootedStacks.{popped_rooted, around_rooted, inside_inner}
 use Rattle.htmd_html5_laws.proofs.RootedStates.{is_inner_kind, InnerAt, RootedAt, Roots, Grows, grows_same, grows_then}
 use Rattle.htmd_html5_laws.proofs.RootedStates.{grows_new, rooted_grown, rooted_stack, rooted_listed, inner_added}

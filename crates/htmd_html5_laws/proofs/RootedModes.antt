@@ -4,7 +4,7 @@ use Rattle.std.proofs.Common.{◌≡◌, ℕ, Bool, true, false, Option, Some, N
 use Rattle.std.specs.Prelude.{if◌then◌else◌}
 use Rattle.std.proofs.lemmas.Bool.{true≢false}
 use Rattle.htmd_html5_state.specs.Names.{NameValue, known, text_of_name}
-use Rattle.htmd_html5_state.specs.OpenElements.{OpenValue, first_open, pop_until}
+use Rattle.htmd_html5_state.specs.OpenElements.{first_open, pop_until}
 use Rattle.htmd_html5_state.specs.State.{StateValue, on_stack}
 use Rattle.htmd_html5_state.specs.Insertion.{current}
 use Rattle.htmd_html5_state.specs.Resetting.{has_modes, mode_of}
@@ -15,7 +15,7 @@ use Rattle.htmd_html5_state.specs.declared.modes.InsertionMode.{InsertionMode}
 use Rattle.htmd_html5_state.specs.declared.names.Namespace.{Namespace}
 use Rattle.htmd_html5_state.specs.declared.sets.NameSet.TheVariants.{Only}
 use Rattle.htmd_html5.specs.Tokens.{StartTagValue, TokenValue, start_tag, end_tag, run, comment, doctype, end_of_file}
-use Rattle.htmd_html5.specs.Answers.{Answer, answer, done}
+use Rattle.htmd_html5.specs.Answers.{done}
 use Rattle.htmd_html5.specs.BodyStarts.{close_option}
 use Rattle.htmd_html5.specs.InBody.{end_of_file_in_template, end_of_file_in_body, in_body}
 use Rattle.htmd_html5.specs.InSelect.{close_group, close_option_in_group, close_select, has_select, end_select}

@@ -5,12 +5,11 @@ use Rattle.std.specs.Prelude.{if◌then◌else◌, is_some}
 use Rattle.std.proofs.lemmas.Bool.{true≢false}
 use Rattle.htmd_grammar.specs.ValueTrees.{AttributePair}
 use Rattle.htmd_html5_tokens.specs.declared.tokens.RawElement.{RawElement}
-use Rattle.htmd_html5_state.specs.Names.{NameValue, known, other, text_of_name, same_tag}
+use Rattle.htmd_html5_state.specs.Names.{NameValue, known, other, text_of_name}
 use Rattle.htmd_html5_state.specs.Sets.{has}
-use Rattle.htmd_html5_state.specs.OpenElements.{OpenValue, is_open, first_open, is_in_scope, is_node_in_scope, pop, pop_while}
+use Rattle.htmd_html5_state.specs.OpenElements.{is_open, first_open, is_in_scope, is_node_in_scope, pop, pop_while}
 use Rattle.htmd_html5_state.specs.OpenElements.{close, close_name, without}
-use Rattle.htmd_html5_state.specs.State.{StateValue, on_nodes, on_stack, on_formatting}
-use Rattle.htmd_html5_state.specs.Formatting.{without_entry, reconstruct}
+use Rattle.htmd_html5_state.specs.State.{StateValue, on_stack}
 use Rattle.htmd_html5_state.specs.Adoption.{formatting_element, node_is, adoption_agency}
 use Rattle.htmd_html5_state.specs.declared.modes.InsertionMode.{InsertionMode}
 use Rattle.htmd_html5_state.specs.declared.modes.InsertionMode.TheVariants.{InBody, InSelect, AfterBody, AfterAfterBody}
@@ -25,13 +24,13 @@ use Rattle.htmd_html5_state.specs.declared.sets.Scope.TheVariants.{Default, Item
 use Rattle.htmd_html5.specs.Tokens.{StartTagValue}
 use Rattle.htmd_html5.specs.Answers.{Answer, answer, done}
 use Rattle.htmd_html5.specs.Feeding.{is_text_mode}
-use Rattle.htmd_html5.specs.SharedRules.{with_mode, insert_tag, insert_void_tag, insert_raw_tag, insert_foreign_tag}
+use Rattle.htmd_html5.specs.SharedRules.{with_mode, insert_tag, insert_raw_tag, insert_foreign_tag}
 use Rattle.htmd_html5.specs.SharedRules.{no_frameset, close_paragraph, add_missing_to, add_to_root, end_template}
 use Rattle.htmd_html5.specs.SharedRules.{insert_head_element}
 use Rattle.htmd_html5.specs.BodyStarts.{block_rule, formatting_rule, phrasing_rule, rule_of_start}
 use Rattle.htmd_html5.specs.BodyStarts.{is_in_template, open_body, add_to_this_body, start_block}
 use Rattle.htmd_html5.specs.BodyStarts.{close_heading, start_heading, skip_line_feed, start_preformatted, with_form}
-use Rattle.htmd_html5.specs.BodyStarts.{start_form, start_item, start_separator, start_formatting, forget, start_anchor}
+use Rattle.htmd_html5.specs.BodyStarts.{start_form, start_item, start_separator, start_formatting, forget}
 use Rattle.htmd_html5.specs.BodyStarts.{close_no_break, start_no_break, start_ordinary, start_button, start_embedded}
 use Rattle.htmd_html5.specs.BodyStarts.{start_void, is_hidden, start_input, mode_of_select, start_select, close_option}
 use Rattle.htmd_html5.specs.BodyStarts.{start_option, start_ruby, start_foreign, start_text_area, start_example, start_no_script, start_by}
@@ -40,7 +39,7 @@ use Rattle.htmd_html5.specs.BodyEnds.{text_end_rule, end_rule, has_body, end_bod
 use Rattle.htmd_html5.specs.BodyEnds.{end_paragraph, end_embedded, line_break, end_by, end_in_body}
 use Rattle.htmd_html5_laws.proofs.PlainAdoption.{found_listed}
 use Rattle.htmd_html5_laws.proofs.PlainStates.{Plain}
-use Rattle.htmd_html5_laws.proofs.RootedStacks.{is_late, is_inner_tag, is_inner_name, is_outer_tag, Rooted, Spares}
+use Rattle.htmd_html5_laws.proofs.RootedStacks.{is_late, is_inner_name, is_outer_tag, Rooted, Spares}
 use Rattle.htmd_html5_laws.proofs.RootedStacks.{only_spares, no_template, close_rooted, close_name_rooted}
 use Rattle.htmd_html5_laws.proofs.RootedStacks.{pop_while_rooted, close_heading_rooted, close_option_rooted}
 use Rattle.htmd_html5_laws.proofs.RootedStacks.{without_rooted}

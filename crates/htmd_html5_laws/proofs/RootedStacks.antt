@@ -1,6 +1,6 @@
 -- What is open in the body: elements that have no mode of their own, then the body, then what was open before it.
 use Rattle.std.proofs.Common.{◌≡◌, ◌∙◌, ℕ, ◌<◌, Bool, true, false, List, [], ◌∷◌, ◌++◌, refl, sym, ap, arith, inl, inr, ◌⊎◌}
-use Rattle.std.specs.Prelude.{Option, Some, None, unwrap_or, ◌==◌, ◌&&◌, not, if◌then◌else◌}
+use Rattle.std.specs.Prelude.{unwrap_or, ◌==◌, ◌&&◌, not, if◌then◌else◌}
 use Rattle.std.proofs.lemmas.Bool.{true≢false, and_parts, ne_eqb}
 use Rattle.htmd_text.proofs.Cases.{test}
 use Rattle.htmd_html5_state.specs.Names.{NameValue, ElementNameValue, known, other, html, svg, math, same_tag, same_name}
@@ -13,7 +13,7 @@ use Rattle.htmd_html5_state.specs.OpenElements.{close_name, without, inside, aro
 use Rattle.htmd_html5_state.specs.Foreign.{is_html, is_html_name, ends_foreign, leave_foreign, is_spelled_so, ForeignEnd}
 use Rattle.htmd_html5_state.specs.Foreign.{by_mode, closed_to, foreign_end}
 use Rattle.htmd_html5_state.specs.State.{StateValue}
-use Rattle.htmd_html5_state.specs.Resetting.{select_mode, mode_for_name, mode_of}
+use Rattle.htmd_html5_state.specs.Resetting.{mode_for_name, mode_of}
 use Rattle.htmd_html5_state.specs.declared.modes.InsertionMode.{InsertionMode}
 use Rattle.htmd_html5_state.specs.declared.modes.InsertionMode.TheVariants.{InBody, InSelect, AfterBody, AfterAfterBody}
 use Rattle.htmd_html5_state.specs.declared.names.TagName.{TagName}

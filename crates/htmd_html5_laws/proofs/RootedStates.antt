@@ -6,11 +6,10 @@ use Rattle.std.proofs.lemmas.Bool.{true≢false, eq-eqb}
 use Rattle.std.proofs.lemmas.List.{length-map, length-set, length-append}
 use Rattle.htmd_text.proofs.Cases.{test}
 use Rattle.htmd_grammar.specs.ValueTrees.{AttributePair}
-use Rattle.htmd_html5_tokens.specs.declared.tokens.Content.{Content}
 use Rattle.htmd_html5_tokens.specs.declared.tokens.RawElement.{RawElement}
 use Rattle.htmd_html5_state.specs.Names.{NameValue, ElementNameValue, html}
 use Rattle.htmd_html5_state.specs.Documents.{KindValue, NodeValue, document, doctype, text, comment, element, kind_at}
-use Rattle.htmd_html5_state.specs.Documents.{last_in, add, add_text, add_missing, kind_with_missing, text_of, joined_with}
+use Rattle.htmd_html5_state.specs.Documents.{last_in, add_text, add_missing, kind_with_missing, text_of, joined_with}
 use Rattle.htmd_html5_state.specs.Documents.{joined_to, or_add, preceding}
 use Rattle.htmd_html5_state.specs.OpenElements.{OpenValue, is_open_node}
 use Rattle.htmd_html5_state.specs.State.{StateValue, on_nodes, on_stack, on_formatting}
