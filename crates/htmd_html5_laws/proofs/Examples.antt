@@ -91,6 +91,11 @@ text_goes_before_a_table : texts_of (html5_document true (codes "<table><td>a</t
 unfolding block_rule formatting_rule phrasing_rule html5_document
 text_goes_before_a_table = refl
 
+a_select_keeps_the_order : texts_of (html5_document true (codes "a<select><option>b</select><title>c"))
+    ≡ codes "a" ∷ codes "b" ∷ codes "c" ∷ []
+unfolding block_rule formatting_rule phrasing_rule html5_document
+a_select_keeps_the_order = refl
+
 formatting_keeps_the_order : texts_of (html5_document true (codes "<b>a<p>b</b>c")) ≡ codes "a" ∷ codes "b"
     ∷ codes
     "c" ∷ []

@@ -3,6 +3,7 @@ pub mod Utf8Parts
 pub mod Utf8Contents
 pub mod Utf8Tokens
 pub mod NodeTexts
+pub mod NamedKinds
 pub mod NodeParts
 pub mod Forests
 pub mod OpenNodes

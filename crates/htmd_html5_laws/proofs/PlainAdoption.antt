@@ -19,13 +19,14 @@ use Rattle.htmd_html5_state.specs.Adoption.{adopt, Round, last_round, goes_on, r
 use Rattle.htmd_html5_state.specs.Adoption.{round, go_on, rounds, closes_at_once, adoption_agency}
 use Rattle.htmd_html5_state.specs.declared.names.TagName.{TagName}
 use Rattle.htmd_html5_laws.proofs.NodeTexts.{kinds, is_element, kinds_new, kinds_put, kinds_attach, kinds_detach, kind_read}
+use Rattle.htmd_html5_laws.proofs.NamedKinds.{grows_new}
 use Rattle.htmd_html5_laws.proofs.KeepingInsertion.{listed_more, listed_replaced}
 use Rattle.htmd_html5_laws.proofs.KeepingAdoption.{wrap_kinds, listed_marked}
 use Rattle.htmd_html5_laws.proofs.OpenNodes.{each_append}
 use Rattle.htmd_html5_laws.proofs.PlainNames.{is_plain, is_plain_element, is_plain_kind, PlainOpen, is_plain_open, PlainStack}
 use Rattle.htmd_html5_laws.proofs.OpenNodes.{pop_fewer, close_name_fewer, inside_fewer, around_fewer}
 use Rattle.htmd_html5_laws.proofs.PlainStates.{PlainAt, Plain, Stays, stays_by_test, on_stack_stays, plain_kinds}
-use Rattle.htmd_html5_laws.proofs.PlainStates.{plain_stack, plain_before, plain_added, plain_new, plain_listed}
+use Rattle.htmd_html5_laws.proofs.PlainStates.{plain_stack, plain_added, plain_new, plain_listed}
 use Rattle.htmd_html5_laws.proofs.PlainStates.{without_entry_stays, Grown, grown_then}
 use Rattle.htmd_html5_laws.proofs.HungChains.{SomeRanks, SomeAt, furthest_ranks, furthest_at, around_below, inside_within}
 use Rattle.htmd_html5_laws.proofs.HungChains.{ChainHung, rested, next_hung, begun}
@@ -51,8 +52,7 @@ copy_grown n last s p h = record {
       (plain_added s.nodes (kind_at s.nodes n) (copy_kinds n last s) (ap is_plain_kind (kind_read s.nodes n) ∙ p))
       (λ m l. listed_replaced m n (length s.nodes) s.formatting l)
       (plain_new (kind_at s.nodes n) (copy_kinds n last s) h);
-  grows = λ m e. subst (λ (ks : List KindValue). PlainAt ks m) (sym (copy_kinds n last s))
-      (plain_before (kinds s.nodes) (kind_at s.nodes n) m e);
+  grows = (grows_new (kind_at s.nodes n) (copy_kinds n last s)).names is_plain_element;
 }
 
 pub next_chained : (left : ℕ) (e : OpenValue) (s : StateValue) (c : Chain) → is_plain_element e.name ≡ true

@@ -3,13 +3,14 @@ use Rattle.std.proofs.Common.{◌≡◌, ℕ, Bool, true, false, List, [], ◌�
 use Rattle.std.proofs.lemmas.Bool.{true≢false}
 use Rattle.htmd_html5_state.specs.Names.{NameValue, ElementNameValue, known, other, html, svg, math}
 use Rattle.htmd_html5_state.specs.Sets.{is_of}
-use Rattle.htmd_html5_state.specs.Documents.{KindValue, element}
+use Rattle.htmd_html5_state.specs.Documents.{KindValue}
 use Rattle.htmd_html5_state.specs.OpenElements.{OpenValue, is_open}
 use Rattle.htmd_html5_state.specs.Foreign.{foreign_name}
 use Rattle.htmd_html5_state.specs.declared.names.TagName.{TagName}
 use Rattle.htmd_html5_state.specs.declared.names.Namespace.{Namespace}
 use Rattle.htmd_html5_state.specs.declared.names.Namespace.TheVariants.{Svg, MathMl}
 use Rattle.htmd_html5_state.specs.declared.sets.NameSet.TheVariants.{Only}
+use Rattle.htmd_html5_laws.proofs.NamedKinds.{is_named}
 use Rattle.htmd_html5_laws.proofs.OpenNodes.{EachOpen}
 use Rattle.htmd_html5_state.specs.declared.names.TagName.TheVariants as tags
 
@@ -32,8 +33,7 @@ is_plain_element (svg s) = true
 is_plain_element (math s) = true
 
 abbrev pub is_plain_kind : KindValue → Bool
-is_plain_kind (element name attributes) = is_plain_element name
-is_plain_kind _ = false
+is_plain_kind k = is_named is_plain_element k
 
 pub foreign_is_plain : (space : Namespace) (name : List ℕ) → is_plain_element (foreign_name space name) ≡ true
 foreign_is_plain Svg name = refl

@@ -1,9 +1,8 @@
 -- A run of a text leaves a plain state plain.
-use Rattle.std.proofs.Common.{◌≡◌, ◌∙◌, ℕ, true, List, ◌++◌, Option, Some, None, refl, sym, ap}
-use Rattle.std.proofs.Common.{subst}
+use Rattle.std.proofs.Common.{◌≡◌, ℕ, true, List, sym}
 use Rattle.std.proofs.lemmas.Bool.{true≢false}
-use Rattle.htmd_html5_state.specs.Documents.{NodeValue, KindValue, document, doctype, text, comment, element, kind_at}
-use Rattle.htmd_html5_state.specs.Documents.{text_of, joined_with, joined_to, or_add, add_text, preceding}
+use Rattle.htmd_html5_state.specs.Documents.{NodeValue}
+use Rattle.htmd_html5_state.specs.Documents.{add_text}
 use Rattle.htmd_html5_state.specs.Insertion.{place, insert_text}
 use Rattle.htmd_html5_state.specs.declared.modes.InsertionMode.{InsertionMode}
 use Rattle.htmd_html5_state.specs.declared.modes.InsertionMode.TheVariants.{Initial, BeforeHtml, BeforeHead, InHead}
@@ -19,11 +18,12 @@ use Rattle.htmd_html5.specs.InBody.{run_in_body}
 use Rattle.htmd_html5.specs.Modes.{in_mode, by_mode_rules}
 use Rattle.htmd_html5.specs.ForeignContent.{is_foreign, replacements, run_in_foreign}
 use Rattle.htmd_html5.specs.Processing.{by_rules}
-use Rattle.htmd_html5_laws.proofs.NodeTexts.{kinds, kinds_with_kind, kind_read}
+use Rattle.htmd_html5_laws.proofs.NodeTexts.{kinds}
+use Rattle.htmd_html5_laws.proofs.NamedKinds.{grows_text}
 use Rattle.htmd_html5_laws.proofs.TakingRuns.{by_first_kind}
-use Rattle.htmd_html5_laws.proofs.PlainNames.{is_plain_kind}
+use Rattle.htmd_html5_laws.proofs.PlainNames.{is_plain_element}
 use Rattle.htmd_html5_laws.proofs.PlainStates.{is_plain_mode, PlainAt, Stays, then_stays, still, plain_grown}
-use Rattle.htmd_html5_laws.proofs.PlainStates.{added_grows, plain_set, reconstruct_stays}
+use Rattle.htmd_html5_laws.proofs.PlainStates.{reconstruct_stays}
 use Rattle.htmd_html5_laws.proofs.HungStates.{hung_text}
 use Rattle.htmd_html5_laws.proofs.PlainBody.{StaysAnswer, says_plain, answers_either, no_frameset_stays}
 use Rattle.htmd_html5_laws.proofs.PlainTables.{fostered_stays}
@@ -34,25 +34,7 @@ use Rattle.htmd_html5_laws.proofs.PlainModes.{close_noscript_stays, imply_body_s
 
 pub text_grows : (s : List ℕ) (at : _) (nodes : List NodeValue) (m : ℕ) → PlainAt (kinds nodes) m
     → PlainAt (kinds (add_text s at nodes)) m
-text_grows s at nodes m p = by_before (preceding at nodes)
-  where
-    added : PlainAt (kinds (or_add s at nodes None)) m
-    added = added_grows (text s) at nodes m p
-
-    by_kind : (n : ℕ) (k : KindValue) → kind_at nodes n ≡ k
-        → PlainAt (kinds (or_add s at nodes (joined_with s n (text_of k) nodes))) m
-    by_kind n (text t) e =
-        subst (λ (ks : List KindValue). PlainAt ks m) (sym (kinds_with_kind n (text (t ++ s)) nodes))
-        (plain_set (kinds nodes) n m (text (t ++ s))
-        (sym (sym (ap is_plain_kind (kind_read nodes n)) ∙ ap is_plain_kind e)) p)
-    by_kind n document e = added
-    by_kind n doctype e = added
-    by_kind n (comment t) e = added
-    by_kind n (element name attributes) e = added
-
-    by_before : (before : Option ℕ) → PlainAt (kinds (or_add s at nodes (joined_to s before nodes))) m
-    by_before None = added
-    by_before (Some n) = by_kind n (kind_at nodes n) refl
+text_grows s at nodes m p = (grows_text s at nodes).names is_plain_element m p
 
 pub insert_text_stays : (s : List ℕ) → Stays (insert_text s)
 insert_text_stays t = record {

@@ -1,15 +1,14 @@
 -- States in which no text is dropped, and steps that stay among them.
-use Rattle.std.proofs.Common.{◌≡◌, ◌∙◌, ℕ, zero, suc, Bool, true, false, List, [], ◌∷◌, ◌++◌, length, get_or, set}
+use Rattle.std.proofs.Common.{◌≡◌, ◌∙◌, ℕ, Bool, true, false, List, [], ◌∷◌, ◌++◌, length, get_or}
 use Rattle.std.proofs.Common.{Option, Some, None, refl, sym, ap, subst, inl, inr, ◌⊎◌}
 use Rattle.std.specs.Prelude.{if◌then◌else◌, is_some, unwrap_or}
 use Rattle.std.proofs.lemmas.Bool.{true≢false, eq-eqb}
-use Rattle.std.proofs.lemmas.List.{length-map}
 use Rattle.htmd_text.proofs.Cases.{test}
 use Rattle.htmd_grammar.specs.ValueTrees.{AttributePair}
 use Rattle.htmd_html5_tokens.specs.declared.tokens.RawElement.{RawElement}
 use Rattle.htmd_html5_state.specs.Names.{NameValue, ElementNameValue, known, other, html, svg, math}
 use Rattle.htmd_html5_state.specs.Documents.{KindValue, NodeValue, document, doctype, text, comment, element, kind_at}
-use Rattle.htmd_html5_state.specs.Documents.{last_in, add, add_missing, kind_with_missing}
+use Rattle.htmd_html5_state.specs.Documents.{last_in, add, add_missing}
 use Rattle.htmd_html5_state.specs.OpenElements.{OpenValue, is_open_node, pop, is_in_scope}
 use Rattle.htmd_html5_state.specs.State.{StateValue, on_nodes, on_stack, on_formatting}
 use Rattle.htmd_html5_state.specs.Foreign.{foreign_name, foreign_attributes, pop_if, insert_foreign}
@@ -26,7 +25,8 @@ use Rattle.htmd_html5_state.specs.declared.names.TagName.{TagName}
 use Rattle.htmd_html5_state.specs.declared.names.Namespace.{Namespace}
 use Rattle.htmd_html5_state.specs.declared.sets.NameSet.TheVariants.{Only}
 use Rattle.htmd_html5_state.specs.declared.sets.Scope.TheVariants.{Template as TemplateScope}
-use Rattle.htmd_html5_laws.proofs.NodeTexts.{kinds, kinds_add, kinds_with_kind, kind_read, kind_new}
+use Rattle.htmd_html5_laws.proofs.NodeTexts.{kinds, kinds_add, kind_read}
+use Rattle.htmd_html5_laws.proofs.NamedKinds.{grows_new, grows_added, named_added, grows_missing}
 use Rattle.htmd_html5_laws.proofs.KeepingInsertion.{listed_more, listed_without, listed_after_marker, listed_closed, listed_first}
 use Rattle.htmd_html5_laws.proofs.KeepingInsertion.{listed_pushed}
 use Rattle.htmd_html5_laws.proofs.PlainNames.{is_plain, is_plain_name, is_plain_element, is_plain_kind, foreign_is_plain}
@@ -152,27 +152,18 @@ on_stack_stays f fewer = record {
 
 -- ---- one more node
 
-pub plain_before : (ks : List KindValue) (k : KindValue) (n : ℕ) → PlainAt ks n → PlainAt (ks ++ k ∷ []) n
-plain_before [] k n e = absurd (true≢false (sym e))
-plain_before (x ∷ ks) k zero e = e
-plain_before (x ∷ ks) k (suc n) e = plain_before ks k n e
-
 pub plain_added : (nodes : List NodeValue) (k : KindValue) {new : List KindValue} → new ≡ kinds nodes ++ k ∷ []
     → is_plain_kind k ≡ true → PlainAt new (length nodes)
-plain_added nodes k e p =
-    subst (λ (ks : List KindValue). PlainAt ks (length nodes)) (sym e)
-    (subst (λ (m : ℕ). PlainAt (kinds nodes ++ k ∷ []) m) (length-map nodes _)
-    (ap is_plain_kind (kind_new (kinds nodes) k) ∙ p))
+plain_added nodes k e p = named_added is_plain_element nodes k e p
 
 pub added_grows : (k : KindValue) (at : _) (nodes : List NodeValue) (m : ℕ) → PlainAt (kinds nodes) m
     → PlainAt (kinds (add k at nodes)) m
-added_grows k at nodes m p =
-    subst (λ (ks : List KindValue). PlainAt ks m) (sym (kinds_add k at nodes)) (plain_before (kinds nodes) k m p)
+added_grows k at nodes m p = (grows_added k at nodes).names is_plain_element m p
 
 pub plain_new : {ks new : List KindValue} {entries : List (Option ℕ)} {stack : List OpenValue}
     {mode : InsertionMode} {modes : List InsertionMode} (k : KindValue) → new ≡ ks ++ k ∷ []
     → PlainIn ks entries stack mode modes → PlainIn new entries stack mode modes
-plain_new {ks} k e h = plain_kinds e (plain_grown (plain_before ks k) h)
+plain_new k e h = plain_grown ((grows_new k e).names is_plain_element) h
 
 -- ---- what is inserted
 
@@ -234,29 +225,9 @@ insert_doctype_stays = record {
 
 -- ---- attributes that an element lacks
 
-missing_plain : (more : List AttributePair) (k : KindValue)
-    → is_plain_kind (kind_with_missing more k) ≡ is_plain_kind k
-missing_plain more (element name attributes) = refl
-missing_plain more (text s) = refl
-missing_plain more document = refl
-missing_plain more doctype = refl
-missing_plain more (comment s) = refl
-
-pub plain_set : (ks : List KindValue) (n m : ℕ) (k : KindValue)
-    → is_plain_kind k ≡ is_plain_kind (get_or ks n document) → PlainAt ks m → PlainAt (set ks n k) m
-plain_set [] n m k e p = p
-plain_set (x ∷ ks) zero zero k e p = e ∙ p
-plain_set (x ∷ ks) zero (suc m) k e p = p
-plain_set (x ∷ ks) (suc n) zero k e p = p
-plain_set (x ∷ ks) (suc n) (suc m) k e p = plain_set ks n m k e p
-
 pub missing_grows : (n : ℕ) (more : List AttributePair) (nodes : List NodeValue) (m : ℕ) → PlainAt (kinds nodes) m
     → PlainAt (kinds (add_missing n more nodes)) m
-missing_grows n more nodes m p =
-    subst (λ (ks : List KindValue). PlainAt ks m)
-    (sym (kinds_with_kind n (kind_with_missing more (kind_at nodes n)) nodes))
-    (plain_set (kinds nodes) n m (kind_with_missing more (kind_at nodes n))
-    (missing_plain more (kind_at nodes n) ∙ ap is_plain_kind (kind_read nodes n)) p)
+missing_grows n more nodes m p = (grows_missing n more nodes).names is_plain_element m p
 
 pub add_missing_stays : (n : ℕ) (more : List AttributePair) → Stays (on_nodes (add_missing n more))
 add_missing_stays n more = record {

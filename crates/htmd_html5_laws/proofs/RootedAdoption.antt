@@ -19,14 +19,14 @@ use Rattle.htmd_html5_state.specs.Adoption.{round, go_on, rounds, closes_at_once
 use Rattle.htmd_html5_state.specs.declared.names.TagName.{TagName}
 use Rattle.htmd_html5_state.specs.declared.sets.NameSet.TheVariants.{Only}
 use Rattle.htmd_html5_laws.proofs.NodeTexts.{kinds, kinds_put, kinds_detach, kind_read}
+use Rattle.htmd_html5_laws.proofs.NamedKinds.{is_named, Grows, grows_same, grows_then, grows_new, named_added}
 use Rattle.htmd_html5_laws.proofs.KeepingInsertion.{listed_replaced}
 use Rattle.htmd_html5_laws.proofs.KeepingAdoption.{wrap_kinds, listed_marked}
 use Rattle.htmd_html5_laws.proofs.OpenNodes.{EachOpen, each_append}
 use Rattle.htmd_html5_laws.proofs.PlainAdoption.{copy_kinds, after_round, found_listed}
-use Rattle.htmd_html5_laws.proofs.RootedStacks.{is_inner_tag, InnerOpen, rooted_under, not_body, close_name_rooted}
+use Rattle.htmd_html5_laws.proofs.RootedStacks.{is_inner, is_inner_tag, InnerOpen, rooted_under, not_body, close_name_rooted}
 use Rattle.htmd_html5_laws.proofs.RootedStacks.{popped_rooted, around_rooted, inside_inner}
-use Rattle.htmd_html5_laws.proofs.RootedStates.{is_inner_kind, InnerAt, RootedAt, Roots, Grows, grows_same, grows_then}
-use Rattle.htmd_html5_laws.proofs.RootedStates.{grows_new, rooted_grown, rooted_stack, rooted_listed, inner_added}
+use Rattle.htmd_html5_laws.proofs.RootedStates.{InnerAt, RootedAt, Roots, rooted_grown, rooted_stack, rooted_listed}
 use Rattle.htmd_html5_laws.proofs.RootedStates.{number_after, without_entry_roots}
 
 -- ---- the elements between
@@ -43,7 +43,7 @@ copy_rooted : (body n last : ℕ) (s : StateValue) → InnerAt (kinds s.nodes) n
 copy_rooted body n last s p h =
     rooted_listed (length s.nodes) (
       number_after body s h,
-      inner_added s.nodes (kind_at s.nodes n) (copy_kinds n last s) (ap is_inner_kind (kind_read s.nodes n) ∙ p),
+      named_added is_inner s.nodes (kind_at s.nodes n) (copy_kinds n last s) (ap (is_named is_inner) (kind_read s.nodes n) ∙ p),
     )
     (λ m l. listed_replaced m n (length s.nodes) s.formatting l)
     (rooted_grown (grows_new (kind_at s.nodes n) (copy_kinds n last s)) h)
@@ -119,8 +119,8 @@ finish_rooted : (body formatting : ℕ) (tag : TagName) (f : Furthest) (c : Chai
 finish_rooted body formatting tag f c s p at names copies h =
     rooted_listed (length s.nodes) (
       number_after body s h,
-      inner_added s.nodes (kind_at s.nodes formatting) (wrap_kinds formatting f.block.node s.nodes)
-          (ap is_inner_kind (kind_read s.nodes formatting) ∙ at),
+      named_added is_inner s.nodes (kind_at s.nodes formatting) (wrap_kinds formatting f.block.node s.nodes)
+          (ap (is_named is_inner) (kind_read s.nodes formatting) ∙ at),
     )
     (λ n l. listed_marked n formatting (length s.nodes) c.bookmark s.formatting l)
     (rooted_stack (f.inner ++ opened (length s.nodes) (html (known tag)) ∷ f.block ∷ (c.copies ++ s.stack))
@@ -134,7 +134,8 @@ adopt_rooted : (body formatting : ℕ) (tag : TagName) (f : Furthest) (s : State
 unfolding move_last
 adopt_rooted body formatting tag f s p at names h = record {
   rooted = finish_rooted body formatting tag f made (move_last made.last made.state) p
-      ((move_grows made.last made.state).names formatting (chained.grows.names formatting at)) names chained.copies
+      ((move_grows made.last made.state).names is_inner formatting
+      (chained.grows.names is_inner formatting at)) names chained.copies
       (move_rooted body made.last made.state chained.rooted);
   content = chained.content;
 }

@@ -1,16 +1,15 @@
 -- States in which the body is open in one of its modes, and steps that leave them so.
-use Rattle.std.proofs.Common.{◌≡◌, ◌∙◌, ℕ, zero, suc, ◌<◌, ◌≤◌, Bool, true, false, List, [], ◌∷◌, ◌++◌, length, get_or, set}
+use Rattle.std.proofs.Common.{◌≡◌, ◌∙◌, ℕ, ◌<◌, Bool, true, false, List, [], ◌∷◌, length}
 use Rattle.std.proofs.Common.{Option, Some, None, refl, sym, ap, subst, arith, inl, inr, ◌⊎◌}
 use Rattle.std.specs.Prelude.{if◌then◌else◌}
 use Rattle.std.proofs.lemmas.Bool.{true≢false, eq-eqb}
-use Rattle.std.proofs.lemmas.List.{length-map, length-set, length-append}
+use Rattle.std.proofs.lemmas.List.{length-map}
 use Rattle.htmd_text.proofs.Cases.{test}
 use Rattle.htmd_grammar.specs.ValueTrees.{AttributePair}
 use Rattle.htmd_html5_tokens.specs.declared.tokens.RawElement.{RawElement}
 use Rattle.htmd_html5_state.specs.Names.{NameValue, ElementNameValue, html}
-use Rattle.htmd_html5_state.specs.Documents.{KindValue, NodeValue, document, doctype, text, comment, element, kind_at}
-use Rattle.htmd_html5_state.specs.Documents.{last_in, add_text, add_missing, kind_with_missing, text_of, joined_with}
-use Rattle.htmd_html5_state.specs.Documents.{joined_to, or_add, preceding}
+use Rattle.htmd_html5_state.specs.Documents.{KindValue, document, doctype, text, comment, element, kind_at}
+use Rattle.htmd_html5_state.specs.Documents.{last_in, add_missing}
 use Rattle.htmd_html5_state.specs.OpenElements.{OpenValue, is_open_node}
 use Rattle.htmd_html5_state.specs.State.{StateValue, on_nodes, on_stack, on_formatting}
 use Rattle.htmd_html5_state.specs.Foreign.{foreign_name, foreign_attributes, insert_foreign}
@@ -21,20 +20,18 @@ use Rattle.htmd_html5_state.specs.Formatting.{closed_elements, after_closed, ins
 use Rattle.htmd_html5_state.specs.declared.modes.InsertionMode.{InsertionMode}
 use Rattle.htmd_html5_state.specs.declared.names.Namespace.{Namespace}
 use Rattle.htmd_html5_state.specs.declared.names.Namespace.TheVariants.{Svg, MathMl}
-use Rattle.htmd_html5_laws.proofs.NodeTexts.{kinds, kinds_add, kinds_with_kind, kind_read, kind_new}
+use Rattle.htmd_html5_laws.proofs.NodeTexts.{kinds, kinds_add, kind_read}
+use Rattle.htmd_html5_laws.proofs.NamedKinds.{is_named, NamedAt, Grows, grows_same, grows_then, grows_added, named_added}
+use Rattle.htmd_html5_laws.proofs.NamedKinds.{grows_missing, grows_text}
 use Rattle.htmd_html5_laws.proofs.KeepingInsertion.{listed_more, listed_without, listed_after_marker, listed_closed, listed_first}
 use Rattle.htmd_html5_laws.proofs.KeepingInsertion.{listed_pushed}
 use Rattle.htmd_html5_laws.proofs.RootedStacks.{is_late, is_inner, is_inner_name, Rooted}
 
 -- ---- states
 
-abbrev pub is_inner_kind : KindValue → Bool
-is_inner_kind (element name attributes) = is_inner name
-is_inner_kind _ = false
-
 -- a node of these is an element with an inner name
 abbrev pub InnerAt : List KindValue → ℕ → Type 0
-InnerAt ks n = is_inner_kind (get_or ks n document) ≡ true
+InnerAt ks n = NamedAt is_inner ks n
 
 -- the body is open, and what may be opened again, and the form, came after it
 pub record RootedIn (body : ℕ) (ks : List KindValue) (entries : List (Option ℕ)) (form : Option ℕ)
@@ -89,21 +86,6 @@ roots_by_state a h = record {
 
 -- ---- parts of a state changed
 
--- there are no fewer nodes, and elements have the same names
-pub record Grows (ks new : List KindValue) : Type 0 where
-  pub size : length ks ≤ length new
-  pub names : (n : ℕ) → InnerAt ks n → InnerAt new n
-
-pub grows_same : {ks new : List KindValue} → new ≡ ks → Grows ks new
-grows_same {ks} {new} e =
-    subst (λ (x : List KindValue). Grows ks x) (sym e) (record { size = omega arith; names = λ n p. p })
-
-pub grows_then : {ks some new : List KindValue} → Grows ks some → Grows some new → Grows ks new
-grows_then a b = record {
-  size = let x = a.size in let y = b.size in omega arith;
-  names = λ n p. b.names n (a.names n p);
-}
-
 module _ {body : ℕ} {ks : List KindValue} {entries : List (Option ℕ)} {form : Option ℕ} {stack : List OpenValue}
     {mode : InsertionMode} where
   pub rooted_grown : {new : List KindValue} → Grows ks new → RootedIn body ks entries form stack mode
@@ -111,7 +93,7 @@ module _ {body : ℕ} {ks : List KindValue} {entries : List (Option ℕ)} {form 
   rooted_grown g h = record {
     within = let a = g.size in let b = h.within in omega arith;
     rooted = h.rooted;
-    entries_at = λ n l. let x = h.entries_at n l in (x.0, g.names n x.1);
+    entries_at = λ n l. let x = h.entries_at n l in (x.0, g.names is_inner n x.1);
     form_at = h.form_at;
     late = h.late;
   }
@@ -166,23 +148,6 @@ on_stack_roots f g = record {
 
 -- ---- one more node
 
-inner_before : (ks : List KindValue) (k : KindValue) (n : ℕ) → InnerAt ks n → InnerAt (ks ++ k ∷ []) n
-inner_before [] k n e = absurd (true≢false (sym e))
-inner_before (x ∷ ks) k zero e = e
-inner_before (x ∷ ks) k (suc n) e = inner_before ks k n e
-
-pub grows_new : {ks new : List KindValue} (k : KindValue) → new ≡ ks ++ k ∷ [] → Grows ks new
-grows_new {ks} k e =
-    subst (λ (x : List KindValue). Grows ks x) (sym e)
-    (record { size = let a = length-append ks (k ∷ []) in omega arith; names = inner_before ks k })
-
-pub inner_added : (nodes : List NodeValue) (k : KindValue) {new : List KindValue} → new ≡ kinds nodes ++ k ∷ []
-    → is_inner_kind k ≡ true → InnerAt new (length nodes)
-inner_added nodes k e p =
-    subst (λ (ks : List KindValue). InnerAt ks (length nodes)) (sym e)
-    (subst (λ (m : ℕ). InnerAt (kinds nodes ++ k ∷ []) m) (length-map nodes _)
-    (ap is_inner_kind (kind_new (kinds nodes) k) ∙ p))
-
 -- it comes after the body
 pub number_after : (body : ℕ) (s : StateValue) → RootedAt body s → body < length s.nodes
 number_after body s h = subst (λ (m : ℕ). body < m) (length-map s.nodes _) h.within
@@ -193,7 +158,7 @@ pub insert_named_roots : (name : ElementNameValue) (attributes : List AttributeP
     → Roots (insert_named name attributes)
 insert_named_roots name attributes p = record {
   rooted = λ body s h. rooted_stack (opened (length s.nodes) name ∷ s.stack) (inr (p, h.rooted))
-      (rooted_grown (grows_new (element name attributes) (kinds_add (element name attributes) (place s) s.nodes)) h);
+      (rooted_grown (grows_added (element name attributes) (place s) s.nodes) h);
   content = λ body s h. refl;
 }
 
@@ -204,8 +169,7 @@ insert_element_roots name attributes p = insert_named_roots (html name) attribut
 -- it is closed at once, whatever its name
 pub insert_void_roots : (name : NameValue) (attributes : List AttributePair) → Roots (insert_void name attributes)
 insert_void_roots name attributes = record {
-  rooted = λ body s h. rooted_grown (grows_new (element (html name) attributes)
-      (kinds_add (element (html name) attributes) (place s) s.nodes)) h;
+  rooted = λ body s h. rooted_grown (grows_added (element (html name) attributes) (place s) s.nodes) h;
   content = λ body s h. refl;
 }
 
@@ -222,8 +186,7 @@ pub insert_foreign_roots : (space : Namespace) (name : List ℕ) (attributes : L
     → Roots (insert_foreign space name attributes closes)
 insert_foreign_roots space name attributes true = record {
   rooted = λ body s h. rooted_grown
-      (grows_new (element (foreign_name space name) (foreign_attributes space attributes))
-      (kinds_add (element (foreign_name space name) (foreign_attributes space attributes)) (place s) s.nodes)) h;
+      (grows_added (element (foreign_name space name) (foreign_attributes space attributes)) (place s) s.nodes) h;
   content = λ body s h. refl;
 }
 insert_foreign_roots space name attributes false = record {
@@ -234,68 +197,22 @@ insert_foreign_roots space name attributes false = record {
 
 pub insert_comment_in_roots : (parent : ℕ) (c : List ℕ) → Roots (insert_comment_in parent c)
 insert_comment_in_roots parent c = record {
-  rooted = λ body s h. rooted_grown (grows_new (comment c) (kinds_add (comment c) (last_in parent) s.nodes)) h;
+  rooted = λ body s h. rooted_grown (grows_added (comment c) (last_in parent) s.nodes) h;
   content = λ body s h. refl;
 }
 
 pub insert_comment_roots : (c : List ℕ) → Roots (insert_comment c)
 insert_comment_roots c = roots_by_state (λ s. (current s.stack).node) (λ n. insert_comment_in_roots n c)
 
--- ---- a node of another kind, with the same name
-
-inner_set : (ks : List KindValue) (n m : ℕ) (k : KindValue)
-    → is_inner_kind k ≡ is_inner_kind (get_or ks n document) → InnerAt ks m → InnerAt (set ks n k) m
-inner_set [] n m k e p = p
-inner_set (x ∷ ks) zero zero k e p = e ∙ p
-inner_set (x ∷ ks) zero (suc m) k e p = p
-inner_set (x ∷ ks) (suc n) zero k e p = p
-inner_set (x ∷ ks) (suc n) (suc m) k e p = inner_set ks n m k e p
-
-grows_set : {ks new : List KindValue} (n : ℕ) (k : KindValue) → new ≡ set ks n k
-    → is_inner_kind k ≡ is_inner_kind (get_or ks n document) → Grows ks new
-grows_set {ks} n k e p =
-    subst (λ (x : List KindValue). Grows ks x) (sym e)
-    (record { size = let a = length-set ks n k in omega arith; names = λ m q. inner_set ks n m k p q })
-
-missing_inner : (more : List AttributePair) (k : KindValue)
-    → is_inner_kind (kind_with_missing more k) ≡ is_inner_kind k
-missing_inner more (element name attributes) = refl
-missing_inner more (text s) = refl
-missing_inner more document = refl
-missing_inner more doctype = refl
-missing_inner more (comment s) = refl
-
 pub add_missing_roots : (n : ℕ) (more : List AttributePair) → Roots (on_nodes (add_missing n more))
 add_missing_roots n more = record {
-  rooted = λ body s h. rooted_grown (grows_set n (kind_with_missing more (kind_at s.nodes n))
-      (kinds_with_kind n (kind_with_missing more (kind_at s.nodes n)) s.nodes)
-      (missing_inner more (kind_at s.nodes n) ∙ ap is_inner_kind (kind_read s.nodes n))) h;
+  rooted = λ body s h. rooted_grown (grows_missing n more s.nodes) h;
   content = λ body s h. refl;
 }
 
-text_grows : (t : List ℕ) (at : _) (nodes : List NodeValue) → Grows (kinds nodes) (kinds (add_text t at nodes))
-text_grows t at nodes = by_before (preceding at nodes)
-  where
-    added : Grows (kinds nodes) (kinds (or_add t at nodes None))
-    added = grows_new (text t) (kinds_add (text t) at nodes)
-
-    by_kind : (n : ℕ) (k : KindValue) → kind_at nodes n ≡ k
-        → Grows (kinds nodes) (kinds (or_add t at nodes (joined_with t n (text_of k) nodes)))
-    by_kind n (text c) e =
-        grows_set n (text (c ++ t)) (kinds_with_kind n (text (c ++ t)) nodes)
-        (sym (sym (ap is_inner_kind (kind_read nodes n)) ∙ ap is_inner_kind e))
-    by_kind n document e = added
-    by_kind n doctype e = added
-    by_kind n (comment c) e = added
-    by_kind n (element name attributes) e = added
-
-    by_before : (before : Option ℕ) → Grows (kinds nodes) (kinds (or_add t at nodes (joined_to t before nodes)))
-    by_before None = added
-    by_before (Some n) = by_kind n (kind_at nodes n) refl
-
 pub insert_text_roots : (t : List ℕ) → Roots (insert_text t)
 insert_text_roots t = record {
-  rooted = λ body s h. rooted_grown (text_grows t (place s) s.nodes) h;
+  rooted = λ body s h. rooted_grown (grows_text t (place s) s.nodes) h;
   content = λ body s h. refl;
 }
 
@@ -333,7 +250,7 @@ pub insert_formatting_roots : (name : NameValue) (attributes : List AttributePai
 insert_formatting_roots name attributes p = record {
   rooted = λ body s h. rooted_listed (length s.nodes) (
     number_after body s h,
-    inner_added s.nodes (element (html name) attributes)
+    named_added is_inner s.nodes (element (html name) attributes)
         (kinds_add (element (html name) attributes) (place s) s.nodes) p,
   )
       (λ n l. listed_pushed n (length s.nodes) (insert_element name attributes s).nodes s.formatting l)
@@ -352,15 +269,15 @@ abbrev EachInner : List KindValue → List ℕ → Type 0
 EachInner ks [] = Unit {0}
 EachInner ks (n ∷ ns) = InnerAt ks n × EachInner ks ns
 
-like_grown : (body : ℕ) (s : StateValue) (k : KindValue) → is_inner_kind k ≡ true → RootedAt body s
+like_grown : (body : ℕ) (s : StateValue) (k : KindValue) → is_named is_inner k ≡ true → RootedAt body s
     → RootedGrown body s (on_formatting (λ entries. Some (length s.nodes) ∷ entries) (insert_like k s))
 like_grown body s (element name attributes) p h = record {
   rooted = rooted_listed (length s.nodes) (
     number_after body s h,
-    inner_added s.nodes (element name attributes) (kinds_add (element name attributes) (place s) s.nodes) p,
+    named_added is_inner s.nodes (element name attributes) (kinds_add (element name attributes) (place s) s.nodes) p,
   )
       (λ n l. listed_first n (length s.nodes) s.formatting l) ((insert_named_roots name attributes p).rooted body s h);
-  grows = grows_new (element name attributes) (kinds_add (element name attributes) (place s) s.nodes);
+  grows = grows_added (element name attributes) (place s) s.nodes;
 }
 like_grown body s (text t) p h = absurd (true≢false (sym p))
 like_grown body s document p h = absurd (true≢false (sym p))
@@ -373,7 +290,7 @@ reopen_all_grown body [] s all h = record { rooted = h; grows = grows_same refl 
 reopen_all_grown body (n ∷ ns) s all h =
     let before : RootedGrown body s (reopen_all ns s) = reopen_all_grown body ns s all.1 h in
     let last = like_grown body (reopen_all ns s) (kind_at (reopen_all ns s).nodes n)
-    (ap is_inner_kind (kind_read (reopen_all ns s).nodes n) ∙ before.grows.names n all.0) before.rooted in
+    (ap (is_named is_inner) (kind_read (reopen_all ns s).nodes n) ∙ before.grows.names is_inner n all.0) before.rooted in
     record { rooted = last.rooted; grows = grows_then before.grows last.grows }
 
 closed_inner : (ks : List KindValue) (stack : List OpenValue) (entries : List (Option ℕ))
