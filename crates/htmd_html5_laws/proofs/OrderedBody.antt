@@ -1,7 +1,7 @@
 -- The rules that many modes share and those of the mode "in body" leave the letters in order, where the tag's name is
 -- of none that moves text.
 use Rattle.std.proofs.Common.{◌≡◌, ℕ, Bool, true, false, List, [], Option, Some, None, refl, sym}
-use Rattle.std.specs.Prelude.{if◌then◌else◌, is_some}
+use Rattle.std.specs.Prelude.{is_some}
 use Rattle.std.proofs.lemmas.Bool.{true≢false}
 use Rattle.htmd_grammar.specs.ValueTrees.{AttributePair}
 use Rattle.htmd_html5_state.specs.Names.{NameValue, known, other, text_of_name}
@@ -45,7 +45,7 @@ use Rattle.htmd_html5_tokens.specs.declared.tokens.RawElement.TheVariants as raw
 use Rattle.htmd_html5_laws.proofs.PlainNames.{is_plain}
 use Rattle.htmd_html5_laws.proofs.PlainStates.{is_plain_mode, Plain}
 use Rattle.htmd_html5_laws.proofs.ColumnTags.{IsColumn}
-use Rattle.htmd_html5_laws.proofs.PlainBody.{StaysAnswer, says_plain, answers_either, with_mode_stays, no_frameset_stays}
+use Rattle.htmd_html5_laws.proofs.PlainBody.{StaysAnswer, says_plain, with_mode_stays, no_frameset_stays}
 use Rattle.htmd_html5_laws.proofs.PlainBody.{end_template_stays, skip_line_feed_stays, with_form_stays, start_select_stays}
 use Rattle.htmd_html5_laws.proofs.PlainBody.{close_noted_form_stays}
 use Rattle.htmd_html5_laws.proofs.OrderedStates.{Ordered, Orders, then_orders, unmoved, orders_by_test, orders_by_state}
@@ -109,18 +109,6 @@ module _ (choice : Choice) where
     stays = says_plain h.stays;
     orders = λ letters s plain x o. h.orders letters s plain x o;
   }
-
-  pub orders_either : {f g : StateValue → Answer} (b : StateValue → Bool) → OrdersAnswer f → OrdersAnswer g
-      → OrdersAnswer (λ s. if b s then f s else g s)
-  orders_either {f} {g} b first second = record {
-    stays = answers_either b first.stays second.stays;
-    orders = λ letters s h x o. either (b s) letters s h x o;
-  }
-    where
-      either : (t : Bool) (letters : List ℕ) (s : StateValue) → Plain s → Hung s → Ordered choice letters s
-          → Ordered choice letters (if t then f s else g s).state
-      either true letters s h x o = first.orders letters s h x o
-      either false letters s h x o = second.orders letters s h x o
 
   -- ---- rules that many modes share
 

@@ -102,9 +102,6 @@ module _ (choice : Choice) where
     put_in_head (known tags.Template) n q = absurd (true≢false (sym q))
     put_in_head _ n q = void_in_head
 
-    still_in_head : StageAnswer choice letters (done s)
-    still_in_head = calm_answer choice mode false letters s e m (go false s (h, at))
-
     root_in_head : StageAnswer choice letters (done (add_to_root tag s))
     root_in_head =
         root_stage choice letters tag s mode e m

@@ -64,7 +64,7 @@ pub record TagRooted (body : ℕ) (s new : StateValue) : Type 0 where
 pub record TagRoots (f : StateValue → StateValue) : Type 0 where
   pub leaves : (body : ℕ) (s : StateValue) → RootedAt body s → TagRooted body s (f s)
 
-pub steady : {f : StateValue → StateValue} → Roots f → TagRoots f
+steady : {f : StateValue → StateValue} → Roots f → TagRoots f
 steady f = record {
   leaves = λ body s h. record {
     rooted = f.rooted body s h;

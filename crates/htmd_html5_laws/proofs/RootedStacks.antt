@@ -166,7 +166,7 @@ no_inner_table (html (other s)) p = refl
 no_inner_table (svg s) p = refl
 no_inner_table (math s) p = refl
 
-pub no_table : (body : ℕ) (stack : List OpenValue) → Rooted body stack
+no_table : (body : ℕ) (stack : List OpenValue) → Rooted body stack
     → is_in_scope (Only tags.Table) TemplateScope stack ≡ false
 no_table body [] h = refl
 no_table body (e ∷ es) (inl h) =

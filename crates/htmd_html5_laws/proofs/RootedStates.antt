@@ -108,7 +108,7 @@ module _ {body : ℕ} {ks : List KindValue} {entries : List (Option ℕ)} {form 
     late = h.late;
   }
 
-  pub rooted_entries : {later : List (Option ℕ)}
+  rooted_entries : {later : List (Option ℕ)}
       → ((n : ℕ) → is_listed n later ≡ true → (body < n) × InnerAt ks n)
       → RootedIn body ks entries form stack mode → RootedIn body ks later form stack mode
   rooted_entries f h = record {
@@ -154,7 +154,7 @@ number_after body s h = subst (λ (m : ℕ). body < m) (length-map s.nodes _) h.
 
 -- ---- what is inserted
 
-pub insert_named_roots : (name : ElementNameValue) (attributes : List AttributePair) → is_inner name ≡ true
+insert_named_roots : (name : ElementNameValue) (attributes : List AttributePair) → is_inner name ≡ true
     → Roots (insert_named name attributes)
 insert_named_roots name attributes p = record {
   rooted = λ body s h. rooted_stack (opened (length s.nodes) name ∷ s.stack) (inr (p, h.rooted))
