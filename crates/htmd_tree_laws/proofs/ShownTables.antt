@@ -36,10 +36,12 @@ use Rattle.htmd_walk.specs.OtherBlocks.{hidden_tags}
 use Rattle.htmd_walk.specs.Outputs.{conversion_of, is_guarded}
 use Rattle.htmd_walk.specs.TableLayouts.{has_tag, tagged_children, table_child}
 use Rattle.htmd_walk.specs.Tables.{cell_tags, has_table_form}
-use Rattle.htmd_tree_laws.specs.Shown.{is_counted, counted_characters, is_empty_element, is_one_text, node_of, is_caption, is_of_rows}
+use Rattle.htmd_tree_laws.specs.Shown.{is_visible, visible, is_no_asterisk, uses_tildes, counted_characters, is_empty_element}
+use Rattle.htmd_tree_laws.specs.Shown.{is_one_text, node_of, is_caption, is_of_rows, IsPart}
 use Rattle.htmd_tree_laws.specs.Shown.{shown_of, shown_among, shown_but_later, shown_later}
-use Rattle.htmd_tree_laws.proofs.CountedTexts.{of_visible}
-use Rattle.htmd_tree_laws.proofs.LettersLemmas.{Says, says-own, says-nil, says-append, says-is, says-fillers, shows-none, is_white}
+use Rattle.htmd_tree_laws.proofs.CountedTexts.{of_visible, holds-own, part-filtered}
+use Rattle.htmd_tree_laws.proofs.LettersLemmas.{Says, says-own, says-nil, says-append, says-is, says-in, says-fillers, shows-none}
+use Rattle.htmd_tree_laws.proofs.LettersLemmas.{is_white}
 use Rattle.htmd_tree_laws.proofs.LettersLemmas.{whites_fill, whites_silent, fillers_ascii}
 use Rattle.htmd_tree_laws.proofs.LettersOfTexts.{document_of_white}
 use Rattle.htmd_tree_laws.proofs.LettersOfTables.{all_of, all-append}
@@ -74,12 +76,11 @@ module _ (options : Options) (is_so : is_guarded options ≡ true) (items : List
   abbrev guarded : Bool
   guarded = is_guarded options
 
-  white_shows : (without : Bool) (s : List ℕ) → list_any (λ b. not (is_document_white_space b)) s ≡ false
-      → counted_characters without s ≡ []
-  white_shows without s e =
+  white_shows : (s : List ℕ) → list_any (λ b. not (is_document_white_space b)) s ≡ false → visible s ≡ []
+  white_shows s e =
       let white = all_white s e in
-      ap (filter (is_counted without)) (chars-IsAscii s (fillers_ascii s (whites_fill s white)))
-      ∙ whites_silent (of_visible without) s white
+      ap (filter is_visible) (chars-IsAscii s (fillers_ascii s (whites_fill s white)))
+      ∙ whites_silent of_visible s white
 
   -- not an element that shows nothing, and so none that a browser doesn't show
   not_hidden : (name : List ℕ) → is_empty_element guarded name ≡ false
@@ -88,12 +89,19 @@ module _ (options : Options) (is_so : is_guarded options ≡ true) (items : List
       let hidden = is_tag_among hidden_tags (Some name) in
       other_part hidden guarded is_so (or_parts _ (hidden && guarded) e).1
 
+  none_counted : (name : List ℕ) → counted_characters options name [] ≡ []
+  none_counted name = by (bytes_eq name (codes "pre") && uses_tildes options)
+    where
+      by : (b : Bool) → cond b (filter is_no_asterisk []) [] ≡ []
+      by true = refl
+      by false = refl
+
   mutual
     unseen : (tables : Bool) (tree : NumberedTree) → is_seen tree ≡ false
         → shown_of options items tables tree ≡ []
     unseen tables (document id c) e = unseen_among tables c e
     unseen tables (doctype id) e = refl
-    unseen tables (text id s) e = white_shows (not tables && guarded) s e
+    unseen tables (text id s) e = white_shows s e
     unseen tables (comment id s) e = refl
     unseen tables (element id name attributes c) e =
         let view = view_at (conversion_of (built_in options) items) id true c in
@@ -108,7 +116,7 @@ module _ (options : Options) (is_so : is_guarded options ≡ true) (items : List
         (λ (l : List ℕ). l ≡ [])
         (λ _. ap (λ z. z ++ shown_later options items inner false c) (unseen_first inner false c below)
         ∙ unseen_later inner false c below)
-        (λ _. unseen_among inner c below))
+        (λ _. ap (counted_characters options name) (unseen_among inner c below) ∙ none_counted name))
 
     unseen_among : (tables : Bool) (trees : NumberedForest) → are_seen trees ≡ false
         → shown_among options items tables trees ≡ []
@@ -158,24 +166,34 @@ module _ (options : Options) (is_so : is_guarded options ≡ true) (items : List
       (and_from (is_tag_among hidden_tags (Some name)) guarded e is_so)
 
   inside_shows : (name : List ℕ) (c : NumberedForest)
-      → Says (of_visible guarded) (all_text_among c) (shown_among options items false c)
-      → Says (of_visible guarded) (cond (bytes_eq name (codes "br")) (line_feed ∷ [])
+      → Says of_visible (all_text_among c) (shown_among options items false c)
+      → Says of_visible (cond (bytes_eq name (codes "br")) (line_feed ∷ [])
       (cond (is_tag_among hidden_tags (Some name)) [] (all_text_among c)))
       (cond (is_empty_element guarded name) [] (shown_among options items false c))
   inside_shows name c p =
       let below = shown_among options items false c in
       let wanted = cond (is_empty_element guarded name) [] below in
-      cond_both (bytes_eq name (codes "br")) _ _ (λ (s : List ℕ). Says (of_visible guarded) s wanted)
+      cond_both (bytes_eq name (codes "br")) _ _ (λ (s : List ℕ). Says of_visible s wanted)
       (λ e. says-is (empty_shows name below (break_is_empty name e)) (says-fillers (line_feed ∷ []) refl))
       (λ _. cond_both (is_tag_among hidden_tags (Some name)) _ _
-      (λ (s : List ℕ). Says (of_visible guarded) s wanted)
+      (λ (s : List ℕ). Says of_visible s wanted)
       (λ e. says-is (empty_shows name below (hidden_is_empty name e)) says-nil)
       (λ _. cond_both (is_empty_element guarded name) [] below
-      (λ (l : List ℕ). Says (of_visible guarded) (all_text_among c) l) (λ _. shows-none p.utf8) (λ _. p)))
+      (λ (l : List ℕ). Says of_visible (all_text_among c) l) (λ _. shows-none p.utf8) (λ _. p)))
+
+  -- no more of it is counted
+  fewer : (name l : List ℕ) → IsPart (cond (is_empty_element guarded name) [] (counted_characters options name l))
+      (cond (is_empty_element guarded name) [] l)
+  fewer name l = by (is_empty_element guarded name) (bytes_eq name (codes "pre") && uses_tildes options)
+    where
+      by : (empty b : Bool) → IsPart (cond empty [] (cond b (filter is_no_asterisk l) l)) (cond empty [] l)
+      by true b = tt
+      by false true = part-filtered is_no_asterisk l
+      by false false = holds-own of_visible l
 
   mutual
     all_text_shows : (tree : NumberedTree) → Fits guarded items tree
-        → Says (of_visible guarded) (all_text tree) (shown_of options items false tree)
+        → Says of_visible (all_text tree) (shown_of options items false tree)
     all_text_shows (document id c) fit = all_texts_show c fit
     all_text_shows (doctype id) fit = says-nil
     all_text_shows (text id s) fit = says-own s fit
@@ -183,10 +201,10 @@ module _ (options : Options) (is_so : is_guarded options ≡ true) (items : List
     all_text_shows (element id name attributes c) fit =
         let whole = not (is_one_text name attributes (view_at (conversion_of (built_in options) items) id true c)) in
         says-is (ap (λ l. cond (is_empty_element guarded name) [] l) (sym (in_tree options items id name whole c)))
-        (inside_shows name c (all_texts_show c fit.1))
+        (says-in (fewer name (shown_among options items false c)) (inside_shows name c (all_texts_show c fit.1)))
 
     pub all_texts_show : (trees : NumberedForest) → AllFit guarded items trees
-        → Says (of_visible guarded) (all_text_among trees) (shown_among options items false trees)
+        → Says of_visible (all_text_among trees) (shown_among options items false trees)
     all_texts_show none fit = says-nil
     all_texts_show (more tree trees) fit = says-append (all_text_shows tree fit.0) (all_texts_show trees fit.1)
 

@@ -5,6 +5,8 @@ use Rattle.std.specs.Char.{is_whitespace}
 use Rattle.std.specs.Option.{is_some}
 use Rattle.std.specs.Str.{chars, bytes_eq}
 use Rattle.htmd_text.specs.Characters.{asterisk}
+use Rattle.htmd_markdown.specs.declared.fence.CodeBlockFence.{CodeBlockFence}
+use Rattle.htmd_markdown.specs.declared.fence.CodeBlockFence.TheVariants.{Tildes, Backticks}
 use Rattle.htmd_tree.specs.ValueTrees.{AttributePair}
 use Rattle.htmd_tree.specs.Items.{Item, IsTree, HoldTexts}
 use Rattle.htmd_tree.specs.NumberedTrees.{NumberedTree, document, doctype, text, comment, element}
@@ -32,13 +34,6 @@ is_visible c = not (is_whitespace c)
 abbrev pub visible : List ℕ → List ℕ
 visible s = filter is_visible (chars s)
 
--- the same, but for `*` if asterisks aren't counted
-abbrev pub is_counted : Bool → ℕ → Bool
-is_counted without_asterisks c = if without_asterisks then is_visible c && not (c == asterisk) else is_visible c
-
-abbrev pub counted_characters : Bool → List ℕ → List ℕ
-counted_characters without_asterisks s = filter (is_counted without_asterisks) (chars s)
-
 -- the first list's members are in the second, in order
 abbrev pub IsPart : List ℕ → List ℕ → Type 0
 IsPart [] found = Unit {0}
@@ -52,6 +47,29 @@ abbrev pub is_empty_element : Bool → List ℕ → Bool
 is_empty_element guarded name =
     ((bytes_eq name (codes "br") || bytes_eq name (codes "hr")) || bytes_eq name (codes "img"))
     || (is_tag_among hidden_tags (Some name) && guarded)
+
+-- ---- what isn't counted
+
+abbrev pub is_no_asterisk : ℕ → Bool
+is_no_asterisk c = not (c == asterisk)
+
+abbrev pub is_of_tildes : CodeBlockFence → Bool
+is_of_tildes Tildes = true
+is_of_tildes Backticks = false
+
+-- in Guarded code blocks are fenced with tildes
+abbrev pub uses_tildes : Options → Bool
+uses_tildes options = is_guarded options && is_of_tildes options.code_block_fence
+
+-- a visible character; `*` only if no code block is fenced with tildes
+abbrev pub is_counted : Options → ℕ → Bool
+is_counted options c = is_visible c && (is_no_asterisk c || not (uses_tildes options))
+
+-- What counts of the characters below an element with this name: all, but no `*` in code that is fenced with tildes,
+-- which are no end of it to what is written next.
+abbrev pub counted_characters : Options → List ℕ → List ℕ → List ℕ
+counted_characters options name characters =
+    if bytes_eq name (codes "pre") && uses_tildes options then filter is_no_asterisk characters else characters
 
 -- ---- what is written as one text
 
@@ -91,12 +109,11 @@ is_of_rows items tree = is_or_has_row items (node_of tree)
 module _ (options : Options) (items : List Item) where
   abbrev mutual
     -- The characters of all texts that are not below an empty element, in the order in which they are written. The
-    -- flag says whether tables are written as tables; where they aren't in Guarded, all text is written as one, and
-    -- `*` isn't counted: marks of emphasis may go, and no backslash tells a `*` of such a text from them.
+    -- flag says whether tables are written as tables; they aren't where all text is written as one.
     pub shown_of : Bool → NumberedTree → List ℕ
     shown_of tables (document id children) = shown_among tables children
     shown_of tables (doctype id) = []
-    shown_of tables (text id s) = counted_characters (not tables && is_guarded options) s
+    shown_of tables (text id s) = visible s
     shown_of tables (comment id s) = []
     shown_of tables (element id name attributes children) =
         let view = view_at (conversion_of (built_in options) items) id true children in
@@ -104,7 +121,7 @@ module _ (options : Options) (items : List Item) where
         if is_empty_element (is_guarded options) name then []
         else (if bytes_eq name (codes "table") && (tables_below && is_written_as_table items id)
         then shown_but_later tables_below false children ++ shown_later tables_below false children
-        else shown_among tables_below children)
+        else counted_characters options name (shown_among tables_below children))
 
     pub shown_among : Bool → NumberedForest → List ℕ
     shown_among tables none = []
