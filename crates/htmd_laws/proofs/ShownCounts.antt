@@ -14,7 +14,8 @@ use Rattle.htmd_walk.specs.Elements.{view_at}
 use Rattle.htmd_walk.specs.GuardedTableLayouts.{is_written_as_table}
 use Rattle.htmd_walk.specs.Outputs.{conversion_of, is_guarded}
 use Rattle.htmd_walk.specs.BuiltIn.{built_in}
-use Rattle.htmd_tree_laws.specs.Shown.{is_visible, visible, is_no_asterisk, uses_tildes, is_counted, counted_characters}
+use Rattle.htmd_tree_laws.specs.Shown.{is_visible, visible, is_no_asterisk, uses_tildes, is_in_tildes, is_counted}
+use Rattle.htmd_tree_laws.specs.Shown.{counted_characters}
 use Rattle.htmd_tree_laws.specs.Shown.{IsPart, is_empty_element, is_one_text}
 use Rattle.htmd_tree_laws.specs.Shown.{is_caption, is_of_rows}
 use Rattle.htmd_tree_laws.specs.Shown.{shown_of, shown_among, shown_but_later, shown_later}
@@ -106,17 +107,15 @@ module _ (c : ℕ) where
         (or_cases (is_no_asterisk c) (not (uses_tildes options))
         (and_parts (is_visible c) (is_no_asterisk c || not (uses_tildes options)) seen).1)
 
-    counted_times : (name l : List ℕ) → times (counted_characters options name l) ≡ times l
-    counted_times name l =
-        cond_both (bytes_eq name (codes "pre") && uses_tildes options) (filter is_no_asterisk l) l
-        (λ (m : List ℕ). times m ≡ times l)
-        (λ e. times_of_passing is_no_asterisk l
-        (is_kept_in_tildes (and_parts (bytes_eq name (codes "pre")) (uses_tildes options) e).1))
-        (λ _. refl)
-
-    whole_counted : (name l : List ℕ) (hidden texts : List (List ℕ)) → Whole l hidden texts
-        → Whole (counted_characters options name l) hidden texts
-    whole_counted name l hidden texts v = let e = counted_times name l in omega arith
+    whole_counted : (id : ℕ) (name l : List ℕ) (hidden texts : List (List ℕ)) → Whole l hidden texts
+        → Whole (counted_characters (is_in_tildes options items id name) l) hidden texts
+    whole_counted id name l hidden texts v =
+        cond_both (is_in_tildes options items id name) (filter is_no_asterisk l) l (λ (m : List ℕ). Whole m hidden texts)
+        (λ e.
+        let inside = and_parts (bytes_eq name (codes "pre")) _ e in
+        let e = times_of_passing is_no_asterisk l (is_kept_in_tildes (and_parts (uses_tildes options) _ inside.1).0) in
+        omega arith)
+        (λ _. v)
 
     caption_or_not : (goes : Bool) (l m n : List ℕ) (hs is ts us : List (List ℕ)) → Whole l hs ts
         → Whole (m ++ n) is us
@@ -152,10 +151,10 @@ module _ (c : ℕ) where
           in_ways (is_empty_element (is_guarded options) name)
           (bytes_eq name (codes "table") && (below && is_written_as_table items id))
           (shown_but_later options items below false children) (shown_later options items below false children)
-          (counted_characters options name (shown_among options items below children))
+          (counted_characters (is_in_tildes options items id name) (shown_among options items below children))
           (hidden_among (is_guarded options) children) (texts_among children)
           (whole_table below false children)
-          (whole_counted name (shown_among options items below children) (hidden_among (is_guarded options) children)
+          (whole_counted id name (shown_among options items below children) (hidden_among (is_guarded options) children)
           (texts_among children) (whole_among below children))
 
       whole_among : (tables : Bool) (trees : NumberedForest)

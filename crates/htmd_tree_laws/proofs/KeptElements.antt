@@ -58,12 +58,12 @@ use Rattle.htmd_walk.specs.TableElements.{tables, table_plan, is_left_out}
 use Rattle.htmd_walk.specs.ThematicBreaks.{thematic_breaks, thematic_break_plan, thematic_break_style_of}
 use Rattle.htmd_tree_laws.specs.Letters.{said_of_each, prefers_autolinks}
 use Rattle.htmd_tree_laws.specs.Shown.{counted_characters, is_empty_element, is_autolink, is_formula, is_one_text, shown}
-use Rattle.htmd_tree_laws.specs.Shown.{shown_among, visible, is_no_asterisk, is_of_tildes}
-use Rattle.htmd_tree_laws.proofs.CountedTexts.{of_visible, part-filtered}
+use Rattle.htmd_tree_laws.specs.Shown.{shown_among, visible, is_no_asterisk, is_of_tildes, is_in_tildes}
+use Rattle.htmd_tree_laws.proofs.CountedTexts.{of_visible}
 use Rattle.htmd_tree_laws.proofs.ElementsByTag.{IsOnly, is_named, IsPlain, by_tag, unhandled_answer, child_text, guarded_language_is_text}
 use Rattle.htmd_tree_laws.proofs.KeptLines.{keeps-wrapped, keeps-blank_lines, keeps-trimmed}
 use Rattle.htmd_tree_laws.proofs.KeptMarks.{even, ends, says-ordinary}
-use Rattle.htmd_tree_laws.proofs.KeptChains.{Keeps, keeps-is, keeps-as, keeps-in, keeps-nil, keeps-safe, keeps-ordinary}
+use Rattle.htmd_tree_laws.proofs.KeptChains.{Keeps, keeps-is, keeps-as, keeps-nil, keeps-safe, keeps-ordinary}
 use Rattle.htmd_tree_laws.proofs.KeptPieces.{KeepAll, keeps-ordered, keeps-unnumbered_list, keeps-guarded_link}
 use Rattle.htmd_tree_laws.proofs.KeptPieces.{keeps-guarded_reference, keeps-guarded_autolink, keeps-guarded_code, closed-image}
 use Rattle.htmd_tree_laws.proofs.KeptPieces.{keeps-guarded_span, keeps-backticks, keeps-formula, closed-tildes}
@@ -284,14 +284,9 @@ module _ (options : Options) (g : is_guarded options ≡ true) (alone : is_markd
     language_shows None found = refl
     language_shows (Some s) found = shows-none found
 
-    -- what is promised of code with this fence
+    -- what is promised of a block with this fence
     abbrev in_fences : CodeBlockFence → List ℕ
-    in_fences fence = cond (is_of_tildes fence) (filter is_no_asterisk in_tree) in_tree
-
-    in_line_keeps : (fence : CodeBlockFence) → Keeps (guarded_span_in_line (all_text_of at.view)) (in_fences fence)
-    in_line_keeps Tildes =
-        keeps-in (part-filtered is_no_asterisk in_tree) (keeps-guarded_span (all_text_of at.view) whole)
-    in_line_keeps Backticks = keeps-guarded_span (all_text_of at.view) whole
+    in_fences fence = counted_characters (is_of_tildes fence) in_tree
 
     block_says : (fence : CodeBlockFence)
         → Says of_visible (guarded_code_block (all_text_of at.view) (guarded_language at.view) fence) in_tree
@@ -310,19 +305,33 @@ module _ (options : Options) (g : is_guarded options ≡ true) (alone : is_markd
     block_keeps Backticks =
         keeps-backticks (all_text_of at.view) (guarded_language at.view) (block_says Backticks)
 
-    preformatted_keeps : Keeps (guarded_preformatted at.view) (in_fences options.code_block_fence)
-    preformatted_keeps =
-        cond_both (stands_in_line items id) _ _ (λ (t : List ℕ). Keeps t (in_fences options.code_block_fence))
-        (λ _. in_line_keeps options.code_block_fence) (λ _. block_keeps options.code_block_fence)
+    preformatted_keeps : (in_line : Bool)
+        → Keeps (cond in_line (guarded_span_in_line (all_text_of at.view)) (with_blank_lines
+        (guarded_code_block (all_text_of at.view) (guarded_language at.view) options.code_block_fence)))
+        (counted_characters (is_of_tildes options.code_block_fence && not in_line) in_tree)
+    preformatted_keeps true =
+        keeps-is (ap (λ b. counted_characters b in_tree) (sym (never (is_of_tildes options.code_block_fence))))
+        (keeps-guarded_span (all_text_of at.view) whole)
+      where
+        never : (b : Bool) → (b && false) ≡ false
+        never true = refl
+        never false = refl
+    preformatted_keeps false =
+        keeps-is (ap (λ b. counted_characters b in_tree) (sym (same (is_of_tildes options.code_block_fence))))
+        (block_keeps options.code_block_fence)
+      where
+        same : (b : Bool) → (b && true) ≡ b
+        same true = refl
+        same false = refl
 
     pre_keeps : IsKept (codes "pre")
     pre_keeps here =
         planned_gives at definitions (codes "pre") preformatted_texts (markdown_plan (guarded_preformatted at.view))
-        (counted_characters options (codes "pre") in_tree) refl (rw g refl)
+        (counted_characters (is_in_tildes options items id (codes "pre")) in_tree) refl (rw g refl)
         (subst
         (λ b. Keeps (guarded_preformatted at.view)
-        (cond (b && is_of_tildes options.code_block_fence) (filter is_no_asterisk in_tree) in_tree))
-        (sym g) preformatted_keeps)
+        (counted_characters ((b && is_of_tildes options.code_block_fence) && not (stands_in_line items id)) in_tree))
+        (sym g) (preformatted_keeps (stands_in_line items id)))
 
     -- the only text shows the same either way
     same_shown : (s : List ℕ) → only_text children ≡ Some s → all_shown ≡ in_tree
@@ -373,7 +382,7 @@ module _ (options : Options) (g : is_guarded options ≡ true) (alone : is_markd
         (or_from _ _ (or_from _ _ is.code is.pre) (and_left _ (is_autolink (anchor_address at.view) at.view) is.a))
         (and_left _ (is_formula own (only_text children)) is.span) in
         ap (λ b. shown_inside options items id name (not b && true) children) apart
-        ∙ no_table options items id name true children is.table ∙ no_code options items name all_shown is.pre
+        ∙ no_table options items id name true children is.table ∙ no_code options items id name all_shown is.pre
 
     as_kept : (name : List ℕ) (r : Option ResultView) → IsPlain name → is_named hidden_tags name ≡ false
         → KeepsResult r all_shown

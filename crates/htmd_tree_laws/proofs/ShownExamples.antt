@@ -14,6 +14,7 @@ use Rattle.htmd_markdown.specs.declared.fence.CodeBlockFence.TheVariants.{Tildes
 use Rattle.htmd_walk.specs.declared.options.Options.{Options}
 use Rattle.htmd_walk.specs.declared.options.TranslationMode.TheVariants.{Guarded}
 use Rattle.htmd_walk.specs.Defaults.{default_options}
+use Rattle.htmd_walk.specs.OneLineElements.{stands_in_line, in_line_up}
 use Rattle.htmd_walk.proofs.GuardedExamples.{guarded}
 use Rattle.htmd_tree_laws.specs.Shown.{IsPart, is_caption, is_of_rows, shown, shown_of, shown_among, shown_but_later}
 use Rattle.htmd_tree_laws.specs.Shown.{shown_later, tables_fit}
@@ -104,7 +105,7 @@ guarded_formula_shows_asterisks :
 unfolding tree_of forest_from chars guarded
 guarded_formula_shows_asterisks = refl
 
--- but not in code blocks that are fenced with tildes
+-- but not in code blocks that are fenced with tildes; in a heading code is no block
 abbrev with_tildes : Options
 with_tildes = record {
   heading_style = default_options.heading_style;
@@ -124,9 +125,9 @@ with_tildes = record {
 tildes_show_no_asterisk :
     page_shows with_tildes
     (leaf (codes "code") (codes "2*3") ∷ tag (codes "pre") (leaf (codes "i") (codes "4*") ∷ []) ∷
-    say (codes "5*") ∷ [])
-    ≡ codes "2*345*"
-unfolding tree_of forest_from chars
+    tag (codes "h1") (leaf (codes "pre") (codes "5*") ∷ []) ∷ say (codes "6*") ∷ [])
+    ≡ codes "2*345*6*"
+unfolding tree_of forest_from chars stands_in_line in_line_up
 tildes_show_no_asterisk = refl
 
 hidden_script_shows_nothing :

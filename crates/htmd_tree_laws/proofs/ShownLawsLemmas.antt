@@ -121,7 +121,7 @@ module _ (options : Options) (pure : is_guarded options ≡ false) (alone : is_m
       ≡ shown_inside options items id name (whole && is_guarded options) children
   inside_is id name whole children =
       sym (ap (λ b. shown_inside options items id name (whole && b) children) pure
-      ∙ in_tree options items id name whole children ∙ all_counted options items pure name _)
+      ∙ in_tree options items id name whole children ∙ all_counted options items pure id name _)
 
   within_is_shown : (n : ℕ) → AreShown n
   unfolding written_within

@@ -36,7 +36,7 @@ use Rattle.htmd_walk.specs.OtherBlocks.{hidden_tags}
 use Rattle.htmd_walk.specs.Outputs.{conversion_of, is_guarded}
 use Rattle.htmd_walk.specs.TableLayouts.{has_tag, tagged_children, table_child}
 use Rattle.htmd_walk.specs.Tables.{cell_tags, has_table_form}
-use Rattle.htmd_tree_laws.specs.Shown.{is_visible, visible, is_no_asterisk, uses_tildes, counted_characters, is_empty_element}
+use Rattle.htmd_tree_laws.specs.Shown.{is_visible, visible, is_no_asterisk, is_in_tildes, counted_characters, is_empty_element}
 use Rattle.htmd_tree_laws.specs.Shown.{is_one_text, node_of, is_caption, is_of_rows, IsPart}
 use Rattle.htmd_tree_laws.specs.Shown.{shown_of, shown_among, shown_but_later, shown_later}
 use Rattle.htmd_tree_laws.proofs.CountedTexts.{of_visible, holds-own, part-filtered}
@@ -89,12 +89,9 @@ module _ (options : Options) (is_so : is_guarded options ≡ true) (items : List
       let hidden = is_tag_among hidden_tags (Some name) in
       other_part hidden guarded is_so (or_parts _ (hidden && guarded) e).1
 
-  none_counted : (name : List ℕ) → counted_characters options name [] ≡ []
-  none_counted name = by (bytes_eq name (codes "pre") && uses_tildes options)
-    where
-      by : (b : Bool) → cond b (filter is_no_asterisk []) [] ≡ []
-      by true = refl
-      by false = refl
+  none_counted : (in_tildes : Bool) → counted_characters in_tildes [] ≡ []
+  none_counted true = refl
+  none_counted false = refl
 
   mutual
     unseen : (tables : Bool) (tree : NumberedTree) → is_seen tree ≡ false
@@ -116,7 +113,8 @@ module _ (options : Options) (is_so : is_guarded options ≡ true) (items : List
         (λ (l : List ℕ). l ≡ [])
         (λ _. ap (λ z. z ++ shown_later options items inner false c) (unseen_first inner false c below)
         ∙ unseen_later inner false c below)
-        (λ _. ap (counted_characters options name) (unseen_among inner c below) ∙ none_counted name))
+        (λ _. ap (counted_characters (is_in_tildes options items id name)) (unseen_among inner c below)
+        ∙ none_counted (is_in_tildes options items id name)))
 
     unseen_among : (tables : Bool) (trees : NumberedForest) → are_seen trees ≡ false
         → shown_among options items tables trees ≡ []
@@ -182,14 +180,11 @@ module _ (options : Options) (is_so : is_guarded options ≡ true) (items : List
       (λ (l : List ℕ). Says of_visible (all_text_among c) l) (λ _. shows-none p.utf8) (λ _. p)))
 
   -- no more of it is counted
-  fewer : (name l : List ℕ) → IsPart (cond (is_empty_element guarded name) [] (counted_characters options name l))
-      (cond (is_empty_element guarded name) [] l)
-  fewer name l = by (is_empty_element guarded name) (bytes_eq name (codes "pre") && uses_tildes options)
-    where
-      by : (empty b : Bool) → IsPart (cond empty [] (cond b (filter is_no_asterisk l) l)) (cond empty [] l)
-      by true b = tt
-      by false true = part-filtered is_no_asterisk l
-      by false false = holds-own of_visible l
+  fewer : (empty in_tildes : Bool) (l : List ℕ)
+      → IsPart (cond empty [] (counted_characters in_tildes l)) (cond empty [] l)
+  fewer true in_tildes l = tt
+  fewer false true l = part-filtered is_no_asterisk l
+  fewer false false l = holds-own of_visible l
 
   mutual
     all_text_shows : (tree : NumberedTree) → Fits guarded items tree
@@ -201,7 +196,9 @@ module _ (options : Options) (is_so : is_guarded options ≡ true) (items : List
     all_text_shows (element id name attributes c) fit =
         let whole = not (is_one_text name attributes (view_at (conversion_of (built_in options) items) id true c)) in
         says-is (ap (λ l. cond (is_empty_element guarded name) [] l) (sym (in_tree options items id name whole c)))
-        (says-in (fewer name (shown_among options items false c)) (inside_shows name c (all_texts_show c fit.1)))
+        (says-in
+        (fewer (is_empty_element guarded name) (is_in_tildes options items id name) (shown_among options items false c))
+        (inside_shows name c (all_texts_show c fit.1)))
 
     pub all_texts_show : (trees : NumberedForest) → AllFit guarded items trees
         → Says of_visible (all_text_among trees) (shown_among options items false trees)

@@ -1,11 +1,10 @@
 -- What trees show: their groups show the same, and the children of an ordered list are those that stand in its tree.
 use Rattle.std.proofs.Common.{◌≡◌, ℕ, zero, suc, ◌<◌, ◌≤◌, Bool, true, false, cond, List, [], ◌∷◌, ◌++◌, length, get_or}
 use Rattle.std.proofs.Common.{Option, Some, None, codes, refl, sym, ap, ◌∙◌, subst, arith, append_assoc, ⊎_elim}
-use Rattle.std.specs.Prelude.{◌&&◌, ◌||◌, not, filter}
+use Rattle.std.specs.Prelude.{◌&&◌, ◌||◌, not}
 use Rattle.std.specs.Str.{IsUtf8, bytes_eq}
 use Rattle.std.proofs.lemmas.Bool.{cond_both, or_cases, and_parts, true≢false, false≢true, false_from_ne_true}
 use Rattle.std.proofs.lemmas.List.{append-nil}
-use Rattle.std.proofs.lemmas.List.Elements.{filter-append}
 use Rattle.std.proofs.lemmas.Slice.Eq.{bytes_eq-Decides}
 use Rattle.htmd_text.specs.Blocks.{is_block}
 use Rattle.htmd_tree.specs.ValueTrees.{AttributePair}
@@ -24,9 +23,10 @@ use Rattle.htmd_walk.specs.Groups.{only_text, with_only_text, with_text, text_of
 use Rattle.htmd_walk.specs.Groups.{is_joinable}
 use Rattle.htmd_walk.specs.Groups.{in_front, groups_of, children_at, may_join, alike, is_em, is_strong, both_join, Joint, same_attributes}
 use Rattle.htmd_walk.specs.Handling.{ElementView}
+use Rattle.htmd_walk.specs.OneLineElements.{stands_in_line}
 use Rattle.htmd_walk.specs.Children.{descendant_tree}
 use Rattle.htmd_tree_laws.specs.Letters.{said_among, said_of_each}
-use Rattle.htmd_tree_laws.specs.Shown.{visible, is_no_asterisk, is_of_tildes, uses_tildes, counted_characters, is_empty_element}
+use Rattle.htmd_tree_laws.specs.Shown.{visible, is_of_tildes, uses_tildes, is_in_tildes, counted_characters, is_empty_element}
 use Rattle.htmd_tree_laws.specs.Shown.{is_one_text, shown_of}
 use Rattle.htmd_tree_laws.specs.Shown.{shown_among}
 use Rattle.htmd_tree_laws.specs.Shown.{shown_but_later, shown_later, has_table, have_table, tables_fit}
@@ -71,6 +71,13 @@ joins_no_table : (name : List ℕ) → may_join name ≡ true → bytes_eq name 
 joins_no_table name may =
     false_from_ne_true (bytes_eq name (codes "table"))
     (λ is. true≢false (sym may ∙ ap may_join ((bytes_eq-Decides name (codes "table")).0 is) ∙ table_is_alone))
+
+-- and no code block
+joins_no_code : (name : List ℕ) → may_join name ≡ true → bytes_eq name (codes "pre") ≡ false
+unfolding is_block
+joins_no_code name may =
+    false_from_ne_true (bytes_eq name (codes "pre"))
+    (λ is. true≢false (sym may ∙ ap may_join ((bytes_eq-Decides name (codes "pre")).0 is)))
 
 -- two trees are not one text
 pub not_alone : (tree next : NumberedTree) (trees : NumberedForest) → only_text (more tree (more next trees)) ≡ None
@@ -149,73 +156,64 @@ module _ (options : Options) (items : List Item) where
   abbrev pub shown_inside : ℕ → List ℕ → Bool → NumberedForest → List ℕ
   shown_inside id name tables trees =
       cond (bytes_eq name (codes "table") && (tables && is_written_as_table items id)) (in_table tables trees)
-      (counted_characters options name (shown_among options items tables trees))
+      (counted_characters (is_in_tildes options items id name) (shown_among options items tables trees))
 
   -- what is no table shows what is in it in the tree's order
   pub no_table : (id : ℕ) (name : List ℕ) (tables : Bool) (trees : NumberedForest)
       → bytes_eq name (codes "table") ≡ false
       → shown_inside id name tables trees
-      ≡ counted_characters options name (shown_among options items tables trees)
+      ≡ counted_characters (is_in_tildes options items id name) (shown_among options items tables trees)
   no_table id name tables trees other =
       ap (λ b. cond (b && (tables && is_written_as_table items id)) (in_table tables trees)
-      (counted_characters options name (shown_among options items tables trees))) other
+      (counted_characters (is_in_tildes options items id name) (shown_among options items tables trees))) other
 
   -- without tables all is in the tree's order
   pub in_tree : (id : ℕ) (name : List ℕ) (b : Bool) (trees : NumberedForest)
       → shown_inside id name (b && false) trees
-      ≡ counted_characters options name (shown_among options items false trees)
+      ≡ counted_characters (is_in_tildes options items id name) (shown_among options items false trees)
   in_tree id name b trees = by b (bytes_eq name (codes "table"))
     where
       by : (b is : Bool)
           → cond (is && ((b && false) && is_written_as_table items id)) (in_table (b && false) trees)
-          (counted_characters options name (shown_among options items (b && false) trees))
-          ≡ counted_characters options name (shown_among options items false trees)
+          (counted_characters (is_in_tildes options items id name) (shown_among options items (b && false) trees))
+          ≡ counted_characters (is_in_tildes options items id name) (shown_among options items false trees)
       by true true = refl
       by true false = refl
       by false true = refl
       by false false = refl
 
   -- all counts in what is no code block
-  pub no_code : (name l : List ℕ) → bytes_eq name (codes "pre") ≡ false → counted_characters options name l ≡ l
-  no_code name l other = ap (λ b. cond (b && uses_tildes options) (filter is_no_asterisk l) l) other
+  pub no_code : (id : ℕ) (name l : List ℕ) → bytes_eq name (codes "pre") ≡ false
+      → counted_characters (is_in_tildes options items id name) l ≡ l
+  no_code id name l other =
+      ap (λ b. counted_characters (b && (uses_tildes options && not (stands_in_line items id))) l) other
 
   -- and in Pure
-  pub all_counted : is_guarded options ≡ false → (name l : List ℕ) → counted_characters options name l ≡ l
-  all_counted pure name l =
-      ap (λ b. cond (bytes_eq name (codes "pre") && (b && is_of_tildes options.code_block_fence))
-      (filter is_no_asterisk l) l) pure
+  pub all_counted : is_guarded options ≡ false → (id : ℕ) (name l : List ℕ)
+      → counted_characters (is_in_tildes options items id name) l ≡ l
+  all_counted pure id name l =
+      ap (λ b. counted_characters (bytes_eq name (codes "pre")
+      && ((b && is_of_tildes options.code_block_fence) && not (stands_in_line items id))) l) pure
       ∙ by (bytes_eq name (codes "pre"))
     where
-      by : (b : Bool) → cond (b && false) (filter is_no_asterisk l) l ≡ l
+      by : (b : Bool) → counted_characters (b && false) l ≡ l
       by true = refl
       by false = refl
 
   -- ---- groups
 
   one_shows : (tables : Bool) (i : ℕ) (m : List ℕ) (a : List AttributePair) (c : NumberedForest) (s : List ℕ)
-      → bytes_eq m (codes "table") ≡ false → only_text c ≡ Some s
-      → shown_of options items tables (element i m a c)
-      ≡ cond (is_empty_element guarded m) [] (counted_characters options m (visible s))
-  one_shows tables i m a c s other one =
+      → bytes_eq m (codes "table") ≡ false → bytes_eq m (codes "pre") ≡ false → only_text c ≡ Some s
+      → shown_of options items tables (element i m a c) ≡ cond (is_empty_element guarded m) [] (visible s)
+  one_shows tables i m a c s other apart one =
       let inner = not (is_one_text m a (view_at (conversion_of (built_in options) items) i true c)) && tables in
       ap (λ z. cond (is_empty_element guarded m) [] z)
-      (no_table i m inner c other ∙ ap (counted_characters options m) (only_shows inner c s one))
+      (no_table i m inner c other ∙ no_code i m (shown_among options items inner c) apart ∙ only_shows inner c s one)
 
-  by_name : (empty pre : Bool) (s t : List ℕ) → IsUtf8 s
-      → cond empty [] (cond (pre && uses_tildes options) (filter is_no_asterisk (visible (s ++ t))) (visible (s ++ t)))
-      ≡ cond empty [] (cond (pre && uses_tildes options) (filter is_no_asterisk (visible s)) (visible s))
-      ++ cond empty [] (cond (pre && uses_tildes options) (filter is_no_asterisk (visible t)) (visible t))
-  by_name true pre s t utf8 = refl
-  by_name false pre s t utf8 =
-      let whole = counted_append of_visible s t utf8 in by (pre && uses_tildes options) whole
-    where
-      by : (b : Bool) → visible (s ++ t) ≡ visible s ++ visible t
-          → cond b (filter is_no_asterisk (visible (s ++ t))) (visible (s ++ t))
-          ≡ cond b (filter is_no_asterisk (visible s)) (visible s)
-          ++ cond b (filter is_no_asterisk (visible t)) (visible t)
-      by true whole =
-          ap (filter is_no_asterisk) whole ∙ filter-append is_no_asterisk (visible s) (visible t)
-      by false whole = whole
+  by_empty : (empty : Bool) (s t : List ℕ) → IsUtf8 s
+      → cond empty [] (visible (s ++ t)) ≡ cond empty [] (visible s) ++ cond empty [] (visible t)
+  by_empty true s t utf8 = refl
+  by_empty false s t utf8 = counted_append of_visible s t utf8
 
   elements_join : (tables : Bool) (i j : ℕ) (m n : List ℕ) (a b : List AttributePair) (c d : NumberedForest)
       (o p : Option (List ℕ)) → only_text c ≡ o → only_text d ≡ p
@@ -229,18 +227,19 @@ module _ (options : Options) (items : List Item) where
       let both = and_parts (may_join m && alike m n) (same_attributes a b) e in
       let names = and_parts (may_join m) (alike m n) both.0 in
       let first = joins_no_table m names.0 in
+      let apart = joins_no_code m names.0 in
       let second =
       alike_same (λ name. bytes_eq name (codes "table")) false refl refl refl refl m n names.1 ∙ first in
-      let empty = alike_same (is_empty_element guarded) false refl refl refl refl m n names.1 in
-      let pre = alike_same (λ name. bytes_eq name (codes "pre")) false refl refl refl refl m n names.1 in
-      one_shows tables i m a (with_only_text (s ++ t) c) (s ++ t) first (put_only c s (s ++ t) one)
-      ∙ by_name (is_empty_element guarded m) (bytes_eq m (codes "pre")) s t utf8
-      ∙ ap (λ z. cond (is_empty_element guarded m) [] (counted_characters options m (visible s)) ++ z)
-      (ap (λ x. cond x [] (counted_characters options m (visible t))) (sym empty)
-      ∙ ap (λ x. cond (is_empty_element guarded n) []
-      (cond (x && uses_tildes options) (filter is_no_asterisk (visible t)) (visible t))) (sym pre)
-      ∙ sym (one_shows tables j n b d t second other))
-      ∙ ap (λ z. z ++ shown_of options items tables (element j n b d)) (sym (one_shows tables i m a c s first one))
+      let next_apart =
+      alike_same (λ name. bytes_eq name (codes "pre")) false refl refl refl refl m n names.1 ∙ apart in
+      let same = alike_same (is_empty_element guarded) false refl refl refl refl m n names.1 in
+      one_shows tables i m a (with_only_text (s ++ t) c) (s ++ t) first apart (put_only c s (s ++ t) one)
+      ∙ by_empty (is_empty_element guarded m) s t utf8
+      ∙ ap (λ empty. cond (is_empty_element guarded m) [] (visible s) ++ cond empty [] (visible t)) (sym same)
+      ∙ ap (λ z. z ++ cond (is_empty_element guarded n) [] (visible t))
+      (sym (one_shows tables i m a c s first apart one))
+      ∙ ap (λ z. shown_of options items tables (element i m a c) ++ z)
+      (sym (one_shows tables j n b d t second next_apart other))
 
   not_joined : (x : Option Joint) → both_join x None ≡ true → ⊥
   not_joined None e = false≢true e

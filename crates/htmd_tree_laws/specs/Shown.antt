@@ -17,6 +17,7 @@ use Rattle.htmd_walk.specs.Anchors.{anchor_address, is_autolinked}
 use Rattle.htmd_walk.specs.ElementPlans.{is_tag_among}
 use Rattle.htmd_walk.specs.Elements.{view_at}
 use Rattle.htmd_walk.specs.GuardedTableLayouts.{is_or_has_row, is_written_as_table}
+use Rattle.htmd_walk.specs.OneLineElements.{stands_in_line}
 use Rattle.htmd_walk.specs.OtherBlocks.{hidden_tags}
 use Rattle.htmd_walk.specs.TableLayouts.{has_tag}
 use Rattle.htmd_walk.specs.Spans.{has_math_class}
@@ -57,7 +58,7 @@ abbrev pub is_of_tildes : CodeBlockFence → Bool
 is_of_tildes Tildes = true
 is_of_tildes Backticks = false
 
--- in Guarded code blocks are fenced with tildes
+-- in Guarded, code blocks are fenced with tildes
 abbrev pub uses_tildes : Options → Bool
 uses_tildes options = is_guarded options && is_of_tildes options.code_block_fence
 
@@ -65,11 +66,14 @@ uses_tildes options = is_guarded options && is_of_tildes options.code_block_fenc
 abbrev pub is_counted : Options → ℕ → Bool
 is_counted options c = is_visible c && (is_no_asterisk c || not (uses_tildes options))
 
--- What counts of the characters below an element with this name: all, but no `*` in code that is fenced with tildes,
--- which are no end of it to what is written next.
-abbrev pub counted_characters : Options → List ℕ → List ℕ → List ℕ
-counted_characters options name characters =
-    if bytes_eq name (codes "pre") && uses_tildes options then filter is_no_asterisk characters else characters
+-- the element is a code block that is fenced with tildes: it is `pre`, and doesn't stand in one line
+abbrev pub is_in_tildes : Options → List Item → ℕ → List ℕ → Bool
+is_in_tildes options items id name =
+    bytes_eq name (codes "pre") && (uses_tildes options && not (stands_in_line items id))
+
+-- In such a block `*` isn't counted: the fence of tildes doesn't tell what is written next where the code ends.
+abbrev pub counted_characters : Bool → List ℕ → List ℕ
+counted_characters in_tildes characters = if in_tildes then filter is_no_asterisk characters else characters
 
 -- ---- what is written as one text
 
@@ -121,7 +125,7 @@ module _ (options : Options) (items : List Item) where
         if is_empty_element (is_guarded options) name then []
         else (if bytes_eq name (codes "table") && (tables_below && is_written_as_table items id)
         then shown_but_later tables_below false children ++ shown_later tables_below false children
-        else counted_characters options name (shown_among tables_below children))
+        else counted_characters (is_in_tildes options items id name) (shown_among tables_below children))
 
     pub shown_among : Bool → NumberedForest → List ℕ
     shown_among tables none = []
