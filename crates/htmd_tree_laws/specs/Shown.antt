@@ -71,7 +71,8 @@ abbrev pub is_in_tildes : Options → List Item → ℕ → List ℕ → Bool
 is_in_tildes options items id name =
     bytes_eq name (codes "pre") && (uses_tildes options && not (stands_in_line items id))
 
--- In such a block `*` isn't counted: the fence of tildes doesn't tell what is written next where the code ends.
+-- In such a block `*` isn't counted: where texts meet tildes are plain signs, and only the line end before them parts
+-- the code from what follows.
 abbrev pub counted_characters : Bool → List ℕ → List ℕ
 counted_characters in_tildes characters = if in_tildes then filter is_no_asterisk characters else characters
 
