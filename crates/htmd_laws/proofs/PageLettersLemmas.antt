@@ -1,16 +1,14 @@
 -- The letters of any page stand in its Markdown: those of its tokens are those of its tree, and what that shows is
 -- written.
 use Rattle.std.proofs.Common.{◌≡◌, ℕ, Bool, true, false, List, arith}
-use Rattle.std.specs.Prelude.{◌==◌, not}
 use Rattle.std.specs.Str.{chars}
 use Rattle.std.proofs.lemmas.Bool.{and_parts}
-use Rattle.htmd_text.specs.Characters.{asterisk}
 use Rattle.htmd_tree.specs.NumberedTrees.{tree_of}
 use Rattle.htmd_walk.specs.Outputs.{is_guarded}
 use Rattle.htmd_html5.specs.Documents.{html5_document}
 use Rattle.htmd_html5_laws.specs.PageLetters.{occurrences}
 use Rattle.htmd_html5_laws.proofs.HarmlessLettersLemmas.{harmless_letters_kept}
-use Rattle.htmd_tree_laws.specs.Shown.{shown, visible, is_visible, is_counted}
+use Rattle.htmd_tree_laws.specs.Shown.{shown, visible, is_visible}
 use Rattle.htmd_laws.specs.PageLetters.{PageLettersAreWritten}
 use Rattle.htmd_laws.proofs.ShownCounts.{times, times_of_part, times_of_passing, whole}
 use Rattle.htmd_laws.proofs.ShownOfInputsLemmas.{shown_in_any_page}
@@ -20,11 +18,6 @@ written_times : (c : ℕ) (s : List ℕ) → is_visible c ≡ true → times c (
 unfolding occurrences
 written_times c s seen = times_of_passing c is_visible (chars s) seen
 
--- what is counted is visible
-seen_of : (guarded : Bool) (c : ℕ) → is_counted guarded c ≡ true → is_visible c ≡ true
-seen_of true c e = (and_parts (is_visible c) (not (c == asterisk)) e).0
-seen_of false c e = e
-
 pub letters_written : PageLettersAreWritten
 letters_written options scripting page s c alone u harmless letter seen h fit =
     let items = html5_document scripting page in
@@ -33,5 +26,5 @@ letters_written options scripting page s c alone u harmless letter seen h fit =
     let told = whole c options items seen (is_guarded options) (tree_of items 0) in
     let part = times_of_part c (shown options items (tree_of items 0)) (visible s)
     (shown_in_any_page options scripting page s alone h fit) in
-    let written = written_times c s (seen_of (is_guarded options) c seen) in
+    let written = written_times c s (and_parts (is_visible c) _ seen).0 in
     omega arith

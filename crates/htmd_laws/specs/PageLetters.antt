@@ -48,13 +48,13 @@ hidden_texts options items = hidden_in (is_guarded options) (tree_of items 0)
 -- ---- the law
 
 -- Of each page in UTF-8 that has no start tag of `frameset` or `template`, each visible letter of the text tokens
--- stands in the Markdown as often as there, but for hidden texts; in Guarded `*` is left out, since below code some
--- aren't counted.
+-- stands in the Markdown as often as there, but for hidden texts; `*` only if no code block is fenced with tildes in
+-- Guarded.
 abbrev pub PageLettersAreWritten : Type 0
 PageLettersAreWritten =
     (options : Options) (scripting : Bool) (page s : List ℕ) (c : ℕ) → is_markdown_alone options ≡ true
     → IsUtf8 page → all_tags_are_harmless scripting page ≡ true
-    → is_letter c ≡ true → is_counted (is_guarded options) c ≡ true
+    → is_letter c ≡ true → is_counted options c ≡ true
     → IsHtml5Markdown (built_in options) scripting page s
     → tables_fit (is_guarded options) (tree_of (html5_document scripting page) 0) ≡ true
     → occurrences_in c (token_texts scripting page)

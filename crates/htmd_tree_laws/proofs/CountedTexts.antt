@@ -1,20 +1,20 @@
 -- Two laws of what a text holds: its letters are those that are wanted, or its visible characters have the wanted ones
 -- among them, in order.
-use Rattle.std.proofs.Common.{◌≡◌, ℕ, Bool, true, false, List, [], ◌∷◌, ◌++◌, refl, sym, ap, ◌∙◌, subst, inl, inr}
+use Rattle.std.proofs.Common.{◌≡◌, ℕ, Bool, true, false, cond, List, [], ◌∷◌, ◌++◌, refl, sym, ap, ◌∙◌, subst, inl, inr}
 use Rattle.std.proofs.Common.{⊎_elim}
 use Rattle.std.specs.Prelude.{filter}
 use Rattle.std.specs.Char.{is_whitespace}
 use Rattle.std.specs.Str.{chars}
 use Rattle.htmd_tree_laws.specs.Letters.{is_letter}
-use Rattle.htmd_tree_laws.specs.Shown.{is_counted, IsPart}
+use Rattle.htmd_tree_laws.specs.Shown.{is_visible, IsPart}
 
 pub data Law : Type 0 where
   of_letters : Law
-  of_visible : (without_asterisks : Bool) → Law
+  of_visible : Law
 
 abbrev pub counts : Law → ℕ → Bool
 counts of_letters c = is_letter c
-counts (of_visible without) c = is_counted without c
+counts of_visible c = is_visible c
 
 -- the characters of a text that the law counts
 abbrev pub counted : Law → List ℕ → List ℕ
@@ -23,13 +23,12 @@ counted law s = filter (counts law) (chars s)
 -- these are wanted, and these are found
 abbrev pub Holds : Law → List ℕ → List ℕ → Type 0
 Holds of_letters wanted found = found ≡ wanted
-Holds (of_visible without) wanted found = IsPart wanted found
+Holds of_visible wanted found = IsPart wanted found
 
 -- white space doesn't count
 pub white_is_uncounted : (law : Law) (c : ℕ) → is_whitespace c ≡ true → counts law c ≡ false
 white_is_uncounted of_letters c e = rw e refl
-white_is_uncounted (of_visible true) c e = rw e refl
-white_is_uncounted (of_visible false) c e = rw e refl
+white_is_uncounted of_visible c e = rw e refl
 
 -- ---- parts in order
 
@@ -63,23 +62,49 @@ pub part-of_nothing : (l : List ℕ) → IsPart l [] → l ≡ []
 part-of_nothing [] p = refl
 part-of_nothing (x ∷ l) p = absurd p
 
+-- those of them that pass a test
+both_or_neither : (b : Bool) (c : ℕ) (l m : List ℕ) → IsPart l m → IsPart (cond b (c ∷ l) l) (cond b (c ∷ m) m)
+both_or_neither true c l m q = inl (refl, q)
+both_or_neither false c l m q = q
+
+one_or_none : (b : Bool) (c : ℕ) (l m : List ℕ) → IsPart l m → IsPart l (cond b (c ∷ m) m)
+one_or_none true c l m q = part-behind l m c q
+one_or_none false c l m q = q
+
+pub part-filter : (p : ℕ → Bool) (l m : List ℕ) → IsPart l m → IsPart (filter p l) (filter p m)
+part-filter p [] m q = tt
+part-filter p (x ∷ l) [] q = absurd q
+part-filter p (x ∷ l) (y ∷ m) q =
+    ⊎_elim
+    (λ same. subst (λ z. IsPart (filter p (x ∷ l)) (filter p (z ∷ m))) same.0
+    (both_or_neither (p x) x (filter p l) (filter p m) (part-filter p l m same.1)))
+    (λ later. one_or_none (p y) y (filter p (x ∷ l)) (filter p m) (part-filter p (x ∷ l) m later)) q
+
+pub part-filtered : (p : ℕ → Bool) (l : List ℕ) → IsPart (filter p l) l
+part-filtered p [] = tt
+part-filtered p (c ∷ l) = by (p c) (part-filtered p l)
+  where
+    by : (b : Bool) → IsPart (filter p l) l → IsPart (cond b (c ∷ filter p l) (filter p l)) (c ∷ l)
+    by true q = inl (refl, q)
+    by false q = part-behind (filter p l) l c q
+
 -- ---- of either law
 
 pub holds-own : (law : Law) (l : List ℕ) → Holds law l l
 holds-own of_letters l = refl
-holds-own (of_visible without) l = part-own l
+holds-own of_visible l = part-own l
 
 pub holds-then : (law : Law) (l m n : List ℕ) → Holds law l m → Holds law m n → Holds law l n
 holds-then of_letters l m n p q = q ∙ p
-holds-then (of_visible without) l m n p q = part-then l m n p q
+holds-then of_visible l m n p q = part-then l m n p q
 
 pub holds-append : (law : Law) (l m s t : List ℕ) → Holds law l s → Holds law m t → Holds law (l ++ m) (s ++ t)
 holds-append of_letters l m s t p q = ap (λ x. x ++ t) p ∙ ap (λ x. l ++ x) q
-holds-append (of_visible without) l m s t p q = part-append l m s t p q
+holds-append of_visible l m s t p q = part-append l m s t p q
 
 pub holds-of_nothing : (law : Law) (l : List ℕ) → Holds law l [] → l ≡ []
 holds-of_nothing of_letters l p = sym p
-holds-of_nothing (of_visible without) l p = part-of_nothing l p
+holds-of_nothing of_visible l p = part-of_nothing l p
 
 pub holds-as : (law : Law) (l m n : List ℕ) → m ≡ n → Holds law l m → Holds law l n
 holds-as law l m n e p = subst (λ (x : List ℕ). Holds law l x) e p
@@ -88,4 +113,4 @@ holds-as law l m n e p = subst (λ (x : List ℕ). Holds law l x) e p
 pub holds-none : (law : Law) (found : List ℕ) → filter is_letter found ≡ []
     → Holds law [] (filter (counts law) found)
 holds-none of_letters found e = e
-holds-none (of_visible without) found e = tt
+holds-none of_visible found e = tt

@@ -20,7 +20,6 @@ use Rattle.htmd_walk.specs.Groups.{only_text}
 use Rattle.htmd_walk.specs.Outputs.{conversion_of, Writes, is_markdown_alone, is_guarded, result_of}
 use Rattle.htmd_walk.specs.ElementPlans.{tag_of, attributes_of, is_tag_among, tag_at}
 use Rattle.htmd_walk.specs.Preformatted.{guarded_language, language_of_code, only_node, without_comments}
-use Rattle.htmd_walk.specs.OrdinaryText.{in_pre_or_code}
 use Rattle.htmd_walk.specs.Children.{content_alone, descendant_tree}
 use Rattle.htmd_walk.specs.Elements.{Occurrence, Answer, content_of, contents_alone, first_answer, plan_answer, answer_after}
 use Rattle.htmd_walk.specs.Elements.{without_handler, occurrence_at, answer_of}

@@ -38,7 +38,7 @@ abbrev pub escapes : Bool → List ℕ → Bool
 escapes e [] = e
 escapes e (b ∷ s) = escapes ((b == backslash) && not e) s
 
-escapes-append : (e : Bool) (s t : List ℕ) → escapes e (s ++ t) ≡ escapes (escapes e s) t
+pub escapes-append : (e : Bool) (s t : List ℕ) → escapes e (s ++ t) ≡ escapes (escapes e s) t
 escapes-append e [] t = refl
 escapes-append e (b ∷ s) t = escapes-append ((b == backslash) && not e) s t
 
@@ -85,8 +85,8 @@ after_other e (suc k) (b ∷ s) l other = after_other ((b == backslash) && not e
 odd_next : (n : ℕ) → ((1 + n) % 2 == 1) ≡ not (n % 2 == 1)
 odd_next n = grind (arith, nat_tests)
 
-one_more : (s : List ℕ) (b : ℕ) → escapes_next (s ++ b ∷ []) ≡ ((b == backslash) && not (escapes_next s))
-one_more s b =
+pub next_escaped : (s : List ℕ) (b : ℕ) → escapes_next (s ++ b ∷ []) ≡ ((b == backslash) && not (escapes_next s))
+next_escaped s b =
     ⊎_elim
     (λ (is : is_backslash b ≡ true).
     ap (λ n. n % 2 == 1) (ends_so is_backslash s b is) ∙ odd_next (suffix_len is_backslash s)
@@ -99,10 +99,10 @@ one_more s b =
 escapes_from : (before s : List ℕ) → escapes (escapes_next before) s ≡ escapes_next (before ++ s)
 escapes_from before [] = ap escapes_next (sym (append-nil before))
 escapes_from before (b ∷ s) =
-    ap (λ e. escapes e s) (sym (one_more before b)) ∙ escapes_from (before ++ b ∷ []) s
+    ap (λ e. escapes e s) (sym (next_escaped before b)) ∙ escapes_from (before ++ b ∷ []) s
     ∙ ap escapes_next (append_assoc before (b ∷ []) s)
 
-escapes-is : (s : List ℕ) → escapes false s ≡ escapes_next s
+pub escapes-is : (s : List ℕ) → escapes false s ≡ escapes_next s
 escapes-is s = escapes_from [] s
 
 -- ---- runs
@@ -262,10 +262,10 @@ start_bare s text so =
     ∙ plain_bare false cs (subst (λ (l : List ℕ). escapes_signs false l ≡ true) (sym (encodes-chars s text)) so)
 
 -- characters from the end back
-abbrev turned : List ℕ → List ℕ
+abbrev pub turned : List ℕ → List ℕ
 turned cs = encode_utf8_all (reverse cs)
 
-turned-more : (c : ℕ) (cs : List ℕ) → turned (c ∷ cs) ≡ turned cs ++ encode_utf8 c
+pub turned-more : (c : ℕ) (cs : List ℕ) → turned (c ∷ cs) ≡ turned cs ++ encode_utf8 c
 turned-more c cs =
     ap encode_utf8_all (reverse-append (c ∷ []) cs) ∙ encodes-append (reverse cs) (c ∷ [])
     ∙ ap (λ l. turned cs ++ l) (append-nil (encode_utf8 c))
@@ -337,7 +337,7 @@ module _ (out content : List ℕ) (u : IsUtf8 out) (v : IsUtf8 content) (so : es
       (part-append (unmarked false out) (unmarked false content) l m p q)
 
   own : (l : List ℕ) → IsPart l l
-  own l = holds-own (of_visible false) l
+  own l = holds-own of_visible l
 
   keeps-all : (both : Ends) → unmarked false (both.front ++ both.behind) ≡ wanted → Keeps both
   keeps-all both e =

@@ -4,7 +4,8 @@ use Rattle.std.proofs.Common.{drop, codes, map, refl, sym, ap, ◌∙◌, subst,
 use Rattle.std.specs.Prelude.{◌⊎◌, ◌&&◌, ◌||◌, not, filter}
 use Rattle.std.specs.Option.{is_some}
 use Rattle.std.specs.Str.{IsUtf8, bytes_eq, chars}
-use Rattle.std.proofs.lemmas.Bool.{cond_both, cond-false, cond-true, or_from, and_left, true≢false, and_parts}
+use Rattle.std.specs.List.{list_any}
+use Rattle.std.proofs.lemmas.Bool.{cond_both, cond-false, cond-true, or_from, and_left, true≢false, and_parts, not-true}
 use Rattle.std.proofs.Math.Bool.{and_comm}
 use Rattle.std.proofs.lemmas.Slice.Eq.{bytes_eq-Decides}
 use Rattle.htmd_text.specs.BlankLines.{with_blank_lines}
@@ -15,8 +16,10 @@ use Rattle.htmd_tree.specs.Items as tree
 use Rattle.htmd_tree.specs.ValueTrees.{AttributePair}
 use Rattle.htmd_tree.specs.NumberedTrees.{NumberedTree, NumberedForest}
 use Rattle.htmd_tree.specs.Ancestors.{Ancestor, ancestor_of}
-use Rattle.htmd_markdown.specs.GuardedLinks.{guarded_image, guarded_autolink, guarded_link}
-use Rattle.htmd_markdown.specs.GuardedCode.{guarded_code, guarded_span_in_line, guarded_code_block}
+use Rattle.htmd_markdown.specs.GuardedLinks.{guarded_image, guarded_autolink, guarded_link, is_barred}
+use Rattle.htmd_markdown.specs.declared.fence.CodeBlockFence.{CodeBlockFence}
+use Rattle.htmd_markdown.specs.declared.fence.CodeBlockFence.TheVariants.{Tildes, Backticks}
+use Rattle.htmd_markdown.specs.GuardedCode.{guarded_span_in_line, guarded_code_block}
 use Rattle.htmd_markdown.specs.LineBreaks.{line_break}
 use Rattle.htmd_markdown.specs.Lists.{Block, block_text, guarded_first_number, highest_number}
 use Rattle.htmd_markdown.specs.ListItems.{guarded_spaces}
@@ -55,19 +58,18 @@ use Rattle.htmd_walk.specs.TableElements.{tables, table_plan, is_left_out}
 use Rattle.htmd_walk.specs.ThematicBreaks.{thematic_breaks, thematic_break_plan, thematic_break_style_of}
 use Rattle.htmd_tree_laws.specs.Letters.{said_of_each, prefers_autolinks}
 use Rattle.htmd_tree_laws.specs.Shown.{counted_characters, is_empty_element, is_autolink, is_formula, is_one_text, shown}
-use Rattle.htmd_tree_laws.specs.Shown.{shown_among, is_counted, IsPart}
-use Rattle.htmd_tree_laws.proofs.CountedTexts.{of_visible, part-then}
+use Rattle.htmd_tree_laws.specs.Shown.{shown_among, visible, is_no_asterisk, is_of_tildes, is_in_tildes}
+use Rattle.htmd_tree_laws.proofs.CountedTexts.{of_visible}
 use Rattle.htmd_tree_laws.proofs.ElementsByTag.{IsOnly, is_named, IsPlain, by_tag, unhandled_answer, child_text, guarded_language_is_text}
 use Rattle.htmd_tree_laws.proofs.KeptLines.{keeps-wrapped, keeps-blank_lines, keeps-trimmed}
-use Rattle.htmd_tree_laws.proofs.KeptMarks.{even, ends, Keeps, keeps-is, keeps-as, keeps-in, keeps-nil, keeps-safe}
-use Rattle.htmd_tree_laws.proofs.KeptMarks.{says-keeps, seen, seen_all, counted_kept}
+use Rattle.htmd_tree_laws.proofs.KeptMarks.{even, ends, says-ordinary}
+use Rattle.htmd_tree_laws.proofs.KeptChains.{Keeps, keeps-is, keeps-as, keeps-nil, keeps-safe, keeps-ordinary}
 use Rattle.htmd_tree_laws.proofs.KeptPieces.{KeepAll, keeps-ordered, keeps-unnumbered_list, keeps-guarded_link}
-use Rattle.htmd_tree_laws.proofs.KeptPieces.{keeps-guarded_reference, closed-autolink, closed-image, closed-code, closed-fenced}
-use Rattle.htmd_tree_laws.proofs.KeptPieces.{closed-span_in_line, closed-formula}
+use Rattle.htmd_tree_laws.proofs.KeptPieces.{keeps-guarded_reference, keeps-guarded_autolink, keeps-guarded_code, closed-image}
+use Rattle.htmd_tree_laws.proofs.KeptPieces.{keeps-guarded_span, keeps-backticks, keeps-formula, closed-tildes}
 use Rattle.htmd_tree_laws.proofs.KeptTables.{KeepEach, keeps-guarded_table}
 use Rattle.htmd_tree_laws.proofs.LettersLemmas.{Says, shows-none, says-as}
-use Rattle.htmd_tree_laws.proofs.LettersOfGuarded.{says-guarded_resource, says-guarded_autolink, says-guarded_code}
-use Rattle.htmd_tree_laws.proofs.LettersOfGuarded.{says-guarded_span, says-guarded_block, fitting_is_text, says-guarded_image}
+use Rattle.htmd_tree_laws.proofs.LettersOfGuarded.{says-guarded_resource, says-guarded_block, fitting_is_text, says-guarded_image}
 use Rattle.htmd_tree_laws.proofs.LettersOfHandlers.{KeepsResult, KeepsContent, AreValues, last_is_text, keeps-listed}
 use Rattle.htmd_tree_laws.proofs.LettersOfHandlers.{says-formula, formula_marks_fill}
 use Rattle.htmd_tree_laws.proofs.LettersOfLinks.{IsTextIfAny}
@@ -75,7 +77,7 @@ use Rattle.htmd_tree_laws.proofs.LettersOfTables.{all_of}
 use Rattle.htmd_tree_laws.proofs.LettersOfPieces.{SaysIfAny}
 use Rattle.htmd_tree_laws.proofs.WrittenTables.{guarded_plan}
 use Rattle.htmd_tree_laws.proofs.LettersOfTexts.{says-blank_lines, says-trimmed, document_of_white, line_feed_of_white}
-use Rattle.htmd_tree_laws.proofs.ShownTrees.{in_table, shown_inside, no_table}
+use Rattle.htmd_tree_laws.proofs.ShownTrees.{in_table, shown_inside, no_table, no_code}
 
 -- the mark of a formula
 mark_of : (s mark : List ℕ) → mark_of_class s ≡ Some mark → (mark ≡ codes "$") ⊎ (mark ≡ codes "$$")
@@ -98,11 +100,6 @@ mark_is (a ∷ []) mark =
     (λ (o : Option (List ℕ)). o ≡ Some mark → (mark ≡ codes "$") ⊎ (mark ≡ codes "$$"))
     (λ _ e. mark_of a.value mark e) (λ _ e. cc)
 mark_is (a ∷ b ∷ attributes) mark = λ e. cc
-
-less_counted : (cs : List ℕ) → IsPart (filter (is_counted true) cs) (filter (is_counted false) cs)
-less_counted cs =
-    part-then (filter (is_counted true) cs) (seen even cs) (filter (is_counted false) cs) (counted_kept even cs)
-    (seen_all even cs)
 
 -- the same choice where both stand for the same
 chosen : {A : Type 0} (b : Bool) (x y z : A) → (b ≡ true → x ≡ y) → cond b x z ≡ cond b y z
@@ -132,10 +129,10 @@ EachKeeps at says (d ∷ ds) =
     (says (descendant_tree at.conversion.items at.view.text d)))
     × EachKeeps at says ds
 
--- a text that is only code or an address: `*` isn't promised
-kept_but_asterisks : (s l : List ℕ) → Says (of_visible true) s l → (IsUtf8 s → ends even (chars s) ≡ even)
-    → Keeps s l
-kept_but_asterisks s l p closed = says-keeps (closed p.utf8) p
+-- code between tildes: `*` isn't promised
+kept_but_asterisks : (s l : List ℕ) → Says of_visible s l → (IsUtf8 s → ends even (chars s) ≡ even)
+    → Keeps s (filter is_no_asterisk l)
+kept_but_asterisks s l p closed = keeps-ordinary (says-ordinary (closed p.utf8) p)
 
 module _ (options : Options) (g : is_guarded options ≡ true) (alone : is_markdown_alone options ≡ true)
     (items : List Item) (values : (id : ℕ) → AreValues (ancestor_of (data_at items id)).attributes) where
@@ -145,8 +142,8 @@ module _ (options : Options) (g : is_guarded options ≡ true) (alone : is_markd
   module _ (write : Writes) (id : ℕ) (inside : List Ancestor) (children : NumberedForest)
       (definitions : List (List ℕ)) (utf8 : IsTextIfAny (only_text children))
       (formula : (tables : Bool) (s : List ℕ) → only_text children ≡ Some s
-      → shown_among options items tables children ≡ counted_characters (not tables && is_guarded options) s)
-      (whole : Says (of_visible true) (text_or_all (only_text children) (children_at items id))
+      → shown_among options items tables children ≡ visible s)
+      (whole : Says of_visible (text_or_all (only_text children) (children_at items id))
       (shown_among options items false children))
       (within : (before : List (List ℕ))
       → Keeps (content_inside write inside children before).text
@@ -157,7 +154,7 @@ module _ (options : Options) (g : is_guarded options ≡ true) (alone : is_markd
     abbrev all_shown : List ℕ
     all_shown = shown_among options items true children
 
-    -- the same in the tree's order, without `*`
+    -- the same in the tree's order
     abbrev in_tree : List ℕ
     in_tree = shown_among options items false children
 
@@ -223,21 +220,22 @@ module _ (options : Options) (g : is_guarded options ≡ true) (alone : is_markd
         (guarded_link s address (title_of at.view)))
         (shown_among options items (not (is_autolinked at.view address) && true) children)
     autolink_keeps s address p found =
-        by (is_autolinked at.view address) (λ e. (bytes_eq-Decides all address).0
-        (and_parts _ _ (and_parts _ _ e).0).0)
+        by (is_autolinked at.view address) (λ e. let both = and_parts _ _ (and_parts _ _ e).0 in (
+          (bytes_eq-Decides all address).0 both.0,
+          not-true (list_any is_barred address) (and_parts _ _ (and_parts _ _ both.1).0).1,
+        ))
       where
         all : List ℕ
         all = trimmed_text is_document_white_space (all_text_of at.view)
 
-        by : (b : Bool) → (b ≡ true → all ≡ address)
+        by : (b : Bool) → (b ≡ true → (all ≡ address) × (list_any is_barred address ≡ false))
             → Keeps
             (cond b (guarded_autolink s address) (guarded_link s address (title_of at.view)))
             (shown_among options items (not b && true) children)
         by true same =
-            kept_but_asterisks (guarded_autolink s address) in_tree
-            (says-guarded_autolink s address
-            (says-as (same refl) (says-trimmed is_document_white_space document_of_white (all_text_of at.view) whole)))
-            (closed-autolink s address)
+            keeps-guarded_autolink s address (same refl).1
+            (says-as (same refl).0
+            (says-trimmed is_document_white_space document_of_white (all_text_of at.view) whole))
         by false same =
             keeps-guarded_link s address (title_of at.view) p
             (says-guarded_resource address (title_of at.view) found titled).utf8
@@ -280,41 +278,64 @@ module _ (options : Options) (g : is_guarded options ≡ true) (alone : is_markd
     code_keeps : IsKept (codes "code")
     code_keeps here =
         planned_gives at definitions (codes "code") code (guarded_code_plan at.view) in_tree refl (rw g refl)
-        (kept_but_asterisks (guarded_code (all_text_of at.view)) in_tree
-        (says-guarded_code (all_text_of at.view) in_tree whole) (closed-code (all_text_of at.view)))
+        (keeps-guarded_code (all_text_of at.view) whole)
 
-    language_shows : (language : Option (List ℕ)) → IsTextIfAny language → SaysIfAny (of_visible true) language []
+    language_shows : (language : Option (List ℕ)) → IsTextIfAny language → SaysIfAny of_visible language []
     language_shows None found = refl
     language_shows (Some s) found = shows-none found
 
-    preformatted_keeps : Keeps (guarded_preformatted at.view) in_tree
-    preformatted_keeps =
-        let s = all_text_of at.view in
-        cond_both (stands_in_line items id) _ _ (λ (t : List ℕ). Keeps t in_tree)
-        (λ _. kept_but_asterisks (guarded_span_in_line s) in_tree (says-guarded_span s in_tree whole)
-        (closed-span_in_line s))
-        (λ _. kept_but_asterisks
-        (with_blank_lines (guarded_code_block s (guarded_language at.view) options.code_block_fence)) in_tree
-        (says-blank_lines _
-        (says-guarded_block s (guarded_language at.view) options.code_block_fence []
-        whole (language_shows _ (fitting_is_text (guarded_language at.view)
-        (guarded_language_is_text items values at.view refl)))))
-        (closed-fenced s (guarded_language at.view) options.code_block_fence))
+    -- what is promised of a block with this fence
+    abbrev in_fences : CodeBlockFence → List ℕ
+    in_fences fence = counted_characters (is_of_tildes fence) in_tree
+
+    block_says : (fence : CodeBlockFence)
+        → Says of_visible (guarded_code_block (all_text_of at.view) (guarded_language at.view) fence) in_tree
+    block_says fence =
+        says-guarded_block (all_text_of at.view) (guarded_language at.view) fence [] whole
+        (language_shows _ (fitting_is_text (guarded_language at.view)
+        (guarded_language_is_text items values at.view refl)))
+
+    block_keeps : (fence : CodeBlockFence)
+        → Keeps (with_blank_lines (guarded_code_block (all_text_of at.view) (guarded_language at.view) fence))
+        (in_fences fence)
+    block_keeps Tildes =
+        kept_but_asterisks
+        (with_blank_lines (guarded_code_block (all_text_of at.view) (guarded_language at.view) Tildes)) in_tree
+        (says-blank_lines _ (block_says Tildes)) (closed-tildes (all_text_of at.view) (guarded_language at.view))
+    block_keeps Backticks =
+        keeps-backticks (all_text_of at.view) (guarded_language at.view) (block_says Backticks)
+
+    preformatted_keeps : (in_line : Bool)
+        → Keeps (cond in_line (guarded_span_in_line (all_text_of at.view)) (with_blank_lines
+        (guarded_code_block (all_text_of at.view) (guarded_language at.view) options.code_block_fence)))
+        (counted_characters (is_of_tildes options.code_block_fence && not in_line) in_tree)
+    preformatted_keeps true =
+        keeps-is (ap (λ b. counted_characters b in_tree) (sym (never (is_of_tildes options.code_block_fence))))
+        (keeps-guarded_span (all_text_of at.view) whole)
+      where
+        never : (b : Bool) → (b && false) ≡ false
+        never true = refl
+        never false = refl
+    preformatted_keeps false =
+        keeps-is (ap (λ b. counted_characters b in_tree) (sym (same (is_of_tildes options.code_block_fence))))
+        (block_keeps options.code_block_fence)
+      where
+        same : (b : Bool) → (b && true) ≡ b
+        same true = refl
+        same false = refl
 
     pre_keeps : IsKept (codes "pre")
     pre_keeps here =
         planned_gives at definitions (codes "pre") preformatted_texts (markdown_plan (guarded_preformatted at.view))
-        in_tree refl (rw g refl) preformatted_keeps
+        (counted_characters (is_in_tildes options items id (codes "pre")) in_tree) refl (rw g refl)
+        (subst
+        (λ b. Keeps (guarded_preformatted at.view)
+        (counted_characters ((b && is_of_tildes options.code_block_fence) && not (stands_in_line items id)) in_tree))
+        (sym g) (preformatted_keeps (stands_in_line items id)))
 
-    -- without `*` less is seen of the only text
-    in_formula : (s : List ℕ) → only_text children ≡ Some s → in_tree ≡ counted_characters true s
-    in_formula s f = formula false s f ∙ ap (λ b. counted_characters b s) g
-
-    less_shown : (s : List ℕ) → only_text children ≡ Some s → IsPart in_tree all_shown
-    less_shown s f =
-        subst (λ (l : List ℕ). IsPart l all_shown) (sym (in_formula s f))
-        (subst (λ (m : List ℕ). IsPart (counted_characters true s) m) (sym (formula true s f))
-        (less_counted (chars s)))
+    -- the only text shows the same either way
+    same_shown : (s : List ℕ) → only_text children ≡ Some s → all_shown ≡ in_tree
+    same_shown s f = formula true s f ∙ sym (formula false s f)
 
     -- what is in the span
     span_content : (l : List ℕ) → Keeps (content_of at definitions).text l
@@ -336,11 +357,9 @@ module _ (options : Options) (g : is_guarded options ≡ true) (alone : is_markd
         cond_both (is_guarded options && is_read_in_formula s) content_of_children (markdown_plan ((mark ++ s) ++ mark))
         (λ (plan : PlanView). KeepsResult
         (plan_answer spans at definitions plan (without_handler at definitions)).result in_tree)
-        (λ _. span_content in_tree (keeps-in (less_shown s f) (within definitions)))
-        (λ _. keeps-is (sym (in_formula s f))
-        (kept_but_asterisks ((mark ++ s) ++ mark) (counted_characters true s)
-        (says-formula mark s (formula_marks_fill own mark e) t)
-        (closed-formula mark s (mark_is own mark e))))
+        (λ _. span_content in_tree (keeps-is (same_shown s f) (within definitions)))
+        (λ _. keeps-is (sym (formula false s f))
+        (keeps-formula mark s (mark_is own mark e) (says-formula mark s (formula_marks_fill own mark e) t)))
 
     span_keeps : IsKept (codes "span")
     span_keeps here =
@@ -363,7 +382,7 @@ module _ (options : Options) (g : is_guarded options ≡ true) (alone : is_markd
         (or_from _ _ (or_from _ _ is.code is.pre) (and_left _ (is_autolink (anchor_address at.view) at.view) is.a))
         (and_left _ (is_formula own (only_text children)) is.span) in
         ap (λ b. shown_inside options items id name (not b && true) children) apart
-        ∙ no_table options items id name true children is.table
+        ∙ no_table options items id name true children is.table ∙ no_code options items id name all_shown is.pre
 
     as_kept : (name : List ℕ) (r : Option ResultView) → IsPlain name → is_named hidden_tags name ≡ false
         → KeepsResult r all_shown
@@ -374,7 +393,7 @@ module _ (options : Options) (g : is_guarded options ≡ true) (alone : is_markd
         (not_empty name is ∙ and_left _ (is_guarded options) seen) ∙ all_here name is)) p
 
     content_keeps : (tag : List ℕ) (handler : HandlerMeaning) → IsOnly options tag handler
-        → KeepsContent (of_visible true) tag handler → IsPlain tag → is_named hidden_tags tag ≡ false
+        → KeepsContent of_visible tag handler → IsPlain tag → is_named hidden_tags tag ≡ false
         → IsKept tag
     content_keeps tag handler only keeps is seen here =
         let out = content_of at definitions in
@@ -526,12 +545,12 @@ module _ (options : Options) (g : is_guarded options ≡ true) (alone : is_markd
           (subst (λ (l : List ℕ). TableGives (table_plan at.view) l) same
           (subst (λ (plan : PlanView). TableGives plan
           (cond is (all_of said_here (captions_and_cells items (children_of items id))) all_shown))
-          (sym (guarded_plan (of_visible true) options alone items write (shown options items) id inside children
+          (sym (guarded_plan of_visible options alone items write (shown options items) id inside children
           definitions g is refl))
           (table_by is all_shown refl (within definitions) (λ e. (told e).0))))
 
       pub element_keeps : (name : List ℕ) → IsKept name
-      element_keeps name = by_tag {law = of_visible true} {options = options} {Shown = IsKept} (record {
+      element_keeps name = by_tag {law = of_visible} {options = options} {Shown = IsKept} (record {
         image = image_keeps;
         anchor = anchor_keeps;
         ordered = ordered_list_keeps;

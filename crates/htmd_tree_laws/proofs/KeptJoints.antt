@@ -1,4 +1,4 @@
--- Where two texts meet in Guarded, all that is promised of both is kept.
+-- Where two ordinary texts meet in Guarded, all that is promised of both is kept.
 use Rattle.std.proofs.Common.{◌≡◌, ℕ, suc, ◌+◌, ◌-◌, ◌<◌, ◌≤◌, Bool, true, false, cond, List, [], ◌∷◌, ◌++◌}
 use Rattle.std.proofs.Common.{length, get_or, take, drop, drop-drop, codes, refl, sym, ap, ◌∙◌, arith, subst, append_assoc}
 use Rattle.std.proofs.Common.{⊎_elim, inl, inr}
@@ -6,7 +6,7 @@ use Rattle.std.proofs.lemmas.Bool.Decides.{nat_tests}
 use Rattle.std.specs.Prelude.{◌⊎◌, ◌==◌, ◌&&◌, ◌||◌, not, encode_utf8, encode_utf8_all, filter}
 use Rattle.std.specs.Char.{is_ascii_punctuation}
 use Rattle.std.specs.List.{list_all}
-use Rattle.std.specs.Str.{chars, IsUtf8}
+use Rattle.std.specs.Str.{chars, IsUtf8, IsCharBoundary}
 use Rattle.std.proofs.Math.Seq.{take-append_seam, drop-append_seam}
 use Rattle.std.proofs.lemmas.Bool.{and_parts, and_from, or_parts, cases_lt, cond_both, cond-true}
 use Rattle.std.proofs.lemmas.Bool.{eqb-true, false≢true, true≢false, false_from_ne_true}
@@ -16,19 +16,18 @@ use Rattle.std.proofs.lemmas.Str.{IsUtf8-from_ascii, chars-nil, IsUtf8-drop, IsU
 use Rattle.unicode.proofs.CategoryComputing.{ucd_category}
 use Rattle.htmd_text.specs.Characters.{asterisk, backslash, exclamation_mark}
 use Rattle.htmd_markdown.specs.CodeSpans.{ends_with}
-use Rattle.htmd_markdown.specs.Joints.{is_asterisk, is_backslash, ending_run, beginning_run, plain_start, plain_end, ends, Ends}
-use Rattle.htmd_markdown.specs.Joints.{joint_between, joint_at_start, joint_at_end, begins_word, ends_word, are_alike}
-use Rattle.htmd_markdown.specs.Joints.{is_run_misplaced, has_no_run, meets_bracket, backquotes_meet, is_word_character}
-use Rattle.htmd_markdown.specs.Joints.{mended, mended_ends, first_character, last_character, plain_signs, word_first}
-use Rattle.htmd_markdown.specs.Joints.{is_plain_at, is_plain_sign, with_joint}
-use Rattle.htmd_markdown.specs.Titles.{is_filled}
-use Rattle.htmd_markdown.proofs.JointCutsLemmas.{plain_end-cut, plain_start-cut, beginning_run-cut, ending_run-cut}
+use Rattle.htmd_markdown.specs.Joints.{is_asterisk, is_backslash, ending_run, beginning_run, plain_start, ends, Ends}
+use Rattle.htmd_markdown.specs.Joints.{begins_word}
+use Rattle.htmd_markdown.specs.Joints.{is_word_character}
+use Rattle.htmd_markdown.specs.Joints.{plain_signs, word_first}
+use Rattle.htmd_markdown.specs.Joints.{is_plain_at, is_plain_sign}
+use Rattle.htmd_markdown.proofs.JointCutsLemmas.{plain_start-cut, beginning_run-cut, ending_run-cut}
 use Rattle.htmd_tree_laws.specs.Shown.{IsPart, is_visible}
 use Rattle.htmd_tree_laws.proofs.CountedTexts.{of_visible, part-append, holds-own}
-use Rattle.htmd_tree_laws.proofs.JointMarks.{escapes, run_bare, end_bare, front_signs, encode_size}
+use Rattle.htmd_tree_laws.proofs.JointMarks.{escapes, run_bare, front_signs, encode_size}
 use Rattle.htmd_tree_laws.proofs.KeptMarks.{State, even, odd, blank, step, seen, ends-append, seen-append, Below, below-same}
-use Rattle.htmd_tree_laws.proofs.KeptMarks.{below_even, seen-below, below-ends, one_more, kept, Keeps, keeps-append, keeps-is}
-use Rattle.htmd_tree_laws.proofs.KeptMarks.{keeps-as, keeps-in, keeps-before, is_safe, chars-safe}
+use Rattle.htmd_tree_laws.proofs.KeptMarks.{below_even, seen-below, below-ends, one_more, kept, Ordinary, ordinary-append, ordinary-is}
+use Rattle.htmd_tree_laws.proofs.KeptMarks.{ordinary-as, ordinary-in, ordinary-before, is_safe, chars-safe}
 use Rattle.htmd_tree_laws.proofs.KeptMarks as marks
 use Rattle.htmd_tree_laws.proofs.LettersLemmas.{is_white, white_ascii, fillers_ascii}
 use Rattle.htmd_tree_laws.proofs.LettersOfJoints.{IsRun, run_first, ending, drop_last, some_last, run_fills}
@@ -73,7 +72,7 @@ agree-step blank x b a =
     cond_both (is_backslash b || (is_asterisk b || is_white b)) blank even (λ s. Agree s ((b == backslash) && not x))
     (λ _. tt) (λ no. ap (λ y. y && not x) (or_parts (is_backslash b) _ no).0)
 
-agree-ends : (e : State) (x : Bool) (s : List ℕ) → Agree e x → Agree (marks.ends e s) (escapes x s)
+pub agree-ends : (e : State) (x : Bool) (s : List ℕ) → Agree e x → Agree (marks.ends e s) (escapes x s)
 agree-ends e x [] a = a
 agree-ends e x (b ∷ s) a = agree-ends (step e b) ((b == backslash) && not x) s (agree-step e x b a)
 
@@ -118,7 +117,7 @@ free s u e =
     (subst (λ x. Agree (closes even s) x) e
     (subst (λ z. Agree z (escapes false s)) (sym (closes-bytes even s u)) (agree-ends even false s refl)))
 
-bare : (s : List ℕ) → IsUtf8 s → closes even s ≡ even → escapes false s ≡ false
+pub bare : (s : List ℕ) → IsUtf8 s → closes even s ≡ even → escapes false s ≡ false
 bare s u e =
     subst (λ z. Agree z (escapes false s)) (sym (closes-bytes even s u) ∙ e) (agree-ends even false s refl)
 
@@ -186,14 +185,14 @@ run_safe (b ∷ f) e =
     and_from (is_safe b) (list_all is_safe f) (ap is_safe (eqb-true b asterisk parts.0)) (run_safe f parts.1)
 
 run_text : (f : List ℕ) → IsRun f → IsUtf8 f
-run_text f all = (marks.keeps-safe f (run_safe f all)).utf8
+run_text f all = (marks.ordinary-safe f (run_safe f all)).utf8
 
 -- ---- texts that keep what is wanted
 
-own : (s : List ℕ) → IsUtf8 s → closes even s ≡ even → Keeps s (shows even s)
-own s u e = record { utf8 = u; keeps = holds-own (of_visible false) (shows even s); closed = e }
+own : (s : List ℕ) → IsUtf8 s → closes even s ≡ even → Ordinary s (shows even s)
+own s u e = record { utf8 = u; keeps = holds-own of_visible (shows even s); closed = e }
 
-keeps-alike : {s t l : List ℕ} → IsUtf8 t → Alike s t → Keeps s l → Keeps t l
+keeps-alike : {s t l : List ℕ} → IsUtf8 t → Alike s t → Ordinary s l → Ordinary t l
 keeps-alike {s} {t} {l} u a p = record {
   utf8 = u;
   keeps = subst (λ (x : List ℕ). IsPart l x) a.0 p.keeps;
@@ -234,7 +233,7 @@ word_is c e = (
 -- a run before a word after an opened backslash
 odd_run : (f cs : List ℕ) → IsRun f → word_first cs ≡ true
     → IsPart (seen odd cs) (seen odd (f ++ cs)) × Below (marks.ends odd cs) (marks.ends odd (f ++ cs))
-odd_run [] cs all word = (holds-own (of_visible false) (seen odd cs), below-same (marks.ends odd cs))
+odd_run [] cs all word = (holds-own of_visible (seen odd cs), below-same (marks.ends odd cs))
 odd_run (b ∷ f) [] all word = absurd (false≢true word)
 odd_run (b ∷ f) (c ∷ cs) all word =
     let parts = and_parts (is_asterisk b) (list_all is_asterisk f) all in
@@ -271,21 +270,21 @@ module _ (out content : List ℕ) (u : IsUtf8 out) (v : IsUtf8 content) (so : cl
 
   -- nothing that is promised goes
   abbrev Kept : Ends → Type 0
-  Kept both = Keeps (both.front ++ both.behind) wanted
+  Kept both = Ordinary (both.front ++ both.behind) wanted
 
-  out_own : Keeps out (shows even out)
+  out_own : Ordinary out (shows even out)
   out_own = own out u so
 
-  content_own : Keeps content (shows even content)
+  content_own : Ordinary content (shows even content)
   content_own = own content v sc
 
-  same : Kept (ends out content)
-  same = keeps-append out_own content_own
+  pub same : Kept (ends out content)
+  same = ordinary-append out_own content_own
 
-  spaced : Kept (ends (out ++ codes " ") content)
-  spaced = keeps-append (keeps-before (codes " ") refl out_own) content_own
+  pub spaced : Kept (ends (out ++ codes " ") content)
+  spaced = ordinary-append (ordinary-before (codes " ") refl out_own) content_own
 
-  marked : ends_with exclamation_mark out ≡ true → Kept (ends (take (length out - 1) out ++ codes "\\!") content)
+  pub marked : ends_with exclamation_mark out ≡ true → Kept (ends (take (length out - 1) out ++ codes "\\!") content)
   marked e =
       let n = length out - 1 in
       let front = take n out in
@@ -295,7 +294,7 @@ module _ (out content : List ℕ) (u : IsUtf8 out) (v : IsUtf8 content) (so : cl
       drop_last out n (omega (arith, some)) ∙ ap (λ b. b ∷ []) last in
       let whole : out ≡ front ++ codes "!" = sym (take-append-drop n out) ∙ ap (λ l. front ++ l) sign in
       let text : IsUtf8 front = front_text front (subst IsUtf8 whole u) in
-      keeps-append (by front text whole) content_own
+      ordinary-append (by front text whole) content_own
     where
       front_text : (x : List ℕ) → IsUtf8 (x ++ codes "!") → IsUtf8 x
       front_text x w = (cut_before x 33 [] (omega arith) w).0
@@ -306,7 +305,7 @@ module _ (out content : List ℕ) (u : IsUtf8 out) (v : IsUtf8 content) (so : cl
       sign blank = (inr (inl (refl, tt)), refl)
 
       by : (front : List ℕ) → IsUtf8 front → out ≡ front ++ codes "!"
-          → Keeps (front ++ codes "\\!") (shows even out)
+          → Ordinary (front ++ codes "\\!") (shows even out)
       by front text whole =
           let state = closes even front in
           let one : chars (codes "!") ≡ codes "!" = chars-safe (codes "!") refl in
@@ -321,7 +320,7 @@ module _ (out content : List ℕ) (u : IsUtf8 out) (v : IsUtf8 content) (so : cl
                 (subst (λ (m : List ℕ). IsPart (shows even front ++ seen state (codes "!")) m)
                 (sym (shows-append even front (codes "\\!") text ∙ ap (λ l. shows even front ++ seen state l) two))
                 (part-append (shows even front) (seen state (codes "!")) (shows even front) (seen state (codes "\\!"))
-                (holds-own (of_visible false) (shows even front)) (sign state).0));
+                (holds-own of_visible (shows even front)) (sign state).0));
             closed = closes-append even front (codes "\\!") text ∙ ap (marks.ends state) two ∙ (sign state).1;
           }
 
@@ -353,13 +352,13 @@ module _ (out content : List ℕ) (u : IsUtf8 out) (v : IsUtf8 content) (so : cl
       (subst (λ (s : List ℕ). Alike (before ++ (f ++ [])) s) (append-nil before)
       (run_free before f [] before_text (run_text f (ending out)) (free before before_text before_bare) (ending out)))
 
-  before_keeps : Keeps before (shows even out)
+  pub before_keeps : Ordinary before (shows even out)
   before_keeps = keeps-alike before_text before_alike out_own
 
   rest_text : IsUtf8 rest
   rest_text = IsUtf8-drop content run v (beginning_run-cut content v)
 
-  rest_keeps : Keeps rest (shows even content)
+  pub rest_keeps : Ordinary rest (shows even content)
   rest_keeps =
       let f = take run content in
       keeps-alike rest_text
@@ -368,8 +367,8 @@ module _ (out content : List ℕ) (u : IsUtf8 out) (v : IsUtf8 content) (so : cl
       (run_first content)))
       content_own
 
-  runs_go : Kept (ends before rest)
-  runs_go = keeps-append before_keeps rest_keeps
+  pub runs_go : Kept (ends before rest)
+  runs_go = ordinary-append before_keeps rest_keeps
 
   -- ---- at the beginning
 
@@ -391,8 +390,8 @@ module _ (out content : List ℕ) (u : IsUtf8 out) (v : IsUtf8 content) (so : cl
   start_whole : start ++ others ≡ rest
   start_whole = take-append-drop plain rest
 
-  both_keep : Keeps (start ++ others) (shows even content)
-  both_keep = keeps-as (sym start_whole) rest_keeps
+  both_keep : Ordinary (start ++ others) (shows even content)
+  both_keep = ordinary-as (sym start_whole) rest_keeps
 
   abbrev run_here : List ℕ
   run_here = take run content
@@ -405,20 +404,20 @@ module _ (out content : List ℕ) (u : IsUtf8 out) (v : IsUtf8 content) (so : cl
       by odd = inr refl
       by blank = inl (inr refl)
 
-  start_moves : begins_word others ≡ true
+  pub start_moves : begins_word others ≡ true
       → Kept (ends (out ++ start) (run_here ++ drop (run + plain) content))
   start_moves word =
-      let moved : Keeps (start ++ (run_here ++ others)) (shows even content) =
+      let moved : Ordinary (start ++ (run_here ++ others)) (shows even content) =
       ⊎_elim
       (λ r. keeps-alike whole_text
       (alike-sym _ _ (run_free start run_here others start_text (run_text run_here (run_first content)) r
       (run_first content)))
       both_keep)
       (λ o. odd_start o word) start_state in
-      keeps-as
+      ordinary-as
       (sym (append_assoc out start (run_here ++ others))
       ∙ ap (λ l. (out ++ start) ++ (run_here ++ l)) (drop-drop plain run content))
-      (keeps-append out_own moved)
+      (ordinary-append out_own moved)
     where
       whole_text : IsUtf8 (start ++ (run_here ++ others))
       whole_text =
@@ -426,7 +425,7 @@ module _ (out content : List ℕ) (u : IsUtf8 out) (v : IsUtf8 content) (so : cl
           (IsUtf8-append run_here others (run_text run_here (run_first content)) others_text)
 
       odd_start : closes even start ≡ odd → begins_word others ≡ true
-          → Keeps (start ++ (run_here ++ others)) (shows even content)
+          → Ordinary (start ++ (run_here ++ others)) (shows even content)
       odd_start o word =
           let cs = chars others in
           let both = odd_run run_here cs (run_first content) word in
@@ -444,12 +443,12 @@ module _ (out content : List ℕ) (u : IsUtf8 out) (v : IsUtf8 content) (so : cl
           ∙ ap (marks.ends odd) parts in
           let closed : marks.ends odd cs ≡ even =
           sym (closes-append even start others start_text ∙ ap (λ e. marks.ends e cs) o) ∙ both_keep.closed in
-          keeps-in both_keep.keeps (record {
+          ordinary-in both_keep.keeps (record {
             utf8 = whole_text;
             keeps = subst (λ (l : List ℕ). IsPart l (shows even (start ++ (run_here ++ others)))) (sym first)
                 (subst (λ (m : List ℕ). IsPart (shows even start ++ seen odd cs) m) (sym shown)
                 (part-append (shows even start) (seen odd cs) (shows even start) (seen odd (run_here ++ cs))
-                (holds-own (of_visible false) (shows even start)) both.0));
+                (holds-own of_visible (shows even start)) both.0));
             closed = state
                 ∙ below_even (marks.ends odd (run_here ++ cs))
                 (subst (λ e. Below e (marks.ends odd (run_here ++ cs))) closed both.1);
@@ -496,7 +495,7 @@ module _ (out content : List ℕ) (u : IsUtf8 out) (v : IsUtf8 content) (so : cl
       by (c ∷ ds) e opened = first_other c ds
           (false_from_ne_true (is_asterisk c) (λ star. plain_next false (chars rest) opened c ds e star))
 
-  start_loses : beginning_run others ≡ run → Kept (ends (out ++ start) (drop (run + plain + run) content))
+  pub start_loses : beginning_run others ≡ run → Kept (ends (out ++ start) (drop (run + plain + run) content))
   start_loses e =
       let f = take (beginning_run others) others in
       let o = drop (beginning_run others) others in
@@ -507,130 +506,83 @@ module _ (out content : List ℕ) (u : IsUtf8 out) (v : IsUtf8 content) (so : cl
       ∙ drop-drop run (run + plain) content in
       let whole : start ++ (f ++ o) ≡ start ++ others =
       ap (λ l. start ++ l) (take-append-drop (beginning_run others) others) in
-      let short : Keeps (start ++ o) (shows even content) =
+      let short : Ordinary (start ++ o) (shows even content) =
       ⊎_elim
       (λ r. keeps-alike (IsUtf8-append start o start_text o_text)
       (run_free start f o start_text (run_text f (run_first others)) r (run_first others))
-      (keeps-as (sym whole) both_keep))
-      (λ odd_here. keeps-as (ap (λ n. start ++ drop n others) (sym (no_run odd_here))) both_keep)
+      (ordinary-as (sym whole) both_keep))
+      (λ odd_here. ordinary-as (ap (λ n. start ++ drop n others) (sym (no_run odd_here))) both_keep)
       start_state in
-      keeps-as
+      ordinary-as
       (sym (append_assoc out start o) ∙ ap (λ l. (out ++ start) ++ l) place)
-      (keeps-append out_own short)
-
-  at_start : Kept (mended (joint_at_start run rest) out content)
-  at_start =
-      cond_both (begins_word others) _ _ (λ j. Kept (mended j out content)) start_moves
-      (λ _. cond_both (beginning_run others == run) _ _ (λ j. Kept (mended j out content))
-      (λ e. start_loses (eqb-true (beginning_run others) run e)) (λ _. spaced))
+      (ordinary-append out_own short)
 
   -- ---- at the end
 
-  abbrev signs : ℕ
-  signs = plain_end before
+  -- so many bytes of plain signs are there, whatever stands before the text
+  module _ (signs : ℕ) (cut : (signs ≤ length before) × IsCharBoundary before (length before - signs))
+      (head_bare : escapes false (take (length before - signs) before) ≡ false) where
+    abbrev head : List ℕ
+    head = take (length before - signs) before
 
-  abbrev head : List ℕ
-  head = take (length before - signs) before
+    abbrev tail : List ℕ
+    tail = drop (length before - signs) before
 
-  abbrev tail : List ℕ
-  tail = drop (length before - signs) before
+    head_text : IsUtf8 head
+    head_text = IsUtf8-take before (length before - signs) before_text cut.1
 
-  head_text : IsUtf8 head
-  head_text = IsUtf8-take before (length before - signs) before_text (plain_end-cut before before_text).1
+    tail_text : IsUtf8 tail
+    tail_text = IsUtf8-drop before (length before - signs) before_text cut.1
 
-  tail_text : IsUtf8 tail
-  tail_text = IsUtf8-drop before (length before - signs) before_text (plain_end-cut before before_text).1
+    parts : head ++ tail ≡ before
+    parts = take-append-drop (length before - signs) before
 
-  head_bare : escapes false head ≡ false
-  head_bare = end_bare before before_text
+    before_size : length before ≡ length out - run_behind
+    before_size = length-take-le (length out - run_behind) out (omega arith)
 
-  parts : head ++ tail ≡ before
-  parts = take-append-drop (length before - signs) before
+    head_size : length head ≡ length before - signs
+    head_size = length-take-le (length before - signs) before (omega arith)
 
-  before_size : length before ≡ length out - run_behind
-  before_size = length-take-le (length out - run_behind) out (omega arith)
+    abbrev gone : List ℕ
+    gone = drop (length before) out
 
-  head_size : length head ≡ length before - signs
-  head_size = length-take-le (length before - signs) before (omega arith)
+    gone_run : IsRun gone
+    gone_run = ap (λ n. list_all is_asterisk (drop n out)) before_size ∙ ending out
 
-  signs_within : signs ≤ length before
-  signs_within = (plain_end-cut before before_text).0
+    pub end_moves : Kept (ends (head ++ gone) (take signs (drop (length head) out) ++ content))
+    end_moves =
+        let n = length before - signs in
+        let moved : tail ≡ take signs (drop (length head) out) =
+        ap (λ k. drop n (take k out)) (omega (arith, before_size, cut.0)) ∙ drop-take n signs out
+        ∙ ap (λ k. take signs (drop k out)) (sym head_size) in
+        let all : Ordinary (head ++ (gone ++ tail)) (shows even out) =
+        keeps-alike
+        (IsUtf8-append head (gone ++ tail) head_text (IsUtf8-append gone tail (run_text gone gone_run) tail_text))
+        (alike-sym _ _
+        (run_free head gone tail head_text (run_text gone gone_run) (free head head_text head_bare) gone_run))
+        (ordinary-as (sym parts) before_keeps) in
+        ordinary-as
+        (ap (λ l. l ++ content) (sym (append_assoc head gone tail)) ∙ append_assoc (head ++ gone) tail content
+        ∙ ap (λ l. (head ++ gone) ++ (l ++ content)) moved)
+        (ordinary-append all content_own)
 
-  abbrev gone : List ℕ
-  gone = drop (length before) out
-
-  gone_run : IsRun gone
-  gone_run = ap (λ n. list_all is_asterisk (drop n out)) before_size ∙ ending out
-
-  end_moves : Kept (ends (head ++ gone) (take signs (drop (length head) out) ++ content))
-  end_moves =
-      let n = length before - signs in
-      let moved : tail ≡ take signs (drop (length head) out) =
-      ap (λ k. drop n (take k out)) (omega (arith, before_size, signs_within)) ∙ drop-take n signs out
-      ∙ ap (λ k. take signs (drop k out)) (sym head_size) in
-      let all : Keeps (head ++ (gone ++ tail)) (shows even out) =
-      keeps-alike
-      (IsUtf8-append head (gone ++ tail) head_text (IsUtf8-append gone tail (run_text gone gone_run) tail_text))
-      (alike-sym _ _
-      (run_free head gone tail head_text (run_text gone gone_run) (free head head_text head_bare) gone_run))
-      (keeps-as (sym parts) before_keeps) in
-      keeps-as
-      (ap (λ l. l ++ content) (sym (append_assoc head gone tail)) ∙ append_assoc (head ++ gone) tail content
-      ∙ ap (λ l. (head ++ gone) ++ (l ++ content)) moved)
-      (keeps-append all content_own)
-
-  end_loses : ending_run head ≡ run_behind
-      → Kept (ends (take (length head - run_behind) head ++ drop (length head) before) content)
-  end_loses e =
-      let k = length head - ending_run head in
-      let short = take k head in
-      let f = drop k head in
-      let short_text : IsUtf8 short = IsUtf8-take head k head_text (ending_run-cut head).1 in
-      let whole : short ++ (f ++ tail) ≡ before =
-      sym (append_assoc short f tail) ∙ ap (λ l. l ++ tail) (take-append-drop k head) ∙ parts in
-      let kept : Keeps (short ++ tail) (shows even out) =
-      keeps-alike (IsUtf8-append short tail short_text tail_text)
-      (run_free short f tail short_text (run_text f (ending head))
-      (free short short_text (run_bare head head_bare)) (ending head))
-      (keeps-as (sym whole) before_keeps) in
-      keeps-append
-      (keeps-as
-      (ap (λ n. take (length head - n) head ++ tail) e
-      ∙ ap (λ n. take (length head - run_behind) head ++ drop n before) (sym head_size))
-      kept)
-      content_own
-
-  at_end : Kept (mended (joint_at_end run_behind before) out content)
-  at_end =
-      cond_both (ends_word head) _ _ (λ j. Kept (mended j out content)) (λ _. end_moves)
-      (λ _. cond_both (ending_run head == run_behind) _ _ (λ j. Kept (mended j out content))
-      (λ e. end_loses (eqb-true (ending_run head) run_behind e)) (λ _. spaced))
-
-  -- ---- wherever they meet
-
-  between : (last first : ℕ)
-      → Kept (mended (joint_between run_behind run last first before rest) out content)
-  between last first =
-      cond_both (are_alike run_behind run last first) _ _ (λ j. Kept (mended j out content))
-      (λ e.
-      let alike : run_behind ≡ run = eqb-true run_behind run (and_parts _ _ (and_parts _ _ e).0).0 in
-      subst (λ n. Kept (ends before (drop n content))) (sym alike) runs_go)
-      (λ _. cond_both (is_run_misplaced run first last) _ _ (λ j. Kept (mended j out content)) (λ _. at_start)
-      (λ _. cond_both (is_run_misplaced run_behind last first) _ _ (λ j. Kept (mended j out content)) (λ _. at_end)
-      (λ _. same)))
-
-  pub mended_keeps : Kept (mended_ends out content)
-  mended_keeps =
-      cond_both (meets_bracket out content) _ _ (λ j. Kept (mended j out content))
-      (λ e. marked (and_parts _ _ e).0)
-      (λ _. cond_both (backquotes_meet out content) _ _ (λ j. Kept (mended j out content)) (λ _. spaced)
-      (λ _. cond_both (has_no_run run_behind run || not (is_filled before && is_filled rest)) _ _
-      (λ j. Kept (mended j out content)) (λ _. same)
-      (λ _. between (last_character before) (first_character rest))))
-
-pub keeps-joint : {out content l m : List ℕ} → Keeps out l → Keeps content m
-    → Keeps (with_joint out content) (l ++ m)
-keeps-joint {out} {content} {l} {m} p q =
-    keeps-in
-    (part-append l m (seen even (chars out)) (seen even (chars content)) p.keeps q.keeps)
-    (mended_keeps out content p.utf8 q.utf8 p.closed q.closed)
+    pub end_loses : ending_run head ≡ run_behind
+        → Kept (ends (take (length head - run_behind) head ++ drop (length head) before) content)
+    end_loses e =
+        let k = length head - ending_run head in
+        let short = take k head in
+        let f = drop k head in
+        let short_text : IsUtf8 short = IsUtf8-take head k head_text (ending_run-cut head).1 in
+        let whole : short ++ (f ++ tail) ≡ before =
+        sym (append_assoc short f tail) ∙ ap (λ l. l ++ tail) (take-append-drop k head) ∙ parts in
+        let kept : Ordinary (short ++ tail) (shows even out) =
+        keeps-alike (IsUtf8-append short tail short_text tail_text)
+        (run_free short f tail short_text (run_text f (ending head))
+        (free short short_text (run_bare head head_bare)) (ending head))
+        (ordinary-as (sym whole) before_keeps) in
+        ordinary-append
+        (ordinary-as
+        (ap (λ n. take (length head - n) head ++ tail) e
+        ∙ ap (λ n. take (length head - run_behind) head ++ drop n before) (sym head_size))
+        kept)
+        content_own

@@ -33,8 +33,8 @@ use Rattle.htmd_tree_laws.proofs.LettersOfTables.{all_of}
 use Rattle.htmd_tree_laws.proofs.LettersOfLinks.{IsTextIfAny}
 use Rattle.htmd_tree_laws.proofs.FittingTrees as fitting
 use Rattle.htmd_tree_laws.proofs.SaidChildren.{AllOf}
-use Rattle.htmd_tree_laws.proofs.KeptMarks.{Keeps, keeps-is, keeps-nil}
-use Rattle.htmd_tree_laws.proofs.KeptJoints.{keeps-joint}
+use Rattle.htmd_tree_laws.proofs.KeptChains.{Keeps, keeps-is, keeps-nil}
+use Rattle.htmd_tree_laws.proofs.KeptMeetings.{keeps-joint}
 use Rattle.htmd_tree_laws.proofs.KeptLines.{keeps-seam, keeps-trimmed, keeps-trimmed_end}
 use Rattle.htmd_tree_laws.proofs.KeptTexts.{text_is_kept, children_are_kept}
 use Rattle.htmd_tree_laws.proofs.KeptElements.{EachKeeps, element_keeps}
@@ -44,7 +44,7 @@ use Rattle.htmd_walk.specs.Seams.{guarded_at_seam}
 use Rattle.htmd_walk.specs.Children.{content_inside}
 use Rattle.htmd_walk.specs.Rendering.{write_text}
 use Rattle.htmd_tree.specs.ValueTrees.{AttributePair}
-use Rattle.htmd_tree_laws.specs.Shown.{counted_characters, is_empty_element, is_one_text}
+use Rattle.htmd_tree_laws.specs.Shown.{is_empty_element, is_one_text}
 use Rattle.htmd_tree_laws.proofs.ShownTrees.{shown_inside}
 use Rattle.std.specs.Prelude.{◌&&◌, not}
 use Rattle.std.proofs.lemmas.Bool.{true≢false}
@@ -57,10 +57,6 @@ keeps-guarded_seam : {out content l m : List ℕ} → Keeps out l → Keeps cont
     → Keeps (guarded_at_seam out content) (l ++ m)
 keeps-guarded_seam {out} {content} p q =
     let both = mended_ends out content in keeps-seam both.front both.behind (keeps-joint p q)
-
-both_ways_false : (b : Bool) → (not b && b) ≡ false
-both_ways_false true = refl
-both_ways_false false = refl
 
 module _ (options : Options) (g : is_guarded options ≡ true) (alone : is_markdown_alone options ≡ true)
     (items : List Item) (t : IsTree items) (plain : (id : ℕ) → HoldsText (data_at items id)) where
@@ -134,10 +130,10 @@ module _ (options : Options) (g : is_guarded options ≡ true) (alone : is_markd
       (text : Option (List ℕ))
       → only_text children ≡ text → LiesHere id name attributes children → AllFitHere children
       → IsTextIfAny text
-      → Says (of_visible (is_guarded options)) (text_or_all text (children_at items id))
+      → Says of_visible (text_or_all text (children_at items id))
       (shown_among options items false children)
   whole_shows id name attributes children None e lies fit utf8 =
-      subst (λ (trees : NumberedForest). Says (of_visible (is_guarded options)) (all_text_among trees)
+      subst (λ (trees : NumberedForest). Says of_visible (all_text_among trees)
       (shown_among options items false children))
       (lies.apart e) (all_texts_show options g items children fit)
   whole_shows id name attributes children (Some s) e lies fit utf8 =
@@ -179,9 +175,8 @@ module _ (options : Options) (g : is_guarded options ≡ true) (alone : is_markd
       children out l fit.0 (omega (arith, fit.1)) p)
   within_is_kept (suc n) (doctype id) context out l fit p = keeps-is (sym (append-nil l)) p
   within_is_kept (suc n) (text id s) context out l fit p =
-      keeps-is (ap (λ b. l ++ counted_characters b s) (sym (both_ways_false (is_guarded options))))
-      (subst (λ b. Keeps (write_text b s context out).text (l ++ visible s)) (sym g)
-      (text_is_kept s context out l fit.0 p))
+      subst (λ b. Keeps (write_text b s context out).text (l ++ visible s)) (sym g)
+      (text_is_kept s context out l fit.0 p)
   within_is_kept (suc n) (comment id s) context out l fit p = rw alone (keeps-is (sym (append-nil l)) p)
   within_is_kept (suc n) (element id name attributes children) context out l fit p =
       let write = written_within n conversion in
@@ -193,9 +188,7 @@ module _ (options : Options) (g : is_guarded options ≡ true) (alone : is_markd
       let lies = fit.0.0 in
       let kept = element_keeps options g alone items (λ i. values_in (data_at items i) (plain i)) write id inside
       children out.definitions utf8 (λ tables. only_shows options items tables children)
-      (subst (λ b. Says (of_visible b) (text_or_all (only_text children) (children_at items id))
-      (shown_among options items false children)) g
-      (whole_shows id name attributes children (only_text children) refl lies fit.0.1 utf8))
+      (whole_shows id name attributes children (only_text children) refl lies fit.0.1 utf8)
       (λ before. subst (λ b. Keeps (content_inside write inside children before).text
       (shown_among options items b children)) g
       (groups_are_kept n (within_is_kept n) inside children (empty_output before) [] fit.0.1 low keeps-nil))

@@ -1,13 +1,13 @@
 -- Texts that are cut at their ends, put together at a seam or written line by line: only white space is exchanged.
 use Rattle.std.proofs.Common.{◌≡◌, ℕ, zero, suc, ◌+◌, ◌-◌, Bool, true, false, cond, List, [], ◌∷◌, ◌++◌, length, take, drop}
-use Rattle.std.proofs.Common.{refl, sym, ap, ◌∙◌, arith, subst, append_assoc, ⊎_elim, inr, codes, map, min, max}
+use Rattle.std.proofs.Common.{refl, sym, ap, ◌∙◌, arith, subst, append_assoc, ⊎_elim, inl, inr, codes, map, min, max}
 use Rattle.std.specs.Prelude.{◌&&◌, ◌==◌, nat_lt, filter, replicate, slice_index}
 use Rattle.std.specs.List.{list_all, flat_map, slice_split, onto_first, prefix_len, suffix_len}
 use Rattle.std.specs.Str.Lines.{lines, lines_of_parts, strip_carriage_return}
 use Rattle.std.proofs.lemmas.Bool.{and_parts, and_from, cond_both, cond-false, cases_Bool, eqb-true}
 use Rattle.std.proofs.lemmas.Bool.Decides.{nat_tests}
 use Rattle.std.proofs.lemmas.List.{append-nil, take-append-drop, length-drop, length-take-le}
-use Rattle.std.proofs.lemmas.List.Sums.{suffix_len-le-length, prefix_len-le-length}
+use Rattle.std.proofs.lemmas.List.Sums.{suffix_len-le-length, prefix_len-le-length, list_all-from_AllPass}
 use Rattle.htmd_text.specs.BlankLines.{blank_line, with_blank_lines}
 use Rattle.htmd_text.specs.Characters.{space, line_feed}
 use Rattle.htmd_text.specs.Indents.{line_text, next_line, indented_lines, indented_text}
@@ -19,11 +19,13 @@ use Rattle.htmd_markdown.specs.Quotes.{quoted_line, quoted_lines, quoted_content
 use Rattle.htmd_markdown.specs.Titles.{is_filled}
 use Rattle.htmd_walk.specs.Seams.{joined_at_seam, begins_with_space, ends_with_space}
 use Rattle.htmd_tree_laws.proofs.KeptMarks.{Respaced, Swaps, respaced-same, respaced-append, respaced-gone, respaced-for}
-use Rattle.htmd_tree_laws.proofs.KeptMarks.{is_safe, Keeps, keeps-append, keeps-is, keeps-as, keeps-respaced, keeps-safe}
-use Rattle.htmd_tree_laws.proofs.KeptMarks.{keeps-behind, keeps-before, keeps-of_nothing}
+use Rattle.htmd_tree_laws.proofs.KeptMarks.{is_safe, parts_of}
+use Rattle.htmd_tree_laws.proofs.KeptChains.{Keeps, keeps-append, keeps-is, keeps-as, keeps-respaced, keeps-safe}
+use Rattle.htmd_tree_laws.proofs.KeptChains.{keeps-behind, keeps-before, keeps-of_nothing}
 use Rattle.htmd_tree_laws.proofs.LettersLemmas.{is_white}
 use Rattle.htmd_tree_laws.proofs.LettersOfLines.{some_part, last_reads}
 use Rattle.htmd_tree_laws.proofs.LettersOfTexts.{OfWhite, document_of_white, line_feed_of_white, space_of_white, end_white}
+use Rattle.htmd_tree_laws.proofs.TextEnds.{end_passes}
 
 -- ---- one exchange after another
 
@@ -42,31 +44,16 @@ safe_still (b ∷ x) u e (y, rest, swap, whole, more) =
     ⊎_elim (λ same. ap (list_all is_safe) same ∙ and_from (is_safe b) true parts.0 refl) (λ low. low.1) swap in
     ap (list_all is_safe) whole ∙ safe-append y rest first (safe_still x rest parts.1 more)
 
--- the parts of what is written for a text
-pub record Parts (x r u : List ℕ) : Type 0 where
-  pub front : List ℕ
-  pub behind : List ℕ
-  pub whole : u ≡ front ++ behind
-  pub first : Respaced x front
-  pub second : Respaced r behind
-
-parts_of : (x r u : List ℕ) → Respaced (x ++ r) u → Parts x r u
-parts_of [] r u e = record { front = []; behind = u; whole = refl; first = refl; second = e }
-parts_of (b ∷ x) r u (y, rest, swap, whole, more) =
-    let p = parts_of x r rest more in
-    record {
-      front = y ++ p.front;
-      behind = p.behind;
-      whole = whole ∙ ap (λ z. y ++ z) p.whole ∙ sym (append_assoc y p.front p.behind);
-      first = (y, p.front, swap, refl, p.first);
-      second = p.second;
-    }
-
 swapped : (b : ℕ) (x u : List ℕ) → Swaps b x → Respaced x u → Swaps b u
 swapped b x u swap r =
     ⊎_elim
     (λ same. by (subst (λ (z : List ℕ). Respaced z u) same r))
-    (λ low. inr (low.0, safe_still x u low.1 r)) swap
+    (λ low. inr (
+      low.0,
+      safe_still x u low.1 r,
+      ⊎_elim (λ (none : x ≡ []). inl (subst (λ (z : List ℕ). Respaced z u) none r)) (λ feed. inr feed) low.2,
+    ))
+    swap
   where
     by : Respaced (b ∷ []) u → Swaps b u
     by (y, rest, one, whole, none) =
@@ -92,7 +79,7 @@ respaced-trimmed_start passes fills (b ∷ s) =
     (λ e.
     let one : suc (prefix_len passes s) ≡ 1 + prefix_len passes s = omega arith in
     subst (λ (n : ℕ). Respaced (b ∷ s) (drop n (b ∷ s))) one
-    ([], drop (prefix_len passes s) s, inr (fills b e, refl), refl, respaced-trimmed_start passes fills s))
+    ([], drop (prefix_len passes s) s, inr (fills b e, refl, inl refl), refl, respaced-trimmed_start passes fills s))
     (λ e. respaced-same (b ∷ s))
 
 pub respaced-trimmed_end : (passes : ℕ → Bool) → OfWhite passes → (s : List ℕ)
@@ -138,38 +125,43 @@ safe_many (suc n) b e = and_from (is_safe b) (list_all is_safe (replicate n b)) 
 pub keeps-many : (n b : ℕ) → is_safe b ≡ true → Keeps (replicate n b) []
 keeps-many n b e = keeps-safe (replicate n b) (safe_many n b e)
 
-white-append : (x y : List ℕ) → list_all is_white x ≡ true → list_all is_white y ≡ true
-    → list_all is_white (x ++ y) ≡ true
-white-append [] y e f = f
-white-append (b ∷ x) y e f =
-    let parts = and_parts (is_white b) (list_all is_white x) e in
-    and_from (is_white b) (list_all is_white (x ++ y)) parts.0 (white-append x y parts.1 f)
+feeds-append : (x y : List ℕ) → list_all is_line_feed x ≡ true → list_all is_line_feed y ≡ true
+    → list_all is_line_feed (x ++ y) ≡ true
+feeds-append [] y e f = f
+feeds-append (b ∷ x) y e f =
+    let parts = and_parts (is_line_feed b) (list_all is_line_feed x) e in
+    and_from (is_line_feed b) (list_all is_line_feed (x ++ y)) parts.0 (feeds-append x y parts.1 f)
 
-start_white : (passes : ℕ → Bool) → OfWhite passes → (s : List ℕ)
-    → list_all is_white (take (prefix_len passes s) s) ≡ true
-start_white passes fills [] = refl
-start_white passes fills (b ∷ s) =
-    cond_both (passes b) (1 + prefix_len passes s) 0 (λ n. list_all is_white (take n (b ∷ s)) ≡ true)
+first_feeds : (s : List ℕ) → list_all is_line_feed (take (prefix_len is_line_feed s) s) ≡ true
+first_feeds [] = refl
+first_feeds (b ∷ s) =
+    cond_both (is_line_feed b) (1 + prefix_len is_line_feed s) 0 (λ n. list_all is_line_feed (take n (b ∷ s)) ≡ true)
     (λ e.
-    let one : suc (prefix_len passes s) ≡ 1 + prefix_len passes s = omega arith in
-    subst (λ (n : ℕ). list_all is_white (take n (b ∷ s)) ≡ true) one
-    (and_from (is_white b) (list_all is_white (take (prefix_len passes s) s)) (fills b e)
-    (start_white passes fills s)))
+    let one : suc (prefix_len is_line_feed s) ≡ 1 + prefix_len is_line_feed s = omega arith in
+    subst (λ (n : ℕ). list_all is_line_feed (take n (b ∷ s)) ≡ true) one
+    (and_from (is_line_feed b) (list_all is_line_feed (take (prefix_len is_line_feed s) s)) e (first_feeds s)))
     (λ _. refl)
 
--- some white space for any
-for_white : (w : List ℕ) (n : ℕ) → list_all is_white w ≡ true → (w ≡ [] → n ≡ 0)
+feeds_white : (w : List ℕ) → list_all is_line_feed w ≡ true → list_all is_white w ≡ true
+feeds_white [] e = refl
+feeds_white (b ∷ w) e =
+    let parts = and_parts (is_line_feed b) (list_all is_line_feed w) e in
+    and_from (is_white b) (list_all is_white w) (line_feed_of_white b parts.0) (feeds_white w parts.1)
+
+-- some line feeds for any
+for_feeds : (w : List ℕ) (n : ℕ) → list_all is_line_feed w ≡ true → (w ≡ [] → n ≡ 0)
     → Respaced w (replicate n line_feed)
-for_white [] n e none = ap (λ k. replicate k line_feed) (none refl)
-for_white (b ∷ w) n e none =
-    let parts = and_parts (is_white b) (list_all is_white w) e in
-    respaced-for b w (replicate n line_feed) parts.0 parts.1 (safe_many n line_feed refl)
+for_feeds [] n e none = ap (λ k. replicate k line_feed) (none refl)
+for_feeds (b ∷ w) n e none =
+    let parts = and_parts (is_line_feed b) (list_all is_line_feed w) e in
+    respaced-for b w (replicate n line_feed) (eqb-true b line_feed parts.0) (feeds_white w parts.1)
+    (safe_many n line_feed refl)
 
 respaced-space : (s : List ℕ) → begins_with_space s ≡ true → Respaced s (drop 1 s)
 respaced-space [] e = refl
 respaced-space (b ∷ s) e =
     ⊎_elim
-    (λ (here : is_space b ≡ true). ([], s, inr (space_of_white b here, refl), refl, respaced-same s))
+    (λ (here : is_space b ≡ true). ([], s, inr (space_of_white b here, refl, inl refl), refl, respaced-same s))
     (λ (not_here : is_space b ≡ false).
     let none : prefix_len is_space (b ∷ s) ≡ 0 = cond-false (is_space b) _ _ not_here in
     absurd (no_less (prefix_len is_space (b ∷ s)) none e))
@@ -212,9 +204,8 @@ respaced-seam out content =
         subst (λ (z : List ℕ). Respaced z ((t ++ replicate n line_feed) ++ u)) whole
         (respaced-append (t ++ (w ++ v)) (t ++ replicate n line_feed) u u
         (respaced-append t t (w ++ v) (replicate n line_feed) (respaced-same t)
-        (for_white (w ++ v) n
-        (white-append w v (end_white is_line_feed line_feed_of_white out)
-        (start_white is_line_feed line_feed_of_white content))
+        (for_feeds (w ++ v) n
+        (feeds-append w v (list_all-from_AllPass is_line_feed w (end_passes is_line_feed out)) (first_feeds content))
         none_there))
         (respaced-same u))
       where
@@ -262,7 +253,7 @@ split_is (b ∷ s) =
 
 -- a line feed and what follows it
 feed_first : (s t x : List ℕ) → list_all is_safe x ≡ true → Respaced s t → Respaced (line_feed ∷ s) (x ++ t)
-feed_first s t x e r = (x, t, inr (refl, e), refl, r)
+feed_first s t x e r = (x, t, inr (refl, e, inr refl), refl, r)
 
 -- each line stands for one, but the last may be left out
 abbrev Each : List (List ℕ) → List (List ℕ) → Type 0

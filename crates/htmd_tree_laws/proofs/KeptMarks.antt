@@ -2,7 +2,7 @@
 -- for other white space.
 use Rattle.std.proofs.Common.{◌≡◌, ℕ, suc, ◌<◌, ◌≤◌, Bool, true, false, cond, List, [], ◌∷◌, ◌++◌, length, get_or}
 use Rattle.std.proofs.Common.{refl, sym, ap, ◌∙◌, arith, subst, append_assoc, ⊎_elim, inl, inr}
-use Rattle.std.specs.Prelude.{◌⊎◌, ◌&&◌, ◌||◌, ◌==◌, not, nat_lt, filter, encode_utf8, encode_utf8_all}
+use Rattle.std.specs.Prelude.{◌⊎◌, ◌&&◌, ◌||◌, not, nat_lt, filter, encode_utf8, encode_utf8_all}
 use Rattle.std.specs.Char.{IsScalar}
 use Rattle.std.specs.List.{list_all}
 use Rattle.std.specs.Str.{chars, IsUtf8, all_scalars}
@@ -13,10 +13,10 @@ use Rattle.std.proofs.lemmas.List.{append-nil}
 use Rattle.std.proofs.lemmas.List.Elements.{filter-append}
 use Rattle.std.proofs.lemmas.Str.{encode_ascii, encodes-append, encodes-chars, scalars-chars, chars-encodes, chars-append}
 use Rattle.std.proofs.lemmas.Str.{IsUtf8-append, IsUtf8-nil, chars-nil}
-use Rattle.htmd_text.specs.Characters.{backslash}
+use Rattle.htmd_text.specs.Characters.{backslash, line_feed}
 use Rattle.htmd_markdown.specs.Joints.{is_asterisk, is_backslash}
-use Rattle.htmd_tree_laws.specs.Shown.{is_visible, is_counted, IsPart}
-use Rattle.htmd_tree_laws.proofs.CountedTexts.{of_visible, part-of_nothing, part-behind, part-append, part-then}
+use Rattle.htmd_tree_laws.specs.Shown.{is_visible, is_no_asterisk, IsPart}
+use Rattle.htmd_tree_laws.proofs.CountedTexts.{of_visible, part-behind, part-append, part-then, part-filter}
 use Rattle.htmd_tree_laws.proofs.LettersLemmas.{Says, is_white}
 use Rattle.htmd_tree_laws.proofs.LettersOfTexts.{bytes_high}
 
@@ -201,9 +201,11 @@ seen-below e f (c ∷ cs) b =
 
 -- ---- white space for white space
 
--- what stands for a byte: itself, or for ASCII white space any ASCII text without backslashes
+-- what stands for a byte: itself; for ASCII white space nothing, and for a line feed any ASCII text without
+-- backslashes
 abbrev pub Swaps : ℕ → List ℕ → Type 0
-Swaps b x = (x ≡ b ∷ []) ⊎ ((is_white b ≡ true) × (list_all is_safe x ≡ true))
+Swaps b x =
+    (x ≡ b ∷ []) ⊎ ((is_white b ≡ true) × (list_all is_safe x ≡ true) × ((x ≡ []) ⊎ (b ≡ line_feed)))
 
 abbrev pub Respaced : List ℕ → List ℕ → Type 0
 Respaced [] t = t ≡ []
@@ -227,12 +229,12 @@ pub respaced-gone : (w : List ℕ) → list_all is_white w ≡ true → Respaced
 respaced-gone [] e = refl
 respaced-gone (b ∷ w) e =
     let parts = and_parts (is_white b) (list_all is_white w) e in
-    ([], [], inr (parts.0, refl), refl, respaced-gone w parts.1)
+    ([], [], inr (parts.0, refl, inl refl), refl, respaced-gone w parts.1)
 
-pub respaced-for : (b : ℕ) (w x : List ℕ) → is_white b ≡ true → list_all is_white w ≡ true
+pub respaced-for : (b : ℕ) (w x : List ℕ) → b ≡ line_feed → list_all is_white w ≡ true
     → list_all is_safe x ≡ true
     → Respaced (b ∷ w) x
-respaced-for b w x e f g = (x, [], inr (e, g), sym (append-nil x), respaced-gone w f)
+respaced-for b w x e f g = (x, [], inr (ap is_white e, g, inr e), sym (append-nil x), respaced-gone w f)
 
 -- a longer character stays
 stays : (x r t : List ℕ) → ((k : ℕ) → k < length x → 128 ≤ get_or x k 0)
@@ -247,6 +249,26 @@ stays (b ∷ x) r t high (y, rest, swap, whole, more) =
     let below : b < 128 = ltb-true b 128 (and_parts (nat_lt b 128) _ low.0).0 in
     absurd (omega (arith, below))) swap in
     (deeper.0, whole ∙ ap (λ z. z ++ rest) first ∙ ap (λ z. b ∷ z) deeper.1, deeper.2)
+
+-- the parts of what is written for a text
+pub record Parts (x r u : List ℕ) : Type 0 where
+  pub front : List ℕ
+  pub behind : List ℕ
+  pub whole : u ≡ front ++ behind
+  pub first : Respaced x front
+  pub second : Respaced r behind
+
+pub parts_of : (x r u : List ℕ) → Respaced (x ++ r) u → Parts x r u
+parts_of [] r u e = record { front = []; behind = u; whole = refl; first = refl; second = e }
+parts_of (b ∷ x) r u (y, rest, swap, whole, more) =
+    let p = parts_of x r rest more in
+    record {
+      front = y ++ p.front;
+      behind = p.behind;
+      whole = whole ∙ ap (λ z. y ++ z) p.whole ∙ sym (append_assoc y p.front p.behind);
+      first = (y, p.front, swap, refl, p.first);
+      second = p.second;
+    }
 
 pub encodes-safe : (x : List ℕ) → list_all is_safe x ≡ true → encode_utf8_all x ≡ x
 encodes-safe [] e = refl
@@ -281,6 +303,7 @@ pub record Written (cs t : List ℕ) : Type 0 where
   pub encoded : t ≡ encode_utf8_all characters
   pub scalars : all_scalars characters ≡ true
   pub promises : Promises cs characters
+  pub shows : IsPart (filter is_visible cs) (filter is_visible characters)
 
 -- the same character
 same_first : (c : ℕ) (cs ds : List ℕ) → Promises cs ds → Promises (c ∷ cs) (c ∷ ds)
@@ -318,12 +341,21 @@ white_first c cs x ds w s p e f b =
       subst (λ g. Below (ends (step e c) cs) g) (sym (ends-append f x ds)) later.1,
     )
 
+white_shows : (c : ℕ) (cs x ds : List ℕ) → is_white c ≡ true → IsPart (filter is_visible cs) (filter is_visible ds)
+    → IsPart (filter is_visible (c ∷ cs)) (filter is_visible (x ++ ds))
+white_shows c cs x ds w p =
+    subst (λ (l : List ℕ). IsPart l (filter is_visible (x ++ ds)))
+    (sym (cond-false (is_visible c) (c ∷ filter is_visible cs) (filter is_visible cs) (white_visible c w)))
+    (subst (λ (m : List ℕ). IsPart (filter is_visible cs) m) (sym (filter-append is_visible x ds))
+    (part-append [] (filter is_visible cs) (filter is_visible x) (filter is_visible ds) tt p))
+
 pub respaced : (cs t : List ℕ) → all_scalars cs ≡ true → Respaced (encode_utf8_all cs) t → Written cs t
 respaced [] t scalars r = record {
   characters = [];
   encoded = r;
   scalars = refl;
   promises = λ e f b. (tt, b);
+  shows = tt;
 }
 respaced (c ∷ cs) t scalars r =
     let parts = and_parts _ (all_scalars cs) scalars in
@@ -339,6 +371,7 @@ respaced (c ∷ cs) t scalars r =
           ∙ ap (λ z. encode_utf8 c ++ z) later.encoded;
       scalars = and_from _ (all_scalars later.characters) parts.0 later.scalars;
       promises = same_first c cs later.characters later.promises;
+      shows = more_both c (filter is_visible cs) (filter is_visible later.characters) later.shows;
     })
     (λ swap. record {
       characters = here.0 ++ later.characters;
@@ -347,6 +380,7 @@ respaced (c ∷ cs) t scalars r =
           ∙ sym (encodes-append here.0 later.characters);
       scalars = scalars-append here.0 later.characters (scalars-safe here.0 swap.1) later.scalars;
       promises = white_first c cs here.0 later.characters swap.0 swap.1 later.promises;
+      shows = white_shows c cs here.0 later.characters swap.0 later.shows;
     })
     here.2)
     (λ high.
@@ -357,26 +391,24 @@ respaced (c ∷ cs) t scalars r =
       encoded = deeper.1 ∙ ap (λ z. encode_utf8 c ++ z) later.encoded;
       scalars = and_from _ (all_scalars later.characters) parts.0 later.scalars;
       promises = same_first c cs later.characters later.promises;
+      shows = more_both c (filter is_visible cs) (filter is_visible later.characters) later.shows;
     })
     (cases_lt c 128)
 
--- ---- texts that keep what is wanted
+-- ---- ordinary texts that keep what is wanted
 
--- it is text, what is wanted is among what stays, and it ends with no backslash that escapes what follows
-pub record Keeps (s l : List ℕ) : Type 0 where
+-- It is text outside code, formulas and autolinks, what is wanted is among what stays, and it ends with no backslash
+-- that escapes what follows.
+pub record Ordinary (s l : List ℕ) : Type 0 where
   pub utf8 : IsUtf8 s
   pub keeps : IsPart l (seen even (chars s))
   pub closed : ends even (chars s) ≡ even
 
-pub keeps-nil : Keeps [] []
-keeps-nil = record { utf8 = IsUtf8-nil; keeps = tt; closed = ap (ends even) chars-nil }
+pub ordinary-nil : Ordinary [] []
+ordinary-nil = record { utf8 = IsUtf8-nil; keeps = tt; closed = ap (ends even) chars-nil }
 
-pub keeps-of_nothing : {l : List ℕ} → Keeps [] l → l ≡ []
-keeps-of_nothing {l} p =
-    part-of_nothing l (subst (λ (x : List ℕ). IsPart l x) (ap (seen even) chars-nil) p.keeps)
-
-pub keeps-append : {s t l m : List ℕ} → Keeps s l → Keeps t m → Keeps (s ++ t) (l ++ m)
-keeps-append {s} {t} {l} {m} p q =
+pub ordinary-append : {s t l m : List ℕ} → Ordinary s l → Ordinary t m → Ordinary (s ++ t) (l ++ m)
+ordinary-append {s} {t} {l} {m} p q =
     let whole = chars-append s t p.utf8 in
     record {
       utf8 = IsUtf8-append s t p.utf8 q.utf8;
@@ -388,21 +420,21 @@ keeps-append {s} {t} {l} {m} p q =
           ∙ ap (λ e. ends e (chars t)) p.closed ∙ q.closed;
     }
 
-pub keeps-is : {s l m : List ℕ} → l ≡ m → Keeps s l → Keeps s m
-keeps-is {s} e p = subst (λ (x : List ℕ). Keeps s x) e p
+pub ordinary-is : {s l m : List ℕ} → l ≡ m → Ordinary s l → Ordinary s m
+ordinary-is {s} e p = subst (λ (x : List ℕ). Ordinary s x) e p
 
-pub keeps-as : {s t l : List ℕ} → s ≡ t → Keeps s l → Keeps t l
-keeps-as {s} {t} {l} e p = subst (λ (x : List ℕ). Keeps x l) e p
+pub ordinary-as : {s t l : List ℕ} → s ≡ t → Ordinary s l → Ordinary t l
+ordinary-as {s} {t} {l} e p = subst (λ (x : List ℕ). Ordinary x l) e p
 
-pub keeps-in : {s l m : List ℕ} → IsPart m l → Keeps s l → Keeps s m
-keeps-in {s} {l} {m} h p = record {
+pub ordinary-in : {s l m : List ℕ} → IsPart m l → Ordinary s l → Ordinary s m
+ordinary-in {s} {l} {m} h p = record {
   utf8 = p.utf8;
   keeps = part-then m l (seen even (chars s)) h p.keeps;
   closed = p.closed;
 }
 
-pub keeps-respaced : {s t l : List ℕ} → Respaced s t → Keeps s l → Keeps t l
-keeps-respaced {s} {t} {l} r p =
+pub ordinary-respaced : {s t l : List ℕ} → Respaced s t → Ordinary s l → Ordinary t l
+ordinary-respaced {s} {t} {l} r p =
     let w = respaced (chars s) t (scalars-chars s p.utf8)
     (subst (λ (x : List ℕ). Respaced x t) (sym (encodes-chars s p.utf8)) r) in
     let same : chars t ≡ w.characters = ap chars w.encoded ∙ chars-encodes w.characters w.scalars in
@@ -419,8 +451,8 @@ pub chars-safe : (x : List ℕ) → list_all is_safe x ≡ true → chars x ≡ 
 chars-safe x e = ap chars (sym (encodes-safe x e)) ∙ chars-encodes x (scalars-safe x e)
 
 -- ASCII without backslashes
-pub keeps-safe : (x : List ℕ) → list_all is_safe x ≡ true → Keeps x []
-keeps-safe x e =
+pub ordinary-safe : (x : List ℕ) → list_all is_safe x ≡ true → Ordinary x []
+ordinary-safe x e =
     let same : chars x ≡ x = chars-safe x e in
     record {
       utf8 = (x, (scalars-safe x e, encodes-safe x e));
@@ -428,11 +460,8 @@ keeps-safe x e =
       closed = ap (ends even) same ∙ ends-safe x e;
     }
 
-pub keeps-behind : {s l : List ℕ} (x : List ℕ) → list_all is_safe x ≡ true → Keeps s l → Keeps (x ++ s) l
-keeps-behind x e p = keeps-append (keeps-safe x e) p
-
-pub keeps-before : {s l : List ℕ} (x : List ℕ) → list_all is_safe x ≡ true → Keeps s l → Keeps (s ++ x) l
-keeps-before {s} {l} x e p = keeps-is (append-nil l) (keeps-append p (keeps-safe x e))
+pub ordinary-before : {s l : List ℕ} (x : List ℕ) → list_all is_safe x ≡ true → Ordinary s l → Ordinary (s ++ x) l
+ordinary-before {s} {l} x e p = ordinary-is (append-nil l) (ordinary-append p (ordinary-safe x e))
 
 -- ---- what is found at all
 
@@ -445,44 +474,41 @@ seen_all e (c ∷ cs) =
     (λ _. more_found c (filter is_visible l) (filter is_visible cs) (seen_all (step e c) cs))
     (λ _. more_both c (filter is_visible l) (filter is_visible cs) (seen_all (step e c) cs))
 
-pub keeps-says : {s l : List ℕ} → Keeps s l → Says (of_visible false) s l
-keeps-says {s} {l} p = record {
-  utf8 = p.utf8;
-  says = part-then l (seen even (chars s)) (filter is_visible (chars s)) p.keeps (seen_all even (chars s));
-}
-
 -- but for `*` all is kept
 goes_asterisk : (e : State) (c : ℕ) → goes e c ≡ true → is_asterisk c ≡ true
 goes_asterisk even c g = g
 goes_asterisk odd c g = absurd (false≢true g)
 goes_asterisk blank c g = g
 
-no_asterisk : (c : ℕ) → is_asterisk c ≡ true → is_counted true c ≡ false
-no_asterisk c e = ap (is_counted true) (eqb-true c 42 e)
+no_asterisk : (c : ℕ) → is_asterisk c ≡ true → is_no_asterisk c ≡ false
+no_asterisk c e = ap not e
 
-counted_visible : (c : ℕ) → is_visible c ≡ false → is_counted true c ≡ false
-counted_visible c e = ap (λ b. b && not (c == 42)) e
-
-pub counted_kept : (e : State) (cs : List ℕ) → IsPart (filter (is_counted true) cs) (seen e cs)
-counted_kept e [] = tt
-counted_kept e (c ∷ cs) =
+visible_kept : (e : State) (cs : List ℕ) → IsPart (filter is_no_asterisk (filter is_visible cs)) (seen e cs)
+visible_kept e [] = tt
+visible_kept e (c ∷ cs) =
     let l = kept (step e c) cs in
-    let own = filter (is_counted true) cs in
-    let later = counted_kept (step e c) cs in
-    cond_both (goes e c) l (c ∷ l)
-    (λ (x : List ℕ). IsPart (cond (is_counted true c) (c ∷ own) own) (filter is_visible x))
+    let others = filter is_visible cs in
+    let own = filter is_no_asterisk others in
+    let later = visible_kept (step e c) cs in
+    cond_both (is_visible c) (c ∷ others) others
+    (λ (x : List ℕ). IsPart (filter is_no_asterisk x) (filter is_visible (cond (goes e c) l (c ∷ l))))
+    (λ here. cond_both (goes e c) l (c ∷ l)
+    (λ (x : List ℕ). IsPart (cond (is_no_asterisk c) (c ∷ own) own) (filter is_visible x))
     (λ g. subst (λ (x : List ℕ). IsPart x (filter is_visible l))
-    (sym (cond-false (is_counted true c) (c ∷ own) own (no_asterisk c (goes_asterisk e c g)))) later)
-    (λ _. cond_both (is_visible c) (c ∷ filter is_visible l) (filter is_visible l)
-    (λ (x : List ℕ). IsPart (cond (is_counted true c) (c ∷ own) own) x)
-    (λ _. cond_both (is_counted true c) (c ∷ own) own (λ (x : List ℕ). IsPart x (c ∷ filter is_visible l))
-    (λ _. inl (refl, later)) (λ _. part-behind own (filter is_visible l) c later))
-    (λ no. subst (λ (x : List ℕ). IsPart x (filter is_visible l))
-    (sym (cond-false (is_counted true c) (c ∷ own) own (counted_visible c no))) later))
+    (sym (cond-false (is_no_asterisk c) (c ∷ own) own (no_asterisk c (goes_asterisk e c g)))) later)
+    (λ _. subst (λ (x : List ℕ). IsPart (cond (is_no_asterisk c) (c ∷ own) own) x)
+    (sym (cond-true (is_visible c) (c ∷ filter is_visible l) (filter is_visible l) here))
+    (cond_both (is_no_asterisk c) (c ∷ own) own (λ (x : List ℕ). IsPart x (c ∷ filter is_visible l))
+    (λ _. inl (refl, later)) (λ _. part-behind own (filter is_visible l) c later))))
+    (λ _. cond_both (goes e c) l (c ∷ l) (λ (x : List ℕ). IsPart own (filter is_visible x)) (λ _. later)
+    (λ _. more_found c own (filter is_visible l) later))
 
-pub says-keeps : {s l : List ℕ} → ends even (chars s) ≡ even → Says (of_visible true) s l → Keeps s l
-says-keeps {s} {l} e p = record {
+pub says-ordinary : {s l : List ℕ} → ends even (chars s) ≡ even → Says of_visible s l
+    → Ordinary s (filter is_no_asterisk l)
+says-ordinary {s} {l} e p = record {
   utf8 = p.utf8;
-  keeps = part-then l (filter (is_counted true) (chars s)) (seen even (chars s)) p.says (counted_kept even (chars s));
+  keeps = part-then (filter is_no_asterisk l) (filter is_no_asterisk (filter is_visible (chars s)))
+      (seen even (chars s)) (part-filter is_no_asterisk l (filter is_visible (chars s)) p.says)
+      (visible_kept even (chars s));
   closed = e;
 }

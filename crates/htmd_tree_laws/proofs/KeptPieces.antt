@@ -1,45 +1,45 @@
 -- What is promised of the pieces of Markdown that Guarded writes.
-use Rattle.std.proofs.Common.{◌≡◌, ℕ, zero, suc, ◌-◌, ◌<◌, Bool, true, false, cond, List, [], ◌∷◌, ◌++◌, length}
-use Rattle.std.proofs.Common.{take, drop, refl, sym, ap, ◌∙◌, arith, subst, append_assoc, ⊎_elim, inl, inr, codes, map}
+use Rattle.std.proofs.Common.{◌≡◌, ℕ, zero, suc, ◌-◌, ◌<◌, ◌≤◌, Bool, true, false, cond, List, [], ◌∷◌, ◌++◌, length}
+use Rattle.std.proofs.Common.{take, drop, get_or, refl, sym, ap, ◌∙◌, arith, subst, append_assoc, ⊎_elim, inl, inr, codes, map}
 use Rattle.std.proofs.Common.{Option, Some, None}
 use Rattle.std.specs.Prelude.{◌&&◌, ◌||◌, ◌==◌, ◌%◌, ◌/◌, not, nat_lt, nat_le, filter, replicate, fold, unwrap_or, encode_utf8_all}
-use Rattle.std.specs.Prelude.{◌⊎◌}
+use Rattle.std.specs.Prelude.{◌⊎◌, encode_utf8}
 use Rattle.std.specs.Option.{option_map}
 use Rattle.std.specs.Char.{is_whitespace}
 use Rattle.std.specs.Fmt.{decimal, digits, digits_onto, digit_glyph}
-use Rattle.std.specs.List.{list_all, flat_map}
+use Rattle.std.specs.List.{list_all, list_any, flat_map}
 use Rattle.std.specs.Str.{chars, IsUtf8, all_scalars, trim, trim_start, trim_end}
 use Rattle.std.specs.Str.{skip_leading_whitespace, drop_trailing_whitespace}
 use Rattle.std.proofs.lemmas.Bool.{not-true, and_parts, and_from, cond_both, cond-false, or_parts, false≢true, eqb-true}
-use Rattle.std.proofs.lemmas.Bool.{false_from_ne_true, agree_below_at, ltb-true}
+use Rattle.std.proofs.lemmas.Bool.{false_from_ne_true, agree_below_at, ltb-true, cases_lt}
+use Rattle.std.proofs.lemmas.Bool.Decides.{nat_tests}
 use Rattle.std.proofs.lemmas.List.{append-nil}
 use Rattle.std.proofs.lemmas.Nat.{mod_below}
-use Rattle.std.proofs.lemmas.Str.{chars-encodes, encodes-append, encodes-chars, scalars-chars, chars-append}
+use Rattle.std.proofs.lemmas.Str.{chars-encodes, encodes-append, encodes-chars, scalars-chars, chars-append, encode_ascii}
+use Rattle.std.proofs.lemmas.Str.{IsUtf8-append, IsUtf8-past_char}
 use Rattle.htmd_text.specs.BlankLines.{blank_line, with_blank_lines}
-use Rattle.htmd_text.specs.Characters.{space, line_feed, full_stop, hyphen, grave_accent, backslash}
+use Rattle.htmd_text.specs.Characters.{space, line_feed, full_stop, hyphen, tilde, backslash}
 use Rattle.htmd_text.specs.Joins.{join_block, joined_blocks}
 use Rattle.htmd_text.specs.Trims.{trimmed_start, trimmed_text, is_line_feed, some_text, white_space_at_start}
 use Rattle.htmd_text.specs.Trims.{white_space_at_end}
 use Rattle.htmd_text.specs.WhiteSpace.{is_document_white_space}
 use Rattle.htmd_markdown.specs.declared.emphasis.Emphasis.{Emphasis}
 use Rattle.htmd_markdown.specs.declared.emphasis.Emphasis.TheVariants.{Regular, Strong}
-use Rattle.htmd_markdown.specs.declared.fence.CodeBlockFence.{CodeBlockFence}
 use Rattle.htmd_markdown.specs.declared.fence.CodeBlockFence.TheVariants.{Tildes, Backticks}
 use Rattle.htmd_markdown.specs.declared.heading.HeadingStyle.{HeadingStyle}
 use Rattle.htmd_markdown.specs.declared.heading.HeadingStyle.TheVariants.{Atx, Setex}
 use Rattle.htmd_markdown.specs.declared.list.BulletListMarker.{BulletListMarker}
 use Rattle.htmd_markdown.specs.declared.list.BulletListMarker.TheVariants.{Asterisk, Dash}
-use Rattle.htmd_markdown.specs.CodeSpans.{space_if, delimiter_len, smallest_unused_len, meets_delimiter, span_content}
-use Rattle.htmd_markdown.specs.CodeSpans.{is_between_spaces}
+use Rattle.htmd_markdown.specs.CodeSpans.{space_if}
 use Rattle.htmd_markdown.specs.Emphases.{mark, between, emphasised_text, holds_blank_line, guarded_emphasis}
-use Rattle.htmd_markdown.specs.Fences.{symbol_of, fence_len, info_string}
+use Rattle.htmd_markdown.specs.Fences.{fence_len, info_string}
 use Rattle.htmd_markdown.specs.CodeBlocks.{code_of}
 use Rattle.htmd_markdown.specs.GuardedAddresses.{guarded_destination}
 use Rattle.htmd_markdown.specs.GuardedTitles.{guarded_title_text}
 use Rattle.htmd_markdown.specs.GuardedCode.{code_line, span_text, spaced_span, guarded_code, guarded_span_in_line}
 use Rattle.htmd_markdown.specs.GuardedCode.{guarded_code_block, code_lines, fitting_language}
 use Rattle.htmd_markdown.specs.GuardedLinks.{guarded_link_text, guarded_resource, guarded_link, guarded_image}
-use Rattle.htmd_markdown.specs.GuardedLinks.{guarded_reference, guarded_autolink, is_space_before, ends_white, guarded_description}
+use Rattle.htmd_markdown.specs.GuardedLinks.{guarded_reference, guarded_autolink, is_space_before, ends_white, guarded_description, is_barred}
 use Rattle.htmd_markdown.specs.Headings.{atx, underline, setext, styled_heading, heading, guarded_style, guarded_heading}
 use Rattle.htmd_markdown.specs.Joints.{is_asterisk, is_backslash}
 use Rattle.htmd_markdown.specs.Links.{in_brackets}
@@ -50,17 +50,25 @@ use Rattle.htmd_markdown.specs.Lists.{between_line_feeds, list_block}
 use Rattle.htmd_markdown.specs.OneLine.{one_line}
 use Rattle.htmd_markdown.specs.Titles.{is_filled}
 use Rattle.htmd_tree_laws.specs.Shown.{is_visible, IsPart}
-use Rattle.htmd_tree_laws.proofs.CountedTexts.{part-append}
-use Rattle.htmd_tree_laws.proofs.KeptMarks.{scalars-append, State, even, odd, blank, step, kept, ends, seen, ends-append, seen-append}
-use Rattle.htmd_tree_laws.proofs.KeptMarks.{is_safe, ends-safe, chars-safe, plain_step, Keeps, keeps-append, keeps-is, keeps-as}
-use Rattle.htmd_tree_laws.proofs.KeptMarks.{keeps-in, keeps-safe, keeps-behind, keeps-before, keeps-nil, keeps-of_nothing}
+use Rattle.htmd_tree_laws.proofs.CountedTexts.{of_visible, part-append, holds-own}
+use Rattle.htmd_tree_laws.proofs.KeptMarks.{State, even, odd, blank, step, kept, ends, seen, ends-append, seen-append}
+use Rattle.htmd_tree_laws.proofs.KeptMarks.{is_safe, ends-safe, chars-safe, plain_step, step-even, Ordinary, ordinary-append}
+use Rattle.htmd_tree_laws.proofs.KeptMarks.{ordinary-safe}
 use Rattle.htmd_tree_laws.proofs.KeptMarks as marks
-use Rattle.htmd_tree_laws.proofs.KeptMarks.{step-even, encodes-safe, scalars-safe, keeps-says}
+use Rattle.htmd_tree_laws.proofs.KeptChains.{Keeps, keeps-append, keeps-is, keeps-as, keeps-safe, keeps-behind, keeps-before}
+use Rattle.htmd_tree_laws.proofs.KeptChains.{keeps-nil, keeps-of_nothing, keeps-ordinary, keeps-literal, keeps-first, keeps-last, keeps-says}
+use Rattle.htmd_tree_laws.proofs.KeptChains.{first_of, last_of, rest_of, front_of, first_whole, last_whole}
+use Rattle.htmd_tree_laws.proofs.KeptChains.{first_fits, last_fits}
+use Rattle.htmd_tree_laws.proofs.KeptMeetings.{IsFront, IsRest, front_text, stops_at_front, rest_opens}
+use Rattle.htmd_tree_laws.proofs.Literals.{opens, closing}
+use Rattle.htmd_tree_laws.proofs.LiteralPieces.{literal_span, literal_fenced, literal_formula, literal_autolink}
+use Rattle.htmd_tree_laws.proofs.LettersLemmas.{Says, says-before, says-behind}
+use Rattle.htmd_tree_laws.proofs.LettersOfGuarded.{unfilled, says-line_ends}
 use Rattle.htmd_tree_laws.proofs.KeptLines.{keeps-trimmed, keeps-trimmed_start, keeps-blank_lines, keeps-many}
 use Rattle.htmd_tree_laws.proofs.KeptLines.{safe-append, safe_many, keeps-indented, keeps-one_line, keeps-block}
 use Rattle.htmd_tree_laws.proofs.LettersLemmas.{is_white}
-use Rattle.htmd_tree_laws.proofs.LettersOfPieces.{nil_of, scalars-front, front_taken, rest_left}
-use Rattle.htmd_tree_laws.proofs.LettersOfTexts.{document_of_white, line_feed_of_white}
+use Rattle.htmd_tree_laws.proofs.LettersOfPieces.{nil_of, scalars-front, front_taken, rest_left, says-code_span}
+use Rattle.htmd_tree_laws.proofs.LettersOfTexts.{document_of_white, line_feed_of_white, says-trimmed, all_reads, bytes_high}
 use Rattle.htmd_tree_laws.proofs.Utf8Cuts.{cut_before}
 
 -- ---- several texts
@@ -255,10 +263,10 @@ closed-resource address title u = closed-as (guarded_resource address title)
 pub keeps-guarded_link : (s address : List ℕ) (title : Option (List ℕ)) {l : List ℕ} → Keeps s l
     → IsUtf8 (guarded_resource address title) → Keeps (guarded_link s address title) l
 keeps-guarded_link s address title {l} p u =
-    let place : Keeps (guarded_resource address title) [] =
+    let place : Ordinary (guarded_resource address title) [] =
     record { utf8 = u; keeps = tt; closed = closed-resource address title u } in
     keeps-is (append-nil (l ++ []) ∙ append-nil l)
-    (keeps-append (keeps-append (keeps-link_text s p) place) (keeps-spaces (ends_white s)))
+    (keeps-append (keeps-append (keeps-link_text s p) (keeps-ordinary place)) (keeps-spaces (ends_white s)))
 
 pub keeps-guarded_reference : (number : ℕ) (s : List ℕ) {l : List ℕ} → Keeps s l
     → Keeps (guarded_reference number s) l
@@ -267,13 +275,21 @@ keeps-guarded_reference number s {l} p =
     (keeps-append (keeps-append (keeps-link_text s p) (keeps-in_brackets (decimal number) (keeps-decimal number)))
     (keeps-spaces (ends_white s)))
 
-pub closed-autolink : (s address : List ℕ) → IsUtf8 (guarded_autolink s address)
-    → ends even (chars (guarded_autolink s address)) ≡ even
-closed-autolink s address u =
-    closed-as (guarded_autolink s address) ((space_if (is_space_before s) ++ codes "<") ++ address) 62
-    (space_if (ends_white s))
-    (append_assoc ((space_if (is_space_before s) ++ codes "<") ++ address) (codes ">") (space_if (ends_white s))) u refl
-    (safe_spaces (ends_white s))
+-- an autolink keeps its address
+pub keeps-guarded_autolink : (s address : List ℕ) {l : List ℕ} → list_any is_barred address ≡ false
+    → Says of_visible address l → Keeps (guarded_autolink s address) l
+keeps-guarded_autolink s address {l} none p =
+    let due = space_if (is_space_before s) in
+    keeps-as
+    (ap (λ z. z ++ space_if (ends_white s))
+    (sym (append_assoc due (codes "<" ++ address) (codes ">"))
+    ∙ ap (λ z. z ++ codes ">") (sym (append_assoc due (codes "<") address))))
+    (keeps-is (append-nil l)
+    (keeps-append
+    (keeps-append (keeps-spaces (is_space_before s))
+    (keeps-literal (literal_autolink address none)
+    (says-before (codes ">") refl (says-behind (codes "<") refl p))))
+    (keeps-spaces (ends_white s))))
 
 pub closed-image : (address : List ℕ) (alt title : Option (List ℕ)) → IsUtf8 (guarded_image address alt title)
     → ends even (chars (guarded_image address alt title)) ≡ even
@@ -299,65 +315,55 @@ closed_many s x y n b e some u sign safe others =
     (e ∙ append_assoc x (replicate n b) y ∙ ap (λ z. x ++ (z ++ y)) first.1) u sign
     (safe-append (replicate first.0 b) y (safe_many first.0 b safe) others)
 
-delimiter_some : (s : List ℕ) → 0 < delimiter_len s
-delimiter_some s =
-    cond_both (meets_delimiter s) _ (smallest_unused_len s) (λ (n : ℕ). 0 < n) (λ _. omega arith)
-    (λ _. omega arith)
+keeps-spaced_span : (before behind : Bool) (s : List ℕ) {l : List ℕ} → Says of_visible (code_line s) l
+    → Keeps (spaced_span before behind (code_line s)) l
+keeps-spaced_span before behind s {l} p =
+    keeps-is (append-nil l)
+    (keeps-append
+    (keeps-append (keeps-spaces before) (keeps-literal (literal_span s) (says-code_span false (code_line s) p)))
+    (keeps-spaces behind))
 
-closed-span : (before behind : Bool) (line : List ℕ) → IsUtf8 (spaced_span before behind line)
-    → ends even (chars (spaced_span before behind line)) ≡ even
-closed-span before behind line u =
-    let content = span_content false line in
-    let n = delimiter_len content in
-    let padding = space_if (meets_delimiter content || (false && is_between_spaces line)) in
-    let front = ((replicate n grave_accent ++ padding) ++ content) ++ padding in
-    closed_many (spaced_span before behind line) (space_if before ++ front) (space_if behind) n grave_accent
-    (ap (λ z. z ++ space_if behind) (sym (append_assoc (space_if before) front (replicate n grave_accent))))
-    (delimiter_some (span_content false line)) u refl refl (safe_spaces behind)
+keeps-span_or : (before behind : Bool) (s instead : List ℕ) {l : List ℕ} → Keeps instead []
+    → Says of_visible s l
+    → Keeps (cond (is_filled (span_text s)) (spaced_span before behind (code_line s)) instead) l
+keeps-span_or before behind s instead {l} none p =
+    let line = says-line_ends (space ∷ []) refl s l p in
+    cond_both (is_filled (span_text s)) _ _ (λ (t : List ℕ). Keeps t l)
+    (λ _. keeps-spaced_span before behind s line)
+    (λ e. keeps-is (unfilled (span_text s) e (says-trimmed is_document_white_space document_of_white (code_line s)
+    line)) none)
 
-pub closed-code : (s : List ℕ) → IsUtf8 (guarded_code s) → ends even (chars (guarded_code s)) ≡ even
-closed-code s =
-    cond_both (is_filled (span_text s)) _ _ (λ (t : List ℕ). IsUtf8 t → ends even (chars t) ≡ even)
-    (λ _ u. closed-span _ _ (code_line s) u)
-    (λ _ u. (keeps-spaces (is_filled (code_line s))).closed)
+pub keeps-guarded_code : (s : List ℕ) {l : List ℕ} → Says of_visible s l → Keeps (guarded_code s) l
+keeps-guarded_code s p = keeps-span_or _ _ s _ (keeps-spaces (is_filled (code_line s))) p
 
-pub closed-span_in_line : (s : List ℕ) → IsUtf8 (guarded_span_in_line s)
-    → ends even (chars (guarded_span_in_line s)) ≡ even
-closed-span_in_line s =
-    cond_both (is_filled (span_text s)) _ _ (λ (t : List ℕ). IsUtf8 t → ends even (chars t) ≡ even)
-    (λ _ u. closed-span true true (code_line s) u)
-    (λ _ u. (keeps-safe (space ∷ []) refl).closed)
+pub keeps-guarded_span : (s : List ℕ) {l : List ℕ} → Says of_visible s l → Keeps (guarded_span_in_line s) l
+keeps-guarded_span s p = keeps-span_or true true s _ (keeps-safe (space ∷ []) refl) p
 
-pub closed-fenced : (s : List ℕ) (language : Option (List ℕ)) (fence : CodeBlockFence)
-    → IsUtf8 (with_blank_lines (guarded_code_block s language fence))
-    → ends even (chars (with_blank_lines (guarded_code_block s language fence))) ≡ even
-closed-fenced s language fence u =
+-- a block that is fenced with backquotes
+pub keeps-backticks : (s : List ℕ) (language : Option (List ℕ)) {l : List ℕ}
+    → Says of_visible (guarded_code_block s language Backticks) l
+    → Keeps (with_blank_lines (guarded_code_block s language Backticks)) l
+keeps-backticks s language p =
+    keeps-blank_lines (guarded_code_block s language Backticks)
+    (keeps-literal (literal_fenced (code_lines s) (fitting_language language)) p)
+
+pub keeps-formula : (mark s : List ℕ) {l : List ℕ} → (mark ≡ codes "$") ⊎ (mark ≡ codes "$$")
+    → Says of_visible ((mark ++ s) ++ mark) l → Keeps ((mark ++ s) ++ mark) l
+keeps-formula mark s which p = keeps-literal (literal_formula mark s which) p
+
+-- a block that is fenced with tildes, which is taken for ordinary text
+pub closed-tildes : (s : List ℕ) (language : Option (List ℕ))
+    → IsUtf8 (with_blank_lines (guarded_code_block s language Tildes))
+    → ends even (chars (with_blank_lines (guarded_code_block s language Tildes))) ≡ even
+closed-tildes s language u =
     let code = code_of (code_lines s) in
-    let n = fence_len (symbol_of fence) code in
-    let run = replicate n (symbol_of fence) in
+    let n = fence_len tilde code in
+    let run = replicate n tilde in
     let front =
     (((run ++ info_string (fitting_language language)) ++ line_feed ∷ []) ++ code) ++ line_feed ∷ [] in
-    closed_many (with_blank_lines (guarded_code_block s language fence)) (blank_line ++ front) blank_line n
-    (symbol_of fence) (ap (λ z. z ++ blank_line) (sym (append_assoc blank_line front run)))
-    (omega arith) u (by fence) (safe fence) refl
-  where
-    by : (fence : CodeBlockFence) → is_sign (symbol_of fence) ≡ true
-    by Tildes = refl
-    by Backticks = refl
-
-    safe : (fence : CodeBlockFence) → is_safe (symbol_of fence) ≡ true
-    safe Tildes = refl
-    safe Backticks = refl
-
--- a formula
-pub closed-formula : (mark s : List ℕ) → (mark ≡ codes "$") ⊎ (mark ≡ codes "$$")
-    → IsUtf8 ((mark ++ s) ++ mark)
-    → ends even (chars ((mark ++ s) ++ mark)) ≡ even
-closed-formula mark s which u =
-    ⊎_elim
-    (λ one. closed-as ((mark ++ s) ++ mark) (mark ++ s) 36 [] (ap (λ z. (mark ++ s) ++ z) one) u refl refl)
-    (λ two. closed-as ((mark ++ s) ++ mark) (mark ++ s) 36 (36 ∷ []) (ap (λ z. (mark ++ s) ++ z) two) u refl refl)
-    which
+    closed_many (with_blank_lines (guarded_code_block s language Tildes)) (blank_line ++ front) blank_line n
+    tilde (ap (λ z. z ++ blank_line) (sym (append_assoc blank_line front run)))
+    (omega arith) u refl refl refl
 
 -- ---- emphasis
 
@@ -432,63 +438,206 @@ mark_safe Strong = refl
 abbrev Encodes : List ℕ → List ℕ → Type 0
 Encodes cs s = (s ≡ encode_utf8_all cs) × (all_scalars cs ≡ true)
 
-encodes-both : (cs ds s t : List ℕ) → Encodes cs s → Encodes ds t → Encodes (cs ++ ds) (s ++ t)
-encodes-both cs ds s t p q = (
-  ap (λ z. z ++ t) p.0 ∙ ap (λ z. encode_utf8_all cs ++ z) q.0 ∙ sym (encodes-append cs ds),
-  scalars-append cs ds p.1 q.1,
-)
+-- white space
+abbrev IsWhite : List ℕ → Type 0
+IsWhite s = (cs : List ℕ) × Encodes cs s × (list_all is_whitespace cs ≡ true)
 
-encodes-mark : (emphasis : Emphasis) → Encodes (mark emphasis) (mark emphasis)
-encodes-mark emphasis = (
-  sym (encodes-safe (mark emphasis) (mark_safe emphasis)),
-  scalars-safe (mark emphasis) (mark_safe emphasis),
-)
+white_chars : (s : List ℕ) (w : IsWhite s) → chars s ≡ w.0
+white_chars s (cs, e, white) = ap chars e.0 ∙ chars-encodes cs e.1
 
-keeps-between : (emphasis : Emphasis) (before middle after ws front vs l : List ℕ) → Encodes ws before
-    → Encodes front middle → Encodes vs after → list_all is_whitespace ws ≡ true → list_all is_whitespace vs
-    ≡ true
-    → IsPart l (seen even front) → ends (ends even front) vs ≡ even
-    → Keeps ((((before ++ mark emphasis) ++ middle) ++ mark emphasis) ++ after) l
-keeps-between emphasis before middle after ws front vs l p q r white white_behind part closed =
-    let m = mark emphasis in
-    let whole = encodes-both (((ws ++ m) ++ front) ++ m) vs (((before ++ m) ++ middle) ++ m) after
-    (encodes-both ((ws ++ m) ++ front) m ((before ++ m) ++ middle) m
-    (encodes-both (ws ++ m) front (before ++ m) middle (encodes-both ws m before m p (encodes-mark emphasis)) q)
-    (encodes-mark emphasis)) r in
-    let cs = (((ws ++ m) ++ front) ++ m) ++ vs in
-    let same : chars ((((before ++ m) ++ middle) ++ m) ++ after) ≡ cs = ap chars whole.0
-    ∙ chars-encodes cs whole.1 in
-    let start : ends even (ws ++ m) ≡ even =
-    ends-append even ws m ∙ ap (λ e. ends e m) (white_even ws white) ∙ ends-safe m (mark_safe emphasis) in
-    let third : ends even ((ws ++ m) ++ front) ≡ ends even front =
-    ends-append even (ws ++ m) front ∙ ap (λ e. ends e front) start in
-    let e = ends even front in
-    let fourth : ends even (((ws ++ m) ++ front) ++ m) ≡ ends e m =
-    ends-append even ((ws ++ m) ++ front) m ∙ ap (λ s. ends s m) third in
-    let shown : seen even cs
-    ≡ ((seen even (ws ++ m) ++ seen even front) ++ seen e m) ++ seen (ends e m) vs =
-    seen-append even (((ws ++ m) ++ front) ++ m) vs
-    ∙ ap (λ s. seen even (((ws ++ m) ++ front) ++ m) ++ seen s vs) fourth
-    ∙ ap (λ z. z ++ seen (ends e m) vs)
-    (seen-append even ((ws ++ m) ++ front) m ∙ ap (λ s. seen even ((ws ++ m) ++ front) ++ seen s m) third
-    ∙ ap (λ z. z ++ seen e m)
-    (seen-append even (ws ++ m) front ∙ ap (λ s. seen even (ws ++ m) ++ seen s front) start)) in
-    record {
-      utf8 = (cs, (whole.1, sym whole.0));
-      keeps = subst (λ (x : List ℕ). IsPart l x) (sym (ap (seen even) same ∙ shown))
-          (before_more l (seen even (ws ++ m)) (seen even front) (seen e m) (seen (ends e m) vs) part);
-      closed = ap (ends even) same ∙ ends-append even (((ws ++ m) ++ front) ++ m) vs
-          ∙ ap (λ s. ends s vs) fourth
-          ∙ ⊎_elim (λ is. ap (λ s. ends s vs) is ∙ white_even vs white_behind)
-          (λ is. ap (λ s. ends s vs) is ∙ closed) (mark_state emphasis e);
-    }
+ordinary-white : (s : List ℕ) → IsWhite s → Ordinary s []
+ordinary-white s (cs, e, white) = record {
+  utf8 = (cs, (e.1, sym e.0));
+  keeps = tt;
+  closed = ap (ends even) (ap chars e.0 ∙ chars-encodes cs e.1) ∙ white_even cs white;
+}
+
+-- no byte of white space begins or ends code, a formula or an autolink
+abbrev is_aside : ℕ → Bool
+is_aside b = not (opens b || closing b)
+
+aside_white : (c : ℕ) → c < 128 → is_whitespace c ≡ true → is_aside c ≡ true
+aside_white c low e = grind (arith, nat_tests)
+
+aside_high : (b : ℕ) → 128 ≤ b → is_aside b ≡ true
+aside_high b high = grind (arith, nat_tests)
+
+all_aside : (x y : List ℕ) → list_all is_aside x ≡ true → list_all is_aside y ≡ true → list_all is_aside (x ++ y) ≡ true
+all_aside [] y e f = f
+all_aside (b ∷ x) y e f =
+    let parts = and_parts (is_aside b) (list_all is_aside x) e in
+    and_from (is_aside b) (list_all is_aside (x ++ y)) parts.0 (all_aside x y parts.1 f)
+
+white_aside : (cs : List ℕ) → list_all is_whitespace cs ≡ true → list_all is_aside (encode_utf8_all cs) ≡ true
+white_aside [] e = refl
+white_aside (c ∷ cs) e =
+    let parts = and_parts (is_whitespace c) (list_all is_whitespace cs) e in
+    all_aside (encode_utf8 c) (encode_utf8_all cs)
+    (⊎_elim
+    (λ low. ap (list_all is_aside) (encode_ascii c low)
+    ∙ and_from (is_aside c) true (aside_white c low parts.0) refl)
+    (λ high. all_reads is_aside (encode_utf8 c) (λ k l. aside_high (get_or (encode_utf8 c) k 0) (bytes_high c high k l)))
+    (cases_lt c 128))
+    (white_aside cs parts.1)
+
+aside : (s : List ℕ) → IsWhite s → list_all is_aside s ≡ true
+aside s (cs, e, white) = ap (list_all is_aside) e.0 ∙ white_aside cs white
+
+-- so white space at the beginning is that of the first ordinary text
+white_first : (x q w r : List ℕ) → x ++ q ≡ w ++ r → list_all is_aside w ≡ true → IsRest q
+    → (y : List ℕ) × (x ≡ w ++ y) × (r ≡ y ++ q)
+white_first x q [] r e a o = (x, refl, sym e)
+white_first (b ∷ x) q (c ∷ w) r e a o =
+    let rest : x ++ q ≡ w ++ r = cc in
+    let later = white_first x q w r rest (and_parts (is_aside c) (list_all is_aside w) a).1 o in
+    let same : b ≡ c = cc in
+    (later.0, ap (λ d. d ∷ x) same ∙ ap (λ z. c ∷ z) later.1, later.2)
+white_first [] q (c ∷ w) r e a (inl none) = absurd (filled (sym none ∙ e))
   where
-    before_more : (l a b c d : List ℕ) → IsPart l b → IsPart l (((a ++ b) ++ c) ++ d)
-    before_more l a b c d p =
-        subst (λ (x : List ℕ). IsPart x (((a ++ b) ++ c) ++ d)) (append-nil l)
-        (part-append l [] ((a ++ b) ++ c) d
-        (subst (λ (x : List ℕ). IsPart x ((a ++ b) ++ c)) (append-nil l)
-        (part-append l [] (a ++ b) c (part-append [] l a b tt p) tt)) tt)
+    filled : [] ≡ c ∷ (w ++ r) → ⊥
+    filled f = cc
+white_first [] q (c ∷ w) r e a (inr (b, s, f, o)) =
+    let same : b ≡ c = first (sym f ∙ e) in
+    absurd (false≢true
+    (sym (ap (λ t. not (t || closing c)) (ap opens (sym same) ∙ o))
+    ∙ (and_parts (is_aside c) (list_all is_aside w) a).0))
+  where
+    first : b ∷ s ≡ c ∷ (w ++ r) → b ≡ c
+    first f = cc
+
+-- and white space at the end that of the last one
+white_last : (z : List ℕ) (c : ℕ) (x f v : List ℕ) → (z ++ c ∷ []) ++ x ≡ f ++ v → closing c ≡ true
+    → list_all is_aside v ≡ true → (y : List ℕ) × (x ≡ y ++ v) × (f ≡ (z ++ c ∷ []) ++ y)
+white_last [] c x (b ∷ f) v e o a =
+    let same : c ≡ b = cc in
+    let rest : x ≡ f ++ v = cc in
+    (f, rest, ap (λ d. d ∷ f) (sym same))
+white_last (d ∷ z) c x (b ∷ f) v e o a =
+    let rest : (z ++ c ∷ []) ++ x ≡ f ++ v = cc in
+    let later = white_last z c x f v rest o a in
+    let same : d ≡ b = cc in
+    (later.0, later.1, ap (λ g. g ∷ f) (sym same) ∙ ap (λ g. d ∷ g) later.2)
+white_last z c x [] v e o a =
+    absurd (false≢true (sym (never z) ∙ ap (list_all is_aside) e ∙ a))
+  where
+    or_second : (t : Bool) → not (t || true) ≡ false
+    or_second true = refl
+    or_second false = refl
+
+    never : (z : List ℕ) → list_all is_aside ((z ++ c ∷ []) ++ x) ≡ false
+    never [] = ap (λ t. t && list_all is_aside x) (ap (λ t. not (opens c || t)) o ∙ or_second (opens c))
+    never (d ∷ z) = ap (λ t. is_aside d && t) (never z) ∙ and_false (is_aside d)
+      where
+        and_false : (t : Bool) → (t && false) ≡ false
+        and_false true = refl
+        and_false false = refl
+
+last_white : (p x f v : List ℕ) → p ++ x ≡ f ++ v → IsFront p → list_all is_aside v ≡ true
+    → (y : List ℕ) × (x ≡ y ++ v) × (f ≡ p ++ y)
+last_white p x f v e (inl none) a =
+    (f, ap (λ z. z ++ x) (sym none) ∙ e, ap (λ z. z ++ f) (sym none))
+last_white p x f v e (inr stop) a =
+    let found = white_last stop.front stop.last x f v (ap (λ z. z ++ x) (sym stop.whole) ∙ e) stop.sign a in
+    (found.0, found.1, found.2 ∙ ap (λ z. z ++ found.0) (sym stop.whole))
+
+-- the rest of a text after characters
+text_past : (cs y : List ℕ) → IsUtf8 (encode_utf8_all cs ++ y) → IsUtf8 y
+text_past [] y u = u
+text_past (c ∷ cs) y u =
+    text_past cs y
+    (IsUtf8-past_char ((encode_utf8 c ++ encode_utf8_all cs) ++ y) (encode_utf8_all cs ++ y) c u
+    (append_assoc (encode_utf8 c) (encode_utf8_all cs) y))
+
+text_after : (x y : List ℕ) → IsUtf8 x → IsUtf8 (x ++ y) → IsUtf8 y
+text_after x y u whole =
+    text_past (chars x) y (subst (λ (z : List ℕ). IsUtf8 (z ++ y)) (sym (encodes-chars x u)) whole)
+
+-- a mark after the white space at the beginning
+keeps-mark_first : (emphasis : Emphasis) (w r : List ℕ) {l : List ℕ} → IsWhite w → Keeps (w ++ r) l
+    → Keeps (w ++ (mark emphasis ++ r)) l
+keeps-mark_first emphasis w r {l} white p =
+    let c = p.chain in
+    let x = first_of c in
+    let m = mark emphasis in
+    let cut = white_first x (rest_of c) w r (sym (first_whole c) ∙ sym p.whole) (aside w white) (rest_opens c p.fits) in
+    let y = cut.0 in
+    let fits = first_fits c p.fits in
+    let space = ordinary-white w white in
+    let text : IsUtf8 y = text_after w y space.utf8 (subst IsUtf8 cut.1 fits.0) in
+    let parts : chars x ≡ white.0 ++ chars y =
+    ap chars cut.1 ∙ chars-append w y space.utf8 ∙ ap (λ z. z ++ chars y) (white_chars w white) in
+    let state : ends even white.0 ≡ even = white_even white.0 white.2 in
+    let same : seen even (chars x) ≡ seen even (chars y) =
+    ap (seen even) parts ∙ seen-append even white.0 (chars y)
+    ∙ ap (λ z. z ++ seen (ends even white.0) (chars y)) (white_none even white.0 white.2)
+    ∙ ap (λ e. seen e (chars y)) state in
+    let own : Ordinary y (seen even (chars x)) = record {
+      utf8 = text;
+      keeps = subst (λ (z : List ℕ). IsPart z (seen even (chars y))) (sym same)
+          (holds-own of_visible (seen even (chars y)));
+      closed = sym (ap (ends even) parts ∙ ends-append even white.0 (chars y) ∙ ap (λ e. ends e (chars y)) state)
+          ∙ fits.1;
+    } in
+    let all = ordinary-append space (ordinary-append (ordinary-safe m (mark_safe emphasis)) own) in
+    keeps-first p (w ++ (m ++ y)) (w ++ (m ++ r)) (all.utf8, all.closed) all.keeps
+    (ap (λ z. w ++ (m ++ z)) cut.2 ∙ ap (λ z. w ++ z) (sym (append_assoc m y (rest_of c)))
+    ∙ sym (append_assoc w (m ++ y) (rest_of c)))
+
+-- and a mark before the white space at the end
+keeps-mark_last : (emphasis : Emphasis) (f w : List ℕ) {l : List ℕ} → IsUtf8 f → IsWhite w → Keeps (f ++ w) l
+    → Keeps (f ++ (mark emphasis ++ w)) l
+keeps-mark_last emphasis f w {l} u white p =
+    let c = p.chain in
+    let x = last_of c in
+    let m = mark emphasis in
+    let front = front_of c in
+    let cut = last_white front x f w (sym (last_whole c) ∙ sym p.whole) (stops_at_front [] c refl p.fits)
+    (aside w white) in
+    let y = cut.0 in
+    let fits = last_fits c p.fits in
+    let text : IsUtf8 y = text_after front y (front_text c p.fits) (subst IsUtf8 cut.2 u) in
+    let e = ends even (chars y) in
+    let space = ordinary-white w white in
+    let parts : chars x ≡ chars y ++ white.0 =
+    ap chars cut.1 ∙ chars-append y w text ∙ ap (λ z. chars y ++ z) (white_chars w white) in
+    let marks : Ordinary m [] = ordinary-safe m (mark_safe emphasis) in
+    let whole : chars (y ++ (m ++ w)) ≡ chars y ++ (m ++ white.0) =
+    chars-append y (m ++ w) text
+    ∙ ap (λ z. chars y ++ z)
+    (chars-append m w marks.utf8 ∙ ap (λ z. z ++ chars w) (chars-safe m (mark_safe emphasis))
+    ∙ ap (λ z. m ++ z) (white_chars w white)) in
+    let same : seen even (chars x) ≡ seen even (chars y) =
+    ap (seen even) parts ∙ seen-append even (chars y) white.0
+    ∙ ap (λ z. seen even (chars y) ++ z) (white_none e white.0 white.2) ∙ append-nil (seen even (chars y)) in
+    let closed : ends e white.0 ≡ even = sym (ap (ends even) parts ∙ ends-append even (chars y) white.0) ∙ fits.1 in
+    let state : ends even (chars (y ++ (m ++ w))) ≡ ends (ends e m) white.0 =
+    ap (ends even) whole ∙ ends-append even (chars y) (m ++ white.0) ∙ ends-append e m white.0 in
+    let after : ends (ends e m) white.0 ≡ even =
+    ⊎_elim (λ is. ap (λ s. ends s white.0) is ∙ white_even white.0 white.2)
+    (λ is. ap (λ s. ends s white.0) is ∙ closed) (mark_state emphasis e) in
+    let shown : IsPart (seen even (chars x)) (seen even (chars (y ++ (m ++ w)))) =
+    subst (λ (z : List ℕ). IsPart z (seen even (chars (y ++ (m ++ w))))) (append-nil (seen even (chars y)) ∙ sym same)
+    (subst (λ (z : List ℕ). IsPart (seen even (chars y) ++ []) z)
+    (sym (ap (seen even) whole ∙ seen-append even (chars y) (m ++ white.0)))
+    (part-append (seen even (chars y)) [] (seen even (chars y)) _
+    (holds-own of_visible (seen even (chars y))) tt)) in
+    keeps-last p (y ++ (m ++ w)) (f ++ (m ++ w))
+    (IsUtf8-append y (m ++ w) text (IsUtf8-append m w marks.utf8 space.utf8), state ∙ after) shown
+    (ap (λ z. z ++ (m ++ w)) cut.2 ∙ append_assoc front y (m ++ w))
+
+keeps-between : (emphasis : Emphasis) (before middle after : List ℕ) {l : List ℕ} → IsWhite before → IsUtf8 middle
+    → IsWhite after → Keeps (before ++ (middle ++ after)) l
+    → Keeps ((((before ++ mark emphasis) ++ middle) ++ mark emphasis) ++ after) l
+keeps-between emphasis before middle after first text last p =
+    let m = mark emphasis in
+    let front = (before ++ m) ++ middle in
+    let u = IsUtf8-append (before ++ m) middle
+    (IsUtf8-append before m (ordinary-white before first).utf8 (ordinary-safe m (mark_safe emphasis)).utf8) text in
+    keeps-as (sym (append_assoc front m after))
+    (keeps-mark_last emphasis front after u last
+    (keeps-as
+    (sym (append_assoc before m (middle ++ after)) ∙ sym (append_assoc (before ++ m) middle after))
+    (keeps-mark_first emphasis before (middle ++ after) first p)))
 
 if_some : (emphasis : Emphasis) (before middle after s : List ℕ) {l : List ℕ} → Keeps s l
     → Keeps ((((before ++ mark emphasis) ++ middle) ++ mark emphasis) ++ after) l
@@ -505,14 +654,15 @@ keeps-emphasised emphasis s {l} p =
     let rest = skip_leading_whitespace cs in
     let last = white_back rest in
     let front = drop_trailing_whitespace rest in
-    let scalar = scalars-chars s p.utf8 in
+    let u = (keeps-says p).utf8 in
+    let scalar = scalars-chars s u in
     let cut = scalars-front first.0 rest (subst (λ (x : List ℕ). all_scalars x ≡ true) first.1 scalar) in
     let cut_behind = scalars-front front last.0 (subst (λ (x : List ℕ). all_scalars x ≡ true) last.1 cut.1) in
     let again : chars (encode_utf8_all rest) ≡ rest = chars-encodes rest cut.1 in
     let middle : trim s ≡ encode_utf8_all front =
     ap (λ z. encode_utf8_all (drop_trailing_whitespace z)) again in
     let whole : s ≡ encode_utf8_all first.0 ++ encode_utf8_all rest =
-    sym (encodes-chars s p.utf8) ∙ ap encode_utf8_all first.1 ∙ encodes-append first.0 rest in
+    sym (encodes-chars s u) ∙ ap encode_utf8_all first.1 ∙ encodes-append first.0 rest in
     let rest_whole : encode_utf8_all rest ≡ encode_utf8_all front ++ encode_utf8_all last.0 =
     ap encode_utf8_all last.1 ∙ encodes-append front last.0 in
     let before : white_space_at_start s ≡ encode_utf8_all first.0 =
@@ -522,20 +672,15 @@ keeps-emphasised emphasis s {l} p =
     ap (λ (x : List ℕ). drop (length x) (encode_utf8_all rest)) middle
     ∙ ap (λ (x : List ℕ). drop (length (encode_utf8_all front)) x) rest_whole
     ∙ rest_left (encode_utf8_all front) (encode_utf8_all last.0) in
-    let start : ends even first.0 ≡ even = white_even first.0 first.2 in
-    let shown : seen even cs ≡ seen even front =
-    ap (seen even) first.1 ∙ seen-append even first.0 rest
-    ∙ ap (λ z. z ++ seen (ends even first.0) rest) (white_none even first.0 first.2)
-    ∙ ap (λ e. seen e rest) start ∙ ap (seen even) last.1 ∙ seen-append even front last.0
-    ∙ ap (λ z. seen even front ++ z) (white_none (ends even front) last.0 last.2) ∙ append-nil (seen even front) in
-    let closed : ends (ends even front) last.0 ≡ even =
-    sym (ap (ends even) first.1 ∙ ends-append even first.0 rest ∙ ap (λ e. ends e rest) start
-    ∙ ap (ends even) last.1 ∙ ends-append even front last.0)
-    ∙ p.closed in
+    let parts : s ≡ white_space_at_start s ++ (trim s ++ white_space_at_end (trim_start s)) =
+    whole ∙ ap (λ z. encode_utf8_all first.0 ++ z) rest_whole
+    ∙ ap (λ z. z ++ (encode_utf8_all front ++ encode_utf8_all last.0)) (sym before)
+    ∙ ap (λ z. white_space_at_start s ++ (z ++ encode_utf8_all last.0)) (sym middle)
+    ∙ ap (λ z. white_space_at_start s ++ (trim s ++ z)) (sym after) in
     if_some emphasis (white_space_at_start s) (trim s) (white_space_at_end (trim_start s)) s p
-    (keeps-between emphasis (white_space_at_start s) (trim s) (white_space_at_end (trim_start s)) first.0 front last.0 l
-    (before, cut.0) (middle, cut_behind.0) (after, cut_behind.1) first.2 last.2
-    (subst (λ (x : List ℕ). IsPart l x) shown p.keeps) closed)
+    (keeps-between emphasis (white_space_at_start s) (trim s) (white_space_at_end (trim_start s))
+    (first.0, (before, cut.0), first.2) (front, (cut_behind.0, sym middle)) (last.0, (after, cut_behind.1), last.2)
+    (keeps-as parts p))
 
 pub keeps-guarded_emphasis : (emphasis : Emphasis) (s : List ℕ) {l : List ℕ} → Keeps s l
     → Keeps (guarded_emphasis emphasis s) l

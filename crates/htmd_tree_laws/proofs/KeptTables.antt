@@ -1,16 +1,16 @@
 -- Tables in Guarded keep each `*` of their cells and captions.
 use Rattle.std.proofs.Common.{◌≡◌, ℕ, zero, suc, ◌+◌, ◌-◌, ◌<◌, ◌≤◌, Bool, true, false, cond, List, [], ◌∷◌, ◌++◌}
 use Rattle.std.proofs.Common.{length, get_or, take, drop, map, refl, sym, ap, ◌∙◌, arith, subst, append_assoc, ⊎_elim, inl, inr}
-use Rattle.std.specs.Prelude.{◌&&◌, ◌==◌, not, replicate, encode_utf8, encode_utf8_all}
+use Rattle.std.specs.Prelude.{◌&&◌, ◌||◌, ◌==◌, not, filter, replicate, encode_utf8, encode_utf8_all}
 use Rattle.std.specs.List.{flat_map, prefix_len}
-use Rattle.std.specs.Str.{chars, all_scalars}
+use Rattle.std.specs.Str.{chars, IsUtf8, all_scalars}
 use Rattle.std.proofs.lemmas.Bool.{and_parts, and_from, cases_lt, cond_both, eqb-true}
 use Rattle.std.proofs.lemmas.Bool.{not-true, false≢true}
 use Rattle.std.proofs.lemmas.Bool.Decides.{nat_tests}
 use Rattle.std.proofs.lemmas.List.{append-nil, length-append, length-map, length-replicate}
 use Rattle.std.proofs.lemmas.Str.{encode_ascii, encodes-chars, scalars-chars, chars-encodes}
 use Rattle.htmd_text.specs.BlankLines.{blank_line}
-use Rattle.htmd_text.specs.Characters.{space, line_feed, carriage_return, vertical_bar, hyphen, backslash}
+use Rattle.htmd_text.specs.Characters.{space, line_feed, carriage_return, vertical_bar, hyphen, backslash, is_one_of}
 use Rattle.htmd_text.specs.Trims.{trimmed_text}
 use Rattle.htmd_text.specs.WhiteSpace.{is_document_white_space}
 use Rattle.htmd_markdown.specs.GuardedTables.{cell_line, is_escaping, escaped_bars, guarded_cell, guarded_widths}
@@ -27,15 +27,18 @@ use Rattle.htmd_walk.specs.GuardedTableTexts.{with_lines, grid_text, with_blank_
 use Rattle.htmd_walk.specs.Handling.{ResultView}
 use Rattle.htmd_walk.specs.Tables.{text_of_cell}
 use Rattle.htmd_walk.proofs.TableOrdersLemmas.{line_cells, line_captions, line_order}
-use Rattle.htmd_tree_laws.specs.Shown.{IsPart}
-use Rattle.htmd_tree_laws.proofs.CountedTexts.{part-then}
-use Rattle.htmd_tree_laws.proofs.KeptJoints.{Agree, agree-step, high_step, no_backslash}
-use Rattle.htmd_tree_laws.proofs.JointMarks.{encode_size}
+use Rattle.htmd_tree_laws.specs.Shown.{IsPart, is_visible, visible}
+use Rattle.htmd_tree_laws.proofs.CountedTexts.{part-then, part-append}
+use Rattle.htmd_tree_laws.proofs.KeptJoints.{Agree, agree-step, high_step, no_backslash, bare}
+use Rattle.htmd_tree_laws.proofs.JointMarks.{escapes, encode_size}
 use Rattle.std.specs.Char.{IsScalar}
 use Rattle.htmd_tree_laws.proofs.KeptLines.{keeps-trimmed, keeps-one_line, keeps-many}
 use Rattle.htmd_tree_laws.proofs.KeptMarks.{State, even, odd, blank, step, kept, ends, seen, seen_more, more_both, more_found}
-use Rattle.htmd_tree_laws.proofs.KeptMarks.{Respaced, Keeps, keeps-append, keeps-is, keeps-nil}
-use Rattle.htmd_tree_laws.proofs.KeptMarks.{keeps-respaced, keeps-behind, keeps-before, keeps-of_nothing, one_more, below-same}
+use Rattle.htmd_tree_laws.proofs.KeptMarks.{Respaced, one_more, below-same, Ordinary}
+use Rattle.htmd_tree_laws.proofs.KeptChains.{Chain, one, link, text_of, Fits, stays, Exchanged, keeps-exchanged, ordinary-own}
+use Rattle.htmd_tree_laws.proofs.KeptChains.{Keeps, keeps-append, keeps-is, keeps-as, keeps-nil, keeps-respaced, keeps-behind}
+use Rattle.htmd_tree_laws.proofs.KeptChains.{keeps-before, keeps-of_nothing}
+use Rattle.htmd_tree_laws.proofs.Literals.{Literal, lacks, opens, closing, literal_still, literal_bare}
 use Rattle.htmd_tree_laws.proofs.KeptPieces.{KeepAll, keeps-flat}
 use Rattle.htmd_tree_laws.proofs.LettersOfGrids.{cell_texts, widths_fit, rows_mapped, texts_in}
 use Rattle.htmd_tree_laws.proofs.LettersOfTables.{FitIn, all_of, all-append}
@@ -49,9 +52,9 @@ respaced-line (b ∷ s) =
     let rest = flat_map guarded.in_line s in
     cond_both (b == line_feed) (space ∷ []) (cond (b == carriage_return) [] (b ∷ []))
     (λ (x : List ℕ). Respaced (b ∷ s) (x ++ rest))
-    (λ e. (space ∷ [], rest, inr (line_feed_of_white b e, refl), refl, respaced-line s))
+    (λ e. (space ∷ [], rest, inr (line_feed_of_white b e, refl, inr (eqb-true b line_feed e)), refl, respaced-line s))
     (λ _. cond_both (b == carriage_return) [] (b ∷ []) (λ (x : List ℕ). Respaced (b ∷ s) (x ++ rest))
-    (λ e. ([], rest, inr (return_of_white b e, refl), refl, respaced-line s))
+    (λ e. ([], rest, inr (return_of_white b e, refl, inl refl), refl, respaced-line s))
     (λ _. (b ∷ [], rest, inl refl, refl, respaced-line s)))
 
 -- what is written with backslashes before bars promises the same
@@ -61,6 +64,7 @@ record Barred (e : State) (cs t : List ℕ) : Type 0 where
   pub scalars : all_scalars characters ≡ true
   pub shows : IsPart (seen e cs) (seen e characters)
   pub closed : ends e characters ≡ ends e cs
+  pub all : IsPart (filter is_visible cs) (filter is_visible characters)
 
 no_bar : (b : ℕ) → 128 ≤ b → (b == vertical_bar) ≡ false
 no_bar b high = grind (arith, nat_tests)
@@ -117,6 +121,7 @@ bars [] e x scalars a = record {
   scalars = refl;
   shows = tt;
   closed = refl;
+  all = tt;
 }
 bars (c ∷ cs) e x scalars a =
     let parts = and_parts _ (all_scalars cs) scalars in
@@ -145,6 +150,7 @@ bars (c ∷ cs) e x scalars a =
       scalars = and_from _ (all_scalars later.characters) scalar later.scalars;
       shows = one_more e e c (kept (step e c) cs) (kept (step e c) later.characters) (below-same e) later.shows;
       closed = later.closed;
+      all = more_both c (filter is_visible cs) (filter is_visible later.characters) later.all;
     }
 
     plain : (c : ℕ) (cs : List ℕ) (e : State) (x : Bool) → c < 128 → IsScalar c
@@ -157,6 +163,7 @@ bars (c ∷ cs) e x scalars a =
       scalars = and_from _ (all_scalars later.characters) scalar later.scalars;
       shows = one_more e e c (kept (step e c) cs) (kept (step e c) later.characters) (below-same e) later.shows;
       closed = later.closed;
+      all = more_both c (filter is_visible cs) (filter is_visible later.characters) later.all;
     }
 
     with_bar : (c : ℕ) (cs : List ℕ) (e : State) (x : Bool)
@@ -188,21 +195,107 @@ bars (c ∷ cs) e x scalars a =
                   (and_from _ (all_scalars later.characters) refl later.scalars);
               shows = both.0;
               closed = both.1;
+              all = more_found backslash (filter is_visible (vertical_bar ∷ cs))
+                  (filter is_visible (vertical_bar ∷ later.characters))
+                  (more_both vertical_bar (filter is_visible cs) (filter is_visible later.characters) later.all);
             }
 
-keeps-bars : (s : List ℕ) {l : List ℕ} → Keeps s l → Keeps (escaped_bars false s) l
-keeps-bars s {l} p =
-    let w = bars (chars s) even false (scalars-chars s p.utf8) refl in
-    let whole : escaped_bars false s ≡ encode_utf8_all w.characters =
-    ap (escaped_bars false) (sym (encodes-chars s p.utf8)) ∙ w.encoded in
-    let same : chars (escaped_bars false s) ≡ w.characters =
-    ap chars whole ∙ chars-encodes w.characters w.scalars in
+-- ordinary text, code, a formula or an autolink, with them
+barred : (s : List ℕ) → IsUtf8 s → Barred even (chars s) (escaped_bars false s)
+barred s u =
+    subst (λ (t : List ℕ). Barred even (chars s) (escaped_bars false t)) (encodes-chars s u)
+    (bars (chars s) even false (scalars-chars s u) refl)
+
+barred_chars : (s : List ℕ) (w : Barred even (chars s) (escaped_bars false s))
+    → IsUtf8 (escaped_bars false s) × (chars (escaped_bars false s) ≡ w.characters)
+barred_chars s w =
+    ((w.characters, (w.scalars, sym w.encoded)), ap chars w.encoded ∙ chars-encodes w.characters w.scalars)
+
+ordinary-bars : (s : List ℕ) {l : List ℕ} → Ordinary s l → Ordinary (escaped_bars false s) l
+ordinary-bars s {l} p =
+    let w = barred s p.utf8 in
+    let t = barred_chars s w in
     record {
-      utf8 = (w.characters, (w.scalars, sym whole));
-      keeps = subst (λ (x : List ℕ). IsPart l (seen even x)) (sym same)
+      utf8 = t.0;
+      keeps = subst (λ (x : List ℕ). IsPart l (seen even x)) (sym t.1)
           (part-then l (seen even (chars s)) (seen even w.characters) p.keeps w.shows);
-      closed = ap (ends even) same ∙ w.closed ∙ p.closed;
+      closed = ap (ends even) t.1 ∙ w.closed ∙ p.closed;
     }
+
+visible_bars : (s : List ℕ) → IsUtf8 s
+    → IsUtf8 (escaped_bars false s) × IsPart (visible s) (visible (escaped_bars false s))
+visible_bars s u =
+    let w = barred s u in
+    let t = barred_chars s w in
+    (t.0, subst (λ (x : List ℕ). IsPart (visible s) (filter is_visible x)) (sym t.1) w.all)
+
+bars-append : (x : Bool) (s t : List ℕ) → escaped_bars x (s ++ t) ≡ escaped_bars x s ++ escaped_bars (escapes x s) t
+bars-append x [] t = refl
+bars-append x (b ∷ s) t =
+    let here = cond ((b == vertical_bar) && not x) (backslash ∷ b ∷ []) (b ∷ []) in
+    ap (λ z. here ++ z) (bars-append (is_escaping x b) s t)
+    ∙ sym (append_assoc here (escaped_bars (is_escaping x b) s) (escaped_bars (escapes (is_escaping x b) s) t))
+
+abbrev Bars : List ℕ → List ℕ → Type 0
+Bars s t = (x : Bool) × (t ≡ escaped_bars x s)
+
+literal_bars : (z t : List ℕ) → Literal z → Bars z t → Literal t
+literal_bars z t l to =
+    literal_still Bars
+    (λ x y t to. (
+      escaped_bars to.0 x,
+      escaped_bars (escapes to.0 x) y,
+      to.1 ∙ bars-append to.0 x y,
+      (to.0, refl),
+      (escapes to.0 x, refl),
+    ))
+    one_sign
+    (λ signs w t feed slash e to. ap (lacks signs) to.1 ∙ still signs slash to.0 w e)
+    z t l to
+  where
+    no_bar_there : (b : ℕ) → opens b || closing b ≡ true → (b == vertical_bar) ≡ false
+    no_bar_there b e = grind (arith, nat_tests)
+
+    one_sign : (b : ℕ) (t : List ℕ) → opens b || closing b ≡ true → Bars (b ∷ []) t → t ≡ b ∷ []
+    one_sign b t e to =
+        to.1 ∙ ap (λ d. cond (d && not to.0) (backslash ∷ b ∷ []) (b ∷ []) ++ []) (no_bar_there b e)
+
+    still : (signs : List ℕ) → is_one_of signs 0x5C ≡ false → (x : Bool) (w : List ℕ) → lacks signs w ≡ true
+        → lacks signs (escaped_bars x w) ≡ true
+    still signs slash x [] e = refl
+    still signs slash x (b ∷ w) e =
+        let parts = and_parts (not (is_one_of signs b)) (lacks signs w) e in
+        let rest = escaped_bars (is_escaping x b) w in
+        let later = still signs slash (is_escaping x b) w parts.1 in
+        let own = and_from (not (is_one_of signs b)) (lacks signs rest) parts.0 later in
+        cond_both ((b == vertical_bar) && not x) (backslash ∷ b ∷ []) (b ∷ [])
+        (λ (t : List ℕ). lacks signs (t ++ rest) ≡ true)
+        (λ _. and_from (not (is_one_of signs backslash)) (lacks signs (b ∷ rest)) (ap not slash) own)
+        (λ _. own)
+
+chain_bars : (c : Chain) → Fits c → Exchanged c (escaped_bars false (text_of c))
+chain_bars (one s) p =
+    let q = ordinary-bars s (ordinary-own s p) in
+    record { chain = one (escaped_bars false s); whole = refl; fits = (q.utf8, q.closed); keeps = q.keeps }
+chain_bars (link s z c) (p, u, l, more) =
+    let q = ordinary-bars s (ordinary-own s p) in
+    let second = visible_bars z u in
+    let third = chain_bars c more in
+    record {
+      chain = link (escaped_bars false s) (escaped_bars false z) third.chain;
+      whole = bars-append false s (z ++ text_of c)
+          ∙ ap (λ x. escaped_bars false s ++ escaped_bars x (z ++ text_of c)) (bare s p.0 p.1)
+          ∙ ap (λ x. escaped_bars false s ++ x)
+          (bars-append false z (text_of c)
+          ∙ ap (λ x. escaped_bars false z ++ escaped_bars x (text_of c)) (literal_bare false z l)
+          ∙ ap (λ x. escaped_bars false z ++ x) third.whole);
+      fits = ((q.utf8, q.closed), second.0, literal_bars z (escaped_bars false z) l (false, refl), third.fits);
+      keeps = part-append (stays s) _ (stays (escaped_bars false s)) _ q.keeps
+          (part-append (visible z) _ (visible (escaped_bars false z)) _ second.1 third.keeps);
+    }
+
+keeps-bars : (s : List ℕ) {l : List ℕ} → Keeps s l → Keeps (escaped_bars false s) l
+keeps-bars s {l} p = keeps-as (ap (escaped_bars false) (sym p.whole)) (keeps-exchanged p (chain_bars p.chain p.fits))
 
 abbrev KeepsBy : (List ℕ → List ℕ) → Type 0
 KeepsBy f = (s l : List ℕ) → Keeps s l → Keeps (f s) l

@@ -26,10 +26,12 @@ use Rattle.htmd_walk.specs.Seams.{ends_with_space}
 use Rattle.htmd_tree_laws.specs.Letters.{said_among}
 use Rattle.htmd_tree_laws.specs.Shown.{is_visible, visible, IsPart}
 use Rattle.htmd_tree_laws.proofs.CountedTexts.{of_visible}
-use Rattle.htmd_tree_laws.proofs.KeptJoints.{keeps-joint, no_backslash, no_asterisk}
+use Rattle.htmd_tree_laws.proofs.KeptJoints.{no_backslash, no_asterisk}
+use Rattle.htmd_tree_laws.proofs.KeptMeetings.{keeps-joint}
 use Rattle.htmd_tree_laws.proofs.KeptLines.{keeps-trimmed_end}
 use Rattle.htmd_tree_laws.proofs.KeptMarks.{even, odd, blank, step, kept, ends, seen, seen_more, more_both, more_found}
-use Rattle.htmd_tree_laws.proofs.KeptMarks.{step-even, Keeps, keeps-in, keeps-is}
+use Rattle.htmd_tree_laws.proofs.KeptMarks.{step-even, Ordinary}
+use Rattle.htmd_tree_laws.proofs.KeptChains.{Keeps, keeps-in, keeps-is, keeps-ordinary}
 use Rattle.htmd_tree_laws.proofs.LettersLemmas.{says-own, is_white}
 use Rattle.htmd_tree_laws.proofs.LettersOfPieces.{says-first_space}
 use Rattle.htmd_tree_laws.proofs.LettersOfTexts.{bytes_high, says-squeezed, space_of_white, punctuation_low}
@@ -180,8 +182,8 @@ guards begins whole k (b ∷ s) same =
     (b ∷ [], rest, inl (refl, ap is_backslash here ∙ none.0, ap is_asterisk here ∙ none.1), refl, more))
 
 -- what is written of a text keeps all that is seen of it
-keeps-guarded_text : (begins : Bool) (s : List ℕ) → IsUtf8 s → Keeps (guarded_text begins s) (visible s)
-keeps-guarded_text begins s u =
+ordinary-guarded_text : (begins : Bool) (s : List ℕ) → IsUtf8 s → Ordinary (guarded_text begins s) (visible s)
+ordinary-guarded_text begins s u =
     let t = guarded_text begins s in
     let w = written (chars s) t (scalars-chars s u)
     (subst (λ (x : List ℕ). GuardedAs x t) (sym (encodes-chars s u))
@@ -197,10 +199,10 @@ pub text_is_kept : (s : List ℕ) (context : Context) (out : Output) (l : List �
     → Keeps (write_text true s context out).text (l ++ visible s)
 text_is_kept s context out l t p =
     let goes = context.trim || ends_with_space out.text in
-    let shown = says-first_space goes (squeezed_text s) (says-squeezed s (says-own {law = of_visible false} s t)) in
+    let shown = says-first_space goes (squeezed_text s) (says-squeezed s (says-own {law = of_visible} s t)) in
     keeps-joint p
     (keeps-in shown.says
-    (keeps-guarded_text (begins_line out.text) (without_first_space goes (squeezed_text s)) shown.utf8))
+    (keeps-ordinary (ordinary-guarded_text (begins_line out.text) (without_first_space goes (squeezed_text s)) shown.utf8)))
 
 -- ---- children
 

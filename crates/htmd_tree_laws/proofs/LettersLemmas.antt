@@ -37,7 +37,7 @@ pub says-in : {law : Law} {s l m : List ℕ} → Holds law m l → Says law s l 
 says-in {law} {s} {l} {m} h p = record { utf8 = p.utf8; says = holds-then law m l (counted law s) h p.says }
 
 -- any text shows nothing at least
-pub shows-none : {guarded : Bool} {s : List ℕ} → IsUtf8 s → Says (of_visible guarded) s []
+pub shows-none : {s : List ℕ} → IsUtf8 s → Says of_visible s []
 shows-none text = record { utf8 = text; says = tt }
 
 pub says-of_nothing : {law : Law} {l : List ℕ} → Says law [] l → l ≡ []

@@ -78,7 +78,7 @@ line_ends_edited law instead fills (b ∷ s) =
     one = cond_both (is_line_end b) instead (b ∷ []) (IsEdit law b)
         (λ e. filling_edit law b instead (line_end_fills b e) fills) (λ _. same_edit law b)
 
-says-line_ends : {law : Law} (instead : List ℕ) → list_all is_filler instead ≡ true
+pub says-line_ends : {law : Law} (instead : List ℕ) → list_all is_filler instead ≡ true
     → Keeps law (line_ends_as instead)
 says-line_ends {law} instead fills s l p =
     says-edited s (line_ends_as instead s) (line_ends_edited law instead fills s) p
@@ -200,7 +200,7 @@ says-spaced_span before behind s l p =
     says-is (append-nil l) (says-append (says-append (spaces_if before) (says-code_span false s p)) (spaces_if behind))
 
 -- nothing is said of only white space
-unfilled : {law : Law} (s : List ℕ) {l : List ℕ} → is_filled s ≡ false → Says law s l → [] ≡ l
+pub unfilled : {law : Law} (s : List ℕ) {l : List ℕ} → is_filled s ≡ false → Says law s l → [] ≡ l
 unfilled [] e p = sym (says-of_nothing p)
 unfilled (b ∷ s) e p = cc
 

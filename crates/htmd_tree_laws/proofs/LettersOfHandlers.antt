@@ -64,7 +64,7 @@ use Rattle.htmd_tree_laws.proofs.LettersOfLinks.{says-link, says-reference, says
 use Rattle.htmd_tree_laws.proofs.LettersOfGuarded.{says-guarded_link, says-guarded_reference, says-guarded_emphasis}
 use Rattle.htmd_tree_laws.proofs.LettersOfGuarded.{says-guarded_heading, says-guarded_resource}
 use Rattle.std.proofs.lemmas.Bool.{true≢false}
-use Rattle.htmd_tree_laws.proofs.KeptMarks.{Keeps}
+use Rattle.htmd_tree_laws.proofs.KeptChains.{Keeps}
 use Rattle.htmd_tree_laws.proofs.KeptLines.{keeps-wrapped, keeps-quote}
 use Rattle.htmd_tree_laws.proofs.KeptPieces.{KeepsIfAny, keeps-bullet, keeps-unnumbered, keeps-heading, keeps-guarded_heading}
 use Rattle.htmd_tree_laws.proofs.KeptPieces.{keeps-guarded_emphasis, keeps-list}

@@ -1,5 +1,5 @@
 -- What texts hold that are cut at their ends or edited character by character, by either law.
-use Rattle.std.proofs.Common.{◌≡◌, ℕ, suc, ◌+◌, ◌-◌, ◌<◌, ◌≤◌, Bool, true, false, List, [], ◌∷◌, ◌++◌}
+use Rattle.std.proofs.Common.{◌≡◌, ℕ, suc, ◌+◌, ◌-◌, ◌<◌, ◌≤◌, Bool, true, List, [], ◌∷◌, ◌++◌}
 use Rattle.std.proofs.Common.{length, get_or, drop, refl, sym, ap, ◌∙◌, arith, subst, inl, inr}
 use Rattle.std.proofs.Common.{⊎_elim, codes}
 use Rattle.std.specs.Prelude.{◌⊎◌, ◌==◌, filter, reverse, slice_index}
@@ -21,7 +21,7 @@ use Rattle.htmd_text.specs.Trims.{trimmed_start, trimmed_end, trimmed_text, cut_
 use Rattle.htmd_text.specs.WhiteSpace.{is_document_white_space, is_ascii_white_space, begins_with_white_space}
 use Rattle.htmd_text.specs.WhiteSpace.{squeezed_text}
 use Rattle.htmd_text.proofs.MarksLemmas.{marked_is_punctuation}
-use Rattle.htmd_tree_laws.specs.Shown.{is_counted}
+use Rattle.htmd_tree_laws.specs.Shown.{is_visible}
 use Rattle.htmd_tree_laws.proofs.CountedTexts.{Law, of_letters, of_visible, counts, Holds, holds-own, holds-as, holds-none}
 use Rattle.htmd_tree_laws.proofs.CountedTexts.{part-behind}
 use Rattle.htmd_tree_laws.proofs.LettersLemmas.{Says, says-own, says-nil, says-in, says-append, says-as, says-is, is_filler}
@@ -212,12 +212,9 @@ says-squeezed {law} s p = says-edited s (squeezed_text s) (squeezed law s) p
 pub backslash_holds : (law : Law) (b : ℕ) → Holds law (filter (counts law) (b ∷ []))
     (filter (counts law) (backslash ∷ b ∷ []))
 backslash_holds of_letters b = refl
-backslash_holds (of_visible true) b =
-    let own = filter (is_counted true) (b ∷ []) in
-    part-behind own own backslash (holds-own (of_visible true) own)
-backslash_holds (of_visible false) b =
-    let own = filter (is_counted false) (b ∷ []) in
-    part-behind own own backslash (holds-own (of_visible false) own)
+backslash_holds of_visible b =
+    let own = filter is_visible (b ∷ []) in
+    part-behind own own backslash (holds-own of_visible own)
 
 pub backslash_edit : (law : Law) (b : ℕ) → b < 128 → IsEdit law b (backslash ∷ b ∷ [])
 backslash_edit law b low =

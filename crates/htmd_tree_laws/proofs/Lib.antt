@@ -34,7 +34,11 @@ pub mod LettersOfGuarded
 pub mod LettersOfJoints
 pub mod JointMarks
 pub mod KeptMarks
+pub mod Literals
+pub mod KeptChains
 pub mod KeptJoints
+pub mod KeptMeetings
+pub mod LiteralPieces
 pub mod KeptLines
 pub mod KeptPieces
 pub mod LettersOfHandlers

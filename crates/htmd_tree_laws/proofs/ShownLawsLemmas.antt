@@ -32,12 +32,12 @@ use Rattle.htmd_tree_laws.proofs.LettersOfLinks.{IsTextIfAny}
 use Rattle.htmd_tree_laws.proofs.LettersOfHandlers.{SaysResult}
 use Rattle.htmd_tree_laws.proofs.ElementsByTag.{EachSays}
 use Rattle.htmd_tree_laws.proofs.FittingTrees as fitting
-use Rattle.htmd_tree_laws.proofs.KeptMarks.{keeps-says}
+use Rattle.htmd_tree_laws.proofs.KeptChains.{keeps-says}
 use Rattle.htmd_tree_laws.proofs.KeptLawsLemmas.{content_is_kept}
 use Rattle.htmd_tree.specs.ValueTrees.{AttributePair}
 use Rattle.htmd_walk.specs.Children.{content_inside}
-use Rattle.htmd_tree_laws.specs.Shown.{counted_characters, is_empty_element, is_one_text}
-use Rattle.htmd_tree_laws.proofs.ShownTrees.{shown_inside, in_tree}
+use Rattle.htmd_tree_laws.specs.Shown.{is_empty_element, is_one_text}
+use Rattle.htmd_tree_laws.proofs.ShownTrees.{shown_inside, in_tree, all_counted}
 use Rattle.std.specs.Prelude.{◌&&◌, not}
 use Rattle.htmd_tree_laws.proofs.SaidChildren.{AllOf, children_are_said, text_is_said}
 use Rattle.htmd_tree_laws.proofs.LettersLawsLemmas.{values_in, plain_at}
@@ -54,7 +54,7 @@ module _ (options : Options) (pure : is_guarded options ≡ false) (alone : is_m
   guarded = is_guarded options
 
   abbrev law : Law
-  law = of_visible false
+  law = of_visible
 
   abbrev AllFitHere : NumberedForest → Type 0
   AllFitHere = AllFit (is_guarded options) items
@@ -116,21 +116,12 @@ module _ (options : Options) (pure : is_guarded options ≡ false) (alone : is_m
   )
 
   -- in Pure all is in the tree's order, and each character counts
-  both_ways_false : (b : Bool) → (not b && b) ≡ false
-  both_ways_false true = refl
-  both_ways_false false = refl
-
-  only_is : (children : NumberedForest) (s : List ℕ) → only_text children ≡ Some s
-      → shown_among options items false children ≡ visible s
-  only_is children s e =
-      only_shows options items false children s e ∙ ap (λ b. counted_characters b s) pure
-
   inside_is : (id : ℕ) (name : List ℕ) (whole : Bool) (children : NumberedForest)
       → shown_among options items false children
       ≡ shown_inside options items id name (whole && is_guarded options) children
   inside_is id name whole children =
       sym (ap (λ b. shown_inside options items id name (whole && b) children) pure
-      ∙ in_tree options items id name whole children)
+      ∙ in_tree options items id name whole children ∙ all_counted options items pure id name _)
 
   within_is_shown : (n : ℕ) → AreShown n
   unfolding written_within
@@ -142,8 +133,7 @@ module _ (options : Options) (pure : is_guarded options ≡ false) (alone : is_m
       children out l fit.0 (omega (arith, fit.1)) p)
   within_is_shown (suc n) (doctype id) context out l fit p = says-is (sym (append-nil l)) p
   within_is_shown (suc n) (text id s) context out l fit p =
-      says-is (ap (λ b. l ++ counted_characters b s) (sym (both_ways_false (is_guarded options))))
-      (text_is_said law (is_guarded options) s context out l (λ e. absurd (true≢false (sym e ∙ pure))) fit.0 p)
+      text_is_said law (is_guarded options) s context out l (λ e. absurd (true≢false (sym e ∙ pure))) fit.0 p
   within_is_shown (suc n) (comment id s) context out l fit p = rw alone (says-is (sym (append-nil l)) p)
   within_is_shown (suc n) (element id name attributes children) context out l fit p =
       let write = written_within n conversion in
@@ -154,7 +144,7 @@ module _ (options : Options) (pure : is_guarded options ≡ false) (alone : is_m
       let lies = fit.0.0 in
       let view = (occurrence_at write conversion id inside children).view in
       let shows = element_shows options pure alone items (λ i. values_in (data_at items i) (plain i)) write id inside
-      children out.definitions utf8 (only_is children)
+      children out.definitions utf8 (only_shows options items false children)
       (λ before. subst (λ b. Says law (content_inside write inside children before).text
       (shown_among options items b children)) pure
       (groups_are_shown n (within_is_shown n) inside children (empty_output before) [] fit.0.1 low says-nil))
@@ -190,7 +180,7 @@ module _ (options : Options) (pure : is_guarded options ≡ false) (alone : is_m
 content_shows : (options : Options) (items : List Item) (start : ℕ) → is_markdown_alone options ≡ true
     → IsTree items → HoldTexts items → start < length items
     → tables_fit (is_guarded options) (tree_of items start) ≡ true
-    → Says (of_visible false) (walked_content (built_in options) items start)
+    → Says of_visible (walked_content (built_in options) items start)
     (shown options items (tree_of items start))
 content_shows options items start alone t plain l e =
     ⊎_elim
@@ -213,6 +203,6 @@ shown_in_markdown options items start alone t plain l e =
     let behind = trimmed_end is_line_feed
     (append_texts (built_in options).handlers (walked_node (built_in options) items start).definitions) in
     subst (λ (x : List ℕ). IsPart (shown options items (tree_of items start)) x)
-    (sym (counted_append (of_visible false) content behind shows.utf8))
+    (sym (counted_append of_visible content behind shows.utf8))
     (part-before (shown options items (tree_of items start)) (visible content)
     (visible behind) shows.says)

@@ -58,21 +58,21 @@ use Rattle.htmd_tree_laws.proofs.ElementsByTag.{EachSays, ordered_gives}
 
 resource_shows : (address : List ℕ) (title : Option (List ℕ)) → IsUtf8 address
     → IsTextIfAny title
-    → Says (of_visible false) (resource address title) []
+    → Says of_visible (resource address title) []
 resource_shows address title text titled = shows-none (says-resource address title text titled).utf8
 
 inline_link_shows : (s address : List ℕ) (title : Option (List ℕ)) {l : List ℕ}
-    → Says (of_visible false) s l → IsUtf8 address → IsTextIfAny title
-    → Says (of_visible false) (inline_link s address title) l
+    → Says of_visible s l → IsUtf8 address → IsTextIfAny title
+    → Says of_visible (inline_link s address title) l
 inline_link_shows s address title {l} p text titled =
     says-is (append-nil l) (says-link s address title p (resource_shows address title text titled))
 
 autolink_shows : (s address : List ℕ) (title : Option (List ℕ)) {l : List ℕ}
-    → Says (of_visible false) s l → IsUtf8 address → IsTextIfAny title
-    → Says (of_visible false) (unwrap_or (autolink s address) (inline_link s address title)) l
+    → Says of_visible s l → IsUtf8 address → IsTextIfAny title
+    → Says of_visible (unwrap_or (autolink s address) (inline_link s address title)) l
 autolink_shows s address title {l} p text titled =
     cond_both (bytes_eq s (escaped_address address)) _ _
-    (λ (o : Option (List ℕ)). Says (of_visible false) (unwrap_or o (inline_link s address title)) l)
+    (λ (o : Option (List ℕ)). Says of_visible (unwrap_or o (inline_link s address title)) l)
     (λ same. says-behind (codes "<") refl
     (says-before (codes ">") refl
     (says-as ((bytes_eq-Decides s (escaped_address address)).0 same) p)))
@@ -80,9 +80,9 @@ autolink_shows s address title {l} p text titled =
 
 -- a link in Pure, or what it holds if it has no address
 module _ (view : ElementView) (pure : is_guarded view.options ≡ false) (l : List ℕ) where
-  link_in_style : (content : List ℕ) (definitions : List (List ℕ)) → Says (of_visible false) content l
+  link_in_style : (content : List ℕ) (definitions : List (List ℕ)) → Says of_visible content l
       → (style : LinkStyle) (address : List ℕ) → IsUtf8 address → IsTextIfAny (title_of view)
-      → SaysResult (of_visible false) (link_finish style view content address definitions).result l
+      → SaysResult of_visible (link_finish style view content address definitions).result l
   link_in_style content definitions p Inlined address text titled =
       inline_link_shows content address (title_of view) p text titled
   link_in_style content definitions p InlinedPreferAutolinks address text titled =
@@ -90,22 +90,22 @@ module _ (view : ElementView) (pure : is_guarded view.options ≡ false) (l : Li
   link_in_style content definitions p Referenced address text titled =
       says-reference view.options.link_reference_style _ content p
 
-  link_shows : (content : ResultView) (definitions : List (List ℕ)) → Says (of_visible false) content.content l
+  link_shows : (content : ResultView) (definitions : List (List ℕ)) → Says of_visible content.content l
       → (address : Option (List ℕ)) → IsTextIfAny address → IsTextIfAny (title_of view)
-      → SaysResult (of_visible false) (finish_at address view content definitions).result l
+      → SaysResult of_visible (finish_at address view content definitions).result l
   link_shows content definitions p None text titled = p
   link_shows content definitions p (Some address) text titled =
       rw pure (link_in_style content.content definitions p view.options.link_style address text titled)
 
-language_shows : (language : Option (List ℕ)) → IsTextIfAny language → SaysIfAny (of_visible false) language []
+language_shows : (language : Option (List ℕ)) → IsTextIfAny language → SaysIfAny of_visible language []
 language_shows None text = refl
 language_shows (Some s) text = shows-none text
 
-code_shows : (view : ElementView) (s l : List ℕ) → Says (of_visible false) s l
+code_shows : (view : ElementView) (s l : List ℕ) → Says of_visible s l
     → IsTextIfAny (language view)
     → (style : CodeBlockStyle) → view.options.code_block_style ≡ style
     → (block : Bool) → is_code_block view ≡ block
-    → SaysResult (of_visible false)
+    → SaysResult of_visible
     (code.finish view (record { content = s; markdown_translated = true }) []).result l
 code_shows view s l p text Indented e true here = rw (here, e) (says-indented_code s p)
 code_shows view s l p text Fenced e true here =
@@ -117,7 +117,7 @@ code_shows view s l p text style e false here = rw here (says-code_span view.opt
 
 -- whatever letters it has, nothing is wanted of it
 result_shows_none : (r : Option ResultView) (l : List ℕ) → SaysResult of_letters r l
-    → SaysResult (of_visible false) r []
+    → SaysResult of_visible r []
 result_shows_none None l p = refl
 result_shows_none (Some r) l p = shows-none p.utf8
 
@@ -142,14 +142,14 @@ module _ (options : Options) (pure : is_guarded options ≡ false) (alone : is_m
   guarded = is_guarded options
 
   abbrev law : Law
-  law = of_visible false
+  law = of_visible
 
   module _ (write : Writes) (id : ℕ) (inside : List Ancestor) (children : NumberedForest)
       (definitions : List (List ℕ)) (utf8 : IsTextIfAny (only_text children))
       (formula : (s : List ℕ) → only_text children ≡ Some s → shown_among options items false children
       ≡ visible s)
       (within : (before : List (List ℕ))
-      → Says (of_visible false) (content_inside write inside children before).text
+      → Says of_visible (content_inside write inside children before).text
       (shown_among options items false children)) where
     abbrev at : Occurrence
     at = occurrence_at write conversion id inside children

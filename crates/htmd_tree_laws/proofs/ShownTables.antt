@@ -36,10 +36,12 @@ use Rattle.htmd_walk.specs.OtherBlocks.{hidden_tags}
 use Rattle.htmd_walk.specs.Outputs.{conversion_of, is_guarded}
 use Rattle.htmd_walk.specs.TableLayouts.{has_tag, tagged_children, table_child}
 use Rattle.htmd_walk.specs.Tables.{cell_tags, has_table_form}
-use Rattle.htmd_tree_laws.specs.Shown.{is_counted, counted_characters, is_empty_element, is_one_text, node_of, is_caption, is_of_rows}
+use Rattle.htmd_tree_laws.specs.Shown.{is_visible, visible, is_no_asterisk, is_in_tildes, counted_characters, is_empty_element}
+use Rattle.htmd_tree_laws.specs.Shown.{is_one_text, node_of, is_caption, is_of_rows, IsPart}
 use Rattle.htmd_tree_laws.specs.Shown.{shown_of, shown_among, shown_but_later, shown_later}
-use Rattle.htmd_tree_laws.proofs.CountedTexts.{of_visible}
-use Rattle.htmd_tree_laws.proofs.LettersLemmas.{Says, says-own, says-nil, says-append, says-is, says-fillers, shows-none, is_white}
+use Rattle.htmd_tree_laws.proofs.CountedTexts.{of_visible, holds-own, part-filtered}
+use Rattle.htmd_tree_laws.proofs.LettersLemmas.{Says, says-own, says-nil, says-append, says-is, says-in, says-fillers, shows-none}
+use Rattle.htmd_tree_laws.proofs.LettersLemmas.{is_white}
 use Rattle.htmd_tree_laws.proofs.LettersLemmas.{whites_fill, whites_silent, fillers_ascii}
 use Rattle.htmd_tree_laws.proofs.LettersOfTexts.{document_of_white}
 use Rattle.htmd_tree_laws.proofs.LettersOfTables.{all_of, all-append}
@@ -74,12 +76,11 @@ module _ (options : Options) (is_so : is_guarded options ≡ true) (items : List
   abbrev guarded : Bool
   guarded = is_guarded options
 
-  white_shows : (without : Bool) (s : List ℕ) → list_any (λ b. not (is_document_white_space b)) s ≡ false
-      → counted_characters without s ≡ []
-  white_shows without s e =
+  white_shows : (s : List ℕ) → list_any (λ b. not (is_document_white_space b)) s ≡ false → visible s ≡ []
+  white_shows s e =
       let white = all_white s e in
-      ap (filter (is_counted without)) (chars-IsAscii s (fillers_ascii s (whites_fill s white)))
-      ∙ whites_silent (of_visible without) s white
+      ap (filter is_visible) (chars-IsAscii s (fillers_ascii s (whites_fill s white)))
+      ∙ whites_silent of_visible s white
 
   -- not an element that shows nothing, and so none that a browser doesn't show
   not_hidden : (name : List ℕ) → is_empty_element guarded name ≡ false
@@ -88,12 +89,16 @@ module _ (options : Options) (is_so : is_guarded options ≡ true) (items : List
       let hidden = is_tag_among hidden_tags (Some name) in
       other_part hidden guarded is_so (or_parts _ (hidden && guarded) e).1
 
+  none_counted : (in_tildes : Bool) → counted_characters in_tildes [] ≡ []
+  none_counted true = refl
+  none_counted false = refl
+
   mutual
     unseen : (tables : Bool) (tree : NumberedTree) → is_seen tree ≡ false
         → shown_of options items tables tree ≡ []
     unseen tables (document id c) e = unseen_among tables c e
     unseen tables (doctype id) e = refl
-    unseen tables (text id s) e = white_shows (not tables && guarded) s e
+    unseen tables (text id s) e = white_shows s e
     unseen tables (comment id s) e = refl
     unseen tables (element id name attributes c) e =
         let view = view_at (conversion_of (built_in options) items) id true c in
@@ -108,7 +113,8 @@ module _ (options : Options) (is_so : is_guarded options ≡ true) (items : List
         (λ (l : List ℕ). l ≡ [])
         (λ _. ap (λ z. z ++ shown_later options items inner false c) (unseen_first inner false c below)
         ∙ unseen_later inner false c below)
-        (λ _. unseen_among inner c below))
+        (λ _. ap (counted_characters (is_in_tildes options items id name)) (unseen_among inner c below)
+        ∙ none_counted (is_in_tildes options items id name)))
 
     unseen_among : (tables : Bool) (trees : NumberedForest) → are_seen trees ≡ false
         → shown_among options items tables trees ≡ []
@@ -158,24 +164,31 @@ module _ (options : Options) (is_so : is_guarded options ≡ true) (items : List
       (and_from (is_tag_among hidden_tags (Some name)) guarded e is_so)
 
   inside_shows : (name : List ℕ) (c : NumberedForest)
-      → Says (of_visible guarded) (all_text_among c) (shown_among options items false c)
-      → Says (of_visible guarded) (cond (bytes_eq name (codes "br")) (line_feed ∷ [])
+      → Says of_visible (all_text_among c) (shown_among options items false c)
+      → Says of_visible (cond (bytes_eq name (codes "br")) (line_feed ∷ [])
       (cond (is_tag_among hidden_tags (Some name)) [] (all_text_among c)))
       (cond (is_empty_element guarded name) [] (shown_among options items false c))
   inside_shows name c p =
       let below = shown_among options items false c in
       let wanted = cond (is_empty_element guarded name) [] below in
-      cond_both (bytes_eq name (codes "br")) _ _ (λ (s : List ℕ). Says (of_visible guarded) s wanted)
+      cond_both (bytes_eq name (codes "br")) _ _ (λ (s : List ℕ). Says of_visible s wanted)
       (λ e. says-is (empty_shows name below (break_is_empty name e)) (says-fillers (line_feed ∷ []) refl))
       (λ _. cond_both (is_tag_among hidden_tags (Some name)) _ _
-      (λ (s : List ℕ). Says (of_visible guarded) s wanted)
+      (λ (s : List ℕ). Says of_visible s wanted)
       (λ e. says-is (empty_shows name below (hidden_is_empty name e)) says-nil)
       (λ _. cond_both (is_empty_element guarded name) [] below
-      (λ (l : List ℕ). Says (of_visible guarded) (all_text_among c) l) (λ _. shows-none p.utf8) (λ _. p)))
+      (λ (l : List ℕ). Says of_visible (all_text_among c) l) (λ _. shows-none p.utf8) (λ _. p)))
+
+  -- no more of it is counted
+  fewer : (empty in_tildes : Bool) (l : List ℕ)
+      → IsPart (cond empty [] (counted_characters in_tildes l)) (cond empty [] l)
+  fewer true in_tildes l = tt
+  fewer false true l = part-filtered is_no_asterisk l
+  fewer false false l = holds-own of_visible l
 
   mutual
     all_text_shows : (tree : NumberedTree) → Fits guarded items tree
-        → Says (of_visible guarded) (all_text tree) (shown_of options items false tree)
+        → Says of_visible (all_text tree) (shown_of options items false tree)
     all_text_shows (document id c) fit = all_texts_show c fit
     all_text_shows (doctype id) fit = says-nil
     all_text_shows (text id s) fit = says-own s fit
@@ -183,10 +196,12 @@ module _ (options : Options) (is_so : is_guarded options ≡ true) (items : List
     all_text_shows (element id name attributes c) fit =
         let whole = not (is_one_text name attributes (view_at (conversion_of (built_in options) items) id true c)) in
         says-is (ap (λ l. cond (is_empty_element guarded name) [] l) (sym (in_tree options items id name whole c)))
-        (inside_shows name c (all_texts_show c fit.1))
+        (says-in
+        (fewer (is_empty_element guarded name) (is_in_tildes options items id name) (shown_among options items false c))
+        (inside_shows name c (all_texts_show c fit.1)))
 
     pub all_texts_show : (trees : NumberedForest) → AllFit guarded items trees
-        → Says (of_visible guarded) (all_text_among trees) (shown_among options items false trees)
+        → Says of_visible (all_text_among trees) (shown_among options items false trees)
     all_texts_show none fit = says-nil
     all_texts_show (more tree trees) fit = says-append (all_text_shows tree fit.0) (all_texts_show trees fit.1)
 

@@ -3,8 +3,7 @@ use Rattle.std.proofs.Common.{◌≡◌, ℕ, zero, suc, ◌<◌, ◌≤◌, Boo
 use Rattle.std.proofs.Common.{Option, Some, None, codes, refl, sym, ap, ◌∙◌, subst, arith, append_assoc, ⊎_elim}
 use Rattle.std.specs.Prelude.{◌&&◌, ◌||◌, not}
 use Rattle.std.specs.Str.{IsUtf8, bytes_eq}
-use Rattle.std.proofs.lemmas.Bool.{cond_both, or_cases, and_parts, true≢false, not-true}
-use Rattle.std.proofs.lemmas.Bool.{false≢true, false_from_ne_true}
+use Rattle.std.proofs.lemmas.Bool.{cond_both, or_cases, and_parts, true≢false, false≢true, false_from_ne_true}
 use Rattle.std.proofs.lemmas.List.{append-nil}
 use Rattle.std.proofs.lemmas.Slice.Eq.{bytes_eq-Decides}
 use Rattle.htmd_text.specs.Blocks.{is_block}
@@ -22,15 +21,14 @@ use Rattle.htmd_walk.specs.GuardedTableLayouts.{is_written_as_table}
 use Rattle.htmd_walk.specs.Outputs.{conversion_of, is_guarded}
 use Rattle.htmd_walk.specs.Groups.{only_text, with_only_text, with_text, text_of, joint_text, joint_with, joint_of}
 use Rattle.htmd_walk.specs.Groups.{is_joinable}
-use Rattle.htmd_walk.specs.Groups.{in_front, groups_of, children_at, may_join, alike, is_em, is_strong, both_join, Joint, same_attributes, same_pair}
+use Rattle.htmd_walk.specs.Groups.{in_front, groups_of, children_at, may_join, alike, is_em, is_strong, both_join, Joint, same_attributes}
 use Rattle.htmd_walk.specs.Handling.{ElementView}
+use Rattle.htmd_walk.specs.OneLineElements.{stands_in_line}
 use Rattle.htmd_walk.specs.Children.{descendant_tree}
 use Rattle.htmd_tree_laws.specs.Letters.{said_among, said_of_each}
-use Rattle.htmd_tree_laws.specs.Shown.{counted_characters, is_empty_element, is_autolink, is_formula, is_one_text, shown_of}
+use Rattle.htmd_tree_laws.specs.Shown.{visible, is_of_tildes, uses_tildes, is_in_tildes, counted_characters, is_empty_element}
+use Rattle.htmd_tree_laws.specs.Shown.{is_one_text, shown_of}
 use Rattle.htmd_tree_laws.specs.Shown.{shown_among}
-use Rattle.htmd_walk.specs.Anchors.{anchor_address}
-use Rattle.htmd_walk.specs.Spans.{has_math_class, formula_mark, mark_of_class}
-use Rattle.std.specs.Option.{is_some}
 use Rattle.htmd_tree_laws.specs.Shown.{shown_but_later, shown_later, has_table, have_table, tables_fit}
 use Rattle.htmd_tree_laws.proofs.CountedTexts.{of_visible}
 use Rattle.htmd_tree_laws.proofs.LettersLemmas.{counted_append}
@@ -74,24 +72,12 @@ joins_no_table name may =
     false_from_ne_true (bytes_eq name (codes "table"))
     (λ is. true≢false (sym may ∙ ap may_join ((bytes_eq-Decides name (codes "table")).0 is) ∙ table_is_alone))
 
--- what joins is no anchor
-joins_no_anchor : (name : List ℕ) → may_join name ≡ true → bytes_eq name (codes "a") ≡ false
-joins_no_anchor name may = not-true (bytes_eq name (codes "a")) (and_parts (not (is_block name)) _ may).1
-
--- equal attributes mark the same formulas
-mark_same : (a b : List AttributePair) → same_attributes a b ≡ true → formula_mark a ≡ formula_mark b
-mark_same [] [] e = refl
-mark_same [] (y ∷ b) e = absurd (false≢true e)
-mark_same (x ∷ a) [] e = absurd (false≢true e)
-mark_same (x ∷ []) (y ∷ []) e =
-    let pair = and_parts (bytes_eq x.name y.name) (bytes_eq x.value y.value) (and_parts (same_pair x y) true e).0 in
-    ap (λ (name : List ℕ). cond (bytes_eq name (codes "class")) (mark_of_class x.value) None)
-    ((bytes_eq-Decides x.name y.name).0 pair.0)
-    ∙ ap (λ (value : List ℕ). cond (bytes_eq y.name (codes "class")) (mark_of_class value) None)
-    ((bytes_eq-Decides x.value y.value).0 pair.1)
-mark_same (x ∷ []) (y ∷ z ∷ b) e = absurd (false≢true (and_parts (same_pair x y) false e).1)
-mark_same (x ∷ w ∷ a) (y ∷ []) e = absurd (false≢true (and_parts (same_pair x y) false e).1)
-mark_same (x ∷ w ∷ a) (y ∷ z ∷ b) e = refl
+-- and no code block
+joins_no_code : (name : List ℕ) → may_join name ≡ true → bytes_eq name (codes "pre") ≡ false
+unfolding is_block
+joins_no_code name may =
+    false_from_ne_true (bytes_eq name (codes "pre"))
+    (λ is. true≢false (sym may ∙ ap may_join ((bytes_eq-Decides name (codes "pre")).0 is)))
 
 -- two trees are not one text
 pub not_alone : (tree next : NumberedTree) (trees : NumberedForest) → only_text (more tree (more next trees)) ≡ None
@@ -151,13 +137,12 @@ module _ (options : Options) (items : List Item) where
 
   -- what shows one text and nothing else shows that text
   pub only_shows : (tables : Bool) (trees : NumberedForest) (s : List ℕ) → only_text trees ≡ Some s
-      → shown_among options items tables trees ≡ counted_characters (not tables && guarded) s
+      → shown_among options items tables trees ≡ visible s
   only_shows tables none s e = cc
   only_shows tables (more (document i c) trees) s e = cc
   only_shows tables (more (doctype i) trees) s e = cc
   only_shows tables (more (text i r) none) s e =
-      let same : r ≡ s = cc in
-      let shows = counted_characters (not tables && guarded) in append-nil (shows r) ∙ ap shows same
+      let same : r ≡ s = cc in append-nil (visible r) ∙ ap (λ (t : List ℕ). visible t) same
   only_shows tables (more (text i r) (more tree trees)) s e = cc
   only_shows tables (more (comment i r) trees) s e = cc
   only_shows tables (more (element i name attributes c) trees) s e = cc
@@ -171,71 +156,64 @@ module _ (options : Options) (items : List Item) where
   abbrev pub shown_inside : ℕ → List ℕ → Bool → NumberedForest → List ℕ
   shown_inside id name tables trees =
       cond (bytes_eq name (codes "table") && (tables && is_written_as_table items id)) (in_table tables trees)
-      (shown_among options items tables trees)
+      (counted_characters (is_in_tildes options items id name) (shown_among options items tables trees))
 
   -- what is no table shows what is in it in the tree's order
   pub no_table : (id : ℕ) (name : List ℕ) (tables : Bool) (trees : NumberedForest)
       → bytes_eq name (codes "table") ≡ false
-      → shown_inside id name tables trees ≡ shown_among options items tables trees
+      → shown_inside id name tables trees
+      ≡ counted_characters (is_in_tildes options items id name) (shown_among options items tables trees)
   no_table id name tables trees other =
       ap (λ b. cond (b && (tables && is_written_as_table items id)) (in_table tables trees)
-      (shown_among options items tables trees)) other
+      (counted_characters (is_in_tildes options items id name) (shown_among options items tables trees))) other
 
   -- without tables all is in the tree's order
   pub in_tree : (id : ℕ) (name : List ℕ) (b : Bool) (trees : NumberedForest)
-      → shown_inside id name (b && false) trees ≡ shown_among options items false trees
+      → shown_inside id name (b && false) trees
+      ≡ counted_characters (is_in_tildes options items id name) (shown_among options items false trees)
   in_tree id name b trees = by b (bytes_eq name (codes "table"))
     where
       by : (b is : Bool)
           → cond (is && ((b && false) && is_written_as_table items id)) (in_table (b && false) trees)
-          (shown_among options items (b && false) trees)
-          ≡ shown_among options items false trees
+          (counted_characters (is_in_tildes options items id name) (shown_among options items (b && false) trees))
+          ≡ counted_characters (is_in_tildes options items id name) (shown_among options items false trees)
       by true true = refl
       by true false = refl
       by false true = refl
       by false false = refl
 
+  -- all counts in what is no code block
+  pub no_code : (id : ℕ) (name l : List ℕ) → bytes_eq name (codes "pre") ≡ false
+      → counted_characters (is_in_tildes options items id name) l ≡ l
+  no_code id name l other =
+      ap (λ b. counted_characters (b && (uses_tildes options && not (stands_in_line items id))) l) other
+
+  -- and in Pure
+  pub all_counted : is_guarded options ≡ false → (id : ℕ) (name l : List ℕ)
+      → counted_characters (is_in_tildes options items id name) l ≡ l
+  all_counted pure id name l =
+      ap (λ b. counted_characters (bytes_eq name (codes "pre")
+      && ((b && is_of_tildes options.code_block_fence) && not (stands_in_line items id))) l) pure
+      ∙ by (bytes_eq name (codes "pre"))
+    where
+      by : (b : Bool) → counted_characters (b && false) l ≡ l
+      by true = refl
+      by false = refl
+
   -- ---- groups
 
-  -- all text of an element that may join is written as one text
-  abbrev joined_text : List ℕ → List AttributePair → Bool
-  joined_text m a =
-      (bytes_eq m (codes "code") || bytes_eq m (codes "pre")) || (bytes_eq m (codes "span") && has_math_class a)
-
-  -- what an element that may join counts of its only text
-  abbrev one_text : Bool → List ℕ → List AttributePair → List ℕ → List ℕ
-  one_text tables m a s = counted_characters (not (not (joined_text m a) && tables) && guarded) s
-
   one_shows : (tables : Bool) (i : ℕ) (m : List ℕ) (a : List AttributePair) (c : NumberedForest) (s : List ℕ)
-      → bytes_eq m (codes "table") ≡ false → bytes_eq m (codes "a") ≡ false → only_text c ≡ Some s
-      → shown_of options items tables (element i m a c)
-      ≡ cond (is_empty_element guarded m) [] (one_text tables m a s)
+      → bytes_eq m (codes "table") ≡ false → bytes_eq m (codes "pre") ≡ false → only_text c ≡ Some s
+      → shown_of options items tables (element i m a c) ≡ cond (is_empty_element guarded m) [] (visible s)
   one_shows tables i m a c s other apart one =
-      let view = view_at (conversion_of (built_in options) items) i true c in
-      let inner = not (is_one_text m a view) && tables in
-      let same : is_one_text m a view ≡ joined_text m a =
-      ap (λ b. ((bytes_eq m (codes "code") || bytes_eq m (codes "pre"))
-      || (b && is_autolink (anchor_address view) view))
-      || (bytes_eq m (codes "span") && is_formula a (only_text c))) apart
-      ∙ ap (λ (o : Option (List ℕ)). ((bytes_eq m (codes "code") || bytes_eq m (codes "pre")) || false)
-      || (bytes_eq m (codes "span") && is_formula a o)) one
-      ∙ plain (bytes_eq m (codes "code") || bytes_eq m (codes "pre")) (bytes_eq m (codes "span"))
-      (has_math_class a) in
+      let inner = not (is_one_text m a (view_at (conversion_of (built_in options) items) i true c)) && tables in
       ap (λ z. cond (is_empty_element guarded m) [] z)
-      (no_table i m inner c other ∙ only_shows inner c s one
-      ∙ ap (λ b. counted_characters (not (not b && tables) && guarded) s) same)
-    where
-      plain : (x y z : Bool) → ((x || false) || (y && (z && true))) ≡ (x || (y && z))
-      plain true y z = refl
-      plain false true true = refl
-      plain false true false = refl
-      plain false false z = refl
+      (no_table i m inner c other ∙ no_code i m (shown_among options items inner c) apart ∙ only_shows inner c s one)
 
-  by_empty : (empty without : Bool) (s t : List ℕ) → IsUtf8 s
-      → cond empty [] (counted_characters without (s ++ t))
-      ≡ cond empty [] (counted_characters without s) ++ cond empty [] (counted_characters without t)
-  by_empty true without s t utf8 = refl
-  by_empty false without s t utf8 = counted_append (of_visible without) s t utf8
+  by_empty : (empty : Bool) (s t : List ℕ) → IsUtf8 s
+      → cond empty [] (visible (s ++ t)) ≡ cond empty [] (visible s) ++ cond empty [] (visible t)
+  by_empty true s t utf8 = refl
+  by_empty false s t utf8 = counted_append of_visible s t utf8
 
   elements_join : (tables : Bool) (i j : ℕ) (m n : List ℕ) (a b : List AttributePair) (c d : NumberedForest)
       (o p : Option (List ℕ)) → only_text c ≡ o → only_text d ≡ p
@@ -248,28 +226,20 @@ module _ (options : Options) (items : List Item) where
   elements_join tables i j m n a b c d (Some s) (Some t) one other e utf8 =
       let both = and_parts (may_join m && alike m n) (same_attributes a b) e in
       let names = and_parts (may_join m) (alike m n) both.0 in
-      let apart = joins_no_anchor m names.0 in
-      let next_apart =
-      alike_same (λ name. bytes_eq name (codes "a")) false refl refl refl refl m n names.1 ∙ apart in
-      let texts : joined_text n b ≡ joined_text m a =
-      alike_same (λ name. joined_text name b) false refl refl refl refl m n names.1
-      ∙ ap (λ (mark : Option (List ℕ)). (bytes_eq m (codes "code") || bytes_eq m (codes "pre"))
-      || (bytes_eq m (codes "span") && is_some mark)) (sym (mark_same a b both.1)) in
-      let without = not (not (joined_text m a) && tables) && guarded in
       let first = joins_no_table m names.0 in
+      let apart = joins_no_code m names.0 in
       let second =
       alike_same (λ name. bytes_eq name (codes "table")) false refl refl refl refl m n names.1 ∙ first in
+      let next_apart =
+      alike_same (λ name. bytes_eq name (codes "pre")) false refl refl refl refl m n names.1 ∙ apart in
       let same = alike_same (is_empty_element guarded) false refl refl refl refl m n names.1 in
       one_shows tables i m a (with_only_text (s ++ t) c) (s ++ t) first apart (put_only c s (s ++ t) one)
-      ∙ by_empty (is_empty_element guarded m) without s t utf8
-      ∙ ap (λ empty. cond (is_empty_element guarded m) [] (counted_characters without s)
-      ++ cond empty [] (counted_characters without t)) (sym same)
-      ∙ ap (λ z. z ++ cond (is_empty_element guarded n) [] (counted_characters without t))
+      ∙ by_empty (is_empty_element guarded m) s t utf8
+      ∙ ap (λ empty. cond (is_empty_element guarded m) [] (visible s) ++ cond empty [] (visible t)) (sym same)
+      ∙ ap (λ z. z ++ cond (is_empty_element guarded n) [] (visible t))
       (sym (one_shows tables i m a c s first apart one))
       ∙ ap (λ z. shown_of options items tables (element i m a c) ++ z)
-      (ap (λ x. cond (is_empty_element guarded n) [] (counted_characters (not (not x && tables) && guarded) t))
-      (sym texts)
-      ∙ sym (one_shows tables j n b d t second next_apart other))
+      (sym (one_shows tables j n b d t second next_apart other))
 
   not_joined : (x : Option Joint) → both_join x None ≡ true → ⊥
   not_joined None e = false≢true e
@@ -451,7 +421,7 @@ module _ (options : Options) (items : List Item) where
   each_shown tables view [] (Some s) e f = cc
   each_shown tables view (d ∷ []) (Some s) e f =
       ap (λ (o : Option (List ℕ)). shows tables (descendant_tree view.items o d) ++ []) e
-      ∙ append-nil (counted_characters (not tables && is_guarded options) s)
+      ∙ append-nil (visible s)
       ∙ sym (only_shows options items tables (more (tree_of view.items d) none) s f)
   each_shown tables view (d ∷ next ∷ ds) (Some s) e f =
       let none_there = not_alone (tree_of view.items d) (tree_of view.items next) (forest_of (tree_of view.items) ds) in

@@ -52,7 +52,7 @@ use Rattle.htmd_tree_laws.proofs.TextWalks.{keeps-groups, keeps-within, walked_i
 
 -- all but white space counts
 abbrev law : Law
-law = of_visible false
+law = of_visible
 
 -- nothing is markup, and the texts are UTF-8
 texts_are_kept : IsKeptBy IsWhole IsLine IsUtf8

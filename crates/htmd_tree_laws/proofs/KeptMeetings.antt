@@ -1,0 +1,609 @@
+-- Where two texts meet in Guarded, code, formulas and autolinks in them stay whole: only the ordinary texts at the ends
+-- that meet change.
+use Rattle.std.proofs.Common.{◌≡◌, ℕ, suc, ◌+◌, ◌-◌, ◌<◌, ◌≤◌, Bool, true, false, cond, List, [], ◌∷◌, ◌++◌}
+use Rattle.std.proofs.Common.{length, get_or, take, drop, codes, refl, sym, ap, ◌∙◌, arith, subst, append_assoc, ⊎_elim, inl, inr}
+use Rattle.std.specs.Prelude.{◌⊎◌, ◌&&◌, ◌||◌, ◌==◌, not, reverse, encode_utf8, encode_utf8_all}
+use Rattle.std.specs.Char.{is_ascii_punctuation}
+use Rattle.std.specs.List.{prefix_len, suffix_len}
+use Rattle.std.proofs.Math.Seq.{get_or-append_seam}
+use Rattle.std.specs.Str.{chars, IsUtf8, IsCharBoundary}
+use Rattle.std.proofs.lemmas.Bool.{and_parts, or_from, or_cases, cond_both, eqb-true, false≢true, false_from_ne_true}
+use Rattle.std.proofs.lemmas.Bool.Decides.{nat_tests}
+use Rattle.std.proofs.lemmas.List.{append-nil, length-append, length-take-le, length-drop, reverse-append, reverse-reverse}
+use Rattle.std.proofs.lemmas.List.{take-append-le, drop-append-le}
+use Rattle.std.proofs.lemmas.List.Sums.{suffix_len-le-length, prefix_len-le-length}
+use Rattle.std.proofs.lemmas.Str.{encodes-chars, chars-append, chars_past_char, encode_ascii, IsUtf8-drop}
+use Rattle.std.proofs.lemmas.Str.{IsUtf8-append, IsUtf8-nil, IsCharBoundary-from_drop}
+use Rattle.unicode.proofs.CategoryComputing.{ucd_category}
+use Rattle.htmd_text.specs.Characters.{exclamation_mark}
+use Rattle.htmd_markdown.specs.CodeSpans.{ends_with}
+use Rattle.htmd_markdown.specs.Joints.{is_asterisk, ending_run, beginning_run, plain_start, plain_end, ends, Ends, escapes_next}
+use Rattle.htmd_markdown.specs.Joints.{joint_between, joint_at_start, joint_at_end, joint_of_runs, begins_word, ends_word, are_alike}
+use Rattle.htmd_markdown.specs.Joints.{is_run_misplaced, has_no_run, meets_bracket, backquotes_meet, is_word_character}
+use Rattle.htmd_markdown.specs.Joints.{mended, mended_ends, first_character, last_character, plain_signs, plain_signs_back, is_plain_at}
+use Rattle.htmd_markdown.specs.Joints.{is_plain_behind, is_plain_sign, word_first, with_joint}
+use Rattle.htmd_markdown.specs.Titles.{is_filled}
+use Rattle.htmd_markdown.proofs.JointCutsLemmas.{plain_end-cut, plain_start-cut, ending_run-cut}
+use Rattle.htmd_tree_laws.proofs.JointMarks.{escapes, escapes-append, escapes-is, end_bare, turned, turned-more}
+use Rattle.htmd_tree_laws.proofs.KeptMarks.{even, Ordinary, chars-safe, is_safe}
+use Rattle.htmd_tree_laws.proofs.KeptMarks as marks
+use Rattle.htmd_tree_laws.proofs.KeptChains.{Chain, one, link, Fits, Closed, stays, first_of, rest_of, last_of, front_of}
+use Rattle.htmd_tree_laws.proofs.KeptChains.{first_whole, last_whole, first_fits, last_fits, text_of, Keeps, keeps-joined, keeps-as, chain_says}
+use Rattle.htmd_tree_laws.proofs.KeptJoints.{Agree, agree-ends, bare, same, spaced, marked, runs_go, start_moves, start_loses}
+use Rattle.htmd_tree_laws.proofs.KeptJoints.{end_moves, end_loses, before_keeps, rest_keeps}
+use Rattle.htmd_tree_laws.proofs.Literals.{Stops, literal_stops, stop_bare, opens, closing}
+use Rattle.htmd_tree_laws.proofs.Utf8Cuts.{cut_before}
+
+-- ---- cuts in a text after another
+
+take_behind : (p s : List ℕ) (n : ℕ) → n ≤ length s → take (length (p ++ s) - n) (p ++ s) ≡ p ++ take (length s - n) s
+take_behind [] s n l = refl
+take_behind (b ∷ p) s n l =
+    let place : length (b ∷ (p ++ s)) - n ≡ suc (length (p ++ s) - n) = omega (arith, length-append p s, l) in
+    ap (λ k. take k (b ∷ (p ++ s))) place ∙ ap (λ z. b ∷ z) (take_behind p s n l)
+
+drop_behind : (p x s : List ℕ) → drop (length (p ++ x)) (p ++ s) ≡ drop (length x) s
+drop_behind [] x s = refl
+drop_behind (b ∷ p) x s = drop_behind p x s
+
+prefix_before : (p : ℕ → Bool) (xs : List ℕ) (b : ℕ) (ys : List ℕ) → p b ≡ false
+    → prefix_len p (xs ++ b ∷ ys) ≡ prefix_len p xs
+prefix_before p [] b ys other = ap (λ t. cond t (1 + prefix_len p ys) 0) other
+prefix_before p (x ∷ xs) b ys other = ap (λ n. cond (p x) (1 + n) 0) (prefix_before p xs b ys other)
+
+suffix_behind : (p : ℕ → Bool) (x : List ℕ) (b : ℕ) (s : List ℕ) → p b ≡ false
+    → suffix_len p ((x ++ b ∷ []) ++ s) ≡ suffix_len p s
+suffix_behind p x b s other =
+    ap (prefix_len p)
+    (reverse-append (x ++ b ∷ []) s ∙ ap (λ z. reverse s ++ z) (reverse-append x (b ∷ [])))
+    ∙ prefix_before p (reverse s) b (reverse x) other
+
+-- ---- after the end of code, of a formula or of an autolink
+
+-- nothing, or a text that ends with one
+abbrev pub IsFront : List ℕ → Type 0
+IsFront p = (p ≡ []) ⊎ Stops p
+
+-- nothing, or a text that begins with one
+abbrev pub IsRest : List ℕ → Type 0
+IsRest q = (q ≡ []) ⊎ ((b : ℕ) × (s : List ℕ) × (q ≡ b ∷ s) × (opens b ≡ true))
+
+front_bare : (p : List ℕ) → IsFront p → escapes false p ≡ false
+front_bare p (inl e) = ap (escapes false) e
+front_bare p (inr stop) = stop_bare p stop
+
+bare_behind : (p s : List ℕ) → IsFront p → escapes false (p ++ s) ≡ escapes false s
+bare_behind p s f = escapes-append false p s ∙ ap (λ x. escapes x s) (front_bare p f)
+
+next_behind : (p s : List ℕ) → IsFront p → escapes_next (p ++ s) ≡ escapes_next s
+next_behind p s f = sym (escapes-is (p ++ s)) ∙ bare_behind p s f ∙ escapes-is s
+
+closing_other : (b c : ℕ) → closing b ≡ true → closing c ≡ false → (b == c) ≡ false
+closing_other b c e other =
+    false_from_ne_true (b == c) (λ is. false≢true (sym other ∙ ap closing (sym (eqb-true b c is)) ∙ e))
+
+asterisks_behind : (p s : List ℕ) → IsFront p → suffix_len is_asterisk (p ++ s) ≡ suffix_len is_asterisk s
+asterisks_behind p s (inl e) = ap (λ z. suffix_len is_asterisk (z ++ s)) e
+asterisks_behind p s (inr stop) =
+    ap (λ z. suffix_len is_asterisk (z ++ s)) stop.whole
+    ∙ suffix_behind is_asterisk stop.front stop.last s (closing_other stop.last 0x2A stop.sign refl)
+
+ending_behind : (p s : List ℕ) → IsFront p → ending_run (p ++ s) ≡ ending_run s
+ending_behind p s f =
+    let run = suffix_len is_asterisk s in
+    ap (λ n. cond (escapes_next (take (length (p ++ s) - n) (p ++ s))) (n - 1) n) (asterisks_behind p s f)
+    ∙ ap (λ t. cond t (run - 1) run)
+    (ap escapes_next (take_behind p s run (suffix_len-le-length is_asterisk s))
+    ∙ next_behind p (take (length s - run) s) f)
+
+-- so far the plain signs go back
+back_stops : (cs : List ℕ) (b : ℕ) (ds : List ℕ) → is_plain_behind (turned ds) b ≡ false
+    → length (encode_utf8_all (plain_signs_back (cs ++ b ∷ ds))) ≤ length (encode_utf8_all cs)
+back_stops [] b ds stop =
+    subst (λ t. length (encode_utf8_all (cond t (b ∷ plain_signs_back ds) [])) ≤ 0) (sym stop) (omega arith)
+back_stops (c ∷ cs) b ds stop =
+    let later = back_stops cs b ds stop in
+    cond_both (is_plain_behind (turned (cs ++ b ∷ ds)) c) (c ∷ plain_signs_back (cs ++ b ∷ ds)) []
+    (λ (l : List ℕ). length (encode_utf8_all l) ≤ length (encode_utf8 c ++ encode_utf8_all cs))
+    (λ _. omega (
+      arith,
+      later,
+      length-append (encode_utf8 c) (encode_utf8_all cs),
+      length-append (encode_utf8 c) (encode_utf8_all (plain_signs_back (cs ++ b ∷ ds))),
+    ))
+    (λ _. omega arith)
+
+turned_size : (cs : List ℕ) → length (turned cs) ≡ length (encode_utf8_all cs)
+turned_size [] = refl
+turned_size (c ∷ cs) = omega (
+  arith,
+  turned_size cs,
+  ap length (turned-more c cs),
+  length-append (turned cs) (encode_utf8 c),
+  length-append (encode_utf8 c) (encode_utf8_all cs),
+)
+
+closing_safe : (b : ℕ) → closing b ≡ true → is_safe b ≡ true
+closing_safe b e = grind (arith, nat_tests)
+
+closing_low : (b : ℕ) → closing b ≡ true → b < 128
+closing_low b e = grind (arith, nat_tests)
+
+plain_within : (p s : List ℕ) → IsUtf8 p → IsUtf8 s → IsFront p → plain_end (p ++ s) ≤ length s
+plain_within p s pu u (inl e) =
+    subst (λ (z : List ℕ). plain_end (z ++ s) ≤ length s) (sym e) (plain_end-cut s u).0
+plain_within p s pu u (inr stop) =
+    let x = stop.front in
+    let b = stop.last in
+    let xu = (cut_before x b [] (closing_low b stop.sign) (subst IsUtf8 stop.whole pu)).0 in
+    let front : chars p ≡ chars x ++ b ∷ [] =
+    ap chars stop.whole ∙ chars-append x (b ∷ []) xu
+    ∙ ap (λ z. chars x ++ z) (chars-safe (b ∷ []) (ap (λ t. t && true) (closing_safe b stop.sign))) in
+    let back : reverse (chars (p ++ s)) ≡ reverse (chars s) ++ b ∷ reverse (chars x) =
+    ap reverse (chars-append p s pu) ∙ reverse-append (chars p) (chars s)
+    ∙ ap (λ z. reverse (chars s) ++ z) (ap reverse front ∙ reverse-append (chars x) (b ∷ [])) in
+    let same : turned (reverse (chars x)) ≡ x =
+    ap encode_utf8_all (reverse-reverse (chars x)) ∙ encodes-chars x xu in
+    let most = back_stops (reverse (chars s)) b (reverse (chars x))
+    (ap (λ z. is_plain_behind z b) same ∙ stop.stops) in
+    let there = ap (λ z. length (encode_utf8_all (plain_signs_back z))) back in
+    let size : length (turned (chars s)) ≡ length s = turned_size (chars s) ∙ ap length (encodes-chars s u) in
+    omega (arith, most, there, size)
+
+-- ---- before the beginning of one
+
+opens_cases : (b : ℕ) → opens b ≡ true → (b ≡ 0x60) ⊎ ((b ≡ 0x24) ⊎ (b ≡ 0x3C))
+opens_cases b e =
+    ⊎_elim (λ is. inl (eqb-true b 0x60 is))
+    (λ e. ⊎_elim (λ is. inr (inl (eqb-true b 0x24 is)))
+    (λ e. ⊎_elim (λ is. inr (inr (eqb-true b 0x3C is))) (λ none. absurd (false≢true none))
+    (or_cases (b == 0x3C) false e))
+    (or_cases (b == 0x24) _ e))
+    (or_cases (b == 0x60) _ e)
+
+-- what holds of each of the three
+opens_by : (f : ℕ → Bool) (t : Bool) → f 0x60 ≡ t → f 0x24 ≡ t → f 0x3C ≡ t → (b : ℕ) → opens b ≡ true
+    → f b ≡ t
+opens_by f t x y z b e =
+    ⊎_elim (λ (is : b ≡ 0x60). ap f is ∙ x)
+    (λ more. ⊎_elim (λ (is : b ≡ 0x24). ap f is ∙ y) (λ (is : b ≡ 0x3C). ap f is ∙ z) more) (opens_cases b e)
+
+opens_low : (b : ℕ) → opens b ≡ true → b < 128
+opens_low b e = grind (arith, nat_tests)
+
+no_word : (b : ℕ) → opens b ≡ true → is_word_character b ≡ false
+unfolding ucd_category
+no_word b e = opens_by is_word_character false refl refl refl b e
+
+no_plain : (b : ℕ) → opens b ≡ true → is_plain_sign b ≡ false
+unfolding ucd_category
+no_plain b e = opens_by is_plain_sign false refl refl refl b e
+
+beginning_before : (s q : List ℕ) → IsRest q → beginning_run (s ++ q) ≡ beginning_run s
+beginning_before s q (inl e) = ap (λ z. beginning_run (s ++ z)) e ∙ ap beginning_run (append-nil s)
+beginning_before s q (inr (b, r, e, o)) =
+    ap (λ z. beginning_run (s ++ z)) e
+    ∙ prefix_before is_asterisk s b r (opens_by is_asterisk false refl refl refl b o)
+
+signs_before : (x : Bool) (cs : List ℕ) (b : ℕ) (ds : List ℕ) → escapes x cs ≡ false → opens b ≡ true
+    → plain_signs x (cs ++ b ∷ ds) ≡ plain_signs x cs
+signs_before x [] b ds bare o =
+    ap (λ t. cond t (b ∷ plain_signs ((b == 0x5C) && not x) ds) [])
+    (or_from (is_plain_sign b) _ (no_plain b o) (ap (λ y. is_ascii_punctuation b && y) bare ∙ never (is_ascii_punctuation b)))
+  where
+    never : (t : Bool) → (t && false) ≡ false
+    never true = refl
+    never false = refl
+signs_before x (c ∷ cs) b ds bare o =
+    ap (λ l. cond (is_plain_at x c) (c ∷ l) []) (signs_before ((c == 0x5C) && not x) cs b ds bare o)
+
+rest_chars : (b : ℕ) (s : List ℕ) → b < 128 → IsUtf8 (b ∷ s) → chars (b ∷ s) ≡ b ∷ chars s
+rest_chars b s low u =
+    chars_past_char (b ∷ s) s b u (ap (λ z. z ++ s) (sym (encode_ascii b low)))
+
+plain_before : (s q : List ℕ) → Closed s → IsUtf8 q → IsRest q → plain_start (s ++ q) ≡ plain_start s
+plain_before s q closed u (inl e) = ap (λ z. plain_start (s ++ z)) e ∙ ap plain_start (append-nil s)
+plain_before s q closed u (inr (b, r, e, o)) =
+    let agree : escapes false (chars s) ≡ false =
+    subst (λ z. Agree z (escapes false (chars s))) closed.1 (agree-ends even false (chars s) refl) in
+    ap (λ l. length (encode_utf8_all (plain_signs false l)))
+    (chars-append s q closed.0 ∙ ap (λ z. chars s ++ z)
+    (ap chars e ∙ rest_chars b r (opens_low b o) (subst IsUtf8 e u)))
+    ∙ ap (λ l. length (encode_utf8_all l)) (signs_before false (chars s) b (chars r) agree o)
+
+word_before : (s q : List ℕ) → IsUtf8 s → IsUtf8 q → IsRest q → begins_word (s ++ q) ≡ begins_word s
+word_before s q su u (inl e) = ap (λ z. begins_word (s ++ z)) e ∙ ap begins_word (append-nil s)
+word_before s q su u (inr (b, r, e, o)) =
+    ap word_first
+    (chars-append s q su ∙ ap (λ z. chars s ++ z) (ap chars e ∙ rest_chars b r (opens_low b o) (subst IsUtf8 e u)))
+    ∙ by (chars s)
+  where
+    by : (cs : List ℕ) → word_first (cs ++ b ∷ chars r) ≡ word_first cs
+    by [] = no_word b o
+    by (c ∷ cs) = refl
+
+-- ---- what comes before and after the ordinary texts that meet
+
+module _ (p out content q : List ℕ) (out_closed : Closed out) (content_closed : Closed content) (pu : IsUtf8 p)
+    (qu : IsUtf8 q) (front : IsFront p) (rest : IsRest q) where
+  abbrev wanted : List ℕ
+  wanted = stays out ++ stays content
+
+  -- only what is between changes, and nothing that is promised of it goes
+  record Met (both : Ends) : Type 0 where
+    pub text : List ℕ
+    pub whole : both.front ++ both.behind ≡ p ++ (text ++ q)
+    pub kept : Ordinary text wanted
+
+  met : (f b x y : List ℕ) → f ≡ p ++ x → b ≡ y ++ q → Ordinary (x ++ y) wanted → Met (ends f b)
+  met f b x y e g kept = record {
+    text = x ++ y;
+    whole = ap (λ z. z ++ b) e ∙ ap (λ z. (p ++ x) ++ z) g ∙ append_assoc p x (y ++ q)
+        ∙ ap (λ z. p ++ z) (sym (append_assoc x y q));
+    kept = kept;
+  }
+
+  abbrev u : IsUtf8 out
+  u = out_closed.0
+
+  abbrev v : IsUtf8 content
+  v = content_closed.0
+
+  abbrev so : marks.ends even (chars out) ≡ even
+  so = out_closed.1
+
+  abbrev sc : marks.ends even (chars content) ≡ even
+  sc = content_closed.1
+
+  abbrev whole_out : List ℕ
+  whole_out = p ++ out
+
+  abbrev whole_content : List ℕ
+  whole_content = content ++ q
+
+  as_they_are : Met (ends whole_out whole_content)
+  as_they_are = met whole_out whole_content out content refl refl (same out content u v so sc)
+
+  with_space : Met (ends (whole_out ++ codes " ") whole_content)
+  with_space =
+      met (whole_out ++ codes " ") whole_content (out ++ codes " ") content (append_assoc p out (codes " ")) refl
+      (spaced out content u v so sc)
+
+  -- the last byte is that of the ordinary text, if it is a `!`
+  abbrev marked_out : List ℕ
+  marked_out = take (length whole_out - 1) whole_out ++ codes "\\!"
+
+  with_mark : ends_with exclamation_mark whole_out ≡ true → Met (ends marked_out whole_content)
+  with_mark e =
+      by out refl (eqb-true (get_or whole_out (length whole_out - 1) 0) exclamation_mark e)
+    where
+      no_front : IsFront p → get_or p (length p - 1) 0 ≡ exclamation_mark → ⊥
+      no_front (inl none) f = let zero_there = ap (λ z. get_or z (length z - 1) 0) none in
+          absurd (omega (arith, zero_there, f))
+      no_front (inr stop) f =
+          let size = length-append stop.front (stop.last ∷ []) in
+          let there : get_or p (length p - 1) 0 ≡ stop.last =
+          ap (λ z. get_or z (length z - 1) 0) stop.whole
+          ∙ ap (λ n. get_or (stop.front ++ stop.last ∷ []) n 0) (omega (arith, size))
+          ∙ get_or-append_seam stop.front stop.last [] 0 in
+          false≢true (ap closing (sym f ∙ there) ∙ stop.sign)
+
+      last_byte : (p s : List ℕ) → 0 < length s
+          → get_or (p ++ s) (length (p ++ s) - 1) 0 ≡ get_or s (length s - 1) 0
+      last_byte [] s some = refl
+      last_byte (b ∷ p) s some =
+          let place : length (b ∷ (p ++ s)) - 1 ≡ suc (length (p ++ s) - 1) =
+          omega (arith, length-append p s, some) in
+          ap (λ n. get_or (b ∷ (p ++ s)) n 0) place ∙ last_byte p s some
+
+      by : (s : List ℕ) → out ≡ s → get_or whole_out (length whole_out - 1) 0 ≡ exclamation_mark
+          → Met (ends marked_out whole_content)
+      by [] is f =
+          absurd (no_front front
+          (ap (λ (z : List ℕ). get_or z (length z - 1) 0) (sym (append-nil p) ∙ ap (λ z. p ++ z) (sym is)) ∙ f))
+      by (b ∷ s) is f =
+          let some : 0 < length out = omega (arith, ap length is) in
+          let last : ends_with exclamation_mark out ≡ true =
+          ap (λ c. c == exclamation_mark) (sym (last_byte p out some) ∙ f) in
+          met marked_out whole_content (take (length out - 1) out ++ codes "\\!") content
+          (ap (λ z. z ++ codes "\\!") (take_behind p out 1 (omega (arith, some)))
+          ∙ append_assoc p (take (length out - 1) out) (codes "\\!"))
+          refl (marked out content u v so sc last)
+
+  -- ---- runs
+
+  abbrev run_behind : ℕ
+  run_behind = ending_run out
+
+  abbrev before : List ℕ
+  before = take (length out - run_behind) out
+
+  abbrev run : ℕ
+  run = beginning_run content
+
+  abbrev later : List ℕ
+  later = drop run content
+
+  behind_within : run_behind ≤ length out
+  behind_within = (ending_run-cut out).0
+
+  run_within : run ≤ length content
+  run_within = prefix_len-le-length is_asterisk content
+
+  out_cut : take (length whole_out - run_behind) whole_out ≡ p ++ before
+  out_cut = take_behind p out run_behind behind_within
+
+  content_cut : drop run whole_content ≡ later ++ q
+  content_cut = drop-append-le run content q run_within
+
+  content_front : take run whole_content ≡ take run content
+  content_front = take-append-le run content q run_within
+
+  both_go : run_behind ≡ run
+      → Met (ends (take (length whole_out - run_behind) whole_out) (drop run_behind whole_content))
+  both_go e =
+      met (take (length whole_out - run_behind) whole_out) (drop run_behind whole_content) before later out_cut
+      (ap (λ n. drop n whole_content) e ∙ content_cut) (runs_go out content u v so sc)
+
+  -- ---- at the beginning
+
+  abbrev plain : ℕ
+  plain = plain_start later
+
+  later_closed : Closed later
+  later_closed = let r = rest_keeps out content u v so sc in (r.utf8, r.closed)
+
+  plain_there : plain_start (later ++ q) ≡ plain
+  plain_there = plain_before later q later_closed qu rest
+
+  plain_cut : IsCharBoundary later plain
+  plain_cut = plain_start-cut later later_closed.0
+
+  later_size : length later ≡ length content - run
+  later_size = length-drop run content
+
+  signs_moved : take plain (drop run whole_content) ≡ take plain later
+  signs_moved = ap (take plain) content_cut ∙ take-append-le plain later q plain_cut.0
+
+  abbrev others : List ℕ
+  others = drop plain later
+
+  others_there : drop plain (later ++ q) ≡ others ++ q
+  others_there = drop-append-le plain later q plain_cut.0
+
+  moved_front : whole_out ++ take plain (drop run whole_content) ≡ p ++ (out ++ take plain later)
+  moved_front = ap (λ z. whole_out ++ z) signs_moved ∙ append_assoc p out (take plain later)
+
+  abbrev moved_out : ℕ → List ℕ
+  moved_out n = whole_out ++ take n (drop run whole_content)
+
+  start_moved : (n : ℕ) → n ≡ plain → begins_word (drop n (later ++ q)) ≡ true
+      → Met (ends (moved_out n) (take run whole_content ++ drop (run + n) whole_content))
+  start_moved n e =
+      subst
+      (λ n. begins_word (drop n (later ++ q)) ≡ true
+      → Met (ends (moved_out n) (take run whole_content ++ drop (run + n) whole_content)))
+      (sym e)
+      (λ word.
+      met (moved_out plain) (take run whole_content ++ drop (run + plain) whole_content) (out ++ take plain later)
+      (take run content ++ drop (run + plain) content) moved_front
+      (ap (λ z. z ++ drop (run + plain) whole_content) content_front
+      ∙ ap (λ z. take run content ++ z)
+      (drop-append-le (run + plain) content q (omega (arith, run_within, plain_cut.0, later_size)))
+      ∙ sym (append_assoc (take run content) (drop (run + plain) content) q))
+      (start_moves out content u v so sc
+      (sym (ap begins_word others_there ∙ word_before others q others_text qu rest) ∙ word)))
+    where
+      others_text : IsUtf8 others
+      others_text = IsUtf8-drop later plain later_closed.0 plain_cut
+
+  start_lost : (n : ℕ) → n ≡ plain → (beginning_run (drop n (later ++ q)) == run) ≡ true
+      → Met (ends (moved_out n) (drop (run + n + run) whole_content))
+  start_lost n e =
+      subst
+      (λ n. (beginning_run (drop n (later ++ q)) == run) ≡ true
+      → Met (ends (moved_out n) (drop (run + n + run) whole_content)))
+      (sym e) by
+    where
+      by : (beginning_run (drop plain (later ++ q)) == run) ≡ true
+          → Met (ends (moved_out plain) (drop (run + plain + run) whole_content))
+      by f =
+          let same : beginning_run others ≡ run =
+          sym (ap beginning_run others_there ∙ beginning_before others q rest)
+          ∙ eqb-true (beginning_run (drop plain (later ++ q))) run f in
+          let within : beginning_run others ≤ length others = prefix_len-le-length is_asterisk others in
+          let size : length others ≡ length later - plain = length-drop plain later in
+          met (moved_out plain) (drop (run + plain + run) whole_content) (out ++ take plain later)
+          (drop (run + plain + run) content) moved_front
+          (drop-append-le (run + plain + run) content q
+          (omega (arith, run_within, plain_cut.0, later_size, within, size, same)))
+          (start_loses out content u v so sc same)
+
+  at_start : Met (mended (joint_at_start run (later ++ q)) whole_out whole_content)
+  at_start =
+      let n = plain_start (later ++ q) in
+      cond_both (begins_word (drop n (later ++ q))) _ _ (λ j. Met (mended j whole_out whole_content))
+      (start_moved n plain_there)
+      (λ _. cond_both (beginning_run (drop n (later ++ q)) == run) _ _ (λ j. Met (mended j whole_out whole_content))
+      (start_lost n plain_there) (λ _. with_space))
+
+  -- ---- at the end
+
+  before_closed : IsUtf8 before
+  before_closed = (before_keeps out content u v so sc).utf8
+
+  before_size : length before ≡ length out - run_behind
+  before_size = length-take-le (length out - run_behind) out (omega arith)
+
+  module _ (signs : ℕ) (is : plain_end (p ++ before) ≡ signs) where
+    whole_text : IsUtf8 (p ++ before)
+    whole_text = IsUtf8-append p before pu before_closed
+
+    within : signs ≤ length before
+    within = let most = plain_within p before pu before_closed front in omega (arith, most, is)
+
+    abbrev head : List ℕ
+    head = take (length before - signs) before
+
+    head_there : take (length (p ++ before) - signs) (p ++ before) ≡ p ++ head
+    head_there = take_behind p before signs within
+
+    head_bare : escapes false head ≡ false
+    head_bare =
+        sym (bare_behind p head front) ∙ ap (escapes false) (sym head_there)
+        ∙ subst (λ n. escapes false (take (length (p ++ before) - n) (p ++ before)) ≡ false) is
+        (end_bare (p ++ before) whole_text)
+
+    head_cut : (signs ≤ length before) × IsCharBoundary before (length before - signs)
+    head_cut = (
+      within,
+      IsCharBoundary-from_drop before (length before - signs) (omega arith)
+          (subst IsUtf8 tail_there
+          (IsUtf8-drop (p ++ before) (length (p ++ before) - signs) whole_text
+          (subst (λ n. IsCharBoundary (p ++ before) (length (p ++ before) - n)) is
+          (plain_end-cut (p ++ before) whole_text).1))),
+    )
+      where
+        tail_there : drop (length (p ++ before) - signs) (p ++ before) ≡ drop (length before - signs) before
+        tail_there =
+            let size = length-append p (take (length before - signs) before) in
+            let short = length-take-le (length before - signs) before (omega arith) in
+            ap (λ n. drop n (p ++ before)) (omega (arith, length-append p before, size, short, within))
+            ∙ drop_behind p head before ∙ ap (λ n. drop n before) short
+
+    gone_there : drop (length (p ++ before)) whole_out ≡ drop (length before) out
+    gone_there = drop_behind p before out
+
+    abbrev before_there : List ℕ
+    before_there = take (length whole_out - run_behind) whole_out
+
+    abbrev front_there : List ℕ → List ℕ
+    front_there z = take (length z - signs) z
+
+    end_moved : Met (ends (front_there before_there ++ drop (length before_there) whole_out)
+        (take signs (drop (length (front_there before_there)) whole_out) ++ whole_content))
+    end_moved =
+        met (front_there before_there ++ drop (length before_there) whole_out)
+        (take signs (drop (length (front_there before_there)) whole_out) ++ whole_content)
+        (head ++ drop (length before) out) (take signs (drop (length head) out) ++ content)
+        (ap (λ z. front_there z ++ drop (length z) whole_out) out_cut
+        ∙ ap (λ z. z ++ drop (length (p ++ before)) whole_out) head_there
+        ∙ ap (λ z. (p ++ head) ++ z) gone_there ∙ append_assoc p head (drop (length before) out))
+        (ap (λ z. take signs (drop (length (front_there z)) whole_out) ++ whole_content) out_cut
+        ∙ ap (λ z. take signs (drop (length z) whole_out) ++ whole_content) head_there
+        ∙ ap (λ z. take signs z ++ whole_content) (drop_behind p head out)
+        ∙ sym (append_assoc (take signs (drop (length head) out)) content q))
+        (end_moves out content u v so sc signs head_cut head_bare)
+
+    abbrev short_there : List ℕ → List ℕ
+    short_there z = take (length (front_there z) - run_behind) (front_there z) ++ drop (length (front_there z)) z
+
+    end_lost : ending_run head ≡ run_behind → Met (ends (short_there before_there) whole_content)
+    end_lost e =
+        met (short_there before_there) whole_content
+        (take (length head - run_behind) head ++ drop (length head) before) content
+        (ap short_there out_cut
+        ∙ ap (λ z. take (length z - run_behind) z ++ drop (length z) (p ++ before)) head_there
+        ∙ ap (λ z. z ++ drop (length (p ++ head)) (p ++ before))
+        (take_behind p head run_behind (let most = (ending_run-cut head).0 in omega (arith, most, e)))
+        ∙ ap (λ z. (p ++ take (length head - run_behind) head) ++ z) (drop_behind p head before)
+        ∙ append_assoc p (take (length head - run_behind) head) (drop (length head) before))
+        refl (end_loses out content u v so sc signs head_cut head_bare e)
+
+  at_end : Met (mended (joint_at_end run_behind (p ++ before)) whole_out whole_content)
+  at_end =
+      let n = plain_end (p ++ before) in
+      let z = take (length (p ++ before) - n) (p ++ before) in
+      cond_both (ends_word z) _ _ (λ j. Met (mended j whole_out whole_content)) (λ _. end_moved n refl)
+      (λ _. cond_both (ending_run z == run_behind) _ _ (λ j. Met (mended j whole_out whole_content))
+      (λ e. end_lost n refl
+      (sym (ap ending_run (head_there n refl) ∙ ending_behind p (head n refl) front)
+      ∙ eqb-true (ending_run z) run_behind e))
+      (λ _. with_space))
+
+  -- ---- wherever they meet
+
+  between : (last first : ℕ)
+      → Met (mended (joint_between run_behind run last first (p ++ before) (later ++ q)) whole_out whole_content)
+  between last first =
+      cond_both (are_alike run_behind run last first) _ _ (λ j. Met (mended j whole_out whole_content))
+      (λ e. both_go (eqb-true run_behind run (and_parts _ _ (and_parts _ _ e).0).0))
+      (λ _. cond_both (is_run_misplaced run first last) _ _ (λ j. Met (mended j whole_out whole_content))
+      (λ _. at_start)
+      (λ _. cond_both (is_run_misplaced run_behind last first) _ _ (λ j. Met (mended j whole_out whole_content))
+      (λ _. at_end) (λ _. as_they_are)))
+
+  of_runs : Met (mended (joint_of_runs run_behind run (p ++ before) (later ++ q)) whole_out whole_content)
+  of_runs =
+      cond_both (has_no_run run_behind run || not (is_filled (p ++ before) && is_filled (later ++ q))) _ _
+      (λ j. Met (mended j whole_out whole_content)) (λ _. as_they_are)
+      (λ _. between (last_character (p ++ before)) (first_character (later ++ q)))
+
+  abbrev runs_there : ℕ → ℕ → List ℕ → List ℕ → Type 0
+  runs_there m n x y = Met (mended (joint_of_runs m n x y) whole_out whole_content)
+
+  runs_mended : runs_there (ending_run whole_out) (beginning_run whole_content)
+      (take (length whole_out - ending_run whole_out) whole_out)
+      (drop (beginning_run whole_content) whole_content)
+  runs_mended =
+      subst (λ m. runs_there m (beginning_run whole_content) (take (length whole_out - m) whole_out)
+      (drop (beginning_run whole_content) whole_content)) (sym (ending_behind p out front))
+      (subst (λ n. runs_there run_behind n (take (length whole_out - run_behind) whole_out) (drop n whole_content))
+      (sym (beginning_before content q rest))
+      (subst (λ (x : List ℕ). runs_there run_behind run x (drop run whole_content)) (sym out_cut)
+      (subst (λ (y : List ℕ). runs_there run_behind run (p ++ before) y) (sym content_cut) of_runs)))
+
+  mended_met : Met (mended_ends whole_out whole_content)
+  mended_met =
+      cond_both (meets_bracket whole_out whole_content) _ _ (λ j. Met (mended j whole_out whole_content))
+      (λ e. with_mark (and_parts _ _ e).0)
+      (λ _. cond_both (backquotes_meet whole_out whole_content) _ _ (λ j. Met (mended j whole_out whole_content))
+      (λ _. with_space) (λ _. runs_mended))
+
+-- ---- texts that keep what is wanted
+
+-- what stands before the last ordinary text, and after the first one
+pub front_text : (c : Chain) → Fits c → IsUtf8 (front_of c)
+front_text (one s) p = IsUtf8-nil
+front_text (link s z c) (p, u, l, r) =
+    IsUtf8-append s (z ++ front_of c) p.0 (IsUtf8-append z (front_of c) u (front_text c r))
+
+-- after any text in which nothing is left to escape
+pub stops_at_front : (x : List ℕ) (c : Chain) → escapes false x ≡ false → Fits c
+    → (front_of c ≡ []) ⊎ Stops (x ++ front_of c)
+stops_at_front x (one s) e p = inl refl
+stops_at_front x (link s z c) e (p, u, l, r) =
+    let before : escapes false (x ++ s) ≡ false =
+    escapes-append false x s ∙ ap (λ t. escapes t s) e ∙ bare s p.0 p.1 in
+    let here = literal_stops (x ++ s) z before l in
+    let whole : (front : List ℕ) → ((x ++ s) ++ z) ++ front ≡ x ++ (s ++ (z ++ front)) =
+    λ front. append_assoc (x ++ s) z front ∙ append_assoc x s (z ++ front) in
+    inr (⊎_elim
+    (λ (none : front_of c ≡ []).
+    subst Stops (sym (append-nil ((x ++ s) ++ z)) ∙ whole [] ∙ ap (λ t. x ++ (s ++ (z ++ t))) (sym none)) here)
+    (λ stop. subst Stops (whole (front_of c)) stop)
+    (stops_at_front ((x ++ s) ++ z) c (stop_bare ((x ++ s) ++ z) here) r))
+
+pub rest_opens : (c : Chain) → Fits c → IsRest (rest_of c)
+rest_opens (one s) p = inl refl
+rest_opens (link s z c) (p, u, l, r) =
+    inr (l.first, (l.inner ++ l.last ∷ []) ++ text_of c, ap (λ t. t ++ text_of c) l.whole, l.begins)
+
+rest_text : (c : Chain) → Fits c → IsUtf8 (rest_of c)
+rest_text (one s) p = IsUtf8-nil
+rest_text (link s z c) (p, u, l, r) = IsUtf8-append z (text_of c) u (chain_says c r).0
+
+pub keeps-joint : {out content l m : List ℕ} → Keeps out l → Keeps content m
+    → Keeps (with_joint out content) (l ++ m)
+keeps-joint {out} {content} {l} {m} p q =
+    let c = p.chain in
+    let d = q.chain in
+    let x = last_of c in
+    let y = first_of d in
+    let meeting = mended_met (front_of c) x y (rest_of d) (last_fits c p.fits) (first_fits d q.fits)
+    (front_text c p.fits) (rest_text d q.fits) (stops_at_front [] c refl p.fits) (rest_opens d q.fits) in
+    keeps-as
+    (ap (λ z. with_joint z (y ++ rest_of d)) (sym (p.whole ∙ last_whole c))
+    ∙ ap (λ z. with_joint out z) (sym (q.whole ∙ first_whole d)))
+    (keeps-joined p q meeting.text (with_joint (front_of c ++ x) (y ++ rest_of d))
+    (meeting.kept.utf8, meeting.kept.closed) meeting.kept.keeps meeting.whole)
