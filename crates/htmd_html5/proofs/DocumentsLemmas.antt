@@ -32,7 +32,8 @@ pub reads_end : (text : List ℕ) (first : StateValue) (rest : List ℕ) (s : St
     → feed (next_read rest s).token s ≡ read_within all text first
 reads_end text first rest s turn all r l e =
     let k = all - suc turn in
-    let more : suc k + turn ≡ all = omega arith in sym (at_end (read_within k) (next_read rest s) s e) ∙ r (suc k) more
+    let more : suc k + turn ≡ all = omega arith in
+    sym (at_end (read_within k) (next_read rest s) s e) ∙ r (suc k) more
 
 pub reads_over : (text : List ℕ) (first : StateValue) (rest : List ℕ) (s : StateValue) (turn all : ℕ)
     → Reads text first rest s turn all → turn ≡ all → feed end_of_file s ≡ read_within all text first
@@ -45,7 +46,8 @@ pub turn_on : (text : List ℕ) (first : StateValue) (rest after : List ℕ) (s 
     → Reads text first after new (turn + 1) all
 turn_on text first rest after s new token turn all r t a n e =
     let goes = reads_on text first rest s turn all r (ap is_end (sym t) ∙ e) in
-    subst (λ (x : StateValue). Reads text first after x (turn + 1) all) (sym (n ∙ ap (λ (x : TokenValue). feed x s) t))
+    subst (λ (x : StateValue). Reads text first after x (turn + 1) all)
+    (sym (n ∙ ap (λ (x : TokenValue). feed x s) t))
     (subst (λ (x : List ℕ). Reads text first x (feed (next_read rest s).token s) (turn + 1) all) (sym a) goes)
 
 pub turn_ends : (text : List ℕ) (first : StateValue) (rest : List ℕ) (s new : StateValue) (token : TokenValue)

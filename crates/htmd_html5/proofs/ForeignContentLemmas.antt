@@ -17,7 +17,8 @@ unchanged nothing s e = refl
 
 pub end_goes : (name : NameValue) (spelled : List ℕ) (s new : StateValue) → end_breaks_out name ≡ false
     → spelled ≡ text_of_name name → goes_by_mode (foreign_end spelled s.stack) ≡ true
-    → new ≡ after_foreign_end (foreign_end spelled s.stack) s → by_mode_rules (end_tag name) new ≡ end_in_foreign name s
+    → new ≡ after_foreign_end (foreign_end spelled s.stack) s
+    → by_mode_rules (end_tag name) new ≡ end_in_foreign name s
 end_goes name spelled s new e t g n =
     let same = n ∙ unchanged (foreign_end spelled s.stack) s g in
     let h = rw t at g in

@@ -37,7 +37,8 @@ kept_run Nulls s = kept_nulls s
 kept_run Characters s = kept_whole Characters s character_is_kept
 
 -- one more run is kept
-pub kept_more : (kept new rest run after all : List ℕ) (kind : RunKind) → kind ≡ first_kind rest → run ≡ first_run rest
+pub kept_more : (kept new rest run after all : List ℕ) (kind : RunKind) → kind ≡ first_kind rest
+    → run ≡ first_run rest
     → after ≡ after_first_run rest → new ≡ kept ++ kept_of kind run → kept ++ without_nulls rest ≡ all
     → new ++ without_nulls after ≡ all
 kept_more kept new rest run after all kind k r a n e =

@@ -38,7 +38,8 @@ the_document_alone = refl
 
 -- children come in the order of their parent, whatever their numbers
 document_order : document_of 9
-    (document (3 ∷ 1 ∷ []) ∷ holding (codes "p") (4 ∷ 2 ∷ []) ∷ letters (codes "b") ∷ node nodes.doctype []
+    (document (3 ∷ 1 ∷ []) ∷ holding (codes "p") (4 ∷ 2 ∷ []) ∷ letters (codes "b")
+    ∷ node nodes.doctype []
     ∷ node (nodes.comment (codes "a")) [] ∷ [])
     ≡ document_items
     (more doctype (one (with (codes "p") (more (comment (codes "a")) (one (text (codes "b")))))))

@@ -17,7 +17,8 @@ use Rattle.htmd_html5.specs.declared.layout.Coming as program
 -- ---- what comes next
 
 -- what was put last comes next
-pub work_of-push : (cs : List program.Coming) (c : program.Coming) → work_of (cs ++ c ∷ []) ≡ coming_of c ∷ work_of cs
+pub work_of-push : (cs : List program.Coming) (c : program.Coming)
+    → work_of (cs ++ c ∷ []) ≡ coming_of c ∷ work_of cs
 work_of-push cs c = rw (map_push coming_of cs c, reverse-append (map coming_of cs) (coming_of c ∷ [])) refl
 
 pub work_of-pop : (cs rest : List program.Coming) (c : program.Coming) → cs ≡ rest ++ option_to_list (Some c)
@@ -68,7 +69,8 @@ all_under items (n ∷ ns) under m =
     All-cons (λ (c : program.Coming). MayHold items c.under) (coming_under under n) (map (coming_under under) ns) m
     (all_under items ns under m)
 
-pub all_may_hold-all : (items : List Item) (cs : List program.Coming) (ns : List ℕ) (under : ℕ) → MayHold items under
+pub all_may_hold-all : (items : List Item) (cs : List program.Coming) (ns : List ℕ) (under : ℕ)
+    → MayHold items under
     → AllMayHold items cs → AllMayHold items (cs ++ map (coming_under under) ns)
 all_may_hold-all items cs ns under m h =
     All-append (λ (c : program.Coming). MayHold items c.under) cs (map (coming_under under) ns) h
@@ -87,14 +89,16 @@ all_may_hold-pushed r items cs new ns under m h e = on_ok_weaker r grown e
 
 -- what is left to lay out in a turn is what was at first
 abbrev pub Lays : ℕ → Layout → Layout → ℕ → ℕ → Type 0
-Lays limit first now turn all = (k : ℕ) → k + turn ≡ all → layout_within limit k now ≡ layout_within limit all first
+Lays limit first now turn all = (k : ℕ) → k + turn ≡ all
+    → layout_within limit k now ≡ layout_within limit all first
 
 pub lays-first : (limit : ℕ) (first now : Layout) (all : ℕ) → now ≡ first → Lays limit first now 0 all
 lays-first limit first now all e k f =
     let same : k ≡ all = omega arith in ap (λ n. layout_within limit n now) same ∙ ap (layout_within limit all) e
 
 pub lays-next : (limit : ℕ) (first now new : Layout) (turn all : ℕ) (c : Coming) (work : List Coming)
-    → Lays limit first now turn all → now.work ≡ c ∷ work → new ≡ put_node limit c (record now { work = work })
+    → Lays limit first now turn all → now.work ≡ c ∷ work
+    → new ≡ put_node limit c (record now { work = work })
     → Lays limit first new (turn + 1) all
 lays-next limit first now new turn all c work r e f k g =
     let more : suc k + turn ≡ all = omega arith in
@@ -117,6 +121,7 @@ lays-over limit first now turn all r e = let none : 0 + turn ≡ all = omega ari
 
 -- all turns, as many as there are nodes
 pub whole-document : (limit : ℕ) (nodes : List NodeValue) (now : Layout) (all : ℕ)
-    → now ≡ layout_within limit all (first_layout nodes) → all ≡ length nodes → now.items ≡ document_of limit nodes
+    → now ≡ layout_within limit all (first_layout nodes) → all ≡ length nodes
+    → now.items ≡ document_of limit nodes
 whole-document limit nodes now all e count =
     ap (λ (l : Layout). l.items) (e ∙ ap (λ n. layout_within limit n (first_layout nodes)) count)

@@ -26,7 +26,8 @@ process_done k token s new e = ap (λ (a : Answer). after_answer (process_within
 
 -- what is left to process in a turn is what was at first
 abbrev pub Rests : TokenValue → StateValue → StateValue → ℕ → ℕ → Type 0
-Rests token first s turn all = (k : ℕ) → k + turn ≡ all → process_within k token s ≡ process_within all token first
+Rests token first s turn all = (k : ℕ) → k + turn ≡ all
+    → process_within k token s ≡ process_within all token first
 
 pub rests_first : (token : TokenValue) (s : StateValue) (all : ℕ) → Rests token s s 0 all
 rests_first token s all k e =

@@ -16,7 +16,8 @@ inside_nulls b e = grind (arith, nat_tests)
 outside_characters : (b : ℕ) → is_of_kind Characters b ≡ false → b < 128
 outside_characters b e = grind (arith, nat_tests)
 
-pub run_cut : (kind : RunKind) (s : List ℕ) → IsUtf8 s → IsCharBoundary s (length (leading_run (is_of_kind kind) s))
+pub run_cut : (kind : RunKind) (s : List ℕ) → IsUtf8 s
+    → IsCharBoundary s (length (leading_run (is_of_kind kind) s))
 run_cut White s u =
     behind_last (is_of_kind White) s (length (leading_run (is_of_kind White) s)) u white_is_ascii refl
 run_cut Nulls s u = behind_last (is_of_kind Nulls) s (length (leading_run (is_of_kind Nulls) s)) u inside_nulls refl

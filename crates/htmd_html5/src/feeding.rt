@@ -84,8 +84,8 @@ fn feed_end_tag(state: &mut HtmlState, name: &HtmlName) -> Result<(), AllocError
 }
 
 /// A token.
-pub(crate) fn feed(state: &mut HtmlState, token: Token) -> Result<(), AllocError>
-    ensures { OnOk result (state.new ≡ spec.feed (value_of token) state.old) }
+pub(crate) fn feed(state: &mut HtmlState, token: Token<'_>) -> Result<(), AllocError>
+    ensures { OnOk result (state.new ≡ spec.feed (value_of token.entry) state.old) }
 {
     let skips = state.skips_line_feed();
     state.set_skips_line_feed(false);
@@ -96,9 +96,13 @@ pub(crate) fn feed(state: &mut HtmlState, token: Token) -> Result<(), AllocError
         }
         Token::StartTag(tag) => {
             leave_text_mode(state);
-            process_start(state, StartTag::of(tag))
+            let tag = StartTag::of(state.alloc(), tag)?;
+            process_start(state, tag)
         }
-        Token::EndTag(tag) => feed_end_tag(state, &HtmlName::from_text(tag.name)),
+        Token::EndTag(tag) => {
+            let name = HtmlName::from_text(state.alloc(), tag.name)?;
+            feed_end_tag(state, &name)
+        }
         Token::Comment(text) => {
             leave_text_mode(state);
             process_comment(state, text)

@@ -1,7 +1,6 @@
 //! The tree of a document: its nodes in document order, to the greatest depth.
 ghost use Rattle.std.specs.Prelude.{◌≡◌, ◌++◌, map, reverse, option_map, string_bytes, IfOk, IsErrOf, OnOk, Ok};
 ghost use Rattle.htmd_html5_state.specs.Documents.{children_at, kind_at};
-ghost use Rattle.htmd_html5_state.specs.Names.{element_name_of, text_of_element_name};
 ghost use Rattle.htmd_html5_state.specs.Views.{kind_of, nodes_of};
 ghost use Rattle.htmd_html5.specs.Layout as spec;
 ghost use Rattle.htmd_html5.specs.LayoutViews.{coming_of, coming_under, layout_of, work_of, AllMayHold, MayHold};
@@ -9,7 +8,7 @@ ghost use Rattle.htmd_tree.specs.Items.{comment_node, doctype_node, element_node
 ghost use Rattle.htmd_tree.specs.Views.{pairs_of};
 ghost use Rattle.htmd_tree.specs.declared.tree.TreeError.TheVariants.{TooDeep};
 
-use htmd_html5_state::{ElementName, Node, NodeKind};
+use htmd_html5_state::{Node, NodeKind, OtherElement};
 use htmd_tree::{Attribute, NodeId, Tree, TreeError};
 use std::alloc::{AllocError, Global};
 use std::mem;
@@ -150,19 +149,19 @@ impl Layout {
     fn put_element(
         &mut self,
         coming: Coming,
-        name: &ElementName,
+        name: &str,
         attributes: Vec<Attribute>,
     ) -> Result<(), AllocError>
         requires may_hold { MayHold self.old.tree coming.under }
         requires holds { AllMayHold self.old.tree self.old.coming.items }
         ensures value { OnOk result (layout_of self.new
             ≡ spec.with_element (spec.is_deepest greatest_depth self.old.tree coming.under)
-            (element_node (text_of_element_name (element_name_of name.now)) (pairs_of attributes.items))
+            (element_node name.now (pairs_of attributes.items))
             (coming_of coming) (layout_of self.old)) }
         ensures holds { OnOk result (AllMayHold self.new.tree self.new.coming.items) }
     {
         let deepest = self.is_deepest(coming.under);
-        let item = item_of(self.tree.add_element(coming.under, name.text(), attributes))?;
+        let item = item_of(self.tree.add_element(coming.under, name, attributes))?;
         let under = if deepest { coming.under } else { item };
         self.push_children(coming.node, under)
     }
@@ -184,7 +183,13 @@ impl Layout {
             NodeKind::Comment(text) => {
                 item_of(self.tree.add_comment(under, text.as_str()))?;
             }
-            NodeKind::Element { name, attributes } => self.put_element(coming, &name, attributes)?,
+            NodeKind::Known { name, attributes } => {
+                self.put_element(coming, name.text(), attributes)?;
+            }
+            NodeKind::Other(element) => {
+                let OtherElement { name, attributes } = Box::into_inner(element);
+                self.put_element(coming, name.text(), attributes)?;
+            }
         }
         Ok(())
     }

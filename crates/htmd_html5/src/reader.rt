@@ -14,7 +14,7 @@ use htmd_tree::Tree;
 use std::alloc::{AllocError, Global};
 use std::borrow::CowStr;
 
-fn is_end(token: &Token) -> bool
+fn is_end(token: &Token<'_>) -> bool
     ensures { result ≡ spec.is_end (value_of token.now) }
 {
     matches!(token, Token::EndOfFile)

@@ -1,5 +1,5 @@
 //! The tokens of tree construction.
-ghost use Rattle.std.specs.Prelude.{◌≡◌, ◌≤◌, length};
+ghost use Rattle.std.specs.Prelude.{◌≡◌, ◌≤◌, length, IfOk};
 ghost use Rattle.std.specs.Str.{IsUtf8};
 ghost use Rattle.htmd_grammar.specs.CharacterClasses.{leading_run};
 ghost use Rattle.htmd_html5.specs.Runs as runs;
@@ -10,6 +10,7 @@ ghost use Rattle.htmd_html5_tokens.specs.Tokens as tokens;
 use htmd_html5_state::HtmlName;
 use htmd_html5_tokens::Tag;
 use htmd_tree::Attribute;
+use std::alloc::{AllocError, Global};
 
 /// A start tag, with its name found.
 #[derive(Debug, Drop)]
@@ -37,14 +38,14 @@ pub(crate) struct Split<'a> {
 
 impl StartTag {
     /// With the name of a tag found.
-    pub(crate) fn of(tag: Tag) -> StartTag
-        ensures { tag_of result ≡ named (tokens.tag_of tag) }
+    pub(crate) fn of(alloc: Global, tag: Tag<'_>) -> Result<StartTag, AllocError>
+        ensures { IfOk result (λ named_tag. tag_of named_tag ≡ named (tokens.tag_of tag.entry)) }
     {
-        StartTag {
-            name: HtmlName::from_text(tag.name),
+        Ok(StartTag {
+            name: HtmlName::from_text(alloc, tag.name)?,
             attributes: tag.attributes,
             self_closing: tag.self_closing,
-        }
+        })
     }
 }
 

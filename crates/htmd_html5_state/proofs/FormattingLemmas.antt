@@ -1,10 +1,13 @@
 -- The list of active formatting elements as the program holds it.
 use Rattle.std.proofs.Common.{◌≡◌, ℕ, Bool, true, false, cond, List, [], ◌∷◌, ◌++◌, length, Option, Some, None, reverse}
 use Rattle.std.proofs.Common.{refl, sym, ap, ◌∙◌, suc, ◌+◌, ◌<◌, take, drop, set, arith}
-use Rattle.std.specs.Prelude.{insert, remove, filter, MatchOption, is_some}
+use Rattle.std.specs.Prelude.{insert, remove, filter, MatchOption, is_some, ◌&&◌}
 use Rattle.std.proofs.lemmas.Bool.{true≢false, eq-eqb}
 use Rattle.std.proofs.lemmas.List.{reverse-append, append_assoc, length-append, length_push, take_at, drop_at, set_at}
 use Rattle.htmd_text.proofs.Cases.{test}
+use Rattle.htmd_html5_state.specs.Documents.{KindValue, document, doctype, text, comment, element}
+use Rattle.htmd_html5_state.specs.Documents.{attributes_of, same_attributes, same_element}
+use Rattle.htmd_html5_state.specs.Views.{have_same_name}
 use Rattle.htmd_html5_state.specs.Formatting.{is_entry, is_listed, without_entry, replace_entry, insert_after}
 use Rattle.htmd_html5_state.specs.Formatting.{last_of, since_marker, reopen, reopen_all}
 use Rattle.htmd_html5_state.specs.State.{StateValue}
@@ -219,3 +222,25 @@ pub listed-by : (n : ℕ) (xs : List (Option ℕ)) (o : Option ℕ)
     → is_some o ≡ is_listed n (entries_of xs)
 listed-by n xs None h = sym h
 listed-by n xs (Some i) h = sym (IsNewest-listed n xs i h)
+
+-- ---- elements alike
+
+-- a Document is like nothing
+pub like_none : (k : KindValue) → same_element k document ≡ false
+like_none document = refl
+like_none doctype = refl
+like_none (text s) = refl
+like_none (comment s) = refl
+like_none (element name attributes) = refl
+
+pub same_parts : (k l : KindValue)
+    → same_element k l ≡ (have_same_name k l && same_attributes (attributes_of k) (attributes_of l))
+same_parts document l = refl
+same_parts doctype l = refl
+same_parts (text s) l = refl
+same_parts (comment s) l = refl
+same_parts (element name attributes) document = refl
+same_parts (element name attributes) doctype = refl
+same_parts (element name attributes) (text s) = refl
+same_parts (element name attributes) (comment s) = refl
+same_parts (element name attributes) (element name' attributes') = refl

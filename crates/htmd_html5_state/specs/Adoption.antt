@@ -1,8 +1,8 @@
 -- The adoption agency algorithm (HTML Standard, 13.2.6.4.7).
-use Rattle.std.specs.Prelude.{ℕ, zero, suc, ◌-◌, Bool, true, false, not, ◌&&◌, ◌||◌, nat_lt, if◌then◌else◌, List, [], ◌∷◌, ◌++◌}
+use Rattle.std.specs.Prelude.{ℕ, zero, suc, ◌-◌, Bool, false, not, ◌&&◌, nat_lt, if◌then◌else◌, List, [], ◌∷◌, ◌++◌}
 use Rattle.std.specs.Prelude.{length, find, Option, Some, None}
 use Rattle.std.specs.List.{list_any}
-use Rattle.htmd_html5_state.specs.Names.{known, html, is_tag, ElementNameValue}
+use Rattle.htmd_html5_state.specs.Names.{known, html, is_tag}
 use Rattle.htmd_html5_state.specs.Sets.{bounds}
 use Rattle.htmd_html5_state.specs.Documents.{NodeValue, KindValue, element, kind_at, detach, put, new_node, last_in}
 use Rattle.htmd_html5_state.specs.Documents.{attach, move_children}

@@ -1,5 +1,5 @@
 -- What the program's parts of the adoption agency algorithm are.
-use Rattle.std.specs.Prelude.{◌≡◌, ℕ, Bool, true, false, List, [], ◌∷◌, ◌++◌, Some}
+use Rattle.std.specs.Prelude.{◌≡◌, ℕ, Bool, true, false, [], ◌∷◌, ◌++◌, Some}
 use Rattle.htmd_html5_state.specs.Names.{ElementNameValue}
 use Rattle.htmd_html5_state.specs.State.{StateValue}
 use Rattle.htmd_html5_state.specs.Insertion.{opened}

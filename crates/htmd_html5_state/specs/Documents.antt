@@ -1,6 +1,6 @@
 -- Documents while they are made: nodes by number in order of making, each with its parent and its children. Node 0 is
 -- the Document. A number that no node has is that of a node with nothing, which doesn't change.
-use Rattle.std.specs.Prelude.{ℕ, zero, suc, ◌-◌, Bool, true, false, not, ◌&&◌, ◌||◌, ◌==◌, nat_lt, if◌then◌else◌}
+use Rattle.std.specs.Prelude.{ℕ, zero, suc, Bool, false, not, ◌&&◌, ◌||◌, ◌==◌, if◌then◌else◌}
 use Rattle.std.specs.Prelude.{List, [], ◌∷◌, ◌++◌, length, insert, remove, slice_get, slice_set, slice_index_or}
 use Rattle.std.specs.Prelude.{Option, Some, None, find}
 use Rattle.std.specs.List.{list_any, list_all}

@@ -1,8 +1,8 @@
 -- The list of active formatting elements (HTML Standard, 13.2.4.3), newest first.
-use Rattle.std.specs.Prelude.{ℕ, Bool, true, false, not, ◌&&◌, ◌==◌, nat_le, if◌then◌else◌, List, [], ◌∷◌, length, filter}
+use Rattle.std.specs.Prelude.{ℕ, Bool, true, false, ◌==◌, nat_le, if◌then◌else◌, List, [], ◌∷◌, length, filter}
 use Rattle.std.specs.Prelude.{Option, Some, None}
 use Rattle.htmd_grammar.specs.ValueTrees.{AttributePair}
-use Rattle.htmd_html5_state.specs.Names.{ElementNameValue, NameValue, html}
+use Rattle.htmd_html5_state.specs.Names.{NameValue}
 use Rattle.htmd_html5_state.specs.Documents.{NodeValue, KindValue, element, kind_at, same_element}
 use Rattle.htmd_html5_state.specs.OpenElements.{OpenValue, is_open_node}
 use Rattle.htmd_html5_state.specs.State.{StateValue, on_formatting}

@@ -1,5 +1,5 @@
 -- The names of elements: of HTML those that a rule mentions, and all others; and those of foreign content.
-use Rattle.std.specs.Prelude.{ℕ, Bool, true, false, ◌==◌, if◌then◌else◌, List, [], ◌∷◌, codes, string_bytes, Option}
+use Rattle.std.specs.Prelude.{ℕ, Bool, false, ◌==◌, if◌then◌else◌, List, [], ◌∷◌, codes, string_bytes, Option}
 use Rattle.std.specs.Prelude.{Some, None, find}
 use Rattle.std.specs.Str.{bytes_eq}
 use Rattle.htmd_html5_state.specs.declared.names.HtmlName.{HtmlName}
@@ -296,11 +296,11 @@ names_with b =
     else
     if b == 114 then Rb ∷ Rp ∷ Rt ∷ Rtc ∷ Ruby ∷ []
     else
-    if b == 115 then S ∷ Script ∷ Search ∷ Section ∷ Select ∷ Small ∷ Source ∷ Span ∷ Strike ∷ Strong ∷
-    Style ∷ Sub ∷ Summary ∷ Sup ∷ Svg ∷ []
+    if b == 115 then S ∷ Script ∷ Search ∷ Section ∷ Select ∷ Small ∷ Source ∷ Span ∷ Strike
+    ∷ Strong ∷ Style ∷ Sub ∷ Summary ∷ Sup ∷ Svg ∷ []
     else
-    if b == 116 then Table ∷ TBody ∷ Td ∷ Template ∷ TextArea ∷ TFoot ∷ Th ∷ THead ∷ Title ∷ Tr ∷ Track ∷
-    Tt ∷ []
+    if b == 116 then Table ∷ TBody ∷ Td ∷ Template ∷ TextArea ∷ TFoot ∷ Th ∷ THead ∷ Title ∷ Tr
+    ∷ Track ∷ Tt ∷ []
     else
     if b == 117 then U ∷ Ul ∷ []
     else

@@ -2,7 +2,7 @@
 use Rattle.std.specs.Prelude.{ℕ, Bool, true, false, not, ◌&&◌, ◌||◌, ◌==◌, if◌then◌else◌, List, [], ◌∷◌}
 use Rattle.std.specs.Prelude.{Option, Some, None}
 use Rattle.std.specs.List.{list_any}
-use Rattle.htmd_html5_state.specs.Names.{ElementNameValue, NameValue, html, known, other, same_element_name}
+use Rattle.htmd_html5_state.specs.Names.{ElementNameValue, NameValue, html, same_element_name}
 use Rattle.htmd_html5_state.specs.Sets.{is_of, bounds}
 use Rattle.htmd_html5_state.specs.declared.sets.NameSet.{NameSet}
 use Rattle.htmd_html5_state.specs.declared.sets.Scope.{Scope}

@@ -1,5 +1,5 @@
 -- The state of tree construction (HTML Standard, 13.2.4).
-use Rattle.std.specs.Prelude.{ℕ, Bool, true, false, List, [], ◌∷◌, Option, Some, None}
+use Rattle.std.specs.Prelude.{ℕ, Bool, true, false, List, [], ◌∷◌, Option, None}
 use Rattle.htmd_html5_tokens.specs.declared.tokens.Content.{Content}
 use Rattle.htmd_html5_tokens.specs.declared.tokens.Content.TheVariants.{Normal}
 use Rattle.htmd_html5_state.specs.Documents.{NodeValue, document, new_node}

@@ -1,12 +1,13 @@
 //! Documents while they are made: nodes by number, each with its parent and its children.
 ghost use Rattle.std.specs.Prelude.{◌≡◌, ◌∷◌, ◌++◌, ◌≤◌, [], insert, length, string_bytes, IfOk, OnOk, MatchBool, Some, None};
 ghost use Rattle.htmd_html5_state.specs.Documents as spec;
+ghost use Rattle.htmd_html5_state.specs.Names.{element_name_of};
 ghost use Rattle.htmd_html5_state.specs.Views.{kind_of, kind_seen, nodes_of, numbers_of};
 ghost use Rattle.htmd_tree.specs.Views.{pairs_of};
 
 use crate::attributes::{add_missing, copy_all};
 use crate::children::Children;
-use crate::names::ElementName;
+use crate::names::{ElementName, HtmlName, TagName};
 use htmd_tree::Attribute;
 use std::alloc::{AllocError, Global};
 use std::marker::Model;
@@ -19,10 +20,19 @@ pub enum NodeKind {
     Doctype,
     Text(String),
     Comment(String),
-    Element {
-        name: ElementName,
+    /// An element of HTML with a name that a rule mentions, as most are: it needs little room.
+    Known {
+        name: TagName,
         attributes: Vec<Attribute>,
     },
+    Other(Box<OtherElement>),
+}
+
+/// An element with another name, or in foreign content.
+#[derive(Debug, Drop)]
+pub struct OtherElement {
+    pub name: ElementName,
+    pub attributes: Vec<Attribute>,
 }
 
 /// A node, with the numbers of its parent and its children.
@@ -111,6 +121,44 @@ fn insert_child(
 }
 
 impl NodeKind {
+    /// An element. `Err` means out of memory.
+    pub(crate) fn element(
+        alloc: Global,
+        name: ElementName,
+        attributes: Vec<Attribute>,
+    ) -> Result<NodeKind, AllocError>
+        ensures { IfOk result (λ kind. kind_of kind
+            ≡ spec.element (element_name_of name) (pairs_of attributes.items)) }
+    {
+        if let ElementName::Html(HtmlName::Known(name)) = name {
+            return Ok(NodeKind::Known { name, attributes });
+        }
+        let element = OtherElement { name, attributes };
+        Ok(NodeKind::Other(Box::new(alloc, element)?))
+    }
+
+    pub(crate) fn attributes(&self) -> &[Attribute]
+        ensures { pairs_of result.now ≡ spec.attributes_of (kind_of self.now) }
+    {
+        match self {
+            NodeKind::Known { attributes, .. } => attributes.as_slice(),
+            NodeKind::Other(element) => element.attributes.as_slice(),
+            _ => &[],
+        }
+    }
+
+    /// Gives an element the attributes that it doesn't have yet.
+    fn add_missing(&mut self, more: Vec<Attribute>) -> Result<(), AllocError>
+        ensures { OnOk result (kind_of self.new
+            ≡ spec.kind_with_missing (pairs_of more.items) (kind_of self.old)) }
+    {
+        match self {
+            NodeKind::Known { attributes, .. } => add_missing(attributes, more),
+            NodeKind::Other(element) => add_missing(&mut element.attributes, more),
+            _ => Ok(()),
+        }
+    }
+
     fn copy(&self, alloc: Global) -> Result<NodeKind, AllocError>
         ensures { IfOk result (λ copy. kind_of copy ≡ kind_of self.now) }
     {
@@ -119,11 +167,28 @@ impl NodeKind {
             NodeKind::Doctype => Ok(NodeKind::Doctype),
             NodeKind::Text(text) => Ok(NodeKind::Text(text.clone()?)),
             NodeKind::Comment(text) => Ok(NodeKind::Comment(text.clone()?)),
-            NodeKind::Element { name, attributes } => Ok(NodeKind::Element {
-                name: name.copy()?,
+            NodeKind::Known { name, attributes } => Ok(NodeKind::Known {
+                name: *name,
                 attributes: copy_all(alloc, attributes)?,
             }),
+            NodeKind::Other(element) => {
+                let copy = element.copy(alloc)?;
+                Ok(NodeKind::Other(Box::new(alloc, copy)?))
+            }
         }
+    }
+}
+
+impl OtherElement {
+    fn copy(&self, alloc: Global) -> Result<OtherElement, AllocError>
+        ensures name { IfOk result (λ copy. element_name_of copy.name ≡ element_name_of self.now.name) }
+        ensures attributes { IfOk result (λ copy. pairs_of copy.attributes.items
+            ≡ pairs_of self.now.attributes.items) }
+    {
+        Ok(OtherElement {
+            name: self.name.copy()?,
+            attributes: copy_all(alloc, &self.attributes)?,
+        })
     }
 }
 
@@ -392,13 +457,7 @@ impl Document {
     {
         if node < self.nodes.len() {
             let node = &mut self.nodes[node];
-            if let NodeKind::Element {
-                attributes: had,
-                ..
-            } = &mut node.kind
-            {
-                add_missing(had, attributes)?;
-            }
+            node.kind.add_missing(attributes)?;
         }
         Ok(())
     }

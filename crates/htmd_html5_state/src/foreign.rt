@@ -226,10 +226,10 @@ fn is_html_encoding(value: &str) -> bool
 fn has_html_encoding(kind: Option<&NodeKind>) -> bool
     ensures { result ≡ spec.has_html_encoding (attributes_of (kind_seen kind.entry)) }
 {
-    let Some(NodeKind::Element { attributes, .. }) = kind else {
+    let Some(kind) = kind else {
         return false;
     };
-    match value(attributes, "encoding") {
+    match value(kind.attributes(), "encoding") {
         Some(value) => is_html_encoding(value),
         None => false,
     }

@@ -4,13 +4,13 @@ ghost use Rattle.htmd_grammar.specs.CharacterClasses.{is_empty};
 ghost use Rattle.htmd_html5_state.specs.Adoption as adoption;
 ghost use Rattle.htmd_html5_state.specs.Documents.{same_element, kind_at};
 ghost use Rattle.htmd_html5_state.specs.Formatting as spec;
-ghost use Rattle.htmd_html5_state.specs.Views.{kind_seen};
+ghost use Rattle.htmd_html5_state.specs.Views.{have_same_name, kind_of, kind_seen};
 ghost use Rattle.htmd_html5_state.specs.OpenViews.{stack_of};
 ghost use Rattle.htmd_html5_state.specs.FormattingViews.{entries_of, IsNewest};
 
 use crate::attributes::are_same;
 use crate::document::{Document, NodeKind};
-use crate::names::TagName;
+use crate::names::{ElementName, HtmlName, TagName};
 use crate::open_elements::OpenElements;
 use std::alloc::{AllocError, Global};
 use std::marker::Model;
@@ -37,20 +37,32 @@ impl Model for FormattingList {
     ghost view = { λ l. entries_of l.entries.items };
 }
 
+/// Whether both are elements with the same name.
+fn have_same_name(this: &NodeKind, that: &NodeKind) -> bool
+    ensures { result ≡ have_same_name (kind_of this.now) (kind_of that.now) }
+{
+    match (this, that) {
+        (NodeKind::Known { name, .. }, NodeKind::Known { name: wanted, .. }) => name.is(*wanted),
+        (NodeKind::Known { name, .. }, NodeKind::Other(wanted)) => {
+            ElementName::Html(HtmlName::Known(*name)).is(&wanted.name)
+        }
+        (NodeKind::Other(element), NodeKind::Known { name: wanted, .. }) => {
+            element.name.is_html(&HtmlName::Known(*wanted))
+        }
+        (NodeKind::Other(element), NodeKind::Other(wanted)) => element.name.is(&wanted.name),
+        _ => false,
+    }
+}
+
 /// Whether both are elements with the same name and attributes.
+#[tactic(auto, using(crate::proofs::FormattingLemmas::same_parts, crate::proofs::FormattingLemmas::like_none))]
 fn are_alike(this: Option<&NodeKind>, that: Option<&NodeKind>) -> bool
     ensures { result ≡ same_element (kind_seen this.entry) (kind_seen that.entry) }
 {
     match (this, that) {
-        (
-            Some(NodeKind::Element { name, attributes }),
-            Some(
-                NodeKind::Element {
-                    name: wanted,
-                    attributes: others,
-                },
-            ),
-        ) => name.is(wanted) && are_same(attributes, others),
+        (Some(this), Some(that)) => {
+            have_same_name(this, that) && are_same(this.attributes(), that.attributes())
+        }
         _ => false,
     }
 }
@@ -60,7 +72,8 @@ fn is_element(kind: Option<&NodeKind>, tag: TagName) -> bool
     ensures { result ≡ adoption.kind_is tag (kind_seen kind.entry) }
 {
     match kind {
-        Some(NodeKind::Element { name, .. }) => name.is_tag(tag),
+        Some(NodeKind::Known { name, .. }) => name.is(tag),
+        Some(NodeKind::Other(element)) => element.name.is_tag(tag),
         _ => false,
     }
 }

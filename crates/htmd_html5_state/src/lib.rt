@@ -19,7 +19,7 @@ mod sets;
 mod state;
 
 pub use children::Children;
-pub use document::{Node, NodeKind};
+pub use document::{Node, NodeKind, OtherElement};
 pub use modes::InsertionMode;
 pub use names::{ElementName, HtmlName, Namespace, TagName};
 pub use sets::{NameSet, Scope};

@@ -1,10 +1,12 @@
 //! The names of elements.
-ghost use Rattle.std.specs.Prelude.{◌≡◌, ◌<◌, IfOk, find, string_bytes};
+ghost use Rattle.std.specs.Prelude.{◌≡◌, ◌<◌, IfOk, find};
+ghost use Rattle.std.specs.Cow.{cow_str_bytes};
 ghost use Rattle.htmd_html5_state.specs.Names as spec;
 ghost use Rattle.htmd_html5_state.specs.Names.{name_of, element_name_of};
 ghost use Rattle.htmd_html5_state.specs.TagNumbers.{number};
 
-use std::alloc::AllocError;
+use std::alloc::{AllocError, Global};
+use std::borrow::CowStr;
 
 /// A name of HTML that a rule of parsing mentions.
 #[derive(Debug, Clone, Copy, PartialEq, Eq)]
@@ -480,13 +482,13 @@ fn known(text: &str) -> Option<TagName>
 }
 
 impl HtmlName {
-    /// The name with this spelling, in lower case.
-    pub fn from_text(text: String) -> HtmlName
-        ensures { name_of result ≡ spec.name_of_text (string_bytes text) }
+    /// The name with this spelling, in lower case. `Err` means out of memory.
+    pub fn from_text(alloc: Global, text: CowStr<'_>) -> Result<HtmlName, AllocError>
+        ensures { IfOk result (λ name. name_of name ≡ spec.name_of_text (cow_str_bytes text.entry)) }
     {
         match known(text.as_str()) {
-            Some(name) => HtmlName::Known(name),
-            None => HtmlName::Other(text),
+            Some(name) => Ok(HtmlName::Known(name)),
+            None => Ok(HtmlName::Other(text.into_owned(alloc)?)),
         }
     }
 

@@ -21,7 +21,8 @@ begins_no_further (c ∷ cs) [] l m = refl
 begins_no_further (c ∷ cs) (b ∷ s) l m = absurd (omega arith)
 
 -- a text that begins with a name
-pub begins_front : (n s : List ℕ) → begins_with n s ≡ true → (length n ≤ length s) × (take (length n) s ≡ n)
+pub begins_front : (n s : List ℕ) → begins_with n s ≡ true
+    → (length n ≤ length s) × (take (length n) s ≡ n)
 begins_front [] s e = (omega arith, refl)
 begins_front (c ∷ n) [] e = absurd (cc)
 begins_front (c ∷ n) (b ∷ s) e =

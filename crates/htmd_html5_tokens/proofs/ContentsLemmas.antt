@@ -5,16 +5,16 @@ use Rattle.std.proofs.lemmas.Bool.{and_parts}
 use Rattle.std.proofs.lemmas.Bool.Decides.{nat_tests}
 use Rattle.std.proofs.lemmas.List.{drop_more}
 use Rattle.std.proofs.lemmas.Str.{IsCharBoundary-after_ascii}
-use Rattle.std.specs.Char.{encode_utf8}
+use Rattle.std.specs.Char.{encode_utf8, is_ascii_uppercase, to_ascii_lowercase}
 use Rattle.std.specs.List.{list_all}
-use Rattle.std.specs.Prelude.{◌==◌}
+use Rattle.std.specs.Prelude.{◌==◌, nat_lt}
 use Rattle.std.specs.Str.{IsUtf8, IsCharBoundary}
 use Rattle.htmd_text.proofs.Cases.{test}
 use Rattle.htmd_grammar.specs.CharacterClasses.{leading_run, behind_run, begins_with}
 use Rattle.htmd_tree.proofs.CharacterClassesLemmas.{take_leading_run, drop_leading_run}
 use Rattle.htmd_html5_tokens.specs.References.{Piece, after_ampersand, replacement_character}
-use Rattle.htmd_html5_tokens.specs.Contents.{has_references, is_text, is_value, piece_at, decoded}
-use Rattle.htmd_html5_tokens.specs.Plain.{is_plain, HasPushed}
+use Rattle.htmd_html5_tokens.specs.Contents.{has_references, is_text, is_value, name_of, piece_at, decoded}
+use Rattle.htmd_html5_tokens.specs.Plain.{is_plain, is_small, HasPushed}
 use Rattle.htmd_html5_tokens.specs.declared.contents.Reading.{Reading}
 use Rattle.htmd_html5_tokens.specs.declared.contents.Reading.TheVariants.{Text, EscapableRawText, RawText, AttributeValue}
 use Rattle.htmd_html5_tokens.proofs.RunCuts.{cut_before_ascii}
@@ -72,6 +72,20 @@ decoded_itself r [] e = refl
 decoded_itself r (b ∷ s) e =
     let both = and_parts (is_plain r b) (list_all (is_plain r) s) e in
     rw (plain_piece r b s both.0, decoded_itself r s both.1) refl
+
+-- a character that is no capital
+small_lower : (b : ℕ) → is_ascii_uppercase b ≡ false → to_ascii_lowercase b ≡ b
+small_lower b e =
+    test (nat_lt b 65) (λ low. rw low refl)
+    (λ low. test (nat_lt b 91) (λ high. absurd (grind (arith, nat_tests))) (λ high. rw (low, high) refl))
+
+-- a name without capitals and U+0000
+pub name_itself : (s : List ℕ) → list_all is_small s ≡ true → name_of s ≡ s
+name_itself [] e = refl
+name_itself (b ∷ s) e =
+    let both = and_parts (is_small b) (list_all is_small s) e in
+    let small = and_parts (not (b == 0)) (not (is_ascii_uppercase b)) both.0 in
+    rw (plain_piece RawText b s small.0, small_lower b (no (is_ascii_uppercase b) small.1), name_itself s both.1) refl
 
 pub plain_pushed : (r : Reading) (before s after front rest : List ℕ) (len : ℕ)
     → len ≡ length (leading_run (is_plain r) s) → front ≡ take len s → rest ≡ drop len s

@@ -53,7 +53,8 @@ euro = 0xE2 ∷ 0x82 ∷ 0xAC ∷ []
 
 -- ---- what is read
 
-preprocessed-line_ends : preprocessed (0xEF ∷ 0xBB ∷ 0xBF ∷ 97 ∷ 13 ∷ 10 ∷ 13 ∷ 98 ∷ []) ≡ 97 ∷ 10 ∷ 10 ∷ 98 ∷ []
+preprocessed-line_ends : preprocessed (0xEF ∷ 0xBB ∷ 0xBF ∷ 97 ∷ 13 ∷ 10 ∷ 13 ∷ 98 ∷ [])
+    ≡ 97 ∷ 10 ∷ 10 ∷ 98 ∷ []
 preprocessed-line_ends = refl
 
 -- ---- tags
@@ -65,7 +66,8 @@ next_token-start_tag : next_token Normal false (codes "<A Href=x>y") ≡ record 
 next_token-start_tag = refl
 
 token-attributes : token (codes "<a b='1' =c d=e/ f>") ≡ start_tag (tag (codes "a")
-    (pair (codes "b") (codes "1") ∷ pair (codes "=c") [] ∷ pair (codes "d") (codes "e/") ∷ pair (codes "f") [] ∷ []))
+    (pair (codes "b") (codes "1") ∷ pair (codes "=c") [] ∷ pair (codes "d") (codes "e/") ∷ pair (codes "f") []
+    ∷ []))
 token-attributes = refl
 
 -- the first of attributes with one name counts

@@ -102,7 +102,8 @@ marks_more xs i x d marks is_new seen set new key l e k n u h w =
 -- ---- those that are marked
 
 -- without marks there are none
-pub no_marks : (xs : List AttributePair) (marks : List Bool) → None ≡ split_mark marks → those_marked xs marks ≡ []
+pub no_marks : (xs : List AttributePair) (marks : List Bool) → None ≡ split_mark marks
+    → those_marked xs marks ≡ []
 no_marks [] marks l = refl
 no_marks (a ∷ xs) [] l = refl
 no_marks (a ∷ xs) (mark ∷ marks) l = absurd (cc)

@@ -35,7 +35,8 @@ numbered_windows n e =
     let off : is_no_character n ≡ false = grind (arith, nat_tests) in
     rw (off, e) refl
 
-pub numbered_scalar : (n v : ℕ) → (n ≡ 0 → ⊥) → is_between 0x80 0x9F n ≡ false → InScalarRange n → v ≡ n
+pub numbered_scalar : (n v : ℕ) → (n ≡ 0 → ⊥) → is_between 0x80 0x9F n ≡ false → InScalarRange n
+    → v ≡ n
     → v ≡ character_numbered n
 unfolding character_numbered
 numbered_scalar n v z e i s =
@@ -117,7 +118,8 @@ front_of p s from len e =
     let q : from + len - from ≡ length (leading_run p (drop from s)) = omega arith in
     ap (λ n. take n (drop from s)) q ∙ take_leading_run p (drop from s)
 
-module _ (p : ℕ → Bool) (base from len : ℕ) (s : List ℕ) (run : len ≡ length (leading_run p (drop from s))) where
+module _ (p : ℕ → Bool) (base from len : ℕ) (s : List ℕ)
+    (run : len ≡ length (leading_run p (drop from s))) where
   pub number_piece : (n v more : ℕ) → (len ≡ 0 → ⊥)
       → more ≡ semicolon_len (take (length s - (from + len)) (drop (from + len) s))
       → n ≡ min (number base 0 (take (from + len - from) (drop from s))) limit
@@ -181,7 +183,8 @@ old_front s r e u =
 module _ (in_value : Bool) (s : List ℕ) (n : ℕ) (run : n ≡ length (leading_run is_ascii_alphanumeric s)) where
   tail_here : take (length s - n) (drop n s) ≡ behind_run is_ascii_alphanumeric s
   tail_here =
-      between_to_end s n (length s) (omega arith) ∙ ap (λ k. drop k s) run ∙ drop_leading_run is_ascii_alphanumeric s
+      between_to_end s n (length s) (omega arith) ∙ ap (λ k. drop k s) run
+      ∙ drop_leading_run is_ascii_alphanumeric s
 
   front_here : leading_run is_ascii_alphanumeric s ≡ take n s
   front_here = sym (ap (λ k. take k s) run ∙ take_leading_run is_ascii_alphanumeric s)
@@ -201,7 +204,8 @@ module _ (in_value : Bool) (s : List ℕ) (n : ℕ) (run : n ≡ length (leading
       let missing : named (leading_run is_ascii_alphanumeric s) ≡ None = ap named front_here ∙ sym none_ in
       rw (semicolon_here b e ∙ f, missing) same
 
-  pub name_known : (b : Bool) (characters : List ℕ) → b ≡ first_is 59 (take (length s - n) (drop n s)) → b ≡ true
+  pub name_known : (b : Bool) (characters : List ℕ) → b ≡ first_is 59 (take (length s - n) (drop n s))
+      → b ≡ true
       → Some characters ≡ named (take n s)
       → ◌≡◌ {A = Piece} (record { following = n + 1; characters = characters }) (reference_by_name in_value s)
   name_known b characters e f some_ =
@@ -209,7 +213,8 @@ module _ (in_value : Bool) (s : List ℕ) (n : ℕ) (run : n ≡ length (leading
       let k : suc (length (leading_run is_ascii_alphanumeric s)) ≡ n + 1 = omega (arith, run) in
       rw (semicolon_here b e ∙ f, known, k) refl
 
-  pub name_cut : (b : Bool) → b ≡ first_is 59 (take (length s - n) (drop n s)) → b ≡ true → IsUtf8 s → n ≤ length s
+  pub name_cut : (b : Bool) → b ≡ first_is 59 (take (length s - n) (drop n s)) → b ≡ true → IsUtf8 s
+      → n ≤ length s
       → IsCharBoundary s (n + 1)
   name_cut b e f u l =
       cut_after_first s n 59 u (omega arith)

@@ -11,7 +11,8 @@ use Rattle.htmd_html5_tokens.proofs.BeginningsLemmas.{begins_front}
 module _ (foreign : Bool) where
   section_within : (s rest : List ℕ) → Some rest ≡ after_empty_section s → length rest ≤ length s
   section_within s rest e =
-      test (is_empty s) (λ q. let f : Some rest ≡ Some s = rw q at e in let g : rest ≡ s = cc in rw g (omega arith))
+      test (is_empty s) (λ q. let f : Some rest ≡ Some s = rw q at e in
+      let g : rest ≡ s = cc in rw g (omega arith))
       (λ q. let f = rw q at e in test (begins_with (codes "]]>") s)
       (λ r. let g : Some rest ≡ Some (drop 3 s) = rw r at f in
       let h : rest ≡ drop 3 s = cc in rw h (omega (arith, length-drop 3 s)))

@@ -1,5 +1,6 @@
 -- How characters are appended to others.
 use Rattle.std.specs.Prelude.{◌≡◌, ℕ, Bool, not, ◌&&◌, ◌==◌, List, ◌++◌}
+use Rattle.std.specs.Char.{is_ascii_uppercase}
 use Rattle.htmd_text.specs.Characters.{null, ampersand, less_than_sign}
 use Rattle.htmd_html5_tokens.specs.Contents.{decoded}
 use Rattle.htmd_html5_tokens.specs.declared.contents.Reading.{Reading}
@@ -16,6 +17,10 @@ is_plain Text b = not (b == ampersand) && not (b == less_than_sign)
 is_plain EscapableRawText b = not (b == ampersand) && not (b == null)
 is_plain RawText b = not (b == null)
 is_plain AttributeValue b = not (b == ampersand) && not (b == null)
+
+-- a character of a name that stands for itself
+abbrev pub is_small : ℕ → Bool
+is_small b = not (b == null) && not (is_ascii_uppercase b)
 
 -- what is between two places of a text was appended
 abbrev pub HasPushed : Reading → List ℕ → List ℕ → List ℕ → List ℕ → Type 0

@@ -1,5 +1,6 @@
 -- The tokens of a page (HTML Standard, 13.2.5), and what the program's values denote.
 use Rattle.std.specs.Prelude.{ℕ, Bool, List, string_bytes}
+use Rattle.std.specs.Cow.{cow_str_bytes}
 use Rattle.htmd_grammar.specs.ValueTrees.{AttributePair}
 use Rattle.htmd_tree.specs.Views.{pairs_of}
 use Rattle.htmd_html5_tokens.specs.declared.tokens.Tag.{Tag}
@@ -34,7 +35,7 @@ pub record Read : Type 0 where
 
 abbrev pub tag_of : Tag → TagValue
 tag_of tag = record {
-  name = string_bytes tag.name;
+  name = cow_str_bytes tag.name;
   attributes = pairs_of tag.attributes.items;
   self_closing = tag.self_closing;
 }

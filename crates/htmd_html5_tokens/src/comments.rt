@@ -10,7 +10,7 @@ use crate::tokens::Token;
 use std::alloc::{AllocError, Global};
 
 /// A comment that holds this.
-fn comment<'a>(alloc: Global, held: &str, rest: &'a str) -> Result<(Token, &'a str), AllocError>
+fn comment<'a>(alloc: Global, held: &str, rest: &'a str) -> Result<(Token<'a>, &'a str), AllocError>
     ensures { IfOk result (λ r. read_of r ≡ spec.comment_token held.now rest.now) }
 {
     let text = decoded(alloc, held, Reading::RawText)?;
@@ -62,7 +62,7 @@ fn after_comment_end(text: &str) -> &str
 }
 
 /// A comment from just after its `<!--`, and what follows it.
-pub(crate) fn read_comment(alloc: Global, text: &str) -> Result<(Token, &str), AllocError>
+pub(crate) fn read_comment(alloc: Global, text: &str) -> Result<(Token<'_>, &str), AllocError>
     ensures { IfOk result (λ r. read_of r ≡ spec.read_comment text.now) }
 {
     if let Some(rest) = strip(text, ">") {
@@ -88,7 +88,7 @@ pub(crate) fn split_at_sign(text: &str) -> (&str, &str)
 }
 
 /// Markup of no other kind, which is a comment, and what follows it.
-pub(crate) fn read_bogus_comment(alloc: Global, text: &str) -> Result<(Token, &str), AllocError>
+pub(crate) fn read_bogus_comment(alloc: Global, text: &str) -> Result<(Token<'_>, &str), AllocError>
     ensures { IfOk result (λ r. read_of r ≡ spec.read_bogus_comment text.now) }
 {
     let (held, rest) = split_at_sign(text);

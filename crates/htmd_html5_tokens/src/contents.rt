@@ -1,5 +1,6 @@
 //! What characters stand for: texts, raw texts, values and names.
 ghost use Rattle.std.specs.Prelude.{◌≡◌, ◌<◌, ◌≤◌, ◌++◌, false, length, slice_index, string_bytes, IfOk, OnOk, ◌∷◌, true};
+ghost use Rattle.std.specs.Cow.{cow_str_bytes};
 ghost use Rattle.std.specs.List.{list_all};
 ghost use Rattle.std.specs.Str.{IsUtf8};
 ghost use Rattle.htmd_grammar.specs.CharacterClasses.{leading_run};
@@ -7,11 +8,12 @@ ghost use Rattle.htmd_html5_tokens.specs.Contents as spec;
 ghost use Rattle.htmd_html5_tokens.specs.ReferenceViews.{characters_of};
 ghost use Rattle.htmd_html5_tokens.specs.declared.contents.Reading.TheVariants.{Text};
 ghost use Rattle.htmd_text.specs.Characters.{ampersand, less_than_sign};
-ghost use Rattle.htmd_html5_tokens.specs.Plain.{is_plain, HasPushed};
+ghost use Rattle.htmd_html5_tokens.specs.Plain.{is_plain, is_small, HasPushed};
 
 use crate::references::{Characters, read_reference};
 use crate::scan::begins_with;
 use std::alloc::{AllocError, Global};
+use std::borrow::CowStr;
 
 /// How characters are read.
 #[derive(Clone, Copy)]
@@ -191,6 +193,18 @@ pub(crate) fn decoded(alloc: Global, text: &str, reading: Reading) -> Result<Str
     decoded_pieces(alloc, text, reading)
 }
 
+/// Whether a name stands for itself: no character is an ASCII capital or U+0000. All bytes are looked at, so that a
+/// processor can compare many at once.
+fn stands_for_itself(bytes: &[u8]) -> bool
+    ensures { result ≡ list_all is_small bytes.now }
+{
+    let mut are_small = true;
+    for byte in bytes {
+        are_small &= *byte != 0 && !byte.is_ascii_uppercase();
+    }
+    are_small
+}
+
 /// The name of this spelling: in lower case, with U+FFFD for U+0000.
 pub(crate) fn name_of(alloc: Global, text: &str) -> Result<String, AllocError>
     ensures { IfOk result (λ t. string_bytes t ≡ spec.name_of text.now) }
@@ -198,4 +212,15 @@ pub(crate) fn name_of(alloc: Global, text: &str) -> Result<String, AllocError>
     let mut name = decoded(alloc, text, Reading::RawText)?;
     name.make_ascii_lowercase();
     Ok(name)
+}
+
+/// The name of a tag with this spelling. It is borrowed if it is spelled so.
+#[tactic(auto, using(crate::proofs::ContentsLemmas::name_itself))]
+pub(crate) fn tag_name_of(alloc: Global, text: &str) -> Result<CowStr<'_>, AllocError>
+    ensures { IfOk result (λ t. cow_str_bytes t ≡ spec.name_of text.now) }
+{
+    if stands_for_itself(text.as_bytes()) {
+        return Ok(CowStr::Borrowed(text));
+    }
+    Ok(CowStr::Owned(name_of(alloc, text)?))
 }

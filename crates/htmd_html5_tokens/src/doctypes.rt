@@ -244,7 +244,7 @@ fn means_quirks(text: &str) -> bool
 }
 
 /// A doctype from just after its `<!DOCTYPE`, and what follows it.
-pub(crate) fn read_doctype(text: &str) -> (Token, &str)
+pub(crate) fn read_doctype(text: &str) -> (Token<'_>, &str)
     ensures { read_of result ≡ spec.read_doctype text.now }
 {
     let (held, rest) = split_at_sign(text);

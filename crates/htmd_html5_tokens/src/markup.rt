@@ -52,7 +52,7 @@ fn split_text(text: &str) -> (&str, &str)
 }
 
 /// The text before markup, and the markup.
-pub(crate) fn read_text(alloc: Global, text: &str) -> Result<(Token, &str), AllocError>
+pub(crate) fn read_text(alloc: Global, text: &str) -> Result<(Token<'_>, &str), AllocError>
     ensures { IfOk result (λ r. read_of r ≡ spec.read_text text.now) }
 {
     let (held, rest) = split_text(text);
@@ -61,7 +61,7 @@ pub(crate) fn read_text(alloc: Global, text: &str) -> Result<(Token, &str), Allo
 }
 
 /// A comment, a doctype or what is read as a comment, from just after its `<!`, and what follows it.
-fn read_declaration(alloc: Global, text: &str) -> Result<(Token, &str), AllocError>
+fn read_declaration(alloc: Global, text: &str) -> Result<(Token<'_>, &str), AllocError>
     ensures { IfOk result (λ r. read_of r ≡ spec.read_declaration text.now) }
 {
     if let Some(after) = strip(text, "--") {
@@ -81,7 +81,7 @@ fn begins_letter(bytes: &[u8]) -> bool
 }
 
 /// Markup from just after its `<`, and what follows it.
-pub(crate) fn read_markup(alloc: Global, text: &str) -> Result<(Token, &str), AllocError>
+pub(crate) fn read_markup(alloc: Global, text: &str) -> Result<(Token<'_>, &str), AllocError>
     ensures { IfOk result (λ r. read_of r ≡ spec.read_markup text.now) }
 {
     if let Some(declaration) = strip_byte(text, b'!') {

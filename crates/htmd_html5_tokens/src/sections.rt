@@ -46,7 +46,7 @@ fn after_section_end(text: &str) -> &str
 }
 
 /// A section from just after its `<![CDATA[`, and what follows it.
-pub(crate) fn read_section(alloc: Global, text: &str) -> Result<(Token, &str), AllocError>
+pub(crate) fn read_section(alloc: Global, text: &str) -> Result<(Token<'_>, &str), AllocError>
     ensures { IfOk result (λ r. read_of r ≡ spec.read_section text.now) }
 {
     let (held, end) = split_section(text);

@@ -8,7 +8,7 @@ ghost use Rattle.htmd_html5_tokens.specs.Tokens.{tag_of, start_tag, end_tag};
 ghost use Rattle.htmd_html5_tokens.specs.Readings.{read_of};
 
 use crate::attributes::{SpelledAttribute, TagForm, tag_form};
-use crate::contents::{Reading, decoded, name_of};
+use crate::contents::{Reading, decoded, name_of, tag_name_of};
 use crate::distinct::{are_distinct, first_marks};
 use crate::runs::{Class, split_run, strip_byte};
 use crate::tokens::{Tag, Token};
@@ -101,11 +101,11 @@ fn attributes_of(
 }
 
 /// A tag with this name and form.
-fn make_tag(alloc: Global, name: &str, form: &TagForm<'_>) -> Result<Tag, AllocError>
+fn make_tag<'a>(alloc: Global, name: &'a str, form: &TagForm<'_>) -> Result<Tag<'a>, AllocError>
     ensures { IfOk result (λ t. tag_of t
         ≡ spec.tag_value name.now (all_spelled_of form.now.attributes.items) form.now.slash) }
 {
-    let name = name_of(alloc, name)?;
+    let name = tag_name_of(alloc, name)?;
     let attributes = attributes_of(alloc, form.attributes.as_slice())?;
     Ok(Tag {
         name,
@@ -115,7 +115,7 @@ fn make_tag(alloc: Global, name: &str, form: &TagForm<'_>) -> Result<Tag, AllocE
 }
 
 /// A tag from its name on, and what follows it; if the text ends within the tag, the end of the file.
-fn tag_from_name(alloc: Global, text: &str, ends: bool) -> Result<(Token, &str), AllocError>
+fn tag_from_name(alloc: Global, text: &str, ends: bool) -> Result<(Token<'_>, &str), AllocError>
     ensures { IfOk result (λ r. read_of r ≡ spec.tag_from_name (if ends then end_tag else start_tag) text.now) }
 {
     let (name, after) = split_run(text, Class::Name);
@@ -131,7 +131,7 @@ fn tag_from_name(alloc: Global, text: &str, ends: bool) -> Result<(Token, &str),
 }
 
 /// A tag from just after its `<`, and what follows it.
-pub(crate) fn read_tag(alloc: Global, text: &str) -> Result<(Token, &str), AllocError>
+pub(crate) fn read_tag(alloc: Global, text: &str) -> Result<(Token<'_>, &str), AllocError>
     ensures { IfOk result (λ r. read_of r ≡ spec.read_tag text.now) }
 {
     match strip_byte(text, b'/') {

@@ -27,7 +27,7 @@ fn strip_section(text: &str, foreign: bool) -> Option<&str>
 }
 
 /// The token at the beginning of a text, which begins with no empty piece, and what follows it.
-fn read_piece(alloc: Global, text: &str, foreign: bool) -> Result<(Token, &str), AllocError>
+fn read_piece(alloc: Global, text: &str, foreign: bool) -> Result<(Token<'_>, &str), AllocError>
     ensures { IfOk result (λ r. read_of r ≡ spec.read_piece foreign text.now) }
 {
     if text.is_empty() {
@@ -51,7 +51,7 @@ fn split_raw(text: &str, element: RawElement) -> (&str, &str)
 }
 
 /// The text of such an element, or its end tag, and what follows it.
-fn read_raw(alloc: Global, text: &str, element: RawElement) -> Result<(Token, &str), AllocError>
+fn read_raw(alloc: Global, text: &str, element: RawElement) -> Result<(Token<'_>, &str), AllocError>
     ensures { IfOk result (λ r. read_of r ≡ spec.read_raw element text.now) }
 {
     let (held, rest) = split_raw(text, element);
@@ -71,7 +71,7 @@ fn next_token(
     text: &str,
     content: Content,
     foreign: bool,
-) -> Result<(Token, &str), AllocError>
+) -> Result<(Token<'_>, &str), AllocError>
     ensures { IfOk result (λ r. read_of r ≡ spec.next_token content foreign text.now) }
 {
     match content {
@@ -115,7 +115,7 @@ impl<'a> Tokenizer<'a> {
         alloc: Global,
         content: Content,
         foreign: bool,
-    ) -> Result<Token, AllocError>
+    ) -> Result<Token<'a>, AllocError>
         ensures token { IfOk result (λ t. value_of t ≡ (spec.next_token content foreign self.old).token) }
         ensures rest { OnOk result (self.new ≡ (spec.next_token content foreign self.old).rest) }
         ensures err { OnErr result (self.new ≡ self.old) }

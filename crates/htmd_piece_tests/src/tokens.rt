@@ -29,7 +29,7 @@ fn has_pairs(attributes: &[Attribute], pairs: &[(&'static str, &'static str)]) -
     true
 }
 
-fn is_wanted(token: &Token, want: Want) -> bool {
+fn is_wanted(token: &Token<'_>, want: Want) -> bool {
     match (token, want) {
         (Token::StartTag(tag), Want::Start(name, pairs, self_closing)) => {
             tag.name.as_str() == name
@@ -46,7 +46,7 @@ fn is_wanted(token: &Token, want: Want) -> bool {
 }
 
 /// The next token, at a second try if need be.
-fn next(tokenizer: &mut Tokenizer<'_>, alloc: Global) -> Result<Token, AllocError> {
+fn next<'a>(tokenizer: &mut Tokenizer<'a>, alloc: Global) -> Result<Token<'a>, AllocError> {
     match tokenizer.next(alloc, Content::Normal, false) {
         Ok(token) => Ok(token),
         Err(_) => tokenizer.next(alloc, Content::Normal, false),

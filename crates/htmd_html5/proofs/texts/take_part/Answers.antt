@@ -11,7 +11,8 @@ returns-then-takes_all-clause-value c =
     let text = c.args.text.now in
     let all : takes_all c.loop-turn.state ≡ true = cc in
     ap (λ (x : StateValue). taken x []) c.in_ok-table_text.ensures
-    ∙ takes_text text c.args.state.now c.loop-turn.state c.loop-turn._turn c.turns-turn-end.result c.loop-turn.invariant
+    ∙ takes_text text c.args.state.now c.loop-turn.state c.loop-turn._turn c.turns-turn-end.result
+    c.loop-turn.invariant
     (omega arith) all
     ∙ ap (λ n. take_within n text c.args.state.now) c.turns-turn-end.ensures
 

@@ -6,7 +6,8 @@ use Rattle.htmd_html5_state.proofs.formatting_list.oldest.Given as goal
 
 abbrev pub invariant-loop-older : goal.invariant-loop-older
 invariant-loop-older l =
-    (met : List ℕ) × (l.count ≡ length met) × (l.count + length l.rest ≤ length l.entries) × (l.oldest ≡ last_of met)
+    (met : List ℕ) × (l.count ≡ length met) × (l.count + length l.rest ≤ length l.entries)
+    × (l.oldest ≡ last_of met)
     × (met ++ since_marker (entries_of l.rest) ≡ since_marker (entries_of l.entries))
 
 abbrev pub decreases-loop-older : goal.decreases-loop-older

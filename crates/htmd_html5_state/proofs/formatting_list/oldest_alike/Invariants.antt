@@ -7,7 +7,8 @@ use Rattle.htmd_html5_state.proofs.formatting_list.oldest_alike.Given as goal
 
 abbrev pub invariant-loop-older : goal.invariant-loop-older
 invariant-loop-older l =
-    (met : List ℕ) × (l.count ≡ length met) × (l.count + length l.rest ≤ length l.entries) × (l.oldest ≡ last_of met)
+    (met : List ℕ) × (l.count ≡ length met) × (l.count + length l.rest ≤ length l.entries)
+    × (l.oldest ≡ last_of met)
     × (met ++ filter (is_alike l.document (kind_seen l.kind)) (since_marker (entries_of l.rest))
     ≡ filter (is_alike l.document (kind_seen l.kind)) (since_marker (entries_of l.entries)))
 

@@ -9,5 +9,6 @@ returns-then-node-len c =
     let ns = c.self.inside.nodes.items in
     let len : c.len.result ≡ length ns = c.len.ensures ∙ search rules in
     let old = c.index_mut-node.result.now in
-    written ns c.args.self.now c.args.node old _ (λ (x : NodeValue). record x { parent = c.args.parent }) c.self.view_is
+    written ns c.args.self.now c.args.node old _
+    (λ (x : NodeValue). record x { parent = c.args.parent }) c.self.view_is
     (omega arith) c.index_mut-node.ensures.value refl

@@ -16,7 +16,8 @@ returns c =
     let u : TagName = c.args.other in
     c.eq.ensures
     ∙ test (sameb the_type t u)
-    (λ e. e ∙ sym (ap (λ (x : TagName). same_tag t x) (sym (same_true the_type tt t u e)) ∙ bytes_same (spelling t)))
+    (λ e. e
+    ∙ sym (ap (λ (x : TagName). same_tag t x) (sym (same_true the_type tt t u e)) ∙ bytes_same (spelling t)))
     (λ e. e ∙ sym (test (same_tag t u)
     (λ f. absurd (same_false the_type t u e (same_spelling t u (same_bytes (spelling t) (spelling u) f))))
     (λ f. f)))

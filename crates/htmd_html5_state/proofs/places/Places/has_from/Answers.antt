@@ -19,6 +19,7 @@ returns-in-Only c = λ stack at.
 pub returns-in_default : goal.returns-in_default
 returns-in_default c = λ stack at.
     c.one_is_from.ensures
-    ∙ (ap (λ (ts : List TagName). list_any (λ t. is_from c.args.bound (name_place c.args.self.now.names (known t))) ts)
+    ∙ (ap
+    (λ (ts : List TagName). list_any (λ t. is_from c.args.bound (name_place c.args.self.now.names (known t))) ts)
     c.members.ensures
     ∙ several-from c.args.self.now stack at c.args.bound c.args.set (several c.args.set c.in_default.not-Only))
