@@ -1,7 +1,7 @@
 //! Any page as browsers read it, by the program: in each encoding, and in rows. Pages whose answer is a text are the
 //! family `html5` of `htmd_cases`.
-use crate::calls::{called, called_within, expect_outcome};
-use crate::expected::{expect_number, expect_text, expect_that};
+use crate::calls::{called_within, expect_answer, expect_called, expect_within};
+use crate::expected::{expect_text, expect_that};
 use std::test::Fail;
 
 const PAGE: &str = "<ul><li>a<li>b</ul><p>x<b>y<p>z";
@@ -23,9 +23,7 @@ fn reads_each_encoding(rt: HostRuntime) -> Result<(), Fail> {
         (b"\xFF", "\u{FF}\n"),
     ];
     for &(page, markdown) in ROWS {
-        let answer = called(rt.alloc(), &["--html5"], page)?;
-        expect_outcome(&answer, 0, markdown, "")?;
-        expect_number(markdown, answer.unread, 0)?;
+        expect_answer(rt.alloc(), &["--html5"], page, (0, markdown, ""), 0)?;
     }
     Ok(())
 }
@@ -36,8 +34,7 @@ fn reads_utf8_alone_otherwise(rt: HostRuntime) -> Result<(), Fail> {
     const ROWS: &[&[&str]] = &[&[], &["--body"], &["--html5", "--text"], &["--text"]];
     for &options in ROWS {
         for page in [b"a\xE9".as_slice(), b"\xFE\xFF\0a"] {
-            let answer = called(rt.alloc(), options, page)?;
-            expect_outcome(&answer, 1, "", "htmd: not UTF-8\n")?;
+            expect_called(rt.alloc(), options, page, (1, "", "htmd: not UTF-8\n"))?;
         }
     }
     Ok(())
@@ -50,23 +47,27 @@ fn answers_rows(rt: HostRuntime) -> Result<(), Fail> {
         b"1\t<p>a<p>b\n2\t<p><div>\n\\N\n4\t\\377\\376\\x61\\0\n5\t\xE9\n6\t<b>c\\n<i>d\\0\n";
     let wanted = "1\ta\\n\\nb\n2\t\n\\N\n4\ta\n5\t\u{E9}\n6\t**c *d***\n";
     for options in [["--html5", "--rows"], ["--rows", "--html5"]] {
-        let answer = called(rt.alloc(), options.as_slice(), rows)?;
-        expect_outcome(&answer, 0, wanted, "")?;
+        expect_called(rt.alloc(), options.as_slice(), rows, (0, wanted, ""))?;
     }
     Ok(())
+}
+
+// Fails unless the page is answered if all its reads are made, and else nothing is.
+fn expect_read(alloc: Global, reads: usize) -> Result<(), Fail> {
+    let answer = called_within(alloc, &["--html5"], PAGE.as_bytes(), reads, 100)?;
+    let fails = reads < 32;
+    let said = if fails { "htmd: read failed\n" } else { "" };
+    expect_text("stderr", answer.stderr.as_str(), said)?;
+    expect_that("status", answer.status == u8::from(fails))?;
+    expect_that("stdout", answer.stdout.is_empty() == fails)?;
+    expect_that("source", answer.has_failed == fails)
 }
 
 // A page of 31 bytes is read in 32 reads, the last one at its end. Each of them fails in turn.
 #[test]
 fn answers_each_failed_read(rt: HostRuntime) -> Result<(), Fail> {
     for reads in 0..34 {
-        let answer = called_within(rt.alloc(), &["--html5"], PAGE.as_bytes(), reads, 100)?;
-        let fails = reads < 32;
-        let said = if fails { "htmd: read failed\n" } else { "" };
-        expect_text("stderr", answer.stderr.as_str(), said)?;
-        expect_that(said, answer.status == u8::from(fails))?;
-        expect_that(said, answer.stdout.is_empty() == fails)?;
-        expect_that(said, answer.has_failed == fails)?;
+        expect_read(rt.alloc(), reads)?;
     }
     Ok(())
 }
@@ -85,10 +86,9 @@ fn answers_each_failed_write(rt: HostRuntime) -> Result<(), Fail> {
     ];
     for (options, markdown, said) in table {
         for writes in 0..=markdown.len() {
-            let answer = called_within(rt.alloc(), options, b"<p>a<p>b", 100, writes)?;
             let written = markdown.get(..writes).unwrap_or(markdown);
-            expect_outcome(&answer, 1, written, said)?;
-            expect_that(said, answer.has_failed)?;
+            let wants = (1, written, said);
+            expect_within(rt.alloc(), options, b"<p>a<p>b", 100, writes, wants)?;
         }
     }
     Ok(())

@@ -1,5 +1,5 @@
 //! Runs on the rows of a batch.
-use crate::calls::{called, called_within, expect_outcome, strings};
+use crate::calls::{expect_answer, expect_called, expect_within, strings};
 use crate::doubles::{Dripping, Narrow};
 use crate::expected::{expect_number, expect_text, expect_that};
 use htmd_cli::{Input, command, read_field, write_field};
@@ -142,8 +142,7 @@ fn rows_options(alloc: Global, lines: &str) -> Result<Vec<&str>, AllocError> {
 // Fails unless rows are answered so, whether each read gives one byte or one gives all.
 fn expect_rows(alloc: Global, lines: &str, stdin: &[u8], wants: (&str, &str)) -> Result<(), Fail> {
     let options = rows_options(alloc, lines)?;
-    let answer = called(alloc, options.as_slice(), stdin)?;
-    expect_outcome(&answer, 0, wants.0, wants.1)?;
+    expect_called(alloc, options.as_slice(), stdin, (0, wants.0, wants.1))?;
     let at_once = answered_at_once(alloc, options.as_slice(), stdin)?;
     expect_text(wants.1, at_once.as_str(), wants.0)
 }
@@ -170,9 +169,7 @@ fn answered_at_once(alloc: Global, options: &[&str], stdin: &[u8]) -> Result<Str
 // What follows the end of the data is not read, except for what the last read gave.
 #[test]
 fn ends_where_the_data_ends(rt: HostRuntime) -> Result<(), Fail> {
-    let outcome = called(rt.alloc(), &["--rows"], b"a\n\\.\nbc\n")?;
-    expect_text("stdout", outcome.stdout.as_str(), "a\n")?;
-    expect_number("unread", outcome.unread, 3)
+    expect_answer(rt.alloc(), &["--rows"], b"a\n\\.\nbc\n", (0, "a\n", ""), 3)
 }
 
 // A row of fields that aren't UTF-8 before this one.
@@ -204,13 +201,19 @@ fn answers_many_fields(rt: HostRuntime) -> Result<(), Fail> {
     expect_bytes(sink.bytes(), wanted.as_slice())
 }
 
-#[test]
-fn answers_a_long_row(rt: HostRuntime) -> Result<(), Fail> {
-    let mut row = Vec::new(rt.alloc());
+// A row of thirty thousand paragraphs, and another.
+fn long_row(alloc: Global) -> Result<Vec<u8>, AllocError> {
+    let mut row = Vec::new(alloc);
     for _ in 0..30_000 {
         row.extend_from_slice(b"<p>a\\\\b</p>\\n")?;
     }
     row.extend_from_slice(b"\n1\tc")?;
+    Ok(row)
+}
+
+#[test]
+fn answers_a_long_row(rt: HostRuntime) -> Result<(), Fail> {
+    let row = long_row(rt.alloc())?;
     let written = answered_at_once(rt.alloc(), &["--rows"], row.as_slice())?;
     expect_number("bytes", written.len(), 30_000 * 10 - 4 + 5)
 }
@@ -228,9 +231,8 @@ fn answers_failed_reads(rt: HostRuntime) -> Result<(), Fail> {
         (6, 0, "a\nb\nc\n", ""),
     ];
     for &(reads, status, stdout, stderr) in ROWS {
-        let answer = called_within(rt.alloc(), &["--rows"], b"a\nb\nc", reads, 100)?;
-        expect_outcome(&answer, status, stdout, stderr)?;
-        expect_that(stderr, answer.has_failed == (status == 1))?;
+        let wants = (status, stdout, stderr);
+        expect_within(rt.alloc(), &["--rows"], b"a\nb\nc", reads, 100, wants)?;
     }
     Ok(())
 }
@@ -251,9 +253,8 @@ fn answers_failed_writes(rt: HostRuntime) -> Result<(), Fail> {
         (9, 0, "a\nb\nc\n", ""),
     ];
     for &(writes, status, stdout, stderr) in ROWS {
-        let answer = called_within(rt.alloc(), &["--rows"], b"a\nb\nc", 100, writes)?;
-        expect_outcome(&answer, status, stdout, stderr)?;
-        expect_that(stderr, answer.has_failed == (status == 1))?;
+        let wants = (status, stdout, stderr);
+        expect_within(rt.alloc(), &["--rows"], b"a\nb\nc", 100, writes, wants)?;
     }
     Ok(())
 }

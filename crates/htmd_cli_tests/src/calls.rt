@@ -56,13 +56,46 @@ pub fn called(alloc: Global, options: &[&str], stdin: &[u8]) -> Result<Outcome, 
 }
 
 /// Fails unless a call leaves this.
-pub fn expect_outcome(
-    outcome: &Outcome,
-    status: u8,
-    stdout: &str,
-    stderr: &str,
+fn expect_outcome(outcome: &Outcome, wants: (u8, &str, &str)) -> Result<(), Fail> {
+    expect_text("stdout", outcome.stdout.as_str(), wants.1)?;
+    expect_text("stderr", outcome.stderr.as_str(), wants.2)?;
+    expect_that(wants.2, outcome.status == wants.0)
+}
+
+/// Fails unless a call has this status, and writes this on its two sinks.
+pub fn expect_called(
+    alloc: Global,
+    options: &[&str],
+    stdin: &[u8],
+    wants: (u8, &str, &str),
 ) -> Result<(), Fail> {
-    expect_text("stdout", outcome.stdout.as_str(), stdout)?;
-    expect_text("stderr", outcome.stderr.as_str(), stderr)?;
-    expect_that(stderr, outcome.status == status)
+    let outcome = called(alloc, options, stdin)?;
+    expect_outcome(&outcome, wants)
+}
+
+/// Fails unless a call leaves this, and so many bytes unread.
+pub fn expect_answer(
+    alloc: Global,
+    options: &[&str],
+    stdin: &[u8],
+    wants: (u8, &str, &str),
+    unread: usize,
+) -> Result<(), Fail> {
+    let outcome = called(alloc, options, stdin)?;
+    expect_number(wants.1, outcome.unread, unread)?;
+    expect_outcome(&outcome, wants)
+}
+
+/// Fails unless a call that may read and write so often leaves this: status 1 if its source or sink failed.
+pub fn expect_within(
+    alloc: Global,
+    options: &[&str],
+    stdin: &[u8],
+    reads: usize,
+    writes: usize,
+    wants: (u8, &str, &str),
+) -> Result<(), Fail> {
+    let outcome = called_within(alloc, options, stdin, reads, writes)?;
+    expect_that(wants.2, outcome.has_failed == (wants.0 == 1))?;
+    expect_outcome(&outcome, wants)
 }

@@ -1,5 +1,5 @@
 //! Unknown options, and what the program says of itself. What each option sets is a family of `htmd_cases`.
-use crate::calls::{called, called_within, expect_outcome};
+use crate::calls::{called, called_within, expect_answer};
 use crate::expected::{expect_number, expect_text, expect_that};
 use std::alloc::Global;
 use std::test::Fail;
@@ -9,9 +9,7 @@ fn expect_unknown(alloc: Global, option: &str, options: &[&str]) -> Result<(), F
     let said = format!(in alloc;
         "htmd: unknown word\nhtmd: '{option}' is not an option, or not with this value: see --help\n"
     )?;
-    let answer = called(alloc, options, b"<p>")?;
-    expect_outcome(&answer, 2, "", said.as_str())?;
-    expect_number(option, answer.unread, 3)
+    expect_answer(alloc, options, b"<p>", (2, "", said.as_str()), 3)
 }
 
 // Nothing is read, and the options come first: an unknown one is reported before anything else.
@@ -79,13 +77,8 @@ fn options_in(help: &str) -> Result<usize, Fail> {
     Ok(count)
 }
 
-// The help has a line for each option, and each option that it names is known.
-#[test]
-fn shows_the_help(rt: HostRuntime) -> Result<(), Fail> {
-    let answer = called(rt.alloc(), &["--help"], b"a")?;
-    let help = answer.stdout.as_str();
-    expect_outcome(&answer, 0, help, "")?;
-    expect_number("unread", answer.unread, 1)?;
+// Fails unless the help has a line for each option.
+fn expect_help(help: &str) -> Result<(), Fail> {
     expect_number("options", options_in(help)?, 33)?;
     let usage = "Usage: htmd [OPTION..] < page.html > page.md\n";
     expect_that(usage, help.starts_with(usage))?;
@@ -98,6 +91,24 @@ fn shows_the_help(rt: HostRuntime) -> Result<(), Fail> {
     Ok(())
 }
 
+// The help has a line for each option, and each option that it names is known.
+#[test]
+fn shows_the_help(rt: HostRuntime) -> Result<(), Fail> {
+    let answer = called(rt.alloc(), &["--help"], b"a")?;
+    expect_that("status", answer.status == 0)?;
+    expect_text("stderr", answer.stderr.as_str(), "")?;
+    expect_number("unread", answer.unread, 1)?;
+    expect_help(answer.stdout.as_str())
+}
+
+// Fails unless a sink that fails after so many writes is told of.
+fn expect_failed(alloc: Global, option: &str, writes: usize) -> Result<(), Fail> {
+    let answer = called_within(alloc, &[option], b"a", 0, writes)?;
+    expect_text(option, answer.stderr.as_str(), "htmd: write failed\n")?;
+    expect_that(option, answer.status == 1)?;
+    expect_that(option, answer.has_failed)
+}
+
 // The sink fails while the help is written.
 #[test]
 fn tells_of_a_failed_help(rt: HostRuntime) -> Result<(), Fail> {
@@ -108,10 +119,7 @@ fn tells_of_a_failed_help(rt: HostRuntime) -> Result<(), Fail> {
         ("--version", 29),
     ];
     for &(option, writes) in ROWS {
-        let answer = called_within(rt.alloc(), &[option], b"a", 0, writes)?;
-        expect_text(option, answer.stderr.as_str(), "htmd: write failed\n")?;
-        expect_that(option, answer.status == 1)?;
-        expect_that(option, answer.has_failed)?;
+        expect_failed(rt.alloc(), option, writes)?;
     }
     Ok(())
 }

@@ -1,7 +1,7 @@
 //! The program's lines, and that runs succeed and fail as they should.
-use crate::calls::{called, called_within, expect_outcome, strings};
+use crate::calls::{expect_answer, expect_within, strings};
 use crate::doubles::{Dripping, Full, Interrupted, Narrow, Unflushed};
-use crate::expected::{expect_number, expect_that};
+use crate::expected::expect_that;
 use htmd_cli::{Failed, Input, Mode, Output, RunError, Sink, Source, command, run};
 use std::io::ErrorKind;
 use std::test::Fail;
@@ -68,10 +68,9 @@ fn answers_options(rt: HostRuntime) -> Result<(), Fail> {
         ),
     ];
     for &(options, stdin, stdout, stderr, status) in ROWS {
-        let answer = called(rt.alloc(), options, stdin)?;
-        expect_outcome(&answer, status, stdout, stderr)?;
         let unread = if status == 2 { stdin.len() } else { 0 };
-        expect_number(stdout, answer.unread, unread)?;
+        let wants = (status, stdout, stderr);
+        expect_answer(rt.alloc(), options, stdin, wants, unread)?;
     }
     Ok(())
 }
@@ -90,9 +89,8 @@ fn answers_failures(rt: HostRuntime) -> Result<(), Fail> {
         (3, 4, "ab\n", "", 0),
     ];
     for &(reads, writes, stdout, stderr, status) in ROWS {
-        let answer = called_within(rt.alloc(), &["--text"], b"ab", reads, writes)?;
-        expect_outcome(&answer, status, stdout, stderr)?;
-        expect_that(stderr, answer.has_failed == (status == 1))?;
+        let wants = (status, stdout, stderr);
+        expect_within(rt.alloc(), &["--text"], b"ab", reads, writes, wants)?;
     }
     Ok(())
 }

@@ -1,7 +1,7 @@
 //! Runs on pages of HTML.
-use crate::calls::{called, expect_outcome};
+use crate::calls::{called, expect_answer, expect_called};
 use crate::doubles::{Dripping, Narrow};
-use crate::expected::{expect_number, expect_text, expect_that};
+use crate::expected::{expect_number, expect_that};
 use htmd::FaultKind;
 use htmd_cli::{Mode, RunError, Sink, Source, run};
 use std::alloc::Global;
@@ -29,9 +29,8 @@ fn answers_options(rt: HostRuntime) -> Result<(), Fail> {
         (&[], b"<p>\xff", "", "htmd: not UTF-8\n", 1),
     ];
     for &(options, stdin, stdout, stderr, status) in ROWS {
-        let answer = called(rt.alloc(), options, stdin)?;
-        expect_outcome(&answer, status, stdout, stderr)?;
-        expect_number(stdout, answer.unread, 0)?;
+        let wants = (status, stdout, stderr);
+        expect_answer(rt.alloc(), options, stdin, wants, 0)?;
     }
     Ok(())
 }
@@ -81,6 +80,12 @@ fn answers_each_failed_write(rt: HostRuntime) -> Result<(), Fail> {
     Ok(())
 }
 
+// How many bytes of a page are not read.
+fn unread(alloc: Global, html: &[u8]) -> Result<usize, Fail> {
+    let answer = called(alloc, &[], html)?;
+    Ok(answer.unread)
+}
+
 // Nothing is written of what is refused, and what is refused last is read to its end too.
 #[test]
 fn writes_nothing_of_what_is_refused(rt: HostRuntime) -> Result<(), Fail> {
@@ -92,8 +97,7 @@ fn writes_nothing_of_what_is_refused(rt: HostRuntime) -> Result<(), Fail> {
     for (html, place, kind) in table {
         let refused = Err(RunError::Refused { place, kind });
         expect_run(rt.alloc(), html, 100, 100, refused, b"")?;
-        let answer = called(rt.alloc(), &[], html)?;
-        expect_number("unread", answer.unread, 0)?;
+        expect_number("unread", unread(rt.alloc(), html)?, 0)?;
     }
     Ok(())
 }
@@ -102,16 +106,15 @@ fn writes_nothing_of_what_is_refused(rt: HostRuntime) -> Result<(), Fail> {
 fn expect_body(alloc: Global, front: &str, body: &str, behind: &str) -> Result<(), Fail> {
     let page = format!(in alloc; "{front}{body}{behind}")?;
     let alone = called(alloc, &[], body.as_bytes())?;
-    let answer = called(alloc, &["--body"], page.as_bytes())?;
-    expect_text(body, answer.stdout.as_str(), alone.stdout.as_str())?;
-    expect_that(body, answer.status == 0)
+    let wants = (0, alone.stdout.as_str(), "");
+    expect_called(alloc, &["--body"], page.as_bytes(), wants)
 }
 
 // Fails unless a page with `--body` is refused at this place.
 fn expect_refused(alloc: Global, page: &str, place: usize, kind: FaultKind) -> Result<(), Fail> {
     let said = format!(in alloc; "htmd: refused at byte {place}: {kind}\n")?;
-    let answer = called(alloc, &["--body"], page.as_bytes())?;
-    expect_outcome(&answer, 1, "", said.as_str())
+    let wants = (1, "", said.as_str());
+    expect_called(alloc, &["--body"], page.as_bytes(), wants)
 }
 
 // A page with `--body` answers as its body by itself, and is refused as many bytes later as its body begins.
