@@ -1,8 +1,7 @@
 //! Any page as browsers read it, by the program: in each encoding, and in rows. Pages whose answer is a text are the
 //! family `html5` of `htmd_cases`.
-use crate::calls::{called, strings};
-use crate::doubles::{Dripping, Narrow};
-use htmd_cli::{Sink, Source, command};
+use crate::calls::{called_within, expect_answer, expect_called, expect_within};
+use crate::expected::{expect_text, expect_that};
 use std::test::Fail;
 
 const PAGE: &str = "<ul><li>a<li>b</ul><p>x<b>y<p>z";
@@ -10,7 +9,7 @@ const PAGE: &str = "<ul><li>a<li>b</ul><p>x<b>y<p>z";
 // UTF-8, with its mark and without, UTF-16 in both orders, and windows-1252.
 #[test]
 fn reads_each_encoding(rt: HostRuntime) -> Result<(), Fail> {
-    let table: [(&[u8], &str); 8] = [
+    const ROWS: &[(&[u8], &str)] = &[
         (b"<p>caf\xC3\xA9<p>\xE2\x82\xAC", "caf\u{E9}\n\n\u{20AC}\n"),
         (b"\xEF\xBB\xBF<p>a", "a\n"),
         (b"\xFE\xFF\0<\0p\0>\0\xE9\x20\xAC", "\u{E9}\u{20AC}\n"),
@@ -23,12 +22,8 @@ fn reads_each_encoding(rt: HostRuntime) -> Result<(), Fail> {
         (b"<p>\x93a\x94 \x81", "\u{201C}a\u{201D} \u{81}\n"),
         (b"\xFF", "\u{FF}\n"),
     ];
-    for (page, markdown) in table {
-        let answer = called(rt.alloc(), &["--html5"], page)?;
-        assert_eq!(rt; answer.stdout.as_str(), markdown, "{page:?}");
-        assert_eq!(rt; answer.stderr.as_str(), "");
-        assert_eq!(rt; answer.status, 0);
-        assert_eq!(rt; answer.unread, 0);
+    for &(page, markdown) in ROWS {
+        expect_answer(rt.alloc(), &["--html5"], page, (0, markdown, ""), 0)?;
     }
     Ok(())
 }
@@ -36,13 +31,10 @@ fn reads_each_encoding(rt: HostRuntime) -> Result<(), Fail> {
 // Without the option, and for a text, only UTF-8 is read.
 #[test]
 fn reads_utf8_alone_otherwise(rt: HostRuntime) -> Result<(), Fail> {
-    let table: [&[&str]; 4] = [&[], &["--body"], &["--html5", "--text"], &["--text"]];
-    for options in table {
+    const ROWS: &[&[&str]] = &[&[], &["--body"], &["--html5", "--text"], &["--text"]];
+    for &options in ROWS {
         for page in [b"a\xE9".as_slice(), b"\xFE\xFF\0a"] {
-            let answer = called(rt.alloc(), options, page)?;
-            assert_eq!(rt; answer.stdout.as_str(), "", "{options:?}");
-            assert_eq!(rt; answer.stderr.as_str(), "htmd: not UTF-8\n");
-            assert_eq!(rt; answer.status, 1);
+            expect_called(rt.alloc(), options, page, (1, "", "htmd: not UTF-8\n"))?;
         }
     }
     Ok(())
@@ -55,35 +47,27 @@ fn answers_rows(rt: HostRuntime) -> Result<(), Fail> {
         b"1\t<p>a<p>b\n2\t<p><div>\n\\N\n4\t\\377\\376\\x61\\0\n5\t\xE9\n6\t<b>c\\n<i>d\\0\n";
     let wanted = "1\ta\\n\\nb\n2\t\n\\N\n4\ta\n5\t\u{E9}\n6\t**c *d***\n";
     for options in [["--html5", "--rows"], ["--rows", "--html5"]] {
-        let answer = called(rt.alloc(), options.as_slice(), rows)?;
-        assert_eq!(rt; answer.stdout.as_str(), wanted);
-        assert_eq!(rt; answer.stderr.as_str(), "");
-        assert_eq!(rt; answer.status, 0);
+        expect_called(rt.alloc(), options.as_slice(), rows, (0, wanted, ""))?;
     }
     Ok(())
+}
+
+// Fails unless the page is answered if all its reads are made, and else nothing is.
+fn expect_read(alloc: Global, reads: usize) -> Result<(), Fail> {
+    let answer = called_within(alloc, &["--html5"], PAGE.as_bytes(), reads, 100)?;
+    let fails = reads < 32;
+    let said = if fails { "htmd: read failed\n" } else { "" };
+    expect_text("stderr", answer.stderr.as_str(), said)?;
+    expect_that("status", answer.status == u8::from(fails))?;
+    expect_that("stdout", answer.stdout.is_empty() == fails)?;
+    expect_that("source", answer.has_failed == fails)
 }
 
 // A page of 31 bytes is read in 32 reads, the last one at its end. Each of them fails in turn.
 #[test]
 fn answers_each_failed_read(rt: HostRuntime) -> Result<(), Fail> {
-    let options = strings(rt.alloc(), &["--html5"])?;
     for reads in 0..34 {
-        let mut source = Dripping::new(PAGE.as_bytes(), reads);
-        let mut sink = Narrow::new(rt.alloc(), 100);
-        let mut errors = Narrow::new(rt.alloc(), 100);
-        let status = command(
-            rt.alloc(),
-            options.as_slice(),
-            &mut source,
-            &mut sink,
-            &mut errors,
-        );
-        let fails = reads < 32;
-        assert_eq!(rt; status, u8::from(fails), "{reads}");
-        assert_eq!(rt; sink.bytes().is_empty(), fails);
-        let said = if fails { "htmd: read failed\n" } else { "" };
-        assert_eq!(rt; errors.bytes(), said.as_bytes());
-        assert_eq!(rt; source.failed(), fails);
+        expect_read(rt.alloc(), reads)?;
     }
     Ok(())
 }
@@ -101,22 +85,10 @@ fn answers_each_failed_write(rt: HostRuntime) -> Result<(), Fail> {
         ),
     ];
     for (options, markdown, said) in table {
-        let options = strings(rt.alloc(), options)?;
-        for calls in 0..=markdown.len() {
-            let mut source = Dripping::new(b"<p>a<p>b", 100);
-            let mut sink = Narrow::new(rt.alloc(), calls);
-            let mut errors = Narrow::new(rt.alloc(), 100);
-            let status = command(
-                rt.alloc(),
-                options.as_slice(),
-                &mut source,
-                &mut sink,
-                &mut errors,
-            );
-            assert_eq!(rt; status, 1, "{calls}");
-            assert_eq!(rt; sink.bytes(), markdown.as_bytes().split_at(calls).0);
-            assert_eq!(rt; errors.bytes(), said.as_bytes());
-            assert!(rt; sink.failed());
+        for writes in 0..=markdown.len() {
+            let written = markdown.get(..writes).unwrap_or(markdown);
+            let wants = (1, written, said);
+            expect_within(rt.alloc(), options, b"<p>a<p>b", 100, writes, wants)?;
         }
     }
     Ok(())

@@ -1,13 +1,21 @@
 //! Runs on the rows of a batch.
-use crate::calls::{called, strings};
+use crate::calls::{expect_answer, expect_called, expect_within, strings};
 use crate::doubles::{Dripping, Narrow};
-use htmd_cli::{Input, Sink, Source, command, read_field, write_field};
+use crate::expected::{expect_number, expect_text, expect_that};
+use htmd_cli::{Input, command, read_field, write_field};
 use std::alloc::{AllocError, Global};
 use std::test::Fail;
 
+fn expect_bytes(bytes: &[u8], wanted: &[u8]) -> Result<(), Fail> {
+    if bytes == wanted {
+        return Ok(());
+    }
+    Err(Fail::new(format_args!("{bytes:?}, not {wanted:?}")))
+}
+
 #[test]
 fn reads_each_escape(rt: HostRuntime) -> Result<(), Fail> {
-    let table: [(&[u8], &[u8]); 26] = [
+    const ROWS: &[(&[u8], &[u8])] = &[
         (b"", b""),
         (b"a b", b"a b"),
         (b"a\\\\b", b"a\\b"),
@@ -35,37 +43,42 @@ fn reads_each_escape(rt: HostRuntime) -> Result<(), Fail> {
         (b"\\\\n", b"\\n"),
         (b"\r\t\r", b"\r\t\r"),
     ];
-    for (field, bytes) in table {
+    for &(field, bytes) in ROWS {
         let mut page = Vec::new(rt.alloc());
         read_field(field, &mut page)?;
-        assert_eq!(rt; page.as_slice(), bytes, "{field:?}");
+        expect_bytes(page.as_slice(), bytes)?;
     }
     Ok(())
 }
 
-#[test]
-fn reads_what_it_writes(rt: HostRuntime) -> Result<(), Fail> {
-    let mut all = Vec::new(rt.alloc());
+// Each byte, by itself and after a backslash.
+fn each_byte(alloc: Global) -> Result<Vec<u8>, AllocError> {
+    let mut all = Vec::new(alloc);
     for byte in 0..=255 {
         all.push(byte)?;
         all.push(b'\\')?;
         all.push(byte)?;
     }
+    Ok(all)
+}
+
+#[test]
+fn reads_what_it_writes(rt: HostRuntime) -> Result<(), Fail> {
+    let all = each_byte(rt.alloc())?;
     let mut field = Vec::new(rt.alloc());
     write_field(all.as_slice(), &mut field)?;
-    assert_eq!(rt; field.len(), all.len() + 258 + 3 * 2);
+    expect_number("bytes", field.len(), all.len() + 258 + 3 * 2)?;
     for byte in field.as_slice() {
-        assert!(rt; !b"\t\n\r".contains(byte));
+        expect_that("field", !b"\t\n\r".contains(byte))?;
     }
     let mut page = Vec::new(rt.alloc());
     read_field(field.as_slice(), &mut page)?;
-    assert_eq!(rt; page.as_slice(), all.as_slice());
-    Ok(())
+    expect_bytes(page.as_slice(), all.as_slice())
 }
 
 #[test]
 fn answers_rows(rt: HostRuntime) -> Result<(), Fail> {
-    let table: [(&str, &[u8], &str, &str); 17] = [
+    const ROWS: &[(&str, &[u8], &str, &str)] = &[
         ("", b"", "", ""),
         ("", b"\n", "\n", ""),
         ("", b"\n\n", "\n\n", ""),
@@ -110,43 +123,43 @@ fn answers_rows(rt: HostRuntime) -> Result<(), Fail> {
 open; write its end tag.\n<p>\n   ^\n",
         ),
     ];
-    for (lines, stdin, stdout, stderr) in table {
-        let options = rows_options(rt.alloc(), lines)?;
-        let mut sink = Narrow::new(rt.alloc(), 1000);
-        let mut errors = Narrow::new(rt.alloc(), 1000);
-        let mut source = Dripping::new(stdin, 1000);
-        let status = command(
-            rt.alloc(),
-            options.as_slice(),
-            &mut source,
-            &mut sink,
-            &mut errors,
-        );
-        assert_eq!(rt; sink.bytes(), stdout.as_bytes(), "{stdin:?}");
-        assert_eq!(rt; errors.bytes(), stderr.as_bytes());
-        assert_eq!(rt; status, 0);
-        let at_once = answered_at_once(rt.alloc(), options.as_slice(), stdin)?;
-        assert_eq!(rt; at_once.as_str(), stdout, "{stdin:?}");
+    for &(lines, stdin, stdout, stderr) in ROWS {
+        expect_rows(rt.alloc(), lines, stdin, (stdout, stderr))?;
     }
     Ok(())
 }
 
 // The options that a text has, one on each line, and after them the one for rows.
-fn rows_options(alloc: Global, lines: &str) -> Result<Vec<String>, AllocError> {
+fn rows_options(alloc: Global, lines: &str) -> Result<Vec<&str>, AllocError> {
     let mut options = Vec::new(alloc);
     for option in lines.lines() {
-        options.push(String::from_str(alloc, option)?)?;
+        options.push(option)?;
     }
-    options.push(String::from_str(alloc, "--rows")?)?;
+    options.push("--rows")?;
     Ok(options)
 }
 
+// Fails unless rows are answered so, whether each read gives one byte or one gives all.
+fn expect_rows(alloc: Global, lines: &str, stdin: &[u8], wants: (&str, &str)) -> Result<(), Fail> {
+    let options = rows_options(alloc, lines)?;
+    expect_called(alloc, options.as_slice(), stdin, (0, wants.0, wants.1))?;
+    let at_once = answered_at_once(alloc, options.as_slice(), stdin)?;
+    expect_text(wants.1, at_once.as_str(), wants.0)
+}
+
 // What is written when one read gives all.
-fn answered_at_once(alloc: Global, options: &[String], stdin: &[u8]) -> Result<String, Fail> {
+fn answered_at_once(alloc: Global, options: &[&str], stdin: &[u8]) -> Result<String, Fail> {
+    let options = strings(alloc, options)?;
     let mut source = Input::new(stdin);
-    let mut sink = Narrow::new(alloc, 1000);
+    let mut sink = Narrow::new(alloc, 10_000_000);
     let mut errors = Narrow::new(alloc, 1000);
-    let status = command(alloc, options, &mut source, &mut sink, &mut errors);
+    let status = command(
+        alloc,
+        options.as_slice(),
+        &mut source,
+        &mut sink,
+        &mut errors,
+    );
     if status != 0 {
         return Err(Fail::from("all rows are answered"));
     }
@@ -156,25 +169,27 @@ fn answered_at_once(alloc: Global, options: &[String], stdin: &[u8]) -> Result<S
 // What follows the end of the data is not read, except for what the last read gave.
 #[test]
 fn ends_where_the_data_ends(rt: HostRuntime) -> Result<(), Fail> {
-    let outcome = called(rt.alloc(), &["--rows"], b"a\n\\.\nbc\n")?;
-    assert_eq!(rt; outcome.stdout.as_str(), "a\n");
-    assert_eq!(rt; outcome.unread, 3);
-    Ok(())
+    expect_answer(rt.alloc(), &["--rows"], b"a\n\\.\nbc\n", (0, "a\n", ""), 3)
+}
+
+// A row of fields that aren't UTF-8 before this one.
+fn many_fields(alloc: Global, last: &[u8]) -> Result<Vec<u8>, AllocError> {
+    let mut row = Vec::new(alloc);
+    for _ in 0..39 {
+        row.extend_from_slice(b"<p>\\N\xff\t")?;
+    }
+    row.extend_from_slice(last)?;
+    Ok(row)
 }
 
 #[test]
 fn answers_many_fields(rt: HostRuntime) -> Result<(), Fail> {
-    let mut row = Vec::new(rt.alloc());
-    for _ in 0..39 {
-        row.extend_from_slice(b"<p>\\N\xff\t")?;
-    }
-    let mut wanted = row.clone()?;
-    wanted.extend_from_slice(b"*a*\n")?;
-    row.extend_from_slice(b"<i>a</i>\n")?;
+    let row = many_fields(rt.alloc(), b"<i>a</i>\n")?;
+    let wanted = many_fields(rt.alloc(), b"*a*\n")?;
+    let options = strings(rt.alloc(), &["--rows"])?;
     let mut source = Dripping::new(row.as_slice(), 1000);
     let mut sink = Narrow::new(rt.alloc(), 1000);
     let mut errors = Narrow::new(rt.alloc(), 1000);
-    let options = strings(rt.alloc(), &["--rows"])?;
     let status = command(
         rt.alloc(),
         options.as_slice(),
@@ -182,111 +197,64 @@ fn answers_many_fields(rt: HostRuntime) -> Result<(), Fail> {
         &mut sink,
         &mut errors,
     );
-    assert_eq!(rt; status, 0);
-    assert_eq!(rt; sink.bytes(), wanted.as_slice());
-    Ok(())
+    expect_that("status", status == 0)?;
+    expect_bytes(sink.bytes(), wanted.as_slice())
 }
 
-#[test]
-fn answers_a_long_row(rt: HostRuntime) -> Result<(), Fail> {
-    let mut row = Vec::new(rt.alloc());
+// A row of thirty thousand paragraphs, and another.
+fn long_row(alloc: Global) -> Result<Vec<u8>, AllocError> {
+    let mut row = Vec::new(alloc);
     for _ in 0..30_000 {
         row.extend_from_slice(b"<p>a\\\\b</p>\\n")?;
     }
     row.extend_from_slice(b"\n1\tc")?;
-    let mut source = Input::new(row.as_slice());
-    let mut sink = Narrow::new(rt.alloc(), 10_000_000);
-    let mut errors = Narrow::new(rt.alloc(), 1000);
-    let options = strings(rt.alloc(), &["--rows"])?;
-    let status = command(
-        rt.alloc(),
-        options.as_slice(),
-        &mut source,
-        &mut sink,
-        &mut errors,
-    );
-    assert_eq!(rt; status, 0);
-    assert_eq!(rt; sink.bytes().len(), 30_000 * 10 - 4 + 5);
-    Ok(())
+    Ok(row)
 }
 
-fn stopped(
-    alloc: Global,
-    stdin: &[u8],
-    reads: usize,
-    calls: usize,
-) -> Result<(u8, bool, String, String), Fail> {
-    let options = strings(alloc, &["--rows"])?;
-    let mut source = Dripping::new(stdin, reads);
-    let mut sink = Narrow::new(alloc, calls);
-    let mut errors = Narrow::new(alloc, 1000);
-    let status = command(
-        alloc,
-        options.as_slice(),
-        &mut source,
-        &mut sink,
-        &mut errors,
-    );
-    Ok((
-        status,
-        source.failed() || sink.failed(),
-        String::from_str(alloc, str::from_utf8(sink.bytes())?)?,
-        String::from_str(alloc, str::from_utf8(errors.bytes())?)?,
-    ))
+#[test]
+fn answers_a_long_row(rt: HostRuntime) -> Result<(), Fail> {
+    let row = long_row(rt.alloc())?;
+    let written = answered_at_once(rt.alloc(), &["--rows"], row.as_slice())?;
+    expect_number("bytes", written.len(), 30_000 * 10 - 4 + 5)
 }
 
 // Each read fails in turn: a row goes out before the next byte is read.
 #[test]
 fn answers_failed_reads(rt: HostRuntime) -> Result<(), Fail> {
-    let table: [(usize, &str, &str); 6] = [
-        (0, "", "htmd: row 1: read failed\n"),
-        (1, "", "htmd: row 1: read failed\n"),
-        (2, "a\n", "htmd: row 2: read failed\n"),
-        (3, "a\n", "htmd: row 2: read failed\n"),
-        (4, "a\nb\n", "htmd: row 3: read failed\n"),
-        (5, "a\nb\n", "htmd: row 3: read failed\n"),
+    const ROWS: &[(usize, u8, &str, &str)] = &[
+        (0, 1, "", "htmd: row 1: read failed\n"),
+        (1, 1, "", "htmd: row 1: read failed\n"),
+        (2, 1, "a\n", "htmd: row 2: read failed\n"),
+        (3, 1, "a\n", "htmd: row 2: read failed\n"),
+        (4, 1, "a\nb\n", "htmd: row 3: read failed\n"),
+        (5, 1, "a\nb\n", "htmd: row 3: read failed\n"),
+        (6, 0, "a\nb\nc\n", ""),
     ];
-    for (reads, stdout, stderr) in table {
-        let (status, failed, out, errors) = stopped(rt.alloc(), b"a\nb\nc", reads, 100)?;
-        assert_eq!(rt; out.as_str(), stdout, "{reads}");
-        assert_eq!(rt; errors.as_str(), stderr, "{reads}");
-        assert_eq!(rt; status, 1);
-        assert!(rt; failed);
+    for &(reads, status, stdout, stderr) in ROWS {
+        let wants = (status, stdout, stderr);
+        expect_within(rt.alloc(), &["--rows"], b"a\nb\nc", reads, 100, wants)?;
     }
-    let (status, failed, out, errors) = stopped(rt.alloc(), b"a\nb\nc", 6, 100)?;
-    assert_eq!(rt; out.as_str(), "a\nb\nc\n");
-    assert_eq!(rt; errors.as_str(), "");
-    assert_eq!(rt; status, 0);
-    assert!(rt; !failed);
     Ok(())
 }
 
 // Each write and each flush fails in turn: a row is two writes and a flush.
 #[test]
 fn answers_failed_writes(rt: HostRuntime) -> Result<(), Fail> {
-    let whole = "a\nb\nc\n";
-    for calls in 0..9 {
-        let (status, failed, out, errors) = stopped(rt.alloc(), b"a\nb\nc", 100, calls)?;
-        let row = calls / 3;
-        let length = row * 2 + (calls % 3);
-        assert_eq!(rt;
-            out.as_bytes(),
-            whole.as_bytes().split_at(length).0,
-            "{calls}"
-        );
-        let table = [
-            "htmd: row 1: write failed\n",
-            "htmd: row 2: write failed\n",
-            "htmd: row 3: write failed\n",
-        ];
-        assert_eq!(rt; errors.as_str(), table[row]);
-        assert_eq!(rt; status, 1);
-        assert!(rt; failed);
+    const ROWS: &[(usize, u8, &str, &str)] = &[
+        (0, 1, "", "htmd: row 1: write failed\n"),
+        (1, 1, "a", "htmd: row 1: write failed\n"),
+        (2, 1, "a\n", "htmd: row 1: write failed\n"),
+        (3, 1, "a\n", "htmd: row 2: write failed\n"),
+        (4, 1, "a\nb", "htmd: row 2: write failed\n"),
+        (5, 1, "a\nb\n", "htmd: row 2: write failed\n"),
+        (6, 1, "a\nb\n", "htmd: row 3: write failed\n"),
+        (7, 1, "a\nb\nc", "htmd: row 3: write failed\n"),
+        (8, 1, "a\nb\nc\n", "htmd: row 3: write failed\n"),
+        (9, 0, "a\nb\nc\n", ""),
+    ];
+    for &(writes, status, stdout, stderr) in ROWS {
+        let wants = (status, stdout, stderr);
+        expect_within(rt.alloc(), &["--rows"], b"a\nb\nc", 100, writes, wants)?;
     }
-    let (status, failed, out, errors) = stopped(rt.alloc(), b"a\nb\nc", 100, 9)?;
-    assert_eq!(rt; out.as_str(), whole);
-    assert_eq!(rt; errors.as_str(), "");
-    assert_eq!(rt; status, 0);
-    assert!(rt; !failed);
     Ok(())
 }

@@ -1,12 +1,13 @@
 //! Bytes when nothing says how they are encoded, by the Encoding Standard. `checks/refused_memory`, a part of the gate,
 //! refuses each request of the first two tests in turn, which then end out of memory, and all requests of the third,
 //! which passes.
+use crate::expected::{expect_text, expect_that};
 use htmd_cli::decoded;
 use std::borrow::CowStr;
 use std::test::Fail;
 
 // The standard's index of windows-1252, from 80 to 9F.
-const INDEX: [(u8, &str); 32] = [
+const INDEX: &[(u8, &str)] = &[
     (0x80, "\u{20AC}"),
     (0x81, "\u{81}"),
     (0x82, "\u{201A}"),
@@ -44,8 +45,7 @@ const INDEX: [(u8, &str); 32] = [
 #[test]
 fn reads_windows_1252(rt: HostRuntime) -> Result<(), Fail> {
     let text = decoded(rt.alloc(), b"caf\xE9 \x80\xFF")?;
-    assert_eq!(rt; text.as_str(), "caf\u{E9} \u{20AC}\u{FF}");
-    Ok(())
+    expect_text("text", text.as_str(), "caf\u{E9} \u{20AC}\u{FF}")
 }
 
 #[test]
@@ -54,8 +54,7 @@ fn reads_utf16(rt: HostRuntime) -> Result<(), Fail> {
         rt.alloc(),
         b"\xFE\xFF\x20\xAC\x20\xAC\x20\xAC\xD8\x3D\xDE\x00",
     )?;
-    assert_eq!(rt; text.as_str(), "\u{20AC}\u{20AC}\u{20AC}\u{1F600}");
-    Ok(())
+    expect_text("text", text.as_str(), "\u{20AC}\u{20AC}\u{20AC}\u{1F600}")
 }
 
 #[test]
@@ -64,15 +63,15 @@ fn borrows_utf8(rt: HostRuntime) -> Result<(), Fail> {
         let CowStr::Borrowed(text) = decoded(rt.alloc(), bytes)? else {
             return Err(Fail::from("the text is copied"));
         };
-        assert_eq!(rt; text.as_bytes(), bytes);
+        expect_that(text, text.as_bytes() == bytes)?;
     }
     Ok(())
 }
 
 #[test]
 fn knows_the_index(rt: HostRuntime) -> Result<(), Fail> {
-    for (byte, text) in INDEX {
-        assert_eq!(rt; decoded(rt.alloc(), &[byte])?.as_str(), text);
+    for &(byte, text) in INDEX {
+        expect_text(text, decoded(rt.alloc(), &[byte])?.as_str(), text)?;
     }
     Ok(())
 }
@@ -81,7 +80,7 @@ fn knows_the_index(rt: HostRuntime) -> Result<(), Fail> {
 // error. Only the first mark is left out.
 #[test]
 fn reads_units(rt: HostRuntime) -> Result<(), Fail> {
-    let rows: [(&[u8], &str); 16] = [
+    const ROWS: &[(&[u8], &str)] = &[
         (b"\xFE\xFF", ""),
         (b"\xFF\xFE", ""),
         (b"\xFE\xFF\0a\0b", "ab"),
@@ -99,8 +98,8 @@ fn reads_units(rt: HostRuntime) -> Result<(), Fail> {
         (b"\xFE", "\u{FE}"),
         (b"\xEF\xBB\xBF\xFF", "\u{EF}\u{BB}\u{BF}\u{FF}"),
     ];
-    for (bytes, text) in rows {
-        assert_eq!(rt; decoded(rt.alloc(), bytes)?.as_str(), text);
+    for &(bytes, text) in ROWS {
+        expect_text(text, decoded(rt.alloc(), bytes)?.as_str(), text)?;
     }
     Ok(())
 }

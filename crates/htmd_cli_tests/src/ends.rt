@@ -1,5 +1,7 @@
 //! Runs over readers and writers that give and take one byte for each call, and fail at a call or are interrupted.
+use crate::expected::expect_that;
 use htmd_cli::{Input, Mode, Output, RunError, Sink, Source, run};
+use std::alloc::Global;
 use std::io;
 use std::io::{ErrorKind, Read, Write};
 use std::test::Fail;
@@ -123,52 +125,73 @@ const HTML: Mode = Mode {
     faithful: false,
 };
 
+// Fails unless a run over a reader with so many calls ends so, and writes this.
+fn expect_read(
+    alloc: Global,
+    calls: usize,
+    answer: Result<(), RunError>,
+    written: &[u8],
+) -> Result<(), Fail> {
+    let mut taken = Vec::new(alloc);
+    let mut source = Input::new(Reader::new(PAGE, calls, false));
+    let mut sink = Output::new(&mut taken);
+    let result = run(alloc, &mut source, &mut sink, HTML);
+    expect_that("source", source.failed() == result.is_err())?;
+    expect_that("sink", !sink.failed())?;
+    expect_that("result", result == answer)?;
+    expect_that("written", taken.as_slice() == written)
+}
+
 // Each call reads one byte, and one call finds the end.
 #[test]
 fn fails_at_each_read(rt: HostRuntime) -> Result<(), Fail> {
-    for calls in 0..12 {
-        let mut taken = Vec::new(rt.alloc());
-        let mut source = Input::new(Reader::new(PAGE, calls, false));
-        let mut sink = Output::new(&mut taken);
-        let result = run(rt.alloc(), &mut source, &mut sink, HTML);
-        let is_enough = calls == PAGE.len() + 1;
-        let wanted = if is_enough {
-            Ok(())
-        } else {
-            Err(RunError::Read)
-        };
-        assert_eq!(rt; result, wanted, "{calls}");
-        assert_eq!(rt; source.failed(), !is_enough);
-        assert!(rt; !sink.failed());
-        let written = if is_enough { MARKDOWN } else { b"" };
-        assert_eq!(rt; taken.as_slice(), written, "{calls}");
+    for calls in 0..11 {
+        expect_read(rt.alloc(), calls, Err(RunError::Read), b"")?;
     }
-    Ok(())
+    expect_read(rt.alloc(), 11, Ok(()), MARKDOWN)
+}
+
+// Fails unless a run over a writer with so many calls ends so, and writes this.
+fn expect_write(
+    alloc: Global,
+    calls: usize,
+    fault: Fault,
+    answer: Result<(), RunError>,
+    written: &[u8],
+) -> Result<(), Fail> {
+    let mut taken = Vec::new(alloc);
+    let mut source = Input::new(Reader::new(PAGE, 100, false));
+    let mut sink = Output::new(Writer::new(&mut taken, calls, fault, false));
+    let result = run(alloc, &mut source, &mut sink, HTML);
+    expect_that("sink", sink.failed() == result.is_err())?;
+    expect_that("source", !source.failed())?;
+    expect_that("result", result == answer)?;
+    expect_that("written", taken.as_slice() == written)
 }
 
 // Each call writes one byte, and the last call is the flush.
 #[test]
 fn fails_at_each_write(rt: HostRuntime) -> Result<(), Fail> {
     for fault in [Fault::Fails, Fault::TakesNothing] {
-        for calls in 0..7 {
-            let mut taken = Vec::new(rt.alloc());
-            let mut source = Input::new(Reader::new(PAGE, 100, false));
-            let mut sink = Output::new(Writer::new(&mut taken, calls, fault, false));
-            let result = run(rt.alloc(), &mut source, &mut sink, HTML);
-            let is_enough = calls == MARKDOWN.len() + 1;
-            let wanted = if is_enough {
-                Ok(())
-            } else {
-                Err(RunError::Write)
-            };
-            assert_eq!(rt; result, wanted, "{calls}");
-            assert_eq!(rt; sink.failed(), !is_enough);
-            assert!(rt; !source.failed());
-            let written = &MARKDOWN[..calls.min(MARKDOWN.len())];
-            assert_eq!(rt; taken.as_slice(), written, "{calls}");
+        for calls in 0..6 {
+            let written = MARKDOWN.get(..calls).unwrap_or(MARKDOWN);
+            expect_write(rt.alloc(), calls, fault, Err(RunError::Write), written)?;
         }
+        expect_write(rt.alloc(), 6, fault, Ok(()), MARKDOWN)?;
     }
     Ok(())
+}
+
+// Fails unless a run over a reader and a writer that are interrupted writes this.
+fn expect_whole(alloc: Global, mode: Mode, written: &[u8]) -> Result<(), Fail> {
+    let mut taken = Vec::new(alloc);
+    let mut source = Input::new(Reader::new(PAGE, 100, true));
+    let mut sink = Output::new(Writer::new(&mut taken, 100, Fault::Fails, true));
+    let result = run(alloc, &mut source, &mut sink, mode);
+    expect_that("source", !source.failed())?;
+    expect_that("sink", !sink.failed())?;
+    expect_that("result", result == Ok(()))?;
+    expect_that("written", taken.as_slice() == written)
 }
 
 // A read or a write that is interrupted is made again.
@@ -180,13 +203,7 @@ fn goes_on_after_interruptions(rt: HostRuntime) -> Result<(), Fail> {
         (true, false, b"\\<p>a\\_b\\</p>\n"),
     ];
     for (text, faithful, written) in table {
-        let mut taken = Vec::new(rt.alloc());
-        let mut source = Input::new(Reader::new(PAGE, 100, true));
-        let mut sink = Output::new(Writer::new(&mut taken, 100, Fault::Fails, true));
-        let result = run(rt.alloc(), &mut source, &mut sink, Mode { text, faithful });
-        assert_eq!(rt; result, Ok(()));
-        assert!(rt; !source.failed() && !sink.failed());
-        assert_eq!(rt; taken.as_slice(), written);
+        expect_whole(rt.alloc(), Mode { text, faithful }, written)?;
     }
     Ok(())
 }

@@ -1,5 +1,6 @@
 //! What the program says of long lines and bad bytes that are refused. Other refusals are a family of `htmd_cases`.
 use crate::calls::called;
+use crate::expected::expect_text;
 use std::alloc::{AllocError, Global};
 use std::test::Fail;
 
@@ -24,11 +25,46 @@ fn repeated(alloc: Global, text: &str, times: usize) -> Result<String, AllocErro
     Ok(all)
 }
 
+// A reference after and before so many of these texts.
+fn line_of(
+    alloc: Global,
+    text: &str,
+    before: usize,
+    reference: &str,
+    behind: usize,
+) -> Result<String, AllocError> {
+    let mut line = repeated(alloc, text, before)?;
+    line.push_str(reference)?;
+    line.push_str(repeated(alloc, text, behind)?.as_str())?;
+    Ok(line)
+}
+
+// Fails unless this is shown of a line with an unknown reference after so many of these texts: so many columns of them
+// before it, and this.
+fn expect_shown(
+    alloc: Global,
+    text: &str,
+    before: usize,
+    behind: usize,
+    columns: usize,
+    shown: &str,
+) -> Result<(), Fail> {
+    let html = line_of(alloc, text, before, "&no;", behind)?;
+    let column = before + 1;
+    let place = before * text.len();
+    let want = format!(in alloc;
+        "htmd: refused at byte {place}: UnknownReference\n\
+         line 1, column {column}: {UNKNOWN}\n{shown}\n{}^\n",
+        repeated(alloc, " ", columns)?
+    )?;
+    let answer = explained(alloc, &["--explain"], html.as_bytes())?;
+    expect_text(text, answer.as_str(), want.as_str())
+}
+
 // 100 columns of a long line are shown, with the place among them.
 #[test]
 fn explains_long_lines(rt: HostRuntime) -> Result<(), Fail> {
-    let alloc = rt.alloc();
-    for (text, width, before, behind, shown_before, shown_behind) in [
+    const ROWS: &[(&str, usize, usize, usize, usize, usize)] = &[
         ("a", 1, 0, 10_000, 0, 96),
         ("a", 1, 96, 10_000, 96, 0),
         ("a", 1, 99, 10_000, 99, 0),
@@ -37,26 +73,12 @@ fn explains_long_lines(rt: HostRuntime) -> Result<(), Fail> {
         ("a", 1, 10_000, 0, 50, 0),
         ("漢", 2, 50, 100, 25, 23),
         ("漢", 2, 5_000, 5_000, 25, 23),
-    ] {
-        let html = format!(in alloc;
-            "{}&no;{}",
-            repeated(alloc, text, before)?,
-            repeated(alloc, text, behind)?
-        )?;
+    ];
+    for &(text, width, before, behind, shown_before, shown_behind) in ROWS {
         let reference = if shown_before == 99 { "&" } else { "&no;" };
-        let column = before + 1;
-        let place = before * text.len();
-        let want = format!(in alloc;
-            "htmd: refused at byte {place}: UnknownReference\n\
-             line 1, column {column}: {UNKNOWN}\n{}{reference}{}\n{}^\n",
-            repeated(alloc, text, shown_before)?,
-            repeated(alloc, text, shown_behind)?,
-            repeated(alloc, " ", shown_before * width)?
-        )?;
-        assert_eq!(rt;
-            explained(rt.alloc(), &["--explain"], html.as_bytes())?.as_str(),
-            want.as_str()
-        );
+        let shown = line_of(rt.alloc(), text, shown_before, reference, shown_behind)?;
+        let columns = shown_before * width;
+        expect_shown(rt.alloc(), text, before, behind, columns, shown.as_str())?;
     }
     Ok(())
 }
@@ -64,17 +86,14 @@ fn explains_long_lines(rt: HostRuntime) -> Result<(), Fail> {
 #[test]
 fn explains_bad_bytes(rt: HostRuntime) -> Result<(), Fail> {
     let first = "htmd: not UTF-8\nthe first bad byte is byte 3\n";
-    assert_eq!(rt;
-        explained(rt.alloc(), &["--explain"], b"<p>\xff")?.as_str(),
-        first
-    );
-    assert_eq!(rt;
-        explained(rt.alloc(), &["--explain", "--text"], b"abc\xe6\xbc")?.as_str(),
-        first
-    );
-    assert_eq!(rt;
-        explained(rt.alloc(), &[], b"<p>\xff")?.as_str(),
-        "htmd: not UTF-8\n"
-    );
+    let table: [(&[&str], &[u8], &str); 3] = [
+        (&["--explain"], b"<p>\xff", first),
+        (&["--explain", "--text"], b"abc\xe6\xbc", first),
+        (&[], b"<p>\xff", "htmd: not UTF-8\n"),
+    ];
+    for (options, stdin, want) in table {
+        let answer = explained(rt.alloc(), options, stdin)?;
+        expect_text(want, answer.as_str(), want)?;
+    }
     Ok(())
 }

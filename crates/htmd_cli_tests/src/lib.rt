@@ -18,6 +18,8 @@ mod ends;
 #[cfg(test)]
 mod errors;
 #[cfg(test)]
+mod expected;
+#[cfg(test)]
 mod explanations;
 #[cfg(test)]
 mod options;

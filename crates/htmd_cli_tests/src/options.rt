@@ -1,13 +1,21 @@
 //! Unknown options, and what the program says of itself. What each option sets is a family of `htmd_cases`.
-use crate::calls::{called, strings};
-use crate::doubles::{Dripping, Narrow};
-use htmd_cli::{Sink, Source, command};
+use crate::calls::{called, called_within, expect_answer};
+use crate::expected::{expect_number, expect_text, expect_that};
+use std::alloc::Global;
 use std::test::Fail;
+
+// Fails unless this is the option that is reported as unknown, and nothing is read.
+fn expect_unknown(alloc: Global, option: &str, options: &[&str]) -> Result<(), Fail> {
+    let said = format!(in alloc;
+        "htmd: unknown word\nhtmd: '{option}' is not an option, or not with this value: see --help\n"
+    )?;
+    expect_answer(alloc, options, b"<p>", (2, "", said.as_str()), 3)
+}
 
 // Nothing is read, and the options come first: an unknown one is reported before anything else.
 #[test]
 fn refuses_options(rt: HostRuntime) -> Result<(), Fail> {
-    for option in [
+    const ROWS: &[&str] = &[
         "",
         "-",
         "--",
@@ -49,17 +57,36 @@ fn refuses_options(rt: HostRuntime) -> Result<(), Fail> {
         "--explained",
         "--help=all",
         "--Version",
-    ] {
-        for options in [[option, "--text"], ["--help", option]] {
-            let answer = called(rt.alloc(), options.as_slice(), b"<p>")?;
-            assert_eq!(rt; answer.status, 2, "{option}");
-            assert_eq!(rt; answer.stdout.as_str(), "");
-            let mut said = String::from_str(rt.alloc(), "htmd: unknown word\nhtmd: '")?;
-            said.push_str(option)?;
-            said.push_str("' is not an option, or not with this value: see --help\n")?;
-            assert_eq!(rt; answer.stderr.as_str(), said.as_str());
-            assert_eq!(rt; answer.unread, 3);
+    ];
+    for &option in ROWS {
+        expect_unknown(rt.alloc(), option, &[option, "--text"])?;
+        expect_unknown(rt.alloc(), option, &["--help", option])?;
+    }
+    Ok(())
+}
+
+// How many lines tell of an option, each with what it is for.
+fn options_in(help: &str) -> Result<usize, Fail> {
+    let mut count: usize = 0;
+    for line in help.lines() {
+        if line.starts_with("--") {
+            count = count.saturating_add(1);
+            expect_that(line, line.contains(" "))?;
         }
+    }
+    Ok(count)
+}
+
+// Fails unless the help has a line for each option.
+fn expect_help(help: &str) -> Result<(), Fail> {
+    expect_number("options", options_in(help)?, 33)?;
+    let usage = "Usage: htmd [OPTION..] < page.html > page.md\n";
+    expect_that(usage, help.starts_with(usage))?;
+    for line in [
+        "--skip=TAG[,TAG..]                      leaves out elements of these names, in lower case\n",
+        "--link-style=inlined-prefer-autolinks   the same, but an address as its own text is an autolink\n",
+    ] {
+        expect_that(line, help.contains(line))?;
     }
     Ok(())
 }
@@ -68,51 +95,31 @@ fn refuses_options(rt: HostRuntime) -> Result<(), Fail> {
 #[test]
 fn shows_the_help(rt: HostRuntime) -> Result<(), Fail> {
     let answer = called(rt.alloc(), &["--help"], b"a")?;
-    assert_eq!(rt; answer.status, 0);
-    assert_eq!(rt; answer.stderr.as_str(), "");
-    assert_eq!(rt; answer.unread, 1);
-    let help = answer.stdout.as_str();
-    assert!(rt; help.starts_with("Usage: htmd [OPTION..] < page.html > page.md\n"));
-    let mut lines: usize = 0;
-    for line in help.lines() {
-        if line.starts_with("--") {
-            lines = lines.saturating_add(1);
-            assert!(rt; line.contains(" "), "{line}");
-        }
-    }
-    assert_eq!(rt; lines, 33);
-    for line in [
-        "--skip=TAG[,TAG..]                      leaves out elements of these names, in lower case\n",
-        "--link-style=inlined-prefer-autolinks   the same, but an address as its own text is an autolink\n",
-    ] {
-        assert!(rt; help.contains(line), "{line}");
-    }
-    Ok(())
+    expect_that("status", answer.status == 0)?;
+    expect_text("stderr", answer.stderr.as_str(), "")?;
+    expect_number("unread", answer.unread, 1)?;
+    expect_help(answer.stdout.as_str())
+}
+
+// Fails unless a sink that fails after so many writes is told of.
+fn expect_failed(alloc: Global, option: &str, writes: usize) -> Result<(), Fail> {
+    let answer = called_within(alloc, &[option], b"a", 0, writes)?;
+    expect_text(option, answer.stderr.as_str(), "htmd: write failed\n")?;
+    expect_that(option, answer.status == 1)?;
+    expect_that(option, answer.has_failed)
 }
 
 // The sink fails while the help is written.
 #[test]
 fn tells_of_a_failed_help(rt: HostRuntime) -> Result<(), Fail> {
-    for (option, calls) in [
+    const ROWS: &[(&str, usize)] = &[
         ("--help", 0),
         ("--help", 500),
         ("--version", 0),
         ("--version", 29),
-    ] {
-        let options = strings(rt.alloc(), &[option])?;
-        let mut source = Dripping::new(b"a", 0);
-        let mut sink = Narrow::new(rt.alloc(), calls);
-        let mut errors = Narrow::new(rt.alloc(), 100);
-        let status = command(
-            rt.alloc(),
-            options.as_slice(),
-            &mut source,
-            &mut sink,
-            &mut errors,
-        );
-        assert_eq!(rt; status, 1, "{option} {calls}");
-        assert_eq!(rt; errors.bytes(), b"htmd: write failed\n".as_slice());
-        assert!(rt; sink.failed());
+    ];
+    for &(option, writes) in ROWS {
+        expect_failed(rt.alloc(), option, writes)?;
     }
     Ok(())
 }

@@ -1,6 +1,7 @@
 //! The program's lines, and that runs succeed and fail as they should.
-use crate::calls::strings;
+use crate::calls::{expect_answer, expect_within, strings};
 use crate::doubles::{Dripping, Full, Interrupted, Narrow, Unflushed};
+use crate::expected::expect_that;
 use htmd_cli::{Failed, Input, Mode, Output, RunError, Sink, Source, command, run};
 use std::io::ErrorKind;
 use std::test::Fail;
@@ -12,11 +13,11 @@ const PARAGRAPH: Mode = Mode {
 
 #[test]
 fn answers_options(rt: HostRuntime) -> Result<(), Fail> {
-    let unknown =
+    const UNKNOWN: &str =
         "htmd: unknown word\nhtmd: '--bogus' is not an option, or not with this value: see --help\n";
-    let empty =
+    const EMPTY: &str =
         "htmd: unknown word\nhtmd: '' is not an option, or not with this value: see --help\n";
-    let table: [(&[&str], &[u8], &str, &str, u8); 18] = [
+    const ROWS: &[(&[&str], &[u8], &str, &str, u8)] = &[
         (&["--text"], b"a b", "a b\n", "", 0),
         (
             &["--text", "--faithful"],
@@ -39,13 +40,13 @@ fn answers_options(rt: HostRuntime) -> Result<(), Fail> {
             "htmd: not UTF-8\n",
             1,
         ),
-        (&["--text", "--bogus", "--wrong"], b"x", "", unknown, 2),
-        (&["--faithful", "--bogus", "--text"], b"x", "", unknown, 2),
+        (&["--text", "--bogus", "--wrong"], b"x", "", UNKNOWN, 2),
+        (&["--faithful", "--bogus", "--text"], b"x", "", UNKNOWN, 2),
         (&["--text"], b"", "\n", "", 0),
         (&["--text", "--text"], b"a", "a\n", "", 0),
         (&["--text"], b"\xff", "", "htmd: not UTF-8\n", 1),
-        (&["--bogus"], b"x", "", unknown, 2),
-        (&["--text", ""], b"x", "", empty, 2),
+        (&["--bogus"], b"x", "", UNKNOWN, 2),
+        (&["--text", ""], b"x", "", EMPTY, 2),
         (&["--text"], b"1. a\n", "1\\. a\n", "", 0),
         (&["--text"], b"a\n\n  b *c*\n", "a b \\*c\\*\n", "", 0),
         (&["--text"], b"1.. x", "1.\\. x\n", "", 0),
@@ -66,23 +67,10 @@ fn answers_options(rt: HostRuntime) -> Result<(), Fail> {
             0,
         ),
     ];
-    for (options, stdin, stdout, stderr, status) in table {
-        let options = strings(rt.alloc(), options)?;
-        let mut source = Dripping::new(stdin, 100);
-        let mut sink = Narrow::new(rt.alloc(), 100);
-        let mut errors = Narrow::new(rt.alloc(), 200);
-        let answer = command(
-            rt.alloc(),
-            options.as_slice(),
-            &mut source,
-            &mut sink,
-            &mut errors,
-        );
-        assert_eq!(rt; answer, status, "{stdout:?} {stderr:?}");
-        assert_eq!(rt; sink.bytes(), stdout.as_bytes());
-        assert_eq!(rt; errors.bytes(), stderr.as_bytes());
-        let unread = if status == 2 { stdin } else { b"" };
-        assert_eq!(rt; source.rest(), unread);
+    for &(options, stdin, stdout, stderr, status) in ROWS {
+        let unread = if status == 2 { stdin.len() } else { 0 };
+        let wants = (status, stdout, stderr);
+        expect_answer(rt.alloc(), options, stdin, wants, unread)?;
     }
     Ok(())
 }
@@ -90,7 +78,7 @@ fn answers_options(rt: HostRuntime) -> Result<(), Fail> {
 // Each read and each write fails in turn, in a run of three reads, three writes and a flush.
 #[test]
 fn answers_failures(rt: HostRuntime) -> Result<(), Fail> {
-    let table: [(usize, usize, &str, &str, u8); 8] = [
+    const ROWS: &[(usize, usize, &str, &str, u8)] = &[
         (0, 9, "", "htmd: read failed\n", 1),
         (1, 9, "", "htmd: read failed\n", 1),
         (2, 9, "", "htmd: read failed\n", 1),
@@ -100,23 +88,9 @@ fn answers_failures(rt: HostRuntime) -> Result<(), Fail> {
         (3, 3, "ab\n", "htmd: write failed\n", 1),
         (3, 4, "ab\n", "", 0),
     ];
-    let options = strings(rt.alloc(), &["--text"])?;
-    for (reads, calls, stdout, stderr, status) in table {
-        let mut source = Dripping::new(b"ab", reads);
-        let mut sink = Narrow::new(rt.alloc(), calls);
-        let mut errors = Narrow::new(rt.alloc(), 100);
-        let answer = command(
-            rt.alloc(),
-            options.as_slice(),
-            &mut source,
-            &mut sink,
-            &mut errors,
-        );
-        assert_eq!(rt; answer, status, "{reads} {calls}");
-        assert_eq!(rt; sink.bytes(), stdout.as_bytes(), "{reads} {calls}");
-        assert_eq!(rt; errors.bytes(), stderr.as_bytes());
-        assert_eq!(rt; source.failed(), reads < 3);
-        assert_eq!(rt; sink.failed(), reads == 3 && calls < 4);
+    for &(reads, writes, stdout, stderr, status) in ROWS {
+        let wants = (status, stdout, stderr);
+        expect_within(rt.alloc(), &["--text"], b"ab", reads, writes, wants)?;
     }
     Ok(())
 }
@@ -136,46 +110,54 @@ fn passes_over_faults_of_the_errors(rt: HostRuntime) -> Result<(), Fail> {
             &mut sink,
             &mut errors,
         );
-        assert_eq!(rt; answer, status);
-        assert!(rt; errors.failed());
+        expect_that(option, answer == status)?;
+        expect_that(option, errors.failed())?;
     }
     Ok(())
 }
 
-#[test]
-fn takes_std_readers(rt: HostRuntime) -> Result<(), Fail> {
-    let mut buffer = [0u8; 4];
-    let mut source = Input::new(Interrupted {
+// A reader of three bytes that is interrupted twice, and then gives them or this error.
+fn interrupted(error: Option<ErrorKind>) -> Interrupted<'static> {
+    Interrupted {
         times: 2,
         rest: b"abc",
-        error: None,
-    });
-    assert_eq!(rt; source.read(&mut buffer), Ok(3));
-    assert_eq!(rt; source.read(&mut buffer), Ok(0));
-    assert!(rt; !source.failed());
-    let mut source = Input::new(Interrupted {
-        times: 2,
-        rest: b"abc",
-        error: Some(ErrorKind::UnexpectedEof),
-    });
-    assert_eq!(rt; source.read(&mut buffer), Err(Failed));
-    assert!(rt; source.failed());
-    Ok(())
+        error,
+    }
 }
 
 #[test]
-fn takes_std_writers(rt: HostRuntime) -> Result<(), Fail> {
+fn takes_std_readers() -> Result<(), Fail> {
+    let mut buffer = [0u8; 4];
+    let mut source = Input::new(interrupted(None));
+    expect_that("first", source.read(&mut buffer) == Ok(3))?;
+    expect_that("end", source.read(&mut buffer) == Ok(0))?;
+    expect_that("well", !source.failed())
+}
+
+#[test]
+fn takes_std_readers_that_fail() -> Result<(), Fail> {
+    let mut buffer = [0u8; 4];
+    let mut source = Input::new(interrupted(Some(ErrorKind::UnexpectedEof)));
+    expect_that("error", source.read(&mut buffer) == Err(Failed))?;
+    expect_that("failed", source.failed())
+}
+
+#[test]
+fn takes_std_writers() -> Result<(), Fail> {
     let mut sink = Output::new(Full);
-    assert_eq!(rt; sink.write(b""), Ok(0));
-    assert!(rt; !sink.failed());
-    assert_eq!(rt; sink.write(b"a"), Err(Failed));
-    assert!(rt; sink.failed());
+    expect_that("nothing", sink.write(b"") == Ok(0))?;
+    expect_that("well", !sink.failed())?;
+    expect_that("full", sink.write(b"a") == Err(Failed))?;
+    expect_that("failed", sink.failed())
+}
+
+#[test]
+fn takes_std_writers_that_fail(rt: HostRuntime) -> Result<(), Fail> {
     let mut source = Input::new(b"a".as_slice());
     let mut sink = Output::new(Unflushed {
         is_interrupted: true,
     });
     let result = run(rt.alloc(), &mut source, &mut sink, PARAGRAPH);
-    assert_eq!(rt; result, Err(RunError::Write));
-    assert!(rt; sink.failed());
-    Ok(())
+    expect_that("result", result == Err(RunError::Write))?;
+    expect_that("failed", sink.failed())
 }

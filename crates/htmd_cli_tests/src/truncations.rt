@@ -1,4 +1,5 @@
 //! Pages that are cut short, or lack a character or a byte.
+use crate::expected::expect_that;
 use htmd::options::{LinkStyle, Options, TranslationMode};
 use htmd::{ConvertError, HtmlToMarkdown};
 use htmd_cli::{Input, Mode, Output, RunError, run};
@@ -58,11 +59,16 @@ fn answers_beginnings(rt: HostRuntime) -> Result<(), Fail> {
     let converter = HtmlToMarkdown::new(rt.alloc())?;
     let mut beginning = String::new(rt.alloc());
     for c in PAGE.chars() {
-        assert!(rt; is_answered(rt.alloc(), &converter, beginning.as_str()));
+        expect_that(
+            beginning.as_str(),
+            is_answered(rt.alloc(), &converter, beginning.as_str()),
+        )?;
         beginning.push(c)?;
     }
-    assert!(rt; converter.convert(rt.alloc(), beginning.as_str()).is_ok());
-    Ok(())
+    expect_that(
+        "whole",
+        converter.convert(rt.alloc(), beginning.as_str()).is_ok(),
+    )
 }
 
 // The page without each of its characters.
@@ -80,11 +86,13 @@ fn answers_lacks(rt: HostRuntime) -> Result<(), Fail> {
     while let Some(c) = rest.next() {
         let mut less = String::from_str(rt.alloc(), beginning.as_str())?;
         less.push_str(rest.as_str())?;
-        assert!(rt; is_answered(rt.alloc(), &converter, less.as_str()));
+        expect_that(
+            less.as_str(),
+            is_answered(rt.alloc(), &converter, less.as_str()),
+        )?;
         beginning.push(c)?;
     }
-    assert!(rt; converter.convert(rt.alloc(), PAGE).is_ok());
-    Ok(())
+    expect_that("whole", converter.convert(rt.alloc(), PAGE).is_ok())
 }
 
 // Whether a run over these bytes writes an answer, or refuses them at one of their places and writes nothing: as not
@@ -113,11 +121,10 @@ fn is_run(alloc: Global, bytes: &[u8]) -> bool {
 fn runs_over_beginnings(rt: HostRuntime) -> Result<(), Fail> {
     let mut beginning = Vec::new(rt.alloc());
     for byte in PAGE.as_bytes() {
-        assert!(rt; is_run(rt.alloc(), beginning.as_slice()));
+        expect_that("beginning", is_run(rt.alloc(), beginning.as_slice()))?;
         beginning.push(*byte)?;
     }
-    assert!(rt; is_run(rt.alloc(), beginning.as_slice()));
-    Ok(())
+    expect_that("beginning", is_run(rt.alloc(), beginning.as_slice()))
 }
 
 // The page without each of its bytes.
@@ -131,7 +138,7 @@ fn runs_over_lacks(rt: HostRuntime) -> Result<(), Fail> {
                 less.push(*byte)?;
             }
         }
-        assert!(rt; is_run(rt.alloc(), less.as_slice()));
+        expect_that("less", is_run(rt.alloc(), less.as_slice()))?;
     }
     Ok(())
 }

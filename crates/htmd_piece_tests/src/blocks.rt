@@ -1,11 +1,12 @@
 //! Emphasis, headings, breaks and quotes.
 
+use crate::expected::{expect_number, expect_text, expect_that};
 use htmd_markdown::*;
 use std::test::Fail;
 
 #[test]
 fn marks_stand_inside_white_space(rt: HostRuntime) -> Result<(), Fail> {
-    let cases = [
+    const ROWS: &[(Emphasis, &str, Option<&str>)] = &[
         (Emphasis::Strong, "C ", Some("**C** ")),
         (Emphasis::Regular, "a", Some("*a*")),
         (Emphasis::Regular, " \n a b\t", Some(" \n *a b*\t")),
@@ -18,17 +19,17 @@ fn marks_stand_inside_white_space(rt: HostRuntime) -> Result<(), Fail> {
         (Emphasis::Strong, " \u{3000}\n", None),
         (Emphasis::Regular, "", None),
     ];
-    for (emphasis, content, want) in cases {
+    for &(emphasis, content, want) in ROWS {
         let text = write_emphasis(emphasis, String::from_str(rt.alloc(), content)?)?;
         let text = text.as_ref().map(|s| s.as_str());
-        assert_eq!(rt; text, want, "at {content}");
+        expect_that(content, text == want)?;
     }
     Ok(())
 }
 
 #[test]
 fn headings_have_signs_or_an_underline(rt: HostRuntime) -> Result<(), Fail> {
-    let cases = [
+    const ROWS: &[(HeadingStyle, u8, &str, &str)] = &[
         (HeadingStyle::Atx, 1, "Hello", "\n\n# Hello\n\n"),
         (
             HeadingStyle::Setex,
@@ -52,35 +53,48 @@ fn headings_have_signs_or_an_underline(rt: HostRuntime) -> Result<(), Fail> {
             "\n\n## \u{3000}\u{b}a\n\n",
         ),
     ];
-    for (style, level, content, want) in cases {
+    for &(style, level, content, want) in ROWS {
         let text = write_heading(rt.alloc(), style, level, content)?;
-        assert_eq!(rt; text.as_str(), want, "at {content}");
+        expect_text(content, text.as_str(), want)?;
     }
-    let deep = write_heading(rt.alloc(), HeadingStyle::Atx, 255, "a")?;
-    assert_eq!(rt; deep.len(), 255 + 2 + 4);
     Ok(())
 }
 
 #[test]
-fn breaks_have_three_styles_and_two(rt: HostRuntime) -> Result<(), Fail> {
+fn headings_may_be_of_any_level(rt: HostRuntime) -> Result<(), Fail> {
+    let deep = write_heading(rt.alloc(), HeadingStyle::Atx, 255, "a")?;
+    expect_number("bytes", deep.len(), 255 + 2 + 4)
+}
+
+#[test]
+fn thematic_breaks_have_three_styles(rt: HostRuntime) -> Result<(), Fail> {
     let thematic_breaks = [
         (HrStyle::Dashes, "\n\n- - -\n\n"),
         (HrStyle::Asterisks, "\n\n* * *\n\n"),
         (HrStyle::Underscores, "\n\n_ _ _\n\n"),
     ];
     for (style, want) in thematic_breaks {
-        assert_eq!(rt; write_thematic_break(rt.alloc(), style)?.as_str(), want);
+        expect_text(
+            want,
+            write_thematic_break(rt.alloc(), style)?.as_str(),
+            want,
+        )?;
     }
+    Ok(())
+}
+
+#[test]
+fn line_breaks_have_two_styles(rt: HostRuntime) -> Result<(), Fail> {
     let line_breaks = [(BrStyle::TwoSpaces, "  \n"), (BrStyle::Backslash, "\\\n")];
     for (style, want) in line_breaks {
-        assert_eq!(rt; write_line_break(rt.alloc(), style)?.as_str(), want);
+        expect_text(want, write_line_break(rt.alloc(), style)?.as_str(), want)?;
     }
     Ok(())
 }
 
 #[test]
 fn each_line_of_a_quote_has_a_marker(rt: HostRuntime) -> Result<(), Fail> {
-    let cases = [
+    const ROWS: &[(&str, &str)] = &[
         ("\n\na\n\nb\n\n", "\n\n> a\n> \n> b\n\n"),
         ("\n a\r\nb\rc \t", "\n\n>  a\n> b\rc\n\n"),
         ("> a\n> b", "\n\n> > a\n> > b\n\n"),
@@ -88,9 +102,9 @@ fn each_line_of_a_quote_has_a_marker(rt: HostRuntime) -> Result<(), Fail> {
         ("", "\n\n\n\n"),
         ("\r\na", "\n\n> \n> a\n\n"),
     ];
-    for (content, want) in cases {
+    for &(content, want) in ROWS {
         let text = write_quote(rt.alloc(), content)?;
-        assert_eq!(rt; text.as_str(), want, "at {content}");
+        expect_text(content, text.as_str(), want)?;
     }
     Ok(())
 }

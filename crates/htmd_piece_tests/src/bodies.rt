@@ -1,11 +1,19 @@
 //! The body of a page, and the line and column of a place, written by hand.
+use crate::expected::{expect_number, expect_text};
 use htmd_tree::*;
 use std::alloc::{AllocError, Global};
 use std::test::Fail;
 
+/// The body of a page, and its place.
+fn expect_body(html: &str, part: &str, place: usize) -> Result<(), Fail> {
+    let (body, start) = body_of(html);
+    expect_text(html, body, part)?;
+    expect_number(html, start, place)
+}
+
 #[test]
-fn bodies(rt: HostRuntime) -> Result<(), Fail> {
-    for (html, part, place) in [
+fn bodies() -> Result<(), Fail> {
+    const ROWS: &[(&str, &str, usize)] = &[
         ("", "", 0),
         ("<p>a</p>", "<p>a</p>", 0),
         ("<p>a</body>", "<p>a</body>", 0),
@@ -33,8 +41,9 @@ fn bodies(rt: HostRuntime) -> Result<(), Fail> {
             "\r\né",
             68,
         ),
-    ] {
-        assert_eq!(rt; body_of(html), (part, place), "{html}");
+    ];
+    for &(html, part, place) in ROWS {
+        expect_body(html, part, place)?;
     }
     Ok(())
 }
@@ -51,7 +60,7 @@ fn repeated(alloc: Global, text: &str, times: usize) -> Result<String, AllocErro
 // Texts in which a tag begins again and again, and none ends.
 #[test]
 fn tags_without_an_end(rt: HostRuntime) -> Result<(), Fail> {
-    for text in [
+    const ROWS: &[&str] = &[
         "<",
         "</",
         "<a ",
@@ -62,19 +71,26 @@ fn tags_without_an_end(rt: HostRuntime) -> Result<(), Fail> {
         "<body a=' b=\"<body c=\" d='",
         "</body",
         "</body ",
-    ] {
+    ];
+    for &text in ROWS {
         let html = repeated(rt.alloc(), text, 20_000)?;
-        assert_eq!(rt; body_of(html.as_str()), (html.as_str(), 0), "{text}");
+        expect_body(html.as_str(), html.as_str(), 0)?;
     }
     let many = repeated(rt.alloc(), "</body ", 20_000)?;
     let html = format!(in rt.alloc(); "<body>{many}")?;
-    assert_eq!(rt; body_of(html.as_str()), (many.as_str(), 6));
-    Ok(())
+    expect_body(html.as_str(), many.as_str(), 6)
+}
+
+/// The line and the column of a place.
+fn expect_line_and_column(html: &str, place: usize, wants: (usize, usize)) -> Result<(), Fail> {
+    let (line, column) = line_and_column(html, place);
+    expect_number(html, line, wants.0)?;
+    expect_number(html, column, wants.1)
 }
 
 #[test]
-fn lines_and_columns(rt: HostRuntime) -> Result<(), Fail> {
-    for (html, place, line, column) in [
+fn lines_and_columns() -> Result<(), Fail> {
+    const ROWS: &[(&str, usize, usize, usize)] = &[
         ("", 0, 1, 1),
         ("", 9, 1, 1),
         ("ab", 0, 1, 1),
@@ -94,12 +110,9 @@ fn lines_and_columns(rt: HostRuntime) -> Result<(), Fail> {
         ("\té漢\u{1f600}e\u{301}x", 10, 1, 5),
         ("\té漢\u{1f600}e\u{301}x", 13, 1, 7),
         ("\u{85}\u{2028}\u{c}\u{b}x", 7, 1, 5),
-    ] {
-        assert_eq!(rt;
-            line_and_column(html, place),
-            (line, column),
-            "{html} {place}"
-        );
+    ];
+    for &(html, place, line, column) in ROWS {
+        expect_line_and_column(html, place, (line, column))?;
     }
     Ok(())
 }

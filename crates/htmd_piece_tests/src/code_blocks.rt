@@ -1,10 +1,12 @@
 //! Code blocks, and each short text read back from its fenced one by a reader of its own.
+use crate::expected::{expect_text, expect_that};
+use crate::short_texts::{SHORT_TEXTS, short_text};
 use htmd_markdown::{CodeBlockFence, write_fence, write_indented_code};
 use std::test::Fail;
 
 #[test]
 fn writes_fenced_code_blocks(rt: HostRuntime) -> Result<(), Fail> {
-    let rows = [
+    const ROWS: &[(&str, Option<&str>, CodeBlockFence, &str)] = &[
         ("a", None, CodeBlockFence::Backticks, "```\na\n```"),
         ("a\r", None, CodeBlockFence::Backticks, "```\na\r\n```"),
         ("\n", None, CodeBlockFence::Backticks, "```\n\n```"),
@@ -36,42 +38,42 @@ fn writes_fenced_code_blocks(rt: HostRuntime) -> Result<(), Fail> {
         ),
         ("é\r\n", Some("c"), CodeBlockFence::Tildes, "~~~c\né\r\n~~~"),
     ];
-    for (content, language, fence, want) in rows {
+    for &(content, language, fence, want) in ROWS {
         let block = write_fence(rt.alloc(), content, language, fence)?;
-        assert_eq!(rt; block.as_str(), want, "at {content}");
+        expect_text(content, block.as_str(), want)?;
     }
     Ok(())
 }
 
 #[test]
 fn writes_indented_code_blocks(rt: HostRuntime) -> Result<(), Fail> {
-    let rows = [
+    const ROWS: &[(&str, &str)] = &[
         ("a\n\nb\n", "    a\n    \n    b"),
         ("a\n\n", "    a"),
         ("  a\r\nb\r", "      a\n    b\r"),
         ("\n", ""),
         ("", ""),
     ];
-    for (content, want) in rows {
+    for &(content, want) in ROWS {
         let block = write_indented_code(rt.alloc(), content)?;
-        assert_eq!(rt; block.as_str(), want, "at {content}");
+        expect_text(content, block.as_str(), want)?;
     }
     Ok(())
 }
 
 #[test]
 fn reads_back_fenced_code(rt: HostRuntime) -> Result<(), Fail> {
-    let rows = [
+    const ROWS: &[(&str, &str)] = &[
         ("a\r", "a\r"),
         ("\n", ""),
         ("a\r\n", "a\r"),
         ("\r\n```\r ~~~\t\r\n    ~~~", "\r\n```\r ~~~\t\r\n    ~~~"),
         ("~~~ a\n\n", "~~~ a\n"),
     ];
-    for (content, want) in rows {
+    for &(content, want) in ROWS {
         for fence in [CodeBlockFence::Tildes, CodeBlockFence::Backticks] {
             let block = write_fence(rt.alloc(), content, Some("a b"), fence)?;
-            assert_eq!(rt; read(block.as_str(), "a b"), Some(want), "at {content}");
+            expect_that(content, read(block.as_str(), "a b") == Some(want))?;
         }
     }
     Ok(())
@@ -79,17 +81,12 @@ fn reads_back_fenced_code(rt: HostRuntime) -> Result<(), Fail> {
 
 #[test]
 fn reads_back_each_short_text(rt: HostRuntime) -> Result<(), Fail> {
-    let characters = ['`', '\\', '<', '!', '[', ' ', 'a'];
-    for (len, count) in [(0, 1), (1, 7), (2, 49), (3, 343), (4, 2401)] {
+    for &(len, count) in SHORT_TEXTS {
         for number in 0..count {
-            let mut content = String::new(rt.alloc());
-            let mut rest: usize = number;
-            for _ in 0..len {
-                content.push(characters[rest % 7])?;
-                rest /= 7;
-            }
+            let content = short_text(rt.alloc(), len, number)?;
             let block = write_fence(rt.alloc(), &content, None, CodeBlockFence::Backticks)?;
-            assert_eq!(rt; read(block.as_str(), ""), Some(content.as_str()));
+            let code = read(block.as_str(), "");
+            expect_that(content.as_str(), code == Some(content.as_str()))?;
         }
     }
     Ok(())

@@ -1,11 +1,13 @@
 //! Rows of code spans, and each short text read back by a reader of its own.
+use crate::expected::{expect_text, expect_that};
+use crate::short_texts::{SHORT_TEXTS, short_text};
 use htmd_markdown::write_span;
 use std::alloc::{AllocError, Global};
 use std::test::Fail;
 
 #[test]
 fn writes_code_spans(rt: HostRuntime) -> Result<(), Fail> {
-    let rows = [
+    const ROWS: &[(&str, &str)] = &[
         ("a`", "`` a` ``"),
         ("`a", "`` `a ``"),
         ("``", "``` `` ```"),
@@ -17,16 +19,16 @@ fn writes_code_spans(rt: HostRuntime) -> Result<(), Fail> {
         ("", "``"),
         (" \n", "``"),
     ];
-    for (content, want) in rows {
+    for &(content, want) in ROWS {
         let span = write_span(rt.alloc(), content, false)?;
-        assert_eq!(rt; span.as_str(), want, "at {content}");
+        expect_text(content, span.as_str(), want)?;
     }
     Ok(())
 }
 
 #[test]
 fn keeps_preformatted_code(rt: HostRuntime) -> Result<(), Fail> {
-    let rows = [
+    const ROWS: &[(&str, &str)] = &[
         (" foo ", "`  foo  `"),
         ("a\nb", "`a b`"),
         ("\n a\n", "`   a  `"),
@@ -40,44 +42,38 @@ fn keeps_preformatted_code(rt: HostRuntime) -> Result<(), Fail> {
         ("\n`", "``   ` ``"),
         ("", "``"),
     ];
-    for (content, want) in rows {
+    for &(content, want) in ROWS {
         let span = write_span(rt.alloc(), content, true)?;
-        assert_eq!(rt; span.as_str(), want, "at {content}");
+        expect_text(content, span.as_str(), want)?;
     }
     Ok(())
 }
 
 #[test]
 fn reads_back_line_ends_as_spaces(rt: HostRuntime) -> Result<(), Fail> {
-    let rows = [
+    const ROWS: &[(&str, &str)] = &[
         ("a\r\nb", "a b"),
         ("a\rb", "a b"),
         ("a\n\rb", "a  b"),
         ("`\r\n\r\n`", "`  `"),
     ];
-    for (content, want) in rows {
+    for &(content, want) in ROWS {
         let span = write_span(rt.alloc(), content, false)?;
         let text = read(rt.alloc(), span.as_str())?;
-        assert_eq!(rt; text.as_deref(), Some(want), "at {content}");
+        expect_that(content, text.as_deref() == Some(want))?;
     }
     Ok(())
 }
 
 #[test]
 fn reads_back_each_short_text(rt: HostRuntime) -> Result<(), Fail> {
-    let characters = ['`', '\\', '<', '!', '[', ' ', 'a'];
-    for (len, count) in [(0, 1), (1, 7), (2, 49), (3, 343), (4, 2401)] {
+    for &(len, count) in SHORT_TEXTS {
         for number in 0..count {
-            let mut content = String::new(rt.alloc());
-            let mut rest: usize = number;
-            for _ in 0..len {
-                content.push(characters[rest % 7])?;
-                rest /= 7;
-            }
+            let content = short_text(rt.alloc(), len, number)?;
             let span = write_span(rt.alloc(), &content, false)?;
             let text = read(rt.alloc(), span.as_str())?;
             let want = Some(content.trim()).filter(|text| !text.is_empty());
-            assert_eq!(rt; text.as_deref(), want);
+            expect_that(content.as_str(), text.as_deref() == want)?;
         }
     }
     Ok(())

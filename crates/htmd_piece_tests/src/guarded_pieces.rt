@@ -1,12 +1,14 @@
 //! What a reader of CommonMark finds again: one line, emphasis, headings, code, links and lists, and where two texts
 //! meet.
 
+use crate::expected::{expect_text, expect_that};
 use htmd_markdown::*;
+use std::alloc::Global;
 use std::test::Fail;
 
 #[test]
 fn writes_one_line(rt: HostRuntime) -> Result<(), Fail> {
-    let cases = [
+    const ROWS: &[(&str, &str)] = &[
         ("", ""),
         (" \n ", ""),
         ("a", "a"),
@@ -14,16 +16,16 @@ fn writes_one_line(rt: HostRuntime) -> Result<(), Fail> {
         ("\n\nx\n\ny\n\n", "x y"),
         (" a  b \r\n\tc", "a  b \r \tc"),
     ];
-    for (text, want) in cases {
+    for &(text, want) in ROWS {
         let line = write_one_line(rt.alloc(), text)?;
-        assert_eq!(rt; line.as_str(), want, "at {text}");
+        expect_text(text, line.as_str(), want)?;
     }
     Ok(())
 }
 
 #[test]
 fn marks_one_paragraph_alone(rt: HostRuntime) -> Result<(), Fail> {
-    let cases = [
+    const ROWS: &[(Emphasis, &str, &str)] = &[
         (Emphasis::Strong, "\n\nx\n\ny\n\n", "\n\nx\n\ny\n\n"),
         (Emphasis::Regular, " a ", " *a* "),
         (Emphasis::Strong, "\u{a0}", "\u{a0}"),
@@ -31,56 +33,81 @@ fn marks_one_paragraph_alone(rt: HostRuntime) -> Result<(), Fail> {
         (Emphasis::Regular, "a  \nb", "*a  \nb*"),
         (Emphasis::Regular, "", ""),
     ];
-    for (emphasis, content, want) in cases {
+    for &(emphasis, content, want) in ROWS {
         let content = String::from_str(rt.alloc(), content)?;
         let text = write_guarded_emphasis(emphasis, content)?;
-        assert_eq!(rt; text.as_str(), want);
+        expect_text(want, text.as_str(), want)?;
     }
     Ok(())
 }
 
 #[test]
 fn headings_are_one_line(rt: HostRuntime) -> Result<(), Fail> {
-    let cases = [
+    const ROWS: &[(HeadingStyle, u8, &str, &str)] = &[
         (HeadingStyle::Atx, 1, "a  \nb \\#", "\n\n# a b \\#\n\n"),
         (HeadingStyle::Setex, 1, "", "\n\n# \n\n"),
         (HeadingStyle::Setex, 2, "a  \nb", "\n\na b\n---\n\n"),
         (HeadingStyle::Setex, 2, " \n", "\n\n## \n\n"),
         (HeadingStyle::Setex, 3, "\n\nx\n\ny\n\n", "\n\n### x y\n\n"),
     ];
-    for (style, level, content, want) in cases {
+    for &(style, level, content, want) in ROWS {
         let heading = write_guarded_heading(rt.alloc(), style, level, content)?;
-        assert_eq!(rt; heading.as_str(), want, "at {content}");
+        expect_text(content, heading.as_str(), want)?;
     }
     Ok(())
 }
 
 #[test]
-fn lists_keep_to_what_is_read(rt: HostRuntime) -> Result<(), Fail> {
-    let alloc = rt.alloc();
-    let asterisk = BulletListMarker::Asterisk;
-    let item = write_guarded_bullet_item(alloc, asterisk, 9, "a\n\nb\n\n")?;
-    assert_eq!(rt; item.as_str(), "\n*    a\n\n     b\n");
-    let item = write_guarded_bullet_item(alloc, BulletListMarker::Dash, 0, "\\- a")?;
-    assert_eq!(rt; item.as_str(), "\n- \\- a");
+fn items_keep_to_what_is_read(rt: HostRuntime) -> Result<(), Fail> {
     let cases = [
+        (
+            BulletListMarker::Asterisk,
+            9,
+            "a\n\nb\n\n",
+            "\n*    a\n\n     b\n",
+        ),
+        (BulletListMarker::Dash, 0, "\\- a", "\n- \\- a"),
+    ];
+    for (marker, spacing, content, want) in cases {
+        let item = write_guarded_bullet_item(rt.alloc(), marker, spacing, content)?;
+        expect_text(content, item.as_str(), want)?;
+    }
+    Ok(())
+}
+
+/// A list of one item.
+fn expect_list(alloc: Global, first: u32, spacing: u8, want: &str) -> Result<(), Fail> {
+    let mut blocks = Vec::new(alloc);
+    blocks.push(ListBlock::Item(String::from_str(alloc, "\na\n")?))?;
+    let list = write_guarded_ordered_list(alloc, first, spacing, blocks)?;
+    expect_text(want, list.as_str(), want)
+}
+
+#[test]
+fn lists_keep_to_what_is_read(rt: HostRuntime) -> Result<(), Fail> {
+    const ROWS: &[(u32, u8, &str)] = &[
         (2147483647, 2, "\n1.  a"),
         (1, 0, "\n1. a"),
         (999999999, 1, "\n999999999. a"),
         (1000000000, 255, "\n1.    a"),
     ];
-    for (first, spacing, want) in cases {
-        let mut blocks = Vec::new(alloc);
-        blocks.push(ListBlock::Item(String::from_str(alloc, "\na\n")?))?;
-        let list = write_guarded_ordered_list(alloc, first, spacing, blocks)?;
-        assert_eq!(rt; list.as_str(), want);
+    for &(first, spacing, want) in ROWS {
+        expect_list(rt.alloc(), first, spacing, want)?;
     }
     Ok(())
 }
 
+/// The code of a text, and as it is in a line.
+fn expect_code(alloc: Global, text: &str, want: &str, want_in_line: &str) -> Result<(), Fail> {
+    let code = write_guarded_code(alloc, text)?;
+    expect_text(text, code.as_str(), want)?;
+    let code = write_guarded_span_in_line(alloc, text)?;
+    expect_text(text, code.as_str(), want_in_line)
+}
+
 #[test]
 fn code_is_all_text(rt: HostRuntime) -> Result<(), Fail> {
-    let cases = [
+    const ROWS: &[(&str, &str, &str)] = &[
         ("", "", " "),
         (" ", " ", " "),
         ("\n\n\n", " ", " "),
@@ -92,40 +119,60 @@ fn code_is_all_text(rt: HostRuntime) -> Result<(), Fail> {
         ("a\rb\r", "`a b` ", " `a b` "),
         ("\u{3000}", "`\u{3000}`", " `\u{3000}` "),
     ];
-    for (text, want, want_in_line) in cases {
-        let code = write_guarded_code(rt.alloc(), text)?;
-        assert_eq!(rt; code.as_str(), want, "at {text}");
-        let code = write_guarded_span_in_line(rt.alloc(), text)?;
-        assert_eq!(rt; code.as_str(), want_in_line, "at {text}");
+    for &(text, want, want_in_line) in ROWS {
+        expect_code(rt.alloc(), text, want, want_in_line)?;
     }
     Ok(())
 }
 
 #[test]
 fn code_blocks_are_fenced(rt: HostRuntime) -> Result<(), Fail> {
-    let backticks = CodeBlockFence::Backticks;
-    let tildes = CodeBlockFence::Tildes;
-    let cases = [
-        ("# a\nb <i>", None, backticks, "```\n# a\nb <i>\n```"),
-        ("ls\n", Some("sh"), backticks, "```sh\nls\n```"),
-        ("```\nx\n```", None, backticks, "````\n```\nx\n```\n````"),
-        ("", None, backticks, "```\n\n```"),
-        ("\n", Some("c-sharp"), backticks, "```c-sharp\n\n```"),
-        ("x", Some("a~b"), tildes, "~~~\nx\n~~~"),
-        ("x", Some("a`b"), tildes, "~~~\nx\n~~~"),
-        ("x", Some("a\nb"), backticks, "```\nx\n```"),
-        ("a\rb\r\nc\r", Some(""), backticks, "```\na\nb\nc\n```"),
+    const ROWS: &[(&str, Option<&str>, CodeBlockFence, &str)] = &[
+        (
+            "# a\nb <i>",
+            None,
+            CodeBlockFence::Backticks,
+            "```\n# a\nb <i>\n```",
+        ),
+        (
+            "ls\n",
+            Some("sh"),
+            CodeBlockFence::Backticks,
+            "```sh\nls\n```",
+        ),
+        (
+            "```\nx\n```",
+            None,
+            CodeBlockFence::Backticks,
+            "````\n```\nx\n```\n````",
+        ),
+        ("", None, CodeBlockFence::Backticks, "```\n\n```"),
+        (
+            "\n",
+            Some("c-sharp"),
+            CodeBlockFence::Backticks,
+            "```c-sharp\n\n```",
+        ),
+        ("x", Some("a~b"), CodeBlockFence::Tildes, "~~~\nx\n~~~"),
+        ("x", Some("a`b"), CodeBlockFence::Tildes, "~~~\nx\n~~~"),
+        ("x", Some("a\nb"), CodeBlockFence::Backticks, "```\nx\n```"),
+        (
+            "a\rb\r\nc\r",
+            Some(""),
+            CodeBlockFence::Backticks,
+            "```\na\nb\nc\n```",
+        ),
     ];
-    for (text, language, fence, want) in cases {
+    for &(text, language, fence, want) in ROWS {
         let block = write_guarded_code_block(rt.alloc(), text, language, fence)?;
-        assert_eq!(rt; block.as_str(), want, "at {text}");
+        expect_text(text, block.as_str(), want)?;
     }
     Ok(())
 }
 
 #[test]
 fn images_have_descriptions(rt: HostRuntime) -> Result<(), Fail> {
-    let cases = [
+    const ROWS: &[(&str, Option<&str>, Option<&str>, &str)] = &[
         (
             "/i&lt;j",
             Some("](y) <b>"),
@@ -138,16 +185,16 @@ fn images_have_descriptions(rt: HostRuntime) -> Result<(), Fail> {
         ("x", Some(" \n T \n1. a"), None, "![T 1. a](x)"),
         ("é", Some("`"), Some("'single'"), "![\\`](é \"'single'\")"),
     ];
-    for (address, alt, title, want) in cases {
+    for &(address, alt, title, want) in ROWS {
         let image = write_guarded_image(rt.alloc(), address, alt, title)?;
-        assert_eq!(rt; image.as_str(), want, "at {address}");
+        expect_text(address, image.as_str(), want)?;
     }
     Ok(())
 }
 
 #[test]
 fn links_are_one_line(rt: HostRuntime) -> Result<(), Fail> {
-    let cases = [
+    const ROWS: &[(&str, &str, Option<&str>, &str)] = &[
         (
             " t  \nu ",
             "/a b(c)",
@@ -168,35 +215,38 @@ fn links_are_one_line(rt: HostRuntime) -> Result<(), Fail> {
         ),
         ("\t", "a\u{7f}&\n;", Some(""), "[\t](<a\u{7f}\\&;> \"\")"),
     ];
-    for (content, address, title, want) in cases {
+    for &(content, address, title, want) in ROWS {
         let link = write_guarded_link(rt.alloc(), content, address, title)?;
-        assert_eq!(rt; link.as_str(), want, "at {content}");
+        expect_text(content, link.as_str(), want)?;
     }
     Ok(())
 }
 
 #[test]
 fn references_have_numbers(rt: HostRuntime) -> Result<(), Fail> {
-    let alloc = rt.alloc();
-    let link = write_guarded_reference(alloc, 1, "\n\n### \"foo bar\\]\n")?;
-    assert_eq!(rt; link.as_str(), " [### \"foo bar\\]][1] ");
-    let cases = [
+    let link = write_guarded_reference(rt.alloc(), 1, "\n\n### \"foo bar\\]\n")?;
+    expect_text("reference", link.as_str(), " [### \"foo bar\\]][1] ")
+}
+
+#[test]
+fn definitions_have_numbers(rt: HostRuntime) -> Result<(), Fail> {
+    const ROWS: &[(&str, Option<&str>, &str)] = &[
         ("`", Some("'single'"), "[12]: ` \"'single'\""),
         ("\r", None, "[12]: <>"),
         ("x > y", Some(" \n T \n"), "[12]: <x \\> y> \"T\""),
         ("say \"hi\"", None, "[12]: <say \"hi\">"),
         ("/x", Some("t"), "[12]: /x \"t\""),
     ];
-    for (address, title, want) in cases {
-        let line = write_guarded_definition(alloc, 12, address, title)?;
-        assert_eq!(rt; line.as_str(), want, "at {address}");
+    for &(address, title, want) in ROWS {
+        let line = write_guarded_definition(rt.alloc(), 12, address, title)?;
+        expect_text(address, line.as_str(), want)?;
     }
     Ok(())
 }
 
 #[test]
-fn autolinks_have_a_scheme(rt: HostRuntime) -> Result<(), Fail> {
-    let cases = [
+fn autolinks_have_a_scheme() -> Result<(), Fail> {
+    const ROWS: &[(&str, bool)] = &[
         ("https://e.x/a_b", true),
         ("mailto:a@b.c?x&y=1", true),
         ("a+.-9:", true),
@@ -213,17 +263,30 @@ fn autolinks_have_a_scheme(rt: HostRuntime) -> Result<(), Fail> {
         ("https://e.x/a\u{1}", false),
         ("https://e.x/<b", false),
     ];
-    for (address, want) in cases {
-        assert_eq!(rt; is_guarded_autolink(address), want, "at {address}");
+    for &(address, want) in ROWS {
+        expect_that(address, is_guarded_autolink(address) == want)?;
     }
-    let link = write_guarded_autolink(rt.alloc(), "https://e.x/a\\_b\n", "https://e.x/a_b")?;
-    assert_eq!(rt; link.as_str(), "<https://e.x/a_b> ");
     Ok(())
 }
 
 #[test]
+fn autolinks_are_one_line(rt: HostRuntime) -> Result<(), Fail> {
+    let link = write_guarded_autolink(rt.alloc(), "https://e.x/a\\_b\n", "https://e.x/a_b")?;
+    expect_text("autolink", link.as_str(), "<https://e.x/a_b> ")
+}
+
+/// Two texts where they meet.
+fn expect_joint(alloc: Global, out: &str, content: &str, wants: (&str, &str)) -> Result<(), Fail> {
+    let mut before = String::from_str(alloc, out)?;
+    let mut after = String::from_str(alloc, content)?;
+    mend_joint(&mut before, &mut after)?;
+    expect_text(out, before.as_str(), wants.0)?;
+    expect_text(out, after.as_str(), wants.1)
+}
+
+#[test]
 fn links_stay_closed_where_texts_meet(rt: HostRuntime) -> Result<(), Fail> {
-    let cases = [
+    const ROWS: &[(&str, &str, &str, &str)] = &[
         ("**(a)**", "b", "**(a**", ")b"),
         ("**[a](x)**", "b", "**[a](x)** ", "b"),
         (
@@ -239,12 +302,8 @@ fn links_stay_closed_where_texts_meet(rt: HostRuntime) -> Result<(), Fail> {
         ("*\\<a>*", "b", "*\\<a*", ">b"),
         ("*[a](x)*", " b", "*[a](x)*", " b"),
     ];
-    for (out, content, front, behind) in cases {
-        let mut before = String::from_str(rt.alloc(), out)?;
-        let mut after = String::from_str(rt.alloc(), content)?;
-        mend_joint(&mut before, &mut after)?;
-        assert_eq!(rt; before.as_str(), front, "at {out}");
-        assert_eq!(rt; after.as_str(), behind, "at {out}");
+    for &(out, content, front, behind) in ROWS {
+        expect_joint(rt.alloc(), out, content, (front, behind))?;
     }
     Ok(())
 }

@@ -1,11 +1,12 @@
 //! Texts that no reader takes for markup, and the ends of texts after which a line begins.
+use crate::expected::{expect_number, expect_text, expect_that};
 use htmd_markdown::{begins_line, push_guarded_text, write_guarded_text};
 use std::alloc::{AllocError, Global};
 use std::test::Fail;
 
 #[test]
 fn guards_texts(rt: HostRuntime) -> Result<(), Fail> {
-    let rows = [
+    const ROWS: &[(&str, &str)] = &[
         (
             "a < b, x<y, AT&T, &copy; &#35; C# # d",
             "a \\< b, x\\<y, AT&T, \\&copy; \\&#35; C# \\# d",
@@ -26,18 +27,18 @@ fn guards_texts(rt: HostRuntime) -> Result<(), Fail> {
         ("", ""),
         ("é", "é"),
     ];
-    for (text, want) in rows {
-        let inside = write_guarded_text(rt.alloc(), text, false)?;
-        assert_eq!(rt; inside.as_str(), want, "inside a line: {text}");
-        let guarded = write_guarded_text(rt.alloc(), text, true)?;
-        assert_eq!(rt; guarded.as_str(), want, "at a line's start: {text}");
+    for &(text, want) in ROWS {
+        for is_at_start in [false, true] {
+            let guarded = write_guarded_text(rt.alloc(), text, is_at_start)?;
+            expect_text(text, guarded.as_str(), want)?;
+        }
     }
     Ok(())
 }
 
 #[test]
 fn guards_texts_that_begin_a_line(rt: HostRuntime) -> Result<(), Fail> {
-    let rows = [
+    const ROWS: &[(&str, &str)] = &[
         ("- x", "\\- x"),
         ("1. x", "1\\. x"),
         ("2) x", "2\\) x"),
@@ -56,25 +57,25 @@ fn guards_texts_that_begin_a_line(rt: HostRuntime) -> Result<(), Fail> {
         ("\u{fefb}- a", "\u{fefb}- a"),
         (" ", " "),
     ];
-    for (text, want) in rows {
+    for &(text, want) in ROWS {
         let guarded = write_guarded_text(rt.alloc(), text, true)?;
-        assert_eq!(rt; guarded.as_str(), want, "at {text}");
+        expect_text(text, guarded.as_str(), want)?;
     }
     Ok(())
 }
 
 #[test]
 fn leaves_markers_inside_a_line(rt: HostRuntime) -> Result<(), Fail> {
-    let rows = [
+    const ROWS: &[(&str, &str)] = &[
         ("- x", "- x"),
         ("2) x", "2) x"),
         ("=== b", "=== b"),
         ("> a", "> a"),
         ("\u{feff}- a", "\u{feff}- a"),
     ];
-    for (text, want) in rows {
+    for &(text, want) in ROWS {
         let guarded = write_guarded_text(rt.alloc(), text, false)?;
-        assert_eq!(rt; guarded.as_str(), want, "at {text}");
+        expect_text(text, guarded.as_str(), want)?;
     }
     Ok(())
 }
@@ -84,13 +85,12 @@ fn puts_texts_behind_others(rt: HostRuntime) -> Result<(), Fail> {
     let mut text = "1".to_string(rt.alloc())?;
     push_guarded_text(&mut text, ". x", true)?;
     push_guarded_text(&mut text, "<b>", false)?;
-    assert_eq!(rt; text.as_str(), "1\\. x\\<b>");
-    Ok(())
+    expect_text("text", text.as_str(), "1\\. x\\<b>")
 }
 
 #[test]
-fn sees_where_a_line_begins(rt: HostRuntime) -> Result<(), Fail> {
-    let rows = [
+fn sees_where_a_line_begins() -> Result<(), Fail> {
+    const ROWS: &[(&str, bool)] = &[
         ("", true),
         ("\n", true),
         ("a  \n", true),
@@ -103,20 +103,18 @@ fn sees_where_a_line_begins(rt: HostRuntime) -> Result<(), Fail> {
         ("\u{a0}", false),
         ("1)", false),
     ];
-    for (text, want) in rows {
-        assert_eq!(rt; begins_line(text), want, "at {text}");
+    for &(text, want) in ROWS {
+        expect_that(text, begins_line(text) == want)?;
     }
     Ok(())
 }
 
 #[test]
 fn looks_back_eighty_characters(rt: HostRuntime) -> Result<(), Fail> {
-    let within = repeated(rt.alloc(), "a", "1", 79)?;
-    assert!(rt; !begins_line(within.as_str()));
-    let beyond = repeated(rt.alloc(), "a", "1", 80)?;
-    assert!(rt; begins_line(beyond.as_str()));
-    let wide = repeated(rt.alloc(), "a", "\u{feff}", 80)?;
-    assert!(rt; begins_line(wide.as_str()));
+    for (text, times, want) in [("1", 79, false), ("1", 80, true), ("\u{feff}", 80, true)] {
+        let whole = repeated(rt.alloc(), "a", text, times)?;
+        expect_that(text, begins_line(whole.as_str()) == want)?;
+    }
     Ok(())
 }
 
@@ -124,12 +122,15 @@ fn looks_back_eighty_characters(rt: HostRuntime) -> Result<(), Fail> {
 fn guards_long_texts(rt: HostRuntime) -> Result<(), Fail> {
     let text = repeated(rt.alloc(), "", "&a", 30000)?;
     let guarded = write_guarded_text(rt.alloc(), text.as_str(), true)?;
-    assert_eq!(rt; guarded.len(), text.len() + 1);
+    expect_number("references", guarded.len(), text.len() + 1)
+}
+
+#[test]
+fn guards_many_brackets(rt: HostRuntime) -> Result<(), Fail> {
     let brackets = repeated(rt.alloc(), "", "[é", 30000)?;
     let guarded = write_guarded_text(rt.alloc(), brackets.as_str(), true)?;
     let want = repeated(rt.alloc(), "", "\\[é", 30000)?;
-    assert_eq!(rt; guarded.as_str(), want.as_str());
-    Ok(())
+    expect_text("brackets", guarded.as_str(), want.as_str())
 }
 
 /// A text, and after it another one this many times.

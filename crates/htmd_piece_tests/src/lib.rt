@@ -12,6 +12,8 @@ mod code_blocks;
 #[cfg(test)]
 mod code_spans;
 #[cfg(test)]
+mod expected;
+#[cfg(test)]
 mod guarded_pieces;
 #[cfg(test)]
 mod guarded_texts;
@@ -21,6 +23,8 @@ mod links;
 mod lists;
 #[cfg(test)]
 mod reader;
+#[cfg(test)]
+mod short_texts;
 #[cfg(test)]
 mod tables;
 #[cfg(test)]

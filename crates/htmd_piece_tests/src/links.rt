@@ -1,11 +1,12 @@
 //! Images, links, autolinks, references and their definitions.
 
+use crate::expected::{expect_text, expect_that};
 use htmd_markdown::*;
 use std::test::Fail;
 
 #[test]
 fn writes_images(rt: HostRuntime) -> Result<(), Fail> {
-    let cases = [
+    const ROWS: &[(&str, Option<&str>, Option<&str>, &str)] = &[
         ("/x", None, None, "![](/x)"),
         (
             "https://example.com/image name.png",
@@ -23,16 +24,16 @@ fn writes_images(rt: HostRuntime) -> Result<(), Fail> {
         ),
         ("\t", None, None, "![](\t)"),
     ];
-    for (address, alt, title, want) in cases {
+    for &(address, alt, title, want) in ROWS {
         let image = write_image(rt.alloc(), address, alt, title)?;
-        assert_eq!(rt; image.as_str(), want, "at {address}");
+        expect_text(address, image.as_str(), want)?;
     }
     Ok(())
 }
 
 #[test]
 fn writes_inline_links(rt: HostRuntime) -> Result<(), Fail> {
-    let cases = [
+    const ROWS: &[(&str, &str, Option<&str>, &str)] = &[
         ("t", "/x?a=1&b=2", None, "[t](/x?a=1&b=2)"),
         (" random ", "/", None, "[random](/) "),
         ("t", "/a(b)", None, "[t](/a\\(b\\))"),
@@ -46,16 +47,16 @@ fn writes_inline_links(rt: HostRuntime) -> Result<(), Fail> {
         (" \n\t", "", None, "[]()"),
         ("\u{a0}\nx\r\n", "a\\b", None, "[\u{a0}\nx](a\\b)\r\n"),
     ];
-    for (content, address, title, want) in cases {
+    for &(content, address, title, want) in ROWS {
         let link = write_inline_link(rt.alloc(), content, address, title)?;
-        assert_eq!(rt; link.as_str(), want, "at {content}");
+        expect_text(content, link.as_str(), want)?;
     }
     Ok(())
 }
 
 #[test]
 fn writes_autolinks(rt: HostRuntime) -> Result<(), Fail> {
-    let cases = [
+    const ROWS: &[(&str, &str, Option<&str>)] = &[
         (
             "https://example.com",
             "https://example.com",
@@ -71,25 +72,54 @@ fn writes_autolinks(rt: HostRuntime) -> Result<(), Fail> {
         ("", "", Some("<>")),
         ("a b", "a b", Some("<a b>")),
     ];
-    for (content, address, want) in cases {
+    for &(content, address, want) in ROWS {
         let link = write_autolink(rt.alloc(), content, address)?;
         let link = link.as_ref().map(|s| s.as_str());
-        assert_eq!(rt; link, want, "at {content}");
+        expect_that(content, link == want)?;
     }
     Ok(())
 }
 
 #[test]
 fn writes_references_and_definitions(rt: HostRuntime) -> Result<(), Fail> {
-    let full = LinkReferenceStyle::Full;
-    let collapsed = LinkReferenceStyle::Collapsed;
-    let shortcut = LinkReferenceStyle::Shortcut;
-    let cases = [
-        (full, 1, "t", "/a b", None, "[t][1]", "[1]: /a b"),
-        (collapsed, 1, "A", "/x", None, "[A][]", "[A]: /x"),
-        (shortcut, 7, " A ", "/x", None, "[ A ]", "[ A ]: /x"),
+    const ROWS: &[(
+        LinkReferenceStyle,
+        usize,
+        &str,
+        &str,
+        Option<&str>,
+        &str,
+        &str,
+    )] = &[
         (
-            full,
+            LinkReferenceStyle::Full,
+            1,
+            "t",
+            "/a b",
+            None,
+            "[t][1]",
+            "[1]: /a b",
+        ),
+        (
+            LinkReferenceStyle::Collapsed,
+            1,
+            "A",
+            "/x",
+            None,
+            "[A][]",
+            "[A]: /x",
+        ),
+        (
+            LinkReferenceStyle::Shortcut,
+            7,
+            " A ",
+            "/x",
+            None,
+            "[ A ]",
+            "[ A ]: /x",
+        ),
+        (
+            LinkReferenceStyle::Full,
             usize::MAX,
             "",
             "(é)",
@@ -97,13 +127,21 @@ fn writes_references_and_definitions(rt: HostRuntime) -> Result<(), Fail> {
             "[][18446744073709551615]",
             "[18446744073709551615]: \\(é\\) \"T\n\\\"U\\\"\"",
         ),
-        (shortcut, 0, "[x]", "", Some(""), "[[x]]", "[[x]]:  \"\""),
+        (
+            LinkReferenceStyle::Shortcut,
+            0,
+            "[x]",
+            "",
+            Some(""),
+            "[[x]]",
+            "[[x]]:  \"\"",
+        ),
     ];
-    for (style, number, content, address, title, reference, definition) in cases {
+    for &(style, number, content, address, title, reference, definition) in ROWS {
         let link = write_reference(rt.alloc(), style, number, content)?;
-        assert_eq!(rt; link.as_str(), reference, "at {content}");
+        expect_text(content, link.as_str(), reference)?;
         let line = write_definition(rt.alloc(), style, number, content, address, title)?;
-        assert_eq!(rt; line.as_str(), definition, "at {content}");
+        expect_text(content, line.as_str(), definition)?;
     }
     Ok(())
 }

@@ -1,12 +1,13 @@
 //! List items and lists.
 
+use crate::expected::{expect_number, expect_text, expect_that};
 use htmd_markdown::*;
 use std::alloc::{AllocError, Global};
 use std::test::Fail;
 
 #[test]
-fn reads_the_first_number(rt: HostRuntime) {
-    let cases = [
+fn reads_the_first_number() -> Result<(), Fail> {
+    const ROWS: &[(&str, u32)] = &[
         ("5", 5),
         ("+5", 5),
         ("-3", 1),
@@ -29,15 +30,15 @@ fn reads_the_first_number(rt: HostRuntime) {
         ("-2147483649", 1),
         ("99999999999999999999999", 1),
     ];
-    for (start, want) in cases {
-        assert_eq!(rt; first_number(Some(start)), want, "at {start}");
+    for &(start, want) in ROWS {
+        expect_that(start, first_number(Some(start)) == want)?;
     }
-    assert_eq!(rt; first_number(None), 1);
+    expect_that("no number", first_number(None) == 1)
 }
 
 #[test]
 fn writes_bullet_items(rt: HostRuntime) -> Result<(), Fail> {
-    let cases = [
+    const ROWS: &[(BulletListMarker, u8, &str, &str)] = &[
         (BulletListMarker::Asterisk, 3, "a", "\n*   a"),
         (BulletListMarker::Dash, 0, "a", "\n-a"),
         (BulletListMarker::Dash, 1, "", "\n- "),
@@ -48,15 +49,23 @@ fn writes_bullet_items(rt: HostRuntime) -> Result<(), Fail> {
             "\n*   a\n\n     b",
         ),
     ];
-    for (marker, spacing, content, want) in cases {
+    for &(marker, spacing, content, want) in ROWS {
         let item = write_bullet_item(rt.alloc(), marker, spacing, content)?;
-        assert_eq!(rt; item.as_str(), want, "at {content}");
+        expect_text(content, item.as_str(), want)?;
     }
-    let item = write_bullet_item(rt.alloc(), BulletListMarker::Dash, 255, "a\nb")?;
-    assert_eq!(rt; item.len(), 1 + 256 + 1 + 1 + 256 + 1);
-    let item = write_unnumbered_item(rt.alloc(), "\n\t a\n ")?;
-    assert_eq!(rt; item.as_str(), "\na\n \n");
     Ok(())
+}
+
+#[test]
+fn writes_spaced_items(rt: HostRuntime) -> Result<(), Fail> {
+    let item = write_bullet_item(rt.alloc(), BulletListMarker::Dash, 255, "a\nb")?;
+    expect_number("bytes", item.len(), 1 + 256 + 1 + 1 + 256 + 1)
+}
+
+#[test]
+fn writes_items_without_numbers(rt: HostRuntime) -> Result<(), Fail> {
+    let item = write_unnumbered_item(rt.alloc(), "\n\t a\n ")?;
+    expect_text("item", item.as_str(), "\na\n \n")
 }
 
 /// A block that is an item if the text begins with a line feed, else another one.
@@ -69,9 +78,25 @@ fn block(alloc: Global, text: &str) -> Result<ListBlock, AllocError> {
     }
 }
 
+/// The list of three blocks.
+fn expect_list(
+    alloc: Global,
+    first: u32,
+    spacing: u8,
+    texts: [&str; 3],
+    want: &str,
+) -> Result<(), Fail> {
+    let mut blocks = Vec::new(alloc);
+    for text in texts {
+        blocks.push(block(alloc, text)?)?;
+    }
+    let list = write_ordered_list(alloc, first, spacing, blocks)?;
+    expect_text(want, list.as_str(), want)
+}
+
 #[test]
 fn writes_ordered_lists(rt: HostRuntime) -> Result<(), Fail> {
-    let cases = [
+    const ROWS: &[(u32, u8, [&str; 3], &str)] = &[
         (9, 2, ["\na\n", "\nb\n", "\n"], "\n9.   a\n10.  b\n11.  "),
         (
             99999999,
@@ -94,37 +119,33 @@ fn writes_ordered_lists(rt: HostRuntime) -> Result<(), Fail> {
         ),
         (0, 2, ["x", "", "y\n\n\n"], "xy\n\n\n"),
     ];
-    for (first, spacing, texts, want) in cases {
-        let mut blocks = Vec::new(rt.alloc());
-        for text in texts {
-            blocks.push(block(rt.alloc(), text)?)?;
-        }
-        let list = write_ordered_list(rt.alloc(), first, spacing, blocks)?;
-        assert_eq!(rt; list.as_str(), want, "at {first}");
+    for &(first, spacing, texts, want) in ROWS {
+        expect_list(rt.alloc(), first, spacing, texts, want)?;
     }
-    let mut blocks = Vec::new(rt.alloc());
-    blocks.push(block(rt.alloc(), "\na\nb\n")?)?;
-    let list = write_ordered_list(rt.alloc(), u32::MAX, 255, blocks)?;
-    assert_eq!(rt; list.len(), 1 + 10 + 1 + 255 + 1 + 1 + 266 + 1);
     Ok(())
 }
 
 #[test]
+fn writes_lists_of_great_numbers(rt: HostRuntime) -> Result<(), Fail> {
+    let mut blocks = Vec::new(rt.alloc());
+    blocks.push(block(rt.alloc(), "\na\nb\n")?)?;
+    let list = write_ordered_list(rt.alloc(), u32::MAX, 255, blocks)?;
+    expect_number("bytes", list.len(), 1 + 10 + 1 + 255 + 1 + 1 + 266 + 1)
+}
+
+#[test]
 fn sets_lists_apart(rt: HostRuntime) -> Result<(), Fail> {
-    let cases = [
+    const ROWS: &[(&str, bool, Option<&str>)] = &[
         ("\n\n*   a\n", false, Some("\n\n*   a\n\n")),
         ("\n*   a\n\n", true, Some("\n*   a\n")),
         ("*", true, Some("\n*\n")),
         ("\n\n\n", false, None),
         ("", true, None),
     ];
-    for (text, is_in_item, want) in cases {
+    for &(text, is_in_item, want) in ROWS {
         let list = String::from_str(rt.alloc(), text)?;
-        match (write_list_block(list, is_in_item)?, want) {
-            (Some(block), Some(want)) => assert_eq!(rt; block.as_str(), want, "at {text}"),
-            (None, None) => {}
-            _ => panic!(rt; "at {text}"),
-        }
+        let block = write_list_block(list, is_in_item)?;
+        expect_that(text, block.as_ref().map(|s| s.as_str()) == want)?;
     }
     Ok(())
 }

@@ -1,5 +1,6 @@
 //! Texts of the greatest depth, and a page cut short and without each of its characters. What small texts denote, and
 //! where they are refused, is a family of `htmd_cases`.
+use crate::expected::{expect_text, expect_that};
 use htmd_tree::*;
 use std::alloc::Global;
 use std::test::Fail;
@@ -60,23 +61,28 @@ fn nested(alloc: Global, count: usize, closed: bool) -> Result<String, Fail> {
     Ok(html)
 }
 
+/// A text that is refused, being too deep at this place.
+fn expect_too_deep(alloc: Global, html: &str, place: usize) -> Result<(), Fail> {
+    let kind = FaultKind::TooDeep;
+    let refusal = ReadError::Refused { place, kind };
+    expect_that(
+        "too deep",
+        read_html(alloc, html, true).err() == Some(refusal),
+    )
+}
+
 #[test]
 fn depths(rt: HostRuntime) -> Result<(), Fail> {
-    let alloc = rt.alloc();
-    let kind = FaultKind::TooDeep;
-    let deepest = nested(alloc, 1022, true)?;
-    assert!(rt; read_html(alloc, deepest.as_str(), true).is_ok());
-    let deeper = nested(alloc, 1023, true)?;
-    let refusal = ReadError::Refused { place: 5110, kind };
-    assert_eq!(rt;
-        read_html(alloc, deeper.as_str(), true).err(),
-        Some(refusal)
-    );
-    let mut table = nested(alloc, 1020, false)?;
+    let deepest = nested(rt.alloc(), 1022, true)?;
+    expect_that(
+        "deepest",
+        read_html(rt.alloc(), deepest.as_str(), true).is_ok(),
+    )?;
+    let deeper = nested(rt.alloc(), 1023, true)?;
+    expect_too_deep(rt.alloc(), deeper.as_str(), 5110)?;
+    let mut table = nested(rt.alloc(), 1020, false)?;
     table.push_str("<table><tr>")?;
-    let refusal = ReadError::Refused { place: 5107, kind };
-    assert_eq!(rt; read_html(alloc, table.as_str(), true).err(), Some(refusal));
-    Ok(())
+    expect_too_deep(rt.alloc(), table.as_str(), 5107)
 }
 
 /// Whether a text is read, or refused at a place of it.
@@ -89,15 +95,19 @@ fn is_answered(alloc: Global, html: &str) -> bool {
 }
 
 #[test]
+fn reads_the_page(rt: HostRuntime) -> Result<(), Fail> {
+    expect_that("page", read_html(rt.alloc(), PAGE, true).is_ok())
+}
+
+#[test]
 fn beginnings_and_lacks(rt: HostRuntime) -> Result<(), Fail> {
     let alloc = rt.alloc();
-    assert!(rt; read_html(alloc, PAGE, true).is_ok());
     let mut beginning = String::new(alloc);
     let mut rest = PAGE.chars();
     while let Some(c) = rest.next() {
-        assert!(rt; is_answered(alloc, beginning.as_str()));
+        expect_that(beginning.as_str(), is_answered(alloc, beginning.as_str()))?;
         let less = format!(in alloc; "{beginning}{}", rest.as_str())?;
-        assert!(rt; is_answered(alloc, less.as_str()));
+        expect_that(less.as_str(), is_answered(alloc, less.as_str()))?;
         beginning.push(c)?;
     }
     Ok(())
@@ -106,9 +116,15 @@ fn beginnings_and_lacks(rt: HostRuntime) -> Result<(), Fail> {
 #[test]
 fn refusal_texts(rt: HostRuntime) -> Result<(), Fail> {
     let kind = FaultKind::StrayText;
-    let text = format!(in rt.alloc(); "{}", ReadError::Refused { place: 26, kind })?;
-    assert_eq!(rt; text.as_str(), "refused at byte 26: StrayText");
-    let text = format!(in rt.alloc(); "{}", ReadError::Memory)?;
-    assert_eq!(rt; text.as_str(), "out of memory");
+    for (error, want) in [
+        (
+            ReadError::Refused { place: 26, kind },
+            "refused at byte 26: StrayText",
+        ),
+        (ReadError::Memory, "out of memory"),
+    ] {
+        let text = format!(in rt.alloc(); "{error}")?;
+        expect_text(want, text.as_str(), want)?;
+    }
     Ok(())
 }

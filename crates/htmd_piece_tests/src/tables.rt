@@ -1,5 +1,6 @@
 //! Tables, and their rows.
 
+use crate::expected::{expect_text, expect_that};
 use htmd_markdown::*;
 use std::alloc::{AllocError, Global};
 use std::test::Fail;
@@ -42,80 +43,93 @@ fn is_row_of(line: &str, cells: &[&str]) -> bool {
 
 #[test]
 fn rows_are_read_back(rt: HostRuntime) -> Result<(), Fail> {
-    let alloc = rt.alloc();
     let widths: [usize; 3] = [0, 4, 1];
-    let cells = pair(alloc, "\ta|\r\nb ", "||")?;
-    let line = row(alloc, cells.as_slice(), widths.as_slice())?;
-    assert!(rt; is_row_of(line.as_str(), ["a&#124; b", "&#124;&#124;", ""].as_slice()));
-    let cells = pair(alloc, "e\u{301} 漢", "\u{3000}x\u{3000}")?;
-    let line = row(alloc, cells.as_slice(), widths.as_slice())?;
-    assert!(rt;
-        is_row_of(
-            line.as_str(),
-            ["e\u{301} 漢", "\u{3000}x\u{3000}", ""].as_slice()
-        )
-    );
-    assert!(rt;
-        !is_row_of(
-            line.as_str(),
-            ["e\u{301} 漢", "\u{3000}x\u{3000}"].as_slice()
-        )
-    );
-    Ok(())
+    let cells = pair(rt.alloc(), "\ta|\r\nb ", "||")?;
+    let line = row(rt.alloc(), cells.as_slice(), widths.as_slice())?;
+    let read = ["a&#124; b", "&#124;&#124;", ""];
+    expect_that("bars", is_row_of(line.as_str(), read.as_slice()))
+}
+
+#[test]
+fn wide_rows_are_read_back(rt: HostRuntime) -> Result<(), Fail> {
+    let widths: [usize; 3] = [0, 4, 1];
+    let cells = pair(rt.alloc(), "e\u{301} 漢", "\u{3000}x\u{3000}")?;
+    let line = row(rt.alloc(), cells.as_slice(), widths.as_slice())?;
+    let read = ["e\u{301} 漢", "\u{3000}x\u{3000}", ""];
+    expect_that("three", is_row_of(line.as_str(), read.as_slice()))?;
+    let read = ["e\u{301} 漢", "\u{3000}x\u{3000}"];
+    expect_that("two", !is_row_of(line.as_str(), read.as_slice()))
+}
+
+/// The row of two cells.
+fn expect_row(
+    alloc: Global,
+    cells: (&str, &str),
+    widths: &[usize],
+    want: &str,
+) -> Result<(), Fail> {
+    let cells = pair(alloc, cells.0, cells.1)?;
+    let line = row(alloc, cells.as_slice(), widths)?;
+    expect_text(want, line.as_str(), want)
 }
 
 #[test]
 fn rows_are_padded(rt: HostRuntime) -> Result<(), Fail> {
-    let alloc = rt.alloc();
-    let bars = pair(alloc, "a|b", "")?;
-    let widths: [usize; 2] = [3, 1];
-    let line = row(alloc, bars.as_slice(), widths.as_slice())?;
-    assert_eq!(rt; line.as_str(), "| a&#124;b |   |\n");
-    let mut cells = Vec::new(alloc);
-    cells.push(String::from_str(alloc, "a\rb\nc")?)?;
-    let widths: [usize; 1] = [0];
-    let line = row(alloc, cells.as_slice(), widths.as_slice())?;
-    assert_eq!(rt; line.as_str(), "| ab c |\n");
-    let widths: [usize; 3] = [3, 1, 2];
-    let bars = pair(alloc, "a|b", "")?;
-    let line = row(alloc, bars.as_slice(), widths.as_slice())?;
-    assert_eq!(rt; line.as_str(), "| a&#124;b |   |    |\n");
-    let wide = pair(alloc, "漢字", "\r\n x \ty\n")?;
-    let line = row(alloc, wide.as_slice(), widths.as_slice())?;
-    assert_eq!(rt; line.as_str(), "| 漢字  | x \ty |    |\n");
+    let two: [usize; 2] = [3, 1];
+    expect_row(
+        rt.alloc(),
+        ("a|b", ""),
+        two.as_slice(),
+        "| a&#124;b |   |\n",
+    )?;
+    let three: [usize; 3] = [3, 1, 2];
+    for (cells, want) in [
+        (("a|b", ""), "| a&#124;b |   |    |\n"),
+        (("漢字", "\r\n x \ty\n"), "| 漢字  | x \ty |    |\n"),
+    ] {
+        expect_row(rt.alloc(), cells, three.as_slice(), want)?;
+    }
     Ok(())
+}
+
+#[test]
+fn rows_may_have_one_cell(rt: HostRuntime) -> Result<(), Fail> {
+    let mut cells = Vec::new(rt.alloc());
+    cells.push(String::from_str(rt.alloc(), "a\rb\nc")?)?;
+    let widths: [usize; 1] = [0];
+    let line = row(rt.alloc(), cells.as_slice(), widths.as_slice())?;
+    expect_text("row", line.as_str(), "| ab c |\n")
 }
 
 #[test]
 fn tables_have_even_lines(rt: HostRuntime) -> Result<(), Fail> {
-    let alloc = rt.alloc();
-    let headers = pair(alloc, "漢字", "x")?;
-    let mut rows = Vec::new(alloc);
-    rows.push(pair(alloc, "e\u{301}a", "")?)?;
-    rows.push(pair(alloc, "\u{3000}", "z")?)?;
-    let table = write_table(alloc, headers.as_slice(), rows.as_slice())?;
+    let headers = pair(rt.alloc(), "漢字", "x")?;
+    let mut rows = Vec::new(rt.alloc());
+    rows.push(pair(rt.alloc(), "e\u{301}a", "")?)?;
+    rows.push(pair(rt.alloc(), "\u{3000}", "z")?)?;
+    let table = write_table(rt.alloc(), headers.as_slice(), rows.as_slice())?;
     let lines = "| 漢字  | x |\n| --- | - |\n| e\u{301}a |   |\n| \u{3000}   | z |\n";
-    assert_eq!(rt; table.as_str(), lines);
-    Ok(())
+    expect_text("table", table.as_str(), lines)
+}
+
+/// The row of two cells, in Guarded.
+fn expect_guarded_row(alloc: Global, cells: (&str, &str), want: &str) -> Result<(), Fail> {
+    let widths: [usize; 2] = [3, 1];
+    let cells = pair(alloc, cells.0, cells.1)?;
+    let line = guarded_row(alloc, cells.as_slice(), widths.as_slice())?;
+    expect_text(want, line.as_str(), want)
 }
 
 #[test]
 fn guarded_bars_stand_behind_backslashes(rt: HostRuntime) -> Result<(), Fail> {
-    let alloc = rt.alloc();
-    let widths: [usize; 2] = [3, 1];
-    let cells = [
+    const ROWS: &[(&str, &str, &str)] = &[
         ("a|b", "", "| a\\|b |   |\n"),
         ("a\\|b\\", "|", "| a\\|b\\ | \\| |\n"),
         ("\\\\|", "\\\r|\n\\\n|", "| \\\\\\| | \\| \\ \\| |\n"),
         ("é\r\n|", "x", "| é \\| | x |\n"),
     ];
-    for (first, second, want) in cells {
-        let line = guarded_row(
-            alloc,
-            pair(alloc, first, second)?.as_slice(),
-            widths.as_slice(),
-        )?;
-        assert_eq!(rt; line.as_str(), want, "at {first}");
+    for &(first, second, want) in ROWS {
+        expect_guarded_row(rt.alloc(), (first, second), want)?;
     }
     Ok(())
 }
@@ -130,14 +144,12 @@ fn guarded_row(alloc: Global, cells: &[String], widths: &[usize]) -> Result<Stri
 
 #[test]
 fn guarded_columns_are_three_wide(rt: HostRuntime) -> Result<(), Fail> {
-    let alloc = rt.alloc();
-    let headers = pair(alloc, "A|B", "")?;
-    let mut rows = Vec::new(alloc);
-    let mut row = Vec::new(alloc);
-    row.push(String::from_str(alloc, "`c|d`")?)?;
+    let headers = pair(rt.alloc(), "A|B", "")?;
+    let mut row = Vec::new(rt.alloc());
+    row.push(String::from_str(rt.alloc(), "`c|d`")?)?;
+    let mut rows = Vec::new(rt.alloc());
     rows.push(row)?;
-    let table = write_guarded_table(alloc, headers.as_slice(), rows.as_slice())?;
+    let table = write_guarded_table(rt.alloc(), headers.as_slice(), rows.as_slice())?;
     let lines = "| A\\|B   |     |\n| ------ | --- |\n| `c\\|d` |     |\n";
-    assert_eq!(rt; table.as_str(), lines);
-    Ok(())
+    expect_text("table", table.as_str(), lines)
 }

@@ -1,5 +1,6 @@
 //! Tokens of texts, written by hand from the HTML Standard. `checks/refused_memory`, a part of the gate, refuses each
 //! request of the first test in turn.
+use crate::expected::{expect_number, expect_text, expect_that};
 use htmd_html5_tokens::*;
 use htmd_tree::Attribute;
 use std::alloc::{AllocError, Global};
@@ -45,6 +46,25 @@ fn is_wanted(token: &Token<'_>, want: Want) -> bool {
     }
 }
 
+fn expect_token(row: &str, token: &Token, want: Want) -> Result<(), Fail> {
+    if is_wanted(token, want) {
+        return Ok(());
+    }
+    Err(Fail::new(format_args!("at {row:?}: {token:?}, not {want:?}")))
+}
+
+/// The first token of a text.
+fn expect_first(
+    alloc: Global,
+    content: Content,
+    foreign: bool,
+    text: &str,
+    want: Want,
+) -> Result<(), Fail> {
+    let token = Tokenizer::new(text).next(alloc, content, foreign)?;
+    expect_token(text, &token, want)
+}
+
 /// The next token, at a second try if need be.
 fn next<'a>(tokenizer: &mut Tokenizer<'a>, alloc: Global) -> Result<Token<'a>, AllocError> {
     match tokenizer.next(alloc, Content::Normal, false) {
@@ -68,7 +88,7 @@ fn takes_each_kind(rt: HostRuntime) -> Result<(), Fail> {
         "\u{feff}<!DOCTYPE html>\r\n<!--c-->\r<P Id='&lt;' ID=2 class>a&amp;b&copy</p><br/></>&notit;</>\0";
     let text = read(alloc, page)?;
     let mut tokenizer = Tokenizer::new(&text);
-    for want in [
+    const ROWS: &[Want] = &[
         Want::Doctype(false),
         Want::Text("\n"),
         Want::Comment("c"),
@@ -80,18 +100,17 @@ fn takes_each_kind(rt: HostRuntime) -> Result<(), Fail> {
         Want::Text("\u{ac}it;\0"),
         Want::EndOfFile,
         Want::EndOfFile,
-    ] {
+    ];
+    for &want in ROWS {
         let token = next(&mut tokenizer, alloc)?;
-        assert!(rt; is_wanted(&token, want), "{token:?}");
+        expect_token(page, &token, want)?;
     }
-    assert_eq!(rt; tokenizer.left(), 0);
-    Ok(())
+    expect_number("left", tokenizer.left(), 0)
 }
 
 #[test]
 fn takes_what_is_wrong(rt: HostRuntime) -> Result<(), Fail> {
-    let alloc = rt.alloc();
-    for (text, want) in [
+    const ROWS: &[(&str, Want)] = &[
         (
             "<a\0B \0c=\0>",
             Want::Start("a\u{fffd}b", &[("\u{fffd}c", "\u{fffd}")], false),
@@ -134,17 +153,16 @@ fn takes_what_is_wrong(rt: HostRuntime) -> Result<(), Fail> {
             "<!DOCTYPE html PUBLIC '-//W3C//DTD HTML 4.01 Transitional//EN' ''>",
             Want::Doctype(false),
         ),
-    ] {
-        let token = Tokenizer::new(text).next(alloc, Content::Normal, false)?;
-        assert!(rt; is_wanted(&token, want), "{text}: {token:?}");
+    ];
+    for &(text, want) in ROWS {
+        expect_first(rt.alloc(), Content::Normal, false, text, want)?;
     }
     Ok(())
 }
 
 #[test]
 fn takes_raw_texts_and_sections(rt: HostRuntime) -> Result<(), Fail> {
-    let alloc = rt.alloc();
-    for (content, foreign, text, want) in [
+    const ROWS: &[(Content, bool, &str, Want)] = &[
         (
             Content::Raw(RawElement::Title),
             false,
@@ -189,9 +207,9 @@ fn takes_raw_texts_and_sections(rt: HostRuntime) -> Result<(), Fail> {
             Want::Text("a]]&lt;\0"),
         ),
         (Content::Normal, true, "<![CDATA[a]]", Want::Text("a]]")),
-    ] {
-        let token = Tokenizer::new(text).next(alloc, content, foreign)?;
-        assert!(rt; is_wanted(&token, want), "{text}: {token:?}");
+    ];
+    for &(content, foreign, text, want) in ROWS {
+        expect_first(rt.alloc(), content, foreign, text, want)?;
     }
     Ok(())
 }
@@ -207,32 +225,47 @@ fn with_many_attributes(alloc: Global) -> Result<String, Fail> {
     Ok(html)
 }
 
-#[test]
-fn takes_a_thousand_attributes(rt: HostRuntime) -> Result<(), Fail> {
-    let html = with_many_attributes(rt.alloc())?;
-    let token = Tokenizer::new(html.as_str()).next(rt.alloc(), Content::Normal, false)?;
+/// A start tag with a thousand attributes, whose values are their numbers.
+fn expect_many_attributes(alloc: Global, token: &Token) -> Result<(), Fail> {
     let Token::StartTag(tag) = token else {
         return Err(Fail::from("it is a start tag"));
     };
-    assert_eq!(rt; tag.attributes.len(), 1000);
+    expect_number("attributes", tag.attributes.len(), 1000)?;
     for (i, attribute) in tag.attributes.iter().enumerate() {
-        let number = format!(in rt.alloc(); "{i}")?;
-        assert_eq!(rt; attribute.value.as_str(), number.as_str());
+        let number = format!(in alloc; "{i}")?;
+        expect_text("attribute", attribute.value.as_str(), number.as_str())?;
     }
     Ok(())
 }
 
 #[test]
-fn takes_many_references(rt: HostRuntime) -> Result<(), Fail> {
-    let mut text = String::new(rt.alloc());
+fn takes_a_thousand_attributes(rt: HostRuntime) -> Result<(), Fail> {
+    let html = with_many_attributes(rt.alloc())?;
+    let token = Tokenizer::new(html.as_str()).next(rt.alloc(), Content::Normal, false)?;
+    expect_many_attributes(rt.alloc(), &token)
+}
+
+/// This reference, a hundred thousand times.
+fn many_references(alloc: Global) -> Result<String, AllocError> {
+    let mut text = String::new(alloc);
     for _ in 0..100_000 {
         text.push_str("&amp")?;
     }
-    let token = Tokenizer::new(text.as_str()).next(rt.alloc(), Content::Normal, false)?;
-    let Token::Text(read) = token else {
+    Ok(text)
+}
+
+/// A text of a hundred thousand of this byte.
+fn expect_many(token: &Token) -> Result<(), Fail> {
+    let Token::Text(text) = token else {
         return Err(Fail::from("it is a text"));
     };
-    assert_eq!(rt; read.len(), 100_000);
-    assert!(rt; read.as_bytes().iter().all(|byte| *byte == b'&'));
-    Ok(())
+    expect_number("bytes", text.len(), 100_000)?;
+    expect_that("each", text.as_bytes().iter().all(|byte| *byte == b'&'))
+}
+
+#[test]
+fn takes_many_references(rt: HostRuntime) -> Result<(), Fail> {
+    let text = many_references(rt.alloc())?;
+    let token = Tokenizer::new(text.as_str()).next(rt.alloc(), Content::Normal, false)?;
+    expect_many(&token)
 }

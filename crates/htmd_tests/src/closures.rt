@@ -3,6 +3,7 @@ ghost use Rattle.std.specs.Prelude.{◌≡◌, ◌++◌, Some, None, IfOk, codes
 ghost use Rattle.htmd.specs.Handling.{nothing, content_of_children, content_of_fallback};
 ghost use Rattle.htmd.specs.Views.{optional_result};
 
+use crate::expected::expect_text;
 use htmd::HtmlToMarkdown;
 use htmd::element_handler::{Element, FnHandler, HandlerResult, HandlerRule, Plan};
 use std::alloc::{AllocError, Global};
@@ -68,7 +69,7 @@ fn keeps_a_text(rt: HostRuntime) -> Result<(), Fail> {
     let converter = builder.build();
     for (html, markdown) in [("<p>a</p>", "a!"), ("<p>a</p>b", "a!b")] {
         let answer = converter.convert(rt.alloc(), html)?;
-        assert_eq!(rt; answer.as_str(), markdown);
+        expect_text(html, answer.as_str(), markdown)?;
     }
     Ok(())
 }
@@ -107,8 +108,7 @@ fn asks_the_newest_first(rt: HostRuntime) -> Result<(), Fail> {
     };
     let converter = builder.build();
     let answer = converter.convert(rt.alloc(), "<b>a</b><i>gone</i><u> c</u>")?;
-    assert_eq!(rt; answer.as_str(), "a! c");
-    Ok(())
+    expect_text("newest", answer.as_str(), "a! c")
 }
 
 // Closures may skip what the built-in handler would give.
@@ -127,6 +127,5 @@ fn passes_over(rt: HostRuntime) -> Result<(), Fail> {
     };
     let converter = builder.build();
     let answer = converter.convert(rt.alloc(), "a<hr><b>c</b>")?;
-    assert_eq!(rt; answer.as_str(), "a**c**");
-    Ok(())
+    expect_text("skipped", answer.as_str(), "a**c**")
 }

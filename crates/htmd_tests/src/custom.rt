@@ -1,5 +1,6 @@
 //! Handlers of your own: what they are shown, what they may ask for, and in what order they are asked.
 use crate::builders::{faithful, referenced, with_handler};
+use crate::expected::expect_text;
 use crate::handlers::{
     AsRawHtml, FirstBelow, FirstChild, GivesNothing, NeedsId, PassesOn, Says, TellsDue, TellsFlag,
     TextAlone,
@@ -45,47 +46,64 @@ fn says(alloc: Global, text: &str, markdown_translated: bool) -> Result<Says, Fa
 // the seam adds the blank lines of a block.
 #[test]
 fn takes_texts(rt: HostRuntime) -> Result<(), Fail> {
-    let page = "<p>a <x>gone</x> b</p>";
-    let table: [(&str, &str, &str, &str); 8] = [
-        ("x", "[Svg Image]", page, "a [Svg Image] b"),
-        ("x", "", page, "a b"),
-        ("x", "\n\n\n", page, "a \n\n b"),
-        ("x", "\r", page, "a \r b"),
-        ("x", "\n- c\n", page, "a \n- c\n b"),
-        ("x", " ", page, "a b"),
+    const PAGE: &str = "<p>a <x>gone</x> b</p>";
+    const ROWS: &[(&str, &str, &str, &str)] = &[
+        ("x", "[Svg Image]", PAGE, "a [Svg Image] b"),
+        ("x", "", PAGE, "a b"),
+        ("x", "\n\n\n", PAGE, "a \n\n b"),
+        ("x", "\r", PAGE, "a \r b"),
+        ("x", "\n- c\n", PAGE, "a \n- c\n b"),
+        ("x", " ", PAGE, "a b"),
         ("svg", "[Svg Image]", "<svg></svg>", "[Svg Image]"),
         ("span", "[s]", "<p><span>x</span></p>", "[s]"),
     ];
-    for (tag, text, html, markdown) in table {
+    for &(tag, text, html, markdown) in ROWS {
         let handler: Box<dyn ElementHandler> = Box::new(rt.alloc(), says(rt.alloc(), text, true)?)?;
         let answer = with_one(rt.alloc(), tag, handler, html)?;
-        assert_eq!(rt; answer.as_str(), markdown, "{text:?}");
+        expect_text(text, answer.as_str(), markdown)?;
     }
     Ok(())
+}
+
+// The Markdown of a page with one handler for `x`, and one for a tag that tells the flag.
+fn flagged(
+    alloc: Global,
+    handler: Box<dyn ElementHandler>,
+    tag: &str,
+    html: &str,
+) -> Result<String, Fail> {
+    let builder = with_handler(HtmlToMarkdown::builder(alloc)?, &["x"], handler)?;
+    let flag: Box<dyn ElementHandler> = Box::new(alloc, TellsFlag)?;
+    let builder = with_handler(builder, &[tag], flag)?;
+    page_by(alloc, &builder.build(), html)
 }
 
 // The flag of a result is told to those above, even in Pure, and even past elements without handlers; a list hides it.
 #[test]
 fn tells_flags(rt: HostRuntime) -> Result<(), Fail> {
-    let table: [(&str, &str, &str); 5] = [
+    const ROWS: &[(&str, &str, &str)] = &[
         ("p", "<p><span><x></x></span></p>", "F"),
         ("p", "<p><mark><x></x></mark></p>", "F"),
         ("p", "<p><span>a</span></p>", "T"),
         ("div", "<div><ul><x></x></ul></div>", "T"),
         ("section", "<section><div><x></x></div></section>", "T"),
     ];
-    for (tag, html, markdown) in table {
+    for &(tag, html, markdown) in ROWS {
         let raw: Box<dyn ElementHandler> = Box::new(rt.alloc(), AsRawHtml)?;
-        let flag: Box<dyn ElementHandler> = Box::new(rt.alloc(), TellsFlag)?;
-        let builder = with_handler(HtmlToMarkdown::builder(rt.alloc())?, &["x"], raw)?;
-        let converter = with_handler(builder, &[tag], flag)?.build();
-        expect_pages_by(rt.alloc(), &converter, &[(html, markdown)])?;
+        expect_text(
+            html,
+            flagged(rt.alloc(), raw, tag, html)?.as_str(),
+            markdown,
+        )?;
     }
+    Ok(())
+}
+
+#[test]
+fn tells_flags_of_texts(rt: HostRuntime) -> Result<(), Fail> {
     let unsure: Box<dyn ElementHandler> = Box::new(rt.alloc(), says(rt.alloc(), "x", false)?)?;
-    let flag: Box<dyn ElementHandler> = Box::new(rt.alloc(), TellsFlag)?;
-    let builder = with_handler(HtmlToMarkdown::builder(rt.alloc())?, &["x"], unsure)?;
-    let converter = with_handler(builder, &["p"], flag)?.build();
-    expect_pages_by(rt.alloc(), &converter, &[("<p><x></x></p>", "F")])
+    let answer = flagged(rt.alloc(), unsure, "p", "<p><x></x></p>")?;
+    expect_text("p", answer.as_str(), "F")
 }
 
 // Raw HTML of an element without a block name shows its content, and a group its joined text.
@@ -106,14 +124,14 @@ fn gives_raw_html(rt: HostRuntime) -> Result<(), Fail> {
 // A group shows its joined text, and an element with other children none.
 #[test]
 fn shows_texts(rt: HostRuntime) -> Result<(), Fail> {
-    let table: &[(&str, &str)] = &[
+    const ROWS: &[(&str, &str)] = &[
         ("<i>a</i><em>b</em>", "ab"),
         ("<i> * </i>", " *"),
         ("<i>a<b>b</b></i>", ""),
         ("<i></i>", ""),
     ];
     let handler: Box<dyn ElementHandler> = Box::new(rt.alloc(), TextAlone)?;
-    expect_pages_of(rt.alloc(), &["i"], handler, table)
+    expect_pages_of(rt.alloc(), &["i"], handler, ROWS)
 }
 
 // A descendant is handed over by itself: below `pre` its white space is kept, and a text is ordinary.
@@ -131,27 +149,34 @@ fn asks_for_descendants(rt: HostRuntime) -> Result<(), Fail> {
     expect_pages_of(rt.alloc(), &["delegate"], handler, table)
 }
 
-// The deepest node that a tree has, a text at level 1,024, is 1,021 levels below a child of the body.
-#[test]
-fn asks_for_the_deepest_node(rt: HostRuntime) -> Result<(), Fail> {
-    let mut html = String::from_str(rt.alloc(), "a <delegate>")?;
-    for _ in 0..1020 {
+// A text this many elements below another.
+fn nested(alloc: Global, levels: usize) -> Result<String, Fail> {
+    let mut html = String::from_str(alloc, "a <delegate>")?;
+    for _ in 0..levels {
         html.push_str("<i>")?;
     }
     html.push_str("*b*")?;
-    for _ in 0..1020 {
+    for _ in 0..levels {
         html.push_str("</i>")?;
     }
     html.push_str("</delegate> c")?;
-    for (levels, markdown) in [
+    Ok(html)
+}
+
+// The deepest node that a tree has, a text at level 1,024, is 1,021 levels below a child of the body.
+#[test]
+fn asks_for_the_deepest_node(rt: HostRuntime) -> Result<(), Fail> {
+    let html = nested(rt.alloc(), 1020)?;
+    const ROWS: &[(usize, &str)] = &[
         (1021, "a \\*b\\* c"),
         (2000, "a \\*b\\* c"),
         (1020, "a *\\*b\\** c"),
         (0, "a c"),
-    ] {
+    ];
+    for &(levels, markdown) in ROWS {
         let handler: Box<dyn ElementHandler> = Box::new(rt.alloc(), FirstBelow { levels })?;
         let answer = with_one(rt.alloc(), "delegate", handler, html.as_str())?;
-        assert_eq!(rt; answer.as_str(), markdown, "{levels}");
+        expect_text(markdown, answer.as_str(), markdown)?;
     }
     Ok(())
 }
@@ -177,7 +202,11 @@ fn falls_back(rt: HostRuntime) -> Result<(), Fail> {
         ("a<br id=i>b", "a  \nb"),
     ];
     let handler: Box<dyn ElementHandler> = Box::new(rt.alloc(), NeedsId)?;
-    expect_pages_of(rt.alloc(), tags, handler, table)?;
+    expect_pages_of(rt.alloc(), tags, handler, table)
+}
+
+#[test]
+fn falls_back_on_texts(rt: HostRuntime) -> Result<(), Fail> {
     let joined: &[(&str, &str)] = &[(
         "<pre><code><span>sudo apt update\n</span><span>sudo apt install curl\n</span></code></pre>",
         "```\nsudo apt update\nsudo apt install curl\n```",
@@ -191,12 +220,22 @@ fn passes_on(alloc: Global, appended: &str) -> Result<PassesOn, Fail> {
     Ok(PassesOn { appended })
 }
 
+// The Markdown of a page with two handlers, each of which puts a text after a conversion.
+fn with_texts(alloc: Global, first: &str, second: &str, html: &str) -> Result<String, Fail> {
+    let builder = HtmlToMarkdown::builder(alloc)?.options(referenced());
+    let handler: Box<dyn ElementHandler> = Box::new(alloc, passes_on(alloc, first)?)?;
+    let builder = with_handler(builder, &["q"], handler)?;
+    let handler: Box<dyn ElementHandler> = Box::new(alloc, passes_on(alloc, second)?)?;
+    let builder = with_handler(builder, &["r"], handler)?;
+    page_by(alloc, &builder.build(), html)
+}
+
 // The texts after a conversion come in order of registration, the final line feeds cut only once, and those of
 // definitions before all others.
 #[test]
 fn puts_texts_after_a_conversion(rt: HostRuntime) -> Result<(), Fail> {
-    let link = "<a href=\"/x\">t</a>";
-    let table: [(&str, &str, &str, &str); 6] = [
+    const LINK: &str = "<a href=\"/x\">t</a>";
+    const ROWS: &[(&str, &str, &str, &str)] = &[
         ("\n\nA\n", "\n\nB\n\n", "<p>t</p>", "t\n\nA\n\n\nB"),
         ("", "", "<p>t</p>", "t"),
         ("\n\n", "\n", "<p>t</p>", "t"),
@@ -205,17 +244,13 @@ fn puts_texts_after_a_conversion(rt: HostRuntime) -> Result<(), Fail> {
         (
             "\n\nA\n",
             "\n\nB\n\n",
-            link,
+            LINK,
             "[t][1]\n\n[1]: /x\n\n\n\nA\n\n\nB",
         ),
     ];
-    for (first, second, html, markdown) in table {
-        let builder = HtmlToMarkdown::builder(rt.alloc())?.options(referenced());
-        let first: Box<dyn ElementHandler> = Box::new(rt.alloc(), passes_on(rt.alloc(), first)?)?;
-        let second: Box<dyn ElementHandler> = Box::new(rt.alloc(), passes_on(rt.alloc(), second)?)?;
-        let builder = with_handler(builder, &["q"], first)?;
-        let builder = with_handler(builder, &["r"], second)?;
-        expect_pages_by(rt.alloc(), &builder.build(), &[(html, markdown)])?;
+    for &(first, second, html, markdown) in ROWS {
+        let answer = with_texts(rt.alloc(), first, second, html)?;
+        expect_text(first, answer.as_str(), markdown)?;
     }
     Ok(())
 }
@@ -227,10 +262,18 @@ fn registers_twice(rt: HostRuntime) -> Result<(), Fail> {
     expect_pages_of(rt.alloc(), &["b", "b"], handler, &[("<b>x</b>", "**x**")])
 }
 
+// What is told of a page with these options.
+fn due(alloc: Global, options: Options, allowed: i64, html: &str) -> Result<String, Fail> {
+    let handler: Box<dyn ElementHandler> = Box::new(alloc, TellsDue { allowed })?;
+    let builder = HtmlToMarkdown::builder(alloc)?.options(options);
+    let converter = with_handler(builder, &["x"], handler)?.build();
+    page_by(alloc, &converter, html)
+}
+
 // Raw HTML is due only in Faithful, if there are more attributes than are allowed, which may be fewer than none.
 #[test]
 fn asks_whether_raw_html_is_due(rt: HostRuntime) -> Result<(), Fail> {
-    let table: [(i64, &str, &str); 6] = [
+    const ROWS: &[(i64, &str, &str)] = &[
         (-1, "<x></x>", "T"),
         (0, "<x></x>", "F"),
         (0, "<x a></x>", "T"),
@@ -238,14 +281,11 @@ fn asks_whether_raw_html_is_due(rt: HostRuntime) -> Result<(), Fail> {
         (1, "<x a b></x>", "T"),
         (i64::MIN, "<x></x>", "T"),
     ];
-    for (allowed, html, markdown) in table {
-        for (options, wanted) in [(faithful(), markdown), (Options::default(), "F")] {
-            let handler: Box<dyn ElementHandler> = Box::new(rt.alloc(), TellsDue { allowed })?;
-            let builder = HtmlToMarkdown::builder(rt.alloc())?.options(options);
-            let converter = with_handler(builder, &["x"], handler)?.build();
-            let answer = page_by(rt.alloc(), &converter, html)?;
-            assert_eq!(rt; answer.as_str(), wanted, "{html:?} {allowed}");
-        }
+    for &(allowed, html, markdown) in ROWS {
+        let answer = due(rt.alloc(), faithful(), allowed, html)?;
+        expect_text(html, answer.as_str(), markdown)?;
+        let answer = due(rt.alloc(), Options::default(), allowed, html)?;
+        expect_text(html, answer.as_str(), "F")?;
     }
     Ok(())
 }

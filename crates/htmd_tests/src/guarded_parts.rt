@@ -1,5 +1,6 @@
 //! Each short text as a paragraph in Guarded, whole and in two parts, read back by a reader of its own.
 use crate::builders::guarded;
+use crate::expected::expect_that;
 use crate::inline_reader::text_of_line;
 use crate::rows::{Row, built};
 use htmd::HtmlToMarkdown;
@@ -7,7 +8,7 @@ use std::alloc::{AllocError, Global};
 use std::test::Fail;
 
 /// How many texts of each length there are.
-const COUNTS: [(usize, usize); 5] = [(0, 1), (1, 10), (2, 100), (3, 1_000), (4, 10_000)];
+const COUNTS: &[(usize, usize)] = &[(0, 1), (1, 10), (2, 100), (3, 1_000), (4, 10_000)];
 
 // The text of this length with this number, in two parts: this many characters, and the others.
 fn parts_of(
@@ -52,18 +53,23 @@ fn read_back(alloc: Global, converter: &HtmlToMarkdown, row: Row) -> Result<Opti
     Ok(text_of_line(alloc, markdown.as_str())?)
 }
 
+// Fails unless what is read of a text as a paragraph is what it shows.
+fn expect_shown(alloc: Global, converter: &HtmlToMarkdown, text: &str) -> Result<(), Fail> {
+    let row: Row = &[(0, "p", ""), (1, "", text)];
+    let answer = read_back(alloc, converter, row)?;
+    let want = shown(alloc, text, "")?;
+    expect_that(text, answer.as_deref() == Some(want.as_str()))
+}
+
 #[test]
 fn shows_each_short_text(rt: HostRuntime) -> Result<(), Fail> {
     let converter = HtmlToMarkdown::builder(rt.alloc())?
         .options(guarded())
         .build();
-    for (len, count) in COUNTS {
+    for &(len, count) in COUNTS {
         for number in 0..count {
             let (text, _) = parts_of(rt.alloc(), len, number, len)?;
-            let row: Row = &[(0, "p", ""), (1, "", text.as_str())];
-            let answer = read_back(rt.alloc(), &converter, row)?;
-            let want = shown(rt.alloc(), text.as_str(), "")?;
-            assert_eq!(rt; answer.as_deref(), Some(want.as_str()), "{text:?}");
+            expect_shown(rt.alloc(), &converter, text.as_str())?;
         }
     }
     Ok(())
@@ -115,7 +121,7 @@ fn first_wrong(
     spanned: Spanned,
 ) -> Result<Option<(usize, usize)>, Fail> {
     let converter = HtmlToMarkdown::builder(alloc)?.options(guarded()).build();
-    for (len, count) in COUNTS {
+    for &(len, count) in COUNTS {
         if len <= first_len {
             continue;
         }
@@ -134,7 +140,7 @@ fn shows_texts_cut_before_and_in_a_span(rt: HostRuntime) -> Result<(), Fail> {
     for first_len in 1..4 {
         for spanned in [Spanned::First, Spanned::Second] {
             let wrong = first_wrong(rt.alloc(), first_len, spanned)?;
-            assert_eq!(rt; wrong, None, "cut after {first_len}");
+            expect_that("cut", wrong == None)?;
         }
     }
     Ok(())

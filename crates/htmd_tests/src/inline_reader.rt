@@ -1,5 +1,6 @@
 //! A reader of one line of Markdown that should show only text, by CommonMark 0.31.2. It shares nothing with the code
 //! or the definitions, and takes more for markup than CommonMark does: a mark that stands alone counts too.
+use crate::expected::expect_that;
 use std::alloc::{AllocError, Global};
 use std::test::Fail;
 
@@ -118,7 +119,7 @@ fn is_underline(line: &str) -> bool {
 
 #[test]
 fn tells_markup_from_text(rt: HostRuntime) -> Result<(), Fail> {
-    let table: [(&str, Option<&str>); 46] = [
+    const ROWS: &[(&str, Option<&str>)] = &[
         ("a", Some("a")),
         ("  a b  ", Some("a b")),
         ("", Some("")),
@@ -169,9 +170,9 @@ fn tells_markup_from_text(rt: HostRuntime) -> Result<(), Fail> {
         ("    a", None),
         ("a\nb", None),
     ];
-    for (line, text) in table {
+    for &(line, text) in ROWS {
         let answer = text_of_line(rt.alloc(), line)?;
-        assert_eq!(rt; answer.as_deref(), text, "{line:?}");
+        expect_that(line, answer.as_deref() == text)?;
     }
     Ok(())
 }

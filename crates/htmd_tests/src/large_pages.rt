@@ -1,6 +1,7 @@
 //! Pages that no one writes by hand, as browsers read them. None is refused. No node stands below level 1,024: what
 //! would stand there follows the element at that level. And of the formatting elements that are open, a paragraph
 //! reopens the sixteen newest.
+use crate::expected::expect_text;
 use htmd::HtmlToMarkdown;
 use htmd::options::{Options, TranslationMode};
 use std::alloc::{AllocError, Global};
@@ -42,53 +43,73 @@ fn push_marked(
     Ok(())
 }
 
+// Fails unless this is the Markdown of a page, in this mode.
+fn expect_markdown(
+    alloc: Global,
+    translation_mode: TranslationMode,
+    html: &str,
+    markdown: &str,
+) -> Result<(), Fail> {
+    let options = Options {
+        translation_mode,
+        ..Options::default()
+    };
+    let converter = HtmlToMarkdown::builder(alloc)?.options(options).build();
+    let answer = converter.convert_html5(alloc, html)?;
+    expect_text("page", answer.as_str(), markdown)
+}
+
 #[test]
 fn reads_a_million_open_elements(rt: HostRuntime) -> Result<(), Fail> {
     let mut html = repeated(rt.alloc(), "<div>", 1_000_000)?;
     html.push_str("x")?;
-    let converter = HtmlToMarkdown::new(rt.alloc())?;
-    let markdown = converter.convert_html5(rt.alloc(), html.as_str())?;
-    assert_eq!(rt; markdown.as_str(), "x");
-    Ok(())
+    expect_markdown(rt.alloc(), TranslationMode::Pure, html.as_str(), "x")
+}
+
+// A page with a hundred thousand open elements.
+fn with_open_elements(alloc: Global) -> Result<String, AllocError> {
+    let mut html = String::from_str(alloc, "<p>")?;
+    let tags = numbered(alloc, "<b a=", ">", 100_000)?;
+    html.push_str(tags.as_str())?;
+    html.push_str("x<p>y")?;
+    Ok(html)
 }
 
 // `html`, `body` and `p` stand at levels 1 to 3, so the `b` of number 1,021 is the deepest. It and all after it hold
 // nothing, and the text follows them in the one of number 1,020.
 #[test]
 fn reopens_sixteen_elements(rt: HostRuntime) -> Result<(), Fail> {
-    let mut html = String::from_str(rt.alloc(), "<p>")?;
-    let tags = numbered(rt.alloc(), "<b a=", ">", 100_000)?;
-    html.push_str(tags.as_str())?;
-    html.push_str("x<p>y")?;
+    let html = with_open_elements(rt.alloc())?;
     let mut wanted = String::new(rt.alloc());
     push_marked(rt.alloc(), &mut wanted, "x", 1_020)?;
     wanted.push_str("\n\n")?;
     push_marked(rt.alloc(), &mut wanted, "y", 16)?;
-    let converter = HtmlToMarkdown::new(rt.alloc())?;
-    let markdown = converter.convert_html5(rt.alloc(), html.as_str())?;
-    assert_eq!(rt; markdown.as_str(), wanted.as_str());
-    Ok(())
+    expect_markdown(
+        rt.alloc(),
+        TranslationMode::Pure,
+        html.as_str(),
+        wanted.as_str(),
+    )
+}
+
+// A paragraph's start tag with a thousand attributes, and then this.
+fn with_attributes(alloc: Global, after: &str, end: &str) -> Result<String, AllocError> {
+    let mut html = String::from_str(alloc, "<p")?;
+    let attributes = numbered(alloc, " a", after, 1_000)?;
+    html.push_str(attributes.as_str())?;
+    html.push_str(end)?;
+    Ok(html)
 }
 
 // The first of them a second time counts for nothing.
 #[test]
 fn keeps_a_thousand_attributes(rt: HostRuntime) -> Result<(), Fail> {
-    let mut html = String::from_str(rt.alloc(), "<p")?;
-    let names = numbered(rt.alloc(), " a", "", 1_000)?;
-    html.push_str(names.as_str())?;
-    html.push_str(" a\u{10000}=z>x")?;
-    let mut wanted = String::from_str(rt.alloc(), "<p")?;
-    let attributes = numbered(rt.alloc(), " a", "=\"\"", 1_000)?;
-    wanted.push_str(attributes.as_str())?;
-    wanted.push_str(">x</p>")?;
-    let options = Options {
-        translation_mode: TranslationMode::Faithful,
-        ..Options::default()
-    };
-    let converter = HtmlToMarkdown::builder(rt.alloc())?
-        .options(options)
-        .build();
-    let markdown = converter.convert_html5(rt.alloc(), html.as_str())?;
-    assert_eq!(rt; markdown.as_str(), wanted.as_str());
-    Ok(())
+    let html = with_attributes(rt.alloc(), "", " a\u{10000}=z>x")?;
+    let wanted = with_attributes(rt.alloc(), "=\"\"", ">x</p>")?;
+    expect_markdown(
+        rt.alloc(),
+        TranslationMode::Faithful,
+        html.as_str(),
+        wanted.as_str(),
+    )
 }

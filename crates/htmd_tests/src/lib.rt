@@ -16,6 +16,8 @@ mod depth;
 #[cfg(test)]
 mod errors;
 #[cfg(test)]
+mod expected;
+#[cfg(test)]
 mod guarded_parts;
 #[cfg(test)]
 mod handlers;

@@ -1,8 +1,10 @@
 //! What is handed back when a request for memory is refused: all is as before, and the same call with the same values
 //! then answers as it would have. `checks/refused_memory`, a part of the gate, refuses each request of these tests in
 //! turn; each test passes whichever it is.
+use crate::expected::expect_text;
 use crate::handlers::TextAlone;
 use crate::refusals::{answered, answered_with};
+use crate::registry::expect_found;
 use htmd::element_handler::{ElementHandler, ElementHandlers};
 use htmd::options::Options;
 use htmd::{HtmlToMarkdown, HtmlToMarkdownBuilder};
@@ -55,8 +57,7 @@ fn hands_back_builders(rt: HostRuntime) -> Result<(), Fail> {
     let builder = with_handler(builder, handler)?;
     let html = "<p>1<a href=/x>2</a><i>3</i><u>4</u><b>5</b></p>";
     let answer = answered(rt.alloc(), &builder.build(), html)?;
-    assert_eq!(rt; answer.as_str(), "134");
-    Ok(())
+    expect_text(html, answer.as_str(), "134")
 }
 
 // A registry that refused a handler finds what it found before, and then takes the handler.
@@ -69,7 +70,7 @@ fn hands_back_handlers(rt: HostRuntime) -> Result<(), Fail> {
     let handler: Box<dyn ElementHandler> = text_alone(rt.alloc())?;
     if let Err(refused) = handlers.add_handler(&["a", "u", "a"], handler) {
         for (tag, skipped, place) in [("a", 0, Some(1)), ("a", 1, None), ("u", 0, None)] {
-            assert_eq!(rt; handlers.find_handler(tag, skipped), place);
+            expect_found(&handlers, tag, skipped, place)?;
         }
         if handlers
             .add_handler(&["a", "u", "a"], refused.handler)
@@ -78,7 +79,7 @@ fn hands_back_handlers(rt: HostRuntime) -> Result<(), Fail> {
             return Err(Fail::from("one request is refused"));
         }
     }
-    let table: [(&str, usize, Option<usize>); 6] = [
+    const ROWS: &[(&str, usize, Option<usize>)] = &[
         ("a", 0, Some(23)),
         ("a", 1, Some(23)),
         ("a", 2, Some(1)),
@@ -86,12 +87,8 @@ fn hands_back_handlers(rt: HostRuntime) -> Result<(), Fail> {
         ("u", 0, Some(23)),
         ("u", 1, None),
     ];
-    for (tag, skipped, place) in table {
-        assert_eq!(rt;
-            handlers.find_handler(tag, skipped),
-            place,
-            "{tag} {skipped}"
-        );
+    for &(tag, skipped, place) in ROWS {
+        expect_found(&handlers, tag, skipped, place)?;
     }
     Ok(())
 }
@@ -103,6 +100,5 @@ fn converts_after_a_refusal(rt: HostRuntime) -> Result<(), Fail> {
         "<h1>A <em>page</em></h1><ol><li><a href=/x>b_c</a></li></ol><pre><code>d</code></pre>";
     let markdown = "# A *page*\n\n1.  [b\\_c](/x)\n\n```\nd\n```";
     let answer = answered_with(rt.alloc(), Options::default(), html)?;
-    assert_eq!(rt; answer.as_str(), markdown);
-    Ok(())
+    expect_text(html, answer.as_str(), markdown)
 }

@@ -1,4 +1,5 @@
 //! The trees of pages, node by node.
+use crate::expected::expect_text;
 use htmd::{HtmlToMarkdown, NodeData, NodeId, Tree};
 use std::alloc::Global;
 use std::test::Fail;
@@ -41,6 +42,17 @@ fn first_of(alloc: Global, tree: &Tree, name: &str) -> Result<NodeId, Fail> {
     Err(Fail::from("there is such a node"))
 }
 
+// A mark of what a node is, and its text or name.
+fn parts_of(data: &NodeData) -> (&str, &str) {
+    match data {
+        NodeData::Document => ("", "document"),
+        NodeData::Doctype => ("", "doctype"),
+        NodeData::Text(text) => ("\"", text.as_str()),
+        NodeData::Comment(text) => ("!", text.as_str()),
+        NodeData::Element { name, .. } => ("", name.as_str()),
+    }
+}
+
 // A line for each node in document order: a full stop for each node above it, and what it is.
 fn outline(alloc: Global, tree: &Tree) -> Result<String, Fail> {
     let mut lines = String::new(alloc);
@@ -51,19 +63,9 @@ fn outline(alloc: Global, tree: &Tree) -> Result<String, Fail> {
         for _ in 0..tree.depth(node) {
             lines.push('.')?;
         }
-        match tree.data(node) {
-            NodeData::Document => lines.push_str("document")?,
-            NodeData::Doctype => lines.push_str("doctype")?,
-            NodeData::Text(text) => {
-                lines.push('"')?;
-                lines.push_str(text.as_str())?;
-            }
-            NodeData::Comment(text) => {
-                lines.push('!')?;
-                lines.push_str(text.as_str())?;
-            }
-            NodeData::Element { name, .. } => lines.push_str(name.as_str())?,
-        }
+        let (mark, text) = parts_of(tree.data(node));
+        lines.push_str(mark)?;
+        lines.push_str(text)?;
         lines.push('\n')?;
     }
     Ok(lines)
@@ -85,31 +87,42 @@ fn reads_trees(rt: HostRuntime) -> Result<(), Fail> {
     let converter = HtmlToMarkdown::new(rt.alloc())?;
     for (html, lines) in table {
         let tree = converter.html_to_tree(rt.alloc(), html)?;
-        assert_eq!(rt; outline(rt.alloc(), &tree)?.as_str(), lines, "{html:?}");
+        expect_text(html, outline(rt.alloc(), &tree)?.as_str(), lines)?;
     }
     Ok(())
+}
+
+// Fails unless this is the Markdown of a page's tree from the first node with this name on.
+fn expect_from(
+    alloc: Global,
+    converter: &HtmlToMarkdown,
+    html: &str,
+    start: &str,
+    markdown: &str,
+) -> Result<(), Fail> {
+    let tree = converter.html_to_tree(alloc, html)?;
+    let node = first_of(alloc, &tree, start)?;
+    if !tree.contains(node) {
+        return Err(Fail::from("a node is in the tree"));
+    }
+    let answer = converter.tree_to_markdown(alloc, &tree, node)?;
+    expect_text(start, answer.as_str(), markdown)
 }
 
 // A subtree that starts below `pre` keeps its white space; a text that is handed over is ordinary.
 #[test]
 fn starts_anywhere(rt: HostRuntime) -> Result<(), Fail> {
-    let literal = "<pre><span>  *literal*  \nsecond</span></pre>";
-    let marked = "<pre><mark>  *l*</mark></pre>";
-    let table: [(&str, &str, &str); 4] = [
-        (literal, "span", "  *literal*  \nsecond"),
-        (literal, "#text", "\\*literal\\* second"),
-        (marked, "mark", "  *l*"),
-        (marked, "#text", "\\*l\\*"),
+    const LITERAL: &str = "<pre><span>  *literal*  \nsecond</span></pre>";
+    const MARKED: &str = "<pre><mark>  *l*</mark></pre>";
+    const ROWS: &[(&str, &str, &str)] = &[
+        (LITERAL, "span", "  *literal*  \nsecond"),
+        (LITERAL, "#text", "\\*literal\\* second"),
+        (MARKED, "mark", "  *l*"),
+        (MARKED, "#text", "\\*l\\*"),
     ];
     let converter = HtmlToMarkdown::new(rt.alloc())?;
-    for (html, start, markdown) in table {
-        let tree = converter.html_to_tree(rt.alloc(), html)?;
-        let node = first_of(rt.alloc(), &tree, start)?;
-        if !tree.contains(node) {
-            return Err(Fail::from("a node is in the tree"));
-        }
-        let answer = converter.tree_to_markdown(rt.alloc(), &tree, node)?;
-        assert_eq!(rt; answer.as_str(), markdown, "{html:?} from {start}");
+    for &(html, start, markdown) in ROWS {
+        expect_from(rt.alloc(), &converter, html, start, markdown)?;
     }
     Ok(())
 }

@@ -1,4 +1,5 @@
 //! Which elements the walk goes past, without asking their handlers.
+use crate::expected::expect_that;
 use crate::handlers::PassesOn;
 use htmd::element_handler::{ElementHandler, ElementHandlers, Registry};
 use htmd::options::{Options, TranslationMode};
@@ -40,20 +41,18 @@ fn passes(alloc: Global, handlers: &ElementHandlers, tag: &str, class: &str) -> 
 // In Pure the walk goes past a `span` that isn't a formula. An element without handlers has none to ask.
 #[test]
 fn goes_past_elements(rt: HostRuntime) -> Result<(), Fail> {
-    let pure = TranslationMode::Pure;
-    let faithful = TranslationMode::Faithful;
-    let table: [(TranslationMode, &str, &str, bool); 6] = [
-        (pure, "span", "", true),
-        (pure, "mark", "", false),
-        (pure, "p", "", false),
-        (pure, "span", "math math-inline", false),
-        (faithful, "mark", "", false),
-        (faithful, "span", "", false),
+    const ROWS: &[(TranslationMode, &str, &str, bool)] = &[
+        (TranslationMode::Pure, "span", "", true),
+        (TranslationMode::Pure, "mark", "", false),
+        (TranslationMode::Pure, "p", "", false),
+        (TranslationMode::Pure, "span", "math math-inline", false),
+        (TranslationMode::Faithful, "mark", "", false),
+        (TranslationMode::Faithful, "span", "", false),
     ];
-    for (mode, tag, class, is_past) in table {
+    for &(mode, tag, class, is_past) in ROWS {
         let handlers = ElementHandlers::new(rt.alloc(), options_in(mode))?;
         let answer = passes(rt.alloc(), &handlers, tag, class)?;
-        assert_eq!(rt; answer, is_past, "{tag} {class:?}");
+        expect_that(tag, answer == is_past)?;
     }
     Ok(())
 }
@@ -62,11 +61,10 @@ fn goes_past_elements(rt: HostRuntime) -> Result<(), Fail> {
 #[test]
 fn asks_handlers_of_ones_own(rt: HostRuntime) -> Result<(), Fail> {
     let mut handlers = ElementHandlers::new(rt.alloc(), Options::default())?;
-    assert!(rt; passes(rt.alloc(), &handlers, "span", "")?);
+    expect_that("before", passes(rt.alloc(), &handlers, "span", "")?)?;
     let handler: Box<dyn ElementHandler> = Box::new(rt.alloc(), PassesOn { appended: None })?;
     if handlers.add_handler(&["span"], handler).is_err() {
         return Err(Fail::from("there is memory"));
     }
-    assert!(rt; !passes(rt.alloc(), &handlers, "span", "")?);
-    Ok(())
+    expect_that("after", !passes(rt.alloc(), &handlers, "span", "")?)
 }

@@ -2,6 +2,7 @@
 //! the same converter and tree give the page's own at the next try. `checks/refused_memory`, a part of the gate,
 //! refuses each request in turn.
 use crate::builders::{faithful, referenced};
+use crate::expected::{expect_text, expect_that};
 use crate::handlers::{FirstChild, PassesOn};
 use htmd::element_handler::ElementHandler;
 use htmd::options::{Options, TranslationMode};
@@ -87,16 +88,14 @@ fn writes_a_table(rt: HostRuntime) -> Result<(), Fail> {
         "<table><thead><tr><th>A</th></tr></thead><tbody><tr><td>b|c</td><td>d</td></tr></tbody></table>";
     let markdown = "| A        |   |\n| -------- | - |\n| b&#124;c | d |";
     let answer = answered_with(rt.alloc(), Options::default(), html)?;
-    assert_eq!(rt; answer.as_str(), markdown);
-    Ok(())
+    expect_text(html, answer.as_str(), markdown)
 }
 
 #[test]
 fn refers_from_captions(rt: HostRuntime) -> Result<(), Fail> {
     let html = "<table><caption><a href=\"/x\">C</a></caption><thead></thead></table>";
     let answer = answered_with(rt.alloc(), referenced(), html)?;
-    assert_eq!(rt; answer.as_str(), "[C][2]\n\n[1]: /x\n[2]: /x");
-    Ok(())
+    expect_text(html, answer.as_str(), "[C][2]\n\n[1]: /x\n[2]: /x")
 }
 
 #[test]
@@ -104,8 +103,7 @@ fn writes_raw_html(rt: HostRuntime) -> Result<(), Fail> {
     let html = "<details>\n    <summary>Test\n\n        1</summary>\n    Test 2\n</details>";
     let markdown = "<details>\n    <summary>Test\n&#10;        1</summary>\n    Test 2\n</details>";
     let answer = answered_with(rt.alloc(), faithful(), html)?;
-    assert_eq!(rt; answer.as_str(), markdown);
-    Ok(())
+    expect_text(html, answer.as_str(), markdown)
 }
 
 #[test]
@@ -118,8 +116,7 @@ fn passes_on(rt: HostRuntime) -> Result<(), Fail> {
         "<pre><code><span>sudo apt update\n</span><span>sudo apt install curl\n</span></code></pre>";
     let markdown = "```\nsudo apt update\nsudo apt install curl\n```";
     let answer = answered_by(rt.alloc(), "span", handler, html)?;
-    assert_eq!(rt; answer.as_str(), markdown);
-    Ok(())
+    expect_text(html, answer.as_str(), markdown)
 }
 
 #[test]
@@ -130,8 +127,7 @@ fn asks_for_a_descendant(rt: HostRuntime) -> Result<(), Fail> {
     };
     let html = "<pre><delegate><mark>  *literal*  \nsecond</mark></delegate></pre>";
     let answer = answered_by(rt.alloc(), "delegate", handler, html)?;
-    assert_eq!(rt; answer.as_str(), "  *literal*  \nsecond");
-    Ok(())
+    expect_text(html, answer.as_str(), "  *literal*  \nsecond")
 }
 
 #[test]
@@ -143,8 +139,13 @@ fn keeps_definitions(rt: HostRuntime) -> Result<(), Fail> {
     let html = "<ol><li><a href=\"/x\">A</a></li><li foo>b</li></ol>";
     let markdown = "<ol><li><a href=\"/x\">A</a></li><li foo=\"\">b</li></ol>\n\n[1]: /x";
     let answer = answered_with(rt.alloc(), options, html)?;
-    assert_eq!(rt; answer.as_str(), markdown);
-    Ok(())
+    expect_text(html, answer.as_str(), markdown)
+}
+
+// Whether this refuses an element that is open at byte 6.
+fn is_open(error: Option<ConvertError>) -> bool {
+    let kind = FaultKind::Unclosed;
+    error == Some(ConvertError::Refused { place: 6, kind })
 }
 
 #[test]
@@ -154,19 +155,10 @@ fn refuses_an_open_element(rt: HostRuntime) -> Result<(), Fail> {
         Err(_) => HtmlToMarkdown::builder(rt.alloc())?,
     };
     let converter = builder.build();
-    let refused = ConvertError::Refused {
-        place: 6,
-        kind: FaultKind::Unclosed,
-    };
-    match asked(rt.alloc(), &converter, "<div>a") {
-        Ok(_) => return Err(Fail::from("an element is open")),
-        Err(error) => assert_eq!(rt; error, refused),
-    }
-    match asked_tree(rt.alloc(), &converter, "<div>a") {
-        Ok(_) => return Err(Fail::from("an element is open")),
-        Err(error) => assert_eq!(rt; error, refused),
-    }
-    Ok(())
+    let answer = asked(rt.alloc(), &converter, "<div>a");
+    expect_that("page", is_open(answer.err()))?;
+    let answer = asked_tree(rt.alloc(), &converter, "<div>a");
+    expect_that("tree", is_open(answer.err()))
 }
 
 // A page with end tags left out, as browsers read it.
@@ -178,6 +170,5 @@ fn converts_a_broken_page(rt: HostRuntime) -> Result<(), Fail> {
     };
     let html = "<ul><li>a<li>b</ul><p>x<b>y<p>z";
     let markdown = asked_any(rt.alloc(), &converter, html)?;
-    assert_eq!(rt; markdown.as_str(), "*   a\n*   b\n\nx**y**\n\n**z**");
-    Ok(())
+    expect_text(html, markdown.as_str(), "*   a\n*   b\n\nx**y**\n\n**z**")
 }

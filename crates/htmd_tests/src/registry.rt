@@ -1,26 +1,31 @@
 //! The registry by itself: which handlers are asked, and what they make of an element.
+use crate::expected::{expect_text, expect_that};
 use crate::handlers::PassesOn;
 use htmd::element_handler::{ElementHandler, ElementHandlers, Links};
 use htmd::options::Options;
-use htmd::{NodeData, Tree};
+use htmd::{NodeData, NodeId, Tree};
+use std::alloc::Global;
 use std::test::Fail;
+
+/// Fails unless this is the handler that is found for a tag, after so many others.
+pub(crate) fn expect_found(
+    handlers: &ElementHandlers,
+    tag: &str,
+    skipped: usize,
+    place: Option<usize>,
+) -> Result<(), Fail> {
+    expect_that(tag, handlers.find_handler(tag, skipped) == place)
+}
 
 // A built-in handler is found whichever of its tags is asked for.
 #[test]
 fn finds_built_in_handlers(rt: HostRuntime) -> Result<(), Fail> {
     let handlers = ElementHandlers::new(rt.alloc(), Options::default())?;
-    assert_eq!(rt; handlers.find_handler("a", 0), Some(1));
-    assert_eq!(rt;
-        handlers.find_handler("h1", 0),
-        handlers.find_handler("h6", 0)
-    );
-    assert!(rt; handlers.find_handler("p", 0).is_some());
+    expect_found(&handlers, "a", 0, Some(1))?;
+    expect_found(&handlers, "h1", 0, handlers.find_handler("h6", 0))?;
+    expect_that("p", handlers.find_handler("p", 0).is_some())?;
     for (tag, skipped) in [("p", 1), ("u", 0), ("", 0)] {
-        assert_eq!(rt;
-            handlers.find_handler(tag, skipped),
-            None,
-            "{tag} {skipped}"
-        );
+        expect_found(&handlers, tag, skipped, None)?;
     }
     Ok(())
 }
@@ -29,21 +34,41 @@ fn finds_built_in_handlers(rt: HostRuntime) -> Result<(), Fail> {
 #[test]
 fn finds_repeated_handlers(rt: HostRuntime) -> Result<(), Fail> {
     let mut handlers = ElementHandlers::new(rt.alloc(), Options::default())?;
-    assert_eq!(rt; handlers.find_handler("a", 0), Some(1));
+    expect_found(&handlers, "a", 0, Some(1))?;
     let handler: Box<dyn ElementHandler> = Box::new(rt.alloc(), PassesOn { appended: None })?;
     if handlers.add_handler(&["a", "a"], handler).is_err() {
         return Err(Fail::from("there is memory"));
     }
-    let table: [(usize, Option<usize>); 4] = [
+    const ROWS: &[(usize, Option<usize>)] = &[
         (0, Some(23)),
         (1, Some(23)),
         (2, Some(1)),
         (3, None),
     ];
-    for (skipped, place) in table {
-        assert_eq!(rt; handlers.find_handler("a", skipped), place, "{skipped}");
+    for &(skipped, place) in ROWS {
+        expect_found(&handlers, "a", skipped, place)?;
     }
     Ok(())
+}
+
+// Fails unless the handler after so many others gives this Markdown.
+fn expect_handled(
+    alloc: Global,
+    handlers: &ElementHandlers,
+    tree: &Tree,
+    node: NodeId,
+    skipped: usize,
+    content: &str,
+) -> Result<(), Fail> {
+    if !tree.contains(node) || !matches!(tree.data(node), NodeData::Element { .. }) {
+        return Err(Fail::from("an element was added"));
+    }
+    let mut links = Links::new(alloc);
+    let answer = handlers.handle(alloc, tree, node, true, skipped, &mut links)?;
+    expect_that(content, links.lines().is_empty())?;
+    let result = answer.ok_or("a handler answers")?;
+    expect_that(content, result.markdown_translated)?;
+    expect_text(content, result.content.as_str(), content)
 }
 
 #[test]
@@ -53,16 +78,6 @@ fn handles_an_element(rt: HostRuntime) -> Result<(), Fail> {
     let root = tree.root();
     let bold = tree.add_element(root, "b", Vec::new(rt.alloc()))?;
     tree.add_text(bold, "C ")?;
-    let mut links = Links::new(rt.alloc());
-    for (skipped, content) in [(0, "**C** "), (1, "C ")] {
-        if !matches!(tree.data(bold), NodeData::Element { .. }) {
-            return Err(Fail::from("an element was added"));
-        }
-        let answer = handlers.handle(rt.alloc(), &tree, bold, true, skipped, &mut links)?;
-        let result = answer.ok_or("a handler answers")?;
-        assert_eq!(rt; result.content.as_str(), content);
-        assert!(rt; result.markdown_translated);
-    }
-    assert!(rt; links.lines().is_empty());
-    Ok(())
+    expect_handled(rt.alloc(), &handlers, &tree, bold, 0, "**C** ")?;
+    expect_handled(rt.alloc(), &handlers, &tree, bold, 1, "C ")
 }

@@ -2,6 +2,7 @@
 ghost use Rattle.std.specs.Prelude.{None};
 ghost use Rattle.htmd.specs.Handling.{nothing};
 
+use crate::expected::{expect_number, expect_text, expect_that};
 use htmd::element_handler::{HandlerRule, is_raw_html_due};
 use htmd::options::{
     BrStyle, BulletListMarker, CodeBlockFence, CodeBlockStyle, HeadingStyle, HrStyle,
@@ -38,8 +39,7 @@ fn has_types(rt: HostRuntime) -> Result<(), Fail> {
     let _: Option<htmd::NodeId> = None;
     let _: Option<htmd::Attribute> = None;
     let markdown = htmd::convert(rt.alloc(), "<b>a</b>")?;
-    assert_eq!(rt; markdown.as_str(), "**a**");
-    Ok(())
+    expect_text("markdown", markdown.as_str(), "**a**")
 }
 
 // The types of handlers.
@@ -51,10 +51,9 @@ fn has_types_of_handlers(rt: HostRuntime) -> Result<(), Fail> {
     let _: Option<htmd::element_handler::Plan> = None;
     let _: Option<htmd::element_handler::FnHandler<Nothing, u8, u8>> = None;
     let links = htmd::element_handler::Links::new(rt.alloc());
-    assert_eq!(rt; links.lines().len(), 0);
+    expect_number("lines", links.lines().len(), 0)?;
     let result = htmd::element_handler::HandlerResult::from_text(rt.alloc(), "a")?;
-    assert_eq!(rt; result.content.as_str(), "a");
-    Ok(())
+    expect_text("result", result.content.as_str(), "a")
 }
 
 // What a closure is shown, and how it is added.
@@ -86,13 +85,12 @@ fn has_closures(rt: HostRuntime) -> Result<(), Fail> {
         return Err(Fail::from("there is memory"));
     };
     let answer = builder.build().convert(rt.alloc(), "a<b>c</b>")?;
-    assert_eq!(rt; answer.as_str(), "a");
-    Ok(())
+    expect_text("markdown", answer.as_str(), "a")
 }
 
 // Each option has its values.
 #[test]
-fn has_options(rt: HostRuntime) -> Result<(), Fail> {
+fn has_options() -> Result<(), Fail> {
     let _ = [HeadingStyle::Atx, HeadingStyle::Setex];
     let _ = [HrStyle::Dashes, HrStyle::Asterisks, HrStyle::Underscores];
     let _ = [BrStyle::TwoSpaces, BrStyle::Backslash];
@@ -128,22 +126,25 @@ fn has_options(rt: HostRuntime) -> Result<(), Fail> {
         preformatted_code,
         translation_mode: _,
     } = Options::default();
-    assert_eq!(rt; ul_bullet_spacing, 3);
-    assert_eq!(rt; ol_number_spacing, 2);
-    assert_eq!(rt; preformatted_code, false);
-    Ok(())
+    expect_that("bullets", ul_bullet_spacing == 3)?;
+    expect_that("numbers", ol_number_spacing == 2)?;
+    expect_that("code", !preformatted_code)
 }
 
-// The writers of pieces.
+// The writers of pieces of code.
 #[test]
-fn has_writers(rt: HostRuntime) -> Result<(), Fail> {
+fn has_writers_of_code(rt: HostRuntime) -> Result<(), Fail> {
     let span = htmd::laws::write_span(rt.alloc(), "a", false)?;
-    assert_eq!(rt; span.as_str(), "`a`");
+    expect_text("span", span.as_str(), "`a`")?;
     let fence = htmd::laws::write_fence(rt.alloc(), "a", None, CodeBlockFence::Tildes)?;
-    assert_eq!(rt; fence.as_str(), "~~~\na\n~~~");
+    expect_text("fence", fence.as_str(), "~~~\na\n~~~")
+}
+
+// The writers of pieces of tables.
+#[test]
+fn has_writers_of_tables(rt: HostRuntime) -> Result<(), Fail> {
     let row = htmd::laws::write_row(rt.alloc(), &[], &[])?;
-    assert_eq!(rt; row.as_str(), "|\n");
+    expect_text("row", row.as_str(), "|\n")?;
     let table = htmd::laws::write_table(rt.alloc(), &[], &[])?;
-    assert_eq!(rt; table.as_str(), "");
-    Ok(())
+    expect_text("table", table.as_str(), "")
 }

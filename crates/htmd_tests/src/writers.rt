@@ -1,4 +1,5 @@
 //! The writers of pieces, as they are called by handlers of your own.
+use crate::expected::expect_text;
 use htmd::laws::{write_fence, write_row, write_span, write_table};
 use htmd::options::CodeBlockFence;
 use std::alloc::{AllocError, Global};
@@ -14,32 +15,36 @@ fn cells(alloc: Global, texts: &[&str]) -> Result<Vec<String>, AllocError> {
 
 #[test]
 fn writes_spans(rt: HostRuntime) -> Result<(), Fail> {
-    let table: [(&str, bool, &str); 5] = [
+    const ROWS: &[(&str, bool, &str)] = &[
         ("a`", false, "`` a` ``"),
         ("", false, "``"),
         ("a", false, "`a`"),
         (" a\nb ", false, "`a\nb`"),
         ("a\nb", true, "`a b`"),
     ];
-    for (text, preformatted_code, span) in table {
+    for &(text, preformatted_code, span) in ROWS {
         let answer = write_span(rt.alloc(), text, preformatted_code)?;
-        assert_eq!(rt; answer.as_str(), span, "{text:?}");
+        expect_text(text, answer.as_str(), span)?;
     }
     Ok(())
 }
 
 #[test]
 fn writes_fences(rt: HostRuntime) -> Result<(), Fail> {
-    let backticks = CodeBlockFence::Backticks;
-    let table: [(&str, Option<&str>, CodeBlockFence, &str); 4] = [
-        ("a\r", None, backticks, "```\na\r\n```"),
-        ("\n", None, backticks, "```\n\n```"),
-        ("a\n", Some("rust"), backticks, "```rust\na\n```"),
+    const ROWS: &[(&str, Option<&str>, CodeBlockFence, &str)] = &[
+        ("a\r", None, CodeBlockFence::Backticks, "```\na\r\n```"),
+        ("\n", None, CodeBlockFence::Backticks, "```\n\n```"),
+        (
+            "a\n",
+            Some("rust"),
+            CodeBlockFence::Backticks,
+            "```rust\na\n```",
+        ),
         ("~~~", None, CodeBlockFence::Tildes, "~~~~\n~~~\n~~~~"),
     ];
-    for (text, language, symbol, fence) in table {
+    for &(text, language, symbol, fence) in ROWS {
         let answer = write_fence(rt.alloc(), text, language, symbol)?;
-        assert_eq!(rt; answer.as_str(), fence, "{text:?}");
+        expect_text(text, answer.as_str(), fence)?;
     }
     Ok(())
 }
@@ -57,19 +62,26 @@ fn writes_rows(rt: HostRuntime) -> Result<(), Fail> {
             return Err(Fail::from("each cell has a width"));
         }
         let answer = write_row(rt.alloc(), cells.as_slice(), widths)?;
-        assert_eq!(rt; answer.as_str(), row);
+        expect_text(row, answer.as_str(), row)?;
     }
     Ok(())
 }
 
+// Fails unless this is the table of headers and one row of one cell.
+fn expect_table(alloc: Global, headers: &[&str], table: &str) -> Result<(), Fail> {
+    let headers = cells(alloc, headers)?;
+    let mut rows = Vec::new(alloc);
+    rows.push(cells(alloc, &["1"])?)?;
+    let answer = write_table(alloc, headers.as_slice(), rows.as_slice())?;
+    expect_text(table, answer.as_str(), table)
+}
+
 #[test]
 fn writes_tables(rt: HostRuntime) -> Result<(), Fail> {
-    let headers = cells(rt.alloc(), &["A", "bb"])?;
-    let mut rows = Vec::new(rt.alloc());
-    rows.push(cells(rt.alloc(), &["1"])?)?;
-    let answer = write_table(rt.alloc(), headers.as_slice(), rows.as_slice())?;
-    assert_eq!(rt; answer.as_str(), "| A | bb |\n| - | -- |\n| 1 |    |\n");
-    let answer = write_table(rt.alloc(), &[], rows.as_slice())?;
-    assert_eq!(rt; answer.as_str(), "| 1 |\n");
-    Ok(())
+    expect_table(
+        rt.alloc(),
+        &["A", "bb"],
+        "| A | bb |\n| - | -- |\n| 1 |    |\n",
+    )?;
+    expect_table(rt.alloc(), &[], "| 1 |\n")
 }
