@@ -1,7 +1,7 @@
 //! Any page as browsers read it, by the program: in each encoding, and in rows. Pages whose answer is a text are the
 //! family `html5` of `htmd_cases`.
 use crate::calls::{called_within, expect_answer, expect_called, expect_within};
-use crate::expected::{expect_text, expect_that};
+use htmd_expected::{expect_text, expect_that};
 use std::test::Fail;
 
 const PAGE: &str = "<ul><li>a<li>b</ul><p>x<b>y<p>z";

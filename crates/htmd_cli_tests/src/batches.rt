@@ -1,8 +1,8 @@
 //! Runs on the rows of a batch.
 use crate::calls::{expect_answer, expect_called, expect_within, strings};
 use crate::doubles::{Dripping, Narrow};
-use crate::expected::{expect_number, expect_text, expect_that};
 use htmd_cli::{Input, command, read_field, write_field};
+use htmd_expected::{expect_number, expect_text, expect_that};
 use std::alloc::{AllocError, Global};
 use std::test::Fail;
 

@@ -1,7 +1,7 @@
 //! Calls of the program on options and bytes, and what they leave.
 use crate::doubles::{Dripping, Narrow};
-use crate::expected::{expect_number, expect_text, expect_that};
 use htmd_cli::{Sink, Source, command};
+use htmd_expected::{expect_number, expect_text, expect_that};
 use std::alloc::{AllocError, Global};
 use std::test::Fail;
 

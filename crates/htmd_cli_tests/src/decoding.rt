@@ -1,8 +1,8 @@
 //! Bytes when nothing says how they are encoded, by the Encoding Standard. `checks/refused_memory`, a part of the gate,
 //! refuses each request of the first two tests in turn, which then end out of memory, and all requests of the third,
 //! which passes.
-use crate::expected::{expect_text, expect_that};
 use htmd_cli::decoded;
+use htmd_expected::{expect_text, expect_that};
 use std::borrow::CowStr;
 use std::test::Fail;
 

@@ -1,6 +1,6 @@
 //! Runs over readers and writers that give and take one byte for each call, and fail at a call or are interrupted.
-use crate::expected::expect_that;
 use htmd_cli::{Input, Mode, Output, RunError, Sink, Source, run};
+use htmd_expected::expect_that;
 use std::alloc::Global;
 use std::io;
 use std::io::{ErrorKind, Read, Write};

@@ -1,7 +1,7 @@
 //! The texts of errors of runs, as they are displayed and for debugging.
-use crate::expected::expect_text;
 use htmd::{ConvertError, FaultKind};
 use htmd_cli::{Failed, Mode, RunError};
+use htmd_expected::expect_text;
 use std::test::Fail;
 
 #[test]

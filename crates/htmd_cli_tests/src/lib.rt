@@ -18,7 +18,6 @@ mod ends;
 #[cfg(test)]
 mod errors;
 #[cfg(test)]
-mod expected;
 #[cfg(test)]
 mod explanations;
 #[cfg(test)]

@@ -1,9 +1,9 @@
 //! Runs on pages of HTML.
 use crate::calls::{called, expect_answer, expect_called};
 use crate::doubles::{Dripping, Narrow};
-use crate::expected::{expect_number, expect_that};
 use htmd::FaultKind;
 use htmd_cli::{Mode, RunError, Sink, Source, run};
+use htmd_expected::{expect_number, expect_that};
 use std::alloc::Global;
 use std::test::Fail;
 

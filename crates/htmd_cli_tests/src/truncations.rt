@@ -1,8 +1,8 @@
 //! Pages that are cut short, or lack a character or a byte.
-use crate::expected::expect_that;
 use htmd::options::{LinkStyle, Options, TranslationMode};
 use htmd::{ConvertError, HtmlToMarkdown};
 use htmd_cli::{Input, Mode, Output, RunError, run};
+use htmd_expected::expect_that;
 use std::alloc::Global;
 use std::test::Fail;
 

@@ -1,6 +1,6 @@
 //! Emphasis, headings, breaks and quotes.
 
-use crate::expected::{expect_number, expect_text, expect_that};
+use htmd_expected::{expect_number, expect_text, expect_that};
 use htmd_markdown::*;
 use std::test::Fail;
 

@@ -1,5 +1,5 @@
 //! The body of a page, and the line and column of a place, written by hand.
-use crate::expected::{expect_number, expect_text};
+use htmd_expected::{expect_number, expect_text};
 use htmd_tree::*;
 use std::alloc::{AllocError, Global};
 use std::test::Fail;

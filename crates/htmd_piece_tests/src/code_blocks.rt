@@ -1,6 +1,6 @@
 //! Code blocks, and each short text read back from its fenced one by a reader of its own.
-use crate::expected::{expect_text, expect_that};
 use crate::short_texts::{SHORT_TEXTS, short_text};
+use htmd_expected::{expect_text, expect_that};
 use htmd_markdown::{CodeBlockFence, write_fence, write_indented_code};
 use std::test::Fail;
 

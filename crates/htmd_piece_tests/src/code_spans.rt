@@ -1,6 +1,6 @@
 //! Rows of code spans, and each short text read back by a reader of its own.
-use crate::expected::{expect_text, expect_that};
 use crate::short_texts::{SHORT_TEXTS, short_text};
+use htmd_expected::{expect_text, expect_that};
 use htmd_markdown::write_span;
 use std::alloc::{AllocError, Global};
 use std::test::Fail;

@@ -1,7 +1,7 @@
 //! What a reader of CommonMark finds again: one line, emphasis, headings, code, links and lists, and where two texts
 //! meet.
 
-use crate::expected::{expect_text, expect_that};
+use htmd_expected::{expect_text, expect_that};
 use htmd_markdown::*;
 use std::alloc::Global;
 use std::test::Fail;

@@ -1,5 +1,5 @@
 //! Texts that no reader takes for markup, and the ends of texts after which a line begins.
-use crate::expected::{expect_number, expect_text, expect_that};
+use htmd_expected::{expect_number, expect_text, expect_that};
 use htmd_markdown::{begins_line, push_guarded_text, write_guarded_text};
 use std::alloc::{AllocError, Global};
 use std::test::Fail;

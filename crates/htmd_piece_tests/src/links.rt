@@ -1,6 +1,6 @@
 //! Images, links, autolinks, references and their definitions.
 
-use crate::expected::{expect_text, expect_that};
+use htmd_expected::{expect_text, expect_that};
 use htmd_markdown::*;
 use std::test::Fail;
 

@@ -1,6 +1,6 @@
 //! List items and lists.
 
-use crate::expected::{expect_number, expect_text, expect_that};
+use htmd_expected::{expect_number, expect_text, expect_that};
 use htmd_markdown::*;
 use std::alloc::{AllocError, Global};
 use std::test::Fail;

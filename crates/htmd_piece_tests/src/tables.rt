@@ -1,6 +1,6 @@
 //! Tables, and their rows.
 
-use crate::expected::{expect_text, expect_that};
+use htmd_expected::{expect_text, expect_that};
 use htmd_markdown::*;
 use std::alloc::{AllocError, Global};
 use std::test::Fail;

@@ -1,6 +1,6 @@
 //! What no clause says: that calls succeed if there is memory, and rows of the rules, written by hand.
-use crate::expected::{expect_number, expect_text, expect_that};
 use crate::short_texts::{SHORT_TEXTS, short_text};
+use htmd_expected::{expect_number, expect_text, expect_that};
 use htmd_text::*;
 use std::alloc::{AllocError, Global};
 use std::borrow::CowStr;

@@ -1,6 +1,6 @@
 //! Tokens of texts, written by hand from the HTML Standard. `checks/refused_memory`, a part of the gate, refuses each
 //! request of the first test in turn.
-use crate::expected::{expect_number, expect_text, expect_that};
+use htmd_expected::{expect_number, expect_text, expect_that};
 use htmd_html5_tokens::*;
 use htmd_tree::Attribute;
 use std::alloc::{AllocError, Global};

@@ -2,7 +2,7 @@
 ghost use Rattle.std.specs.Prelude.{◌<◌, length, IsTrue};
 ghost use Rattle.htmd_tree.specs.Items.{data_at, holds_children};
 
-use crate::expected::{expect_number, expect_text, expect_that};
+use htmd_expected::{expect_number, expect_text, expect_that};
 use htmd_tree::*;
 use std::alloc::{AllocError, Global};
 use std::test::Fail;

@@ -1,9 +1,9 @@
 //! Pages that are converted in the time that their length and depth require, though what is in a table without lines is
 //! asked for twice.
 use crate::builders::{faithful, guarded};
-use crate::expected::expect_text;
 use crate::pages::converted_page;
 use htmd::options::Options;
+use htmd_expected::expect_text;
 use std::alloc::{AllocError, Global};
 use std::test::Fail;
 

@@ -3,9 +3,9 @@ ghost use Rattle.std.specs.Prelude.{◌≡◌, ◌++◌, Some, None, IfOk, codes
 ghost use Rattle.htmd.specs.Handling.{nothing, content_of_children, content_of_fallback};
 ghost use Rattle.htmd.specs.Views.{optional_result};
 
-use crate::expected::expect_text;
 use htmd::HtmlToMarkdown;
 use htmd::element_handler::{Element, FnHandler, HandlerResult, HandlerRule, Plan};
+use htmd_expected::expect_text;
 use std::alloc::{AllocError, Global};
 use std::test::Fail;
 

@@ -1,6 +1,5 @@
 //! Handlers of your own: what they are shown, what they may ask for, and in what order they are asked.
 use crate::builders::{faithful, referenced, with_handler};
-use crate::expected::expect_text;
 use crate::handlers::{
     AsRawHtml, FirstBelow, FirstChild, GivesNothing, NeedsId, PassesOn, Says, TellsDue, TellsFlag,
     TextAlone,
@@ -9,6 +8,7 @@ use crate::pages::{expect_pages_by, page_by};
 use htmd::HtmlToMarkdown;
 use htmd::element_handler::ElementHandler;
 use htmd::options::Options;
+use htmd_expected::expect_text;
 use std::alloc::Global;
 use std::test::Fail;
 

@@ -1,8 +1,8 @@
 //! Pages of elements within elements.
-use crate::expected::expect_text;
 use crate::pages::{converted_page, expect_refusals};
 use htmd::FaultKind;
 use htmd::options::Options;
+use htmd_expected::expect_text;
 use std::alloc::{AllocError, Global};
 use std::test::Fail;
 

@@ -1,7 +1,7 @@
 //! The texts of errors, as they are displayed and for debugging.
-use crate::expected::expect_text;
 use htmd::options::Options;
 use htmd::{Attribute, ConvertError, FaultKind, ReadError, Tree, TreeError};
+use htmd_expected::expect_text;
 use std::alloc::Global;
 use std::test::Fail;
 

@@ -1,9 +1,9 @@
 //! Each short text as a paragraph in Guarded, whole and in two parts, read back by a reader of its own.
 use crate::builders::guarded;
-use crate::expected::expect_that;
 use crate::inline_reader::text_of_line;
 use crate::rows::{Row, built};
 use htmd::HtmlToMarkdown;
+use htmd_expected::expect_that;
 use std::alloc::{AllocError, Global};
 use std::test::Fail;
 

@@ -1,6 +1,6 @@
 //! A reader of one line of Markdown that should show only text, by CommonMark 0.31.2. It shares nothing with the code
 //! or the definitions, and takes more for markup than CommonMark does: a mark that stands alone counts too.
-use crate::expected::expect_that;
+use htmd_expected::expect_that;
 use std::alloc::{AllocError, Global};
 use std::test::Fail;
 

@@ -1,9 +1,9 @@
 //! Pages that no one writes by hand, as browsers read them. None is refused. No node stands below level 1,024: what
 //! would stand there follows the element at that level. And of the formatting elements that are open, a paragraph
 //! reopens the sixteen newest.
-use crate::expected::expect_text;
 use htmd::HtmlToMarkdown;
 use htmd::options::{Options, TranslationMode};
+use htmd_expected::expect_text;
 use std::alloc::{AllocError, Global};
 use std::test::Fail;
 

@@ -16,7 +16,6 @@ mod depth;
 #[cfg(test)]
 mod errors;
 #[cfg(test)]
-mod expected;
 #[cfg(test)]
 mod guarded_parts;
 #[cfg(test)]

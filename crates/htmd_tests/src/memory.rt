@@ -1,13 +1,13 @@
 //! What is handed back when a request for memory is refused: all is as before, and the same call with the same values
 //! then answers as it would have. `checks/refused_memory`, a part of the gate, refuses each request of these tests in
 //! turn; each test passes whichever it is.
-use crate::expected::expect_text;
 use crate::handlers::TextAlone;
 use crate::refusals::{answered, answered_with};
 use crate::registry::expect_found;
 use htmd::element_handler::{ElementHandler, ElementHandlers};
 use htmd::options::Options;
 use htmd::{HtmlToMarkdown, HtmlToMarkdownBuilder};
+use htmd_expected::expect_text;
 use std::alloc::{AllocError, Global};
 use std::test::Fail;
 

@@ -1,6 +1,6 @@
 //! The trees of pages, node by node.
-use crate::expected::expect_text;
 use htmd::{HtmlToMarkdown, NodeData, NodeId, Tree};
+use htmd_expected::expect_text;
 use std::alloc::Global;
 use std::test::Fail;
 

@@ -1,8 +1,8 @@
 //! Which elements the walk goes past, without asking their handlers.
-use crate::expected::expect_that;
 use crate::handlers::PassesOn;
 use htmd::element_handler::{ElementHandler, ElementHandlers, Registry};
 use htmd::options::{Options, TranslationMode};
+use htmd_expected::expect_that;
 use htmd_tree::{Attribute, NodeId, Tree};
 use std::alloc::Global;
 use std::test::Fail;

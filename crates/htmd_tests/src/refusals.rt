@@ -2,11 +2,11 @@
 //! the same converter and tree give the page's own at the next try. `checks/refused_memory`, a part of the gate,
 //! refuses each request in turn.
 use crate::builders::{faithful, referenced};
-use crate::expected::{expect_text, expect_that};
 use crate::handlers::{FirstChild, PassesOn};
 use htmd::element_handler::ElementHandler;
 use htmd::options::{Options, TranslationMode};
 use htmd::{ConvertError, FaultKind, HtmlToMarkdown, Tree};
+use htmd_expected::{expect_text, expect_that};
 use std::alloc::{AllocError, Global};
 use std::test::Fail;
 

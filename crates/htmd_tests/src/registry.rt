@@ -1,9 +1,9 @@
 //! The registry by itself: which handlers are asked, and what they make of an element.
-use crate::expected::{expect_text, expect_that};
 use crate::handlers::PassesOn;
 use htmd::element_handler::{ElementHandler, ElementHandlers, Links};
 use htmd::options::Options;
 use htmd::{NodeData, NodeId, Tree};
+use htmd_expected::{expect_text, expect_that};
 use std::alloc::Global;
 use std::test::Fail;
 

@@ -2,12 +2,12 @@
 ghost use Rattle.std.specs.Prelude.{None};
 ghost use Rattle.htmd.specs.Handling.{nothing};
 
-use crate::expected::{expect_number, expect_text, expect_that};
 use htmd::element_handler::{HandlerRule, is_raw_html_due};
 use htmd::options::{
     BrStyle, BulletListMarker, CodeBlockFence, CodeBlockStyle, HeadingStyle, HrStyle,
     LinkReferenceStyle, LinkStyle, Options, TranslationMode,
 };
+use htmd_expected::{expect_number, expect_text, expect_that};
 use std::alloc::{AllocError, Global};
 use std::test::Fail;
 

@@ -1,6 +1,6 @@
 //! Texts in memory of their own and borrowed ones. `checks/refused_memory`, a part of the gate, refuses each request of
 //! the first two tests in turn, which then end out of memory, and all requests of the third, which passes.
-use crate::expected::expect_text;
+use htmd_expected::expect_text;
 use htmd_text::{compress_whitespace, escape_html, escape_if_needed, escape_pre_text_if_needed};
 use std::test::Fail;
 

@@ -1,7 +1,7 @@
 //! The writers of pieces, as they are called by handlers of your own.
-use crate::expected::expect_text;
 use htmd::laws::{write_fence, write_row, write_span, write_table};
 use htmd::options::CodeBlockFence;
+use htmd_expected::expect_text;
 use std::alloc::{AllocError, Global};
 use std::test::Fail;
 
