@@ -217,7 +217,7 @@ feed_not_plain x = refl
 of_fence_safe : (b : ℕ) → is_of_fence b ≡ true → is_safe b ≡ true
 of_fence_safe b e = grind (arith, nat_tests)
 
-line_safe : (t : List ℕ) → list_all is_of_fence t ≡ true → list_all is_safe t ≡ true
+pub line_safe : (t : List ℕ) → list_all is_of_fence t ≡ true → list_all is_safe t ≡ true
 line_safe [] e = refl
 line_safe (b ∷ t) e =
     let parts = and_parts (is_of_fence b) (list_all is_of_fence t) e in

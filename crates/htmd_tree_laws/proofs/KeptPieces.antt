@@ -102,7 +102,7 @@ digit_safe : (n : ℕ) → is_safe (digit_glyph false (n % 10)) ≡ true
 digit_safe n =
     agree_below_at (λ d. is_safe (digit_glyph false d)) (λ d. true) 10 (n % 10) refl (mod_below n 10 (omega arith))
 
-digits_safe : (k n : ℕ) (behind : List ℕ) → list_all is_safe behind ≡ true
+pub digits_safe : (k n : ℕ) (behind : List ℕ) → list_all is_safe behind ≡ true
     → list_all is_safe (digits_onto k 10 false n behind) ≡ true
 digits_safe zero n behind e = e
 digits_safe (suc k) n behind e =
@@ -119,7 +119,7 @@ keeps-item : (marker content : List ℕ) {l : List ℕ} → Keeps marker [] → 
 keeps-item marker content m p =
     keeps-behind (line_feed ∷ []) refl (keeps-append m (keeps-indented content (length marker) true p))
 
-bullet_safe : (marker : BulletListMarker) → list_all is_safe (bullet marker ∷ []) ≡ true
+pub bullet_safe : (marker : BulletListMarker) → list_all is_safe (bullet marker ∷ []) ≡ true
 bullet_safe Asterisk = refl
 bullet_safe Dash = refl
 
@@ -430,7 +430,7 @@ mark_state Strong even = inl refl
 mark_state Strong odd = inl refl
 mark_state Strong blank = inr refl
 
-mark_safe : (emphasis : Emphasis) → list_all is_safe (mark emphasis) ≡ true
+pub mark_safe : (emphasis : Emphasis) → list_all is_safe (mark emphasis) ≡ true
 mark_safe Regular = refl
 mark_safe Strong = refl
 
@@ -439,13 +439,13 @@ abbrev Encodes : List ℕ → List ℕ → Type 0
 Encodes cs s = (s ≡ encode_utf8_all cs) × (all_scalars cs ≡ true)
 
 -- white space
-abbrev IsWhite : List ℕ → Type 0
+abbrev pub IsWhite : List ℕ → Type 0
 IsWhite s = (cs : List ℕ) × Encodes cs s × (list_all is_whitespace cs ≡ true)
 
 white_chars : (s : List ℕ) (w : IsWhite s) → chars s ≡ w.0
 white_chars s (cs, e, white) = ap chars e.0 ∙ chars-encodes cs e.1
 
-ordinary-white : (s : List ℕ) → IsWhite s → Ordinary s []
+pub ordinary-white : (s : List ℕ) → IsWhite s → Ordinary s []
 ordinary-white s (cs, e, white) = record {
   utf8 = (cs, (e.1, sym e.0));
   keeps = tt;
@@ -548,12 +548,12 @@ text_past (c ∷ cs) y u =
     (IsUtf8-past_char ((encode_utf8 c ++ encode_utf8_all cs) ++ y) (encode_utf8_all cs ++ y) c u
     (append_assoc (encode_utf8 c) (encode_utf8_all cs) y))
 
-text_after : (x y : List ℕ) → IsUtf8 x → IsUtf8 (x ++ y) → IsUtf8 y
+pub text_after : (x y : List ℕ) → IsUtf8 x → IsUtf8 (x ++ y) → IsUtf8 y
 text_after x y u whole =
     text_past (chars x) y (subst (λ (z : List ℕ). IsUtf8 (z ++ y)) (sym (encodes-chars x u)) whole)
 
 -- a mark after the white space at the beginning
-keeps-mark_first : (emphasis : Emphasis) (w r : List ℕ) {l : List ℕ} → IsWhite w → Keeps (w ++ r) l
+pub keeps-mark_first : (emphasis : Emphasis) (w r : List ℕ) {l : List ℕ} → IsWhite w → Keeps (w ++ r) l
     → Keeps (w ++ (mark emphasis ++ r)) l
 keeps-mark_first emphasis w r {l} white p =
     let c = p.chain in
@@ -584,7 +584,7 @@ keeps-mark_first emphasis w r {l} white p =
     ∙ sym (append_assoc w (m ++ y) (rest_of c)))
 
 -- and a mark before the white space at the end
-keeps-mark_last : (emphasis : Emphasis) (f w : List ℕ) {l : List ℕ} → IsUtf8 f → IsWhite w → Keeps (f ++ w) l
+pub keeps-mark_last : (emphasis : Emphasis) (f w : List ℕ) {l : List ℕ} → IsUtf8 f → IsWhite w → Keeps (f ++ w) l
     → Keeps (f ++ (mark emphasis ++ w)) l
 keeps-mark_last emphasis f w {l} u white p =
     let c = p.chain in
@@ -645,16 +645,21 @@ if_some : (emphasis : Emphasis) (before middle after s : List ℕ) {l : List ℕ
 if_some emphasis before [] after s p q = p
 if_some emphasis before (b ∷ middle) after s p q = q
 
-pub keeps-emphasised : (emphasis : Emphasis) (s : List ℕ) {l : List ℕ} → Keeps s l
-    → Keeps (unwrap_or (emphasised_text emphasis s) s) l
+-- white space at either end of a text, and what is between
+pub record EmphasisParts (s : List ℕ) : Type 0 where
+  pub first : IsWhite (white_space_at_start s)
+  pub middle : IsUtf8 (trim s)
+  pub last : IsWhite (white_space_at_end (trim_start s))
+  pub whole : s ≡ white_space_at_start s ++ (trim s ++ white_space_at_end (trim_start s))
+
+pub emphasis_parts : (s : List ℕ) → IsUtf8 s → EmphasisParts s
 unfolding trim_start trim_end
-keeps-emphasised emphasis s {l} p =
+emphasis_parts s u =
     let cs = chars s in
     let first = white_front cs in
     let rest = skip_leading_whitespace cs in
     let last = white_back rest in
     let front = drop_trailing_whitespace rest in
-    let u = (keeps-says p).utf8 in
     let scalar = scalars-chars s u in
     let cut = scalars-front first.0 rest (subst (λ (x : List ℕ). all_scalars x ≡ true) first.1 scalar) in
     let cut_behind = scalars-front front last.0 (subst (λ (x : List ℕ). all_scalars x ≡ true) last.1 cut.1) in
@@ -672,15 +677,23 @@ keeps-emphasised emphasis s {l} p =
     ap (λ (x : List ℕ). drop (length x) (encode_utf8_all rest)) middle
     ∙ ap (λ (x : List ℕ). drop (length (encode_utf8_all front)) x) rest_whole
     ∙ rest_left (encode_utf8_all front) (encode_utf8_all last.0) in
-    let parts : s ≡ white_space_at_start s ++ (trim s ++ white_space_at_end (trim_start s)) =
-    whole ∙ ap (λ z. encode_utf8_all first.0 ++ z) rest_whole
-    ∙ ap (λ z. z ++ (encode_utf8_all front ++ encode_utf8_all last.0)) (sym before)
-    ∙ ap (λ z. white_space_at_start s ++ (z ++ encode_utf8_all last.0)) (sym middle)
-    ∙ ap (λ z. white_space_at_start s ++ (trim s ++ z)) (sym after) in
+    record {
+      first = (first.0, (before, cut.0), first.2);
+      middle = (front, (cut_behind.0, sym middle));
+      last = (last.0, (after, cut_behind.1), last.2);
+      whole = whole ∙ ap (λ z. encode_utf8_all first.0 ++ z) rest_whole
+          ∙ ap (λ z. z ++ (encode_utf8_all front ++ encode_utf8_all last.0)) (sym before)
+          ∙ ap (λ z. white_space_at_start s ++ (z ++ encode_utf8_all last.0)) (sym middle)
+          ∙ ap (λ z. white_space_at_start s ++ (trim s ++ z)) (sym after);
+    }
+
+pub keeps-emphasised : (emphasis : Emphasis) (s : List ℕ) {l : List ℕ} → Keeps s l
+    → Keeps (unwrap_or (emphasised_text emphasis s) s) l
+keeps-emphasised emphasis s {l} p =
+    let parts = emphasis_parts s (keeps-says p).utf8 in
     if_some emphasis (white_space_at_start s) (trim s) (white_space_at_end (trim_start s)) s p
-    (keeps-between emphasis (white_space_at_start s) (trim s) (white_space_at_end (trim_start s))
-    (first.0, (before, cut.0), first.2) (front, (cut_behind.0, sym middle)) (last.0, (after, cut_behind.1), last.2)
-    (keeps-as parts p))
+    (keeps-between emphasis (white_space_at_start s) (trim s) (white_space_at_end (trim_start s)) parts.first
+    parts.middle parts.last (keeps-as parts.whole p))
 
 pub keeps-guarded_emphasis : (emphasis : Emphasis) (s : List ℕ) {l : List ℕ} → Keeps s l
     → Keeps (guarded_emphasis emphasis s) l

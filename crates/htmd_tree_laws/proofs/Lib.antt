@@ -40,6 +40,9 @@ pub mod KeptJoints
 pub mod KeptMeetings
 pub mod LiteralPieces
 pub mod KeptLines
+pub mod LinedTexts
+pub mod KeptBlocks
+pub mod BlockEdits
 pub mod KeptPieces
 pub mod LettersOfHandlers
 pub mod LettersOfTables
