@@ -316,7 +316,7 @@ tail_cut z w r t p e all =
 white_text : (w : List ℕ) → list_all is_white w ≡ true → IsUtf8 w
 white_text w all = IsUtf8-from_ascii w (fillers_ascii w (whites_fill w all))
 
-white_shows : (w : List ℕ) → list_all is_white w ≡ true → visible w ≡ []
+pub white_shows : (w : List ℕ) → list_all is_white w ≡ true → visible w ≡ []
 white_shows w all =
     ap (filter is_visible) (chars-IsAscii w (fillers_ascii w (whites_fill w all))) ∙ whites_silent of_visible w all
 

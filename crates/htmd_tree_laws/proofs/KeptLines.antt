@@ -374,7 +374,7 @@ keeps-indented s indent trim_line_end p = keeps-respaced (respaced-indented s in
 abbrev pub quoted_next : List ℕ → List ℕ
 quoted_next x = codes "\n> " ++ x
 
-quoted_is : (x : List ℕ) (xs : List (List ℕ)) → codes "> " ++ spread quoted_next (x ∷ xs)
+pub quoted_is : (x : List ℕ) (xs : List (List ℕ)) → codes "> " ++ spread quoted_next (x ∷ xs)
     ≡ quoted_lines (x ∷ xs)
 quoted_is x xs =
     sym (append_assoc (codes "> ") x (flat_map quoted_next xs)) ∙ ap (λ l. quoted_line x ++ l) (rest xs)

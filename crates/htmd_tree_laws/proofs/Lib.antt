@@ -44,6 +44,7 @@ pub mod LinedTexts
 pub mod KeptBlocks
 pub mod BlockEdits
 pub mod KeptPieces
+pub mod BlockPieces
 pub mod LettersOfHandlers
 pub mod LettersOfTables
 pub mod LettersOfGrids

@@ -1,3 +1,4 @@
+use Rattle.htmd_tree_laws.proofs.BlockPieces.{blocks-guarded_emphasis}
 use Rattle.htmd_tree_laws.proofs.KeptPieces.{keeps-emphasised}
 use Rattle.htmd_tree_laws.proofs.BlockEdits.{blocks-trimmed_end}
 use Rattle.htmd_tree_laws.proofs.LinedTexts.{lined-quoted}
