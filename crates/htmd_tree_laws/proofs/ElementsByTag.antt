@@ -335,12 +335,12 @@ first_by_tag cases =
     (plain_if (codes "i") refl) refl)
     (also (cases.content (codes "em") (emphasis_of kind.Regular) refl (keeps_emphasis kind.Regular (codes "em"))
     (plain_if (codes "em") refl) refl)
-    (also (cases.content (codes "h1") headings refl (keeps_headings (codes "h1")) (plain_if (codes "h1") refl) refl)
-    (also (cases.content (codes "h2") headings refl (keeps_headings (codes "h2")) (plain_if (codes "h2") refl) refl)
-    (also (cases.content (codes "h3") headings refl (keeps_headings (codes "h3")) (plain_if (codes "h3") refl) refl)
-    (also (cases.content (codes "h4") headings refl (keeps_headings (codes "h4")) (plain_if (codes "h4") refl) refl)
-    (also (cases.content (codes "h5") headings refl (keeps_headings (codes "h5")) (plain_if (codes "h5") refl) refl)
-    (also (cases.content (codes "h6") headings refl (keeps_headings (codes "h6")) (plain_if (codes "h6") refl) refl)
+    (also (cases.content (codes "h1") headings refl (keeps_headings (codes "h1") refl) (plain_if (codes "h1") refl) refl)
+    (also (cases.content (codes "h2") headings refl (keeps_headings (codes "h2") refl) (plain_if (codes "h2") refl) refl)
+    (also (cases.content (codes "h3") headings refl (keeps_headings (codes "h3") refl) (plain_if (codes "h3") refl) refl)
+    (also (cases.content (codes "h4") headings refl (keeps_headings (codes "h4") refl) (plain_if (codes "h4") refl) refl)
+    (also (cases.content (codes "h5") headings refl (keeps_headings (codes "h5") refl) (plain_if (codes "h5") refl) refl)
+    (also (cases.content (codes "h6") headings refl (keeps_headings (codes "h6") refl) (plain_if (codes "h6") refl) refl)
     (also cases.line_break
     (also cases.thematic_break
     (also cases.table

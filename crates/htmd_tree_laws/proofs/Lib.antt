@@ -45,6 +45,7 @@ pub mod KeptBlocks
 pub mod BlockEdits
 pub mod KeptPieces
 pub mod BlockPieces
+pub mod KeptPlaces
 pub mod LettersOfHandlers
 pub mod LettersOfTables
 pub mod LettersOfGrids
@@ -64,6 +65,7 @@ pub mod TextLawsLemmas
 pub mod ShownTrees
 pub mod ShownOfElements
 pub mod TableChildren
+pub mod LinePlaces
 pub mod KeptElements
 pub mod ShownTables
 pub mod KeptLawsLemmas

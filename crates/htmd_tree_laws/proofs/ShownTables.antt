@@ -464,11 +464,30 @@ module _ (options : Options) (is_so : is_guarded options ≡ true) (items : List
         in_order (children_of items id) (children_among items id t l) unseen_there,
       )
 
--- ---- of this many levels
+-- ---- what holds of the children of a table
 
-module _ (guarded : Bool) (items : List Item) (t : IsTree items) (n : ℕ) where
+-- of this many levels
+pub part_low : (guarded : Bool) (items : List Item) (t : IsTree items) (n d : ℕ) → d < length items
+    → has_tag row_tags items d ≡ true → IsLow guarded items n (tree_of items d)
+    → AllOf (IsLow guarded items n) (children_at items d)
+part_low guarded items t n d l part p =
+    by (data_at items d) (children_at items d) part
+    (subst (λ (tree : NumberedTree). IsLow guarded items n tree) (tree-open items d t l) p)
+  where
+    by : (here : Data) (kids : NumberedForest) → is_tag_among row_tags (tag_of here) ≡ true
+        → IsLow guarded items n (with_children d here kids) → AllOf (IsLow guarded items n) kids
+    by document_node kids part p = all_low guarded items n kids p.0 (omega (arith, p.1))
+    by doctype_node kids part p = absurd (false≢true part)
+    by (text_node s) kids part p = absurd (false≢true part)
+    by (comment_node s) kids part p = absurd (false≢true part)
+    by (element_node name attributes) kids part p = all_low guarded items n kids p.0.1 (omega (arith, p.1))
+
+-- what holds of a part of a table, or of a row, holds of its children
+module _ (items : List Item) (t : IsTree items) (Low : NumberedTree → Type 0)
+    (opens : (d : ℕ) → d < length items → has_tag row_tags items d ≡ true → Low (tree_of items d)
+    → AllOf Low (children_at items d)) where
   abbrev pub AreLow : List ℕ → Type 0
-  AreLow ds = AllOf (IsLow guarded items n) (forest_of (tree_of items) ds)
+  AreLow ds = AllOf Low (forest_of (tree_of items) ds)
 
   low_append : (xs ys : List ℕ) → AreLow xs → AreLow ys → AreLow (xs ++ ys)
   low_append [] ys p q = q
@@ -485,23 +504,9 @@ module _ (guarded : Bool) (items : List Item) (t : IsTree items) (n : ℕ) where
       let later = low_filter passes ds p.1 in
       cond_both (passes d) (d ∷ others) others AreLow (λ _. (p.0, later)) (λ _. later)
 
-  part_low : (d : ℕ) → d < length items → has_tag row_tags items d ≡ true
-      → IsLow guarded items n (tree_of items d) → AreLow (children_of items d)
-  part_low d l part p =
-      by (data_at items d) (children_at items d) part
-      (subst (λ (tree : NumberedTree). IsLow guarded items n tree) (tree-open items d t l) p)
-    where
-      by : (here : Data) (kids : NumberedForest) → is_tag_among row_tags (tag_of here) ≡ true
-          → IsLow guarded items n (with_children d here kids) → AllOf (IsLow guarded items n) kids
-      by document_node kids part p = all_low guarded items n kids p.0 (omega (arith, p.1))
-      by doctype_node kids part p = absurd (false≢true part)
-      by (text_node s) kids part p = absurd (false≢true part)
-      by (comment_node s) kids part p = absurd (false≢true part)
-      by (element_node name attributes) kids part p = all_low guarded items n kids p.0.1 (omega (arith, p.1))
-
-  cells_low : (d : ℕ) → d < length items → has_tag row_tags items d ≡ true
-      → IsLow guarded items n (tree_of items d) → AreLow (cells_of items d)
-  cells_low d l part p = low_filter (has_tag cell_tags items) (children_of items d) (part_low d l part p)
+  cells_low : (d : ℕ) → d < length items → has_tag row_tags items d ≡ true → Low (tree_of items d)
+      → AreLow (cells_of items d)
+  cells_low d l part p = low_filter (has_tag cell_tags items) (children_of items d) (opens d l part p)
 
   -- each of these rows has such cells
   abbrev HaveLowCells : List ℕ → Type 0
@@ -538,13 +543,13 @@ module _ (guarded : Bool) (items : List Item) (t : IsTree items) (n : ℕ) where
   with_rows_low in_head (d ∷ ds) s p q =
       with_rows_low in_head ds (with_row_line items in_head s d) (with_cells_low in_head (cells_of items d) s p q.0) q.1
 
-  with_child_low : (s : Lines) (d : ℕ) → d < length items → IsLow guarded items n (tree_of items d)
+  with_child_low : (s : Lines) (d : ℕ) → d < length items → Low (tree_of items d)
       → LinesLow s.lines
       → LinesLow (with_child_lines items s d).lines
   with_child_low s d l low p =
       each_line items s d (λ (now : Lines). LinesLow now.lines) (λ _. more_low s.lines (caption d) p (low, tt))
       (λ in_head part. with_rows_low in_head (tagged_children (codes "tr") items d) (with_new_group s) p
-      (rows_low (children_of items d) (children_among items d t l) (part_low d l part low)))
+      (rows_low (children_of items d) (children_among items d t l) (opens d l part low)))
       (λ part. with_cells_low false (cells_of items d) s p (cells_low d l part low)) p
 
   with_children_low : (ds : List ℕ) (s : Lines) → Among items ds → AreLow ds → LinesLow s.lines
