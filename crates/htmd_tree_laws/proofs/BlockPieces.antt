@@ -1,14 +1,14 @@
 -- What is promised of the pieces of Markdown that Guarded writes of texts with blocks between tildes.
-use Rattle.std.proofs.Common.{◌≡◌, ℕ, suc, ◌<◌, ◌≤◌, Bool, true, false, cond, List, [], ◌∷◌, ◌++◌, length, get_or, refl, sym, ap}
-use Rattle.std.proofs.Common.{◌∙◌, arith, subst, append_assoc, ⊎_elim, inl, inr, codes, map, Option, Some, None}
-use Rattle.std.specs.Prelude.{◌⊎◌, ◌&&◌, ◌==◌, not, fold, unwrap_or, replicate, encode_utf8, encode_utf8_all, IsUtf8}
+use Rattle.std.proofs.Common.{◌≡◌, ℕ, zero, suc, ◌<◌, ◌≤◌, Bool, true, false, cond, List, [], ◌∷◌, ◌++◌, length, get_or, refl, sym, ap}
+use Rattle.std.proofs.Common.{◌∙◌, arith, subst, append_assoc, ⊎_elim, codes, map, Option, Some, None}
+use Rattle.std.specs.Prelude.{fold, unwrap_or, replicate, encode_utf8, encode_utf8_all, IsUtf8}
 use Rattle.std.specs.Option.{option_map}
 use Rattle.std.specs.Char.{is_whitespace}
 use Rattle.std.specs.Fmt.{decimal, digits}
 use Rattle.std.specs.List.{list_all}
 use Rattle.std.specs.Str.{trim, trim_start}
 use Rattle.std.specs.Str.Lines.{lines}
-use Rattle.std.proofs.lemmas.Bool.{and_parts, and_from, cases_Bool, cases_lt, cond_both, false≢true, true≢false}
+use Rattle.std.proofs.lemmas.Bool.{and_parts, and_from, cases_lt, cond_both}
 use Rattle.std.proofs.lemmas.Bool.Decides.{nat_tests}
 use Rattle.std.proofs.lemmas.List.{append-nil}
 use Rattle.std.proofs.lemmas.Str.{IsUtf8-append, encode_ascii}
@@ -19,7 +19,11 @@ use Rattle.htmd_text.specs.Trims.{trimmed_start, trimmed_text, is_line_feed, som
 use Rattle.htmd_text.specs.WhiteSpace.{is_document_white_space}
 use Rattle.htmd_markdown.specs.declared.emphasis.Emphasis.{Emphasis}
 use Rattle.htmd_markdown.specs.declared.list.BulletListMarker.{BulletListMarker}
-use Rattle.htmd_markdown.specs.Emphases.{mark, emphasised_text, holds_blank_line, guarded_emphasis, between}
+use Rattle.htmd_markdown.specs.Emphases.{mark, holds_blank_line, guarded_emphasis, between}
+use Rattle.htmd_markdown.specs.declared.fence.CodeBlockFence.TheVariants.{Tildes}
+use Rattle.htmd_markdown.specs.CodeBlocks.{code_of}
+use Rattle.htmd_markdown.specs.Fences.{between_fences, fence_len, info_string}
+use Rattle.htmd_markdown.specs.GuardedCode.{guarded_code_block, code_lines, fitting_language}
 use Rattle.htmd_markdown.specs.ListItems.{list_item, bullet, bullet_marker, bullet_item, unnumbered_item, number_marker, numbered_item}
 use Rattle.htmd_markdown.specs.Lists.{Block, item, other, block_text, numbered_blocks, ordered_list_by, unnumbered_list}
 use Rattle.htmd_markdown.specs.Lists.{between_line_feeds, list_block}
@@ -30,13 +34,15 @@ use Rattle.htmd_tree_laws.proofs.BlockEdits.{block_behind, visible_behind, seen_
 use Rattle.htmd_tree_laws.proofs.KeptBlocks.{KeepsBlocks, Blocks, flat, link, text_of, Hold, blocks-as, blocks-is, blocks-flat}
 use Rattle.htmd_tree_laws.proofs.KeptBlocks.{blocks-link, blocks-append, blocks-before, blocks-says, two_cuts, is_no_tilde}
 use Rattle.htmd_tree_laws.proofs.KeptBlocks as kept
-use Rattle.htmd_tree_laws.proofs.KeptChains.{Keeps, keeps-as, keeps-before, keeps-safe, keeps-says, keeps-nil}
+use Rattle.htmd_tree_laws.proofs.KeptChains.{keeps-as, keeps-before, keeps-safe, keeps-says, keeps-nil}
 use Rattle.htmd_tree_laws.proofs.KeptLines.{quoted_next, quoted_is, spread, safe_many, safe-append}
 use Rattle.htmd_tree_laws.proofs.KeptMarks.{is_safe}
 use Rattle.htmd_tree_laws.proofs.KeptPieces.{IsWhite, ordinary-white, text_after, mark_safe, keeps-mark_first, keeps-mark_last}
 use Rattle.htmd_tree_laws.proofs.KeptPieces.{emphasis_parts, digits_safe, bullet_safe}
 use Rattle.htmd_tree_laws.proofs.CountedTexts.{of_visible, part-append, part-of_nothing, holds-own}
-use Rattle.htmd_tree_laws.proofs.LettersLemmas.{counted_append}
+use Rattle.htmd_tree_laws.proofs.LettersLemmas.{Says, counted_append, says-behind}
+use Rattle.htmd_tree_laws.proofs.LiteralPieces.{many_last}
+use Rattle.htmd_tree_laws.proofs.KeptMeetings.{is_of_fence}
 use Rattle.htmd_tree_laws.proofs.LettersOfTexts.{document_of_white, line_feed_of_white, bytes_high, all_reads}
 use Rattle.htmd_tree_laws.proofs.LinedTexts.{lined-indented, lined-quoted, lined-block}
 
@@ -53,6 +59,43 @@ cut-trimmed s p =
 pub blocks-wrapped : (s : List ℕ) {l : List ℕ} → KeepsBlocks s l
     → KeepsBlocks (with_blank_lines (trimmed_text is_line_feed s)) l
 blocks-wrapped s p = blocks-blank_lines (trimmed_text is_line_feed s) (cut-trimmed s p)
+
+-- ---- code between tildes
+
+all_tildes : (n : ℕ) → list_all is_of_fence (replicate n tilde) ≡ true
+all_tildes zero = refl
+all_tildes (suc n) = all_tildes n
+
+between_tildes : (n : ℕ) (info code : List ℕ) → 0 < n
+    → kept.Block (line_feed ∷ (between_fences (replicate n tilde) info code))
+between_tildes zero info code some = absurd (omega (arith, some))
+between_tildes (suc n) info code some =
+    let front = ((replicate (suc n) tilde ++ info) ++ line_feed ∷ []) ++ code in
+    record {
+      tail = record {
+        front = line_feed ∷ front;
+        line = replicate n tilde;
+        whole = ap (λ y. line_feed ∷ ((front ++ line_feed ∷ []) ++ y)) (many_last n tilde);
+        signs = all_tildes n;
+        opened = refl;
+      };
+      middle = (front ++ line_feed ∷ []) ++ replicate n tilde;
+      begins = ap (λ y. line_feed ∷ ((front ++ line_feed ∷ []) ++ y)) (many_last n tilde)
+          ∙ ap (λ y. line_feed ∷ y) (sym (append_assoc (front ++ line_feed ∷ []) (replicate n tilde) (tilde ∷ [])));
+    }
+
+pub blocks-tildes : (s : List ℕ) (language : Option (List ℕ)) {l : List ℕ}
+    → Says of_visible (guarded_code_block s language Tildes) l
+    → KeepsBlocks (with_blank_lines (guarded_code_block s language Tildes)) l
+blocks-tildes s language {l} p =
+    let code = guarded_code_block s language Tildes in
+    let z = line_feed ∷ code in
+    let says : Says of_visible z l = says-behind (line_feed ∷ []) refl p in
+    blocks-link (line_feed ∷ []) z blank_line [] [] l (keeps-safe (line_feed ∷ []) refl) says.utf8
+    (between_tildes (fence_len tilde (code_of (code_lines s))) (info_string (fitting_language language))
+    (code_of (code_lines s)) (omega arith))
+    (blocks-flat (keeps-safe blank_line refl))
+    (subst (λ (x : List ℕ). IsPart l x) (sym (append-nil (visible z))) says.says)
 
 -- ---- quotes
 

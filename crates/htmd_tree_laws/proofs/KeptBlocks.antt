@@ -1,22 +1,20 @@
 -- Blocks that are fenced with tildes, between texts that keep what is wanted: they stay whole while line feeds stay.
-use Rattle.std.proofs.Common.{◌≡◌, ℕ, zero, suc, ◌<◌, Bool, true, false, List, [], ◌∷◌, ◌++◌, length, refl, sym, ap, ◌∙◌}
-use Rattle.std.proofs.Common.{arith, subst, append_assoc, ⊎_elim, inl, inr, replicate}
+use Rattle.std.proofs.Common.{◌≡◌, ℕ, Bool, true, false, List, [], ◌∷◌, ◌++◌, refl, sym, ap, ◌∙◌}
+use Rattle.std.proofs.Common.{subst, append_assoc, ⊎_elim, inl, inr}
 use Rattle.std.specs.Prelude.{◌⊎◌, ◌&&◌, ◌==◌, not}
 use Rattle.std.specs.List.{list_all}
-use Rattle.std.specs.Str.{chars, IsUtf8}
-use Rattle.std.proofs.lemmas.Bool.{and_parts, and_from, cases_Bool, cond_both, eqb-true, false≢true, true≢false}
+use Rattle.std.specs.Str.{IsUtf8}
+use Rattle.std.proofs.lemmas.Bool.{and_parts, and_from, cases_Bool, false≢true, true≢false}
 use Rattle.std.proofs.lemmas.List.{append-nil}
 use Rattle.std.proofs.lemmas.Str.{IsUtf8-append}
 use Rattle.htmd_text.specs.Characters.{line_feed, tilde}
-use Rattle.htmd_text.specs.Trims.{is_line_feed}
 use Rattle.htmd_markdown.specs.Joints.{with_joint}
 use Rattle.htmd_tree_laws.specs.Shown.{visible, IsPart}
 use Rattle.htmd_tree_laws.proofs.CountedTexts.{of_visible, part-append, part-then, holds-own}
-use Rattle.htmd_tree_laws.proofs.KeptMarks.{Respaced, Swaps, is_safe, respaced-gone, respaced-append, respaced-same}
-use Rattle.htmd_tree_laws.proofs.KeptChains.{Keeps, keeps-in, keeps-is, keeps-as, keeps-append, keeps-says, keeps-safe, keeps-nil}
-use Rattle.htmd_tree_laws.proofs.KeptChains.{keeps-respaced, visible_respaced}
-use Rattle.htmd_tree_laws.proofs.KeptMeetings.{is_of_fence, Fenced, IsEnd, IsNext, keeps-meeting, line_safe}
-use Rattle.htmd_tree_laws.proofs.LettersLemmas.{Says, says-own, says-append, says-in, counted_append, is_white}
+use Rattle.htmd_tree_laws.proofs.KeptMarks.{is_safe}
+use Rattle.htmd_tree_laws.proofs.KeptChains.{Keeps, keeps-in, keeps-append, keeps-says, keeps-safe, keeps-nil}
+use Rattle.htmd_tree_laws.proofs.KeptMeetings.{is_of_fence, IsEnd, keeps-meeting}
+use Rattle.htmd_tree_laws.proofs.LettersLemmas.{Says, says-own, says-append, says-in}
 
 -- ---- two ways to cut a text
 

@@ -2,7 +2,7 @@
 use Rattle.std.proofs.Common.{◌≡◌, ℕ, zero, suc, ◌-◌, ◌<◌, ◌≤◌, Bool, true, false, cond, List, [], ◌∷◌, ◌++◌, length}
 use Rattle.std.proofs.Common.{take, drop, get_or, refl, sym, ap, ◌∙◌, arith, subst, append_assoc, ⊎_elim, inl, inr, codes, map}
 use Rattle.std.proofs.Common.{Option, Some, None}
-use Rattle.std.specs.Prelude.{◌&&◌, ◌||◌, ◌==◌, ◌%◌, ◌/◌, not, nat_lt, nat_le, filter, replicate, fold, unwrap_or, encode_utf8_all}
+use Rattle.std.specs.Prelude.{◌&&◌, ◌||◌, ◌==◌, ◌%◌, ◌/◌, not, nat_lt, nat_le, filter, fold, unwrap_or, encode_utf8_all}
 use Rattle.std.specs.Prelude.{◌⊎◌, encode_utf8}
 use Rattle.std.specs.Option.{option_map}
 use Rattle.std.specs.Char.{is_whitespace}
@@ -17,23 +17,21 @@ use Rattle.std.proofs.lemmas.List.{append-nil}
 use Rattle.std.proofs.lemmas.Nat.{mod_below}
 use Rattle.std.proofs.lemmas.Str.{chars-encodes, encodes-append, encodes-chars, scalars-chars, chars-append, encode_ascii}
 use Rattle.std.proofs.lemmas.Str.{IsUtf8-append, IsUtf8-past_char}
-use Rattle.htmd_text.specs.BlankLines.{blank_line, with_blank_lines}
-use Rattle.htmd_text.specs.Characters.{space, line_feed, full_stop, hyphen, tilde, backslash}
+use Rattle.htmd_text.specs.BlankLines.{with_blank_lines}
+use Rattle.htmd_text.specs.Characters.{space, line_feed, full_stop, hyphen, backslash}
 use Rattle.htmd_text.specs.Joins.{join_block, joined_blocks}
 use Rattle.htmd_text.specs.Trims.{trimmed_start, trimmed_text, is_line_feed, some_text, white_space_at_start}
 use Rattle.htmd_text.specs.Trims.{white_space_at_end}
 use Rattle.htmd_text.specs.WhiteSpace.{is_document_white_space}
 use Rattle.htmd_markdown.specs.declared.emphasis.Emphasis.{Emphasis}
 use Rattle.htmd_markdown.specs.declared.emphasis.Emphasis.TheVariants.{Regular, Strong}
-use Rattle.htmd_markdown.specs.declared.fence.CodeBlockFence.TheVariants.{Tildes, Backticks}
+use Rattle.htmd_markdown.specs.declared.fence.CodeBlockFence.TheVariants.{Backticks}
 use Rattle.htmd_markdown.specs.declared.heading.HeadingStyle.{HeadingStyle}
 use Rattle.htmd_markdown.specs.declared.heading.HeadingStyle.TheVariants.{Atx, Setex}
 use Rattle.htmd_markdown.specs.declared.list.BulletListMarker.{BulletListMarker}
 use Rattle.htmd_markdown.specs.declared.list.BulletListMarker.TheVariants.{Asterisk, Dash}
 use Rattle.htmd_markdown.specs.CodeSpans.{space_if}
 use Rattle.htmd_markdown.specs.Emphases.{mark, between, emphasised_text, holds_blank_line, guarded_emphasis}
-use Rattle.htmd_markdown.specs.Fences.{fence_len, info_string}
-use Rattle.htmd_markdown.specs.CodeBlocks.{code_of}
 use Rattle.htmd_markdown.specs.GuardedAddresses.{guarded_destination}
 use Rattle.htmd_markdown.specs.GuardedTitles.{guarded_title_text}
 use Rattle.htmd_markdown.specs.GuardedCode.{code_line, span_text, spaced_span, guarded_code, guarded_span_in_line}
@@ -65,7 +63,7 @@ use Rattle.htmd_tree_laws.proofs.LiteralPieces.{literal_span, literal_fenced, li
 use Rattle.htmd_tree_laws.proofs.LettersLemmas.{Says, says-before, says-behind}
 use Rattle.htmd_tree_laws.proofs.LettersOfGuarded.{unfilled, says-line_ends}
 use Rattle.htmd_tree_laws.proofs.KeptLines.{keeps-trimmed, keeps-trimmed_start, keeps-blank_lines, keeps-many}
-use Rattle.htmd_tree_laws.proofs.KeptLines.{safe-append, safe_many, keeps-indented, keeps-one_line, keeps-block}
+use Rattle.htmd_tree_laws.proofs.KeptLines.{keeps-indented, keeps-one_line, keeps-block}
 use Rattle.htmd_tree_laws.proofs.LettersLemmas.{is_white}
 use Rattle.htmd_tree_laws.proofs.LettersOfPieces.{nil_of, scalars-front, front_taken, rest_left, says-code_span}
 use Rattle.htmd_tree_laws.proofs.LettersOfTexts.{document_of_white, line_feed_of_white, says-trimmed, all_reads, bytes_high}
@@ -301,20 +299,6 @@ closed-image address alt title u =
 
 -- ---- code
 
-some_signs : (n b : ℕ) → 0 < n → (m : ℕ) × (replicate n b ≡ b ∷ replicate m b)
-some_signs zero b l = absurd (omega (arith, l))
-some_signs (suc m) b l = (m, refl)
-
--- so many signs, and what holds no backslash, end the text
-closed_many : (s x y : List ℕ) (n b : ℕ) → s ≡ (x ++ replicate n b) ++ y → 0 < n → IsUtf8 s → is_sign b
-    ≡ true
-    → is_safe b ≡ true → list_all is_safe y ≡ true → ends even (chars s) ≡ even
-closed_many s x y n b e some u sign safe others =
-    let first = some_signs n b some in
-    closed-as s x b (replicate first.0 b ++ y)
-    (e ∙ append_assoc x (replicate n b) y ∙ ap (λ z. x ++ (z ++ y)) first.1) u sign
-    (safe-append (replicate first.0 b) y (safe_many first.0 b safe) others)
-
 keeps-spaced_span : (before behind : Bool) (s : List ℕ) {l : List ℕ} → Says of_visible (code_line s) l
     → Keeps (spaced_span before behind (code_line s)) l
 keeps-spaced_span before behind s {l} p =
@@ -350,20 +334,6 @@ keeps-backticks s language p =
 pub keeps-formula : (mark s : List ℕ) {l : List ℕ} → (mark ≡ codes "$") ⊎ (mark ≡ codes "$$")
     → Says of_visible ((mark ++ s) ++ mark) l → Keeps ((mark ++ s) ++ mark) l
 keeps-formula mark s which p = keeps-literal (literal_formula mark s which) p
-
--- a block that is fenced with tildes, which is taken for ordinary text
-pub closed-tildes : (s : List ℕ) (language : Option (List ℕ))
-    → IsUtf8 (with_blank_lines (guarded_code_block s language Tildes))
-    → ends even (chars (with_blank_lines (guarded_code_block s language Tildes))) ≡ even
-closed-tildes s language u =
-    let code = code_of (code_lines s) in
-    let n = fence_len tilde code in
-    let run = replicate n tilde in
-    let front =
-    (((run ++ info_string (fitting_language language)) ++ line_feed ∷ []) ++ code) ++ line_feed ∷ [] in
-    closed_many (with_blank_lines (guarded_code_block s language Tildes)) (blank_line ++ front) blank_line n
-    tilde (ap (λ z. z ++ blank_line) (sym (append_assoc blank_line front run)))
-    (omega arith) u refl refl refl
 
 -- ---- emphasis
 

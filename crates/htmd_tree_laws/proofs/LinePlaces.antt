@@ -1,12 +1,11 @@
 -- Trees whose elements all stand in one line, so that no block is written of them.
-use Rattle.std.proofs.Common.{◌≡◌, ℕ, zero, suc, ◌<◌, ◌≤◌, Bool, true, false, List, [], ◌∷◌, ◌++◌, length, get_or, Option}
-use Rattle.std.proofs.Common.{Some, None, refl, sym, ap, ◌∙◌, arith, subst}
+use Rattle.std.proofs.Common.{◌≡◌, ℕ, zero, suc, ◌<◌, ◌≤◌, Bool, true, false, List, [], ◌∷◌, ◌++◌, length, get_or}
+use Rattle.std.proofs.Common.{refl, sym, ◌∙◌, arith, subst}
 use Rattle.std.specs.Prelude.{◌||◌}
 use Rattle.std.proofs.lemmas.Bool.{cond_both, false≢true}
 use Rattle.std.proofs.lemmas.List.{get_or_default}
-use Rattle.htmd_tree.specs.ValueTrees.{AttributePair}
 use Rattle.htmd_tree.specs.Items.{Data, document_node, doctype_node, text_node, comment_node, element_node, Item, tag_of}
-use Rattle.htmd_tree.specs.Items.{data_at, children_of, parent_at, IsTree}
+use Rattle.htmd_tree.specs.Items.{data_at, children_of, IsTree}
 use Rattle.htmd_tree.specs.NumberedTrees.{NumberedTree, document, doctype, text, comment, element, NumberedForest, none, more}
 use Rattle.htmd_tree.specs.NumberedTrees.{with_children, forest_of, tree_of, height}
 use Rattle.htmd_tree.proofs.NumberedTreesLemmas.{tree-open, height_pos, lower_child, IsLower}

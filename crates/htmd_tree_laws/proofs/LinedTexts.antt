@@ -1,6 +1,6 @@
 -- Texts that are cut at their ends, put together at a seam or written line by line, where line feeds stay: only other
 -- white space goes, and more may be put after a line feed.
-use Rattle.std.proofs.Common.{◌≡◌, ℕ, zero, suc, ◌+◌, ◌-◌, ◌<◌, Bool, true, false, cond, List, [], ◌∷◌, ◌++◌, length}
+use Rattle.std.proofs.Common.{◌≡◌, ℕ, zero, suc, ◌+◌, ◌-◌, ◌<◌, Bool, true, false, List, [], ◌∷◌, ◌++◌, length}
 use Rattle.std.proofs.Common.{take, drop, refl, sym, ap, ◌∙◌, arith, subst, append_assoc, ⊎_elim, inl, inr, codes, map, min, max}
 use Rattle.std.specs.Prelude.{◌⊎◌, ◌&&◌, ◌==◌, not, nat_lt, replicate, slice_index}
 use Rattle.std.specs.List.{list_all, flat_map, slice_split, onto_first, prefix_len, suffix_len}
@@ -10,13 +10,13 @@ use Rattle.std.proofs.lemmas.Bool.Decides.{nat_tests}
 use Rattle.std.proofs.lemmas.List.{append-nil, take-append-drop, length-append, length-drop, length-take-le}
 use Rattle.std.proofs.lemmas.List.Sums.{suffix_len-le-length, prefix_len-le-length, list_all-from_AllPass}
 use Rattle.htmd_text.specs.Characters.{space, line_feed}
-use Rattle.htmd_text.specs.Indents.{line_text, next_line, indented_lines, indented_text}
+use Rattle.htmd_text.specs.Indents.{line_text, next_line, indented_text}
 use Rattle.htmd_text.specs.Joins.{join_block}
 use Rattle.htmd_text.specs.Trims.{trimmed_start, trimmed_end, cut_end, is_line_feed, is_space}
 use Rattle.htmd_text.specs.WhiteSpace.{is_document_white_space}
 use Rattle.htmd_walk.specs.Seams.{joined_at_seam, begins_with_space, ends_with_space}
 use Rattle.htmd_tree_laws.proofs.KeptLines.{rejoin, split_is, spread, feeds-append, first_feeds, quoted_next, same_lines}
-use Rattle.htmd_tree_laws.proofs.KeptLines.{indented_is, respaced-as}
+use Rattle.htmd_tree_laws.proofs.KeptLines.{indented_is}
 use Rattle.htmd_tree_laws.proofs.KeptMarks.{Respaced, is_safe}
 use Rattle.htmd_tree_laws.proofs.KeptMeetings.{is_of_fence, line_safe}
 use Rattle.htmd_tree_laws.proofs.LettersLemmas.{is_white}
@@ -117,8 +117,7 @@ lined-feeds : (e : Bool) (w : List ℕ) (n : ℕ) → list_all is_line_feed w �
 lined-feeds e [] n all none some = ap (λ k. replicate k line_feed) (none refl)
 lined-feeds e (b ∷ []) zero all none some = absurd (let m = some (omega arith) in omega (arith, m))
 lined-feeds e (b ∷ []) (suc n) all none some =
-    let is : b ≡ line_feed = eqb-true b line_feed (and_parts (is_line_feed b) true all).0 in
-    (
+    let is : b ≡ line_feed = eqb-true b line_feed (and_parts (is_line_feed b) true all).0 in (
       line_feed ∷ replicate n line_feed,
       [],
       inr (inr (inl (replicate n line_feed, is, refl, all_of_fence n))),
@@ -128,8 +127,7 @@ lined-feeds e (b ∷ []) (suc n) all none some =
 lined-feeds e (b ∷ c ∷ w) n all none some =
     let parts = and_parts (is_line_feed b) (list_all is_line_feed (c ∷ w)) all in
     let later = and_parts (is_line_feed c) (list_all is_line_feed w) parts.1 in
-    let m : 0 < n = some (omega arith) in
-    (
+    let m : 0 < n = some (omega arith) in (
       [],
       replicate n line_feed,
       inr (inr (inr (eqb-true b line_feed parts.0, later.0, refl))),
@@ -328,8 +326,7 @@ each_line f edits ((b ∷ x) ∷ []) all =
     subst (λ (ls : List (List ℕ)). Each ((b ∷ x) ∷ []) (map f ls))
     (sym (cond-false (length (b ∷ x) == 0) [] ((b ∷ x) ∷ []) filled)) (edits (b ∷ x) all.0, tt)
 each_line f edits (x ∷ y ∷ more) all =
-    let s = stripped x all.0 in
-    (
+    let s = stripped x all.0 in (
       (λ e. lined-then e x (strip_carriage_return x) (f (strip_carriage_return x)) all.0 (s.0 e)
           (edits (strip_carriage_return x) s.1 e)),
       each_line f edits (y ∷ more) all.1,

@@ -64,7 +64,7 @@ one_line_lacks (b ∷ s) =
 -- ---- runs of backquotes
 
 -- they end with two
-many_last : (n b : ℕ) → b ∷ replicate n b ≡ replicate n b ++ b ∷ []
+pub many_last : (n b : ℕ) → b ∷ replicate n b ≡ replicate n b ++ b ∷ []
 many_last zero b = refl
 many_last (suc n) b = ap (λ z. b ∷ z) (many_last n b)
 

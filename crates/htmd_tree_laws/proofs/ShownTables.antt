@@ -36,11 +36,10 @@ use Rattle.htmd_walk.specs.OtherBlocks.{hidden_tags}
 use Rattle.htmd_walk.specs.Outputs.{conversion_of, is_guarded}
 use Rattle.htmd_walk.specs.TableLayouts.{has_tag, tagged_children, table_child}
 use Rattle.htmd_walk.specs.Tables.{cell_tags, has_table_form}
-use Rattle.htmd_tree_laws.specs.Shown.{is_visible, visible, is_no_asterisk, is_in_tildes, counted_characters, is_empty_element}
-use Rattle.htmd_tree_laws.specs.Shown.{is_one_text, node_of, is_caption, is_of_rows, IsPart}
+use Rattle.htmd_tree_laws.specs.Shown.{is_visible, visible, is_empty_element, is_one_text, node_of, is_caption, is_of_rows}
 use Rattle.htmd_tree_laws.specs.Shown.{shown_of, shown_among, shown_but_later, shown_later}
-use Rattle.htmd_tree_laws.proofs.CountedTexts.{of_visible, holds-own, part-filtered}
-use Rattle.htmd_tree_laws.proofs.LettersLemmas.{Says, says-own, says-nil, says-append, says-is, says-in, says-fillers, shows-none}
+use Rattle.htmd_tree_laws.proofs.CountedTexts.{of_visible}
+use Rattle.htmd_tree_laws.proofs.LettersLemmas.{Says, says-own, says-nil, says-append, says-is, says-fillers, shows-none}
 use Rattle.htmd_tree_laws.proofs.LettersLemmas.{is_white}
 use Rattle.htmd_tree_laws.proofs.LettersLemmas.{whites_fill, whites_silent, fillers_ascii}
 use Rattle.htmd_tree_laws.proofs.LettersOfTexts.{document_of_white}
@@ -89,10 +88,6 @@ module _ (options : Options) (is_so : is_guarded options ≡ true) (items : List
       let hidden = is_tag_among hidden_tags (Some name) in
       other_part hidden guarded is_so (or_parts _ (hidden && guarded) e).1
 
-  none_counted : (in_tildes : Bool) → counted_characters in_tildes [] ≡ []
-  none_counted true = refl
-  none_counted false = refl
-
   mutual
     unseen : (tables : Bool) (tree : NumberedTree) → is_seen tree ≡ false
         → shown_of options items tables tree ≡ []
@@ -113,8 +108,7 @@ module _ (options : Options) (is_so : is_guarded options ≡ true) (items : List
         (λ (l : List ℕ). l ≡ [])
         (λ _. ap (λ z. z ++ shown_later options items inner false c) (unseen_first inner false c below)
         ∙ unseen_later inner false c below)
-        (λ _. ap (counted_characters (is_in_tildes options items id name)) (unseen_among inner c below)
-        ∙ none_counted (is_in_tildes options items id name)))
+        (λ _. unseen_among inner c below))
 
     unseen_among : (tables : Bool) (trees : NumberedForest) → are_seen trees ≡ false
         → shown_among options items tables trees ≡ []
@@ -179,13 +173,6 @@ module _ (options : Options) (is_so : is_guarded options ≡ true) (items : List
       (λ _. cond_both (is_empty_element guarded name) [] below
       (λ (l : List ℕ). Says of_visible (all_text_among c) l) (λ _. shows-none p.utf8) (λ _. p)))
 
-  -- no more of it is counted
-  fewer : (empty in_tildes : Bool) (l : List ℕ)
-      → IsPart (cond empty [] (counted_characters in_tildes l)) (cond empty [] l)
-  fewer true in_tildes l = tt
-  fewer false true l = part-filtered is_no_asterisk l
-  fewer false false l = holds-own of_visible l
-
   mutual
     all_text_shows : (tree : NumberedTree) → Fits guarded items tree
         → Says of_visible (all_text tree) (shown_of options items false tree)
@@ -196,9 +183,7 @@ module _ (options : Options) (is_so : is_guarded options ≡ true) (items : List
     all_text_shows (element id name attributes c) fit =
         let whole = not (is_one_text name attributes (view_at (conversion_of (built_in options) items) id true c)) in
         says-is (ap (λ l. cond (is_empty_element guarded name) [] l) (sym (in_tree options items id name whole c)))
-        (says-in
-        (fewer (is_empty_element guarded name) (is_in_tildes options items id name) (shown_among options items false c))
-        (inside_shows name c (all_texts_show c fit.1)))
+        (inside_shows name c (all_texts_show c fit.1))
 
     pub all_texts_show : (trees : NumberedForest) → AllFit guarded items trees
         → Says of_visible (all_text_among trees) (shown_among options items false trees)
