@@ -1,6 +1,6 @@
 -- The letters of any page stand in its Markdown: those of its tokens are those of its tree, and what that shows is
 -- written.
-use Rattle.std.proofs.Common.{◌≡◌, ℕ, Bool, true, false, List, arith}
+use Rattle.std.proofs.Common.{◌≡◌, ℕ, true, List, arith}
 use Rattle.std.specs.Str.{chars}
 use Rattle.htmd_tree.specs.NumberedTrees.{tree_of}
 use Rattle.htmd_walk.specs.Outputs.{is_guarded}

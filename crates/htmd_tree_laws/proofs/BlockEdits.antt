@@ -106,7 +106,8 @@ line_still e (c ∷ line) t all (x, rest, turn, whole, more) =
 abbrev FeedsTilde : List ℕ → Type 0
 FeedsTilde t = (middle : List ℕ) × (t ≡ line_feed ∷ (middle ++ tilde ∷ []))
 
-last_still : (e : Bool) (m t : List ℕ) → Lined e (m ++ tilde ∷ []) t → (more : List ℕ) × (t ≡ more ++ tilde ∷ [])
+last_still : (e : Bool) (m t : List ℕ) → Lined e (m ++ tilde ∷ []) t → (more : List ℕ) ×
+    (t ≡ more ++ tilde ∷ [])
 last_still e m t p =
     let parts = lined_parts e m (tilde ∷ []) t p in
     let last = signs_still e [] parts.behind refl parts.second in (
@@ -135,7 +136,8 @@ first_still e (c ∷ m) t (x, rest, turn, whole, more) =
     (λ f. first_still e m rest (subst (λ d. Lined e (d ∷ (m ++ tilde ∷ [])) rest) (eqb-true c line_feed f) more))
 
 -- a tilde stays
-opened_still : (e : Bool) (s t : List ℕ) → list_all is_no_tilde s ≡ false → Lined e s t → list_all is_no_tilde t ≡ false
+opened_still : (e : Bool) (s t : List ℕ) → list_all is_no_tilde s ≡ false → Lined e s t → list_all
+    is_no_tilde t ≡ false
 opened_still e [] t f p = absurd (true≢false f)
 opened_still e (b ∷ s) t f (x, rest, turn, whole, more) =
     ap (list_all is_no_tilde) whole
@@ -180,7 +182,8 @@ own : (l : List ℕ) → IsPart l l
 own l = holds-own of_visible l
 
 -- less of a block is seen, so less of all
-pub seen_more : (l a d : List ℕ) (v w : List ℕ) → IsPart l (a ++ (v ++ d)) → IsPart v w → IsPart l (a ++ (w ++ d))
+pub seen_more : (l a d : List ℕ) (v w : List ℕ) → IsPart l (a ++ (v ++ d)) → IsPart v w → IsPart l
+    (a ++ (w ++ d))
 seen_more l a d v w p q =
     part-then l (a ++ (v ++ d)) (a ++ (w ++ d)) p
     (part-append a (v ++ d) a (w ++ d) (own a) (part-append v d w d q (own d)))
@@ -221,7 +224,8 @@ white_cut t w all =
     subst (λ (z : List ℕ). Respaced (t ++ w) z) (append-nil t)
     (respaced-append t t w [] (respaced-same t) (respaced-gone w all))
 
-pub cut_after : (s z : List ℕ) → Tail z → (x t w : List ℕ) → (s ++ z) ++ x ≡ t ++ w → list_all is_no_tilde w ≡ true
+pub cut_after : (s z : List ℕ) → Tail z → (x t w : List ℕ) → (s ++ z) ++ x ≡ t ++ w → list_all
+    is_no_tilde w ≡ true
     → (y : List ℕ) × (x ≡ y ++ w) × (t ≡ (s ++ z) ++ y)
 cut_after s z p x t w e all =
     let u = s ++ ((p.front ++ line_feed ∷ []) ++ p.line) in
@@ -273,7 +277,8 @@ cut-lined e {s} {t} {l} q (inr p) =
       part = seen_more l [] p.d (visible p.z) (visible x.front) p.part seen.1;
     })
 
-pub cut-cut_end : (t w : List ℕ) {l : List ℕ} → list_all is_white w ≡ true → KeepsCut (t ++ w) l → KeepsCut t l
+pub cut-cut_end : (t w : List ℕ) {l : List ℕ} → list_all is_white w ≡ true → KeepsCut (t ++ w) l → KeepsCut
+    t l
 cut-cut_end t w all (inl p) = inl (blocks-cut_end t w all p)
 cut-cut_end t w all (inr p) =
     let f = cut_after [] p.z p.tail p.t t w (sym p.whole) (whites_no_tilde w all) in
@@ -383,7 +388,8 @@ block_behind y x p =
       middle = y ++ ((p.front ++ line_feed ∷ []) ++ p.line);
       begins = ap (λ w. front ++ w)
           (p.whole ∙ sym (append_assoc (p.front ++ line_feed ∷ []) p.line (tilde ∷ [])))
-          ∙ ap (λ w. line_feed ∷ w) (sym (append_assoc y ((p.front ++ line_feed ∷ []) ++ p.line) (tilde ∷ [])));
+          ∙ ap (λ w. line_feed ∷ w) (sym (append_assoc y ((p.front ++ line_feed ∷ []) ++ p.line)
+          (tilde ∷ [])));
     }
 
 pub visible_behind : (x y : List ℕ) → IsUtf8 x → IsPart (visible y) (visible (x ++ y))
@@ -420,7 +426,8 @@ cut-trimmed_end passes fills s {l} p =
     cut-cut_end (take n s) (drop n s) (end_white passes fills s)
     (subst (λ (x : List ℕ). KeepsCut x l) (sym (take-append-drop n s)) p)
 
-pub blocks-trimmed_end : (passes : ℕ → Bool) → OfWhite passes → (s : List ℕ) {l : List ℕ} → KeepsBlocks s l
+pub blocks-trimmed_end : (passes : ℕ → Bool) → OfWhite passes → (s : List ℕ) {l : List ℕ} → KeepsBlocks s
+    l
     → KeepsBlocks (trimmed_end passes s) l
 blocks-trimmed_end passes fills s p =
     let n = length s - suffix_len passes s in

@@ -81,7 +81,8 @@ between_tildes (suc n) info code some =
       };
       middle = (front ++ line_feed ∷ []) ++ replicate n tilde;
       begins = ap (λ y. line_feed ∷ ((front ++ line_feed ∷ []) ++ y)) (many_last n tilde)
-          ∙ ap (λ y. line_feed ∷ y) (sym (append_assoc (front ++ line_feed ∷ []) (replicate n tilde) (tilde ∷ [])));
+          ∙ ap (λ y. line_feed ∷ y) (sym (append_assoc (front ++ line_feed ∷ []) (replicate n tilde)
+          (tilde ∷ [])));
     }
 
 pub blocks-tildes : (s : List ℕ) (language : Option (List ℕ)) {l : List ℕ}
@@ -107,7 +108,8 @@ blocks-quote s {l} p =
     (cut-trimmed_end is_document_white_space document_of_white (trimmed_start is_line_feed s)
     (cut-trimmed_start is_line_feed line_feed_of_white s p)))
   where
-    by : (ls : List (List ℕ)) → KeepsCut (spread quoted_next ls) l → KeepsBlocks (with_blank_lines (quoted_lines ls)) l
+    by : (ls : List (List ℕ)) → KeepsCut (spread quoted_next ls) l → KeepsBlocks
+        (with_blank_lines (quoted_lines ls)) l
     by [] q = blocks-blank_lines [] q
     by (x ∷ xs) q =
         blocks-as (ap (λ z. (blank_line ++ z) ++ blank_line) (quoted_is x xs))
@@ -154,7 +156,8 @@ abbrev pub KeepAllBlocks : List (List ℕ) → List ℕ → Type 0
 KeepAllBlocks [] l = l ≡ []
 KeepAllBlocks (s ∷ ss) l = (m n : List ℕ) × KeepsBlocks s m × KeepAllBlocks ss n × (l ≡ m ++ n)
 
-blocks-folded : (out : List ℕ) (blocks : List (List ℕ)) (l m : List ℕ) → KeepsBlocks out l → KeepAllBlocks blocks m
+blocks-folded : (out : List ℕ) (blocks : List (List ℕ)) (l m : List ℕ) → KeepsBlocks out l → KeepAllBlocks
+    blocks m
     → KeepsBlocks (fold join_block out blocks) (l ++ m)
 blocks-folded out [] l m p q = blocks-is (sym (append-nil l) ∙ ap (λ z. l ++ z) (sym q)) p
 blocks-folded out (b ∷ blocks) l m p (x, y, first, rest, e) =
@@ -238,7 +241,8 @@ no_tilde_of : (w : List ℕ) → IsWhite w → list_all is_no_tilde w ≡ true
 no_tilde_of w (cs, e, white) = ap (list_all is_no_tilde) e.0 ∙ white_has_no_tilde cs white
 
 -- a mark after the white space at the beginning
-hold-mark_first : (emphasis : Emphasis) (c : Blocks) (w r l : List ℕ) → IsWhite w → Hold c l → text_of c ≡ w ++ r
+hold-mark_first : (emphasis : Emphasis) (c : Blocks) (w r l : List ℕ) → IsWhite w → Hold c l → text_of c ≡ w
+    ++ r
     → KeepsBlocks (w ++ (mark emphasis ++ r)) l
 hold-mark_first emphasis (flat s) w r l white p e =
     blocks-flat (keeps-mark_first emphasis w r white (keeps-as e p))
@@ -314,7 +318,8 @@ hold-mark_last emphasis (link s z c) f w l u white (a, d, first, v, block, more,
     (blocks-link s z (cut.0 ++ (mark emphasis ++ w)) a d l first v block
     (hold-mark_last emphasis c cut.0 w d text white more cut.1) part)
 
-blocks-between : (emphasis : Emphasis) (before middle after : List ℕ) {l : List ℕ} → IsWhite before → IsUtf8 middle
+blocks-between : (emphasis : Emphasis) (before middle after : List ℕ) {l : List ℕ} → IsWhite before → IsUtf8
+    middle
     → IsWhite after → KeepsBlocks (before ++ (middle ++ after)) l
     → KeepsBlocks ((((before ++ mark emphasis) ++ middle) ++ mark emphasis) ++ after) l
 blocks-between emphasis before middle after {l} first text last p =

@@ -10,9 +10,9 @@ use Rattle.std.proofs.lemmas.Str.{IsUtf8-append}
 use Rattle.htmd_text.specs.Characters.{line_feed, tilde}
 use Rattle.htmd_markdown.specs.Joints.{with_joint}
 use Rattle.htmd_tree_laws.specs.Shown.{visible, IsPart}
-use Rattle.htmd_tree_laws.proofs.CountedTexts.{of_visible, part-append, part-then, holds-own}
+use Rattle.htmd_tree_laws.proofs.CountedTexts.{of_visible, part-append, holds-own}
 use Rattle.htmd_tree_laws.proofs.KeptMarks.{is_safe}
-use Rattle.htmd_tree_laws.proofs.KeptChains.{Keeps, keeps-in, keeps-append, keeps-says, keeps-safe, keeps-nil}
+use Rattle.htmd_tree_laws.proofs.KeptChains.{Keeps, keeps-append, keeps-says, keeps-safe, keeps-nil}
 use Rattle.htmd_tree_laws.proofs.KeptMeetings.{is_of_fence, IsEnd, keeps-meeting}
 use Rattle.htmd_tree_laws.proofs.LettersLemmas.{Says, says-own, says-append, says-in}
 
@@ -29,7 +29,8 @@ two_cuts (b ∷ x) q (c ∷ w) r e =
     (λ f. inr (f.0, ap (λ d. d ∷ w) (sym same) ∙ ap (λ z. b ∷ z) f.1, f.2)) (two_cuts x q w r rest)
 
 -- the last byte doesn't pass, so nothing that passes is there
-pub none_passes : (p : ℕ → Bool) (u : List ℕ) (c : ℕ) (t y : List ℕ) → u ++ c ∷ [] ≡ t ++ y → p c ≡ false
+pub none_passes : (p : ℕ → Bool) (u : List ℕ) (c : ℕ) (t y : List ℕ) → u ++ c ∷ [] ≡ t ++ y → p
+    c ≡ false
     → list_all p y ≡ true → y ≡ []
 none_passes p u c [] y e other all = absurd (false≢true (sym (never u) ∙ ap (list_all p) e ∙ all))
   where
@@ -121,14 +122,6 @@ blocks-as {s} {t} {l} e p = subst (λ (x : List ℕ). KeepsBlocks x l) e p
 pub blocks-is : {s l m : List ℕ} → l ≡ m → KeepsBlocks s l → KeepsBlocks s m
 blocks-is {s} e p = subst (λ (x : List ℕ). KeepsBlocks s x) e p
 
-hold-in : (c : Blocks) (l m : List ℕ) → IsPart m l → Hold c l → Hold c m
-hold-in (flat s) l m h p = keeps-in h p
-hold-in (link s z c) l m h (a, d, first, u, block, more, part) =
-    (a, d, first, u, block, more, part-then m l (a ++ (visible z ++ d)) h part)
-
-pub blocks-in : {s l m : List ℕ} → IsPart m l → KeepsBlocks s l → KeepsBlocks s m
-blocks-in {s} {l} {m} h p = record { blocks = p.blocks; whole = p.whole; hold = hold-in p.blocks l m h p.hold }
-
 pub blocks-flat : {s l : List ℕ} → Keeps s l → KeepsBlocks s l
 blocks-flat {s} p = record { blocks = flat s; whole = refl; hold = p }
 
@@ -170,7 +163,8 @@ append (flat s) (link t z d) l m p (a, b, first, u, block, more, part) =
     (record { blocks = d; whole = refl; hold = more }) (more_before l m a (visible z) b part))
 append (link s z c) d l m (a, b, first, u, block, more, part) q =
     blocks-as
-    (ap (λ x. s ++ x) (sym (append_assoc z (text_of c) (text_of d))) ∙ sym (append_assoc s (z ++ text_of c) (text_of d)))
+    (ap (λ x. s ++ x) (sym (append_assoc z (text_of c) (text_of d))) ∙ sym
+    (append_assoc s (z ++ text_of c) (text_of d)))
     (blocks-link s z (text_of c ++ text_of d) a (b ++ m) (l ++ m) first u block (append c d b m more q)
     (more_after l a (visible z) b m part))
 

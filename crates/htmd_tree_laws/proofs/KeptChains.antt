@@ -1,5 +1,5 @@
--- What is promised of Markdown in Guarded: of ordinary texts that each `*` after a backslash stays, and of code, formulas
--- and autolinks between them that all of them stays.
+-- What is promised of Markdown in Guarded: of ordinary texts that each `*` after a backslash stays, and of code,
+-- formulas and autolinks between them that all of them stays.
 use Rattle.std.proofs.Common.{◌≡◌, ℕ, true, false, List, [], ◌∷◌, ◌++◌, refl, sym, ap, ◌∙◌, arith, subst}
 use Rattle.std.proofs.Common.{append_assoc, ⊎_elim}
 use Rattle.std.specs.Prelude.{◌||◌, not, filter}
@@ -202,7 +202,8 @@ pub keeps-append : {s t l m : List ℕ} → Keeps s l → Keeps t m → Keeps (s
 keeps-append {s} {t} p q =
     let x = last_of p.chain in
     let y = first_of q.chain in
-    let both = ordinary-append (ordinary-own x (last_fits p.chain p.fits)) (ordinary-own y (first_fits q.chain q.fits)) in
+    let both = ordinary-append (ordinary-own x (last_fits p.chain p.fits))
+    (ordinary-own y (first_fits q.chain q.fits)) in
     keeps-joined p q (x ++ y) (s ++ t) (both.utf8, both.closed) both.keeps
     (ap (λ z. z ++ t) (p.whole ∙ last_whole p.chain) ∙ ap (λ z. (front_of p.chain ++ x) ++ z)
     (q.whole ∙ first_whole q.chain)

@@ -322,7 +322,8 @@ module _ (options : Options) (g : is_guarded options ≡ true) (alone : is_markd
         blocks-flat (keeps-backticks (all_text_of at.view) (guarded_language at.view) (block_says Backticks))
 
     -- a block stands in no line
-    block_in : (lines : Bool) → (lines ≡ false → stands_in_line items id ≡ true) → stands_in_line items id ≡ false
+    block_in : (lines : Bool) → (lines ≡ false → stands_in_line items id ≡ true) → stands_in_line items
+        id ≡ false
         → (s : List ℕ) → KeepsBlocks s in_tree → KeepsIn lines s in_tree
     block_in true place other s p = record { holds = p }
     block_in false place other s p = absurd (true≢false (sym (place refl) ∙ other))
@@ -346,7 +347,8 @@ module _ (options : Options) (g : is_guarded options ≡ true) (alone : is_markd
     span_content : (l : List ℕ) → KeepsIn lines (content_of at definitions).text l
         → KeepsResult lines (with_finish spans at.view (content_of at definitions)).result l
     span_content l p =
-        cond_both (is_guarded options || in_pre_or_code (ancestors_of at.view)) _ _ (λ (s : List ℕ). KeepsIn lines s l)
+        cond_both (is_guarded options || in_pre_or_code (ancestors_of at.view)) _ _
+        (λ (s : List ℕ). KeepsIn lines s l)
         (λ _. p)
         (λ none. absurd (true≢false (sym g ∙ (or_parts (is_guarded options) _ none).0)))
 
@@ -476,7 +478,8 @@ module _ (options : Options) (g : is_guarded options ≡ true) (alone : is_markd
     ordered_gives each =
         let nodes = children_of items id in
         let results = (contents_alone at nodes definitions).results in
-        keeps-listed lines at.view (numbered_list at.view results) (said_of_each (shown options items) at.view nodes) alone
+        keeps-listed lines at.view (numbered_list at.view results) (said_of_each (shown options items) at.view nodes)
+        alone
         (ordered_keeps (blocks_of at.view results) _ (blocks_keep nodes definitions each))
 
     -- ---- tables
@@ -495,7 +498,8 @@ module _ (options : Options) (g : is_guarded options ≡ true) (alone : is_markd
     TableGives plan l =
         KeepsResult lines (plan_answer tables at definitions plan (without_handler at definitions)).result l
 
-    fallback_gives : (l : List ℕ) → is_left_out at.view ≡ true → KeepsIn lines (content_of at definitions).text l
+    fallback_gives : (l : List ℕ) → is_left_out at.view ≡ true → KeepsIn lines (content_of at definitions).text
+        l
         → TableGives content_of_fallback l
     fallback_gives l left p =
         let passed_on : without_handler at definitions ≡ answer_of (content_of at definitions) =

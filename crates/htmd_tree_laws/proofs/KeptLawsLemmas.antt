@@ -91,7 +91,8 @@ module _ (options : Options) (g : is_guarded options ≡ true) (alone : is_markd
 
   -- what this many levels give keeps what is in the tree
   abbrev AreKept : ℕ → Type 0
-  AreKept n = (lines : Bool) (tree : NumberedTree) (context : Context) (out : Output) (l : List ℕ) → Stands lines n tree
+  AreKept n = (lines : Bool) (tree : NumberedTree) (context : Context) (out : Output) (l : List ℕ) → Stands lines n
+      tree
       → KeepsIn lines out.text l
       → KeepsIn lines (written_within n conversion tree context out).text (l ++ shown options items tree)
 
@@ -126,7 +127,8 @@ module _ (options : Options) (g : is_guarded options ≡ true) (alone : is_markd
       cond_both (is_guarded options) _ _ (λ (s : List ℕ). KeepsIn lines s (l ++ m))
       (λ _. in-seam lines p q) (λ pure. absurd (true≢false (sym g ∙ pure)))
 
-  child_is_kept : (n : ℕ) → AreKept n → (lines : Bool) (text : Option (List ℕ)) → IsTextIfAny text → (d : ℕ)
+  child_is_kept : (n : ℕ) → AreKept n → (lines : Bool) (text : Option (List ℕ)) → IsTextIfAny text →
+      (d : ℕ)
       → Stands lines n (tree_of items d) → (before : List (List ℕ))
       → KeepsIn lines
       (content_alone (written_within n conversion) conversion (descendant_tree items text d) d before).text
@@ -139,7 +141,8 @@ module _ (options : Options) (g : is_guarded options ≡ true) (alone : is_markd
       keeps lines (text d s) (context_of (ancestors_of items d) false true) (empty_output before) []
       ((utf8, omega (arith, some, low.0.1)), λ _. tt) (in-flat lines keeps-nil)
 
-  each_is_kept : (n : ℕ) → AreKept n → (lines : Bool) (id : ℕ) (inside : List Ancestor) (children : NumberedForest)
+  each_is_kept : (n : ℕ) → AreKept n → (lines : Bool) (id : ℕ) (inside : List Ancestor)
+      (children : NumberedForest)
       (ds : List ℕ) → IsTextIfAny (only_text children) → AllOf (Stands lines n) (forest_of (tree_of items) ds)
       → EachKeeps lines (occurrence_at (written_within n conversion) conversion id inside children)
       (shown options items) ds
@@ -229,7 +232,8 @@ module _ (options : Options) (g : is_guarded options ≡ true) (alone : is_markd
       let same : children ≡ children_at items id =
       lies.block (one_line_is_block name (ancestor_of (data_at items id)).attributes id
       (ap (λ (tag : List ℕ). is_one_line_tag
-      (record { tag = tag; attributes = (ancestor_of (data_at items id)).attributes }) items id) (sym lies.tag) ∙ here)) in
+      (record { tag = tag; attributes = (ancestor_of (data_at items id)).attributes }) items id)
+      (sym lies.tag) ∙ here)) in
       subst (AllInLine items) (sym same)
       (below_line items t id lies.within (ap (λ b. b || stands_in_line items id) here))
     where

@@ -147,7 +147,8 @@ feeds-append (b ∷ x) y e f =
 pub first_feeds : (s : List ℕ) → list_all is_line_feed (take (prefix_len is_line_feed s) s) ≡ true
 first_feeds [] = refl
 first_feeds (b ∷ s) =
-    cond_both (is_line_feed b) (1 + prefix_len is_line_feed s) 0 (λ n. list_all is_line_feed (take n (b ∷ s)) ≡ true)
+    cond_both (is_line_feed b) (1 + prefix_len is_line_feed s) 0
+    (λ n. list_all is_line_feed (take n (b ∷ s)) ≡ true)
     (λ e.
     let one : suc (prefix_len is_line_feed s) ≡ 1 + prefix_len is_line_feed s = omega arith in
     subst (λ (n : ℕ). list_all is_line_feed (take n (b ∷ s)) ≡ true) one

@@ -341,7 +341,8 @@ white_first c cs x ds w s p e f b =
       subst (λ g. Below (ends (step e c) cs) g) (sym (ends-append f x ds)) later.1,
     )
 
-white_shows : (c : ℕ) (cs x ds : List ℕ) → is_white c ≡ true → IsPart (filter is_visible cs) (filter is_visible ds)
+white_shows : (c : ℕ) (cs x ds : List ℕ) → is_white c ≡ true → IsPart (filter is_visible cs)
+    (filter is_visible ds)
     → IsPart (filter is_visible (c ∷ cs)) (filter is_visible (x ++ ds))
 white_shows c cs x ds w p =
     subst (λ (l : List ℕ). IsPart l (filter is_visible (x ++ ds)))
@@ -460,7 +461,8 @@ ordinary-safe x e =
       closed = ap (ends even) same ∙ ends-safe x e;
     }
 
-pub ordinary-before : {s l : List ℕ} (x : List ℕ) → list_all is_safe x ≡ true → Ordinary s l → Ordinary (s ++ x) l
+pub ordinary-before : {s l : List ℕ} (x : List ℕ) → list_all is_safe x ≡ true → Ordinary s l → Ordinary
+    (s ++ x) l
 ordinary-before {s} {l} x e p = ordinary-is (append-nil l) (ordinary-append p (ordinary-safe x e))
 
 -- ---- what is found at all

@@ -37,7 +37,8 @@ use Rattle.htmd_tree_laws.proofs.Utf8Cuts.{cut_before}
 
 -- ---- cuts in a text after another
 
-take_behind : (p s : List ℕ) (n : ℕ) → n ≤ length s → take (length (p ++ s) - n) (p ++ s) ≡ p ++ take (length s - n) s
+take_behind : (p s : List ℕ) (n : ℕ) → n ≤ length s → take (length (p ++ s) - n) (p ++ s) ≡ p ++ take
+    (length s - n) s
 take_behind [] s n l = refl
 take_behind (b ∷ p) s n l =
     let place : length (b ∷ (p ++ s)) - n ≡ suc (length (p ++ s) - n) = omega (arith, length-append p s, l) in
@@ -183,7 +184,8 @@ closing_low : (b : ℕ) → closing b ≡ true → b < 128
 closing_low b e = grind (arith, nat_tests)
 
 -- up to a byte that is not plain
-plain_behind : (x : List ℕ) (b : ℕ) (s : List ℕ) → IsUtf8 (x ++ b ∷ []) → IsUtf8 s → is_safe b ≡ true → b < 128
+plain_behind : (x : List ℕ) (b : ℕ) (s : List ℕ) → IsUtf8 (x ++ b ∷ []) → IsUtf8 s → is_safe b ≡ true
+    → b < 128
     → is_plain_behind x b ≡ false → plain_end ((x ++ b ∷ []) ++ s) ≤ length s
 plain_behind x b s pu u safe low stops =
     let xu = (cut_before x b [] low pu).0 in
@@ -237,7 +239,8 @@ line_more (c ∷ t) b e f =
     let parts = and_parts (is_of_fence c) (list_all is_of_fence t) e in
     and_from (is_of_fence c) (list_all is_of_fence (t ++ b ∷ [])) parts.0 (line_more t b parts.1 f)
 
-fence_cases : (f : ℕ → Bool) (t : Bool) → f 0x0A ≡ t → f 0x3E ≡ t → f 0x20 ≡ t → f 0x7E ≡ t → (b : ℕ)
+fence_cases : (f : ℕ → Bool) (t : Bool) → f 0x0A ≡ t → f 0x3E ≡ t → f 0x20 ≡ t → f 0x7E ≡ t →
+    (b : ℕ)
     → is_of_fence b ≡ true → f b ≡ t
 fence_cases f t w x y z b e =
     ⊎_elim (λ is. ap f (eqb-true b 0x0A is) ∙ w)
@@ -293,7 +296,8 @@ up_to_fence x t u e =
           ∙ ap (λ z. word_first (reverse z)) (chars-append y (l.last ∷ []) text ∙ ap (λ z. chars y ++ z) one)
           ∙ ap word_first (reverse-append (chars y) (l.last ∷ [])) ∙ fence_no_word l.last l.sign,
       ap ending_run whole
-          ∙ ap (λ n. cond (escapes_next (take (length (y ++ l.last ∷ []) - n) (y ++ l.last ∷ []))) (n - 1) n) none
+          ∙ ap (λ n. cond (escapes_next (take (length (y ++ l.last ∷ []) - n) (y ++ l.last ∷ []))) (n - 1) n)
+          none
           ∙ zero_either (escapes_next (take (length (y ++ l.last ∷ []) - 0) (y ++ l.last ∷ []))),
     )
   where
@@ -313,24 +317,19 @@ opens_cases b e =
     (or_cases (b == 0x60) _ e)
 
 -- what holds of each of the three
-opens_by : (f : ℕ → Bool) (t : Bool) → f 0x60 ≡ t → f 0x24 ≡ t → f 0x3C ≡ t → (b : ℕ) → opens b ≡ true
+opens_by : (f : ℕ → Bool) (t : Bool) → f 0x60 ≡ t → f 0x24 ≡ t → f 0x3C ≡ t → (b : ℕ) → opens
+    b ≡ true
     → f b ≡ t
 opens_by f t x y z b e =
     ⊎_elim (λ (is : b ≡ 0x60). ap f is ∙ x)
-    (λ more. ⊎_elim (λ (is : b ≡ 0x24). ap f is ∙ y) (λ (is : b ≡ 0x3C). ap f is ∙ z) more) (opens_cases b e)
+    (λ more. ⊎_elim (λ (is : b ≡ 0x24). ap f is ∙ y) (λ (is : b ≡ 0x3C). ap f is ∙ z) more)
+    (opens_cases b e)
 
 opens_low : (b : ℕ) → opens b ≡ true → b < 128
 opens_low b e = grind (arith, nat_tests)
 
-no_word : (b : ℕ) → opens b ≡ true → is_word_character b ≡ false
-unfolding ucd_category
-no_word b e = opens_by is_word_character false refl refl refl b e
-
-no_plain : (b : ℕ) → opens b ≡ true → is_plain_sign b ≡ false
-unfolding ucd_category
-no_plain b e = opens_by is_plain_sign false refl refl refl b e
-
-begins_by : (f : ℕ → Bool) (t : Bool) → f 0x60 ≡ t → f 0x24 ≡ t → f 0x3C ≡ t → f 0x0A ≡ t → (b : ℕ)
+begins_by : (f : ℕ → Bool) (t : Bool) → f 0x60 ≡ t → f 0x24 ≡ t → f 0x3C ≡ t → f 0x0A ≡ t →
+    (b : ℕ)
     → (opens b ≡ true) ⊎ (b ≡ line_feed) → f b ≡ t
 begins_by f t x y z w b (inl o) = opens_by f t x y z b o
 begins_by f t x y z w b (inr is) = ap f is ∙ w
@@ -365,7 +364,8 @@ beginning_before s q n = by (next_of q n)
     by (inl e) = ap (λ z. beginning_run (s ++ z)) e ∙ ap beginning_run (append-nil s)
     by (inr x) =
         ap (λ z. beginning_run (s ++ z)) x.whole
-        ∙ prefix_before is_asterisk s x.first x.rest (begins_by is_asterisk false refl refl refl refl x.first x.begins)
+        ∙ prefix_before is_asterisk s x.first x.rest
+        (begins_by is_asterisk false refl refl refl refl x.first x.begins)
 
 signs_before : (x : Bool) (cs : List ℕ) (b : ℕ) (ds : List ℕ) → escapes x cs ≡ false
     → (opens b ≡ true) ⊎ (b ≡ line_feed) → plain_signs x (cs ++ b ∷ ds) ≡ plain_signs x cs
@@ -384,7 +384,8 @@ rest_chars : (b : ℕ) (s : List ℕ) → b < 128 → IsUtf8 (b ∷ s) → chars
 rest_chars b s low u =
     chars_past_char (b ∷ s) s b u (ap (λ z. z ++ s) (sym (encode_ascii b low)))
 
-next_chars : (s q : List ℕ) → IsUtf8 s → IsUtf8 q → (x : Next q) → chars (s ++ q) ≡ chars s ++ x.first ∷ chars x.rest
+next_chars : (s q : List ℕ) → IsUtf8 s → IsUtf8 q → (x : Next q) → chars (s ++ q) ≡ chars s ++ x.first ∷
+    chars x.rest
 next_chars s q su u x =
     chars-append s q su
     ∙ ap (λ z. chars s ++ z)
@@ -839,7 +840,8 @@ next_before q c n fits = by (rest_opens c fits)
     by (inl none) = subst IsNext (ap (λ z. z ++ q) (sym none)) n
     by (inr (b, r, e, o)) = inl (inr (b, r ++ q, ap (λ z. z ++ q) e, o))
 
-pub keeps-meeting : {x y l m : List ℕ} (p q : List ℕ) → IsUtf8 p → IsUtf8 q → IsEnd p → IsNext q → Keeps x l
+pub keeps-meeting : {x y l m : List ℕ} (p q : List ℕ) → IsUtf8 p → IsUtf8 q → IsEnd p → IsNext q → Keeps
+    x l
     → Keeps y m → Meets p x y q (l ++ m)
 keeps-meeting {x} {y} {l} {m} p q pu qu before after k n =
     let c = k.chain in

@@ -432,7 +432,8 @@ aside_white c low e = grind (arith, nat_tests)
 aside_high : (b : ℕ) → 128 ≤ b → is_aside b ≡ true
 aside_high b high = grind (arith, nat_tests)
 
-all_aside : (x y : List ℕ) → list_all is_aside x ≡ true → list_all is_aside y ≡ true → list_all is_aside (x ++ y) ≡ true
+all_aside : (x y : List ℕ) → list_all is_aside x ≡ true → list_all is_aside y ≡ true → list_all is_aside
+    (x ++ y) ≡ true
 all_aside [] y e f = f
 all_aside (b ∷ x) y e f =
     let parts = and_parts (is_aside b) (list_all is_aside x) e in
@@ -446,7 +447,8 @@ white_aside (c ∷ cs) e =
     (⊎_elim
     (λ low. ap (list_all is_aside) (encode_ascii c low)
     ∙ and_from (is_aside c) true (aside_white c low parts.0) refl)
-    (λ high. all_reads is_aside (encode_utf8 c) (λ k l. aside_high (get_or (encode_utf8 c) k 0) (bytes_high c high k l)))
+    (λ high. all_reads is_aside (encode_utf8 c)
+    (λ k l. aside_high (get_or (encode_utf8 c) k 0) (bytes_high c high k l)))
     (cases_lt c 128))
     (white_aside cs parts.1)
 
@@ -529,7 +531,8 @@ keeps-mark_first emphasis w r {l} white p =
     let c = p.chain in
     let x = first_of c in
     let m = mark emphasis in
-    let cut = white_first x (rest_of c) w r (sym (first_whole c) ∙ sym p.whole) (aside w white) (rest_opens c p.fits) in
+    let cut = white_first x (rest_of c) w r (sym (first_whole c) ∙ sym p.whole) (aside w white) (rest_opens c p.fits)
+    in
     let y = cut.0 in
     let fits = first_fits c p.fits in
     let space = ordinary-white w white in
@@ -554,7 +557,8 @@ keeps-mark_first emphasis w r {l} white p =
     ∙ sym (append_assoc w (m ++ y) (rest_of c)))
 
 -- and a mark before the white space at the end
-pub keeps-mark_last : (emphasis : Emphasis) (f w : List ℕ) {l : List ℕ} → IsUtf8 f → IsWhite w → Keeps (f ++ w) l
+pub keeps-mark_last : (emphasis : Emphasis) (f w : List ℕ) {l : List ℕ} → IsUtf8 f → IsWhite w → Keeps
+    (f ++ w) l
     → Keeps (f ++ (mark emphasis ++ w)) l
 keeps-mark_last emphasis f w {l} u white p =
     let c = p.chain in
@@ -579,14 +583,16 @@ keeps-mark_last emphasis f w {l} u white p =
     let same : seen even (chars x) ≡ seen even (chars y) =
     ap (seen even) parts ∙ seen-append even (chars y) white.0
     ∙ ap (λ z. seen even (chars y) ++ z) (white_none e white.0 white.2) ∙ append-nil (seen even (chars y)) in
-    let closed : ends e white.0 ≡ even = sym (ap (ends even) parts ∙ ends-append even (chars y) white.0) ∙ fits.1 in
+    let closed : ends e white.0 ≡ even =
+    sym (ap (ends even) parts ∙ ends-append even (chars y) white.0) ∙ fits.1 in
     let state : ends even (chars (y ++ (m ++ w))) ≡ ends (ends e m) white.0 =
     ap (ends even) whole ∙ ends-append even (chars y) (m ++ white.0) ∙ ends-append e m white.0 in
     let after : ends (ends e m) white.0 ≡ even =
     ⊎_elim (λ is. ap (λ s. ends s white.0) is ∙ white_even white.0 white.2)
     (λ is. ap (λ s. ends s white.0) is ∙ closed) (mark_state emphasis e) in
     let shown : IsPart (seen even (chars x)) (seen even (chars (y ++ (m ++ w)))) =
-    subst (λ (z : List ℕ). IsPart z (seen even (chars (y ++ (m ++ w))))) (append-nil (seen even (chars y)) ∙ sym same)
+    subst (λ (z : List ℕ). IsPart z (seen even (chars (y ++ (m ++ w)))))
+    (append-nil (seen even (chars y)) ∙ sym same)
     (subst (λ (z : List ℕ). IsPart (seen even (chars y) ++ []) z)
     (sym (ap (seen even) whole ∙ seen-append even (chars y) (m ++ white.0)))
     (part-append (seen even (chars y)) [] (seen even (chars y)) _
@@ -595,7 +601,8 @@ keeps-mark_last emphasis f w {l} u white p =
     (IsUtf8-append y (m ++ w) text (IsUtf8-append m w marks.utf8 space.utf8), state ∙ after) shown
     (ap (λ z. z ++ (m ++ w)) cut.2 ∙ append_assoc front y (m ++ w))
 
-keeps-between : (emphasis : Emphasis) (before middle after : List ℕ) {l : List ℕ} → IsWhite before → IsUtf8 middle
+keeps-between : (emphasis : Emphasis) (before middle after : List ℕ) {l : List ℕ} → IsWhite before → IsUtf8
+    middle
     → IsWhite after → Keeps (before ++ (middle ++ after)) l
     → Keeps ((((before ++ mark emphasis) ++ middle) ++ mark emphasis) ++ after) l
 keeps-between emphasis before middle after first text last p =

@@ -90,12 +90,14 @@ pub in-quote : (lines : Bool) (s : List ℕ) {l : List ℕ} → KeepsIn lines s 
 in-quote true s p = record { holds = blocks-quote s p.holds }
 in-quote false s p = record { holds = keeps-quote s p.holds }
 
-pub in-bullet : (lines : Bool) (marker : BulletListMarker) (spacing : ℕ) (s : List ℕ) {l : List ℕ} → KeepsIn lines s l
+pub in-bullet : (lines : Bool) (marker : BulletListMarker) (spacing : ℕ) (s : List ℕ) {l : List ℕ} → KeepsIn
+    lines s l
     → KeepsIn lines (bullet_item marker spacing s) l
 in-bullet true marker spacing s p = record { holds = blocks-bullet marker spacing s p.holds }
 in-bullet false marker spacing s p = record { holds = keeps-bullet marker spacing s p.holds }
 
-pub in-unnumbered : (lines : Bool) (s : List ℕ) {l : List ℕ} → KeepsIn lines s l → KeepsIn lines (unnumbered_item s) l
+pub in-unnumbered : (lines : Bool) (s : List ℕ) {l : List ℕ} → KeepsIn lines s l → KeepsIn lines
+    (unnumbered_item s) l
 in-unnumbered true s p = record { holds = blocks-unnumbered s p.holds }
 in-unnumbered false s p = record { holds = keeps-unnumbered s p.holds }
 
@@ -130,7 +132,8 @@ pub all-nil : (lines : Bool) → AllIn lines [] []
 all-nil true = refl
 all-nil false = refl
 
-pub all-more : (lines : Bool) (s : List ℕ) (ss : List (List ℕ)) (l m : List ℕ) → KeepsIn lines s l → AllIn lines ss m
+pub all-more : (lines : Bool) (s : List ℕ) (ss : List (List ℕ)) (l m : List ℕ) → KeepsIn lines s l → AllIn
+    lines ss m
     → AllIn lines (s ∷ ss) (l ++ m)
 all-more true s ss l m p q = (l, m, p.holds, q, refl)
 all-more false s ss l m p q = (l, m, p.holds, q, refl)

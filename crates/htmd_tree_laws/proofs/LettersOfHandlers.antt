@@ -253,7 +253,8 @@ keeps_items {law} tag = record {
       (λ _. in-unnumbered lines content.content p) (λ _. keeps-item_of lines view content.content p));
 }
 
-pub keeps_headings : {law : Law} (tag : List ℕ) → is_among heading_tags tag ≡ true → KeepsContent law tag headings
+pub keeps_headings : {law : Law} (tag : List ℕ) → is_among heading_tags tag ≡ true → KeepsContent law tag
+    headings
 keeps_headings {law} tag is = record {
   planned = λ view alone here. rw alone refl;
   finished = λ view content definitions l alone p.
@@ -297,7 +298,8 @@ says-listed {law} view list l alone p =
     (is_in_item view) list.content p))
 
 pub keeps-listed : (lines : Bool) (view : ElementView) (list : ResultView) (l : List ℕ)
-    → is_markdown_alone view.options ≡ true → KeepsIn lines list.content l → KeepsResult lines (list_result view list) l
+    → is_markdown_alone view.options ≡ true → KeepsIn lines list.content l → KeepsResult lines
+    (list_result view list) l
 keeps-listed lines view list l alone p =
     rw alone
     (keeps-optional lines (list_block (is_in_item view) list.content) l

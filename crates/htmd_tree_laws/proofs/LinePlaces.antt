@@ -86,7 +86,8 @@ module _ (items : List Item) where
         → InLine (tree_of items id)
     within zero id l low e = let some = height_pos (tree_of items id) in absurd (omega (arith, some, low))
     within (suc n) id l low e =
-        let here : (is_in_one_line items id || stands_in_line items id) ≡ true = or_second (is_in_one_line items id) e in
+        let here : (is_in_one_line items id || stands_in_line items id) ≡ true =
+        or_second (is_in_one_line items id) e in
         subst InLine (sym (tree-open items id t l))
         (by (data_at items id) (children_at items id)
         (all_in_line (children_of items id)

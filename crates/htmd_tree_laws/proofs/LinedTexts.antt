@@ -53,7 +53,8 @@ next_in : (e : Bool) (s r : List ℕ) → next_feed (s ++ r) e ≡ next_feed s (
 next_in e [] r = refl
 next_in e (b ∷ s) r = refl
 
-pub lined-append : (e : Bool) (s t r u : List ℕ) → Lined (next_feed r e) s t → Lined e r u → Lined e (s ++ r) (t ++ u)
+pub lined-append : (e : Bool) (s t r u : List ℕ) → Lined (next_feed r e) s t → Lined e r u → Lined e (s ++ r)
+    (t ++ u)
 lined-append e [] t r u p q = subst (λ (x : List ℕ). Lined e r (x ++ u)) (sym p) q
 lined-append e (b ∷ s) t r u (x, rest, turn, whole, more) q = (
   x,
@@ -98,7 +99,8 @@ lined_respaced e (b ∷ s) t (x, rest, turn, whole, more) =
     by (inr (inr (inr (feed, next, none)))) = inr (ap is_white feed, ap (list_all is_safe) none, inl none)
 
 -- white space that holds no line feed goes
-pub lined-gone : (e : Bool) (w : List ℕ) → list_all is_white w ≡ true → list_all is_no_feed w ≡ true → Lined e w []
+pub lined-gone : (e : Bool) (w : List ℕ) → list_all is_white w ≡ true → list_all is_no_feed w ≡ true →
+    Lined e w []
 lined-gone e [] p q = refl
 lined-gone e (b ∷ w) p q =
     let white = and_parts (is_white b) (list_all is_white w) p in
@@ -156,7 +158,8 @@ lined-between e out content n none some =
     ∙ ap (λ z. z ++ (v ++ u)) (take-append-drop (length out - a) out)
     ∙ ap (λ z. out ++ z) (take-append-drop b content) in
     let size : length w ≡ a =
-    (let d = length-drop (length out - a) out in let within = suffix_len-le-length is_line_feed out in omega (arith, d, within)) in
+    (let d = length-drop (length out - a) out in let within = suffix_len-le-length is_line_feed out in omega
+    (arith, d, within)) in
     let size_behind : length v ≡ b = length-take-le b content (prefix_len-le-length is_line_feed content) in
     let both : length (w ++ v) ≡ a + b = (let d = length-append w v in omega (arith, d, size, size_behind)) in
     subst (λ (z : List ℕ). Lined e z ((t ++ replicate n line_feed) ++ u)) whole
@@ -171,7 +174,8 @@ lined-between e out content n none some =
 lined-space : (e : Bool) (s : List ℕ) → begins_with_space s ≡ true → Lined e s (drop 1 s)
 lined-space e [] f = refl
 lined-space e (b ∷ s) f =
-    let here : is_space b ≡ true = ⊎_elim (λ yes. yes) (λ not_here. absurd (none not_here f)) (cases_Bool (is_space b)) in
+    let here : is_space b ≡ true =
+    ⊎_elim (λ yes. yes) (λ not_here. absurd (none not_here f)) (cases_Bool (is_space b)) in
     let other : (b == line_feed) ≡ false = ap (λ c. c == line_feed) (eqb-true b space here) in
     ([], s, inr (inl (space_of_white b here, other, refl)), refl, lined-same e s)
   where
@@ -290,7 +294,8 @@ AllLines [] = Unit {0}
 AllLines (x ∷ ss) = (list_all is_no_feed x ≡ true) × AllLines ss
 
 -- one line after another
-lined-then : (e : Bool) (s t u : List ℕ) → list_all is_no_feed s ≡ true → Lined e s t → Lined e t u → Lined e s u
+lined-then : (e : Bool) (s t u : List ℕ) → list_all is_no_feed s ≡ true → Lined e s t → Lined e t u → Lined
+    e s u
 lined-then e [] t u p r v = subst (λ (z : List ℕ). Lined e z u) r v
 lined-then e (b ∷ s) t u p (x, rest, turn, whole, more) v =
     by turn (subst (λ (z : List ℕ). Lined e z u) whole v)
@@ -366,7 +371,8 @@ lined-line_text true s none =
     (end_white is_document_white_space document_of_white s)
 lined-line_text false s none = λ e. lined-same e s
 
-pub lined-indented : (s : List ℕ) (indent : ℕ) (trim_line_end : Bool) → Lined true s (indented_text s indent trim_line_end)
+pub lined-indented : (s : List ℕ) (indent : ℕ) (trim_line_end : Bool) → Lined true s
+    (indented_text s indent trim_line_end)
 lined-indented s indent trim_line_end =
     cond_both (indent == 0) _ _ (λ (t : List ℕ). Lined true s t) (λ _. lined-same true s)
     (λ _. subst (λ (t : List ℕ). Lined true s t) (indented_is indent (map (line_text trim_line_end) (lines s)))
