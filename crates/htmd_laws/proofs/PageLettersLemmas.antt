@@ -1,8 +1,7 @@
 -- The letters of any page stand in its Markdown: those of its tokens are those of its tree, and what that shows is
 -- written.
-use Rattle.std.proofs.Common.{◌≡◌, ℕ, Bool, true, false, List, arith}
+use Rattle.std.proofs.Common.{◌≡◌, ℕ, true, List, arith}
 use Rattle.std.specs.Str.{chars}
-use Rattle.std.proofs.lemmas.Bool.{and_parts}
 use Rattle.htmd_tree.specs.NumberedTrees.{tree_of}
 use Rattle.htmd_walk.specs.Outputs.{is_guarded}
 use Rattle.htmd_html5.specs.Documents.{html5_document}
@@ -26,5 +25,5 @@ letters_written options scripting page s c alone u harmless letter seen h fit =
     let told = whole c options items seen (is_guarded options) (tree_of items 0) in
     let part = times_of_part c (shown options items (tree_of items 0)) (visible s)
     (shown_in_any_page options scripting page s alone h fit) in
-    let written = written_times c s (and_parts (is_visible c) _ seen).0 in
+    let written = written_times c s seen in
     omega arith

@@ -3,7 +3,7 @@ use Rattle.std.proofs.Common.{◌≡◌, ◌∙◌, ℕ, ◌+◌, ◌≤◌, Boo
 use Rattle.std.proofs.Common.{⊎_elim}
 use Rattle.std.specs.Prelude.{count_by, filter, codes, ◌==◌, ◌&&◌, ◌||◌, not}
 use Rattle.std.specs.Str.{chars, bytes_eq}
-use Rattle.std.proofs.lemmas.Bool.{true≢false, eqb-true, and_parts, or_cases, cond_both}
+use Rattle.std.proofs.lemmas.Bool.{true≢false, eqb-true}
 use Rattle.std.proofs.lemmas.List.Sums.{sum_by-append, sum_by-cons}
 use Rattle.htmd_text.proofs.Cases.{test}
 use Rattle.htmd_tree.specs.Items.{Item}
@@ -14,9 +14,7 @@ use Rattle.htmd_walk.specs.Elements.{view_at}
 use Rattle.htmd_walk.specs.GuardedTableLayouts.{is_written_as_table}
 use Rattle.htmd_walk.specs.Outputs.{conversion_of, is_guarded}
 use Rattle.htmd_walk.specs.BuiltIn.{built_in}
-use Rattle.htmd_tree_laws.specs.Shown.{is_visible, visible, is_no_asterisk, uses_tildes, is_in_tildes, is_counted}
-use Rattle.htmd_tree_laws.specs.Shown.{counted_characters}
-use Rattle.htmd_tree_laws.specs.Shown.{IsPart, is_empty_element, is_one_text}
+use Rattle.htmd_tree_laws.specs.Shown.{is_visible, visible, IsPart, is_empty_element, is_one_text}
 use Rattle.htmd_tree_laws.specs.Shown.{is_caption, is_of_rows}
 use Rattle.htmd_tree_laws.specs.Shown.{shown_of, shown_among, shown_but_later, shown_later}
 use Rattle.htmd_html5_laws.specs.PageLetters.{is_character, occurrences, occurrences_in}
@@ -73,7 +71,7 @@ module _ (c : ℕ) where
   texts_append : (ss ts : List (List ℕ)) → occurrences_in c (ss ++ ts) ≡ occurrences_in c ss + occurrences_in c ts
   texts_append ss ts = sum_by-append (occurrences c) ss ts
 
-  module _ (options : Options) (items : List Item) (seen : is_counted options c ≡ true) where
+  module _ (options : Options) (items : List Item) (seen : is_visible c ≡ true) where
     -- what is shown, and what isn't, make up these texts
     abbrev Whole : List ℕ → List (List ℕ) → List (List ℕ) → Type 0
     Whole shown hidden texts = times shown + occurrences_in c hidden ≡ occurrences_in c texts
@@ -96,26 +94,7 @@ module _ (c : ℕ) where
 
     whole_text : (s : List ℕ) → times (visible s) ≡ occurrences c s
     unfolding occurrences
-    whole_text s =
-        times_of_passing is_visible (chars s)
-        (and_parts (is_visible c) (is_no_asterisk c || not (uses_tildes options)) seen).0
-
-    -- what isn't counted of code is none of it
-    is_kept_in_tildes : uses_tildes options ≡ true → is_no_asterisk c ≡ true
-    is_kept_in_tildes tildes =
-        ⊎_elim (λ other. other) (λ none. absurd (true≢false (sym none ∙ ap not tildes)))
-        (or_cases (is_no_asterisk c) (not (uses_tildes options))
-        (and_parts (is_visible c) (is_no_asterisk c || not (uses_tildes options)) seen).1)
-
-    whole_counted : (id : ℕ) (name l : List ℕ) (hidden texts : List (List ℕ)) → Whole l hidden texts
-        → Whole (counted_characters (is_in_tildes options items id name) l) hidden texts
-    whole_counted id name l hidden texts v =
-        cond_both (is_in_tildes options items id name) (filter is_no_asterisk l) l (λ (m : List ℕ). Whole m hidden texts)
-        (λ e.
-        let inside = and_parts (bytes_eq name (codes "pre")) _ e in
-        let e = times_of_passing is_no_asterisk l (is_kept_in_tildes (and_parts (uses_tildes options) _ inside.1).0) in
-        omega arith)
-        (λ _. v)
+    whole_text s = times_of_passing is_visible (chars s) seen
 
     caption_or_not : (goes : Bool) (l m n : List ℕ) (hs is ts us : List (List ℕ)) → Whole l hs ts
         → Whole (m ++ n) is us
@@ -151,11 +130,9 @@ module _ (c : ℕ) where
           in_ways (is_empty_element (is_guarded options) name)
           (bytes_eq name (codes "table") && (below && is_written_as_table items id))
           (shown_but_later options items below false children) (shown_later options items below false children)
-          (counted_characters (is_in_tildes options items id name) (shown_among options items below children))
+          (shown_among options items below children)
           (hidden_among (is_guarded options) children) (texts_among children)
-          (whole_table below false children)
-          (whole_counted id name (shown_among options items below children) (hidden_among (is_guarded options) children)
-          (texts_among children) (whole_among below children))
+          (whole_table below false children) (whole_among below children)
 
       whole_among : (tables : Bool) (trees : NumberedForest)
           → Whole (shown_among options items tables trees) (hidden_among (is_guarded options) trees)

@@ -10,7 +10,7 @@ use Rattle.htmd.specs.Conversions.{IsHtml5Markdown}
 use Rattle.htmd_html5.specs.Documents.{html5_document}
 use Rattle.htmd_html5_laws.specs.PageLetters.{is_letter, occurrences, occurrences_in, token_texts}
 use Rattle.htmd_html5_laws.specs.HarmlessTags.{all_tags_are_harmless}
-use Rattle.htmd_tree_laws.specs.Shown.{is_empty_element, is_counted, tables_fit}
+use Rattle.htmd_tree_laws.specs.Shown.{is_empty_element, is_visible, tables_fit}
 
 -- ---- texts that aren't shown
 
@@ -48,13 +48,12 @@ hidden_texts options items = hidden_in (is_guarded options) (tree_of items 0)
 -- ---- the law
 
 -- Of each page in UTF-8 that has no start tag of `frameset` or `template`, each visible letter of the text tokens
--- stands in the Markdown as often as there, but for hidden texts; `*` only if no code block is fenced with tildes in
--- Guarded.
+-- stands in the Markdown as often as there, but for hidden texts.
 abbrev pub PageLettersAreWritten : Type 0
 PageLettersAreWritten =
     (options : Options) (scripting : Bool) (page s : List ℕ) (c : ℕ) → is_markdown_alone options ≡ true
     → IsUtf8 page → all_tags_are_harmless scripting page ≡ true
-    → is_letter c ≡ true → is_counted options c ≡ true
+    → is_letter c ≡ true → is_visible c ≡ true
     → IsHtml5Markdown (built_in options) scripting page s
     → tables_fit (is_guarded options) (tree_of (html5_document scripting page) 0) ≡ true
     → occurrences_in c (token_texts scripting page)

@@ -41,11 +41,10 @@ pub fn every_letter_once()
 
 /// In Pure and in Guarded, with the built-in handlers, nothing that a reader sees is lost: the characters, other than
 /// white space, of all texts that are not below `br`, `hr` or `img` stand in the content in their order, digits and
-/// punctuation too, whatever is put between them. In Guarded `*` isn't counted in code blocks that are fenced with
-/// tildes, and what a browser doesn't show has no text. The same holds for the whole Markdown, for each text that is
-/// converted, for a page's body, for any page as browsers read it, for the input of a run and for the page of a row. In
-/// Pure a table is left out, since it drops cells; in Guarded none is, and the captions that come after a row stand
-/// after the last row.
+/// punctuation too, whatever is put between them. In Guarded what a browser doesn't show has no text. The same holds
+/// for the whole Markdown, for each text that is converted, for a page's body, for any page as browsers read it, for
+/// the input of a run and for the page of a row. In Pure a table is left out, since it drops cells; in Guarded none is,
+/// and the captions that come after a row stand after the last row.
 pub fn nothing_is_lost()
     ensures content { ShownInContent }
     ensures markdown { ShownInMarkdown }
@@ -59,7 +58,7 @@ pub fn nothing_is_lost()
 /// In Guarded, and in Pure if no table is there, the letters of any page stand in its Markdown: if the page has no
 /// start tag of `frameset` or `template`, each letter stands in the Markdown at least as often as in the page's text
 /// tokens, but for texts below elements that aren't shown. A letter is a character that isn't white space, U+0000 or
-/// U+FFFD; `*` isn't counted if code blocks are fenced with tildes in Guarded.
+/// U+FFFD.
 pub fn page_letters_are_written()
     ensures { PageLettersAreWritten }
 {}

@@ -1,6 +1,6 @@
 -- Two laws of what a text holds: its letters are those that are wanted, or its visible characters have the wanted ones
 -- among them, in order.
-use Rattle.std.proofs.Common.{◌≡◌, ℕ, Bool, true, false, cond, List, [], ◌∷◌, ◌++◌, refl, sym, ap, ◌∙◌, subst, inl, inr}
+use Rattle.std.proofs.Common.{◌≡◌, ℕ, Bool, true, false, List, [], ◌∷◌, ◌++◌, refl, sym, ap, ◌∙◌, subst, inl, inr}
 use Rattle.std.proofs.Common.{⊎_elim}
 use Rattle.std.specs.Prelude.{filter}
 use Rattle.std.specs.Char.{is_whitespace}
@@ -61,32 +61,6 @@ part-append (x ∷ l) m (c ∷ s) t p q =
 pub part-of_nothing : (l : List ℕ) → IsPart l [] → l ≡ []
 part-of_nothing [] p = refl
 part-of_nothing (x ∷ l) p = absurd p
-
--- those of them that pass a test
-both_or_neither : (b : Bool) (c : ℕ) (l m : List ℕ) → IsPart l m → IsPart (cond b (c ∷ l) l) (cond b (c ∷ m) m)
-both_or_neither true c l m q = inl (refl, q)
-both_or_neither false c l m q = q
-
-one_or_none : (b : Bool) (c : ℕ) (l m : List ℕ) → IsPart l m → IsPart l (cond b (c ∷ m) m)
-one_or_none true c l m q = part-behind l m c q
-one_or_none false c l m q = q
-
-pub part-filter : (p : ℕ → Bool) (l m : List ℕ) → IsPart l m → IsPart (filter p l) (filter p m)
-part-filter p [] m q = tt
-part-filter p (x ∷ l) [] q = absurd q
-part-filter p (x ∷ l) (y ∷ m) q =
-    ⊎_elim
-    (λ same. subst (λ z. IsPart (filter p (x ∷ l)) (filter p (z ∷ m))) same.0
-    (both_or_neither (p x) x (filter p l) (filter p m) (part-filter p l m same.1)))
-    (λ later. one_or_none (p y) y (filter p (x ∷ l)) (filter p m) (part-filter p (x ∷ l) m later)) q
-
-pub part-filtered : (p : ℕ → Bool) (l : List ℕ) → IsPart (filter p l) l
-part-filtered p [] = tt
-part-filtered p (c ∷ l) = by (p c) (part-filtered p l)
-  where
-    by : (b : Bool) → IsPart (filter p l) l → IsPart (cond b (c ∷ filter p l) (filter p l)) (c ∷ l)
-    by true q = inl (refl, q)
-    by false q = part-behind (filter p l) l c q
 
 -- ---- of either law
 

@@ -85,7 +85,8 @@ after_other e (suc k) (b ∷ s) l other = after_other ((b == backslash) && not e
 odd_next : (n : ℕ) → ((1 + n) % 2 == 1) ≡ not (n % 2 == 1)
 odd_next n = grind (arith, nat_tests)
 
-pub next_escaped : (s : List ℕ) (b : ℕ) → escapes_next (s ++ b ∷ []) ≡ ((b == backslash) && not (escapes_next s))
+pub next_escaped : (s : List ℕ) (b : ℕ) → escapes_next
+    (s ++ b ∷ []) ≡ ((b == backslash) && not (escapes_next s))
 next_escaped s b =
     ⊎_elim
     (λ (is : is_backslash b ≡ true).

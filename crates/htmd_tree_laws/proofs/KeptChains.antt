@@ -1,5 +1,5 @@
--- What is promised of Markdown in Guarded: of ordinary texts that each `*` after a backslash stays, and of code, formulas
--- and autolinks between them that all of them stays.
+-- What is promised of Markdown in Guarded: of ordinary texts that each `*` after a backslash stays, and of code,
+-- formulas and autolinks between them that all of them stays.
 use Rattle.std.proofs.Common.{◌≡◌, ℕ, true, false, List, [], ◌∷◌, ◌++◌, refl, sym, ap, ◌∙◌, arith, subst}
 use Rattle.std.proofs.Common.{append_assoc, ⊎_elim}
 use Rattle.std.specs.Prelude.{◌||◌, not, filter}
@@ -202,7 +202,8 @@ pub keeps-append : {s t l m : List ℕ} → Keeps s l → Keeps t m → Keeps (s
 keeps-append {s} {t} p q =
     let x = last_of p.chain in
     let y = first_of q.chain in
-    let both = ordinary-append (ordinary-own x (last_fits p.chain p.fits)) (ordinary-own y (first_fits q.chain q.fits)) in
+    let both = ordinary-append (ordinary-own x (last_fits p.chain p.fits))
+    (ordinary-own y (first_fits q.chain q.fits)) in
     keeps-joined p q (x ++ y) (s ++ t) (both.utf8, both.closed) both.keeps
     (ap (λ z. z ++ t) (p.whole ∙ last_whole p.chain) ∙ ap (λ z. (front_of p.chain ++ x) ++ z)
     (q.whole ∙ first_whole q.chain)
@@ -284,6 +285,15 @@ pub record Exchanged (c : Chain) (t : List ℕ) : Type 0 where
   pub fits : Fits chain
   pub keeps : IsPart (all_stays c) (all_stays chain)
 
+pub visible_respaced : (z t : List ℕ) → IsUtf8 z → Respaced z t → IsUtf8 t × IsPart (visible z) (visible t)
+visible_respaced z t u r =
+    let w = respaced (chars z) t (scalars-chars z u)
+    (subst (λ (x : List ℕ). Respaced x t) (sym (encodes-chars z u)) r) in
+    let same : chars t ≡ w.characters = ap chars w.encoded ∙ chars-encodes w.characters w.scalars in (
+      (w.characters, (w.scalars, sym w.encoded)),
+      subst (λ (x : List ℕ). IsPart (visible z) (filter is_visible x)) (sym same) w.shows,
+    )
+
 exchanged : (c : Chain) (t : List ℕ) → Fits c → Respaced (text_of c) t → Exchanged c t
 exchanged (one s) t p r =
     let q = ordinary-respaced r (ordinary-own s p) in
@@ -301,15 +311,6 @@ exchanged (link s z c) t (p, u, l, more) r =
       keeps = part-append (stays s) _ (stays a.front) _ first.keeps
           (part-append (visible z) _ (visible b.front) _ second.1 third.keeps);
     }
-  where
-    visible_respaced : (z t : List ℕ) → IsUtf8 z → Respaced z t → IsUtf8 t × IsPart (visible z) (visible t)
-    visible_respaced z t u r =
-        let w = respaced (chars z) t (scalars-chars z u)
-        (subst (λ (x : List ℕ). Respaced x t) (sym (encodes-chars z u)) r) in
-        let same : chars t ≡ w.characters = ap chars w.encoded ∙ chars-encodes w.characters w.scalars in (
-          (w.characters, (w.scalars, sym w.encoded)),
-          subst (λ (x : List ℕ). IsPart (visible z) (filter is_visible x)) (sym same) w.shows,
-        )
 
 pub keeps-exchanged : {s t l : List ℕ} (p : Keeps s l) → Exchanged p.chain t → Keeps t l
 keeps-exchanged {s} {t} {l} p q = record {

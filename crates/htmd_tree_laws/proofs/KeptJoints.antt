@@ -284,7 +284,8 @@ module _ (out content : List ℕ) (u : IsUtf8 out) (v : IsUtf8 content) (so : cl
   pub spaced : Kept (ends (out ++ codes " ") content)
   spaced = ordinary-append (ordinary-before (codes " ") refl out_own) content_own
 
-  pub marked : ends_with exclamation_mark out ≡ true → Kept (ends (take (length out - 1) out ++ codes "\\!") content)
+  pub marked : ends_with exclamation_mark out ≡ true → Kept
+      (ends (take (length out - 1) out ++ codes "\\!") content)
   marked e =
       let n = length out - 1 in
       let front = take n out in

@@ -125,17 +125,30 @@ safe_many (suc n) b e = and_from (is_safe b) (list_all is_safe (replicate n b)) 
 pub keeps-many : (n b : ℕ) → is_safe b ≡ true → Keeps (replicate n b) []
 keeps-many n b e = keeps-safe (replicate n b) (safe_many n b e)
 
-feeds-append : (x y : List ℕ) → list_all is_line_feed x ≡ true → list_all is_line_feed y ≡ true
+pub start_white : (passes : ℕ → Bool) → OfWhite passes → (s : List ℕ)
+    → list_all is_white (take (prefix_len passes s) s) ≡ true
+start_white passes fills [] = refl
+start_white passes fills (b ∷ s) =
+    cond_both (passes b) (1 + prefix_len passes s) 0 (λ n. list_all is_white (take n (b ∷ s)) ≡ true)
+    (λ e.
+    let one : suc (prefix_len passes s) ≡ 1 + prefix_len passes s = omega arith in
+    subst (λ (n : ℕ). list_all is_white (take n (b ∷ s)) ≡ true) one
+    (and_from (is_white b) (list_all is_white (take (prefix_len passes s) s)) (fills b e)
+    (start_white passes fills s)))
+    (λ _. refl)
+
+pub feeds-append : (x y : List ℕ) → list_all is_line_feed x ≡ true → list_all is_line_feed y ≡ true
     → list_all is_line_feed (x ++ y) ≡ true
 feeds-append [] y e f = f
 feeds-append (b ∷ x) y e f =
     let parts = and_parts (is_line_feed b) (list_all is_line_feed x) e in
     and_from (is_line_feed b) (list_all is_line_feed (x ++ y)) parts.0 (feeds-append x y parts.1 f)
 
-first_feeds : (s : List ℕ) → list_all is_line_feed (take (prefix_len is_line_feed s) s) ≡ true
+pub first_feeds : (s : List ℕ) → list_all is_line_feed (take (prefix_len is_line_feed s) s) ≡ true
 first_feeds [] = refl
 first_feeds (b ∷ s) =
-    cond_both (is_line_feed b) (1 + prefix_len is_line_feed s) 0 (λ n. list_all is_line_feed (take n (b ∷ s)) ≡ true)
+    cond_both (is_line_feed b) (1 + prefix_len is_line_feed s) 0
+    (λ n. list_all is_line_feed (take n (b ∷ s)) ≡ true)
     (λ e.
     let one : suc (prefix_len is_line_feed s) ≡ 1 + prefix_len is_line_feed s = omega arith in
     subst (λ (n : ℕ). list_all is_line_feed (take n (b ∷ s)) ≡ true) one
@@ -231,7 +244,7 @@ keeps-seam front behind p = keeps-respaced (respaced-seam front behind) p
 
 -- ---- lines
 
-abbrev rejoin : List (List ℕ) → List ℕ
+abbrev pub rejoin : List (List ℕ) → List ℕ
 rejoin [] = []
 rejoin (x ∷ []) = x
 rejoin (x ∷ y ∷ more) = x ++ line_feed ∷ rejoin (y ∷ more)
@@ -241,7 +254,7 @@ rejoin_onto : (b : ℕ) (x : List ℕ) (rest : List (List ℕ)) → rejoin (onto
 rejoin_onto b x [] = refl
 rejoin_onto b x (y ∷ more) = refl
 
-split_is : (s : List ℕ) → rejoin (slice_split (λ b. b == 10) s) ≡ s
+pub split_is : (s : List ℕ) → rejoin (slice_split (λ b. b == 10) s) ≡ s
 split_is [] = refl
 split_is (b ∷ s) =
     let some = some_part (λ b. b == 10) s in
@@ -267,7 +280,7 @@ Each (x ∷ ss) (y ∷ ls) = Respaced x y × Each ss ls
 abbrev Precedes : (List ℕ → List ℕ) → Type 0
 Precedes next = (x : List ℕ) → (w : List ℕ) × (list_all is_safe w ≡ true) × (next x ≡ w ++ x)
 
-abbrev spread : (List ℕ → List ℕ) → List (List ℕ) → List ℕ
+abbrev pub spread : (List ℕ → List ℕ) → List (List ℕ) → List ℕ
 spread next [] = []
 spread next (x ∷ xs) = x ++ flat_map next xs
 
@@ -339,7 +352,7 @@ respaced-line_text : (trim_line_end : Bool) (s : List ℕ) → Respaced s (line_
 respaced-line_text true s = respaced-trimmed_end is_document_white_space document_of_white s
 respaced-line_text false s = respaced-same s
 
-indented_is : (indent : ℕ) (ls : List (List ℕ)) → spread (next_line indent) ls ≡ indented_lines indent ls
+pub indented_is : (indent : ℕ) (ls : List (List ℕ)) → spread (next_line indent) ls ≡ indented_lines indent ls
 indented_is indent [] = refl
 indented_is indent (x ∷ xs) = refl
 
@@ -359,10 +372,10 @@ keeps-indented s indent trim_line_end p = keeps-respaced (respaced-indented s in
 
 -- ---- quotes
 
-abbrev quoted_next : List ℕ → List ℕ
+abbrev pub quoted_next : List ℕ → List ℕ
 quoted_next x = codes "\n> " ++ x
 
-quoted_is : (x : List ℕ) (xs : List (List ℕ)) → codes "> " ++ spread quoted_next (x ∷ xs)
+pub quoted_is : (x : List ℕ) (xs : List (List ℕ)) → codes "> " ++ spread quoted_next (x ∷ xs)
     ≡ quoted_lines (x ∷ xs)
 quoted_is x xs =
     sym (append_assoc (codes "> ") x (flat_map quoted_next xs)) ∙ ap (λ l. quoted_line x ++ l) (rest xs)
@@ -372,7 +385,7 @@ quoted_is x xs =
     rest [] = refl
     rest (y ∷ ys) = ap (λ l. quoted_next y ++ l) (rest ys)
 
-same_lines : (xs : List (List ℕ)) → map (λ x. x) xs ≡ xs
+pub same_lines : (xs : List (List ℕ)) → map (λ x. x) xs ≡ xs
 same_lines [] = refl
 same_lines (x ∷ xs) = ap (λ l. x ∷ l) (same_lines xs)
 

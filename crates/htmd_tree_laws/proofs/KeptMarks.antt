@@ -15,9 +15,9 @@ use Rattle.std.proofs.lemmas.Str.{encode_ascii, encodes-append, encodes-chars, s
 use Rattle.std.proofs.lemmas.Str.{IsUtf8-append, IsUtf8-nil, chars-nil}
 use Rattle.htmd_text.specs.Characters.{backslash, line_feed}
 use Rattle.htmd_markdown.specs.Joints.{is_asterisk, is_backslash}
-use Rattle.htmd_tree_laws.specs.Shown.{is_visible, is_no_asterisk, IsPart}
-use Rattle.htmd_tree_laws.proofs.CountedTexts.{of_visible, part-behind, part-append, part-then, part-filter}
-use Rattle.htmd_tree_laws.proofs.LettersLemmas.{Says, is_white}
+use Rattle.htmd_tree_laws.specs.Shown.{is_visible, IsPart}
+use Rattle.htmd_tree_laws.proofs.CountedTexts.{part-behind, part-append, part-then}
+use Rattle.htmd_tree_laws.proofs.LettersLemmas.{is_white}
 use Rattle.htmd_tree_laws.proofs.LettersOfTexts.{bytes_high}
 
 -- ---- backslashes
@@ -341,7 +341,8 @@ white_first c cs x ds w s p e f b =
       subst (λ g. Below (ends (step e c) cs) g) (sym (ends-append f x ds)) later.1,
     )
 
-white_shows : (c : ℕ) (cs x ds : List ℕ) → is_white c ≡ true → IsPart (filter is_visible cs) (filter is_visible ds)
+white_shows : (c : ℕ) (cs x ds : List ℕ) → is_white c ≡ true → IsPart (filter is_visible cs)
+    (filter is_visible ds)
     → IsPart (filter is_visible (c ∷ cs)) (filter is_visible (x ++ ds))
 white_shows c cs x ds w p =
     subst (λ (l : List ℕ). IsPart l (filter is_visible (x ++ ds)))
@@ -460,7 +461,8 @@ ordinary-safe x e =
       closed = ap (ends even) same ∙ ends-safe x e;
     }
 
-pub ordinary-before : {s l : List ℕ} (x : List ℕ) → list_all is_safe x ≡ true → Ordinary s l → Ordinary (s ++ x) l
+pub ordinary-before : {s l : List ℕ} (x : List ℕ) → list_all is_safe x ≡ true → Ordinary s l → Ordinary
+    (s ++ x) l
 ordinary-before {s} {l} x e p = ordinary-is (append-nil l) (ordinary-append p (ordinary-safe x e))
 
 -- ---- what is found at all
@@ -473,42 +475,3 @@ seen_all e (c ∷ cs) =
     (λ (x : List ℕ). IsPart (filter is_visible x) (seen_more c (filter is_visible cs)))
     (λ _. more_found c (filter is_visible l) (filter is_visible cs) (seen_all (step e c) cs))
     (λ _. more_both c (filter is_visible l) (filter is_visible cs) (seen_all (step e c) cs))
-
--- but for `*` all is kept
-goes_asterisk : (e : State) (c : ℕ) → goes e c ≡ true → is_asterisk c ≡ true
-goes_asterisk even c g = g
-goes_asterisk odd c g = absurd (false≢true g)
-goes_asterisk blank c g = g
-
-no_asterisk : (c : ℕ) → is_asterisk c ≡ true → is_no_asterisk c ≡ false
-no_asterisk c e = ap not e
-
-visible_kept : (e : State) (cs : List ℕ) → IsPart (filter is_no_asterisk (filter is_visible cs)) (seen e cs)
-visible_kept e [] = tt
-visible_kept e (c ∷ cs) =
-    let l = kept (step e c) cs in
-    let others = filter is_visible cs in
-    let own = filter is_no_asterisk others in
-    let later = visible_kept (step e c) cs in
-    cond_both (is_visible c) (c ∷ others) others
-    (λ (x : List ℕ). IsPart (filter is_no_asterisk x) (filter is_visible (cond (goes e c) l (c ∷ l))))
-    (λ here. cond_both (goes e c) l (c ∷ l)
-    (λ (x : List ℕ). IsPart (cond (is_no_asterisk c) (c ∷ own) own) (filter is_visible x))
-    (λ g. subst (λ (x : List ℕ). IsPart x (filter is_visible l))
-    (sym (cond-false (is_no_asterisk c) (c ∷ own) own (no_asterisk c (goes_asterisk e c g)))) later)
-    (λ _. subst (λ (x : List ℕ). IsPart (cond (is_no_asterisk c) (c ∷ own) own) x)
-    (sym (cond-true (is_visible c) (c ∷ filter is_visible l) (filter is_visible l) here))
-    (cond_both (is_no_asterisk c) (c ∷ own) own (λ (x : List ℕ). IsPart x (c ∷ filter is_visible l))
-    (λ _. inl (refl, later)) (λ _. part-behind own (filter is_visible l) c later))))
-    (λ _. cond_both (goes e c) l (c ∷ l) (λ (x : List ℕ). IsPart own (filter is_visible x)) (λ _. later)
-    (λ _. more_found c own (filter is_visible l) later))
-
-pub says-ordinary : {s l : List ℕ} → ends even (chars s) ≡ even → Says of_visible s l
-    → Ordinary s (filter is_no_asterisk l)
-says-ordinary {s} {l} e p = record {
-  utf8 = p.utf8;
-  keeps = part-then (filter is_no_asterisk l) (filter is_no_asterisk (filter is_visible (chars s)))
-      (seen even (chars s)) (part-filter is_no_asterisk l (filter is_visible (chars s)) p.says)
-      (visible_kept even (chars s));
-  closed = e;
-}

@@ -1,13 +1,14 @@
 -- Where two texts meet in Guarded, code, formulas and autolinks in them stay whole: only the ordinary texts at the ends
 -- that meet change.
-use Rattle.std.proofs.Common.{◌≡◌, ℕ, suc, ◌+◌, ◌-◌, ◌<◌, ◌≤◌, Bool, true, false, cond, List, [], ◌∷◌, ◌++◌}
+use Rattle.std.proofs.Common.{◌≡◌, ℕ, zero, suc, ◌+◌, ◌-◌, ◌<◌, ◌≤◌, Bool, true, false, cond, List, [], ◌∷◌, ◌++◌}
 use Rattle.std.proofs.Common.{length, get_or, take, drop, codes, refl, sym, ap, ◌∙◌, arith, subst, append_assoc, ⊎_elim, inl, inr}
-use Rattle.std.specs.Prelude.{◌⊎◌, ◌&&◌, ◌||◌, ◌==◌, not, reverse, encode_utf8, encode_utf8_all}
+use Rattle.std.specs.Prelude.{◌⊎◌, ◌&&◌, ◌||◌, ◌==◌, not, nat_lt, reverse, encode_utf8, encode_utf8_all}
 use Rattle.std.specs.Char.{is_ascii_punctuation}
-use Rattle.std.specs.List.{prefix_len, suffix_len}
+use Rattle.std.specs.List.{list_all, prefix_len, suffix_len}
 use Rattle.std.proofs.Math.Seq.{get_or-append_seam}
 use Rattle.std.specs.Str.{chars, IsUtf8, IsCharBoundary}
-use Rattle.std.proofs.lemmas.Bool.{and_parts, or_from, or_cases, cond_both, eqb-true, false≢true, false_from_ne_true}
+use Rattle.std.proofs.lemmas.Bool.{and_parts, and_from, or_from, or_cases, cond_both, eqb-true, false≢true, false_from_ne_true}
+use Rattle.std.proofs.lemmas.Bool.{cases_lt, ltb-true}
 use Rattle.std.proofs.lemmas.Bool.Decides.{nat_tests}
 use Rattle.std.proofs.lemmas.List.{append-nil, length-append, length-take-le, length-drop, reverse-append, reverse-reverse}
 use Rattle.std.proofs.lemmas.List.{take-append-le, drop-append-le}
@@ -15,7 +16,7 @@ use Rattle.std.proofs.lemmas.List.Sums.{suffix_len-le-length, prefix_len-le-leng
 use Rattle.std.proofs.lemmas.Str.{encodes-chars, chars-append, chars_past_char, encode_ascii, IsUtf8-drop}
 use Rattle.std.proofs.lemmas.Str.{IsUtf8-append, IsUtf8-nil, IsCharBoundary-from_drop}
 use Rattle.unicode.proofs.CategoryComputing.{ucd_category}
-use Rattle.htmd_text.specs.Characters.{exclamation_mark}
+use Rattle.htmd_text.specs.Characters.{exclamation_mark, line_feed, tilde, is_one_of}
 use Rattle.htmd_markdown.specs.CodeSpans.{ends_with}
 use Rattle.htmd_markdown.specs.Joints.{is_asterisk, ending_run, beginning_run, plain_start, plain_end, ends, Ends, escapes_next}
 use Rattle.htmd_markdown.specs.Joints.{joint_between, joint_at_start, joint_at_end, joint_of_runs, begins_word, ends_word, are_alike}
@@ -25,7 +26,7 @@ use Rattle.htmd_markdown.specs.Joints.{is_plain_behind, is_plain_sign, word_firs
 use Rattle.htmd_markdown.specs.Titles.{is_filled}
 use Rattle.htmd_markdown.proofs.JointCutsLemmas.{plain_end-cut, plain_start-cut, ending_run-cut}
 use Rattle.htmd_tree_laws.proofs.JointMarks.{escapes, escapes-append, escapes-is, end_bare, turned, turned-more}
-use Rattle.htmd_tree_laws.proofs.KeptMarks.{even, Ordinary, chars-safe, is_safe}
+use Rattle.htmd_tree_laws.proofs.KeptMarks.{even, Ordinary, ordinary-safe, chars-safe, is_safe}
 use Rattle.htmd_tree_laws.proofs.KeptMarks as marks
 use Rattle.htmd_tree_laws.proofs.KeptChains.{Chain, one, link, Fits, Closed, stays, first_of, rest_of, last_of, front_of}
 use Rattle.htmd_tree_laws.proofs.KeptChains.{first_whole, last_whole, first_fits, last_fits, text_of, Keeps, keeps-joined, keeps-as, chain_says}
@@ -36,7 +37,8 @@ use Rattle.htmd_tree_laws.proofs.Utf8Cuts.{cut_before}
 
 -- ---- cuts in a text after another
 
-take_behind : (p s : List ℕ) (n : ℕ) → n ≤ length s → take (length (p ++ s) - n) (p ++ s) ≡ p ++ take (length s - n) s
+take_behind : (p s : List ℕ) (n : ℕ) → n ≤ length s → take (length (p ++ s) - n) (p ++ s) ≡ p ++ take
+    (length s - n) s
 take_behind [] s n l = refl
 take_behind (b ∷ p) s n l =
     let place : length (b ∷ (p ++ s)) - n ≡ suc (length (p ++ s) - n) = omega (arith, length-append p s, l) in
@@ -64,31 +66,83 @@ suffix_behind p x b s other =
 abbrev pub IsFront : List ℕ → Type 0
 IsFront p = (p ≡ []) ⊎ Stops p
 
+-- what may stand in the last line of a fenced block, and in empty lines before it
+abbrev pub is_of_fence : ℕ → Bool
+is_of_fence b = is_one_of (codes "\n> ~") b
+
+-- a text that ends with a fence of tildes in a line of its own
+pub record Fenced (p : List ℕ) : Type 0 where
+  pub front : List ℕ
+  pub line : List ℕ
+  pub whole : p ≡ (front ++ line_feed ∷ []) ++ (line ++ tilde ∷ [])
+  pub signs : list_all is_of_fence line ≡ true
+
+abbrev pub IsEnd : List ℕ → Type 0
+IsEnd p = IsFront p ⊎ Fenced p
+
 -- nothing, or a text that begins with one
 abbrev pub IsRest : List ℕ → Type 0
 IsRest q = (q ≡ []) ⊎ ((b : ℕ) × (s : List ℕ) × (q ≡ b ∷ s) × (opens b ≡ true))
 
-front_bare : (p : List ℕ) → IsFront p → escapes false p ≡ false
-front_bare p (inl e) = ap (escapes false) e
-front_bare p (inr stop) = stop_bare p stop
+-- or with a line feed
+abbrev pub IsNext : List ℕ → Type 0
+IsNext q = IsRest q ⊎ ((s : List ℕ) × (q ≡ line_feed ∷ s))
 
-bare_behind : (p s : List ℕ) → IsFront p → escapes false (p ++ s) ≡ escapes false s
+-- the last sign
+abbrev is_last : ℕ → Bool
+is_last b = is_one_of (codes "$>`~") b
+
+record Sign (p : List ℕ) : Type 0 where
+  front : List ℕ
+  last : ℕ
+  whole : p ≡ front ++ last ∷ []
+  sign : is_last last ≡ true
+
+closing_last : (b : ℕ) → closing b ≡ true → is_last b ≡ true
+closing_last b e = grind (arith, nat_tests)
+
+sign_of : (p : List ℕ) → IsEnd p → (p ≡ []) ⊎ Sign p
+sign_of p (inl (inl e)) = inl e
+sign_of p (inl (inr stop)) =
+    inr (record { front = stop.front; last = stop.last; whole = stop.whole; sign = closing_last stop.last stop.sign })
+sign_of p (inr f) =
+    let x = f.front ++ line_feed ∷ [] in
+    inr (record {
+      front = x ++ f.line;
+      last = tilde;
+      whole = f.whole ∙ sym (append_assoc x f.line (tilde ∷ []));
+      sign = refl;
+    })
+
+last_other : (b c : ℕ) → is_last b ≡ true → is_last c ≡ false → (b == c) ≡ false
+last_other b c e other =
+    false_from_ne_true (b == c) (λ is. false≢true (sym other ∙ ap is_last (sym (eqb-true b c is)) ∙ e))
+
+front_bare : (p : List ℕ) → IsEnd p → escapes false p ≡ false
+front_bare p f = by (sign_of p f)
+  where
+    by : (p ≡ []) ⊎ Sign p → escapes false p ≡ false
+    by (inl e) = ap (escapes false) e
+    by (inr s) =
+        ap (escapes false) s.whole ∙ escapes-append false s.front (s.last ∷ [])
+        ∙ ap (λ t. t && not (escapes false s.front)) (last_other s.last 0x5C s.sign refl)
+
+bare_behind : (p s : List ℕ) → IsEnd p → escapes false (p ++ s) ≡ escapes false s
 bare_behind p s f = escapes-append false p s ∙ ap (λ x. escapes x s) (front_bare p f)
 
-next_behind : (p s : List ℕ) → IsFront p → escapes_next (p ++ s) ≡ escapes_next s
+next_behind : (p s : List ℕ) → IsEnd p → escapes_next (p ++ s) ≡ escapes_next s
 next_behind p s f = sym (escapes-is (p ++ s)) ∙ bare_behind p s f ∙ escapes-is s
 
-closing_other : (b c : ℕ) → closing b ≡ true → closing c ≡ false → (b == c) ≡ false
-closing_other b c e other =
-    false_from_ne_true (b == c) (λ is. false≢true (sym other ∙ ap closing (sym (eqb-true b c is)) ∙ e))
+asterisks_behind : (p s : List ℕ) → IsEnd p → suffix_len is_asterisk (p ++ s) ≡ suffix_len is_asterisk s
+asterisks_behind p s f = by (sign_of p f)
+  where
+    by : (p ≡ []) ⊎ Sign p → suffix_len is_asterisk (p ++ s) ≡ suffix_len is_asterisk s
+    by (inl e) = ap (λ z. suffix_len is_asterisk (z ++ s)) e
+    by (inr l) =
+        ap (λ z. suffix_len is_asterisk (z ++ s)) l.whole
+        ∙ suffix_behind is_asterisk l.front l.last s (last_other l.last 0x2A l.sign refl)
 
-asterisks_behind : (p s : List ℕ) → IsFront p → suffix_len is_asterisk (p ++ s) ≡ suffix_len is_asterisk s
-asterisks_behind p s (inl e) = ap (λ z. suffix_len is_asterisk (z ++ s)) e
-asterisks_behind p s (inr stop) =
-    ap (λ z. suffix_len is_asterisk (z ++ s)) stop.whole
-    ∙ suffix_behind is_asterisk stop.front stop.last s (closing_other stop.last 0x2A stop.sign refl)
-
-ending_behind : (p s : List ℕ) → IsFront p → ending_run (p ++ s) ≡ ending_run s
+ending_behind : (p s : List ℕ) → IsEnd p → ending_run (p ++ s) ≡ ending_run s
 ending_behind p s f =
     let run = suffix_len is_asterisk s in
     ap (λ n. cond (escapes_next (take (length (p ++ s) - n) (p ++ s))) (n - 1) n) (asterisks_behind p s f)
@@ -129,26 +183,127 @@ closing_safe b e = grind (arith, nat_tests)
 closing_low : (b : ℕ) → closing b ≡ true → b < 128
 closing_low b e = grind (arith, nat_tests)
 
+-- up to a byte that is not plain
+plain_behind : (x : List ℕ) (b : ℕ) (s : List ℕ) → IsUtf8 (x ++ b ∷ []) → IsUtf8 s → is_safe b ≡ true
+    → b < 128
+    → is_plain_behind x b ≡ false → plain_end ((x ++ b ∷ []) ++ s) ≤ length s
+plain_behind x b s pu u safe low stops =
+    let xu = (cut_before x b [] low pu).0 in
+    let front : chars (x ++ b ∷ []) ≡ chars x ++ b ∷ [] =
+    chars-append x (b ∷ []) xu ∙ ap (λ z. chars x ++ z) (chars-safe (b ∷ []) (ap (λ t. t && true) safe)) in
+    let back : reverse (chars ((x ++ b ∷ []) ++ s)) ≡ reverse (chars s) ++ b ∷ reverse (chars x) =
+    ap reverse (chars-append (x ++ b ∷ []) s pu) ∙ reverse-append (chars (x ++ b ∷ [])) (chars s)
+    ∙ ap (λ z. reverse (chars s) ++ z) (ap reverse front ∙ reverse-append (chars x) (b ∷ [])) in
+    let same : turned (reverse (chars x)) ≡ x =
+    ap encode_utf8_all (reverse-reverse (chars x)) ∙ encodes-chars x xu in
+    let most = back_stops (reverse (chars s)) b (reverse (chars x)) (ap (λ z. is_plain_behind z b) same ∙ stops) in
+    let there = ap (λ z. length (encode_utf8_all (plain_signs_back z))) back in
+    let size : length (turned (chars s)) ≡ length s = turned_size (chars s) ∙ ap length (encodes-chars s u) in
+    omega (arith, most, there, size)
+
 plain_within : (p s : List ℕ) → IsUtf8 p → IsUtf8 s → IsFront p → plain_end (p ++ s) ≤ length s
 plain_within p s pu u (inl e) =
     subst (λ (z : List ℕ). plain_end (z ++ s) ≤ length s) (sym e) (plain_end-cut s u).0
 plain_within p s pu u (inr stop) =
-    let x = stop.front in
-    let b = stop.last in
-    let xu = (cut_before x b [] (closing_low b stop.sign) (subst IsUtf8 stop.whole pu)).0 in
-    let front : chars p ≡ chars x ++ b ∷ [] =
-    ap chars stop.whole ∙ chars-append x (b ∷ []) xu
-    ∙ ap (λ z. chars x ++ z) (chars-safe (b ∷ []) (ap (λ t. t && true) (closing_safe b stop.sign))) in
-    let back : reverse (chars (p ++ s)) ≡ reverse (chars s) ++ b ∷ reverse (chars x) =
-    ap reverse (chars-append p s pu) ∙ reverse-append (chars p) (chars s)
-    ∙ ap (λ z. reverse (chars s) ++ z) (ap reverse front ∙ reverse-append (chars x) (b ∷ [])) in
-    let same : turned (reverse (chars x)) ≡ x =
-    ap encode_utf8_all (reverse-reverse (chars x)) ∙ encodes-chars x xu in
-    let most = back_stops (reverse (chars s)) b (reverse (chars x))
-    (ap (λ z. is_plain_behind z b) same ∙ stop.stops) in
-    let there = ap (λ z. length (encode_utf8_all (plain_signs_back z))) back in
-    let size : length (turned (chars s)) ≡ length s = turned_size (chars s) ∙ ap length (encodes-chars s u) in
-    omega (arith, most, there, size)
+    subst (λ (z : List ℕ). plain_end (z ++ s) ≤ length s) (sym stop.whole)
+    (plain_behind stop.front stop.last s (subst IsUtf8 stop.whole pu) u (closing_safe stop.last stop.sign)
+    (closing_low stop.last stop.sign) stop.stops)
+
+-- a line feed is not plain
+feed_not_plain : (x : List ℕ) → is_plain_behind x line_feed ≡ false
+unfolding ucd_category
+feed_not_plain x = refl
+
+-- ---- up to a fence
+
+of_fence_safe : (b : ℕ) → is_of_fence b ≡ true → is_safe b ≡ true
+of_fence_safe b e = grind (arith, nat_tests)
+
+pub line_safe : (t : List ℕ) → list_all is_of_fence t ≡ true → list_all is_safe t ≡ true
+line_safe [] e = refl
+line_safe (b ∷ t) e =
+    let parts = and_parts (is_of_fence b) (list_all is_of_fence t) e in
+    and_from (is_safe b) (list_all is_safe t) (of_fence_safe b parts.0) (line_safe t parts.1)
+
+line_front : (k : ℕ) (t : List ℕ) → list_all is_of_fence t ≡ true → list_all is_of_fence (take k t) ≡ true
+line_front zero t e = refl
+line_front (suc k) [] e = refl
+line_front (suc k) (b ∷ t) e =
+    let parts = and_parts (is_of_fence b) (list_all is_of_fence t) e in
+    and_from (is_of_fence b) (list_all is_of_fence (take k t)) parts.0 (line_front k t parts.1)
+
+line_more : (t : List ℕ) (b : ℕ) → list_all is_of_fence t ≡ true → is_of_fence b ≡ true
+    → list_all is_of_fence (t ++ b ∷ []) ≡ true
+line_more [] b e f = ap (λ t. t && true) f
+line_more (c ∷ t) b e f =
+    let parts = and_parts (is_of_fence c) (list_all is_of_fence t) e in
+    and_from (is_of_fence c) (list_all is_of_fence (t ++ b ∷ [])) parts.0 (line_more t b parts.1 f)
+
+fence_cases : (f : ℕ → Bool) (t : Bool) → f 0x0A ≡ t → f 0x3E ≡ t → f 0x20 ≡ t → f 0x7E ≡ t →
+    (b : ℕ)
+    → is_of_fence b ≡ true → f b ≡ t
+fence_cases f t w x y z b e =
+    ⊎_elim (λ is. ap f (eqb-true b 0x0A is) ∙ w)
+    (λ e. ⊎_elim (λ is. ap f (eqb-true b 0x3E is) ∙ x)
+    (λ e. ⊎_elim (λ is. ap f (eqb-true b 0x20 is) ∙ y)
+    (λ e. ⊎_elim (λ is. ap f (eqb-true b 0x7E is) ∙ z) (λ none. absurd (false≢true none))
+    (or_cases (b == 0x7E) false e))
+    (or_cases (b == 0x20) _ e))
+    (or_cases (b == 0x3E) _ e))
+    (or_cases (b == 0x0A) _ e)
+
+fence_no_word : (b : ℕ) → is_of_fence b ≡ true → is_word_character b ≡ false
+unfolding ucd_category
+fence_no_word b e = fence_cases is_word_character false refl refl refl refl b e
+
+-- a line feed and more of them, from the last one
+record FromLast (b : ℕ) (t : List ℕ) : Type 0 where
+  front : List ℕ
+  last : ℕ
+  whole : b ∷ t ≡ front ++ last ∷ []
+  signs : list_all is_of_fence front ≡ true
+  sign : is_of_fence last ≡ true
+
+from_last : (b : ℕ) (t : List ℕ) → is_of_fence b ≡ true → list_all is_of_fence t ≡ true → FromLast b t
+from_last b [] e f = record { front = []; last = b; whole = refl; signs = refl; sign = e }
+from_last b (c ∷ t) e f =
+    let parts = and_parts (is_of_fence c) (list_all is_of_fence t) f in
+    let later = from_last c t parts.0 parts.1 in
+    record {
+      front = b ∷ later.front;
+      last = later.last;
+      whole = ap (λ z. b ∷ z) later.whole;
+      signs = and_from (is_of_fence b) (list_all is_of_fence later.front) e later.signs;
+      sign = later.sign;
+    }
+
+-- a text that ends in such a line ends with no word and no run
+up_to_fence : (x t : List ℕ) → IsUtf8 x → list_all is_of_fence t ≡ true
+    → (ends_word (x ++ line_feed ∷ t) ≡ false) × (ending_run (x ++ line_feed ∷ t) ≡ 0)
+up_to_fence x t u e =
+    let l = from_last line_feed t refl e in
+    let y = x ++ l.front in
+    let whole : x ++ line_feed ∷ t ≡ y ++ l.last ∷ [] =
+    ap (λ z. x ++ z) l.whole ∙ sym (append_assoc x l.front (l.last ∷ [])) in
+    let front_safe = ordinary-safe l.front (line_safe l.front l.signs) in
+    let text : IsUtf8 y = IsUtf8-append x l.front u front_safe.utf8 in
+    let one = chars-safe (l.last ∷ []) (ap (λ b. b && true) (of_fence_safe l.last l.sign)) in
+    let other : is_asterisk l.last ≡ false = fence_cases is_asterisk false refl refl refl refl l.last l.sign in
+    let none : suffix_len is_asterisk (y ++ l.last ∷ []) ≡ 0 =
+    ap (suffix_len is_asterisk) (sym (append-nil (y ++ l.last ∷ [])))
+    ∙ suffix_behind is_asterisk y l.last [] other in (
+      ap ends_word whole
+          ∙ ap (λ z. word_first (reverse z)) (chars-append y (l.last ∷ []) text ∙ ap (λ z. chars y ++ z) one)
+          ∙ ap word_first (reverse-append (chars y) (l.last ∷ [])) ∙ fence_no_word l.last l.sign,
+      ap ending_run whole
+          ∙ ap (λ n. cond (escapes_next (take (length (y ++ l.last ∷ []) - n) (y ++ l.last ∷ []))) (n - 1) n)
+          none
+          ∙ zero_either (escapes_next (take (length (y ++ l.last ∷ []) - 0) (y ++ l.last ∷ []))),
+    )
+  where
+    zero_either : (b : Bool) → cond b (0 - 1) 0 ≡ 0
+    zero_either true = refl
+    zero_either false = refl
 
 -- ---- before the beginning of one
 
@@ -162,34 +317,62 @@ opens_cases b e =
     (or_cases (b == 0x60) _ e)
 
 -- what holds of each of the three
-opens_by : (f : ℕ → Bool) (t : Bool) → f 0x60 ≡ t → f 0x24 ≡ t → f 0x3C ≡ t → (b : ℕ) → opens b ≡ true
+opens_by : (f : ℕ → Bool) (t : Bool) → f 0x60 ≡ t → f 0x24 ≡ t → f 0x3C ≡ t → (b : ℕ) → opens
+    b ≡ true
     → f b ≡ t
 opens_by f t x y z b e =
     ⊎_elim (λ (is : b ≡ 0x60). ap f is ∙ x)
-    (λ more. ⊎_elim (λ (is : b ≡ 0x24). ap f is ∙ y) (λ (is : b ≡ 0x3C). ap f is ∙ z) more) (opens_cases b e)
+    (λ more. ⊎_elim (λ (is : b ≡ 0x24). ap f is ∙ y) (λ (is : b ≡ 0x3C). ap f is ∙ z) more)
+    (opens_cases b e)
 
 opens_low : (b : ℕ) → opens b ≡ true → b < 128
 opens_low b e = grind (arith, nat_tests)
 
-no_word : (b : ℕ) → opens b ≡ true → is_word_character b ≡ false
+begins_by : (f : ℕ → Bool) (t : Bool) → f 0x60 ≡ t → f 0x24 ≡ t → f 0x3C ≡ t → f 0x0A ≡ t →
+    (b : ℕ)
+    → (opens b ≡ true) ⊎ (b ≡ line_feed) → f b ≡ t
+begins_by f t x y z w b (inl o) = opens_by f t x y z b o
+begins_by f t x y z w b (inr is) = ap f is ∙ w
+
+record Next (q : List ℕ) : Type 0 where
+  first : ℕ
+  rest : List ℕ
+  whole : q ≡ first ∷ rest
+  begins : (opens first ≡ true) ⊎ (first ≡ line_feed)
+
+next_of : (q : List ℕ) → IsNext q → (q ≡ []) ⊎ Next q
+next_of q (inl (inl e)) = inl e
+next_of q (inl (inr (b, r, e, o))) = inr (record { first = b; rest = r; whole = e; begins = inl o })
+next_of q (inr (r, e)) = inr (record { first = line_feed; rest = r; whole = e; begins = inr refl })
+
+next_low : (b : ℕ) → (opens b ≡ true) ⊎ (b ≡ line_feed) → b < 128
+next_low b (inl o) = opens_low b o
+next_low b (inr is) = omega (arith, is)
+
+next_no_word : (b : ℕ) → (opens b ≡ true) ⊎ (b ≡ line_feed) → is_word_character b ≡ false
 unfolding ucd_category
-no_word b e = opens_by is_word_character false refl refl refl b e
+next_no_word b o = begins_by is_word_character false refl refl refl refl b o
 
-no_plain : (b : ℕ) → opens b ≡ true → is_plain_sign b ≡ false
+next_no_plain : (b : ℕ) → (opens b ≡ true) ⊎ (b ≡ line_feed) → is_plain_sign b ≡ false
 unfolding ucd_category
-no_plain b e = opens_by is_plain_sign false refl refl refl b e
+next_no_plain b o = begins_by is_plain_sign false refl refl refl refl b o
 
-beginning_before : (s q : List ℕ) → IsRest q → beginning_run (s ++ q) ≡ beginning_run s
-beginning_before s q (inl e) = ap (λ z. beginning_run (s ++ z)) e ∙ ap beginning_run (append-nil s)
-beginning_before s q (inr (b, r, e, o)) =
-    ap (λ z. beginning_run (s ++ z)) e
-    ∙ prefix_before is_asterisk s b r (opens_by is_asterisk false refl refl refl b o)
+beginning_before : (s q : List ℕ) → IsNext q → beginning_run (s ++ q) ≡ beginning_run s
+beginning_before s q n = by (next_of q n)
+  where
+    by : (q ≡ []) ⊎ Next q → beginning_run (s ++ q) ≡ beginning_run s
+    by (inl e) = ap (λ z. beginning_run (s ++ z)) e ∙ ap beginning_run (append-nil s)
+    by (inr x) =
+        ap (λ z. beginning_run (s ++ z)) x.whole
+        ∙ prefix_before is_asterisk s x.first x.rest
+        (begins_by is_asterisk false refl refl refl refl x.first x.begins)
 
-signs_before : (x : Bool) (cs : List ℕ) (b : ℕ) (ds : List ℕ) → escapes x cs ≡ false → opens b ≡ true
-    → plain_signs x (cs ++ b ∷ ds) ≡ plain_signs x cs
+signs_before : (x : Bool) (cs : List ℕ) (b : ℕ) (ds : List ℕ) → escapes x cs ≡ false
+    → (opens b ≡ true) ⊎ (b ≡ line_feed) → plain_signs x (cs ++ b ∷ ds) ≡ plain_signs x cs
 signs_before x [] b ds bare o =
     ap (λ t. cond t (b ∷ plain_signs ((b == 0x5C) && not x) ds) [])
-    (or_from (is_plain_sign b) _ (no_plain b o) (ap (λ y. is_ascii_punctuation b && y) bare ∙ never (is_ascii_punctuation b)))
+    (or_from (is_plain_sign b) _ (next_no_plain b o)
+    (ap (λ y. is_ascii_punctuation b && y) bare ∙ never (is_ascii_punctuation b)))
   where
     never : (t : Bool) → (t && false) ≡ false
     never true = refl
@@ -201,31 +384,40 @@ rest_chars : (b : ℕ) (s : List ℕ) → b < 128 → IsUtf8 (b ∷ s) → chars
 rest_chars b s low u =
     chars_past_char (b ∷ s) s b u (ap (λ z. z ++ s) (sym (encode_ascii b low)))
 
-plain_before : (s q : List ℕ) → Closed s → IsUtf8 q → IsRest q → plain_start (s ++ q) ≡ plain_start s
-plain_before s q closed u (inl e) = ap (λ z. plain_start (s ++ z)) e ∙ ap plain_start (append-nil s)
-plain_before s q closed u (inr (b, r, e, o)) =
-    let agree : escapes false (chars s) ≡ false =
-    subst (λ z. Agree z (escapes false (chars s))) closed.1 (agree-ends even false (chars s) refl) in
-    ap (λ l. length (encode_utf8_all (plain_signs false l)))
-    (chars-append s q closed.0 ∙ ap (λ z. chars s ++ z)
-    (ap chars e ∙ rest_chars b r (opens_low b o) (subst IsUtf8 e u)))
-    ∙ ap (λ l. length (encode_utf8_all l)) (signs_before false (chars s) b (chars r) agree o)
+next_chars : (s q : List ℕ) → IsUtf8 s → IsUtf8 q → (x : Next q) → chars (s ++ q) ≡ chars s ++ x.first ∷
+    chars x.rest
+next_chars s q su u x =
+    chars-append s q su
+    ∙ ap (λ z. chars s ++ z)
+    (ap chars x.whole ∙ rest_chars x.first x.rest (next_low x.first x.begins) (subst IsUtf8 x.whole u))
 
-word_before : (s q : List ℕ) → IsUtf8 s → IsUtf8 q → IsRest q → begins_word (s ++ q) ≡ begins_word s
-word_before s q su u (inl e) = ap (λ z. begins_word (s ++ z)) e ∙ ap begins_word (append-nil s)
-word_before s q su u (inr (b, r, e, o)) =
-    ap word_first
-    (chars-append s q su ∙ ap (λ z. chars s ++ z) (ap chars e ∙ rest_chars b r (opens_low b o) (subst IsUtf8 e u)))
-    ∙ by (chars s)
+plain_before : (s q : List ℕ) → Closed s → IsUtf8 q → IsNext q → plain_start (s ++ q) ≡ plain_start s
+plain_before s q closed u n = by (next_of q n)
   where
-    by : (cs : List ℕ) → word_first (cs ++ b ∷ chars r) ≡ word_first cs
-    by [] = no_word b o
-    by (c ∷ cs) = refl
+    agree : escapes false (chars s) ≡ false
+    agree = subst (λ z. Agree z (escapes false (chars s))) closed.1 (agree-ends even false (chars s) refl)
+
+    by : (q ≡ []) ⊎ Next q → plain_start (s ++ q) ≡ plain_start s
+    by (inl e) = ap (λ z. plain_start (s ++ z)) e ∙ ap plain_start (append-nil s)
+    by (inr x) =
+        ap (λ l. length (encode_utf8_all (plain_signs false l))) (next_chars s q closed.0 u x)
+        ∙ ap (λ l. length (encode_utf8_all l)) (signs_before false (chars s) x.first (chars x.rest) agree x.begins)
+
+word_before : (s q : List ℕ) → IsUtf8 s → IsUtf8 q → IsNext q → begins_word (s ++ q) ≡ begins_word s
+word_before s q su u n = by (next_of q n)
+  where
+    none : (x : Next q) (cs : List ℕ) → word_first (cs ++ x.first ∷ chars x.rest) ≡ word_first cs
+    none x [] = next_no_word x.first x.begins
+    none x (c ∷ cs) = refl
+
+    by : (q ≡ []) ⊎ Next q → begins_word (s ++ q) ≡ begins_word s
+    by (inl e) = ap (λ z. begins_word (s ++ z)) e ∙ ap begins_word (append-nil s)
+    by (inr x) = ap word_first (next_chars s q su u x) ∙ none x (chars s)
 
 -- ---- what comes before and after the ordinary texts that meet
 
 module _ (p out content q : List ℕ) (out_closed : Closed out) (content_closed : Closed content) (pu : IsUtf8 p)
-    (qu : IsUtf8 q) (front : IsFront p) (rest : IsRest q) where
+    (qu : IsUtf8 q) (front : IsEnd p) (rest : IsNext q) where
   abbrev wanted : List ℕ
   wanted = stays out ++ stays content
 
@@ -277,16 +469,16 @@ module _ (p out content q : List ℕ) (out_closed : Closed out) (content_closed 
   with_mark e =
       by out refl (eqb-true (get_or whole_out (length whole_out - 1) 0) exclamation_mark e)
     where
-      no_front : IsFront p → get_or p (length p - 1) 0 ≡ exclamation_mark → ⊥
+      no_front : (p ≡ []) ⊎ Sign p → get_or p (length p - 1) 0 ≡ exclamation_mark → ⊥
       no_front (inl none) f = let zero_there = ap (λ z. get_or z (length z - 1) 0) none in
           absurd (omega (arith, zero_there, f))
-      no_front (inr stop) f =
-          let size = length-append stop.front (stop.last ∷ []) in
-          let there : get_or p (length p - 1) 0 ≡ stop.last =
-          ap (λ z. get_or z (length z - 1) 0) stop.whole
-          ∙ ap (λ n. get_or (stop.front ++ stop.last ∷ []) n 0) (omega (arith, size))
-          ∙ get_or-append_seam stop.front stop.last [] 0 in
-          false≢true (ap closing (sym f ∙ there) ∙ stop.sign)
+      no_front (inr l) f =
+          let size = length-append l.front (l.last ∷ []) in
+          let there : get_or p (length p - 1) 0 ≡ l.last =
+          ap (λ z. get_or z (length z - 1) 0) l.whole
+          ∙ ap (λ n. get_or (l.front ++ l.last ∷ []) n 0) (omega (arith, size))
+          ∙ get_or-append_seam l.front l.last [] 0 in
+          false≢true (ap is_last (sym f ∙ there) ∙ l.sign)
 
       last_byte : (p s : List ℕ) → 0 < length s
           → get_or (p ++ s) (length (p ++ s) - 1) 0 ≡ get_or s (length s - 1) 0
@@ -299,7 +491,7 @@ module _ (p out content q : List ℕ) (out_closed : Closed out) (content_closed 
       by : (s : List ℕ) → out ≡ s → get_or whole_out (length whole_out - 1) 0 ≡ exclamation_mark
           → Met (ends marked_out whole_content)
       by [] is f =
-          absurd (no_front front
+          absurd (no_front (sign_of p front)
           (ap (λ (z : List ℕ). get_or z (length z - 1) 0) (sym (append-nil p) ∙ ap (λ z. p ++ z) (sym is)) ∙ f))
       by (b ∷ s) is f =
           let some : 0 < length out = omega (arith, ap length is) in
@@ -435,12 +627,9 @@ module _ (p out content q : List ℕ) (out_closed : Closed out) (content_closed 
   before_size : length before ≡ length out - run_behind
   before_size = length-take-le (length out - run_behind) out (omega arith)
 
-  module _ (signs : ℕ) (is : plain_end (p ++ before) ≡ signs) where
+  module _ (signs : ℕ) (is : plain_end (p ++ before) ≡ signs) (within : signs ≤ length before) where
     whole_text : IsUtf8 (p ++ before)
     whole_text = IsUtf8-append p before pu before_closed
-
-    within : signs ≤ length before
-    within = let most = plain_within p before pu before_closed front in omega (arith, most, is)
 
     abbrev head : List ℕ
     head = take (length before - signs) before
@@ -510,16 +699,56 @@ module _ (p out content q : List ℕ) (out_closed : Closed out) (content_closed 
         ∙ append_assoc p (take (length head - run_behind) head) (drop (length head) before))
         refl (end_loses out content u v so sc signs head_cut head_bare e)
 
-  at_end : Met (mended (joint_at_end run_behind (p ++ before)) whole_out whole_content)
-  at_end =
+  at_end : 0 < run_behind → Met (mended (joint_at_end run_behind (p ++ before)) whole_out whole_content)
+  at_end some =
       let n = plain_end (p ++ before) in
       let z = take (length (p ++ before) - n) (p ++ before) in
-      cond_both (ends_word z) _ _ (λ j. Met (mended j whole_out whole_content)) (λ _. end_moved n refl)
+      ⊎_elim
+      (λ (far : length before < n).
+      let none = at_fence front n refl far in
+      cond_both (ends_word z) _ _ (λ j. Met (mended j whole_out whole_content))
+      (λ e. absurd (false≢true (sym none.0 ∙ e)))
       (λ _. cond_both (ending_run z == run_behind) _ _ (λ j. Met (mended j whole_out whole_content))
-      (λ e. end_lost n refl
-      (sym (ap ending_run (head_there n refl) ∙ ending_behind p (head n refl) front)
+      (λ e. let same = eqb-true (ending_run z) run_behind e in let zero_run = none.1 in
+      absurd (omega (arith, same, zero_run, some)))
+      (λ _. with_space)))
+      (λ (within : n ≤ length before).
+      cond_both (ends_word z) _ _ (λ j. Met (mended j whole_out whole_content)) (λ _. end_moved n refl within)
+      (λ _. cond_both (ending_run z == run_behind) _ _ (λ j. Met (mended j whole_out whole_content))
+      (λ e. end_lost n refl within
+      (sym (ap ending_run (head_there n refl within) ∙ ending_behind p (head n refl within) front)
       ∙ eqb-true (ending_run z) run_behind e))
-      (λ _. with_space))
+      (λ _. with_space)))
+      (cases_lt (length before) n)
+    where
+      at_fence : IsEnd p → (n : ℕ) → plain_end (p ++ before) ≡ n → length before < n
+          → (ends_word (take (length (p ++ before) - n) (p ++ before)) ≡ false)
+          × (ending_run (take (length (p ++ before) - n) (p ++ before)) ≡ 0)
+      at_fence (inl f) n is far =
+          let most = plain_within p before pu before_closed f in absurd (omega (arith, most, is, far))
+      at_fence (inr f) n is far =
+          let x = f.front ++ line_feed ∷ [] in
+          let t = f.line ++ tilde ∷ [] in
+          let safe = line_safe t (line_more f.line tilde f.signs refl) in
+          let cut = cut_before f.front line_feed t (omega arith)
+          (subst IsUtf8 (f.whole ∙ append_assoc f.front (line_feed ∷ []) t) pu) in
+          let feed_text : IsUtf8 (line_feed ∷ []) = (ordinary-safe (line_feed ∷ []) refl).utf8 in
+          let whole : p ++ before ≡ x ++ (t ++ before) =
+          ap (λ z. z ++ before) f.whole ∙ append_assoc x t before in
+          let most = plain_behind f.front line_feed (t ++ before)
+          (IsUtf8-append f.front (line_feed ∷ []) cut.0 feed_text)
+          (IsUtf8-append t before (ordinary-safe t safe).utf8 before_closed) refl (omega arith)
+          (feed_not_plain f.front) in
+          let k = length (t ++ before) - n in
+          let same : n ≡ plain_end (x ++ (t ++ before)) = sym is ∙ ap plain_end whole in
+          let within : n ≤ length (t ++ before) = omega (arith, most, same) in
+          let size = length-append t before in
+          let there : take (length (p ++ before) - n) (p ++ before) ≡ f.front ++ line_feed ∷ take k t =
+          ap (λ z. take (length z - n) z) whole ∙ take_behind x (t ++ before) n within
+          ∙ ap (λ z. x ++ z) (take-append-le k t before (omega (arith, size, far)))
+          ∙ append_assoc f.front (line_feed ∷ []) (take k t) in
+          let found = up_to_fence f.front (take k t) cut.0 (line_front k t (line_more f.line tilde f.signs refl)) in
+          (ap ends_word there ∙ found.0, ap ending_run there ∙ found.1)
 
   -- ---- wherever they meet
 
@@ -531,7 +760,7 @@ module _ (p out content q : List ℕ) (out_closed : Closed out) (content_closed 
       (λ _. cond_both (is_run_misplaced run first last) _ _ (λ j. Met (mended j whole_out whole_content))
       (λ _. at_start)
       (λ _. cond_both (is_run_misplaced run_behind last first) _ _ (λ j. Met (mended j whole_out whole_content))
-      (λ _. at_end) (λ _. as_they_are)))
+      (λ e. at_end (ltb-true 0 run_behind (and_parts (nat_lt 0 run_behind) _ e).0)) (λ _. as_they_are)))
 
   of_runs : Met (mended (joint_of_runs run_behind run (p ++ before) (later ++ q)) whole_out whole_content)
   of_runs =
@@ -593,17 +822,53 @@ rest_text : (c : Chain) → Fits c → IsUtf8 (rest_of c)
 rest_text (one s) p = IsUtf8-nil
 rest_text (link s z c) (p, u, l, r) = IsUtf8-append z (text_of c) u (chain_says c r).0
 
+-- with something before the one and after the other
+pub record Meets (p x y q l : List ℕ) : Type 0 where
+  pub text : List ℕ
+  pub whole : with_joint (p ++ x) (y ++ q) ≡ p ++ (text ++ q)
+  pub keeps : Keeps text l
+
+end_behind : (p : List ℕ) (c : Chain) → IsEnd p → Fits c → IsEnd (p ++ front_of c)
+end_behind p c e fits =
+    ⊎_elim (λ (none : front_of c ≡ []). subst IsEnd (sym (append-nil p) ∙ ap (λ z. p ++ z) (sym none)) e)
+    (λ stop. inl (inr stop)) (stops_at_front p c (front_bare p e) fits)
+
+next_before : (q : List ℕ) (c : Chain) → IsNext q → Fits c → IsNext (rest_of c ++ q)
+next_before q c n fits = by (rest_opens c fits)
+  where
+    by : IsRest (rest_of c) → IsNext (rest_of c ++ q)
+    by (inl none) = subst IsNext (ap (λ z. z ++ q) (sym none)) n
+    by (inr (b, r, e, o)) = inl (inr (b, r ++ q, ap (λ z. z ++ q) e, o))
+
+pub keeps-meeting : {x y l m : List ℕ} (p q : List ℕ) → IsUtf8 p → IsUtf8 q → IsEnd p → IsNext q → Keeps
+    x l
+    → Keeps y m → Meets p x y q (l ++ m)
+keeps-meeting {x} {y} {l} {m} p q pu qu before after k n =
+    let c = k.chain in
+    let d = n.chain in
+    let a = last_of c in
+    let b = first_of d in
+    let front = front_of c in
+    let rest = rest_of d in
+    let met = mended_met (p ++ front) a b (rest ++ q) (last_fits c k.fits) (first_fits d n.fits)
+    (IsUtf8-append p front pu (front_text c k.fits)) (IsUtf8-append rest q (rest_text d n.fits) qu)
+    (end_behind p c before k.fits) (next_before q d after n.fits) in
+    record {
+      text = front ++ (met.text ++ rest);
+      whole = ap (λ z. with_joint (p ++ z) (y ++ q)) (k.whole ∙ last_whole c)
+          ∙ ap (λ z. with_joint z (y ++ q)) (sym (append_assoc p front a))
+          ∙ ap (λ z. with_joint ((p ++ front) ++ a) (z ++ q)) (n.whole ∙ first_whole d)
+          ∙ ap (λ z. with_joint ((p ++ front) ++ a) z) (append_assoc b rest q)
+          ∙ met.whole ∙ append_assoc p front (met.text ++ (rest ++ q))
+          ∙ ap (λ z. p ++ (front ++ z)) (sym (append_assoc met.text rest q))
+          ∙ ap (λ z. p ++ z) (sym (append_assoc front (met.text ++ rest) q));
+      keeps = keeps-joined k n met.text (front ++ (met.text ++ rest)) (met.kept.utf8, met.kept.closed) met.kept.keeps
+          refl;
+    }
+
 pub keeps-joint : {out content l m : List ℕ} → Keeps out l → Keeps content m
     → Keeps (with_joint out content) (l ++ m)
-keeps-joint {out} {content} {l} {m} p q =
-    let c = p.chain in
-    let d = q.chain in
-    let x = last_of c in
-    let y = first_of d in
-    let meeting = mended_met (front_of c) x y (rest_of d) (last_fits c p.fits) (first_fits d q.fits)
-    (front_text c p.fits) (rest_text d q.fits) (stops_at_front [] c refl p.fits) (rest_opens d q.fits) in
+keeps-joint {out} {content} k n =
+    let met = keeps-meeting [] [] IsUtf8-nil IsUtf8-nil (inl (inl refl)) (inl (inl refl)) k n in
     keeps-as
-    (ap (λ z. with_joint z (y ++ rest_of d)) (sym (p.whole ∙ last_whole c))
-    ∙ ap (λ z. with_joint out z) (sym (q.whole ∙ first_whole d)))
-    (keeps-joined p q meeting.text (with_joint (front_of c ++ x) (y ++ rest_of d))
-    (meeting.kept.utf8, meeting.kept.closed) meeting.kept.keeps meeting.whole)
+    (sym (ap (λ z. with_joint out z) (sym (append-nil content)) ∙ met.whole ∙ append-nil met.text)) met.keeps

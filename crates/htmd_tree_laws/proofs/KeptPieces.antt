@@ -2,7 +2,7 @@
 use Rattle.std.proofs.Common.{◌≡◌, ℕ, zero, suc, ◌-◌, ◌<◌, ◌≤◌, Bool, true, false, cond, List, [], ◌∷◌, ◌++◌, length}
 use Rattle.std.proofs.Common.{take, drop, get_or, refl, sym, ap, ◌∙◌, arith, subst, append_assoc, ⊎_elim, inl, inr, codes, map}
 use Rattle.std.proofs.Common.{Option, Some, None}
-use Rattle.std.specs.Prelude.{◌&&◌, ◌||◌, ◌==◌, ◌%◌, ◌/◌, not, nat_lt, nat_le, filter, replicate, fold, unwrap_or, encode_utf8_all}
+use Rattle.std.specs.Prelude.{◌&&◌, ◌||◌, ◌==◌, ◌%◌, ◌/◌, not, nat_lt, nat_le, filter, fold, unwrap_or, encode_utf8_all}
 use Rattle.std.specs.Prelude.{◌⊎◌, encode_utf8}
 use Rattle.std.specs.Option.{option_map}
 use Rattle.std.specs.Char.{is_whitespace}
@@ -17,23 +17,21 @@ use Rattle.std.proofs.lemmas.List.{append-nil}
 use Rattle.std.proofs.lemmas.Nat.{mod_below}
 use Rattle.std.proofs.lemmas.Str.{chars-encodes, encodes-append, encodes-chars, scalars-chars, chars-append, encode_ascii}
 use Rattle.std.proofs.lemmas.Str.{IsUtf8-append, IsUtf8-past_char}
-use Rattle.htmd_text.specs.BlankLines.{blank_line, with_blank_lines}
-use Rattle.htmd_text.specs.Characters.{space, line_feed, full_stop, hyphen, tilde, backslash}
+use Rattle.htmd_text.specs.BlankLines.{with_blank_lines}
+use Rattle.htmd_text.specs.Characters.{space, line_feed, full_stop, hyphen, backslash}
 use Rattle.htmd_text.specs.Joins.{join_block, joined_blocks}
 use Rattle.htmd_text.specs.Trims.{trimmed_start, trimmed_text, is_line_feed, some_text, white_space_at_start}
 use Rattle.htmd_text.specs.Trims.{white_space_at_end}
 use Rattle.htmd_text.specs.WhiteSpace.{is_document_white_space}
 use Rattle.htmd_markdown.specs.declared.emphasis.Emphasis.{Emphasis}
 use Rattle.htmd_markdown.specs.declared.emphasis.Emphasis.TheVariants.{Regular, Strong}
-use Rattle.htmd_markdown.specs.declared.fence.CodeBlockFence.TheVariants.{Tildes, Backticks}
+use Rattle.htmd_markdown.specs.declared.fence.CodeBlockFence.TheVariants.{Backticks}
 use Rattle.htmd_markdown.specs.declared.heading.HeadingStyle.{HeadingStyle}
 use Rattle.htmd_markdown.specs.declared.heading.HeadingStyle.TheVariants.{Atx, Setex}
 use Rattle.htmd_markdown.specs.declared.list.BulletListMarker.{BulletListMarker}
 use Rattle.htmd_markdown.specs.declared.list.BulletListMarker.TheVariants.{Asterisk, Dash}
 use Rattle.htmd_markdown.specs.CodeSpans.{space_if}
 use Rattle.htmd_markdown.specs.Emphases.{mark, between, emphasised_text, holds_blank_line, guarded_emphasis}
-use Rattle.htmd_markdown.specs.Fences.{fence_len, info_string}
-use Rattle.htmd_markdown.specs.CodeBlocks.{code_of}
 use Rattle.htmd_markdown.specs.GuardedAddresses.{guarded_destination}
 use Rattle.htmd_markdown.specs.GuardedTitles.{guarded_title_text}
 use Rattle.htmd_markdown.specs.GuardedCode.{code_line, span_text, spaced_span, guarded_code, guarded_span_in_line}
@@ -65,7 +63,7 @@ use Rattle.htmd_tree_laws.proofs.LiteralPieces.{literal_span, literal_fenced, li
 use Rattle.htmd_tree_laws.proofs.LettersLemmas.{Says, says-before, says-behind}
 use Rattle.htmd_tree_laws.proofs.LettersOfGuarded.{unfilled, says-line_ends}
 use Rattle.htmd_tree_laws.proofs.KeptLines.{keeps-trimmed, keeps-trimmed_start, keeps-blank_lines, keeps-many}
-use Rattle.htmd_tree_laws.proofs.KeptLines.{safe-append, safe_many, keeps-indented, keeps-one_line, keeps-block}
+use Rattle.htmd_tree_laws.proofs.KeptLines.{keeps-indented, keeps-one_line, keeps-block}
 use Rattle.htmd_tree_laws.proofs.LettersLemmas.{is_white}
 use Rattle.htmd_tree_laws.proofs.LettersOfPieces.{nil_of, scalars-front, front_taken, rest_left, says-code_span}
 use Rattle.htmd_tree_laws.proofs.LettersOfTexts.{document_of_white, line_feed_of_white, says-trimmed, all_reads, bytes_high}
@@ -102,7 +100,7 @@ digit_safe : (n : ℕ) → is_safe (digit_glyph false (n % 10)) ≡ true
 digit_safe n =
     agree_below_at (λ d. is_safe (digit_glyph false d)) (λ d. true) 10 (n % 10) refl (mod_below n 10 (omega arith))
 
-digits_safe : (k n : ℕ) (behind : List ℕ) → list_all is_safe behind ≡ true
+pub digits_safe : (k n : ℕ) (behind : List ℕ) → list_all is_safe behind ≡ true
     → list_all is_safe (digits_onto k 10 false n behind) ≡ true
 digits_safe zero n behind e = e
 digits_safe (suc k) n behind e =
@@ -119,7 +117,7 @@ keeps-item : (marker content : List ℕ) {l : List ℕ} → Keeps marker [] → 
 keeps-item marker content m p =
     keeps-behind (line_feed ∷ []) refl (keeps-append m (keeps-indented content (length marker) true p))
 
-bullet_safe : (marker : BulletListMarker) → list_all is_safe (bullet marker ∷ []) ≡ true
+pub bullet_safe : (marker : BulletListMarker) → list_all is_safe (bullet marker ∷ []) ≡ true
 bullet_safe Asterisk = refl
 bullet_safe Dash = refl
 
@@ -301,20 +299,6 @@ closed-image address alt title u =
 
 -- ---- code
 
-some_signs : (n b : ℕ) → 0 < n → (m : ℕ) × (replicate n b ≡ b ∷ replicate m b)
-some_signs zero b l = absurd (omega (arith, l))
-some_signs (suc m) b l = (m, refl)
-
--- so many signs, and what holds no backslash, end the text
-closed_many : (s x y : List ℕ) (n b : ℕ) → s ≡ (x ++ replicate n b) ++ y → 0 < n → IsUtf8 s → is_sign b
-    ≡ true
-    → is_safe b ≡ true → list_all is_safe y ≡ true → ends even (chars s) ≡ even
-closed_many s x y n b e some u sign safe others =
-    let first = some_signs n b some in
-    closed-as s x b (replicate first.0 b ++ y)
-    (e ∙ append_assoc x (replicate n b) y ∙ ap (λ z. x ++ (z ++ y)) first.1) u sign
-    (safe-append (replicate first.0 b) y (safe_many first.0 b safe) others)
-
 keeps-spaced_span : (before behind : Bool) (s : List ℕ) {l : List ℕ} → Says of_visible (code_line s) l
     → Keeps (spaced_span before behind (code_line s)) l
 keeps-spaced_span before behind s {l} p =
@@ -350,20 +334,6 @@ keeps-backticks s language p =
 pub keeps-formula : (mark s : List ℕ) {l : List ℕ} → (mark ≡ codes "$") ⊎ (mark ≡ codes "$$")
     → Says of_visible ((mark ++ s) ++ mark) l → Keeps ((mark ++ s) ++ mark) l
 keeps-formula mark s which p = keeps-literal (literal_formula mark s which) p
-
--- a block that is fenced with tildes, which is taken for ordinary text
-pub closed-tildes : (s : List ℕ) (language : Option (List ℕ))
-    → IsUtf8 (with_blank_lines (guarded_code_block s language Tildes))
-    → ends even (chars (with_blank_lines (guarded_code_block s language Tildes))) ≡ even
-closed-tildes s language u =
-    let code = code_of (code_lines s) in
-    let n = fence_len tilde code in
-    let run = replicate n tilde in
-    let front =
-    (((run ++ info_string (fitting_language language)) ++ line_feed ∷ []) ++ code) ++ line_feed ∷ [] in
-    closed_many (with_blank_lines (guarded_code_block s language Tildes)) (blank_line ++ front) blank_line n
-    tilde (ap (λ z. z ++ blank_line) (sym (append_assoc blank_line front run)))
-    (omega arith) u refl refl refl
 
 -- ---- emphasis
 
@@ -430,7 +400,7 @@ mark_state Strong even = inl refl
 mark_state Strong odd = inl refl
 mark_state Strong blank = inr refl
 
-mark_safe : (emphasis : Emphasis) → list_all is_safe (mark emphasis) ≡ true
+pub mark_safe : (emphasis : Emphasis) → list_all is_safe (mark emphasis) ≡ true
 mark_safe Regular = refl
 mark_safe Strong = refl
 
@@ -439,13 +409,13 @@ abbrev Encodes : List ℕ → List ℕ → Type 0
 Encodes cs s = (s ≡ encode_utf8_all cs) × (all_scalars cs ≡ true)
 
 -- white space
-abbrev IsWhite : List ℕ → Type 0
+abbrev pub IsWhite : List ℕ → Type 0
 IsWhite s = (cs : List ℕ) × Encodes cs s × (list_all is_whitespace cs ≡ true)
 
 white_chars : (s : List ℕ) (w : IsWhite s) → chars s ≡ w.0
 white_chars s (cs, e, white) = ap chars e.0 ∙ chars-encodes cs e.1
 
-ordinary-white : (s : List ℕ) → IsWhite s → Ordinary s []
+pub ordinary-white : (s : List ℕ) → IsWhite s → Ordinary s []
 ordinary-white s (cs, e, white) = record {
   utf8 = (cs, (e.1, sym e.0));
   keeps = tt;
@@ -462,7 +432,8 @@ aside_white c low e = grind (arith, nat_tests)
 aside_high : (b : ℕ) → 128 ≤ b → is_aside b ≡ true
 aside_high b high = grind (arith, nat_tests)
 
-all_aside : (x y : List ℕ) → list_all is_aside x ≡ true → list_all is_aside y ≡ true → list_all is_aside (x ++ y) ≡ true
+all_aside : (x y : List ℕ) → list_all is_aside x ≡ true → list_all is_aside y ≡ true → list_all is_aside
+    (x ++ y) ≡ true
 all_aside [] y e f = f
 all_aside (b ∷ x) y e f =
     let parts = and_parts (is_aside b) (list_all is_aside x) e in
@@ -476,7 +447,8 @@ white_aside (c ∷ cs) e =
     (⊎_elim
     (λ low. ap (list_all is_aside) (encode_ascii c low)
     ∙ and_from (is_aside c) true (aside_white c low parts.0) refl)
-    (λ high. all_reads is_aside (encode_utf8 c) (λ k l. aside_high (get_or (encode_utf8 c) k 0) (bytes_high c high k l)))
+    (λ high. all_reads is_aside (encode_utf8 c)
+    (λ k l. aside_high (get_or (encode_utf8 c) k 0) (bytes_high c high k l)))
     (cases_lt c 128))
     (white_aside cs parts.1)
 
@@ -548,18 +520,19 @@ text_past (c ∷ cs) y u =
     (IsUtf8-past_char ((encode_utf8 c ++ encode_utf8_all cs) ++ y) (encode_utf8_all cs ++ y) c u
     (append_assoc (encode_utf8 c) (encode_utf8_all cs) y))
 
-text_after : (x y : List ℕ) → IsUtf8 x → IsUtf8 (x ++ y) → IsUtf8 y
+pub text_after : (x y : List ℕ) → IsUtf8 x → IsUtf8 (x ++ y) → IsUtf8 y
 text_after x y u whole =
     text_past (chars x) y (subst (λ (z : List ℕ). IsUtf8 (z ++ y)) (sym (encodes-chars x u)) whole)
 
 -- a mark after the white space at the beginning
-keeps-mark_first : (emphasis : Emphasis) (w r : List ℕ) {l : List ℕ} → IsWhite w → Keeps (w ++ r) l
+pub keeps-mark_first : (emphasis : Emphasis) (w r : List ℕ) {l : List ℕ} → IsWhite w → Keeps (w ++ r) l
     → Keeps (w ++ (mark emphasis ++ r)) l
 keeps-mark_first emphasis w r {l} white p =
     let c = p.chain in
     let x = first_of c in
     let m = mark emphasis in
-    let cut = white_first x (rest_of c) w r (sym (first_whole c) ∙ sym p.whole) (aside w white) (rest_opens c p.fits) in
+    let cut = white_first x (rest_of c) w r (sym (first_whole c) ∙ sym p.whole) (aside w white) (rest_opens c p.fits)
+    in
     let y = cut.0 in
     let fits = first_fits c p.fits in
     let space = ordinary-white w white in
@@ -584,7 +557,8 @@ keeps-mark_first emphasis w r {l} white p =
     ∙ sym (append_assoc w (m ++ y) (rest_of c)))
 
 -- and a mark before the white space at the end
-keeps-mark_last : (emphasis : Emphasis) (f w : List ℕ) {l : List ℕ} → IsUtf8 f → IsWhite w → Keeps (f ++ w) l
+pub keeps-mark_last : (emphasis : Emphasis) (f w : List ℕ) {l : List ℕ} → IsUtf8 f → IsWhite w → Keeps
+    (f ++ w) l
     → Keeps (f ++ (mark emphasis ++ w)) l
 keeps-mark_last emphasis f w {l} u white p =
     let c = p.chain in
@@ -609,14 +583,16 @@ keeps-mark_last emphasis f w {l} u white p =
     let same : seen even (chars x) ≡ seen even (chars y) =
     ap (seen even) parts ∙ seen-append even (chars y) white.0
     ∙ ap (λ z. seen even (chars y) ++ z) (white_none e white.0 white.2) ∙ append-nil (seen even (chars y)) in
-    let closed : ends e white.0 ≡ even = sym (ap (ends even) parts ∙ ends-append even (chars y) white.0) ∙ fits.1 in
+    let closed : ends e white.0 ≡ even =
+    sym (ap (ends even) parts ∙ ends-append even (chars y) white.0) ∙ fits.1 in
     let state : ends even (chars (y ++ (m ++ w))) ≡ ends (ends e m) white.0 =
     ap (ends even) whole ∙ ends-append even (chars y) (m ++ white.0) ∙ ends-append e m white.0 in
     let after : ends (ends e m) white.0 ≡ even =
     ⊎_elim (λ is. ap (λ s. ends s white.0) is ∙ white_even white.0 white.2)
     (λ is. ap (λ s. ends s white.0) is ∙ closed) (mark_state emphasis e) in
     let shown : IsPart (seen even (chars x)) (seen even (chars (y ++ (m ++ w)))) =
-    subst (λ (z : List ℕ). IsPart z (seen even (chars (y ++ (m ++ w))))) (append-nil (seen even (chars y)) ∙ sym same)
+    subst (λ (z : List ℕ). IsPart z (seen even (chars (y ++ (m ++ w)))))
+    (append-nil (seen even (chars y)) ∙ sym same)
     (subst (λ (z : List ℕ). IsPart (seen even (chars y) ++ []) z)
     (sym (ap (seen even) whole ∙ seen-append even (chars y) (m ++ white.0)))
     (part-append (seen even (chars y)) [] (seen even (chars y)) _
@@ -625,7 +601,8 @@ keeps-mark_last emphasis f w {l} u white p =
     (IsUtf8-append y (m ++ w) text (IsUtf8-append m w marks.utf8 space.utf8), state ∙ after) shown
     (ap (λ z. z ++ (m ++ w)) cut.2 ∙ append_assoc front y (m ++ w))
 
-keeps-between : (emphasis : Emphasis) (before middle after : List ℕ) {l : List ℕ} → IsWhite before → IsUtf8 middle
+keeps-between : (emphasis : Emphasis) (before middle after : List ℕ) {l : List ℕ} → IsWhite before → IsUtf8
+    middle
     → IsWhite after → Keeps (before ++ (middle ++ after)) l
     → Keeps ((((before ++ mark emphasis) ++ middle) ++ mark emphasis) ++ after) l
 keeps-between emphasis before middle after first text last p =
@@ -645,16 +622,21 @@ if_some : (emphasis : Emphasis) (before middle after s : List ℕ) {l : List ℕ
 if_some emphasis before [] after s p q = p
 if_some emphasis before (b ∷ middle) after s p q = q
 
-pub keeps-emphasised : (emphasis : Emphasis) (s : List ℕ) {l : List ℕ} → Keeps s l
-    → Keeps (unwrap_or (emphasised_text emphasis s) s) l
+-- white space at either end of a text, and what is between
+pub record EmphasisParts (s : List ℕ) : Type 0 where
+  pub first : IsWhite (white_space_at_start s)
+  pub middle : IsUtf8 (trim s)
+  pub last : IsWhite (white_space_at_end (trim_start s))
+  pub whole : s ≡ white_space_at_start s ++ (trim s ++ white_space_at_end (trim_start s))
+
+pub emphasis_parts : (s : List ℕ) → IsUtf8 s → EmphasisParts s
 unfolding trim_start trim_end
-keeps-emphasised emphasis s {l} p =
+emphasis_parts s u =
     let cs = chars s in
     let first = white_front cs in
     let rest = skip_leading_whitespace cs in
     let last = white_back rest in
     let front = drop_trailing_whitespace rest in
-    let u = (keeps-says p).utf8 in
     let scalar = scalars-chars s u in
     let cut = scalars-front first.0 rest (subst (λ (x : List ℕ). all_scalars x ≡ true) first.1 scalar) in
     let cut_behind = scalars-front front last.0 (subst (λ (x : List ℕ). all_scalars x ≡ true) last.1 cut.1) in
@@ -672,15 +654,23 @@ keeps-emphasised emphasis s {l} p =
     ap (λ (x : List ℕ). drop (length x) (encode_utf8_all rest)) middle
     ∙ ap (λ (x : List ℕ). drop (length (encode_utf8_all front)) x) rest_whole
     ∙ rest_left (encode_utf8_all front) (encode_utf8_all last.0) in
-    let parts : s ≡ white_space_at_start s ++ (trim s ++ white_space_at_end (trim_start s)) =
-    whole ∙ ap (λ z. encode_utf8_all first.0 ++ z) rest_whole
-    ∙ ap (λ z. z ++ (encode_utf8_all front ++ encode_utf8_all last.0)) (sym before)
-    ∙ ap (λ z. white_space_at_start s ++ (z ++ encode_utf8_all last.0)) (sym middle)
-    ∙ ap (λ z. white_space_at_start s ++ (trim s ++ z)) (sym after) in
+    record {
+      first = (first.0, (before, cut.0), first.2);
+      middle = (front, (cut_behind.0, sym middle));
+      last = (last.0, (after, cut_behind.1), last.2);
+      whole = whole ∙ ap (λ z. encode_utf8_all first.0 ++ z) rest_whole
+          ∙ ap (λ z. z ++ (encode_utf8_all front ++ encode_utf8_all last.0)) (sym before)
+          ∙ ap (λ z. white_space_at_start s ++ (z ++ encode_utf8_all last.0)) (sym middle)
+          ∙ ap (λ z. white_space_at_start s ++ (trim s ++ z)) (sym after);
+    }
+
+pub keeps-emphasised : (emphasis : Emphasis) (s : List ℕ) {l : List ℕ} → Keeps s l
+    → Keeps (unwrap_or (emphasised_text emphasis s) s) l
+keeps-emphasised emphasis s {l} p =
+    let parts = emphasis_parts s (keeps-says p).utf8 in
     if_some emphasis (white_space_at_start s) (trim s) (white_space_at_end (trim_start s)) s p
-    (keeps-between emphasis (white_space_at_start s) (trim s) (white_space_at_end (trim_start s))
-    (first.0, (before, cut.0), first.2) (front, (cut_behind.0, sym middle)) (last.0, (after, cut_behind.1), last.2)
-    (keeps-as parts p))
+    (keeps-between emphasis (white_space_at_start s) (trim s) (white_space_at_end (trim_start s)) parts.first
+    parts.middle parts.last (keeps-as parts.whole p))
 
 pub keeps-guarded_emphasis : (emphasis : Emphasis) (s : List ℕ) {l : List ℕ} → Keeps s l
     → Keeps (guarded_emphasis emphasis s) l

@@ -52,7 +52,14 @@ respaced-line (b ∷ s) =
     let rest = flat_map guarded.in_line s in
     cond_both (b == line_feed) (space ∷ []) (cond (b == carriage_return) [] (b ∷ []))
     (λ (x : List ℕ). Respaced (b ∷ s) (x ++ rest))
-    (λ e. (space ∷ [], rest, inr (line_feed_of_white b e, refl, inr (eqb-true b line_feed e)), refl, respaced-line s))
+    (λ e. (
+      space ∷ [],
+      rest,
+      inr (line_feed_of_white b e, refl, inr (eqb-true b line_feed e)),
+      refl,
+      respaced-line
+          s,
+    ))
     (λ _. cond_both (b == carriage_return) [] (b ∷ []) (λ (x : List ℕ). Respaced (b ∷ s) (x ++ rest))
     (λ e. ([], rest, inr (return_of_white b e, refl, inl refl), refl, respaced-line s))
     (λ _. (b ∷ [], rest, inl refl, refl, respaced-line s)))
@@ -229,7 +236,8 @@ visible_bars s u =
     let t = barred_chars s w in
     (t.0, subst (λ (x : List ℕ). IsPart (visible s) (filter is_visible x)) (sym t.1) w.all)
 
-bars-append : (x : Bool) (s t : List ℕ) → escaped_bars x (s ++ t) ≡ escaped_bars x s ++ escaped_bars (escapes x s) t
+bars-append : (x : Bool) (s t : List ℕ) → escaped_bars x (s ++ t) ≡ escaped_bars x s ++ escaped_bars
+    (escapes x s) t
 bars-append x [] t = refl
 bars-append x (b ∷ s) t =
     let here = cond ((b == vertical_bar) && not x) (backslash ∷ b ∷ []) (b ∷ []) in
@@ -260,7 +268,8 @@ literal_bars z t l to =
     one_sign b t e to =
         to.1 ∙ ap (λ d. cond (d && not to.0) (backslash ∷ b ∷ []) (b ∷ []) ++ []) (no_bar_there b e)
 
-    still : (signs : List ℕ) → is_one_of signs 0x5C ≡ false → (x : Bool) (w : List ℕ) → lacks signs w ≡ true
+    still : (signs : List ℕ) → is_one_of signs 0x5C ≡ false → (x : Bool) (w : List ℕ) → lacks signs
+        w ≡ true
         → lacks signs (escaped_bars x w) ≡ true
     still signs slash x [] e = refl
     still signs slash x (b ∷ w) e =

@@ -27,11 +27,10 @@ use Rattle.htmd_tree_laws.specs.Letters.{said_among}
 use Rattle.htmd_tree_laws.specs.Shown.{is_visible, visible, IsPart}
 use Rattle.htmd_tree_laws.proofs.CountedTexts.{of_visible}
 use Rattle.htmd_tree_laws.proofs.KeptJoints.{no_backslash, no_asterisk}
-use Rattle.htmd_tree_laws.proofs.KeptMeetings.{keeps-joint}
-use Rattle.htmd_tree_laws.proofs.KeptLines.{keeps-trimmed_end}
+use Rattle.htmd_tree_laws.proofs.KeptPlaces.{KeepsIn, in-flat, in-is, in-joint, in-trimmed_end}
 use Rattle.htmd_tree_laws.proofs.KeptMarks.{even, odd, blank, step, kept, ends, seen, seen_more, more_both, more_found}
 use Rattle.htmd_tree_laws.proofs.KeptMarks.{step-even, Ordinary}
-use Rattle.htmd_tree_laws.proofs.KeptChains.{Keeps, keeps-in, keeps-is, keeps-ordinary}
+use Rattle.htmd_tree_laws.proofs.KeptChains.{keeps-in, keeps-ordinary}
 use Rattle.htmd_tree_laws.proofs.LettersLemmas.{says-own, is_white}
 use Rattle.htmd_tree_laws.proofs.LettersOfPieces.{says-first_space}
 use Rattle.htmd_tree_laws.proofs.LettersOfTexts.{bytes_high, says-squeezed, space_of_white, punctuation_low}
@@ -195,34 +194,33 @@ ordinary-guarded_text begins s u =
       closed = ap (ends even) same ∙ w.closed;
     }
 
-pub text_is_kept : (s : List ℕ) (context : Context) (out : Output) (l : List ℕ) → IsUtf8 s → Keeps out.text l
-    → Keeps (write_text true s context out).text (l ++ visible s)
-text_is_kept s context out l t p =
+pub text_is_kept : (lines : Bool) (s : List ℕ) (context : Context) (out : Output) (l : List ℕ) → IsUtf8 s
+    → KeepsIn lines out.text l → KeepsIn lines (write_text true s context out).text (l ++ visible s)
+text_is_kept lines s context out l t p =
     let goes = context.trim || ends_with_space out.text in
     let shown = says-first_space goes (squeezed_text s) (says-squeezed s (says-own {law = of_visible} s t)) in
-    keeps-joint p
-    (keeps-in shown.says
-    (keeps-ordinary (ordinary-guarded_text (begins_line out.text) (without_first_space goes (squeezed_text s)) shown.utf8)))
+    let own = ordinary-guarded_text (begins_line out.text) (without_first_space goes (squeezed_text s)) shown.utf8 in
+    in-joint lines p (in-flat lines (keeps-in shown.says (keeps-ordinary own)))
 
 -- ---- children
 
-before_is_kept : (block : Bool) (out : Output) {l : List ℕ} → Keeps out.text l
-    → Keeps (before_child block out).text l
-before_is_kept true out p = keeps-trimmed_end is_space space_of_white out.text p
-before_is_kept false out p = p
+before_is_kept : (lines block : Bool) (out : Output) {l : List ℕ} → KeepsIn lines out.text l
+    → KeepsIn lines (before_child block out).text l
+before_is_kept lines true out p = in-trimmed_end lines is_space space_of_white out.text p
+before_is_kept lines false out p = p
 
-module _ (write : Writes) (Fits : NumberedTree → Type 0) (says : NumberedTree → List ℕ)
+module _ (lines : Bool) (write : Writes) (Fits : NumberedTree → Type 0) (says : NumberedTree → List ℕ)
     (keeps : (tree : NumberedTree) (context : Context) (out : Output) (l : List ℕ) → Fits tree
-    → Keeps out.text l → Keeps (write tree context out).text (l ++ says tree)) where
+    → KeepsIn lines out.text l → KeepsIn lines (write tree context out).text (l ++ says tree)) where
   pub children_are_kept : (inside : List Ancestor) (trees : NumberedForest) (trim : Bool) (out : Output) (l : List ℕ)
-      → AllOf Fits trees → Keeps out.text l
-      → Keeps (write_children write inside trees trim out).text (l ++ said_among says trees)
-  children_are_kept inside none trim out l fit p = keeps-is (sym (append-nil l)) p
+      → AllOf Fits trees → KeepsIn lines out.text l
+      → KeepsIn lines (write_children write inside trees trim out).text (l ++ said_among says trees)
+  children_are_kept inside none trim out l fit p = in-is lines (sym (append-nil l)) p
   children_are_kept inside (more tree trees) trim out l fit p =
       let block = is_block_tree tree in
       let before = before_child block out in
       let after = write tree (context_of inside (in_pre_or_code inside) trim) before in
-      let first : Keeps after.text (l ++ says tree) =
-      keeps tree (context_of inside (in_pre_or_code inside) trim) before l fit.0 (before_is_kept block out p) in
-      keeps-is (append_assoc l (says tree) (said_among says trees))
+      let first : KeepsIn lines after.text (l ++ says tree) =
+      keeps tree (context_of inside (in_pre_or_code inside) trim) before l fit.0 (before_is_kept lines block out p) in
+      in-is lines (append_assoc l (says tree) (said_among says trees))
       (children_are_kept inside trees (trim_after block before after trim) after (l ++ says tree) fit.1 first)

@@ -23,8 +23,7 @@ use Rattle.htmd_markdown.specs.GuardedAddresses as address
 use Rattle.htmd_markdown.specs.GuardedCode.{code_line, span_text, spaced_span, guarded_code, guarded_span_in_line}
 use Rattle.htmd_markdown.specs.GuardedCode.{fits_each_fence, fitting_language, code_lines, guarded_code_block}
 use Rattle.htmd_markdown.specs.GuardedLinks.{guarded_link_text, guarded_resource, guarded_link, guarded_description}
-use Rattle.htmd_markdown.specs.GuardedLinks.{guarded_image, guarded_reference, guarded_autolink, is_space_before}
-use Rattle.htmd_markdown.specs.GuardedLinks.{ends_white}
+use Rattle.htmd_markdown.specs.GuardedLinks.{guarded_image, guarded_reference}
 use Rattle.htmd_markdown.specs.GuardedText.{is_guarded_mark, guarded_text}
 use Rattle.htmd_markdown.specs.GuardedTitles.{title_part, title_line, guarded_title, guarded_title_text}
 use Rattle.htmd_markdown.specs.Headings.{guarded_style, guarded_heading}
@@ -143,15 +142,6 @@ pub says-guarded_link : {law : Law} (s address : List ℕ) (title : Option (List
     → Says law (guarded_resource address title) m → Says law (guarded_link s address title) (l ++ m)
 says-guarded_link s address title {l} {m} p q =
     says-is (append-nil (l ++ m)) (says-append (says-append (says-link_text s p) q) (spaces_if _))
-
--- an autolink says its address, whatever its content
-pub says-guarded_autolink : {law : Law} (s address : List ℕ) {l : List ℕ} → Says law address l
-    → Says law (guarded_autolink s address) l
-says-guarded_autolink s address {l} p =
-    says-is (append-nil l)
-    (says-append
-    (says-before (codes ">") refl (says-append (says-before (codes "<") refl (spaces_if (is_space_before s))) p))
-    (spaces_if (ends_white s)))
 
 pub says-guarded_reference : {law : Law} (number : ℕ) (s : List ℕ) {l : List ℕ} → Says law s l
     → Says law (guarded_reference number s) l

@@ -47,7 +47,7 @@ use Rattle.htmd_walk.specs.Code.{first_language, language_of_class, classes_of}
 use Rattle.htmd_walk.specs.Lists.{lists, is_in_item, list_result}
 use Rattle.htmd_walk.specs.ListItems.{list_items, is_in_ordered, bullet_item_of}
 use Rattle.htmd_walk.specs.ListItems.{list_tags}
-use Rattle.htmd_walk.specs.OneLineElements.{is_in_line}
+use Rattle.htmd_walk.specs.OneLineElements.{is_in_line, heading_tags}
 use Rattle.htmd_walk.specs.TableCells.{cells}
 use Rattle.htmd_walk.specs.TableParts.{table_rows, table_parts}
 use Rattle.htmd_walk.specs.Anchors.{anchor_address, finish_at, link_finish, guarded_link_finish}
@@ -65,9 +65,9 @@ use Rattle.htmd_tree_laws.proofs.LettersOfGuarded.{says-guarded_link, says-guard
 use Rattle.htmd_tree_laws.proofs.LettersOfGuarded.{says-guarded_heading, says-guarded_resource}
 use Rattle.std.proofs.lemmas.Bool.{true≢false}
 use Rattle.htmd_tree_laws.proofs.KeptChains.{Keeps}
-use Rattle.htmd_tree_laws.proofs.KeptLines.{keeps-wrapped, keeps-quote}
-use Rattle.htmd_tree_laws.proofs.KeptPieces.{KeepsIfAny, keeps-bullet, keeps-unnumbered, keeps-heading, keeps-guarded_heading}
-use Rattle.htmd_tree_laws.proofs.KeptPieces.{keeps-guarded_emphasis, keeps-list}
+use Rattle.htmd_tree_laws.proofs.KeptPieces.{keeps-heading, keeps-guarded_heading}
+use Rattle.htmd_tree_laws.proofs.KeptPlaces.{KeepsIn, InIfAny, in-flat, in-wrapped, in-quote, in-bullet, in-unnumbered}
+use Rattle.htmd_tree_laws.proofs.KeptPlaces.{in-emphasis, in-list}
 
 -- a result or nothing, and what it holds
 abbrev pub SaysResult : Law → Option ResultView → List ℕ → Type 0
@@ -80,13 +80,14 @@ says-optional law None l p = p
 says-optional law (Some s) l p = p
 
 -- a result or nothing, and what is promised of it
-abbrev pub KeepsResult : Option ResultView → List ℕ → Type 0
-KeepsResult None l = l ≡ []
-KeepsResult (Some r) l = Keeps r.content l
+abbrev pub KeepsResult : Bool → Option ResultView → List ℕ → Type 0
+KeepsResult lines None l = l ≡ []
+KeepsResult lines (Some r) l = KeepsIn lines r.content l
 
-keeps-optional : (s : Option (List ℕ)) (l : List ℕ) → KeepsIfAny s l → KeepsResult (optional_markdown s) l
-keeps-optional None l p = p
-keeps-optional (Some s) l p = p
+keeps-optional : (lines : Bool) (s : Option (List ℕ)) (l : List ℕ) → InIfAny lines s l
+    → KeepsResult lines (optional_markdown s) l
+keeps-optional lines None l p = p
+keeps-optional lines (Some s) l p = p
 
 -- ---- attributes that are text
 
@@ -154,16 +155,17 @@ pub record KeepsContent (law : Law) (tag : List ℕ) (handler : HandlerMeaning) 
   pub finished : (view : ElementView) (content : ResultView) (definitions : List (List ℕ)) (l : List ℕ)
       → is_markdown_alone view.options ≡ true → Says law content.content l
       → SaysResult law (handler.finish view content definitions).result l
-  -- in Guarded what is promised of it too
-  pub kept : (view : ElementView) (content : ResultView) (definitions : List (List ℕ)) (l : List ℕ)
-      → is_markdown_alone view.options ≡ true → is_guarded view.options ≡ true → Keeps content.content l
-      → KeepsResult (handler.finish view content definitions).result l
+  -- in Guarded what is promised of it too, where line feeds stay or in one line; in a heading it stands in one line
+  pub kept : (lines : Bool) (view : ElementView) (content : ResultView) (definitions : List (List ℕ)) (l : List ℕ)
+      → is_markdown_alone view.options ≡ true → is_guarded view.options ≡ true
+      → KeepsIn lines content.content l → (is_among heading_tags tag ≡ true → Keeps content.content l)
+      → KeepsResult lines (handler.finish view content definitions).result l
 
 pub keeps_paragraphs : {law : Law} (tag : List ℕ) → KeepsContent law tag paragraphs
 keeps_paragraphs tag = record {
   planned = λ view alone here. rw alone refl;
   finished = λ view content definitions l alone p. wrapped content.content l p;
-  kept = λ view content definitions l alone g p. keeps-wrapped content.content p;
+  kept = λ lines view content definitions l alone g p flat. in-wrapped lines content.content p;
 }
 
 pub keeps_quotes : {law : Law} (tag : List ℕ) → KeepsContent law tag quotes
@@ -172,44 +174,44 @@ keeps_quotes {law} tag = record {
   finished = λ view content definitions l alone p.
       cond_both (is_in_line view) _ _ (λ (r : Option ResultView). SaysResult law r l)
       (λ _. wrapped content.content l p) (λ _. says-quote content.content l p);
-  kept = λ view content definitions l alone g p.
-      cond_both (is_in_line view) _ _ (λ (r : Option ResultView). KeepsResult r l)
-      (λ _. keeps-wrapped content.content p) (λ _. keeps-quote content.content p);
+  kept = λ lines view content definitions l alone g p flat.
+      cond_both (is_in_line view) _ _ (λ (r : Option ResultView). KeepsResult lines r l)
+      (λ _. in-wrapped lines content.content p) (λ _. in-quote lines content.content p);
 }
 
 pub keeps_parts : {law : Law} (tag : List ℕ) → KeepsContent law tag parts_of_page
 keeps_parts tag = record {
   planned = λ view alone here. rw alone refl;
   finished = λ view content definitions l alone p. wrapped content.content l p;
-  kept = λ view content definitions l alone g p. keeps-wrapped content.content p;
+  kept = λ lines view content definitions l alone g p flat. in-wrapped lines content.content p;
 }
 
 pub keeps_pages : {law : Law} (tag : List ℕ) → KeepsContent law tag pages
 keeps_pages tag = record {
   planned = λ view alone here. rw alone refl;
   finished = λ view content definitions l alone p. wrapped content.content l p;
-  kept = λ view content definitions l alone g p. keeps-wrapped content.content p;
+  kept = λ lines view content definitions l alone g p flat. in-wrapped lines content.content p;
 }
 
 pub keeps_cells : {law : Law} (tag : List ℕ) → KeepsContent law tag cells
 keeps_cells tag = record {
   planned = λ view alone here. rw alone refl;
   finished = λ view content definitions l alone p. wrapped content.content l p;
-  kept = λ view content definitions l alone g p. keeps-wrapped content.content p;
+  kept = λ lines view content definitions l alone g p flat. in-wrapped lines content.content p;
 }
 
 pub keeps_rows : {law : Law} (tag : List ℕ) → KeepsContent law tag table_rows
 keeps_rows tag = record {
   planned = λ view alone here. rw alone refl;
   finished = λ view content definitions l alone p. wrapped content.content l p;
-  kept = λ view content definitions l alone g p. keeps-wrapped content.content p;
+  kept = λ lines view content definitions l alone g p flat. in-wrapped lines content.content p;
 }
 
 pub keeps_table_parts : {law : Law} (tag : List ℕ) → KeepsContent law tag table_parts
 keeps_table_parts tag = record {
   planned = λ view alone here. rw alone refl;
   finished = λ view content definitions l alone p. wrapped content.content l p;
-  kept = λ view content definitions l alone g p. keeps-wrapped content.content p;
+  kept = λ lines view content definitions l alone g p flat. in-wrapped lines content.content p;
 }
 
 says-item_of : {law : Law} (view : ElementView) (s : List ℕ) {l : List ℕ} → Says law s l
@@ -224,16 +226,17 @@ says-item_of {law} view s {l} p =
     (λ _. wrapped (guarded_bullet_item marker spacing s) l own))
     (λ _. says-bullet marker spacing s p)
 
-keeps-item_of : (view : ElementView) (s : List ℕ) {l : List ℕ} → Keeps s l → Keeps (bullet_item_of view s) l
-keeps-item_of view s {l} p =
+keeps-item_of : (lines : Bool) (view : ElementView) (s : List ℕ) {l : List ℕ} → KeepsIn lines s l
+    → KeepsIn lines (bullet_item_of view s) l
+keeps-item_of lines view s {l} p =
     let marker = view.options.bullet_list_marker in
     let spacing = view.options.ul_bullet_spacing in
-    cond_both (is_guarded view.options) _ _ (λ (t : List ℕ). Keeps t l)
+    cond_both (is_guarded view.options) _ _ (λ (t : List ℕ). KeepsIn lines t l)
     (λ _.
-    let own = keeps-bullet marker (guarded_spacing spacing) s p in
-    cond_both (is_tag_among list_tags (parent_tag view)) _ _ (λ (t : List ℕ). Keeps t l) (λ _. own)
-    (λ _. keeps-wrapped (guarded_bullet_item marker spacing s) own))
-    (λ _. keeps-bullet marker spacing s p)
+    let own = in-bullet lines marker (guarded_spacing spacing) s p in
+    cond_both (is_tag_among list_tags (parent_tag view)) _ _ (λ (t : List ℕ). KeepsIn lines t l) (λ _. own)
+    (λ _. in-wrapped lines (guarded_bullet_item marker spacing s) own))
+    (λ _. in-bullet lines marker spacing s p)
 
 pub keeps_items : {law : Law} (tag : List ℕ) → KeepsContent law tag list_items
 keeps_items {law} tag = record {
@@ -243,15 +246,16 @@ keeps_items {law} tag = record {
       (λ _. wrapped content.content l p)
       (λ _. cond_both (is_in_ordered view) _ _ (λ (t : List ℕ). Says law t l)
       (λ _. says-unnumbered content.content p) (λ _. says-item_of view content.content p));
-  kept = λ view content definitions l alone g p.
-      cond_both (is_in_line view) _ _ (λ (r : Option ResultView). KeepsResult r l)
-      (λ _. keeps-wrapped content.content p)
-      (λ _. cond_both (is_in_ordered view) _ _ (λ (t : List ℕ). Keeps t l)
-      (λ _. keeps-unnumbered content.content p) (λ _. keeps-item_of view content.content p));
+  kept = λ lines view content definitions l alone g p flat.
+      cond_both (is_in_line view) _ _ (λ (r : Option ResultView). KeepsResult lines r l)
+      (λ _. in-wrapped lines content.content p)
+      (λ _. cond_both (is_in_ordered view) _ _ (λ (t : List ℕ). KeepsIn lines t l)
+      (λ _. in-unnumbered lines content.content p) (λ _. keeps-item_of lines view content.content p));
 }
 
-pub keeps_headings : {law : Law} (tag : List ℕ) → KeepsContent law tag headings
-keeps_headings {law} tag = record {
+pub keeps_headings : {law : Law} (tag : List ℕ) → is_among heading_tags tag ≡ true → KeepsContent law tag
+    headings
+keeps_headings {law} tag is = record {
   planned = λ view alone here. rw alone refl;
   finished = λ view content definitions l alone p.
       let style = view.options.heading_style in
@@ -262,15 +266,15 @@ keeps_headings {law} tag = record {
       (λ (f : HeadingStyle → ℕ → List ℕ → List ℕ). Says law (f style level content.content) l)
       (λ _. says-guarded_heading style level content.content l p)
       (λ _. says-heading style level content.content p));
-  kept = λ view content definitions l alone g p.
+  kept = λ lines view content definitions l alone g p flat.
       let style = view.options.heading_style in
       let level = level_of (tag_of view) in
-      cond_both (is_in_line view) _ _ (λ (r : Option ResultView). KeepsResult r l)
-      (λ _. keeps-wrapped content.content p)
+      cond_both (is_in_line view) _ _ (λ (r : Option ResultView). KeepsResult lines r l)
+      (λ _. in-wrapped lines content.content p)
       (λ _. cond_both (is_guarded view.options) guarded_heading heading
-      (λ (f : HeadingStyle → ℕ → List ℕ → List ℕ). Keeps (f style level content.content) l)
-      (λ _. keeps-guarded_heading style level content.content p)
-      (λ _. keeps-heading style level content.content p));
+      (λ (f : HeadingStyle → ℕ → List ℕ → List ℕ). KeepsIn lines (f style level content.content) l)
+      (λ _. in-flat lines (keeps-guarded_heading style level content.content (flat is)))
+      (λ _. in-flat lines (keeps-heading style level content.content (flat is))));
 }
 
 pub keeps_emphasis : {law : Law} (emphasis : Emphasis) (tag : List ℕ) → KeepsContent law tag (emphasis_of emphasis)
@@ -281,9 +285,9 @@ keeps_emphasis {law} emphasis tag = record {
       (λ _. says-guarded_emphasis emphasis content.content l p)
       (λ _. says-optional law (emphasised_text emphasis content.content) l
       (says-emphasised emphasis content.content p));
-  kept = λ view content definitions l alone g p.
-      cond_both (is_guarded view.options) _ _ (λ (r : Option ResultView). KeepsResult r l)
-      (λ _. keeps-guarded_emphasis emphasis content.content p) (λ pure. absurd (true≢false (sym g ∙ pure)));
+  kept = λ lines view content definitions l alone g p flat.
+      cond_both (is_guarded view.options) _ _ (λ (r : Option ResultView). KeepsResult lines r l)
+      (λ _. in-emphasis lines emphasis content.content p) (λ pure. absurd (true≢false (sym g ∙ pure)));
 }
 
 pub says-listed : {law : Law} (view : ElementView) (list : ResultView) (l : List ℕ)
@@ -293,17 +297,19 @@ says-listed {law} view list l alone p =
     rw alone (says-optional law (list_block (is_in_item view) list.content) l (says-list
     (is_in_item view) list.content p))
 
-pub keeps-listed : (view : ElementView) (list : ResultView) (l : List ℕ) → is_markdown_alone view.options ≡ true
-    → Keeps list.content l → KeepsResult (list_result view list) l
-keeps-listed view list l alone p =
+pub keeps-listed : (lines : Bool) (view : ElementView) (list : ResultView) (l : List ℕ)
+    → is_markdown_alone view.options ≡ true → KeepsIn lines list.content l → KeepsResult lines
+    (list_result view list) l
+keeps-listed lines view list l alone p =
     rw alone
-    (keeps-optional (list_block (is_in_item view) list.content) l (keeps-list (is_in_item view) list.content p))
+    (keeps-optional lines (list_block (is_in_item view) list.content) l
+    (in-list lines (is_in_item view) list.content p))
 
 pub keeps_lists : {law : Law} → KeepsContent law (codes "ul") lists
 keeps_lists = record {
   planned = λ view alone here. rw (alone, here) refl;
   finished = λ view content definitions l alone p. says-listed view content l alone p;
-  kept = λ view content definitions l alone g p. keeps-listed view content l alone p;
+  kept = λ lines view content definitions l alone g p flat. keeps-listed lines view content l alone p;
 }
 
 -- ---- handlers with more to say

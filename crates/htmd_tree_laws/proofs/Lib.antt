@@ -40,7 +40,12 @@ pub mod KeptJoints
 pub mod KeptMeetings
 pub mod LiteralPieces
 pub mod KeptLines
+pub mod LinedTexts
+pub mod KeptBlocks
+pub mod BlockEdits
 pub mod KeptPieces
+pub mod BlockPieces
+pub mod KeptPlaces
 pub mod LettersOfHandlers
 pub mod LettersOfTables
 pub mod LettersOfGrids
@@ -60,6 +65,7 @@ pub mod TextLawsLemmas
 pub mod ShownTrees
 pub mod ShownOfElements
 pub mod TableChildren
+pub mod LinePlaces
 pub mod KeptElements
 pub mod ShownTables
 pub mod KeptLawsLemmas

@@ -24,7 +24,8 @@ use Rattle.htmd_tree_laws.proofs.Literals.{Literal, lacks, quiet_signs, angle_si
 
 -- ---- without some signs
 
-lacks-append : (signs x y : List ℕ) → lacks signs x ≡ true → lacks signs y ≡ true → lacks signs (x ++ y) ≡ true
+lacks-append : (signs x y : List ℕ) → lacks signs x ≡ true → lacks signs y ≡ true → lacks signs
+    (x ++ y) ≡ true
 lacks-append signs [] y e f = f
 lacks-append signs (b ∷ x) y e f =
     let parts = and_parts (not (is_one_of signs b)) (lacks signs x) e in
@@ -64,12 +65,13 @@ one_line_lacks (b ∷ s) =
 -- ---- runs of backquotes
 
 -- they end with two
-many_last : (n b : ℕ) → b ∷ replicate n b ≡ replicate n b ++ b ∷ []
+pub many_last : (n b : ℕ) → b ∷ replicate n b ≡ replicate n b ++ b ∷ []
 many_last zero b = refl
 many_last (suc n) b = ap (λ z. b ∷ z) (many_last n b)
 
 -- between two or more backquotes
-literal_many : (x z : List ℕ) (n : ℕ) → z ≡ (grave_accent ∷ x) ++ replicate (suc (suc n)) grave_accent → Literal z
+literal_many : (x z : List ℕ) (n : ℕ) → z ≡ (grave_accent ∷ x) ++ replicate (suc (suc n)) grave_accent →
+    Literal z
 literal_many x z n e = record {
   first = grave_accent;
   inner = (x ++ replicate n grave_accent) ++ grave_accent ∷ [];
@@ -100,7 +102,8 @@ quiet_by b other feed = ap (λ t. not (t || ((b == line_feed) || false))) other 
 quiet_prefix : (s : List ℕ) → lacks quiet_signs s ≡ true → prefix_len is_backquote s ≡ 0
 quiet_prefix [] e = refl
 quiet_prefix (b ∷ s) e =
-    let none = not-true (is_one_of quiet_signs b) (and_parts (not (is_one_of quiet_signs b)) (lacks quiet_signs s) e).0 in
+    let none = not-true (is_one_of quiet_signs b)
+    (and_parts (not (is_one_of quiet_signs b)) (lacks quiet_signs s) e).0 in
     cond-false (is_backquote b) (1 + prefix_len is_backquote s) 0 (or_parts (is_backquote b) _ none).0
 
 last_of_runs : (behind : Bool) (s : List ℕ) → lacks_run 1 behind s ≡ true → lacks (line_feed ∷ []) s ≡ true
@@ -158,7 +161,8 @@ literal_single due s e f = record {
           space_if due ++ x,
           w ++ space_if due,
           ap (λ z. (space_if due ++ z) ++ space_if due) e
-              ∙ ap (λ z. z ++ space_if due) (sym (append_assoc (space_if due) x (grave_accent ∷ grave_accent ∷ w)))
+              ∙ ap (λ z. z ++ space_if due) (sym
+              (append_assoc (space_if due) x (grave_accent ∷ grave_accent ∷ w)))
               ∙ append_assoc (space_if due ++ x) (grave_accent ∷ grave_accent ∷ w) (space_if due),
           lacks-append quiet_signs w (space_if due) quiet (spaces_quiet due),
         ))
@@ -196,12 +200,14 @@ literal_fenced s language =
     by (suc zero) l = absurd (omega (arith, l))
     by (suc (suc n)) l =
         literal_many
-        ((((replicate (suc n) grave_accent ++ info_string language) ++ line_feed ∷ []) ++ code_of s) ++ line_feed ∷ [])
+        ((((replicate (suc n) grave_accent ++ info_string language) ++ line_feed ∷ []) ++ code_of s) ++ line_feed ∷
+        [])
         _ n refl
 
 -- ---- formulas and autolinks
 
-pub literal_formula : (mark s : List ℕ) → (mark ≡ codes "$") ⊎ (mark ≡ codes "$$") → Literal ((mark ++ s) ++ mark)
+pub literal_formula : (mark s : List ℕ) → (mark ≡ codes "$") ⊎ (mark ≡ codes "$$") → Literal
+    ((mark ++ s) ++ mark)
 literal_formula mark s (inl e) = record {
   first = 0x24;
   inner = s;

@@ -76,7 +76,8 @@ bare-push signs x b sign bare =
     (and_from (is_filled (x ++ b ∷ [])) _ (filled-push x b) (ap (is_one_of signs) (last_at x b) ∙ sign))
     (ap (λ s. not (escapes_next s)) (without_last-push x b) ∙ ap not bare)
 
-other-push : (signs x : List ℕ) (b : ℕ) → is_one_of signs b ≡ false → ends_bare signs (x ++ b ∷ []) ≡ false
+other-push : (signs x : List ℕ) (b : ℕ) → is_one_of signs b ≡ false → ends_bare signs
+    (x ++ b ∷ []) ≡ false
 other-push signs x b other =
     ap (λ t. (is_filled (x ++ b ∷ []) && t) && not (escapes_next (without_last (x ++ b ∷ []))))
     (ap (is_one_of signs) (last_at x b) ∙ other)
@@ -97,12 +98,14 @@ take_past : (y w : List ℕ) (n k : ℕ) → suc n ≡ length y + suc k → k < 
     → take (suc n) (y ++ w) ≡ (y ++ take k w) ++ get_or w k 0 ∷ []
 take_past [] (c ∷ w) n zero e l = ap (λ m. take m (c ∷ w)) e
 take_past [] (c ∷ w) zero (suc k) e l = absurd (omega (arith, e))
-take_past [] (c ∷ w) (suc n) (suc k) e l = ap (λ z. c ∷ z) (take_past [] w n k (omega (arith, e)) (omega (arith, l)))
+take_past [] (c ∷ w) (suc n) (suc k) e l =
+    ap (λ z. c ∷ z) (take_past [] w n k (omega (arith, e)) (omega (arith, l)))
 take_past [] [] n k e l = absurd (omega (arith, l))
 take_past (b ∷ y) w zero k e l = absurd (omega (arith, e))
 take_past (b ∷ y) w (suc n) k e l = ap (λ z. b ∷ z) (take_past y w n k (omega (arith, e)) l)
 
-all_at : (p : ℕ → Bool) (w : List ℕ) (k : ℕ) → list_all p w ≡ true → k < length w → p (get_or w k 0) ≡ true
+all_at : (p : ℕ → Bool) (w : List ℕ) (k : ℕ) → list_all p w ≡ true → k < length w → p
+    (get_or w k 0) ≡ true
 all_at p [] k e l = absurd (omega (arith, l))
 all_at p (b ∷ w) zero e l = (and_parts (p b) (list_all p w) e).0
 all_at p (b ∷ w) (suc k) e l = all_at p w k (and_parts (p b) (list_all p w) e).1 (omega (arith, l))
@@ -258,7 +261,8 @@ literal_stops x z bare p = record {
 }
 
 closing_no_backslash : (b : ℕ) → closing b ≡ true → (b == 0x5C) ≡ false
-closing_no_backslash b e = false_from_ne_true (b == 0x5C) (λ is. false≢true (ap closing (sym (eqb-true b 0x5C is)) ∙ e))
+closing_no_backslash b e =
+    false_from_ne_true (b == 0x5C) (λ is. false≢true (ap closing (sym (eqb-true b 0x5C is)) ∙ e))
 
 -- after it nothing is escaped
 pub stop_bare : (s : List ℕ) → Stops s → escapes false s ≡ false

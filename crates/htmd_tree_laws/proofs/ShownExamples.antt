@@ -10,11 +10,8 @@ use Rattle.htmd_tree.specs.Items.{Item}
 use Rattle.htmd_tree.specs.NumberedTrees.{NumberedTree, NumberedForest, none, more, tree_of, forest_from}
 use Rattle.htmd_tree.specs.Ancestors.{ancestors_of, ancestors_up}
 use Rattle.htmd_tree.specs.Layout.{document_items}
-use Rattle.htmd_markdown.specs.declared.fence.CodeBlockFence.TheVariants.{Tildes}
 use Rattle.htmd_walk.specs.declared.options.Options.{Options}
-use Rattle.htmd_walk.specs.declared.options.TranslationMode.TheVariants.{Guarded}
 use Rattle.htmd_walk.specs.Defaults.{default_options}
-use Rattle.htmd_walk.specs.OneLineElements.{stands_in_line, in_line_up}
 use Rattle.htmd_walk.proofs.GuardedExamples.{guarded}
 use Rattle.htmd_tree_laws.specs.Shown.{IsPart, is_caption, is_of_rows, shown, shown_of, shown_among, shown_but_later}
 use Rattle.htmd_tree_laws.specs.Shown.{shown_later, tables_fit}
@@ -104,31 +101,6 @@ guarded_formula_shows_asterisks :
     (codes "a*bc*")
 unfolding tree_of forest_from chars guarded
 guarded_formula_shows_asterisks = refl
-
--- but not in code blocks that are fenced with tildes; in a heading code is no block
-abbrev with_tildes : Options
-with_tildes = record {
-  heading_style = default_options.heading_style;
-  hr_style = default_options.hr_style;
-  br_style = default_options.br_style;
-  link_style = default_options.link_style;
-  link_reference_style = default_options.link_reference_style;
-  code_block_style = default_options.code_block_style;
-  code_block_fence = Tildes;
-  bullet_list_marker = default_options.bullet_list_marker;
-  ul_bullet_spacing = default_options.ul_bullet_spacing;
-  ol_number_spacing = default_options.ol_number_spacing;
-  preformatted_code = default_options.preformatted_code;
-  translation_mode = Guarded;
-}
-
-tildes_show_no_asterisk :
-    page_shows with_tildes
-    (leaf (codes "code") (codes "2*3") ∷ tag (codes "pre") (leaf (codes "i") (codes "4*") ∷ []) ∷
-    tag (codes "h1") (leaf (codes "pre") (codes "5*") ∷ []) ∷ say (codes "6*") ∷ [])
-    ≡ codes "2*345*6*"
-unfolding tree_of forest_from chars stands_in_line in_line_up
-tildes_show_no_asterisk = refl
 
 hidden_script_shows_nothing :
     PageShowsGuarded (leaf (codes "script") (codes "f();") ∷ say (codes "a") ∷ []) (codes "a")

@@ -32,12 +32,11 @@ use Rattle.htmd_tree_laws.proofs.LettersOfLinks.{IsTextIfAny}
 use Rattle.htmd_tree_laws.proofs.LettersOfHandlers.{SaysResult}
 use Rattle.htmd_tree_laws.proofs.ElementsByTag.{EachSays}
 use Rattle.htmd_tree_laws.proofs.FittingTrees as fitting
-use Rattle.htmd_tree_laws.proofs.KeptChains.{keeps-says}
 use Rattle.htmd_tree_laws.proofs.KeptLawsLemmas.{content_is_kept}
 use Rattle.htmd_tree.specs.ValueTrees.{AttributePair}
 use Rattle.htmd_walk.specs.Children.{content_inside}
 use Rattle.htmd_tree_laws.specs.Shown.{is_empty_element, is_one_text}
-use Rattle.htmd_tree_laws.proofs.ShownTrees.{shown_inside, in_tree, all_counted}
+use Rattle.htmd_tree_laws.proofs.ShownTrees.{shown_inside, in_tree}
 use Rattle.std.specs.Prelude.{◌&&◌, not}
 use Rattle.htmd_tree_laws.proofs.SaidChildren.{AllOf, children_are_said, text_is_said}
 use Rattle.htmd_tree_laws.proofs.LettersLawsLemmas.{values_in, plain_at}
@@ -121,7 +120,7 @@ module _ (options : Options) (pure : is_guarded options ≡ false) (alone : is_m
       ≡ shown_inside options items id name (whole && is_guarded options) children
   inside_is id name whole children =
       sym (ap (λ b. shown_inside options items id name (whole && b) children) pure
-      ∙ in_tree options items id name whole children ∙ all_counted options items pure id name _)
+      ∙ in_tree options items id name whole children)
 
   within_is_shown : (n : ℕ) → AreShown n
   unfolding written_within
@@ -184,7 +183,7 @@ content_shows : (options : Options) (items : List Item) (start : ℕ) → is_mar
     (shown options items (tree_of items start))
 content_shows options items start alone t plain l e =
     ⊎_elim
-    (λ guarded. keeps-says (content_is_kept options guarded alone items t (plain_at items plain) start l e))
+    (λ guarded. content_is_kept options guarded alone items t (plain_at items plain) start l e)
     (λ pure. content_is_shown options pure alone items t (plain_at items plain) start l e)
     (cases_Bool (is_guarded options))
 

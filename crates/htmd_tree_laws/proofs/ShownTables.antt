@@ -36,11 +36,10 @@ use Rattle.htmd_walk.specs.OtherBlocks.{hidden_tags}
 use Rattle.htmd_walk.specs.Outputs.{conversion_of, is_guarded}
 use Rattle.htmd_walk.specs.TableLayouts.{has_tag, tagged_children, table_child}
 use Rattle.htmd_walk.specs.Tables.{cell_tags, has_table_form}
-use Rattle.htmd_tree_laws.specs.Shown.{is_visible, visible, is_no_asterisk, is_in_tildes, counted_characters, is_empty_element}
-use Rattle.htmd_tree_laws.specs.Shown.{is_one_text, node_of, is_caption, is_of_rows, IsPart}
+use Rattle.htmd_tree_laws.specs.Shown.{is_visible, visible, is_empty_element, is_one_text, node_of, is_caption, is_of_rows}
 use Rattle.htmd_tree_laws.specs.Shown.{shown_of, shown_among, shown_but_later, shown_later}
-use Rattle.htmd_tree_laws.proofs.CountedTexts.{of_visible, holds-own, part-filtered}
-use Rattle.htmd_tree_laws.proofs.LettersLemmas.{Says, says-own, says-nil, says-append, says-is, says-in, says-fillers, shows-none}
+use Rattle.htmd_tree_laws.proofs.CountedTexts.{of_visible}
+use Rattle.htmd_tree_laws.proofs.LettersLemmas.{Says, says-own, says-nil, says-append, says-is, says-fillers, shows-none}
 use Rattle.htmd_tree_laws.proofs.LettersLemmas.{is_white}
 use Rattle.htmd_tree_laws.proofs.LettersLemmas.{whites_fill, whites_silent, fillers_ascii}
 use Rattle.htmd_tree_laws.proofs.LettersOfTexts.{document_of_white}
@@ -89,10 +88,6 @@ module _ (options : Options) (is_so : is_guarded options ≡ true) (items : List
       let hidden = is_tag_among hidden_tags (Some name) in
       other_part hidden guarded is_so (or_parts _ (hidden && guarded) e).1
 
-  none_counted : (in_tildes : Bool) → counted_characters in_tildes [] ≡ []
-  none_counted true = refl
-  none_counted false = refl
-
   mutual
     unseen : (tables : Bool) (tree : NumberedTree) → is_seen tree ≡ false
         → shown_of options items tables tree ≡ []
@@ -113,8 +108,7 @@ module _ (options : Options) (is_so : is_guarded options ≡ true) (items : List
         (λ (l : List ℕ). l ≡ [])
         (λ _. ap (λ z. z ++ shown_later options items inner false c) (unseen_first inner false c below)
         ∙ unseen_later inner false c below)
-        (λ _. ap (counted_characters (is_in_tildes options items id name)) (unseen_among inner c below)
-        ∙ none_counted (is_in_tildes options items id name)))
+        (λ _. unseen_among inner c below))
 
     unseen_among : (tables : Bool) (trees : NumberedForest) → are_seen trees ≡ false
         → shown_among options items tables trees ≡ []
@@ -179,13 +173,6 @@ module _ (options : Options) (is_so : is_guarded options ≡ true) (items : List
       (λ _. cond_both (is_empty_element guarded name) [] below
       (λ (l : List ℕ). Says of_visible (all_text_among c) l) (λ _. shows-none p.utf8) (λ _. p)))
 
-  -- no more of it is counted
-  fewer : (empty in_tildes : Bool) (l : List ℕ)
-      → IsPart (cond empty [] (counted_characters in_tildes l)) (cond empty [] l)
-  fewer true in_tildes l = tt
-  fewer false true l = part-filtered is_no_asterisk l
-  fewer false false l = holds-own of_visible l
-
   mutual
     all_text_shows : (tree : NumberedTree) → Fits guarded items tree
         → Says of_visible (all_text tree) (shown_of options items false tree)
@@ -196,9 +183,7 @@ module _ (options : Options) (is_so : is_guarded options ≡ true) (items : List
     all_text_shows (element id name attributes c) fit =
         let whole = not (is_one_text name attributes (view_at (conversion_of (built_in options) items) id true c)) in
         says-is (ap (λ l. cond (is_empty_element guarded name) [] l) (sym (in_tree options items id name whole c)))
-        (says-in
-        (fewer (is_empty_element guarded name) (is_in_tildes options items id name) (shown_among options items false c))
-        (inside_shows name c (all_texts_show c fit.1)))
+        (inside_shows name c (all_texts_show c fit.1))
 
     pub all_texts_show : (trees : NumberedForest) → AllFit guarded items trees
         → Says of_visible (all_text_among trees) (shown_among options items false trees)
@@ -464,11 +449,30 @@ module _ (options : Options) (is_so : is_guarded options ≡ true) (items : List
         in_order (children_of items id) (children_among items id t l) unseen_there,
       )
 
--- ---- of this many levels
+-- ---- what holds of the children of a table
 
-module _ (guarded : Bool) (items : List Item) (t : IsTree items) (n : ℕ) where
+-- of this many levels
+pub part_low : (guarded : Bool) (items : List Item) (t : IsTree items) (n d : ℕ) → d < length items
+    → has_tag row_tags items d ≡ true → IsLow guarded items n (tree_of items d)
+    → AllOf (IsLow guarded items n) (children_at items d)
+part_low guarded items t n d l part p =
+    by (data_at items d) (children_at items d) part
+    (subst (λ (tree : NumberedTree). IsLow guarded items n tree) (tree-open items d t l) p)
+  where
+    by : (here : Data) (kids : NumberedForest) → is_tag_among row_tags (tag_of here) ≡ true
+        → IsLow guarded items n (with_children d here kids) → AllOf (IsLow guarded items n) kids
+    by document_node kids part p = all_low guarded items n kids p.0 (omega (arith, p.1))
+    by doctype_node kids part p = absurd (false≢true part)
+    by (text_node s) kids part p = absurd (false≢true part)
+    by (comment_node s) kids part p = absurd (false≢true part)
+    by (element_node name attributes) kids part p = all_low guarded items n kids p.0.1 (omega (arith, p.1))
+
+-- what holds of a part of a table, or of a row, holds of its children
+module _ (items : List Item) (t : IsTree items) (Low : NumberedTree → Type 0)
+    (opens : (d : ℕ) → d < length items → has_tag row_tags items d ≡ true → Low (tree_of items d)
+    → AllOf Low (children_at items d)) where
   abbrev pub AreLow : List ℕ → Type 0
-  AreLow ds = AllOf (IsLow guarded items n) (forest_of (tree_of items) ds)
+  AreLow ds = AllOf Low (forest_of (tree_of items) ds)
 
   low_append : (xs ys : List ℕ) → AreLow xs → AreLow ys → AreLow (xs ++ ys)
   low_append [] ys p q = q
@@ -485,23 +489,9 @@ module _ (guarded : Bool) (items : List Item) (t : IsTree items) (n : ℕ) where
       let later = low_filter passes ds p.1 in
       cond_both (passes d) (d ∷ others) others AreLow (λ _. (p.0, later)) (λ _. later)
 
-  part_low : (d : ℕ) → d < length items → has_tag row_tags items d ≡ true
-      → IsLow guarded items n (tree_of items d) → AreLow (children_of items d)
-  part_low d l part p =
-      by (data_at items d) (children_at items d) part
-      (subst (λ (tree : NumberedTree). IsLow guarded items n tree) (tree-open items d t l) p)
-    where
-      by : (here : Data) (kids : NumberedForest) → is_tag_among row_tags (tag_of here) ≡ true
-          → IsLow guarded items n (with_children d here kids) → AllOf (IsLow guarded items n) kids
-      by document_node kids part p = all_low guarded items n kids p.0 (omega (arith, p.1))
-      by doctype_node kids part p = absurd (false≢true part)
-      by (text_node s) kids part p = absurd (false≢true part)
-      by (comment_node s) kids part p = absurd (false≢true part)
-      by (element_node name attributes) kids part p = all_low guarded items n kids p.0.1 (omega (arith, p.1))
-
-  cells_low : (d : ℕ) → d < length items → has_tag row_tags items d ≡ true
-      → IsLow guarded items n (tree_of items d) → AreLow (cells_of items d)
-  cells_low d l part p = low_filter (has_tag cell_tags items) (children_of items d) (part_low d l part p)
+  cells_low : (d : ℕ) → d < length items → has_tag row_tags items d ≡ true → Low (tree_of items d)
+      → AreLow (cells_of items d)
+  cells_low d l part p = low_filter (has_tag cell_tags items) (children_of items d) (opens d l part p)
 
   -- each of these rows has such cells
   abbrev HaveLowCells : List ℕ → Type 0
@@ -538,13 +528,13 @@ module _ (guarded : Bool) (items : List Item) (t : IsTree items) (n : ℕ) where
   with_rows_low in_head (d ∷ ds) s p q =
       with_rows_low in_head ds (with_row_line items in_head s d) (with_cells_low in_head (cells_of items d) s p q.0) q.1
 
-  with_child_low : (s : Lines) (d : ℕ) → d < length items → IsLow guarded items n (tree_of items d)
+  with_child_low : (s : Lines) (d : ℕ) → d < length items → Low (tree_of items d)
       → LinesLow s.lines
       → LinesLow (with_child_lines items s d).lines
   with_child_low s d l low p =
       each_line items s d (λ (now : Lines). LinesLow now.lines) (λ _. more_low s.lines (caption d) p (low, tt))
       (λ in_head part. with_rows_low in_head (tagged_children (codes "tr") items d) (with_new_group s) p
-      (rows_low (children_of items d) (children_among items d t l) (part_low d l part low)))
+      (rows_low (children_of items d) (children_among items d t l) (opens d l part low)))
       (λ part. with_cells_low false (cells_of items d) s p (cells_low d l part low)) p
 
   with_children_low : (ds : List ℕ) (s : Lines) → Among items ds → AreLow ds → LinesLow s.lines

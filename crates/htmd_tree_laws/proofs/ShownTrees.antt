@@ -23,11 +23,9 @@ use Rattle.htmd_walk.specs.Groups.{only_text, with_only_text, with_text, text_of
 use Rattle.htmd_walk.specs.Groups.{is_joinable}
 use Rattle.htmd_walk.specs.Groups.{in_front, groups_of, children_at, may_join, alike, is_em, is_strong, both_join, Joint, same_attributes}
 use Rattle.htmd_walk.specs.Handling.{ElementView}
-use Rattle.htmd_walk.specs.OneLineElements.{stands_in_line}
 use Rattle.htmd_walk.specs.Children.{descendant_tree}
 use Rattle.htmd_tree_laws.specs.Letters.{said_among, said_of_each}
-use Rattle.htmd_tree_laws.specs.Shown.{visible, is_of_tildes, uses_tildes, is_in_tildes, counted_characters, is_empty_element}
-use Rattle.htmd_tree_laws.specs.Shown.{is_one_text, shown_of}
+use Rattle.htmd_tree_laws.specs.Shown.{visible, is_empty_element, is_one_text, shown_of}
 use Rattle.htmd_tree_laws.specs.Shown.{shown_among}
 use Rattle.htmd_tree_laws.specs.Shown.{shown_but_later, shown_later, has_table, have_table, tables_fit}
 use Rattle.htmd_tree_laws.proofs.CountedTexts.{of_visible}
@@ -71,13 +69,6 @@ joins_no_table : (name : List ℕ) → may_join name ≡ true → bytes_eq name 
 joins_no_table name may =
     false_from_ne_true (bytes_eq name (codes "table"))
     (λ is. true≢false (sym may ∙ ap may_join ((bytes_eq-Decides name (codes "table")).0 is) ∙ table_is_alone))
-
--- and no code block
-joins_no_code : (name : List ℕ) → may_join name ≡ true → bytes_eq name (codes "pre") ≡ false
-unfolding is_block
-joins_no_code name may =
-    false_from_ne_true (bytes_eq name (codes "pre"))
-    (λ is. true≢false (sym may ∙ ap may_join ((bytes_eq-Decides name (codes "pre")).0 is)))
 
 -- two trees are not one text
 pub not_alone : (tree next : NumberedTree) (trees : NumberedForest) → only_text (more tree (more next trees)) ≡ None
@@ -156,59 +147,41 @@ module _ (options : Options) (items : List Item) where
   abbrev pub shown_inside : ℕ → List ℕ → Bool → NumberedForest → List ℕ
   shown_inside id name tables trees =
       cond (bytes_eq name (codes "table") && (tables && is_written_as_table items id)) (in_table tables trees)
-      (counted_characters (is_in_tildes options items id name) (shown_among options items tables trees))
+      (shown_among options items tables trees)
 
   -- what is no table shows what is in it in the tree's order
   pub no_table : (id : ℕ) (name : List ℕ) (tables : Bool) (trees : NumberedForest)
       → bytes_eq name (codes "table") ≡ false
       → shown_inside id name tables trees
-      ≡ counted_characters (is_in_tildes options items id name) (shown_among options items tables trees)
+      ≡ shown_among options items tables trees
   no_table id name tables trees other =
       ap (λ b. cond (b && (tables && is_written_as_table items id)) (in_table tables trees)
-      (counted_characters (is_in_tildes options items id name) (shown_among options items tables trees))) other
+      (shown_among options items tables trees)) other
 
   -- without tables all is in the tree's order
   pub in_tree : (id : ℕ) (name : List ℕ) (b : Bool) (trees : NumberedForest)
       → shown_inside id name (b && false) trees
-      ≡ counted_characters (is_in_tildes options items id name) (shown_among options items false trees)
+      ≡ shown_among options items false trees
   in_tree id name b trees = by b (bytes_eq name (codes "table"))
     where
       by : (b is : Bool)
           → cond (is && ((b && false) && is_written_as_table items id)) (in_table (b && false) trees)
-          (counted_characters (is_in_tildes options items id name) (shown_among options items (b && false) trees))
-          ≡ counted_characters (is_in_tildes options items id name) (shown_among options items false trees)
+          (shown_among options items (b && false) trees)
+          ≡ shown_among options items false trees
       by true true = refl
       by true false = refl
       by false true = refl
       by false false = refl
 
-  -- all counts in what is no code block
-  pub no_code : (id : ℕ) (name l : List ℕ) → bytes_eq name (codes "pre") ≡ false
-      → counted_characters (is_in_tildes options items id name) l ≡ l
-  no_code id name l other =
-      ap (λ b. counted_characters (b && (uses_tildes options && not (stands_in_line items id))) l) other
-
-  -- and in Pure
-  pub all_counted : is_guarded options ≡ false → (id : ℕ) (name l : List ℕ)
-      → counted_characters (is_in_tildes options items id name) l ≡ l
-  all_counted pure id name l =
-      ap (λ b. counted_characters (bytes_eq name (codes "pre")
-      && ((b && is_of_tildes options.code_block_fence) && not (stands_in_line items id))) l) pure
-      ∙ by (bytes_eq name (codes "pre"))
-    where
-      by : (b : Bool) → counted_characters (b && false) l ≡ l
-      by true = refl
-      by false = refl
-
   -- ---- groups
 
   one_shows : (tables : Bool) (i : ℕ) (m : List ℕ) (a : List AttributePair) (c : NumberedForest) (s : List ℕ)
-      → bytes_eq m (codes "table") ≡ false → bytes_eq m (codes "pre") ≡ false → only_text c ≡ Some s
+      → bytes_eq m (codes "table") ≡ false → only_text c ≡ Some s
       → shown_of options items tables (element i m a c) ≡ cond (is_empty_element guarded m) [] (visible s)
-  one_shows tables i m a c s other apart one =
+  one_shows tables i m a c s other one =
       let inner = not (is_one_text m a (view_at (conversion_of (built_in options) items) i true c)) && tables in
       ap (λ z. cond (is_empty_element guarded m) [] z)
-      (no_table i m inner c other ∙ no_code i m (shown_among options items inner c) apart ∙ only_shows inner c s one)
+      (no_table i m inner c other ∙ only_shows inner c s one)
 
   by_empty : (empty : Bool) (s t : List ℕ) → IsUtf8 s
       → cond empty [] (visible (s ++ t)) ≡ cond empty [] (visible s) ++ cond empty [] (visible t)
@@ -227,19 +200,16 @@ module _ (options : Options) (items : List Item) where
       let both = and_parts (may_join m && alike m n) (same_attributes a b) e in
       let names = and_parts (may_join m) (alike m n) both.0 in
       let first = joins_no_table m names.0 in
-      let apart = joins_no_code m names.0 in
       let second =
       alike_same (λ name. bytes_eq name (codes "table")) false refl refl refl refl m n names.1 ∙ first in
-      let next_apart =
-      alike_same (λ name. bytes_eq name (codes "pre")) false refl refl refl refl m n names.1 ∙ apart in
       let same = alike_same (is_empty_element guarded) false refl refl refl refl m n names.1 in
-      one_shows tables i m a (with_only_text (s ++ t) c) (s ++ t) first apart (put_only c s (s ++ t) one)
+      one_shows tables i m a (with_only_text (s ++ t) c) (s ++ t) first (put_only c s (s ++ t) one)
       ∙ by_empty (is_empty_element guarded m) s t utf8
       ∙ ap (λ empty. cond (is_empty_element guarded m) [] (visible s) ++ cond empty [] (visible t)) (sym same)
       ∙ ap (λ z. z ++ cond (is_empty_element guarded n) [] (visible t))
-      (sym (one_shows tables i m a c s first apart one))
+      (sym (one_shows tables i m a c s first one))
       ∙ ap (λ z. shown_of options items tables (element i m a c) ++ z)
-      (sym (one_shows tables j n b d t second next_apart other))
+      (sym (one_shows tables j n b d t second other))
 
   not_joined : (x : Option Joint) → both_join x None ≡ true → ⊥
   not_joined None e = false≢true e

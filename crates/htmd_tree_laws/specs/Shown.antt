@@ -1,12 +1,9 @@
 -- The law of what is shown: the characters of a page stand in its Markdown, in order, whatever is put between them.
 use Rattle.std.specs.Prelude.{◌≡◌, ◌⊎◌, ℕ, ◌<◌, Bool, true, false, not, ◌&&◌, ◌||◌, if◌then◌else◌, List, [], ◌∷◌, ◌++◌}
-use Rattle.std.specs.Prelude.{◌==◌, filter, codes, length, Option, Some, None}
+use Rattle.std.specs.Prelude.{filter, codes, length, Option, Some, None}
 use Rattle.std.specs.Char.{is_whitespace}
 use Rattle.std.specs.Option.{is_some}
 use Rattle.std.specs.Str.{chars, bytes_eq}
-use Rattle.htmd_text.specs.Characters.{asterisk}
-use Rattle.htmd_markdown.specs.declared.fence.CodeBlockFence.{CodeBlockFence}
-use Rattle.htmd_markdown.specs.declared.fence.CodeBlockFence.TheVariants.{Tildes, Backticks}
 use Rattle.htmd_tree.specs.ValueTrees.{AttributePair}
 use Rattle.htmd_tree.specs.Items.{Item, IsTree, HoldTexts}
 use Rattle.htmd_tree.specs.NumberedTrees.{NumberedTree, document, doctype, text, comment, element}
@@ -17,7 +14,6 @@ use Rattle.htmd_walk.specs.Anchors.{anchor_address, is_autolinked}
 use Rattle.htmd_walk.specs.ElementPlans.{is_tag_among}
 use Rattle.htmd_walk.specs.Elements.{view_at}
 use Rattle.htmd_walk.specs.GuardedTableLayouts.{is_or_has_row, is_written_as_table}
-use Rattle.htmd_walk.specs.OneLineElements.{stands_in_line}
 use Rattle.htmd_walk.specs.OtherBlocks.{hidden_tags}
 use Rattle.htmd_walk.specs.TableLayouts.{has_tag}
 use Rattle.htmd_walk.specs.Spans.{has_math_class}
@@ -48,33 +44,6 @@ abbrev pub is_empty_element : Bool → List ℕ → Bool
 is_empty_element guarded name =
     ((bytes_eq name (codes "br") || bytes_eq name (codes "hr")) || bytes_eq name (codes "img"))
     || (is_tag_among hidden_tags (Some name) && guarded)
-
--- ---- what isn't counted
-
-abbrev pub is_no_asterisk : ℕ → Bool
-is_no_asterisk c = not (c == asterisk)
-
-abbrev pub is_of_tildes : CodeBlockFence → Bool
-is_of_tildes Tildes = true
-is_of_tildes Backticks = false
-
--- in Guarded, code blocks are fenced with tildes
-abbrev pub uses_tildes : Options → Bool
-uses_tildes options = is_guarded options && is_of_tildes options.code_block_fence
-
--- a visible character; `*` only if no code block is fenced with tildes
-abbrev pub is_counted : Options → ℕ → Bool
-is_counted options c = is_visible c && (is_no_asterisk c || not (uses_tildes options))
-
--- the element is a code block that is fenced with tildes: it is `pre`, and doesn't stand in one line
-abbrev pub is_in_tildes : Options → List Item → ℕ → List ℕ → Bool
-is_in_tildes options items id name =
-    bytes_eq name (codes "pre") && (uses_tildes options && not (stands_in_line items id))
-
--- In such a block `*` isn't counted: where texts meet tildes are plain signs, and only the line end before them parts
--- the code from what follows.
-abbrev pub counted_characters : Bool → List ℕ → List ℕ
-counted_characters in_tildes characters = if in_tildes then filter is_no_asterisk characters else characters
 
 -- ---- what is written as one text
 
@@ -126,7 +95,7 @@ module _ (options : Options) (items : List Item) where
         if is_empty_element (is_guarded options) name then []
         else (if bytes_eq name (codes "table") && (tables_below && is_written_as_table items id)
         then shown_but_later tables_below false children ++ shown_later tables_below false children
-        else counted_characters (is_in_tildes options items id name) (shown_among tables_below children))
+        else shown_among tables_below children)
 
     pub shown_among : Bool → NumberedForest → List ℕ
     shown_among tables none = []
