@@ -2,6 +2,7 @@
 //! family `html5` of `htmd_cases`.
 use crate::calls::{called_within, expect_answer, expect_called, expect_within};
 use htmd_expected::{expect_text, expect_that};
+use std::alloc::Global;
 use std::test::Fail;
 
 const PAGE: &str = "<ul><li>a<li>b</ul><p>x<b>y<p>z";

@@ -5,4 +5,4 @@ use Rattle.htmd_piece_tests.proofs.trees.greatest_depth.Given as goal
 
 -- the last node is there, and takes a child
 abbrev pub invariant-loop : goal.invariant-loop
-invariant-loop g l = (l.last < length l.tree) × IsTrue (holds_children (data_at l.tree l.last))
+invariant-loop l = (l.last < length l.tree) × IsTrue (holds_children (data_at l.tree l.last))
