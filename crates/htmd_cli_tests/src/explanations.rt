@@ -50,8 +50,8 @@ fn expect_shown(
     shown: &str,
 ) -> Result<(), Fail> {
     let html = line_of(alloc, text, before, "&no;", behind)?;
-    let column = before + 1;
-    let place = before * text.len();
+    let column = before.saturating_add(1);
+    let place = before.saturating_mul(text.len());
     let want = format!(in alloc;
         "htmd: refused at byte {place}: UnknownReference\n\
          line 1, column {column}: {UNKNOWN}\n{shown}\n{}^\n",
@@ -77,7 +77,7 @@ fn explains_long_lines(rt: HostRuntime) -> Result<(), Fail> {
     for &(text, width, before, behind, shown_before, shown_behind) in ROWS {
         let reference = if shown_before == 99 { "&" } else { "&no;" };
         let shown = line_of(rt.alloc(), text, shown_before, reference, shown_behind)?;
-        let columns = shown_before * width;
+        let columns = shown_before.saturating_mul(width);
         expect_shown(rt.alloc(), text, before, behind, columns, shown.as_str())?;
     }
     Ok(())

@@ -135,7 +135,12 @@ fn expect_bodies(alloc: Global, front: &str, behind: &str) -> Result<(), Fail> {
         ("a\0", 1, FaultKind::Nul),
     ] {
         let page = format!(in alloc; "{front}{body}{behind}")?;
-        expect_refused(alloc, page.as_str(), front.len() + place, kind)?;
+        expect_refused(
+            alloc,
+            page.as_str(),
+            front.len().saturating_add(place),
+            kind,
+        )?;
     }
     Ok(())
 }
