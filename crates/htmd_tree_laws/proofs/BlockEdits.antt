@@ -1,30 +1,28 @@
 -- What is made of blocks that are fenced with tildes, and of the texts between them: line feeds stay, but for those at
 -- the ends, and before a text that was cut at its beginning one is put again.
-use Rattle.std.proofs.Common.{◌≡◌, ℕ, Bool, true, false, List, [], ◌∷◌, ◌++◌, length, refl, sym, ap, ◌∙◌}
-use Rattle.std.proofs.Common.{arith, subst, append_assoc, ⊎_elim, inl, inr, take, drop}
-use Rattle.std.specs.Prelude.{◌⊎◌, ◌&&◌, ◌==◌}
+use Rattle.std.proofs.Common.{◌≡◌, ℕ, Bool, true, false, List, [], ◌∷◌, ◌++◌, length, refl, sym, ap, ◌∙◌, arith}
+use Rattle.std.proofs.Common.{subst, append_assoc, ⊎_elim, inl, inr, take, drop}
+use Rattle.std.specs.Prelude.{◌⊎◌, ◌&&◌, ◌==◌, filter, ◌-◌}
 use Rattle.std.specs.List.{list_all, prefix_len, suffix_len}
 use Rattle.std.specs.Str.{IsUtf8}
 use Rattle.std.proofs.lemmas.Bool.{and_parts, and_from, cases_Bool, eqb-true, false≢true, true≢false}
 use Rattle.std.proofs.lemmas.List.{append-nil, take-append-drop}
-use Rattle.std.proofs.lemmas.Str.{IsUtf8-append}
+use Rattle.std.proofs.lemmas.Str.{IsUtf8-append, IsUtf8-from_ascii, chars-IsAscii}
+use Rattle.std.proofs.lemmas.Bool.Decides.{nat_tests}
 use Rattle.htmd_text.specs.Characters.{line_feed, tilde}
 use Rattle.htmd_text.specs.Trims.{trimmed_start, trimmed_end}
-use Rattle.htmd_tree_laws.specs.Shown.{visible, IsPart}
+use Rattle.htmd_tree_laws.specs.Shown.{visible, IsPart, is_visible}
 use Rattle.htmd_tree_laws.proofs.CountedTexts.{of_visible, part-append, part-then, holds-own}
 use Rattle.htmd_tree_laws.proofs.KeptBlocks.{KeepsBlocks, Blocks, flat, link, text_of, Hold, Block, Tail, two_cuts}
-use Rattle.htmd_tree_laws.proofs.KeptBlocks.{blocks-as, blocks-flat, blocks-link, blocks-append}
-use Rattle.htmd_tree_laws.proofs.KeptBlocks.{none_passes, all_front, all_behind, not_all, not_all_behind, is_no_tilde}
-use Rattle.std.proofs.lemmas.Bool.Decides.{nat_tests}
+use Rattle.htmd_tree_laws.proofs.KeptBlocks.{blocks-as, blocks-flat, blocks-link, blocks-append, none_passes}
+use Rattle.htmd_tree_laws.proofs.KeptBlocks.{all_front, all_behind, not_all, not_all_behind, is_no_tilde}
 use Rattle.htmd_tree_laws.proofs.KeptChains.{keeps-as, keeps-respaced, keeps-safe, keeps-says, visible_respaced}
+use Rattle.htmd_tree_laws.proofs.KeptChains.{keeps-of_nothing}
 use Rattle.htmd_tree_laws.proofs.KeptMarks.{is_safe, respaced-gone, respaced-append, respaced-same, Respaced}
 use Rattle.htmd_tree_laws.proofs.KeptMeetings.{is_of_fence}
-use Rattle.htmd_tree_laws.proofs.KeptChains.{keeps-of_nothing}
 use Rattle.htmd_tree_laws.proofs.KeptLines.{safe-append, start_white}
-use Rattle.htmd_tree_laws.proofs.LettersLemmas.{is_white, counted_append, white_ascii, whites_silent, whites_fill, fillers_ascii}
-use Rattle.std.proofs.lemmas.Str.{IsUtf8-from_ascii, chars-IsAscii}
-use Rattle.std.specs.Prelude.{filter, ◌-◌}
-use Rattle.htmd_tree_laws.specs.Shown.{is_visible}
+use Rattle.htmd_tree_laws.proofs.LettersLemmas.{is_white, counted_append, white_ascii, whites_silent, whites_fill}
+use Rattle.htmd_tree_laws.proofs.LettersLemmas.{fillers_ascii}
 use Rattle.htmd_tree_laws.proofs.Utf8Cuts.{behind_run}
 use Rattle.htmd_tree_laws.proofs.LettersOfTexts.{OfWhite, end_white}
 use Rattle.htmd_tree_laws.proofs.LinedTexts.{Lined, Turns, next_feed, lined_parts, lined_respaced}

@@ -1,6 +1,7 @@
 -- What is promised of the pieces of Markdown that Guarded writes of texts with blocks between tildes.
-use Rattle.std.proofs.Common.{◌≡◌, ℕ, zero, suc, ◌<◌, ◌≤◌, Bool, true, false, cond, List, [], ◌∷◌, ◌++◌, length, get_or, refl, sym, ap}
-use Rattle.std.proofs.Common.{◌∙◌, arith, subst, append_assoc, ⊎_elim, codes, map, Option, Some, None}
+use Rattle.std.proofs.Common.{◌≡◌, ℕ, zero, suc, ◌<◌, ◌≤◌, Bool, true, false, cond, List, [], ◌∷◌, ◌++◌, length}
+use Rattle.std.proofs.Common.{get_or, refl, sym, ap, ◌∙◌, arith, subst, append_assoc, ⊎_elim, codes, map, Option}
+use Rattle.std.proofs.Common.{Some, None}
 use Rattle.std.specs.Prelude.{fold, unwrap_or, replicate, encode_utf8, encode_utf8_all, IsUtf8}
 use Rattle.std.specs.Option.{option_map}
 use Rattle.std.specs.Char.{is_whitespace}
@@ -15,7 +16,8 @@ use Rattle.std.proofs.lemmas.Str.{IsUtf8-append, encode_ascii}
 use Rattle.htmd_text.specs.BlankLines.{blank_line, with_blank_lines}
 use Rattle.htmd_text.specs.Characters.{space, line_feed, full_stop, tilde}
 use Rattle.htmd_text.specs.Joins.{join_block, joined_blocks}
-use Rattle.htmd_text.specs.Trims.{trimmed_start, trimmed_text, is_line_feed, some_text, white_space_at_start, white_space_at_end}
+use Rattle.htmd_text.specs.Trims.{trimmed_start, trimmed_text, is_line_feed, some_text, white_space_at_start}
+use Rattle.htmd_text.specs.Trims.{white_space_at_end}
 use Rattle.htmd_text.specs.WhiteSpace.{is_document_white_space}
 use Rattle.htmd_markdown.specs.declared.emphasis.Emphasis.{Emphasis}
 use Rattle.htmd_markdown.specs.declared.list.BulletListMarker.{BulletListMarker}
@@ -24,21 +26,24 @@ use Rattle.htmd_markdown.specs.declared.fence.CodeBlockFence.TheVariants.{Tildes
 use Rattle.htmd_markdown.specs.CodeBlocks.{code_of}
 use Rattle.htmd_markdown.specs.Fences.{between_fences, fence_len, info_string}
 use Rattle.htmd_markdown.specs.GuardedCode.{guarded_code_block, code_lines, fitting_language}
-use Rattle.htmd_markdown.specs.ListItems.{list_item, bullet, bullet_marker, bullet_item, unnumbered_item, number_marker, numbered_item}
-use Rattle.htmd_markdown.specs.Lists.{Block, item, other, block_text, numbered_blocks, ordered_list_by, unnumbered_list}
-use Rattle.htmd_markdown.specs.Lists.{between_line_feeds, list_block}
+use Rattle.htmd_markdown.specs.ListItems.{list_item, bullet, bullet_marker, bullet_item, unnumbered_item}
+use Rattle.htmd_markdown.specs.ListItems.{number_marker, numbered_item}
+use Rattle.htmd_markdown.specs.Lists.{Block, item, other, block_text, numbered_blocks, ordered_list_by}
+use Rattle.htmd_markdown.specs.Lists.{unnumbered_list, between_line_feeds, list_block}
 use Rattle.htmd_markdown.specs.Quotes.{quoted_lines, quoted_content, quote}
 use Rattle.htmd_tree_laws.specs.Shown.{visible, IsPart}
-use Rattle.htmd_tree_laws.proofs.BlockEdits.{KeepsCut, blocks-lined, cut-lined, cut-behind, cut-trimmed_start, cut-trimmed_end}
-use Rattle.htmd_tree_laws.proofs.BlockEdits.{block_behind, visible_behind, seen_more, tail_cut, cut_after, white_shows}
-use Rattle.htmd_tree_laws.proofs.KeptBlocks.{KeepsBlocks, Blocks, flat, link, text_of, Hold, blocks-as, blocks-is, blocks-flat}
-use Rattle.htmd_tree_laws.proofs.KeptBlocks.{blocks-link, blocks-append, blocks-before, blocks-says, two_cuts, is_no_tilde}
+use Rattle.htmd_tree_laws.proofs.BlockEdits.{KeepsCut, blocks-lined, cut-lined, cut-behind, cut-trimmed_start}
+use Rattle.htmd_tree_laws.proofs.BlockEdits.{cut-trimmed_end, block_behind, visible_behind, seen_more, tail_cut}
+use Rattle.htmd_tree_laws.proofs.BlockEdits.{cut_after, white_shows}
+use Rattle.htmd_tree_laws.proofs.KeptBlocks.{KeepsBlocks, Blocks, flat, link, text_of, Hold, blocks-as, blocks-is}
+use Rattle.htmd_tree_laws.proofs.KeptBlocks.{blocks-flat, blocks-link, blocks-append, blocks-before, blocks-says}
+use Rattle.htmd_tree_laws.proofs.KeptBlocks.{two_cuts, is_no_tilde}
 use Rattle.htmd_tree_laws.proofs.KeptBlocks as kept
 use Rattle.htmd_tree_laws.proofs.KeptChains.{keeps-as, keeps-before, keeps-safe, keeps-says, keeps-nil}
 use Rattle.htmd_tree_laws.proofs.KeptLines.{quoted_next, quoted_is, spread, safe_many, safe-append}
 use Rattle.htmd_tree_laws.proofs.KeptMarks.{is_safe}
-use Rattle.htmd_tree_laws.proofs.KeptPieces.{IsWhite, ordinary-white, text_after, mark_safe, keeps-mark_first, keeps-mark_last}
-use Rattle.htmd_tree_laws.proofs.KeptPieces.{emphasis_parts, digits_safe, bullet_safe}
+use Rattle.htmd_tree_laws.proofs.KeptPieces.{IsWhite, ordinary-white, text_after, mark_safe, keeps-mark_first}
+use Rattle.htmd_tree_laws.proofs.KeptPieces.{keeps-mark_last, emphasis_parts, digits_safe, bullet_safe}
 use Rattle.htmd_tree_laws.proofs.CountedTexts.{of_visible, part-append, part-of_nothing, holds-own}
 use Rattle.htmd_tree_laws.proofs.LettersLemmas.{Says, counted_append, says-behind}
 use Rattle.htmd_tree_laws.proofs.LiteralPieces.{many_last}

@@ -1,22 +1,17 @@
 -- What elements show in Guarded, `*` too, is kept in what is written of them.
-use Rattle.std.proofs.Common.{◌≡◌, ℕ, Bool, true, false, cond, List, [], ◌∷◌, ◌++◌, Option, Some, None}
-use Rattle.std.proofs.Common.{drop, codes, map, refl, sym, ap, ◌∙◌, subst, inl, inr}
+use Rattle.std.proofs.Common.{◌≡◌, ℕ, Bool, true, false, cond, List, [], ◌∷◌, ◌++◌, Option, Some, None, drop, codes}
+use Rattle.std.proofs.Common.{map, refl, sym, ap, ◌∙◌, subst, inl, inr}
 use Rattle.std.specs.Prelude.{◌⊎◌, ◌&&◌, ◌||◌, not}
 use Rattle.std.specs.Option.{is_some}
 use Rattle.std.specs.Str.{IsUtf8, bytes_eq}
 use Rattle.std.specs.List.{list_any}
-use Rattle.std.proofs.lemmas.Bool.{cond_both, cond-false, cond-true, or_from, or_parts, and_left, true≢false, and_parts}
-use Rattle.std.proofs.lemmas.Bool.{not-true}
+use Rattle.std.proofs.lemmas.Bool.{cond_both, cond-false, cond-true, or_from, or_parts, and_left, true≢false}
+use Rattle.std.proofs.lemmas.Bool.{and_parts, not-true}
 use Rattle.std.proofs.Math.Bool.{and_comm}
 use Rattle.std.proofs.lemmas.Slice.Eq.{bytes_eq-Decides}
 use Rattle.htmd_text.specs.BlankLines.{with_blank_lines}
 use Rattle.htmd_text.specs.Trims.{trimmed_text}
 use Rattle.htmd_text.specs.WhiteSpace.{is_document_white_space}
-use Rattle.htmd_tree.specs.Items.{Item, data_at, children_of}
-use Rattle.htmd_tree.specs.Items as tree
-use Rattle.htmd_tree.specs.ValueTrees.{AttributePair}
-use Rattle.htmd_tree.specs.NumberedTrees.{NumberedTree, NumberedForest}
-use Rattle.htmd_tree.specs.Ancestors.{Ancestor, ancestor_of}
 use Rattle.htmd_markdown.specs.GuardedLinks.{guarded_image, guarded_autolink, guarded_link, is_barred}
 use Rattle.htmd_markdown.specs.declared.fence.CodeBlockFence.{CodeBlockFence}
 use Rattle.htmd_markdown.specs.declared.fence.CodeBlockFence.TheVariants.{Tildes, Backticks}
@@ -24,12 +19,17 @@ use Rattle.htmd_markdown.specs.GuardedCode.{guarded_code_block}
 use Rattle.htmd_markdown.specs.LineBreaks.{line_break}
 use Rattle.htmd_markdown.specs.Lists.{Block, block_text, guarded_first_number, highest_number}
 use Rattle.htmd_markdown.specs.ListItems.{guarded_spaces}
-use Rattle.htmd_walk.proofs.TableOrdersLemmas.{lines_in_order}
-use Rattle.htmd_walk.specs.declared.options.LinkStyle.{LinkStyle}
-use Rattle.htmd_walk.specs.declared.options.LinkStyle.TheVariants.{Inlined, InlinedPreferAutolinks, Referenced}
 use Rattle.htmd_markdown.specs.declared.thematic_break.HrStyle.{HrStyle}
 use Rattle.htmd_markdown.specs.declared.thematic_break.HrStyle.TheVariants.{Dashes, Asterisks, Underscores}
 use Rattle.htmd_markdown.specs.ThematicBreaks.{thematic_break}
+use Rattle.htmd_tree.specs.Items.{Item, data_at, children_of}
+use Rattle.htmd_tree.specs.Items as tree
+use Rattle.htmd_tree.specs.ValueTrees.{AttributePair}
+use Rattle.htmd_tree.specs.NumberedTrees.{NumberedTree, NumberedForest}
+use Rattle.htmd_tree.specs.Ancestors.{Ancestor, ancestor_of}
+use Rattle.htmd_walk.proofs.TableOrdersLemmas.{lines_in_order}
+use Rattle.htmd_walk.specs.declared.options.LinkStyle.{LinkStyle}
+use Rattle.htmd_walk.specs.declared.options.LinkStyle.TheVariants.{Inlined, InlinedPreferAutolinks, Referenced}
 use Rattle.htmd_walk.specs.declared.options.Options.{Options}
 use Rattle.htmd_walk.specs.AllText.{text_or_all, all_text_of}
 use Rattle.htmd_walk.specs.Anchors.{anchors, anchor_address, finish_at, guarded_link_finish, is_autolinked}
@@ -39,9 +39,10 @@ use Rattle.htmd_walk.specs.Children.{content_inside, content_alone, descendant_t
 use Rattle.htmd_walk.specs.Choice.{indexes, handlers_at}
 use Rattle.htmd_walk.specs.Code.{code, guarded_code_plan}
 use Rattle.htmd_walk.specs.Preformatted.{preformatted_texts, guarded_preformatted, guarded_language}
-use Rattle.htmd_walk.specs.ElementPlans.{tag_of, attributes_of, ancestors_of, markdown_plan, is_tag_among, unless_faithful}
-use Rattle.htmd_walk.specs.Elements.{Occurrence, Answer, content_of, contents_alone, plan_answer, answer_after, first_answer}
-use Rattle.htmd_walk.specs.Elements.{occurrence_at, with_finish, without_handler, answer_of}
+use Rattle.htmd_walk.specs.ElementPlans.{tag_of, attributes_of, ancestors_of, markdown_plan, is_tag_among}
+use Rattle.htmd_walk.specs.ElementPlans.{unless_faithful}
+use Rattle.htmd_walk.specs.Elements.{Occurrence, Answer, content_of, contents_alone, plan_answer, answer_after}
+use Rattle.htmd_walk.specs.Elements.{first_answer, occurrence_at, with_finish, without_handler, answer_of}
 use Rattle.htmd_walk.specs.Groups.{only_text, children_at}
 use Rattle.htmd_walk.specs.GuardedTableLayouts.{is_written_as_table, table_lines, nodes_of_lines}
 use Rattle.htmd_walk.specs.Handling.{PlanView, ResultView, nothing, content_of_children, contents_of_each}
@@ -58,21 +59,25 @@ use Rattle.htmd_walk.specs.Spans.{spans, formula_mark, formula_plan, is_read_in_
 use Rattle.htmd_walk.specs.TableElements.{tables, table_plan, is_left_out}
 use Rattle.htmd_walk.specs.ThematicBreaks.{thematic_breaks, thematic_break_plan, thematic_break_style_of}
 use Rattle.htmd_tree_laws.specs.Letters.{said_of_each, prefers_autolinks}
-use Rattle.htmd_tree_laws.specs.Shown.{is_empty_element, is_autolink, is_formula, is_one_text, shown, shown_among, visible}
+use Rattle.htmd_tree_laws.specs.Shown.{is_empty_element, is_autolink, is_formula, is_one_text, shown, shown_among}
+use Rattle.htmd_tree_laws.specs.Shown.{visible}
 use Rattle.htmd_tree_laws.proofs.CountedTexts.{of_visible}
-use Rattle.htmd_tree_laws.proofs.ElementsByTag.{IsOnly, is_named, IsPlain, by_tag, unhandled_answer, child_text, guarded_language_is_text}
+use Rattle.htmd_tree_laws.proofs.ElementsByTag.{IsOnly, is_named, IsPlain, by_tag, unhandled_answer, child_text}
+use Rattle.htmd_tree_laws.proofs.ElementsByTag.{guarded_language_is_text}
 use Rattle.htmd_tree_laws.proofs.BlockPieces.{blocks-tildes}
 use Rattle.htmd_tree_laws.proofs.KeptBlocks.{KeepsBlocks, blocks-flat}
 use Rattle.htmd_tree_laws.proofs.KeptLines.{keeps-blank_lines}
 use Rattle.htmd_tree_laws.proofs.KeptMarks.{Ordinary}
 use Rattle.htmd_tree_laws.proofs.KeptChains.{Keeps, keeps-is, keeps-nil, keeps-safe, keeps-ordinary}
 use Rattle.htmd_tree_laws.proofs.KeptPieces.{keeps-guarded_link, keeps-guarded_reference, keeps-guarded_autolink}
-use Rattle.htmd_tree_laws.proofs.KeptPieces.{keeps-guarded_code, closed-image, keeps-guarded_span, keeps-backticks, keeps-formula}
-use Rattle.htmd_tree_laws.proofs.KeptPlaces.{KeepsIn, in-flat, in-less, in-line, in-is, in-as, in-wrapped, AllIn, all-nil, all-more}
-use Rattle.htmd_tree_laws.proofs.KeptPlaces.{in-ordered, in-unnumbered_list}
+use Rattle.htmd_tree_laws.proofs.KeptPieces.{keeps-guarded_code, closed-image, keeps-guarded_span, keeps-backticks}
+use Rattle.htmd_tree_laws.proofs.KeptPieces.{keeps-formula}
+use Rattle.htmd_tree_laws.proofs.KeptPlaces.{KeepsIn, in-flat, in-less, in-line, in-is, in-as, in-wrapped, AllIn}
+use Rattle.htmd_tree_laws.proofs.KeptPlaces.{all-nil, all-more, in-ordered, in-unnumbered_list}
 use Rattle.htmd_tree_laws.proofs.KeptTables.{KeepEach, keeps-guarded_table}
 use Rattle.htmd_tree_laws.proofs.LettersLemmas.{Says, shows-none, says-as}
-use Rattle.htmd_tree_laws.proofs.LettersOfGuarded.{says-guarded_resource, says-guarded_block, fitting_is_text, says-guarded_image}
+use Rattle.htmd_tree_laws.proofs.LettersOfGuarded.{says-guarded_resource, says-guarded_block, fitting_is_text}
+use Rattle.htmd_tree_laws.proofs.LettersOfGuarded.{says-guarded_image}
 use Rattle.htmd_tree_laws.proofs.LettersOfHandlers.{KeepsResult, KeepsContent, AreValues, last_is_text, keeps-listed}
 use Rattle.htmd_tree_laws.proofs.LettersOfHandlers.{says-formula, formula_marks_fill}
 use Rattle.htmd_tree_laws.proofs.LettersOfLinks.{IsTextIfAny}

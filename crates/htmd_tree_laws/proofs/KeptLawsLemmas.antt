@@ -1,25 +1,26 @@
 -- In Guarded what a tree shows stands in what is written of it, `*` too.
 use Rattle.std.proofs.Common.{◌≡◌, ℕ, zero, suc, ◌<◌, ◌≤◌, Bool, true, false, List, [], ◌∷◌, ◌++◌, length, Option}
 use Rattle.std.proofs.Common.{Some, None, cond, codes, refl, sym, ap, ◌∙◌, arith, subst, ⊎_elim}
-use Rattle.std.proofs.lemmas.Bool.{cond_both}
+use Rattle.std.proofs.lemmas.Bool.{cond_both, true≢false, or_cases, and_parts}
 use Rattle.std.proofs.lemmas.List.{append-nil}
-use Rattle.htmd_text.specs.Trims.{is_line_feed}
-use Rattle.htmd_text.specs.WhiteSpace.{is_document_white_space}
-use Rattle.htmd_tree.specs.Items.{Item, data_at, children_of, IsTree, HoldsText}
-use Rattle.htmd_tree.specs.NumberedTrees.{NumberedTree, document, doctype, text, comment, element, NumberedForest, none, more}
-use Rattle.htmd_tree.specs.NumberedTrees.{forest_of, tree_of, height, tallest}
-use Rattle.htmd_tree.specs.Ancestors.{Ancestor, ancestor_of, ancestors_of}
-use Rattle.htmd_text.specs.Blocks.{is_block}
-use Rattle.htmd_walk.specs.LinkAttributes.{is_among, last_value}
-use Rattle.htmd_walk.specs.OneLineElements.{heading_tags, is_link, is_one_line_tag, is_in_one_line, stands_in_line}
 use Rattle.std.specs.Option.{is_some}
 use Rattle.std.specs.Str.{bytes_eq}
 use Rattle.std.proofs.lemmas.Slice.Eq.{bytes_eq-Decides}
-use Rattle.htmd_tree_laws.proofs.ElementsByTag.{among}
+use Rattle.std.specs.Prelude.{◌&&◌, ◌||◌, not}
+use Rattle.htmd_text.specs.Trims.{is_line_feed}
+use Rattle.htmd_text.specs.WhiteSpace.{is_document_white_space}
+use Rattle.htmd_text.specs.Blocks.{is_block}
+use Rattle.htmd_tree.specs.Items.{Item, data_at, children_of, IsTree, HoldsText}
+use Rattle.htmd_tree.specs.NumberedTrees.{NumberedTree, document, doctype, text, comment, element, NumberedForest}
+use Rattle.htmd_tree.specs.NumberedTrees.{none, more, forest_of, tree_of, height, tallest}
+use Rattle.htmd_tree.specs.Ancestors.{Ancestor, ancestor_of, ancestors_of}
 use Rattle.htmd_tree.proofs.NumberedTreesLemmas.{height_pos}
+use Rattle.htmd_tree.specs.ValueTrees.{AttributePair}
+use Rattle.htmd_walk.specs.LinkAttributes.{is_among, last_value}
+use Rattle.htmd_walk.specs.OneLineElements.{heading_tags, is_link, is_one_line_tag, is_in_one_line, stands_in_line}
 use Rattle.htmd_walk.specs.declared.options.Options.{Options}
 use Rattle.htmd_walk.specs.BuiltIn.{built_in}
-use Rattle.htmd_walk.specs.Children.{write_groups, content_alone, descendant_tree, trims_first}
+use Rattle.htmd_walk.specs.Children.{write_groups, content_alone, descendant_tree, trims_first, content_inside}
 use Rattle.htmd_walk.specs.Elements.{answer_after, occurrence_at}
 use Rattle.htmd_walk.specs.AllText.{text_or_all, all_text_among}
 use Rattle.htmd_walk.specs.CaptionsAndCells.{captions_and_cells}
@@ -30,9 +31,10 @@ use Rattle.htmd_walk.specs.Markdown.{walked_content}
 use Rattle.htmd_walk.specs.OrdinaryText.{in_pre_or_code}
 use Rattle.htmd_walk.specs.Outputs.{Conversion, conversion_of, Output, Context, context_of, empty_output, is_guarded}
 use Rattle.htmd_walk.specs.Outputs.{is_markdown_alone}
-use Rattle.htmd_walk.specs.Rendering.{with_result, written_within}
-use Rattle.htmd_tree_laws.specs.Shown.{visible, shown, shown_of, shown_among}
-use Rattle.htmd_tree_laws.specs.Shown.{tables_fit}
+use Rattle.htmd_walk.specs.Rendering.{with_result, written_within, write_text}
+use Rattle.htmd_tree_laws.proofs.ElementsByTag.{among}
+use Rattle.htmd_tree_laws.specs.Shown.{visible, shown, shown_of, shown_among, tables_fit, is_empty_element}
+use Rattle.htmd_tree_laws.specs.Shown.{is_one_text}
 use Rattle.htmd_tree_laws.proofs.CountedTexts.{of_visible}
 use Rattle.htmd_tree_laws.proofs.LettersLemmas.{Says, says-own, says-is}
 use Rattle.htmd_tree_laws.proofs.LettersOfTexts.{document_of_white, line_feed_of_white, says-trimmed}
@@ -46,16 +48,10 @@ use Rattle.htmd_tree_laws.proofs.LinePlaces.{InLine, AllInLine, groups_in_line, 
 use Rattle.htmd_tree_laws.proofs.KeptTexts.{text_is_kept, children_are_kept}
 use Rattle.htmd_tree_laws.proofs.KeptElements.{EachKeeps, element_keeps}
 use Rattle.htmd_tree_laws.proofs.LettersOfHandlers.{KeepsResult}
-use Rattle.htmd_walk.specs.Children.{content_inside}
-use Rattle.htmd_walk.specs.Rendering.{write_text}
-use Rattle.htmd_tree.specs.ValueTrees.{AttributePair}
-use Rattle.htmd_tree_laws.specs.Shown.{is_empty_element, is_one_text}
-use Rattle.htmd_tree_laws.proofs.ShownTrees.{shown_inside}
-use Rattle.std.specs.Prelude.{◌&&◌, ◌||◌, not}
-use Rattle.std.proofs.lemmas.Bool.{true≢false, or_cases, and_parts}
+use Rattle.htmd_tree_laws.proofs.ShownTrees.{shown_inside, AllFit, Lies, lies_still, IsLow, all_low, same_among}
+use Rattle.htmd_tree_laws.proofs.ShownTrees.{only_shows, groups_lower, in_table, groups_show, tree_fits, each_shown}
+use Rattle.htmd_tree_laws.proofs.ShownTrees.{ol_is_alone, table_is_alone}
 use Rattle.htmd_tree_laws.proofs.LettersLawsLemmas.{values_in}
-use Rattle.htmd_tree_laws.proofs.ShownTrees.{AllFit, Lies, lies_still, IsLow, all_low, same_among, only_shows, groups_lower}
-use Rattle.htmd_tree_laws.proofs.ShownTrees.{in_table, groups_show, tree_fits, each_shown, ol_is_alone, table_is_alone}
 use Rattle.htmd_tree_laws.proofs.ShownTables.{all_texts_show, table_shows, lines_low, part_low}
 
 -- headings and links join with nothing

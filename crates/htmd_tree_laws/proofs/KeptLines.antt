@@ -1,6 +1,7 @@
 -- Texts that are cut at their ends, put together at a seam or written line by line: only white space is exchanged.
-use Rattle.std.proofs.Common.{◌≡◌, ℕ, zero, suc, ◌+◌, ◌-◌, Bool, true, false, cond, List, [], ◌∷◌, ◌++◌, length, take, drop}
-use Rattle.std.proofs.Common.{refl, sym, ap, ◌∙◌, arith, subst, append_assoc, ⊎_elim, inl, inr, codes, map, min, max}
+use Rattle.std.proofs.Common.{◌≡◌, ℕ, zero, suc, ◌+◌, ◌-◌, Bool, true, false, cond, List, [], ◌∷◌, ◌++◌, length, take}
+use Rattle.std.proofs.Common.{drop, refl, sym, ap, ◌∙◌, arith, subst, append_assoc, ⊎_elim, inl, inr, codes, map, min}
+use Rattle.std.proofs.Common.{max}
 use Rattle.std.specs.Prelude.{◌&&◌, ◌==◌, nat_lt, filter, replicate, slice_index}
 use Rattle.std.specs.List.{list_all, flat_map, slice_split, onto_first, prefix_len, suffix_len}
 use Rattle.std.specs.Str.Lines.{lines, lines_of_parts, strip_carriage_return}
@@ -18,13 +19,14 @@ use Rattle.htmd_markdown.specs.OneLine.{with_spaces_between, one_line}
 use Rattle.htmd_markdown.specs.Quotes.{quoted_line, quoted_lines, quoted_content, quote}
 use Rattle.htmd_markdown.specs.Titles.{is_filled}
 use Rattle.htmd_walk.specs.Seams.{joined_at_seam, begins_with_space, ends_with_space}
-use Rattle.htmd_tree_laws.proofs.KeptMarks.{Respaced, Swaps, respaced-same, respaced-append, respaced-gone, respaced-for}
-use Rattle.htmd_tree_laws.proofs.KeptMarks.{is_safe, parts_of}
+use Rattle.htmd_tree_laws.proofs.KeptMarks.{Respaced, Swaps, respaced-same, respaced-append, respaced-gone}
+use Rattle.htmd_tree_laws.proofs.KeptMarks.{respaced-for, is_safe, parts_of}
 use Rattle.htmd_tree_laws.proofs.KeptChains.{Keeps, keeps-append, keeps-is, keeps-as, keeps-respaced, keeps-safe}
 use Rattle.htmd_tree_laws.proofs.KeptChains.{keeps-behind, keeps-before, keeps-of_nothing}
 use Rattle.htmd_tree_laws.proofs.LettersLemmas.{is_white}
 use Rattle.htmd_tree_laws.proofs.LettersOfLines.{some_part, last_reads}
-use Rattle.htmd_tree_laws.proofs.LettersOfTexts.{OfWhite, document_of_white, line_feed_of_white, space_of_white, end_white}
+use Rattle.htmd_tree_laws.proofs.LettersOfTexts.{OfWhite, document_of_white, line_feed_of_white, space_of_white}
+use Rattle.htmd_tree_laws.proofs.LettersOfTexts.{end_white}
 use Rattle.htmd_tree_laws.proofs.TextEnds.{end_passes}
 
 -- ---- one exchange after another

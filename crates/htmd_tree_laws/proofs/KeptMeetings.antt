@@ -1,37 +1,40 @@
 -- Where two texts meet in Guarded, code, formulas and autolinks in them stay whole: only the ordinary texts at the ends
 -- that meet change.
 use Rattle.std.proofs.Common.{◌≡◌, ℕ, zero, suc, ◌+◌, ◌-◌, ◌<◌, ◌≤◌, Bool, true, false, cond, List, [], ◌∷◌, ◌++◌}
-use Rattle.std.proofs.Common.{length, get_or, take, drop, codes, refl, sym, ap, ◌∙◌, arith, subst, append_assoc, ⊎_elim, inl, inr}
+use Rattle.std.proofs.Common.{length, get_or, take, drop, codes, refl, sym, ap, ◌∙◌, arith, subst, append_assoc}
+use Rattle.std.proofs.Common.{⊎_elim, inl, inr}
 use Rattle.std.specs.Prelude.{◌⊎◌, ◌&&◌, ◌||◌, ◌==◌, not, nat_lt, reverse, encode_utf8, encode_utf8_all}
 use Rattle.std.specs.Char.{is_ascii_punctuation}
 use Rattle.std.specs.List.{list_all, prefix_len, suffix_len}
 use Rattle.std.proofs.Math.Seq.{get_or-append_seam}
 use Rattle.std.specs.Str.{chars, IsUtf8, IsCharBoundary}
-use Rattle.std.proofs.lemmas.Bool.{and_parts, and_from, or_from, or_cases, cond_both, eqb-true, false≢true, false_from_ne_true}
-use Rattle.std.proofs.lemmas.Bool.{cases_lt, ltb-true}
+use Rattle.std.proofs.lemmas.Bool.{and_parts, and_from, or_from, or_cases, cond_both, eqb-true, false≢true}
+use Rattle.std.proofs.lemmas.Bool.{false_from_ne_true, cases_lt, ltb-true}
 use Rattle.std.proofs.lemmas.Bool.Decides.{nat_tests}
-use Rattle.std.proofs.lemmas.List.{append-nil, length-append, length-take-le, length-drop, reverse-append, reverse-reverse}
-use Rattle.std.proofs.lemmas.List.{take-append-le, drop-append-le}
+use Rattle.std.proofs.lemmas.List.{append-nil, length-append, length-take-le, length-drop, reverse-append}
+use Rattle.std.proofs.lemmas.List.{reverse-reverse, take-append-le, drop-append-le}
 use Rattle.std.proofs.lemmas.List.Sums.{suffix_len-le-length, prefix_len-le-length}
 use Rattle.std.proofs.lemmas.Str.{encodes-chars, chars-append, chars_past_char, encode_ascii, IsUtf8-drop}
 use Rattle.std.proofs.lemmas.Str.{IsUtf8-append, IsUtf8-nil, IsCharBoundary-from_drop}
 use Rattle.unicode.proofs.CategoryComputing.{ucd_category}
 use Rattle.htmd_text.specs.Characters.{exclamation_mark, line_feed, tilde, is_one_of}
 use Rattle.htmd_markdown.specs.CodeSpans.{ends_with}
-use Rattle.htmd_markdown.specs.Joints.{is_asterisk, ending_run, beginning_run, plain_start, plain_end, ends, Ends, escapes_next}
-use Rattle.htmd_markdown.specs.Joints.{joint_between, joint_at_start, joint_at_end, joint_of_runs, begins_word, ends_word, are_alike}
-use Rattle.htmd_markdown.specs.Joints.{is_run_misplaced, has_no_run, meets_bracket, backquotes_meet, is_word_character}
-use Rattle.htmd_markdown.specs.Joints.{mended, mended_ends, first_character, last_character, plain_signs, plain_signs_back, is_plain_at}
-use Rattle.htmd_markdown.specs.Joints.{is_plain_behind, is_plain_sign, word_first, with_joint}
+use Rattle.htmd_markdown.specs.Joints.{is_asterisk, ending_run, beginning_run, plain_start, plain_end, ends, Ends}
+use Rattle.htmd_markdown.specs.Joints.{escapes_next, joint_between, joint_at_start, joint_at_end, joint_of_runs}
+use Rattle.htmd_markdown.specs.Joints.{begins_word, ends_word, are_alike, is_run_misplaced, has_no_run, meets_bracket}
+use Rattle.htmd_markdown.specs.Joints.{backquotes_meet, is_word_character, mended, mended_ends, first_character}
+use Rattle.htmd_markdown.specs.Joints.{last_character, plain_signs, plain_signs_back, is_plain_at, is_plain_behind}
+use Rattle.htmd_markdown.specs.Joints.{is_plain_sign, word_first, with_joint}
 use Rattle.htmd_markdown.specs.Titles.{is_filled}
 use Rattle.htmd_markdown.proofs.JointCutsLemmas.{plain_end-cut, plain_start-cut, ending_run-cut}
 use Rattle.htmd_tree_laws.proofs.JointMarks.{escapes, escapes-append, escapes-is, end_bare, turned, turned-more}
 use Rattle.htmd_tree_laws.proofs.KeptMarks.{even, Ordinary, ordinary-safe, chars-safe, is_safe}
 use Rattle.htmd_tree_laws.proofs.KeptMarks as marks
-use Rattle.htmd_tree_laws.proofs.KeptChains.{Chain, one, link, Fits, Closed, stays, first_of, rest_of, last_of, front_of}
-use Rattle.htmd_tree_laws.proofs.KeptChains.{first_whole, last_whole, first_fits, last_fits, text_of, Keeps, keeps-joined, keeps-as, chain_says}
-use Rattle.htmd_tree_laws.proofs.KeptJoints.{Agree, agree-ends, bare, same, spaced, marked, runs_go, start_moves, start_loses}
-use Rattle.htmd_tree_laws.proofs.KeptJoints.{end_moves, end_loses, before_keeps, rest_keeps}
+use Rattle.htmd_tree_laws.proofs.KeptChains.{Chain, one, link, Fits, Closed, stays, first_of, rest_of, last_of}
+use Rattle.htmd_tree_laws.proofs.KeptChains.{front_of, first_whole, last_whole, first_fits, last_fits, text_of, Keeps}
+use Rattle.htmd_tree_laws.proofs.KeptChains.{keeps-joined, keeps-as, chain_says}
+use Rattle.htmd_tree_laws.proofs.KeptJoints.{Agree, agree-ends, bare, same, spaced, marked, runs_go, start_moves}
+use Rattle.htmd_tree_laws.proofs.KeptJoints.{start_loses, end_moves, end_loses, before_keeps, rest_keeps}
 use Rattle.htmd_tree_laws.proofs.Literals.{Stops, literal_stops, stop_bare, opens, closing}
 use Rattle.htmd_tree_laws.proofs.Utf8Cuts.{cut_before}
 

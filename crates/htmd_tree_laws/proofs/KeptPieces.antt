@@ -1,22 +1,22 @@
 -- What is promised of the pieces of Markdown that Guarded writes.
 use Rattle.std.proofs.Common.{◌≡◌, ℕ, zero, suc, ◌-◌, ◌<◌, ◌≤◌, Bool, true, false, cond, List, [], ◌∷◌, ◌++◌, length}
-use Rattle.std.proofs.Common.{take, drop, get_or, refl, sym, ap, ◌∙◌, arith, subst, append_assoc, ⊎_elim, inl, inr, codes, map}
-use Rattle.std.proofs.Common.{Option, Some, None}
-use Rattle.std.specs.Prelude.{◌&&◌, ◌||◌, ◌==◌, ◌%◌, ◌/◌, not, nat_lt, nat_le, filter, fold, unwrap_or, encode_utf8_all}
-use Rattle.std.specs.Prelude.{◌⊎◌, encode_utf8}
+use Rattle.std.proofs.Common.{take, drop, get_or, refl, sym, ap, ◌∙◌, arith, subst, append_assoc, ⊎_elim, inl, inr}
+use Rattle.std.proofs.Common.{codes, map, Option, Some, None}
+use Rattle.std.specs.Prelude.{◌&&◌, ◌||◌, ◌==◌, ◌%◌, ◌/◌, not, nat_lt, nat_le, filter, fold, unwrap_or}
+use Rattle.std.specs.Prelude.{encode_utf8_all, ◌⊎◌, encode_utf8}
 use Rattle.std.specs.Option.{option_map}
 use Rattle.std.specs.Char.{is_whitespace}
 use Rattle.std.specs.Fmt.{decimal, digits, digits_onto, digit_glyph}
 use Rattle.std.specs.List.{list_all, list_any, flat_map}
-use Rattle.std.specs.Str.{chars, IsUtf8, all_scalars, trim, trim_start, trim_end}
-use Rattle.std.specs.Str.{skip_leading_whitespace, drop_trailing_whitespace}
-use Rattle.std.proofs.lemmas.Bool.{not-true, and_parts, and_from, cond_both, cond-false, or_parts, false≢true, eqb-true}
-use Rattle.std.proofs.lemmas.Bool.{false_from_ne_true, agree_below_at, ltb-true, cases_lt}
+use Rattle.std.specs.Str.{chars, IsUtf8, all_scalars, trim, trim_start, trim_end, skip_leading_whitespace}
+use Rattle.std.specs.Str.{drop_trailing_whitespace}
+use Rattle.std.proofs.lemmas.Bool.{not-true, and_parts, and_from, cond_both, cond-false, or_parts, false≢true}
+use Rattle.std.proofs.lemmas.Bool.{eqb-true, false_from_ne_true, agree_below_at, ltb-true, cases_lt}
 use Rattle.std.proofs.lemmas.Bool.Decides.{nat_tests}
 use Rattle.std.proofs.lemmas.List.{append-nil}
 use Rattle.std.proofs.lemmas.Nat.{mod_below}
-use Rattle.std.proofs.lemmas.Str.{chars-encodes, encodes-append, encodes-chars, scalars-chars, chars-append, encode_ascii}
-use Rattle.std.proofs.lemmas.Str.{IsUtf8-append, IsUtf8-past_char}
+use Rattle.std.proofs.lemmas.Str.{chars-encodes, encodes-append, encodes-chars, scalars-chars, chars-append}
+use Rattle.std.proofs.lemmas.Str.{encode_ascii, IsUtf8-append, IsUtf8-past_char}
 use Rattle.htmd_text.specs.BlankLines.{with_blank_lines}
 use Rattle.htmd_text.specs.Characters.{space, line_feed, full_stop, hyphen, backslash}
 use Rattle.htmd_text.specs.Joins.{join_block, joined_blocks}
@@ -37,36 +37,38 @@ use Rattle.htmd_markdown.specs.GuardedTitles.{guarded_title_text}
 use Rattle.htmd_markdown.specs.GuardedCode.{code_line, span_text, spaced_span, guarded_code, guarded_span_in_line}
 use Rattle.htmd_markdown.specs.GuardedCode.{guarded_code_block, code_lines, fitting_language}
 use Rattle.htmd_markdown.specs.GuardedLinks.{guarded_link_text, guarded_resource, guarded_link, guarded_image}
-use Rattle.htmd_markdown.specs.GuardedLinks.{guarded_reference, guarded_autolink, is_space_before, ends_white, guarded_description, is_barred}
-use Rattle.htmd_markdown.specs.Headings.{atx, underline, setext, styled_heading, heading, guarded_style, guarded_heading}
+use Rattle.htmd_markdown.specs.GuardedLinks.{guarded_reference, guarded_autolink, is_space_before, ends_white}
+use Rattle.htmd_markdown.specs.GuardedLinks.{guarded_description, is_barred}
+use Rattle.htmd_markdown.specs.Headings.{atx, underline, setext, styled_heading, heading, guarded_style}
+use Rattle.htmd_markdown.specs.Headings.{guarded_heading}
 use Rattle.htmd_markdown.specs.Joints.{is_asterisk, is_backslash}
 use Rattle.htmd_markdown.specs.Links.{in_brackets}
-use Rattle.htmd_markdown.specs.ListItems.{list_item, bullet, bullet_marker, bullet_item, unnumbered_item, number_marker}
-use Rattle.htmd_markdown.specs.ListItems.{numbered_item}
-use Rattle.htmd_markdown.specs.Lists.{Block, item, other, block_text, numbered_blocks, ordered_list_by, unnumbered_list}
-use Rattle.htmd_markdown.specs.Lists.{between_line_feeds, list_block}
+use Rattle.htmd_markdown.specs.ListItems.{list_item, bullet, bullet_marker, bullet_item, unnumbered_item}
+use Rattle.htmd_markdown.specs.ListItems.{number_marker, numbered_item}
+use Rattle.htmd_markdown.specs.Lists.{Block, item, other, block_text, numbered_blocks, ordered_list_by}
+use Rattle.htmd_markdown.specs.Lists.{unnumbered_list, between_line_feeds, list_block}
 use Rattle.htmd_markdown.specs.OneLine.{one_line}
 use Rattle.htmd_markdown.specs.Titles.{is_filled}
 use Rattle.htmd_tree_laws.specs.Shown.{is_visible, IsPart}
 use Rattle.htmd_tree_laws.proofs.CountedTexts.{of_visible, part-append, holds-own}
 use Rattle.htmd_tree_laws.proofs.KeptMarks.{State, even, odd, blank, step, kept, ends, seen, ends-append, seen-append}
-use Rattle.htmd_tree_laws.proofs.KeptMarks.{is_safe, ends-safe, chars-safe, plain_step, step-even, Ordinary, ordinary-append}
-use Rattle.htmd_tree_laws.proofs.KeptMarks.{ordinary-safe}
+use Rattle.htmd_tree_laws.proofs.KeptMarks.{is_safe, ends-safe, chars-safe, plain_step, step-even, Ordinary}
+use Rattle.htmd_tree_laws.proofs.KeptMarks.{ordinary-append, ordinary-safe}
 use Rattle.htmd_tree_laws.proofs.KeptMarks as marks
-use Rattle.htmd_tree_laws.proofs.KeptChains.{Keeps, keeps-append, keeps-is, keeps-as, keeps-safe, keeps-behind, keeps-before}
-use Rattle.htmd_tree_laws.proofs.KeptChains.{keeps-nil, keeps-of_nothing, keeps-ordinary, keeps-literal, keeps-first, keeps-last, keeps-says}
-use Rattle.htmd_tree_laws.proofs.KeptChains.{first_of, last_of, rest_of, front_of, first_whole, last_whole}
-use Rattle.htmd_tree_laws.proofs.KeptChains.{first_fits, last_fits}
+use Rattle.htmd_tree_laws.proofs.KeptChains.{Keeps, keeps-append, keeps-is, keeps-as, keeps-safe, keeps-behind}
+use Rattle.htmd_tree_laws.proofs.KeptChains.{keeps-before, keeps-nil, keeps-of_nothing, keeps-ordinary, keeps-literal}
+use Rattle.htmd_tree_laws.proofs.KeptChains.{keeps-first, keeps-last, keeps-says, first_of, last_of, rest_of}
+use Rattle.htmd_tree_laws.proofs.KeptChains.{front_of, first_whole, last_whole, first_fits, last_fits}
 use Rattle.htmd_tree_laws.proofs.KeptMeetings.{IsFront, IsRest, front_text, stops_at_front, rest_opens}
 use Rattle.htmd_tree_laws.proofs.Literals.{opens, closing}
 use Rattle.htmd_tree_laws.proofs.LiteralPieces.{literal_span, literal_fenced, literal_formula, literal_autolink}
-use Rattle.htmd_tree_laws.proofs.LettersLemmas.{Says, says-before, says-behind}
+use Rattle.htmd_tree_laws.proofs.LettersLemmas.{Says, says-before, says-behind, is_white}
 use Rattle.htmd_tree_laws.proofs.LettersOfGuarded.{unfilled, says-line_ends}
 use Rattle.htmd_tree_laws.proofs.KeptLines.{keeps-trimmed, keeps-trimmed_start, keeps-blank_lines, keeps-many}
 use Rattle.htmd_tree_laws.proofs.KeptLines.{keeps-indented, keeps-one_line, keeps-block}
-use Rattle.htmd_tree_laws.proofs.LettersLemmas.{is_white}
 use Rattle.htmd_tree_laws.proofs.LettersOfPieces.{nil_of, scalars-front, front_taken, rest_left, says-code_span}
-use Rattle.htmd_tree_laws.proofs.LettersOfTexts.{document_of_white, line_feed_of_white, says-trimmed, all_reads, bytes_high}
+use Rattle.htmd_tree_laws.proofs.LettersOfTexts.{document_of_white, line_feed_of_white, says-trimmed, all_reads}
+use Rattle.htmd_tree_laws.proofs.LettersOfTexts.{bytes_high}
 use Rattle.htmd_tree_laws.proofs.Utf8Cuts.{cut_before}
 
 -- ---- several texts

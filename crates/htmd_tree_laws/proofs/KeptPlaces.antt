@@ -12,15 +12,16 @@ use Rattle.htmd_markdown.specs.Lists.{Block, block_text, ordered_list_by, unnumb
 use Rattle.htmd_markdown.specs.Quotes.{quote}
 use Rattle.htmd_walk.specs.Seams.{guarded_at_seam}
 use Rattle.htmd_tree_laws.proofs.BlockEdits.{blocks-lined, blocks-trimmed_end}
-use Rattle.htmd_tree_laws.proofs.BlockPieces.{blocks-wrapped, blocks-quote, blocks-bullet, blocks-unnumbered, blocks-ordered}
-use Rattle.htmd_tree_laws.proofs.BlockPieces.{blocks-unnumbered_list, KeepAllBlocks, BlocksIfAny, blocks-list, blocks-guarded_emphasis}
+use Rattle.htmd_tree_laws.proofs.BlockPieces.{blocks-wrapped, blocks-quote, blocks-bullet, blocks-unnumbered}
+use Rattle.htmd_tree_laws.proofs.BlockPieces.{blocks-ordered, blocks-unnumbered_list, KeepAllBlocks, BlocksIfAny}
+use Rattle.htmd_tree_laws.proofs.BlockPieces.{blocks-list, blocks-guarded_emphasis}
 use Rattle.htmd_tree_laws.proofs.CountedTexts.{of_visible}
 use Rattle.htmd_tree_laws.proofs.KeptBlocks.{KeepsBlocks, blocks-flat, blocks-says, blocks-joint}
 use Rattle.htmd_tree_laws.proofs.KeptChains.{Keeps, keeps-says}
 use Rattle.htmd_tree_laws.proofs.KeptLines.{keeps-seam, keeps-trimmed_end, keeps-wrapped, keeps-quote}
 use Rattle.htmd_tree_laws.proofs.KeptMeetings.{keeps-joint}
-use Rattle.htmd_tree_laws.proofs.KeptPieces.{KeepAll, keeps-bullet, keeps-unnumbered, keeps-ordered, keeps-unnumbered_list}
-use Rattle.htmd_tree_laws.proofs.KeptPieces.{KeepsIfAny, keeps-list, keeps-guarded_emphasis}
+use Rattle.htmd_tree_laws.proofs.KeptPieces.{KeepAll, keeps-bullet, keeps-unnumbered, keeps-ordered}
+use Rattle.htmd_tree_laws.proofs.KeptPieces.{keeps-unnumbered_list, KeepsIfAny, keeps-list, keeps-guarded_emphasis}
 use Rattle.htmd_tree_laws.proofs.LettersLemmas.{Says}
 use Rattle.htmd_tree_laws.proofs.LettersOfTexts.{OfWhite}
 use Rattle.htmd_tree_laws.proofs.LinedTexts.{lined-seam}

@@ -1,14 +1,15 @@
 -- Tables in Guarded keep each `*` of their cells and captions.
 use Rattle.std.proofs.Common.{◌≡◌, ℕ, zero, suc, ◌+◌, ◌-◌, ◌<◌, ◌≤◌, Bool, true, false, cond, List, [], ◌∷◌, ◌++◌}
-use Rattle.std.proofs.Common.{length, get_or, take, drop, map, refl, sym, ap, ◌∙◌, arith, subst, append_assoc, ⊎_elim, inl, inr}
+use Rattle.std.proofs.Common.{length, get_or, take, drop, map, refl, sym, ap, ◌∙◌, arith, subst, append_assoc, ⊎_elim}
+use Rattle.std.proofs.Common.{inl, inr}
 use Rattle.std.specs.Prelude.{◌&&◌, ◌||◌, ◌==◌, not, filter, replicate, encode_utf8, encode_utf8_all}
 use Rattle.std.specs.List.{flat_map, prefix_len}
 use Rattle.std.specs.Str.{chars, IsUtf8, all_scalars}
-use Rattle.std.proofs.lemmas.Bool.{and_parts, and_from, cases_lt, cond_both, eqb-true}
-use Rattle.std.proofs.lemmas.Bool.{not-true, false≢true}
+use Rattle.std.proofs.lemmas.Bool.{and_parts, and_from, cases_lt, cond_both, eqb-true, not-true, false≢true}
 use Rattle.std.proofs.lemmas.Bool.Decides.{nat_tests}
 use Rattle.std.proofs.lemmas.List.{append-nil, length-append, length-map, length-replicate}
 use Rattle.std.proofs.lemmas.Str.{encode_ascii, encodes-chars, scalars-chars, chars-encodes}
+use Rattle.std.specs.Char.{IsScalar}
 use Rattle.htmd_text.specs.BlankLines.{blank_line}
 use Rattle.htmd_text.specs.Characters.{space, line_feed, carriage_return, vertical_bar, hyphen, backslash, is_one_of}
 use Rattle.htmd_text.specs.Trims.{trimmed_text}
@@ -17,13 +18,14 @@ use Rattle.htmd_markdown.specs.GuardedTables.{cell_line, is_escaping, escaped_ba
 use Rattle.htmd_markdown.specs.GuardedTables.{guarded_table}
 use Rattle.htmd_markdown.specs.GuardedTables as guarded
 use Rattle.htmd_markdown.specs.OneLine.{one_line}
-use Rattle.htmd_markdown.specs.TableGrids.{SpannedCell, SpannedRow, Column, column, columns_of, goes_on, below, laid_row}
-use Rattle.htmd_markdown.specs.TableGrids.{texts_of, rows_of, columns_of_row, grid_below, grid}
-use Rattle.htmd_markdown.specs.Tables.{line_cells_by, padded_cell, barred_cells, line, row_by, dashes, separator, head_by}
+use Rattle.htmd_markdown.specs.TableGrids.{SpannedCell, SpannedRow, Column, column, columns_of, goes_on, below}
+use Rattle.htmd_markdown.specs.TableGrids.{laid_row, texts_of, rows_of, columns_of_row, grid_below, grid}
+use Rattle.htmd_markdown.specs.Tables.{line_cells_by, padded_cell, barred_cells, line, row_by, dashes, separator}
+use Rattle.htmd_markdown.specs.Tables.{head_by}
 use Rattle.htmd_tree.specs.Items.{Item}
 use Rattle.htmd_walk.specs.GuardedTableLayouts.{TableLine, caption, row, nodes_of_lines, begins_with_header}
-use Rattle.htmd_walk.specs.GuardedTableTexts.{GuardedTexts, no_guarded_texts, spanned_cells, with_caption}
-use Rattle.htmd_walk.specs.GuardedTableTexts.{with_lines, grid_text, with_blank_line, guarded_table_text, guarded_table_of}
+use Rattle.htmd_walk.specs.GuardedTableTexts.{GuardedTexts, no_guarded_texts, spanned_cells, with_caption, with_lines}
+use Rattle.htmd_walk.specs.GuardedTableTexts.{grid_text, with_blank_line, guarded_table_text, guarded_table_of}
 use Rattle.htmd_walk.specs.Handling.{ResultView}
 use Rattle.htmd_walk.specs.Tables.{text_of_cell}
 use Rattle.htmd_walk.proofs.TableOrdersLemmas.{line_cells, line_captions, line_order}
@@ -31,13 +33,12 @@ use Rattle.htmd_tree_laws.specs.Shown.{IsPart, is_visible, visible}
 use Rattle.htmd_tree_laws.proofs.CountedTexts.{part-then, part-append}
 use Rattle.htmd_tree_laws.proofs.KeptJoints.{Agree, agree-step, high_step, no_backslash, bare}
 use Rattle.htmd_tree_laws.proofs.JointMarks.{escapes, encode_size}
-use Rattle.std.specs.Char.{IsScalar}
 use Rattle.htmd_tree_laws.proofs.KeptLines.{keeps-trimmed, keeps-one_line, keeps-many}
-use Rattle.htmd_tree_laws.proofs.KeptMarks.{State, even, odd, blank, step, kept, ends, seen, seen_more, more_both, more_found}
-use Rattle.htmd_tree_laws.proofs.KeptMarks.{Respaced, one_more, below-same, Ordinary}
-use Rattle.htmd_tree_laws.proofs.KeptChains.{Chain, one, link, text_of, Fits, stays, Exchanged, keeps-exchanged, ordinary-own}
-use Rattle.htmd_tree_laws.proofs.KeptChains.{Keeps, keeps-append, keeps-is, keeps-as, keeps-nil, keeps-respaced, keeps-behind}
-use Rattle.htmd_tree_laws.proofs.KeptChains.{keeps-before, keeps-of_nothing}
+use Rattle.htmd_tree_laws.proofs.KeptMarks.{State, even, odd, blank, step, kept, ends, seen, seen_more, more_both}
+use Rattle.htmd_tree_laws.proofs.KeptMarks.{more_found, Respaced, one_more, below-same, Ordinary}
+use Rattle.htmd_tree_laws.proofs.KeptChains.{Chain, one, link, text_of, Fits, stays, Exchanged, keeps-exchanged}
+use Rattle.htmd_tree_laws.proofs.KeptChains.{ordinary-own, Keeps, keeps-append, keeps-is, keeps-as, keeps-nil}
+use Rattle.htmd_tree_laws.proofs.KeptChains.{keeps-respaced, keeps-behind, keeps-before, keeps-of_nothing}
 use Rattle.htmd_tree_laws.proofs.Literals.{Literal, lacks, opens, closing, literal_still, literal_bare}
 use Rattle.htmd_tree_laws.proofs.KeptPieces.{KeepAll, keeps-flat}
 use Rattle.htmd_tree_laws.proofs.LettersOfGrids.{cell_texts, widths_fit, rows_mapped, texts_in}

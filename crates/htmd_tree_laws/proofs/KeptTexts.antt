@@ -13,7 +13,8 @@ use Rattle.htmd_text.specs.Characters.{backslash, asterisk}
 use Rattle.htmd_text.specs.EscapeMarks.{with_backslashes}
 use Rattle.htmd_text.specs.Trims.{is_space}
 use Rattle.htmd_text.specs.WhiteSpace.{squeezed_text}
-use Rattle.htmd_markdown.specs.GuardedText.{is_guarded_mark, is_mark_anywhere, is_always_guarded, guarded_text, begins_line}
+use Rattle.htmd_markdown.specs.GuardedText.{is_guarded_mark, is_mark_anywhere, is_always_guarded, guarded_text}
+use Rattle.htmd_markdown.specs.GuardedText.{begins_line}
 use Rattle.htmd_markdown.specs.Joints.{is_asterisk, is_backslash}
 use Rattle.htmd_markdown.proofs.GuardedMarksLemmas.{mark_is_punctuation}
 use Rattle.htmd_tree.specs.Ancestors.{Ancestor}
@@ -28,8 +29,8 @@ use Rattle.htmd_tree_laws.specs.Shown.{is_visible, visible, IsPart}
 use Rattle.htmd_tree_laws.proofs.CountedTexts.{of_visible}
 use Rattle.htmd_tree_laws.proofs.KeptJoints.{no_backslash, no_asterisk}
 use Rattle.htmd_tree_laws.proofs.KeptPlaces.{KeepsIn, in-flat, in-is, in-joint, in-trimmed_end}
-use Rattle.htmd_tree_laws.proofs.KeptMarks.{even, odd, blank, step, kept, ends, seen, seen_more, more_both, more_found}
-use Rattle.htmd_tree_laws.proofs.KeptMarks.{step-even, Ordinary}
+use Rattle.htmd_tree_laws.proofs.KeptMarks.{even, odd, blank, step, kept, ends, seen, seen_more, more_both}
+use Rattle.htmd_tree_laws.proofs.KeptMarks.{more_found, step-even, Ordinary}
 use Rattle.htmd_tree_laws.proofs.KeptChains.{keeps-in, keeps-ordinary}
 use Rattle.htmd_tree_laws.proofs.LettersLemmas.{says-own, is_white}
 use Rattle.htmd_tree_laws.proofs.LettersOfPieces.{says-first_space}

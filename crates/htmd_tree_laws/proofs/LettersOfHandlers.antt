@@ -1,11 +1,11 @@
 -- What the results of the built-in handlers hold, by either law; of code and of a link their letters.
-use Rattle.std.proofs.Common.{◌≡◌, ℕ, Bool, true, false, cond, List, [], ◌∷◌, ◌++◌, take}
-use Rattle.std.proofs.Common.{drop, refl, sym, ap, ◌∙◌, subst, Option, Some, None, codes}
+use Rattle.std.proofs.Common.{◌≡◌, ℕ, Bool, true, false, cond, List, [], ◌∷◌, ◌++◌, take, drop, refl, sym, ap, ◌∙◌}
+use Rattle.std.proofs.Common.{subst, Option, Some, None, codes}
 use Rattle.std.specs.Prelude.{◌==◌, ◌||◌, nat_lt}
 use Rattle.std.specs.List.{list_all, starts_with}
 use Rattle.std.specs.Option.{is_some, option_or}
 use Rattle.std.specs.Str.{IsUtf8, bytes_eq}
-use Rattle.std.proofs.lemmas.Bool.{and_parts, cond_both, ltb-true}
+use Rattle.std.proofs.lemmas.Bool.{and_parts, cond_both, ltb-true, true≢false}
 use Rattle.std.proofs.lemmas.List.{append-nil, take-append-drop}
 use Rattle.std.proofs.lemmas.Slice.Eq.{bytes_eq-Decides}
 use Rattle.std.proofs.lemmas.Str.{IsUtf8-past_char, encode_ascii}
@@ -31,43 +31,39 @@ use Rattle.htmd_walk.specs.declared.options.LinkStyle.{LinkStyle}
 use Rattle.htmd_walk.specs.declared.options.LinkStyle.TheVariants.{Inlined, InlinedPreferAutolinks, Referenced}
 use Rattle.htmd_walk.specs.Handling.{ElementView, ResultView, content_of_children, HandlerMeaning}
 use Rattle.htmd_walk.specs.Outputs.{is_markdown_alone, is_guarded}
-use Rattle.htmd_walk.specs.ElementPlans.{ancestors_of, tag_of, parent_tag, is_tag_among}
+use Rattle.htmd_walk.specs.ElementPlans.{ancestors_of, tag_of, parent_tag, is_tag_among, optional_markdown}
 use Rattle.htmd_walk.specs.LinkAttributes.{is_among, last_value, title_of}
 use Rattle.htmd_walk.specs.Paragraphs.{paragraphs}
 use Rattle.htmd_walk.specs.BlockQuotes.{quotes}
 use Rattle.htmd_walk.specs.Pages.{parts_of_page, pages}
-use Rattle.htmd_walk.specs.Headings.{headings}
+use Rattle.htmd_walk.specs.Headings.{headings, level_of}
 use Rattle.htmd_walk.specs.Emphases.{emphasis_of}
-use Rattle.htmd_walk.specs.ElementPlans.{optional_markdown}
-use Rattle.htmd_walk.specs.Headings.{level_of}
 use Rattle.htmd_walk.specs.Spans.{mark_of_class, formula_mark, span_result}
 use Rattle.htmd_walk.specs.OrdinaryText.{in_pre_or_code}
-use Rattle.htmd_walk.specs.Code.{code, is_code_block, shows_language, language, language_of}
-use Rattle.htmd_walk.specs.Code.{first_language, language_of_class, classes_of}
+use Rattle.htmd_walk.specs.Code.{code, is_code_block, shows_language, language, language_of, first_language}
+use Rattle.htmd_walk.specs.Code.{language_of_class, classes_of}
 use Rattle.htmd_walk.specs.Lists.{lists, is_in_item, list_result}
-use Rattle.htmd_walk.specs.ListItems.{list_items, is_in_ordered, bullet_item_of}
-use Rattle.htmd_walk.specs.ListItems.{list_tags}
+use Rattle.htmd_walk.specs.ListItems.{list_items, is_in_ordered, bullet_item_of, list_tags}
 use Rattle.htmd_walk.specs.OneLineElements.{is_in_line, heading_tags}
 use Rattle.htmd_walk.specs.TableCells.{cells}
 use Rattle.htmd_walk.specs.TableParts.{table_rows, table_parts}
 use Rattle.htmd_walk.specs.Anchors.{anchor_address, finish_at, link_finish, guarded_link_finish}
 use Rattle.htmd_tree_laws.specs.Letters.{letters, letters_if_any, said_of_address, prefers_autolinks}
 use Rattle.htmd_tree_laws.proofs.CountedTexts.{Law, of_letters, counted}
-use Rattle.htmd_tree_laws.proofs.LettersLemmas.{Says, says-own, says-is, is_filler, says-fillers}
-use Rattle.htmd_tree_laws.proofs.LettersLemmas.{says-behind, says-before}
+use Rattle.htmd_tree_laws.proofs.LettersLemmas.{Says, says-own, says-is, is_filler, says-fillers, says-behind}
+use Rattle.htmd_tree_laws.proofs.LettersLemmas.{says-before}
 use Rattle.htmd_tree_laws.proofs.LettersOfTexts.{line_feed_of_white, says-trimmed, says-blank_lines}
 use Rattle.htmd_tree_laws.proofs.LettersOfLines.{AreTexts, say-cut, says-quote}
-use Rattle.htmd_tree_laws.proofs.LettersOfPieces.{SaysIfAny, says-emphasised, says-heading, says-code_span, says-indented_code}
-use Rattle.htmd_tree_laws.proofs.LettersOfPieces.{says-fenced}
-use Rattle.htmd_tree_laws.proofs.LettersOfLinks.{IsTextIfAny, says-own_if_any, says-bullet, says-unnumbered, says-list}
-use Rattle.htmd_tree_laws.proofs.LettersOfLinks.{says-link, says-reference, says-resource}
+use Rattle.htmd_tree_laws.proofs.LettersOfPieces.{SaysIfAny, says-emphasised, says-heading, says-code_span}
+use Rattle.htmd_tree_laws.proofs.LettersOfPieces.{says-indented_code, says-fenced}
+use Rattle.htmd_tree_laws.proofs.LettersOfLinks.{IsTextIfAny, says-own_if_any, says-bullet, says-unnumbered}
+use Rattle.htmd_tree_laws.proofs.LettersOfLinks.{says-list, says-link, says-reference, says-resource}
 use Rattle.htmd_tree_laws.proofs.LettersOfGuarded.{says-guarded_link, says-guarded_reference, says-guarded_emphasis}
 use Rattle.htmd_tree_laws.proofs.LettersOfGuarded.{says-guarded_heading, says-guarded_resource}
-use Rattle.std.proofs.lemmas.Bool.{true≢false}
 use Rattle.htmd_tree_laws.proofs.KeptChains.{Keeps}
 use Rattle.htmd_tree_laws.proofs.KeptPieces.{keeps-heading, keeps-guarded_heading}
-use Rattle.htmd_tree_laws.proofs.KeptPlaces.{KeepsIn, InIfAny, in-flat, in-wrapped, in-quote, in-bullet, in-unnumbered}
-use Rattle.htmd_tree_laws.proofs.KeptPlaces.{in-emphasis, in-list}
+use Rattle.htmd_tree_laws.proofs.KeptPlaces.{KeepsIn, InIfAny, in-flat, in-wrapped, in-quote, in-bullet}
+use Rattle.htmd_tree_laws.proofs.KeptPlaces.{in-unnumbered, in-emphasis, in-list}
 
 -- a result or nothing, and what it holds
 abbrev pub SaysResult : Law → Option ResultView → List ℕ → Type 0

@@ -4,10 +4,10 @@ use Rattle.std.proofs.Common.{refl, sym, ◌∙◌, arith, subst}
 use Rattle.std.specs.Prelude.{◌||◌}
 use Rattle.std.proofs.lemmas.Bool.{cond_both, false≢true}
 use Rattle.std.proofs.lemmas.List.{get_or_default}
-use Rattle.htmd_tree.specs.Items.{Data, document_node, doctype_node, text_node, comment_node, element_node, Item, tag_of}
-use Rattle.htmd_tree.specs.Items.{data_at, children_of, IsTree}
-use Rattle.htmd_tree.specs.NumberedTrees.{NumberedTree, document, doctype, text, comment, element, NumberedForest, none, more}
-use Rattle.htmd_tree.specs.NumberedTrees.{with_children, forest_of, tree_of, height}
+use Rattle.htmd_tree.specs.Items.{Data, document_node, doctype_node, text_node, comment_node, element_node, Item}
+use Rattle.htmd_tree.specs.Items.{tag_of, data_at, children_of, IsTree}
+use Rattle.htmd_tree.specs.NumberedTrees.{NumberedTree, document, doctype, text, comment, element, NumberedForest}
+use Rattle.htmd_tree.specs.NumberedTrees.{none, more, with_children, forest_of, tree_of, height}
 use Rattle.htmd_tree.proofs.NumberedTreesLemmas.{tree-open, height_pos, lower_child, IsLower}
 use Rattle.htmd_tree.proofs.ItemsLemmas.{child_read}
 use Rattle.htmd_walk.specs.ElementPlans.{is_tag_among}

@@ -1,11 +1,13 @@
 -- Texts that are cut at their ends, put together at a seam or written line by line, where line feeds stay: only other
 -- white space goes, and more may be put after a line feed.
-use Rattle.std.proofs.Common.{◌≡◌, ℕ, zero, suc, ◌+◌, ◌-◌, ◌<◌, Bool, true, false, List, [], ◌∷◌, ◌++◌, length}
-use Rattle.std.proofs.Common.{take, drop, refl, sym, ap, ◌∙◌, arith, subst, append_assoc, ⊎_elim, inl, inr, codes, map, min, max}
+use Rattle.std.proofs.Common.{◌≡◌, ℕ, zero, suc, ◌+◌, ◌-◌, ◌<◌, Bool, true, false, List, [], ◌∷◌, ◌++◌, length, take}
+use Rattle.std.proofs.Common.{drop, refl, sym, ap, ◌∙◌, arith, subst, append_assoc, ⊎_elim, inl, inr, codes, map, min}
+use Rattle.std.proofs.Common.{max}
 use Rattle.std.specs.Prelude.{◌⊎◌, ◌&&◌, ◌==◌, not, nat_lt, replicate, slice_index}
 use Rattle.std.specs.List.{list_all, flat_map, slice_split, onto_first, prefix_len, suffix_len}
 use Rattle.std.specs.Str.Lines.{lines, lines_of_parts, strip_carriage_return}
-use Rattle.std.proofs.lemmas.Bool.{and_parts, and_from, cond_both, cond-false, cases_Bool, eqb-true, false≢true, not-true}
+use Rattle.std.proofs.lemmas.Bool.{and_parts, and_from, cond_both, cond-false, cases_Bool, eqb-true, false≢true}
+use Rattle.std.proofs.lemmas.Bool.{not-true}
 use Rattle.std.proofs.lemmas.Bool.Decides.{nat_tests}
 use Rattle.std.proofs.lemmas.List.{append-nil, take-append-drop, length-append, length-drop, length-take-le}
 use Rattle.std.proofs.lemmas.List.Sums.{suffix_len-le-length, prefix_len-le-length, list_all-from_AllPass}
@@ -15,8 +17,8 @@ use Rattle.htmd_text.specs.Joins.{join_block}
 use Rattle.htmd_text.specs.Trims.{trimmed_start, trimmed_end, cut_end, is_line_feed, is_space}
 use Rattle.htmd_text.specs.WhiteSpace.{is_document_white_space}
 use Rattle.htmd_walk.specs.Seams.{joined_at_seam, begins_with_space, ends_with_space}
-use Rattle.htmd_tree_laws.proofs.KeptLines.{rejoin, split_is, spread, feeds-append, first_feeds, quoted_next, same_lines}
-use Rattle.htmd_tree_laws.proofs.KeptLines.{indented_is}
+use Rattle.htmd_tree_laws.proofs.KeptLines.{rejoin, split_is, spread, feeds-append, first_feeds, quoted_next}
+use Rattle.htmd_tree_laws.proofs.KeptLines.{same_lines, indented_is}
 use Rattle.htmd_tree_laws.proofs.KeptMarks.{Respaced, is_safe}
 use Rattle.htmd_tree_laws.proofs.KeptMeetings.{is_of_fence, line_safe}
 use Rattle.htmd_tree_laws.proofs.LettersLemmas.{is_white}

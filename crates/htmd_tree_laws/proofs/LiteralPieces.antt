@@ -1,6 +1,6 @@
 -- Code spans, blocks fenced with backquotes, formulas and autolinks, as Guarded writes them, are literals.
-use Rattle.std.proofs.Common.{◌≡◌, ℕ, zero, suc, ◌+◌, ◌<◌, ◌≤◌, Bool, true, false, cond, List, [], ◌∷◌, ◌++◌}
-use Rattle.std.proofs.Common.{take, drop, codes, refl, sym, ap, ◌∙◌, arith, append_assoc, inl, inr}
+use Rattle.std.proofs.Common.{◌≡◌, ℕ, zero, suc, ◌+◌, ◌<◌, ◌≤◌, Bool, true, false, cond, List, [], ◌∷◌, ◌++◌, take}
+use Rattle.std.proofs.Common.{drop, codes, refl, sym, ap, ◌∙◌, arith, append_assoc, inl, inr}
 use Rattle.std.specs.Prelude.{◌⊎◌, ◌&&◌, ◌||◌, ◌==◌, not, replicate, slice_index, Option}
 use Rattle.std.specs.List.{list_any, prefix_len}
 use Rattle.std.proofs.lemmas.Bool.{and_parts, and_from, or_parts, cond_both, cond-false, not-true, false≢true}
@@ -10,8 +10,8 @@ use Rattle.htmd_text.specs.Characters.{is_one_of, grave_accent, line_feed, carri
 use Rattle.htmd_text.specs.Trims.{trimmed_text}
 use Rattle.htmd_text.specs.WhiteSpace.{is_document_white_space}
 use Rattle.htmd_markdown.specs.declared.fence.CodeBlockFence.TheVariants.{Backticks}
-use Rattle.htmd_markdown.specs.CodeSpans.{space_if, delimiter_len, delimited_text, code_span, meets_delimiter, span_content}
-use Rattle.htmd_markdown.specs.CodeSpans.{is_between_spaces, smallest_unused_len}
+use Rattle.htmd_markdown.specs.CodeSpans.{space_if, delimiter_len, delimited_text, code_span, meets_delimiter}
+use Rattle.htmd_markdown.specs.CodeSpans.{span_content, is_between_spaces, smallest_unused_len}
 use Rattle.htmd_markdown.specs.CodeSpanReading.{is_backquote}
 use Rattle.htmd_markdown.specs.CodeBlocks.{code_of}
 use Rattle.htmd_markdown.specs.Fences.{fence_len, info_string, fenced_code_block}

@@ -1,15 +1,15 @@
 -- Code, formulas and autolinks, in which a backslash escapes nothing: where texts meet in Guarded they stay whole.
-use Rattle.std.proofs.Common.{◌≡◌, ℕ, zero, suc, ◌+◌, ◌-◌, ◌<◌, ◌≤◌, Bool, true, false, List, [], ◌∷◌, ◌++◌}
-use Rattle.std.proofs.Common.{length, get_or, take, codes, refl, sym, ap, ◌∙◌, arith, subst, append_assoc, inl, inr}
+use Rattle.std.proofs.Common.{◌≡◌, ℕ, zero, suc, ◌+◌, ◌-◌, ◌<◌, ◌≤◌, Bool, true, false, List, [], ◌∷◌, ◌++◌, length}
+use Rattle.std.proofs.Common.{get_or, take, codes, refl, sym, ap, ◌∙◌, arith, subst, append_assoc, inl, inr}
 use Rattle.std.specs.Prelude.{◌⊎◌, ◌&&◌, ◌||◌, ◌==◌, not}
 use Rattle.std.specs.List.{list_all}
 use Rattle.std.proofs.Math.Seq.{take-append_seam, get_or-append_seam}
-use Rattle.std.proofs.lemmas.Bool.{and_parts, and_from, or_from, cond-true, cond-false}
-use Rattle.std.proofs.lemmas.Bool.{eqb-true, false≢true, not-true, false_from_ne_true}
+use Rattle.std.proofs.lemmas.Bool.{and_parts, and_from, or_from, cond-true, cond-false, eqb-true, false≢true}
+use Rattle.std.proofs.lemmas.Bool.{not-true, false_from_ne_true}
 use Rattle.std.proofs.lemmas.List.{length-append}
 use Rattle.htmd_text.specs.Characters.{is_one_of, grave_accent, line_feed}
-use Rattle.htmd_markdown.specs.Joints.{is_plain_behind, is_plain_sign, is_word_character, escapes_next, ends_bare, up_to_of, up_to}
-use Rattle.htmd_markdown.specs.Joints.{without_last, up_to_backquote_of, may_end_code, ends_autolink}
+use Rattle.htmd_markdown.specs.Joints.{is_plain_behind, is_plain_sign, is_word_character, escapes_next, ends_bare}
+use Rattle.htmd_markdown.specs.Joints.{up_to_of, up_to, without_last, up_to_backquote_of, may_end_code, ends_autolink}
 use Rattle.htmd_markdown.specs.Joints.{closes_link, is_plain_at}
 use Rattle.htmd_markdown.specs.Titles.{is_filled}
 use Rattle.htmd_tree_laws.proofs.JointMarks.{escapes, escapes-append, escapes-is, next_escaped}
