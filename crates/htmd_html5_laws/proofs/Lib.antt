@@ -7,6 +7,7 @@ pub mod NamedKinds
 pub mod NodeParts
 pub mod Forests
 pub mod OpenNodes
+pub mod EndedStacks
 pub mod RootedStacks
 pub mod RootedStates
 pub mod Keeping
@@ -43,6 +44,16 @@ pub mod HungChains
 pub mod HungAdoption
 pub mod PlainStates
 pub mod PlainAdoption
+pub mod EndedStates
+pub mod EndedAdoption
+pub mod EndedSteps
+pub mod EndedBody
+pub mod EndedModes
+pub mod EndedTables
+pub mod EndedTokens
+pub mod EndedRuns
+pub mod EndedPages
+mod EndedExamples
 pub mod RootedAdoption
 pub mod PlainBody
 pub mod PlainTables

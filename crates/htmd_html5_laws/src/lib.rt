@@ -2,4 +2,5 @@
 //! contract of a function that does nothing.
 #![tactic(auto)]
 
+pub mod ends;
 pub mod letters;
