@@ -73,4 +73,5 @@ pub mod KeptTokens
 pub mod CountedOrder
 pub mod LetterOrderLemmas
 pub mod TextKeptLemmas
+pub mod StrictReferencesLemmas
 mod Examples

@@ -5,3 +5,4 @@ pub mod KeptLetters
 pub mod HarmlessTags
 pub mod LetterOrder
 pub mod TextKept
+pub mod StrictReferences
