@@ -74,4 +74,9 @@ pub mod CountedOrder
 pub mod LetterOrderLemmas
 pub mod TextKeptLemmas
 pub mod StrictReferencesLemmas
+pub mod StrictCuts
+pub mod StrictTagsLemmas
+pub mod StrictPieces
+pub mod StrictRawTexts
+pub mod StrictRuns
 mod Examples

@@ -1,8 +1,16 @@
 //! Texts of the strict grammar, as the lenient reader reads them.
 ghost use Rattle.htmd_html5_laws.specs.StrictReferences.{ReferencesAgree};
+ghost use Rattle.htmd_html5_laws.specs.StrictTokens.{TokensAgree};
 
 /// Characters and references denote the same by the strict grammar and by the lenient reader, where line ends are line
 /// feeds, no U+0000 stands, and each reference by name has its `;`.
 pub fn references_agree()
     ensures { ReferencesAgree }
+{}
+
+/// The tokens that the lenient reader's tokenizer finds in a text of the strict grammar are those of its trees, in
+/// document order, where line ends are line feeds, no U+0000 stands, each reference by name has its `;`, and no element
+/// is a `pre`, `textarea`, `script` or `tbody`.
+pub fn tokens_agree()
+    ensures { TokensAgree }
 {}
