@@ -79,4 +79,7 @@ pub mod StrictTagsLemmas
 pub mod StrictPieces
 pub mod StrictRawTexts
 pub mod StrictRuns
+pub mod StrictStates
+pub mod StrictTreesLemmas
+pub mod StrictPages
 mod Examples

@@ -7,3 +7,4 @@ pub mod LetterOrder
 pub mod TextKept
 pub mod StrictReferences
 pub mod StrictTokens
+pub mod StrictTrees
