@@ -82,4 +82,8 @@ pub mod StrictRuns
 pub mod StrictStates
 pub mod StrictTreesLemmas
 pub mod StrictPages
+pub mod StrictNodes
+pub mod StrictLaid
+pub mod StrictPuts
+pub mod StrictAgree
 mod Examples

@@ -6,6 +6,9 @@ use Rattle.htmd_text.proofs.Cases.{test}
 use Rattle.htmd_grammar.specs.ValueTrees.{ValueTree, ValueForest, none, more, document, doctype, text, comment, element}
 use Rattle.htmd_grammar.specs.CharacterClasses.{is_among}
 use Rattle.htmd_grammar.specs.Serialisation.{is_void}
+use Rattle.htmd_grammar.specs.Rules.{project}
+use Rattle.htmd_grammar.specs.Grammar.{reads}
+use Rattle.htmd_grammar.specs.Documents.{below_body}
 use Rattle.htmd_html5_tokens.specs.Tokens.{TokenValue, start_tag, end_of_file}
 use Rattle.htmd_html5_tokens.specs.NextToken.{next_token}
 use Rattle.htmd_html5_tokens.specs.declared.tokens.Content.{Content}
@@ -90,10 +93,10 @@ in_step z (suc k) now after page left xs s new p (onward token rest f g m q) n e
 -- ---- the page
 
 -- after `<body>`
-abbrev body_state : Bool → StateValue
+abbrev pub body_state : Bool → StateValue
 body_state z = feed (start_tag (tag_named (codes "body") [] false)) (initial_state z)
 
-body_state_is : (z : Bool) → IsInBody false (body_state z)
+pub body_state_is : (z : Bool) → IsInBody false (body_state z)
 body_state_is z = record {
   mode = refl;
   content = refl;
@@ -120,15 +123,18 @@ page_read z s k =
 settled_nothing : IsSettled []
 settled_nothing = record { line_feeds = refl; no_null = refl; references_end = refl; }
 
-pub pages_put : PlainPagesArePut
-pages_put z s content k e h =
+pub page_put : (z : Bool) (s : List ℕ) (content : ValueForest) → IsSettled s → are_plain false content ≡ true
+    → reads (project z) below_body s content
+    → state_after z (codes "<body>" ++ s) ≡ put_trees content (body_state z)
+page_put z s content k e h =
     let r = content_read z s content k (plain_is_simple false content e) h in
-    let there = body_state_is z in
-    let f = forest_fed z content false r.0 (body_state z) r.1 e there in
-    let whole : state_after z (codes "<body>" ++ s) ≡ put_trees content (body_state z) =
+    let f = forest_fed z content false r.0 (body_state z) r.1 e (body_state_is z) in
     page_read z s k
     ∙ in_step z (length (codes "body>" ++ s)) Normal Normal s [] r.0 (body_state z) (put_trees content (body_state z))
-    false r.2 refl refl (parts z f.0) f.1.in_body (omega arith) in
+    false r.2 refl refl (parts z f.0) f.1.in_body (omega arith)
+
+pub pages_put : PlainPagesArePut
+pages_put z s content k e h =
     let alone : state_after z (codes "<body>") ≡ body_state z =
-    page_read z [] settled_nothing ∙ nothing_left 5 false (body_state z) there in
-    whole ∙ ap (put_trees content) (sym alone)
+    page_read z [] settled_nothing ∙ nothing_left 5 false (body_state z) (body_state_is z) in
+    page_put z s content k e h ∙ ap (put_trees content) (sym alone)

@@ -11,6 +11,7 @@ use Rattle.htmd_text.specs.WhiteSpace.{is_ascii_white_space}
 use Rattle.htmd_text.proofs.Cases.{test}
 use Rattle.htmd_grammar.specs.ValueTrees.{AttributePair}
 use Rattle.htmd_grammar.specs.CharacterClasses.{is_among}
+use Rattle.htmd_grammar.specs.Serialisation.{is_void}
 use Rattle.htmd_grammar.proofs.NestingLemmas.{same_bytes, bytes_same}
 use Rattle.htmd_html5_tokens.specs.Tokens.{TagValue, start_tag, end_tag, comment, text, end_of_file}
 use Rattle.htmd_html5_state.specs.Names.{NameValue, known, other, html, name_of_text, spelling, same_tag, same_name}
@@ -44,7 +45,7 @@ use Rattle.htmd_html5.proofs.ProcessingLemmas.{by_html, process_once}
 use Rattle.htmd_html5.proofs.AtOnceLemmas.{put_as_parts}
 use Rattle.htmd_html5_laws.specs.StrictTokens.{tag_named}
 use Rattle.htmd_html5_laws.specs.StrictTrees.{is_unknown_name, ordinary_names, block_names, void_names, is_paragraph}
-use Rattle.htmd_html5_laws.specs.StrictTrees.{is_plain_name, IsInBody}
+use Rattle.htmd_html5_laws.specs.StrictTrees.{is_plain_name, is_plain_element, IsInBody}
 use Rattle.htmd_html5_state.specs.Documents as documents
 use Rattle.htmd_html5.specs.Tokens as construction
 use Rattle.htmd_html5_state.specs.declared.names.TagName.TheVariants as tags
@@ -137,17 +138,18 @@ like_div = (
 
 -- a known tag that starts as `br` does
 abbrev StartsVoid : List ℕ → Type 0
-StartsVoid n = (tag : TagName) × (name_of_text n ≡ known tag) × (start_rule tag ≡ start_rule tags.Br)
+StartsVoid n =
+    (tag : TagName) × (name_of_text n ≡ known tag) × (start_rule tag ≡ start_rule tags.Br) × (same_tag P tag ≡ false)
 
 start_void : Each StartsVoid void_names
 unfolding block_rule formatting_rule phrasing_rule
 start_void = (
-  (tags.Area, refl, refl),
-  ((tags.Br, refl, refl),
-  ((tags.Embed, refl, refl),
-  ((tags.Img, refl, refl),
-  ((tags.KeyGen, refl, refl),
-  ((tags.Wbr, refl, refl),
+  (tags.Area, refl, refl, refl),
+  ((tags.Br, refl, refl, refl),
+  ((tags.Embed, refl, refl, refl),
+  ((tags.Img, refl, refl, refl),
+  ((tags.KeyGen, refl, refl, refl),
+  ((tags.Wbr, refl, refl, refl),
   tt))))))
 
 -- which rules a plain name has
@@ -174,7 +176,7 @@ plain_case p n e =
         test (bytes_eq n (codes "p")) (λ t. inl (same_bytes n (codes "p") t))
         (λ t. let f = rw t at e in inr (among_each (Like tags.Div) block_names n f like_div))
 
-pub no_p : (p : Bool) (n : List ℕ) → is_plain_name p n ≡ true → is_paragraph n ≡ false
+no_p : (p : Bool) (n : List ℕ) → is_plain_name p n ≡ true → is_paragraph n ≡ false
     → is_of (Only P) (html (name_of_text n)) ≡ false
 no_p p n e f = elim (plain_case p n e) [
   | inl w ↦ rw w.1 refl
@@ -186,6 +188,13 @@ no_p p n e f = elim (plain_case p n e) [
     ]
   ]
 ]
+
+pub element_no_p : (p : Bool) (n : List ℕ) → is_plain_element p n ≡ true → is_paragraph n ≡ false
+    → is_of (Only P) (html (name_of_text n)) ≡ false
+element_no_p p n e f =
+    test (is_void n)
+    (λ v. let x = among_each StartsVoid void_names n (rw v at e) start_void in rw x.1 x.3)
+    (λ v. no_p p n (rw v at e) f)
 
 module _ (p : Bool) (s : StateValue) (h : IsInBody p s) where
   -- ---- what is as it was

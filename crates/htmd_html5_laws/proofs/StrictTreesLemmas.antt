@@ -25,9 +25,9 @@ use Rattle.htmd_html5.specs.Feeding.{feed}
 use Rattle.htmd_html5_tokens.specs.declared.tokens.Content.TheVariants.{Normal}
 use Rattle.htmd_html5_laws.specs.StrictTokens.{content_in, content_after, tag_named, SpellsTree, SpellsForest}
 use Rattle.htmd_html5_laws.specs.StrictTrees.{void_names, is_plain_name, is_plain_element, is_paragraph, is_plain_tree}
-use Rattle.htmd_html5_laws.specs.StrictTrees.{are_plain, put_tree, put_trees, IsInBody, feed_all, PlainTreesArePut}
+use Rattle.htmd_html5_laws.specs.StrictTrees.{are_plain, after_element, put_tree, put_trees, IsInBody, feed_all, PlainTreesArePut}
 use Rattle.htmd_html5_laws.proofs.StrictRawTexts.{is_name}
-use Rattle.htmd_html5_laws.proofs.StrictStates.{add_longer, text_longer, no_p, start_fed, void_fed, comment_fed}
+use Rattle.htmd_html5_laws.proofs.StrictStates.{add_longer, text_longer, element_no_p, start_fed, void_fed, comment_fed}
 use Rattle.htmd_html5_laws.proofs.StrictStates.{text_fed, end_fed}
 use Rattle.htmd_html5_tokens.specs.Tokens as tokens
 use Rattle.htmd_html5_state.specs.Documents as documents
@@ -57,14 +57,14 @@ kept_nodes p s nodes ok h l = record {
   longer = l;
 }
 
-kept_text : (p : Bool) (u : List ℕ) (s : StateValue) → IsInBody p s → Kept p s (put_at_once u s)
+pub kept_text : (p : Bool) (u : List ℕ) (s : StateValue) → IsInBody p s → Kept p s (put_at_once u s)
 kept_text p u s h =
     let l = text_longer u (place s) (preceding (place s) s.nodes) s.nodes in
     test (list_all is_ascii_white_space u)
     (λ t. rw t (kept_nodes p s (add_text u (place s) s.nodes) s.frameset_ok h l))
     (λ t. rw t (kept_nodes p s (add_text u (place s) s.nodes) false h l))
 
-kept_comment : (p : Bool) (u : List ℕ) (s : StateValue) → IsInBody p s → Kept p s (insert_comment u s)
+pub kept_comment : (p : Bool) (u : List ℕ) (s : StateValue) → IsInBody p s → Kept p s (insert_comment u s)
 kept_comment p u s h =
     let l = add_longer (documents.comment u) (last_in (current s.stack).node) s.nodes in
     kept_nodes p s (add (documents.comment u) (last_in (current s.stack).node) s.nodes) s.frameset_ok h (omega arith)
@@ -76,7 +76,7 @@ kept_void p name attributes s h =
     kept_nodes p s (add (documents.element (html name) attributes) (place s) s.nodes) false h (omega arith)
 
 -- an element that is opened
-inside : (p : Bool) (n : List ℕ) (attributes : List AttributePair) (s : StateValue) → is_plain_name p n ≡ true
+pub inside : (p : Bool) (n : List ℕ) (attributes : List AttributePair) (s : StateValue) → is_plain_element p n ≡ true
     → IsInBody p s → IsInBody (p || is_paragraph n) (insert_element (name_of_text n) attributes s)
 inside p n attributes s i h = record {
   mode = h.mode;
@@ -89,7 +89,7 @@ inside p n attributes s i h = record {
   within = (let l = add_longer (documents.element (html (name_of_text n)) attributes) (place s) s.nodes in omega arith);
   no_paragraph = λ e.
       let k = or_parts p (is_paragraph n) e in
-      rw (no_p p n i k.1, h.no_paragraph k.0) (and_false _);
+      rw (element_no_p p n i k.1, h.no_paragraph k.0) (and_false _);
 }
 
 -- an element that is closed
@@ -115,6 +115,29 @@ outside p q name attributes s new h k =
       stack = stack;
       longer = longer;
     }
+
+kept_no_frameset : (p : Bool) (s new : StateValue) → Kept p s new → Kept p s (no_frameset new)
+kept_no_frameset p s new k = record {
+  in_body = record {
+    mode = k.in_body.mode;
+    content = k.in_body.content;
+    no_skip = k.in_body.no_skip;
+    no_foster = k.in_body.no_foster;
+    nothing_listed = k.in_body.nothing_listed;
+    no_template = k.in_body.no_template;
+    html = k.in_body.html;
+    within = k.in_body.within;
+    no_paragraph = k.in_body.no_paragraph;
+  };
+  stack = k.stack;
+  longer = k.longer;
+}
+
+pub kept_element : (p q : Bool) (n : List ℕ) (attributes : List AttributePair) (s new : StateValue) → IsInBody p s
+    → Kept q (insert_element (name_of_text n) attributes s) new → Kept p s (after_element n (on_stack pop new))
+kept_element p q n attributes s new h k =
+    let closed = outside p q (name_of_text n) attributes s new h k in
+    test (is_void n) (λ v. rw v (kept_no_frameset p s (on_stack pop new) closed)) (λ v. rw v closed)
 
 -- ---- names
 
@@ -180,18 +203,18 @@ module _ (z : Bool) where
   )
 
   full_tree : (n : List ℕ) (attributes : List AttributePair) (children : ValueForest) → ForestFed children
-      → (slash p : Bool) (content : List TokenValue) (s : StateValue) → is_plain_name p n ≡ true
+      → (slash p : Bool) (content : List TokenValue) (s : StateValue) → is_void n ≡ false → is_plain_name p n ≡ true
       → are_plain (p || is_paragraph n) children ≡ true → SpellsForest children content → IsInBody p s
       → Through s (start_tag (tag_named n attributes slash) ∷ (content ++ (end_tag (tag_named n [] false) ∷ [])))
       (on_stack pop (put_trees children (insert_element (name_of_text n) attributes s)))
       × Kept p s (on_stack pop (put_trees children (insert_element (name_of_text n) attributes s)))
-  full_tree n attributes children ih slash p content s e c k h =
+  full_tree n attributes children ih slash p content s v e c k h =
       let name : NameValue = name_of_text n in
       let q : Bool = p || is_paragraph n in
       let new : StateValue = insert_element name attributes s in
       let held : StateValue = put_trees children new in
       let last : TokenValue = end_tag (tag_named n [] false) in
-      let r = ih q content new k c (inside p n attributes s e h) in
+      let r = ih q content new k c (inside p n attributes s (rw v e) h) in
       let closed = one_fed q last held (on_stack pop held) r.1.in_body refl
       (end_fed q held r.1.in_body n (length s.nodes) s.stack p r.1.stack e) in (
         one p (start_tag (tag_named n attributes slash)) h (plain_content z p n e)
@@ -216,7 +239,7 @@ module _ (z : Bool) where
       let f = rw v at g.0 in
       let q : xs ≡ start_tag (tag_named n attributes k.0) ∷ (k.1 ++ (end_tag (tag_named n [] false) ∷ [])) =
       k.3 ∙ ap (λ (ys : List TokenValue). start_tag (tag_named n attributes k.0) ∷ (k.1 ++ ys)) m.1 in
-      rw (v, q) (full_tree n attributes children ih k.0 p k.1 s f g.1 k.4 h))
+      rw (v, q) (full_tree n attributes children ih k.0 p k.1 s v f g.1 k.4 h))
 
   next_tree : (t : ValueTree) (ts : ValueForest) → TreeFed t → ForestFed ts → ForestFed (more t ts)
   next_tree t ts this all p xs s k e h =

@@ -1,12 +1,13 @@
 -- Plain trees, and what they are for the lenient reader's construction in the mode "in body".
-use Rattle.std.specs.Prelude.{◌≡◌, ℕ, ◌<◌, Bool, true, false, not, ◌&&◌, ◌||◌, if◌then◌else◌, List, [], ◌∷◌, ◌++◌, length}
+use Rattle.std.specs.Prelude.{◌≡◌, ℕ, suc, max, ◌<◌, Bool, true, false, not, ◌&&◌, ◌||◌, if◌then◌else◌, List, [], ◌∷◌, ◌++◌, length}
 use Rattle.std.specs.Prelude.{codes}
 use Rattle.htmd_grammar.specs.ValueTrees.{ValueTree, ValueForest, none, more, document, doctype, text, comment, element}
 use Rattle.htmd_grammar.specs.CharacterClasses.{is_among}
 use Rattle.htmd_grammar.specs.Serialisation.{is_void}
 use Rattle.htmd_grammar.specs.Rules.{project}
 use Rattle.htmd_grammar.specs.Grammar.{reads}
-use Rattle.htmd_grammar.specs.Documents.{below_body}
+use Rattle.htmd_grammar.specs.Documents.{below_body, skeleton}
+use Rattle.htmd_tree.specs.Layout.{document_items}
 use Rattle.htmd_html5_tokens.specs.Tokens.{TokenValue}
 use Rattle.htmd_html5_tokens.specs.declared.tokens.Content.TheVariants.{Normal}
 use Rattle.htmd_html5_state.specs.Names.{NameValue, known, other, name_of_text}
@@ -21,7 +22,7 @@ use Rattle.htmd_html5_state.specs.declared.sets.Scope.TheVariants.{Button}
 use Rattle.htmd_html5.specs.SharedRules.{no_frameset}
 use Rattle.htmd_html5.specs.AtOnce.{is_plain, put_at_once}
 use Rattle.htmd_html5.specs.Feeding.{feed}
-use Rattle.htmd_html5.specs.Documents.{state_after}
+use Rattle.htmd_html5.specs.Documents.{state_after, html5_document}
 use Rattle.htmd_html5_laws.specs.StrictReferences.{IsSettled}
 use Rattle.htmd_html5_laws.specs.StrictTokens.{SpellsForest}
 
@@ -74,6 +75,16 @@ abbrev mutual
   pub are_plain : Bool → ValueForest → Bool
   are_plain in_paragraph none = true
   are_plain in_paragraph (more t ts) = is_plain_tree in_paragraph t && are_plain in_paragraph ts
+
+abbrev mutual
+  -- how many levels a tree has
+  pub levels : ValueTree → ℕ
+  levels (element n attributes children) = suc (most_levels children)
+  levels _ = 1
+
+  pub most_levels : ValueForest → ℕ
+  most_levels none = 0
+  most_levels (more t ts) = max (levels t) (most_levels ts)
 
 -- ---- trees that are put below the current node
 
@@ -128,3 +139,11 @@ PlainPagesArePut =
     (scripting : Bool) (s : List ℕ) (content : ValueForest) → IsSettled s → are_plain false content ≡ true
     → reads (project scripting) below_body s content
     → state_after scripting (codes "<body>" ++ s) ≡ put_trees content (state_after scripting (codes "<body>"))
+
+-- Where such trees have fewer than 1,022 levels, so that no node stands as deep as it may, the tree that the lenient
+-- reader gives is the one that the strict grammar gives.
+abbrev pub PlainPagesAgree : Type 0
+PlainPagesAgree =
+    (scripting : Bool) (s : List ℕ) (content : ValueForest) → IsSettled s → are_plain false content ≡ true
+    → most_levels content < 1022 → reads (project scripting) below_body s content
+    → html5_document scripting (codes "<body>" ++ s) ≡ document_items (skeleton content)

@@ -1,7 +1,7 @@
 //! Texts of the strict grammar, as the lenient reader reads them.
 ghost use Rattle.htmd_html5_laws.specs.StrictReferences.{ReferencesAgree};
 ghost use Rattle.htmd_html5_laws.specs.StrictTokens.{TokensAgree};
-ghost use Rattle.htmd_html5_laws.specs.StrictTrees.{PlainPagesArePut, PlainTreesArePut};
+ghost use Rattle.htmd_html5_laws.specs.StrictTrees.{PlainPagesAgree, PlainPagesArePut, PlainTreesArePut};
 
 /// Characters and references denote the same by the strict grammar and by the lenient reader, where line ends are line
 /// feeds, no U+0000 stands, and each reference by name has its `;`.
@@ -26,4 +26,10 @@ pub fn plain_trees_are_put()
 /// nothing else; line ends are line feeds, no U+0000 stands, and each reference by name has its `;`.
 pub fn plain_pages_are_put()
     ensures { PlainPagesArePut }
+{}
+
+/// And if the trees have fewer than 1,022 levels, the tree that the lenient reader gives is that of the strict grammar:
+/// `html` with an empty `head`, and a `body` with the content.
+pub fn plain_pages_agree()
+    ensures { PlainPagesAgree }
 {}
