@@ -79,11 +79,12 @@ pub mod StrictTagsLemmas
 pub mod StrictPieces
 pub mod StrictRawTexts
 pub mod StrictRuns
-pub mod StrictStates
-pub mod StrictTreesLemmas
-pub mod StrictPages
 pub mod StrictNodes
+pub mod StrictOpen
 pub mod StrictLaid
-pub mod StrictPuts
-pub mod StrictAgree
+pub mod StrictNames
+pub mod StrictRules
+pub mod StrictEnds
+pub mod StrictBuilt
+pub mod StrictPages
 mod Examples

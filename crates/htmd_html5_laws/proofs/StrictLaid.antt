@@ -18,21 +18,11 @@ use Rattle.htmd_html5_state.specs.Documents.{NodeValue, kind_at, children_at, wi
 use Rattle.htmd_html5_state.specs.declared.names.TagName.{TagName}
 use Rattle.htmd_html5.specs.Layout.{Coming, coming, Layout, is_deepest, with_kind_of, without_node, put_node}
 use Rattle.htmd_html5.specs.Layout.{layout_within}
-use Rattle.htmd_html5_laws.specs.StrictTrees.{levels, most_levels, is_paragraph, is_plain_element, is_plain_tree, are_plain}
+use Rattle.htmd_html5_laws.specs.StrictTrees.{levels, most_levels, is_plain_element, is_plain_tree, are_plain}
 use Rattle.htmd_html5_laws.proofs.StrictNodes.{numbers, node, tree_nodes, forest_nodes, tree_count, kind_after}
 use Rattle.htmd_html5_laws.proofs.StrictNodes.{children_after}
+use Rattle.htmd_html5_laws.proofs.StrictOpen.{name_kept}
 use Rattle.htmd_html5_state.specs.Documents as documents
-
--- ---- names
-
-found_name : (s : List ℕ) (tags : List TagName) → text_of_name (known_or s (find (is_spelled s) tags)) ≡ s
-found_name s [] = refl
-found_name s (tag ∷ tags) =
-    test (is_spelled s tag) (λ t. rw t (sym (same_bytes s (spelling tag) t))) (λ t. rw t (found_name s tags))
-
-name_kept : (n : List ℕ) → text_of_name (name_of_text n) ≡ n
-name_kept [] = refl
-name_kept (b ∷ s) = found_name (b ∷ s) (names_with b)
 
 -- ---- a node that was laid out
 
@@ -97,19 +87,19 @@ abbrev mutual
   are_content (more t ts) = is_content_tree t && are_content ts
 
 mutual
-  plain_tree_is_content : (q : Bool) (t : ValueTree) → is_plain_tree q t ≡ true → is_content_tree t ≡ true
-  plain_tree_is_content q (document children) e = absurd (cc)
-  plain_tree_is_content q doctype e = absurd (cc)
-  plain_tree_is_content q (text u) e = refl
-  plain_tree_is_content q (comment u) e = refl
-  plain_tree_is_content q (element n attributes children) e =
-      plain_is_content (q || is_paragraph n) children (and_parts (is_plain_element q n) _ e).1
+  plain_tree_is_content : (t : ValueTree) → is_plain_tree t ≡ true → is_content_tree t ≡ true
+  plain_tree_is_content (document children) e = absurd (cc)
+  plain_tree_is_content doctype e = absurd (cc)
+  plain_tree_is_content (text u) e = refl
+  plain_tree_is_content (comment u) e = refl
+  plain_tree_is_content (element n attributes children) e =
+      plain_is_content children (and_parts (is_plain_element n) _ e).1
 
-  pub plain_is_content : (q : Bool) (ts : ValueForest) → are_plain q ts ≡ true → are_content ts ≡ true
-  plain_is_content q none e = refl
-  plain_is_content q (more t ts) e =
-      let k = and_parts (is_plain_tree q t) (are_plain q ts) e in
-      rw (plain_tree_is_content q t k.0, plain_is_content q ts k.1) refl
+  pub plain_is_content : (ts : ValueForest) → are_plain ts ≡ true → are_content ts ≡ true
+  plain_is_content none e = refl
+  plain_is_content (more t ts) e =
+      let k = and_parts (is_plain_tree t) (are_plain ts) e in
+      rw (plain_tree_is_content t k.0, plain_is_content ts k.1) refl
 
 abbrev TreeLaid : ValueTree → Type 0
 TreeLaid t =

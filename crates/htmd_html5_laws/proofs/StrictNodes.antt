@@ -5,6 +5,7 @@ use Rattle.std.specs.Prelude.{insert}
 use Rattle.std.proofs.lemmas.List.{append-nil}
 use Rattle.htmd_grammar.specs.ValueTrees.{AttributePair, ValueTree, ValueForest, none, more, document, doctype, text}
 use Rattle.htmd_grammar.specs.ValueTrees.{comment, element}
+use Rattle.htmd_grammar.specs.Grammar.{Apart}
 use Rattle.htmd_tree.specs.Layout.{size, sizes}
 use Rattle.htmd_html5_state.specs.Names.{html, name_of_text}
 use Rattle.htmd_html5_state.specs.Documents.{KindValue, NodeValue, node_at, kind_at, children_at, text_of, new_node}
@@ -185,3 +186,97 @@ pub new_last_text : (nodes : List NodeValue) (kind : KindValue) (p n : ℕ) → 
 new_last_text nodes kind p n e =
     ap (λ (cs : List ℕ). text_in (nodes ++ node kind p [] ∷ []) (child_before (length cs) cs))
     (children_after nodes (node kind p []) [] n e)
+
+-- ---- trees behind nodes
+
+abbrev pub is_text : ValueTree → Bool
+is_text (text u) = true
+is_text _ = false
+
+abbrev pub begins_text : ValueForest → Bool
+begins_text none = false
+begins_text (more t ts) = is_text t
+
+abbrev pub ends_in_text : ValueTree → Option (List ℕ)
+ends_in_text (text u) = Some u
+ends_in_text _ = None
+
+pub no_text_next : (t : ValueTree) (ts : ValueForest) → Apart t ts → begins_text ts ≡ true → ends_in_text t ≡ None
+no_text_next (text u) (more (text v) ts) a e = absurd a
+no_text_next (text u) none a e = absurd (cc)
+no_text_next (text u) (more (document children) ts) a e = absurd (cc)
+no_text_next (text u) (more doctype ts) a e = absurd (cc)
+no_text_next (text u) (more (comment v) ts) a e = absurd (cc)
+no_text_next (text u) (more (element n attributes children) ts) a e = absurd (cc)
+no_text_next (document children) ts a e = refl
+no_text_next doctype ts a e = refl
+no_text_next (comment u) ts a e = refl
+no_text_next (element n attributes children) ts a e = refl
+
+pub tree_last : (t : ValueTree) (p : ℕ) (nodes : List NodeValue) → p < length nodes
+    → last_text (append_children p (length nodes ∷ []) nodes ++ tree_nodes p (length nodes) t) p ≡ ends_in_text t
+tree_last (document children) p nodes l = last_text_added p nodes _ _ l
+tree_last doctype p nodes l = last_text_added p nodes _ _ l
+tree_last (text u) p nodes l = last_text_added p nodes _ _ l
+tree_last (comment u) p nodes l = last_text_added p nodes _ _ l
+tree_last (element n attributes children) p nodes l = last_text_added p nodes _ _ l
+
+-- the nodes of trees behind these, whose node p holds them
+abbrev pub with_forest : ℕ → ValueForest → List NodeValue → List NodeValue
+with_forest p ts nodes = append_children p (numbers (length nodes) ts) nodes ++ forest_nodes p (length nodes) ts
+
+abbrev pub with_tree : ℕ → ValueTree → List NodeValue → List NodeValue
+with_tree p t nodes = append_children p (length nodes ∷ []) nodes ++ tree_nodes p (length nodes) t
+
+pub with_tree_longer : (p : ℕ) (t : ValueTree) (nodes : List NodeValue) → length nodes ≤ length (with_tree p t nodes)
+with_tree_longer p t nodes =
+    let front : List NodeValue = append_children p (length nodes ∷ []) nodes in
+    omega (arith, append_length p (length nodes ∷ []) nodes, length-append front (tree_nodes p (length nodes) t))
+
+-- what the first nodes are stays
+pub kinds_kept : (p n : ℕ) (ns : List ℕ) (nodes others : List NodeValue) → n < length nodes
+    → kind_at (append_children p ns nodes ++ others) n ≡ kind_at nodes n
+kinds_kept p n ns [] others l = absurd (omega arith)
+kinds_kept zero zero ns (x ∷ nodes) others l = refl
+kinds_kept zero (suc n) ns (x ∷ nodes) others l = kind_before n nodes others (omega arith)
+  where
+    kind_before : (n : ℕ) (nodes others : List NodeValue) → n < length nodes
+        → kind_at (nodes ++ others) n ≡ kind_at nodes n
+    kind_before n [] others l = absurd (omega arith)
+    kind_before zero (x ∷ nodes) others l = refl
+    kind_before (suc n) (x ∷ nodes) others l = kind_before n nodes others (omega arith)
+kinds_kept (suc p) zero ns (x ∷ nodes) others l = refl
+kinds_kept (suc p) (suc n) ns (x ∷ nodes) others l = kinds_kept p n ns nodes others (omega arith)
+
+-- an element with what it holds
+pub filled : (p : ℕ) (n : List ℕ) (attributes : List AttributePair) (children : ValueForest) (nodes : List NodeValue)
+    → with_forest (length nodes) children (append_children p (length nodes ∷ []) nodes
+    ++ node (documents.element (html (name_of_text n)) attributes) p [] ∷ [])
+    ≡ with_tree p (element n attributes children) nodes
+filled p n attributes children nodes =
+    let b : ℕ = length nodes in
+    let front : List NodeValue = append_children p (b ∷ []) nodes in
+    let new : NodeValue = node (documents.element (html (name_of_text n)) attributes) p [] in
+    let long = append_length p (b ∷ []) nodes in
+    let count : length (front ++ new ∷ []) ≡ suc b = omega (arith, long, length-append front (new ∷ [])) in
+    let held : List NodeValue = forest_nodes b (suc b) children in
+    ap (λ m. append_children b (numbers m children) (front ++ new ∷ []) ++ forest_nodes b m children) count
+    ∙ ap (λ (y : List NodeValue). y ++ held) (append_at (numbers (suc b) children) front new [] b long)
+    ∙ append_assoc front (record new { children = numbers (suc b) children } ∷ []) held
+
+-- one more tree
+pub forest_joined : (p : ℕ) (t : ValueTree) (ts : ValueForest) (nodes : List NodeValue) → p < length nodes
+    → with_forest p ts (with_tree p t nodes) ≡ with_forest p (more t ts) nodes
+forest_joined p t ts nodes l =
+    let b : ℕ = length nodes in
+    let front : List NodeValue = append_children p (b ∷ []) nodes in
+    let here : List NodeValue = tree_nodes p b t in
+    let later : List NodeValue = forest_nodes p (b + size t) ts in
+    let long = append_length p (b ∷ []) nodes in
+    let count : length (front ++ here) ≡ b + size t =
+    omega (arith, long, length-append front here, tree_count p b t) in
+    ap (λ m. append_children p (numbers m ts) (front ++ here) ++ forest_nodes p m ts) count
+    ∙ ap (λ (y : List NodeValue). y ++ later)
+    (append_front p (numbers (b + size t) ts) front here (omega (arith, long, l))
+    ∙ ap (λ (y : List NodeValue). y ++ here) (append_twice p (b ∷ []) (numbers (b + size t) ts) nodes l))
+    ∙ append_assoc (append_children p (numbers b (more t ts)) nodes) here later

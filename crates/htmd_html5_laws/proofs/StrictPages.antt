@@ -1,94 +1,162 @@
--- A page of the strict grammar that denotes plain trees: the lenient reader puts them into the body.
-use Rattle.std.proofs.Common.{◌≡◌, ℕ, zero, suc, ◌≤◌, Bool, true, false, not, ◌&&◌, ◌||◌, List, [], ◌∷◌, ◌++◌, length}
-use Rattle.std.proofs.Common.{refl, sym, ap, ◌∙◌, arith, codes}
-use Rattle.std.proofs.lemmas.Bool.{and_parts, or_left, or_right}
+-- A page of the strict grammar with plain trees: the lenient reader gives the same tree.
+use Rattle.std.proofs.Common.{◌≡◌, ◌⊎◌, ℕ, zero, suc, ◌+◌, ◌<◌, ◌≤◌, Bool, true, false, not, ◌&&◌, ◌||◌, List, [], ◌∷◌, ◌++◌}
+use Rattle.std.proofs.Common.{length, map, None, refl, sym, ap, ◌∙◌, arith, inl, inr, codes}
+use Rattle.std.proofs.lemmas.Bool.{and_parts, or_parts, not-true}
+use Rattle.std.proofs.lemmas.List.{append-nil}
 use Rattle.htmd_text.proofs.Cases.{test}
-use Rattle.htmd_grammar.specs.ValueTrees.{ValueTree, ValueForest, none, more, document, doctype, text, comment, element}
+use Rattle.htmd_grammar.specs.ValueTrees.{AttributePair, ValueTree, ValueForest, none, more, document, doctype, text}
+use Rattle.htmd_grammar.specs.ValueTrees.{comment, element}
 use Rattle.htmd_grammar.specs.CharacterClasses.{is_among}
 use Rattle.htmd_grammar.specs.Serialisation.{is_void}
 use Rattle.htmd_grammar.specs.Rules.{project}
-use Rattle.htmd_grammar.specs.Grammar.{reads}
-use Rattle.htmd_grammar.specs.Documents.{below_body}
+use Rattle.htmd_grammar.specs.Grammar.{ReadsTree, ReadsForest}
+use Rattle.htmd_grammar.specs.Nesting.{parent_name, is_allowed, is_outside, fits_table, fits_select, fits_open_elements}
+use Rattle.htmd_grammar.specs.Nesting.{fits_lists, closes_paragraph, excludes_itself, is_optgroup, is_heading, is_open}
+use Rattle.htmd_grammar.specs.Nesting.{is_met_before}
+use Rattle.htmd_grammar.specs.RawContent.{holds_text_alone, content_of}
+use Rattle.htmd_grammar.specs.Documents.{skeleton}
+use Rattle.htmd_grammar.proofs.TreeTexts.{Inside}
+use Rattle.htmd_tree.specs.Items.{document_item, greatest_depth}
+use Rattle.htmd_tree.specs.Layout.{sizes, document_items}
 use Rattle.htmd_html5_tokens.specs.Tokens.{TokenValue, start_tag, end_of_file}
 use Rattle.htmd_html5_tokens.specs.NextToken.{next_token}
 use Rattle.htmd_html5_tokens.specs.declared.tokens.Content.{Content}
 use Rattle.htmd_html5_tokens.specs.declared.tokens.Content.TheVariants.{Normal}
+use Rattle.htmd_html5_state.specs.Names.{html, name_of_text}
+use Rattle.htmd_html5_state.specs.Documents.{NodeValue}
 use Rattle.htmd_html5_state.specs.Foreign.{current_is_html}
 use Rattle.htmd_html5_state.specs.State.{StateValue, initial_state}
 use Rattle.htmd_html5.specs.Feeding.{feed}
-use Rattle.htmd_html5.specs.Documents.{next_read, after_token, read_within, state_after}
+use Rattle.htmd_html5.specs.Documents.{next_read, after_token, read_within, state_after, html5_document}
+use Rattle.htmd_html5.specs.Layout.{coming, Layout, document_of, layout_within}
 use Rattle.htmd_html5_laws.specs.StrictReferences.{IsSettled}
-use Rattle.htmd_html5_laws.specs.StrictTokens.{content_after, tag_named, is_set_aside, is_simple_tree, is_simple}
-use Rattle.htmd_html5_laws.specs.StrictTrees.{void_names, is_plain_name, is_plain_element, is_paragraph, is_plain_tree}
-use Rattle.htmd_html5_laws.specs.StrictTrees.{are_plain, put_trees, IsInBody, PlainPagesArePut}
+use Rattle.htmd_html5_laws.specs.StrictTokens.{content_after, tag_named, is_simple_tree, is_simple}
+use Rattle.htmd_html5_laws.specs.StrictTrees.{is_plain_element, is_plain_tree, are_plain, most_levels, PlainPagesAgree}
 use Rattle.htmd_html5_laws.proofs.StrictPieces.{read, lines_same}
-use Rattle.htmd_html5_laws.proofs.StrictRawTexts.{is_name}
 use Rattle.htmd_html5_laws.proofs.StrictRuns.{Run, here, onward, content_read}
-use Rattle.htmd_html5_laws.proofs.StrictStates.{end_of_file_fed}
-use Rattle.htmd_html5_laws.proofs.StrictTreesLemmas.{Through, nothing, one, forest_fed}
+use Rattle.htmd_html5_laws.proofs.StrictNodes.{numbers, node, forest_nodes, forest_count, with_forest}
+use Rattle.htmd_html5_laws.proofs.StrictOpen.{stands_html, the_document, open_met}
+use Rattle.htmd_html5_laws.proofs.StrictLaid.{layout, are_content, plain_is_content, forest_laid}
+use Rattle.htmd_html5_laws.proofs.StrictNames.{aside_element}
+use Rattle.htmd_html5_laws.proofs.StrictRules.{IsInBody, Fits, end_of_file_fed}
+use Rattle.htmd_html5_laws.proofs.StrictBuilt.{Through, nothing, one, FitsTree, FitsForest, forest_built}
+use Rattle.htmd_html5_state.specs.Documents as documents
 
 -- ---- plain trees are simple
 
-aside_name : (p : Bool) (n : List ℕ) → (is_plain_name p n || is_among void_names n) ≡ true
-    → is_set_aside n ≡ false
-aside_name p n e =
-    is_name n (codes "pre") (λ t. absurd (let w = rw t at e in cc))
-    (λ a. is_name n (codes "textarea") (λ t. absurd (let w = rw t at e in cc))
-    (λ b. is_name n (codes "script") (λ t. absurd (let w = rw t at e in cc))
-    (λ c. is_name n (codes "tbody") (λ t. absurd (let w = rw t at e in cc)) (λ d. rw (a, b, c, d) refl))))
-
-aside_element : (p : Bool) (n : List ℕ) → is_plain_element p n ≡ true → is_set_aside n ≡ false
-aside_element p n e =
-    test (is_void n)
-    (λ v. aside_name p n (or_right (is_plain_name p n) (is_among void_names n) (rw v at e)))
-    (λ v. aside_name p n (or_left (is_plain_name p n) (is_among void_names n) (rw v at e)))
-
 mutual
-  plain_tree_is_simple : (p : Bool) (t : ValueTree) → is_plain_tree p t ≡ true → is_simple_tree t ≡ true
-  plain_tree_is_simple p (document children) e = refl
-  plain_tree_is_simple p doctype e = refl
-  plain_tree_is_simple p (text u) e = refl
-  plain_tree_is_simple p (comment u) e = refl
-  plain_tree_is_simple p (element n attributes children) e =
-      let g = and_parts (is_plain_element p n) _ e in
-      rw (aside_element p n g.0, plain_is_simple (p || is_paragraph n) children g.1) refl
+  plain_tree_is_simple : (t : ValueTree) → is_plain_tree t ≡ true → is_simple_tree t ≡ true
+  plain_tree_is_simple (document children) e = refl
+  plain_tree_is_simple doctype e = refl
+  plain_tree_is_simple (text u) e = refl
+  plain_tree_is_simple (comment u) e = refl
+  plain_tree_is_simple (element n attributes children) e =
+      let g = and_parts (is_plain_element n) (are_plain children) e in
+      rw (aside_element n g.0, plain_is_simple children g.1) refl
 
-  plain_is_simple : (p : Bool) (ts : ValueForest) → are_plain p ts ≡ true → is_simple ts ≡ true
-  plain_is_simple p none e = refl
-  plain_is_simple p (more t ts) e =
-      let k = and_parts (is_plain_tree p t) (are_plain p ts) e in
-      rw (plain_tree_is_simple p t k.0, plain_is_simple p ts k.1) refl
+  plain_is_simple : (ts : ValueForest) → are_plain ts ≡ true → is_simple ts ≡ true
+  plain_is_simple none e = refl
+  plain_is_simple (more t ts) e =
+      let k = and_parts (is_plain_tree t) (are_plain ts) e in
+      rw (plain_tree_is_simple t k.0, plain_is_simple ts k.1) refl
+
+-- ---- what the grammar allows
+
+not_both : (x y : Bool) → not (x && y) ≡ true → x ≡ true → y ≡ false
+not_both true y e f = not-true y e
+not_both false y e f = absurd (cc)
+
+element_fits : (z : Bool) (c : List (List ℕ)) (n : List ℕ) → is_allowed z (c ++ the_document) n ≡ true → Fits c n
+unfolding is_allowed
+element_fits z c n a =
+    let d : List (List ℕ) = c ++ the_document in
+    let lists_ = and_parts (not (is_outside n) && not (holds_text_alone z (parent_name d)) && fits_table (parent_name d) n
+    && fits_select (parent_name d) n && fits_open_elements d n) (fits_lists d n) a in
+    let open_ = (and_parts (not (is_outside n) && not (holds_text_alone z (parent_name d)) && fits_table (parent_name d) n
+    && fits_select (parent_name d) n) (fits_open_elements d n) lists_.0).1 in
+    let heads = and_parts (not (closes_paragraph n && is_open (codes "p" ∷ []) d)
+    && not (excludes_itself n && is_open (n ∷ []) d)
+    && not (is_optgroup n && is_open (codes "optgroup" ∷ codes "option" ∷ []) d))
+    (not (is_heading n && is_heading (parent_name d))) open_ in
+    let groups = and_parts (not (closes_paragraph n && is_open (codes "p" ∷ []) d)
+    && not (excludes_itself n && is_open (n ∷ []) d)) _ heads.0 in
+    let both = and_parts (not (closes_paragraph n && is_open (codes "p" ∷ []) d))
+    (not (excludes_itself n && is_open (n ∷ []) d)) groups.0 in
+    let items = and_parts (not (is_among (codes "li" ∷ []) n
+    && is_met_before (codes "li" ∷ []) (codes "ul" ∷ codes "ol" ∷ codes "menu" ∷ codes "dir" ∷ []) d))
+    (not (is_among (codes "dd" ∷ codes "dt" ∷ []) n
+    && is_met_before (codes "dd" ∷ codes "dt" ∷ []) (codes "dl" ∷ []) d)) lists_.1 in
+    record {
+      paragraph = λ e. open_met (codes "p" ∷ []) d (not_both (closes_paragraph n) (is_open (codes "p" ∷ []) d) both.0 e);
+      anchor = λ e. open_met (codes "a" ∷ []) d
+          (not_both (excludes_itself (codes "a")) (is_open (codes "a" ∷ []) d) (rw e at both.1) refl);
+      heading = λ e. not_both (is_heading n) (is_heading (parent_name d)) heads.1 e;
+      item = λ e. not_both (is_among (codes "li" ∷ []) n) _ items.0 (rw e refl);
+      part = λ e. not_both (is_among (codes "dd" ∷ codes "dt" ∷ []) n) _ items.1 e;
+    }
+
+-- ---- trees of the grammar fit
+
+module _ (z : Bool) where
+  content_fits : (n : List ℕ) (children : ValueForest)
+      → ((c : List (List ℕ)) (last : Bool) (s : List ℕ) → ReadsForest (project z) (c ++ the_document) last children s
+      → FitsForest c children)
+      → (attributes : List AttributePair) (c : List (List ℕ)) (last : Bool) (s : List ℕ)
+      → Inside (project z) (c ++ the_document) last n attributes children s → FitsForest (n ∷ c) children
+  content_fits n children ih attributes c last s (inl w) =
+      test (is_void n)
+      (λ v. let m = rw v at w.5 in rw m.2 tt)
+      (λ v. let m = rw v at w.5 in ih (n ∷ c) true (content_of n w.1) m.0)
+  content_fits n children ih attributes c last s (inr w) = ih (n ∷ c) true w.0 w.6
+
+  mutual
+    tree_fits : (t : ValueTree) (c : List (List ℕ)) (last : Bool) (s : List ℕ)
+        → ReadsTree (project z) (c ++ the_document) last t s → FitsTree c t
+    tree_fits (document children) c last s h = tt
+    tree_fits doctype c last s h = tt
+    tree_fits (text u) c last s h = tt
+    tree_fits (comment u) c last s h = tt
+    tree_fits (element n attributes children) c last s h =
+        (element_fits z c n h.0, content_fits n children (λ d l r k. forest_fits children d l r k) attributes c last s h.2)
+
+    forest_fits : (ts : ValueForest) (c : List (List ℕ)) (last : Bool) (s : List ℕ)
+        → ReadsForest (project z) (c ++ the_document) last ts s → FitsForest c ts
+    forest_fits none c last s h = tt
+    forest_fits (more t ts) c last s h = (h.3, tree_fits t c _ h.0 h.4, forest_fits ts c last h.1 h.5)
 
 -- ---- reading and feeding in step
 
 abbrev Parts : Bool → StateValue → List TokenValue → StateValue → Type 0
 Parts z s [] new = s ≡ new
 Parts z s (x ∷ xs) new =
-    (p : Bool) × IsInBody p s × (content_after z Normal x ≡ Normal) × Through z (feed x s) xs new
+    (p : List ℕ) × (c : List (List ℕ)) × IsInBody (p ∷ c) s × (content_after z Normal x ≡ Normal)
+    × Through z (feed x s) xs new
 
 parts : (z : Bool) {s new : StateValue} {xs : List TokenValue} → Through z s xs new → Parts z s xs new
 parts z nothing = refl
-parts z (one p x h e r) = (p, h, e, r)
+parts z (one p c x h e r) = (p, c, h, e, r)
 
-nothing_left : (k : ℕ) (p : Bool) (s : StateValue) → IsInBody p s → read_within k [] s ≡ s
-nothing_left zero p s h = end_of_file_fed p s h
-nothing_left (suc k) p s h =
-    ap (λ c. after_token (read_within k) (next_token c (not (current_is_html s.stack)) []) s) h.content
-    ∙ end_of_file_fed p s h
+nothing_left : (k : ℕ) (p : List ℕ) (c : List (List ℕ)) (s : StateValue) → IsInBody (p ∷ c) s
+    → read_within k [] s ≡ s
+nothing_left zero p c s h = end_of_file_fed p c s h
+nothing_left (suc k) p c s h =
+    ap (λ m. after_token (read_within k) (next_token m (not (current_is_html s.stack)) []) s) h.content
+    ∙ end_of_file_fed p c s h
 
 in_step : (z : Bool) (k : ℕ) (now after : Content) (page left : List ℕ) (xs : List TokenValue) (s new : StateValue)
-    (p : Bool) → Run z now page xs after left → now ≡ Normal → left ≡ [] → Parts z s xs new → IsInBody p new
+    (p : List ℕ) (c : List (List ℕ)) → Run z now page xs after left → now ≡ Normal → left ≡ [] → Parts z s xs new
+    → IsInBody (p ∷ c) new
     → length page ≤ k → read_within k page s ≡ new
-in_step z k now after page left xs s new p here n e r h l = rw (e, r) (nothing_left k p new h)
-in_step z zero now after page left xs s new p (onward token rest f g m q) n e r h l = absurd (omega arith)
-in_step z (suc k) now after page left xs s new p (onward token rest f g m q) n e r h l =
-    let there = r.1 in
+in_step z k now after page left xs s new p c here n e r h l = rw (e, r) (nothing_left k p c new h)
+in_step z zero now after page left xs s new p c (onward token rest f g m q) n e r h l = absurd (omega arith)
+in_step z (suc k) now after page left xs s new p c (onward token rest f g m q) n e r h l =
+    let there = r.2 in
     let token_read : next_read page s ≡ read token rest =
     ap (λ c. next_token c (not (current_is_html s.stack)) page) there.content
-    ∙ ap (λ b. next_token Normal (not b) page) there.html ∙ ap (λ c. next_token c false page) (sym n) ∙ f in
-    let normal : content_after z now token ≡ Normal = ap (λ c. content_after z c token) n ∙ r.2 in
+    ∙ ap (λ b. next_token Normal (not b) page) (stands_html s.nodes (r.0 ∷ r.1) s.stack there.stands) ∙ ap (λ c. next_token c false page) (sym n) ∙ f in
+    let normal : content_after z now token ≡ Normal = ap (λ c. content_after z c token) n ∙ r.3 in
     ap (λ x. after_token (read_within k) x s) token_read
-    ∙ rw g (in_step z k _ after rest left _ (feed token s) new p q normal e (parts z r.3) h (omega (arith, m, l)))
+    ∙ rw g (in_step z k _ after rest left _ (feed token s) new p c q normal e (parts z r.4) h (omega (arith, m, l)))
 
 -- ---- the page
 
@@ -96,17 +164,21 @@ in_step z (suc k) now after page left xs s new p (onward token rest f g m q) n e
 abbrev pub body_state : Bool → StateValue
 body_state z = feed (start_tag (tag_named (codes "body") [] false)) (initial_state z)
 
-pub body_state_is : (z : Bool) → IsInBody false (body_state z)
+body_state_is : (z : Bool) → IsInBody (codes "body" ∷ codes "html" ∷ []) (body_state z)
 body_state_is z = record {
   mode = refl;
   content = refl;
   no_skip = refl;
   no_foster = refl;
-  nothing_listed = refl;
   no_template = refl;
-  html = refl;
-  within = omega arith;
-  no_paragraph = λ e. refl;
+  listed = inl (inl refl);
+  stands = (
+    refl,
+    ([], refl),
+    omega arith,
+    (omega arith, tt),
+    (refl, ([], refl), omega arith, tt, tt),
+  );
 }
 
 body_tag_read : (z : Bool) (s : List ℕ)
@@ -120,21 +192,44 @@ page_read z s k =
     (lines_same s k.line_feeds)
     ∙ ap (λ r. after_token (read_within (length (codes "body>" ++ s))) r (initial_state z)) (body_tag_read z s)
 
-settled_nothing : IsSettled []
-settled_nothing = record { line_feeds = refl; no_null = refl; references_end = refl; }
+-- the Document, which holds `html`
+abbrev root : NodeValue
+root = record { kind = documents.document; parent = None; children = 1 ∷ [] }
 
-pub page_put : (z : Bool) (s : List ℕ) (content : ValueForest) → IsSettled s → are_plain false content ≡ true
-    → reads (project z) below_body s content
-    → state_after z (codes "<body>" ++ s) ≡ put_trees content (body_state z)
-page_put z s content k e h =
-    let r = content_read z s content k (plain_is_simple false content e) h in
-    let f = forest_fed z content false r.0 (body_state z) r.1 e (body_state_is z) in
+-- the nodes of a page with this content
+page_nodes : (z : Bool) (content : ValueForest)
+    → with_forest 3 content (body_state z).nodes ≡ root ∷ forest_nodes 0 1 (skeleton content)
+page_nodes z content =
+    let held : List NodeValue = forest_nodes 3 4 content in
+    ap (λ (ns : List NodeValue). root ∷ node (documents.element (html (name_of_text (codes "html"))) []) 0 (2 ∷ 3 ∷ [])
+    ∷ node (documents.element (html (name_of_text (codes "head"))) []) 1 []
+    ∷ node (documents.element (html (name_of_text (codes "body"))) []) 1 (numbers 4 content) ∷ ns)
+    (sym (append-nil (held ++ []) ∙ append-nil held))
+
+-- and their layout
+page_laid : (content : ValueForest) → are_content content ≡ true → most_levels content < 1022
+    → document_of greatest_depth (root ∷ forest_nodes 0 1 (skeleton content)) ≡ document_items (skeleton content)
+page_laid content c l =
+    let nodes : List NodeValue = forest_nodes 0 1 (skeleton content) in
+    let count : length (root ∷ nodes) ≡ sizes (skeleton content) + 1 =
+    omega (arith, forest_count 0 1 (skeleton content)) in
+    ap (λ ns. (layout_within greatest_depth (length (root ∷ nodes))
+    (layout (root ∷ ns) (document_item ∷ []) (map (coming 0) (1 ∷ []) ++ []))).items) (sym (append-nil nodes))
+    ∙ ap (λ (x : Layout). x.items)
+    (forest_laid (skeleton content) greatest_depth 1 (length (root ∷ nodes)) 0 0 1 (root ∷ []) [] (document_item ∷ []) []
+    (rw c refl) refl (omega arith) (omega (arith, l)) count)
+
+pub pages_agree : PlainPagesAgree
+unfolding html5_document
+pages_agree z s content k e l h =
+    let r = content_read z s content k (plain_is_simple content e) h in
+    let f = forest_fits z content (codes "body" ∷ codes "html" ∷ []) true s h in
+    let b = forest_built z content (codes "body") (codes "html" ∷ []) r.0 (body_state z) r.1 e f (body_state_is z)
+    (λ t. refl) in
+    let whole : state_after z (codes "<body>" ++ s) ≡ b.0 =
     page_read z s k
-    ∙ in_step z (length (codes "body>" ++ s)) Normal Normal s [] r.0 (body_state z) (put_trees content (body_state z))
-    false r.2 refl refl (parts z f.0) f.1.in_body (omega arith)
-
-pub pages_put : PlainPagesArePut
-pages_put z s content k e h =
-    let alone : state_after z (codes "<body>") ≡ body_state z =
-    page_read z [] settled_nothing ∙ nothing_left 5 false (body_state z) (body_state_is z) in
-    page_put z s content k e h ∙ ap (put_trees content) (sym alone)
+    ∙ in_step z (length (codes "body>" ++ s)) Normal Normal s [] r.0 (body_state z) b.0 (codes "body") (codes "html" ∷ [])
+    r.2 refl refl (parts z b.1.through) b.1.in_body (omega arith) in
+    ap (λ st. document_of greatest_depth st.nodes) whole
+    ∙ ap (document_of greatest_depth) (b.1.nodes_are ∙ page_nodes z content)
+    ∙ page_laid content (plain_is_content content e) l

@@ -1,4 +1,4 @@
-use Rattle.htmd_html5_laws.proofs.StrictAgree.{pages_agree}
+use Rattle.htmd_html5_laws.proofs.StrictPages.{pages_agree}
 use Rattle.htmd_html5_laws.proofs.strict.plain_pages_agree.Goals as goal
 
 pub returns : goal.returns
