@@ -61,75 +61,168 @@ like_span : Each (Like tags.Span) ordinary_names
 unfolding block_rule formatting_rule phrasing_rule text_end_rule
 like_span = (
   (tags.Ruby, refl, refl, refl),
-  ((tags.Span, refl, refl, refl),
-  ((tags.Sub, refl, refl, refl),
-  ((tags.Sup, refl, refl, refl),
-  ((tags.Var, refl, refl, refl),
-  tt)))))
+  (
+    (tags.Span, refl, refl, refl),
+    (
+      (tags.Sub, refl, refl, refl),
+      (
+        (tags.Sup, refl, refl, refl),
+        (
+          (tags.Var, refl, refl, refl),
+          tt,
+        ),
+      ),
+    ),
+  ),
+)
 
 like_b : Each (Like tags.B) formatting_names
 unfolding block_rule formatting_rule phrasing_rule text_end_rule
 like_b = (
   (tags.B, refl, refl, refl),
-  ((tags.Big, refl, refl, refl),
-  ((tags.Code, refl, refl, refl),
-  ((tags.Em, refl, refl, refl),
-  ((tags.Font, refl, refl, refl),
-  ((tags.I, refl, refl, refl),
-  ((tags.S, refl, refl, refl),
-  ((tags.Small, refl, refl, refl),
-  ((tags.Strike, refl, refl, refl),
-  ((tags.Strong, refl, refl, refl),
-  ((tags.Tt, refl, refl, refl),
-  ((tags.U, refl, refl, refl),
-  tt))))))))))))
+  (
+    (tags.Big, refl, refl, refl),
+    (
+      (tags.Code, refl, refl, refl),
+      (
+        (tags.Em, refl, refl, refl),
+        (
+          (tags.Font, refl, refl, refl),
+          (
+            (tags.I, refl, refl, refl),
+            (
+              (tags.S, refl, refl, refl),
+              (
+                (tags.Small, refl, refl, refl),
+                (
+                  (tags.Strike, refl, refl, refl),
+                  (
+                    (tags.Strong, refl, refl, refl),
+                    (
+                      (tags.Tt, refl, refl, refl),
+                      (
+                        (tags.U, refl, refl, refl),
+                        tt,
+                      ),
+                    ),
+                  ),
+                ),
+              ),
+            ),
+          ),
+        ),
+      ),
+    ),
+  ),
+)
 
 like_div : Each LikeBlock block_names
 unfolding block_rule formatting_rule phrasing_rule text_end_rule
 like_div = (
   ((tags.Address, refl, refl, refl), refl),
-  (((tags.Article, refl, refl, refl), refl),
-  (((tags.Aside, refl, refl, refl), refl),
-  (((tags.BlockQuote, refl, refl, refl), refl),
-  (((tags.Center, refl, refl, refl), refl),
-  (((tags.Details, refl, refl, refl), refl),
-  (((tags.Dialog, refl, refl, refl), refl),
-  (((tags.Dir, refl, refl, refl), refl),
-  (((tags.Div, refl, refl, refl), refl),
-  (((tags.Dl, refl, refl, refl), refl),
-  (((tags.FieldSet, refl, refl, refl), refl),
-  (((tags.FigCaption, refl, refl, refl), refl),
-  (((tags.Figure, refl, refl, refl), refl),
-  (((tags.Footer, refl, refl, refl), refl),
-  (((tags.Header, refl, refl, refl), refl),
-  (((tags.HGroup, refl, refl, refl), refl),
-  (((tags.Main, refl, refl, refl), refl),
-  (((tags.Menu, refl, refl, refl), refl),
-  (((tags.Nav, refl, refl, refl), refl),
-  (((tags.Ol, refl, refl, refl), refl),
-  (((tags.Search, refl, refl, refl), refl),
-  (((tags.Section, refl, refl, refl), refl),
-  (((tags.Summary, refl, refl, refl), refl),
-  (((tags.Ul, refl, refl, refl), refl),
-  tt))))))))))))))))))))))))
+  (
+    ((tags.Article, refl, refl, refl), refl),
+    (
+      ((tags.Aside, refl, refl, refl), refl),
+      (
+        ((tags.BlockQuote, refl, refl, refl), refl),
+        (
+          ((tags.Center, refl, refl, refl), refl),
+          (
+            ((tags.Details, refl, refl, refl), refl),
+            (
+              ((tags.Dialog, refl, refl, refl), refl),
+              (
+                ((tags.Dir, refl, refl, refl), refl),
+                (
+                  ((tags.Div, refl, refl, refl), refl),
+                  (
+                    ((tags.Dl, refl, refl, refl), refl),
+                    (
+                      ((tags.FieldSet, refl, refl, refl), refl),
+                      (
+                        ((tags.FigCaption, refl, refl, refl), refl),
+                        (
+                          ((tags.Figure, refl, refl, refl), refl),
+                          (
+                            ((tags.Footer, refl, refl, refl), refl),
+                            (
+                              ((tags.Header, refl, refl, refl), refl),
+                              (
+                                ((tags.HGroup, refl, refl, refl), refl),
+                                (
+                                  ((tags.Main, refl, refl, refl), refl),
+                                  (
+                                    ((tags.Menu, refl, refl, refl), refl),
+                                    (
+                                      ((tags.Nav, refl, refl, refl), refl),
+                                      (
+                                        ((tags.Ol, refl, refl, refl), refl),
+                                        (
+                                          ((tags.Search, refl, refl, refl), refl),
+                                          (
+                                            ((tags.Section, refl, refl, refl), refl),
+                                            (
+                                              ((tags.Summary, refl, refl, refl), refl),
+                                              (
+                                                ((tags.Ul, refl, refl, refl), refl),
+                                                tt,
+                                              ),
+                                            ),
+                                          ),
+                                        ),
+                                      ),
+                                    ),
+                                  ),
+                                ),
+                              ),
+                            ),
+                          ),
+                        ),
+                      ),
+                    ),
+                  ),
+                ),
+              ),
+            ),
+          ),
+        ),
+      ),
+    ),
+  ),
+)
 
 like_h1 : Each LikeHeading heading_names
 unfolding block_rule formatting_rule phrasing_rule text_end_rule
 like_h1 = (
   ((tags.H1, refl, refl, refl), refl, refl, refl),
-  (((tags.H2, refl, refl, refl), refl, refl, refl),
-  (((tags.H3, refl, refl, refl), refl, refl, refl),
-  (((tags.H4, refl, refl, refl), refl, refl, refl),
-  (((tags.H5, refl, refl, refl), refl, refl, refl),
-  (((tags.H6, refl, refl, refl), refl, refl, refl),
-  tt))))))
+  (
+    ((tags.H2, refl, refl, refl), refl, refl, refl),
+    (
+      ((tags.H3, refl, refl, refl), refl, refl, refl),
+      (
+        ((tags.H4, refl, refl, refl), refl, refl, refl),
+        (
+          ((tags.H5, refl, refl, refl), refl, refl, refl),
+          (
+            ((tags.H6, refl, refl, refl), refl, refl, refl),
+            tt,
+          ),
+        ),
+      ),
+    ),
+  ),
+)
 
 like_dd : Each LikePart (codes "dd" ∷ codes "dt" ∷ [])
 unfolding block_rule formatting_rule phrasing_rule text_end_rule
 like_dd = (
   ((tags.Dd, refl, refl, refl), refl, refl),
-  (((tags.Dt, refl, refl, refl), refl, refl),
-  tt))
+  (
+    ((tags.Dt, refl, refl, refl), refl, refl),
+    tt,
+  ),
+)
 
 -- a known tag that starts as `br` does
 abbrev pub StartsVoid : List ℕ → Type 0
@@ -139,12 +232,23 @@ pub start_void : Each StartsVoid void_names
 unfolding block_rule formatting_rule phrasing_rule
 start_void = (
   (tags.Area, refl, refl),
-  ((tags.Br, refl, refl),
-  ((tags.Embed, refl, refl),
-  ((tags.Img, refl, refl),
-  ((tags.KeyGen, refl, refl),
-  ((tags.Wbr, refl, refl),
-  tt))))))
+  (
+    (tags.Br, refl, refl),
+    (
+      (tags.Embed, refl, refl),
+      (
+        (tags.Img, refl, refl),
+        (
+          (tags.KeyGen, refl, refl),
+          (
+            (tags.Wbr, refl, refl),
+            tt,
+          ),
+        ),
+      ),
+    ),
+  ),
+)
 
 -- which rules a plain name has
 pub data PlainCase (n : List ℕ) : Type 0 where

@@ -91,24 +91,24 @@ pub raw_content : (z : Bool) (n : List ℕ) → holds_text_alone z n ≡ true �
 raw_content z n e o =
     is_name n (codes "title")
     (λ t. subst Found (sym t)
-    (raw.Title, record { content = refl; size = λ s. refl; text = λ s u k w. is_title z s u k w; }))
+    (raw.Title, record { content = refl; size = λ s. refl; text = λ s u k w. is_title z s u k w }))
     (λ a. is_name n (codes "textarea") (λ t. absurd (let w = rw t at o in cc))
     (λ b. is_name n (codes "script") (λ t. absurd (let w = rw t at o in cc))
     (λ c. is_name n (codes "style")
     (λ t. subst Found (sym t)
-    (raw.Style, record { content = refl; size = λ s. refl; text = λ s u k w. plain raw.Style s u k w refl; }))
+    (raw.Style, record { content = refl; size = λ s. refl; text = λ s u k w. plain raw.Style s u k w refl }))
     (λ d. is_name n (codes "iframe")
     (λ t. subst Found (sym t)
-    (raw.Iframe, record { content = refl; size = λ s. refl; text = λ s u k w. plain raw.Iframe s u k w refl; }))
+    (raw.Iframe, record { content = refl; size = λ s. refl; text = λ s u k w. plain raw.Iframe s u k w refl }))
     (λ f. is_name n (codes "noembed")
     (λ t. subst Found (sym t)
-    (raw.Noembed, record { content = refl; size = λ s. refl; text = λ s u k w. plain raw.Noembed s u k w refl; }))
+    (raw.Noembed, record { content = refl; size = λ s. refl; text = λ s u k w. plain raw.Noembed s u k w refl }))
     (λ g. is_name n (codes "noframes")
     (λ t. subst Found (sym t)
-    (raw.Noframes, record { content = refl; size = λ s. refl; text = λ s u k w. plain raw.Noframes s u k w refl; }))
+    (raw.Noframes, record { content = refl; size = λ s. refl; text = λ s u k w. plain raw.Noframes s u k w refl }))
     (λ h. is_name n (codes "xmp")
     (λ t. subst Found (sym t)
-    (raw.Xmp, record { content = refl; size = λ s. refl; text = λ s u k w. plain raw.Xmp s u k w refl; }))
+    (raw.Xmp, record { content = refl; size = λ s. refl; text = λ s u k w. plain raw.Xmp s u k w refl }))
     (λ i. is_name n (codes "noscript")
     (λ t. subst Found (sym t) (no_script z (rw t at e)))
     (λ j. absurd (none_left z (rw (a, b, c, d, f, g, h, i, j) at e)))))))))))
@@ -120,7 +120,7 @@ raw_content z n e o =
         → (kind : RawElement) × IsRaw z (codes "noscript") kind
     no_script true e = (
       raw.Noscript,
-      record { content = refl; size = λ s. refl; text = λ s u k w. plain raw.Noscript s u k w refl; },
+      record { content = refl; size = λ s. refl; text = λ s u k w. plain raw.Noscript s u k w refl },
     )
     no_script false e = absurd (cc)
 

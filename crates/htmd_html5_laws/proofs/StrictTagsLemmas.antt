@@ -315,7 +315,7 @@ form_read (a ∷ spelled) present (suc k) s x h l =
 
 value_settled : (value r x v : List ℕ) → IsValue value r v → Ends r x → IsSettled (value ++ (r ++ x)) → IsSettled v
 value_settled value r x v (inl h) n k =
-    rw h.1 (record { line_feeds = refl; no_null = refl; references_end = refl; })
+    rw h.1 (record { line_feeds = refl; no_null = refl; references_end = refl })
 value_settled value r x v (inr (inl h)) n k =
     let e : value ++ (r ++ x) ≡ h.0 ++ (h.1 ∷ (v ++ (h.1 ∷ (r ++ x)))) =
     ap (λ (y : List ℕ). y ++ (r ++ x)) h.2 ∙ append_assoc h.0 (h.1 ∷ (v ++ h.1 ∷ [])) (r ++ x)
