@@ -23,7 +23,7 @@ use Rattle.htmd_html5_state.specs.State.{StateValue}
 use Rattle.htmd_html5.specs.AtOnce.{put_at_once}
 use Rattle.htmd_html5.specs.Feeding.{feed}
 use Rattle.htmd_html5_laws.specs.StrictTokens.{content_after, tag_named, SpellsTree, SpellsForest}
-use Rattle.htmd_html5_laws.specs.StrictTrees.{void_names, separator_names, is_plain_name, is_plain_element, is_plain_tree}
+use Rattle.htmd_html5_laws.specs.StrictTrees.{is_plain_name, is_plain_element, is_plain_tree}
 use Rattle.htmd_html5_laws.specs.StrictTrees.{are_plain}
 use Rattle.htmd_html5_laws.proofs.StrictNodes.{numbers, node, tree_nodes, forest_nodes, append_length, added, last_text}
 use Rattle.htmd_html5_laws.proofs.StrictNodes.{text_added, new_last_text, kind_after, kinds_kept}
@@ -31,7 +31,8 @@ use Rattle.htmd_html5_laws.proofs.StrictNodes.{with_tree, with_forest, forest_jo
 use Rattle.htmd_html5_laws.proofs.StrictNodes.{no_text_next, with_tree_longer, append_none}
 use Rattle.htmd_html5_laws.proofs.StrictOpen.{Fewer, fewer_same, fewer_trans, entries, Below, Stands, stands_longer}
 use Rattle.htmd_html5_laws.proofs.StrictOpen.{stands_below}
-use Rattle.htmd_html5_laws.proofs.StrictNames.{PlainCase, plain_case, is_formatting_case, plain_content, void_content_in}
+use Rattle.htmd_html5_laws.proofs.StrictNames.{PlainCase, plain_case, is_formatting_case, plain_content, void_case}
+use Rattle.htmd_html5_laws.proofs.StrictRawTexts.{normal_content, void_content}
 use Rattle.htmd_html5_laws.proofs.StrictRules.{IsInBody, Fits, within, comment_fed, text_fed, plain_start, formatting_start}
 use Rattle.htmd_html5_laws.proofs.StrictRules.{void_fed, opened_with, put_with}
 use Rattle.htmd_html5_laws.proofs.StrictEnds.{plain_end, formatting_end}
@@ -151,14 +152,15 @@ module _ (z : Bool) where
       ∙ added (documents.element (html (name_of_text n)) attributes) (at s) s.nodes (within p c s h)
 
   void_built : (n : List ℕ) (attributes : List AttributePair) (slash : Bool) (p : List ℕ) (c : List (List ℕ))
-      (s : StateValue) → (is_among void_names n || is_among separator_names n) ≡ true → Fits (p ∷ c) n
+      (s : StateValue) → is_void n ≡ true → not (is_among (codes "col" ∷ []) n) ≡ true → Fits (p ∷ c) n
       → IsInBody (p ∷ c) s
       → (new : StateValue) × Built (p ∷ c) (start_tag (tag_named n attributes slash) ∷ [])
       (with_tree (at s) (element n attributes none) s.nodes) s new
-  void_built n attributes slash p c s e f h =
+  void_built n attributes slash p c s v e f h =
+      let fed = void_fed p c s h n (void_case n v e f.inside) f attributes slash in
       leaf_built p c (element n attributes none) (start_tag (tag_named n attributes slash)) s
-      (add (documents.element (html (name_of_text n)) attributes) (place s) s.nodes) false h (void_content_in z n e)
-      (void_fed p c s h n f e attributes slash) (element_added p c n attributes s h)
+      (add (documents.element (html (name_of_text n)) attributes) (place s) s.nodes) fed.0 h
+      (normal_content z n (void_content z n v) f.inside) fed.1 (element_added p c n attributes s h)
 
   -- ---- an element with content
 
@@ -290,7 +292,7 @@ module _ (z : Bool) where
       let q : xs ≡ start_tag (tag_named n attributes k.0) ∷ [] =
       k.3 ∙ ap (λ (ys : List TokenValue). start_tag (tag_named n attributes k.0) ∷ (ys ++ k.2)) none_held
       ∙ ap (λ (ys : List TokenValue). start_tag (tag_named n attributes k.0) ∷ ys) m.1 in
-      rw (q, m.0) (void_built n attributes k.0 p c s w f.0 h))
+      rw (q, m.0) (void_built n attributes k.0 p c s v w f.0 h))
       (λ v. let m = rw v at k.5 in
       let w = rw v at g.0 in
       let q : xs ≡ start_tag (tag_named n attributes k.0) ∷ (k.1 ++ (end_tag (tag_named n [] false) ∷ [])) =

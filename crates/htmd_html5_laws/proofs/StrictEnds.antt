@@ -25,7 +25,7 @@ use Rattle.htmd_html5_laws.specs.StrictTokens.{tag_named}
 use Rattle.htmd_html5_laws.proofs.StrictOpen.{Fewer, fewer_trans, listed_in, entries, Below, new_unlisted}
 use Rattle.htmd_html5_laws.proofs.StrictNames.{same_itself, PlainCase, is_formatting_case}
 use Rattle.htmd_html5_laws.proofs.StrictNames.{unknown, ordinary, formatting, anchor, paragraph, block, heading}
-use Rattle.htmd_html5_laws.proofs.StrictNames.{list_item, part}
+use Rattle.htmd_html5_laws.proofs.StrictNames.{list_item, part, no_break, button}
 use Rattle.htmd_html5_laws.proofs.StrictRules.{IsInBody, unskipped, no_raw, goes, processed}
 use Rattle.htmd_html5_state.specs.declared.names.TagName.TheVariants as tags
 use Rattle.htmd_html5.specs.Tokens as construction
@@ -133,6 +133,9 @@ module _ (p : List ℕ) (c : List (List ℕ)) (s : StateValue) (h : IsInBody (p 
       ∙ ap (λ stack. done (record s { stack = stack })) (by_name (known x.0) node es (rw x.1 at k)))
   plain_ended n (formatting x) e node es k = absurd (cc)
   plain_ended n (anchor x) e node es k = absurd (cc)
+  plain_ended n (no_break x) e node es k = absurd (cc)
+  plain_ended n (button x) e node es k =
+      rw x (ap (λ stack. done (record s { stack = stack })) (by_block tags.Button node es (rw x at k)))
   plain_ended n (paragraph x) e node es k = rw x (ap done (by_paragraph node es (rw x at k)))
   plain_ended n (block x) e node es k =
       rw (x.0).1 (ap (λ r. end_by r (x.0).0 s) (x.0).3
@@ -172,6 +175,10 @@ module _ (p : List ℕ) (c : List (List ℕ)) (s : StateValue) (h : IsInBody (p 
   formatting_end n (anchor x) e b es attributes before k kind below fewer open_ =
       let a = agency tags.A b es s attributes before (rw x at k) (rw x at kind) below fewer open_ in
       (a.0, a.1, fed_end n _ (rw x (ap done a.2)))
+  formatting_end n (no_break x) e b es attributes before k kind below fewer open_ =
+      let a = agency tags.NoBr b es s attributes before (rw x at k) (rw x at kind) below fewer open_ in
+      (a.0, a.1, fed_end n _ (rw x (ap done a.2)))
+  formatting_end n (button x) e b es attributes before k kind below fewer open_ = absurd (cc)
   formatting_end n (unknown t q) e b es attributes before k kind below fewer open_ = absurd (cc)
   formatting_end n (ordinary x) e b es attributes before k kind below fewer open_ = absurd (cc)
   formatting_end n (paragraph x) e b es attributes before k kind below fewer open_ = absurd (cc)

@@ -1,21 +1,24 @@
 -- Which rules plain names have.
-use Rattle.std.proofs.Common.{◌≡◌, ℕ, Bool, true, false, ◌||◌, List, [], ◌∷◌, refl, sym, ap, ◌∙◌, subst, codes}
+use Rattle.std.proofs.Common.{◌≡◌, ℕ, Bool, true, false, not, ◌||◌, List, [], ◌∷◌, refl, sym, ap, ◌∙◌, subst, codes}
 use Rattle.std.specs.Str.{bytes_eq}
-use Rattle.std.proofs.lemmas.Bool.{or_left, or_right}
+use Rattle.std.proofs.lemmas.Bool.{not-true}
 use Rattle.htmd_text.proofs.Cases.{test}
 use Rattle.htmd_grammar.specs.CharacterClasses.{is_among}
-use Rattle.htmd_grammar.specs.Nesting.{closes_paragraph}
-use Rattle.htmd_grammar.proofs.NestingLemmas.{same_bytes, bytes_same}
-use Rattle.htmd_grammar.specs.Serialisation.{is_void}
+use Rattle.htmd_grammar.specs.Nesting.{closes_paragraph, is_outside}
+use Rattle.htmd_grammar.proofs.NestingLemmas.{same_bytes, bytes_same, among_passes}
+use Rattle.htmd_grammar.specs.Serialisation.{is_void, void_elements}
 use Rattle.htmd_html5_tokens.specs.declared.tokens.Content.TheVariants.{Normal}
 use Rattle.htmd_html5_state.specs.Names.{NameValue, known, other, html, name_of_text, spelling, same_name}
 use Rattle.htmd_html5_state.specs.Sets.{is_of}
 use Rattle.htmd_html5_state.specs.declared.names.TagName.{TagName}
 use Rattle.htmd_html5_state.specs.declared.sets.NameSet.TheVariants.{Only, Headings, DescriptionParts}
 use Rattle.htmd_html5.specs.BodyStarts.{start_rule, block_rule, formatting_rule, phrasing_rule}
+use Rattle.htmd_html5.specs.SharedRules.{insert_head_element, insert_void_tag}
+use Rattle.htmd_html5.specs.Tokens.{StartTagValue}
+use Rattle.htmd_html5_state.specs.State.{StateValue}
 use Rattle.htmd_html5.specs.BodyEnds.{end_rule, text_end_rule}
 use Rattle.htmd_html5_laws.specs.StrictTrees.{is_unknown_name, ordinary_names, formatting_names, block_names, heading_names}
-use Rattle.htmd_html5_laws.specs.StrictTrees.{other_names, void_names, separator_names, is_plain_name, is_plain_element}
+use Rattle.htmd_html5_laws.specs.StrictTrees.{other_names, is_plain_name, is_plain_element}
 use Rattle.htmd_html5_laws.specs.StrictTokens.{content_in, is_set_aside}
 use Rattle.htmd_html5_laws.proofs.StrictRawTexts.{is_name}
 use Rattle.htmd_html5_laws.proofs.StrictOpen.{HasNames, has_names}
@@ -224,31 +227,55 @@ like_dd = (
   ),
 )
 
--- a known tag that starts as `br` does
-abbrev pub StartsVoid : List ℕ → Type 0
-StartsVoid n = (tag : TagName) × (name_of_text n ≡ known tag) × (start_rule tag ≡ start_rule tags.Br)
+-- ---- void elements
 
-pub start_void : Each StartsVoid void_names
+-- a known tag that starts as another one
+abbrev pub Starts : TagName → List ℕ → Type 0
+Starts model n = (tag : TagName) × (name_of_text n ≡ known tag) × (start_rule tag ≡ start_rule model)
+
+-- one of the head, which holds nothing
+abbrev pub InHead : List ℕ → Type 0
+InHead n =
+    (tag : TagName) × (name_of_text n ≡ known tag) × (start_rule tag ≡ start_rule tags.Base)
+    × ((x : StartTagValue) (s : StateValue) → insert_head_element (known tag) x s ≡ insert_void_tag x s)
+
+pub data VoidCase (n : List ℕ) : Type 0 where
+  in_text : Starts tags.Br n → VoidCase n
+  of_another : Starts tags.Param n → VoidCase n
+  input : n ≡ codes "input" → VoidCase n
+  separator : n ≡ codes "hr" → VoidCase n
+  in_head : InHead n → VoidCase n
+
+abbrev VoidThere : List ℕ → Type 0
+VoidThere n = is_among (codes "col" ∷ []) n ≡ false → is_outside n ≡ false → VoidCase n
+
+void_cases : Each VoidThere void_elements
 unfolding block_rule formatting_rule phrasing_rule
-start_void = (
-  (tags.Area, refl, refl),
-  (
-    (tags.Br, refl, refl),
-    (
-      (tags.Embed, refl, refl),
-      (
-        (tags.Img, refl, refl),
-        (
-          (tags.KeyGen, refl, refl),
-          (
-            (tags.Wbr, refl, refl),
-            tt,
-          ),
-        ),
-      ),
-    ),
-  ),
-)
+void_cases = (
+  λ e o. in_text (tags.Area, refl, refl),
+  (λ e o. in_head (tags.Base, refl, refl, λ x s. refl),
+  (λ e o. in_head (tags.BaseFont, refl, refl, λ x s. refl),
+  (λ e o. in_head (tags.BgSound, refl, refl, λ x s. refl),
+  (λ e o. in_text (tags.Br, refl, refl),
+  (λ e o. absurd (cc),
+  (λ e o. in_text (tags.Embed, refl, refl),
+  (λ e o. absurd (cc),
+  (λ e o. separator refl,
+  (λ e o. in_text (tags.Img, refl, refl),
+  (λ e o. input refl,
+  (λ e o. in_text (tags.KeyGen, refl, refl),
+  (λ e o. in_head (tags.Link, refl, refl, λ x s. refl),
+  (λ e o. in_head (tags.Meta, refl, refl, λ x s. refl),
+  (λ e o. of_another (tags.Param, refl, refl),
+  (λ e o. of_another (tags.Source, refl, refl),
+  (λ e o. of_another (tags.Track, refl, refl),
+  (λ e o. in_text (tags.Wbr, refl, refl),
+  tt))))))))))))))))))
+
+pub void_case : (n : List ℕ) → is_void n ≡ true → not (is_among (codes "col" ∷ []) n) ≡ true → is_outside n ≡ false
+    → VoidCase n
+unfolding is_void
+void_case n v e o = among_each VoidThere void_elements n v void_cases (not-true (is_among (codes "col" ∷ []) n) e) o
 
 -- which rules a plain name has
 pub data PlainCase (n : List ℕ) : Type 0 where
@@ -256,10 +283,12 @@ pub data PlainCase (n : List ℕ) : Type 0 where
   ordinary : Like tags.Span n → PlainCase n
   formatting : Like tags.B n → PlainCase n
   anchor : n ≡ codes "a" → PlainCase n
+  no_break : n ≡ codes "nobr" → PlainCase n
   paragraph : n ≡ codes "p" → PlainCase n
   block : LikeBlock n → PlainCase n
   heading : LikeHeading n → PlainCase n
   list_item : n ≡ codes "li" → PlainCase n
+  button : n ≡ codes "button" → PlainCase n
   part : LikePart n → PlainCase n
 
 unknown_name : (name : NameValue) → is_unknown_name name ≡ true → (t : List ℕ) × (name ≡ other t)
@@ -278,14 +307,17 @@ plain_case n e =
     others : (n : List ℕ) → is_among other_names n ≡ true → PlainCase n
     others n e =
         test (bytes_eq n (codes "a")) (λ t. anchor (same_bytes n (codes "a") t))
-        (λ a. test (bytes_eq n (codes "p")) (λ t. paragraph (same_bytes n (codes "p") t))
-        (λ b. test (bytes_eq n (codes "li")) (λ t. list_item (same_bytes n (codes "li") t))
-        (λ c. part (among_each LikePart (codes "dd" ∷ codes "dt" ∷ []) n (rw (a, b, c) at e) like_dd))))
+        (λ a. test (bytes_eq n (codes "nobr")) (λ t. no_break (same_bytes n (codes "nobr") t))
+        (λ b. test (bytes_eq n (codes "p")) (λ t. paragraph (same_bytes n (codes "p") t))
+        (λ c. test (bytes_eq n (codes "li")) (λ t. list_item (same_bytes n (codes "li") t))
+        (λ d. test (bytes_eq n (codes "button")) (λ t. button (same_bytes n (codes "button") t))
+        (λ f. part (among_each LikePart (codes "dd" ∷ codes "dt" ∷ []) n (rw (a, b, c, d, f) at e) like_dd))))))
 
 -- whether its end tag runs the adoption agency
 abbrev pub is_formatting_case : {n : List ℕ} → PlainCase n → Bool
 is_formatting_case (formatting x) = true
 is_formatting_case (anchor x) = true
+is_formatting_case (no_break x) = true
 is_formatting_case _ = false
 
 -- ---- names of sets
@@ -295,6 +327,16 @@ p_names = has_names (Only tags.P) (codes "p" ∷ []) (λ tag e. rw (sym (same_by
 
 pub a_names : HasNames (Only tags.A) (codes "a" ∷ [])
 a_names = has_names (Only tags.A) (codes "a" ∷ []) (λ tag e. rw (sym (same_bytes (spelling tags.A) (spelling tag) e)) refl)
+
+pub button_names : HasNames (Only tags.Button) (codes "button" ∷ [])
+button_names =
+    has_names (Only tags.Button) (codes "button" ∷ [])
+    (λ tag e. rw (sym (same_bytes (spelling tags.Button) (spelling tag) e)) refl)
+
+pub nobr_names : HasNames (Only tags.NoBr) (codes "nobr" ∷ [])
+nobr_names =
+    has_names (Only tags.NoBr) (codes "nobr" ∷ [])
+    (λ tag e. rw (sym (same_bytes (spelling tags.NoBr) (spelling tag) e)) refl)
 
 pub li_names : HasNames (Only tags.Li) (codes "li" ∷ [])
 li_names =
@@ -324,7 +366,7 @@ heading_has = has_names Headings heading_names by_tag
 -- ---- no plain name is that of an element that holds only text
 
 raw_name : (z : Bool) (n : List ℕ)
-    → (is_plain_name n || (is_among void_names n || is_among separator_names n)) ≡ true → content_in z n ≡ Normal
+    → is_plain_name n ≡ true → content_in z n ≡ Normal
 raw_name z n e =
     is_name n (codes "title") (λ t. absurd (let w = rw t at e in cc))
     (λ a. is_name n (codes "textarea") (λ t. absurd (let w = rw t at e in cc))
@@ -338,7 +380,7 @@ raw_name z n e =
     (λ j. is_name n (codes "noscript") (λ t. absurd (let w = rw t at e in cc))
     (λ k. rw (a, b, c, d, f, g, h, i, j, k) refl))))))))))
 
-aside_name : (n : List ℕ) → (is_plain_name n || (is_among void_names n || is_among separator_names n)) ≡ true
+aside_name : (n : List ℕ) → is_plain_name n ≡ true
     → is_set_aside n ≡ false
 aside_name n e =
     is_name n (codes "pre") (λ t. absurd (let w = rw t at e in cc))
@@ -347,17 +389,12 @@ aside_name n e =
     (λ c. is_name n (codes "tbody") (λ t. absurd (let w = rw t at e in cc)) (λ d. rw (a, b, c, d) refl))))
 
 pub plain_content : (z : Bool) (n : List ℕ) → is_plain_name n ≡ true → content_in z n ≡ Normal
-plain_content z n e = raw_name z n (or_left (is_plain_name n) (is_among void_names n || is_among separator_names n) e)
+plain_content = raw_name
 
-pub void_content_in : (z : Bool) (n : List ℕ) → (is_among void_names n || is_among separator_names n) ≡ true
-    → content_in z n ≡ Normal
-void_content_in z n e =
-    raw_name z n (or_right (is_plain_name n) (is_among void_names n || is_among separator_names n) e)
+void_aside : (n : List ℕ) → is_void n ≡ true → not (is_set_aside n) ≡ true
+unfolding is_void
+void_aside n v = among_passes (λ m. not (is_set_aside m)) void_elements n v refl
 
 pub aside_element : (n : List ℕ) → is_plain_element n ≡ true → is_set_aside n ≡ false
 aside_element n e =
-    test (is_void n)
-    (λ v. aside_name n
-    (or_right (is_plain_name n) (is_among void_names n || is_among separator_names n) (rw v at e)))
-    (λ v. aside_name n
-    (or_left (is_plain_name n) (is_among void_names n || is_among separator_names n) (rw v at e)))
+    test (is_void n) (λ v. not-true (is_set_aside n) (void_aside n v)) (λ v. aside_name n (rw v at e))

@@ -15,6 +15,7 @@ use Rattle.htmd_grammar.specs.Nesting.{fits_lists, closes_paragraph, excludes_it
 use Rattle.htmd_grammar.specs.Nesting.{is_met_before}
 use Rattle.htmd_grammar.specs.RawContent.{holds_text_alone, content_of}
 use Rattle.htmd_grammar.specs.Documents.{skeleton}
+use Rattle.htmd_grammar.proofs.NestingLemmas.{allowed_parts}
 use Rattle.htmd_grammar.proofs.TreeTexts.{Inside}
 use Rattle.htmd_tree.specs.Items.{document_item, greatest_depth}
 use Rattle.htmd_tree.specs.Layout.{sizes, document_items}
@@ -88,8 +89,8 @@ element_fits z c n a =
     && is_met_before (codes "dd" ∷ codes "dt" ∷ []) (codes "dl" ∷ []) d)) lists_.1 in
     record {
       paragraph = λ e. open_met (codes "p" ∷ []) d (not_both (closes_paragraph n) (is_open (codes "p" ∷ []) d) both.0 e);
-      anchor = λ e. open_met (codes "a" ∷ []) d
-          (not_both (excludes_itself (codes "a")) (is_open (codes "a" ∷ []) d) (rw e at both.1) refl);
+      itself = λ e. open_met (n ∷ []) d (not_both (excludes_itself n) (is_open (n ∷ []) d) both.1 e);
+      inside = (allowed_parts z d n a).0;
       heading = λ e. not_both (is_heading n) (is_heading (parent_name d)) heads.1 e;
       item = λ e. not_both (is_among (codes "li" ∷ []) n) _ items.0 (rw e refl);
       part = λ e. not_both (is_among (codes "dd" ∷ codes "dt" ∷ []) n) _ items.1 e;

@@ -8,8 +8,7 @@ use Rattle.std.proofs.lemmas.Bool.Decides.{nat_tests}
 use Rattle.htmd_text.proofs.Cases.{test}
 use Rattle.htmd_grammar.specs.ValueTrees.{AttributePair}
 use Rattle.htmd_grammar.specs.CharacterClasses.{is_among}
-use Rattle.htmd_grammar.specs.Nesting.{parent_name, closes_paragraph, is_met_before}
-use Rattle.htmd_grammar.proofs.NestingLemmas.{one_name}
+use Rattle.htmd_grammar.specs.Nesting.{parent_name, closes_paragraph, excludes_itself, is_outside, is_met_before}
 use Rattle.htmd_html5_tokens.specs.Tokens.{TagValue, start_tag, end_tag, comment, text, end_of_file}
 use Rattle.htmd_html5_tokens.specs.declared.tokens.Content.TheVariants.{Normal}
 use Rattle.htmd_html5_state.specs.Names.{NameValue, known, other, html, name_of_text, spelling, same_tag, same_name}
@@ -30,7 +29,7 @@ use Rattle.htmd_html5.specs.AtOnce.{is_plain, takes_at_once, put_at_once}
 use Rattle.htmd_html5.specs.Answers.{answer, done}
 use Rattle.htmd_html5.specs.SharedRules.{no_frameset, close_paragraph}
 use Rattle.htmd_html5.specs.BodyStarts.{block_rule, formatting_rule, phrasing_rule, start_by}
-use Rattle.htmd_html5.specs.BodyStarts.{start_in_body, close_heading, forget}
+use Rattle.htmd_html5.specs.BodyStarts.{start_in_body, close_heading, forget, close_no_break, is_hidden}
 use Rattle.htmd_html5.specs.BodyEnds.{end_rule, text_end_rule, end_by, end_in_body}
 use Rattle.htmd_html5.specs.InBody.{in_body}
 use Rattle.htmd_html5.specs.Modes.{in_mode}
@@ -41,9 +40,10 @@ use Rattle.htmd_html5.specs.Feeding.{without_line_feed, feed_end_tag}
 use Rattle.htmd_html5.proofs.ProcessingLemmas.{by_html, process_once}
 use Rattle.htmd_html5.proofs.AtOnceLemmas.{put_as_parts}
 use Rattle.htmd_html5_laws.specs.StrictTokens.{tag_named}
-use Rattle.htmd_html5_laws.specs.StrictTrees.{heading_names, void_names, separator_names}
-use Rattle.htmd_html5_laws.proofs.StrictOpen.{Fewer, fewer_with_room, entries, none_closed, Stands, stands_html}
-use Rattle.htmd_html5_laws.proofs.StrictNames.{among_each, StartsVoid, start_void, PlainCase, is_formatting_case}
+use Rattle.htmd_html5_laws.specs.StrictTrees.{heading_names}
+use Rattle.htmd_html5_laws.proofs.StrictOpen.{HasNames, Fewer, fewer_with_room, entries, none_closed, Stands, stands_html}
+use Rattle.htmd_html5_laws.proofs.StrictNames.{among_each, PlainCase, is_formatting_case, VoidCase, in_text, of_another}
+use Rattle.htmd_html5_laws.proofs.StrictNames.{input, separator, in_head, no_break, button, button_names, nobr_names}
 use Rattle.htmd_html5_laws.proofs.StrictNames.{unknown, ordinary, formatting, anchor, paragraph, block, heading}
 use Rattle.htmd_html5_laws.proofs.StrictNames.{list_item, part, p_names, a_names, li_names, part_names, heading_has}
 use Rattle.htmd_html5_laws.proofs.StrictOpen.{stands_within, the_document, scope_none, none_listed}
@@ -62,7 +62,8 @@ met names ends c = is_met_before names ends (c ++ the_document)
 -- the element may stand in the context
 pub record Fits (c : List (List ℕ)) (n : List ℕ) : Type 0 where
   pub paragraph : closes_paragraph n ≡ true → met (codes "p" ∷ []) [] c ≡ false
-  pub anchor : n ≡ codes "a" → met (codes "a" ∷ []) [] c ≡ false
+  pub itself : excludes_itself n ≡ true → met (n ∷ []) [] c ≡ false
+  pub inside : is_outside n ≡ false
   pub heading : nesting.is_heading n ≡ true → nesting.is_heading (parent_name (c ++ the_document)) ≡ false
   pub item : n ≡ codes "li" → met (codes "li" ∷ []) lists c ≡ false
   pub part : is_among (codes "dd" ∷ codes "dt" ∷ []) n ≡ true → met (codes "dd" ∷ codes "dt" ∷ []) (codes "dl" ∷ []) c ≡ false
@@ -191,6 +192,14 @@ module _ (p : List ℕ) (c : List (List ℕ)) (s : StateValue) (h : IsInBody (p 
   no_anchor : met (codes "a" ∷ []) [] (p ∷ c) ≡ false → formatting_element tags.A s ≡ None
   no_anchor e = none_listed tags.A (codes "a" ∷ []) a_names s.nodes (p ∷ c) s.stack s.formatting h.stands h.listed e
 
+  none_there : (tag : TagName) (n : List ℕ) → HasNames (Only tag) (n ∷ []) → met (n ∷ []) [] (p ∷ c) ≡ false
+      → is_in_scope (Only tag) Default s.stack ≡ false
+  none_there tag n k e =
+      scope_none (Only tag) Default (n ∷ []) [] k (λ m f. absurd (cc)) s.nodes (p ∷ c) s.stack h.stands e
+
+  itself_met : (n m : List ℕ) → n ≡ m → Fits (p ∷ c) n → excludes_itself n ≡ true → met (m ∷ []) [] (p ∷ c) ≡ false
+  itself_met n m x f e = subst (λ k. met (k ∷ []) [] (p ∷ c) ≡ false) x (f.itself e)
+
   abbrev value : NameValue → List AttributePair → Bool → construction.StartTagValue
   value name attributes slash = record { name = name; attributes = attributes; self_closing = slash }
 
@@ -244,6 +253,16 @@ module _ (p : List ℕ) (c : List (List ℕ)) (s : StateValue) (h : IsInBody (p 
         ∙ ap (λ stack. put_in (x.0).0 attributes (close_heading stack)) (no_p_closed (f.paragraph x.1))
         ∙ ap (put_in (x.0).0 attributes) (no_heading_closed (f.heading x.2))),
   )
+  plain_start n (no_break x) f e attributes slash = absurd (cc)
+  plain_start n (button x) f e attributes slash =
+      let none_ = none_there tags.Button (codes "button") button_names (itself_met n (codes "button") x f (rw x refl)) in
+      let closed : close (Only tags.Button) Default s.stack ≡ s.stack = rw none_ refl in (
+        false,
+        fed_start (tag_named n attributes slash)
+            ∙ rw x (ap (λ stack. no_frameset (insert_element (known tags.Button) attributes
+            (reconstruct (record s { stack = stack })))) closed
+            ∙ ap (λ (y : StateValue). no_frameset (insert_element (known tags.Button) attributes y)) nothing_again),
+      )
   plain_start n (list_item x) f e attributes slash =
       let li = no_li_closed (f.item x) in
       let closed = no_p_closed (f.paragraph (rw x refl)) in (
@@ -282,13 +301,25 @@ module _ (p : List ℕ) (c : List (List ℕ)) (s : StateValue) (h : IsInBody (p 
         ∙ ap (insert_formatting (known x.0) attributes) nothing_again),
   )
   formatting_start n (anchor x) f e attributes slash =
-      let none_ = no_anchor (f.anchor x) in (
+      let none_ = no_anchor (itself_met n (codes "a") x f (rw x refl)) in (
         listed_room n attributes,
         fewer_with_room _ _ s.formatting,
         fed_start (tag_named n attributes slash)
             ∙ rw x (ap (λ o. insert_formatting (known tags.A) attributes (reconstruct (forget o s))) none_
             ∙ ap (insert_formatting (known tags.A) attributes) nothing_again),
       )
+  formatting_start n (no_break x) f e attributes slash =
+      let none_ = none_there tags.NoBr (codes "nobr") nobr_names (itself_met n (codes "nobr") x f (rw x refl)) in
+      let closed : close_no_break s ≡ s = rw none_ refl in (
+        listed_room n attributes,
+        fewer_with_room _ _ s.formatting,
+        fed_start (tag_named n attributes slash)
+            ∙ rw x (ap (λ (y : StateValue). insert_formatting (known tags.NoBr) attributes (reconstruct (close_no_break y)))
+            nothing_again
+            ∙ ap (λ (y : StateValue). insert_formatting (known tags.NoBr) attributes (reconstruct y)) closed
+            ∙ ap (insert_formatting (known tags.NoBr) attributes) nothing_again),
+      )
+  formatting_start n (button x) f e attributes slash = absurd (cc)
   formatting_start n (paragraph x) f e attributes slash = absurd (cc)
   formatting_start n (block x) f e attributes slash = absurd (cc)
   formatting_start n (heading x) f e attributes slash = absurd (cc)
@@ -296,23 +327,49 @@ module _ (p : List ℕ) (c : List (List ℕ)) (s : StateValue) (h : IsInBody (p 
   formatting_start n (part x) f e attributes slash = absurd (cc)
 
   -- a void element
-  abbrev pub put_with : List ℕ → List AttributePair → StateValue
-  put_with n attributes = record s {
+  abbrev pub put_with : List ℕ → List AttributePair → Bool → StateValue
+  put_with n attributes ok = record s {
     nodes = add (element (html (name_of_text n)) attributes) (place s) s.nodes;
-    frameset_ok = false;
+    frameset_ok = ok;
   }
 
-  pub void_fed : (n : List ℕ) → Fits (p ∷ c) n → (is_among void_names n || is_among separator_names n) ≡ true
-      → (attributes : List AttributePair) (slash : Bool)
-      → feed (start_tag (tag_named n attributes slash)) s ≡ put_with n attributes
+  abbrev put_void : TagName → List AttributePair → StateValue → StateValue
+  put_void tag attributes y = no_frameset (insert_void (known tag) attributes y)
+
+  pub void_fed : (n : List ℕ) (k : VoidCase n) → Fits (p ∷ c) n → (attributes : List AttributePair) (slash : Bool)
+      → (ok : Bool) × (feed (start_tag (tag_named n attributes slash)) s ≡ put_with n attributes ok)
   unfolding block_rule formatting_rule phrasing_rule
-  void_fed n f e attributes slash =
-      test (is_among void_names n)
-      (λ t. let x = among_each StartsVoid void_names n t start_void in
-      fed_start (tag_named n attributes slash)
-      ∙ rw x.1 (ap (λ r. start_by r (value (known x.0) attributes slash) s) x.2
-      ∙ ap (λ (y : StateValue). no_frameset (insert_void (known x.0) attributes y)) nothing_again))
-      (λ t. let x : n ≡ codes "hr" = one_name (codes "hr") n (rw t at e) in
-      let closed = no_p_closed (f.paragraph (rw x refl)) in
-      fed_start (tag_named n attributes slash)
-      ∙ rw x (ap (λ stack. no_frameset (insert_void (known tags.Hr) attributes (record s { stack = stack }))) closed))
+  void_fed n (in_text x) f attributes slash = (
+    false,
+    fed_start (tag_named n attributes slash)
+        ∙ rw x.1 (ap (λ r. start_by r (value (known x.0) attributes slash) s) x.2
+        ∙ ap (put_void x.0 attributes) nothing_again),
+  )
+  void_fed n (of_another x) f attributes slash = (
+    s.frameset_ok,
+    fed_start (tag_named n attributes slash)
+        ∙ rw x.1 (ap (λ r. start_by r (value (known x.0) attributes slash) s) x.2),
+  )
+  void_fed n (input x) f attributes slash =
+      test (is_hidden (value (known tags.Input) attributes slash))
+      (λ t. (
+        s.frameset_ok,
+        fed_start (tag_named n attributes slash)
+            ∙ rw (x, t) (ap (insert_void (known tags.Input) attributes) nothing_again),
+      ))
+      (λ t. (
+        false,
+        fed_start (tag_named n attributes slash) ∙ rw (x, t) (ap (put_void tags.Input attributes) nothing_again),
+      ))
+  void_fed n (separator x) f attributes slash =
+      let closed = no_p_closed (f.paragraph (rw x refl)) in (
+        false,
+        fed_start (tag_named n attributes slash)
+            ∙ rw x (ap (λ stack. put_void tags.Hr attributes (record s { stack = stack })) closed),
+      )
+  void_fed n (in_head x) f attributes slash = (
+    s.frameset_ok,
+    fed_start (tag_named n attributes slash)
+        ∙ rw x.1 (ap (λ r. start_by r (value (known x.0) attributes slash) s) x.2
+        ∙ x.3 (value (known x.0) attributes slash) s),
+  )

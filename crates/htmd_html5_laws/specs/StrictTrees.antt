@@ -1,5 +1,5 @@
 -- Texts of the strict grammar with plain elements, as the lenient reader reads them.
-use Rattle.std.specs.Prelude.{◌≡◌, ℕ, suc, max, ◌<◌, Bool, true, false, ◌&&◌, ◌||◌, if◌then◌else◌, List, [], ◌∷◌, ◌++◌}
+use Rattle.std.specs.Prelude.{◌≡◌, ℕ, suc, max, ◌<◌, Bool, true, false, not, ◌&&◌, ◌||◌, if◌then◌else◌, List, [], ◌∷◌, ◌++◌}
 use Rattle.std.specs.Prelude.{codes}
 use Rattle.htmd_grammar.specs.ValueTrees.{ValueTree, ValueForest, none, more, document, doctype, text, comment, element}
 use Rattle.htmd_grammar.specs.CharacterClasses.{is_among}
@@ -43,24 +43,17 @@ heading_names = codes "h1" ∷ codes "h2" ∷ codes "h3" ∷ codes "h4" ∷ code
 
 -- names with rules of their own
 abbrev pub other_names : List (List ℕ)
-other_names = codes "a" ∷ codes "p" ∷ codes "li" ∷ codes "dd" ∷ codes "dt" ∷ []
-
--- void elements in text, and `hr`
-abbrev pub void_names : List (List ℕ)
-void_names =
-    codes "area" ∷ codes "br" ∷ codes "embed" ∷ codes "img" ∷ codes "keygen" ∷ codes "wbr" ∷ []
-
-abbrev pub separator_names : List (List ℕ)
-separator_names = codes "hr" ∷ []
+other_names =
+    codes "a" ∷ codes "nobr" ∷ codes "p" ∷ codes "li" ∷ codes "dd" ∷ codes "dt" ∷ codes "button" ∷ []
 
 abbrev pub is_plain_name : List ℕ → Bool
 is_plain_name n =
     is_unknown_name (name_of_text n) || is_among ordinary_names n || is_among formatting_names n
     || is_among block_names n || is_among heading_names n || is_among other_names n
 
+-- all void elements but `col`
 abbrev pub is_plain_element : List ℕ → Bool
-is_plain_element n =
-    if is_void n then is_among void_names n || is_among separator_names n else is_plain_name n
+is_plain_element n = if is_void n then not (is_among (codes "col" ∷ []) n) else is_plain_name n
 
 abbrev mutual
   -- texts aren't empty and hold no U+0000
