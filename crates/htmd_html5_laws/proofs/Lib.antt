@@ -78,6 +78,7 @@ pub mod StrictCuts
 pub mod StrictTagsLemmas
 pub mod StrictPieces
 pub mod StrictRawTexts
+pub mod StrictLineFeeds
 pub mod StrictRuns
 pub mod StrictNodes
 pub mod StrictOpen
