@@ -32,6 +32,7 @@ use Rattle.htmd_html5_laws.proofs.StrictNodes.{no_text_next, with_tree_longer, a
 use Rattle.htmd_html5_laws.proofs.StrictOpen.{Fewer, fewer_same, fewer_trans, entries, Below, Stands, stands_longer}
 use Rattle.htmd_html5_laws.proofs.StrictOpen.{stands_below}
 use Rattle.htmd_html5_laws.proofs.StrictNames.{PlainCase, plain_case, is_formatting_case, plain_content, void_case}
+use Rattle.htmd_html5_laws.proofs.StrictNames.{plain_keeps}
 use Rattle.htmd_html5_laws.proofs.StrictRawTexts.{normal_content, void_content}
 use Rattle.htmd_html5_laws.proofs.StrictRules.{IsInBody, Fits, within, comment_fed, text_fed, plain_start, formatting_start}
 use Rattle.htmd_html5_laws.proofs.StrictRules.{void_fed, opened_with, put_with}
@@ -285,10 +286,11 @@ module _ (z : Bool) where
       → TreeBuilt (element n attributes children)
   element_built n attributes children ih p c xs s k e f h st =
       let g = and_parts (is_plain_element n) (are_plain children) e in
+      let held : SpellsForest children k.1 = rw (plain_keeps n g.0) at k.4 in
       test (is_void n)
       (λ v. let m = rw v at k.5 in
       let w = rw v at g.0 in
-      let none_held : k.1 ≡ [] = subst (λ ts. SpellsForest ts k.1) m.0 k.4 in
+      let none_held : k.1 ≡ [] = subst (λ ts. SpellsForest ts k.1) m.0 held in
       let q : xs ≡ start_tag (tag_named n attributes k.0) ∷ [] =
       k.3 ∙ ap (λ (ys : List TokenValue). start_tag (tag_named n attributes k.0) ∷ (ys ++ k.2)) none_held
       ∙ ap (λ (ys : List TokenValue). start_tag (tag_named n attributes k.0) ∷ ys) m.1 in
@@ -297,7 +299,7 @@ module _ (z : Bool) where
       let w = rw v at g.0 in
       let q : xs ≡ start_tag (tag_named n attributes k.0) ∷ (k.1 ++ (end_tag (tag_named n [] false) ∷ [])) =
       k.3 ∙ ap (λ (ys : List TokenValue). start_tag (tag_named n attributes k.0) ∷ (k.1 ++ ys)) m.1 in
-      rw q (full_built n attributes children ih k.0 k.1 p c s w g.1 k.4 f.0 f.1 h))
+      rw q (full_built n attributes children ih k.0 k.1 p c s w g.1 held f.0 f.1 h))
 
   -- ---- one tree after another
 

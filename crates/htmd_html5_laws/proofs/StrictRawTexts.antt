@@ -10,6 +10,7 @@ use Rattle.htmd_grammar.specs.Comments.{normalized}
 use Rattle.htmd_grammar.specs.Grammar.{ReadsForest}
 use Rattle.htmd_grammar.specs.Nesting.{Context, is_outside}
 use Rattle.htmd_grammar.specs.RawContent.{holds_text_alone, holds_raw_text, begins_own_end, ends_text, text_of}
+use Rattle.htmd_grammar.specs.RawContent.{drops_line_feed}
 use Rattle.htmd_grammar.specs.Rules.{project}
 use Rattle.htmd_grammar.specs.Serialisation.{is_void, void_elements}
 use Rattle.htmd_grammar.specs.Tags.{IsEndTag}
@@ -127,6 +128,22 @@ raw_content z n e o =
     none_left : (z : Bool) → (z && false) ≡ true → ⊥
     none_left true e = cc
     none_left false e = cc
+
+-- ---- what drops a line feed
+
+pub pre_plain : (z : Bool) (n : List ℕ) → drops_line_feed n ≡ true → is_set_aside n ≡ false
+    → holds_text_alone z n ≡ false
+pre_plain z n d a =
+    is_name n (codes "pre") (λ t. test z (λ y. rw (t, y) refl) (λ y. rw (t, y) refl))
+    (λ f. is_name n (codes "textarea") (λ t. absurd (let w = rw t at a in cc))
+    (λ g. absurd (let w = rw (f, g) at d in cc)))
+
+pub raw_keeps : (z : Bool) (n : List ℕ) → holds_text_alone z n ≡ true → is_set_aside n ≡ false
+    → drops_line_feed n ≡ false
+raw_keeps z n e a =
+    is_name n (codes "pre")
+    (λ t. test z (λ y. absurd (let w = rw (t, y) at e in cc)) (λ y. absurd (let w = rw (t, y) at e in cc)))
+    (λ f. is_name n (codes "textarea") (λ t. absurd (let w = rw t at a in cc)) (λ g. rw (f, g) refl))
 
 -- ---- what such an element holds
 

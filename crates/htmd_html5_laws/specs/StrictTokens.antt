@@ -1,10 +1,12 @@
 -- The tokens of a text of the strict grammar, as the lenient reader's tokenizer reads them.
-use Rattle.std.specs.Prelude.{◌≡◌, ℕ, zero, suc, Bool, true, false, not, ◌&&◌, if◌then◌else◌, List, [], ◌∷◌, ◌++◌}
+use Rattle.std.specs.Prelude.{◌≡◌, ℕ, zero, suc, Bool, true, false, not, ◌&&◌, ◌==◌, if◌then◌else◌, List, [], ◌∷◌, ◌++◌}
 use Rattle.std.specs.Prelude.{length, codes}
 use Rattle.std.specs.Str.{bytes_eq}
 use Rattle.std.specs.Bool.{MatchBool}
 use Rattle.htmd_grammar.specs.ValueTrees.{AttributePair, ValueTree, ValueForest, none, more}
 use Rattle.htmd_grammar.specs.CharacterClasses.{is_among}
+use Rattle.htmd_text.specs.Characters.{line_feed}
+use Rattle.htmd_grammar.specs.RawContent.{drops_line_feed}
 use Rattle.htmd_grammar.specs.Rules.{project}
 use Rattle.htmd_grammar.specs.Serialisation.{is_void}
 use Rattle.htmd_grammar.specs.Grammar.{reads}
@@ -59,6 +61,19 @@ tokens_of_text scripting s = tokens_within scripting (length s) Normal s
 abbrev pub tag_named : List ℕ → List AttributePair → Bool → TagValue
 tag_named n attributes slash = record { name = n; attributes = attributes; self_closing = slash }
 
+abbrev pub with_text_token : List ℕ → List TokenValue → List TokenValue
+with_text_token [] tokens = tokens
+with_text_token (b ∷ u) tokens = text (b ∷ u) ∷ tokens
+
+-- without the line feed with which their first text begins
+abbrev pub after_feed : List TokenValue → List TokenValue
+after_feed (text (b ∷ u) ∷ tokens) = if b == line_feed then with_text_token u tokens else text (b ∷ u) ∷ tokens
+after_feed tokens = tokens
+
+-- the tokens that an element's content has of these
+abbrev pub content_tokens : List ℕ → List TokenValue → List TokenValue
+content_tokens n tokens = if drops_line_feed n then after_feed tokens else tokens
+
 abbrev mutual
   -- a text and a comment are one token each; an element is its start tag, its content and its end tag, and if it is
   -- void its start tag alone, which may have a `/`
@@ -70,7 +85,7 @@ abbrev mutual
   SpellsTree (trees.element n attributes children) tokens =
       (slash : Bool) × (content end : List TokenValue)
       × (tokens ≡ start_tag (tag_named n attributes slash) ∷ (content ++ end))
-      × SpellsForest children content
+      × SpellsForest children (content_tokens n content)
       × MatchBool (is_void n) ((children ≡ none) × (end ≡ []))
       ((slash ≡ false) × (end ≡ end_tag (tag_named n [] false) ∷ []))
 
@@ -82,10 +97,9 @@ abbrev mutual
 
 -- ---- elements that are set aside
 
--- `pre` and `textarea` drop a line feed; a script ends by rules of its own; a `tbody` may have no tags
+-- a `textarea` holds only text and drops a line feed; a script ends by rules of its own; a `tbody` may have no tags
 abbrev pub is_set_aside : List ℕ → Bool
-is_set_aside n =
-    is_among (codes "pre" ∷ codes "textarea" ∷ codes "script" ∷ codes "tbody" ∷ []) n
+is_set_aside n = is_among (codes "textarea" ∷ codes "script" ∷ codes "tbody" ∷ []) n
 
 abbrev mutual
   pub is_simple_tree : ValueTree → Bool
