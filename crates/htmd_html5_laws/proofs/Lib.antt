@@ -86,6 +86,7 @@ pub mod StrictLaid
 pub mod StrictNames
 pub mod StrictRules
 pub mod StrictEnds
+pub mod StrictThrough
 pub mod StrictBuilt
 pub mod StrictPages
 mod Examples

@@ -23,6 +23,7 @@ use Rattle.htmd_html5_state.specs.State.{StateValue}
 use Rattle.htmd_html5.specs.AtOnce.{put_at_once}
 use Rattle.htmd_html5.specs.Feeding.{feed}
 use Rattle.htmd_html5_laws.specs.StrictTokens.{content_after, tag_named, SpellsTree, SpellsForest}
+use Rattle.htmd_html5_laws.specs.StrictTokens.{after_feed, content_tokens}
 use Rattle.htmd_html5_laws.specs.StrictTrees.{is_plain_name, is_plain_element, is_plain_tree}
 use Rattle.htmd_html5_laws.specs.StrictTrees.{are_plain}
 use Rattle.htmd_html5_laws.proofs.StrictNodes.{numbers, node, tree_nodes, forest_nodes, append_length, added, last_text}
@@ -32,11 +33,13 @@ use Rattle.htmd_html5_laws.proofs.StrictNodes.{no_text_next, with_tree_longer, a
 use Rattle.htmd_html5_laws.proofs.StrictOpen.{Fewer, fewer_same, fewer_trans, entries, Below, Stands, stands_longer}
 use Rattle.htmd_html5_laws.proofs.StrictOpen.{stands_below}
 use Rattle.htmd_html5_laws.proofs.StrictNames.{PlainCase, plain_case, is_formatting_case, plain_content, void_case}
-use Rattle.htmd_html5_laws.proofs.StrictNames.{plain_keeps}
+use Rattle.htmd_html5_laws.proofs.StrictNames.{void_keeps, keeps_name}
+use Rattle.htmd_html5_laws.proofs.StrictThrough.{Through, nothing, followed, from_state, one_fed, skip_run}
+use Rattle.htmd_grammar.proofs.NestingLemmas.{one_name}
 use Rattle.htmd_html5_laws.proofs.StrictRawTexts.{normal_content, void_content}
 use Rattle.htmd_html5_laws.proofs.StrictRules.{IsInBody, Fits, within, comment_fed, text_fed, plain_start, formatting_start}
-use Rattle.htmd_html5_laws.proofs.StrictRules.{void_fed, opened_with, put_with}
-use Rattle.htmd_html5_laws.proofs.StrictEnds.{plain_end, formatting_end}
+use Rattle.htmd_html5_laws.proofs.StrictRules.{void_fed, opened_with, put_with, pre_start}
+use Rattle.htmd_html5_laws.proofs.StrictEnds.{plain_end, formatting_end, pre_end}
 use Rattle.htmd_html5_tokens.specs.Tokens as tokens
 use Rattle.htmd_html5_state.specs.Documents as documents
 
@@ -56,24 +59,9 @@ abbrev mutual
   FitsForest c (more t ts) = Apart t ts × FitsTree c t × FitsForest c ts
 
 module _ (z : Bool) where
-  -- from one state to another these tokens are fed, each in the mode "in body"
-  pub data Through : StateValue → List TokenValue → StateValue → Type 0 where
-    nothing : {s : StateValue} → Through s [] s
-    one : {s new : StateValue} {xs : List TokenValue} (p : List ℕ) (c : List (List ℕ)) (x : TokenValue)
-        → IsInBody (p ∷ c) s → content_after z Normal x ≡ Normal → Through (feed x s) xs new → Through s (x ∷ xs) new
-
-  followed : {a b c : StateValue} {xs ys : List TokenValue} → Through a xs b → Through b ys c → Through a (xs ++ ys) c
-  followed nothing q = q
-  followed (one p c x h e r) q = one p c x h e (followed r q)
-
-  one_fed : (p : List ℕ) (c : List (List ℕ)) (x : TokenValue) (s new : StateValue) (xs : List TokenValue)
-      (last : StateValue) → IsInBody (p ∷ c) s → content_after z Normal x ≡ Normal → feed x s ≡ new
-      → Through new xs last → Through s (x ∷ xs) last
-  one_fed p c x s new xs last h e f r = one p c x h e (subst (λ y. Through y xs last) (sym f) r)
-
   -- what has been built from a state on
   pub record Built (c : List (List ℕ)) (xs : List TokenValue) (nodes : List NodeValue) (s new : StateValue) : Type 0 where
-    pub through : Through s xs new
+    pub through : Through z s xs new
     pub nodes_are : new.nodes ≡ nodes
     pub in_body : IsInBody c new
     pub stack : new.stack ≡ s.stack
@@ -116,7 +104,7 @@ module _ (z : Bool) where
   leaf_built p c t x s nodes ok h k f e = (
     record s { nodes = nodes; frameset_ok = ok },
     record {
-      through = one_fed p c x s _ [] _ h k f nothing;
+      through = one_fed z p c x s _ [] _ h k f nothing;
       nodes_are = e;
       in_body = grown p c t s nodes ok h e;
       stack = refl;
@@ -196,25 +184,23 @@ module _ (z : Bool) where
 
   -- the element is closed, and what is listed is no more than before it
   closed : (p n : List ℕ) (c : List (List ℕ)) (attributes : List AttributePair) (children : ValueForest)
-      (slash : Bool) (content : List TokenValue) (s held : StateValue) (list left : List (Option ℕ)) (ok : Bool)
+      (slash : Bool) (whole content : List TokenValue) (s held : StateValue) (list left : List (Option ℕ)) (ok : Bool)
       (h : IsInBody (p ∷ c) s) → content_after z Normal (start_tag (tag_named n attributes slash)) ≡ Normal
-      → feed (start_tag (tag_named n attributes slash)) s ≡ opened_with p c s h n attributes list ok
       → Built (n ∷ (p ∷ c)) content
       (with_forest (length s.nodes) children (opened_with p c s h n attributes list ok).nodes)
       (opened_with p c s h n attributes list ok) held
-      → feed (end_tag (tag_named n [] false)) held ≡ record held { stack = s.stack; formatting = left }
+      → Through z (feed (start_tag (tag_named n attributes slash)) s)
+      (whole ++ (end_tag (tag_named n [] false) ∷ [])) (record held { stack = s.stack; formatting = left })
       → Fewer left s.formatting
       → (new : StateValue) × Built (p ∷ c)
-      (start_tag (tag_named n attributes slash) ∷ (content ++ (end_tag (tag_named n [] false) ∷ [])))
+      (start_tag (tag_named n attributes slash) ∷ (whole ++ (end_tag (tag_named n [] false) ∷ [])))
       (with_tree (at s) (element n attributes children) s.nodes) s new
-  closed p n c attributes children slash content s held list left ok h k started b ends fewer =
+  closed p n c attributes children slash whole content s held list left ok h k b run fewer =
       let new : StateValue = record held { stack = s.stack; formatting = left } in
       let st = subst (λ stack. Stands held.nodes (n ∷ (p ∷ c)) stack) b.stack b.in_body.stands in (
         new,
         record {
-          through = one_fed p c (start_tag (tag_named n attributes slash)) s _ _ new h k started
-              (followed b.through
-              (one_fed n (p ∷ c) (end_tag (tag_named n [] false)) held new [] new b.in_body refl ends nothing));
+          through = one_fed z p c (start_tag (tag_named n attributes slash)) s _ _ new h k refl run;
           nodes_are = b.nodes_are
               ∙ ap (with_forest (length s.nodes) children) (element_added p c n attributes s h)
               ∙ filled (at s) n attributes children s.nodes;
@@ -231,6 +217,15 @@ module _ (z : Bool) where
           fewer = fewer;
         },
       )
+
+  -- the content and the end tag
+  to_end : (p n : List ℕ) (c : List (List ℕ)) (content : List TokenValue) (nodes : List NodeValue)
+      (first held new : StateValue) → Built (n ∷ (p ∷ c)) content nodes first held
+      → feed (end_tag (tag_named n [] false)) held ≡ new
+      → Through z first (content ++ (end_tag (tag_named n [] false) ∷ [])) new
+  to_end p n c content nodes first held new b ends =
+      followed z b.through
+      (one_fed z n (p ∷ c) (end_tag (tag_named n [] false)) held new [] new b.in_body refl ends nothing)
 
   -- an element starts with nothing in it
   starts_empty : (p n : List ℕ) (c : List (List ℕ)) (attributes : List AttributePair) (s : StateValue)
@@ -266,8 +261,10 @@ module _ (z : Bool) where
           let ends = formatting_end n (p ∷ c) r.0 r.1.in_body n (plain_case n e) t (length s.nodes) s.stack (st.1).0
           started.0 r.1.stack (st.1).1 st.3 r.1.fewer
           (fewer_trans started.0 s.formatting (entries s.stack) started.1 h.listed) in
-          closed p n c attributes children slash content s r.0 list ends.0 s.frameset_ok h (plain_content z n e) started.2
-          r.1 ends.2 (fewer_trans ends.0 started.0 s.formatting ends.1 started.1)
+          let run = to_end p n c content _ _ r.0 _ r.1 ends.2 in
+          closed p n c attributes children slash content content s r.0 list ends.0 s.frameset_ok h (plain_content z n e)
+          r.1 (from_state z started.2 run)
+          (fewer_trans ends.0 started.0 s.formatting ends.1 started.1)
 
       unformatted : is_formatting_case (plain_case n e) ≡ false
           → (new : StateValue) × Built (p ∷ c)
@@ -279,17 +276,39 @@ module _ (z : Bool) where
           let r = ih n (p ∷ c) content (opened_with p c s h n attributes s.formatting started.0) k g ff io
           (λ _. starts_empty p n c attributes s h) in
           let ends = plain_end n (p ∷ c) r.0 r.1.in_body n (plain_case n e) t (length s.nodes) s.stack r.1.stack in
-          closed p n c attributes children slash content s r.0 s.formatting (r.0).formatting started.0 h
-          (plain_content z n e) started.1 r.1 ends r.1.fewer
+          let run = to_end p n c content _ _ r.0 _ r.1 ends in
+          closed p n c attributes children slash content content s r.0 s.formatting (r.0).formatting started.0 h
+          (plain_content z n e) r.1 (from_state z started.1 run) r.1.fewer
+
+  pre_built : (attributes : List AttributePair) (children : ValueForest) → ForestBuilt children
+      → (slash : Bool) (content : List TokenValue) (p : List ℕ) (c : List (List ℕ)) (s : StateValue)
+      → are_plain children ≡ true → SpellsForest children (after_feed content)
+      → Fits (p ∷ c) (codes "pre") → FitsForest (codes "pre" ∷ (p ∷ c)) children → IsInBody (p ∷ c) s
+      → (new : StateValue) × Built (p ∷ c)
+      (start_tag (tag_named (codes "pre") attributes slash)
+      ∷ (content ++ (end_tag (tag_named (codes "pre") [] false) ∷ [])))
+      (with_tree (at s) (element (codes "pre") attributes children) s.nodes) s new
+  pre_built attributes children ih slash content p c s g k f ff h =
+      let n : List ℕ = codes "pre" in
+      let first : StateValue = opened_with p c s h n attributes s.formatting false in
+      let io = entered p n c attributes s s.formatting false h (inl (fewer_same s.formatting)) in
+      let r = ih n (p ∷ c) (after_feed content) first k g ff io (λ _. starts_empty p n c attributes s h) in
+      let ends = pre_end n (p ∷ c) r.0 r.1.in_body (length s.nodes) s.stack r.1.stack in
+      let new : StateValue = record (r.0) { stack = s.stack } in
+      let run : Through z first (after_feed content ++ (end_tag (tag_named n [] false) ∷ [])) new =
+      to_end p n c (after_feed content) _ first r.0 new r.1 ends in
+      let skipped = skip_run z n (p ∷ c) first io content (tag_named n [] false) new run in
+      closed p n c attributes children slash content (after_feed content) s r.0 s.formatting (r.0).formatting false h refl
+      r.1 (from_state z (pre_start p c s h f attributes slash) skipped) r.1.fewer
 
   element_built : (n : List ℕ) (attributes : List AttributePair) (children : ValueForest) → ForestBuilt children
       → TreeBuilt (element n attributes children)
   element_built n attributes children ih p c xs s k e f h st =
       let g = and_parts (is_plain_element n) (are_plain children) e in
-      let held : SpellsForest children k.1 = rw (plain_keeps n g.0) at k.4 in
       test (is_void n)
       (λ v. let m = rw v at k.5 in
       let w = rw v at g.0 in
+      let held : SpellsForest children k.1 = rw (void_keeps n v) at k.4 in
       let none_held : k.1 ≡ [] = subst (λ ts. SpellsForest ts k.1) m.0 held in
       let q : xs ≡ start_tag (tag_named n attributes k.0) ∷ [] =
       k.3 ∙ ap (λ (ys : List TokenValue). start_tag (tag_named n attributes k.0) ∷ (ys ++ k.2)) none_held
@@ -299,7 +318,25 @@ module _ (z : Bool) where
       let w = rw v at g.0 in
       let q : xs ≡ start_tag (tag_named n attributes k.0) ∷ (k.1 ++ (end_tag (tag_named n [] false) ∷ [])) =
       k.3 ∙ ap (λ (ys : List TokenValue). start_tag (tag_named n attributes k.0) ∷ (k.1 ++ ys)) m.1 in
-      rw q (full_built n attributes children ih k.0 k.1 p c s w g.1 held f.0 f.1 h))
+      rw q (test (is_plain_name n)
+      (λ t. full_built n attributes children ih k.0 k.1 p c s t g.1 (rw (keeps_name n t) at k.4) f.0 f.1 h)
+      (λ t. let pre : n ≡ codes "pre" = one_name (codes "pre") n (rw t at w) in
+      pre_there n pre attributes children ih k.0 k.1 p c s g.1 k.4 f.0 f.1 h)))
+    where
+      pre_there : (n : List ℕ) → n ≡ codes "pre" → (attributes : List AttributePair) (children : ValueForest)
+          → ForestBuilt children → (slash : Bool) (content : List TokenValue) (p : List ℕ) (c : List (List ℕ))
+          (s : StateValue) → are_plain children ≡ true → SpellsForest children (content_tokens n content)
+          → Fits (p ∷ c) n → FitsForest (n ∷ (p ∷ c)) children → IsInBody (p ∷ c) s
+          → (new : StateValue) × Built (p ∷ c)
+          (start_tag (tag_named n attributes slash) ∷ (content ++ (end_tag (tag_named n [] false) ∷ [])))
+          (with_tree (at s) (element n attributes children) s.nodes) s new
+      pre_there n q attributes children ih slash content p c s g k f ff h =
+          subst (λ m. (new : StateValue) × Built (p ∷ c)
+          (start_tag (tag_named m attributes slash) ∷ (content ++ (end_tag (tag_named m [] false) ∷ [])))
+          (with_tree (at s) (element m attributes children) s.nodes) s new) (sym q)
+          (pre_built attributes children ih slash content p c s g
+          (subst (λ m. SpellsForest children (content_tokens m content)) q k) (subst (Fits (p ∷ c)) q f)
+          (subst (λ m. FitsForest (m ∷ (p ∷ c)) children) q ff) h)
 
   -- ---- one tree after another
 
@@ -313,7 +350,7 @@ module _ (z : Bool) where
       ∙ tree_last t (at s) s.nodes (within p c s h) ∙ no_text_next t ts f.0 i) in (
         others.0,
         record {
-          through = subst (λ ys. Through s ys others.0) (sym k.2) (followed first.1.through others.1.through);
+          through = subst (λ ys. Through z s ys others.0) (sym k.2) (followed z first.1.through others.1.through);
           nodes_are = others.1.nodes_are ∙ ap (λ m. with_forest m ts (first.0).nodes) there
               ∙ ap (with_forest (at s) ts) first.1.nodes_are ∙ forest_joined (at s) t ts s.nodes (within p c s h);
           in_body = others.1.in_body;

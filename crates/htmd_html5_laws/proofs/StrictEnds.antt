@@ -158,6 +158,14 @@ module _ (p : List ℕ) (c : List (List ℕ)) (s : StateValue) (h : IsInBody (p 
       fed_end n (on_stack pop s) (plain_ended n k e node es q)
       ∙ ap (λ (stack : List OpenValue). record s { stack = pop stack }) q
 
+  pub pre_end : (node : ℕ) (es : List OpenValue) → s.stack ≡ opened node (html (name_of_text (codes "pre"))) ∷ es
+      → feed (end_tag (tag_named (codes "pre") [] false)) s ≡ record s { stack = es }
+  unfolding text_end_rule
+  pre_end node es q =
+      fed_end (codes "pre") (on_stack pop s)
+      (ap (λ stack. done (record s { stack = stack })) (by_block tags.Pre node es q))
+      ∙ ap (λ (stack : List OpenValue). record s { stack = pop stack }) q
+
   pub formatting_end : (n : List ℕ) (k : PlainCase n) → is_formatting_case k ≡ true → (b : ℕ) (es : List OpenValue)
       (attributes : List AttributePair) (before : List (Option ℕ))
       → s.stack ≡ opened b (html (name_of_text n)) ∷ es

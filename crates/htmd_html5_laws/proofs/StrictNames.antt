@@ -5,7 +5,7 @@ use Rattle.std.proofs.lemmas.Bool.{not-true}
 use Rattle.htmd_text.proofs.Cases.{test}
 use Rattle.htmd_grammar.specs.CharacterClasses.{is_among}
 use Rattle.htmd_grammar.specs.Nesting.{closes_paragraph, is_outside}
-use Rattle.htmd_grammar.proofs.NestingLemmas.{same_bytes, bytes_same, among_passes}
+use Rattle.htmd_grammar.proofs.NestingLemmas.{same_bytes, bytes_same, one_name, among_passes}
 use Rattle.htmd_grammar.specs.RawContent.{drops_line_feed}
 use Rattle.htmd_grammar.specs.Serialisation.{is_void, void_elements}
 use Rattle.htmd_html5_tokens.specs.declared.tokens.Content.TheVariants.{Normal}
@@ -397,18 +397,19 @@ void_aside n v = among_passes (λ m. not (is_set_aside m)) void_elements n v ref
 
 pub aside_element : (n : List ℕ) → is_plain_element n ≡ true → is_set_aside n ≡ false
 aside_element n e =
-    test (is_void n) (λ v. not-true (is_set_aside n) (void_aside n v)) (λ v. aside_name n (rw v at e))
+    test (is_void n) (λ v. not-true (is_set_aside n) (void_aside n v))
+    (λ v. let w = rw v at e in
+    test (is_plain_name n) (λ t. aside_name n t) (λ t. rw (one_name (codes "pre") n (rw t at w)) refl))
 
 -- and none drops a line feed
-keeps_name : (n : List ℕ) → is_plain_name n ≡ true → drops_line_feed n ≡ false
+pub keeps_name : (n : List ℕ) → is_plain_name n ≡ true → drops_line_feed n ≡ false
 keeps_name n e =
     is_name n (codes "pre") (λ t. absurd (let w = rw t at e in cc))
     (λ a. is_name n (codes "textarea") (λ t. absurd (let w = rw t at e in cc)) (λ b. rw (a, b) refl))
 
-void_keeps : (n : List ℕ) → is_void n ≡ true → not (drops_line_feed n) ≡ true
+no_void_drops : (n : List ℕ) → is_void n ≡ true → not (drops_line_feed n) ≡ true
 unfolding is_void
-void_keeps n v = among_passes (λ m. not (drops_line_feed m)) void_elements n v refl
+no_void_drops n v = among_passes (λ m. not (drops_line_feed m)) void_elements n v refl
 
-pub plain_keeps : (n : List ℕ) → is_plain_element n ≡ true → drops_line_feed n ≡ false
-plain_keeps n e =
-    test (is_void n) (λ v. not-true (drops_line_feed n) (void_keeps n v)) (λ v. keeps_name n (rw v at e))
+pub void_keeps : (n : List ℕ) → is_void n ≡ true → drops_line_feed n ≡ false
+void_keeps n v = not-true (drops_line_feed n) (no_void_drops n v)

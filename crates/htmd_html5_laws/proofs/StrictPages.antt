@@ -40,7 +40,8 @@ use Rattle.htmd_html5_laws.proofs.StrictOpen.{stands_html, the_document, open_me
 use Rattle.htmd_html5_laws.proofs.StrictLaid.{layout, are_content, plain_is_content, forest_laid}
 use Rattle.htmd_html5_laws.proofs.StrictNames.{aside_element}
 use Rattle.htmd_html5_laws.proofs.StrictRules.{IsInBody, Fits, end_of_file_fed}
-use Rattle.htmd_html5_laws.proofs.StrictBuilt.{Through, nothing, one, FitsTree, FitsForest, forest_built}
+use Rattle.htmd_html5_laws.proofs.StrictBuilt.{FitsTree, FitsForest, forest_built}
+use Rattle.htmd_html5_laws.proofs.StrictThrough.{Through, Parts, parts}
 use Rattle.htmd_html5_state.specs.Documents as documents
 
 -- ---- plain trees are simple
@@ -127,16 +128,6 @@ module _ (z : Bool) where
 
 -- ---- reading and feeding in step
 
-abbrev Parts : Bool → StateValue → List TokenValue → StateValue → Type 0
-Parts z s [] new = s ≡ new
-Parts z s (x ∷ xs) new =
-    (p : List ℕ) × (c : List (List ℕ)) × IsInBody (p ∷ c) s × (content_after z Normal x ≡ Normal)
-    × Through z (feed x s) xs new
-
-parts : (z : Bool) {s new : StateValue} {xs : List TokenValue} → Through z s xs new → Parts z s xs new
-parts z nothing = refl
-parts z (one p c x h e r) = (p, c, h, e, r)
-
 nothing_left : (k : ℕ) (p : List ℕ) (c : List (List ℕ)) (s : StateValue) → IsInBody (p ∷ c) s
     → read_within k [] s ≡ s
 nothing_left zero p c s h = end_of_file_fed p c s h
@@ -151,13 +142,12 @@ in_step : (z : Bool) (k : ℕ) (now after : Content) (page left : List ℕ) (xs 
 in_step z k now after page left xs s new p c here n e r h l = rw (e, r) (nothing_left k p c new h)
 in_step z zero now after page left xs s new p c (onward token rest f g m q) n e r h l = absurd (omega arith)
 in_step z (suc k) now after page left xs s new p c (onward token rest f g m q) n e r h l =
-    let there = r.2 in
     let token_read : next_read page s ≡ read token rest =
-    ap (λ c. next_token c (not (current_is_html s.stack)) page) there.content
-    ∙ ap (λ b. next_token Normal (not b) page) (stands_html s.nodes (r.0 ∷ r.1) s.stack there.stands) ∙ ap (λ c. next_token c false page) (sym n) ∙ f in
-    let normal : content_after z now token ≡ Normal = ap (λ c. content_after z c token) n ∙ r.3 in
+    ap (λ c. next_token c (not (current_is_html s.stack)) page) r.0
+    ∙ ap (λ b. next_token Normal (not b) page) r.1 ∙ ap (λ c. next_token c false page) (sym n) ∙ f in
+    let normal : content_after z now token ≡ Normal = ap (λ c. content_after z c token) n ∙ r.2 in
     ap (λ x. after_token (read_within k) x s) token_read
-    ∙ rw g (in_step z k _ after rest left _ (feed token s) new p c q normal e (parts z r.4) h (omega (arith, m, l)))
+    ∙ rw g (in_step z k _ after rest left _ (feed token s) new p c q normal e (parts z r.3) h (omega (arith, m, l)))
 
 -- ---- the page
 

@@ -373,3 +373,15 @@ module _ (p : List ℕ) (c : List (List ℕ)) (s : StateValue) (h : IsInBody (p 
         ∙ rw x.1 (ap (λ r. start_by r (value (known x.0) attributes slash) s) x.2
         ∙ x.3 (value (known x.0) attributes slash) s),
   )
+
+  -- a `pre`, after which a line feed is dropped
+  pub pre_start : Fits (p ∷ c) (codes "pre") → (attributes : List AttributePair) (slash : Bool)
+      → feed (start_tag (tag_named (codes "pre") attributes slash)) s
+      ≡ record (opened_with (codes "pre") attributes s.formatting false) { skips_line_feed = true }
+  unfolding block_rule
+  pre_start f attributes slash =
+      fed_start (tag_named (codes "pre") attributes slash)
+      ∙ ap (λ stack. record (insert_element (known tags.Pre) attributes (record s { stack = stack })) {
+        skips_line_feed = true;
+        frameset_ok = false;
+      }) (no_p_closed (f.paragraph refl))

@@ -51,9 +51,10 @@ is_plain_name n =
     is_unknown_name (name_of_text n) || is_among ordinary_names n || is_among formatting_names n
     || is_among block_names n || is_among heading_names n || is_among other_names n
 
--- all void elements but `col`
+-- all void elements but `col`, elements with such names, and `pre`
 abbrev pub is_plain_element : List ℕ → Bool
-is_plain_element n = if is_void n then not (is_among (codes "col" ∷ []) n) else is_plain_name n
+is_plain_element n =
+    if is_void n then not (is_among (codes "col" ∷ []) n) else is_plain_name n || is_among (codes "pre" ∷ []) n
 
 abbrev mutual
   -- texts aren't empty and hold no U+0000
