@@ -90,3 +90,4 @@ pub mod StrictThrough
 pub mod StrictBuilt
 pub mod StrictPages
 mod Examples
+mod StrictExamples

@@ -62,9 +62,10 @@ number_is : (p : ℕ → Bool) (base from m : ℕ) (s v : List ℕ) → number_a
     → (c : ℕ) × (v ≡ encode_utf8 c)
 number_is p base from m s v e =
     test (first_is 59 (behind_run p s) && not (first_is 59 s))
-    (λ t. let w = rw t at e in
-    (number base 0 (leading_run p s),
-        numbered_is (suc (from + length (leading_run p s))) (number base 0 (leading_run p s)) m v w))
+    (λ t. let w = rw t at e in (
+      number base 0 (leading_run p s),
+      numbered_is (suc (from + length (leading_run p s))) (number base 0 (leading_run p s)) m v w,
+    ))
     (λ t. absurd (let w = rw t at e in cc))
 
 sign_is : (s v : List ℕ) (m : ℕ) → behind_number_sign s ≡ stands m v → (c : ℕ) × (v ≡ encode_utf8 c)

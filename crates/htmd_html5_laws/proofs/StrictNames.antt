@@ -254,24 +254,59 @@ void_cases : Each VoidThere void_elements
 unfolding block_rule formatting_rule phrasing_rule
 void_cases = (
   λ e o. in_text (tags.Area, refl, refl),
-  (λ e o. in_head (tags.Base, refl, refl, λ x s. refl),
-  (λ e o. in_head (tags.BaseFont, refl, refl, λ x s. refl),
-  (λ e o. in_head (tags.BgSound, refl, refl, λ x s. refl),
-  (λ e o. in_text (tags.Br, refl, refl),
-  (λ e o. absurd (cc),
-  (λ e o. in_text (tags.Embed, refl, refl),
-  (λ e o. absurd (cc),
-  (λ e o. separator refl,
-  (λ e o. in_text (tags.Img, refl, refl),
-  (λ e o. input refl,
-  (λ e o. in_text (tags.KeyGen, refl, refl),
-  (λ e o. in_head (tags.Link, refl, refl, λ x s. refl),
-  (λ e o. in_head (tags.Meta, refl, refl, λ x s. refl),
-  (λ e o. of_another (tags.Param, refl, refl),
-  (λ e o. of_another (tags.Source, refl, refl),
-  (λ e o. of_another (tags.Track, refl, refl),
-  (λ e o. in_text (tags.Wbr, refl, refl),
-  tt))))))))))))))))))
+  (
+    λ e o. in_head (tags.Base, refl, refl, λ x s. refl),
+    (
+      λ e o. in_head (tags.BaseFont, refl, refl, λ x s. refl),
+      (
+        λ e o. in_head (tags.BgSound, refl, refl, λ x s. refl),
+        (
+          λ e o. in_text (tags.Br, refl, refl),
+          (
+            λ e o. absurd (cc),
+            (
+              λ e o. in_text (tags.Embed, refl, refl),
+              (
+                λ e o. absurd (cc),
+                (
+                  λ e o. separator refl,
+                  (
+                    λ e o. in_text (tags.Img, refl, refl),
+                    (
+                      λ e o. input refl,
+                      (
+                        λ e o. in_text (tags.KeyGen, refl, refl),
+                        (
+                          λ e o. in_head (tags.Link, refl, refl, λ x s. refl),
+                          (
+                            λ e o. in_head (tags.Meta, refl, refl, λ x s. refl),
+                            (
+                              λ e o. of_another (tags.Param, refl, refl),
+                              (
+                                λ e o. of_another (tags.Source, refl, refl),
+                                (
+                                  λ e o. of_another (tags.Track, refl, refl),
+                                  (
+                                    λ e o. in_text (tags.Wbr, refl, refl),
+                                    tt,
+                                  ),
+                                ),
+                              ),
+                            ),
+                          ),
+                        ),
+                      ),
+                    ),
+                  ),
+                ),
+              ),
+            ),
+          ),
+        ),
+      ),
+    ),
+  ),
+)
 
 pub void_case : (n : List ℕ) → is_void n ≡ true → not (is_among (codes "col" ∷ []) n) ≡ true → is_outside n ≡ false
     → VoidCase n
