@@ -1,9 +1,9 @@
 -- The tokens of plain trees build the nodes of these trees below the current node.
-use Rattle.std.proofs.Common.{◌≡◌, ◌≢◌, ◌⊎◌, ℕ, zero, suc, ◌+◌, ◌<◌, ◌≤◌, Bool, true, false, not, ◌&&◌, ◌||◌, List, [], ◌∷◌, ◌++◌}
-use Rattle.std.proofs.Common.{length, Option, Some, None, refl, sym, ap, ◌∙◌, arith, inl, inr, subst, append_assoc}
+use Rattle.std.proofs.Common.{◌≡◌, ℕ, ◌<◌, Bool, true, false, not, List, [], ◌∷◌, ◌++◌}
+use Rattle.std.proofs.Common.{length, Option, Some, None, refl, sym, ap, ◌∙◌, arith, inl, inr, subst}
 use Rattle.std.proofs.Common.{length-append, codes}
 use Rattle.std.specs.List.{list_all}
-use Rattle.std.proofs.lemmas.Bool.{and_parts, or_left, or_right}
+use Rattle.std.proofs.lemmas.Bool.{and_parts}
 use Rattle.std.proofs.lemmas.List.{append-nil}
 use Rattle.htmd_text.specs.WhiteSpace.{is_ascii_white_space}
 use Rattle.htmd_text.proofs.Cases.{test}
@@ -12,33 +12,31 @@ use Rattle.htmd_grammar.specs.ValueTrees.{comment, element}
 use Rattle.htmd_grammar.specs.CharacterClasses.{is_among}
 use Rattle.htmd_grammar.specs.Grammar.{Apart}
 use Rattle.htmd_grammar.specs.Serialisation.{is_void}
-use Rattle.htmd_tree.specs.Layout.{size}
 use Rattle.htmd_html5_tokens.specs.Tokens.{TokenValue, start_tag, end_tag}
 use Rattle.htmd_html5_tokens.specs.declared.tokens.Content.TheVariants.{Normal}
 use Rattle.htmd_html5_state.specs.Names.{html, name_of_text}
 use Rattle.htmd_html5_state.specs.Documents.{NodeValue, kind_at, append_children, add, add_text, last_in}
 use Rattle.htmd_html5_state.specs.OpenElements.{OpenValue}
-use Rattle.htmd_html5_state.specs.Insertion.{opened, current, place}
+use Rattle.htmd_html5_state.specs.Insertion.{current, place}
 use Rattle.htmd_html5_state.specs.State.{StateValue}
-use Rattle.htmd_html5.specs.AtOnce.{put_at_once}
 use Rattle.htmd_html5.specs.Feeding.{feed}
 use Rattle.htmd_html5_laws.specs.StrictTokens.{content_after, tag_named, SpellsTree, SpellsForest}
 use Rattle.htmd_html5_laws.specs.StrictTokens.{after_feed, content_tokens}
 use Rattle.htmd_html5_laws.specs.StrictTrees.{is_plain_name, is_plain_element, is_plain_tree}
 use Rattle.htmd_html5_laws.specs.StrictTrees.{are_plain}
-use Rattle.htmd_html5_laws.proofs.StrictNodes.{numbers, node, tree_nodes, forest_nodes, append_length, added, last_text}
+use Rattle.htmd_html5_laws.proofs.StrictNodes.{node, tree_nodes, append_length, added, last_text}
 use Rattle.htmd_html5_laws.proofs.StrictNodes.{text_added, new_last_text, kind_after, kinds_kept}
 use Rattle.htmd_html5_laws.proofs.StrictNodes.{with_tree, with_forest, forest_joined, filled, tree_last, is_text, begins_text}
 use Rattle.htmd_html5_laws.proofs.StrictNodes.{no_text_next, with_tree_longer, append_none}
-use Rattle.htmd_html5_laws.proofs.StrictOpen.{Fewer, fewer_same, fewer_trans, entries, Below, Stands, stands_longer}
+use Rattle.htmd_html5_laws.proofs.StrictOpen.{Fewer, fewer_same, fewer_trans, entries, Stands, stands_longer}
 use Rattle.htmd_html5_laws.proofs.StrictOpen.{stands_below}
-use Rattle.htmd_html5_laws.proofs.StrictNames.{PlainCase, plain_case, is_formatting_case, plain_content, void_case}
+use Rattle.htmd_html5_laws.proofs.StrictNames.{plain_case, is_formatting_case, plain_content, void_case}
 use Rattle.htmd_html5_laws.proofs.StrictNames.{void_keeps, keeps_name}
 use Rattle.htmd_html5_laws.proofs.StrictThrough.{Through, nothing, followed, from_state, one_fed, skip_run}
 use Rattle.htmd_grammar.proofs.NestingLemmas.{one_name}
 use Rattle.htmd_html5_laws.proofs.StrictRawTexts.{normal_content, void_content}
 use Rattle.htmd_html5_laws.proofs.StrictRules.{IsInBody, Fits, within, comment_fed, text_fed, plain_start, formatting_start}
-use Rattle.htmd_html5_laws.proofs.StrictRules.{void_fed, opened_with, put_with, pre_start}
+use Rattle.htmd_html5_laws.proofs.StrictRules.{void_fed, opened_with, pre_start}
 use Rattle.htmd_html5_laws.proofs.StrictEnds.{plain_end, formatting_end, pre_end}
 use Rattle.htmd_html5_tokens.specs.Tokens as tokens
 use Rattle.htmd_html5_state.specs.Documents as documents

@@ -1,6 +1,6 @@
 -- What the end tag of a plain element does, where that element is the current node.
-use Rattle.std.proofs.Common.{◌≡◌, ◌⊎◌, ℕ, suc, ◌<◌, Bool, true, false, not, ◌&&◌, ◌||◌, List, [], ◌∷◌}
-use Rattle.std.proofs.Common.{Option, Some, None, refl, sym, ap, ◌∙◌, arith, inl, inr, subst, codes}
+use Rattle.std.proofs.Common.{◌≡◌, ℕ, true, false, not, List, [], ◌∷◌}
+use Rattle.std.proofs.Common.{Option, Some, refl, sym, ap, ◌∙◌, arith, inl, inr, subst, codes}
 use Rattle.std.specs.Prelude.{◌==◌}
 use Rattle.std.proofs.lemmas.Bool.Decides.{nat_tests}
 use Rattle.htmd_text.proofs.Cases.{test}
@@ -12,7 +12,7 @@ use Rattle.htmd_html5_state.specs.Documents.{kind_at, element}
 use Rattle.htmd_html5_state.specs.OpenElements.{OpenValue, is_in_scope, close, close_name, pop, pop_until}
 use Rattle.htmd_html5_state.specs.Insertion.{opened}
 use Rattle.htmd_html5_state.specs.Formatting.{is_listed}
-use Rattle.htmd_html5_state.specs.Adoption.{formatting_element, closes_at_once, round, round_of, round_with, last_round}
+use Rattle.htmd_html5_state.specs.Adoption.{formatting_element, closes_at_once, round_of, round_with, last_round}
 use Rattle.htmd_html5_state.specs.Adoption.{go_on, rounds, adoption_agency}
 use Rattle.htmd_html5_state.specs.State.{StateValue, on_stack}
 use Rattle.htmd_html5_state.specs.declared.names.TagName.{TagName}
@@ -22,7 +22,7 @@ use Rattle.htmd_html5.specs.Answers.{done}
 use Rattle.htmd_html5.specs.BodyEnds.{text_end_rule, end_by, end_in_body, end_paragraph}
 use Rattle.htmd_html5.specs.Feeding.{feed, feed_end_tag}
 use Rattle.htmd_html5_laws.specs.StrictTokens.{tag_named}
-use Rattle.htmd_html5_laws.proofs.StrictOpen.{Fewer, fewer_trans, listed_in, entries, Below, new_unlisted}
+use Rattle.htmd_html5_laws.proofs.StrictOpen.{Fewer, listed_in, entries, Below, new_unlisted}
 use Rattle.htmd_html5_laws.proofs.StrictNames.{same_itself, PlainCase, is_formatting_case}
 use Rattle.htmd_html5_laws.proofs.StrictNames.{unknown, ordinary, formatting, anchor, paragraph, block, heading}
 use Rattle.htmd_html5_laws.proofs.StrictNames.{list_item, part, no_break, button}

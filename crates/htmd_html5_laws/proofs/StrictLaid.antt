@@ -1,21 +1,17 @@
 -- The nodes of trees are laid out as the items of the trees.
-use Rattle.std.proofs.Common.{◌≡◌, ◌⊎◌, ℕ, zero, suc, ◌+◌, ◌<◌, ◌≤◌, max, Bool, true, false, ◌&&◌, ◌||◌, List, [], ◌∷◌, ◌++◌, map}
-use Rattle.std.proofs.Common.{length, Option, Some, None, refl, sym, ap, ◌∙◌, arith, append_assoc, length-append}
-use Rattle.std.specs.Prelude.{◌==◌, find}
+use Rattle.std.proofs.Common.{◌≡◌, ℕ, zero, suc, ◌+◌, ◌<◌, Bool, true, false, ◌&&◌, List, [], ◌∷◌, ◌++◌, map}
+use Rattle.std.proofs.Common.{length, refl, sym, ap, ◌∙◌, arith, append_assoc, length-append}
+use Rattle.std.specs.Prelude.{◌==◌}
 use Rattle.std.proofs.lemmas.Bool.{and_parts}
 use Rattle.std.proofs.lemmas.Bool.Decides.{nat_tests}
 use Rattle.std.proofs.lemmas.List.{append-nil}
-use Rattle.htmd_text.proofs.Cases.{test}
 use Rattle.htmd_grammar.specs.ValueTrees.{AttributePair, ValueTree, ValueForest, none, more, document, doctype, text}
 use Rattle.htmd_grammar.specs.ValueTrees.{comment, element}
-use Rattle.htmd_grammar.proofs.NestingLemmas.{same_bytes}
-use Rattle.htmd_tree.specs.Items.{Data, text_node, comment_node, element_node, Item, item_at, depth_at, new_item}
+use Rattle.htmd_tree.specs.Items.{Data, text_node, comment_node, element_node, Item, depth_at, new_item}
 use Rattle.htmd_tree.specs.Layout.{size, sizes, item_under, tree_items, forest_items}
 use Rattle.htmd_tree.proofs.OpenNodesLemmas.{item_at-middle, length-tree_items}
 use Rattle.htmd_html5_state.specs.Names.{ElementNameValue, html, name_of_text, text_of_name, text_of_element_name}
-use Rattle.htmd_html5_state.specs.Names.{known_or, is_spelled, spelling, names_with}
 use Rattle.htmd_html5_state.specs.Documents.{NodeValue, kind_at, children_at, with_kind}
-use Rattle.htmd_html5_state.specs.declared.names.TagName.{TagName}
 use Rattle.htmd_html5.specs.Layout.{Coming, coming, Layout, is_deepest, with_kind_of, without_node, put_node}
 use Rattle.htmd_html5.specs.Layout.{layout_within}
 use Rattle.htmd_html5_laws.specs.StrictTrees.{levels, most_levels, is_plain_element, is_plain_tree, are_plain}

@@ -1,12 +1,11 @@
 -- The line feed at the beginning of a `pre`, which both readers drop, is a piece of the text.
-use Rattle.std.proofs.Common.{◌≡◌, ◌≢◌, ◌⊎◌, ℕ, zero, suc, ◌+◌, ◌<◌, ◌≤◌, Bool, true, false, not, ◌&&◌, ◌||◌, List, [], ◌∷◌, ◌++◌}
-use Rattle.std.proofs.Common.{length, drop, Option, Some, None, refl, sym, ap, ◌∙◌, arith, inl, inr, subst, codes, append_assoc}
+use Rattle.std.proofs.Common.{◌≡◌, ◌⊎◌, ℕ, zero, suc, ◌+◌, ◌≤◌, Bool, true, false, not, ◌&&◌, List, [], ◌∷◌, ◌++◌}
+use Rattle.std.proofs.Common.{length, drop, Option, Some, None, refl, sym, ap, ◌∙◌, arith, inl, inr, subst, codes}
 use Rattle.std.specs.Prelude.{◌==◌, nat_lt}
 use Rattle.std.specs.Char.{encode_utf8, is_ascii_alphanumeric, is_ascii_digit, is_ascii_hexdigit}
 use Rattle.std.specs.List.{list_all}
 use Rattle.std.specs.Str.{bytes_eq}
 use Rattle.std.proofs.lemmas.Bool.{and_parts, not-true, eqb-true}
-use Rattle.std.proofs.lemmas.Bool.Decides.{nat_tests}
 use Rattle.htmd_text.proofs.Cases.{test}
 use Rattle.htmd_grammar.specs.CharacterClasses.{first_is, begins_in_any_case, leading_run, behind_run, lacks, up_to}
 use Rattle.htmd_grammar.specs.References.{Piece, stands, wrong, number, number_at, numbered, may_be_numbered, named}
@@ -14,7 +13,6 @@ use Rattle.htmd_grammar.specs.References.{behind_number_sign, behind_ampersand, 
 use Rattle.htmd_grammar.specs.References.{less_line_feed}
 use Rattle.htmd_grammar.specs.RawContent.{begins_markup}
 use Rattle.htmd_grammar.specs.Rules.{NamedCharacter, character_named, named_characters}
-use Rattle.htmd_grammar.proofs.BooleanLemmas.{if_then}
 use Rattle.htmd_grammar.proofs.NestingLemmas.{same_bytes}
 use Rattle.htmd_grammar.proofs.ReferencesLemmas.{stands_same, put_parts, piece_fits, drop_cut}
 use Rattle.htmd_grammar.proofs.CutLemmas.{piece_cut, piece_white, IsLineFeedPiece}

@@ -1,9 +1,9 @@
 -- What is open while a text of the strict grammar is read: the elements of the grammar's context.
-use Rattle.std.proofs.Common.{◌≡◌, ◌⊎◌, ℕ, zero, suc, ◌+◌, ◌<◌, ◌≤◌, Bool, true, false, not, ◌&&◌, ◌||◌, List, [], ◌∷◌, ◌++◌}
-use Rattle.std.proofs.Common.{length, map, Option, Some, None, refl, sym, ap, ◌∙◌, arith, inl, inr, subst, codes}
+use Rattle.std.proofs.Common.{◌≡◌, ◌⊎◌, ℕ, ◌<◌, ◌≤◌, true, false, not, ◌&&◌, List, [], ◌∷◌, ◌++◌}
+use Rattle.std.proofs.Common.{length, Option, Some, None, refl, sym, ap, ◌∙◌, arith, inl, inr, subst, codes}
 use Rattle.std.specs.Prelude.{◌==◌, find}
 use Rattle.std.specs.Str.{bytes_eq}
-use Rattle.std.proofs.lemmas.Bool.{and_parts, or_parts, or_right, not-true}
+use Rattle.std.proofs.lemmas.Bool.{or_parts, or_right}
 use Rattle.std.proofs.lemmas.Bool.Decides.{nat_tests}
 use Rattle.htmd_text.proofs.Cases.{test}
 use Rattle.htmd_grammar.specs.ValueTrees.{AttributePair}
@@ -11,7 +11,7 @@ use Rattle.htmd_grammar.specs.CharacterClasses.{is_among}
 use Rattle.htmd_grammar.specs.Nesting.{Context, is_open, is_met_before}
 use Rattle.htmd_grammar.proofs.BooleanLemmas.{and_false}
 use Rattle.htmd_grammar.proofs.NestingLemmas.{same_bytes, bytes_same}
-use Rattle.htmd_html5_state.specs.Names.{NameValue, ElementNameValue, html, known, other, name_of_text, text_of_name}
+use Rattle.htmd_html5_state.specs.Names.{NameValue, html, known, other, name_of_text, text_of_name}
 use Rattle.htmd_html5_state.specs.Names.{known_or, is_spelled, spelling, names_with, same_tag, is_tag}
 use Rattle.htmd_html5_state.specs.Documents.{KindValue, NodeValue, kind_at, element}
 use Rattle.htmd_html5_state.specs.OpenElements.{OpenValue, is_in, is_open_node, scope_has}

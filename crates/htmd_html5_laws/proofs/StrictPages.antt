@@ -1,7 +1,7 @@
 -- A page of the strict grammar with plain trees: the lenient reader gives the same tree.
-use Rattle.std.proofs.Common.{◌≡◌, ◌⊎◌, ℕ, zero, suc, ◌+◌, ◌<◌, ◌≤◌, Bool, true, false, not, ◌&&◌, ◌||◌, List, [], ◌∷◌, ◌++◌}
+use Rattle.std.proofs.Common.{◌≡◌, ℕ, zero, suc, ◌+◌, ◌<◌, ◌≤◌, Bool, true, false, not, ◌&&◌, List, [], ◌∷◌, ◌++◌}
 use Rattle.std.proofs.Common.{length, map, None, refl, sym, ap, ◌∙◌, arith, inl, inr, codes}
-use Rattle.std.proofs.lemmas.Bool.{and_parts, or_parts, not-true}
+use Rattle.std.proofs.lemmas.Bool.{and_parts, not-true}
 use Rattle.std.proofs.lemmas.List.{append-nil}
 use Rattle.htmd_text.proofs.Cases.{test}
 use Rattle.htmd_grammar.specs.ValueTrees.{AttributePair, ValueTree, ValueForest, none, more, document, doctype, text}
@@ -19,7 +19,7 @@ use Rattle.htmd_grammar.proofs.NestingLemmas.{allowed_parts}
 use Rattle.htmd_grammar.proofs.TreeTexts.{Inside}
 use Rattle.htmd_tree.specs.Items.{document_item, greatest_depth}
 use Rattle.htmd_tree.specs.Layout.{sizes, document_items}
-use Rattle.htmd_html5_tokens.specs.Tokens.{TokenValue, start_tag, end_of_file}
+use Rattle.htmd_html5_tokens.specs.Tokens.{TokenValue, start_tag}
 use Rattle.htmd_html5_tokens.specs.NextToken.{next_token}
 use Rattle.htmd_html5_tokens.specs.declared.tokens.Content.{Content}
 use Rattle.htmd_html5_tokens.specs.declared.tokens.Content.TheVariants.{Normal}
@@ -36,12 +36,12 @@ use Rattle.htmd_html5_laws.specs.StrictTrees.{is_plain_element, is_plain_tree, a
 use Rattle.htmd_html5_laws.proofs.StrictPieces.{read, lines_same}
 use Rattle.htmd_html5_laws.proofs.StrictRuns.{Run, here, onward, content_read}
 use Rattle.htmd_html5_laws.proofs.StrictNodes.{numbers, node, forest_nodes, forest_count, with_forest}
-use Rattle.htmd_html5_laws.proofs.StrictOpen.{stands_html, the_document, open_met}
+use Rattle.htmd_html5_laws.proofs.StrictOpen.{the_document, open_met}
 use Rattle.htmd_html5_laws.proofs.StrictLaid.{layout, are_content, plain_is_content, forest_laid}
 use Rattle.htmd_html5_laws.proofs.StrictNames.{aside_element}
 use Rattle.htmd_html5_laws.proofs.StrictRules.{IsInBody, Fits, end_of_file_fed}
 use Rattle.htmd_html5_laws.proofs.StrictBuilt.{FitsTree, FitsForest, forest_built}
-use Rattle.htmd_html5_laws.proofs.StrictThrough.{Through, Parts, parts}
+use Rattle.htmd_html5_laws.proofs.StrictThrough.{Parts, parts}
 use Rattle.htmd_html5_state.specs.Documents as documents
 
 -- ---- plain trees are simple

@@ -1,17 +1,16 @@
 -- Each piece of a text of the strict grammar is one token: a start tag, an end tag, a comment, a text.
-use Rattle.std.proofs.Common.{◌≡◌, ◌≢◌, ◌⊎◌, ℕ, zero, suc, ◌+◌, ◌<◌, Bool, true, false, not, ◌&&◌, ◌||◌, List, [], ◌∷◌, ◌++◌}
-use Rattle.std.proofs.Common.{length, drop, map, Option, Some, None, refl, sym, ap, ◌∙◌, arith, inl, inr, codes}
+use Rattle.std.proofs.Common.{◌≡◌, ◌≢◌, ℕ, Bool, true, false, not, ◌&&◌, ◌||◌, List, [], ◌∷◌, ◌++◌}
+use Rattle.std.proofs.Common.{drop, Some, refl, sym, ap, ◌∙◌, arith, inl, inr, codes}
 use Rattle.std.proofs.Common.{append_assoc, subst}
 use Rattle.std.specs.Prelude.{◌==◌, option_map}
-use Rattle.std.specs.Char.{is_ascii_alphabetic, to_ascii_lowercase}
-use Rattle.std.specs.Str.{bytes_eq}
+use Rattle.std.specs.Char.{is_ascii_alphabetic}
 use Rattle.std.proofs.lemmas.Bool.{and_parts, or_parts, or_from, not-true, eqb-true}
 use Rattle.std.proofs.lemmas.Bool.Decides.{nat_tests}
 use Rattle.std.proofs.lemmas.List.{append-nil}
 use Rattle.htmd_text.proofs.Cases.{test}
 use Rattle.htmd_grammar.specs.ValueTrees.{AttributePair}
 use Rattle.htmd_grammar.specs.CharacterClasses.{is_among, begins_with, holds, lacks, up_to, onward, is_tag_name}
-use Rattle.htmd_grammar.specs.Comments.{before_comment_end, is_comment_text, IsComment, normalized}
+use Rattle.htmd_grammar.specs.Comments.{before_comment_end, IsComment, normalized}
 use Rattle.htmd_grammar.specs.References.{decode}
 use Rattle.htmd_grammar.specs.Rules.{named_characters}
 use Rattle.htmd_grammar.specs.Serialisation.{is_void}
@@ -19,7 +18,7 @@ use Rattle.htmd_grammar.specs.Tags.{IsStartTag, IsEndTag}
 use Rattle.htmd_grammar.proofs.BooleanLemmas.{if_then}
 use Rattle.htmd_grammar.proofs.CommentsLemmas.{map_some, Cut, cut, cut_same}
 use Rattle.htmd_grammar.proofs.TextLemmas.{letter_not, run_head, stops_not}
-use Rattle.htmd_html5_tokens.specs.Tokens.{TagValue, TokenValue, start_tag, end_tag, text, comment, Read}
+use Rattle.htmd_html5_tokens.specs.Tokens.{TokenValue, start_tag, end_tag, text, comment, Read}
 use Rattle.htmd_html5_tokens.specs.Comments.{ends_comment, read_comment}
 use Rattle.htmd_html5_tokens.specs.Tags.{tag_from_name}
 use Rattle.htmd_html5_tokens.specs.RawTexts.{reading_of}

@@ -1,6 +1,6 @@
 -- The text of an element that holds only text, and the end tag after it.
-use Rattle.std.proofs.Common.{◌≡◌, ◌≢◌, ◌⊎◌, ℕ, Bool, true, false, not, ◌&&◌, ◌||◌, List, [], ◌∷◌, ◌++◌, length, take, drop}
-use Rattle.std.proofs.Common.{Option, Some, None, refl, sym, ap, ◌∙◌, arith, inl, inr, codes, subst}
+use Rattle.std.proofs.Common.{◌≡◌, ◌≢◌, ◌⊎◌, ℕ, Bool, true, false, not, ◌&&◌, List, [], ◌∷◌, ◌++◌, length, take, drop}
+use Rattle.std.proofs.Common.{Some, refl, sym, ap, ◌∙◌, inl, inr, codes, subst}
 use Rattle.std.specs.Str.{bytes_eq}
 use Rattle.std.proofs.lemmas.List.{append-nil}
 use Rattle.htmd_text.proofs.Cases.{test}
@@ -13,9 +13,8 @@ use Rattle.htmd_grammar.specs.RawContent.{holds_text_alone, holds_raw_text, begi
 use Rattle.htmd_grammar.specs.RawContent.{drops_line_feed}
 use Rattle.htmd_grammar.specs.Rules.{project}
 use Rattle.htmd_grammar.specs.Serialisation.{is_void, void_elements}
-use Rattle.htmd_grammar.specs.Tags.{IsEndTag}
 use Rattle.htmd_grammar.proofs.NestingLemmas.{same_bytes, among_passes}
-use Rattle.htmd_grammar.proofs.TextLemmas.{Stops, run_of-append}
+use Rattle.htmd_grammar.proofs.TextLemmas.{run_of-append}
 use Rattle.htmd_grammar.proofs.TreeTexts.{node_no_title}
 use Rattle.htmd_html5_tokens.specs.Contents.{decoded}
 use Rattle.htmd_html5_tokens.specs.RawTexts.{reading_of, raw_text_len, own_text_len}

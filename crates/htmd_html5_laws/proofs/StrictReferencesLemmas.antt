@@ -11,7 +11,7 @@ use Rattle.std.proofs.lemmas.List.{append-nil}
 use Rattle.htmd_text.proofs.Cases.{test}
 use Rattle.htmd_grammar.specs.CharacterClasses.{is_empty, first_is, begins_with, begins_in_any_case, leading_run}
 use Rattle.htmd_grammar.specs.CharacterClasses.{behind_run, lacks, up_to, onward}
-use Rattle.htmd_grammar.specs.References.{Piece, stands, number, number_at, numbered, may_be_numbered, named, is_between}
+use Rattle.htmd_grammar.specs.References.{stands, number, number_at, numbered, may_be_numbered, named, is_between}
 use Rattle.htmd_grammar.specs.References.{behind_number_sign, behind_ampersand, piece_at, decode}
 use Rattle.htmd_grammar.specs.RawContent.{begins_markup}
 use Rattle.htmd_grammar.specs.Rules.{NamedCharacter, character_named, named_characters}

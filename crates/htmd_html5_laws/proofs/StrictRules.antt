@@ -1,42 +1,40 @@
 -- What a tag of a plain element does in the mode "in body", where the strict grammar allows it.
-use Rattle.std.proofs.Common.{◌≡◌, ◌⊎◌, ℕ, suc, ◌+◌, ◌<◌, ◌≤◌, Bool, true, false, not, ◌&&◌, ◌||◌, List, [], ◌∷◌, ◌++◌}
-use Rattle.std.proofs.Common.{length, Option, Some, None, refl, sym, ap, ◌∙◌, arith, inl, inr, subst, codes}
-use Rattle.std.specs.Prelude.{nat_lt, find}
-use Rattle.std.specs.Str.{bytes_eq}
-use Rattle.std.proofs.lemmas.Bool.{and_parts, or_right, not-true}
+use Rattle.std.proofs.Common.{◌≡◌, ℕ, ◌<◌, Bool, true, false, not, ◌&&◌, ◌||◌, List, [], ◌∷◌, ◌++◌}
+use Rattle.std.proofs.Common.{length, Option, Some, None, refl, sym, ap, ◌∙◌, arith, subst, codes}
+use Rattle.std.specs.Prelude.{nat_lt}
+use Rattle.std.proofs.lemmas.Bool.{or_right}
 use Rattle.std.proofs.lemmas.Bool.Decides.{nat_tests}
 use Rattle.htmd_text.proofs.Cases.{test}
 use Rattle.htmd_grammar.specs.ValueTrees.{AttributePair}
 use Rattle.htmd_grammar.specs.CharacterClasses.{is_among}
 use Rattle.htmd_grammar.specs.Nesting.{parent_name, closes_paragraph, excludes_itself, is_outside, is_met_before}
-use Rattle.htmd_html5_tokens.specs.Tokens.{TagValue, start_tag, end_tag, comment, text, end_of_file}
+use Rattle.htmd_html5_tokens.specs.Tokens.{TagValue, start_tag, comment, text, end_of_file}
 use Rattle.htmd_html5_tokens.specs.declared.tokens.Content.TheVariants.{Normal}
-use Rattle.htmd_html5_state.specs.Names.{NameValue, known, other, html, name_of_text, spelling, same_tag, same_name}
+use Rattle.htmd_html5_state.specs.Names.{NameValue, known, other, html, name_of_text}
 use Rattle.htmd_html5_state.specs.Documents.{NodeValue, element, add, kind_at}
-use Rattle.htmd_html5_state.specs.OpenElements.{OpenValue, is_in, is_in_scope, current_is, close, close_name, pop, pop_until}
+use Rattle.htmd_html5_state.specs.OpenElements.{OpenValue, is_in_scope, current_is, close}
 use Rattle.htmd_html5_state.specs.Foreign.{current_is_html, is_math_text_point, is_annotation, is_html_point}
 use Rattle.htmd_html5_state.specs.Insertion.{opened, current, place, insert_comment, insert_element, insert_void}
-use Rattle.htmd_html5_state.specs.Sets.{is_of, bounds}
+use Rattle.htmd_html5_state.specs.Sets.{bounds}
 use Rattle.htmd_html5_state.specs.Formatting.{reconstruct, insert_formatting, with_room, with_room_for}
-use Rattle.htmd_html5_state.specs.Adoption.{formatting_element, adoption_agency}
-use Rattle.htmd_html5_state.specs.State.{StateValue, on_stack}
+use Rattle.htmd_html5_state.specs.Adoption.{formatting_element}
+use Rattle.htmd_html5_state.specs.State.{StateValue}
 use Rattle.htmd_html5_state.specs.declared.names.TagName.{TagName}
 use Rattle.htmd_html5_state.specs.declared.modes.InsertionMode.TheVariants.{InBody}
 use Rattle.htmd_html5_state.specs.declared.sets.NameSet.TheVariants.{Only, Headings, DescriptionParts}
-use Rattle.htmd_html5_state.specs.declared.sets.Scope.TheVariants.{Default, Button, Items, ListItem}
+use Rattle.htmd_html5_state.specs.declared.sets.Scope.TheVariants.{Default, Button, Items}
 use Rattle.htmd_html5_state.proofs.SettledLemmas.{Settled, settled-reconstruct}
 use Rattle.htmd_html5.specs.AtOnce.{is_plain, takes_at_once, put_at_once}
-use Rattle.htmd_html5.specs.Answers.{answer, done}
-use Rattle.htmd_html5.specs.SharedRules.{no_frameset, close_paragraph}
+use Rattle.htmd_html5.specs.Answers.{done}
+use Rattle.htmd_html5.specs.SharedRules.{no_frameset}
 use Rattle.htmd_html5.specs.BodyStarts.{block_rule, formatting_rule, phrasing_rule, start_by}
 use Rattle.htmd_html5.specs.BodyStarts.{start_in_body, close_heading, forget, close_no_break, is_hidden}
-use Rattle.htmd_html5.specs.BodyEnds.{end_rule, text_end_rule, end_by, end_in_body}
 use Rattle.htmd_html5.specs.InBody.{in_body}
 use Rattle.htmd_html5.specs.Modes.{in_mode}
 use Rattle.htmd_html5.specs.ForeignContent.{goes_to_html, is_foreign, is_for_math_text, is_for_annotation, is_for_html_point}
 use Rattle.htmd_html5.specs.Processing.{process}
 use Rattle.htmd_html5.specs.Feeding.{is_text_mode, with_nothing_skipped, out_of_text_mode, named, feed, feed_text}
-use Rattle.htmd_html5.specs.Feeding.{without_line_feed, feed_end_tag}
+use Rattle.htmd_html5.specs.Feeding.{without_line_feed}
 use Rattle.htmd_html5.proofs.ProcessingLemmas.{by_html, process_once}
 use Rattle.htmd_html5.proofs.AtOnceLemmas.{put_as_parts}
 use Rattle.htmd_html5_laws.specs.StrictTokens.{tag_named}

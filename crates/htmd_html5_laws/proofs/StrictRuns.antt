@@ -1,7 +1,6 @@
 -- The tokens of a text of the strict grammar are those of its trees.
-use Rattle.std.proofs.Common.{◌≡◌, ◌≢◌, ◌⊎◌, ℕ, zero, suc, ◌+◌, ◌<◌, ◌≤◌, Bool, true, false, not, ◌&&◌, ◌||◌, List, [], ◌∷◌, ◌++◌}
+use Rattle.std.proofs.Common.{◌≡◌, ◌≢◌, ◌⊎◌, ℕ, zero, suc, ◌<◌, ◌≤◌, Bool, true, false, not, List, [], ◌∷◌, ◌++◌}
 use Rattle.std.proofs.Common.{length, drop, Some, refl, sym, ap, ◌∙◌, arith, inl, inr, codes, subst, append_assoc, length-append}
-use Rattle.std.specs.Bool.{MatchBool}
 use Rattle.std.specs.Prelude.{◌==◌}
 use Rattle.std.proofs.lemmas.Bool.{and_parts, or_parts, not-true, eqb-true}
 use Rattle.std.proofs.lemmas.List.{append-nil}
@@ -9,9 +8,8 @@ use Rattle.htmd_text.proofs.Cases.{test}
 use Rattle.htmd_grammar.specs.ValueTrees.{AttributePair, ValueTree, ValueForest, none, more, document, doctype, text}
 use Rattle.htmd_grammar.specs.ValueTrees.{comment, element}
 use Rattle.htmd_grammar.specs.CharacterClasses.{is_among, first_is, lacks, up_to}
-use Rattle.htmd_grammar.specs.Comments.{IsComment}
 use Rattle.htmd_grammar.specs.Grammar.{Apart, may_end_rows, ReadsTree, ReadsForest, reads}
-use Rattle.htmd_grammar.specs.Nesting.{Context, is_outside, is_allowed, is_tbody}
+use Rattle.htmd_grammar.specs.Nesting.{Context, is_outside, is_tbody}
 use Rattle.htmd_grammar.specs.RawContent.{holds_text_alone, holds_raw_text, ends_text, begins_markup, content_of, drops_line_feed, text_of}
 use Rattle.htmd_grammar.specs.Rules.{named_characters, project}
 use Rattle.htmd_grammar.specs.References.{decode, after_line_feed}

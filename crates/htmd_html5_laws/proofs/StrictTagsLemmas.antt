@@ -1,26 +1,25 @@
 -- A start tag and an end tag, as the strict grammar spells them, are one token.
-use Rattle.std.proofs.Common.{◌≡◌, ◌≢◌, ◌⊎◌, ℕ, zero, suc, ◌+◌, ◌<◌, Bool, true, false, not, ◌&&◌, ◌||◌, List, [], ◌∷◌, ◌++◌}
-use Rattle.std.proofs.Common.{length, drop, map, Option, Some, None, is_some, refl, sym, ap, ◌∙◌, arith, inl, inr, codes}
+use Rattle.std.proofs.Common.{◌≡◌, ◌≢◌, ◌⊎◌, ℕ, zero, suc, ◌<◌, Bool, true, false, not, ◌&&◌, List, [], ◌∷◌, ◌++◌}
+use Rattle.std.proofs.Common.{length, map, Option, Some, refl, sym, ap, ◌∙◌, arith, inl, inr}
 use Rattle.std.proofs.Common.{append_assoc, length-append, subst}
 use Rattle.std.specs.Prelude.{◌==◌}
 use Rattle.std.specs.Char.{is_ascii_alphanumeric, is_ascii_alphabetic, to_ascii_lowercase}
 use Rattle.std.specs.List.{list_all}
-use Rattle.std.proofs.lemmas.Bool.{and_parts, or_parts, not-true}
+use Rattle.std.proofs.lemmas.Bool.{and_parts, not-true}
 use Rattle.std.proofs.lemmas.Bool.Decides.{nat_tests}
 use Rattle.std.proofs.Math.Bool.{and-false}
-use Rattle.htmd_text.proofs.Cases.{test}
 use Rattle.htmd_text.specs.WhiteSpace.{is_ascii_white_space}
 use Rattle.htmd_grammar.specs.ValueTrees.{AttributePair}
 use Rattle.htmd_grammar.specs.CharacterClasses.{is_empty, first_is, begins_with, leading_run, behind_run, lacks}
 use Rattle.htmd_grammar.specs.CharacterClasses.{is_tag_name, is_tag_name_byte, is_attribute_name, are_distinct}
 use Rattle.htmd_grammar.specs.Rules.{named_characters}
 use Rattle.htmd_grammar.specs.References.{decode}
-use Rattle.htmd_grammar.specs.Tags.{IsValue, IsEqualsSign, IsTagRest, IsStartTag, IsEndTag, decode_values}
+use Rattle.htmd_grammar.specs.Tags.{IsValue, IsTagRest, decode_values}
 use Rattle.htmd_grammar.specs.Tags.{optional_slash, attribute_names}
 use Rattle.htmd_grammar.specs.TagReading.{tag_end, attribute, is_other, quoted_value}
 use Rattle.htmd_grammar.proofs.BooleanLemmas.{all_pass}
-use Rattle.htmd_grammar.proofs.TagReadingLemmas.{halts, front_cut, front_whole, rest_halts, rest_full, rest_length}
-use Rattle.htmd_grammar.proofs.TagReadingLemmas.{halts_append, white_back}
+use Rattle.htmd_grammar.proofs.TagReadingLemmas.{halts, front_cut, front_whole, rest_halts, rest_length}
+use Rattle.htmd_grammar.proofs.TagReadingLemmas.{white_back}
 use Rattle.htmd_grammar.proofs.TagsLemmas.{values_parts, decoded_names}
 use Rattle.htmd_html5_tokens.proofs.FirstsLemmas.{distinct_firsts}
 use Rattle.htmd_html5_tokens.specs.Contents.{has_references, is_text, decoded, name_of}

@@ -1,14 +1,13 @@
 -- Tokens that are fed one after another, each in the mode "in body".
-use Rattle.std.proofs.Common.{◌≡◌, ℕ, Bool, true, false, ◌&&◌, List, [], ◌∷◌, ◌++◌, refl, sym, ap, ◌∙◌, subst}
+use Rattle.std.proofs.Common.{◌≡◌, ℕ, Bool, true, false, List, [], ◌∷◌, ◌++◌, refl, sym, ap, ◌∙◌, subst}
 use Rattle.std.specs.Prelude.{◌==◌}
 use Rattle.htmd_text.proofs.Cases.{test}
-use Rattle.htmd_grammar.proofs.BooleanLemmas.{and_false}
 use Rattle.htmd_html5_tokens.specs.Tokens.{TagValue, TokenValue, start_tag, end_tag, text, comment, doctype, end_of_file}
 use Rattle.htmd_html5_tokens.specs.declared.tokens.Content.TheVariants.{Normal}
 use Rattle.htmd_html5_state.specs.Foreign.{current_is_html}
 use Rattle.htmd_html5_state.specs.State.{StateValue}
 use Rattle.htmd_html5.specs.Feeding.{feed, feed_text, is_text_mode, with_nothing_skipped, without_line_feed}
-use Rattle.htmd_html5_laws.specs.StrictTokens.{content_after, after_feed, with_text_token}
+use Rattle.htmd_html5_laws.specs.StrictTokens.{content_after, after_feed}
 use Rattle.htmd_html5_laws.proofs.StrictOpen.{stands_html}
 use Rattle.htmd_html5_laws.proofs.StrictRules.{IsInBody}
 

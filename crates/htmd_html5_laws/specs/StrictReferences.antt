@@ -11,7 +11,7 @@ use Rattle.htmd_html5_tokens.specs.Contents.{decoded}
 use Rattle.htmd_html5_tokens.specs.Tags.{attribute_of}
 use Rattle.htmd_html5_tokens.specs.RawTexts.{reading_of}
 use Rattle.htmd_html5_tokens.specs.NextToken.{read_text}
-use Rattle.htmd_html5_tokens.specs.Tokens.{Read, text}
+use Rattle.htmd_html5_tokens.specs.Tokens.{text}
 use Rattle.htmd_html5_tokens.specs.declared.tokens.RawElement.TheVariants.{Title}
 
 -- after `&`: a name that may stand without `;`, and no `;` after the letters and digits that come
