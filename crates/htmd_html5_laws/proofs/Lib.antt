@@ -79,11 +79,13 @@ pub mod StrictTagsLemmas
 pub mod StrictPieces
 pub mod StrictRawTexts
 pub mod StrictLineFeeds
+pub mod StrictSteps
 pub mod StrictRuns
 pub mod StrictNodes
 pub mod StrictOpen
 pub mod StrictLaid
 pub mod StrictNames
+pub mod StrictSets
 pub mod StrictRules
 pub mod StrictEnds
 pub mod StrictThrough

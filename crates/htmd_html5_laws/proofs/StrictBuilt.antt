@@ -30,8 +30,9 @@ use Rattle.htmd_html5_laws.proofs.StrictNodes.{with_tree, with_forest, forest_jo
 use Rattle.htmd_html5_laws.proofs.StrictNodes.{no_text_next, with_tree_longer, append_none}
 use Rattle.htmd_html5_laws.proofs.StrictOpen.{Fewer, fewer_same, fewer_trans, entries, Stands, stands_longer}
 use Rattle.htmd_html5_laws.proofs.StrictOpen.{stands_below}
-use Rattle.htmd_html5_laws.proofs.StrictNames.{plain_case, is_formatting_case, plain_content, void_case}
-use Rattle.htmd_html5_laws.proofs.StrictNames.{void_keeps, keeps_name}
+use Rattle.htmd_html5_laws.proofs.StrictNames.{plain_case, is_formatting_case, void_case}
+use Rattle.htmd_html5_laws.proofs.StrictSets.{plain_content}
+use Rattle.htmd_html5_laws.proofs.StrictSets.{void_keeps, keeps_name}
 use Rattle.htmd_html5_laws.proofs.StrictThrough.{Through, nothing, followed, from_state, one_fed, skip_run}
 use Rattle.htmd_grammar.proofs.NestingLemmas.{one_name}
 use Rattle.htmd_html5_laws.proofs.StrictRawTexts.{normal_content, void_content}

@@ -34,11 +34,12 @@ use Rattle.htmd_html5_laws.specs.StrictReferences.{IsSettled}
 use Rattle.htmd_html5_laws.specs.StrictTokens.{content_after, tag_named, is_simple_tree, is_simple}
 use Rattle.htmd_html5_laws.specs.StrictTrees.{is_plain_element, is_plain_tree, are_plain, most_levels, PlainPagesAgree}
 use Rattle.htmd_html5_laws.proofs.StrictPieces.{read, lines_same}
-use Rattle.htmd_html5_laws.proofs.StrictRuns.{Run, here, onward, content_read}
+use Rattle.htmd_html5_laws.proofs.StrictSteps.{Run, here, onward}
+use Rattle.htmd_html5_laws.proofs.StrictRuns.{content_read}
 use Rattle.htmd_html5_laws.proofs.StrictNodes.{numbers, node, forest_nodes, forest_count, with_forest}
 use Rattle.htmd_html5_laws.proofs.StrictOpen.{the_document, open_met}
 use Rattle.htmd_html5_laws.proofs.StrictLaid.{layout, are_content, plain_is_content, forest_laid}
-use Rattle.htmd_html5_laws.proofs.StrictNames.{aside_element}
+use Rattle.htmd_html5_laws.proofs.StrictSets.{aside_element}
 use Rattle.htmd_html5_laws.proofs.StrictRules.{IsInBody, Fits, end_of_file_fed}
 use Rattle.htmd_html5_laws.proofs.StrictBuilt.{FitsTree, FitsForest, forest_built}
 use Rattle.htmd_html5_laws.proofs.StrictThrough.{Parts, parts}

@@ -41,9 +41,11 @@ use Rattle.htmd_html5_laws.specs.StrictTokens.{tag_named}
 use Rattle.htmd_html5_laws.specs.StrictTrees.{heading_names}
 use Rattle.htmd_html5_laws.proofs.StrictOpen.{HasNames, Fewer, fewer_with_room, entries, none_closed, Stands, stands_html}
 use Rattle.htmd_html5_laws.proofs.StrictNames.{among_each, PlainCase, is_formatting_case, VoidCase, in_text, of_another}
-use Rattle.htmd_html5_laws.proofs.StrictNames.{input, separator, in_head, no_break, button, button_names, nobr_names}
+use Rattle.htmd_html5_laws.proofs.StrictNames.{input, separator, in_head, no_break, button}
+use Rattle.htmd_html5_laws.proofs.StrictSets.{button_names, nobr_names}
 use Rattle.htmd_html5_laws.proofs.StrictNames.{unknown, ordinary, formatting, anchor, paragraph, block, heading}
-use Rattle.htmd_html5_laws.proofs.StrictNames.{list_item, part, p_names, a_names, li_names, part_names, heading_has}
+use Rattle.htmd_html5_laws.proofs.StrictNames.{list_item, part}
+use Rattle.htmd_html5_laws.proofs.StrictSets.{p_names, a_names, li_names, part_names, heading_has}
 use Rattle.htmd_html5_laws.proofs.StrictOpen.{stands_within, the_document, scope_none, none_listed}
 use Rattle.htmd_grammar.specs.Nesting as nesting
 use Rattle.htmd_html5_state.specs.declared.names.TagName.TheVariants as tags

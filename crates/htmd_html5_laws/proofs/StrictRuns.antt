@@ -1,169 +1,46 @@
 -- The tokens of a text of the strict grammar are those of its trees.
-use Rattle.std.proofs.Common.{◌≡◌, ◌≢◌, ◌⊎◌, ℕ, zero, suc, ◌<◌, ◌≤◌, Bool, true, false, not, List, [], ◌∷◌, ◌++◌}
-use Rattle.std.proofs.Common.{length, drop, Some, refl, sym, ap, ◌∙◌, arith, inl, inr, codes, subst, append_assoc, length-append}
+use Rattle.std.proofs.Common.{◌≡◌, ◌≢◌, ◌⊎◌, ℕ, Bool, true, false, not, List, [], ◌∷◌, ◌++◌}
+use Rattle.std.proofs.Common.{length, drop, Some, refl, sym, ap, ◌∙◌, arith, inl, inr, codes, subst, append_assoc}
 use Rattle.std.specs.Prelude.{◌==◌}
-use Rattle.std.proofs.lemmas.Bool.{and_parts, or_parts, not-true, eqb-true}
+use Rattle.std.proofs.lemmas.Bool.{and_parts, not-true, eqb-true}
 use Rattle.std.proofs.lemmas.List.{append-nil}
 use Rattle.htmd_text.proofs.Cases.{test}
 use Rattle.htmd_grammar.specs.ValueTrees.{AttributePair, ValueTree, ValueForest, none, more, document, doctype, text}
 use Rattle.htmd_grammar.specs.ValueTrees.{comment, element}
-use Rattle.htmd_grammar.specs.CharacterClasses.{is_among, first_is, lacks, up_to}
-use Rattle.htmd_grammar.specs.Grammar.{Apart, may_end_rows, ReadsTree, ReadsForest, reads}
-use Rattle.htmd_grammar.specs.Nesting.{Context, is_outside, is_tbody}
-use Rattle.htmd_grammar.specs.RawContent.{holds_text_alone, holds_raw_text, ends_text, begins_markup, content_of, drops_line_feed, text_of}
+use Rattle.htmd_grammar.specs.CharacterClasses.{first_is, lacks, up_to}
+use Rattle.htmd_grammar.specs.Grammar.{ReadsForest, reads}
+use Rattle.htmd_grammar.specs.Nesting.{Context, is_outside}
+use Rattle.htmd_grammar.specs.RawContent.{holds_text_alone, ends_text, begins_markup, content_of, drops_line_feed, text_of}
 use Rattle.htmd_grammar.specs.Rules.{named_characters, project}
 use Rattle.htmd_grammar.specs.References.{decode, after_line_feed}
 use Rattle.htmd_grammar.specs.Serialisation.{is_void}
 use Rattle.htmd_grammar.specs.Tags.{IsStartTag, IsEndTag}
 use Rattle.htmd_grammar.specs.Documents.{above_body, below_body}
-use Rattle.htmd_grammar.proofs.NestingLemmas.{allowed_parts, one_name}
+use Rattle.htmd_grammar.proofs.NestingLemmas.{allowed_parts}
 use Rattle.htmd_grammar.proofs.Completeness.{end_tag_stops}
-use Rattle.htmd_grammar.proofs.TreeTexts.{Inside, IsTextTree}
+use Rattle.htmd_grammar.proofs.TreeTexts.{Inside}
 use Rattle.htmd_html5_tokens.specs.Tokens.{TokenValue, start_tag, end_tag}
 use Rattle.htmd_html5_tokens.specs.NextToken.{next_token}
-use Rattle.htmd_html5_tokens.specs.declared.tokens.Content.{Content}
 use Rattle.htmd_html5_tokens.specs.declared.tokens.Content.TheVariants.{Normal, Raw}
 use Rattle.htmd_html5_tokens.specs.declared.tokens.RawElement.{RawElement}
-use Rattle.htmd_html5.specs.Documents.{is_end}
 use Rattle.htmd_html5_laws.specs.StrictReferences.{IsSettled}
-use Rattle.htmd_html5_laws.specs.StrictTokens.{content_in, content_after, tokens_within, tag_named, SpellsTree, SpellsForest}
+use Rattle.htmd_html5_laws.specs.StrictTokens.{content_in, tag_named, SpellsTree, SpellsForest}
 use Rattle.htmd_html5_laws.specs.StrictTokens.{with_text_token, after_feed, content_tokens}
 use Rattle.htmd_html5_laws.specs.StrictTokens.{is_set_aside, is_simple_tree, is_simple, TokensAgree}
 use Rattle.htmd_html5_laws.proofs.StrictCuts.{settled_back}
 use Rattle.htmd_html5_laws.proofs.StrictReferencesLemmas.{Ending}
-use Rattle.htmd_html5_laws.proofs.StrictPieces.{read, start_read, end_read, raw_end_read, comment_read, text_token_read}
+use Rattle.htmd_html5_laws.proofs.StrictPieces.{read, start_read, end_read, raw_end_read, text_token_read}
 use Rattle.htmd_html5_laws.proofs.StrictPieces.{settled_before}
 use Rattle.htmd_html5_laws.proofs.StrictRawTexts.{normal_content, void_content, IsRaw, raw_content, pre_plain, raw_keeps}
 use Rattle.htmd_html5_laws.proofs.StrictLineFeeds.{kept_begins, feed_case, dropped_feed, Feed, feed_text}
-use Rattle.htmd_html5_laws.proofs.StrictRawTexts.{raw_children, text_nothing, stop_same, raw_text_next, raw_end_next}
+use Rattle.htmd_html5_laws.proofs.StrictRawTexts.{raw_children, stop_same, raw_text_next, raw_end_next}
 use Rattle.htmd_html5_tokens.specs.Tokens as tokens
 use Rattle.htmd_html5_tokens.specs.NextToken as next
+use Rattle.htmd_html5_laws.proofs.StrictSteps.{Run, here, onward, joined, from_content, from_text, all_read, Made, shorter}
+use Rattle.htmd_html5_laws.proofs.StrictSteps.{one_token, TreeRun, ForestRun, tag_filled, end_filled, plain_text, text_run}
+use Rattle.htmd_html5_laws.proofs.StrictSteps.{comment_run, no_tbody, text_ending}
 
 module _ (z : Bool) where
-  -- ---- reading tokens one after another
-
-  -- from one content and text to another these tokens are read
-  pub data Run : Content → List ℕ → List TokenValue → Content → List ℕ → Type 0 where
-    here : {now : Content} {s : List ℕ} → Run now s [] now s
-    onward : {now after : Content} {s left : List ℕ} {tokens : List TokenValue} (token : TokenValue) (rest : List ℕ)
-        → next_token now false s ≡ read token rest → is_end token ≡ false → length rest < length s
-        → Run (content_after z now token) rest tokens after left → Run now s (token ∷ tokens) after left
-
-  joined : {a b c : Content} {s t u : List ℕ} {xs ys : List TokenValue} → Run a s xs b t → Run b t ys c u
-      → Run a s (xs ++ ys) c u
-  joined here q = q
-  joined (onward token rest e f l r) q = onward token rest e f l (joined r q)
-
-  from_content : {now other after : Content} {s left : List ℕ} {xs : List TokenValue} → other ≡ now
-      → Run now s xs after left → Run other s xs after left
-  from_content e r = rw e r
-
-  from_text : {now after : Content} {s t left : List ℕ} {xs : List TokenValue} → t ≡ s → Run now s xs after left
-      → Run now t xs after left
-  from_text e r = rw e r
-
-  nothing_left : (k : ℕ) → tokens_within z k Normal [] ≡ []
-  nothing_left zero = refl
-  nothing_left (suc k) = refl
-
-  all_read : (k : ℕ) {now after : Content} {s left : List ℕ} {xs : List TokenValue} → Run now s xs after left
-      → after ≡ Normal → left ≡ [] → length s ≤ k → tokens_within z k now s ≡ xs
-  all_read k here e f l = rw (e, f) (nothing_left k)
-  all_read zero (onward token rest e f l r) g h m = absurd (omega arith)
-  all_read (suc k) (onward token rest e f l r) g h m =
-      rw (e, f) (ap (λ (y : List TokenValue). token ∷ y) (all_read k r g h (omega arith)))
-
-  -- the tokens of what stands before the rest
-  abbrev Made : (List TokenValue → Type 0) → List ℕ → List ℕ → Type 0
-  Made Spells s rest = (xs : List TokenValue) × Spells xs × Run Normal (s ++ rest) xs Normal rest
-
-  shorter : (s x : List ℕ) → s ≢ [] → length x < length (s ++ x)
-  shorter [] x n = absurd (n refl)
-  shorter (b ∷ s) x n = let l = length-append s x in omega arith
-
-  one_token : (token : TokenValue) (s rest : List ℕ) → s ≢ [] → next_token Normal false (s ++ rest) ≡ read token rest
-      → is_end token ≡ false → content_after z Normal token ≡ Normal → Run Normal (s ++ rest) (token ∷ []) Normal rest
-  one_token token s rest n e f c =
-      onward token rest e f (shorter s rest n) (from_content c here)
-
-  -- ---- trees
-
-  abbrev TreeRun : ValueTree → Type 0
-  TreeRun t = (p : List ℕ) (c : Context) (last : Bool) (s rest : List ℕ) → ReadsTree (project z) (p ∷ c) last t s
-      → holds_text_alone z p ≡ false → is_simple_tree t ≡ true → IsSettled (s ++ rest)
-      → (IsTextTree t ≡ true → Ending rest) → Made (SpellsTree t) s rest
-
-  abbrev ForestRun : ValueForest → Type 0
-  ForestRun ts = (p : List ℕ) (c : Context) (last : Bool) (s rest : List ℕ) → ReadsForest (project z) (p ∷ c) last ts s
-      → holds_text_alone z p ≡ false → is_simple ts ≡ true → IsSettled (s ++ rest) → Ending rest
-      → Made (SpellsForest ts) s rest
-
-  tag_filled : (tag n : List ℕ) (attributes : List AttributePair) → IsStartTag named_characters tag n attributes
-      → tag ≢ []
-  tag_filled tag n attributes h e = let q = sym (h.2).2 ∙ e in cc
-
-  end_filled : (tag n : List ℕ) → IsEndTag tag n → tag ≢ []
-  end_filled tag n h e = let q = sym h.2 ∙ e in cc
-
-  -- ---- texts and comments
-
-  plain_text : (p : List ℕ) → holds_text_alone z p ≡ false → (holds_raw_text z p ≡ false)
-  plain_text p e = (or_parts (is_among (codes "title" ∷ codes "textarea" ∷ []) p) (holds_raw_text z p) e).1
-
-  text_run : (u : List ℕ) → TreeRun (text u)
-  text_run u p c last s rest h e o k st =
-      let f = plain_text p e in
-      let d : decode named_characters 0 s ≡ Some u = rw f at h.2 in
-      let same : (t : List ℕ) → begins_markup t ≡ ends_text z p t = λ t. rw e refl in
-      let l : up_to begins_markup s ≡ s = stop_same begins_markup (ends_text z p) same s ∙ h.1 in
-      let filled : s ≢ [] = λ q. h.0 (text_nothing z p u (ap (text_of (project z) p) (sym q) ∙ h.2)) in (
-        tokens.text u ∷ [],
-        refl,
-        one_token (tokens.text u) s rest filled (text_token_read s u rest filled d l (st refl) k) refl refl,
-      )
-
-  comment_run : (u : List ℕ) → TreeRun (comment u)
-  comment_run u p c last s rest h e o k st =
-      let r = comment_read s u rest h.0 k in
-      let filled : s ≢ [] = λ q. (let w = sym (h.0).2 ∙ q in cc) in
-      (tokens.comment u ∷ [], refl, one_token (tokens.comment u) s rest filled r.0 refl refl)
-
-  -- ---- what follows a text
-
-  no_tbody : (n : List ℕ) → is_set_aside n ≡ false → is_tbody n ≡ true → ⊥
-  no_tbody n a e = let w = rw (one_name (codes "tbody") n e) at a in cc
-
-  -- a text ends at the end, or before markup
-  text_ending : (t : ValueTree) (ts : ValueForest) (p : List ℕ) (c : Context) (last : Bool) (s rest : List ℕ)
-      → IsTextTree t ≡ true → Apart t ts → ReadsForest (project z) (p ∷ c) last ts s → is_simple ts ≡ true
-      → IsSettled (s ++ rest) → Ending rest → Ending (s ++ rest)
-  text_ending t none p c last s rest i a h o k st = rw h st
-  text_ending (document ks) (more (text v) ts) p c last s rest i a h o k st = absurd (cc)
-  text_ending doctype (more (text v) ts) p c last s rest i a h o k st = absurd (cc)
-  text_ending t (more (document ks) ts) p c last s rest i a h o k st = absurd (h.4)
-  text_ending t (more doctype ts) p c last s rest i a h o k st = absurd (h.4)
-  text_ending (text u) (more (text v) ts) p c last s rest i a h o k st = absurd a
-  text_ending (comment u) (more (text v) ts) p c last s rest i a h o k st = absurd (cc)
-  text_ending (element n attributes ks) (more (text v) ts) p c last s rest i a h o k st = absurd (cc)
-  text_ending t (more (comment v) ts) p c last s rest i a h o k st =
-      let q : s ++ rest ≡ h.0 ++ (h.1 ++ rest) = ap (λ (y : List ℕ). y ++ rest) h.2 ∙ append_assoc h.0 h.1 rest in
-      inr (ap next.begins_markup q ∙ (comment_read h.0 v (h.1 ++ rest) (h.4).0 (subst IsSettled q k)).1)
-  text_ending t (more (element n attributes ks) ts) p c last s rest i a h o k st = go (h.4).2
-    where
-      aside : is_set_aside n ≡ false
-      aside =
-          let b = and_parts (is_simple_tree (element n attributes ks)) (is_simple ts) o in
-          not-true (is_set_aside n) (and_parts (not (is_set_aside n)) (is_simple ks) b.0).0
-
-      go : Inside (project z) (p ∷ c) (may_end_rows last ts h.1) n attributes ks h.0 → Ending (s ++ rest)
-      go (inl w) =
-          let q : s ++ rest ≡ w.0 ++ ((w.1 ++ w.2) ++ (h.1 ++ rest)) =
-          ap (λ (y : List ℕ). y ++ rest) h.2 ∙ append_assoc h.0 h.1 rest
-          ∙ ap (λ (y : List ℕ). y ++ (h.1 ++ rest)) w.3 ∙ append_assoc w.0 (w.1 ++ w.2) (h.1 ++ rest) in
-          inr (ap next.begins_markup q
-          ∙ (start_read w.0 n ((w.1 ++ w.2) ++ (h.1 ++ rest)) attributes w.4 (subst IsSettled q k)).3)
-      go (inr w) = absurd (no_tbody n aside w.3)
-
   -- ---- elements
 
   nothing_content : (n : List ℕ) → content_tokens n [] ≡ []
@@ -171,21 +48,21 @@ module _ (z : Bool) where
 
   void_run : (n tag rest : List ℕ) (attributes : List AttributePair) → IsStartTag named_characters tag n attributes
       → is_void n ≡ true → is_outside n ≡ false → IsSettled (tag ++ rest)
-      → Made (SpellsTree (element n attributes none)) tag rest
+      → Made z (SpellsTree (element n attributes none)) tag rest
   void_run n tag rest attributes h v o k =
       let r = start_read tag n rest attributes h k in
       let now = normal_content z n (void_content z n v) o in (
         start_tag (tag_named n attributes r.0) ∷ [],
         (r.0, [], [], refl, nothing_content n, rw v (refl, refl)),
-        one_token (start_tag (tag_named n attributes r.0)) tag rest (tag_filled tag n attributes h) r.1 refl now,
+        one_token z (start_tag (tag_named n attributes r.0)) tag rest (tag_filled z tag n attributes h) r.1 refl now,
       )
 
   -- the tokens of the content and of the end tag
   abbrev Closed : List ℕ → ValueForest → List ℕ → List ℕ → Type 0
   Closed n ks s rest = (xs : List TokenValue) × SpellsForest ks (content_tokens n xs)
-      × Run (content_in z n) s (xs ++ (end_tag (tag_named n [] false) ∷ [])) Normal rest
+      × Run z (content_in z n) s (xs ++ (end_tag (tag_named n [] false) ∷ [])) Normal rest
 
-  normal_closed : (n : List ℕ) (ks : ValueForest) → ForestRun ks → (c : Context) (inner end rest : List ℕ)
+  normal_closed : (n : List ℕ) (ks : ValueForest) → ForestRun z ks → (c : Context) (inner end rest : List ℕ)
       → ReadsForest (project z) (n ∷ c) true ks inner → IsEndTag end n → drops_line_feed n ≡ false
       → holds_text_alone z n ≡ false → is_outside n ≡ false → is_simple ks ≡ true
       → IsSettled (inner ++ (end ++ rest)) → Closed n ks (inner ++ (end ++ rest)) rest
@@ -193,10 +70,10 @@ module _ (z : Bool) where
       let m = settled_back inner (end ++ rest) k in
       let r = end_read end n rest g m in
       let inside = ih n c true inner (end ++ rest) h e i k (inr r.1) in
-      let last = one_token (end_tag (tag_named n [] false)) end rest (end_filled end n g) r.0 refl refl in (
+      let last = one_token z (end_tag (tag_named n [] false)) end rest (end_filled z end n g) r.0 refl refl in (
         inside.0,
         rw d inside.1,
-        from_content (normal_content z n e o) (joined inside.2 last),
+        from_content z (normal_content z n e o) (joined z inside.2 last),
       )
 
   raw_closed : (n : List ℕ) (ks : ValueForest) (c : Context) (inner end rest : List ℕ)
@@ -211,27 +88,27 @@ module _ (z : Bool) where
       stops : ends_text z n (end ++ rest) ≡ true
       stops = end_tag_stops (project z) [] end n rest g
 
-      last : Run (Raw found.0) (end ++ rest) (end_tag (tag_named n [] false) ∷ []) Normal rest
+      last : Run z (Raw found.0) (end ++ rest) (end_tag (tag_named n [] false) ∷ []) Normal rest
       last =
           let r = raw_end_read end n rest g (settled_back inner (end ++ rest) k) in
           onward (end_tag (tag_named n [] false)) rest
           (raw_end_next z n found.0 (end ++ rest) r.0 found.1 e stops r.1 ∙ r.2) refl
-          (shorter end rest (end_filled end n g)) here
+          (shorter z end rest (end_filled z end n g)) here
 
       go : ((ks ≡ none) × (inner ≡ []))
           ⊎ ((u : List ℕ) × (ks ≡ more (text u) none) × (inner ≢ []) × (up_to (ends_text z n) inner ≡ inner)
           × (text_of (project z) n inner ≡ Some u))
           → Closed n ks (inner ++ (end ++ rest)) rest
-      go (inl w) = rw (w.0, w.1) ([], nothing_content n, from_content (found.1).content last)
+      go (inl w) = rw (w.0, w.1) ([], nothing_content n, from_content z (found.1).content last)
       go (inr w) =
           let m = settled_before inner (end ++ rest) (inr (end_read end n rest g (settled_back inner (end ++ rest) k)).1) k in
           rw w.1 (
             tokens.text w.0 ∷ [],
             rw (raw_keeps z n e a) (tokens.text w.0 ∷ [], [], refl, refl, refl),
-            from_content (found.1).content
+            from_content z (found.1).content
                 (onward (tokens.text w.0) (end ++ rest)
                 (raw_text_next z n found.0 inner w.0 (end ++ rest) found.1 e w.2 w.3 stops w.4 m) refl
-                (shorter inner (end ++ rest) w.2) last),
+                (shorter z inner (end ++ rest) w.2) last),
           )
 
   -- ---- elements that drop a line feed
@@ -242,7 +119,7 @@ module _ (z : Bool) where
 
   abbrev Tail : ValueForest → Type 0
   Tail none = Unit {0}
-  Tail (more t ts) = ForestRun ts
+  Tail (more t ts) = ForestRun z ts
 
   abbrev begins_feed : ValueForest → Bool
   begins_feed (more (text u) ts) = first_is 10 u
@@ -276,17 +153,17 @@ module _ (z : Bool) where
   begins_no_feed (more (text u) ts) p c last s rest h e o k st a =
       let q : s ++ rest ≡ h.0 ++ (h.1 ++ rest) = ap (λ (y : List ℕ). y ++ rest) h.2 ∙ append_assoc h.0 h.1 rest in
       let i = subst IsSettled q k in
-      let follows = text_ending (text u) ts p c last h.1 rest refl h.3 h.5 o (settled_back h.0 (h.1 ++ rest) i) st in
+      let follows = text_ending z (text u) ts p c last h.1 rest refl h.3 h.5 o (settled_back h.0 (h.1 ++ rest) i) st in
       let this = settled_before h.0 (h.1 ++ rest) follows i in
-      let d : decode named_characters 0 h.0 ≡ Some u = rw (plain_text p e) at (h.4).2 in
+      let d : decode named_characters 0 h.0 ≡ Some u = rw (plain_text z p e) at (h.4).2 in
       kept_begins h.0 u h.1 this.line_feeds d (no_feed_there h.1 rest follows)
       (ap (after_line_feed []) (sym h.2) ∙ a ∙ h.2)
 
   -- what comes after such a start tag, with the end tag
   abbrev Fed : List ℕ → ValueForest → List ℕ → List ℕ → List ℕ → Type 0
-  Fed n ks s x rest = (xs : List TokenValue) × SpellsForest ks (after_feed xs) × Run Normal (s ++ x) xs Normal x
+  Fed n ks s x rest = (xs : List TokenValue) × SpellsForest ks (after_feed xs) × Run z Normal (s ++ x) xs Normal x
 
-  no_line_dropped : (n : List ℕ) (ks : ValueForest) → ForestRun ks → (c : Context) (s x rest : List ℕ)
+  no_line_dropped : (n : List ℕ) (ks : ValueForest) → ForestRun z ks → (c : Context) (s x rest : List ℕ)
       → ReadsForest (project z) (n ∷ c) true ks s → after_line_feed [] s ≡ s → holds_text_alone z n ≡ false
       → is_simple ks ≡ true → IsSettled (s ++ x) → Ending x → Fed n ks s x rest
   no_line_dropped n ks ih c s x rest h a e o k st =
@@ -294,7 +171,7 @@ module _ (z : Bool) where
       let same = feed_kept ks r.0 r.1 (begins_no_feed ks n c true s x h e o k st a) in
       (r.0, subst (SpellsForest ks) (sym same) r.1, r.2)
 
-  line_alone : (n : List ℕ) (ks : ValueForest) → ForestRun ks → (c : Context) (b : ℕ) (w r x rest : List ℕ)
+  line_alone : (n : List ℕ) (ks : ValueForest) → ForestRun z ks → (c : Context) (b : ℕ) (w r x rest : List ℕ)
       → Feed b w r → ReadsForest (project z) (n ∷ c) true ks r → holds_text_alone z n ≡ false
       → is_simple ks ≡ true → IsSettled ((b ∷ (w ++ r)) ++ x) → Ending (r ++ x) → Ending x
       → Fed n ks (b ∷ (w ++ r)) x rest
@@ -308,11 +185,11 @@ module _ (z : Bool) where
       let inside = ih n c true r x h e o (settled_back front (r ++ x) i) st in (
         tokens.text (10 ∷ []) ∷ inside.0,
         inside.1,
-        from_text q (onward (tokens.text (10 ∷ [])) (r ++ x) token refl (shorter front (r ++ x) (λ y. (let z = y in cc)))
+        from_text z q (onward (tokens.text (10 ∷ [])) (r ++ x) token refl (shorter z front (r ++ x) (λ y. (let z = y in cc)))
             inside.2),
       )
 
-  line_dropped : (n : List ℕ) (ks : ValueForest) → ForestRun ks → Tail ks → (c : Context) (b : ℕ) (w r x rest : List ℕ)
+  line_dropped : (n : List ℕ) (ks : ValueForest) → ForestRun z ks → Tail ks → (c : Context) (b : ℕ) (w r x rest : List ℕ)
       → Feed b w r → ReadsForest (project z) (n ∷ c) true ks r → holds_text_alone z n ≡ false
       → is_simple ks ≡ true → IsSettled ((b ∷ (w ++ r)) ++ x) → Ending x → Fed n ks (b ∷ (w ++ r)) x rest
   line_dropped n none ih tail c b w r x rest f h e o k st =
@@ -321,10 +198,10 @@ module _ (z : Bool) where
   line_dropped n (more doctype ts) ih tail c b w r x rest f h e o k st = absurd (h.4)
   line_dropped n (more (comment u) ts) ih tail c b w r x rest f h e o k st =
       line_alone n (more (comment u) ts) ih c b w r x rest f h e o k
-      (text_ending (text []) (more (comment u) ts) n c true r x refl tt h o (after_piece b w r x k) st) st
+      (text_ending z (text []) (more (comment u) ts) n c true r x refl tt h o (after_piece b w r x k) st) st
   line_dropped n (more (element m attributes ks) ts) ih tail c b w r x rest f h e o k st =
       line_alone n (more (element m attributes ks) ts) ih c b w r x rest f h e o k
-      (text_ending (text []) (more (element m attributes ks) ts) n c true r x refl tt h o (after_piece b w r x k) st) st
+      (text_ending z (text []) (more (element m attributes ks) ts) n c true r x refl tt h o (after_piece b w r x k) st) st
   line_dropped n (more (text u) ts) ih tail c b w r x rest f h e o k st =
       let front : List ℕ = b ∷ (w ++ h.0) in
       let q : (b ∷ (w ++ r)) ++ x ≡ front ++ (h.1 ++ x) =
@@ -332,8 +209,8 @@ module _ (z : Bool) where
       ∙ ap (λ (y : List ℕ). y ++ x) (sym (append_assoc w h.0 h.1)) ∙ append_assoc (w ++ h.0) h.1 x) in
       let i = subst IsSettled q k in
       let j = settled_back front (h.1 ++ x) i in
-      let follows = text_ending (text u) ts n c true h.1 x refl h.3 h.5 o j st in
-      let d : decode named_characters 0 h.0 ≡ Some u = rw (plain_text n e) at (h.4).2 in
+      let follows = text_ending z (text u) ts n c true h.1 x refl h.3 h.5 o j st in
+      let d : decode named_characters 0 h.0 ≡ Some u = rw (plain_text z n e) at (h.4).2 in
       let same : (y : List ℕ) → begins_markup y ≡ ends_text z n y = λ y. rw e refl in
       let l : up_to begins_markup h.0 ≡ h.0 = stop_same begins_markup (ends_text z n) same h.0 ∙ (h.4).1 in
       let t = feed_text b w r h.0 h.1 u f h.2 d l in
@@ -341,8 +218,8 @@ module _ (z : Bool) where
       let others = tail n c true h.1 x h.5 e o j st in (
         tokens.text (10 ∷ u) ∷ others.0,
         with_first u ts others.0 (h.4).0 others.1,
-        from_text q (onward (tokens.text (10 ∷ u)) (h.1 ++ x) token refl
-            (shorter front (h.1 ++ x) (λ y. (let z = y in cc))) others.2),
+        from_text z q (onward (tokens.text (10 ∷ u)) (h.1 ++ x) token refl
+            (shorter z front (h.1 ++ x) (λ y. (let z = y in cc))) others.2),
       )
     where
       with_first : (u : List ℕ) (ts : ValueForest) (xs : List TokenValue) → u ≢ [] → SpellsForest ts xs
@@ -350,7 +227,7 @@ module _ (z : Bool) where
       with_first [] ts xs f h = absurd (f refl)
       with_first (b ∷ u) ts xs f h = (tokens.text (b ∷ u) ∷ [], xs, refl, refl, h)
 
-  feed_closed : (n : List ℕ) (ks : ValueForest) → ForestRun ks → Tail ks → (c : Context) (inner end rest : List ℕ)
+  feed_closed : (n : List ℕ) (ks : ValueForest) → ForestRun z ks → Tail ks → (c : Context) (inner end rest : List ℕ)
       → ReadsForest (project z) (n ∷ c) true ks (after_line_feed [] inner) → IsEndTag end n
       → drops_line_feed n ≡ true → holds_text_alone z n ≡ false → is_outside n ≡ false → is_simple ks ≡ true
       → IsSettled (inner ++ (end ++ rest)) → Closed n ks (inner ++ (end ++ rest)) rest
@@ -380,14 +257,14 @@ module _ (z : Bool) where
       whole f = (
         f.0,
         rw d f.1,
-        from_content (normal_content z n e o) (joined f.2
-            (one_token (end_tag (tag_named n [] false)) end rest (end_filled end n g) r.0 refl refl)),
+        from_content z (normal_content z n e o) (joined z f.2
+            (one_token z (end_tag (tag_named n [] false)) end rest (end_filled z end n g) r.0 refl refl)),
       )
 
   closed_run : (n tag inner end rest : List ℕ) (attributes : List AttributePair) (ks : ValueForest)
       → IsStartTag named_characters tag n attributes → is_void n ≡ false
       → IsSettled (tag ++ (inner ++ (end ++ rest))) → Closed n ks (inner ++ (end ++ rest)) rest
-      → Made (SpellsTree (element n attributes ks)) (tag ++ (inner ++ end)) rest
+      → Made z (SpellsTree (element n attributes ks)) (tag ++ (inner ++ end)) rest
   closed_run n tag inner end rest attributes ks h v k w =
       let r = start_read tag n (inner ++ (end ++ rest)) attributes h k in
       let no_slash : r.0 ≡ false = test r.0 (λ t. absurd (let f = sym (r.2 t) ∙ v in cc)) (λ t. t) in
@@ -395,16 +272,16 @@ module _ (z : Bool) where
       append_assoc tag (inner ++ end) rest ∙ ap (λ (y : List ℕ). tag ++ y) (append_assoc inner end rest) in (
         start_tag (tag_named n attributes r.0) ∷ (w.0 ++ (end_tag (tag_named n [] false) ∷ [])),
         (r.0, w.0, end_tag (tag_named n [] false) ∷ [], refl, w.1, rw v (no_slash, refl)),
-        from_text q
+        from_text z q
             (onward (start_tag (tag_named n attributes r.0)) (inner ++ (end ++ rest)) r.1 refl
-            (shorter tag (inner ++ (end ++ rest)) (tag_filled tag n attributes h)) w.2),
+            (shorter z tag (inner ++ (end ++ rest)) (tag_filled z tag n attributes h)) w.2),
       )
 
   kept_content : (n s : List ℕ) → drops_line_feed n ≡ false → content_of n s ≡ s
   kept_content n s d = rw d refl
 
-  element_run : (n : List ℕ) (attributes : List AttributePair) (ks : ValueForest) → ForestRun ks → Tail ks
-      → TreeRun (element n attributes ks)
+  element_run : (n : List ℕ) (attributes : List AttributePair) (ks : ValueForest) → ForestRun z ks → Tail ks
+      → TreeRun z (element n attributes ks)
   element_run n attributes ks ih tail p c last s rest h e o k st = go h.2
     where
       parts : (not (is_set_aside n) ≡ true) × (is_simple ks ≡ true)
@@ -416,7 +293,7 @@ module _ (z : Bool) where
       outside : is_outside n ≡ false
       outside = (allowed_parts z (p ∷ c) n h.0).0
 
-      go : Inside (project z) (p ∷ c) last n attributes ks s → Made (SpellsTree (element n attributes ks)) s rest
+      go : Inside (project z) (p ∷ c) last n attributes ks s → Made z (SpellsTree (element n attributes ks)) s rest
       go (inl w) =
           test (is_void n)
           (λ v. let m = rw v at w.5 in
@@ -436,30 +313,30 @@ module _ (z : Bool) where
           (λ d. let inside = subst (ReadsForest (project z) (n ∷ (p ∷ c)) true ks) (kept_content n w.1 d) m.0 in
           test (holds_text_alone z n) (λ t. raw_closed n ks (p ∷ c) w.1 w.2 rest inside m.1 t aside j)
           (λ t. normal_closed n ks ih (p ∷ c) w.1 w.2 rest inside m.1 d t outside parts.1 j)))))
-      go (inr w) = absurd (no_tbody n aside w.3)
+      go (inr w) = absurd (no_tbody z n aside w.3)
 
   -- ---- one tree after another
 
-  next_run : (t : ValueTree) (ts : ValueForest) → TreeRun t → ForestRun ts → ForestRun (more t ts)
+  next_run : (t : ValueTree) (ts : ValueForest) → TreeRun z t → ForestRun z ts → ForestRun z (more t ts)
   next_run t ts one all p c last s rest h e o k st =
       let b = and_parts (is_simple_tree t) (is_simple ts) o in
       let q : s ++ rest ≡ h.0 ++ (h.1 ++ rest) = ap (λ (y : List ℕ). y ++ rest) h.2 ∙ append_assoc h.0 h.1 rest in
       let i = subst IsSettled q k in
       let j = settled_back h.0 (h.1 ++ rest) i in
       let first = one p c _ h.0 (h.1 ++ rest) h.4 e b.0 i
-      (λ f. text_ending t ts p c last h.1 rest f h.3 h.5 b.1 j st) in
+      (λ f. text_ending z t ts p c last h.1 rest f h.3 h.5 b.1 j st) in
       let others = all p c last h.1 rest h.5 e b.1 j st in (
         first.0 ++ others.0,
         (first.0, others.0, refl, first.1, others.1),
-        from_text q (joined first.2 others.2),
+        from_text z q (joined z first.2 others.2),
       )
 
   mutual
-    tree_run : (t : ValueTree) → TreeRun t
+    tree_run : (t : ValueTree) → TreeRun z t
     tree_run (document ks) p c last s rest h e o k st = absurd h
     tree_run doctype p c last s rest h e o k st = absurd h
-    tree_run (text u) p c last s rest h e o k st = text_run u p c last s rest h e o k st
-    tree_run (comment u) p c last s rest h e o k st = comment_run u p c last s rest h e o k st
+    tree_run (text u) p c last s rest h e o k st = text_run z u p c last s rest h e o k st
+    tree_run (comment u) p c last s rest h e o k st = comment_run z u p c last s rest h e o k st
     tree_run (element n attributes ks) p c last s rest h e o k st =
         element_run n attributes ks (forest_run ks) (tail_run ks) p c last s rest h e o k st
 
@@ -467,7 +344,7 @@ module _ (z : Bool) where
     tail_run none = tt
     tail_run (more t ts) = forest_run ts
 
-    forest_run : (ts : ValueForest) → ForestRun ts
+    forest_run : (ts : ValueForest) → ForestRun z ts
     forest_run none p c last s rest h e o k st = ([], refl, rw h here)
     forest_run (more t ts) p c last s rest h e o k st =
         next_run t ts (tree_run t) (forest_run ts) p c last s rest h e o k st
