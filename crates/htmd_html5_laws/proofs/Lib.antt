@@ -89,6 +89,7 @@ pub mod StrictSets
 pub mod StrictRules
 pub mod StrictEnds
 pub mod StrictThrough
+pub mod StrictPlainTexts
 pub mod StrictBuilt
 pub mod StrictPages
 mod Examples

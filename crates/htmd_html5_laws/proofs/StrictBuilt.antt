@@ -19,6 +19,7 @@ use Rattle.htmd_html5_state.specs.Documents.{NodeValue, kind_at, append_children
 use Rattle.htmd_html5_state.specs.OpenElements.{OpenValue}
 use Rattle.htmd_html5_state.specs.Insertion.{current, place}
 use Rattle.htmd_html5_state.specs.State.{StateValue}
+use Rattle.htmd_html5.specs.AtOnce.{is_plain}
 use Rattle.htmd_html5.specs.Feeding.{feed}
 use Rattle.htmd_html5_laws.specs.StrictTokens.{content_after, tag_named, SpellsTree, SpellsForest}
 use Rattle.htmd_html5_laws.specs.StrictTokens.{after_feed, content_tokens}
@@ -49,6 +50,7 @@ at s = (current s.stack).node
 
 abbrev mutual
   pub FitsTree : List (List ℕ) → ValueTree → Type 0
+  FitsTree c (text u) = is_plain u ≡ true
   FitsTree c (element n attributes children) = Fits c n × FitsForest (n ∷ c) children
   FitsTree c _ = Unit {0}
 
@@ -118,7 +120,7 @@ module _ (z : Bool) where
   text_built u p c xs s k e f h st =
       let nodes : add_text u (place s) s.nodes ≡ with_tree (at s) (text u) s.nodes =
       ap (λ there. add_text u there s.nodes) (at_end p c s h) ∙ text_added u (at s) s.nodes (within p c s h) (st refl) in
-      let fed = text_fed p c s h u e in
+      let fed = text_fed p c s h u f in
       rw k (test (list_all is_ascii_white_space u)
       (λ t. leaf_built p c (text u) (tokens.text u) s (add_text u (place s) s.nodes) s.frameset_ok h refl
       (fed ∙ rw t refl) nodes)

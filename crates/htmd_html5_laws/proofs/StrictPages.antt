@@ -1,12 +1,12 @@
 -- A page of the strict grammar with plain trees: the lenient reader gives the same tree.
 use Rattle.std.proofs.Common.{◌≡◌, ℕ, zero, suc, ◌+◌, ◌<◌, ◌≤◌, Bool, true, false, not, ◌&&◌, List, [], ◌∷◌, ◌++◌}
-use Rattle.std.proofs.Common.{length, map, None, refl, sym, ap, ◌∙◌, arith, inl, inr, codes}
+use Rattle.std.proofs.Common.{length, map, None, refl, sym, ap, ◌∙◌, arith, inl, inr, codes, subst}
 use Rattle.std.proofs.lemmas.Bool.{and_parts, not-true}
 use Rattle.std.proofs.lemmas.List.{append-nil}
 use Rattle.htmd_text.proofs.Cases.{test}
 use Rattle.htmd_grammar.specs.ValueTrees.{AttributePair, ValueTree, ValueForest, none, more, document, doctype, text}
 use Rattle.htmd_grammar.specs.ValueTrees.{comment, element}
-use Rattle.htmd_grammar.specs.CharacterClasses.{is_among}
+use Rattle.htmd_grammar.specs.CharacterClasses.{is_among, lacks}
 use Rattle.htmd_grammar.specs.Serialisation.{is_void}
 use Rattle.htmd_grammar.specs.Rules.{project}
 use Rattle.htmd_grammar.specs.Grammar.{ReadsTree, ReadsForest}
@@ -33,6 +33,8 @@ use Rattle.htmd_html5.specs.Layout.{coming, Layout, document_of, layout_within}
 use Rattle.htmd_html5_laws.specs.StrictReferences.{IsSettled}
 use Rattle.htmd_html5_laws.specs.StrictTokens.{content_after, tag_named, is_simple_tree, is_simple}
 use Rattle.htmd_html5_laws.specs.StrictTrees.{is_plain_element, is_plain_tree, are_plain, most_levels, PlainPagesAgree}
+use Rattle.htmd_html5_laws.proofs.StrictCuts.{lacks_cut}
+use Rattle.htmd_html5_laws.proofs.StrictPlainTexts.{plain_text, content_lacks}
 use Rattle.htmd_html5_laws.proofs.StrictPieces.{read, lines_same}
 use Rattle.htmd_html5_laws.proofs.StrictSteps.{Run, here, onward}
 use Rattle.htmd_html5_laws.proofs.StrictRuns.{content_read}
@@ -102,30 +104,37 @@ element_fits z c n a =
 
 module _ (z : Bool) where
   content_fits : (n : List ℕ) (children : ValueForest)
-      → ((c : List (List ℕ)) (last : Bool) (s : List ℕ) → ReadsForest (project z) (c ++ the_document) last children s
-      → FitsForest c children)
-      → (attributes : List AttributePair) (c : List (List ℕ)) (last : Bool) (s : List ℕ)
+      → ((c : List (List ℕ)) (last : Bool) (s : List ℕ) → lacks 0 s ≡ true
+      → ReadsForest (project z) (c ++ the_document) last children s → FitsForest c children)
+      → (attributes : List AttributePair) (c : List (List ℕ)) (last : Bool) (s : List ℕ) → lacks 0 s ≡ true
       → Inside (project z) (c ++ the_document) last n attributes children s → FitsForest (n ∷ c) children
-  content_fits n children ih attributes c last s (inl w) =
+  content_fits n children ih attributes c last s l (inl w) =
+      let a = lacks_cut 0 w.0 (w.1 ++ w.2) (subst (λ y. lacks 0 y ≡ true) w.3 l) in
+      let b = lacks_cut 0 w.1 w.2 a.1 in
       test (is_void n)
       (λ v. let m = rw v at w.5 in rw m.2 tt)
-      (λ v. let m = rw v at w.5 in ih (n ∷ c) true (content_of n w.1) m.0)
-  content_fits n children ih attributes c last s (inr w) = ih (n ∷ c) true w.0 w.6
+      (λ v. let m = rw v at w.5 in ih (n ∷ c) true (content_of n w.1) (content_lacks n w.1 b.0) m.0)
+  content_fits n children ih attributes c last s l (inr w) =
+      ih (n ∷ c) true w.0 (lacks_cut 0 w.0 w.1 (subst (λ y. lacks 0 y ≡ true) w.2 l)).0 w.6
 
   mutual
-    tree_fits : (t : ValueTree) (c : List (List ℕ)) (last : Bool) (s : List ℕ)
+    tree_fits : (t : ValueTree) (c : List (List ℕ)) (last : Bool) (s : List ℕ) → lacks 0 s ≡ true
         → ReadsTree (project z) (c ++ the_document) last t s → FitsTree c t
-    tree_fits (document children) c last s h = tt
-    tree_fits doctype c last s h = tt
-    tree_fits (text u) c last s h = tt
-    tree_fits (comment u) c last s h = tt
-    tree_fits (element n attributes children) c last s h =
-        (element_fits z c n h.0, content_fits n children (λ d l r k. forest_fits children d l r k) attributes c last s h.2)
+    tree_fits (document children) c last s l h = tt
+    tree_fits doctype c last s l h = tt
+    tree_fits (text u) c last s l h = plain_text z (parent_name (c ++ the_document)) s u l h.2 h.0
+    tree_fits (comment u) c last s l h = tt
+    tree_fits (element n attributes children) c last s l h = (
+      element_fits z c n h.0,
+      content_fits n children (λ d i r m k. forest_fits children d i r m k) attributes c last s l h.2,
+    )
 
-    forest_fits : (ts : ValueForest) (c : List (List ℕ)) (last : Bool) (s : List ℕ)
+    forest_fits : (ts : ValueForest) (c : List (List ℕ)) (last : Bool) (s : List ℕ) → lacks 0 s ≡ true
         → ReadsForest (project z) (c ++ the_document) last ts s → FitsForest c ts
-    forest_fits none c last s h = tt
-    forest_fits (more t ts) c last s h = (h.3, tree_fits t c _ h.0 h.4, forest_fits ts c last h.1 h.5)
+    forest_fits none c last s l h = tt
+    forest_fits (more t ts) c last s l h =
+        let a = lacks_cut 0 h.0 h.1 (subst (λ y. lacks 0 y ≡ true) h.2 l) in
+        (h.3, tree_fits t c _ h.0 a.0 h.4, forest_fits ts c last h.1 a.1 h.5)
 
 -- ---- reading and feeding in step
 
@@ -215,7 +224,7 @@ pub pages_agree : PlainPagesAgree
 unfolding html5_document
 pages_agree z s content k e l h =
     let r = content_read z s content k (plain_is_simple content e) h in
-    let f = forest_fits z content (codes "body" ∷ codes "html" ∷ []) true s h in
+    let f = forest_fits z content (codes "body" ∷ codes "html" ∷ []) true s k.no_null h in
     let b = forest_built z content (codes "body") (codes "html" ∷ []) r.0 (body_state z) r.1 e f (body_state_is z)
     (λ t. refl) in
     let whole : state_after z (codes "<body>" ++ s) ≡ b.0 =

@@ -9,7 +9,6 @@ use Rattle.htmd_grammar.specs.Grammar.{reads}
 use Rattle.htmd_grammar.specs.Documents.{below_body, skeleton}
 use Rattle.htmd_tree.specs.Layout.{document_items}
 use Rattle.htmd_html5_state.specs.Names.{NameValue, known, other, name_of_text}
-use Rattle.htmd_html5.specs.AtOnce.{is_plain}
 use Rattle.htmd_html5.specs.Documents.{html5_document}
 use Rattle.htmd_html5_laws.specs.StrictReferences.{IsSettled}
 
@@ -57,11 +56,11 @@ is_plain_element n =
     if is_void n then not (is_among (codes "col" ∷ []) n) else is_plain_name n || is_among (codes "pre" ∷ []) n
 
 abbrev mutual
-  -- texts aren't empty and hold no U+0000
+  -- texts, comments, and plain elements with plain trees in them
   pub is_plain_tree : ValueTree → Bool
   is_plain_tree (document children) = false
   is_plain_tree doctype = false
-  is_plain_tree (text u) = is_plain u
+  is_plain_tree (text u) = true
   is_plain_tree (comment u) = true
   is_plain_tree (element n attributes children) = is_plain_element n && are_plain children
 
