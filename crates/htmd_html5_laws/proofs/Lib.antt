@@ -92,5 +92,6 @@ pub mod StrictThrough
 pub mod StrictPlainTexts
 pub mod StrictBuilt
 pub mod StrictPages
+pub mod StrictImplied
 mod Examples
 mod StrictExamples

@@ -59,7 +59,7 @@ mutual
       let g = and_parts (is_plain_element n) (are_plain children) e in
       rw (aside_element n g.0, plain_is_simple children g.1) refl
 
-  plain_is_simple : (ts : ValueForest) → are_plain ts ≡ true → is_simple ts ≡ true
+  pub plain_is_simple : (ts : ValueForest) → are_plain ts ≡ true → is_simple ts ≡ true
   plain_is_simple none e = refl
   plain_is_simple (more t ts) e =
       let k = and_parts (is_plain_tree t) (are_plain ts) e in
@@ -129,7 +129,7 @@ module _ (z : Bool) where
       content_fits n children (λ d i r m k. forest_fits children d i r m k) attributes c last s l h.2,
     )
 
-    forest_fits : (ts : ValueForest) (c : List (List ℕ)) (last : Bool) (s : List ℕ) → lacks 0 s ≡ true
+    pub forest_fits : (ts : ValueForest) (c : List (List ℕ)) (last : Bool) (s : List ℕ) → lacks 0 s ≡ true
         → ReadsForest (project z) (c ++ the_document) last ts s → FitsForest c ts
     forest_fits none c last s l h = tt
     forest_fits (more t ts) c last s l h =
@@ -145,7 +145,7 @@ nothing_left (suc k) p c s h =
     ap (λ m. after_token (read_within k) (next_token m (not (current_is_html s.stack)) []) s) h.content
     ∙ end_of_file_fed p c s h
 
-in_step : (z : Bool) (k : ℕ) (now after : Content) (page left : List ℕ) (xs : List TokenValue) (s new : StateValue)
+pub in_step : (z : Bool) (k : ℕ) (now after : Content) (page left : List ℕ) (xs : List TokenValue) (s new : StateValue)
     (p : List ℕ) (c : List (List ℕ)) → Run z now page xs after left → now ≡ Normal → left ≡ [] → Parts z s xs new
     → IsInBody (p ∷ c) new
     → length page ≤ k → read_within k page s ≡ new
@@ -194,7 +194,7 @@ page_read z s k =
     ∙ ap (λ r. after_token (read_within (length (codes "body>" ++ s))) r (initial_state z)) (body_tag_read z s)
 
 -- the Document, which holds `html`
-abbrev root : NodeValue
+abbrev pub root : NodeValue
 root = record { kind = documents.document; parent = None; children = 1 ∷ [] }
 
 -- the nodes of a page with this content
@@ -208,7 +208,7 @@ page_nodes z content =
     (sym (append-nil (held ++ []) ∙ append-nil held))
 
 -- and their layout
-page_laid : (content : ValueForest) → are_content content ≡ true → most_levels content < 1022
+pub page_laid : (content : ValueForest) → are_content content ≡ true → most_levels content < 1022
     → document_of greatest_depth (root ∷ forest_nodes 0 1 (skeleton content)) ≡ document_items (skeleton content)
 page_laid content c l =
     let nodes : List NodeValue = forest_nodes 0 1 (skeleton content) in

@@ -1,12 +1,13 @@
 -- Texts of the strict grammar with plain elements, as the lenient reader reads them.
 use Rattle.std.specs.Prelude.{◌≡◌, ℕ, suc, max, ◌<◌, Bool, true, false, not, ◌&&◌, ◌||◌, if◌then◌else◌, List, [], ◌∷◌, ◌++◌}
 use Rattle.std.specs.Prelude.{codes}
+use Rattle.htmd_text.specs.WhiteSpace.{is_ascii_white_space}
 use Rattle.htmd_grammar.specs.ValueTrees.{ValueTree, ValueForest, none, more, document, doctype, text, comment, element}
 use Rattle.htmd_grammar.specs.CharacterClasses.{is_among}
 use Rattle.htmd_grammar.specs.Rules.{project}
 use Rattle.htmd_grammar.specs.Serialisation.{is_void}
 use Rattle.htmd_grammar.specs.Grammar.{reads}
-use Rattle.htmd_grammar.specs.Documents.{below_body, skeleton}
+use Rattle.htmd_grammar.specs.Documents.{behind_mark, below_body, skeleton}
 use Rattle.htmd_tree.specs.Layout.{document_items}
 use Rattle.htmd_html5_state.specs.Names.{NameValue, known, other, name_of_text}
 use Rattle.htmd_html5.specs.Documents.{html5_document}
@@ -87,3 +88,31 @@ PlainPagesAgree =
     (scripting : Bool) (s : List ℕ) (content : ValueForest) → IsSettled s → are_plain content ≡ true
     → most_levels content < 1022 → reads (project scripting) below_body s content
     → html5_document scripting (codes "<body>" ++ s) ≡ document_items (skeleton content)
+
+-- ---- without `<body>`
+
+-- names that aren't of the body, or may be of the head
+abbrev pub head_names : List (List ℕ)
+head_names =
+    codes "html" ∷ codes "head" ∷ codes "body" ∷ codes "frameset" ∷ codes "base" ∷ codes "basefont"
+    ∷ codes "bgsound" ∷ codes "link" ∷ codes "meta" ∷ codes "noframes" ∷ codes "noscript" ∷ codes "script"
+    ∷ codes "style" ∷ codes "template" ∷ codes "title" ∷ []
+
+-- the text begins with a character that is no white space
+abbrev pub begins_black : List ℕ → Bool
+begins_black [] = false
+begins_black (b ∷ s) = not (is_ascii_white_space b)
+
+-- the body begins where the content begins: with such a text, or with an element that belongs in no head
+abbrev pub begins_body : ValueForest → Bool
+begins_body (more (text u) ts) = begins_black u
+begins_body (more (element n attributes children) ts) = not (is_among head_names n)
+begins_body _ = false
+
+-- Where the content begins so, the trees agree without `<body>` too, if no byte order mark stands there.
+abbrev pub PlainTextsAgree : Type 0
+PlainTextsAgree =
+    (scripting : Bool) (s : List ℕ) (content : ValueForest) → IsSettled s → behind_mark s ≡ s
+    → are_plain content ≡ true → begins_body content ≡ true → most_levels content < 1022
+    → reads (project scripting) below_body s content
+    → html5_document scripting s ≡ document_items (skeleton content)

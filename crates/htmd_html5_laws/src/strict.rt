@@ -1,7 +1,7 @@
 //! Texts of the strict grammar, as the lenient reader reads them.
 ghost use Rattle.htmd_html5_laws.specs.StrictReferences.{ReferencesAgree};
 ghost use Rattle.htmd_html5_laws.specs.StrictTokens.{TokensAgree};
-ghost use Rattle.htmd_html5_laws.specs.StrictTrees.{PlainPagesAgree};
+ghost use Rattle.htmd_html5_laws.specs.StrictTrees.{PlainPagesAgree, PlainTextsAgree};
 
 /// Characters and references denote the same by the strict grammar and by the lenient reader, where line ends are line
 /// feeds, no U+0000 stands, and each reference by name has its `;`.
@@ -21,4 +21,11 @@ pub fn tokens_agree()
 /// those of tables, forms, ruby, frames and the head, `pre`, those that hold only text, and some old or foreign ones.
 pub fn plain_pages_agree()
     ensures { PlainPagesAgree }
+{}
+
+/// A text of the strict grammar whose elements are plain, and whose content begins with a character that is no white
+/// space, or with an element that belongs in no head, is read by the lenient reader as the tree that the strict grammar
+/// gives, without `<body>` too.
+pub fn plain_texts_agree()
+    ensures { PlainTextsAgree }
 {}
