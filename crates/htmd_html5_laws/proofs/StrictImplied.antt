@@ -1,14 +1,14 @@
 -- A page of the strict grammar without `<body>`: its first token implies `html`, `head` and `body`.
-use Rattle.std.proofs.Common.{◌≡◌, ℕ, zero, suc, ◌+◌, ◌<◌, ◌≤◌, Bool, true, false, not, ◌&&◌, ◌||◌, List, [], ◌∷◌, ◌++◌}
+use Rattle.std.proofs.Common.{◌≡◌, ℕ, suc, Bool, true, false, not, ◌&&◌, ◌||◌, List, [], ◌∷◌, ◌++◌}
 use Rattle.std.proofs.Common.{length, refl, sym, ap, ◌∙◌, arith, subst, inl, codes}
 use Rattle.std.specs.List.{list_all}
 use Rattle.std.proofs.lemmas.Bool.{and_parts, not-true, or_right}
 use Rattle.std.proofs.lemmas.List.{append-nil}
 use Rattle.htmd_text.proofs.Cases.{test}
 use Rattle.htmd_text.specs.WhiteSpace.{is_ascii_white_space}
-use Rattle.htmd_grammar.specs.ValueTrees.{AttributePair, ValueTree, ValueForest, none, more, document, doctype, text}
+use Rattle.htmd_grammar.specs.ValueTrees.{ValueForest, none, more, document, doctype, text}
 use Rattle.htmd_grammar.specs.ValueTrees.{comment, element}
-use Rattle.htmd_grammar.specs.CharacterClasses.{is_among, is_empty}
+use Rattle.htmd_grammar.specs.CharacterClasses.{is_among}
 use Rattle.htmd_grammar.specs.Comments.{normalized}
 use Rattle.htmd_grammar.specs.Documents.{skeleton}
 use Rattle.htmd_tree.specs.Items.{greatest_depth}
@@ -21,7 +21,7 @@ use Rattle.htmd_html5_state.specs.Insertion.{current}
 use Rattle.htmd_html5_state.specs.State.{StateValue, initial_state}
 use Rattle.htmd_html5_state.specs.declared.names.TagName.{TagName}
 use Rattle.htmd_html5_state.specs.declared.modes.InsertionMode.TheVariants.{BeforeHtml}
-use Rattle.htmd_html5.specs.Answers.{Answer, answer, again, done}
+use Rattle.htmd_html5.specs.Answers.{Answer, again, done}
 use Rattle.htmd_html5.specs.BeforeHtml.{with_root, start_before_html, imply_root}
 use Rattle.htmd_html5.specs.BeforeHead.{with_head, start_before_head, imply_head}
 use Rattle.htmd_html5.specs.InHead.{close_head, start_in_head}
@@ -31,7 +31,7 @@ use Rattle.htmd_html5.specs.AtOnce.{is_not_null}
 use Rattle.htmd_html5.specs.Tokens.{StartTagValue}
 use Rattle.htmd_html5.specs.Runs.{is_null}
 use Rattle.htmd_html5.specs.ForeignContent.{goes_to_html, is_for_math_text, is_for_annotation, is_for_html_point}
-use Rattle.htmd_html5.specs.Processing.{by_rules, after_answer, process_within, process}
+use Rattle.htmd_html5.specs.Processing.{by_rules, after_answer, process_within}
 use Rattle.htmd_html5.specs.Texts.{Taken, take_part, put_within}
 use Rattle.htmd_html5.specs.Feeding.{named, feed}
 use Rattle.htmd_html5.specs.Documents.{read_within, state_after, html5_document}
@@ -39,7 +39,7 @@ use Rattle.htmd_html5.specs.Layout.{document_of}
 use Rattle.htmd_html5.proofs.ProcessingLemmas.{by_html}
 use Rattle.htmd_html5_laws.specs.StrictReferences.{IsSettled}
 use Rattle.htmd_html5_laws.specs.StrictTokens.{tag_named, SpellsForest}
-use Rattle.htmd_html5_laws.specs.StrictTrees.{head_names, begins_black, begins_body, PlainTextsAgree}
+use Rattle.htmd_html5_laws.specs.StrictTrees.{head_names, begins_body, PlainTextsAgree}
 use Rattle.htmd_html5_laws.proofs.StrictPieces.{lines_same}
 use Rattle.htmd_html5_laws.proofs.StrictRuns.{content_read}
 use Rattle.htmd_html5_laws.proofs.StrictNodes.{numbers, node, forest_nodes, with_forest}

@@ -1,6 +1,6 @@
 -- What a text of the strict grammar denotes is not empty and holds no U+0000.
 use Rattle.std.proofs.Common.{◌≡◌, ◌≢◌, ℕ, zero, suc, ◌+◌, ◌<◌, Bool, true, false, not, ◌&&◌, List, [], ◌∷◌, ◌++◌, drop}
-use Rattle.std.proofs.Common.{Option, Some, None, refl, sym, ap, ◌∙◌, arith, subst, codes, length}
+use Rattle.std.proofs.Common.{Option, Some, None, refl, sym, arith, subst, codes, length}
 use Rattle.std.specs.Prelude.{◌==◌, nat_lt}
 use Rattle.std.specs.Char.{encode_utf8, is_ascii_alphanumeric, is_ascii_digit, is_ascii_hexdigit}
 use Rattle.std.specs.List.{list_all}
@@ -40,10 +40,17 @@ encode_not_null c e =
     (λ t. test (nat_lt c 2048)
     (λ q. rw (t, q) (rw (not_null_sum 192 _ (omega arith), not_null_sum 128 _ (omega arith)) refl))
     (λ q. test (nat_lt c 65536)
-    (λ r. rw (t, q, r) (rw (not_null_sum 224 _ (omega arith), not_null_sum 128 _ (omega arith),
-        not_null_sum 128 _ (omega arith)) refl))
-    (λ r. rw (t, q, r) (rw (not_null_sum 240 _ (omega arith), not_null_sum 128 _ (omega arith),
-        not_null_sum 128 _ (omega arith), not_null_sum 128 _ (omega arith)) refl))))
+    (λ r. rw (t, q, r) (rw (
+      not_null_sum 224 _ (omega arith),
+      not_null_sum 128 _ (omega arith),
+      not_null_sum 128 _ (omega arith),
+    ) refl))
+    (λ r. rw (t, q, r) (rw (
+      not_null_sum 240 _ (omega arith),
+      not_null_sum 128 _ (omega arith),
+      not_null_sum 128 _ (omega arith),
+      not_null_sum 128 _ (omega arith),
+    ) refl))))
 
 abbrev is_other_name : NamedCharacter → Bool
 is_other_name entry = list_all is_not_null (encode_utf8 entry.character)
