@@ -61,12 +61,13 @@ abbrev mutual
 
 module _ (z : Bool) where
   -- what has been built from a state on
-  pub record Built (c : List (List ℕ)) (xs : List TokenValue) (nodes : List NodeValue) (s new : StateValue) : Type 0 where
-    pub through : Through z s xs new
-    pub nodes_are : new.nodes ≡ nodes
-    pub in_body : IsInBody c new
-    pub stack : new.stack ≡ s.stack
-    pub fewer : Fewer new.formatting s.formatting
+  pub record Built (c : List (List ℕ)) (xs : List TokenValue) (nodes : List NodeValue) (s new : StateValue) : Type 0
+    where
+      pub through : Through z s xs new
+      pub nodes_are : new.nodes ≡ nodes
+      pub in_body : IsInBody c new
+      pub stack : new.stack ≡ s.stack
+      pub fewer : Fewer new.formatting s.formatting
 
   abbrev TreeBuilt : ValueTree → Type 0
   TreeBuilt t = (p : List ℕ) (c : List (List ℕ)) (xs : List TokenValue) (s : StateValue) → SpellsTree t xs
@@ -95,7 +96,8 @@ module _ (z : Bool) where
     listed = h.listed;
     stands = subst (λ ns. Stands ns (p ∷ c) s.stack) (sym e)
         (stands_longer s.nodes (with_tree (at s) t s.nodes) (p ∷ c) s.stack (with_tree_longer (at s) t s.nodes)
-        (λ n l. kinds_kept (at s) n (length s.nodes ∷ []) s.nodes (tree_nodes (at s) (length s.nodes) t) l) h.stands);
+        (λ n l. kinds_kept (at s) n (length s.nodes ∷ []) s.nodes (tree_nodes (at s) (length s.nodes) t) l)
+        h.stands);
   }
 
   leaf_built : (p : List ℕ) (c : List (List ℕ)) (t : ValueTree) (x : TokenValue) (s : StateValue)
@@ -119,12 +121,14 @@ module _ (z : Bool) where
   text_built : (u : List ℕ) → TreeBuilt (text u)
   text_built u p c xs s k e f h st =
       let nodes : add_text u (place s) s.nodes ≡ with_tree (at s) (text u) s.nodes =
-      ap (λ there. add_text u there s.nodes) (at_end p c s h) ∙ text_added u (at s) s.nodes (within p c s h) (st refl) in
+      ap (λ there. add_text u there s.nodes) (at_end p c s h) ∙ text_added u (at s) s.nodes (within p c s h)
+      (st refl) in
       let fed = text_fed p c s h u f in
       rw k (test (list_all is_ascii_white_space u)
       (λ t. leaf_built p c (text u) (tokens.text u) s (add_text u (place s) s.nodes) s.frameset_ok h refl
       (fed ∙ rw t refl) nodes)
-      (λ t. leaf_built p c (text u) (tokens.text u) s (add_text u (place s) s.nodes) false h refl (fed ∙ rw t refl) nodes))
+      (λ t. leaf_built p c (text u) (tokens.text u) s (add_text u (place s) s.nodes) false h refl (fed ∙ rw t refl)
+      nodes))
 
   comment_built : (u : List ℕ) → TreeBuilt (comment u)
   comment_built u p c xs s k e f h st =
@@ -156,7 +160,8 @@ module _ (z : Bool) where
 
   -- the state in which the content comes
   entered : (p n : List ℕ) (c : List (List ℕ)) (attributes : List AttributePair) (s : StateValue)
-      (list : List (Option ℕ)) (ok : Bool) (h : IsInBody (p ∷ c) s) → Fewer list (Some (length s.nodes) ∷ s.formatting)
+      (list : List (Option ℕ)) (ok : Bool) (h : IsInBody (p ∷ c) s) → Fewer list
+      (Some (length s.nodes) ∷ s.formatting)
       → IsInBody (n ∷ (p ∷ c)) (opened_with p c s h n attributes list ok)
   entered p n c attributes s list ok h f =
       let kind = documents.element (html (name_of_text n)) attributes in
@@ -176,7 +181,11 @@ module _ (z : Bool) where
             (inr (s.formatting, refl, h.listed));
         stands = (
           refl,
-          (attributes, ap (λ ns. kind_at ns (length s.nodes)) added_ ∙ kind_after front new [] (length s.nodes) long),
+          (
+            attributes,
+            ap (λ ns. kind_at ns (length s.nodes)) added_ ∙ kind_after front new [] (length s.nodes)
+                long,
+          ),
           subst (λ ns. length s.nodes < length ns) (sym added_) l,
           stands_below s.nodes (p ∷ c) s.stack h.stands,
           g.stands,
@@ -231,7 +240,8 @@ module _ (z : Bool) where
   -- an element starts with nothing in it
   starts_empty : (p n : List ℕ) (c : List (List ℕ)) (attributes : List AttributePair) (s : StateValue)
       → IsInBody (p ∷ c) s
-      → last_text (add (documents.element (html (name_of_text n)) attributes) (place s) s.nodes) (length s.nodes) ≡ None
+      → last_text (add (documents.element (html (name_of_text n)) attributes) (place s) s.nodes)
+      (length s.nodes) ≡ None
   starts_empty p n c attributes s h =
       ap (λ ns. last_text ns (length s.nodes)) (element_added p c n attributes s h)
       ∙ new_last_text (append_children (at s) (length s.nodes ∷ []) s.nodes)
@@ -299,7 +309,8 @@ module _ (z : Bool) where
       let run : Through z first (after_feed content ++ (end_tag (tag_named n [] false) ∷ [])) new =
       to_end p n c (after_feed content) _ first r.0 new r.1 ends in
       let skipped = skip_run z n (p ∷ c) first io content (tag_named n [] false) new run in
-      closed p n c attributes children slash content (after_feed content) s r.0 s.formatting (r.0).formatting false h refl
+      closed p n c attributes children slash content (after_feed content) s r.0 s.formatting (r.0).formatting false h
+      refl
       r.1 (from_state z (pre_start p c s h f attributes slash) skipped) r.1.fewer
 
   element_built : (n : List ℕ) (attributes : List AttributePair) (children : ValueForest) → ForestBuilt children
@@ -347,7 +358,8 @@ module _ (z : Bool) where
       let first = this p c k.0 s k.3 g.0 f.1 h st in
       let there : at first.0 ≡ at s = ap (λ (stack : List OpenValue). (current stack).node) first.1.stack in
       let others = all p c k.1 first.0 k.4 g.1 f.2 first.1.in_body
-      (λ i. ap (last_text (first.0).nodes) there ∙ ap (λ (ns : List NodeValue). last_text ns (at s)) first.1.nodes_are
+      (λ i. ap (last_text (first.0).nodes) there ∙ ap (λ (ns : List NodeValue). last_text ns (at s))
+      first.1.nodes_are
       ∙ tree_last t (at s) s.nodes (within p c s h) ∙ no_text_next t ts f.0 i) in (
         others.0,
         record {
@@ -374,7 +386,8 @@ module _ (z : Bool) where
       s,
       record {
         through = rw k nothing;
-        nodes_are = sym (append-nil (append_children (at s) [] s.nodes) ∙ append_none (at s) s.nodes (within p c s h));
+        nodes_are = sym (append-nil (append_children (at s) [] s.nodes) ∙ append_none (at s) s.nodes
+            (within p c s h));
         in_body = h;
         stack = refl;
         fewer = fewer_same s.formatting;

@@ -9,7 +9,8 @@ use Rattle.htmd_grammar.proofs.TagReadingLemmas.{halts}
 use Rattle.htmd_html5_tokens.specs.NamedReferences.{NamedReference, first_in, old_names, longest_old}
 use Rattle.htmd_html5_laws.specs.StrictReferences.{is_bare_reference, has_bare_reference, IsSettled}
 
-pub lacks_cut : (c : ℕ) (s t : List ℕ) → lacks c (s ++ t) ≡ true → (lacks c s ≡ true) × (lacks c t ≡ true)
+pub lacks_cut : (c : ℕ) (s t : List ℕ) → lacks c (s ++ t) ≡ true → (lacks c s ≡ true) ×
+    (lacks c t ≡ true)
 lacks_cut c [] t e = (refl, e)
 lacks_cut c (b ∷ s) t e =
     let k = and_parts (not (b == c)) (lacks c (s ++ t)) e in

@@ -56,7 +56,8 @@ module _ (tag : TagName) (b : ℕ) (es : List OpenValue) (list : List (Option �
       → adoption_agency tag here ≡ gone
   adopted attributes k =
       rw not_at_once
-      (ap (λ o. go_on (rounds 7 tag) (round_of tag o here)) (found attributes k) ∙ ap (go_on (rounds 7 tag)) one_round)
+      (ap (λ o. go_on (rounds 7 tag) (round_of tag o here)) (found attributes k) ∙ ap (go_on (rounds 7 tag))
+      one_round)
 
 closed_at_once : (tag : TagName) (b : ℕ) (es : List OpenValue) (s : StateValue)
     → s.stack ≡ opened b (html (known tag)) ∷ es → is_listed b s.formatting ≡ false
@@ -67,7 +68,8 @@ closed_at_once tag b es s k e =
 
 pub agency : (tag : TagName) (b : ℕ) (es : List OpenValue) (s : StateValue) (attributes : List AttributePair)
     (before : List (Option ℕ)) → s.stack ≡ opened b (html (known tag)) ∷ es
-    → kind_at s.nodes b ≡ element (html (known tag)) attributes → Below b es → Fewer s.formatting (Some b ∷ before)
+    → kind_at s.nodes b ≡ element (html (known tag)) attributes → Below b es → Fewer s.formatting
+    (Some b ∷ before)
     → Fewer before (entries es)
     → (list : List (Option ℕ)) × Fewer list before
     × (adoption_agency tag s ≡ record s { stack = es; formatting = list })
@@ -122,7 +124,8 @@ module _ (p : List ℕ) (c : List (List ℕ)) (s : StateValue) (h : IsInBody (p 
       ap (feed_end_tag (name_of_text n)) (unskipped p c s h)
       ∙ rw (no_raw p c s h) (processed p c s h token new (ap not (goes p c s h token)) e)
 
-  plain_ended : (n : List ℕ) (k : PlainCase n) → is_formatting_case k ≡ false → (node : ℕ) (es : List OpenValue)
+  plain_ended : (n : List ℕ) (k : PlainCase n) → is_formatting_case k ≡ false → (node : ℕ)
+      (es : List OpenValue)
       → s.stack ≡ opened node (html (name_of_text n)) ∷ es
       → end_in_body (name_of_text n) s ≡ done (on_stack pop s)
   unfolding text_end_rule
@@ -151,14 +154,16 @@ module _ (p : List ℕ) (c : List (List ℕ)) (s : StateValue) (h : IsInBody (p 
       rw (x.0).1 (ap (λ r. end_by r (x.0).0 s) (x.0).3
       ∙ ap (λ stack. done (record s { stack = stack })) (by_block (x.0).0 node es (rw (x.0).1 at k)))
 
-  pub plain_end : (n : List ℕ) (k : PlainCase n) → is_formatting_case k ≡ false → (node : ℕ) (es : List OpenValue)
+  pub plain_end : (n : List ℕ) (k : PlainCase n) → is_formatting_case k ≡ false → (node : ℕ)
+      (es : List OpenValue)
       → s.stack ≡ opened node (html (name_of_text n)) ∷ es
       → feed (end_tag (tag_named n [] false)) s ≡ record s { stack = es }
   plain_end n k e node es q =
       fed_end n (on_stack pop s) (plain_ended n k e node es q)
       ∙ ap (λ (stack : List OpenValue). record s { stack = pop stack }) q
 
-  pub pre_end : (node : ℕ) (es : List OpenValue) → s.stack ≡ opened node (html (name_of_text (codes "pre"))) ∷ es
+  pub pre_end : (node : ℕ) (es : List OpenValue) → s.stack ≡ opened node (html (name_of_text (codes "pre"))) ∷
+      es
       → feed (end_tag (tag_named (codes "pre") [] false)) s ≡ record s { stack = es }
   unfolding text_end_rule
   pre_end node es q =
@@ -166,7 +171,8 @@ module _ (p : List ℕ) (c : List (List ℕ)) (s : StateValue) (h : IsInBody (p 
       (ap (λ stack. done (record s { stack = stack })) (by_block tags.Pre node es q))
       ∙ ap (λ (stack : List OpenValue). record s { stack = pop stack }) q
 
-  pub formatting_end : (n : List ℕ) (k : PlainCase n) → is_formatting_case k ≡ true → (b : ℕ) (es : List OpenValue)
+  pub formatting_end : (n : List ℕ) (k : PlainCase n) → is_formatting_case k ≡ true → (b : ℕ)
+      (es : List OpenValue)
       (attributes : List AttributePair) (before : List (Option ℕ))
       → s.stack ≡ opened b (html (name_of_text n)) ∷ es
       → kind_at s.nodes b ≡ element (html (name_of_text n)) attributes → Below b es

@@ -211,7 +211,8 @@ start_implied : (z : Bool) (tag : TagValue) → Passes (name_of_text tag.name)
 start_implied z tag e =
     let x : StartTagValue = named tag in
     let token : construction.TokenValue = construction.start_tag x in
-    let html_ = λ (s : StateValue) (h : current_is_html s.stack ≡ true). by_html token s (ap not (goes_html token s h)) in
+    let html_ = λ (s : StateValue) (h : current_is_html s.stack ≡ true). by_html token s
+    (ap not (goes_html token s h)) in
     let new : StateValue = start_in_body x (implied_state z) in
     turn 22 token (initial_state z) _ (html_ (initial_state z) refl)
     ∙ turn 21 token (first_state z) _ (html_ (first_state z) refl ∙ root_implied x.name x (first_state z) e)
@@ -237,7 +238,8 @@ First : Bool → List TokenValue → Type 0
 First z xs = (x : TokenValue) × (ys : List TokenValue) × (xs ≡ x ∷ ys)
     × (feed x (initial_state z) ≡ feed x (implied_state z))
 
-first_token : (z : Bool) (c : List (List ℕ)) (content : ValueForest) (xs : List TokenValue) → SpellsForest content xs
+first_token : (z : Bool) (c : List (List ℕ)) (content : ValueForest) (xs : List TokenValue) → SpellsForest content
+    xs
     → FitsForest c content → begins_body content ≡ true → First z xs
 unfolding First
 first_token z c none xs k f e = absurd (cc)
@@ -266,7 +268,8 @@ implied_nodes : (z : Bool) (content : ValueForest)
     → with_forest 3 content (implied_state z).nodes ≡ root ∷ forest_nodes 0 1 (skeleton content)
 implied_nodes z content =
     let held : List NodeValue = forest_nodes 3 4 content in
-    ap (λ (ns : List NodeValue). root ∷ node (documents.element (html (name_of_text (codes "html"))) []) 0 (2 ∷ 3 ∷ [])
+    ap (λ (ns : List NodeValue). root ∷ node (documents.element (html (name_of_text (codes "html"))) []) 0
+    (2 ∷ 3 ∷ [])
     ∷ node (documents.element (html (name_of_text (codes "head"))) []) 1 []
     ∷ node (documents.element (html (name_of_text (codes "body"))) []) 1 (numbers 4 content) ∷ ns)
     (sym (append-nil (held ++ []) ∙ append-nil held))
@@ -281,7 +284,8 @@ unfolding html5_document First
 texts_agree z s content k mark e begins l h =
     let r = content_read z s content k (plain_is_simple content e) h in
     let f = forest_fits z content (codes "body" ∷ codes "html" ∷ []) true s k.no_null h in
-    let b = forest_built z content (codes "body") (codes "html" ∷ []) r.0 (implied_state z) r.1 e f (implied_state_is z)
+    let b = forest_built z content (codes "body") (codes "html" ∷ []) r.0 (implied_state z) r.1 e f
+    (implied_state_is z)
     (λ t. refl) in
     let first = first_token z (codes "body" ∷ codes "html" ∷ []) content r.0 r.1 f begins in
     let run : Parts z (implied_state z) (first.0 ∷ first.1) b.0 =

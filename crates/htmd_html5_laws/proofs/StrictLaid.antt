@@ -55,14 +55,16 @@ node_laid : (limit : ℕ) (front : List NodeValue) (x : NodeValue) (back : List 
 node_laid limit front x back items work under b e d =
     ap (λ deep. with_kind_of deep (kind_at (front ++ (x ∷ back)) b) (coming under b)
     (without_node b (layout (front ++ (x ∷ back)) items work))) d
-    ∙ ap (λ kind. with_kind_of false kind (coming under b) (without_node b (layout (front ++ (x ∷ back)) items work)))
+    ∙ ap (λ kind. with_kind_of false kind (coming under b)
+    (without_node b (layout (front ++ (x ∷ back)) items work)))
     (kind_after front x back b e)
     ∙ ap (λ nodes. with_kind_of false x.kind (coming under b) (layout nodes items work)) (blank_at front x back b e)
 
 shallow : (limit n : ℕ) → n < limit → (n == limit) ≡ false
 shallow limit n l = grind (arith, nat_tests)
 
-depth_before : (items others : List Item) (n : ℕ) → n < length items → depth_at (items ++ others) n ≡ depth_at items n
+depth_before : (items others : List Item) (n : ℕ) → n < length items → depth_at (items ++ others) n ≡ depth_at
+    items n
 depth_before [] others n l = absurd (omega arith)
 depth_before (i ∷ items) others zero l = refl
 depth_before (i ∷ items) others (suc n) l = depth_before items others n (omega arith)
@@ -129,7 +131,8 @@ leaf_laid limit k (suc j) under b front back items work x new e d f g =
     let same : j ≡ k = omega arith in
     ap (layout_within limit j)
     (node_laid limit front x back items work under b e (shallow limit (depth_at items under + 1) d) ∙ g)
-    ∙ ap (λ n. layout_within limit n (layout (front ++ (blank x ∷ back)) (items ++ new_item items under new ∷ []) work))
+    ∙ ap (λ n. layout_within limit n (layout (front ++ (blank x ∷ back))
+    (items ++ new_item items under new ∷ []) work))
     same
 
 -- an element is entered
@@ -150,7 +153,8 @@ entered limit j front x rest items work under b name attributes kind e d =
     ∙ ap (λ nodes. layout nodes (items ++ new ∷ []) (map (coming (length items)) x.children ++ work))
     (sym (append_assoc front (blank x ∷ []) rest)))
 
-element_items : (items : List Item) (under : ℕ) (n : List ℕ) (attributes : List AttributePair) (children : ValueForest)
+element_items : (items : List Item) (under : ℕ) (n : List ℕ) (attributes : List AttributePair)
+    (children : ValueForest)
     (new : Item) → new ≡ new_item items under (element_node (text_of_name (name_of_text n)) attributes)
     → (items ++ new ∷ []) ++ forest_items (depth_at (items ++ new ∷ []) (length items) + 1) (length items)
     (length (items ++ new ∷ [])) children

@@ -73,13 +73,19 @@ sign_is (b ∷ s) v m e =
     (λ t. let w = rw t at e in number_is is_ascii_hexdigit 16 2 m s v w)
     (λ t. let w = rw t at e in number_is is_ascii_digit 10 1 m (b ∷ s) v w)
 
-name_is : (n m : ℕ) (w v : List ℕ) (o : Option ℕ) → character_named named_characters w ≡ o → named n o ≡ stands m v
+name_is : (n m : ℕ) (w v : List ℕ) (o : Option ℕ) → character_named named_characters w ≡ o → named n
+    o ≡ stands m v
     → (d : ℕ) × (t : List ℕ) × (v ≡ d ∷ t) × (d ≡ 10 → ⊥)
 name_is n m w v None q e = absurd (cc)
 name_is n m w v (Some c) q e =
     let h = encode_head c in
-    let same : v ≡ h.0 ∷ h.1 = sym (stands_same n m (encode_utf8 c) v e).1 ∙ h.2 in
-    (h.0, h.1, same, λ ten. no_ten h.0 h.1 ten (ap (first_is 10) (sym h.2) ∙ named_no_feed named_characters w c no_feed_named q))
+    let same : v ≡ h.0 ∷ h.1 = sym (stands_same n m (encode_utf8 c) v e).1 ∙ h.2 in (
+      h.0,
+      h.1,
+      same,
+      λ ten. no_ten h.0 h.1 ten
+          (ap (first_is 10) (sym h.2) ∙ named_no_feed named_characters w c no_feed_named q),
+    )
   where
     no_ten : (d : ℕ) (t : List ℕ) → d ≡ 10 → first_is 10 (d ∷ t) ≡ false → ⊥
     no_ten d t e f = let w = rw e at f in cc
@@ -126,7 +132,8 @@ reference_named s v m e =
     test (first_is 59 (behind_run is_ascii_alphanumeric s) && not (first_is 59 s))
     (λ q. absurd (let y = rw q at w in cc)) (λ q. let y = rw q at w in rw (t, q) y))
 
-pub piece_named : (b m : ℕ) (s v : List ℕ) → piece_at [] b s ≡ stands m v → piece_at named_characters b s ≡ stands m v
+pub piece_named : (b m : ℕ) (s v : List ℕ) → piece_at [] b s ≡ stands m v → piece_at named_characters b
+    s ≡ stands m v
 piece_named b m s v e =
     test (b == 38) (λ t. let w = rw t at e in rw t (reference_named s v m w)) (λ t. let w = rw t at e in rw t w)
 
@@ -182,7 +189,8 @@ same_front (b ∷ w) r (c ∷ x) y e l =
 pub record Feed (b : ℕ) (w r : List ℕ) : Type 0 where
   pub no_less : lacks 60 w ≡ true
   pub no_less_first : (b == 60) ≡ false
-  pub piece : (x z : List ℕ) → r ≡ x ++ z → piece_at named_characters b (w ++ x) ≡ stands (length w) (10 ∷ [])
+  pub piece : (x z : List ℕ) → r ≡ x ++ z → piece_at named_characters b (w ++ x) ≡ stands (length w)
+      (10 ∷ [])
 
 pub dropped_feed : (b m : ℕ) (s : List ℕ) → (b == 13) ≡ false → IsLineFeedPiece b s m
     → (w : List ℕ) × (s ≡ w ++ drop m s) × Feed b w (drop m s)
@@ -203,7 +211,8 @@ dropped_feed b m s cr e =
   where
     not_less : (b m : ℕ) (s : List ℕ) → (b == 13) ≡ false → IsLineFeedPiece b s m → (b == 60) ≡ false
     not_less b m s cr e =
-        test (b == 60) (λ t. absurd (let k = eqb-true b 60 t in let w : stands 0 (60 ∷ []) ≡ stands m (10 ∷ []) = rw k at e in cc))
+        test (b == 60) (λ t. absurd (let k = eqb-true b 60 t in let w : stands 0 (60 ∷ []) ≡ stands m
+        (10 ∷ []) = rw k at e in cc))
         (λ t. t)
 
 skipped : (w x : List ℕ) → decode named_characters (length w) (w ++ x) ≡ decode named_characters 0 x
@@ -218,7 +227,8 @@ pub feed_text : (b : ℕ) (w r this z u : List ℕ) → Feed b w r → r ≡ thi
 feed_text b w r this z u f e d l =
     (rw (f.piece this z e) (rw (skipped w this ∙ d) refl), no_markup b w this f.no_less_first f.no_less l)
   where
-    no_markup : (b : ℕ) (w this : List ℕ) → (b == 60) ≡ false → lacks 60 w ≡ true → up_to begins_markup this ≡ this
+    no_markup : (b : ℕ) (w this : List ℕ) → (b == 60) ≡ false → lacks 60 w ≡ true → up_to begins_markup
+        this ≡ this
         → up_to begins_markup (b ∷ (w ++ this)) ≡ b ∷ (w ++ this)
     no_markup b [] [] e l k = refl
     no_markup b [] (c ∷ this) e l k = rw e (ap (λ (x : List ℕ). b ∷ x) k)

@@ -32,7 +32,8 @@ abbrev pub Each : (List ℕ → Type 0) → List (List ℕ) → Type 0
 Each Q [] = Unit {0}
 Each Q (n ∷ names) = Q n × Each Q names
 
-pub among_each : (Q : List ℕ → Type 0) (names : List (List ℕ)) (n : List ℕ) → is_among names n ≡ true → Each Q names
+pub among_each : (Q : List ℕ → Type 0) (names : List (List ℕ)) (n : List ℕ) → is_among names n ≡ true →
+    Each Q names
     → Q n
 among_each Q [] n e h = absurd (cc)
 among_each Q (m ∷ names) n e h =
@@ -303,7 +304,8 @@ void_cases = (
   ),
 )
 
-pub void_case : (n : List ℕ) → is_void n ≡ true → not (is_among (codes "col" ∷ []) n) ≡ true → is_outside n ≡ false
+pub void_case : (n : List ℕ) → is_void n ≡ true → not (is_among (codes "col" ∷ []) n) ≡ true → is_outside
+    n ≡ false
     → VoidCase n
 unfolding is_void
 void_case n v e o = among_each VoidThere void_elements n v void_cases (not-true (is_among (codes "col" ∷ []) n) e) o

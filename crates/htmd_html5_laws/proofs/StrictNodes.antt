@@ -26,7 +26,8 @@ node kind p children = record { kind = kind; parent = Some p; children = childre
 abbrev mutual
   -- the nodes of a tree in a node p, numbered from b on
   pub tree_nodes : ℕ → ℕ → ValueTree → List NodeValue
-  tree_nodes p b (document children) = node documents.document p (numbers (suc b) children) ∷ forest_nodes b (suc b) children
+  tree_nodes p b (document children) = node documents.document p (numbers (suc b) children) ∷ forest_nodes b (suc b)
+      children
   tree_nodes p b doctype = node documents.doctype p [] ∷ []
   tree_nodes p b (text u) = node (documents.text u) p [] ∷ []
   tree_nodes p b (comment u) = node (documents.comment u) p [] ∷ []
@@ -61,12 +62,14 @@ pub append_front : (p : ℕ) (ns : List ℕ) (nodes others : List NodeValue) →
     → append_children p ns (nodes ++ others) ≡ append_children p ns nodes ++ others
 append_front p ns [] others l = absurd (omega arith)
 append_front zero ns (x ∷ nodes) others l = refl
-append_front (suc p) ns (x ∷ nodes) others l = ap (λ (y : List NodeValue). x ∷ y) (append_front p ns nodes others (omega arith))
+append_front (suc p) ns (x ∷ nodes) others l =
+    ap (λ (y : List NodeValue). x ∷ y) (append_front p ns nodes others (omega arith))
 
 -- to the node right after these
 pub append_at : (ns : List ℕ) (nodes : List NodeValue) (x : NodeValue) (others : List NodeValue) (n : ℕ)
     → length nodes ≡ n
-    → append_children n ns (nodes ++ (x ∷ others)) ≡ nodes ++ (record x { children = x.children ++ ns } ∷ others)
+    → append_children n ns (nodes ++ (x ∷ others)) ≡ nodes ++
+    (record x { children = x.children ++ ns } ∷ others)
 append_at ns [] x others zero e = refl
 append_at ns [] x others (suc n) e = absurd (omega arith)
 append_at ns (y ∷ nodes) x others zero e = absurd (omega arith)
@@ -88,7 +91,8 @@ append_none p [] l = absurd (omega arith)
 append_none zero (x ∷ nodes) l = ap (λ (cs : List ℕ). record x { children = cs } ∷ nodes) (append-nil x.children)
 append_none (suc p) (x ∷ nodes) l = ap (λ (y : List NodeValue). x ∷ y) (append_none p nodes (omega arith))
 
-pub append_length : (p : ℕ) (ns : List ℕ) (nodes : List NodeValue) → length (append_children p ns nodes) ≡ length nodes
+pub append_length : (p : ℕ) (ns : List ℕ) (nodes : List NodeValue) → length
+    (append_children p ns nodes) ≡ length nodes
 append_length p ns [] = refl
 append_length zero ns (x ∷ nodes) = refl
 append_length (suc p) ns (x ∷ nodes) = ap suc (append_length p ns nodes)
@@ -201,7 +205,8 @@ abbrev pub ends_in_text : ValueTree → Option (List ℕ)
 ends_in_text (text u) = Some u
 ends_in_text _ = None
 
-pub no_text_next : (t : ValueTree) (ts : ValueForest) → Apart t ts → begins_text ts ≡ true → ends_in_text t ≡ None
+pub no_text_next : (t : ValueTree) (ts : ValueForest) → Apart t ts → begins_text ts ≡ true → ends_in_text
+    t ≡ None
 no_text_next (text u) (more (text v) ts) a e = absurd a
 no_text_next (text u) none a e = absurd (cc)
 no_text_next (text u) (more (document children) ts) a e = absurd (cc)
@@ -228,7 +233,8 @@ with_forest p ts nodes = append_children p (numbers (length nodes) ts) nodes ++ 
 abbrev pub with_tree : ℕ → ValueTree → List NodeValue → List NodeValue
 with_tree p t nodes = append_children p (length nodes ∷ []) nodes ++ tree_nodes p (length nodes) t
 
-pub with_tree_longer : (p : ℕ) (t : ValueTree) (nodes : List NodeValue) → length nodes ≤ length (with_tree p t nodes)
+pub with_tree_longer : (p : ℕ) (t : ValueTree) (nodes : List NodeValue) → length nodes ≤ length
+    (with_tree p t nodes)
 with_tree_longer p t nodes =
     let front : List NodeValue = append_children p (length nodes ∷ []) nodes in
     omega (arith, append_length p (length nodes ∷ []) nodes, length-append front (tree_nodes p (length nodes) t))
@@ -249,7 +255,8 @@ kinds_kept (suc p) zero ns (x ∷ nodes) others l = refl
 kinds_kept (suc p) (suc n) ns (x ∷ nodes) others l = kinds_kept p n ns nodes others (omega arith)
 
 -- an element with what it holds
-pub filled : (p : ℕ) (n : List ℕ) (attributes : List AttributePair) (children : ValueForest) (nodes : List NodeValue)
+pub filled : (p : ℕ) (n : List ℕ) (attributes : List AttributePair) (children : ValueForest)
+    (nodes : List NodeValue)
     → with_forest (length nodes) children (append_children p (length nodes ∷ []) nodes
     ++ node (documents.element (html (name_of_text n)) attributes) p [] ∷ [])
     ≡ with_tree p (element n attributes children) nodes

@@ -43,7 +43,8 @@ abbrev pub HasNames : NameSet → List (List ℕ) → Type 0
 HasNames set names = (n : List ℕ) → is_among names n ≡ false → is_of set (html (name_of_text n)) ≡ false
 
 pub has_names : (set : NameSet) (names : List (List ℕ))
-    → ((tag : TagName) → is_of set (html (known tag)) ≡ true → is_among names (spelling tag) ≡ true) → HasNames set names
+    → ((tag : TagName) → is_of set (html (known tag)) ≡ true → is_among names (spelling tag) ≡ true) →
+    HasNames set names
 has_names set names h n e = by_name (name_of_text n) (name_kept n)
   where
     by_name : (name : NameValue) → text_of_name name ≡ n → is_of set (html name) ≡ false
@@ -86,7 +87,8 @@ fewer_with_room nodes kind fs =
     fewer_trans (with_room (with_room_for nodes kind fs)) (with_room_for nodes kind fs) fs
     (fewer_without_some _ (with_room_for nodes kind fs)) (fewer_without_some _ fs)
 
-pub listed_in : (n : ℕ) (fs gs : List (Option ℕ)) → Fewer fs gs → is_listed n fs ≡ true → is_listed n gs ≡ true
+pub listed_in : (n : ℕ) (fs gs : List (Option ℕ)) → Fewer fs gs → is_listed n fs ≡ true → is_listed n
+    gs ≡ true
 listed_in n fs [] h e = subst (λ x. is_listed n x ≡ true) h e
 listed_in n fs (None ∷ gs) (inl h) e = listed_in n fs gs h e
 listed_in n fs (Some m ∷ gs) (inl h) e =
@@ -127,13 +129,15 @@ first_open n fs (e ∷ es) (inl h) = or_right (e.node == n) (is_open_node n es) 
 first_open n fs (e ∷ es) (inr h) =
     let q : e.node ≡ n = same h.1 in rw q (rw (itself n) refl)
   where
-    same : {a b : ℕ} {gs hs : List (Option ℕ)} → ◌≡◌ {A = List (Option ℕ)} (Some a ∷ gs) (Some b ∷ hs) → b ≡ a
+    same : {a b : ℕ} {gs hs : List (Option ℕ)} → ◌≡◌ {A = List (Option ℕ)} (Some a ∷ gs)
+        (Some b ∷ hs) → b ≡ a
     same e = cc
 
     itself : (n : ℕ) → (n == n) ≡ true
     itself n = grind (arith, nat_tests)
 
-pub none_closed : (fs : List (Option ℕ)) (es : List OpenValue) → Fewer fs (entries es) → closed_elements es fs ≡ []
+pub none_closed : (fs : List (Option ℕ)) (es : List OpenValue) → Fewer fs (entries es) → closed_elements es
+    fs ≡ []
 none_closed [] es h = refl
 none_closed (None ∷ fs) es h = refl
 none_closed (Some n ∷ fs) es h = rw (first_open n fs es h) refl
@@ -196,7 +200,8 @@ scope_none set scope names ends h b nodes (n ∷ c) (x ∷ es) s e =
     (λ t. let f = rw t at k.1 in rw (scope_none set scope names ends h b nodes c es s.4 f) (and_false _)))
 
 -- an element that isn't met anywhere
-pub open_met : (names : List (List ℕ)) (c : Context) → is_open names c ≡ false → is_met_before names [] c ≡ false
+pub open_met : (names : List (List ℕ)) (c : Context) → is_open names c ≡ false → is_met_before names []
+    c ≡ false
 open_met names [] e = refl
 open_met names (n ∷ c) e =
     let k = or_parts (is_among names n) (is_open names c) e in
@@ -204,7 +209,8 @@ open_met names (n ∷ c) e =
 
 -- ---- formatting elements
 
-is_tag_of : (tag : TagName) (name : NameValue) → is_of (Only tag) (html name) ≡ false → is_tag tag (html name) ≡ false
+is_tag_of : (tag : TagName) (name : NameValue) → is_of (Only tag) (html name) ≡ false → is_tag tag
+    (html name) ≡ false
 is_tag_of tag (other t) e = refl
 is_tag_of tag (known u) e =
     test (same_tag u tag)

@@ -71,13 +71,16 @@ not_both : (x y : Bool) → not (x && y) ≡ true → x ≡ true → y ≡ false
 not_both true y e f = not-true y e
 not_both false y e f = absurd (cc)
 
-element_fits : (z : Bool) (c : List (List ℕ)) (n : List ℕ) → is_allowed z (c ++ the_document) n ≡ true → Fits c n
+element_fits : (z : Bool) (c : List (List ℕ)) (n : List ℕ) → is_allowed z (c ++ the_document) n ≡ true → Fits
+    c n
 unfolding is_allowed
 element_fits z c n a =
     let d : List (List ℕ) = c ++ the_document in
-    let lists_ = and_parts (not (is_outside n) && not (holds_text_alone z (parent_name d)) && fits_table (parent_name d) n
+    let lists_ = and_parts (not (is_outside n) && not (holds_text_alone z (parent_name d)) && fits_table
+    (parent_name d) n
     && fits_select (parent_name d) n && fits_open_elements d n) (fits_lists d n) a in
-    let open_ = (and_parts (not (is_outside n) && not (holds_text_alone z (parent_name d)) && fits_table (parent_name d) n
+    let open_ = (and_parts (not (is_outside n) && not (holds_text_alone z (parent_name d)) && fits_table
+    (parent_name d) n
     && fits_select (parent_name d) n) (fits_open_elements d n) lists_.0).1 in
     let heads = and_parts (not (closes_paragraph n && is_open (codes "p" ∷ []) d)
     && not (excludes_itself n && is_open (n ∷ []) d)
@@ -92,7 +95,8 @@ element_fits z c n a =
     (not (is_among (codes "dd" ∷ codes "dt" ∷ []) n
     && is_met_before (codes "dd" ∷ codes "dt" ∷ []) (codes "dl" ∷ []) d)) lists_.1 in
     record {
-      paragraph = λ e. open_met (codes "p" ∷ []) d (not_both (closes_paragraph n) (is_open (codes "p" ∷ []) d) both.0 e);
+      paragraph = λ e. open_met (codes "p" ∷ []) d
+          (not_both (closes_paragraph n) (is_open (codes "p" ∷ []) d) both.0 e);
       itself = λ e. open_met (n ∷ []) d (not_both (excludes_itself n) (is_open (n ∷ []) d) both.1 e);
       inside = (allowed_parts z d n a).0;
       heading = λ e. not_both (is_heading n) (is_heading (parent_name d)) heads.1 e;
@@ -145,8 +149,10 @@ nothing_left (suc k) p c s h =
     ap (λ m. after_token (read_within k) (next_token m (not (current_is_html s.stack)) []) s) h.content
     ∙ end_of_file_fed p c s h
 
-pub in_step : (z : Bool) (k : ℕ) (now after : Content) (page left : List ℕ) (xs : List TokenValue) (s new : StateValue)
-    (p : List ℕ) (c : List (List ℕ)) → Run z now page xs after left → now ≡ Normal → left ≡ [] → Parts z s xs new
+pub in_step : (z : Bool) (k : ℕ) (now after : Content) (page left : List ℕ) (xs : List TokenValue)
+    (s new : StateValue)
+    (p : List ℕ) (c : List (List ℕ)) → Run z now page xs after left → now ≡ Normal → left ≡ [] → Parts
+    z s xs new
     → IsInBody (p ∷ c) new
     → length page ≤ k → read_within k page s ≡ new
 in_step z k now after page left xs s new p c here n e r h l = rw (e, r) (nothing_left k p c new h)
@@ -202,7 +208,8 @@ page_nodes : (z : Bool) (content : ValueForest)
     → with_forest 3 content (body_state z).nodes ≡ root ∷ forest_nodes 0 1 (skeleton content)
 page_nodes z content =
     let held : List NodeValue = forest_nodes 3 4 content in
-    ap (λ (ns : List NodeValue). root ∷ node (documents.element (html (name_of_text (codes "html"))) []) 0 (2 ∷ 3 ∷ [])
+    ap (λ (ns : List NodeValue). root ∷ node (documents.element (html (name_of_text (codes "html"))) []) 0
+    (2 ∷ 3 ∷ [])
     ∷ node (documents.element (html (name_of_text (codes "head"))) []) 1 []
     ∷ node (documents.element (html (name_of_text (codes "body"))) []) 1 (numbers 4 content) ∷ ns)
     (sym (append-nil (held ++ []) ∙ append-nil held))
@@ -217,7 +224,8 @@ page_laid content c l =
     ap (λ ns. (layout_within greatest_depth (length (root ∷ nodes))
     (layout (root ∷ ns) (document_item ∷ []) (map (coming 0) (1 ∷ []) ++ []))).items) (sym (append-nil nodes))
     ∙ ap (λ (x : Layout). x.items)
-    (forest_laid (skeleton content) greatest_depth 1 (length (root ∷ nodes)) 0 0 1 (root ∷ []) [] (document_item ∷ []) []
+    (forest_laid (skeleton content) greatest_depth 1 (length (root ∷ nodes)) 0 0 1 (root ∷ []) []
+    (document_item ∷ []) []
     (rw c refl) refl (omega arith) (omega (arith, l)) count)
 
 pub pages_agree : PlainPagesAgree
@@ -229,7 +237,8 @@ pages_agree z s content k e l h =
     (λ t. refl) in
     let whole : state_after z (codes "<body>" ++ s) ≡ b.0 =
     page_read z s k
-    ∙ in_step z (length (codes "body>" ++ s)) Normal Normal s [] r.0 (body_state z) b.0 (codes "body") (codes "html" ∷ [])
+    ∙ in_step z (length (codes "body>" ++ s)) Normal Normal s [] r.0 (body_state z) b.0 (codes "body")
+    (codes "html" ∷ [])
     r.2 refl refl (parts z b.1.through) b.1.in_body (omega arith) in
     ap (λ st. document_of greatest_depth st.nodes) whole
     ∙ ap (document_of greatest_depth) (b.1.nodes_are ∙ page_nodes z content)

@@ -42,7 +42,8 @@ letter_is : (b : ℕ) → is_ascii_alphabetic b ≡ true → ((b == 63) ≡ fals
 letter_is b e = (grind (arith, nat_tests), grind (arith, nat_tests))
 
 -- what begins with no empty piece
-piece_next : (s : List ℕ) → begins_with (codes "</>") s ≡ false → next_token Normal false s ≡ read_piece false s
+piece_next : (s : List ℕ) → begins_with (codes "</>") s ≡ false → next_token Normal false s ≡ read_piece
+    false s
 piece_next [] e = refl
 piece_next (b ∷ s) e = rw e refl
 
@@ -104,7 +105,8 @@ end_read tag n x h k =
 
 -- the same from an end tag's name on, where it ends raw text
 pub raw_end_read : (tag n x : List ℕ) → IsEndTag tag n → IsSettled (tag ++ x)
-    → (s : List ℕ) × (tag ++ x ≡ 60 ∷ 47 ∷ s) × (tag_from_name end_tag s ≡ read (end_tag (tag_named n [] false)) x)
+    → (s : List ℕ) × (tag ++ x ≡ 60 ∷ 47 ∷ s) ×
+    (tag_from_name end_tag s ≡ read (end_tag (tag_named n [] false)) x)
 raw_end_read tag n x h k =
     let gap : List ℕ = h.1 ++ 62 ∷ [] in
     let e : tag ++ x ≡ 60 ∷ 47 ∷ (h.0 ++ (gap ++ x)) =
@@ -117,7 +119,8 @@ raw_end_read tag n x h k =
 
 -- ---- comments
 
-ended : (b : ℕ) (s : List ℕ) → begins_with (codes "-->") (b ∷ s) ≡ true → drop 2 s ≡ [] → b ∷ s ≡ codes "-->"
+ended : (b : ℕ) (s : List ℕ) → begins_with (codes "-->") (b ∷ s) ≡ true → drop 2 s ≡ [] → b ∷
+    s ≡ codes "-->"
 ended b [] e f = absurd (let k = and_parts (b == 45) false e in cc)
 ended b (c ∷ []) e f =
     absurd (let k = and_parts (b == 45) ((c == 45) && false) e in let l = and_parts (c == 45) false k.1 in cc)
@@ -154,10 +157,13 @@ close_split (b ∷ s) u e =
 
 -- a comment doesn't end here
 not_ended : (b c d f : ℕ) (s : List ℕ) → begins_with (codes "-->") (b ∷ c ∷ d ∷ f ∷ s) ≡ false
-    → begins_with (codes "--!>") (b ∷ c ∷ d ∷ f ∷ s) ≡ false → ends_comment (b ∷ c ∷ d ∷ f ∷ s) ≡ false
+    → begins_with (codes "--!>") (b ∷ c ∷ d ∷ f ∷ s) ≡ false → ends_comment
+    (b ∷ c ∷ d ∷ f ∷ s) ≡ false
 not_ended b c d f s e g =
-    or_from (begins_with (codes "-->") (b ∷ c ∷ d ∷ f ∷ s) || begins_with (codes "--!>") (b ∷ c ∷ d ∷ f ∷ s)) _
-    (or_from (begins_with (codes "-->") (b ∷ c ∷ d ∷ f ∷ s)) (begins_with (codes "--!>") (b ∷ c ∷ d ∷ f ∷ s)) e g)
+    or_from (begins_with (codes "-->") (b ∷ c ∷ d ∷ f ∷ s) || begins_with (codes "--!>")
+    (b ∷ c ∷ d ∷ f ∷ s)) _
+    (or_from (begins_with (codes "-->") (b ∷ c ∷ d ∷ f ∷ s))
+    (begins_with (codes "--!>") (b ∷ c ∷ d ∷ f ∷ s)) e g)
     (too_long b c d f s)
   where
     too_long : (b c d f : ℕ) (s : List ℕ)
@@ -179,11 +185,13 @@ goes_on b (c ∷ []) rest e g =
 goes_on b (c ∷ d ∷ []) rest e g =
     not_ended b c d 45 (45 ∷ 62 ∷ rest) e
     (test (b == 45)
-    (λ t. test (c == 45) (λ q. test (d == 33) (λ x. rw (t, q, x) refl) (λ x. rw (t, q, x) refl)) (λ q. rw (t, q) refl))
+    (λ t. test (c == 45) (λ q. test (d == 33) (λ x. rw (t, q, x) refl) (λ x. rw (t, q, x) refl))
+    (λ q. rw (t, q) refl))
     (λ t. rw t refl))
 goes_on b (c ∷ d ∷ f ∷ u) rest e g = not_ended b c d f (u ++ (codes "-->" ++ rest)) e g
 
-comment_run : (u rest : List ℕ) → before_comment_end (u ++ codes "-->") ≡ cut u [] → holds (codes "--!>") u ≡ false
+comment_run : (u rest : List ℕ) → before_comment_end (u ++ codes "-->") ≡ cut u [] → holds (codes "--!>")
+    u ≡ false
     → (up_to ends_comment (u ++ (codes "-->" ++ rest)) ≡ u)
     × (onward ends_comment (u ++ (codes "-->" ++ rest)) ≡ codes "-->" ++ rest)
 comment_run [] rest e g = (refl, refl)
@@ -239,14 +247,16 @@ comment_read s u x h k =
 
 -- ---- texts
 
-no_piece : (b : ℕ) (s : List ℕ) → strict.begins_markup (b ∷ s) ≡ false → begins_with (codes "</>") (b ∷ s) ≡ false
+no_piece : (b : ℕ) (s : List ℕ) → strict.begins_markup (b ∷ s) ≡ false → begins_with (codes "</>")
+    (b ∷ s) ≡ false
 no_piece b [] e = test (b == 60) (λ t. rw t refl) (λ t. rw t refl)
 no_piece b (c ∷ s) e =
     test (b == 60)
     (λ t. test (c == 47) (λ q. absurd (slash c q (rw t at e))) (λ q. rw (t, q) refl))
     (λ t. rw t refl)
   where
-    slash : (c : ℕ) → (c == 47) ≡ true → (is_ascii_alphabetic c || (c == 47) || (c == 33) || (c == 63)) ≡ false → ⊥
+    slash : (c : ℕ) → (c == 47) ≡ true → (is_ascii_alphabetic c || (c == 47) || (c == 33) ||
+        (c == 63)) ≡ false → ⊥
     slash c q e = grind (arith, nat_tests)
 
 text_next : (b : ℕ) (s : List ℕ) → strict.begins_markup (b ∷ s) ≡ false

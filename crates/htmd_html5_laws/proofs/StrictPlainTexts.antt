@@ -122,13 +122,15 @@ piece_not_null b m s v z e =
 
 -- ---- texts
 
-decoded_not_null : (n : ℕ) (s u : List ℕ) → lacks 0 s ≡ true → decode named_characters n s ≡ Some u → AreNotNull u
+decoded_not_null : (n : ℕ) (s u : List ℕ) → lacks 0 s ≡ true → decode named_characters n s ≡ Some u →
+    AreNotNull u
 decoded_not_null n [] u l e = let w : [] ≡ u = cc in subst AreNotNull w refl
 decoded_not_null zero (b ∷ s) u l e =
     let k = and_parts (not (b == 0)) (lacks 0 s) l in
     let p = put_parts (piece_at named_characters b s) (λ n. decode named_characters n s) u e in
     subst AreNotNull (sym p.5)
-    (not_null_both p.1 p.2 (piece_not_null b p.0 s p.1 (not-true (b == 0) k.0) p.3) (decoded_not_null p.0 s p.2 k.1 p.4))
+    (not_null_both p.1 p.2 (piece_not_null b p.0 s p.1 (not-true (b == 0) k.0) p.3)
+    (decoded_not_null p.0 s p.2 k.1 p.4))
 decoded_not_null (suc n) (b ∷ s) u l e =
     decoded_not_null n s u (and_parts (not (b == 0)) (lacks 0 s) l).1 e
 
@@ -141,7 +143,8 @@ lines_not_null (b ∷ s) l =
     (λ t. test (first_is 10 s) (λ q. rw (t, q) i) (λ q. rw (t, q) i))
     (λ t. rw t (rw (not-true (b == 0) k.0, i) refl))
 
-pub plain_text : (z : Bool) (p s u : List ℕ) → lacks 0 s ≡ true → text_of (project z) p s ≡ Some u → u ≢ []
+pub plain_text : (z : Bool) (p s u : List ℕ) → lacks 0 s ≡ true → text_of (project z) p s ≡ Some u → u ≢
+    []
     → is_plain u ≡ true
 plain_text z p s u l e f = rw (filled u f, text_not_null) refl
   where
@@ -166,7 +169,8 @@ drop_lacks zero c s l = l
 drop_lacks (suc n) c [] l = refl
 drop_lacks (suc n) c (b ∷ s) l = drop_lacks n c s (and_parts (not (b == c)) (lacks c s) l).1
 
-less_lacks : (q : Piece) (b : ℕ) (s : List ℕ) → lacks 0 (b ∷ s) ≡ true → lacks 0 (less_line_feed q b s) ≡ true
+less_lacks : (q : Piece) (b : ℕ) (s : List ℕ) → lacks 0 (b ∷ s) ≡ true → lacks 0
+    (less_line_feed q b s) ≡ true
 less_lacks (wrong kind) b s l = l
 less_lacks (stands n v) b s l =
     test (bytes_eq v (10 ∷ []))

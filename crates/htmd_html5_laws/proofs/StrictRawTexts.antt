@@ -69,7 +69,8 @@ void_content z n e = no (holds_text_alone z n) (void_holds_none z n e)
 pub record IsRaw (z : Bool) (n : List ℕ) (kind : RawElement) : Type 0 where
   pub content : content_in z n ≡ Raw kind
   pub size : (s : List ℕ) → raw_text_len kind s ≡ own_text_len n s
-  pub text : (s u : List ℕ) → IsSettled s → text_of (project z) n s ≡ Some u → decoded (reading_of kind) 0 s ≡ u
+  pub text : (s u : List ℕ) → IsSettled s → text_of (project z) n s ≡ Some u → decoded (reading_of kind) 0
+      s ≡ u
 
 title_text : (z : Bool) → holds_raw_text z (codes "title") ≡ false
 title_text true = refl
@@ -83,7 +84,8 @@ plain : (kind : RawElement) (s u : List ℕ) → IsSettled s → Some (normalize
     → reading_of kind ≡ reading_of raw.Style → decoded (reading_of kind) 0 s ≡ u
 plain kind s u k e f =
     let q : normalized s ≡ u = cc in
-    ap (λ r. decoded r 0 s) f ∙ raw_itself (reading_of raw.Style) refl refl s k.no_null ∙ sym (lines_same s k.line_feeds)
+    ap (λ r. decoded r 0 s) f ∙ raw_itself (reading_of raw.Style) refl refl s k.no_null ∙ sym
+    (lines_same s k.line_feeds)
     ∙ q
 
 pub raw_content : (z : Bool) (n : List ℕ) → holds_text_alone z n ≡ true → is_set_aside n ≡ false
@@ -181,7 +183,8 @@ raw_children z n c last (more (text u) (more (element m attributes ks) ts)) s h 
 
 -- ---- its tokens
 
-pub stop_same : (p q : List ℕ → Bool) → ((s : List ℕ) → p s ≡ q s) → (s : List ℕ) → up_to p s ≡ up_to q s
+pub stop_same : (p q : List ℕ → Bool) → ((s : List ℕ) → p s ≡ q s) → (s : List ℕ) → up_to p
+    s ≡ up_to q s
 stop_same p q e [] = refl
 stop_same p q e (b ∷ s) = rw (e (b ∷ s), stop_same p q e s) refl
 

@@ -68,7 +68,8 @@ number_same p base from m s v e =
       | inr w ↦ absurd (let z = w.1 in cc)
     ]
 
-number_sign_same : (s v : List ℕ) (m : ℕ) → behind_number_sign s ≡ stands m v → after_number_sign s ≡ piece m v
+number_sign_same : (s v : List ℕ) (m : ℕ) → behind_number_sign s ≡ stands m v → after_number_sign s ≡ piece
+    m v
 number_sign_same [] v m e = absurd (cc)
 number_sign_same (b ∷ s) v m e =
     test (begins_in_any_case (codes "x") (b ∷ s))
@@ -150,7 +151,8 @@ none_there : (o : Option NamedReference) → is_some o ≡ false → o ≡ None
 none_there None e = refl
 none_there (Some r) e = absurd (cc)
 
-not_bare : (s : List ℕ) → is_bare_reference s ≡ false → first_is 59 (behind_run is_ascii_alphanumeric s) ≡ false
+not_bare : (s : List ℕ) → is_bare_reference s ≡ false → first_is 59
+    (behind_run is_ascii_alphanumeric s) ≡ false
     → longest_old s ≡ None
 not_bare s e f = none_there (longest_old s) (only (is_some (longest_old s)) (rw f at e))
   where
@@ -208,7 +210,8 @@ piece_same r b s v m refs e cr null bare less =
 -- ---- runs
 
 -- where no markup begins there is no `</`
-no_slash : (b : ℕ) (s : List ℕ) → begins_markup (b ∷ s) ≡ false → (b == 60 && begins_with (codes "/>") s) ≡ false
+no_slash : (b : ℕ) (s : List ℕ) → begins_markup (b ∷ s) ≡ false →
+    (b == 60 && begins_with (codes "/>") s) ≡ false
 no_slash b [] e = test (b == 60) (λ t. rw t refl) (λ t. rw t refl)
 no_slash b (c ∷ s) e =
     test (b == 60)
@@ -217,7 +220,8 @@ no_slash b (c ∷ s) e =
     (λ q. rw (t, q) refl))
     (λ t. rw t refl)
   where
-    letter : (c : ℕ) → (c == 47) ≡ true → (is_ascii_alphabetic c || (c == 47) || (c == 33) || (c == 63)) ≡ false → ⊥
+    letter : (c : ℕ) → (c == 47) ≡ true → (is_ascii_alphabetic c || (c == 47) || (c == 33) ||
+        (c == 63)) ≡ false → ⊥
     letter c q e = grind (arith, nat_tests)
 
 decoded_same : (r : _) → has_references r ≡ true → (n : ℕ) (s u : List ℕ)
@@ -277,7 +281,8 @@ text_run (b ∷ s) rest e h =
 
 text_same : (r : _) (s u rest : List ℕ) → has_references r ≡ true → IsSettled s
     → decode named_characters 0 s ≡ Some u → up_to begins_markup s ≡ s
-    → ◌≡◌ {A = Read} (record { token = text (decoded r 0 s); rest = rest }) (record { token = text u; rest = rest })
+    → ◌≡◌ {A = Read} (record { token = text (decoded r 0 s); rest = rest })
+    (record { token = text u; rest = rest })
 text_same r s u rest f h e l =
     rw (decoded_same r f 0 s u h.line_feeds h.no_null h.references_end (λ t. l) e) refl
 

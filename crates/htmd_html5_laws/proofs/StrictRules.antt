@@ -66,7 +66,8 @@ pub record Fits (c : List (List ℕ)) (n : List ℕ) : Type 0 where
   pub inside : is_outside n ≡ false
   pub heading : nesting.is_heading n ≡ true → nesting.is_heading (parent_name (c ++ the_document)) ≡ false
   pub item : n ≡ codes "li" → met (codes "li" ∷ []) lists c ≡ false
-  pub part : is_among (codes "dd" ∷ codes "dt" ∷ []) n ≡ true → met (codes "dd" ∷ codes "dt" ∷ []) (codes "dl" ∷ []) c ≡ false
+  pub part : is_among (codes "dd" ∷ codes "dt" ∷ []) n ≡ true → met (codes "dd" ∷ codes "dt" ∷ [])
+      (codes "dl" ∷ []) c ≡ false
 
 -- ---- the state
 
@@ -159,7 +160,8 @@ module _ (p : List ℕ) (c : List (List ℕ)) (s : StateValue) (h : IsInBody (p 
   no_p_closed : met (codes "p" ∷ []) [] (p ∷ c) ≡ false → close (Only tags.P) Button s.stack ≡ s.stack
   no_p_closed e =
       let none_ : is_in_scope (Only tags.P) Button s.stack ≡ false =
-      scope_none (Only tags.P) Button (codes "p" ∷ []) [] p_names (λ n f. absurd (cc)) s.nodes (p ∷ c) s.stack h.stands
+      scope_none (Only tags.P) Button (codes "p" ∷ []) [] p_names (λ n f. absurd (cc)) s.nodes (p ∷ c) s.stack
+      h.stands
       e in
       rw none_ refl
 
@@ -167,7 +169,8 @@ module _ (p : List ℕ) (c : List (List ℕ)) (s : StateValue) (h : IsInBody (p 
   no_li_closed e =
       let none_ : is_in_scope (Only tags.Li) Items s.stack ≡ false =
       scope_none (Only tags.Li) Items (codes "li" ∷ []) lists li_names
-      (λ n f. among_each (λ m. bounds Items (html (name_of_text m)) ≡ true) lists n f (refl, (refl, (refl, (refl, tt)))))
+      (λ n f. among_each (λ m. bounds Items (html (name_of_text m)) ≡ true) lists n f
+      (refl, (refl, (refl, (refl, tt)))))
       s.nodes (p ∷ c) s.stack h.stands e in
       rw none_ refl
 
@@ -192,12 +195,14 @@ module _ (p : List ℕ) (c : List (List ℕ)) (s : StateValue) (h : IsInBody (p 
   no_anchor : met (codes "a" ∷ []) [] (p ∷ c) ≡ false → formatting_element tags.A s ≡ None
   no_anchor e = none_listed tags.A (codes "a" ∷ []) a_names s.nodes (p ∷ c) s.stack s.formatting h.stands h.listed e
 
-  none_there : (tag : TagName) (n : List ℕ) → HasNames (Only tag) (n ∷ []) → met (n ∷ []) [] (p ∷ c) ≡ false
+  none_there : (tag : TagName) (n : List ℕ) → HasNames (Only tag) (n ∷ []) → met (n ∷ []) []
+      (p ∷ c) ≡ false
       → is_in_scope (Only tag) Default s.stack ≡ false
   none_there tag n k e =
       scope_none (Only tag) Default (n ∷ []) [] k (λ m f. absurd (cc)) s.nodes (p ∷ c) s.stack h.stands e
 
-  itself_met : (n m : List ℕ) → n ≡ m → Fits (p ∷ c) n → excludes_itself n ≡ true → met (m ∷ []) [] (p ∷ c) ≡ false
+  itself_met : (n m : List ℕ) → n ≡ m → Fits (p ∷ c) n → excludes_itself n ≡ true → met (m ∷ []) []
+      (p ∷ c) ≡ false
   itself_met n m x f e = subst (λ k. met (k ∷ []) [] (p ∷ c) ≡ false) x (f.itself e)
 
   abbrev value : NameValue → List AttributePair → Bool → construction.StartTagValue
@@ -221,7 +226,8 @@ module _ (p : List ℕ) (c : List (List ℕ)) (s : StateValue) (h : IsInBody (p 
 
   pub plain_start : (n : List ℕ) (k : PlainCase n) → Fits (p ∷ c) n → is_formatting_case k ≡ false
       → (attributes : List AttributePair) (slash : Bool)
-      → (ok : Bool) × (feed (start_tag (tag_named n attributes slash)) s ≡ opened_with n attributes s.formatting ok)
+      → (ok : Bool) × (feed (start_tag (tag_named n attributes slash)) s ≡ opened_with n attributes s.formatting
+      ok)
   unfolding block_rule formatting_rule phrasing_rule
   plain_start n (unknown t q) f e attributes slash = (
     s.frameset_ok,
@@ -255,7 +261,8 @@ module _ (p : List ℕ) (c : List (List ℕ)) (s : StateValue) (h : IsInBody (p 
   )
   plain_start n (no_break x) f e attributes slash = absurd (cc)
   plain_start n (button x) f e attributes slash =
-      let none_ = none_there tags.Button (codes "button") button_names (itself_met n (codes "button") x f (rw x refl)) in
+      let none_ = none_there tags.Button (codes "button") button_names (itself_met n (codes "button") x f (rw x refl))
+      in
       let closed : close (Only tags.Button) Default s.stack ≡ s.stack = rw none_ refl in (
         false,
         fed_start (tag_named n attributes slash)
@@ -314,7 +321,8 @@ module _ (p : List ℕ) (c : List (List ℕ)) (s : StateValue) (h : IsInBody (p 
         listed_room n attributes,
         fewer_with_room _ _ s.formatting,
         fed_start (tag_named n attributes slash)
-            ∙ rw x (ap (λ (y : StateValue). insert_formatting (known tags.NoBr) attributes (reconstruct (close_no_break y)))
+            ∙ rw x (ap (λ (y : StateValue). insert_formatting (known tags.NoBr) attributes
+            (reconstruct (close_no_break y)))
             nothing_again
             ∙ ap (λ (y : StateValue). insert_formatting (known tags.NoBr) attributes (reconstruct y)) closed
             ∙ ap (insert_formatting (known tags.NoBr) attributes) nothing_again),
@@ -336,7 +344,8 @@ module _ (p : List ℕ) (c : List (List ℕ)) (s : StateValue) (h : IsInBody (p 
   abbrev put_void : TagName → List AttributePair → StateValue → StateValue
   put_void tag attributes y = no_frameset (insert_void (known tag) attributes y)
 
-  pub void_fed : (n : List ℕ) (k : VoidCase n) → Fits (p ∷ c) n → (attributes : List AttributePair) (slash : Bool)
+  pub void_fed : (n : List ℕ) (k : VoidCase n) → Fits (p ∷ c) n → (attributes : List AttributePair)
+      (slash : Bool)
       → (ok : Bool) × (feed (start_tag (tag_named n attributes slash)) s ≡ put_with n attributes ok)
   unfolding block_rule formatting_rule phrasing_rule
   void_fed n (in_text x) f attributes slash = (

@@ -96,12 +96,14 @@ module _ (z : Bool) where
           (shorter z end rest (end_filled z end n g)) here
 
       go : ((ks ≡ none) × (inner ≡ []))
-          ⊎ ((u : List ℕ) × (ks ≡ more (text u) none) × (inner ≢ []) × (up_to (ends_text z n) inner ≡ inner)
+          ⊎ ((u : List ℕ) × (ks ≡ more (text u) none) × (inner ≢ []) ×
+          (up_to (ends_text z n) inner ≡ inner)
           × (text_of (project z) n inner ≡ Some u))
           → Closed n ks (inner ++ (end ++ rest)) rest
       go (inl w) = rw (w.0, w.1) ([], nothing_content n, from_content z (found.1).content last)
       go (inr w) =
-          let m = settled_before inner (end ++ rest) (inr (end_read end n rest g (settled_back inner (end ++ rest) k)).1) k in
+          let m = settled_before inner (end ++ rest)
+          (inr (end_read end n rest g (settled_back inner (end ++ rest) k)).1) k in
           rw w.1 (
             tokens.text w.0 ∷ [],
             rw (raw_keeps z n e a) (tokens.text w.0 ∷ [], [], refl, refl, refl),
@@ -126,7 +128,8 @@ module _ (z : Bool) where
   begins_feed _ = false
 
   -- tokens that begin with no line feed are as they are
-  feed_kept : (ts : ValueForest) (xs : List TokenValue) → SpellsForest ts xs → begins_feed ts ≡ false → after_feed xs ≡ xs
+  feed_kept : (ts : ValueForest) (xs : List TokenValue) → SpellsForest ts xs → begins_feed ts ≡ false →
+      after_feed xs ≡ xs
   feed_kept none xs h e = rw h refl
   feed_kept (more (document ks) ts) xs h e = absurd (h.3)
   feed_kept (more doctype ts) xs h e = absurd (h.3)
@@ -151,7 +154,8 @@ module _ (z : Bool) where
   begins_no_feed (more (comment u) ts) p c last s rest h e o k st a = refl
   begins_no_feed (more (element n attributes ks) ts) p c last s rest h e o k st a = refl
   begins_no_feed (more (text u) ts) p c last s rest h e o k st a =
-      let q : s ++ rest ≡ h.0 ++ (h.1 ++ rest) = ap (λ (y : List ℕ). y ++ rest) h.2 ∙ append_assoc h.0 h.1 rest in
+      let q : s ++ rest ≡ h.0 ++ (h.1 ++ rest) =
+      ap (λ (y : List ℕ). y ++ rest) h.2 ∙ append_assoc h.0 h.1 rest in
       let i = subst IsSettled q k in
       let follows = text_ending z (text u) ts p c last h.1 rest refl h.3 h.5 o (settled_back h.0 (h.1 ++ rest) i) st in
       let this = settled_before h.0 (h.1 ++ rest) follows i in
@@ -178,18 +182,21 @@ module _ (z : Bool) where
   line_alone n ks ih c b w r x rest f h e o k begins st =
       let front : List ℕ = b ∷ (w ++ []) in
       let q : (b ∷ (w ++ r)) ++ x ≡ front ++ (r ++ x) =
-      ap (λ (y : List ℕ). b ∷ y) (append_assoc w r x ∙ ap (λ (y : List ℕ). y ++ (r ++ x)) (sym (append-nil w))) in
+      ap (λ (y : List ℕ). b ∷ y) (append_assoc w r x ∙ ap (λ (y : List ℕ). y ++ (r ++ x))
+      (sym (append-nil w))) in
       let i = subst IsSettled q k in
       let t = feed_text b w r [] r [] f refl refl refl in
       let token = text_token_read front (10 ∷ []) (r ++ x) (λ y. (let z = y in cc)) t.0 t.1 begins i in
       let inside = ih n c true r x h e o (settled_back front (r ++ x) i) st in (
         tokens.text (10 ∷ []) ∷ inside.0,
         inside.1,
-        from_text z q (onward (tokens.text (10 ∷ [])) (r ++ x) token refl (shorter z front (r ++ x) (λ y. (let z = y in cc)))
+        from_text z q (onward (tokens.text (10 ∷ [])) (r ++ x) token refl
+            (shorter z front (r ++ x) (λ y. (let z = y in cc)))
             inside.2),
       )
 
-  line_dropped : (n : List ℕ) (ks : ValueForest) → ForestRun z ks → Tail ks → (c : Context) (b : ℕ) (w r x rest : List ℕ)
+  line_dropped : (n : List ℕ) (ks : ValueForest) → ForestRun z ks → Tail ks → (c : Context) (b : ℕ)
+      (w r x rest : List ℕ)
       → Feed b w r → ReadsForest (project z) (n ∷ c) true ks r → holds_text_alone z n ≡ false
       → is_simple ks ≡ true → IsSettled ((b ∷ (w ++ r)) ++ x) → Ending x → Fed n ks (b ∷ (w ++ r)) x rest
   line_dropped n none ih tail c b w r x rest f h e o k st =
@@ -201,7 +208,8 @@ module _ (z : Bool) where
       (text_ending z (text []) (more (comment u) ts) n c true r x refl tt h o (after_piece b w r x k) st) st
   line_dropped n (more (element m attributes ks) ts) ih tail c b w r x rest f h e o k st =
       line_alone n (more (element m attributes ks) ts) ih c b w r x rest f h e o k
-      (text_ending z (text []) (more (element m attributes ks) ts) n c true r x refl tt h o (after_piece b w r x k) st) st
+      (text_ending z (text []) (more (element m attributes ks) ts) n c true r x refl tt h o (after_piece b w r x k)
+      st) st
   line_dropped n (more (text u) ts) ih tail c b w r x rest f h e o k st =
       let front : List ℕ = b ∷ (w ++ h.0) in
       let q : (b ∷ (w ++ r)) ++ x ≡ front ++ (h.1 ++ x) =
@@ -227,9 +235,11 @@ module _ (z : Bool) where
       with_first [] ts xs f h = absurd (f refl)
       with_first (b ∷ u) ts xs f h = (tokens.text (b ∷ u) ∷ [], xs, refl, refl, h)
 
-  feed_closed : (n : List ℕ) (ks : ValueForest) → ForestRun z ks → Tail ks → (c : Context) (inner end rest : List ℕ)
+  feed_closed : (n : List ℕ) (ks : ValueForest) → ForestRun z ks → Tail ks → (c : Context)
+      (inner end rest : List ℕ)
       → ReadsForest (project z) (n ∷ c) true ks (after_line_feed [] inner) → IsEndTag end n
-      → drops_line_feed n ≡ true → holds_text_alone z n ≡ false → is_outside n ≡ false → is_simple ks ≡ true
+      → drops_line_feed n ≡ true → holds_text_alone z n ≡ false → is_outside n ≡ false → is_simple
+      ks ≡ true
       → IsSettled (inner ++ (end ++ rest)) → Closed n ks (inner ++ (end ++ rest)) rest
   feed_closed n ks ih tail c inner end rest h g d e o i k = whole (fed inner h k)
     where
@@ -298,7 +308,8 @@ module _ (z : Bool) where
           test (is_void n)
           (λ v. let m = rw v at w.5 in
           let q : s ≡ w.0 =
-          w.3 ∙ ap (λ (y : List ℕ). w.0 ++ (y ++ w.2)) m.0 ∙ ap (λ (y : List ℕ). w.0 ++ y) m.1 ∙ append-nil w.0 in
+          w.3 ∙ ap (λ (y : List ℕ). w.0 ++ (y ++ w.2)) m.0 ∙ ap (λ (y : List ℕ). w.0 ++ y) m.1 ∙ append-nil
+          w.0 in
           let i : IsSettled (w.0 ++ rest) = subst (λ (y : List ℕ). IsSettled (y ++ rest)) q k in
           rw (q, m.2) (void_run n w.0 rest attributes w.4 v outside i))
           (λ v. let m = rw v at w.5 in
@@ -309,7 +320,8 @@ module _ (z : Bool) where
           let j = settled_back w.0 (w.1 ++ (w.2 ++ rest)) i in
           rw w.3 (closed_run n w.0 w.1 w.2 rest attributes ks w.4 v i
           (test (drops_line_feed n)
-          (λ d. feed_closed n ks ih tail (p ∷ c) w.1 w.2 rest (rw d at m.0) m.1 d (pre_plain z n d aside) outside parts.1 j)
+          (λ d. feed_closed n ks ih tail (p ∷ c) w.1 w.2 rest (rw d at m.0) m.1 d (pre_plain z n d aside) outside
+          parts.1 j)
           (λ d. let inside = subst (ReadsForest (project z) (n ∷ (p ∷ c)) true ks) (kept_content n w.1 d) m.0 in
           test (holds_text_alone z n) (λ t. raw_closed n ks (p ∷ c) w.1 w.2 rest inside m.1 t aside j)
           (λ t. normal_closed n ks ih (p ∷ c) w.1 w.2 rest inside m.1 d t outside parts.1 j)))))
@@ -320,7 +332,8 @@ module _ (z : Bool) where
   next_run : (t : ValueTree) (ts : ValueForest) → TreeRun z t → ForestRun z ts → ForestRun z (more t ts)
   next_run t ts one all p c last s rest h e o k st =
       let b = and_parts (is_simple_tree t) (is_simple ts) o in
-      let q : s ++ rest ≡ h.0 ++ (h.1 ++ rest) = ap (λ (y : List ℕ). y ++ rest) h.2 ∙ append_assoc h.0 h.1 rest in
+      let q : s ++ rest ≡ h.0 ++ (h.1 ++ rest) =
+      ap (λ (y : List ℕ). y ++ rest) h.2 ∙ append_assoc h.0 h.1 rest in
       let i = subst IsSettled q k in
       let j = settled_back h.0 (h.1 ++ rest) i in
       let first = one p c _ h.0 (h.1 ++ rest) h.4 e b.0 i

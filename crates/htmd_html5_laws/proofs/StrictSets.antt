@@ -21,10 +21,12 @@ use Rattle.htmd_html5_state.specs.declared.names.TagName.TheVariants as tags
 -- ---- names of sets
 
 pub p_names : HasNames (Only tags.P) (codes "p" ∷ [])
-p_names = has_names (Only tags.P) (codes "p" ∷ []) (λ tag e. rw (sym (same_bytes (spelling tags.P) (spelling tag) e)) refl)
+p_names =
+    has_names (Only tags.P) (codes "p" ∷ []) (λ tag e. rw (sym (same_bytes (spelling tags.P) (spelling tag) e)) refl)
 
 pub a_names : HasNames (Only tags.A) (codes "a" ∷ [])
-a_names = has_names (Only tags.A) (codes "a" ∷ []) (λ tag e. rw (sym (same_bytes (spelling tags.A) (spelling tag) e)) refl)
+a_names =
+    has_names (Only tags.A) (codes "a" ∷ []) (λ tag e. rw (sym (same_bytes (spelling tags.A) (spelling tag) e)) refl)
 
 pub button_names : HasNames (Only tags.Button) (codes "button" ∷ [])
 button_names =
@@ -38,7 +40,8 @@ nobr_names =
 
 pub li_names : HasNames (Only tags.Li) (codes "li" ∷ [])
 li_names =
-    has_names (Only tags.Li) (codes "li" ∷ []) (λ tag e. rw (sym (same_bytes (spelling tags.Li) (spelling tag) e)) refl)
+    has_names (Only tags.Li) (codes "li" ∷ [])
+    (λ tag e. rw (sym (same_bytes (spelling tags.Li) (spelling tag) e)) refl)
 
 pub part_names : HasNames DescriptionParts (codes "dd" ∷ codes "dt" ∷ [])
 part_names = has_names DescriptionParts (codes "dd" ∷ codes "dt" ∷ []) by_tag
@@ -52,7 +55,8 @@ part_names = has_names DescriptionParts (codes "dd" ∷ codes "dt" ∷ []) by_ta
 pub heading_has : HasNames Headings heading_names
 heading_has = has_names Headings heading_names by_tag
   where
-    by_tag : (tag : TagName) → is_of Headings (html (known tag)) ≡ true → is_among heading_names (spelling tag) ≡ true
+    by_tag : (tag : TagName) → is_of Headings (html (known tag)) ≡ true → is_among heading_names
+        (spelling tag) ≡ true
     by_tag tags.H1 e = refl
     by_tag tags.H2 e = refl
     by_tag tags.H3 e = refl

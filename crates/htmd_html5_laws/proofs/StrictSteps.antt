@@ -46,7 +46,8 @@ module _ (z : Bool) where
       → Run now s xs after left → Run other s xs after left
   from_content e r = rw e r
 
-  pub from_text : {now after : Content} {s t left : List ℕ} {xs : List TokenValue} → t ≡ s → Run now s xs after left
+  pub from_text : {now after : Content} {s t left : List ℕ} {xs : List TokenValue} → t ≡ s → Run now s xs after
+      left
       → Run now t xs after left
   from_text e r = rw e r
 
@@ -69,20 +70,24 @@ module _ (z : Bool) where
   shorter [] x n = absurd (n refl)
   shorter (b ∷ s) x n = let l = length-append s x in omega arith
 
-  pub one_token : (token : TokenValue) (s rest : List ℕ) → s ≢ [] → next_token Normal false (s ++ rest) ≡ read token rest
-      → is_end token ≡ false → content_after z Normal token ≡ Normal → Run Normal (s ++ rest) (token ∷ []) Normal rest
+  pub one_token : (token : TokenValue) (s rest : List ℕ) → s ≢ [] → next_token Normal false
+      (s ++ rest) ≡ read token rest
+      → is_end token ≡ false → content_after z Normal token ≡ Normal → Run Normal (s ++ rest) (token ∷ [])
+      Normal rest
   one_token token s rest n e f c =
       onward token rest e f (shorter s rest n) (from_content c here)
 
   -- ---- trees
 
   abbrev pub TreeRun : ValueTree → Type 0
-  TreeRun t = (p : List ℕ) (c : Context) (last : Bool) (s rest : List ℕ) → ReadsTree (project z) (p ∷ c) last t s
+  TreeRun t = (p : List ℕ) (c : Context) (last : Bool) (s rest : List ℕ) → ReadsTree (project z) (p ∷ c) last t
+      s
       → holds_text_alone z p ≡ false → is_simple_tree t ≡ true → IsSettled (s ++ rest)
       → (IsTextTree t ≡ true → Ending rest) → Made (SpellsTree t) s rest
 
   abbrev pub ForestRun : ValueForest → Type 0
-  ForestRun ts = (p : List ℕ) (c : Context) (last : Bool) (s rest : List ℕ) → ReadsForest (project z) (p ∷ c) last ts s
+  ForestRun ts = (p : List ℕ) (c : Context) (last : Bool) (s rest : List ℕ) → ReadsForest (project z) (p ∷ c)
+      last ts s
       → holds_text_alone z p ≡ false → is_simple ts ≡ true → IsSettled (s ++ rest) → Ending rest
       → Made (SpellsForest ts) s rest
 
@@ -134,7 +139,8 @@ module _ (z : Bool) where
   text_ending (comment u) (more (text v) ts) p c last s rest i a h o k st = absurd (cc)
   text_ending (element n attributes ks) (more (text v) ts) p c last s rest i a h o k st = absurd (cc)
   text_ending t (more (comment v) ts) p c last s rest i a h o k st =
-      let q : s ++ rest ≡ h.0 ++ (h.1 ++ rest) = ap (λ (y : List ℕ). y ++ rest) h.2 ∙ append_assoc h.0 h.1 rest in
+      let q : s ++ rest ≡ h.0 ++ (h.1 ++ rest) =
+      ap (λ (y : List ℕ). y ++ rest) h.2 ∙ append_assoc h.0 h.1 rest in
       inr (ap next.begins_markup q ∙ (comment_read h.0 v (h.1 ++ rest) (h.4).0 (subst IsSettled q k)).1)
   text_ending t (more (element n attributes ks) ts) p c last s rest i a h o k st = go (h.4).2
     where

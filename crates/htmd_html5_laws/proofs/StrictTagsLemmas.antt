@@ -69,7 +69,8 @@ bare_head : (b : ℕ) → strict.is_unquoted_byte b ≡ true
     → (is_ascii_white_space b ≡ false) × ((b == 34) ≡ false) × ((b == 39) ≡ false)
 bare_head b e = (grind (arith, nat_tests), grind (arith, nat_tests), grind (arith, nat_tests))
 
-ends_bare : (b : ℕ) → is_name_byte b ≡ false → strict.is_unquoted_byte b ≡ false → lenient.is_unquoted_byte b ≡ false
+ends_bare : (b : ℕ) → is_name_byte b ≡ false → strict.is_unquoted_byte b ≡ false → lenient.is_unquoted_byte
+    b ≡ false
 ends_bare b e f = grind (arith, nat_tests)
 
 name_byte : (b : ℕ) → is_tag_name_byte b ≡ true → is_name_byte b ≡ true
@@ -92,7 +93,8 @@ rest_begins [] present s h = go h.0 present h.2 h.1
         (b, gap ++ (optional_slash present ++ 62 ∷ []), e, white_ends b k.0)
 rest_begins (a ∷ attributes) present s h = go h.0 h.5 h.6 h.4
   where
-    go : (gap : List ℕ) → gap ≢ [] → list_all is_ascii_white_space gap ≡ true → s ≡ gap ++ (h.1 ++ (h.2 ++ h.3))
+    go : (gap : List ℕ) → gap ≢ [] → list_all is_ascii_white_space gap ≡ true → s ≡ gap ++
+        (h.1 ++ (h.2 ++ h.3))
         → (b : ℕ) × (t : List ℕ) × (s ≡ b ∷ t) × (is_name_byte b ≡ false)
     go [] n w e = absurd (n refl)
     go (b ∷ gap) n w e =
@@ -257,10 +259,12 @@ slash_last (b ∷ []) w = (white_no_slash b (and_parts (is_ascii_white_space b) 
 slash_last (b ∷ c ∷ gap) w =
     slash_last (c ∷ gap) (and_parts (is_ascii_white_space b) (list_all is_ascii_white_space (c ∷ gap)) w).1
 
-end_read : (gap x : List ℕ) → list_all is_gap_byte gap ≡ true → next_part (gap ++ (62 ∷ x)) ≡ tag_end (ends_in_slash gap) x
+end_read : (gap x : List ℕ) → list_all is_gap_byte gap ≡ true → next_part (gap ++ (62 ∷ x)) ≡ tag_end
+    (ends_in_slash gap) x
 end_read gap x w = let g = front_cut is_gap_byte gap (62 ∷ x) w refl in rw (g.0, g.1) refl
 
-gap_slash : (gap : List ℕ) → list_all is_ascii_white_space gap ≡ true → list_all is_gap_byte (gap ++ 47 ∷ []) ≡ true
+gap_slash : (gap : List ℕ) → list_all is_ascii_white_space gap ≡ true → list_all is_gap_byte
+    (gap ++ 47 ∷ []) ≡ true
 gap_slash [] w = refl
 gap_slash (b ∷ gap) w =
     let k = and_parts (is_ascii_white_space b) (list_all is_ascii_white_space gap) w in
@@ -275,7 +279,8 @@ tag_ends true s x h =
     let e : s ++ x ≡ (h.0 ++ 47 ∷ []) ++ (62 ∷ x) =
     ap (λ (y : List ℕ). y ++ x) h.1 ∙ append_assoc h.0 (47 ∷ 62 ∷ []) x
     ∙ sym (append_assoc h.0 (47 ∷ []) (62 ∷ x)) in
-    ap next_part e ∙ end_read (h.0 ++ 47 ∷ []) x (gap_slash h.0 h.2) ∙ ap (λ b. tag_end b x) (slash_last h.0 h.2).1
+    ap next_part e ∙ end_read (h.0 ++ 47 ∷ []) x (gap_slash h.0 h.2) ∙ ap (λ b. tag_end b x)
+    (slash_last h.0 h.2).1
 
 -- ---- all attributes
 
@@ -283,7 +288,8 @@ tag_ends true s x h =
 abbrev valued : AttributePair → AttributePair
 valued a = record { name = a.name; value = value_spelled a.value }
 
-pub raw_itself : (r : _) → has_references r ≡ false → is_text r ≡ false → (s : List ℕ) → lacks 0 s ≡ true
+pub raw_itself : (r : _) → has_references r ≡ false → is_text r ≡ false → (s : List ℕ) → lacks 0
+    s ≡ true
     → decoded r 0 s ≡ s
 raw_itself r f t [] e = refl
 raw_itself r f t (b ∷ s) e =
@@ -291,11 +297,13 @@ raw_itself r f t (b ∷ s) e =
     let z = not-true (b == 0) k.0 in
     rw (f, t, and-false (b == 38), and-false (b == 60), z, raw_itself r f t s k.1) refl
 
-key_same : (a : AttributePair) (key : List ℕ) → is_attribute_name key ≡ true → map to_ascii_lowercase key ≡ a.name
+key_same : (a : AttributePair) (key : List ℕ) → is_attribute_name key ≡ true → map to_ascii_lowercase
+    key ≡ a.name
     → attribute_of (record { name = key; value = a.value }) ≡ valued a
 key_same a key e f =
     let clean = all_pass strict.is_attribute_name_byte (λ b. not (b == 0)) key key_no_null (key_bytes key e) in
-    let n : name_of key ≡ a.name = ap (map to_ascii_lowercase) (raw_itself (reading_of Style) refl refl key clean) ∙ f in
+    let n : name_of key ≡ a.name =
+    ap (map to_ascii_lowercase) (raw_itself (reading_of Style) refl refl key clean) ∙ f in
     rw n refl
 
 form_read : (spelled : List AttributePair) (present : Bool) (k : ℕ) (s x : List ℕ) → IsTagRest spelled present s
@@ -312,7 +320,8 @@ form_read (a ∷ spelled) present (suc k) s x h l =
       rw (key_same a h.1 h.7 h.8, i.2) refl,
     )
 
-value_settled : (value r x v : List ℕ) → IsValue value r v → Ends r x → IsSettled (value ++ (r ++ x)) → IsSettled v
+value_settled : (value r x v : List ℕ) → IsValue value r v → Ends r x → IsSettled (value ++ (r ++ x)) →
+    IsSettled v
 value_settled value r x v (inl h) n k =
     rw h.1 (record { line_feeds = refl; no_null = refl; references_end = refl })
 value_settled value r x v (inr (inl h)) n k =
@@ -333,7 +342,8 @@ value_settled value r x v (inr (inr h)) n k =
     settled_front v (r ++ x) (settled_back h.0 (v ++ (r ++ x)) (subst IsSettled e k)) n.letter n.semicolon
 
 values_same : (spelled : List AttributePair) (present : Bool) (s x : List ℕ) (attributes : List AttributePair)
-    → IsTagRest spelled present s → IsSettled (s ++ x) → decode_values named_characters spelled ≡ Some attributes
+    → IsTagRest spelled present s → IsSettled (s ++ x) → decode_values named_characters spelled ≡ Some
+    attributes
     → map valued spelled ≡ attributes
 values_same [] present s x attributes h k e = nothing e
   where
@@ -347,16 +357,19 @@ values_same (a ∷ spelled) present s x attributes h k e =
     ap (λ (y : List ℕ). y ++ x) h.4 ∙ append_assoc h.0 (h.1 ++ (h.2 ++ h.3)) x
     ∙ ap (λ (y : List ℕ). h.0 ++ y) (append_assoc h.1 (h.2 ++ h.3) x)
     ∙ ap (λ (y : List ℕ). h.0 ++ (h.1 ++ y)) (append_assoc h.2 h.3 x) in
-    let m = settled_back h.1 (h.2 ++ (h.3 ++ x)) (settled_back h.0 (h.1 ++ (h.2 ++ (h.3 ++ x))) (subst IsSettled q k)) in
+    let m = settled_back h.1 (h.2 ++ (h.3 ++ x)) (settled_back h.0 (h.1 ++ (h.2 ++ (h.3 ++ x))) (subst IsSettled q k))
+    in
     let v = references_same a.value w.0 (value_settled h.2 h.3 x a.value h.9 n m) w.2 in
     let i = values_same spelled present h.3 x w.1 h.10 (settled_back h.2 (h.3 ++ x) m) w.3 in
     rw (v.2, i) (sym w.4)
 
 -- ---- the tag
 
-name_lower : (name : List ℕ) → list_all is_tag_name_byte name ≡ true → name_of name ≡ map to_ascii_lowercase name
+name_lower : (name : List ℕ) → list_all is_tag_name_byte name ≡ true → name_of name ≡ map to_ascii_lowercase
+    name
 name_lower name e =
-    ap (map to_ascii_lowercase) (raw_itself (reading_of Style) refl refl name (all_pass is_tag_name_byte (λ b. not (b == 0)) name no_null e))
+    ap (map to_ascii_lowercase) (raw_itself (reading_of Style) refl refl name
+    (all_pass is_tag_name_byte (λ b. not (b == 0)) name no_null e))
   where
     no_null : (b : ℕ) → is_tag_name_byte b ≡ true → not (b == 0) ≡ true
     no_null b e = grind (arith, nat_tests)
@@ -376,18 +389,21 @@ read token rest = record { token = token; rest = rest }
 -- a tag from its name on
 pub tag_read : (kind : TagValue → TokenValue) (name n : List ℕ) (spelled attributes : List AttributePair)
     (present : Bool) (s x : List ℕ)
-    → is_tag_name name ≡ true → map to_ascii_lowercase name ≡ n → IsTagRest spelled present s → IsSettled (s ++ x)
+    → is_tag_name name ≡ true → map to_ascii_lowercase name ≡ n → IsTagRest spelled present s → IsSettled
+    (s ++ x)
     → decode_values named_characters spelled ≡ Some attributes → are_distinct (attribute_names spelled) ≡ true
     → tag_from_name kind (name ++ (s ++ x)) ≡ read (kind (tag_named n attributes present)) x
 tag_read kind name n spelled attributes present s x t l h k d distinct =
     let bytes = tag_name_bytes name t in
     let ends = rest_ends spelled present s x h in
-    let c = front_cut is_name_byte name (s ++ x) (all_pass is_tag_name_byte is_name_byte name name_byte bytes) ends.name in
+    let c = front_cut is_name_byte name (s ++ x) (all_pass is_tag_name_byte is_name_byte name name_byte bytes)
+    ends.name in
     let long : length spelled < suc (length (s ++ x)) =
     omega (arith, rest_length spelled present s h, length-append s x) in
     let f = form_read spelled present (suc (length (s ++ x))) s x h long in
     let keys : are_distinct (attribute_names attributes) ≡ true =
     ap are_distinct (sym (decoded_names named_characters spelled attributes d)) ∙ distinct in
     let all : attributes_of f.0 ≡ attributes =
-    ap (firsts []) (f.2 ∙ values_same spelled present s x attributes h k d) ∙ sym (distinct_firsts attributes keys) in
+    ap (firsts []) (f.2 ∙ values_same spelled present s x attributes h k d) ∙ sym (distinct_firsts attributes keys)
+    in
     rw (c.0, c.1, f.1) (rw (name_lower name bytes, l, all) refl)

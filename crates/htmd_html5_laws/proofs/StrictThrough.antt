@@ -92,7 +92,8 @@ module _ (z : Bool) where
         one (text (b ∷ d ∷ v)) h.content html_there refl
         (subst (λ y. Through y (ys ++ (last ∷ [])) new) (sym (text_same (b ∷ d ∷ v) (d ∷ v) (rw t refl))) k.3))
         (λ t. let w : Through s (text (b ∷ d ∷ v) ∷ (ys ++ (last ∷ []))) new = rw t at r in
-        as_before (text (b ∷ d ∷ v)) (ys ++ (last ∷ [])) new (text_same (b ∷ d ∷ v) (b ∷ d ∷ v) (rw t refl)) w)
+        as_before (text (b ∷ d ∷ v)) (ys ++ (last ∷ [])) new
+        (text_same (b ∷ d ∷ v) (b ∷ d ∷ v) (rw t refl)) w)
 
     pub skip_run : (xs : List TokenValue) (tag : TagValue) (new : StateValue)
         → Through s (after_feed xs ++ (end_tag tag ∷ [])) new → Through (skips s) (xs ++ (end_tag tag ∷ [])) new
