@@ -7,7 +7,7 @@ use Rattle.htmd_html5_tokens.specs.NamedReferences.{old_names}
 use Rattle.htmd_html5_tokens.specs.Tokens.{start_tag, end_tag, text, comment}
 use Rattle.htmd_html5_laws.specs.StrictReferences.{has_bare_reference}
 use Rattle.htmd_html5_laws.specs.StrictTokens.{tokens_of_text, tag_named, after_feed, is_simple}
-use Rattle.htmd_html5_laws.specs.StrictTrees.{is_plain_element, are_plain, most_levels}
+use Rattle.htmd_html5_laws.specs.StrictTrees.{is_plain_element, are_plain}
 use Rattle.htmd_grammar.specs.ValueTrees as trees
 
 -- ---- references by name
@@ -64,6 +64,3 @@ a_script_is_set_aside = refl
 a_plain_paragraph : are_plain (more (trees.element (codes "p") [] (more (trees.text (codes "a")) none)) none) ≡ true
 unfolding is_void
 a_plain_paragraph = refl
-
-two_levels : most_levels (more (trees.element (codes "p") [] (more (trees.text (codes "a")) none)) none) ≡ 2
-two_levels = refl

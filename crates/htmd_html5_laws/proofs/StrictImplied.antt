@@ -48,6 +48,9 @@ use Rattle.htmd_html5_laws.proofs.StrictLaid.{plain_is_content}
 use Rattle.htmd_html5_laws.proofs.StrictRules.{IsInBody}
 use Rattle.htmd_html5_laws.proofs.StrictThrough.{Through, Parts, parts}
 use Rattle.htmd_html5_laws.proofs.StrictBuilt.{FitsForest, forest_built}
+use Rattle.htmd_html5_laws.proofs.StrictPages.{fits_apart, forest_depth}
+use Rattle.htmd_grammar.specs.Documents.{below_body}
+use Rattle.htmd_grammar.specs.Rules.{project}
 use Rattle.htmd_html5_laws.proofs.StrictPages.{plain_is_simple, forest_fits, in_step, root, page_laid}
 use Rattle.htmd_html5_state.specs.declared.names.TagName.TheVariants as tags
 use Rattle.htmd_html5.specs.Tokens as construction
@@ -281,7 +284,7 @@ whole_read z s new k e m q = ap (λ (t : List ℕ). read_within (length t) t (in
 
 pub texts_agree : PlainTextsAgree
 unfolding html5_document First
-texts_agree z s content k mark e begins l h =
+texts_agree z s content k mark e begins h =
     let r = content_read z s content k (plain_is_simple content e) h in
     let f = forest_fits z content (codes "body" ∷ codes "html" ∷ []) true s k.no_null h in
     let b = forest_built z content (codes "body") (codes "html" ∷ []) r.0 (implied_state z) r.1 e f
@@ -299,4 +302,5 @@ texts_agree z s content k mark e begins l h =
     whole_read z s b.0 k read _ (ap normalized mark ∙ lines_same s k.line_feeds) in
     ap (λ st. document_of greatest_depth st.nodes) whole
     ∙ ap (document_of greatest_depth) (b.1.nodes_are ∙ implied_nodes z content)
-    ∙ page_laid content (plain_is_content content e) l
+    ∙ page_laid content (plain_is_content content e) (fits_apart (codes "body" ∷ codes "html" ∷ []) content f)
+    (omega (arith, forest_depth (project z) content below_body true s h (omega arith)))

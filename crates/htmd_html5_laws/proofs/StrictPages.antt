@@ -1,5 +1,5 @@
 -- A page of the strict grammar with plain trees: the lenient reader gives the same tree.
-use Rattle.std.proofs.Common.{◌≡◌, ℕ, zero, suc, ◌+◌, ◌<◌, ◌≤◌, Bool, true, false, not, ◌&&◌, List, [], ◌∷◌, ◌++◌}
+use Rattle.std.proofs.Common.{◌≡◌, ℕ, zero, suc, ◌+◌, ◌≤◌, Bool, true, false, not, ◌&&◌, List, [], ◌∷◌, ◌++◌}
 use Rattle.std.proofs.Common.{length, map, None, refl, sym, ap, ◌∙◌, arith, inl, inr, codes, subst}
 use Rattle.std.proofs.lemmas.Bool.{and_parts, not-true}
 use Rattle.std.proofs.lemmas.List.{append-nil}
@@ -8,13 +8,14 @@ use Rattle.htmd_grammar.specs.ValueTrees.{AttributePair, ValueTree, ValueForest,
 use Rattle.htmd_grammar.specs.ValueTrees.{comment, element}
 use Rattle.htmd_grammar.specs.CharacterClasses.{is_among, lacks}
 use Rattle.htmd_grammar.specs.Serialisation.{is_void}
-use Rattle.htmd_grammar.specs.Rules.{project}
+use Rattle.htmd_grammar.specs.Rules.{Rules, project}
 use Rattle.htmd_grammar.specs.Grammar.{ReadsTree, ReadsForest}
+use Rattle.htmd_grammar.specs.Nesting.{Context}
 use Rattle.htmd_grammar.specs.Nesting.{parent_name, is_allowed, is_outside, fits_table, fits_select, fits_open_elements}
 use Rattle.htmd_grammar.specs.Nesting.{fits_lists, closes_paragraph, excludes_itself, is_optgroup, is_heading, is_open}
 use Rattle.htmd_grammar.specs.Nesting.{is_met_before}
 use Rattle.htmd_grammar.specs.RawContent.{holds_text_alone, content_of}
-use Rattle.htmd_grammar.specs.Documents.{skeleton}
+use Rattle.htmd_grammar.specs.Documents.{below_body, skeleton}
 use Rattle.htmd_grammar.proofs.NestingLemmas.{allowed_parts}
 use Rattle.htmd_grammar.proofs.TreeTexts.{Inside}
 use Rattle.htmd_tree.specs.Items.{document_item, greatest_depth}
@@ -32,7 +33,7 @@ use Rattle.htmd_html5.specs.Documents.{next_read, after_token, read_within, stat
 use Rattle.htmd_html5.specs.Layout.{coming, Layout, document_of, layout_within}
 use Rattle.htmd_html5_laws.specs.StrictReferences.{IsSettled}
 use Rattle.htmd_html5_laws.specs.StrictTokens.{content_after, tag_named, is_simple_tree, is_simple}
-use Rattle.htmd_html5_laws.specs.StrictTrees.{is_plain_element, is_plain_tree, are_plain, most_levels, PlainPagesAgree}
+use Rattle.htmd_html5_laws.specs.StrictTrees.{is_plain_element, is_plain_tree, are_plain, PlainPagesAgree}
 use Rattle.htmd_html5_laws.proofs.StrictCuts.{lacks_cut}
 use Rattle.htmd_html5_laws.proofs.StrictPlainTexts.{plain_text, content_lacks}
 use Rattle.htmd_html5_laws.proofs.StrictPieces.{read, lines_same}
@@ -40,6 +41,7 @@ use Rattle.htmd_html5_laws.proofs.StrictSteps.{Run, here, onward}
 use Rattle.htmd_html5_laws.proofs.StrictRuns.{content_read}
 use Rattle.htmd_html5_laws.proofs.StrictNodes.{numbers, node, forest_nodes, forest_count, with_forest}
 use Rattle.htmd_html5_laws.proofs.StrictOpen.{the_document, open_met}
+use Rattle.htmd_html5_laws.proofs.StrictLaid.{ApartTree, ApartForest, levels, most_levels}
 use Rattle.htmd_html5_laws.proofs.StrictLaid.{layout, are_content, plain_is_content, forest_laid}
 use Rattle.htmd_html5_laws.proofs.StrictSets.{aside_element}
 use Rattle.htmd_html5_laws.proofs.StrictRules.{IsInBody, Fits, end_of_file_fed}
@@ -215,9 +217,10 @@ page_nodes z content =
     (sym (append-nil (held ++ []) ∙ append-nil held))
 
 -- and their layout
-pub page_laid : (content : ValueForest) → are_content content ≡ true → most_levels content < 1022
+pub page_laid : (content : ValueForest) → are_content content ≡ true → ApartForest content
+    → most_levels content ≤ 1022
     → document_of greatest_depth (root ∷ forest_nodes 0 1 (skeleton content)) ≡ document_items (skeleton content)
-page_laid content c l =
+page_laid content c a l =
     let nodes : List NodeValue = forest_nodes 0 1 (skeleton content) in
     let count : length (root ∷ nodes) ≡ sizes (skeleton content) + 1 =
     omega (arith, forest_count 0 1 (skeleton content)) in
@@ -225,12 +228,61 @@ page_laid content c l =
     (layout (root ∷ ns) (document_item ∷ []) (map (coming 0) (1 ∷ []) ++ []))).items) (sym (append-nil nodes))
     ∙ ap (λ (x : Layout). x.items)
     (forest_laid (skeleton content) greatest_depth 1 (length (root ∷ nodes)) 0 0 1 (root ∷ []) []
-    (document_item ∷ []) []
-    (rw c refl) refl (omega arith) (omega (arith, l)) count)
+    (document_item ∷ []) [] (rw c refl) (tt, (tt, tt, (tt, a, tt)), tt) tt refl (omega arith)
+    (omega (arith, l)) count)
+
+-- ---- depth
+
+levels_within : (rules : Rules) (n : List ℕ) (attributes : List AttributePair) (children : ValueForest)
+    → ((c : Context) (last : Bool) (s : List ℕ) → ReadsForest rules c last children s → length c ≤ suc
+    rules.depth
+    → length c + most_levels children ≤ suc rules.depth)
+    → (c : Context) (last : Bool) (s : List ℕ) → Inside rules c last n attributes children s → length c ≤
+    rules.depth
+    → suc (length c) + most_levels children ≤ suc rules.depth
+levels_within rules n attributes children ih c last s (inl w) l =
+    test (is_void n)
+    (λ v. let m = rw v at w.5 in rw m.2 (omega (arith, l)))
+    (λ v. let m = rw v at w.5 in ih (n ∷ c) true (content_of n w.1) m.0 (omega (arith, l)))
+levels_within rules n attributes children ih c last s (inr w) l = ih (n ∷ c) true w.0 w.6 (omega (arith, l))
+
+mutual
+  tree_depth : (rules : Rules) (t : ValueTree) (c : Context) (last : Bool) (s : List ℕ) → ReadsTree rules c last t s
+      → length c + levels t ≤ suc rules.depth
+  tree_depth rules (document children) c last s h = absurd h
+  tree_depth rules doctype c last s h = absurd h
+  tree_depth rules (text u) c last s h = let l = h.4 in omega (arith, l)
+  tree_depth rules (comment u) c last s h = let l = h.2 in omega (arith, l)
+  tree_depth rules (element n attributes children) c last s h =
+      let k = levels_within rules n attributes children (λ d i r m. forest_depth rules children d i r m) c last s h.2
+      h.1
+      in
+      omega (arith, k)
+
+  pub forest_depth : (rules : Rules) (ts : ValueForest) (c : Context) (last : Bool) (s : List ℕ)
+      → ReadsForest rules c last ts s → length c ≤ suc rules.depth → length c + most_levels ts ≤ suc
+      rules.depth
+  forest_depth rules none c last s h l = omega (arith, l)
+  forest_depth rules (more t ts) c last s h l =
+      let a = tree_depth rules t c _ h.0 h.4 in
+      let b = forest_depth rules ts c last h.1 h.5 l in
+      omega (arith, a, b)
+
+mutual
+  tree_apart : (c : List (List ℕ)) (t : ValueTree) → FitsTree c t → ApartTree t
+  tree_apart c (document children) f = tt
+  tree_apart c doctype f = tt
+  tree_apart c (text u) f = tt
+  tree_apart c (comment u) f = tt
+  tree_apart c (element n attributes children) f = fits_apart (n ∷ c) children f.1
+
+  pub fits_apart : (c : List (List ℕ)) (ts : ValueForest) → FitsForest c ts → ApartForest ts
+  fits_apart c none f = tt
+  fits_apart c (more t ts) f = (f.0, tree_apart c t f.1, fits_apart c ts f.2)
 
 pub pages_agree : PlainPagesAgree
 unfolding html5_document
-pages_agree z s content k e l h =
+pages_agree z s content k e h =
     let r = content_read z s content k (plain_is_simple content e) h in
     let f = forest_fits z content (codes "body" ∷ codes "html" ∷ []) true s k.no_null h in
     let b = forest_built z content (codes "body") (codes "html" ∷ []) r.0 (body_state z) r.1 e f (body_state_is z)
@@ -242,4 +294,5 @@ pages_agree z s content k e l h =
     r.2 refl refl (parts z b.1.through) b.1.in_body (omega arith) in
     ap (λ st. document_of greatest_depth st.nodes) whole
     ∙ ap (document_of greatest_depth) (b.1.nodes_are ∙ page_nodes z content)
-    ∙ page_laid content (plain_is_content content e) l
+    ∙ page_laid content (plain_is_content content e) (fits_apart (codes "body" ∷ codes "html" ∷ []) content f)
+    (omega (arith, forest_depth (project z) content below_body true s h (omega arith)))

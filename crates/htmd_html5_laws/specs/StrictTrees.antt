@@ -1,5 +1,5 @@
 -- Texts of the strict grammar with plain elements, as the lenient reader reads them.
-use Rattle.std.specs.Prelude.{◌≡◌, ℕ, suc, max, ◌<◌, Bool, true, false, not, ◌&&◌, ◌||◌, if◌then◌else◌, List, [], ◌∷◌, ◌++◌}
+use Rattle.std.specs.Prelude.{◌≡◌, ℕ, Bool, true, false, not, ◌&&◌, ◌||◌, if◌then◌else◌, List, [], ◌∷◌, ◌++◌}
 use Rattle.std.specs.Prelude.{codes}
 use Rattle.htmd_text.specs.WhiteSpace.{is_ascii_white_space}
 use Rattle.htmd_grammar.specs.ValueTrees.{ValueTree, ValueForest, none, more, document, doctype, text, comment, element}
@@ -69,24 +69,14 @@ abbrev mutual
   are_plain none = true
   are_plain (more t ts) = is_plain_tree t && are_plain ts
 
-abbrev mutual
-  -- how many levels a tree has
-  pub levels : ValueTree → ℕ
-  levels (element n attributes children) = suc (most_levels children)
-  levels _ = 1
-
-  pub most_levels : ValueForest → ℕ
-  most_levels none = 0
-  most_levels (more t ts) = max (levels t) (most_levels ts)
-
 -- ---- the law
 
--- Where a settled text denotes plain trees by the strict grammar, of fewer than 1,022 levels, so that no node stands as
--- deep as it may, the lenient reader gives the same tree if `<body>` stands before the text.
+-- Where a settled text denotes plain trees by the strict grammar, the lenient reader gives the same tree if `<body>`
+-- stands before the text.
 abbrev pub PlainPagesAgree : Type 0
 PlainPagesAgree =
     (scripting : Bool) (s : List ℕ) (content : ValueForest) → IsSettled s → are_plain content ≡ true
-    → most_levels content < 1022 → reads (project scripting) below_body s content
+    → reads (project scripting) below_body s content
     → html5_document scripting (codes "<body>" ++ s) ≡ document_items (skeleton content)
 
 -- ---- without `<body>`
@@ -113,6 +103,6 @@ begins_body _ = false
 abbrev pub PlainTextsAgree : Type 0
 PlainTextsAgree =
     (scripting : Bool) (s : List ℕ) (content : ValueForest) → IsSettled s → behind_mark s ≡ s
-    → are_plain content ≡ true → begins_body content ≡ true → most_levels content < 1022
+    → are_plain content ≡ true → begins_body content ≡ true
     → reads (project scripting) below_body s content
     → html5_document scripting s ≡ document_items (skeleton content)
