@@ -75,6 +75,7 @@ pub mod LetterOrderLemmas
 pub mod TextKeptLemmas
 pub mod StrictReferencesLemmas
 pub mod StrictCuts
+pub mod StrictBytes
 pub mod StrictTagsLemmas
 pub mod StrictPieces
 pub mod StrictRawTexts

@@ -31,50 +31,13 @@ use Rattle.htmd_html5_tokens.specs.RawTexts.{reading_of}
 use Rattle.htmd_html5_tokens.specs.declared.tokens.RawElement.TheVariants.{Style}
 use Rattle.htmd_html5_laws.specs.StrictReferences.{IsSettled, value_spelled}
 use Rattle.htmd_html5_laws.specs.StrictTokens.{tag_named}
+use Rattle.htmd_html5_laws.proofs.StrictBytes.{key_byte, key_head, key_no_null, white_gap, white_ends}
+use Rattle.htmd_html5_laws.proofs.StrictBytes.{white_no_slash, ends_key, ends_reference, bare_byte, bare_head}
+use Rattle.htmd_html5_laws.proofs.StrictBytes.{ends_bare, name_byte}
 use Rattle.htmd_html5_laws.proofs.StrictReferencesLemmas.{references_same}
 use Rattle.htmd_html5_laws.proofs.StrictCuts.{settled_back, settled_front}
 use Rattle.htmd_grammar.specs.CharacterClasses as strict
 use Rattle.htmd_html5_tokens.specs.Tags as lenient
-
--- ---- bytes
-
-key_byte : (b : ℕ) → strict.is_attribute_name_byte b ≡ true → lenient.is_attribute_name_byte b ≡ true
-key_byte b e = grind (arith, nat_tests)
-
-key_head : (b : ℕ) → strict.is_attribute_name_byte b ≡ true → (is_gap_byte b ≡ false) × ((b == 62) ≡ false)
-key_head b e = (grind (arith, nat_tests), grind (arith, nat_tests))
-
-key_no_null : (b : ℕ) → strict.is_attribute_name_byte b ≡ true → not (b == 0) ≡ true
-key_no_null b e = grind (arith, nat_tests)
-
-white_gap : (b : ℕ) → is_ascii_white_space b ≡ true → is_gap_byte b ≡ true
-white_gap b e = grind (arith, nat_tests)
-
-white_ends : (b : ℕ) → is_ascii_white_space b ≡ true → is_name_byte b ≡ false
-white_ends b e = grind (arith, nat_tests)
-
-white_no_slash : (b : ℕ) → is_ascii_white_space b ≡ true → (b == 47) ≡ false
-white_no_slash b e = grind (arith, nat_tests)
-
-ends_key : (b : ℕ) → is_name_byte b ≡ false → lenient.is_attribute_name_byte b ≡ false
-ends_key b e = rw e refl
-
-ends_reference : (b : ℕ) → is_name_byte b ≡ false → (is_ascii_alphanumeric b ≡ false) × ((b == 59) ≡ false)
-ends_reference b e = (grind (arith, nat_tests), grind (arith, nat_tests))
-
-bare_byte : (b : ℕ) → strict.is_unquoted_byte b ≡ true → lenient.is_unquoted_byte b ≡ true
-bare_byte b e = grind (arith, nat_tests)
-
-bare_head : (b : ℕ) → strict.is_unquoted_byte b ≡ true
-    → (is_ascii_white_space b ≡ false) × ((b == 34) ≡ false) × ((b == 39) ≡ false)
-bare_head b e = (grind (arith, nat_tests), grind (arith, nat_tests), grind (arith, nat_tests))
-
-ends_bare : (b : ℕ) → is_name_byte b ≡ false → strict.is_unquoted_byte b ≡ false → lenient.is_unquoted_byte
-    b ≡ false
-ends_bare b e f = grind (arith, nat_tests)
-
-name_byte : (b : ℕ) → is_tag_name_byte b ≡ true → is_name_byte b ≡ true
-name_byte b e = grind (arith, nat_tests)
 
 -- ---- what follows a name or a value
 
