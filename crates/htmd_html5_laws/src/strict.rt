@@ -11,21 +11,21 @@ pub fn references_agree()
 
 /// The tokens that the lenient reader's tokenizer finds in a text of the strict grammar are those of its trees, in
 /// document order, where line ends are line feeds, no U+0000 stands, each reference by name has its `;`, and no element
-/// is a `pre`, `textarea`, `script` or `tbody`.
+/// is a `textarea`, `script` or `tbody`.
 pub fn tokens_agree()
     ensures { TokensAgree }
 {}
 
-/// A text of the strict grammar whose elements are plain is read after `<body>` as the tree that the strict grammar
-/// gives: `html` with an empty `head`, and a `body` with the content. Plain are texts, comments, and all elements but
-/// those of tables, forms, ruby, frames and the head, `pre`, those that hold only text, and some old or foreign ones.
+/// A settled text of the strict grammar whose elements are plain is read after `<body>` as the tree that the strict
+/// grammar gives: `html` with an empty `head`, and a `body` with the content. Plain are all elements but those of tables
+/// and of `select`, `form`, `object`, `applet`, `marquee`, parts of `ruby`, `noscript`, those that hold only text, and
+/// those of MathML and SVG.
 pub fn plain_pages_agree()
     ensures { PlainPagesAgree }
 {}
 
-/// A text of the strict grammar whose elements are plain, and whose content begins with a character that is no white
-/// space, or with an element that belongs in no head, is read by the lenient reader as the tree that the strict grammar
-/// gives, without `<body>` too.
+/// A settled text of the strict grammar whose elements are plain, and whose content begins with a character that is no
+/// white space, or with an element that belongs in no head, is read as that tree without `<body>` too.
 pub fn plain_texts_agree()
     ensures { PlainTextsAgree }
 {}
