@@ -5,6 +5,11 @@ use Rattle.htmd_grammar.specs.ValueTrees.{none, more}
 use Rattle.htmd_grammar.specs.Serialisation.{is_void}
 use Rattle.htmd_html5_tokens.specs.NamedReferences.{old_names}
 use Rattle.htmd_html5_tokens.specs.Tokens.{start_tag, end_tag, text, comment}
+use Rattle.htmd_grammar.specs.Documents.{skeleton}
+use Rattle.htmd_tree.specs.Layout.{document_items}
+use Rattle.htmd_html5.specs.BodyEnds.{text_end_rule}
+use Rattle.htmd_html5.specs.BodyStarts.{block_rule, formatting_rule, phrasing_rule}
+use Rattle.htmd_html5.specs.Documents.{html5_document}
 use Rattle.htmd_html5_laws.specs.StrictReferences.{has_bare_reference}
 use Rattle.htmd_html5_laws.specs.StrictTokens.{tokens_of_text, tag_named, after_feed, is_simple}
 use Rattle.htmd_html5_laws.specs.StrictTrees.{is_plain_element, are_plain}
@@ -64,3 +69,11 @@ a_script_is_set_aside = refl
 a_plain_paragraph : are_plain (more (trees.element (codes "p") [] (more (trees.text (codes "a")) none)) none) ≡ true
 unfolding is_void
 a_plain_paragraph = refl
+
+-- ---- trees
+
+a_text_and_a_paragraph : html5_document false (codes "a<p>b</p>")
+    ≡ document_items (skeleton (more (trees.text (codes "a"))
+    (more (trees.element (codes "p") [] (more (trees.text (codes "b")) none)) none)))
+unfolding html5_document block_rule formatting_rule phrasing_rule text_end_rule
+a_text_and_a_paragraph = refl
